@@ -1,0 +1,11 @@
+# demo: judges an example · test: proves and tests everything · bench: prints figures
+.PHONY: demo test bench
+
+demo:
+	@scripts/demo
+
+test:
+	rt ci
+
+bench:
+	@scripts/bench

@@ -1,0 +1,30 @@
+//! What has to be chosen for a job, and whether a choice fits.
+//!
+//! A [`Problem`] has the inputs of a job in plan order, each with its scope, its allowed places and the jobs that its version
+//! must have passed, and for each of these named jobs its successful builds with their pairs of scope and place. A [`Choice`]
+//! gives each input a place and each named job one build; [`satisfies`] says whether it fits, or what is wrong with it first,
+//! and [`later`] compares two lists of places. Contracts see a problem as a record of lists (`specs/Problem.antt`).
+//!
+//! A problem has one text and each text one problem: [`write_problem`], [`read_problem`]. The texts of claims and proofs are
+//! made of the same words and lines, so [`text`] is public. A text is refused with the first line that breaks a rule.
+#![tactic(auto)]
+
+mod choice;
+mod fault;
+mod order;
+mod problem;
+mod read;
+mod rules;
+#[cfg(test)]
+mod tests;
+pub mod text;
+mod verdict;
+mod write;
+
+pub use choice::Choice;
+pub use fault::ProblemFault;
+pub use order::later;
+pub use problem::{Build, Input, JobBuilds, Problem};
+pub use read::read_problem;
+pub use verdict::{Verdict, satisfies};
+pub use write::write_problem;

@@ -1,0 +1,2 @@
+pub mod TextMap
+pub mod Members

@@ -1,0 +1,21 @@
+//! What has been seen of the resources: versions, and the pins that hold a resource to some of them.
+//!
+//! A [`Version`] and a [`Pin`] are maps from texts to texts, as a JSON object has them whose fields are all texts.
+//! Clauses see either as the list of its fields, a key with its text, keys ascending by bytes: so two are equal
+//! exactly where their maps are.
+//!
+//! What isn't such an object is refused: `NotObject` where it is no object, `VersionNotText` where a field isn't a
+//! text. `NoMemory` comes only where a growth was refused.
+#![tactic(auto)]
+
+mod fault;
+mod pin;
+mod text_map;
+mod version;
+
+pub use fault::HistoryFault;
+pub use pin::Pin;
+pub use version::Version;
+
+#[cfg(test)]
+mod tests;

@@ -1,0 +1,11 @@
+pub mod Faulted
+pub mod Loops
+pub mod Members
+pub mod NameLemmas
+pub mod PlaceLemmas
+pub mod Visits
+pub mod StepLemmas
+pub mod UnknownLemmas
+pub mod UsedKeys
+pub mod Few
+pub mod Sorting

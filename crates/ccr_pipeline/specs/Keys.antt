@@ -1,0 +1,26 @@
+-- Keys of JSON objects, and paths.
+use Rattle.std.specs.Prelude.{ℕ, List, [], ◌∷◌, ◌++◌, Option, Some, None, option_and_then, is_some, if◌then◌else◌, decimal}
+use Rattle.serde_json.specs.Data.{Data}
+use Rattle.serde_json.specs.Find.{as_null, get}
+use Rattle.ccr_pipeline.specs.Faults.{Path}
+
+abbrev pub unless_null : Data → Option Data
+unless_null d = if is_some (as_null d) then None else Some d
+
+-- what stands at a key; null is as absent
+abbrev pub at_key : List ℕ → Data → Option Data
+at_key k d = option_and_then unless_null (get k d)
+
+-- the value of one case or the other
+abbrev pub or_else : {A B : Type 0} → Option A → B → (A → B) → B
+or_else None b f = b
+or_else (Some a) b f = f a
+
+-- the path of a key of the object at a path: joined by a point, at the whole pipeline the key alone
+abbrev pub path_below : Path → List ℕ → Path
+path_below [] k = k
+path_below (c ∷ p) k = (c ∷ p) ++ 46 ∷ k
+
+-- the path of a member of the list at a path: its position in brackets
+abbrev pub path_at : Path → ℕ → Path
+path_at p i = p ++ 91 ∷ (decimal i ++ 93 ∷ [])

@@ -1,0 +1,80 @@
+-- What a pipeline is read as, where no fault is present in it.
+use Rattle.std.specs.Prelude.{◌≡◌, ℕ, Bool, List, [], ◌∷◌, Option, map, option_map, string_bytes, codes, IsTrue, ⊤}
+use Rattle.serde_json.specs.Data.{Data, Items, no_items, item}
+use Rattle.serde_json.specs.Find.{as_array}
+use Rattle.serde_json.specs.View.{view}
+use Rattle.ccr_history.specs.TextMap.{TextMap}
+use Rattle.ccr_pipeline.specs.declared.pipeline.Pipeline.{Pipeline}
+use Rattle.ccr_pipeline.specs.declared.resource.Resource.{Resource}
+use Rattle.ccr_pipeline.specs.declared.resource.Job.{Job}
+use Rattle.ccr_pipeline.specs.Keys.{at_key, or_else}
+use Rattle.ccr_pipeline.specs.Meaning.{text_or, texts_from, truth_from, whole_from, pin_from}
+use Rattle.ccr_pipeline.specs.Inputs.{are_few, inputs}
+use Rattle.ccr_pipeline.specs.Plans.{plan_from}
+use Rattle.ccr_pipeline.specs.Tree.{Text, Tree, tree_of}
+use Rattle.ccr_pipeline.specs.Unused.{unused_in, IsSortedOnce}
+
+pub record ResourceData : Type 0 where
+  pub name : Text
+  pub kind : Text
+  pub source : Option Data
+  pub version : Option TextMap
+
+abbrev pub resource_data : Resource → ResourceData
+resource_data r = record { name = string_bytes r.name; kind = string_bytes r.kind; source = option_map view r.source; version = r.version }
+
+pub record JobData : Type 0 where
+  pub name : Text
+  pub plan : Tree
+  pub serial : Bool
+  pub serial_groups : List Text
+  pub max_in_flight : ℕ
+
+abbrev pub job_data : Job → JobData
+job_data j = record { name = string_bytes j.name; plan = tree_of j.plan; serial = j.serial; serial_groups = map string_bytes j.serial_groups.items; max_in_flight = j.max_in_flight }
+
+abbrev pub resource_from : Data → ResourceData
+resource_from d = record { name = text_or [] (codes "name") d; kind = text_or [] (codes "type") d; source = at_key (codes "source") d; version = pin_from (codes "version") d }
+
+abbrev pub resources_in : Items → List ResourceData
+resources_in no_items = []
+resources_in (item d ds) = resource_from d ∷ resources_in ds
+
+abbrev pub resources_from : Data → List ResourceData
+resources_from d = or_else (at_key (codes "resources") d) [] (λ found. or_else (as_array found) [] resources_in)
+
+unfoldable pub job_from : Data → JobData
+job_from d = record { name = text_or [] (codes "name") d; plan = plan_from d; serial = truth_from (codes "serial") d; serial_groups = texts_from (codes "serial_groups") d; max_in_flight = whole_from (codes "max_in_flight") d }
+
+abbrev pub jobs_in : Items → List JobData
+jobs_in no_items = []
+jobs_in (item d ds) = job_from d ∷ jobs_in ds
+
+-- the texts of a pipeline's jobs
+abbrev pub job_items : Data → Items
+job_items d = or_else (at_key (codes "jobs") d) no_items (λ found. or_else (as_array found) no_items (λ ds. ds))
+
+abbrev pub jobs_from : Data → List JobData
+jobs_from d = jobs_in (job_items d)
+
+-- each job has few inputs, which name few jobs
+abbrev pub AreFew : Items → Type 0
+AreFew no_items = ⊤
+AreFew (item d ds) = IsTrue (are_few (inputs (plan_from d))) × AreFew ds
+
+-- what a pipeline shows: the bytes read, the paths of its unused keys, its resources and its jobs
+pub record PipelineData : Type 0 where
+  pub text : List ℕ
+  pub unused : List Text
+  pub resources : List ResourceData
+  pub jobs : List JobData
+
+abbrev pub pipeline_data : Pipeline → PipelineData
+pipeline_data p = record { text = p.text.items; unused = map string_bytes p.unused.items; resources = map resource_data p.resources.items; jobs = map job_data p.jobs.items }
+
+-- the pipeline of a text that spells this value
+pub record IsPipelineOf (text : List ℕ) (d : Data) (p : PipelineData) : Type 0 where
+  pub bytes : p.text ≡ text
+  pub resources : p.resources ≡ resources_from d
+  pub jobs : p.jobs ≡ jobs_from d
+  pub unused : IsSortedOnce (unused_in d) p.unused

@@ -1,0 +1,43 @@
+-- What is broken in a pipeline, and what reading of bytes answers.
+use Rattle.std.specs.Prelude.{◌≡◌, ◌⊎◌, ℕ, ◌<◌, ◌≤◌, List, [], ◌++◌, length, Option, Some, None, is_some, codes, ⊤, IsUtf8}
+use Rattle.serde_json.specs.Data.{Data}
+use Rattle.serde_json.specs.Find.{as_object}
+use Rattle.serde_json.specs.Read.{read as json}
+use Rattle.ccr_pipeline.specs.declared.fault.Rule.{Rule}
+use Rattle.ccr_pipeline.specs.declared.fault.Rule.TheVariants as rule
+use Rattle.ccr_pipeline.specs.declared.check_job.Member.TheVariants.{Resource, Job}
+use Rattle.ccr_pipeline.specs.Faults.{Path, Faults, unless, StartsWith}
+use Rattle.ccr_pipeline.specs.JobRules.{member_list, list_names}
+use Rattle.ccr_pipeline.specs.Unknown.{unknown_in}
+
+-- the resources, the jobs, and then the names that the jobs mention
+unfoldable pub list_faults : Data → Faults
+list_faults d =
+    member_list Resource (codes "resources") d ++ (member_list Job (codes "jobs") d
+    ++ unknown_in (list_names (codes "resources") d) (list_names (codes "jobs") d) d)
+
+-- a pipeline is an object
+unfoldable pub pipeline_faults : Data → Faults
+pipeline_faults d = unless (is_some (as_object d)) rule.Kind (codes "pipeline") ++ list_faults d
+
+-- bytes that are no longer than 1 MiB and spell a JSON value
+abbrev pub Spells : List ℕ → Data → Type 0
+Spells bytes d = (length bytes ≤ 1048576) × IsUtf8 bytes × (json bytes ≡ Some d)
+
+-- bytes that are too long, or else spell no JSON value, and the fault that says so
+abbrev pub IsUnread : Path → List ℕ → Rule × Path → Type 0
+IsUnread p bytes f = ((1048576 < length bytes) × (f ≡ (rule.Length, p))) ⊎ ((length bytes ≤ 1048576) × (IsUtf8 bytes → json bytes ≡ None) × (f ≡ (rule.Json, p)))
+
+-- a refusal of bytes: they are unread, or the fault is the first that is present in their value; of memory it says nothing
+abbrev pub Refuses : Path → (Data → Faults) → List ℕ → Option (Rule × Path) → Type 0
+Refuses p faults bytes None = ⊤
+Refuses p faults bytes (Some f) = IsUnread p bytes f ⊎ ((d : Data) × Spells bytes d × StartsWith (faults d) (Some f))
+
+-- a refusal to make a value of bytes
+abbrev pub IsNoValue : Path → List ℕ → Option (Rule × Path) → Type 0
+IsNoValue p bytes None = ⊤
+IsNoValue p bytes (Some f) = IsUnread p bytes f
+
+-- what was read is that of the bytes' value, in which no fault is present
+abbrev pub IsReading : (Data → Faults) → List ℕ → (Data → Type 0) → Type 0
+IsReading faults bytes Is = (d : Data) × Spells bytes d × (faults d ≡ []) × Is d

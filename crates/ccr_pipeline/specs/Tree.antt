@@ -1,0 +1,132 @@
+-- What the types of this crate hold, without where it lies in memory.
+use Rattle.std.specs.Prelude.{ℕ, Bool, List, [], ◌∷◌, Option, map, option_map, string_bytes}
+use Rattle.serde_json.specs.Data.{Data}
+use Rattle.serde_json.specs.View.{view}
+use Rattle.ccr_history.specs.TextMap.{TextMap}
+use Rattle.ccr_pipeline.specs.declared.task.Run.{Run}
+use Rattle.ccr_pipeline.specs.declared.task.TaskInput.{TaskInput}
+use Rattle.ccr_pipeline.specs.declared.task.Variable.{Variable}
+use Rattle.ccr_pipeline.specs.declared.task.TaskConfig.{TaskConfig}
+use Rattle.ccr_pipeline.specs.declared.task.TaskSource.{TaskSource}
+use Rattle.ccr_pipeline.specs.declared.task.TaskSource.TheVariants.{Config, File}
+use Rattle.ccr_pipeline.specs.declared.task.Task.{Task}
+use Rattle.ccr_pipeline.specs.declared.step.Wanted.{Wanted}
+use Rattle.ccr_pipeline.specs.declared.step.Wanted.TheVariants.{Latest, Every, Pinned}
+use Rattle.ccr_pipeline.specs.declared.step.Get.{Get}
+use Rattle.ccr_pipeline.specs.declared.step.Put.{Put}
+use Rattle.ccr_pipeline.specs.declared.step.When.{When}
+use Rattle.ccr_pipeline.specs.declared.step.Step.{Step}
+use Rattle.ccr_pipeline.specs.declared.step.Step.TheOpen.{Step-F}
+use Rattle.ccr_pipeline.specs.declared.step.Step.TheFolds.{fold-Step}
+
+abbrev pub Text : Type 0
+Text = List ℕ
+
+-- which versions a get wants: the latest, each in turn, or those that meet a pin
+pub data WantedData : Type 0 where
+  latest : WantedData
+  every : WantedData
+  pinned : TextMap → WantedData
+
+abbrev pub wanted_data : Wanted → WantedData
+wanted_data Latest = latest
+wanted_data Every = every
+wanted_data (Pinned p) = pinned p
+
+pub record GetData : Type 0 where
+  pub name : Text
+  pub resource : Text
+  pub passed : List Text
+  pub trigger : Bool
+  pub params : Option Data
+  pub wanted : WantedData
+
+abbrev pub get_data : Get → GetData
+get_data g = record { name = string_bytes g.name; resource = string_bytes g.resource; passed = map string_bytes g.passed.items; trigger = g.trigger; params = option_map view g.params; wanted = wanted_data g.wanted }
+
+pub record PutData : Type 0 where
+  pub name : Text
+  pub resource : Text
+  pub params : Option Data
+  pub get_params : Option Data
+  pub no_get : Bool
+
+abbrev pub put_data : Put → PutData
+put_data p = record { name = string_bytes p.name; resource = string_bytes p.resource; params = option_map view p.params; get_params = option_map view p.get_params; no_get = p.no_get }
+
+pub record RunData : Type 0 where
+  pub path : Text
+  pub args : List Text
+  pub dir : Option Text
+
+abbrev pub run_data : Run → RunData
+run_data r = record { path = string_bytes r.path; args = map string_bytes r.args.items; dir = option_map string_bytes r.dir }
+
+-- an input by its name, and whether it is optional
+abbrev pub input_data : TaskInput → Text × Bool
+input_data i = (string_bytes i.name, i.optional)
+
+-- a variable by its name, and its value
+abbrev pub variable_data : Variable → Text × Text
+variable_data v = (string_bytes v.name, string_bytes v.value)
+
+pub record ConfigData : Type 0 where
+  pub run : RunData
+  pub inputs : List (Text × Bool)
+  pub outputs : List Text
+  pub params : List (Text × Text)
+
+abbrev pub config_data : TaskConfig → ConfigData
+config_data c = record { run = run_data c.run; inputs = map input_data c.inputs.items; outputs = map string_bytes c.outputs.items; params = map variable_data c.params.items }
+
+-- what says how a task runs: its config, or a file
+pub data SourceData : Type 0 where
+  config : ConfigData → SourceData
+  file : Text → SourceData
+
+abbrev pub source_data : TaskSource → SourceData
+source_data (Config c) = config (config_data c)
+source_data (File path) = file (string_bytes path)
+
+pub record TaskData : Type 0 where
+  pub name : Text
+  pub source : SourceData
+  pub params : List (Text × Text)
+
+abbrev pub task_data : Task → TaskData
+task_data t = record { name = string_bytes t.name; source = source_data t.source; params = map variable_data t.params.items }
+
+-- a step in its modifiers
+mutual
+  pub data Tree : Type 0 where
+    get : GetData → Tree
+    put : PutData → Tree
+    task : TaskData → Tree
+    in_order : Trees → Tree
+    in_parallel : Trees → Bool → Tree
+    tried : Tree → Tree
+    attempts : ℕ → Tree → Tree
+    hook : When → Tree → Tree → Tree
+
+  pub data Trees : Type 0 where
+    no_trees : Trees
+    tree : Tree → Trees → Trees
+
+abbrev pub trees_of : List Tree → Trees
+trees_of [] = no_trees
+trees_of (t ∷ ts) = tree t (trees_of ts)
+
+-- one level, with each step inside already seen as its tree
+abbrev pub tree_step : Step-F Tree → Tree
+tree_step (Step-F.Get g) = get (get_data g)
+tree_step (Step-F.Put p) = put (put_data p)
+tree_step (Step-F.Task t) = task (task_data t)
+tree_step (Step-F.Do steps) = in_order (trees_of steps.items)
+tree_step (Step-F.InParallel steps fast) = in_parallel (trees_of steps.items) fast
+tree_step (Step-F.Try b) = tried b.value
+tree_step (Step-F.Attempts n b) = attempts n b.value
+tree_step (Step-F.Hook w b h) = hook w b.value h.value
+
+-- the tree of a step
+abbrev pub tree_of : Step → Tree
+tree_of = fold-Step Tree tree_step

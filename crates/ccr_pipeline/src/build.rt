@@ -1,0 +1,299 @@
+//! What tested text is built into.
+//!
+//! The text has been tested before, so each value is of its key's kind. What is absent, and only that, is built as
+//! empty, false or none.
+ghost use Rattle.std.specs.Prelude.{◌≡◌, ◌++◌, [], map, option_map, IfOk, OnOk, string_bytes, codes};
+ghost use Rattle.serde_json.specs.View.{view, items_view, members_view};
+ghost use Rattle.ccr_pipeline.specs.Keys.{at_key, or_else};
+ghost use Rattle.ccr_pipeline.specs.Names.{text_at, texts_in};
+ghost use Rattle.ccr_pipeline.specs.Tree.{run_data, input_data, variable_data, config_data, source_data, task_data, wanted_data, get_data, put_data};
+ghost use Rattle.ccr_pipeline.specs.Meaning.{text_or, texts_from, truth_from, whole_from, variable_value, variables_in, variables_from, run_from, inputs_in, inputs_from, outputs_in, outputs_from, config_from, source_from, task_from, wanted_in, wanted_from, get_from, put_from, pin_from};
+
+use crate::key::at_key;
+use crate::kind::has_float;
+use crate::names::text_at;
+use crate::step::{Get, Put, Wanted};
+use crate::task::{Run, Task, TaskConfig, TaskInput, TaskSource, Variable};
+use ccr_history::{HistoryFault, Pin};
+use serde_json::Value;
+use std::alloc::{AllocError, Global};
+use std::collections::BTreeMap;
+
+/// The text at a key.
+pub(crate) fn text(alloc: Global, value: &Value, key: &str) -> Result<String, AllocError>
+    ensures { IfOk result (λ s. string_bytes s ≡ text_or [] key.now (view value.now)) }
+{
+    String::from_str(alloc, text_at(value, key).unwrap_or(""))
+}
+
+fn text_or(alloc: Global, value: &Value, key: &str, absent: &str) -> Result<String, AllocError>
+    ensures { IfOk result (λ s. string_bytes s ≡ text_or absent.now key.now (view value.now)) }
+{
+    String::from_str(alloc, text_at(value, key).unwrap_or(absent))
+}
+
+fn optional_text(alloc: Global, value: &Value, key: &str) -> Result<Option<String>, AllocError>
+    ensures { IfOk result (λ o. option_map string_bytes o ≡ text_at key.now (view value.now)) }
+{
+    match text_at(value, key) {
+        Some(text) => Ok(Some(String::from_str(alloc, text)?)),
+        None => Ok(None),
+    }
+}
+
+fn texts_of(alloc: Global, list: &[Value]) -> Result<Vec<String>, AllocError>
+    ensures { IfOk result (λ v. map string_bytes v.items ≡ texts_in (items_view list.now)) }
+{
+    let mut texts = Vec::new(alloc);
+    for member in list {
+        if let Some(text) = member.as_str() {
+            texts.push(String::from_str(alloc, text)?)?;
+        }
+    }
+    Ok(texts)
+}
+
+/// The texts of the list at a key.
+pub(crate) fn texts(alloc: Global, value: &Value, key: &str) -> Result<Vec<String>, AllocError>
+    ensures { IfOk result (λ v. map string_bytes v.items ≡ texts_from key.now (view value.now)) }
+{
+    let Some(found) = at_key(value, key) else {
+        return Ok(Vec::new(alloc));
+    };
+    match found.as_array() {
+        Some(list) => texts_of(alloc, list),
+        None => Ok(Vec::new(alloc)),
+    }
+}
+
+/// Whether the key has true.
+pub(crate) fn truth(value: &Value, key: &str) -> bool
+    ensures { result ≡ truth_from key.now (view value.now) }
+{
+    match at_key(value, key) {
+        Some(found) => found.as_bool().unwrap_or(false),
+        None => false,
+    }
+}
+
+/// The number at a key, or 0.
+pub(crate) fn whole(value: &Value, key: &str) -> u64
+    ensures { result ≡ whole_from key.now (view value.now) }
+{
+    match at_key(value, key) {
+        Some(found) => found.as_u64().unwrap_or(0),
+        None => 0,
+    }
+}
+
+/// A copy of what stands at a key.
+pub(crate) fn copied(value: &Value, key: &str) -> Result<Option<Value>, AllocError>
+    ensures { IfOk result (λ o. option_map view o ≡ at_key key.now (view value.now)) }
+{
+    match at_key(value, key) {
+        Some(found) => Ok(Some(found.clone()?)),
+        None => Ok(None),
+    }
+}
+
+/// The pin at a key.
+pub(crate) fn pin(value: &Value, key: &str) -> Result<Option<Pin>, AllocError>
+    ensures { IfOk result (λ o. o ≡ pin_from key.now (view value.now)) }
+{
+    let Some(found) = at_key(value, key) else {
+        return Ok(None);
+    };
+    match Pin::from_value(found) {
+        Ok(pin) => Ok(Some(pin)),
+        Err(HistoryFault::NoMemory) => Err(AllocError),
+        Err(HistoryFault::NotObject | HistoryFault::VersionNotText) => Ok(None),
+    }
+}
+
+fn variable_value(alloc: Global, value: &Value) -> Result<String, AllocError>
+    ensures { IfOk result (λ s. string_bytes s ≡ variable_value (view value.now)) }
+{
+    if let Some(text) = value.as_str() {
+        return String::from_str(alloc, text);
+    }
+    if value.is_null() || has_float(value) {
+        return Ok(String::new(alloc));
+    }
+    value.to_string(alloc)
+}
+
+fn variables_of(
+    alloc: Global,
+    members: &BTreeMap<String, Value>,
+) -> Result<Vec<Variable>, AllocError>
+    ensures { IfOk result
+        (λ v. map variable_data v.items ≡ variables_in (members_view members.now.entries)) }
+{
+    let mut variables = Vec::new(alloc);
+    for (key, member) in members.iter() {
+        variables.push(Variable {
+            name: key.clone()?,
+            value: variable_value(alloc, member)?,
+        })?;
+    }
+    Ok(variables)
+}
+
+fn variables(alloc: Global, value: &Value, key: &str) -> Result<Vec<Variable>, AllocError>
+    ensures { IfOk result
+        (λ v. map variable_data v.items ≡ variables_from key.now (view value.now)) }
+{
+    let Some(found) = at_key(value, key) else {
+        return Ok(Vec::new(alloc));
+    };
+    match found.as_object() {
+        Some(members) => variables_of(alloc, members),
+        None => Ok(Vec::new(alloc)),
+    }
+}
+
+fn run(alloc: Global, config: &Value) -> Result<Run, AllocError>
+    ensures { IfOk result (λ r. run_data r ≡ run_from (view config.now)) }
+{
+    let absent = Value::Null;
+    let run = at_key(config, "run").unwrap_or(&absent);
+    Ok(Run {
+        path: text(alloc, run, "path")?,
+        args: texts(alloc, run, "args")?,
+        dir: optional_text(alloc, run, "dir")?,
+    })
+}
+
+fn inputs_of(alloc: Global, list: &[Value]) -> Result<Vec<TaskInput>, AllocError>
+    ensures { IfOk result (λ v. map input_data v.items ≡ inputs_in (items_view list.now)) }
+{
+    let mut inputs = Vec::new(alloc);
+    for member in list {
+        inputs.push(TaskInput {
+            name: text(alloc, member, "name")?,
+            optional: truth(member, "optional"),
+        })?;
+    }
+    Ok(inputs)
+}
+
+fn inputs(alloc: Global, config: &Value) -> Result<Vec<TaskInput>, AllocError>
+    ensures { IfOk result (λ v. map input_data v.items ≡ inputs_from (view config.now)) }
+{
+    let Some(found) = at_key(config, "inputs") else {
+        return Ok(Vec::new(alloc));
+    };
+    match found.as_array() {
+        Some(list) => inputs_of(alloc, list),
+        None => Ok(Vec::new(alloc)),
+    }
+}
+
+fn outputs_of(alloc: Global, list: &[Value]) -> Result<Vec<String>, AllocError>
+    ensures { IfOk result (λ v. map string_bytes v.items ≡ outputs_in (items_view list.now)) }
+{
+    let mut outputs = Vec::new(alloc);
+    for member in list {
+        outputs.push(text(alloc, member, "name")?)?;
+    }
+    Ok(outputs)
+}
+
+fn outputs(alloc: Global, config: &Value) -> Result<Vec<String>, AllocError>
+    ensures { IfOk result (λ v. map string_bytes v.items ≡ outputs_from (view config.now)) }
+{
+    let Some(found) = at_key(config, "outputs") else {
+        return Ok(Vec::new(alloc));
+    };
+    match found.as_array() {
+        Some(list) => outputs_of(alloc, list),
+        None => Ok(Vec::new(alloc)),
+    }
+}
+
+/// The config that a tested text is.
+pub(crate) fn config(alloc: Global, config: &Value) -> Result<TaskConfig, AllocError>
+    ensures { IfOk result (λ c. config_data c ≡ config_from (view config.now)) }
+{
+    Ok(TaskConfig {
+        run: run(alloc, config)?,
+        inputs: inputs(alloc, config)?,
+        outputs: outputs(alloc, config)?,
+        params: variables(alloc, config, "params")?,
+    })
+}
+
+fn source(alloc: Global, step: &Value) -> Result<TaskSource, AllocError>
+    ensures { IfOk result (λ s. source_data s ≡ source_from (view step.now)) }
+{
+    match at_key(step, "config") {
+        Some(found) => Ok(TaskSource::Config(config(alloc, found)?)),
+        None => Ok(TaskSource::File(text(alloc, step, "file")?)),
+    }
+}
+
+/// The task that a tested step is.
+pub(crate) fn task(alloc: Global, step: &Value) -> Result<Task, AllocError>
+    ensures { IfOk result (λ t. task_data t ≡ task_from (view step.now)) }
+{
+    Ok(Task {
+        name: text(alloc, step, "task")?,
+        source: source(alloc, step)?,
+        params: variables(alloc, step, "params")?,
+    })
+}
+
+fn wanted_of(found: &Value) -> Result<Wanted, AllocError>
+    ensures { IfOk result (λ w. wanted_data w ≡ wanted_in (view found.now)) }
+{
+    if let Some(text) = found.as_str() {
+        return if text == "every" {
+            Ok(Wanted::Every)
+        } else {
+            Ok(Wanted::Latest)
+        };
+    }
+    match Pin::from_value(found) {
+        Ok(pin) => Ok(Wanted::Pinned(pin)),
+        Err(HistoryFault::NoMemory) => Err(AllocError),
+        Err(HistoryFault::NotObject | HistoryFault::VersionNotText) => Ok(Wanted::Latest),
+    }
+}
+
+fn wanted(step: &Value) -> Result<Wanted, AllocError>
+    ensures { IfOk result (λ w. wanted_data w ≡ wanted_from (view step.now)) }
+{
+    match at_key(step, "version") {
+        Some(found) => wanted_of(found),
+        None => Ok(Wanted::Latest),
+    }
+}
+
+/// The get that a tested step is.
+pub(crate) fn get(alloc: Global, step: &Value) -> Result<Get, AllocError>
+    ensures { IfOk result (λ g. get_data g ≡ get_from (view step.now)) }
+{
+    let name = text(alloc, step, "get")?;
+    Ok(Get {
+        resource: text_or(alloc, step, "resource", name.as_str())?,
+        name,
+        passed: texts(alloc, step, "passed")?,
+        trigger: truth(step, "trigger"),
+        params: copied(step, "params")?,
+        wanted: wanted(step)?,
+    })
+}
+
+/// The put that a tested step is.
+pub(crate) fn put(alloc: Global, step: &Value) -> Result<Put, AllocError>
+    ensures { IfOk result (λ p. put_data p ≡ put_from (view step.now)) }
+{
+    let name = text(alloc, step, "put")?;
+    Ok(Put {
+        resource: text_or(alloc, step, "resource", name.as_str())?,
+        name,
+        params: copied(step, "params")?,
+        get_params: copied(step, "get_params")?,
+        no_get: truth(step, "no_get"),
+    })
+}

@@ -1,0 +1,103 @@
+//! The resources and jobs that tested text is built into.
+ghost use Rattle.std.specs.Prelude.{◌≡◌, ◌++◌, [], map, codes, IfOk, IsTrue};
+ghost use Rattle.serde_json.specs.View.{view, items_view};
+ghost use Rattle.ccr_pipeline.specs.Inputs.{are_few, inputs};
+ghost use Rattle.ccr_pipeline.specs.Keys.{at_key, or_else};
+ghost use Rattle.ccr_pipeline.specs.Pipelines.{resource_data, job_data, resource_from, resources_in, resources_from, job_from, jobs_in, job_items, jobs_from, AreFew};
+ghost use Rattle.ccr_pipeline.specs.Plans.{plan_from};
+ghost use Rattle.ccr_pipeline.specs.Steps.{trees_in, step_tree, with_hooks};
+ghost use Rattle.ccr_pipeline.specs.Tree.{tree_of, trees_of};
+
+use crate::build::{copied, pin, text, texts, truth, whole};
+use crate::build_step::{add_hooks, steps_of};
+use crate::key::at_key;
+use crate::place::LEVELS;
+use crate::resource::{Job, Resource};
+use crate::step::Step;
+use serde_json::Value;
+use std::alloc::{AllocError, Global};
+
+fn resource(alloc: Global, value: &Value) -> Result<Resource, AllocError>
+    ensures { IfOk result (λ r. resource_data r ≡ resource_from (view value.now)) }
+{
+    Ok(Resource {
+        name: text(alloc, value, "name")?,
+        kind: text(alloc, value, "type")?,
+        source: copied(value, "source")?,
+        version: pin(value, "version")?,
+    })
+}
+
+fn resources_of(alloc: Global, list: &[Value]) -> Result<Vec<Resource>, AllocError>
+    ensures { IfOk result (λ v. map resource_data v.items ≡ resources_in (items_view list.now)) }
+{
+    let mut resources = Vec::new(alloc);
+    for member in list {
+        resources.push(resource(alloc, member)?)?;
+    }
+    Ok(resources)
+}
+
+/// The resources of a tested pipeline.
+pub(crate) fn resources(alloc: Global, pipeline: &Value) -> Result<Vec<Resource>, AllocError>
+    ensures { IfOk result (λ v. map resource_data v.items ≡ resources_from (view pipeline.now)) }
+{
+    let Some(found) = at_key(pipeline, "resources") else {
+        return Ok(Vec::new(alloc));
+    };
+    match found.as_array() {
+        Some(list) => resources_of(alloc, list),
+        None => Ok(Vec::new(alloc)),
+    }
+}
+
+/// The plan as a `do`, in the job's hooks.
+#[tactic(auto, unfolding(crate::specs::Plans::plan_from))]
+pub(crate) fn plan(alloc: Global, job: &Value) -> Result<Step, AllocError>
+    ensures { IfOk result (λ s. tree_of s ≡ plan_from (view job.now)) }
+{
+    let steps = match at_key(job, "plan") {
+        Some(found) => steps_of(alloc, found, LEVELS)?,
+        None => Vec::new(alloc),
+    };
+    add_hooks(alloc, job, Step::Do(steps), LEVELS)
+}
+
+#[tactic(auto, unfolding(crate::specs::Pipelines::job_from))]
+fn job(alloc: Global, value: &Value) -> Result<Job, AllocError>
+    requires { IsTrue (are_few (inputs (plan_from (view value.now)))) }
+    ensures { IfOk result (λ j. job_data j ≡ job_from (view value.now)) }
+{
+    Ok(Job {
+        name: text(alloc, value, "name")?,
+        plan: plan(alloc, value)?,
+        serial: truth(value, "serial"),
+        serial_groups: texts(alloc, value, "serial_groups")?,
+        max_in_flight: whole(value, "max_in_flight"),
+    })
+}
+
+fn jobs_of(alloc: Global, list: &[Value]) -> Result<Vec<Job>, AllocError>
+    requires { AreFew (items_view list.now) }
+    ensures { IfOk result (λ v. map job_data v.items ≡ jobs_in (items_view list.now)) }
+{
+    let mut jobs = Vec::new(alloc);
+    for member in list {
+        jobs.push(job(alloc, member)?)?;
+    }
+    Ok(jobs)
+}
+
+/// The jobs of a tested pipeline.
+pub(crate) fn jobs(alloc: Global, pipeline: &Value) -> Result<Vec<Job>, AllocError>
+    requires { AreFew (job_items (view pipeline.now)) }
+    ensures { IfOk result (λ v. map job_data v.items ≡ jobs_from (view pipeline.now)) }
+{
+    let Some(found) = at_key(pipeline, "jobs") else {
+        return Ok(Vec::new(alloc));
+    };
+    match found.as_array() {
+        Some(list) => jobs_of(alloc, list),
+        None => Ok(Vec::new(alloc)),
+    }
+}

@@ -1,0 +1,156 @@
+//! The steps that tested text is built into, in their modifiers.
+ghost use Rattle.std.specs.Prelude.{◌≡◌, ◌++◌, [], map, codes, IfOk};
+ghost use Rattle.serde_json.specs.View.{view, items_view};
+ghost use Rattle.ccr_pipeline.specs.Keys.{at_key, or_else};
+ghost use Rattle.ccr_pipeline.specs.Meaning.{truth_from};
+ghost use Rattle.ccr_pipeline.specs.Tree.{tree_of, trees_of};
+ghost use Rattle.ccr_pipeline.specs.Steps.{with_attempts, with_hook, with_hooks, each_tree, trees_in, parallel_trees, holder, action, step_tree};
+ghost use Rattle.ccr_pipeline.specs.Hooks.{hook_key};
+
+use crate::build::{get, put, task, truth};
+use crate::key::at_key;
+use crate::step::{Step, When};
+use serde_json::Value;
+use std::alloc::{AllocError, Global};
+
+fn add_attempts(alloc: Global, value: &Value, step: Step) -> Result<Step, AllocError>
+    ensures { IfOk result (λ s. tree_of s ≡ with_attempts (view value.now) (tree_of step)) }
+{
+    let Some(found) = at_key(value, "attempts") else {
+        return Ok(step);
+    };
+    match found.as_u64() {
+        Some(n) => Ok(Step::Attempts(n, Box::new(alloc, step)?)),
+        None => Ok(step),
+    }
+}
+
+#[cycle(build)]
+#[tactic(auto, unfolding(crate::specs::Steps::with_hook))]
+fn add_hook(
+    alloc: Global,
+    when: When,
+    value: &Value,
+    step: Step,
+    left: u32,
+) -> Result<Step, AllocError>
+    ensures { IfOk result
+        (λ s. tree_of s ≡ with_hook (step_tree left) when (view value.now) (tree_of step)) }
+{
+    match at_key(value, when.key()) {
+        Some(found) => {
+            let hook = step_of(alloc, found, left)?;
+            Ok(Step::Hook(when, Box::new(alloc, step)?, Box::new(alloc, hook)?))
+        }
+        None => Ok(step),
+    }
+}
+
+/// The step in its hooks, innermost `on_success`, outermost `ensure`.
+#[cycle(build)]
+#[tactic(auto, unfolding(crate::specs::Steps::with_hooks))]
+pub(crate) fn add_hooks(
+    alloc: Global,
+    value: &Value,
+    step: Step,
+    left: u32,
+) -> Result<Step, AllocError>
+    ensures { IfOk result
+        (λ s. tree_of s ≡ with_hooks (step_tree left) (view value.now) (tree_of step)) }
+{
+    let step = add_hook(alloc, When::OnSuccess, value, step, left)?;
+    let step = add_hook(alloc, When::OnFailure, value, step, left)?;
+    let step = add_hook(alloc, When::OnAbort, value, step, left)?;
+    let step = add_hook(alloc, When::OnError, value, step, left)?;
+    add_hook(alloc, When::Ensure, value, step, left)
+}
+
+#[cycle(build)]
+fn list_of(alloc: Global, list: &[Value], left: u32) -> Result<Vec<Step>, AllocError>
+    ensures { IfOk result
+        (λ v. map tree_of v.items ≡ each_tree (step_tree left) (items_view list.now)) }
+{
+    let mut steps = Vec::new(alloc);
+    for member in list {
+        steps.push(step_of(alloc, member, left)?)?;
+    }
+    Ok(steps)
+}
+
+/// The steps of a list.
+#[cycle(build)]
+pub(crate) fn steps_of(alloc: Global, found: &Value, left: u32) -> Result<Vec<Step>, AllocError>
+    ensures { IfOk result (λ v. map tree_of v.items ≡ trees_in (step_tree left) (view found.now)) }
+{
+    match found.as_array() {
+        Some(list) => list_of(alloc, list, left),
+        None => Ok(Vec::new(alloc)),
+    }
+}
+
+/// The steps of an `in_parallel`: it is a list, or has one at `steps`.
+#[cycle(build)]
+fn parallel_of(alloc: Global, found: &Value, left: u32) -> Result<Vec<Step>, AllocError>
+    ensures { IfOk result
+        (λ v. map tree_of v.items ≡ parallel_trees (step_tree left) (view found.now)) }
+{
+    if found.is_array() {
+        return steps_of(alloc, found, left);
+    }
+    match at_key(found, "steps") {
+        Some(steps) => steps_of(alloc, steps, left),
+        None => Ok(Vec::new(alloc)),
+    }
+}
+
+/// The step of `do`, `in_parallel` or `try`.
+#[cycle(build)]
+#[tactic(auto, unfolding(crate::specs::Steps::holder))]
+fn holder_of(alloc: Global, step: &Value, left: u32) -> Result<Step, AllocError>
+    ensures { IfOk result (λ s. tree_of s ≡ holder (step_tree left) (view step.now)) }
+{
+    if let Some(found) = at_key(step, "do") {
+        return Ok(Step::Do(steps_of(alloc, found, left)?));
+    }
+    if let Some(found) = at_key(step, "in_parallel") {
+        let steps = parallel_of(alloc, found, left)?;
+        return Ok(Step::InParallel(steps, truth(found, "fail_fast")));
+    }
+    if let Some(found) = at_key(step, "try") {
+        let tried = step_of(alloc, found, left)?;
+        return Ok(Step::Try(Box::new(alloc, tried)?));
+    }
+    Ok(Step::Do(Vec::new(alloc)))
+}
+
+/// The step without its modifiers.
+#[cycle(build)]
+#[tactic(auto, unfolding(crate::specs::Steps::action))]
+fn action_of(alloc: Global, step: &Value, left: u32) -> Result<Step, AllocError>
+    ensures { IfOk result (λ s. tree_of s ≡ action (step_tree left) (view step.now)) }
+{
+    if at_key(step, "get").is_some() {
+        return Ok(Step::Get(get(alloc, step)?));
+    }
+    if at_key(step, "put").is_some() {
+        return Ok(Step::Put(put(alloc, step)?));
+    }
+    if at_key(step, "task").is_some() {
+        return Ok(Step::Task(task(alloc, step)?));
+    }
+    holder_of(alloc, step, left)
+}
+
+/// The step that a tested text is, of so many levels.
+#[cycle(build)]
+#[tactic(auto, unfolding(crate::specs::Steps::step_tree))]
+fn step_of(alloc: Global, step: &Value, left: u32) -> Result<Step, AllocError>
+    ensures { IfOk result (λ s. tree_of s ≡ step_tree left (view step.now)) }
+{
+    if left == 0 {
+        return Ok(Step::Do(Vec::new(alloc)));
+    }
+    let action = action_of(alloc, step, left - 1)?;
+    let tried = add_attempts(alloc, step, action)?;
+    add_hooks(alloc, step, tried, left - 1)
+}

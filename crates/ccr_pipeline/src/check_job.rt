@@ -1,0 +1,269 @@
+//! The tests of resources and jobs.
+ghost use Rattle.std.specs.Prelude.{◌≡◌, ◌++◌, [], length, drop, codes, map, nat_le, string_bytes, OnOk, IfOk};
+ghost use Rattle.std.specs.List.{flat_map};
+ghost use Rattle.serde_json.specs.Events.{items_len};
+ghost use Rattle.serde_json.specs.View.{view, items_view};
+ghost use Rattle.ccr_pipeline.specs.Faults.{unless, Checks, Reads, StartsWith, IsFirst, fault_of};
+ghost use Rattle.ccr_pipeline.specs.Keys.{at_key, or_else, path_below, path_at};
+ghost use Rattle.ccr_pipeline.specs.Kinds.{optional, required, broken, optional_keys, key_table};
+ghost use Rattle.ccr_pipeline.specs.Names.{names_at, new_name, with_names};
+ghost use Rattle.ccr_pipeline.specs.Places.{spots, plan_steps, job_hooks, gets_at};
+ghost use Rattle.ccr_pipeline.specs.StepRules.{visits};
+ghost use Rattle.ccr_pipeline.specs.Inputs.{input_data, named_jobs};
+ghost use Rattle.ccr_pipeline.specs.JobRules.{resource_faults, resource_keys, job_faults, job_opening, job_rest, after_plan, job_keys, too_many, member_faults, members, member_items, names_in, member_list, list_names};
+
+use crate::build_job::plan;
+use crate::check_step::check_places;
+use crate::fault::{ReadFault, Rule};
+use crate::input::{Input, inputs_in};
+use crate::key::{at_key, path_at, require, require_at};
+use crate::kind::{Kind, check_keys, required};
+use crate::names::{Names, check_new_name};
+use crate::place::{LEVELS, Place, push_hooks, push_list};
+use serde_json::Value;
+use std::alloc::{AllocError, Global};
+
+/// How many resources, and how many jobs, a pipeline may have.
+const MOST_MEMBERS: usize = 200;
+
+/// How many inputs, and how many named jobs, a plan may have.
+const MOST_INPUTS: usize = 32;
+
+/// The two lists of a pipeline.
+#[derive(Clone, Copy, Debug, PartialEq, Eq)]
+pub(crate) enum Member {
+    Resource,
+    Job,
+}
+
+/// The steps of a job's plan, in the order of reading.
+pub(crate) fn plan_places<'v>(
+    alloc: Global,
+    job: &'v Value,
+    path: &str,
+) -> Result<Vec<Place<'v>>, AllocError>
+    ensures { IfOk result (λ v. spots v.items ≡ plan_steps path.now (view job.now)) }
+{
+    let mut places = Vec::new(alloc);
+    push_list(alloc, &mut places, job, path, "plan", LEVELS, 1)?;
+    Ok(places)
+}
+
+/// The steps of a job's hooks, in the order of reading.
+pub(crate) fn hook_places<'v>(
+    alloc: Global,
+    job: &'v Value,
+    path: &str,
+) -> Result<Vec<Place<'v>>, AllocError>
+    ensures { IfOk result (λ v. spots v.items ≡ job_hooks path.now (view job.now)) }
+{
+    let mut places = Vec::new(alloc);
+    push_hooks(alloc, &mut places, job, path, LEVELS, 1)?;
+    Ok(places)
+}
+
+#[tactic(auto, using(crate::proofs::Faulted::first_append), unfolding(crate::specs::JobRules::resource_keys))]
+fn check_resource_keys(alloc: Global, resource: &Value, path: &str) -> Result<(), ReadFault>
+    ensures { Checks (resource_keys path.now (view resource.now)) result }
+{
+    required(alloc, Kind::Name, resource, path, "type")?;
+    check_keys(
+        alloc,
+        &[(Kind::Params, "source"), (Kind::Fields, "version")],
+        resource,
+        path,
+    )
+}
+
+/// Refuses a resource (Concourse: resources) that breaks a rule, and adds its name to those of the resources.
+#[tactic(auto, using(crate::proofs::Faulted::first_append), unfolding(crate::specs::JobRules::resource_faults))]
+fn check_resource(
+    alloc: Global,
+    names: &mut Names,
+    resource: &Value,
+    path: &str,
+) -> Result<(), ReadFault>
+    ensures checked { Checks (resource_faults names.old path.now (view resource.now)) result }
+    ensures added { OnOk result
+        (names.new ≡ names.old ++ names_at (codes "name") (view resource.now)) }
+{
+    require(alloc, resource.is_object(), Rule::Kind, path)?;
+    check_new_name(alloc, names, resource, path, "name")?;
+    check_resource_keys(alloc, resource, path)
+}
+
+/// Adds the jobs that the inputs name in `passed`.
+fn add_named_jobs(alloc: Global, jobs: &mut Names, inputs: &[Input]) -> Result<(), AllocError>
+    ensures { OnOk result (jobs.new ≡ named_jobs jobs.old (map input_data inputs.now)) }
+{
+    for input in inputs {
+        add_texts(alloc, jobs, &input.passed)?;
+    }
+    Ok(())
+}
+
+/// Adds the texts that are new.
+fn add_texts(alloc: Global, names: &mut Names, texts: &[String]) -> Result<(), AllocError>
+    ensures { OnOk result (names.new ≡ with_names names.old (map string_bytes texts.now)) }
+{
+    for text in texts {
+        names.add(alloc, text.as_str())?;
+    }
+    Ok(())
+}
+
+/// Refuses a plan with too many inputs or named jobs.
+#[tactic(auto, unfolding(crate::specs::JobRules::too_many))]
+fn check_number(alloc: Global, job: &Value, path: &str) -> Result<(), ReadFault>
+    ensures { Checks (too_many path.now (view job.now)) result }
+{
+    let plan = plan(alloc, job)?;
+    let inputs = inputs_in(alloc, &plan)?;
+    let mut jobs = Names::new(alloc);
+    add_named_jobs(alloc, &mut jobs, &inputs)?;
+    let fit = inputs.len() <= MOST_INPUTS && jobs.len() <= MOST_INPUTS;
+    require_at(alloc, fit, Rule::Number, path, "plan")
+}
+
+/// Refuses what breaks a rule in a job after its plan, whose gets have these names.
+#[tactic(auto, using(crate::proofs::Faulted::first_append), unfolding(crate::specs::JobRules::after_plan))]
+fn check_after_plan(
+    alloc: Global,
+    gets: &mut Names,
+    job: &Value,
+    path: &str,
+) -> Result<(), ReadFault>
+    ensures { Checks (after_plan gets.old path.now (view job.now)) result }
+{
+    check_job_keys(alloc, job, path)?;
+    let hooks = hook_places(alloc, job, path)?;
+    check_places(alloc, gets, &hooks)?;
+    check_number(alloc, job, path)
+}
+
+/// Refuses what breaks a rule in a job after its name.
+#[tactic(auto, using(crate::proofs::Faulted::first_append), unfolding(crate::specs::JobRules::job_rest))]
+fn check_job_rest(alloc: Global, job: &Value, path: &str) -> Result<(), ReadFault>
+    ensures { Checks (job_rest path.now (view job.now)) result }
+{
+    let plan = plan_places(alloc, job, path)?;
+    let mut gets = Names::new(alloc);
+    check_places(alloc, &mut gets, &plan)?;
+    check_after_plan(alloc, &mut gets, job, path)
+}
+
+fn check_job_keys(alloc: Global, job: &Value, path: &str) -> Result<(), ReadFault>
+    ensures { Checks (optional_keys job_keys path.now (view job.now)) result }
+{
+    check_keys(
+        alloc,
+        &[
+            (Kind::Truth, "serial"),
+            (Kind::Texts, "serial_groups"),
+            (Kind::Whole, "max_in_flight"),
+        ],
+        job,
+        path,
+    )
+}
+
+#[tactic(auto, using(crate::proofs::Faulted::first_append), unfolding(crate::specs::JobRules::job_opening))]
+fn check_job_opening(
+    alloc: Global,
+    names: &mut Names,
+    job: &Value,
+    path: &str,
+) -> Result<(), ReadFault>
+    ensures checked { Checks (job_opening names.old path.now (view job.now)) result }
+    ensures added { OnOk result (names.new ≡ names.old ++ names_at (codes "name") (view job.now)) }
+{
+    require(alloc, job.is_object(), Rule::Kind, path)?;
+    check_new_name(alloc, names, job, path, "name")?;
+    required(alloc, Kind::List, job, path, "plan")
+}
+
+/// Refuses a job (Concourse: jobs) that breaks a rule, and adds its name to those of the jobs.
+#[tactic(auto, using(crate::proofs::Faulted::first_append), unfolding(crate::specs::JobRules::job_faults))]
+fn check_job(alloc: Global, names: &mut Names, job: &Value, path: &str) -> Result<(), ReadFault>
+    ensures checked { Checks (job_faults names.old path.now (view job.now)) result }
+    ensures added { OnOk result (names.new ≡ names.old ++ names_at (codes "name") (view job.now)) }
+{
+    check_job_opening(alloc, names, job, path)?;
+    check_job_rest(alloc, job, path)
+}
+
+fn check_member(
+    alloc: Global,
+    member: Member,
+    names: &mut Names,
+    value: &Value,
+    path: &str,
+) -> Result<(), ReadFault>
+    ensures checked { Checks (member_faults member names.old path.now (view value.now)) result }
+    ensures added { OnOk result (names.new ≡ names.old ++ names_at (codes "name") (view value.now)) }
+{
+    match member {
+        Member::Resource => check_resource(alloc, names, value, path),
+        Member::Job => check_job(alloc, names, value, path),
+    }
+}
+
+#[tactic(auto, using(crate::proofs::Faulted::first_append))]
+fn check_members(
+    alloc: Global,
+    member: Member,
+    names: &mut Names,
+    list: &[Value],
+    path: &str,
+) -> Result<(), ReadFault>
+    ensures checked { Checks (members member names.old path.now 0 (items_view list.now)) result }
+    ensures added { OnOk result (names.new ≡ names.old ++ names_in (items_view list.now)) }
+{
+    for (i, value) in list.iter().enumerate() {
+        let path = path_at(alloc, path, i)?;
+        check_member(alloc, member, names, value, path.as_str())?;
+    }
+    Ok(())
+}
+
+/// Whether there are no more than a pipeline may have.
+fn are_few(list: &Vec<Value>) -> bool
+    ensures { result ≡ nat_le (items_len (items_view list.now.items)) 200 }
+{
+    list.len() <= MOST_MEMBERS
+}
+
+#[tactic(auto, using(crate::proofs::Faulted::first_append), unfolding(crate::specs::JobRules::member_items))]
+fn check_member_items(
+    alloc: Global,
+    member: Member,
+    names: &mut Names,
+    list: &Vec<Value>,
+    key: &str,
+) -> Result<(), ReadFault>
+    ensures checked { Checks (member_items member names.old key.now (items_view list.now.items)) result }
+    ensures added { OnOk result (names.new ≡ names.old ++ names_in (items_view list.now.items)) }
+{
+    require(alloc, are_few(list), Rule::Number, key)?;
+    check_members(alloc, member, names, list, key)
+}
+
+/// Refuses the first rule that the resources or jobs at a key of the pipeline break, and gives their names.
+pub(crate) fn check_member_list(
+    alloc: Global,
+    member: Member,
+    pipeline: &Value,
+    key: &str,
+) -> Result<Names, ReadFault>
+    ensures { Reads (member_list member key.now (view pipeline.now)) (list_names key.now (view pipeline.now)) (λ names. names) result }
+{
+    let mut names = Names::new(alloc);
+    let Some(found) = at_key(pipeline, key) else {
+        return Ok(names);
+    };
+    let Some(list) = found.as_array() else {
+        return Err(ReadFault::of(Rule::Kind, String::from_str(alloc, key)?));
+    };
+    check_member_items(alloc, member, &mut names, list, key)?;
+    Ok(names)
+}

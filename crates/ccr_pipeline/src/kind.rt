@@ -1,0 +1,244 @@
+//! The kinds of value that a key may have, and their tests.
+ghost use Rattle.std.specs.Prelude.{◌≡◌, ◌++◌, [], length, drop, option_map, string_bytes};
+ghost use Rattle.std.specs.List.{list_all};
+ghost use Rattle.serde_json.specs.Written.{has_float, items_have_float, members_have_float};
+ghost use Rattle.serde_json.specs.View.{view, items_view, members_view};
+ghost use Rattle.ccr_pipeline.specs.Faults.{unless, Checks, StartsWith, IsFirst, fault_of};
+ghost use Rattle.ccr_pipeline.specs.Keys.{at_key, or_else, path_below, path_at};
+ghost use Rattle.ccr_pipeline.specs.Kinds.{is_name, is_name_byte, is_text, broken, broken_texts, broken_fields, broken_pin, is_empty, optional, required, optional_keys, key_table};
+
+use crate::fault::{ReadFault, Rule};
+use crate::key::{at_key, path_at, path_below, require, require_at};
+use serde_json::Value;
+use std::alloc::Global;
+use std::collections::BTreeMap;
+
+/// What a key's value has to be.
+#[derive(Clone, Copy, Debug, PartialEq, Eq)]
+pub(crate) enum Kind {
+    Text,
+    /// A text that a resource, type, job, step or artifact may have as its name.
+    Name,
+    Texts,
+    Truth,
+    /// A whole number that isn't negative.
+    Whole,
+    List,
+    Object,
+    /// An object whose numbers are all whole.
+    Params,
+    /// An object whose fields are all texts.
+    Fields,
+    /// An object without members, since what it says isn't done here.
+    Nothing,
+    /// `latest`, `every` or the fields of a pin.
+    Wanted,
+    /// No value: what the key says isn't done here.
+    Undone,
+}
+
+fn has_name_bytes(bytes: &[u8]) -> bool
+    ensures { result ≡ list_all is_name_byte bytes.now }
+{
+    bytes
+        .iter()
+        .all(|byte| *byte >= 32 && *byte != 127 && *byte != b'/')
+}
+
+/// Whether the text may be a name: 1 to 128 bytes, none of them below 32, 127 or `/`, and neither `.` nor `..`.
+#[tactic(auto, unfolding(crate::specs::Kinds::is_name))]
+pub(crate) fn is_name(text: &str) -> bool
+    ensures { result ≡ is_name text.now }
+{
+    if text.is_empty() || text.len() > 128 {
+        return false;
+    }
+    if text == "." || text == ".." {
+        return false;
+    }
+    has_name_bytes(text.as_bytes())
+}
+
+/// Whether a number in the value isn't whole, or is out of the range of 64 bits.
+#[cycle(float)]
+pub(crate) fn has_float(value: &Value) -> bool
+    ensures { result ≡ has_float (view value.now) }
+{
+    match value {
+        Value::Number(number) => number.is_f64(),
+        Value::Array(items) => items_have_float(items),
+        Value::Object(members) => members_have_float(members),
+        _ => false,
+    }
+}
+
+#[cycle(float)]
+fn items_have_float(items: &Vec<Value>) -> bool
+    ensures { result ≡ items_have_float (items_view items.now.items) }
+{
+    for item in items {
+        if has_float(item) {
+            return true;
+        }
+    }
+    false
+}
+
+#[cycle(float)]
+fn members_have_float(members: &BTreeMap<String, Value>) -> bool
+    ensures { result ≡ members_have_float (members_view members.now.entries) }
+{
+    for (_, member) in members.iter() {
+        if has_float(member) {
+            return true;
+        }
+    }
+    false
+}
+
+fn check_name(alloc: Global, text: &str, path: &str, key: &str) -> Result<(), ReadFault>
+    ensures { Checks (unless (is_name text.now) Rule.Name (path_below path.now key.now)) result }
+{
+    require_at(alloc, is_name(text), Rule::Name, path, key)
+}
+
+fn check_texts(alloc: Global, list: &[Value], path: &str, key: &str) -> Result<(), ReadFault>
+    ensures { Checks (broken_texts (path_below path.now key.now) 0 (items_view list.now)) result }
+{
+    for (i, member) in list.iter().enumerate() {
+        if !member.is_string() {
+            let below = path_below(alloc, path, key)?;
+            return Err(ReadFault::of(Rule::Kind, path_at(alloc, below.as_str(), i)?));
+        }
+    }
+    Ok(())
+}
+
+fn check_fields(
+    alloc: Global,
+    members: &BTreeMap<String, Value>,
+    path: &str,
+    key: &str,
+) -> Result<(), ReadFault>
+    ensures { Checks (broken_fields (path_below path.now key.now) (members_view members.now.entries))
+        result }
+{
+    for (field, member) in members.iter() {
+        if !member.is_string() {
+            let below = path_below(alloc, path, key)?;
+            return Err(ReadFault::of(
+                Rule::Kind,
+                path_below(alloc, below.as_str(), field.as_str())?,
+            ));
+        }
+    }
+    Ok(())
+}
+
+fn is_empty(members: &BTreeMap<String, Value>) -> bool
+    ensures { result ≡ is_empty (members_view members.now.entries) }
+{
+    members.len() == 0
+}
+
+fn check_pin(alloc: Global, found: &Value, path: &str, key: &str) -> Result<(), ReadFault>
+    ensures { Checks (broken_pin (path_below path.now key.now) (view found.now)) result }
+{
+    match found.as_object() {
+        Some(members) => check_fields(alloc, members, path, key),
+        None => require_at(alloc, false, Rule::Kind, path, key),
+    }
+}
+
+/// Refuses a value that isn't of the kind, at the first place that breaks it.
+#[tactic(auto, unfolding(crate::specs::Kinds::broken))]
+pub(crate) fn check(
+    alloc: Global,
+    kind: Kind,
+    found: &Value,
+    path: &str,
+    key: &str,
+) -> Result<(), ReadFault>
+    ensures { Checks (broken kind (path_below path.now key.now) (view found.now)) result }
+{
+    match kind {
+        Kind::Text => require_at(alloc, found.is_string(), Rule::Kind, path, key),
+        Kind::Truth => require_at(alloc, found.is_boolean(), Rule::Kind, path, key),
+        Kind::Whole => require_at(alloc, found.is_u64(), Rule::Kind, path, key),
+        Kind::List => require_at(alloc, found.is_array(), Rule::Kind, path, key),
+        Kind::Object => require_at(alloc, found.is_object(), Rule::Kind, path, key),
+        Kind::Name => match found.as_str() {
+            Some(text) => check_name(alloc, text, path, key),
+            None => require_at(alloc, false, Rule::Kind, path, key),
+        },
+        Kind::Texts => match found.as_array() {
+            Some(list) => check_texts(alloc, list, path, key),
+            None => require_at(alloc, false, Rule::Kind, path, key),
+        },
+        Kind::Params => match found.as_object() {
+            Some(_) => require_at(alloc, !has_float(found), Rule::Whole, path, key),
+            None => require_at(alloc, false, Rule::Kind, path, key),
+        },
+        Kind::Fields => check_pin(alloc, found, path, key),
+        Kind::Nothing => match found.as_object() {
+            Some(members) => require_at(alloc, is_empty(members), Rule::Supported, path, key),
+            None => require_at(alloc, false, Rule::Kind, path, key),
+        },
+        Kind::Wanted => match found.as_str() {
+            Some(text) => {
+                let is_word = text == "latest" || text == "every";
+                require_at(alloc, is_word, Rule::Kind, path, key)
+            }
+            None => check_pin(alloc, found, path, key),
+        },
+        Kind::Undone => require_at(alloc, false, Rule::Supported, path, key),
+    }
+}
+
+/// Refuses what stands at the key, if it isn't of the kind.
+pub(crate) fn optional(
+    alloc: Global,
+    kind: Kind,
+    value: &Value,
+    path: &str,
+    key: &str,
+) -> Result<(), ReadFault>
+    ensures { Checks (optional kind path.now key.now (view value.now)) result }
+{
+    match at_key(value, key) {
+        Some(found) => check(alloc, kind, found, path, key),
+        None => Ok(()),
+    }
+}
+
+/// Refuses an absent key, and what stands at the key, if it isn't of the kind.
+pub(crate) fn required(
+    alloc: Global,
+    kind: Kind,
+    value: &Value,
+    path: &str,
+    key: &str,
+) -> Result<(), ReadFault>
+    ensures { Checks (required kind path.now key.now (view value.now)) result }
+{
+    match at_key(value, key) {
+        Some(found) => check(alloc, kind, found, path, key),
+        None => require_at(alloc, false, Rule::Presence, path, key),
+    }
+}
+
+/// Refuses what stands at the keys of a table, if it isn't of their kinds, in the table's order.
+#[tactic(auto, using(crate::proofs::Faulted::first_append))]
+pub(crate) fn check_keys(
+    alloc: Global,
+    keys: &[(Kind, &str)],
+    value: &Value,
+    path: &str,
+) -> Result<(), ReadFault>
+    ensures { Checks (optional_keys (key_table keys.now) path.now (view value.now)) result }
+{
+    for (kind, key) in keys {
+        optional(alloc, *kind, value, path, *key)?;
+    }
+    Ok(())
+}

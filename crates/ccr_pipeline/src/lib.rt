@@ -1,0 +1,46 @@
+//! The pipeline file as a tree, or its first fault with its path.
+//!
+//! [`read`] reads a pipeline from JSON, [`read_task`] a task file. Contracts see a text as the JSON value that it
+//! spells, and speak of it in two parts. The faults that are present in a value are a list, each a rule and the path
+//! of the place that breaks it, in the order in which they count: the definitions state them rule by rule, over a
+//! flat list of a job's steps with their paths. What a value means is a record or a tree, and knows no fault. A text
+//! is read as what its value means exactly where no fault is present in it, memory aside; else the first is told.
+//!
+//! A step's modifiers wrap it, so whoever walks a plan from the outside meets `ensure`, `on_error`, `on_abort`,
+//! `on_failure`, `on_success`, the attempts and the step in this order, and no JSON. [`inputs_of`] gives the gets of a
+//! job in the order of its plan, which is another.
+//!
+//! Refusals are the variants of [`ReadFault`], each with a path but `NoMemory`, which comes only where a growth was
+//! refused. `docs/FORMATS.md` has the keys, the rules and what to do about each refusal.
+#![tactic(auto)]
+
+mod build;
+mod build_job;
+mod build_step;
+mod check_job;
+mod check_step;
+mod check_task;
+mod fault;
+mod input;
+mod key;
+mod kind;
+mod names;
+mod pipeline;
+mod place;
+mod reader;
+mod resource;
+mod step;
+mod task;
+mod unknown;
+mod unused;
+
+pub use fault::ReadFault;
+pub use input::{Input, inputs_of};
+pub use pipeline::Pipeline;
+pub use reader::{read, read_task};
+pub use resource::{Job, Resource};
+pub use step::{Get, Put, Step, Wanted, When};
+pub use task::{Run, Task, TaskConfig, TaskInput, TaskSource, Variable};
+
+#[cfg(test)]
+mod tests;

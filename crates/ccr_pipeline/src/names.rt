@@ -1,0 +1,94 @@
+//! Names that may not be repeated.
+ghost use Rattle.std.specs.Prelude.{◌≡◌, ◌++◌, [], not, length, option_map, IfOk, OnOk};
+ghost use Rattle.serde_json.specs.View.{view};
+ghost use Rattle.ccr_pipeline.specs.Faults.{unless, Checks, StartsWith, IsFirst, fault_of};
+ghost use Rattle.ccr_pipeline.specs.Keys.{at_key, or_else, path_below};
+ghost use Rattle.ccr_pipeline.specs.Kinds.{broken, optional, required};
+ghost use Rattle.ccr_pipeline.specs.Names.{has_name, with_name, text_at, names_at, new_name};
+
+use crate::fault::{ReadFault, Rule};
+use crate::key::{at_key, require_at};
+use crate::kind::{Kind, required};
+use indexmap::IndexSet;
+use serde_json::Value;
+use std::alloc::{AllocError, Global};
+use std::marker::Model;
+
+/// The names so far, in order of first mention.
+#[derive(Drop)]
+pub(crate) struct Names {
+    set: IndexSet<String>,
+}
+
+impl Model for Names {
+    ghost use Rattle.std.specs.Prelude.{ℕ, List};
+    ghost use Rattle.ccr_pipeline.specs.Names.{names_of};
+
+    ghost Value = { List (List ℕ) };
+
+    ghost view = { λ names. names_of names.set.keys };
+}
+
+impl Names {
+    /// No names.
+    pub(crate) fn new(alloc: Global) -> Names
+        ensures { result ≡ [] }
+    {
+        Names {
+            set: IndexSet::new(alloc),
+        }
+    }
+
+    /// How many names there are.
+    pub(crate) fn len(&self) -> usize
+        ensures { result ≡ length self.now }
+    {
+        self.set.len()
+    }
+
+    /// Whether the name is among them.
+    pub(crate) fn contains(&self, name: &str) -> bool
+        ensures { result ≡ has_name self.now name.now }
+    {
+        self.set.contains(name)
+    }
+
+    /// Adds a name, unless it is there already, and answers whether it was new.
+    pub(crate) fn add(&mut self, alloc: Global, name: &str) -> Result<bool, AllocError>
+        ensures new { IfOk result (λ is_new. is_new ≡ not (has_name self.old name.now)) }
+        ensures added { OnOk result (self.new ≡ with_name self.old name.now) }
+    {
+        let name = String::from_str(alloc, name)?;
+        let (_, is_new) = self.set.insert_full(name)?;
+        Ok(is_new)
+    }
+}
+
+/// The text at a key.
+pub(crate) fn text_at<'v>(value: &'v Value, key: &str) -> Option<&'v str>
+    ensures { option_map (λ text. text.now) result ≡ text_at key.now (view value.now) }
+{
+    at_key(value, key)?.as_str()
+}
+
+/// Refuses a name that is absent, no name, or among the names so far, and adds it to them.
+#[tactic(auto, using(crate::proofs::Faulted::first_append), unfolding(crate::specs::Names::new_name))]
+pub(crate) fn check_new_name(
+    alloc: Global,
+    names: &mut Names,
+    value: &Value,
+    path: &str,
+    key: &str,
+) -> Result<(), ReadFault>
+    ensures checked { Checks (new_name names.old path.now key.now (view value.now)) result }
+    ensures added { OnOk result (names.new ≡ names.old ++ names_at key.now (view value.now)) }
+{
+    required(alloc, Kind::Name, value, path, key)?;
+    match text_at(value, key) {
+        Some(name) => {
+            let is_new = names.add(alloc, name)?;
+            require_at(alloc, is_new, Rule::Once, path, key)
+        }
+        None => Ok(()),
+    }
+}

@@ -1,0 +1,38 @@
+//! Resources and jobs.
+ghost use Rattle.std.specs.Prelude.{IsTrue};
+ghost use Rattle.ccr_pipeline.specs.Inputs.{are_few, inputs};
+ghost use Rattle.ccr_pipeline.specs.Tree.{tree_of};
+
+use crate::step::Step;
+use ccr_history::Pin;
+use serde_json::Value;
+
+/// A resource (Concourse: resources).
+#[derive(Drop)]
+pub struct Resource {
+    /// The resource's name; no two resources have the same.
+    pub name: String,
+    /// Its type, which names its programs.
+    pub kind: String,
+    /// What its programs are given, an object.
+    pub source: Option<Value>,
+    /// The pin that the pipeline sets.
+    pub version: Option<Pin>,
+}
+
+/// A job (Concourse: jobs).
+#[derive(Drop)]
+pub struct Job {
+    /// The job's name; no two jobs have the same.
+    pub name: String,
+    /// The plan as a `do`, in the job's hooks.
+    pub plan: Step,
+    /// Whether at most one build runs.
+    pub serial: bool,
+    /// The groups of which at most one build runs.
+    pub serial_groups: Vec<String>,
+    /// How many builds may run; 0 is no limit.
+    pub max_in_flight: u64,
+    // The plan has at most 32 inputs, and they name at most 32 jobs.
+    pub ghost few: { IsTrue (are_few (inputs (tree_of plan))) },
+}

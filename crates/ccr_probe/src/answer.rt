@@ -1,0 +1,87 @@
+//! What is printed for a text.
+ghost use Rattle.std.specs.Prelude.{◌≤◌};
+
+use ccr_choice::{ProblemFault, read_problem};
+use ccr_pipeline::{ReadFault, read, read_task};
+use ccr_proof::write_proof;
+use ccr_resolve::{Answer as Resolved, resolve};
+use std::alloc::{AllocError, Global};
+
+/// The status where a node budget is over; its line goes to standard error.
+pub(crate) const OVER_BUDGET: u8 = 3;
+
+/// Lines, each ended by LF, and the status to end with.
+#[derive(Drop)]
+pub(crate) struct Answer {
+    pub(crate) lines: String,
+    pub(crate) status: u8,
+}
+
+fn refused(alloc: Global, what: &str, fault: &ReadFault) -> Result<Answer, AllocError> {
+    if let ReadFault::NoMemory = fault {
+        return Err(AllocError);
+    }
+    Ok(Answer {
+        lines: format!(in alloc; "refused: {what}: {fault}\n")?,
+        status: 1,
+    })
+}
+
+/// How many resources and jobs a pipeline has, and its unused keys, or why it is refused.
+pub(crate) fn answer_pipeline(alloc: Global, text: &[u8]) -> Result<Answer, AllocError> {
+    let pipeline = match read(alloc, text) {
+        Ok(pipeline) => pipeline,
+        Err(fault) => return refused(alloc, "pipeline", &fault),
+    };
+    let resources = pipeline.resources().len();
+    let jobs = pipeline.jobs().len();
+    let mut lines = format!(in alloc; "read: {resources} resources, {jobs} jobs\n")?;
+    for path in pipeline.unused() {
+        lines.push_str("unused ")?;
+        lines.push_str(path.as_str())?;
+        lines.push_str("\n")?;
+    }
+    Ok(Answer { lines, status: 0 })
+}
+
+/// That a task file is read, or why it is refused.
+pub(crate) fn answer_task(alloc: Global, text: &[u8]) -> Result<Answer, AllocError> {
+    match read_task(alloc, text) {
+        Ok(_) => Ok(Answer {
+            lines: String::from_str(alloc, "read: task\n")?,
+            status: 0,
+        }),
+        Err(fault) => refused(alloc, "task", &fault),
+    }
+}
+
+fn bad_problem(alloc: Global, fault: ProblemFault) -> Result<Answer, AllocError> {
+    if let ProblemFault::NoMemory = fault {
+        return Err(AllocError);
+    }
+    Ok(Answer {
+        lines: format!(in alloc; "refused: {fault}\n")?,
+        status: 1,
+    })
+}
+
+/// The proof of a problem's best choice, or that none satisfies, or that the budget is over.
+pub(crate) fn answer_resolve(alloc: Global, text: &[u8], budget: u32) -> Result<Answer, AllocError>
+    requires least { 1 ≤ budget }
+    requires most { budget ≤ 1000000 }
+{
+    let problem = match read_problem(alloc, text) {
+        Ok(problem) => problem,
+        Err(fault) => return bad_problem(alloc, fault),
+    };
+    match resolve(alloc, &problem, budget)? {
+        Resolved::Best(proof) | Resolved::Nothing(proof) => Ok(Answer {
+            lines: write_proof(alloc, &proof)?,
+            status: 0,
+        }),
+        Resolved::OverBudget(n) => Ok(Answer {
+            lines: format!(in alloc; "over budget {n}\n")?,
+            status: OVER_BUDGET,
+        }),
+    }
+}

@@ -1,0 +1,135 @@
+//! Reads a text on standard input by one call of a library, and prints the result.
+//!
+//! `ccr_probe pipeline` reads a pipeline, `ccr_probe task` a task file; `ccr_probe resolve BUDGET` reads a problem and prints the
+//! proof of its best choice, or that none satisfies, of at most BUDGET nodes. With `--repeat N` behind these the call is made N
+//! times, and the whole time is printed on standard error. Statuses: 0 read or resolved, 1 refused, 2 usage, 3 over budget, 4 out
+//! of memory or unreadable.
+#![tactic(auto)]
+
+ghost use Rattle.std.specs.Prelude.{◌≤◌};
+
+mod answer;
+
+use answer::{Answer, OVER_BUDGET, answer_pipeline, answer_resolve, answer_task};
+use std::alloc::{AllocError, Global};
+use std::io::Read;
+use std::process::ExitCode;
+use std::time::Instant;
+use std::{env, io};
+
+/// A node budget, from 1 to 1,000,000.
+#[derive(Clone, Copy, Debug, PartialEq, Eq)]
+struct Budget {
+    nodes: u32,
+    ghost least: { 1 ≤ nodes },
+    ghost most: { nodes ≤ 1000000 },
+}
+
+/// What is read.
+#[derive(Clone, Copy, Debug, PartialEq, Eq)]
+enum Call {
+    Pipeline,
+    Task,
+    Resolve(Budget),
+}
+
+/// What the words ask for: a call, and how often it is made.
+#[derive(Clone, Copy, Debug, PartialEq, Eq)]
+struct Order {
+    call: Call,
+    times: u32,
+}
+
+fn budget_of(word: &str) -> Option<Budget> {
+    let nodes = word.parse::<u32>().ok()?;
+    if 1 <= nodes && nodes <= 1_000_000 {
+        Some(Budget { nodes })
+    } else {
+        None
+    }
+}
+
+/// How often a call is made, by the words behind it.
+fn times_of(words: &[String]) -> Option<u32> {
+    match words {
+        [] => Some(1),
+        [repeat, times] if repeat.as_str() == "--repeat" => times.as_str().parse::<u32>().ok(),
+        _ => None,
+    }
+}
+
+fn order_of(words: &[String]) -> Option<Order> {
+    let (first, rest) = words.split_first()?;
+    let (call, rest) = match first.as_str() {
+        "pipeline" => (Call::Pipeline, rest),
+        "task" => (Call::Task, rest),
+        "resolve" => {
+            let (budget, rest) = rest.split_first()?;
+            (Call::Resolve(budget_of(budget.as_str())?), rest)
+        }
+        _ => return None,
+    };
+    let times = times_of(rest)?;
+    Some(Order { call, times })
+}
+
+fn answer_of(alloc: Global, call: Call, text: &[u8]) -> Result<Answer, AllocError> {
+    match call {
+        Call::Pipeline => answer_pipeline(alloc, text),
+        Call::Task => answer_task(alloc, text),
+        Call::Resolve(budget) => answer_resolve(alloc, text, budget.nodes),
+    }
+}
+
+fn timed(rt: &HostRuntime, order: Order, text: &[u8]) -> io::Result<Answer> {
+    let start = Instant::now(rt)?;
+    let mut last = answer_of(rt.alloc(), order.call, text)?;
+    for _ in 1..order.times {
+        last = answer_of(rt.alloc(), order.call, text)?;
+    }
+    if order.times > 1 {
+        let micros = start.elapsed(rt)?.as_micros();
+        eprintln!(rt; "{micros} microseconds")?;
+    }
+    Ok(last)
+}
+
+fn words(rt: &HostRuntime) -> io::Result<Vec<String>> {
+    let mut words = Vec::new(rt.alloc());
+    for word in env::args(rt)?.skip(1) {
+        words.push(word)?;
+    }
+    Ok(words)
+}
+
+fn out_of_memory(rt: &HostRuntime) -> io::Result<ExitCode> {
+    eprintln!(rt; "out of memory")?;
+    Ok(ExitCode::from(4))
+}
+
+fn main(rt: HostRuntime) -> io::Result<ExitCode> {
+    let Ok(words) = words(&rt) else {
+        return out_of_memory(&rt);
+    };
+    let Some(order) = order_of(&words) else {
+        eprintln!(rt; "usage: ccr_probe pipeline|task|resolve BUDGET [--repeat N]")?;
+        return Ok(ExitCode::from(2));
+    };
+    let mut text = Vec::new(rt.alloc());
+    if let Err(error) = rt.reader().read_to_end(&mut text) {
+        if error.kind() == io::ErrorKind::OutOfMemory {
+            return out_of_memory(&rt);
+        }
+        eprintln!(rt; "cannot read")?;
+        return Ok(ExitCode::from(4));
+    }
+    let Ok(found) = timed(&rt, order, &text) else {
+        return out_of_memory(&rt);
+    };
+    if found.status == OVER_BUDGET {
+        eprint!(rt; "{}", found.lines.as_str())?;
+    } else {
+        print!(rt; "{}", found.lines.as_str())?;
+    }
+    Ok(ExitCode::from(found.status))
+}

@@ -1,0 +1,5 @@
+pub mod Counting
+pub mod Path
+pub mod FullLaws
+pub mod Steps
+pub mod ClaimFits

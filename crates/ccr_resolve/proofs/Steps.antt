@@ -1,0 +1,357 @@
+-- The steps of the search.
+use Rattle.std.proofs.Common.{true, ◌≡◌, ◌≢◌, ℕ, zero, suc, ◌+◌, ◌*◌, ◌<◌, ◌≤◌, ◌⊎◌, inl, inr, max, List, [], ◌∷◌, ◌++◌, length, take, get_or, slice_index, slice_index_or, slice_set, replicate, refl, sym, ap, ◌∙◌, subst, arith, Option, Some, None, Vec, Global}
+use Rattle.std.specs.Prelude.{slice_get, Any}
+use Rattle.std.proofs.lemmas.Bool.{cases_eq}
+use Rattle.std.proofs.lemmas.List.{take_more, take_all, get_or-set_same, get_or-set_other}
+use Rattle.std.proofs.lemmas.Nat.{mul-le}
+use Rattle.std.proofs.lemmas.Option.{slice_get-get_or}
+use Rattle.ccr_choice.specs.Problem.{ProblemValue, BuildValue, ChoiceValue, is_problem, builds_at}
+use Rattle.ccr_choice.specs.Satisfies.{Satisfies, IsSuccessful}
+use Rattle.ccr_proof.specs.declared.node.Node.{Node, Job, Empty, Bounded}
+use Rattle.ccr_proof.specs.Preference.{Preference, IsOrder, IsBetter}
+use Rattle.ccr_proof.specs.Assignment.{Assignment, with_build, nothing_fixed}
+use Rattle.ccr_proof.specs.Possible.{best_places}
+use Rattle.ccr_proof.specs.Tree.{Tree, Trees, job, empty, bounded, no_child, child, count, count_all, levels, levels_all, tree_of, trees_of}
+use Rattle.ccr_proof.specs.Refutes.{HasNoPlace, IsBounded, Refutes, RefuteEach}
+use Rattle.ccr_proof.specs.Table.{build_of, assigned}
+use Rattle.ccr_proof.proofs.TableLaws.{table_set, table_empty, zeros}
+use Rattle.ccr_proof.proofs.Trees.{tree_of_job}
+use Rattle.ccr_resolve.specs.Room.{newest, top, TopFits, total, product, IsBelowRoom}
+use Rattle.ccr_resolve.specs.Search.{FixesKnown, FoundSatisfies, places_of, free_product, free_sum, free_jobs, OnPath, ReachesTop, IsNeeded, IsNoWorse, IsSearched, Searched}
+use Rattle.ccr_resolve.proofs.Counting.{product_set, product_same, sum_set, sum_same, product_one, product_empty, sum_empty, free_set, free_empty}
+use Rattle.ccr_resolve.proofs.Path.{better_irreflexive, better_trans, no_worse_refl, no_worse_trans, reach_more, path_place, path_top, one_node}
+
+-- ---- a bound that rises keeps each refutation
+module _ (prefers : Preference) (p : ProblemValue) (x y : Option (List ℕ)) (worse : IsNoWorse prefers x y) where
+  bounded_more : (a : Assignment) (x y : Option (List ℕ)) → IsNoWorse prefers x y → IsBounded prefers p x a → IsBounded prefers p y a
+  bounded_more a None y w h = absurd h
+  bounded_more a (Some u) None w h = absurd w
+  bounded_more a (Some u) (Some v) w h = w (best_places prefers p a) h
+
+  mutual
+    pub refutes_more : (a : Assignment) (t : Tree) → Refutes prefers p x a t → Refutes prefers p y a t
+    refutes_more a (empty i) h = h
+    refutes_more a bounded h = bounded_more a x y worse h
+    refutes_more a (job j ts) h = (h.0, h.1, each_more a j (builds_at p j) ts h.2)
+
+    pub each_more : (a : Assignment) (j : ℕ) (bs : List BuildValue) (ts : Trees) → RefuteEach prefers p x a j bs ts → RefuteEach prefers p y a j bs ts
+    each_more a j [] no_child h = tt
+    each_more a j (b ∷ bs) (child t ts) h = (refutes_more (with_build a j b) t h.0, each_more a j bs ts h.1)
+    each_more a j [] (child t ts) h = absurd h
+    each_more a j (b ∷ bs) no_child h = absurd h
+
+-- ---- one child more
+pub each_one : (prefers : Preference) (p : ProblemValue) (bound : Option (List ℕ)) (a : Assignment) (j : ℕ) (bs : List BuildValue) (cs : List Node) (b : BuildValue) (c : Node)
+    → RefuteEach prefers p bound a j bs (trees_of cs) → Refutes prefers p bound (with_build a j b) (tree_of c) → RefuteEach prefers p bound a j (bs ++ b ∷ []) (trees_of (cs ++ c ∷ []))
+each_one prefers p bound a j [] [] b c h k = (k, tt)
+each_one prefers p bound a j (x ∷ bs) (y ∷ cs) b c h k = (h.0, each_one prefers p bound a j bs cs b c h.1 k)
+each_one prefers p bound a j [] (y ∷ cs) b c h k = absurd h
+each_one prefers p bound a j (x ∷ bs) [] b c h k = absurd h
+
+count_one : (cs : List Node) (c : Node) → count_all (trees_of (cs ++ c ∷ [])) ≡ count_all (trees_of cs) + count (tree_of c)
+count_one [] c = omega arith
+count_one (x ∷ cs) c = let e = count_one cs c in omega (arith, e)
+
+levels_one : (cs : List Node) (c : Node) (n : ℕ) → levels_all (trees_of cs) ≤ n → levels (tree_of c) ≤ n → levels_all (trees_of (cs ++ c ∷ [])) ≤ n
+levels_one [] c n h k = omega arith
+levels_one (x ∷ cs) c n h k =
+    let rest = levels_one cs c n (omega arith) k in
+    omega (arith, rest, h)
+
+-- ---- numbers
+times_more : (k n m : ℕ) → k ≤ n → k * m ≤ n * m
+times_more k n m l = mul-le k m n m l (omega arith)
+
+split : (n m k : ℕ) → k ≤ n * m → 1 ≤ m → 1 + k ≤ (1 + n) * m
+split n m k h l = omega arith
+
+one_more : (k m a b : ℕ) → a ≤ k * m → b ≤ m → a + b ≤ (k + 1) * m
+one_more k m a b h l = omega arith
+
+module _ (prefers : Preference) (p : ProblemValue) where
+  -- one node is no more than any table may need
+  pub needed_one : (table : List ℕ) (best : Option (List ℕ)) (n : ℕ) → n ≡ 1 → IsNeeded prefers p table best n
+  needed_one table best n e =
+      let one = product_one p.jobs table in
+      record { product = omega (arith, one, e); lacking = λ i x. omega arith; bounded = λ x. omega arith; path = λ x. omega arith }
+
+  -- ---- a job node
+  -- what is known of a table where a job is split
+  pub record IsOpen (table : List ℕ) (j : ℕ) (before : Option (List ℕ)) : Type 0 where
+    pub inside : j < length p.jobs
+    pub wide : j < length table
+    pub free : slice_index table j ≡ 0
+    pub possible : (i : ℕ) → HasNoPlace p (assigned p table) i → ⊥
+    pub unbounded : IsBounded prefers p before (assigned p table) → ⊥
+
+  -- nothing is tried yet, or the first build has led to the best places where nothing is fixed
+  abbrev pub PathSoFar : List ℕ → ℕ → ℕ → ℕ → Option (List ℕ) → Type 0
+  PathSoFar table j k n best = ((k ≡ 0) × (n ≡ 0) × (best ≡ None)) ⊎ (ReachesTop prefers p best × (n ≤ free_sum p.jobs (slice_set table j 1) + k))
+
+  -- the first k builds of the job have their trees
+  pub record IsLooping (table : List ℕ) (j : ℕ) (before : Option (List ℕ)) (room k : ℕ) (children : List Node) (best : Option ChoiceValue) (left : ℕ) : Type 0 where
+    pub each : RefuteEach prefers p (places_of best) (assigned p table) j (take k (builds_at p j)) (trees_of children)
+    pub kept : IsNoWorse prefers before (places_of best)
+    pub satisfies : FoundSatisfies p best
+    pub shallow : levels_all (trees_of children) < free_jobs table
+    pub used : ℕ
+    pub counted : count_all (trees_of children) ≤ used
+    pub spent : room ≡ left + (1 + used)
+    pub product : used ≤ k * free_product p.jobs (slice_set table j 1)
+    pub path : OnPath prefers p table before → PathSoFar table j k used (places_of best)
+
+module _ (prefers : Preference) (order : IsOrder prefers) (p : ProblemValue) (rules : is_problem p ≡ true) where
+  -- ---- the leaves
+  pub leaf_empty : (table : List ℕ) (before : Option ChoiceValue) (room left i : ℕ) → HasNoPlace p (assigned p table) i → FoundSatisfies p before → room ≡ left + 1
+      → IsSearched prefers p table before before room left (empty i)
+  leaf_empty table before room left i none found spent = record {
+    refuted = none;
+    kept = no_worse_refl prefers (places_of before);
+    satisfies = found;
+    shallow = omega arith;
+    used = 1;
+    counted = omega arith;
+    spent = spent;
+    needed = needed_one prefers p table (places_of before) 1 refl;
+    reached = λ path. absurd (path_place prefers order p rules table (places_of before) i path none);
+  }
+
+  path_unbounded : (table : List ℕ) (best : Option (List ℕ)) → OnPath prefers p table best → IsBounded prefers p best (assigned p table) → ⊥
+  path_unbounded table None path h = h
+  path_unbounded table (Some x) path h = absurd (let e = path.nothing in cc)
+
+  pub leaf_bounded : (table : List ℕ) (before : Option ChoiceValue) (room left : ℕ) → IsBounded prefers p (places_of before) (assigned p table) → FoundSatisfies p before → room ≡ left + 1
+      → IsSearched prefers p table before before room left bounded
+  leaf_bounded table before room left h found spent = record {
+    refuted = h;
+    kept = no_worse_refl prefers (places_of before);
+    satisfies = found;
+    shallow = omega arith;
+    used = 1;
+    counted = omega arith;
+    spent = spent;
+    needed = needed_one prefers p table (places_of before) 1 refl;
+    reached = λ path. absurd (path_unbounded table (places_of before) path h);
+  }
+
+  unbounded_kept : (table : List ℕ) (b : Option (List ℕ)) → (IsBounded prefers p b (assigned p table) → ⊥) → IsNoWorse prefers b (Some (best_places prefers p (assigned p table)))
+  unbounded_kept table None h = tt
+  unbounded_kept table (Some x) h = λ places worse better. h (λ best. worse (better_trans prefers order places (best_places prefers p (assigned p table)) x better best))
+
+  pub leaf_full : (table : List ℕ) (before : Option ChoiceValue) (c : ChoiceValue) (room left : ℕ) → (IsBounded prefers p (places_of before) (assigned p table) → ⊥)
+      → c.places ≡ best_places prefers p (assigned p table) → Satisfies p c.places c.builds → room ≡ left + 1 → IsSearched prefers p table before (Some c) room left bounded
+  leaf_full table before c room left h is found spent =
+      let u = best_places prefers p (assigned p table) in
+      let P : List ℕ → Type 0 = λ xs. IsBetter prefers u xs → ⊥ in
+      let Q : List ℕ → Type 0 = λ xs. IsNoWorse prefers (places_of before) (Some xs) in
+      let R : List ℕ → Type 0 = λ xs. IsBetter prefers (top prefers p) xs → ⊥ in
+      record {
+        refuted = subst P (sym is) (better_irreflexive prefers order u);
+        kept = subst Q (sym is) (unbounded_kept table (places_of before) h);
+        satisfies = found;
+        shallow = omega arith;
+        used = 1;
+        counted = omega arith;
+        spent = spent;
+        needed = needed_one prefers p table (places_of before) 1 refl;
+        reached = λ path. subst R (sym is) (path_top prefers order p rules table (places_of before) path);
+      }
+
+  module _ (table : List ℕ) (j : ℕ) (before : Option (List ℕ)) (now : IsOpen prefers p table j before) where
+    -- fixing a build lowers the number of free jobs
+    pub fewer_free : (k : ℕ) → free_jobs (slice_set table j (k + 1)) < free_jobs table
+    fewer_free k = free_set table j (k + 1) (λ z. absurd (omega arith)) now.free now.wide
+
+    pub loop_first : (best : Option ChoiceValue) (room left : ℕ) → places_of best ≡ before → FoundSatisfies p best → room ≡ left + 1 → IsLooping prefers p table j before room 0 [] best left
+    loop_first best room left same found spent =
+        let P : Option (List ℕ) → Type 0 = λ x. IsNoWorse prefers x (places_of best) in
+        let some = fewer_free 0 in
+        record {
+          each = tt;
+          kept = subst P same (no_worse_refl prefers (places_of best));
+          satisfies = found;
+          shallow = omega (arith, some);
+          used = 0;
+          counted = omega arith;
+          spent = omega arith;
+          product = omega arith;
+          path = λ path. inl (refl, refl, same ∙ path.nothing);
+        }
+
+    -- the first build of a table on the path is on it too
+    path_first : (k : ℕ) (best : Option (List ℕ)) → k ≡ 0 → best ≡ None → OnPath prefers p table before → OnPath prefers p (slice_set table j (k + 1)) best
+    path_first k best first none path = record {
+      nothing = none;
+      top = path.top;
+      newest = λ m fixed. elim (cases_eq m j) [
+        | inl same ↦ (let entry : slice_index (slice_set table j (k + 1)) j ≡ k + 1 = get_or-set_same table j (k + 1) 0 now.wide in
+            let one : k + 1 ≡ 1 = omega arith in
+            ap (slice_index (slice_set table j (k + 1))) same ∙ entry ∙ one)
+        | inr other ↦ (let entry : slice_index (slice_set table j (k + 1)) m ≡ slice_index table m = get_or-set_other table j m (k + 1) 0 other in
+            entry ∙ path.newest m (λ z. fixed (entry ∙ z)))
+      ];
+    }
+
+    pub needed_whole : (k m : ℕ) → k ≤ length (builds_at p j) → m ≤ k * free_product p.jobs (slice_set table j 1) → (OnPath prefers p table before → m ≤ free_sum p.jobs (slice_set table j 1) + k) → IsNeeded prefers p table before (1 + m)
+    needed_whole k m l h path =
+        let P = free_product p.jobs (slice_set table j 1) in
+        let n = length (builds_at p j) in
+        let one : 1 ≤ P = product_one p.jobs (slice_set table j 1) in
+        let e : free_product p.jobs table ≡ (1 + n) * P = product_set p.jobs table j 1 (λ z. absurd (omega arith)) now.free now.inside now.wide in
+        let s : free_sum p.jobs table ≡ n + free_sum p.jobs (slice_set table j 1) = sum_set p.jobs table j 1 (λ z. absurd (omega arith)) now.free now.inside now.wide in
+        let up : k * P ≤ n * P = times_more k n P l in
+        let all : 1 + m ≤ (1 + n) * P = split n P m (omega arith) one in
+        record {
+          product = omega (arith, e, all);
+          lacking = λ i x. absurd (now.possible i x);
+          bounded = λ x. absurd (now.unbounded x);
+          path = λ x. let q = path x in omega (arith, q, s);
+        }
+
+    child_product : (k m n : ℕ) (best : Option (List ℕ)) → m ≤ k * free_product p.jobs (slice_set table j 1) → IsNeeded prefers p (slice_set table j (k + 1)) best n → m + n ≤ (k + 1) * free_product p.jobs (slice_set table j 1)
+    child_product k m n best h needed =
+        let P = free_product p.jobs (slice_set table j 1) in
+        let one : n ≤ P = subst (λ t. n ≤ t) (product_same p.jobs table j (k + 1) 1 (λ z. absurd (omega arith)) (λ z. absurd (omega arith))) needed.product in
+        one_more k P m n h one
+
+    child_path : (k m n : ℕ) (best : Option (List ℕ)) → PathSoFar prefers p table j k m best → IsNeeded prefers p (slice_set table j (k + 1)) best n → OnPath prefers p table before → m + n ≤ free_sum p.jobs (slice_set table j 1) + (k + 1)
+    child_path k m n best (inl so) needed path =
+        let more = needed.path (path_first k best so.0 so.2 path) in
+        let same = sum_same p.jobs table j (k + 1) 1 (λ z. absurd (omega arith)) (λ z. absurd (omega arith)) in
+        omega (arith, more, same, so.0, so.1)
+    child_path k m n best (inr so) needed path =
+        let more = one_node prefers order p rules (slice_set table j (k + 1)) best n so.0 needed in
+        omega (arith, more, so.1)
+
+    -- the budget ends in a child
+    pub loop_over : (room k : ℕ) (children : List Node) (best : Option ChoiceValue) (left : ℕ) → k < length (builds_at p j) → IsLooping prefers p table j before room k children best left
+        → IsNeeded prefers p (slice_set table j (k + 1)) (places_of best) (left + 1) → IsNeeded prefers p table before (room + 1)
+    loop_over room k children best left l loop needed =
+        let m = loop.used in
+        let whole : IsNeeded prefers p table before (1 + (m + (left + 1))) =
+        needed_whole (k + 1) (m + (left + 1)) (omega (arith, l)) (child_product k m (left + 1) (places_of best) loop.product needed)
+        (λ path. child_path k m (left + 1) (places_of best) (loop.path path) needed path) in
+        let same : 1 + (m + (left + 1)) ≡ room + 1 = omega (arith, loop.spent) in
+        subst (λ t. IsNeeded prefers p table before t) same whole
+
+    path_next : (m k room left : ℕ) (t : Tree) (best best' : Option ChoiceValue) → PathSoFar prefers p table j k m (places_of best) → IsSearched prefers p (slice_set table j (k + 1)) best best' room left t → OnPath prefers p table before → ReachesTop prefers p (places_of best')
+    path_next m k room left t best best' (inl so) searched path = searched.reached (path_first k (places_of best) so.0 so.2 path)
+    path_next m k room left t best best' (inr so) searched path = reach_more prefers p (places_of best) (places_of best') searched.kept so.0
+
+    -- one build more
+    pub loop_next : (room k : ℕ) (children more : List Node) (best best' : Option ChoiceValue) (left left' : ℕ) (c : Node) → k < length (builds_at p j) → more ≡ children ++ c ∷ []
+        → IsLooping prefers p table j before room k children best left → IsSearched prefers p (slice_set table j (k + 1)) best best' left left' (tree_of c) → IsLooping prefers p table j before room (k + 1) more best' left'
+    loop_next room k children more best best' left left' c l is loop searched =
+        let bs = builds_at p j in
+        let b = get_or bs k (record { number = 0; pairs = [] }) in
+        let m = loop.used in
+        let n = searched.used in
+        let table_is : assigned p (slice_set table j (k + 1)) ≡ with_build (assigned p table) j b = table_set p table j k b now.wide (slice_get-get_or bs k (record { number = 0; pairs = [] }) l) in
+        let A : Assignment → Type 0 = λ a. Refutes prefers p (places_of best') a (tree_of c) in
+        let below = each_more prefers p (places_of best) (places_of best') searched.kept (assigned p table) j (take k bs) (trees_of children) loop.each in
+        let after = each_one prefers p (places_of best') (assigned p table) j (take k bs) children b c below (subst A table_is searched.refuted) in
+        let taken : take (k + 1) bs ≡ take k bs ++ b ∷ [] = take_more bs k (record { number = 0; pairs = [] }) l in
+        let Q : List BuildValue → List Node → Type 0 = λ x y. RefuteEach prefers p (places_of best') (assigned p table) j x (trees_of y) in
+        let counted : count_all (trees_of more) ≡ count_all (trees_of children) + count (tree_of c) = ap (λ cs. count_all (trees_of cs)) is ∙ count_one children c in
+        let free = fewer_free k in
+        let deep : levels_all (trees_of (children ++ c ∷ [])) < free_jobs table =
+        deep_one children c (free_jobs table) loop.shallow (omega (arith, searched.shallow, free)) in
+        record {
+          each = subst (λ x. Q x more) (sym taken) (subst (λ y. Q (take k bs ++ b ∷ []) y) (sym is) after);
+          kept = no_worse_trans prefers before (places_of best) (places_of best') loop.kept searched.kept;
+          satisfies = searched.satisfies;
+          shallow = subst (λ cs. levels_all (trees_of cs) < free_jobs table) (sym is) deep;
+          used = m + n;
+          counted = omega (arith, loop.counted, searched.counted, counted);
+          spent = omega (arith, loop.spent, searched.spent);
+          product = child_product k m n (places_of best) loop.product searched.needed;
+          path = λ path. inr (path_next m k left left' (tree_of c) best best' (loop.path path) searched path, child_path k m n (places_of best) (loop.path path) searched.needed path);
+        }
+      where
+        deep_one : (cs : List Node) (c : Node) (n : ℕ) → levels_all (trees_of cs) < n → levels (tree_of c) < n → levels_all (trees_of (cs ++ c ∷ [])) < n
+        deep_one [] c n h k = omega arith
+        deep_one (x ∷ cs) c n h k = let rest = deep_one cs c n (omega arith) k in omega (arith, rest, h)
+
+    -- on the path a job has a build
+    end_path : (k m : ℕ) (best : Option (List ℕ)) → 0 < length (builds_at p j) → k ≡ length (builds_at p j) → PathSoFar prefers p table j k m best → OnPath prefers p table before → ReachesTop prefers p best × (m ≤ free_sum p.jobs (slice_set table j 1) + k)
+    end_path k m best some e (inl so) path = absurd (omega (arith, some, e, so.0))
+    end_path k m best some e (inr so) path = so
+
+    pub loop_end : (room k : ℕ) (children : Vec Node Global) (before' best : Option ChoiceValue) (left : ℕ) → places_of before' ≡ before → (OnPath prefers p table before → 0 < length (builds_at p j)) → k ≡ length (builds_at p j)
+        → IsLooping prefers p table j before room k children.items best left → IsSearched prefers p table before' best room left (tree_of (Job j children))
+    loop_end room k children before' best left same some e loop =
+        let bs = builds_at p j in
+        let all : take k bs ≡ bs = take_all k bs (omega (arith, e)) in
+        let Q : List BuildValue → Type 0 = λ x. RefuteEach prefers p (places_of best) (assigned p table) j x (trees_of children.items) in
+        let B : Option (List ℕ) → Type 0 = λ x. IsNoWorse prefers x (places_of best) in
+        let N : Option (List ℕ) → Type 0 = λ x. IsNeeded prefers p table x (1 + loop.used) in
+        let R : Option (List ℕ) → Type 0 = λ x. OnPath prefers p table x → ReachesTop prefers p (places_of best) in
+        let T : Tree → Type 0 = λ t. IsSearched prefers p table before' best room left t in
+        subst T (sym (tree_of_job j children)) (record {
+          refuted = (now.inside, free_none (builds_at p j) (slice_index table j) now.free, subst Q all loop.each);
+          kept = subst B (sym same) loop.kept;
+          satisfies = loop.satisfies;
+          shallow = omega (arith, loop.shallow);
+          used = 1 + loop.used;
+          counted = omega (arith, loop.counted);
+          spent = loop.spent;
+          needed = subst N (sym same) (needed_whole k loop.used (omega (arith, e)) loop.product (λ path. (end_path k loop.used (places_of best) (some path) e (loop.path path) path).1));
+          reached = subst R (sym same) (λ path. (end_path k loop.used (places_of best) (some path) e (loop.path path) path).0);
+        })
+      where
+        free_none : (bs : List BuildValue) (k : ℕ) → k ≡ 0 → build_of bs k ≡ None
+        free_none bs zero e = refl
+        free_none bs (suc k) e = absurd (omega arith)
+
+-- a job of the best places' choice has a build
+pub some_build : (prefers : Preference) (p : ProblemValue) (j : ℕ) → TopFits prefers p → j < length p.jobs → 0 < length (builds_at p j)
+unfolding IsSuccessful
+some_build prefers p j top within = among (builds_at p j) (slice_index (newest p.jobs) j) (one (newest p.jobs) (top.successful j within))
+  where
+    one : (builds : List ℕ) → IsSuccessful p builds j → Any (λ b. b.number ≡ slice_index builds j) (builds_at p j)
+    one builds h = h
+
+    among : (bs : List BuildValue) (n : ℕ) → Any (λ b. b.number ≡ n) bs → 0 < length bs
+    among bs n (k, b, within, at, is) = omega (arith, within)
+
+-- a table with one more build fixed
+pub child_known : (p : ProblemValue) (table : List ℕ) (j k : ℕ) → FixesKnown p table → j < length table → k < length (builds_at p j) → FixesKnown p (slice_set table j (k + 1))
+child_known p table j k known wide within m =
+    elim (cases_eq m j) [
+      | inl same ↦ (let entry : slice_index (slice_set table j (k + 1)) j ≡ k + 1 = get_or-set_same table j (k + 1) 0 wide in
+          let P : ℕ → Type 0 = λ x. slice_index (slice_set table j (k + 1)) x ≤ length (builds_at p x) in
+          subst P (sym same) (omega (arith, entry, within)))
+      | inr other ↦ (let entry : slice_index (slice_set table j (k + 1)) m ≡ slice_index table m = get_or-set_other table j m (k + 1) 0 other in
+          let low = known m in omega (arith, entry, low))
+    ]
+
+-- what no tree was given for
+pub none_needed : (prefers : Preference) (p : ProblemValue) (table : List ℕ) (before after : Option ChoiceValue) (room left : ℕ) (o : Option Node) → Searched prefers p table before after room left o → o ≡ None → IsNeeded prefers p table (places_of before) (room + 1)
+none_needed prefers p table before after room left o h e = let P : Option Node → Type 0 = λ x. Searched prefers p table before after room left x in subst P e h
+
+pub some_searched : (prefers : Preference) (p : ProblemValue) (table : List ℕ) (before after : Option ChoiceValue) (room left : ℕ) (o : Option Node) (c : Node) → Searched prefers p table before after room left o → o ≡ Some c → IsSearched prefers p table before after room left (tree_of c)
+some_searched prefers p table before after room left o c h e = let P : Option Node → Type 0 = λ x. Searched prefers p table before after room left x in subst P e h
+
+-- ---- the room
+pub room_over : (prefers : Preference) (p : ProblemValue) (budget n : ℕ) → IsNeeded prefers p (replicate n 0) None (budget + 1) → IsBelowRoom prefers p budget
+room_over prefers p budget n needed = record {
+  product = (let h = needed.product in omega (arith, h, product_empty p.jobs n));
+  fitting = λ top. (let h = needed.path (record { nothing = refl; top = top; newest = λ j some. absurd (some (zeros n j)) }) in omega (arith, h, sum_empty p.jobs n));
+  lacking = λ i none.
+      let P : Assignment → Type 0 = λ a. HasNoPlace p a i in
+      let h = needed.lacking i (subst P (sym (table_empty p n)) none) in
+      omega (arith, h);
+}
+
+-- what was found in the end
+pub found_in : (prefers : Preference) (p : ProblemValue) (table : List ℕ) (before after : Option ChoiceValue) (room left : ℕ) (o : Option Node) (c : Node) (choice : ChoiceValue)
+    → Searched prefers p table before after room left o → o ≡ Some c → after ≡ Some choice → IsSearched prefers p table before (Some choice) room left (tree_of c)
+found_in prefers p table before after room left o c choice h e f =
+    let P : Option ChoiceValue → Type 0 = λ x. IsSearched prefers p table before x room left (tree_of c) in
+    subst P f (some_searched prefers p table before after room left o c h e)
+
+pub none_found : (prefers : Preference) (p : ProblemValue) (table : List ℕ) (before after : Option ChoiceValue) (room left : ℕ) (o : Option Node) (c : Node)
+    → Searched prefers p table before after room left o → o ≡ Some c → after ≡ None → IsSearched prefers p table before None room left (tree_of c)
+none_found prefers p table before after room left o c h e f =
+    let P : Option ChoiceValue → Type 0 = λ x. IsSearched prefers p table before x room left (tree_of c) in
+    subst P f (some_searched prefers p table before after room left o c h e)

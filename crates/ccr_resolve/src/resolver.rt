@@ -1,0 +1,35 @@
+//! The resolver.
+
+ghost use Rattle.std.specs.Prelude.{◌≤◌, IfOk};
+ghost use Rattle.ccr_proof.specs.Preference.{plain};
+ghost use Rattle.ccr_resolve.specs.Answer.{IsAnswer};
+
+use crate::answer::Answer;
+use crate::search::search;
+use ccr_choice::Problem;
+use ccr_proof::{Claim, Proof};
+use std::alloc::{AllocError, Global};
+
+/// The best choice that satisfies a problem, or that none does, with a proof that is accepted and has at most `budget` nodes, from
+/// 1 to 1,000,000; or that the budget is over, only where it is below the room of the problem. The only error is want of memory.
+pub fn resolve(alloc: Global, problem: &Problem, budget: u32) -> Result<Answer, AllocError>
+    requires least { 1 ≤ budget }
+    requires most { budget ≤ 1000000 }
+    ensures { IfOk result (IsAnswer plain problem.now budget) }
+{
+    let mut best = None;
+    let mut left = budget;
+    let Some(tree) = search(alloc, problem, &[0; 32], &mut best, &mut left)? else {
+        return Ok(Answer::OverBudget(budget));
+    };
+    match best {
+        None => Ok(Answer::Nothing(Proof {
+            claim: Claim::Nothing,
+            tree,
+        })),
+        Some(choice) => Ok(Answer::Best(Proof {
+            claim: Claim::Best(choice),
+            tree,
+        })),
+    }
+}
