@@ -19,12 +19,7 @@ enum Expected {
 }
 
 /// Whether the proof's text, read again, is accepted and has at most so many nodes.
-fn is_accepted(
-    alloc: Global,
-    problem: &Problem,
-    proof: &Proof,
-    budget: u32,
-) -> Result<bool, Fail> {
+fn is_accepted(alloc: Global, problem: &Problem, proof: &Proof, budget: u32) -> Result<bool, Fail> {
     let text = write_proof(alloc, proof)?;
     let again = read_proof(alloc, text.as_bytes())?;
     Ok(check(problem, &again).is_ok() && count(&again) <= budget)
@@ -39,12 +34,7 @@ fn names(claim: &Claim, places: &[u32], builds: &[u32]) -> bool {
 }
 
 /// Whether the answer with this budget is the expected one, with a proof that is accepted and within the budget.
-fn answers(
-    alloc: Global,
-    problem: &Problem,
-    budget: u32,
-    expected: &Expected,
-) -> Result<bool, Fail>
+fn answers(alloc: Global, problem: &Problem, budget: u32, expected: &Expected) -> Result<bool, Fail>
     requires least { 1 ≤ budget }
     requires most { budget ≤ 1000000 }
 {
