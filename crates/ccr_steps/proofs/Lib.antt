@@ -1,0 +1,12 @@
+pub mod Leading
+pub mod Plays
+pub mod Joining
+pub mod Under
+pub mod Standing
+pub mod Begins
+pub mod StepTrees
+pub mod GainLaws
+pub mod Paths
+pub mod Advances
+pub mod Nexts
+pub mod Choosing

@@ -1,0 +1,10 @@
+pub mod Asks
+pub mod Gains
+pub mod Inputs
+pub mod Means
+pub mod Play
+pub mod Progress
+pub mod Frames
+pub mod Runs
+pub mod FrameKinds
+pub mod Moments

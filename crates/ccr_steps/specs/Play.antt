@@ -1,0 +1,136 @@
+-- A build as a play of asks and answers: it has ended, or it asks and goes on by the answer.
+use Rattle.std.specs.Prelude.{◌≡◌, ℕ, zero, suc, ◌-◌, Bool, true, false, List, [], ◌∷◌}
+use Rattle.ccr_history.specs.TextMap.{TextMap}
+use Rattle.ccr_pipeline.specs.declared.step.When.{When}
+use Rattle.ccr_pipeline.specs.Tree.{Text, ConfigData, PutData, SourceData, config, file, Tree, Trees, get, put, task, in_order, in_parallel, tried, attempts, hook, no_trees, tree}
+use Rattle.ccr_steps.specs.declared.outcome.Outcome.{Outcome}
+use Rattle.ccr_steps.specs.declared.outcome.Outcome.TheVariants.{Succeeded, Failed, Errored, Aborted}
+use Rattle.ccr_steps.specs.Asks.{AskData, read_config, run_task, AnswerData, done, pushed, configured, failed, errored, Exchange, Chosen, get_ask, put_ask, pushed_ask}
+use Rattle.ccr_steps.specs.Gains.{GainsData, register, register_all, move, has_inputs}
+use Rattle.ccr_steps.specs.Means.{worse, runs_after, got}
+
+pub data Play : Type 0 where
+  ended : (outcome : Outcome) (gains : GainsData) → Play
+  asks : (ask : AskData) (then : AnswerData → Play) → Play
+
+abbrev pub Going : Type 0
+Going = GainsData → Play
+
+-- one play, and then another by how the first ended
+abbrev pub and_then : Play → (Outcome → Going) → Play
+and_then (ended o g) next = next o g
+and_then (asks a then) next = asks a (λ x. and_then (then x) next)
+
+-- these exchanges lead from one play to another
+abbrev pub Leads : Play → List Exchange → Play → Type 0
+Leads p [] q = q ≡ p
+Leads (ended o g) (e ∷ es) q = ⊥
+Leads (asks a then) (e ∷ es) q = (e.ask ≡ a) × Leads (then e.answer) es q
+
+-- THE STEPS, each as its meaning
+
+abbrev pub after_fetch : (GainsData → GainsData) → AnswerData → Going
+after_fetch gain done g = ended Succeeded (gain g)
+after_fetch gain (pushed v) g = ended Errored g
+after_fetch gain (configured k) g = ended Errored g
+after_fetch gain failed g = ended Failed g
+after_fetch gain errored g = ended Errored g
+
+abbrev pub after_pushed : Bool → PutData → TextMap → Going
+after_pushed true p v g = ended Succeeded (move p.resource v g)
+after_pushed false p v g = asks (pushed_ask p v) (λ x. after_fetch (register p.name) x (move p.resource v g))
+
+abbrev pub after_push : PutData → AnswerData → Going
+after_push p done g = ended Errored g
+after_push p (pushed v) g = after_pushed p.no_get p v g
+after_push p (configured k) g = ended Errored g
+after_push p failed g = ended Failed g
+after_push p errored g = ended Errored g
+
+abbrev pub after_run : List Text → AnswerData → Going
+after_run outputs done g = ended Succeeded (register_all outputs g)
+after_run outputs (pushed v) g = ended Errored g
+after_run outputs (configured k) g = ended Errored g
+after_run outputs failed g = ended Failed (register_all outputs g)
+after_run outputs errored g = ended Errored g
+
+abbrev pub runs_if : Bool → ConfigData → List (Text × Text) → Going
+runs_if true k env g = asks (run_task k env) (λ x. after_run k.outputs x g)
+runs_if false k env g = ended Errored g
+
+abbrev pub runs : ConfigData → List (Text × Text) → Going
+runs k env g = runs_if (has_inputs k.inputs g) k env g
+
+abbrev pub after_read : List (Text × Text) → AnswerData → Going
+after_read env done g = ended Errored g
+after_read env (pushed v) g = ended Errored g
+after_read env (configured k) g = runs k env g
+after_read env failed g = ended Errored g
+after_read env errored g = ended Errored g
+
+abbrev pub task_by : SourceData → List (Text × Text) → Going
+task_by (config k) env g = runs k env g
+task_by (file path) env g = asks (read_config path) (λ x. after_read env x g)
+
+abbrev pub after_do : Going → Outcome → Going
+after_do more Succeeded g = more g
+after_do more Failed g = ended Failed g
+after_do more Errored g = ended Errored g
+after_do more Aborted g = ended Aborted g
+
+-- the worse of an outcome and the one that came before
+abbrev pub and_worse_end : Outcome → Outcome → Going
+and_worse_end o rest g = ended (worse o rest) g
+
+abbrev pub and_worse : Going → Outcome → Going
+and_worse more o g = and_then (more g) (and_worse_end o)
+
+-- the worst of what came before, a step's outcome, and the rest
+abbrev pub and_worst : Outcome → Going → Outcome → Going
+and_worst worst rest o g = and_then (and_worse rest o g) (and_worse_end worst)
+
+abbrev pub after_try : Outcome → Going
+after_try Succeeded g = ended Succeeded g
+after_try Failed g = ended Succeeded g
+after_try Errored g = ended Succeeded g
+after_try Aborted g = ended Aborted g
+
+abbrev pub after_attempt : Going → Outcome → Going
+after_attempt more Succeeded g = ended Succeeded g
+after_attempt more Failed g = more g
+after_attempt more Errored g = more g
+after_attempt more Aborted g = ended Aborted g
+
+abbrev pub tries : ℕ → Going → Going
+tries zero now g = now g
+tries (suc n) now g = and_then (now g) (after_attempt (tries n now))
+
+abbrev pub hook_if : Bool → Going → Outcome → Going
+hook_if true more o g = and_worse more o g
+hook_if false more o g = ended o g
+
+abbrev pub after_hooked : When → Going → Outcome → Going
+after_hooked w more o g = hook_if (runs_after w o) more o g
+
+abbrev pub either : Bool → Going → Going → Going
+either true fast all g = fast g
+either false fast all g = all g
+
+abbrev mutual
+  pub play : Chosen → Tree → Going
+  play c (get d) g = asks (get_ask c d) (λ x. after_fetch (got c d) x g)
+  play c (put p) g = asks (put_ask p) (λ x. after_push p x g)
+  play c (task t) g = task_by t.source t.params g
+  play c (in_order ts) g = play_in_order c ts g
+  play c (in_parallel ts fast) g = either fast (play_in_order c ts) (play_all c ts) g
+  play c (tried t) g = and_then (play c t g) after_try
+  play c (attempts n t) g = tries (n - 1) (play c t) g
+  play c (hook w t h) g = and_then (play c t g) (after_hooked w (play c h))
+
+  pub play_in_order : Chosen → Trees → Going
+  play_in_order c no_trees g = ended Succeeded g
+  play_in_order c (tree t ts) g = and_then (play c t g) (after_do (play_in_order c ts))
+
+  pub play_all : Chosen → Trees → Going
+  play_all c no_trees g = ended Succeeded g
+  play_all c (tree t ts) g = and_then (play c t g) (and_worse (play_all c ts))

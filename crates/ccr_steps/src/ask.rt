@@ -1,0 +1,57 @@
+//! What a build asks for, and what it is answered.
+
+use ccr_history::Version;
+use ccr_pipeline::{TaskConfig, Variable};
+use serde_json::Value;
+
+/// What a build waits for.
+#[derive(Clone, Copy)]
+pub enum Ask<'r> {
+    /// A version's files under an artifact's name: a get step, or the get behind a put.
+    Fetch {
+        /// The artifact's name.
+        artifact: &'r str,
+        /// The resource that the version is of.
+        resource: &'r str,
+        /// The version.
+        version: &'r Version,
+        /// What the resource's program is given, an object.
+        params: Option<&'r Value>,
+    },
+    /// A new version of a resource.
+    Push {
+        /// The artifact's name.
+        artifact: &'r str,
+        /// The resource.
+        resource: &'r str,
+        /// What the resource's program is given, an object.
+        params: Option<&'r Value>,
+    },
+    /// A task file.
+    ReadConfig {
+        /// Where it lies in the build folder.
+        file: &'r str,
+    },
+    /// A task's program.
+    RunTask {
+        /// How it runs.
+        config: &'r TaskConfig,
+        /// The step's own variables, which replace the config's of equal names.
+        env: &'r [Variable],
+    },
+}
+
+/// How an ask went. An answer of a kind that the ask doesn't have counts as `Errored`.
+#[derive(Drop)]
+pub enum Answered {
+    /// The version was fetched, or the program ended well.
+    Done,
+    /// This version was pushed.
+    Pushed(Version),
+    /// The task file holds this.
+    Config(TaskConfig),
+    /// A program told that it failed.
+    Failed,
+    /// Something was in the way of a program, or it told nothing that can be read.
+    Errored,
+}

@@ -1,0 +1,8 @@
+//! The laws of what steps mean.
+ghost use Rattle.ccr_steps.specs.Progress.{AnswersDecide};
+
+/// The answers decide: two lists of exchanges that one plan allows for the same input versions, and whose answers agree,
+/// have the same asks, outcome and moved versions, whatever stands between them.
+pub fn answers_decide()
+    ensures { AnswersDecide }
+{}
