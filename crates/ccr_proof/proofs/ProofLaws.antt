@@ -324,10 +324,10 @@ proof_kept bs x rest h =
     let fits = subst AreFit found.lines (lines_fit bs) in
     record { claim = found.short fits.1.0; numbers = (fit_tree x.1 rest fits.1.1).0; few_nodes = found.few; shallow = found.shallow }
 
-text_kept : (bs : List ℕ) (x : Claim × Tree) → proof_of bs ≡ Ok x → IsPair x
+pub text_kept : (bs : List ℕ) (x : Claim × Tree) → proof_of bs ≡ Ok x → IsPair x
 text_kept bs x h = proof_kept bs x [] (whole_ok (length (lines_of bs)) (proof_at (lines_of bs)) x (sym (proof_is bs) ∙ h))
 
-proof_text_found : (bs : List ℕ) (x : Claim × Tree) → proof_of bs ≡ Ok x → bs ≡ text_of (proof_lines x)
+pub proof_text_found : (bs : List ℕ) (x : Claim × Tree) → proof_of bs ≡ Ok x → bs ≡ text_of (proof_lines x)
 unfolding read_at
 proof_text_found bs x h =
     let read = whole_ok (length (lines_of bs)) (proof_at (lines_of bs)) x (sym (proof_is bs) ∙ h) in
