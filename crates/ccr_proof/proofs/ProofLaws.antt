@@ -1,11 +1,11 @@
 -- The laws of a proof's text: what is read is written so, what is written so is read, and no text begins another.
-use Rattle.std.proofs.Common.{◌≡◌, ℕ, zero, suc, ◌+◌, ◌-◌, ◌^◌, ◌<◌, ◌≤◌, Bool, true, false, cond, ◌==◌, List, [], ◌∷◌, ◌++◌, length, max, refl, sym, ap, ◌∙◌, subst, arith, Option, Some, None, Result, Ok, Err, IfOk, nat_le, append_assoc, inl, inr, eqb-true}
+use Rattle.std.proofs.Common.{◌≡◌, ℕ, zero, suc, ◌+◌, ◌<◌, ◌≤◌, Bool, true, false, cond, ◌==◌, List, [], ◌∷◌, ◌++◌, length, refl, sym, ap, ◌∙◌, subst, arith, Option, Some, None, Result, Ok, Err, IfOk, nat_le, append_assoc, inl, inr, eqb-true}
 use Rattle.std.specs.List.{AllByRecursion}
-use Rattle.std.proofs.lemmas.Bool.{cases_lt, le-leb, leb-true}
+use Rattle.std.proofs.lemmas.Bool.{cases_lt, le-leb}
 use Rattle.std.proofs.lemmas.List.{append-nil}
 use Rattle.ccr_choice.specs.declared.text.word.Word.{Word}
 use Rattle.ccr_choice.specs.declared.text.word.Word.TheVariants as word
-use Rattle.ccr_choice.specs.Text.{IsWord, lines_of, text_of}
+use Rattle.ccr_choice.specs.Text.{lines_of, text_of}
 use Rattle.ccr_choice.specs.Reading.{Read, ◌>>=◌, or_broken, one_line, whole}
 use Rattle.ccr_choice.proofs.Keeps.{bind_ok, or_ok}
 use Rattle.ccr_choice.proofs.Words.{IsFit}
@@ -15,7 +15,6 @@ use Rattle.ccr_proof.specs.declared.claim.Claim.{Claim}
 use Rattle.ccr_proof.specs.declared.proof.Proof.{Proof}
 use Rattle.ccr_proof.specs.declared.fault.ProofFault.{ProofFault}
 use Rattle.ccr_proof.specs.declared.fault.ProofFault.TheVariants.{BadLine, TooManyNodes, Trailing, NoMemory}
-use Rattle.ccr_proof.specs.declared.halt.Halt.{Halt}
 use Rattle.ccr_proof.specs.declared.halt.Halt.TheVariants.{Memory, Left, TooMany}
 use Rattle.ccr_proof.specs.declared.proof_read.NodeLine.{NodeLine}
 use Rattle.ccr_proof.specs.declared.proof_read.NodeLine.TheVariants as line
