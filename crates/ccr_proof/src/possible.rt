@@ -114,8 +114,8 @@ fn is_better(place: u32, best: Option<u32>) -> bool
     }
 }
 
-/// The best of `best` and the possible places among a build's pairs. It begins at the last pair of the input's scope, and ends at
-/// the first place that is possible.
+/// The best of `best` and the possible places among a build's pairs. It goes down from the last pair of the input's scope, and
+/// ends at the first place that is possible, or no better than `best`.
 fn best_in(
     problem: &Problem,
     fixed: &Fixed,
@@ -147,7 +147,7 @@ fn best_in(
 
 /// Whether the best so far is the greatest allowed place.
 fn is_last(best: Option<u32>, places: &[u32]) -> bool
-    ensures { IsTrue result → (x : ℕ) × (best ≡ Some x) × (slice_get places.now (length places.now - 1) ≡ Some x) }
+    ensures { IsTrue result ↔ ((x : ℕ) × (best ≡ Some x) × (slice_get places.now (length places.now - 1) ≡ Some x)) }
 {
     let Some(place) = best else {
         return false;
