@@ -53,6 +53,15 @@ impl Version {
         self.fields.to_string(alloc)
     }
 
+    /// A copy of the version.
+    pub fn copy(&self) -> Result<Version, AllocError>
+        ensures { IfOk result (λ v. v ≡ self.now) }
+    {
+        Ok(Version {
+            fields: self.fields.clone()?,
+        })
+    }
+
     /// Whether the version has each field that the pin names, with the same text.
     /// A pin without fields is met by every version.
     pub fn meets(&self, pin: &Pin) -> bool

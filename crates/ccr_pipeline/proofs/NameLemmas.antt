@@ -1,5 +1,5 @@
 -- A set of texts, by the bytes of its keys.
-use Rattle.std.proofs.Common.{◌≡◌, ℕ, List, [], ◌∷◌, ◌++◌, refl, ap, ◌∙◌, String, string_bytes, Bool, true, false, Global, ◌||◌, cond, length, suc}
+use Rattle.std.proofs.Common.{◌≡◌, List, [], ◌∷◌, ◌++◌, refl, ap, ◌∙◌, String, string_bytes, Bool, true, false, Global, ◌||◌, cond, length, take, ℕ, zero, suc}
 use Rattle.std.specs.List.{list_any}
 use Rattle.std.specs.Str.{bytes_eq}
 use Rattle.std.specs.String.{string_eq}
@@ -28,3 +28,8 @@ names_of-insert_key keys k = by_case (list_any (string_eq k) keys) keys k ∙ ap
 pub length-names_of : (keys : List (String Global)) → length (names_of keys) ≡ length keys
 length-names_of [] = refl
 length-names_of (k ∷ ks) = ap (λ n. suc n) (length-names_of ks)
+
+pub names_of-take : (n : ℕ) (keys : List (String Global)) → names_of (take n keys) ≡ take n (names_of keys)
+names_of-take zero keys = refl
+names_of-take (suc n) [] = refl
+names_of-take (suc n) (k ∷ ks) = ap (λ ns. string_bytes k ∷ ns) (names_of-take n ks)

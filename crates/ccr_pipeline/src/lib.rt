@@ -36,6 +36,7 @@ mod unused;
 
 pub use fault::ReadFault;
 pub use input::{Input, inputs_of};
+pub use names::Names;
 pub use pipeline::Pipeline;
 pub use reader::{read, read_task};
 pub use resource::{Job, Resource};

@@ -1,5 +1,5 @@
 //! Names that may not be repeated.
-ghost use Rattle.std.specs.Prelude.{◌≡◌, ◌++◌, [], not, length, option_map, IfOk, OnOk};
+ghost use Rattle.std.specs.Prelude.{◌≡◌, ◌++◌, [], not, length, take, option_map, IfOk, OnOk, OnErr};
 ghost use Rattle.serde_json.specs.View.{view};
 ghost use Rattle.ccr_pipeline.specs.Faults.{unless, Checks, StartsWith, IsFirst, fault_of};
 ghost use Rattle.ccr_pipeline.specs.Keys.{at_key, or_else, path_below};
@@ -14,9 +14,9 @@ use serde_json::Value;
 use std::alloc::{AllocError, Global};
 use std::marker::Model;
 
-/// The names so far, in order of first mention.
+/// Names, each once, in order of first mention.
 #[derive(Drop)]
-pub(crate) struct Names {
+pub struct Names {
     set: IndexSet<String>,
 }
 
@@ -31,7 +31,7 @@ impl Model for Names {
 
 impl Names {
     /// No names.
-    pub(crate) fn new(alloc: Global) -> Names
+    pub fn new(alloc: Global) -> Names
         ensures { result ≡ [] }
     {
         Names {
@@ -40,27 +40,35 @@ impl Names {
     }
 
     /// How many names there are.
-    pub(crate) fn len(&self) -> usize
+    pub fn len(&self) -> usize
         ensures { result ≡ length self.now }
     {
         self.set.len()
     }
 
     /// Whether the name is among them.
-    pub(crate) fn contains(&self, name: &str) -> bool
+    pub fn contains(&self, name: &str) -> bool
         ensures { result ≡ has_name self.now name.now }
     {
         self.set.contains(name)
     }
 
-    /// Adds a name, unless it is there already, and answers whether it was new.
-    pub(crate) fn add(&mut self, alloc: Global, name: &str) -> Result<bool, AllocError>
+    /// Adds a name, unless it is there already, and answers whether it was new. Where memory is refused, nothing changes.
+    pub fn add(&mut self, alloc: Global, name: &str) -> Result<bool, AllocError>
         ensures new { IfOk result (λ is_new. is_new ≡ not (has_name self.old name.now)) }
         ensures added { OnOk result (self.new ≡ with_name self.old name.now) }
+        ensures unchanged { OnErr result (self.new ≡ self.old) }
     {
         let name = String::from_str(alloc, name)?;
         let (_, is_new) = self.set.insert_full(name)?;
         Ok(is_new)
+    }
+
+    /// Keeps so many of the names, those that came first, and drops the others.
+    pub fn truncate(&mut self, len: usize)
+        ensures { self.new ≡ take len self.old }
+    {
+        self.set.truncate(len);
     }
 }
 
