@@ -12,9 +12,9 @@ use Rattle.ccr_choice.specs.Text.{IsWord, lines_of, text_of}
 use Rattle.ccr_choice.specs.Reading.{Read, whole, number_words}
 use Rattle.ccr_choice.specs.ProblemText.{pair_words, input_line, build_line, job_lines, problem_lines, problem_text, problem_at, problem_of, IsRead, IsReadAs, NothingFollows}
 use Rattle.ccr_choice.proofs.Texts.{IsLine}
-use Rattle.ccr_choice.proofs.Formats.{IsFormat, text_found, text_again, text_alone}
+use Rattle.ccr_choice.proofs.Formats.{IsFormat, text_read, text_found, text_again, text_alone}
 use Rattle.ccr_choice.proofs.Bounds.{rules_of, next_used-more}
-use Rattle.ccr_choice.proofs.Whole.{problem_found, problem_again}
+use Rattle.ccr_choice.proofs.Whole.{problem_found, problem_again, problem_kept}
 
 -- ---- each line of a problem has a spelling
 abbrev AreSmall : List ℕ → Type 0
@@ -112,6 +112,11 @@ problem_lines_format =
 problem_is : (bs : List ℕ) → problem_of bs ≡ whole BadLine Trailing (length (lines_of bs)) (problem_at (lines_of bs))
 unfolding problem_of
 problem_is bs = refl
+
+-- what is read keeps the rules
+pub problem_text_kept : (bs : List ℕ) (p : ProblemValue) → problem_of bs ≡ Ok p → is_problem p ≡ true
+problem_text_kept bs p h =
+    problem_kept (lines_of bs) (p, []) (text_read BadLine Trailing (length (lines_of bs)) (problem_at (lines_of bs)) p (sym (problem_is bs) ∙ h))
 
 -- what is read is written so
 pub problem_text_found : (bs : List ℕ) (p : ProblemValue) → is_problem p ≡ true → problem_of bs ≡ Ok p → bs ≡ problem_text p

@@ -17,7 +17,7 @@ use Rattle.ccr_choice.proofs.Cuts.{lines_step}
 use Rattle.ccr_choice.proofs.Words.{own, word_found, word_again, IsFit, word_fits}
 
 -- the separator isn't among the bytes
-abbrev is_clear : ℕ → List ℕ → Bool
+abbrev pub is_clear : ℕ → List ℕ → Bool
 is_clear c bs = list_all (λ b. not (b == c)) bs
 
 not_true : (b : Bool) → not b ≡ true → b ≡ false
@@ -116,7 +116,8 @@ append_clear c [] ys h k = k
 append_clear c (x ∷ xs) ys h k =
     let p = and_parts (not (x == c)) (is_clear c xs) h in and_from _ _ p.0 (append_clear c xs ys p.1 k)
 
-line_clear : (ws : List Word) → AllByRecursion IsWord ws → is_clear 10 (join_with_byte 32 (map spelled ws)) ≡ true
+-- no line feed is among the bytes of a line's words
+pub line_clear : (ws : List Word) → AllByRecursion IsWord ws → is_clear 10 (join_with_byte 32 (map spelled ws)) ≡ true
 line_clear [] h = refl
 line_clear (w ∷ []) h = feed_clear w h.0
 line_clear (w ∷ v ∷ ws) h = append_clear 10 (spelled w) _ (feed_clear w h.0) (line_clear (v ∷ ws) h.1)

@@ -1,14 +1,14 @@
 -- A problem's lines, both ways.
-use Rattle.std.proofs.Common.{◌≡◌, ℕ, zero, suc, ◌+◌, ◌<◌, List, [], ◌∷◌, ◌++◌, length, map, Bool, true, false, cond, ◌&&◌, ◌==◌, nat_le, Option, Some, None, option_and_then, Result, Ok, Err, ap, ◌∙◌, refl, sym, subst, arith, append_assoc}
+use Rattle.std.proofs.Common.{◌≡◌, ℕ, zero, suc, ◌+◌, ◌<◌, ◌≤◌, List, [], ◌∷◌, ◌++◌, length, map, Bool, true, false, cond, ◌&&◌, ◌==◌, nat_le, Option, Some, None, option_and_then, Result, Ok, Err, ap, ◌∙◌, refl, sym, subst, arith, append_assoc}
 use Rattle.std.specs.List.{flat_map, list_all}
-use Rattle.std.proofs.lemmas.Bool.{and_parts, and_from, eqb-true, eq-eqb}
+use Rattle.std.proofs.lemmas.Bool.{and_parts, and_from, eqb-true, leb-true, eq-eqb}
 use Rattle.std.proofs.lemmas.List.Concat.{flat_map_single}
 use Rattle.ccr_choice.specs.declared.text.word.Word.{Word}
 use Rattle.ccr_choice.specs.declared.text.word.Word.TheVariants.{Number, Problem, Inputs, Jobs, Places, Builds, Pairs, Proof, Best, Nothing, Job, Empty, Bounded, Other}
 use Rattle.ccr_choice.specs.Problem.{InputValue, BuildValue, ProblemValue, is_input, is_build, are_builds, are_builds_below, are_inputs, jobs_after, scopes_after, is_problem}
 use Rattle.ccr_choice.specs.Reading.{◌>>=◌, keep_if, or_broken, one_line, many_at}
 use Rattle.ccr_choice.specs.ProblemText.{next_counts, pair_words, input_line, build_line, job_lines, problem_lines, pairs_of, input_of, build_of, input_at, build_at, inputs_at, builds_at, job_at, jobs_at, problem_at, head_of, input_count, job_count, build_count, problem_number, inputs_number, jobs_number, builds_number}
-use Rattle.ccr_choice.proofs.Keeps.{bind_ok, all_along, kept, or_ok, one_kept, builds_keep, inputs_keep, jobs_keep, inputs_are, builds_are, jobs_are, problem_read}
+use Rattle.ccr_choice.proofs.Keeps.{bind_ok, all_along, kept, or_ok, one_kept, builds_keep, inputs_keep, jobs_keep, inputs_are, builds_are, jobs_are, problem_keeps, problem_read}
 use Rattle.ccr_choice.proofs.Found.{input_again, input_found}
 
 pub pairs_again : (ps : List (ℕ × ℕ)) → pairs_of (pair_words ps) ≡ Some ps
@@ -194,3 +194,17 @@ problem_found ls x h =
     ∙ ap (λ r. (Jobs ∷ Number (length b5.0.0) ∷ []) ∷ r) (jobs_found (scopes_after 0 b3.0.0) b4.0.0 b4.0.1 b5.0 b5.1))
     ∙ sym (append_assoc (map input_line b3.0.0) ((Jobs ∷ Number (length b5.0.0) ∷ []) ∷ flat_map job_lines b5.0.0) b5.0.1)))
     ∙ ap (λ q. problem_lines q.0 ++ q.1) made
+
+-- what is read keeps the rules
+pub problem_kept : (ls : List (List Word)) (x : ProblemValue × List (List Word)) → problem_at ls ≡ Ok x → is_problem x.0 ≡ true
+unfolding problem_at
+problem_kept ls x h =
+    let b1 = bind_ok (one_line head_of ls) _ x h in
+    let b2 = bind_ok (one_line input_count b1.0.1) _ x b1.2 in
+    let b3 = bind_ok (inputs_at b2.0.0 b2.0.1) _ x b2.2 in
+    let b4 = bind_ok (one_line (job_count (jobs_after 0 b3.0.0)) b3.0.1) _ x b3.2 in
+    let b5 = bind_ok (jobs_at (scopes_after 0 b3.0.0) b4.0.0 b4.0.1) _ x b4.2 in
+    let few : b2.0.0 ≤ 32 = leb-true _ _ (one_kept (λ n. nat_le n 32) inputs_number b1.0.1 b2.0 b2.1) in
+    let counted : b4.0.0 ≡ jobs_after 0 b3.0.0 = eqb-true _ _ (one_kept (λ n. n == jobs_after 0 b3.0.0) jobs_number b3.0.1 b4.0 b4.1) in
+    let made : (record { inputs = b3.0.0; jobs = b5.0.0 }, b5.0.1) ≡ x = cc in
+    ap (λ y. is_problem y.0) (sym made) ∙ problem_keeps b2.0.0 b4.0.0 b2.0.1 b4.0.1 b3.0.0 b3.0.1 b5.0.0 b5.0.1 few b3.1 counted b5.1

@@ -1,17 +1,21 @@
 //! Reads a text on standard input by one call of a library, and prints the result.
 //!
 //! `ccr_probe pipeline` reads a pipeline, `ccr_probe task` a task file; `ccr_probe resolve BUDGET` reads a problem and prints the
-//! proof of its best choice, or that none satisfies, of at most BUDGET nodes. With `--repeat N` behind these the call is made N
-//! times, and the whole time is printed on standard error. Statuses: 0 read or resolved, 1 refused, 2 usage, 3 over budget, 4 out
-//! of memory or unreadable.
+//! proof of its best choice, or that none satisfies, of at most BUDGET nodes. `ccr_probe launch` starts `sh -c true`.
+//! `ccr_probe type PROGRAMS FOLDER` reads `{"source":..,"params":..}` and tries a resource type: it starts PROGRAMS/check,
+//! PROGRAMS/in for the last version and PROGRAMS/out in FOLDER, with FOLDER/in as the artifact's folder, and prints each version.
+//! With `--repeat N` behind these the call is made N times, and the whole time is printed on standard error. Statuses: 0 read,
+//! resolved or ended, 1 refused, 2 usage, 3 over budget, 4 out of memory or unreadable.
 #![tactic(auto)]
 
 ghost use Rattle.std.specs.Prelude.{◌≤◌};
 
 mod answer;
+mod programs;
 
 use answer::{Answer, OVER_BUDGET, answer_pipeline, answer_resolve, answer_task};
-use std::alloc::{AllocError, Global};
+use programs::{Trial, answer_launch, answer_type};
+use std::alloc::AllocError;
 use std::io::Read;
 use std::process::ExitCode;
 use std::time::Instant;
@@ -25,18 +29,20 @@ struct Budget {
     ghost most: { nodes ≤ 1000000 },
 }
 
-/// What is read.
-#[derive(Clone, Copy, Debug, PartialEq, Eq)]
-enum Call {
+/// What is read or started.
+#[derive(Clone, Copy)]
+enum Call<'a> {
     Pipeline,
     Task,
     Resolve(Budget),
+    Launch,
+    Type(Trial<'a>),
 }
 
 /// What the words ask for: a call, and how often it is made.
-#[derive(Clone, Copy, Debug, PartialEq, Eq)]
-struct Order {
-    call: Call,
+#[derive(Clone, Copy)]
+struct Order<'a> {
+    call: Call<'a>,
     times: u32,
 }
 
@@ -58,11 +64,21 @@ fn times_of(words: &[String]) -> Option<u32> {
     }
 }
 
-fn order_of(words: &[String]) -> Option<Order> {
+fn order_of(words: &[String]) -> Option<Order<'_>> {
     let (first, rest) = words.split_first()?;
     let (call, rest) = match first.as_str() {
         "pipeline" => (Call::Pipeline, rest),
         "task" => (Call::Task, rest),
+        "launch" => (Call::Launch, rest),
+        "type" => {
+            let (programs, rest) = rest.split_first()?;
+            let (folder, rest) = rest.split_first()?;
+            let trial = Trial {
+                programs: programs.as_str(),
+                folder: folder.as_str(),
+            };
+            (Call::Type(trial), rest)
+        }
         "resolve" => {
             let (budget, rest) = rest.split_first()?;
             (Call::Resolve(budget_of(budget.as_str())?), rest)
@@ -73,19 +89,22 @@ fn order_of(words: &[String]) -> Option<Order> {
     Some(Order { call, times })
 }
 
-fn answer_of(alloc: Global, call: Call, text: &[u8]) -> Result<Answer, AllocError> {
+fn answer_of(rt: &HostRuntime, call: Call, text: &[u8]) -> Result<Answer, AllocError> {
+    let alloc = rt.alloc();
     match call {
         Call::Pipeline => answer_pipeline(alloc, text),
         Call::Task => answer_task(alloc, text),
         Call::Resolve(budget) => answer_resolve(alloc, text, budget.nodes),
+        Call::Launch => answer_launch(rt, alloc),
+        Call::Type(trial) => answer_type(rt, alloc, text, &trial),
     }
 }
 
 fn timed(rt: &HostRuntime, order: Order, text: &[u8]) -> io::Result<Answer> {
     let start = Instant::now(rt)?;
-    let mut last = answer_of(rt.alloc(), order.call, text)?;
+    let mut last = answer_of(rt, order.call, text)?;
     for _ in 1..order.times {
-        last = answer_of(rt.alloc(), order.call, text)?;
+        last = answer_of(rt, order.call, text)?;
     }
     if order.times > 1 {
         let micros = start.elapsed(rt)?.as_micros();
@@ -112,7 +131,9 @@ fn main(rt: HostRuntime) -> io::Result<ExitCode> {
         return out_of_memory(&rt);
     };
     let Some(order) = order_of(&words) else {
-        eprintln!(rt; "usage: ccr_probe pipeline|task|resolve BUDGET [--repeat N]")?;
+        eprintln!(rt;
+            "usage: ccr_probe pipeline|task|resolve BUDGET|launch|type PROGRAMS FOLDER [--repeat N]"
+        )?;
         return Ok(ExitCode::from(2));
     };
     let mut text = Vec::new(rt.alloc());

@@ -1,18 +1,18 @@
 -- The laws of a claim's text: what is read is written so, what is written so is read, and no text begins another.
-use Rattle.std.proofs.Common.{◌≡◌, ℕ, ◌+◌, ◌^◌, ◌<◌, ◌≤◌, List, [], ◌∷◌, ◌++◌, length, Bool, true, false, cond, ◌&&◌, ◌==◌, nat_le, Option, Some, None, Result, Ok, Err, IfOk, ap, ◌∙◌, refl, sym, subst, arith, eqb-true}
+use Rattle.std.proofs.Common.{◌≡◌, ℕ, ◌^◌, ◌<◌, ◌≤◌, List, [], ◌∷◌, ◌++◌, length, Bool, true, false, cond, Some, None, Result, Ok, Err, IfOk, ap, ◌∙◌, refl, sym, subst, arith}
 use Rattle.std.specs.List.{AllByRecursion}
 use Rattle.std.proofs.lemmas.Bool.{and_parts, and_from, leb-true, le-leb}
 use Rattle.std.proofs.lemmas.List.{append-nil}
 use Rattle.ccr_choice.specs.declared.text.word.Word.{Word}
 use Rattle.ccr_choice.specs.declared.text.word.Word.TheVariants as word
-use Rattle.ccr_choice.specs.Text.{IsWord, lines_of, text_of}
-use Rattle.ccr_choice.specs.Reading.{Read, ◌>>=◌, or_broken, one_line, whole, number_words, front_numbers, after_numbers}
+use Rattle.ccr_choice.specs.Text.{IsWord, lines_of}
+use Rattle.ccr_choice.specs.Reading.{◌>>=◌, or_broken, whole, number_words, front_numbers, after_numbers}
 use Rattle.ccr_choice.proofs.Words.{IsFit}
 use Rattle.ccr_choice.proofs.Texts.{IsLine, lines_fit}
 use Rattle.ccr_choice.proofs.Keeps.{bind_ok, or_ok}
 use Rattle.ccr_choice.proofs.Found.{front-number_words, after-number_words, numbers_are, front-all, after-all, none_left}
 use Rattle.ccr_choice.proofs.Formats.{IsFormat, text_found, text_again, text_alone, text_read}
-use Rattle.ccr_proof.specs.Claim.{IsShort, IsClaim}
+use Rattle.ccr_proof.specs.Claim.{IsClaim}
 use Rattle.ccr_proof.specs.ClaimText.{claim_line, claim_lines, claim_text, builds_part, claim_of, claim_at, claim_in, IsRead, IsReadAs, NothingFollows}
 use Rattle.ccr_proof.specs.declared.claim.Claim.{Claim}
 use Rattle.ccr_proof.specs.declared.claim.Claim.TheVariants.{Best, Nothing}

@@ -8,4 +8,5 @@ pub mod ProofLaws
 pub mod Places
 pub mod Sound
 pub mod Lookups
+pub mod Scopes
 pub mod TableLaws

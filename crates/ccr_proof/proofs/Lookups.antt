@@ -1,13 +1,11 @@
 -- Looking something up in a list that ascends.
-use Rattle.std.proofs.Common.{◌≡◌, ℕ, zero, suc, ◌+◌, ◌<◌, ◌≤◌, ◌⊎◌, inl, inr, Bool, true, false, ◌||◌, ◌&&◌, ◌==◌, nat_lt, nat_le, List, [], ◌∷◌, length, get_or, refl, sym, ap, ◌∙◌, subst, arith, IsTrue, All, Option, Some, None, Bor}
+use Rattle.std.proofs.Common.{◌≡◌, ℕ, zero, suc, ◌<◌, ◌⊎◌, inl, inr, Bool, true, false, ◌&&◌, ◌==◌, nat_lt, nat_le, List, [], ◌∷◌, length, get_or, sym, ap, ◌∙◌, subst, arith, All, Option, Some, None, Bor}
 use Rattle.std.specs.Prelude.{Contains, AllPairs, IfSome}
 use Rattle.std.specs.Slice.{IsGetResult}
 use Rattle.std.specs.List.Sorted.{IsPartitionedBy, IsPartitionPoint}
-use Rattle.std.specs.List.{list_all}
-use Rattle.std.proofs.lemmas.Bool.{cases_lt, and_parts, and_from, or_cases, or_left, or_right, ltb-true, lt-ltb, leb-true, eqb-true, eq-eqb, false≢true}
-use Rattle.std.proofs.lemmas.List.{get_or_default}
+use Rattle.std.proofs.lemmas.Bool.{cases_lt, and_parts, and_from, or_cases, or_left, or_right, ltb-true, lt-ltb, eqb-true, eq-eqb, false≢true}
 use Rattle.std.proofs.lemmas.List.Elements.{All-cons, All-nil}
-use Rattle.ccr_choice.specs.Problem.{ProblemValue, BuildValue, is_build, are_builds, are_builds_below, are_places_after, are_pairs_after}
+use Rattle.ccr_choice.specs.Problem.{BuildValue, is_build, are_builds, are_builds_below, are_places_after, are_pairs_after}
 use Rattle.ccr_proof.specs.Ascending.{is_before, AreAscending, AreRising}
 
 module _ {X : Type 0} (lt : X → X → Bool) (never : (x : X) → lt x x ≡ true → ⊥) (chain : (x y z : X) → lt x y ≡ true → lt y z ≡ true → lt x z ≡ true) (xs : List X) (rises : AllPairs (λ p q. lt p q ≡ true) xs) (x : X) where
@@ -38,7 +36,7 @@ pub less_chain : (x y z : ℕ) → nat_lt x y ≡ true → nat_lt y z ≡ true �
 less_chain x y z h k = let a = ltb-true x y h in let b = ltb-true y z k in lt-ltb x z (omega arith)
 
 -- a pair before another, as facts
-before_is : (p q : ℕ × ℕ) → is_before p q ≡ true → (p.0 < q.0) ⊎ ((p.0 ≡ q.0) × (p.1 < q.1))
+pub before_is : (p q : ℕ × ℕ) → is_before p q ≡ true → (p.0 < q.0) ⊎ ((p.0 ≡ q.0) × (p.1 < q.1))
 before_is p q h =
     elim (or_cases (nat_lt p.0 q.0) (p.0 == q.0 && nat_lt p.1 q.1) h) [
       | inl e ↦ inl (ltb-true _ _ e)

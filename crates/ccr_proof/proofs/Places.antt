@@ -1,14 +1,14 @@
 -- The best possible place, from what was found.
-use Rattle.std.proofs.Common.{◌≡◌, ◌≢◌, ℕ, zero, suc, ◌+◌, ◌-◌, ◌<◌, ◌≤◌, List, [], ◌∷◌, length, slice_index, slice_index_or, Bool, true, false, ◌&&◌, ◌⊎◌, inl, inr, refl, sym, ap, ◌∙◌, subst, arith, Option, Some, None, IsTrue}
-use Rattle.std.specs.Prelude.{Contains, EachIndex, IfSome, IsSomeAnd, slice_get, nat_lt, nat_le}
-use Rattle.std.proofs.lemmas.Bool.{and_parts, ltb-true, leb-true, lt-ltb, le-ltb, cases_lt, cases_eq, false≢true}
+use Rattle.std.proofs.Common.{◌≡◌, ◌≢◌, ℕ, zero, suc, ◌-◌, ◌<◌, ◌≤◌, List, [], ◌∷◌, length, slice_index, slice_index_or, Bool, true, false, ◌&&◌, inl, inr, refl, sym, ap, ◌∙◌, subst, arith, Option, Some, None}
+use Rattle.std.specs.Prelude.{Contains, EachIndex, IfSome, slice_get, nat_le}
+use Rattle.std.proofs.lemmas.Bool.{and_parts, ltb-true, lt-ltb, cases_lt}
 use Rattle.std.proofs.lemmas.List.{get_or_default, get_or_read}
 use Rattle.std.proofs.lemmas.Option.{slice_get_within, get_or_from_slice_get, slice_get-get_or}
-use Rattle.ccr_choice.specs.Problem.{ProblemValue, InputValue, BuildValue, no_input, is_problem, is_input, are_inputs, are_distinct, are_numbered, are_places_after, next_used, used_after, input_at}
+use Rattle.ccr_choice.specs.Problem.{ProblemValue, InputValue, no_input, is_problem, is_input, are_inputs, are_distinct, are_numbered, are_places_after, next_used, used_after, input_at}
 use Rattle.ccr_choice.proofs.Bounds.{rules_of}
 use Rattle.ccr_proof.specs.Preference.{plain, IsBetter}
 use Rattle.ccr_proof.specs.Assignment.{Assignment}
-use Rattle.ccr_proof.specs.Possible.{CanHavePassed, IsPossible, best_places, IsBestPossible}
+use Rattle.ccr_proof.specs.Possible.{CanHavePassed, IsPossible, IsBestPossible}
 use Rattle.ccr_proof.specs.Table.{Reaches}
 
 -- what is possible, and reaches each possible place, is the best

@@ -1,5 +1,5 @@
 -- The plain order is an order, and better in it is later.
-use Rattle.std.proofs.Common.{◌≡◌, ◌≢◌, ◌↔◌, ℕ, zero, suc, ◌+◌, ◌<◌, ◌⊎◌, inl, inr, List, [], ◌∷◌, length, slice_index, true, arith, refl, IsTrue, nat_lt}
+use Rattle.std.proofs.Common.{◌≡◌, ◌↔◌, ℕ, zero, suc, ◌<◌, inl, inr, List, [], ◌∷◌, length, slice_index, arith}
 use Rattle.std.proofs.lemmas.Bool.{ltb-true, lt-ltb, le-ltb, cases_lt}
 use Rattle.ccr_choice.specs.Later.{IsLater}
 use Rattle.ccr_proof.specs.Preference.{plain, IsOrder, IsBetter}

@@ -1,7 +1,6 @@
 -- The tests of possible places say what they should, and the best possible place is the best.
-use Rattle.std.proofs.Common.{◌≡◌, ◌≢◌, ◌↔◌, ℕ, zero, suc, ◌+◌, ◌<◌, List, [], ◌∷◌, length, slice_index_or, slice_index, Bool, true, false, cond, ◌&&◌, ◌||◌, ◌==◌, ◌⊎◌, inl, inr, refl, sym, ap, ◌∙◌, subst, arith, Option, Some, None, IsTrue, filter}
-use Rattle.std.specs.Prelude.{Contains, Any, EachIndex, MatchOption, unwrap_or}
-use Rattle.std.specs.List.{list_any, list_all}
+use Rattle.std.proofs.Common.{◌≡◌, ◌↔◌, ℕ, zero, suc, ◌+◌, ◌<◌, List, [], ◌∷◌, length, slice_index, Bool, true, ◌&&◌, ◌==◌, inl, inr, refl, sym, ap, ◌∙◌, subst, arith, Option, Some, None, filter}
+use Rattle.std.specs.Prelude.{Contains, Any, MatchOption}
 use Rattle.std.proofs.lemmas.Bool.{and_parts, and_from, cases_Bool, cond-true, cond-false, cases_eq, false≢true}
 use Rattle.ccr_choice.specs.Problem.{ProblemValue, BuildValue, InputValue, input_at, builds_at}
 use Rattle.ccr_proof.specs.Preference.{Preference, IsOrder}

@@ -1,11 +1,11 @@
 -- The laws of a proof's text: what is read is written so, what is written so is read, and no text begins another.
-use Rattle.std.proofs.Common.{◌≡◌, ℕ, zero, suc, ◌+◌, ◌-◌, ◌^◌, ◌<◌, ◌≤◌, Bool, true, false, cond, ◌==◌, List, [], ◌∷◌, ◌++◌, length, max, refl, sym, ap, ◌∙◌, subst, arith, Option, Some, None, Result, Ok, Err, IfOk, nat_le, append_assoc, inl, inr, eqb-true}
+use Rattle.std.proofs.Common.{◌≡◌, ℕ, zero, suc, ◌+◌, ◌<◌, ◌≤◌, Bool, true, false, cond, ◌==◌, List, [], ◌∷◌, ◌++◌, length, refl, sym, ap, ◌∙◌, subst, arith, Option, Some, None, Result, Ok, Err, IfOk, nat_le, append_assoc, inl, inr, eqb-true}
 use Rattle.std.specs.List.{AllByRecursion}
-use Rattle.std.proofs.lemmas.Bool.{cases_lt, le-leb, leb-true}
+use Rattle.std.proofs.lemmas.Bool.{cases_lt, le-leb}
 use Rattle.std.proofs.lemmas.List.{append-nil}
 use Rattle.ccr_choice.specs.declared.text.word.Word.{Word}
 use Rattle.ccr_choice.specs.declared.text.word.Word.TheVariants as word
-use Rattle.ccr_choice.specs.Text.{IsWord, lines_of, text_of}
+use Rattle.ccr_choice.specs.Text.{lines_of, text_of}
 use Rattle.ccr_choice.specs.Reading.{Read, ◌>>=◌, or_broken, one_line, whole}
 use Rattle.ccr_choice.proofs.Keeps.{bind_ok, or_ok}
 use Rattle.ccr_choice.proofs.Words.{IsFit}
@@ -15,7 +15,6 @@ use Rattle.ccr_proof.specs.declared.claim.Claim.{Claim}
 use Rattle.ccr_proof.specs.declared.proof.Proof.{Proof}
 use Rattle.ccr_proof.specs.declared.fault.ProofFault.{ProofFault}
 use Rattle.ccr_proof.specs.declared.fault.ProofFault.TheVariants.{BadLine, TooManyNodes, Trailing, NoMemory}
-use Rattle.ccr_proof.specs.declared.halt.Halt.{Halt}
 use Rattle.ccr_proof.specs.declared.halt.Halt.TheVariants.{Memory, Left, TooMany}
 use Rattle.ccr_proof.specs.declared.proof_read.NodeLine.{NodeLine}
 use Rattle.ccr_proof.specs.declared.proof_read.NodeLine.TheVariants as line
@@ -324,10 +323,10 @@ proof_kept bs x rest h =
     let fits = subst AreFit found.lines (lines_fit bs) in
     record { claim = found.short fits.1.0; numbers = (fit_tree x.1 rest fits.1.1).0; few_nodes = found.few; shallow = found.shallow }
 
-text_kept : (bs : List ℕ) (x : Claim × Tree) → proof_of bs ≡ Ok x → IsPair x
+pub text_kept : (bs : List ℕ) (x : Claim × Tree) → proof_of bs ≡ Ok x → IsPair x
 text_kept bs x h = proof_kept bs x [] (whole_ok (length (lines_of bs)) (proof_at (lines_of bs)) x (sym (proof_is bs) ∙ h))
 
-proof_text_found : (bs : List ℕ) (x : Claim × Tree) → proof_of bs ≡ Ok x → bs ≡ text_of (proof_lines x)
+pub proof_text_found : (bs : List ℕ) (x : Claim × Tree) → proof_of bs ≡ Ok x → bs ≡ text_of (proof_lines x)
 unfolding read_at
 proof_text_found bs x h =
     let read = whole_ok (length (lines_of bs)) (proof_at (lines_of bs)) x (sym (proof_is bs) ∙ h) in

@@ -1,5 +1,5 @@
 -- Reading a tree, one node after the other.
-use Rattle.std.proofs.Common.{◌≡◌, ℕ, zero, suc, ◌+◌, ◌-◌, ◌<◌, ◌≤◌, Bool, true, false, cond, List, [], ◌∷◌, ◌++◌, length, refl, sym, ap, ◌∙◌, subst, arith, Option, Some, None, Result, Ok, Err, nat_le, Vec, Global}
+use Rattle.std.proofs.Common.{◌≡◌, ℕ, zero, suc, ◌+◌, ◌-◌, ◌<◌, ◌≤◌, List, [], ◌∷◌, ◌++◌, length, refl, sym, ap, ◌∙◌, subst, arith, Option, Some, Result, Ok, Err, nat_le, Vec, Global}
 use Rattle.std.proofs.lemmas.Bool.{le-leb, cond-true, cond-false, false_from_ne_true, leb-true}
 use Rattle.ccr_choice.specs.declared.text.word.Word.{Word}
 use Rattle.ccr_choice.specs.Reading.{◌>>=◌}
@@ -9,9 +9,9 @@ use Rattle.ccr_proof.specs.declared.halt.Halt.TheVariants.{Memory, Left, TooMany
 use Rattle.ccr_proof.specs.declared.proof_read.NodeLine.{NodeLine}
 use Rattle.ccr_proof.specs.declared.proof_read.NodeLine.TheVariants as line
 use Rattle.ccr_proof.specs.Halts.{NodeRead, Halts, GivesNode}
-use Rattle.ccr_proof.specs.Tree.{Tree, Trees, job, empty, bounded, no_child, child, count, count_all, tree_of, trees_of}
-use Rattle.ccr_proof.proofs.Trees.{tree_of_job, count_is}
-use Rattle.ccr_proof.specs.ProofText.{most_nodes, node_line, by_line, next_node, children_at, tree_at}
+use Rattle.ccr_proof.specs.Tree.{Tree, Trees, job, no_child, child, count, count_all, tree_of, trees_of}
+use Rattle.ccr_proof.proofs.Trees.{tree_of_job}
+use Rattle.ccr_proof.specs.ProofText.{node_line, by_line, next_node, children_at, tree_at}
 
 -- what is read behind a job's line
 abbrev pub job_at : ℕ → ℕ → ℕ → ℕ → List (List Word) → NodeRead Tree

@@ -1,8 +1,8 @@
 -- An accepted tree leaves no better choice.
-use Rattle.std.proofs.Common.{◌≡◌, ◌≢◌, ℕ, zero, suc, ◌+◌, ◌<◌, ◌≤◌, inl, inr, Bool, true, false, cond, ◌==◌, ◌&&◌, List, [], ◌∷◌, length, slice_index, slice_index_or, refl, sym, ap, ◌∙◌, subst, arith, Option, Some, None, IsTrue}
+use Rattle.std.proofs.Common.{◌≡◌, ◌≢◌, ℕ, zero, suc, ◌+◌, ◌<◌, ◌≤◌, inl, inr, true, ◌==◌, List, [], ◌∷◌, length, slice_index, refl, sym, ap, ◌∙◌, subst, arith, Option, Some, None}
 use Rattle.std.specs.Prelude.{Contains, Any, EachIndex, MatchOption, unwrap_or}
-use Rattle.std.proofs.lemmas.Bool.{cases_lt, and_parts, ltb-true, cases_Bool, cases_eq, cond-true, cond-false, eqb-true}
-use Rattle.ccr_choice.specs.Problem.{ProblemValue, BuildValue, InputValue, IsProblem, is_problem, input_at, builds_at, is_build, are_builds, are_builds_below, scopes_after}
+use Rattle.std.proofs.lemmas.Bool.{and_parts, ltb-true, cases_Bool, cases_eq, cond-true, cond-false, eqb-true}
+use Rattle.ccr_choice.specs.Problem.{ProblemValue, BuildValue, is_problem, input_at, builds_at, is_build, are_builds_below}
 use Rattle.ccr_choice.specs.Satisfies.{Satisfies, Moved, IsAllowed, IsSuccessful, HasPassed, HasPassedAll}
 use Rattle.ccr_choice.proofs.Bounds.{builds_kept}
 use Rattle.ccr_choice.proofs.Numbering.{named_below}
@@ -10,11 +10,11 @@ use Rattle.ccr_proof.specs.declared.claim.Claim.{Claim}
 use Rattle.ccr_proof.specs.declared.claim.Claim.TheVariants.{Best, Nothing}
 use Rattle.ccr_proof.specs.Preference.{Preference, IsOrder, IsBetter}
 use Rattle.ccr_proof.specs.Assignment.{Assignment, nothing_fixed, with_build, Agrees}
-use Rattle.ccr_proof.specs.Possible.{CanHavePassed, IsPossible, best_possible, best_place, best_places, IsBestPossible}
+use Rattle.ccr_proof.specs.Possible.{IsPossible, best_possible, best_places, IsBestPossible}
 use Rattle.ccr_proof.specs.Tree.{Tree, Trees, job, empty, bounded, no_child, child}
 use Rattle.ccr_proof.specs.Refutes.{HasNoPlace, IsBounded, Refutes, RefuteEach, IsAccepted}
-use Rattle.ccr_proof.specs.Optimal.{IsOptimal, IsRight}
-use Rattle.ccr_proof.proofs.Members.{contains_none, contains_first, contains_later, contains_cases, any_none, any_cases, any_of, any_more}
+use Rattle.ccr_proof.specs.Optimal.{IsRight}
+use Rattle.ccr_proof.proofs.Members.{contains_none, contains_first, contains_later, contains_cases, any_none, any_cases, any_more}
 use Rattle.ccr_proof.proofs.PossibleLaws.{best_is, length-best_places, best_places_at}
 
 -- ---- builds are told apart by their numbers

@@ -1,12 +1,12 @@
 -- What a table of fixed builds stands for.
-use Rattle.std.proofs.Common.{◌≡◌, ◌≢◌, ℕ, zero, suc, ◌+◌, ◌<◌, ◌≤◌, inl, inr, Bool, true, false, cond, ◌==◌, List, [], ◌∷◌, length, replicate, slice_index, slice_set, refl, sym, ap, ◌∙◌, arith, Option, Some, None, add-one}
+use Rattle.std.proofs.Common.{◌≡◌, ℕ, zero, suc, ◌+◌, ◌<◌, inl, inr, ◌==◌, List, length, replicate, slice_index, slice_set, refl, sym, ap, ◌∙◌, Some, add-one}
 use Rattle.std.specs.Prelude.{slice_get, Contains}
 use Rattle.std.proofs.lemmas.Bool.{cases_Bool, eqb-true, cond-true, cond-false, eqb-false}
 use Rattle.std.proofs.lemmas.List.{get_or-set_same, get_or-set_other}
 use Rattle.std.proofs.lemmas.Option.{slice_get_within, get_or_from_slice_get}
 use mathlib.Core.Path.{fun_ext}
 use Rattle.ccr_choice.specs.Problem.{ProblemValue, BuildValue, builds_at}
-use Rattle.ccr_proof.specs.Assignment.{Assignment, with_build, nothing_fixed}
+use Rattle.ccr_proof.specs.Assignment.{with_build, nothing_fixed}
 use Rattle.ccr_proof.specs.Table.{build_of, assigned}
 
 -- a build written into the table is fixed

@@ -1,8 +1,8 @@
 -- The tree of a node, from its children as a list.
-use Rattle.std.proofs.Common.{◌≡◌, ℕ, zero, suc, ◌+◌, ◌<◌, ◌≤◌, List, [], ◌∷◌, length, drop, get_or, refl, sym, ap, ◌∙◌, subst, arith, Vec, Global, drop-cons, add-one}
+use Rattle.std.proofs.Common.{◌≡◌, ℕ, suc, ◌+◌, ◌<◌, List, [], ◌∷◌, length, drop, get_or, refl, sym, ap, ◌∙◌, arith, Vec, Global, drop-cons, add-one}
 use mathlib.Core.Former.{Count}
 use Rattle.ccr_proof.specs.declared.node.Node.{Node, Job, Job', Row_of-Node, end_of-Node, more_of-Node, items-the_row-Node, items_hidden-the_row-Node-0}
-use Rattle.ccr_proof.specs.Tree.{Tree, Trees, job, child, no_child, width, count, count_all, tree_of, trees_of_row, trees_of}
+use Rattle.ccr_proof.specs.Tree.{job, child, width, count, count_all, tree_of, trees_of_row, trees_of}
 
 row_trees : (n : _) (row : Row_of-Node n) → trees_of_row row ≡ trees_of (items-the_row-Node n row)
 row_trees n end_of-Node = refl

@@ -1,5 +1,5 @@
 -- Where reading a proof stops.
-use Rattle.std.specs.Prelude.{◌≡◌, ℕ, Result, Ok, Err, List}
+use Rattle.std.specs.Prelude.{◌≡◌, Result, Ok, Err, List}
 use Rattle.ccr_choice.specs.declared.text.word.Word.{Word}
 use Rattle.ccr_choice.specs.declared.text.stop.Stop.{Stop}
 use Rattle.ccr_choice.specs.declared.text.stop.Stop.TheVariants as stop

@@ -1,5 +1,5 @@
 -- Which places an input can have under a partial assignment, and which of them is the best.
-use Rattle.std.specs.Prelude.{◌≡◌, ℕ, ◌+◌, List, [], ◌∷◌, length, Bool, ◌&&◌, ◌==◌, Option, Some, None, MatchOption, unwrap_or, IsTrue, slice_index, Contains, Any, EachIndex, filter, if◌then◌else◌}
+use Rattle.std.specs.Prelude.{ℕ, ◌+◌, List, [], ◌∷◌, Bool, ◌&&◌, ◌==◌, Option, Some, None, MatchOption, unwrap_or, IsTrue, slice_index, Contains, Any, EachIndex, filter, if◌then◌else◌}
 use Rattle.std.specs.List.{list_any, list_all}
 use Rattle.ccr_choice.specs.Problem.{ProblemValue, BuildValue, InputValue, input_at, builds_at}
 use Rattle.ccr_proof.specs.Preference.{Preference}

@@ -1,8 +1,7 @@
 -- The table in which the checker keeps a partial assignment.
-use Rattle.std.specs.Prelude.{◌≡◌, ◌<◌, ◌≤◌, ℕ, zero, suc, List, Option, Some, None, slice_index, slice_get, IfSome, IsSomeAnd, Contains}
-use Rattle.ccr_choice.specs.Problem.{ProblemValue, BuildValue, input_at, builds_at}
+use Rattle.std.specs.Prelude.{◌≤◌, ℕ, zero, suc, List, Option, None, slice_index, slice_get, IsSomeAnd}
+use Rattle.ccr_choice.specs.Problem.{ProblemValue, BuildValue, builds_at}
 use Rattle.ccr_proof.specs.Assignment.{Assignment}
-use Rattle.ccr_proof.specs.Possible.{IsPossible}
 
 -- Entry j of the table is 0 where job j is free, and one more than the position of its fixed build among its successful builds.
 abbrev pub build_of : List BuildValue → ℕ → Option BuildValue

@@ -88,9 +88,10 @@ fn is_possible(problem: &Problem, fixed: &Fixed, input: usize, place: u32) -> bo
 /// else all builds of the first named job. None where the input names no job.
 fn sources<'a>(problem: &'a Problem, fixed: &Fixed, input: usize) -> Option<&'a [Build]>
     requires { input < length problem.now.inputs }
-    ensures { MatchOption result ((input_at problem.now input).jobs ≡ [])
+    ensures passed { MatchOption result ((input_at problem.now input).jobs ≡ [])
         (λ builds. (place : ℕ) → IsPossible problem.now (assigned problem.now fixed.now) input place
         → Any (λ b. Contains b.pairs ((input_at problem.now input).scope, place)) builds.now) }
+    ensures ascending { IfSome result (λ builds. All (λ b. AreAscending b.pairs) builds.now) }
 {
     for job in problem.named(input) {
         if let Some(build) = fixed_build(problem, fixed, *job as usize) {
@@ -113,33 +114,8 @@ fn is_better(place: u32, best: Option<u32>) -> bool
     }
 }
 
-/// The best of `best` and a pair's place, if it is possible for input `input`.
-fn best_with(
-    problem: &Problem,
-    fixed: &Fixed,
-    input: usize,
-    pair: (u32, u32),
-    best: Option<u32>,
-) -> Option<u32>
-    requires input { input < length problem.now.inputs }
-    requires possible { IfSome best (IsPossible problem.now (assigned problem.now fixed.now) input) }
-    ensures possible { IfSome result (IsPossible problem.now (assigned problem.now fixed.now) input) }
-    ensures kept { (place : ℕ) → Reaches best place → Reaches result place }
-    ensures reached { IsPossible problem.now (assigned problem.now fixed.now) input pair.1
-        → pair.0 ≡ (input_at problem.now input).scope → Reaches result pair.1 }
-{
-    let (scope, place) = pair;
-    if scope == problem.inputs()[input].scope()
-        && is_better(place, best)
-        && is_possible(problem, fixed, input, place)
-    {
-        Some(place)
-    } else {
-        best
-    }
-}
-
-/// The best of `best` and the possible places among a build's pairs.
+/// The best of `best` and the possible places among a build's pairs. It goes down from the last pair of the input's scope, and
+/// ends at the first place that is possible, or no better than `best`.
 fn best_in(
     problem: &Problem,
     fixed: &Fixed,
@@ -148,22 +124,30 @@ fn best_in(
     best: Option<u32>,
 ) -> Option<u32>
     requires input { input < length problem.now.inputs }
+    requires ascending { AreAscending pairs.now }
     requires possible { IfSome best (IsPossible problem.now (assigned problem.now fixed.now) input) }
     ensures possible { IfSome result (IsPossible problem.now (assigned problem.now fixed.now) input) }
     ensures kept { (place : ℕ) → Reaches best place → Reaches result place }
     ensures reached { (place : ℕ) → IsPossible problem.now (assigned problem.now fixed.now) input place
         → Contains pairs.now ((input_at problem.now input).scope, place) → Reaches result place }
 {
-    let mut best = best;
-    for k in (0..pairs.len()).rev() {
-        best = best_with(problem, fixed, input, pairs[k], best);
+    let scope = problem.inputs()[input].scope();
+    let end = pairs.partition_point(|q| q.0 <= scope);
+    for k in (0..end).rev() {
+        let (at, place) = pairs[k];
+        if at != scope || !is_better(place, best) {
+            return best;
+        }
+        if is_possible(problem, fixed, input, place) {
+            return Some(place);
+        }
     }
     best
 }
 
 /// Whether the best so far is the greatest allowed place.
 fn is_last(best: Option<u32>, places: &[u32]) -> bool
-    ensures { IsTrue result → (x : ℕ) × (best ≡ Some x) × (slice_get places.now (length places.now - 1) ≡ Some x) }
+    ensures { IsTrue result ↔ ((x : ℕ) × (best ≡ Some x) × (slice_get places.now (length places.now - 1) ≡ Some x)) }
 {
     let Some(place) = best else {
         return false;
@@ -179,6 +163,7 @@ fn best_among(problem: &Problem, fixed: &Fixed, input: usize, builds: &[Build]) 
     requires input { input < length problem.now.inputs }
     requires sources { (place : ℕ) → IsPossible problem.now (assigned problem.now fixed.now) input place
         → Any (λ b. Contains b.pairs ((input_at problem.now input).scope, place)) builds.now }
+    requires ascending { All (λ b. AreAscending b.pairs) builds.now }
     ensures { IsBestPossible plain problem.now (assigned problem.now fixed.now) input result }
 {
     let places = problem.inputs()[input].places();

@@ -10,10 +10,10 @@ use Rattle.ccr_choice.specs.Text.{spelled}
 use Rattle.ccr_proof.specs.declared.claim.Claim.TheVariants.{Best}
 use Rattle.ccr_verify.specs.Judged.{spaced, choice_line, accepted_line}
 
-abbrev behind_blanks : List (List ℕ) → List ℕ
+abbrev pub behind_blanks : List (List ℕ) → List ℕ
 behind_blanks xs = flat_map (λ x. 32 ∷ x) xs
 
-join_flat : (x : List ℕ) (xs : List (List ℕ)) → join_with_byte 32 (x ∷ xs) ≡ x ++ behind_blanks xs
+pub join_flat : (x : List ℕ) (xs : List (List ℕ)) → join_with_byte 32 (x ∷ xs) ≡ x ++ behind_blanks xs
 join_flat x [] = sym (append-nil x)
 join_flat x (y ∷ ys) = ap (λ r. x ++ (32 ∷ r)) (join_flat y ys)
 

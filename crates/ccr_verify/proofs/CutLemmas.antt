@@ -1,7 +1,6 @@
 -- Where lines start.
-use Rattle.std.proofs.Common.{◌≡◌, ℕ, zero, suc, ◌+◌, ◌-◌, ◌<◌, ◌≤◌, ◌⊎◌, ◌↔◌, inl, inr, List, [], ◌∷◌, length, drop, slice_index, get_or, Bool, true, false, ◌==◌, IsTrue, ap, ◌∙◌, refl, sym, subst, arith, eqb-true, eq-eqb, below_more}
-use Rattle.std.proofs.lemmas.Bool.Decides.{nat_tests}
-use Rattle.ccr_verify.specs.Cut.{begins, IsLineStart, IsMark, IsCut}
+use Rattle.std.proofs.Common.{◌≡◌, ℕ, ◌+◌, ◌-◌, ◌↔◌, inl, inr, List, slice_index, true, ◌==◌, IsTrue, ap, ◌∙◌, refl, sym, arith, eqb-true, eq-eqb}
+use Rattle.ccr_verify.specs.Cut.{IsLineStart}
 
 -- the first place is the start of a line
 pub starts_first : (bs : List ℕ) → IsTrue true ↔ IsLineStart bs 0

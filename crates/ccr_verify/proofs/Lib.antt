@@ -1,2 +1,4 @@
 pub mod CutLemmas
 pub mod AcceptedLine
+pub mod QuietLines
+pub mod Accepting

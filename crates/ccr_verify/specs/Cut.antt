@@ -1,5 +1,5 @@
 -- Where a text is cut into a problem's text and what is said of the problem.
-use Rattle.std.specs.Prelude.{◌≡◌, ℕ, ◌+◌, ◌-◌, ◌<◌, ◌≤◌, ◌⊎◌, List, length, drop, slice_index, Bool, ◌||◌, nat_eq, IsTrue, codes}
+use Rattle.std.specs.Prelude.{◌≡◌, ℕ, ◌-◌, ◌<◌, ◌≤◌, ◌⊎◌, List, length, drop, slice_index, Bool, ◌||◌, nat_eq, IsTrue, codes}
 use Rattle.std.specs.List.{starts_with}
 
 -- These bytes begin with `proof`, `best` or `none`, whatever follows.

@@ -1,9 +1,10 @@
 //! What is said of a problem's text that is followed by a proof's or a claim's.
 
-ghost use Rattle.std.specs.Prelude.{◌≡◌, ◌++◌, IfOk, OnOk, string_bytes};
-ghost use Rattle.std.specs.List.{flat_map};
+ghost use Rattle.std.specs.Prelude.{◌≡◌, ◌++◌, nat_eq, codes, IsTrue, IfOk, OnOk, string_bytes};
+ghost use Rattle.std.specs.List.{flat_map, starts_with};
 ghost use Rattle.ccr_proof.specs.ClaimText.{claim_in};
 ghost use Rattle.ccr_proof.specs.ProofText.{proof_of};
+ghost use Rattle.ccr_verify.specs.Accepted.{IsAcceptedText, IsRightlyAccepted};
 ghost use Rattle.ccr_verify.specs.Judged.{spaced, choice_line, not_passed_line, verdict_line, node_line, fault_line, choice_of, accepted_line, IsProofJudged, IsClaimJudged, IsJudged};
 
 use crate::cut::cut_index;
@@ -148,9 +149,7 @@ fn judge_claim(alloc: Global, problem: &Problem, text: &[u8]) -> Result<(String,
     }
 }
 
-/// The line and the exit status for a problem's text that is followed by a proof's or a claim's: status 0 where the proof is
-/// accepted or the claim's choice satisfies the problem, 1 where the text is refused. The only error is want of memory.
-pub fn judge(alloc: Global, bytes: &[u8]) -> Result<(String, u8), AllocError>
+fn judge_text(alloc: Global, bytes: &[u8]) -> Result<(String, u8), AllocError>
     ensures { IfOk result (λ x. IsJudged bytes.now (string_bytes x.0, x.1)) }
 {
     let (first, second) = bytes.split_at(cut_index(bytes));
@@ -171,4 +170,18 @@ pub fn judge(alloc: Global, bytes: &[u8]) -> Result<(String, u8), AllocError>
     } else {
         judge_claim(alloc, &problem, second)
     }
+}
+
+/// The line and the exit status for a problem's text that is followed by a proof's or a claim's: status 0 where the proof is
+/// accepted or the claim's choice satisfies the problem, 1 where the text is refused. The only error is want of memory.
+pub fn judge(alloc: Global, bytes: &[u8]) -> Result<(String, u8), AllocError>
+    ensures judged { IfOk result (λ x. IsJudged bytes.now (string_bytes x.0, x.1)) }
+
+    // A problem's text followed by the text of a proof that is accepted for it: `accepted`, the claim's line, and status 0.
+    ensures accepted { IfOk result (λ x. (c : Claim) → IsAcceptedText bytes.now c → (string_bytes x.0 ≡ accepted_line c) × (x.1 ≡ 0)) }
+
+    // `accepted` is said of nothing else, and of no claim that isn't right.
+    ensures right { IfOk result (λ x. IsTrue (starts_with nat_eq (string_bytes x.0) (codes "accepted ")) → IsRightlyAccepted bytes.now (string_bytes x.0)) }
+{
+    judge_text(alloc, bytes)
 }

@@ -1,4 +1,4 @@
-use Rattle.std.proofs.Common.{◌≡◌, ℕ, ◌<◌, ◌≤◌, length, slice_index_or}
+use Rattle.std.proofs.Common.{◌≡◌, ℕ, ◌<◌, slice_index_or}
 use Rattle.std.specs.Prelude.{IfSome, Contains}
 use Rattle.ccr_choice.specs.Problem.{BuildValue, input_at}
 use Rattle.ccr_proof.specs.Possible.{IsPossible}

@@ -1,4 +1,4 @@
-use Rattle.std.proofs.Common.{ap, sym, ◌∙◌}
+use Rattle.std.proofs.Common.{ap, ◌∙◌}
 use Rattle.ccr_proof.specs.Table.{assigned}
 use Rattle.ccr_proof.proofs.Places.{input_is, last_best}
 use Rattle.ccr_proof.proofs.possible.last_place.Goals as goal

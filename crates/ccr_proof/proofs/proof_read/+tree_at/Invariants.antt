@@ -1,4 +1,4 @@
-use Rattle.std.proofs.Common.{◌≡◌, ◌+◌, ◌-◌, ◌<◌, ◌≤◌}
+use Rattle.std.proofs.Common.{◌≡◌, ◌+◌, ◌-◌, ◌≤◌}
 use Rattle.ccr_proof.specs.Tree.{trees_of, count_all}
 use Rattle.ccr_proof.specs.ProofText.{children_at, tree_at}
 use Rattle.ccr_proof.proofs.ReadTree.{with_children}

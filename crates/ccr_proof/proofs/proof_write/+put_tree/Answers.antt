@@ -1,7 +1,7 @@
-use Rattle.std.proofs.Common.{◌≡◌, ◌≤◌, ◌<◌, ◌^◌, ◌++◌, [], ◌∷◌, length, arith, ap, ◌∙◌, sym, subst, append_assoc, string_bytes}
+use Rattle.std.proofs.Common.{◌<◌, ◌^◌, ◌++◌, [], ◌∷◌, arith, ap, ◌∙◌, sym, subst, append_assoc, string_bytes}
 use Rattle.ccr_choice.specs.declared.text.word.Word.TheVariants as word
 use Rattle.ccr_choice.specs.Text.{line_text, text_of}
-use Rattle.ccr_proof.specs.Tree.{Tree, tree_of, trees_of, count_all, width}
+use Rattle.ccr_proof.specs.Tree.{Tree, trees_of}
 use Rattle.ccr_proof.specs.Proof.{IsSmall}
 use Rattle.ccr_proof.specs.ProofText.{tree_lines, trees_lines}
 use Rattle.ccr_proof.proofs.Trees.{tree_is, count_is, width_of}

@@ -1,0 +1,224 @@
+//! What is printed for programs that are started.
+
+use crate::answer::Answer;
+use ccr_history::Version;
+use ccr_process::{Ended, Launch, Machine, Runner};
+use ccr_protocol::{
+    ReplyFault, RequestFault, check_request, in_request, out_request, read_check, read_in, read_out,
+};
+use serde_json::Value;
+use std::alloc::{AllocError, AllocFailed, Global};
+use std::process::Processes;
+use thiserror::Error;
+
+/// Why a resource type's program gave no answer.
+#[derive(Debug, Drop, Error)]
+enum Refusal {
+    #[error("out of memory")]
+    NoMemory,
+    #[error("{0}")]
+    Request(RequestFault),
+    #[error("{0}")]
+    Reply(ReplyFault),
+    #[error("status {0}")]
+    Status(u8),
+    #[error("{0}")]
+    Ended(&'static str),
+}
+
+impl From<AllocError> for Refusal {
+    fn from(_error: AllocError) -> Refusal {
+        Refusal::NoMemory
+    }
+}
+
+impl<T: Drop> From<AllocFailed<T>> for Refusal {
+    fn from(_error: AllocFailed<T>) -> Refusal {
+        Refusal::NoMemory
+    }
+}
+
+impl From<RequestFault> for Refusal {
+    fn from(fault: RequestFault) -> Refusal {
+        match fault {
+            RequestFault::NoMemory => Refusal::NoMemory,
+            RequestFault::TooLong => Refusal::Request(fault),
+        }
+    }
+}
+
+impl From<ReplyFault> for Refusal {
+    fn from(fault: ReplyFault) -> Refusal {
+        match fault {
+            ReplyFault::NoMemory => Refusal::NoMemory,
+            _ => Refusal::Reply(fault),
+        }
+    }
+}
+
+/// What a program wrote, where it ended with status 0.
+fn output(end: Ended) -> Result<Vec<u8>, Refusal> {
+    match end {
+        Ended::Exit(0, output) => Ok(output),
+        Ended::Exit(status, _) => Err(Refusal::Status(status)),
+        Ended::Killed => Err(Refusal::Ended("killed")),
+        Ended::NotStarted => Err(Refusal::Ended("not started")),
+        Ended::InputFault => Err(Refusal::Ended("input fault")),
+        Ended::ReadFault => Err(Refusal::Ended("read fault")),
+        Ended::OutputTooLong => Err(Refusal::Ended("output too long")),
+        Ended::NoMemory => Err(Refusal::NoMemory),
+    }
+}
+
+fn texts(alloc: Global, words: &[&str]) -> Result<Vec<String>, AllocError> {
+    let mut texts = Vec::new(alloc);
+    for word in words {
+        texts.push(String::from_str(alloc, word)?)?;
+    }
+    Ok(texts)
+}
+
+/// Starts `sh -c true`, and says nothing where it ended with status 0.
+pub(crate) fn answer_launch<R: Processes + Drop>(
+    rt: R,
+    alloc: Global,
+) -> Result<Answer, AllocError> {
+    let launch = Launch {
+        program: String::from_str(alloc, "sh")?,
+        args: texts(alloc, &["-c", "true"])?,
+        folder: String::from_str(alloc, "/")?,
+        env: Vec::new(alloc),
+        input: Vec::new(alloc),
+        keep: false,
+    };
+    match output(Machine::new(rt, alloc).run(&launch)) {
+        Ok(_) => Ok(Answer {
+            lines: String::new(alloc),
+            status: 0,
+        }),
+        Err(refusal) => refused(alloc, String::new(alloc), refusal),
+    }
+}
+
+/// The lines so far, and the refusal behind them.
+fn refused(alloc: Global, mut lines: String, refusal: Refusal) -> Result<Answer, AllocError> {
+    if let Refusal::NoMemory = refusal {
+        return Err(AllocError);
+    }
+    lines.push_str(format!(in alloc; "refused: {refusal}\n")?.as_str())?;
+    Ok(Answer { lines, status: 1 })
+}
+
+/// A resource type that is tried, in a folder that holds `in`, the folder of its artifact.
+#[derive(Clone, Copy)]
+pub(crate) struct Trial<'a> {
+    pub(crate) programs: &'a str,
+    pub(crate) folder: &'a str,
+}
+
+impl<'a> Trial<'a> {
+    fn run<R: Runner>(
+        &self,
+        alloc: Global,
+        runner: &mut R,
+        name: &str,
+        args: Vec<String>,
+        input: Vec<u8>,
+    ) -> Result<Vec<u8>, Refusal> {
+        output(runner.run(&Launch {
+            program: format!(in alloc; "{}/{name}", self.programs)?,
+            args,
+            folder: String::from_str(alloc, self.folder)?,
+            env: Vec::new(alloc),
+            input,
+            keep: true,
+        }))
+    }
+
+    fn check<R: Runner>(
+        &self,
+        alloc: Global,
+        runner: &mut R,
+        request: &Value,
+    ) -> Result<Vec<Version>, Refusal> {
+        let input = check_request(alloc, request.get("source"), None)?;
+        let output = self.run(alloc, runner, "check", Vec::new(alloc), input)?;
+        Ok(read_check(alloc, &output)?)
+    }
+
+    fn fetch<R: Runner>(
+        &self,
+        alloc: Global,
+        runner: &mut R,
+        request: &Value,
+        version: &Version,
+    ) -> Result<Version, Refusal> {
+        let input = in_request(alloc, request.get("source"), version, request.get("params"))?;
+        let artifact = format!(in alloc; "{}/in", self.folder)?;
+        let args = texts(alloc, &[artifact.as_str()])?;
+        let output = self.run(alloc, runner, "in", args, input)?;
+        Ok(read_in(alloc, &output)?)
+    }
+
+    fn push<R: Runner>(
+        &self,
+        alloc: Global,
+        runner: &mut R,
+        request: &Value,
+    ) -> Result<Version, Refusal> {
+        let input = out_request(alloc, request.get("source"), request.get("params"))?;
+        let args = texts(alloc, &[self.folder])?;
+        let output = self.run(alloc, runner, "out", args, input)?;
+        Ok(read_out(alloc, &output)?)
+    }
+
+    /// A check, a fetch of its last version and a push, a line for each version.
+    fn try_all<R: Runner>(
+        &self,
+        alloc: Global,
+        runner: &mut R,
+        request: &Value,
+        lines: &mut String,
+    ) -> Result<(), Refusal> {
+        let found = self.check(alloc, runner, request)?;
+        for version in &found {
+            push_line(alloc, lines, "check", version)?;
+        }
+        if let Some(version) = found.last() {
+            let fetched = self.fetch(alloc, runner, request, version)?;
+            push_line(alloc, lines, "in", &fetched)?;
+        }
+        let pushed = self.push(alloc, runner, request)?;
+        push_line(alloc, lines, "out", &pushed)?;
+        Ok(())
+    }
+}
+
+fn push_line(
+    alloc: Global,
+    lines: &mut String,
+    program: &str,
+    version: &Version,
+) -> Result<(), AllocError> {
+    let key = version.key(alloc)?;
+    lines.push_str(format!(in alloc; "{program} {key}\n")?.as_str())
+}
+
+/// The versions that a resource type's three programs print, by a request of source and params, or why one gave none.
+pub(crate) fn answer_type<R: Processes + Drop>(
+    rt: R,
+    alloc: Global,
+    text: &[u8],
+    trial: &Trial,
+) -> Result<Answer, AllocError> {
+    let mut lines = String::new(alloc);
+    let tried = match Value::from_slice(alloc, text) {
+        Ok(request) => trial.try_all(alloc, &mut Machine::new(rt, alloc), &request, &mut lines),
+        Err(error) if error.is_memory() => Err(Refusal::NoMemory),
+        Err(_) => Err(Refusal::Reply(ReplyFault::NotJson)),
+    };
+    match tried {
+        Ok(()) => Ok(Answer { lines, status: 0 }),
+        Err(refusal) => refused(alloc, lines, refusal),
+    }
+}

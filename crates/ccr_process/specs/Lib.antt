@@ -1,0 +1,4 @@
+pub mod Launches
+pub mod Ends
+pub mod Runs
+pub mod Commands

@@ -1,0 +1,149 @@
+//! Programs of this machine.
+ghost use Rattle.std.specs.Prelude.{◌≡◌, ◌⊎◌, [], ◌∷◌, ◌++◌, ◌<◌, false, vec_len, vec_capacity};
+ghost use Rattle.ccr_process.specs.Launches.{launch_data, can_start};
+ghost use Rattle.ccr_process.specs.Commands.{IsCommandOf};
+ghost use Rattle.ccr_process.specs.Ends.{end_data, HasOutput};
+ghost use Rattle.ccr_process.specs.declared.ended.Ended.TheVariants.{NotStarted, NoMemory};
+ghost use Rattle.ccr_process.specs.Runs.{pairs_of, machine_pairs, AddsPair};
+
+use crate::command::{command_of, is_startable};
+use crate::ended::Ended;
+use crate::launch::Launch;
+use crate::pipes::{GiveFault, TakeFault, give_input, take_output};
+use crate::runner::Runner;
+use std::alloc::{AllocError, Global};
+use std::io::ErrorKind;
+use std::process::{Child, Command, OpenProcess, Processes};
+
+/// Starts programs of this machine by a runtime `R`, one at a time, and waits for each.
+#[derive(Drop)]
+pub struct Machine<R: Processes> {
+    rt: R,
+    alloc: Global,
+    done: Vec<(Launch, Ended)>,
+}
+
+/// Kills a program, waits for it, and gives the end that it has.
+fn put_down<P: OpenProcess + Drop>(child: &mut Child<P>, end: Ended) -> Ended
+    ensures { result ≡ end }
+{
+    let _ = child.kill();
+    let _ = child.wait();
+    end
+}
+
+/// Gives a program that was started its input, takes its output and waits for it. Programs that fail at a call are put
+/// down here.
+fn attend<P: OpenProcess + Drop>(
+    alloc: Global,
+    child: &mut Child<P>,
+    input: &[u8],
+    keep: bool,
+) -> Ended
+    ensures { HasOutput keep (end_data result) }
+{
+    let Some(mut writer) = child.stdin.take() else {
+        return put_down(child, Ended::InputFault);
+    };
+    let given = give_input(&mut writer, input);
+    drop(writer);
+    if let Err(GiveFault::InputFault) = given {
+        return put_down(child, Ended::InputFault);
+    }
+    let Some(mut reader) = child.stdout.take() else {
+        return put_down(child, Ended::ReadFault);
+    };
+    let output = match take_output(alloc, &mut reader, keep) {
+        Ok(output) => output,
+        Err(TakeFault::ReadFault) => return put_down(child, Ended::ReadFault),
+        Err(TakeFault::TooLong) => return put_down(child, Ended::OutputTooLong),
+        Err(TakeFault::NoMemory) => return put_down(child, Ended::NoMemory),
+    };
+    let Ok(status) = child.wait() else {
+        return put_down(child, Ended::ReadFault);
+    };
+    match status.code().and_then(|code| u8::try_from(code).ok()) {
+        Some(code) => Ended::Exit(code, output),
+        None => Ended::Killed,
+    }
+}
+
+/// Starts the command of a launch and sees it to its end.
+fn start<R: Processes>(rt: &R, alloc: Global, mut command: Command, launch: &Launch) -> Ended
+    requires { IsCommandOf (launch_data launch.now) command }
+    ensures output { HasOutput launch.now.keep (end_data result) }
+    ensures unstartable { can_start launch.now ≡ false → result ≡ NotStarted }
+{
+    if !is_startable(launch) {
+        return Ended::NotStarted;
+    }
+    match command.spawn(rt) {
+        Ok(mut child) => attend(alloc, &mut child, launch.input.as_slice(), launch.keep),
+        Err(error) if error.kind() == ErrorKind::OutOfMemory => Ended::NoMemory,
+        Err(_) => Ended::NotStarted,
+    }
+}
+
+/// Adds the pair of a launch and its end, for which there is room, and gives the end: `NoMemory` where it can't be
+/// copied.
+fn add(pairs: &mut Vec<(Launch, Ended)>, launch: Launch, end: Ended) -> Ended
+    requires { vec_len pairs.old < vec_capacity pairs.old }
+    ensures end { (result ≡ end) ⊎ (result ≡ NoMemory) }
+    ensures added { pairs_of pairs.new.items
+        ≡ pairs_of pairs.old.items ++ (launch_data launch, end_data result) ∷ [] }
+{
+    match end.copy() {
+        Ok(copied) => {
+            pairs.push((launch, copied)).unwrap();
+            end
+        }
+        Err(_) => {
+            pairs.push((launch, Ended::NoMemory)).unwrap();
+            Ended::NoMemory
+        }
+    }
+}
+
+impl<R: Processes> Machine<R> {
+    /// A machine that has started nothing yet.
+    pub fn new(rt: R, alloc: Global) -> Machine<R>
+        ensures { machine_pairs result ≡ [] }
+    {
+        Machine {
+            rt,
+            alloc,
+            done: Vec::new(alloc),
+        }
+    }
+
+    /// The pairs so far, in their order.
+    pub fn pairs(&self) -> &[(Launch, Ended)]
+        ensures { pairs_of result.now ≡ machine_pairs self.now }
+    {
+        &self.done
+    }
+}
+
+impl<R: Processes> Runner for Machine<R> {
+    ghost pairs = { machine_pairs };
+
+    fn run(&mut self, launch: &Launch) -> Ended
+        ensures added { AddsPair (machine_pairs self.old) (launch_data launch.now) (end_data result)
+            (machine_pairs self.new) }
+        ensures output { HasOutput launch.now.keep (end_data result) }
+        ensures unstartable { can_start launch.now ≡ false
+            → (result ≡ NotStarted) ⊎ (result ≡ NoMemory) }
+    {
+        let Ok(kept) = launch.copy() else {
+            return Ended::NoMemory;
+        };
+        let Ok(command) = command_of(self.alloc, launch) else {
+            return Ended::NoMemory;
+        };
+        if self.done.reserve(1).is_err() {
+            return Ended::NoMemory;
+        }
+        let end = start(&self.rt, self.alloc, command, launch);
+        add(&mut self.done, kept, end)
+    }
+}

@@ -1,0 +1,2 @@
+pub mod RequestTexts
+pub mod Lists

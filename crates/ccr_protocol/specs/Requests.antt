@@ -1,0 +1,50 @@
+-- What a resource's program is sent on its standard input.
+use Rattle.std.specs.Prelude.{◌≡◌, ℕ, ◌<◌, ◌≤◌, List, false, Option, Some, None, option_map, unwrap_or, Result, Ok, Err, codes, length, Vec, ⊤}
+use Rattle.std.specs.Option.{option_map_or}
+use Rattle.std.specs.Borrow.{Bor}
+use Rattle.std.specs.declared.alloc.Global.{Global}
+use Rattle.serde_json.specs.Data.{Data, object, Members, no_members, member}
+use Rattle.serde_json.specs.View.{view}
+use Rattle.serde_json.specs.declared.value.Value.{Value}
+use Rattle.serde_json.specs.Written.{compact_text, has_float}
+use Rattle.ccr_history.specs.TextMap.{TextMap, members_of}
+use Rattle.ccr_protocol.specs.declared.fault.RequestFault.{RequestFault}
+use Rattle.ccr_protocol.specs.declared.fault.RequestFault.TheVariants.{TooLong, NoMemory}
+
+-- what a value stands for, if there is one
+abbrev pub data_of : Option (Bor Value) → Option Data
+data_of value = option_map (λ v. view v.now) value
+
+-- what is absent has no member
+abbrev pub member_if : List ℕ → Option Data → Members → Members
+member_if key None ms = ms
+member_if key (Some d) ms = member key d ms
+
+-- a source that is absent is the empty object
+abbrev pub source_or_empty : Option Data → Data
+source_or_empty source = unwrap_or source (object no_members)
+
+-- a version is the object of its fields
+abbrev pub version_data : TextMap → Data
+version_data fields = object (members_of fields)
+
+-- a request: an object of the step's params, the resource's source and the version, keys ascending
+abbrev pub request_data : Option Data → Option Data → Option TextMap → Data
+request_data params source version =
+    object (member_if (codes "params") params
+    (member (codes "source") (source_or_empty source)
+    (member_if (codes "version") (option_map version_data version) no_members)))
+
+-- its bytes: compact JSON without a line end
+unfoldable pub request_text : Option Data → Option Data → Option TextMap → List ℕ
+request_text params source version = compact_text (request_data params source version)
+
+-- no number in the value, if there is one, is a float: a pipeline's values hold none
+abbrev pub HasNoFloat : Option Data → Type 0
+HasNoFloat value = option_map_or has_float value false ≡ false
+
+-- a text of at most 65,536 bytes is sent as it is, a longer one is refused; of memory it says nothing
+abbrev pub Sends : List ℕ → Result (Vec ℕ Global) RequestFault → Type 0
+Sends text (Ok bytes) = (bytes.items ≡ text) × (length text ≤ 65536)
+Sends text (Err TooLong) = 65536 < length text
+Sends text (Err NoMemory) = ⊤
