@@ -1,6 +1,12 @@
+mod fake;
+
 use super::*;
+use fake::{Asked, Fake, Faults};
 use std::alloc::{AllocError, Global};
+use std::cell::Cell;
 use std::collections::VecDeque;
+use std::io::ErrorKind;
+use std::rc::Rc;
 use std::test::Fail;
 
 fn texts(alloc: Global, words: &[&str]) -> Result<Vec<String>, AllocError> {
@@ -162,5 +168,56 @@ fn what_cannot_be_started_is_not_started(rt: HostRuntime) -> Result<(), Fail> {
     }
     let plain = launch(alloc, "sh", &["-c", "exit 0"], Vec::new(alloc))?;
     assert_eq!(rt; run(alloc, &mut machine, &plain)?.as_str(), "exit 0: ");
+    Ok(())
+}
+
+#[test]
+fn a_program_that_fails_at_a_call_is_killed_and_waited_for(rt: HostRuntime) -> Result<(), Fail> {
+    let alloc = rt.alloc();
+    let launch = launch(alloc, "p", &[], b"abc".to_vec(alloc)?)?;
+    let other = Some(ErrorKind::Other);
+    let interrupted = Some(ErrorKind::Interrupted);
+    for (start, write, read, wait, end, killed, waited) in [
+        (None, None, None, None, "exit 0: xx", false, true),
+        (None, interrupted, None, None, "exit 0: xx", false, true),
+        (
+            None,
+            Some(ErrorKind::BrokenPipe),
+            None,
+            None,
+            "exit 0: xx",
+            false,
+            true,
+        ),
+        (None, other, None, None, "input fault", true, true),
+        (None, None, interrupted, None, "exit 0: x", false, true),
+        (None, None, other, None, "read fault", true, true),
+        (None, None, None, other, "read fault", true, true),
+        (other, None, None, None, "not started", false, false),
+        (
+            Some(ErrorKind::OutOfMemory),
+            None,
+            None,
+            None,
+            "out of memory",
+            false,
+            false,
+        ),
+    ] {
+        let asked = Rc::new(alloc, Cell::new(Asked::default()))?;
+        let fake = Fake {
+            faults: Faults {
+                start,
+                write,
+                read,
+                wait,
+            },
+            asked: asked.clone()?,
+        };
+        let told = run(alloc, &mut Machine::new(fake, alloc), &launch)?;
+        assert_eq!(rt; told.as_str(), end);
+        let was = asked.get();
+        assert_eq!(rt; (was.killed, was.waited), (killed, waited));
+    }
     Ok(())
 }
