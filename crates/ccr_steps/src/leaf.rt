@@ -147,17 +147,15 @@ fn answer_run(
     ensures ok { IfOk result (λ o. after_run (map string_bytes outputs.now) (answer_data answer.now) (gains_data gains.old) ≡ ended o (gains_data gains.new)) }
     ensures grew { Grew (gains_data gains.old) (gains_data gains.new) }
 {
-    match answer {
-        Answered::Done => {
-            gains.register_all(alloc, outputs)?;
-            Ok(Outcome::Succeeded)
+    let outcome = match answer {
+        Answered::Done => Outcome::Succeeded,
+        Answered::Failed => Outcome::Failed,
+        Answered::Pushed(_) | Answered::Config(_) | Answered::Errored => {
+            return Ok(Outcome::Errored);
         }
-        Answered::Failed => {
-            gains.register_all(alloc, outputs)?;
-            Ok(Outcome::Failed)
-        }
-        Answered::Pushed(_) | Answered::Config(_) | Answered::Errored => Ok(Outcome::Errored),
-    }
+    };
+    gains.register_all(alloc, outputs)?;
+    Ok(outcome)
 }
 
 fn answer_read(task: &Task, gains: &Gains, answer: Answered) -> Next

@@ -38,3 +38,6 @@ pub use law::answers_decide;
 pub use moved::Moved;
 pub use outcome::Outcome;
 pub use run::{BuildRun, start};
+
+#[cfg(test)]
+mod tests;
