@@ -7,5 +7,8 @@ pub mod Visits
 pub mod StepLemmas
 pub mod UnknownLemmas
 pub mod UsedKeys
-pub mod Few
+pub mod Unfaulted
+pub mod Kept
+pub mod Shallow
+pub mod PlansKept
 pub mod Sorting

@@ -1,6 +1,7 @@
 //! Resources and jobs.
 ghost use Rattle.std.specs.Prelude.{IsTrue};
 ghost use Rattle.ccr_pipeline.specs.Inputs.{are_few, inputs};
+ghost use Rattle.ccr_pipeline.specs.Limits.{IsShallow};
 ghost use Rattle.ccr_pipeline.specs.Tree.{tree_of};
 
 use crate::step::Step;
@@ -35,4 +36,6 @@ pub struct Job {
     pub max_in_flight: u64,
     // The plan has at most 32 inputs, and they name at most 32 jobs.
     pub ghost few: { IsTrue (are_few (inputs (tree_of plan))) },
+    // Its steps lie at most 30 levels deep.
+    pub ghost shallow: { IsShallow (tree_of plan) },
 }
