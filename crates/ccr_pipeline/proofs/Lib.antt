@@ -10,5 +10,6 @@ pub mod UsedKeys
 pub mod Unfaulted
 pub mod Kept
 pub mod Shallow
+pub mod Tries
 pub mod PlansKept
 pub mod Sorting

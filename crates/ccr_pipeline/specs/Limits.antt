@@ -1,5 +1,6 @@
 -- The limits that every plan keeps.
-use Rattle.std.specs.Prelude.{ℕ, suc, max, ◌≤◌, IsTrue}
+use Rattle.std.specs.Prelude.{ℕ, suc, max, ◌*◌, ◌≤◌, IsTrue, ⊤}
+use Rattle.std.specs.Coded.{×_prop, Unit-prop, le_prop}
 use Rattle.ccr_pipeline.specs.Inputs.{inputs, are_few}
 use Rattle.ccr_pipeline.specs.Tree.{Tree, Trees, get, put, task, in_order, in_parallel, tried, attempts, hook, no_trees, tree}
 
@@ -24,7 +25,52 @@ abbrev mutual
 abbrev pub IsShallow : Tree → Type 0
 IsShallow t = levels t ≤ 30
 
--- what every plan keeps: it has few inputs, which name few jobs, and it is shallow
+-- the product of a step's own attempts
+abbrev pub tries : Tree → ℕ
+tries (get g) = 1
+tries (put p) = 1
+tries (task t) = 1
+tries (in_order ts) = 1
+tries (in_parallel ts fast) = 1
+tries (tried t) = 1
+tries (attempts n t) = n * tries t
+tries (hook w t h) = tries t
+
+-- below steps whose attempts have this product, each attempts in a step is from 1 to 100, and the product down to it, its own with it, at most 10,000; a hook is below the attempts of its step
+abbrev mutual
+  pub TriesFit : ℕ → Tree → Type 0
+  TriesFit p (get g) = ⊤
+  TriesFit p (put u) = ⊤
+  TriesFit p (task t) = ⊤
+  TriesFit p (in_order ts) = AllTriesFit p ts
+  TriesFit p (in_parallel ts fast) = AllTriesFit p ts
+  TriesFit p (tried t) = TriesFit p t
+  TriesFit p (attempts n t) = ((1 ≤ n) × (n ≤ 100)) × ((p * n ≤ 10000) × TriesFit (p * n) t)
+  TriesFit p (hook w t h) = TriesFit p t × TriesFit (p * tries t) h
+
+  -- this holds of each step of a list
+  pub AllTriesFit : ℕ → Trees → Type 0
+  AllTriesFit p no_trees = ⊤
+  AllTriesFit p (tree t ts) = TriesFit p t × AllTriesFit p ts
+
+-- a proof of it says no more than it
+mutual
+  pub TriesFit-prop : (p : ℕ) (t : Tree) → IsProp (TriesFit p t)
+  TriesFit-prop p (get g) = Unit-prop
+  TriesFit-prop p (put u) = Unit-prop
+  TriesFit-prop p (task t) = Unit-prop
+  TriesFit-prop p (in_order ts) = AllTriesFit-prop p ts
+  TriesFit-prop p (in_parallel ts fast) = AllTriesFit-prop p ts
+  TriesFit-prop p (tried t) = TriesFit-prop p t
+  TriesFit-prop p (attempts n t) = ×_prop (×_prop le_prop le_prop) (×_prop le_prop (TriesFit-prop (p * n) t))
+  TriesFit-prop p (hook w t h) = ×_prop (TriesFit-prop p t) (TriesFit-prop (p * tries t) h)
+
+  AllTriesFit-prop : (p : ℕ) (ts : Trees) → IsProp (AllTriesFit p ts)
+  AllTriesFit-prop p no_trees = Unit-prop
+  AllTriesFit-prop p (tree t ts) = ×_prop (TriesFit-prop p t) (AllTriesFit-prop p ts)
+
+-- what every plan keeps: it has few inputs, which name few jobs, it is shallow, and it has few tries
 pub record IsPlan (t : Tree) : Type 0 where
   pub few : IsTrue (are_few (inputs t))
   pub shallow : IsShallow t
+  pub few_tries : TriesFit 1 t
