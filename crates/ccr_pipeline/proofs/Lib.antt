@@ -11,5 +11,6 @@ pub mod Unfaulted
 pub mod Kept
 pub mod Shallow
 pub mod Tries
+pub mod Named
 pub mod PlansKept
 pub mod Sorting

@@ -21,6 +21,7 @@ use Rattle.ccr_pipeline.specs.Reading.{list_faults, pipeline_faults}
 use Rattle.ccr_pipeline.proofs.Loops.{left, left-cons}
 use Rattle.ccr_pipeline.proofs.Shallow.{shallow}
 use Rattle.ccr_pipeline.proofs.Tries.{few_tries}
+use Rattle.ccr_pipeline.proofs.Named.{well_named}
 use Rattle.ccr_pipeline.proofs.Unfaulted.{nil_left, nil_right, Planned, planned}
 
 holds : (b : Bool) (r : Rule) (p : Path) → unless b r p ≡ [] → IsTrue b
@@ -36,6 +37,7 @@ kept_plan names p d e =
       few = holds _ _ _ (nil_right (visits _ (job_hooks p d)) _ (nil_right (optional_keys job_keys p d) _ (nil_right (visits [] (plan_steps p d)) _ rest)));
       shallow = shallow d plan;
       few_tries = few_tries d plan;
+      well_named = well_named d plan;
     }
 
 in_members : (names : List (List ℕ)) (p : Path) (i : ℕ) (ds : Items) → members Job names p i ds ≡ [] → ArePlans ds

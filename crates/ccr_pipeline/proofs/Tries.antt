@@ -17,11 +17,7 @@ use Rattle.ccr_pipeline.specs.Steps.{step_tree, with_attempts, action}
 use Rattle.ccr_pipeline.specs.StepRules.{closing_faults, no_count, fail_fast_faults}
 use Rattle.ccr_pipeline.specs.Tree.{Tree, trees_of, attempts, hook}
 use Rattle.ccr_pipeline.proofs.Kept.{Holds, Leaves, action-kept, hooks-kept, plan-kept}
-use Rattle.ccr_pipeline.proofs.Unfaulted.{nil_right, Unfaulted, Opened, opened, Planned}
-
-passes : (b : Bool) (r : Rule) (p : Path) → unless b r p ≡ [] → b ≡ true
-passes true r p e = refl
-passes false r p e = cc
+use Rattle.ccr_pipeline.proofs.Unfaulted.{nil_right, passes, Unfaulted, Opened, opened, Planned}
 
 and_left : (a b : Bool) → (a && b) ≡ true → a ≡ true
 and_left true b e = refl

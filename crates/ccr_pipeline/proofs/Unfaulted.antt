@@ -1,11 +1,12 @@
 -- Where no fault is present in a step's visits, none is in those of the steps in it.
-use Rattle.std.proofs.Common.{◌≡◌, ℕ, suc, ◌+◌, List, [], ◌∷◌, ◌++◌, Option, Some, None, refl, codes, append_assoc, option_and_then}
+use Rattle.std.proofs.Common.{◌≡◌, ℕ, suc, ◌+◌, List, [], ◌∷◌, ◌++◌, Bool, true, false, Option, Some, None, refl, codes, append_assoc, option_and_then}
 use Rattle.std.proofs.lemmas.List.{append-nil}
 use Rattle.std.specs.List.{flat_map}
 use Rattle.std.specs.Option.{IfSome}
 use Rattle.serde_json.specs.Data.{Data, Items, no_items, item}
 use Rattle.serde_json.specs.Find.{as_array}
-use Rattle.ccr_pipeline.specs.Faults.{Path, Faults}
+use Rattle.ccr_pipeline.specs.declared.fault.Rule.{Rule}
+use Rattle.ccr_pipeline.specs.Faults.{Path, Faults, unless}
 use Rattle.ccr_pipeline.specs.Keys.{at_key, or_else, path_below, path_at}
 use Rattle.ccr_pipeline.specs.Places.{Spot, gets_at, each_step, steps_in, step_at, own_steps, hook_steps, steps_from, plan_steps, job_hooks, tries_below}
 use Rattle.ccr_pipeline.specs.JobRules.{job_rest, after_plan, job_keys}
@@ -19,6 +20,10 @@ nil_left (x ∷ xs) ys e = cc
 pub nil_right : (xs ys : Faults) → xs ++ ys ≡ [] → ys ≡ []
 nil_right [] ys e = e
 nil_right (x ∷ xs) ys e = cc
+
+pub passes : (b : Bool) (r : Rule) (p : Path) → unless b r p ≡ [] → b ≡ true
+passes true r p e = refl
+passes false r p e = cc
 
 pub visits-append : (names : List (List ℕ)) (xs ys : List Spot) → visits names (xs ++ ys) ≡ visits names xs ++ visits (names ++ flat_map gets_at xs) ys
 visits-append names [] ys = rw append-nil refl

@@ -1,8 +1,10 @@
 -- The limits that every plan keeps.
-use Rattle.std.specs.Prelude.{ℕ, suc, max, ◌*◌, ◌≤◌, IsTrue, ⊤}
+use Rattle.std.specs.Prelude.{ℕ, suc, max, ◌*◌, ◌≤◌, List, [], ◌∷◌, ◌++◌, map, IsTrue, ⊤}
 use Rattle.std.specs.Coded.{×_prop, Unit-prop, le_prop}
+use Rattle.std.specs.List.{AllPass}
 use Rattle.ccr_pipeline.specs.Inputs.{inputs, are_few}
-use Rattle.ccr_pipeline.specs.Tree.{Tree, Trees, get, put, task, in_order, in_parallel, tried, attempts, hook, no_trees, tree}
+use Rattle.ccr_pipeline.specs.Kinds.{is_name}
+use Rattle.ccr_pipeline.specs.Tree.{Text, SourceData, config, file, Tree, Trees, get, put, task, in_order, in_parallel, tried, attempts, hook, no_trees, tree}
 
 -- how many levels of steps are in a step: those of a do, an in_parallel or a try and a hook are a level below the step that has them
 abbrev mutual
@@ -69,8 +71,35 @@ mutual
   AllTriesFit-prop p no_trees = Unit-prop
   AllTriesFit-prop p (tree t ts) = ×_prop (TriesFit-prop p t) (AllTriesFit-prop p ts)
 
--- what every plan keeps: it has few inputs, which name few jobs, it is shallow, and it has few tries
+-- what a task's config names: its inputs, and then its outputs
+abbrev pub artifact_names : SourceData → List Text
+artifact_names (config c) = map (λ input. input.0) c.inputs ++ c.outputs
+artifact_names (file path) = []
+
+-- what a step names: its gets, its puts, and the inputs and outputs of its tasks
+abbrev mutual
+  pub names : Tree → List Text
+  names (get g) = g.name ∷ []
+  names (put p) = p.name ∷ []
+  names (task t) = artifact_names t.source
+  names (in_order ts) = names_in ts
+  names (in_parallel ts fast) = names_in ts
+  names (tried t) = names t
+  names (attempts n t) = names t
+  names (hook w t h) = names t ++ names h
+
+  -- what the steps of a list name
+  pub names_in : Trees → List Text
+  names_in no_trees = []
+  names_in (tree t ts) = names t ++ names_in ts
+
+-- what a plan names has 1 to 128 bytes, none of them below 32, 127 or a slash, and is neither one point nor two
+abbrev pub IsWellNamed : Tree → Type 0
+IsWellNamed t = AllPass is_name (names t)
+
+-- what every plan keeps: it has few inputs, which name few jobs, it is shallow, it has few tries, and it is well named
 pub record IsPlan (t : Tree) : Type 0 where
   pub few : IsTrue (are_few (inputs t))
   pub shallow : IsShallow t
   pub few_tries : TriesFit 1 t
+  pub well_named : IsWellNamed t

@@ -1,7 +1,7 @@
 //! Resources and jobs.
 ghost use Rattle.std.specs.Prelude.{IsTrue};
 ghost use Rattle.ccr_pipeline.specs.Inputs.{are_few, inputs};
-ghost use Rattle.ccr_pipeline.specs.Limits.{IsShallow, TriesFit, TriesFit-prop};
+ghost use Rattle.ccr_pipeline.specs.Limits.{IsShallow, TriesFit, TriesFit-prop, IsWellNamed};
 ghost use Rattle.ccr_pipeline.specs.Tree.{tree_of};
 
 use crate::step::Step;
@@ -40,4 +40,6 @@ pub struct Job {
     pub ghost shallow: { IsShallow (tree_of plan) },
     // Each attempts is from 1 to 100, and the product of those from the job down to a step at most 10,000.
     pub ghost few_tries: { TriesFit 1 (tree_of plan) } by { TriesFit-prop 1 (tree_of plan) },
+    // What its gets, puts, task inputs and task outputs are called may be a name.
+    pub ghost well_named: { IsWellNamed (tree_of plan) },
 }
