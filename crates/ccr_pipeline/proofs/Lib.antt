@@ -12,5 +12,7 @@ pub mod Kept
 pub mod Shallow
 pub mod Tries
 pub mod Named
+pub mod Subsequence
+pub mod Distinct
 pub mod PlansKept
 pub mod Sorting

@@ -108,7 +108,7 @@ unfolding task_faults task_source
 task_named p d e =
     at_config (path_below p (codes "config")) _ _ (at_key (codes "config") d) (nil_left (task_source p d) _ (nil_right (optional kind.Text p (codes "task") d) _ e))
 
-opened_own : (before : List (List ℕ)) (p : Path) (n : ℕ) (d : Data) → opening_faults before p n d ≡ [] → own_keys before p d ≡ []
+pub opened_own : (before : List (List ℕ)) (p : Path) (n : ℕ) (d : Data) → opening_faults before p n d ≡ [] → own_keys before p d ≡ []
 unfolding opening_faults
 opened_own before p n d e = nil_right (kind_faults p d) _ (nil_right (shape_faults p n d) _ e)
 

@@ -20,6 +20,7 @@ use Rattle.ccr_pipeline.specs.Pipelines.{job_items, ArePlans}
 use Rattle.ccr_pipeline.specs.Reading.{list_faults, pipeline_faults}
 use Rattle.ccr_pipeline.proofs.Loops.{left, left-cons}
 use Rattle.ccr_pipeline.proofs.Shallow.{shallow}
+use Rattle.ccr_pipeline.proofs.Distinct.{distinct_inputs}
 use Rattle.ccr_pipeline.proofs.Tries.{few_tries}
 use Rattle.ccr_pipeline.proofs.Named.{well_named}
 use Rattle.ccr_pipeline.proofs.Unfaulted.{nil_left, nil_right, Planned, planned}
@@ -35,6 +36,7 @@ kept_plan names p d e =
     let plan : Planned d = planned p d rest in
     record {
       few = holds _ _ _ (nil_right (visits _ (job_hooks p d)) _ (nil_right (optional_keys job_keys p d) _ (nil_right (visits [] (plan_steps p d)) _ rest)));
+      distinct = distinct_inputs p d rest;
       shallow = shallow d plan;
       few_tries = few_tries d plan;
       well_named = well_named d plan;

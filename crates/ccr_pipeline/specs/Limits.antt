@@ -1,7 +1,8 @@
 -- The limits that every plan keeps.
 use Rattle.std.specs.Prelude.{ℕ, suc, max, ◌*◌, ◌≤◌, List, [], ◌∷◌, ◌++◌, map, IsTrue, ⊤}
 use Rattle.std.specs.Coded.{×_prop, Unit-prop, le_prop}
-use Rattle.std.specs.List.{AllPass}
+use Rattle.std.specs.List.{AllPass, IsDistinct}
+use Rattle.std.specs.Str.{bytes_eq}
 use Rattle.ccr_pipeline.specs.Inputs.{inputs, are_few}
 use Rattle.ccr_pipeline.specs.Kinds.{is_name}
 use Rattle.ccr_pipeline.specs.Tree.{Text, SourceData, config, file, Tree, Trees, get, put, task, in_order, in_parallel, tried, attempts, hook, no_trees, tree}
@@ -97,9 +98,18 @@ abbrev mutual
 abbrev pub IsWellNamed : Tree → Type 0
 IsWellNamed t = AllPass is_name (names t)
 
--- what every plan keeps: it has few inputs, which name few jobs, it is shallow, it has few tries, and it is well named
+-- the names of a plan's inputs
+abbrev pub input_names : Tree → List Text
+input_names t = map (λ input. input.name) (inputs t)
+
+-- no two inputs of a plan have one name
+abbrev pub HasDistinctInputs : Tree → Type 0
+HasDistinctInputs t = IsDistinct bytes_eq (input_names t)
+
+-- what every plan keeps: it has few inputs, which name few jobs, no two of one name; it is shallow, has few tries and is well named
 pub record IsPlan (t : Tree) : Type 0 where
   pub few : IsTrue (are_few (inputs t))
+  pub distinct : HasDistinctInputs t
   pub shallow : IsShallow t
   pub few_tries : TriesFit 1 t
   pub well_named : IsWellNamed t
