@@ -7,5 +7,12 @@ pub mod Visits
 pub mod StepLemmas
 pub mod UnknownLemmas
 pub mod UsedKeys
-pub mod Few
+pub mod Unfaulted
+pub mod Kept
+pub mod Shallow
+pub mod Tries
+pub mod Named
+pub mod Subsequence
+pub mod Distinct
+pub mod PlansKept
 pub mod Sorting

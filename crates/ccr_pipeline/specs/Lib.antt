@@ -11,6 +11,7 @@ pub mod Meaning
 pub mod Steps
 pub mod Plans
 pub mod Inputs
+pub mod Limits
 pub mod JobRules
 pub mod Unknown
 pub mod Unused

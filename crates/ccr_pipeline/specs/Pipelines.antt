@@ -1,5 +1,5 @@
 -- What a pipeline is read as, where no fault is present in it.
-use Rattle.std.specs.Prelude.{◌≡◌, ℕ, Bool, List, [], ◌∷◌, Option, map, option_map, string_bytes, codes, IsTrue, ⊤}
+use Rattle.std.specs.Prelude.{◌≡◌, ℕ, Bool, List, [], ◌∷◌, Option, map, option_map, string_bytes, codes, ⊤}
 use Rattle.serde_json.specs.Data.{Data, Items, no_items, item}
 use Rattle.serde_json.specs.Find.{as_array}
 use Rattle.serde_json.specs.View.{view}
@@ -9,7 +9,7 @@ use Rattle.ccr_pipeline.specs.declared.resource.Resource.{Resource}
 use Rattle.ccr_pipeline.specs.declared.resource.Job.{Job}
 use Rattle.ccr_pipeline.specs.Keys.{at_key, or_else}
 use Rattle.ccr_pipeline.specs.Meaning.{text_or, texts_from, truth_from, whole_from, pin_from}
-use Rattle.ccr_pipeline.specs.Inputs.{are_few, inputs}
+use Rattle.ccr_pipeline.specs.Limits.{IsPlan}
 use Rattle.ccr_pipeline.specs.Plans.{plan_from}
 use Rattle.ccr_pipeline.specs.Tree.{Text, Tree, tree_of}
 use Rattle.ccr_pipeline.specs.Unused.{unused_in, IsSortedOnce}
@@ -57,10 +57,10 @@ job_items d = or_else (at_key (codes "jobs") d) no_items (λ found. or_else (as_
 abbrev pub jobs_from : Data → List JobData
 jobs_from d = jobs_in (job_items d)
 
--- each job has few inputs, which name few jobs
-abbrev pub AreFew : Items → Type 0
-AreFew no_items = ⊤
-AreFew (item d ds) = IsTrue (are_few (inputs (plan_from d))) × AreFew ds
+-- each job's plan keeps the limits
+abbrev pub ArePlans : Items → Type 0
+ArePlans no_items = ⊤
+ArePlans (item d ds) = IsPlan (plan_from d) × ArePlans ds
 
 -- what a pipeline shows: the bytes read, the paths of its unused keys, its resources and its jobs
 pub record PipelineData : Type 0 where

@@ -1,9 +1,9 @@
 //! The resources and jobs that tested text is built into.
-ghost use Rattle.std.specs.Prelude.{◌≡◌, ◌++◌, [], map, codes, IfOk, IsTrue};
+ghost use Rattle.std.specs.Prelude.{◌≡◌, ◌++◌, [], map, codes, IfOk};
 ghost use Rattle.serde_json.specs.View.{view, items_view};
-ghost use Rattle.ccr_pipeline.specs.Inputs.{are_few, inputs};
 ghost use Rattle.ccr_pipeline.specs.Keys.{at_key, or_else};
-ghost use Rattle.ccr_pipeline.specs.Pipelines.{resource_data, job_data, resource_from, resources_in, resources_from, job_from, jobs_in, job_items, jobs_from, AreFew};
+ghost use Rattle.ccr_pipeline.specs.Pipelines.{resource_data, job_data, resource_from, resources_in, resources_from, job_from, jobs_in, job_items, jobs_from, ArePlans};
+ghost use Rattle.ccr_pipeline.specs.Limits.{IsPlan};
 ghost use Rattle.ccr_pipeline.specs.Plans.{plan_from};
 ghost use Rattle.ccr_pipeline.specs.Steps.{trees_in, step_tree, with_hooks};
 ghost use Rattle.ccr_pipeline.specs.Tree.{tree_of, trees_of};
@@ -65,7 +65,7 @@ pub(crate) fn plan(alloc: Global, job: &Value) -> Result<Step, AllocError>
 
 #[tactic(auto, unfolding(crate::specs::Pipelines::job_from))]
 fn job(alloc: Global, value: &Value) -> Result<Job, AllocError>
-    requires { IsTrue (are_few (inputs (plan_from (view value.now)))) }
+    requires { IsPlan (plan_from (view value.now)) }
     ensures { IfOk result (λ j. job_data j ≡ job_from (view value.now)) }
 {
     Ok(Job {
@@ -78,7 +78,7 @@ fn job(alloc: Global, value: &Value) -> Result<Job, AllocError>
 }
 
 fn jobs_of(alloc: Global, list: &[Value]) -> Result<Vec<Job>, AllocError>
-    requires { AreFew (items_view list.now) }
+    requires { ArePlans (items_view list.now) }
     ensures { IfOk result (λ v. map job_data v.items ≡ jobs_in (items_view list.now)) }
 {
     let mut jobs = Vec::new(alloc);
@@ -90,7 +90,7 @@ fn jobs_of(alloc: Global, list: &[Value]) -> Result<Vec<Job>, AllocError>
 
 /// The jobs of a tested pipeline.
 pub(crate) fn jobs(alloc: Global, pipeline: &Value) -> Result<Vec<Job>, AllocError>
-    requires { AreFew (job_items (view pipeline.now)) }
+    requires { ArePlans (job_items (view pipeline.now)) }
     ensures { IfOk result (λ v. map job_data v.items ≡ jobs_from (view pipeline.now)) }
 {
     let Some(found) = at_key(pipeline, "jobs") else {

@@ -6,8 +6,8 @@ use crate::resource::{Job, Resource};
 
 /// A pipeline: its resources and jobs, with the text that it was read from.
 ///
-/// Only [`crate::read`] makes one. So its names, the levels of its steps and the products of their attempts are within
-/// the limits that reading tests.
+/// Only [`crate::read`] makes one. The levels of a plan's steps, the products of their attempts, its inputs and its names
+/// are within the limits that reading tests: each [`Job`] keeps this, for whoever walks its plan.
 #[derive(Drop)]
 pub struct Pipeline {
     pub(crate) text: Vec<u8>,

@@ -1,6 +1,8 @@
 //! Resources and jobs.
 ghost use Rattle.std.specs.Prelude.{IsTrue};
 ghost use Rattle.ccr_pipeline.specs.Inputs.{are_few, inputs};
+ghost use Rattle.ccr_pipeline.specs.Limits.{IsShallow, TriesFit, TriesFit-prop, IsWellNamed, HasDistinctInputs};
+ghost use Rattle.std.proofs.Props.{props};
 ghost use Rattle.ccr_pipeline.specs.Tree.{tree_of};
 
 use crate::step::Step;
@@ -35,4 +37,12 @@ pub struct Job {
     pub max_in_flight: u64,
     // The plan has at most 32 inputs, and they name at most 32 jobs.
     pub ghost few: { IsTrue (are_few (inputs (tree_of plan))) },
+    // No two inputs have one name.
+    pub ghost distinct: { HasDistinctInputs (tree_of plan) } by { Prim.hlevel props },
+    // Its steps lie at most 30 levels deep.
+    pub ghost shallow: { IsShallow (tree_of plan) },
+    // Each attempts is from 1 to 100, and the product of those from the job down to a step at most 10,000.
+    pub ghost few_tries: { TriesFit 1 (tree_of plan) } by { TriesFit-prop 1 (tree_of plan) },
+    // What its gets, puts, task inputs and task outputs are called may be a name.
+    pub ghost well_named: { IsWellNamed (tree_of plan) },
 }

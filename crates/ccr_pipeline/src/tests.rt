@@ -204,6 +204,25 @@ fn limits_are_kept_to_the_last(rt: HostRuntime) -> Result<(), Fail> {
 }
 
 #[test]
+fn jobs_and_named_jobs_are_counted_to_the_last(rt: HostRuntime) -> Result<(), Fail> {
+    for (count, told) in [(200, "read"), (201, "too many at jobs")] {
+        let jobs = listed(&rt, "{\"plan\":[],\"name\":\"j", "\"}", count)?;
+        let text = format!(in rt.alloc(); "{{\"jobs\":[{jobs}]}}")?;
+        assert_eq!(rt; answer(&rt, text.as_str())?.as_str(), told);
+    }
+    // Two gets that name the same jobs.
+    for (count, told) in [(32, "read"), (33, "too many at jobs[33].plan")] {
+        let jobs = listed(&rt, "{\"plan\":[],\"name\":\"j", "\"}", 33)?;
+        let named = listed(&rt, "\"j", "\"", count)?;
+        let text = format!(in rt.alloc();
+            "{{\"resources\":[{{\"name\":\"a\",\"type\":\"t\"}}],\"jobs\":[{jobs},{{\"name\":\"last\",\"plan\":[{{\"get\":\"a\",\"passed\":[{named}]}},{{\"get\":\"b\",\"resource\":\"a\",\"passed\":[{named}]}}]}}]}}"
+        )?;
+        assert_eq!(rt; answer(&rt, text.as_str())?.as_str(), told);
+    }
+    Ok(())
+}
+
+#[test]
 fn attempts_multiply_from_the_job_down(rt: HostRuntime) -> Result<(), Fail> {
     for (outer, hook, inner, told) in [
         ("100", "1", "100", "read"),

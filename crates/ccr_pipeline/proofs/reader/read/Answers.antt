@@ -1,6 +1,6 @@
 use Rattle.serde_json.specs.View.{view}
-use Rattle.ccr_pipeline.proofs.Few.{few_jobs}
+use Rattle.ccr_pipeline.proofs.PlansKept.{plans}
 use Rattle.ccr_pipeline.proofs.reader.read.Goals as goal
 
 pub jobs-requires : goal.jobs-requires
-jobs-requires c = few_jobs (view c.in_ok-value.value) c.in_ok-check_pipeline.ensures
+jobs-requires c = plans (view c.in_ok-value.value) c.in_ok-check_pipeline.ensures
