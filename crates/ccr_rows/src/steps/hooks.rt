@@ -151,57 +151,72 @@ fn ensure_runs_after_each_outcome(rt: HostRuntime) -> Result<(), Fail> {
     )
 }
 
+const ALL_HOOKS: &str =
+    r#""plan":[{"ensure":{<n>},"on_error":{<e>},"on_abort":{<q>},"on_failure":{<f>},"on_success":{<s>},<x>}]"#;
+
 #[test]
-fn hooks_of_one_step_run_from_on_success_out_to_ensure_and_the_worst_outcome_counts(
-    rt: HostRuntime,
-) -> Result<(), Fail> {
-    let all =
-        r#""plan":[{"ensure":{<n>},"on_error":{<e>},"on_abort":{<q>},"on_failure":{<f>},"on_success":{<s>},<x>}]"#;
+fn hooks_of_one_step_run_from_on_success_out_to_ensure(rt: HostRuntime) -> Result<(), Fail> {
     shows(
         &rt,
         rt.alloc(),
         &[
             (
-                all,
+                ALL_HOOKS,
                 "[]",
                 "done failed errored done done",
                 "task x; task s; task f; task e; task n; Errored; turn 5",
             ),
             (
-                all,
-                "[]",
-                "done failed done failed",
-                "task x; task s; task f; task n; Failed; turn 4",
-            ),
-            (
-                all,
-                "[]",
-                "failed errored done failed",
-                "task x; task f; task e; task n; Errored; turn 4",
-            ),
-            (
-                all,
+                ALL_HOOKS,
                 "[]",
                 "failed done done",
                 "task x; task f; task n; Failed; turn 3",
             ),
             (
-                all,
+                ALL_HOOKS,
                 "[]",
                 "errored done done",
                 "task x; task e; task n; Errored; turn 3",
             ),
             (
-                all,
+                ALL_HOOKS,
+                "[]",
+                "done errored done done",
+                "task x; task s; task e; task n; Errored; turn 4",
+            ),
+        ],
+    )
+}
+
+#[test]
+fn the_worst_outcome_of_a_step_and_its_hooks_counts(rt: HostRuntime) -> Result<(), Fail> {
+    shows(
+        &rt,
+        rt.alloc(),
+        &[
+            (
+                ALL_HOOKS,
+                "[]",
+                "done failed done failed",
+                "task x; task s; task f; task n; Failed; turn 4",
+            ),
+            (
+                ALL_HOOKS,
+                "[]",
+                "failed errored done failed",
+                "task x; task f; task e; task n; Errored; turn 4",
+            ),
+            (
+                ALL_HOOKS,
                 "[]",
                 "done done errored",
                 "task x; task s; task n; Errored; turn 3",
             ),
             (
-                all,
+                ALL_HOOKS,
                 "[]",
-                "done errored done done",
-                "task x; task s; task e; task n; Errored; turn 4",
+                "done done done",
+                "task x; task s; task n; Succeeded; turn 3",
             ),
         ],
     )
@@ -242,9 +257,7 @@ fn hooks_stand_on_hooks(rt: HostRuntime) -> Result<(), Fail> {
 }
 
 #[test]
-fn hooks_stand_outside_attempts_and_inside_what_holds_their_step(
-    rt: HostRuntime,
-) -> Result<(), Fail> {
+fn hooks_stand_outside_the_attempts_of_their_step(rt: HostRuntime) -> Result<(), Fail> {
     shows(
         &rt,
         rt.alloc(),
@@ -267,6 +280,16 @@ fn hooks_stand_outside_attempts_and_inside_what_holds_their_step(
                 "failed done failed done",
                 "task x; task h; task x; task h; Failed; turn 4",
             ),
+        ],
+    )
+}
+
+#[test]
+fn hooks_stand_on_steps_of_steps_and_inside_them(rt: HostRuntime) -> Result<(), Fail> {
+    shows(
+        &rt,
+        rt.alloc(),
+        &[
             (
                 r#""plan":[{"try":{<x>,"on_failure":{<h>}}}]"#,
                 "[]",

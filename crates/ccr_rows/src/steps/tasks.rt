@@ -226,6 +226,22 @@ fn a_task_by_file_reads_it_first_in_each_try(rt: HostRuntime) -> Result<(), Fail
                 "config f; task x; config f; task y; Succeeded; turn 4",
             ),
             (
+                r#""plan":[{<x>,"file":"f","params":{"A":{"k":[1,null]}}}]"#,
+                "[]",
+                "done",
+                r#"task x A={"k":[1,null]}; Succeeded; turn 1"#,
+            ),
+        ],
+    )
+}
+
+#[test]
+fn a_task_errs_without_a_task_file_or_an_input_that_it_names(rt: HostRuntime) -> Result<(), Fail> {
+    shows(
+        &rt,
+        rt.alloc(),
+        &[
+            (
                 r#""plan":[{"task":"t","file":"f"}]"#,
                 "[]",
                 r#"config:{"run":{"path":"x"},"inputs":[{"name":"q"}]}"#,
@@ -248,12 +264,6 @@ fn a_task_by_file_reads_it_first_in_each_try(rt: HostRuntime) -> Result<(), Fail
                 "[]",
                 "done",
                 "config f; Errored; turn 1",
-            ),
-            (
-                r#""plan":[{<x>,"file":"f","params":{"A":{"k":[1,null]}}}]"#,
-                "[]",
-                "done",
-                r#"task x A={"k":[1,null]}; Succeeded; turn 1"#,
             ),
         ],
     )
