@@ -17,7 +17,8 @@ pub(crate) struct Answer {
     pub(crate) status: u8,
 }
 
-fn refused(alloc: Global, what: &str, fault: &ReadFault) -> Result<Answer, AllocError> {
+/// A line that tells why a text is refused.
+pub(crate) fn refused(alloc: Global, what: &str, fault: &ReadFault) -> Result<Answer, AllocError> {
     if let ReadFault::NoMemory = fault {
         return Err(AllocError);
     }

@@ -4,6 +4,8 @@
 //! proof of its best choice, or that none satisfies, of at most BUDGET nodes. `ccr_probe launch` starts `sh -c true`.
 //! `ccr_probe type PROGRAMS FOLDER` reads `{"source":..,"params":..}` and tries a resource type: it starts PROGRAMS/check,
 //! PROGRAMS/in for the last version and PROGRAMS/out in FOLDER, with FOLDER/in as the artifact's folder, and prints each version.
+//! `ccr_probe steps JOB` reads a pipeline in one line, the versions of the job's inputs in the next, and answers, one a line
+//! (`done`, `pushed VERSION`, `config CONFIG`, `failed`, `errored`): it prints what the build asks, and where it has ended, how.
 //! With `--repeat N` behind these the call is made N times, and the whole time is printed on standard error. Statuses: 0 read,
 //! resolved or ended, 1 refused, 2 usage, 3 over budget, 4 out of memory or unreadable.
 #![tactic(auto)]
@@ -12,6 +14,7 @@ ghost use Rattle.std.specs.Prelude.{◌≤◌};
 
 mod answer;
 mod programs;
+mod steps;
 
 use answer::{Answer, OVER_BUDGET, answer_pipeline, answer_resolve, answer_task};
 use programs::{Trial, answer_launch, answer_type};
@@ -20,6 +23,7 @@ use std::io::Read;
 use std::process::ExitCode;
 use std::time::Instant;
 use std::{env, io};
+use steps::answer_steps;
 
 /// A node budget, from 1 to 1,000,000.
 #[derive(Clone, Copy, Debug, PartialEq, Eq)]
@@ -37,6 +41,7 @@ enum Call<'a> {
     Resolve(Budget),
     Launch,
     Type(Trial<'a>),
+    Steps(&'a str),
 }
 
 /// What the words ask for: a call, and how often it is made.
@@ -79,6 +84,10 @@ fn order_of(words: &[String]) -> Option<Order<'_>> {
             };
             (Call::Type(trial), rest)
         }
+        "steps" => {
+            let (job, rest) = rest.split_first()?;
+            (Call::Steps(job.as_str()), rest)
+        }
         "resolve" => {
             let (budget, rest) = rest.split_first()?;
             (Call::Resolve(budget_of(budget.as_str())?), rest)
@@ -97,6 +106,7 @@ fn answer_of(rt: &HostRuntime, call: Call, text: &[u8]) -> Result<Answer, AllocE
         Call::Resolve(budget) => answer_resolve(alloc, text, budget.nodes),
         Call::Launch => answer_launch(rt, alloc),
         Call::Type(trial) => answer_type(rt, alloc, text, &trial),
+        Call::Steps(job) => answer_steps(alloc, text, job),
     }
 }
 
@@ -132,7 +142,7 @@ fn main(rt: HostRuntime) -> io::Result<ExitCode> {
     };
     let Some(order) = order_of(&words) else {
         eprintln!(rt;
-            "usage: ccr_probe pipeline|task|resolve BUDGET|launch|type PROGRAMS FOLDER [--repeat N]"
+            "usage: ccr_probe pipeline|task|resolve BUDGET|launch|type PROGRAMS FOLDER|steps JOB [--repeat N]"
         )?;
         return Ok(ExitCode::from(2));
     };

@@ -1,8 +1,10 @@
-//! Worked examples that cross crates: problems whose answers were worked out by hand, one test each, named by what it shows.
-//! There is no code here but tests.
+//! Worked examples that cross crates: problems and builds whose answers were worked out by hand; each test is named by what it
+//! shows. There is no code here but tests.
 #![tactic(auto)]
 
 #[cfg(test)]
 mod brute;
 #[cfg(test)]
 mod resolving;
+#[cfg(test)]
+mod steps;

@@ -1,0 +1,272 @@
+//! A build of one job, step by step: the answers are lines, and so are its asks.
+
+use crate::answer::{Answer, refused};
+use ccr_history::Version;
+use ccr_pipeline::{Job, Pipeline, TaskConfig, Variable, read, read_task};
+use ccr_steps::{Answered, Ask, BuildRun, FeedFault, Outcome, start};
+use serde_json::{Map, Value};
+use std::alloc::{AllocError, Global};
+
+type Members = Map<String, Value>;
+
+fn text_of(alloc: Global, text: &str) -> Result<Value, AllocError> {
+    Ok(Value::String(String::from_str(alloc, text)?))
+}
+
+fn put(alloc: Global, members: &mut Members, key: &str, value: Value) -> Result<(), AllocError> {
+    drop(members.insert(String::from_str(alloc, key)?, value)?);
+    Ok(())
+}
+
+fn put_text(alloc: Global, members: &mut Members, key: &str, text: &str) -> Result<(), AllocError> {
+    let text = text_of(alloc, text)?;
+    put(alloc, members, key, text)
+}
+
+fn put_params(
+    alloc: Global,
+    members: &mut Members,
+    params: Option<&Value>,
+) -> Result<(), AllocError> {
+    match params {
+        Some(params) => put(alloc, members, "params", params.clone()?),
+        None => Ok(()),
+    }
+}
+
+fn variables_of(alloc: Global, variables: &[Variable]) -> Result<Value, AllocError> {
+    let mut members = Map::new(alloc);
+    for variable in variables {
+        put_text(
+            alloc,
+            &mut members,
+            variable.name.as_str(),
+            variable.value.as_str(),
+        )?;
+    }
+    Ok(Value::Object(members))
+}
+
+fn texts_of(alloc: Global, texts: &[String]) -> Result<Value, AllocError> {
+    let mut items = Vec::new(alloc);
+    for text in texts {
+        items.push(text_of(alloc, text.as_str())?)?;
+    }
+    Ok(Value::Array(items))
+}
+
+fn run_of(alloc: Global, config: &TaskConfig) -> Result<Value, AllocError> {
+    let mut members = Map::new(alloc);
+    put_text(alloc, &mut members, "path", config.run.path.as_str())?;
+    let args = texts_of(alloc, &config.run.args)?;
+    put(alloc, &mut members, "args", args)?;
+    if let Some(dir) = &config.run.dir {
+        put_text(alloc, &mut members, "dir", dir.as_str())?;
+    }
+    Ok(Value::Object(members))
+}
+
+fn inputs_of(alloc: Global, config: &TaskConfig) -> Result<Value, AllocError> {
+    let mut items = Vec::new(alloc);
+    for input in &config.inputs {
+        let mut members = Map::new(alloc);
+        put_text(alloc, &mut members, "name", input.name.as_str())?;
+        put(alloc, &mut members, "optional", Value::Bool(input.optional))?;
+        items.push(Value::Object(members))?;
+    }
+    Ok(Value::Array(items))
+}
+
+fn config_of(alloc: Global, config: &TaskConfig) -> Result<Value, AllocError> {
+    let mut members = Map::new(alloc);
+    let inputs = inputs_of(alloc, config)?;
+    put(alloc, &mut members, "inputs", inputs)?;
+    let outputs = texts_of(alloc, &config.outputs)?;
+    put(alloc, &mut members, "outputs", outputs)?;
+    let params = variables_of(alloc, &config.params)?;
+    put(alloc, &mut members, "params", params)?;
+    let run = run_of(alloc, config)?;
+    put(alloc, &mut members, "run", run)?;
+    Ok(Value::Object(members))
+}
+
+fn version_of(alloc: Global, version: &Version) -> Result<Value, AllocError> {
+    let key = version.key(alloc)?;
+    Value::from_str(alloc, key.as_str()).map_err(|_| AllocError)
+}
+
+fn fetch_of(alloc: Global, members: &mut Members, version: &Version) -> Result<(), AllocError> {
+    let version = version_of(alloc, version)?;
+    put(alloc, members, "version", version)
+}
+
+/// An ask as one line of JSON, keys ascending.
+fn ask_line(alloc: Global, ask: &Ask<'_>) -> Result<String, AllocError> {
+    let mut members = Map::new(alloc);
+    match ask {
+        Ask::Fetch {
+            artifact,
+            resource,
+            version,
+            params,
+        } => {
+            put_text(alloc, &mut members, "ask", "fetch")?;
+            put_text(alloc, &mut members, "artifact", artifact)?;
+            put_text(alloc, &mut members, "resource", resource)?;
+            put_params(alloc, &mut members, *params)?;
+            fetch_of(alloc, &mut members, version)?;
+        }
+        Ask::Push {
+            artifact,
+            resource,
+            params,
+        } => {
+            put_text(alloc, &mut members, "ask", "push")?;
+            put_text(alloc, &mut members, "artifact", artifact)?;
+            put_text(alloc, &mut members, "resource", resource)?;
+            put_params(alloc, &mut members, *params)?;
+        }
+        Ask::ReadConfig { file } => {
+            put_text(alloc, &mut members, "ask", "config")?;
+            put_text(alloc, &mut members, "file", file)?;
+        }
+        Ask::RunTask { config, env } => {
+            put_text(alloc, &mut members, "ask", "task")?;
+            let config = config_of(alloc, config)?;
+            put(alloc, &mut members, "config", config)?;
+            let env = variables_of(alloc, env)?;
+            put(alloc, &mut members, "env", env)?;
+        }
+    }
+    Value::Object(members).to_string(alloc)
+}
+
+fn push_line(text: &mut String, line: &str) -> Result<(), AllocError> {
+    text.push_str(line)?;
+    text.push_str("\n")
+}
+
+fn outcome_name(outcome: Outcome) -> &'static str {
+    match outcome {
+        Outcome::Succeeded => "succeeded",
+        Outcome::Failed => "failed",
+        Outcome::Errored => "errored",
+        Outcome::Aborted => "aborted",
+    }
+}
+
+/// The line of what a build waits for, or, where it has ended, those of its outcome and of what it moved.
+fn push_state(alloc: Global, lines: &mut String, run: &BuildRun) -> Result<(), AllocError> {
+    if let Some(ask) = run.wants() {
+        let line = ask_line(alloc, &ask)?;
+        return push_line(lines, line.as_str());
+    }
+    let Some(outcome) = run.outcome() else {
+        return Ok(());
+    };
+    lines.push_str("outcome ")?;
+    push_line(lines, outcome_name(outcome))?;
+    for moved in run.moved() {
+        lines.push_str("moved ")?;
+        lines.push_str(moved.resource.as_str())?;
+        lines.push_str(" ")?;
+        let key = moved.version.key(alloc)?;
+        push_line(lines, key.as_str())?;
+    }
+    Ok(())
+}
+
+fn pushed_of(alloc: Global, text: &str) -> Option<Answered> {
+    let value = Value::from_str(alloc, text).ok()?;
+    Some(Answered::Pushed(Version::from_value(&value).ok()?))
+}
+
+/// The answer that a line tells, or None for a line of another form.
+fn answer_of(alloc: Global, line: &str) -> Option<Answered> {
+    if let Some(version) = line.strip_prefix("pushed ") {
+        return pushed_of(alloc, version);
+    }
+    if let Some(config) = line.strip_prefix("config ") {
+        return Some(Answered::Config(read_task(alloc, config.as_bytes()).ok()?));
+    }
+    match line {
+        "done" => Some(Answered::Done),
+        "failed" => Some(Answered::Failed),
+        "errored" => Some(Answered::Errored),
+        _ => None,
+    }
+}
+
+fn versions_of(alloc: Global, line: &str) -> Option<Vec<Version>> {
+    let value = Value::from_str(alloc, line).ok()?;
+    let mut versions = Vec::new(alloc);
+    for version in value.as_array()? {
+        versions.push(Version::from_value(version).ok()?).ok()?;
+    }
+    Some(versions)
+}
+
+fn job_of<'p>(pipeline: &'p Pipeline, name: &str) -> Option<&'p Job> {
+    pipeline.jobs().iter().find(|job| job.name.as_str() == name)
+}
+
+fn refused_as(alloc: Global, why: &str) -> Result<Answer, AllocError> {
+    Ok(Answer {
+        lines: format!(in alloc; "refused: {why}\n")?,
+        status: 1,
+    })
+}
+
+fn feed_line(
+    alloc: Global,
+    lines: &mut String,
+    run: &mut BuildRun,
+    answer: Answered,
+) -> Result<(), AllocError> {
+    match run.feed(answer) {
+        Ok(()) => push_state(alloc, lines, run),
+        Err(FeedFault::NothingAsked) => push_line(lines, "nothing asked"),
+        Err(FeedFault::NoMemory) => Err(AllocError),
+    }
+}
+
+fn play(
+    alloc: Global,
+    job: &Job,
+    versions: &[Version],
+    answers: &[&str],
+) -> Result<Answer, AllocError> {
+    let mut run = start(alloc, job, versions)?;
+    let mut lines = String::new(alloc);
+    push_state(alloc, &mut lines, &run)?;
+    for line in answers {
+        let Some(answer) = answer_of(alloc, line) else {
+            return refused_as(alloc, "answer");
+        };
+        feed_line(alloc, &mut lines, &mut run, answer)?;
+    }
+    Ok(Answer { lines, status: 0 })
+}
+
+/// What a build of a job asks, answered line by line: the first line is the pipeline, the second the list of the inputs' versions,
+/// each other an answer (`done`, `failed`, `errored`, `pushed VERSION` or `config CONFIG`).
+pub(crate) fn answer_steps(alloc: Global, text: &[u8], name: &str) -> Result<Answer, AllocError> {
+    let Ok(text) = std::str::from_utf8(text) else {
+        return refused_as(alloc, "not text");
+    };
+    let lines: Vec<&str> = text.lines().collect(alloc)?;
+    let [pipeline, versions, answers @ ..] = lines.as_slice() else {
+        return refused_as(alloc, "a pipeline and a list of versions come first");
+    };
+    let pipeline = match read(alloc, pipeline.as_bytes()) {
+        Ok(pipeline) => pipeline,
+        Err(fault) => return refused(alloc, "pipeline", &fault),
+    };
+    let Some(versions) = versions_of(alloc, versions) else {
+        return refused_as(alloc, "versions");
+    };
+    match job_of(&pipeline, name) {
+        Some(job) => play(alloc, job, &versions, answers),
+        None => refused_as(alloc, "no such job"),
+    }
+}
