@@ -1,9 +1,7 @@
 -- Where no fault is present in a pipeline, its plans keep the limits.
-use Rattle.std.proofs.Common.{◌≡◌, ℕ, ◌+◌, ◌<◌, List, [], ◌++◌, Bool, true, false, refl, Some, None, Option, IsTrue, codes, get_or, length}
-use Rattle.serde_json.specs.declared.value.Value.{Value}
+use Rattle.std.proofs.Common.{◌≡◌, ℕ, ◌+◌, List, [], ◌++◌, Bool, true, false, refl, Some, None, Option, IsTrue, codes}
 use Rattle.serde_json.specs.Data.{Data, Items, no_items, item}
 use Rattle.serde_json.specs.Find.{as_array}
-use Rattle.serde_json.specs.View.{view}
 use Rattle.ccr_pipeline.specs.declared.fault.Rule.{Rule}
 use Rattle.ccr_pipeline.specs.declared.fault.Rule.TheVariants as rule
 use Rattle.ccr_pipeline.specs.declared.check_job.Member.TheVariants.{Resource, Job}
@@ -18,7 +16,6 @@ use Rattle.ccr_pipeline.specs.Limits.{IsPlan}
 use Rattle.ccr_pipeline.specs.Plans.{plan_from}
 use Rattle.ccr_pipeline.specs.Pipelines.{job_items, ArePlans}
 use Rattle.ccr_pipeline.specs.Reading.{list_faults, pipeline_faults}
-use Rattle.ccr_pipeline.proofs.Loops.{left, left-cons}
 use Rattle.ccr_pipeline.proofs.Shallow.{shallow}
 use Rattle.ccr_pipeline.proofs.Distinct.{distinct_inputs}
 use Rattle.ccr_pipeline.proofs.Tries.{few_tries}
@@ -64,9 +61,3 @@ unfolding pipeline_faults list_faults
 plans d e =
     at_list (codes "jobs") (at_key (codes "jobs") d)
     (nil_left (member_list Job (codes "jobs") d) _ (nil_right (member_list Resource (codes "resources") d) _ (nil_right _ (list_faults d) e)))
-
-pub plan_here : (xs : List Value) (i : ℕ) (x : Value) → ArePlans (left i xs) → i < length xs → x ≡ get_or xs i x → IsPlan (plan_from (view x))
-plan_here xs i x kept h is = (rw (left-cons xs i x h is) at kept).0
-
-pub plans_next : (xs : List Value) (i : ℕ) (x : Value) → ArePlans (left i xs) → i < length xs → x ≡ get_or xs i x → ArePlans (left (i + 1) xs)
-plans_next xs i x kept h is = (rw (left-cons xs i x h is) at kept).1

@@ -1,6 +1,7 @@
 //! The resources and jobs that tested text is built into.
-ghost use Rattle.std.specs.Prelude.{◌≡◌, ◌++◌, [], map, codes, IfOk};
-ghost use Rattle.serde_json.specs.View.{view, items_view};
+ghost use Rattle.std.specs.Prelude.{◌≡◌, ◌++◌, [], map, option_map, codes, IfOk};
+ghost use Rattle.serde_json.specs.Find.{get_member};
+ghost use Rattle.serde_json.specs.View.{view, items_view, members_view};
 ghost use Rattle.ccr_pipeline.specs.Keys.{at_key, or_else};
 ghost use Rattle.ccr_pipeline.specs.Pipelines.{resource_data, job_data, resource_from, resources_in, resources_from, job_from, jobs_in, job_items, jobs_from, ArePlans};
 ghost use Rattle.ccr_pipeline.specs.Limits.{IsPlan};
@@ -16,6 +17,7 @@ use crate::resource::{Job, Resource};
 use crate::step::Step;
 use serde_json::Value;
 use std::alloc::{AllocError, Global};
+use std::collections::BTreeMap;
 
 fn resource(alloc: Global, value: &Value) -> Result<Resource, AllocError>
     ensures { IfOk result (λ r. resource_data r ≡ resource_from (view value.now)) }
@@ -77,27 +79,43 @@ fn job(alloc: Global, value: &Value) -> Result<Job, AllocError>
     })
 }
 
-fn jobs_of(alloc: Global, list: &[Value]) -> Result<Vec<Job>, AllocError>
-    requires { ArePlans (items_view list.now) }
-    ensures { IfOk result (λ v. map job_data v.items ≡ jobs_in (items_view list.now)) }
+/// What stands at a key of the members, which are dropped.
+fn member(members: BTreeMap<String, Value>, key: &str) -> Option<Value>
+    ensures { option_map view result ≡ get_member key.now (members_view members.entries) }
+{
+    let mut members = members;
+    members.remove(key)
+}
+
+/// The list of jobs of a pipeline, of which nothing else is kept.
+fn job_list(alloc: Global, pipeline: Value) -> Vec<Value>
+    ensures { items_view result.items ≡ job_items (view pipeline) }
+{
+    let Value::Object(members) = pipeline else {
+        return Vec::new(alloc);
+    };
+    match member(members, "jobs") {
+        Some(Value::Array(list)) => list,
+        _ => Vec::new(alloc),
+    }
+}
+
+/// The jobs of the texts of a list. Each text is dropped once its job is built.
+fn jobs_of(alloc: Global, list: Vec<Value>) -> Result<Vec<Job>, AllocError>
+    requires { ArePlans (items_view list.items) }
+    ensures { IfOk result (λ v. map job_data v.items ≡ jobs_in (items_view list.items)) }
 {
     let mut jobs = Vec::new(alloc);
     for member in list {
-        jobs.push(job(alloc, member)?)?;
+        jobs.push(job(alloc, &member)?)?;
     }
     Ok(jobs)
 }
 
-/// The jobs of a tested pipeline.
-pub(crate) fn jobs(alloc: Global, pipeline: &Value) -> Result<Vec<Job>, AllocError>
-    requires { ArePlans (job_items (view pipeline.now)) }
-    ensures { IfOk result (λ v. map job_data v.items ≡ jobs_from (view pipeline.now)) }
+/// The jobs of a tested pipeline. They are as large as its text, so that the two are never held whole side by side.
+pub(crate) fn jobs(alloc: Global, pipeline: Value) -> Result<Vec<Job>, AllocError>
+    requires { ArePlans (job_items (view pipeline)) }
+    ensures { IfOk result (λ v. map job_data v.items ≡ jobs_from (view pipeline)) }
 {
-    let Some(found) = at_key(pipeline, "jobs") else {
-        return Ok(Vec::new(alloc));
-    };
-    match found.as_array() {
-        Some(list) => jobs_of(alloc, list),
-        None => Ok(Vec::new(alloc)),
-    }
+    jobs_of(alloc, job_list(alloc, pipeline))
 }

@@ -73,11 +73,14 @@ pub fn read(alloc: Global, text: &[u8]) -> Result<Pipeline, ReadFault>
 {
     let value = value_of(alloc, text, "pipeline")?;
     check_pipeline(alloc, &value)?;
+    let unused = unused(alloc, &value)?;
+    let resources = resources(alloc, &value)?;
+    let jobs = jobs(alloc, value)?;
     Ok(Pipeline {
         text: Vec::from_slice(alloc, text)?,
-        unused: unused(alloc, &value)?,
-        resources: resources(alloc, &value)?,
-        jobs: jobs(alloc, &value)?,
+        unused,
+        resources,
+        jobs,
     })
 }
 
