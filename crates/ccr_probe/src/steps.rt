@@ -1,8 +1,8 @@
 //! A build of one job, step by step: the answers are lines, and so are its asks.
 
 use crate::answer::{Answer, refused};
-use ccr_history::Version;
-use ccr_pipeline::{Job, Pipeline, TaskConfig, Variable, read, read_task};
+use ccr_history::{HistoryFault, Version};
+use ccr_pipeline::{Job, Pipeline, ReadFault, TaskConfig, Variable, read, read_task};
 use ccr_steps::{Answered, Ask, BuildRun, FeedFault, Outcome, start};
 use serde_json::{Map, Value};
 use std::alloc::{AllocError, Global};
@@ -176,34 +176,72 @@ fn push_state(alloc: Global, lines: &mut String, run: &BuildRun) -> Result<(), A
     Ok(())
 }
 
-fn pushed_of(alloc: Global, text: &str) -> Option<Answered> {
-    let value = Value::from_str(alloc, text).ok()?;
-    Some(Answered::Pushed(Version::from_value(&value).ok()?))
+/// The value that a text spells, or None for a text that spells none.
+fn value_of(alloc: Global, text: &str) -> Result<Option<Value>, AllocError> {
+    match Value::from_str(alloc, text) {
+        Ok(value) => Ok(Some(value)),
+        Err(error) if error.is_memory() => Err(AllocError),
+        Err(_) => Ok(None),
+    }
+}
+
+fn version_in(value: &Value) -> Result<Option<Version>, AllocError> {
+    match Version::from_value(value) {
+        Ok(version) => Ok(Some(version)),
+        Err(HistoryFault::NoMemory) => Err(AllocError),
+        Err(HistoryFault::NotObject | HistoryFault::VersionNotText) => Ok(None),
+    }
+}
+
+fn pushed_of(alloc: Global, text: &str) -> Result<Option<Answered>, AllocError> {
+    let Some(value) = value_of(alloc, text)? else {
+        return Ok(None);
+    };
+    match version_in(&value)? {
+        Some(version) => Ok(Some(Answered::Pushed(version))),
+        None => Ok(None),
+    }
+}
+
+fn configured_of(alloc: Global, text: &str) -> Result<Option<Answered>, AllocError> {
+    match read_task(alloc, text.as_bytes()) {
+        Ok(config) => Ok(Some(Answered::Config(config))),
+        Err(ReadFault::NoMemory) => Err(AllocError),
+        Err(_fault) => Ok(None),
+    }
 }
 
 /// The answer that a line tells, or None for a line of another form.
-fn answer_of(alloc: Global, line: &str) -> Option<Answered> {
+fn answer_of(alloc: Global, line: &str) -> Result<Option<Answered>, AllocError> {
     if let Some(version) = line.strip_prefix("pushed ") {
         return pushed_of(alloc, version);
     }
     if let Some(config) = line.strip_prefix("config ") {
-        return Some(Answered::Config(read_task(alloc, config.as_bytes()).ok()?));
+        return configured_of(alloc, config);
     }
-    match line {
+    Ok(match line {
         "done" => Some(Answered::Done),
         "failed" => Some(Answered::Failed),
         "errored" => Some(Answered::Errored),
         _ => None,
-    }
+    })
 }
 
-fn versions_of(alloc: Global, line: &str) -> Option<Vec<Version>> {
-    let value = Value::from_str(alloc, line).ok()?;
+fn versions_of(alloc: Global, line: &str) -> Result<Option<Vec<Version>>, AllocError> {
+    let Some(value) = value_of(alloc, line)? else {
+        return Ok(None);
+    };
+    let Some(members) = value.as_array() else {
+        return Ok(None);
+    };
     let mut versions = Vec::new(alloc);
-    for version in value.as_array()? {
-        versions.push(Version::from_value(version).ok()?).ok()?;
+    for member in members {
+        let Some(version) = version_in(member)? else {
+            return Ok(None);
+        };
+        versions.push(version)?;
     }
-    Some(versions)
+    Ok(Some(versions))
 }
 
 fn job_of<'p>(pipeline: &'p Pipeline, name: &str) -> Option<&'p Job> {
@@ -240,7 +278,7 @@ fn play(
     let mut lines = String::new(alloc);
     push_state(alloc, &mut lines, &run)?;
     for line in answers {
-        let Some(answer) = answer_of(alloc, line) else {
+        let Some(answer) = answer_of(alloc, line)? else {
             return refused_as(alloc, "answer");
         };
         feed_line(alloc, &mut lines, &mut run, answer)?;
@@ -262,7 +300,7 @@ pub(crate) fn answer_steps(alloc: Global, text: &[u8], name: &str) -> Result<Ans
         Ok(pipeline) => pipeline,
         Err(fault) => return refused(alloc, "pipeline", &fault),
     };
-    let Some(versions) = versions_of(alloc, versions) else {
+    let Some(versions) = versions_of(alloc, versions)? else {
         return refused_as(alloc, "versions");
     };
     match job_of(&pipeline, name) {
