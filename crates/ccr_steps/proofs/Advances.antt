@@ -1,5 +1,5 @@
 -- Steps that go on below a frame.
-use Rattle.std.proofs.Common.{arith, ◌≡◌, ℕ, suc, ◌+◌, ◌<◌, ◌≤◌, Bool, true, false, List, [], ◌∷◌, ◌++◌, Option, Some, None, is_some, take, drop, map, length, get_or, refl, sym, ap, ◌∙◌, subst, append_assoc}
+use Rattle.std.proofs.Common.{arith, ◌≡◌, ℕ, suc, ◌+◌, ◌<◌, ◌≤◌, true, false, List, [], ◌∷◌, ◌++◌, Option, Some, None, is_some, take, drop, map, length, get_or, refl, sym, ap, ◌∙◌, subst, append_assoc}
 use mathlib.Core.Path.{fun_ext}
 use Rattle.std.specs.Prelude.{slice_get}
 use Rattle.std.proofs.lemmas.List.{take-take}
@@ -137,11 +137,3 @@ down_hook w t h end fs level at = down (Hook end) h (hook w t h) (λ c. and_wors
 
 pub down_list : (steps : List Step) (k : ℕ) (s : Step) (worst : Outcome) → k < length steps → s ≡ get_or steps k s → (fs : List Frame) (level : ℕ) → slice_get fs level ≡ Some (At k worst) → leaf_at (in_order (trees_of (map tree_of steps))) (drop level fs) ≡ leaf_at (tree_of s) (drop (level + 1) fs)
 down_list steps k s worst l is fs level at = down (At k worst) (tree_of s) (in_order (trees_of (map tree_of steps))) (λ c. after_do (play_in_order c (trees_of (map tree_of (drop (k + 1) steps))))) fs level (under_at (map tree_of steps) k (tree_of s) (map tree_of (drop (k + 1) steps)) worst (list_cut steps k s l is)) at
-
--- an in_parallel has the steps of a do
-pub parallel_leaf : (ts : Trees) (fast : Bool) (fs : List Frame) → leaf_at (in_parallel ts fast) fs ≡ leaf_at (in_order ts) fs
-parallel_leaf ts fast [] = refl
-parallel_leaf ts fast (At k worst ∷ fs) = refl
-parallel_leaf ts fast (In ∷ fs) = refl
-parallel_leaf ts fast (Left k ∷ fs) = refl
-parallel_leaf ts fast (Hook end ∷ fs) = refl

@@ -1,7 +1,7 @@
 -- Steps that are begun.
-use Rattle.std.proofs.Common.{arith, ◌≡◌, ℕ, zero, suc, ◌+◌, ◌-◌, ◌<◌, Bool, true, false, List, [], ◌∷◌, ◌++◌, Option, Some, None, is_some, take, drop, map, length, get_or, drop-cons, add-one, refl, sym, ap, ◌∙◌, subst, append-nil, append_assoc}
+use Rattle.std.proofs.Common.{arith, ◌≡◌, ℕ, zero, suc, ◌+◌, ◌-◌, ◌<◌, Bool, true, false, List, [], ◌∷◌, Option, Some, None, drop, map, length, get_or, drop-cons, add-one, refl, sym, ap, ◌∙◌, subst, append-nil}
 use mathlib.Core.Path.{fun_ext}
-use Rattle.std.proofs.lemmas.List.{take_at, drop-map}
+use Rattle.std.proofs.lemmas.List.{drop-map}
 use Rattle.ccr_pipeline.specs.declared.step.When.{When}
 use Rattle.ccr_pipeline.specs.Tree.{Text, ConfigData, Tree, GetData, PutData, TaskData, SourceData, config, file, get, put, task, in_order, in_parallel, tried, attempts, hook, trees_of, tree_of}
 use Rattle.ccr_pipeline.specs.declared.step.Step.{Step}
@@ -19,17 +19,6 @@ use Rattle.ccr_steps.proofs.Under.{came_under, ended_under, under_try, under_tri
 
 abbrev task_with : Text → ConfigData → List (Text × Text) → TaskData
 task_with name k env = record { name = name; source = config k; params = env }
-
-cut_back : (old : List Frame) (f : Frame) (mid new : List Frame) → mid ≡ old ++ f ∷ [] → new ≡ take (length old) mid → new ≡ old
-cut_back old f mid new m e = e ∙ ap (take (length old)) m ∙ take_at old (f ∷ []) (length old) refl
-
-pub began_then : (p : Chosen → Play) (t : Tree) (g : GainsData) (f : Frame) (old mid now new : List Frame) (r : Option Outcome) → is_some r ≡ true → mid ≡ old ++ f ∷ [] → new ≡ take (length old) now → Came p t g mid now r → CameUnder f p t g old new r
-began_then p t g f old mid now new None some m e came = absurd (cc (some))
-began_then p t g f old mid now new (Some o) some m e came = (cut_back old f mid new m (e ∙ ap (take (length old)) came.0), came.1)
-
-pub began_else : (p : Chosen → Play) (t : Tree) (g : GainsData) (f : Frame) (old mid new : List Frame) (r : Option Outcome) → is_some r ≡ false → mid ≡ old ++ f ∷ [] → Came p t g mid new r → CameUnder f p t g old new r
-began_else p t g f old mid new (Some o) some m came = absurd (cc (some))
-began_else p t g f old mid new None some m (added, is, waits) = (added, is ∙ ap (λ l. l ++ added) m ∙ append_assoc old (f ∷ []) added, waits)
 
 came_leaf : (T : Tree) (g : GainsData) (old : List Frame) → ((c : Chosen) → Waits c T [] first) → ((c : Chosen) → play c T g ≡ waiting c T [] first g) → Came (λ c. play c T g) T g old old None
 came_leaf T g old w e = ([], sym (append-nil old), λ c. (w c, e c))
@@ -83,15 +72,8 @@ pub tries_came : (left : ℕ) (t : Tree) (g : GainsData) (old new : List Frame) 
 tries_came left t g old new n None came = came_under (λ c. play c t g) (λ c. tries left (play c t) g) (Left left) t (attempts n t) (λ c. more_tries left (play c t)) g old new None (under_tries left n t) (λ c. tries_then left (play c t) g) refl came
 tries_came left t g old new n (Some o) came = (came.0, λ c. tries_end left (play c t) o g (came.1 c))
 
--- a hook
-pub hook_not : (w : When) (h t : Tree) (o : Outcome) (g : GainsData) (old : List Frame) → runs_after w o ≡ false → Came (λ c. after_hooked w (play c h) o g) (hook w t h) g old old (Some o)
-hook_not w h t o g old e = (refl, λ c. ap (λ b. hook_if b (play c h) o g) e)
-
 pub hook_none : (w : When) (h t : Tree) (o : Outcome) (g : GainsData) (old new : List Frame) (r : Option Outcome) → runs_after w o ≡ true → r ≡ None → CameUnder (Hook o) (λ c. play c h g) h g old new r → Came (λ c. after_hooked w (play c h) o g) (hook w t h) g old new None
 hook_none w h t o g old new r e none came = came_under (λ c. play c h g) (λ c. after_hooked w (play c h) o g) (Hook o) h (hook w t h) (λ c. and_worse_end o) g old new r (under_hook w t h o) (λ c. ap (λ b. hook_if b (play c h) o g) e) none came
-
-pub hook_some : (w : When) (h t : Tree) (o end : Outcome) (g : GainsData) (old new : List Frame) (r : Option Outcome) → runs_after w o ≡ true → r ≡ Some end → CameUnder (Hook o) (λ c. play c h g) h g old new r → Came (λ c. after_hooked w (play c h) o g) (hook w t h) g old new (Some (worse o end))
-hook_some w h t o end g old new r e some came = ended_under (λ c. play c h g) (λ c. after_hooked w (play c h) o g) (Hook o) h (λ c. and_worse_end o) g old new r end (λ c. ap (λ b. hook_if b (play c h) o g) e) some came
 
 -- a list from one of its members on
 pub from_cut : (steps : List Step) (i : ℕ) (s : Step) → i < length steps → s ≡ get_or steps i s → map tree_of (drop i steps) ≡ tree_of s ∷ map tree_of (drop (i + 1) steps)
@@ -108,9 +90,6 @@ module _ (steps : List Step) (i : ℕ) (s : Step) (l : i < length steps) (is : s
   in_order_none worst e none came =
       came_under (λ c. play c (tree_of s) g) p (At i worst) (tree_of s) (in_order (trees_of (map tree_of steps))) (λ c. after_do (play_in_order c (trees_of (map tree_of (drop (i + 1) steps))))) g old new r
       (under_at (map tree_of steps) i (tree_of s) (map tree_of (drop (i + 1) steps)) worst (list_cut steps i s l is)) (in_order_now e) none came
-
-  pub in_order_some : (worst o : Outcome) → ((c : Chosen) → p c ≡ play_in_order c (trees_of (map tree_of (drop i steps))) g) → r ≡ Some o → CameUnder (At i worst) (λ c. play c (tree_of s) g) (tree_of s) g old new r → (new ≡ old) × ((c : Chosen) → p c ≡ after_do (play_in_order c (trees_of (map tree_of (drop (i + 1) steps)))) o g)
-  in_order_some worst o e some came = ended_under (λ c. play c (tree_of s) g) p (At i worst) (tree_of s) (λ c. after_do (play_in_order c (trees_of (map tree_of (drop (i + 1) steps))))) g old new r o (in_order_now e) some came
 
   all_now : (worst : Outcome) → ((c : Chosen) → p c ≡ and_then (play_all c (trees_of (map tree_of (drop i steps))) g) (and_worse_end worst)) → (c : Chosen) → p c ≡ and_then (play c (tree_of s) g) (and_worst worst (play_all c (trees_of (map tree_of (drop (i + 1) steps)))))
   all_now worst e c = e c ∙ ap (λ ts. and_then (play_all c (trees_of ts) g) (and_worse_end worst)) (from_cut steps i s l is) ∙ then_then (play c (tree_of s) g) (and_worse (play_all c (trees_of (map tree_of (drop (i + 1) steps))))) (and_worse_end worst)
@@ -147,9 +126,6 @@ module _ (T : Tree) (g : GainsData) (old new : List Frame) (r : Option Outcome) 
   pub begun_try_none : (t : Tree) → T ≡ tried t → r ≡ None → CameUnder In (λ c. play c t g) t g old new r → Came (λ c. play c T g) T g old new None
   begun_try_none t e none came = subst (λ x. Came (λ c. play c x g) x g old new None) (sym e) (try_none (λ c. play c t g) t (λ c. play c (tried t) g) g old new r (λ c. refl) none came)
 
-  pub begun_try_some : (t : Tree) (o : Outcome) → T ≡ tried t → r ≡ Some o → CameUnder In (λ c. play c t g) t g old new r → Came (λ c. play c T g) T g old new (Some (tried_outcome o))
-  begun_try_some t o e some came = subst (λ x. Came (λ c. play c x g) x g old new (Some (tried_outcome o))) (sym e) (try_some (λ c. play c t g) t (λ c. play c (tried t) g) g old new r o (λ c. refl) some came)
-
   pub begun_tries : (n k : ℕ) (t : Tree) → k ≡ n - 1 → T ≡ attempts n t → ((m : ℕ) → Came (λ c. tries k (play c t) g) (attempts m t) g old new r) → Came (λ c. play c T g) T g old new r
   begun_tries n k t left e came = begun_at (attempts n t) e (subst (λ k. Came (λ c. tries k (play c t) g) (attempts n t) g old new r) left (came n))
 
@@ -172,14 +148,6 @@ retry_on n now Aborted g e = absurd (cc (e))
 pub retry_same : (left : ℕ) (now : Going) (o : Outcome) (g : GainsData) → 0 < left → is_tried_again o ≡ true → more_tries left now o g ≡ tries (left - 1) now g
 retry_same zero now o g l e = absurd (omega arith)
 retry_same (suc n) now o g l e = let one : suc n - 1 ≡ n = omega arith in retry_on n now o g e ∙ ap (λ k. tries k now g) (sym one)
-
--- a try that isn't followed by another
-pub retry_not : (left : ℕ) (now : Going) (o : Outcome) (g : GainsData) → is_tried_again o ≡ false → more_tries left now o g ≡ ended o g
-retry_not zero now o g e = refl
-retry_not (suc n) now Succeeded g e = refl
-retry_not (suc n) now Failed g e = absurd (cc (e))
-retry_not (suc n) now Errored g e = absurd (cc (e))
-retry_not (suc n) now Aborted g e = refl
 
 pub retry_came : (left : ℕ) (t : Tree) (o : Outcome) (g : GainsData) (old new : List Frame) (n : ℕ) (r : Option Outcome) → 0 < left → is_tried_again o ≡ true → Came (λ c. tries (left - 1) (play c t) g) (attempts n t) g old new r → Came (λ c. more_tries left (play c t) o g) (attempts n t) g old new r
 retry_came left t o g old new n r l e came = same_came T g old new r (λ c. more_tries left (play c t) o g) (λ c. tries (left - 1) (play c t) g) (attempts n t) (λ c. retry_same left (play c t) o g l e) came

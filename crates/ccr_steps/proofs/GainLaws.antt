@@ -1,10 +1,9 @@
 -- Gains that grow.
-use Rattle.std.proofs.Common.{◌≡◌, Bool, true, false, ◌||◌, cond, ℕ, ◌+◌, ◌<◌, get_or, drop, drop-cons, add-one, List, [], ◌∷◌, ◌++◌, map, take, length, refl, sym, ap, ◌∙◌, append-nil, append_assoc}
+use Rattle.std.proofs.Common.{◌≡◌, Bool, true, false, ◌||◌, cond, ℕ, ◌+◌, ◌<◌, get_or, drop, drop-cons, add-one, List, [], ◌∷◌, ◌++◌, map, length, refl, sym, ap, ◌∙◌, append-nil, append_assoc}
 use Rattle.std.specs.List.{list_any}
-use Rattle.std.proofs.lemmas.List.{take_at}
 use Rattle.ccr_pipeline.specs.Names.{has_name}
 use Rattle.ccr_pipeline.specs.Tree.{Text}
-use Rattle.ccr_steps.specs.Gains.{GainsData, MovedData, Grew, register}
+use Rattle.ccr_steps.specs.Gains.{GainsData, Grew, register}
 
 pub list_any-map : {X Y : Type 0} (p : X → Bool) (f : Y → X) (ys : List Y) → list_any p (map f ys) ≡ list_any (λ y. p (f y)) ys
 list_any-map p f [] = refl
@@ -23,16 +22,6 @@ name_grew false names name = (name ∷ [], refl)
 
 pub register_grew : (name : Text) (g : GainsData) → Grew g (register name g)
 register_grew name g = let (more, e) = name_grew (has_name g.names name) g.names name in (more, [], e, sym (append-nil g.moved))
-
-moved_grew : (b : Bool) (ms : List MovedData) (m : MovedData) → (more : List MovedData) × (cond b ms (ms ++ m ∷ []) ≡ ms ++ more)
-moved_grew true ms m = ([], sym (append-nil ms))
-moved_grew false ms m = (m ∷ [], refl)
-
-pub cut_names : (old new : GainsData) → Grew old new → take (length old.names) new.names ≡ old.names
-cut_names old new (ns, ms, n, m) = ap (take (length old.names)) n ∙ take_at old.names ns (length old.names) refl
-
-pub cut_moved : (old new : GainsData) → Grew old new → take (length old.moved) new.moved ≡ old.moved
-cut_moved old new (ns, ms, n, m) = ap (take (length old.moved)) m ∙ take_at old.moved ms (length old.moved) refl
 
 pub map_push : {X Y : Type 0} (f : X → Y) (xs : List X) (x : X) → map f (xs ++ x ∷ []) ≡ map f xs ++ f x ∷ []
 map_push f [] x = refl

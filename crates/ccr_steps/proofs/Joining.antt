@@ -52,12 +52,6 @@ worse_worse Errored Errored Aborted = refl
 worse_worse Errored Aborted c = refl
 worse_worse Aborted b c = refl
 
-pub worse_succeeded : (o : Outcome) → worse o Succeeded ≡ o
-worse_succeeded Succeeded = refl
-worse_succeeded Failed = refl
-worse_succeeded Errored = refl
-worse_succeeded Aborted = refl
-
 -- the worst of all: what came before, a step, and the rest
 pub worst_then : (rest : Going) (worst o : Outcome) (g : GainsData) → and_then (and_worse rest o g) (and_worse_end worst) ≡ and_then (rest g) (and_worse_end (worse worst o))
 worst_then rest worst o g = then_then (rest g) (and_worse_end o) (and_worse_end worst) ∙ then_same (rest g) (λ r. λ h. and_then (and_worse_end o r h) (and_worse_end worst)) (and_worse_end (worse worst o)) (λ r h. ap (λ w. ended w h) (worse_worse worst o r))
