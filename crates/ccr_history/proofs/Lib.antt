@@ -1,1 +1,2 @@
 pub mod TextMaps
+pub mod Items

@@ -1,2 +1,4 @@
 pub mod TextMap
 pub mod Members
+pub mod Objects
+pub mod ObjectData

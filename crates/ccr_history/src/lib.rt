@@ -9,11 +9,13 @@
 #![tactic(auto)]
 
 mod fault;
+mod object;
 mod pin;
 mod text_map;
 mod version;
 
 pub use fault::HistoryFault;
+pub use object::{Object, has_float};
 pub use pin::Pin;
 pub use version::Version;
 

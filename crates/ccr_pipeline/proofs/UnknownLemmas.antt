@@ -9,7 +9,7 @@ use Rattle.ccr_pipeline.specs.Keys.{path_at}
 use Rattle.ccr_pipeline.specs.Places.{spot, spots}
 use Rattle.ccr_pipeline.specs.Unknown.{unknown_at, unknown_spots, unknown_job, unknown_jobs}
 use Rattle.ccr_pipeline.proofs.Faulted.{first_append}
-use Rattle.ccr_pipeline.proofs.Loops.{left, left-cons}
+use Rattle.ccr_history.proofs.Items.{left, left-cons}
 use Rattle.ccr_pipeline.proofs.Visits.{spots-drop}
 
 pub unknown_fault : (resources jobs : List (List ℕ)) (xs : List Place) (i : ℕ) (x : Place) (all : Faults) (e : ReadFault) → all ≡ unknown_spots resources jobs (spots (drop i xs)) → i < length xs → x ≡ get_or xs i x → IsFirst (unknown_at resources jobs (spot x)) e → IsFirst all e

@@ -4,6 +4,7 @@ use Rattle.std.specs.Str.{bytes_eq}
 use Rattle.serde_json.specs.Data.{Data, null, Items, no_items, item, Members, no_members, member}
 use Rattle.serde_json.specs.Find.{as_null, as_str, as_bool, as_number, as_u64, as_array, as_object}
 use Rattle.serde_json.specs.Written.{has_float, compact_text}
+use Rattle.ccr_history.specs.Objects.{object_of}
 use Rattle.ccr_history.specs.TextMap.{TextMap, text_map_of}
 use Rattle.ccr_pipeline.specs.Keys.{at_key, or_else}
 use Rattle.ccr_pipeline.specs.Names.{text_at, texts_in}
@@ -28,6 +29,10 @@ whole_from k d = or_else (at_key k d) 0 (λ found. unwrap_or (option_and_then as
 -- the pin at a key
 abbrev pub pin_from : List ℕ → Data → Option TextMap
 pin_from k d = option_and_then text_map_of (at_key k d)
+
+-- the object at a key
+abbrev pub object_at : List ℕ → Data → Option Data
+object_at k d = option_and_then object_of (at_key k d)
 
 -- the value of a variable: a text as it stands, nothing for null, else compact JSON
 abbrev pub variable_value : Data → Text
@@ -81,7 +86,7 @@ wanted_from d = or_else (at_key (codes "version") d) latest wanted_in
 
 -- the resource of a get or put is its name, where it isn't said
 abbrev pub get_from : Data → GetData
-get_from d = record { name = text_or [] (codes "get") d; resource = text_or (text_or [] (codes "get") d) (codes "resource") d; passed = texts_from (codes "passed") d; trigger = truth_from (codes "trigger") d; params = at_key (codes "params") d; wanted = wanted_from d }
+get_from d = record { name = text_or [] (codes "get") d; resource = text_or (text_or [] (codes "get") d) (codes "resource") d; passed = texts_from (codes "passed") d; trigger = truth_from (codes "trigger") d; params = object_at (codes "params") d; wanted = wanted_from d }
 
 abbrev pub put_from : Data → PutData
-put_from d = record { name = text_or [] (codes "put") d; resource = text_or (text_or [] (codes "put") d) (codes "resource") d; params = at_key (codes "params") d; get_params = at_key (codes "get_params") d; no_get = truth_from (codes "no_get") d }
+put_from d = record { name = text_or [] (codes "put") d; resource = text_or (text_or [] (codes "put") d) (codes "resource") d; params = object_at (codes "params") d; get_params = object_at (codes "get_params") d; no_get = truth_from (codes "no_get") d }

@@ -2,13 +2,13 @@
 use Rattle.std.specs.Prelude.{◌≡◌, ℕ, Bool, List, [], ◌∷◌, Option, map, option_map, string_bytes, codes, ⊤}
 use Rattle.serde_json.specs.Data.{Data, Items, no_items, item}
 use Rattle.serde_json.specs.Find.{as_array}
-use Rattle.serde_json.specs.View.{view}
+use Rattle.ccr_history.specs.ObjectData.{object_data}
 use Rattle.ccr_history.specs.TextMap.{TextMap}
 use Rattle.ccr_pipeline.specs.declared.pipeline.Pipeline.{Pipeline}
 use Rattle.ccr_pipeline.specs.declared.resource.Resource.{Resource}
 use Rattle.ccr_pipeline.specs.declared.resource.Job.{Job}
 use Rattle.ccr_pipeline.specs.Keys.{at_key, or_else}
-use Rattle.ccr_pipeline.specs.Meaning.{text_or, texts_from, truth_from, whole_from, pin_from}
+use Rattle.ccr_pipeline.specs.Meaning.{text_or, texts_from, truth_from, whole_from, object_at, pin_from}
 use Rattle.ccr_pipeline.specs.Limits.{IsPlan}
 use Rattle.ccr_pipeline.specs.Plans.{plan_from}
 use Rattle.ccr_pipeline.specs.Tree.{Text, Tree, tree_of}
@@ -21,7 +21,7 @@ pub record ResourceData : Type 0 where
   pub version : Option TextMap
 
 abbrev pub resource_data : Resource → ResourceData
-resource_data r = record { name = string_bytes r.name; kind = string_bytes r.kind; source = option_map view r.source; version = r.version }
+resource_data r = record { name = string_bytes r.name; kind = string_bytes r.kind; source = option_map object_data r.source; version = r.version }
 
 pub record JobData : Type 0 where
   pub name : Text
@@ -34,7 +34,7 @@ abbrev pub job_data : Job → JobData
 job_data j = record { name = string_bytes j.name; plan = tree_of j.plan; serial = j.serial; serial_groups = map string_bytes j.serial_groups.items; max_in_flight = j.max_in_flight }
 
 abbrev pub resource_from : Data → ResourceData
-resource_from d = record { name = text_or [] (codes "name") d; kind = text_or [] (codes "type") d; source = at_key (codes "source") d; version = pin_from (codes "version") d }
+resource_from d = record { name = text_or [] (codes "name") d; kind = text_or [] (codes "type") d; source = object_at (codes "source") d; version = pin_from (codes "version") d }
 
 abbrev pub resources_in : Items → List ResourceData
 resources_in no_items = []

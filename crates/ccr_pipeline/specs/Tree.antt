@@ -1,7 +1,7 @@
 -- What the types of this crate hold, without where it lies in memory.
 use Rattle.std.specs.Prelude.{ℕ, Bool, List, [], ◌∷◌, Option, map, option_map, string_bytes}
 use Rattle.serde_json.specs.Data.{Data}
-use Rattle.serde_json.specs.View.{view}
+use Rattle.ccr_history.specs.ObjectData.{object_data}
 use Rattle.ccr_history.specs.TextMap.{TextMap}
 use Rattle.ccr_pipeline.specs.declared.task.Run.{Run}
 use Rattle.ccr_pipeline.specs.declared.task.TaskInput.{TaskInput}
@@ -42,7 +42,7 @@ pub record GetData : Type 0 where
   pub wanted : WantedData
 
 abbrev pub get_data : Get → GetData
-get_data g = record { name = string_bytes g.name; resource = string_bytes g.resource; passed = map string_bytes g.passed.items; trigger = g.trigger; params = option_map view g.params; wanted = wanted_data g.wanted }
+get_data g = record { name = string_bytes g.name; resource = string_bytes g.resource; passed = map string_bytes g.passed.items; trigger = g.trigger; params = option_map object_data g.params; wanted = wanted_data g.wanted }
 
 pub record PutData : Type 0 where
   pub name : Text
@@ -52,7 +52,7 @@ pub record PutData : Type 0 where
   pub no_get : Bool
 
 abbrev pub put_data : Put → PutData
-put_data p = record { name = string_bytes p.name; resource = string_bytes p.resource; params = option_map view p.params; get_params = option_map view p.get_params; no_get = p.no_get }
+put_data p = record { name = string_bytes p.name; resource = string_bytes p.resource; params = option_map object_data p.params; get_params = option_map object_data p.get_params; no_get = p.no_get }
 
 pub record RunData : Type 0 where
   pub path : Text

@@ -4,17 +4,17 @@
 //! empty, false or none.
 ghost use Rattle.std.specs.Prelude.{◌≡◌, ◌++◌, [], map, option_map, IfOk, OnOk, string_bytes, codes};
 ghost use Rattle.serde_json.specs.View.{view, items_view, members_view};
+ghost use Rattle.ccr_history.specs.ObjectData.{object_data};
 ghost use Rattle.ccr_pipeline.specs.Keys.{at_key, or_else};
 ghost use Rattle.ccr_pipeline.specs.Names.{text_at, texts_in};
 ghost use Rattle.ccr_pipeline.specs.Tree.{run_data, input_data, variable_data, config_data, source_data, task_data, wanted_data, get_data, put_data};
-ghost use Rattle.ccr_pipeline.specs.Meaning.{text_or, texts_from, truth_from, whole_from, variable_value, variables_in, variables_from, run_from, inputs_in, inputs_from, outputs_in, outputs_from, config_from, source_from, task_from, wanted_in, wanted_from, get_from, put_from, pin_from};
+ghost use Rattle.ccr_pipeline.specs.Meaning.{text_or, texts_from, truth_from, whole_from, object_at, variable_value, variables_in, variables_from, run_from, inputs_in, inputs_from, outputs_in, outputs_from, config_from, source_from, task_from, wanted_in, wanted_from, get_from, put_from, pin_from};
 
 use crate::key::at_key;
-use crate::kind::has_float;
 use crate::names::text_at;
 use crate::step::{Get, Put, Wanted};
 use crate::task::{Run, Task, TaskConfig, TaskInput, TaskSource, Variable};
-use ccr_history::{HistoryFault, Pin};
+use ccr_history::{HistoryFault, Object, Pin, has_float};
 use serde_json::Value;
 use std::alloc::{AllocError, Global};
 use std::collections::BTreeMap;
@@ -86,12 +86,12 @@ pub(crate) fn whole(value: &Value, key: &str) -> u64
     }
 }
 
-/// A copy of what stands at a key.
-pub(crate) fn copied(value: &Value, key: &str) -> Result<Option<Value>, AllocError>
-    ensures { IfOk result (λ o. option_map view o ≡ at_key key.now (view value.now)) }
+/// The object at a key.
+pub(crate) fn object(value: &Value, key: &str) -> Result<Option<Object>, AllocError>
+    ensures { IfOk result (λ o. option_map object_data o ≡ object_at key.now (view value.now)) }
 {
     match at_key(value, key) {
-        Some(found) => Ok(Some(found.clone()?)),
+        Some(found) => Object::from_value(found),
         None => Ok(None),
     }
 }
@@ -279,7 +279,7 @@ pub(crate) fn get(alloc: Global, step: &Value) -> Result<Get, AllocError>
         name,
         passed: texts(alloc, step, "passed")?,
         trigger: truth(step, "trigger"),
-        params: copied(step, "params")?,
+        params: object(step, "params")?,
         wanted: wanted(step)?,
     })
 }
@@ -292,8 +292,8 @@ pub(crate) fn put(alloc: Global, step: &Value) -> Result<Put, AllocError>
     Ok(Put {
         resource: text_or(alloc, step, "resource", name.as_str())?,
         name,
-        params: copied(step, "params")?,
-        get_params: copied(step, "get_params")?,
+        params: object(step, "params")?,
+        get_params: object(step, "get_params")?,
         no_get: truth(step, "no_get"),
     })
 }

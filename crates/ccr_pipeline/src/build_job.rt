@@ -9,7 +9,7 @@ ghost use Rattle.ccr_pipeline.specs.Plans.{plan_from};
 ghost use Rattle.ccr_pipeline.specs.Steps.{trees_in, step_tree, with_hooks};
 ghost use Rattle.ccr_pipeline.specs.Tree.{tree_of, trees_of};
 
-use crate::build::{copied, pin, text, texts, truth, whole};
+use crate::build::{object, pin, text, texts, truth, whole};
 use crate::build_step::{add_hooks, steps_of};
 use crate::key::at_key;
 use crate::place::LEVELS;
@@ -25,7 +25,7 @@ fn resource(alloc: Global, value: &Value) -> Result<Resource, AllocError>
     Ok(Resource {
         name: text(alloc, value, "name")?,
         kind: text(alloc, value, "type")?,
-        source: copied(value, "source")?,
+        source: object(value, "source")?,
         version: pin(value, "version")?,
     })
 }

@@ -9,7 +9,7 @@ ghost use Rattle.ccr_pipeline.specs.Kinds.{optional, required, broken, optional_
 ghost use Rattle.ccr_pipeline.specs.Names.{names_at, new_name, with_names};
 ghost use Rattle.ccr_pipeline.specs.Places.{spots, plan_steps, job_hooks, gets_at};
 ghost use Rattle.ccr_pipeline.specs.StepRules.{visits};
-ghost use Rattle.ccr_pipeline.specs.Inputs.{input_data, named_jobs};
+ghost use Rattle.ccr_pipeline.specs.Inputs.{are_few, input_data, named_jobs};
 ghost use Rattle.ccr_pipeline.specs.JobRules.{resource_faults, resource_keys, job_faults, job_opening, job_rest, after_plan, job_keys, too_many, member_faults, members, member_items, names_in, member_list, list_names};
 
 use crate::build_job::plan;
@@ -112,6 +112,15 @@ fn add_texts(alloc: Global, names: &mut Names, texts: &[String]) -> Result<(), A
     Ok(())
 }
 
+/// Whether there are at most 32 inputs, which name at most 32 jobs.
+fn are_few_inputs(alloc: Global, inputs: &[Input]) -> Result<bool, AllocError>
+    ensures { IfOk result (λ few. few ≡ are_few (map input_data inputs.now)) }
+{
+    let mut jobs = Names::new(alloc);
+    add_named_jobs(alloc, &mut jobs, inputs)?;
+    Ok(inputs.len() <= MOST_INPUTS && jobs.len() <= MOST_INPUTS)
+}
+
 /// Refuses a plan with too many inputs or named jobs.
 #[tactic(auto, unfolding(crate::specs::JobRules::too_many))]
 fn check_number(alloc: Global, job: &Value, path: &str) -> Result<(), ReadFault>
@@ -119,9 +128,7 @@ fn check_number(alloc: Global, job: &Value, path: &str) -> Result<(), ReadFault>
 {
     let plan = plan(alloc, job)?;
     let inputs = inputs_in(alloc, &plan)?;
-    let mut jobs = Names::new(alloc);
-    add_named_jobs(alloc, &mut jobs, &inputs)?;
-    let fit = inputs.len() <= MOST_INPUTS && jobs.len() <= MOST_INPUTS;
+    let fit = are_few_inputs(alloc, &inputs)?;
     require_at(alloc, fit, Rule::Number, path, "plan")
 }
 

@@ -1,7 +1,6 @@
 //! The kinds of value that a key may have, and their tests.
 ghost use Rattle.std.specs.Prelude.{◌≡◌, ◌++◌, [], length, drop, option_map, string_bytes};
 ghost use Rattle.std.specs.List.{list_all};
-ghost use Rattle.serde_json.specs.Written.{has_float, items_have_float, members_have_float};
 ghost use Rattle.serde_json.specs.View.{view, items_view, members_view};
 ghost use Rattle.ccr_pipeline.specs.Faults.{unless, Checks, StartsWith, IsFirst, fault_of};
 ghost use Rattle.ccr_pipeline.specs.Keys.{at_key, or_else, path_below, path_at};
@@ -9,6 +8,7 @@ ghost use Rattle.ccr_pipeline.specs.Kinds.{is_name, is_name_byte, is_text, broke
 
 use crate::fault::{ReadFault, Rule};
 use crate::key::{at_key, path_at, path_below, require, require_at};
+use ccr_history::has_float;
 use serde_json::Value;
 use std::alloc::Global;
 use std::collections::BTreeMap;
@@ -57,43 +57,6 @@ pub(crate) fn is_name(text: &str) -> bool
         return false;
     }
     has_name_bytes(text.as_bytes())
-}
-
-/// Whether a number in the value isn't whole, or is out of the range of 64 bits.
-#[cycle(float)]
-pub(crate) fn has_float(value: &Value) -> bool
-    ensures { result ≡ has_float (view value.now) }
-{
-    match value {
-        Value::Number(number) => number.is_f64(),
-        Value::Array(items) => items_have_float(items),
-        Value::Object(members) => members_have_float(members),
-        _ => false,
-    }
-}
-
-#[cycle(float)]
-fn items_have_float(items: &Vec<Value>) -> bool
-    ensures { result ≡ items_have_float (items_view items.now.items) }
-{
-    for item in items {
-        if has_float(item) {
-            return true;
-        }
-    }
-    false
-}
-
-#[cycle(float)]
-fn members_have_float(members: &BTreeMap<String, Value>) -> bool
-    ensures { result ≡ members_have_float (members_view members.now.entries) }
-{
-    for (_, member) in members.iter() {
-        if has_float(member) {
-            return true;
-        }
-    }
-    false
 }
 
 fn check_name(alloc: Global, text: &str, path: &str, key: &str) -> Result<(), ReadFault>

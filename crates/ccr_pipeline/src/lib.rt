@@ -20,6 +20,7 @@ mod build_step;
 mod check_job;
 mod check_step;
 mod check_task;
+mod copy;
 mod fault;
 mod input;
 mod key;

@@ -6,8 +6,7 @@ ghost use Rattle.std.proofs.Props.{props};
 ghost use Rattle.ccr_pipeline.specs.Tree.{tree_of};
 
 use crate::step::Step;
-use ccr_history::Pin;
-use serde_json::Value;
+use ccr_history::{Object, Pin};
 
 /// A resource (Concourse: resources).
 #[derive(Drop)]
@@ -16,8 +15,8 @@ pub struct Resource {
     pub name: String,
     /// Its type, which names its programs.
     pub kind: String,
-    /// What its programs are given, an object.
-    pub source: Option<Value>,
+    /// What its programs are given.
+    pub source: Option<Object>,
     /// The pin that the pipeline sets.
     pub version: Option<Pin>,
 }

@@ -3,8 +3,7 @@ ghost use Rattle.std.specs.Prelude.{◌≡◌};
 ghost use Rattle.ccr_pipeline.specs.Hooks.{hook_key};
 
 use crate::task::Task;
-use ccr_history::Pin;
-use serde_json::Value;
+use ccr_history::{Object, Pin};
 
 /// Which versions a get wants.
 #[derive(Drop)]
@@ -28,8 +27,8 @@ pub struct Get {
     pub passed: Vec<String>,
     /// Whether a new version makes a build.
     pub trigger: bool,
-    /// What the resource's program is given, an object.
-    pub params: Option<Value>,
+    /// What the resource's program is given.
+    pub params: Option<Object>,
     /// Which versions it wants.
     pub wanted: Wanted,
 }
@@ -41,10 +40,10 @@ pub struct Put {
     pub name: String,
     /// The resource, by the artifact's name where the step doesn't say.
     pub resource: String,
-    /// What the resource's program is given to push, an object.
-    pub params: Option<Value>,
-    /// What it is given to fetch what was pushed, an object.
-    pub get_params: Option<Value>,
+    /// What the resource's program is given to push.
+    pub params: Option<Object>,
+    /// What it is given to fetch what was pushed.
+    pub get_params: Option<Object>,
     /// Whether what was pushed isn't fetched.
     pub no_get: bool,
 }

@@ -1,7 +1,7 @@
 //! What is printed for programs that are started.
 
 use crate::answer::Answer;
-use ccr_history::Version;
+use ccr_history::{Object, Version};
 use ccr_process::{Ended, Launch, Machine, Runner};
 use ccr_protocol::{
     ReplyFault, RequestFault, check_request, in_request, out_request, read_check, read_in, read_out,
@@ -109,6 +109,36 @@ fn refused(alloc: Global, mut lines: String, refusal: Refusal) -> Result<Answer,
     Ok(Answer { lines, status: 1 })
 }
 
+/// What a resource type's programs are given.
+#[derive(Drop)]
+struct Settings {
+    source: Option<Object>,
+    params: Option<Object>,
+}
+
+/// The object at a key of the request, if there is one; a value that isn't such an object is of the wrong kind.
+fn object_at(request: &Value, key: &str) -> Result<Option<Object>, Refusal> {
+    let Some(found) = request.get(key) else {
+        return Ok(None);
+    };
+    match Object::from_value(found)? {
+        Some(object) => Ok(Some(object)),
+        None => Err(Refusal::Reply(ReplyFault::WrongKind)),
+    }
+}
+
+/// The source and the params of `{"source":..,"params":..}`.
+fn settings(alloc: Global, text: &[u8]) -> Result<Settings, Refusal> {
+    match Value::from_slice(alloc, text) {
+        Ok(request) => Ok(Settings {
+            source: object_at(&request, "source")?,
+            params: object_at(&request, "params")?,
+        }),
+        Err(error) if error.is_memory() => Err(Refusal::NoMemory),
+        Err(_) => Err(Refusal::Reply(ReplyFault::NotJson)),
+    }
+}
+
 /// A resource type that is tried, in a folder that holds `in`, the folder of its artifact.
 #[derive(Clone, Copy)]
 pub(crate) struct Trial<'a> {
@@ -139,9 +169,9 @@ impl<'a> Trial<'a> {
         &self,
         alloc: Global,
         runner: &mut R,
-        request: &Value,
+        settings: &Settings,
     ) -> Result<Vec<Version>, Refusal> {
-        let input = check_request(alloc, request.get("source"), None)?;
+        let input = check_request(alloc, settings.source.as_ref(), None)?;
         let output = self.run(alloc, runner, "check", Vec::new(alloc), input)?;
         Ok(read_check(alloc, &output)?)
     }
@@ -150,10 +180,15 @@ impl<'a> Trial<'a> {
         &self,
         alloc: Global,
         runner: &mut R,
-        request: &Value,
+        settings: &Settings,
         version: &Version,
     ) -> Result<Version, Refusal> {
-        let input = in_request(alloc, request.get("source"), version, request.get("params"))?;
+        let input = in_request(
+            alloc,
+            settings.source.as_ref(),
+            version,
+            settings.params.as_ref(),
+        )?;
         let artifact = format!(in alloc; "{}/in", self.folder)?;
         let args = texts(alloc, &[artifact.as_str()])?;
         let output = self.run(alloc, runner, "in", args, input)?;
@@ -164,9 +199,9 @@ impl<'a> Trial<'a> {
         &self,
         alloc: Global,
         runner: &mut R,
-        request: &Value,
+        settings: &Settings,
     ) -> Result<Version, Refusal> {
-        let input = out_request(alloc, request.get("source"), request.get("params"))?;
+        let input = out_request(alloc, settings.source.as_ref(), settings.params.as_ref())?;
         let args = texts(alloc, &[self.folder])?;
         let output = self.run(alloc, runner, "out", args, input)?;
         Ok(read_out(alloc, &output)?)
@@ -177,18 +212,18 @@ impl<'a> Trial<'a> {
         &self,
         alloc: Global,
         runner: &mut R,
-        request: &Value,
+        settings: &Settings,
         lines: &mut String,
     ) -> Result<(), Refusal> {
-        let found = self.check(alloc, runner, request)?;
+        let found = self.check(alloc, runner, settings)?;
         for version in &found {
             push_line(alloc, lines, "check", version)?;
         }
         if let Some(version) = found.last() {
-            let fetched = self.fetch(alloc, runner, request, version)?;
+            let fetched = self.fetch(alloc, runner, settings, version)?;
             push_line(alloc, lines, "in", &fetched)?;
         }
-        let pushed = self.push(alloc, runner, request)?;
+        let pushed = self.push(alloc, runner, settings)?;
         push_line(alloc, lines, "out", &pushed)?;
         Ok(())
     }
@@ -212,11 +247,9 @@ pub(crate) fn answer_type<R: Processes + Drop>(
     trial: &Trial,
 ) -> Result<Answer, AllocError> {
     let mut lines = String::new(alloc);
-    let tried = match Value::from_slice(alloc, text) {
-        Ok(request) => trial.try_all(alloc, &mut Machine::new(rt, alloc), &request, &mut lines),
-        Err(error) if error.is_memory() => Err(Refusal::NoMemory),
-        Err(_) => Err(Refusal::Reply(ReplyFault::NotJson)),
-    };
+    let tried = settings(alloc, text).and_then(|settings| {
+        trial.try_all(alloc, &mut Machine::new(rt, alloc), &settings, &mut lines)
+    });
     match tried {
         Ok(()) => Ok(Answer { lines, status: 0 }),
         Err(refusal) => refused(alloc, lines, refusal),

@@ -1,7 +1,7 @@
 //! A build of one job, step by step: the answers are lines, and so are its asks.
 
 use crate::answer::{Answer, refused};
-use ccr_history::{HistoryFault, Version};
+use ccr_history::{HistoryFault, Object, Version};
 use ccr_pipeline::{Job, Pipeline, ReadFault, TaskConfig, Variable, read, read_task};
 use ccr_steps::{Answered, Ask, BuildRun, FeedFault, Outcome, start};
 use serde_json::{Map, Value};
@@ -26,10 +26,10 @@ fn put_text(alloc: Global, members: &mut Members, key: &str, text: &str) -> Resu
 fn put_params(
     alloc: Global,
     members: &mut Members,
-    params: Option<&Value>,
+    params: Option<&Object>,
 ) -> Result<(), AllocError> {
     match params {
-        Some(params) => put(alloc, members, "params", params.clone()?),
+        Some(params) => put(alloc, members, "params", params.as_value().clone()?),
         None => Ok(()),
     }
 }

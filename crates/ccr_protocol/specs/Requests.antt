@@ -1,19 +1,18 @@
 -- What a resource's program is sent on its standard input.
-use Rattle.std.specs.Prelude.{◌≡◌, ℕ, ◌<◌, ◌≤◌, List, false, Option, Some, None, option_map, unwrap_or, Result, Ok, Err, codes, length, Vec, ⊤}
-use Rattle.std.specs.Option.{option_map_or}
+use Rattle.std.specs.Prelude.{◌≡◌, ℕ, ◌<◌, ◌≤◌, List, Option, Some, None, option_map, unwrap_or, Result, Ok, Err, codes, length, Vec, ⊤}
 use Rattle.std.specs.Borrow.{Bor}
 use Rattle.std.specs.declared.alloc.Global.{Global}
 use Rattle.serde_json.specs.Data.{Data, object, Members, no_members, member}
-use Rattle.serde_json.specs.View.{view}
-use Rattle.serde_json.specs.declared.value.Value.{Value}
-use Rattle.serde_json.specs.Written.{compact_text, has_float}
+use Rattle.serde_json.specs.Written.{compact_text}
+use Rattle.ccr_history.specs.declared.object.Object.{Object}
+use Rattle.ccr_history.specs.ObjectData.{object_data}
 use Rattle.ccr_history.specs.TextMap.{TextMap, members_of}
 use Rattle.ccr_protocol.specs.declared.fault.RequestFault.{RequestFault}
 use Rattle.ccr_protocol.specs.declared.fault.RequestFault.TheVariants.{TooLong, NoMemory}
 
--- what a value stands for, if there is one
-abbrev pub data_of : Option (Bor Value) → Option Data
-data_of value = option_map (λ v. view v.now) value
+-- what an object holds, if there is one
+abbrev pub data_of : Option (Bor Object) → Option Data
+data_of found = option_map (λ o. object_data o.now) found
 
 -- what is absent has no member
 abbrev pub member_if : List ℕ → Option Data → Members → Members
@@ -38,10 +37,6 @@ request_data params source version =
 -- its bytes: compact JSON without a line end
 unfoldable pub request_text : Option Data → Option Data → Option TextMap → List ℕ
 request_text params source version = compact_text (request_data params source version)
-
--- no number in the value, if there is one, is a float: a pipeline's values hold none
-abbrev pub HasNoFloat : Option Data → Type 0
-HasNoFloat value = option_map_or has_float value false ≡ false
 
 -- a text of at most 65,536 bytes is sent as it is, a longer one is refused; of memory it says nothing
 abbrev pub Sends : List ℕ → Result (Vec ℕ Global) RequestFault → Type 0

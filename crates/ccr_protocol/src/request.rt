@@ -3,37 +3,36 @@ ghost use Rattle.std.specs.Prelude.{◌≡◌, ◌++◌, [], Some, None, IfOk, s
 ghost use Rattle.std.specs.Option.{option_map_or, option_copied};
 ghost use Rattle.serde_json.specs.Written.{compact_text};
 ghost use Rattle.ccr_history.specs.TextMap.{key_text};
-ghost use Rattle.ccr_protocol.specs.Requests.{data_of, request_text, source_or_empty, HasNoFloat, Sends};
+ghost use Rattle.ccr_protocol.specs.Requests.{data_of, request_text, source_or_empty, Sends};
 
 use crate::fault::RequestFault;
-use ccr_history::Version;
-use serde_json::Value;
+use ccr_history::{Object, Version};
 use std::alloc::{AllocError, Global};
 
 /// How many bytes a request may have.
 const MOST_BYTES: usize = 65_536;
 
 /// The member of the params, with the comma that follows it; nothing where there are none.
-fn params_member(alloc: Global, params: Option<&Value>) -> Result<String, AllocError>
-    ensures { HasNoFloat (data_of params.entry) → IfOk result (λ text. string_bytes text
+fn params_member(alloc: Global, params: Option<&Object>) -> Result<String, AllocError>
+    ensures { IfOk result (λ text. string_bytes text
         ≡ option_map_or (λ d. codes "\"params\":" ++ compact_text d ++ codes ",") (data_of params.entry) []) }
 {
     let mut text = String::new(alloc);
     if let Some(params) = params {
         text.push_str("\"params\":")?;
-        text.push_str(params.to_string(alloc)?.as_str())?;
+        text.push_str(params.text(alloc)?.as_str())?;
         text.push_str(",")?;
     }
     Ok(text)
 }
 
 /// The text of the source, an empty object where there is none.
-fn source_text(alloc: Global, source: Option<&Value>) -> Result<String, AllocError>
-    ensures { HasNoFloat (data_of source.entry) → IfOk result (λ text. string_bytes text
+fn source_text(alloc: Global, source: Option<&Object>) -> Result<String, AllocError>
+    ensures { IfOk result (λ text. string_bytes text
         ≡ compact_text (source_or_empty (data_of source.entry))) }
 {
     match source {
-        Some(source) => source.to_string(alloc),
+        Some(source) => source.text(alloc),
         None => String::from_str(alloc, "{}"),
     }
 }
@@ -54,12 +53,11 @@ fn version_member(alloc: Global, version: Option<&Version>) -> Result<String, Al
 /// The whole text.
 fn request_body(
     alloc: Global,
-    params: Option<&Value>,
-    source: Option<&Value>,
+    params: Option<&Object>,
+    source: Option<&Object>,
     version: Option<&Version>,
 ) -> Result<String, AllocError>
-    ensures { HasNoFloat (data_of params.entry) → HasNoFloat (data_of source.entry)
-        → IfOk result (λ text. string_bytes text
+    ensures { IfOk result (λ text. string_bytes text
         ≡ request_text (data_of params.entry) (data_of source.entry) (option_copied version.entry)) }
 {
     let params = params_member(alloc, params)?;
@@ -71,12 +69,11 @@ fn request_body(
 /// The text's bytes, if there aren't too many.
 fn request(
     alloc: Global,
-    params: Option<&Value>,
-    source: Option<&Value>,
+    params: Option<&Object>,
+    source: Option<&Object>,
     version: Option<&Version>,
 ) -> Result<Vec<u8>, RequestFault>
-    ensures { HasNoFloat (data_of params.entry) → HasNoFloat (data_of source.entry)
-        → Sends (request_text (data_of params.entry) (data_of source.entry) (option_copied version.entry)) result }
+    ensures { Sends (request_text (data_of params.entry) (data_of source.entry) (option_copied version.entry)) result }
 {
     let text = request_body(alloc, params, source, version)?;
     if text.len() > MOST_BYTES {
@@ -88,15 +85,13 @@ fn request(
 /// What `check` is given: the resource's source, and the version with the greatest place, if there is one
 /// (Concourse: implementing a resource type, check).
 ///
-/// The source is a pipeline's, whose numbers are all whole: of a float's text nothing is said. `TooLong` exactly where
-/// the text has more than 65,536 bytes; `NoMemory` where a growth was refused.
+/// `TooLong` exactly where the text has more than 65,536 bytes; `NoMemory` where a growth was refused.
 pub fn check_request(
     alloc: Global,
-    source: Option<&Value>,
+    source: Option<&Object>,
     version: Option<&Version>,
 ) -> Result<Vec<u8>, RequestFault>
-    ensures { HasNoFloat (data_of source.entry)
-        → Sends (request_text None (data_of source.entry) (option_copied version.entry)) result }
+    ensures { Sends (request_text None (data_of source.entry) (option_copied version.entry)) result }
 {
     request(alloc, None, source, version)
 }
@@ -104,16 +99,14 @@ pub fn check_request(
 /// What `in` is given: the step's params, if there are such, the resource's source and the version that is asked for
 /// (Concourse: implementing a resource type, in).
 ///
-/// Source and params are a pipeline's, whose numbers are all whole: of a float's text nothing is said. `TooLong`
-/// exactly where the text has more than 65,536 bytes; `NoMemory` where a growth was refused.
+/// `TooLong` exactly where the text has more than 65,536 bytes; `NoMemory` where a growth was refused.
 pub fn in_request(
     alloc: Global,
-    source: Option<&Value>,
+    source: Option<&Object>,
     version: &Version,
-    params: Option<&Value>,
+    params: Option<&Object>,
 ) -> Result<Vec<u8>, RequestFault>
-    ensures { HasNoFloat (data_of params.entry) → HasNoFloat (data_of source.entry)
-        → Sends (request_text (data_of params.entry) (data_of source.entry)
+    ensures { Sends (request_text (data_of params.entry) (data_of source.entry)
         (Some version.now)) result }
 {
     request(alloc, params, source, Some(version))
@@ -122,15 +115,13 @@ pub fn in_request(
 /// What `out` is given: the step's params, if there are such, and the resource's source
 /// (Concourse: implementing a resource type, out).
 ///
-/// Source and params are a pipeline's, whose numbers are all whole: of a float's text nothing is said. `TooLong`
-/// exactly where the text has more than 65,536 bytes; `NoMemory` where a growth was refused.
+/// `TooLong` exactly where the text has more than 65,536 bytes; `NoMemory` where a growth was refused.
 pub fn out_request(
     alloc: Global,
-    source: Option<&Value>,
-    params: Option<&Value>,
+    source: Option<&Object>,
+    params: Option<&Object>,
 ) -> Result<Vec<u8>, RequestFault>
-    ensures { HasNoFloat (data_of params.entry) → HasNoFloat (data_of source.entry)
-        → Sends (request_text (data_of params.entry) (data_of source.entry) None)
+    ensures { Sends (request_text (data_of params.entry) (data_of source.entry) None)
         result }
 {
     request(alloc, params, source, None)

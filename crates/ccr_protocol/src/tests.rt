@@ -1,10 +1,14 @@
 use super::*;
-use ccr_history::Version;
+use ccr_history::{Object, Version};
 use serde_json::Value;
 use std::test::Fail;
 
 fn json(rt: &HostRuntime, text: &str) -> Result<Value, serde_json::Error> {
     Value::from_str(rt.alloc(), text)
+}
+
+fn object(rt: &HostRuntime, text: &str) -> Result<Object, Fail> {
+    Ok(Object::from_value(&json(rt, text)?)?.expect(rt, "an object"))
 }
 
 /// The bytes of a request, or what refused it, in words.
@@ -42,8 +46,8 @@ fn stepped(rt: &HostRuntime, version: Result<Version, ReplyFault>) -> Result<Str
 fn requests_are_compact_with_ascending_keys(rt: HostRuntime) -> Result<(), Fail> {
     let alloc = rt.alloc();
     let version = Version::from_value(&json(&rt, "{\"n\":\"2\"}")?)?;
-    let source = json(&rt, "{\"uri\":\"x\",\"branch\":\"m\"}")?;
-    let params = json(&rt, "{ \"depth\": 1 }")?;
+    let source = object(&rt, "{\"uri\":\"x\",\"branch\":\"m\"}")?;
+    let params = object(&rt, "{ \"depth\": 1 }")?;
     for (request, text) in [
         (check_request(alloc, None, None), "{\"source\":{}}"),
         (
@@ -77,7 +81,7 @@ fn a_request_has_at_most_65536_bytes(rt: HostRuntime) -> Result<(), Fail> {
             text.push_str("a")?;
         }
         text.push_str("\"}")?;
-        let source = json(&rt, text.as_str())?;
+        let source = object(&rt, text.as_str())?;
         let request = out_request(rt.alloc(), Some(&source), None);
         assert_eq!(rt; request.ok().map(|bytes| bytes.len()), sent, "{letters}");
     }

@@ -2,7 +2,7 @@
 use Rattle.std.specs.Prelude.{List, [], ◌∷◌, Option, map, option_map, if◌then◌else◌}
 use Rattle.std.specs.Str.{bytes_eq}
 use Rattle.serde_json.specs.Data.{Data}
-use Rattle.serde_json.specs.View.{view}
+use Rattle.ccr_history.specs.ObjectData.{object_data}
 use Rattle.ccr_history.specs.TextMap.{TextMap}
 use Rattle.ccr_pipeline.specs.Tree.{Text, ConfigData, config_data, variable_data, GetData, PutData}
 use Rattle.ccr_steps.specs.declared.ask.Ask.{Ask}
@@ -18,8 +18,8 @@ pub data AskData : Type 0 where
   run_task : (config : ConfigData) (env : List (Text × Text)) → AskData
 
 abbrev pub ask_data : Ask → AskData
-ask_data (Fetch artifact resource version params) = fetch artifact.now resource.now version.now (option_map (λ p. view p.now) params)
-ask_data (Push artifact resource params) = push artifact.now resource.now (option_map (λ p. view p.now) params)
+ask_data (Fetch artifact resource version params) = fetch artifact.now resource.now version.now (option_map (λ p. object_data p.now) params)
+ask_data (Push artifact resource params) = push artifact.now resource.now (option_map (λ p. object_data p.now) params)
 ask_data (ReadConfig file) = read_config file.now
 ask_data (RunTask config env) = run_task (config_data config.now) (map variable_data env.now)
 

@@ -1,8 +1,7 @@
 //! What a build asks for, and what it is answered.
 
-use ccr_history::Version;
+use ccr_history::{Object, Version};
 use ccr_pipeline::{TaskConfig, Variable};
-use serde_json::Value;
 
 /// What a build waits for.
 #[derive(Clone, Copy)]
@@ -15,8 +14,8 @@ pub enum Ask<'r> {
         resource: &'r str,
         /// The version.
         version: &'r Version,
-        /// What the resource's program is given, an object.
-        params: Option<&'r Value>,
+        /// What the resource's program is given.
+        params: Option<&'r Object>,
     },
     /// A new version of a resource.
     Push {
@@ -24,8 +23,8 @@ pub enum Ask<'r> {
         artifact: &'r str,
         /// The resource.
         resource: &'r str,
-        /// What the resource's program is given, an object.
-        params: Option<&'r Value>,
+        /// What the resource's program is given.
+        params: Option<&'r Object>,
     },
     /// A task file.
     ReadConfig {

@@ -19,7 +19,6 @@ mod advance;
 mod ask;
 mod begin;
 mod chosen;
-mod copy;
 mod fault;
 mod frame;
 mod gains;

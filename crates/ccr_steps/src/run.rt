@@ -11,7 +11,6 @@ ghost use Rattle.ccr_steps.specs.Runs.{run_data, StandsFor, TakesAnswer, HasTurn
 use crate::ask::{Answered, Ask};
 use crate::begin::begin;
 use crate::chosen::Inputs;
-use crate::copy::copy_step;
 use crate::fault::FeedFault;
 use crate::frame::Leaf;
 use crate::gains::Gains;
@@ -39,7 +38,7 @@ pub fn start(alloc: Global, job: &Job, inputs: &[Version]) -> Result<BuildRun, A
     ensures { IfOk result (λ run. StandsFor (run_data run) (tree_of job.now.plan)
         (chosen (input_names (tree_of job.now.plan)) inputs.now) []) }
 {
-    let plan = copy_step(alloc, &job.plan)?;
+    let plan = job.plan.copy(alloc)?;
     let inputs = Inputs::new(alloc, job, inputs)?;
     let gains = Gains::new(alloc);
     let mut frames = Vec::new(alloc);

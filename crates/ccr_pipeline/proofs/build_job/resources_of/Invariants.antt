@@ -1,7 +1,7 @@
 use Rattle.std.proofs.Common.{◌≡◌, ◌++◌, map}
 use Rattle.serde_json.specs.View.{items_view}
 use Rattle.ccr_pipeline.specs.Pipelines.{resource_data, resources_in}
-use Rattle.ccr_pipeline.proofs.Loops.{left}
+use Rattle.ccr_history.proofs.Items.{left}
 use Rattle.ccr_pipeline.proofs.build_job.resources_of.Given as goal
 
 abbrev pub invariant-loop-member : goal.invariant-loop-member

@@ -1,15 +1,15 @@
-//! Copies of steps.
+//! Copies of steps, which last longer than their pipeline.
 ghost use Rattle.std.specs.Prelude.{◌≡◌, map, option_map, string_bytes, IfOk};
-ghost use Rattle.serde_json.specs.View.{view};
+ghost use Rattle.ccr_history.specs.ObjectData.{object_data};
 ghost use Rattle.ccr_pipeline.specs.Tree.{tree_of, get_data, put_data, task_data, source_data, config_data, run_data, input_data, variable_data, wanted_data};
 
-use ccr_pipeline::{
-    Get, Put, Run, Step, Task, TaskConfig, TaskInput, TaskSource, Variable, Wanted,
-};
-use serde_json::Value;
+use crate::step::{Get, Put, Step, Wanted};
+use crate::task::{Run, Task, TaskConfig, TaskInput, TaskSource, Variable};
+use ccr_history::Object;
 use std::alloc::{AllocError, Global};
 
-fn copy_texts(alloc: Global, texts: &[String]) -> Result<Vec<String>, AllocError>
+/// A copy of a list of texts.
+pub(crate) fn copy_texts(alloc: Global, texts: &[String]) -> Result<Vec<String>, AllocError>
     ensures { IfOk result (λ v. map string_bytes v.items ≡ map string_bytes texts.now) }
 {
     let mut copies = Vec::new(alloc);
@@ -19,16 +19,17 @@ fn copy_texts(alloc: Global, texts: &[String]) -> Result<Vec<String>, AllocError
     Ok(copies)
 }
 
-fn copy_value(value: &Option<Value>) -> Result<Option<Value>, AllocError>
-    ensures { IfOk result (λ v. option_map view v ≡ option_map view value.now) }
+fn copy_object(object: &Option<Object>) -> Result<Option<Object>, AllocError>
+    ensures { IfOk result (λ o. option_map object_data o ≡ option_map object_data object.now) }
 {
-    match value {
-        Some(value) => Ok(Some(value.clone()?)),
+    match object {
+        Some(object) => Ok(Some(object.copy()?)),
         None => Ok(None),
     }
 }
 
-fn copy_wanted(wanted: &Wanted) -> Result<Wanted, AllocError>
+/// A copy of what a get wants.
+pub(crate) fn copy_wanted(wanted: &Wanted) -> Result<Wanted, AllocError>
     ensures { IfOk result (λ w. wanted_data w ≡ wanted_data wanted.now) }
 {
     match wanted {
@@ -46,7 +47,7 @@ fn copy_get(alloc: Global, get: &Get) -> Result<Get, AllocError>
         resource: String::from_str(alloc, get.resource.as_str())?,
         passed: copy_texts(alloc, &get.passed)?,
         trigger: get.trigger,
-        params: copy_value(&get.params)?,
+        params: copy_object(&get.params)?,
         wanted: copy_wanted(&get.wanted)?,
     })
 }
@@ -57,8 +58,8 @@ fn copy_put(alloc: Global, put: &Put) -> Result<Put, AllocError>
     Ok(Put {
         name: String::from_str(alloc, put.name.as_str())?,
         resource: String::from_str(alloc, put.resource.as_str())?,
-        params: copy_value(&put.params)?,
-        get_params: copy_value(&put.get_params)?,
+        params: copy_object(&put.params)?,
+        get_params: copy_object(&put.get_params)?,
         no_get: put.no_get,
     })
 }
@@ -139,9 +140,8 @@ fn copy_steps(alloc: Global, steps: &Vec<Step>) -> Result<Vec<Step>, AllocError>
     Ok(copies)
 }
 
-/// A copy of a step with all that it holds.
 #[cycle(copies)]
-pub(crate) fn copy_step(alloc: Global, step: &Step) -> Result<Step, AllocError>
+fn copy_step(alloc: Global, step: &Step) -> Result<Step, AllocError>
     ensures { IfOk result (λ s. tree_of s ≡ tree_of step.now) }
 {
     match step {
@@ -159,5 +159,14 @@ pub(crate) fn copy_step(alloc: Global, step: &Step) -> Result<Step, AllocError>
             let hook = Box::new(alloc, copy_step(alloc, hook)?)?;
             Ok(Step::Hook(*when, inner, hook))
         }
+    }
+}
+
+impl Step {
+    /// A copy of the step with all that it holds.
+    pub fn copy(&self, alloc: Global) -> Result<Step, AllocError>
+        ensures { IfOk result (λ s. tree_of s ≡ tree_of self.now) }
+    {
+        copy_step(alloc, self)
     }
 }
