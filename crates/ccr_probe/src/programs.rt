@@ -128,7 +128,7 @@ fn object_at(request: &Value, key: &str) -> Result<Option<Object>, Refusal> {
 }
 
 /// The source and the params of `{"source":..,"params":..}`.
-fn settings(alloc: Global, text: &[u8]) -> Result<Settings, Refusal> {
+fn read_settings(alloc: Global, text: &[u8]) -> Result<Settings, Refusal> {
     match Value::from_slice(alloc, text) {
         Ok(request) => Ok(Settings {
             source: object_at(&request, "source")?,
@@ -247,7 +247,7 @@ pub(crate) fn answer_type<R: Processes + Drop>(
     trial: &Trial,
 ) -> Result<Answer, AllocError> {
     let mut lines = String::new(alloc);
-    let tried = settings(alloc, text).and_then(|settings| {
+    let tried = read_settings(alloc, text).and_then(|settings| {
         trial.try_all(alloc, &mut Machine::new(rt, alloc), &settings, &mut lines)
     });
     match tried {
