@@ -4,15 +4,11 @@ ghost use Rattle.std.specs.IoError.{error_kind};
 ghost use Rattle.ccr_task.specs.Shelves.{IsFaultOf, RemovesAs, folders_failures};
 
 use crate::fault::ShelfFault;
-use crate::shelf::{Shelf, counted};
+use crate::shelf::{MOST_BYTES, Shelf, counted};
 use std::alloc::Global;
-use std::fs;
-use std::io;
 use std::io::{ErrorKind, Read};
 use std::rt::Files;
-
-/// How many bytes of a file are read.
-const MOST_BYTES: usize = 1_048_576;
+use std::{fs, io};
 
 /// How often a file is read before it is given up.
 const MOST_READS: u32 = 1_000_000_000;
@@ -80,7 +76,7 @@ fn read_all<T: Read>(alloc: Global, reader: &mut T) -> Result<Vec<u8>, ShelfFaul
 }
 
 /// All bytes of a file that was to be opened.
-fn read_opened<T: Read + Drop>(
+pub(crate) fn read_opened<T: Read + Drop>(
     alloc: Global,
     opened: io::Result<T>,
 ) -> Result<Vec<u8>, ShelfFault>

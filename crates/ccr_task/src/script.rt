@@ -3,7 +3,7 @@ ghost use Rattle.std.specs.Prelude.{◌≡◌, drop};
 ghost use Rattle.ccr_task.specs.Shelves.{Counts, folder_answer, file_answer, answers_left, script_failures};
 
 use crate::fault::ShelfFault;
-use crate::shelf::{Shelf, counted};
+use crate::shelf::{MOST_BYTES, Shelf, counted};
 use std::collections::VecDeque;
 
 /// What a script answers to one call.
@@ -76,7 +76,7 @@ impl Shelf for ShelfScript {
         ensures counted { Counts (script_failures self.old) result (script_failures self.new) }
     {
         let answer = match self.answers.pop_front() {
-            Some(ShelfAnswer::Read(bytes)) if bytes.len() <= 1_048_576 => Ok(bytes),
+            Some(ShelfAnswer::Read(bytes)) if bytes.len() <= MOST_BYTES => Ok(bytes),
             Some(ShelfAnswer::Fault(fault)) => Err(fault),
             _ => Err(ShelfFault::Failed),
         };

@@ -4,6 +4,9 @@ ghost use Rattle.ccr_task.specs.Shelves.{Counts};
 
 use crate::fault::ShelfFault;
 
+/// How many bytes of a file are read.
+pub(crate) const MOST_BYTES: usize = 1_048_576;
+
 /// What holds folders and files, each named by its path, and counts its failures.
 ///
 /// The count goes up by one at each answer `Failed`, and stays where it is at every other, and at 2^64 - 1.
@@ -37,10 +40,7 @@ pub trait Shelf {
 }
 
 /// Gives an answer, and counts it among the failures if it is one.
-pub(crate) fn counted<T>(
-    failed: &mut u64,
-    answer: Result<T, ShelfFault>,
-) -> Result<T, ShelfFault>
+pub(crate) fn counted<T>(failed: &mut u64, answer: Result<T, ShelfFault>) -> Result<T, ShelfFault>
     ensures same { result ≡ answer }
     ensures counted { Counts failed.old answer failed.new }
 {
