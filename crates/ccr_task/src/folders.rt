@@ -16,7 +16,7 @@ const MOST_READS: u32 = 1_000_000_000;
 /// The machine's folders and files, by a runtime `R`.
 ///
 /// Paths count from the folder that the program runs in. A link is followed, except where a folder is removed: then the
-/// link goes, and what it leads to stays.
+/// link goes, and what it leads to stays. Nothing but a file is read: what else has bytes, as a pipe, is a failure.
 #[derive(Drop)]
 pub struct Folders<R> {
     rt: R,
@@ -93,7 +93,7 @@ pub(crate) fn read_opened<T: Read + Drop>(
     }
 }
 
-/// Opens what a path leads to if it is a file, and nothing that a read could wait for, as a pipe.
+/// Opens what a path leads to if it is a file. It is looked at first, since opening a pipe would wait for a writer.
 fn open_file<R: Files>(rt: &R, path: &str) -> io::Result<R::File> {
     if fs::metadata(rt, path)?.is_file() {
         fs::open(rt, path)
