@@ -1,11 +1,32 @@
-//! An ask becomes a launch, an end becomes an answer.
+//! An ask becomes a launch, an end becomes an answer; and the folders of builds.
+//!
+//! [`check_launch`] and [`launch_of`] say what is started for a resource's check and for an ask of a build, in the two
+//! [`Places`] that the server is given. [`answered_of`] says what the end of an ask's program answers, [`config_of`]
+//! what a task's file does. Contracts see asks, launches, ends and answers as data without where it lies in memory, and
+//! each of these calls as the one launch or answer that its data make.
+//!
+//! A [`Shelf`] makes a folder, reads a file and removes a folder, and counts its failures: its contract says at which
+//! answer the count moves, so that who has seen the count knows whether the shelf has failed since. [`Folders`] are the
+//! machine's folders, [`ShelfScript`] gives answers that were handed in. What lies in a folder of the machine, no
+//! contract can say, and tests show it; what is read of an open file is its bytes, by contract.
 #![tactic(auto)]
 
-
+mod answer;
 mod environment;
+mod fault;
+mod folders;
 mod launch;
 mod places;
+mod script;
+mod shelf;
 
-
+pub use answer::{answered_of, config_of};
+pub use fault::ShelfFault;
+pub use folders::Folders;
 pub use launch::{check_launch, launch_of};
 pub use places::Places;
+pub use script::{ShelfAnswer, ShelfScript};
+pub use shelf::Shelf;
+
+#[cfg(test)]
+mod tests;

@@ -1,0 +1,142 @@
+//! The machine's folders.
+ghost use Rattle.std.specs.Prelude.{◌≡◌, ◌≢◌, ◌≤◌, ◌<◌, length, IfOk, IfErr, IfSome, IsOk, IsOkAnd, IsErrAnd, MatchResult, vec_len};
+ghost use Rattle.std.specs.IoError.{error_kind};
+ghost use Rattle.ccr_task.specs.Shelves.{IsFaultOf, RemovesAs, folders_failures};
+
+use crate::fault::ShelfFault;
+use crate::shelf::{MOST_BYTES, Shelf, counted};
+use std::alloc::Global;
+use std::io::{ErrorKind, Read};
+use std::rt::Files;
+use std::{fs, io};
+
+/// How often a file is read before it is given up.
+const MOST_READS: u32 = 1_000_000_000;
+
+/// The machine's folders and files, by a runtime `R`.
+///
+/// Paths count from the folder that the program runs in. A link is followed, except where a folder is removed: then the
+/// link goes, and what it leads to stays. Nothing but a file is read: what else has bytes, as a pipe, is a failure.
+#[derive(Drop)]
+pub struct Folders<R> {
+    rt: R,
+    alloc: Global,
+    failed: u64,
+}
+
+/// What an error of the system counts as.
+fn fault_of(error: &io::Error) -> ShelfFault
+    ensures { IsFaultOf (error_kind error.now) result }
+{
+    if error.kind() == ErrorKind::OutOfMemory {
+        ShelfFault::NoMemory
+    } else {
+        ShelfFault::Failed
+    }
+}
+
+/// What the system's answer to the making of a folder comes to.
+fn made(end: io::Result<()>) -> Result<(), ShelfFault>
+    ensures { MatchResult end (λ _. IsOk result)
+        (λ error. IsErrAnd result (IsFaultOf (error_kind error))) }
+{
+    end.map_err(|error| fault_of(&error))
+}
+
+/// What the system's answer to the removal of a folder comes to: one that isn't there is removed.
+fn removed(end: io::Result<()>) -> Result<(), ShelfFault>
+    ensures { MatchResult end (λ _. IsOk result) (λ error. RemovesAs (error_kind error) result) }
+{
+    match end {
+        Ok(()) => Ok(()),
+        Err(error) if error.kind() == ErrorKind::NotFound => Ok(()),
+        Err(error) => Err(fault_of(&error)),
+    }
+}
+
+/// All bytes that a reader has left. An interrupted read counts and is tried again.
+fn read_all<T: Read>(alloc: Global, reader: &mut T) -> Result<Vec<u8>, ShelfFault>
+    ensures short { IfOk result (λ bytes. vec_len bytes ≤ 1048576) }
+    ensures whole { IfOk result (λ bytes. IfSome (T.remaining reader.old) (λ all. bytes.items ≡ all)) }
+    ensures too_long { result ≡ Err ShelfFault.TooLong
+        → IfSome (T.remaining reader.old) (λ all. 1048576 < length all) }
+{
+    let mut bytes = Vec::new(alloc);
+    let mut chunk = [0u8; 8192];
+    for _ in 0..MOST_READS {
+        match reader.read(&mut chunk) {
+            Ok(0) => return Ok(bytes),
+            Ok(count) if count > MOST_BYTES - bytes.len() => return Err(ShelfFault::TooLong),
+            Ok(count) => bytes.extend_from_slice(&chunk[..count])?,
+            Err(error) if error.kind() == ErrorKind::Interrupted => {}
+            Err(error) => return Err(fault_of(&error)),
+        }
+    }
+    Err(ShelfFault::Failed)
+}
+
+/// All bytes of a file that was to be opened.
+pub(crate) fn read_opened<T: Read + Drop>(
+    alloc: Global,
+    opened: io::Result<T>,
+) -> Result<Vec<u8>, ShelfFault>
+    ensures short { IfOk result (λ bytes. vec_len bytes ≤ 1048576) }
+    ensures whole { IfOk result (λ bytes. IsOkAnd opened
+        (λ file. IfSome (T.remaining file) (λ all. bytes.items ≡ all))) }
+    ensures too_long { result ≡ Err ShelfFault.TooLong → IsOkAnd opened
+        (λ file. IfSome (T.remaining file) (λ all. 1048576 < length all)) }
+    ensures unopened { IfErr opened (λ error. IsErrAnd result (IsFaultOf (error_kind error))) }
+{
+    match opened {
+        Ok(mut file) => read_all(alloc, &mut file),
+        Err(error) => Err(fault_of(&error)),
+    }
+}
+
+/// Opens what a path leads to if it is a file. It is looked at first, since opening a pipe would wait for a writer.
+fn open_file<R: Files>(rt: &R, path: &str) -> io::Result<R::File> {
+    if fs::metadata(rt, path)?.is_file() {
+        fs::open(rt, path)
+    } else {
+        Err(io::Error::from(ErrorKind::InvalidInput))
+    }
+}
+
+impl<R> Folders<R> {
+    /// The machine's folders, with no failure yet.
+    pub fn new(rt: R, alloc: Global) -> Folders<R>
+        ensures { folders_failures result ≡ 0 }
+    {
+        Folders {
+            rt,
+            alloc,
+            failed: 0,
+        }
+    }
+
+    /// How many calls failed so far, at most 2^64 - 1.
+    pub fn failures(&self) -> u64
+        ensures { result ≡ folders_failures self.now }
+    {
+        self.failed
+    }
+}
+
+impl<R: Files + Drop> Shelf for Folders<R> {
+    ghost failures = { folders_failures };
+
+    fn make_folder(&mut self, path: &str) -> Result<(), ShelfFault> {
+        let end = fs::create_dir_all(&self.rt, path);
+        counted(&mut self.failed, made(end))
+    }
+
+    fn read_file(&mut self, path: &str) -> Result<Vec<u8>, ShelfFault> {
+        let opened = open_file(&self.rt, path);
+        counted(&mut self.failed, read_opened(self.alloc, opened))
+    }
+
+    fn remove_folder(&mut self, path: &str) -> Result<(), ShelfFault> {
+        let end = self.rt.remove_dir_all(self.alloc, path);
+        counted(&mut self.failed, removed(end))
+    }
+}
