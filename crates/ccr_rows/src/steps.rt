@@ -6,7 +6,7 @@ mod hooks;
 mod large;
 mod tasks;
 
-use ccr_history::Version;
+use ccr_history::{Object, Version};
 use ccr_pipeline::{read, read_task};
 use ccr_steps::{Answered, Ask, BuildRun, FeedFault, start};
 use serde_json::Value;
@@ -18,14 +18,15 @@ const RESOURCES: &str =
     r#""resources":[{"name":"a","type":"t"},{"name":"b","type":"t"},{"name":"p","type":"t"}]"#;
 
 /// The pipeline of one job, of which these are the members but its name. `<x>` stands for the members of a task that runs x.
-fn pipeline_text(alloc: Global, job: &str) -> Result<String, AllocError> {
+pub(crate) fn pipeline_text(alloc: Global, job: &str) -> Result<String, AllocError> {
     let opened = job.replace(alloc, "<", r#""task":"t","config":{"run":{"path":""#)?;
     let job = opened.as_str().replace(alloc, ">", r#""}}"#)?;
     let job = job.as_str();
     format!(in alloc; "{{{RESOURCES},\"jobs\":[{{\"name\":\"j\",{job}}}]}}")
 }
 
-fn versions_of(alloc: Global, text: &str) -> Result<Vec<Version>, Fail> {
+/// The versions of a JSON list.
+pub(crate) fn versions_of(alloc: Global, text: &str) -> Result<Vec<Version>, Fail> {
     let value = Value::from_str(alloc, text)?;
     let mut versions = Vec::new(alloc);
     if let Some(items) = value.as_array() {
@@ -36,9 +37,13 @@ fn versions_of(alloc: Global, text: &str) -> Result<Vec<Version>, Fail> {
     Ok(versions)
 }
 
-fn push_params(alloc: Global, text: &mut String, params: Option<&Value>) -> Result<(), AllocError> {
+fn push_params(
+    alloc: Global,
+    text: &mut String,
+    params: Option<&Object>,
+) -> Result<(), AllocError> {
     if let Some(params) = params {
-        let params = params.to_string(alloc)?;
+        let params = params.text(alloc)?;
         text.push_str(" with ")?;
         text.push_str(params.as_str())?;
     }

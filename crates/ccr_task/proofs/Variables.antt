@@ -85,7 +85,7 @@ pub environment_of : (config step : Variables) (none some all : VariableMap) →
 environment_of config step none some all empty first second ordered es e = rw e (record {
   ascending = entries-ascend all.entries ordered;
   values = λ name.
-    let nothing : value_at none name ≡ None = rw empty refl in
-    let begun : value_at some name ≡ value_of name step = first name ∙ rw nothing refl in
-    value_of-entries name all.entries ∙ second name ∙ ap (λ o. or_value o (value_of name config)) begun ∙ sym (value_of-append name step config);
+      let nothing : value_at none name ≡ None = rw empty refl in
+      let begun : value_at some name ≡ value_of name step = first name ∙ rw nothing refl in
+      value_of-entries name all.entries ∙ second name ∙ ap (λ o. or_value o (value_of name config)) begun ∙ sym (value_of-append name step config);
 })

@@ -1,5 +1,5 @@
 -- What checks and asks are launched as.
-use Rattle.std.specs.Prelude.{◌≡◌, ◌<◌, ◌≤◌, ◌==◌, List, [], ◌∷◌, length, Bool, true, false, not, ◌||◌, Option, Some, None, IsSome, Result, Ok, Err, codes, if◌then◌else◌, ⊤}
+use Rattle.std.specs.Prelude.{◌≡◌, ◌<◌, ◌≤◌, ◌==◌, List, [], ◌∷◌, length, Bool, true, false, not, ◌||◌, Option, Some, None, is_some, Result, Ok, Err, codes, if◌then◌else◌, ⊤}
 use Rattle.std.specs.List.{list_any}
 use Rattle.std.specs.Str.{bytes_eq}
 use Rattle.serde_json.specs.Data.{Data}
@@ -72,11 +72,11 @@ resource_named name [] = None
 resource_named name (r ∷ rs) = if bytes_eq r.name name then Some r else resource_named name rs
 
 -- an ask starts a program, if it asks for no file, and the pipeline has the resource that it names
-abbrev pub CanLaunch : List ResourceData → AskData → Type 0
-CanLaunch rs (fetch artifact resource version params) = IsSome (resource_named resource rs)
-CanLaunch rs (push artifact resource params) = IsSome (resource_named resource rs)
-CanLaunch rs (read_config file) = ⊥
-CanLaunch rs (run_task config env) = ⊤
+abbrev pub can_launch : List ResourceData → AskData → Bool
+can_launch rs (fetch artifact resource version params) = is_some (resource_named resource rs)
+can_launch rs (push artifact resource params) = is_some (resource_named resource rs)
+can_launch rs (read_config file) = false
+can_launch rs (run_task config env) = true
 
 -- what an ask of a build that works in this folder is launched as: a fetch, a push or a task's program
 abbrev pub LaunchesAsk : PlacesData → List ResourceData → Text → AskData → Result Launch RequestFault → Type 0

@@ -81,10 +81,7 @@ fn config_in(alloc: Global, bytes: &[u8]) -> Result<Answered, AllocError>
 ///
 /// The config that the file holds; an error where there is no such file, or a fault is in it. `AllocError` where a growth
 /// was refused, here or to the shelf.
-pub fn config_of(
-    alloc: Global,
-    file: Result<Vec<u8>, ShelfFault>,
-) -> Result<Answered, AllocError>
+pub fn config_of(alloc: Global, file: Result<Vec<u8>, ShelfFault>) -> Result<Answered, AllocError>
     ensures { IfOk result (λ a. AnswersFile file (answer_data a)) }
 {
     match file {

@@ -1,5 +1,5 @@
 //! What checks and asks are launched as.
-ghost use Rattle.std.specs.Prelude.{◌≡◌, ◌∷◌, [], map, option_map, IfOk, codes, string_bytes};
+ghost use Rattle.std.specs.Prelude.{◌≡◌, ◌∷◌, [], map, option_map, IfOk, IsTrue, codes, string_bytes};
 ghost use Rattle.std.specs.Option.{option_copied};
 ghost use Rattle.ccr_pipeline.specs.Pipelines.{resource_data, pipeline_data};
 ghost use Rattle.ccr_pipeline.specs.Tree.{config_data, variable_data};
@@ -7,7 +7,7 @@ ghost use Rattle.ccr_protocol.specs.Requests.{data_of};
 ghost use Rattle.ccr_process.specs.Launches.{launch_data, texts_of};
 ghost use Rattle.ccr_steps.specs.Asks.{ask_data};
 ghost use Rattle.ccr_task.specs.Places.{places_data, below, build_folder};
-ghost use Rattle.ccr_task.specs.Launching.{check_launch, fetch_launch, push_launch, task_program, task_folder, resource_named, begins_with_slash, Launches, LaunchesAsk, IsTaskLaunch, CanLaunch};
+ghost use Rattle.ccr_task.specs.Launching.{check_launch, fetch_launch, push_launch, task_program, task_folder, resource_named, begins_with_slash, Launches, LaunchesAsk, IsTaskLaunch, can_launch};
 
 use crate::environment::environment;
 use crate::places::Places;
@@ -170,10 +170,23 @@ fn task_launch(
     })
 }
 
+/// Whether an ask of a build starts a program: it asks for no file, and the pipeline has the resource that it names, if it
+/// names one.
+pub fn can_launch(pipeline: &Pipeline, ask: &Ask<'_>) -> bool
+    ensures { result ≡ can_launch (pipeline_data pipeline.now).resources (ask_data ask.now) }
+{
+    match ask {
+        Ask::Fetch { resource, .. } => resource_named(pipeline.resources(), resource).is_some(),
+        Ask::Push { resource, .. } => resource_named(pipeline.resources(), resource).is_some(),
+        Ask::ReadConfig { .. } => false,
+        Ask::RunTask { .. } => true,
+    }
+}
+
 /// The launch of a build's ask: a fetch, a push or a task's program
 /// (Concourse: implementing a resource type, in and out; task config, run).
 ///
-/// The ask is none for a file, and the pipeline has the resource that it names, if it names one. A fetch and a push run
+/// The ask is one that [`can_launch`] tells. A fetch and a push run
 /// in the build folder, a task in the build folder or in the folder below it that its config names. The only argument
 /// of `in` is the artifact's folder, that of `out` the build folder. A task's path that begins with `/` or has none is
 /// used as it stands, another is taken from the build folder; its variables are the config's, those of the step
@@ -187,7 +200,7 @@ pub fn launch_of(
     number: u32,
     ask: &Ask<'_>,
 ) -> Result<Launch, RequestFault>
-    requires { CanLaunch (pipeline_data pipeline.now).resources (ask_data ask.now) }
+    requires { IsTrue (can_launch (pipeline_data pipeline.now).resources (ask_data ask.now)) }
     ensures { LaunchesAsk (places_data places.now) (pipeline_data pipeline.now).resources
         (build_folder (places_data places.now) job.now number) (ask_data ask.now) result }
 {
@@ -203,7 +216,9 @@ pub fn launch_of(
             fetch_launch(alloc, places, build, artifact, resource, version, *params)
         }
         Ask::Push {
-            resource, params, ..
+            resource,
+            params,
+            ..
         } => {
             let resource = resource_named(pipeline.resources(), resource).unwrap();
             push_launch(alloc, places, build, resource, *params)

@@ -23,7 +23,7 @@ mod shelf;
 pub use answer::{answered_of, config_of};
 pub use fault::ShelfFault;
 pub use folders::Folders;
-pub use launch::{check_launch, launch_of};
+pub use launch::{can_launch, check_launch, launch_of};
 pub use places::Places;
 pub use script::{ShelfAnswer, ShelfScript};
 pub use shelf::Shelf;

@@ -29,12 +29,7 @@ impl Places {
     }
 
     /// A build's folder: `WORK/JOB/NUMBER`.
-    pub fn build_folder(
-        &self,
-        alloc: Global,
-        job: &str,
-        number: u32,
-    ) -> Result<String, AllocError>
+    pub fn build_folder(&self, alloc: Global, job: &str, number: u32) -> Result<String, AllocError>
         ensures { IfOk result (λ path. string_bytes path
             ≡ build_folder (places_data self.now) job.now number) }
     {

@@ -1,1 +1,2 @@
+mod launches;
 mod shelves;
