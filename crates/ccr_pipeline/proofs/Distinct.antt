@@ -21,6 +21,7 @@ use Rattle.ccr_pipeline.specs.Kinds.{is_name, broken, required, optional_keys}
 use Rattle.ccr_pipeline.specs.Limits.{input_names, HasDistinctInputs}
 use Rattle.ccr_pipeline.specs.Meaning.{text_or, truth_from}
 use Rattle.ccr_pipeline.specs.Names.{has_name, text_at, names_at, new_name}
+use Rattle.ccr_pipeline.specs.Pipelines.{EachItem}
 use Rattle.ccr_pipeline.specs.Places.{Spot, gets_by, gets_at, each_step, steps_in, step_at, own_steps, hook_steps, steps_from, plan_steps, job_hooks, tries_below}
 use Rattle.ccr_pipeline.specs.Plans.{plan_from}
 use Rattle.ccr_pipeline.specs.StepRules.{visit_by, visits, own_keys, get_faults}
@@ -29,7 +30,7 @@ use Rattle.ccr_pipeline.specs.Tree.{Text, Tree, get, put, task, in_order, in_par
 use Rattle.ccr_pipeline.proofs.Kept.{action-kept}
 use Rattle.ccr_pipeline.proofs.Named.{opened_own}
 use Rattle.ccr_pipeline.proofs.Subsequence.{Sub, none, keep, sub_none, sub_append, sub_left, sub_right, distinct_sub, NoRepeat, distinct}
-use Rattle.ccr_pipeline.proofs.Unfaulted.{nil_left, nil_right, visits-append, EachItem, EachAt, OwnSteps, Hooks, Unfaulted, Opened, opened, planned}
+use Rattle.ccr_pipeline.proofs.Unfaulted.{nil_left, nil_right, visits-append, EachAt, OwnSteps, Hooks, Unfaulted, Opened, opened, planned}
 
 -- what a get's visit says of its name
 

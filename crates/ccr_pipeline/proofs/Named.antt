@@ -44,7 +44,7 @@ text_named : (p : Path) (o : Option (List ℕ)) → or_else o (unless false rule
 text_named p None e = absurd (cc (e))
 text_named p (Some s) e = passes (is_name s) rule.Name p e
 
-required_at : (p : Path) (o : Option Data) → or_else o (unless false rule.Presence p) (broken kind.Name p) ≡ [] → is_name (unwrap_or (option_and_then as_str o) []) ≡ true
+pub required_at : (p : Path) (o : Option Data) → or_else o (unless false rule.Presence p) (broken kind.Name p) ≡ [] → is_name (unwrap_or (option_and_then as_str o) []) ≡ true
 unfolding broken
 required_at p None e = absurd (cc (e))
 required_at p (Some d) e = text_named p (as_str d) e
@@ -54,7 +54,7 @@ unfolding broken
 optional_at p None there e = absurd (cc (there))
 optional_at p (Some d) there e = text_named p (as_str d) e
 
-new_named : (before : List (List ℕ)) (p : Path) (k : List ℕ) (d : Data) → new_name before p k d ≡ [] → is_name (text_or [] k d) ≡ true
+pub new_named : (before : List (List ℕ)) (p : Path) (k : List ℕ) (d : Data) → new_name before p k d ≡ [] → is_name (text_or [] k d) ≡ true
 unfolding new_name
 new_named before p k d e = required_at (path_below p k) (at_key k d) (nil_left (required kind.Name p k d) _ e)
 

@@ -8,6 +8,7 @@ use Rattle.serde_json.specs.Find.{as_array}
 use Rattle.ccr_pipeline.specs.declared.fault.Rule.{Rule}
 use Rattle.ccr_pipeline.specs.Faults.{Path, Faults, unless}
 use Rattle.ccr_pipeline.specs.Keys.{at_key, or_else, path_below, path_at}
+use Rattle.ccr_pipeline.specs.Pipelines.{EachItem}
 use Rattle.ccr_pipeline.specs.Places.{Spot, gets_at, each_step, steps_in, step_at, own_steps, hook_steps, steps_from, plan_steps, job_hooks, tries_below}
 use Rattle.ccr_pipeline.specs.JobRules.{job_rest, after_plan, job_keys}
 use Rattle.ccr_pipeline.specs.Kinds.{optional_keys}
@@ -30,9 +31,6 @@ visits-append names [] ys = rw append-nil refl
 visits-append names (x ∷ xs) ys = rw (visits-append (names ++ gets_at x) xs ys, append_assoc, append_assoc) refl
 
 -- what holds of each value of a list
-abbrev pub EachItem : (Data → Type 0) → Items → Type 0
-EachItem P no_items = Unit {0}
-EachItem P (item d ds) = P d × EachItem P ds
 
 -- no fault is present in the visits of a step with so many levels left, below steps of these attempts
 abbrev pub Unfaulted : ℕ → ℕ → Data → Type 0

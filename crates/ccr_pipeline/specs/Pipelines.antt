@@ -1,5 +1,5 @@
 -- What a pipeline is read as, where no fault is present in it.
-use Rattle.std.specs.Prelude.{◌≡◌, ℕ, Bool, List, [], ◌∷◌, Option, map, option_map, string_bytes, codes, ⊤}
+use Rattle.std.specs.Prelude.{◌≡◌, ℕ, Bool, List, [], ◌∷◌, Option, map, option_map, string_bytes, codes, IsTrue, ◌&&◌, ⊤}
 use Rattle.serde_json.specs.Data.{Data, Items, no_items, item}
 use Rattle.serde_json.specs.Find.{as_array}
 use Rattle.ccr_history.specs.ObjectData.{object_data}
@@ -9,6 +9,7 @@ use Rattle.ccr_pipeline.specs.declared.resource.Resource.{Resource}
 use Rattle.ccr_pipeline.specs.declared.resource.Job.{Job}
 use Rattle.ccr_pipeline.specs.Keys.{at_key, or_else}
 use Rattle.ccr_pipeline.specs.Meaning.{text_or, texts_from, truth_from, whole_from, object_at, pin_from}
+use Rattle.ccr_pipeline.specs.Kinds.{is_name}
 use Rattle.ccr_pipeline.specs.Limits.{IsPlan}
 use Rattle.ccr_pipeline.specs.Plans.{plan_from}
 use Rattle.ccr_pipeline.specs.Tree.{Text, Tree, tree_of}
@@ -40,8 +41,12 @@ abbrev pub resources_in : Items → List ResourceData
 resources_in no_items = []
 resources_in (item d ds) = resource_from d ∷ resources_in ds
 
+-- the texts of a pipeline's resources
+abbrev pub resource_items : Data → Items
+resource_items d = or_else (at_key (codes "resources") d) no_items (λ found. or_else (as_array found) no_items (λ ds. ds))
+
 abbrev pub resources_from : Data → List ResourceData
-resources_from d = or_else (at_key (codes "resources") d) [] (λ found. or_else (as_array found) [] resources_in)
+resources_from d = resources_in (resource_items d)
 
 unfoldable pub job_from : Data → JobData
 job_from d = record { name = text_or [] (codes "name") d; plan = plan_from d; serial = truth_from (codes "serial") d; serial_groups = texts_from (codes "serial_groups") d; max_in_flight = whole_from (codes "max_in_flight") d }
@@ -57,10 +62,18 @@ job_items d = or_else (at_key (codes "jobs") d) no_items (λ found. or_else (as_
 abbrev pub jobs_from : Data → List JobData
 jobs_from d = jobs_in (job_items d)
 
--- each job's plan keeps the limits
-abbrev pub ArePlans : Items → Type 0
-ArePlans no_items = ⊤
-ArePlans (item d ds) = IsPlan (plan_from d) × ArePlans ds
+-- what a job is called may be a name, and its plan keeps the limits
+abbrev pub IsJob : Data → Type 0
+IsJob d = IsTrue (is_name (text_or [] (codes "name") d)) × IsPlan (plan_from d)
+
+-- what a resource and its type are called may be a name
+abbrev pub IsResource : Data → Type 0
+IsResource d = IsTrue (is_name (text_or [] (codes "name") d) && is_name (text_or [] (codes "type") d))
+
+-- each member of a list is so
+abbrev pub EachItem : (Data → Type 0) → Items → Type 0
+EachItem Is no_items = ⊤
+EachItem Is (item d ds) = Is d × EachItem Is ds
 
 -- what a pipeline shows: the bytes read, the paths of its unused keys, its resources and its jobs
 pub record PipelineData : Type 0 where

@@ -3,8 +3,7 @@ ghost use Rattle.std.specs.Prelude.{◌≡◌, ◌++◌, [], map, option_map, co
 ghost use Rattle.serde_json.specs.Find.{get_member};
 ghost use Rattle.serde_json.specs.View.{view, items_view, members_view};
 ghost use Rattle.ccr_pipeline.specs.Keys.{at_key, or_else};
-ghost use Rattle.ccr_pipeline.specs.Pipelines.{resource_data, job_data, resource_from, resources_in, resources_from, job_from, jobs_in, job_items, jobs_from, ArePlans};
-ghost use Rattle.ccr_pipeline.specs.Limits.{IsPlan};
+ghost use Rattle.ccr_pipeline.specs.Pipelines.{resource_data, job_data, resource_from, resources_in, resources_from, job_from, jobs_in, job_items, jobs_from, resource_items, IsResource, IsJob, EachItem};
 ghost use Rattle.ccr_pipeline.specs.Plans.{plan_from};
 ghost use Rattle.ccr_pipeline.specs.Steps.{trees_in, step_tree, with_hooks};
 ghost use Rattle.ccr_pipeline.specs.Tree.{tree_of, trees_of};
@@ -20,6 +19,7 @@ use std::alloc::{AllocError, Global};
 use std::collections::BTreeMap;
 
 fn resource(alloc: Global, value: &Value) -> Result<Resource, AllocError>
+    requires { IsResource (view value.now) }
     ensures { IfOk result (λ r. resource_data r ≡ resource_from (view value.now)) }
 {
     Ok(Resource {
@@ -31,6 +31,7 @@ fn resource(alloc: Global, value: &Value) -> Result<Resource, AllocError>
 }
 
 fn resources_of(alloc: Global, list: &[Value]) -> Result<Vec<Resource>, AllocError>
+    requires { EachItem IsResource (items_view list.now) }
     ensures { IfOk result (λ v. map resource_data v.items ≡ resources_in (items_view list.now)) }
 {
     let mut resources = Vec::new(alloc);
@@ -42,6 +43,7 @@ fn resources_of(alloc: Global, list: &[Value]) -> Result<Vec<Resource>, AllocErr
 
 /// The resources of a tested pipeline.
 pub(crate) fn resources(alloc: Global, pipeline: &Value) -> Result<Vec<Resource>, AllocError>
+    requires { EachItem IsResource (resource_items (view pipeline.now)) }
     ensures { IfOk result (λ v. map resource_data v.items ≡ resources_from (view pipeline.now)) }
 {
     let Some(found) = at_key(pipeline, "resources") else {
@@ -67,7 +69,7 @@ pub(crate) fn plan(alloc: Global, job: &Value) -> Result<Step, AllocError>
 
 #[tactic(auto, unfolding(crate::specs::Pipelines::job_from))]
 fn job(alloc: Global, value: &Value) -> Result<Job, AllocError>
-    requires { IsPlan (plan_from (view value.now)) }
+    requires { IsJob (view value.now) }
     ensures { IfOk result (λ j. job_data j ≡ job_from (view value.now)) }
 {
     Ok(Job {
@@ -102,7 +104,7 @@ fn job_list(alloc: Global, pipeline: Value) -> Vec<Value>
 
 /// The jobs of the texts of a list. Each text is dropped once its job is built.
 fn jobs_of(alloc: Global, list: Vec<Value>) -> Result<Vec<Job>, AllocError>
-    requires { ArePlans (items_view list.items) }
+    requires { EachItem IsJob (items_view list.items) }
     ensures { IfOk result (λ v. map job_data v.items ≡ jobs_in (items_view list.items)) }
 {
     let mut jobs = Vec::new(alloc);
@@ -114,7 +116,7 @@ fn jobs_of(alloc: Global, list: Vec<Value>) -> Result<Vec<Job>, AllocError>
 
 /// The jobs of a tested pipeline. They are as large as its text, so that the two are never held whole side by side.
 pub(crate) fn jobs(alloc: Global, pipeline: Value) -> Result<Vec<Job>, AllocError>
-    requires { ArePlans (job_items (view pipeline)) }
+    requires { EachItem IsJob (job_items (view pipeline)) }
     ensures { IfOk result (λ v. map job_data v.items ≡ jobs_from (view pipeline)) }
 {
     jobs_of(alloc, job_list(alloc, pipeline))

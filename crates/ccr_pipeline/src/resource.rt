@@ -1,6 +1,7 @@
 //! Resources and jobs.
-ghost use Rattle.std.specs.Prelude.{IsTrue};
+ghost use Rattle.std.specs.Prelude.{IsTrue, ◌&&◌, string_bytes};
 ghost use Rattle.ccr_pipeline.specs.Inputs.{are_few, inputs};
+ghost use Rattle.ccr_pipeline.specs.Kinds.{is_name};
 ghost use Rattle.ccr_pipeline.specs.Limits.{IsShallow, TriesFit, TriesFit-prop, IsWellNamed, HasDistinctInputs};
 ghost use Rattle.std.proofs.Props.{props};
 ghost use Rattle.ccr_pipeline.specs.Tree.{tree_of};
@@ -19,6 +20,8 @@ pub struct Resource {
     pub source: Option<Object>,
     /// The pin that the pipeline sets.
     pub version: Option<Pin>,
+    // What it and its type are called may be a name.
+    pub ghost well_named: { IsTrue (is_name (string_bytes name) && is_name (string_bytes kind)) },
 }
 
 /// A job (Concourse: jobs).
@@ -34,6 +37,8 @@ pub struct Job {
     pub serial_groups: Vec<String>,
     /// How many builds may run; 0 is no limit.
     pub max_in_flight: u64,
+    // What it is called may be a name.
+    pub ghost named: { IsTrue (is_name (string_bytes name)) },
     // The plan has at most 32 inputs, and they name at most 32 jobs.
     pub ghost few: { IsTrue (are_few (inputs (tree_of plan))) },
     // No two inputs have one name.
