@@ -1,8 +1,8 @@
 -- Variables in a list and in a map.
-use Rattle.std.proofs.Common.{◌≡◌, ℕ, List, [], ◌∷◌, ◌++◌, Bool, true, false, not, cond, is_some, Less, Option, Some, None, refl, sym, ◌∙◌, ap, option_map, map, String, string_bytes}
+use Rattle.std.proofs.Common.{◌≡◌, ℕ, List, [], ◌∷◌, ◌++◌, Bool, true, false, not, cond, is_some, Less, Option, Some, None, refl, sym, ◌∙◌, ap, option_map, String, string_bytes}
 use Rattle.std.proofs.lemmas.Map.Text.{is_eq-slice_cmp, btree_map_updates_text}
 use Rattle.std.proofs.lemmas.Slice.Eq.{bytes_eq-Decides}
-use Rattle.std.specs.BTreeMap.{get_by_text, UpdatesBy, keys}
+use Rattle.std.specs.BTreeMap.{get_by_text, UpdatesBy}
 use Rattle.std.specs.Cmp.Lexicographic.{slice_cmp}
 use Rattle.std.specs.List.{AllByRecursion}
 use Rattle.std.specs.List.Sorted.{IsStrictlySortedBy}
@@ -11,7 +11,7 @@ use Rattle.std.specs.Ordering.{nat_cmp, is_eq}
 use Rattle.std.specs.Str.{bytes_eq}
 use Rattle.std.specs.declared.alloc.Global.{Global}
 use Rattle.ccr_pipeline.specs.Tree.{Text}
-use Rattle.ccr_process.specs.Launches.{variable_of, variables_of}
+use Rattle.ccr_process.specs.Launches.{variables_of}
 use Rattle.ccr_task.specs.Environment.{Variables, value_of, or_value, VariableMap, value_at, GainsNew, IsAscending, IsEnvironment}
 
 same_way : (a b : Bool) → (a ≡ true → b ≡ true) → (b ≡ true → a ≡ true) → a ≡ b

@@ -1,5 +1,5 @@
 -- Where programs lie and builds work.
-use Rattle.std.specs.Prelude.{ℕ, List, ◌∷◌, ◌++◌, string_bytes, decimal}
+use Rattle.std.specs.Prelude.{ℕ, ◌∷◌, ◌++◌, string_bytes, decimal}
 use Rattle.ccr_pipeline.specs.Tree.{Text}
 use Rattle.ccr_task.specs.declared.places.Places.{Places}
 

@@ -2,9 +2,8 @@
 
 use crate::{Places, ShelfFault, answered_of, can_launch, check_launch, config_of, launch_of};
 use ccr_history::{Object, Version};
-use ccr_pipeline::{Pipeline, Variable, read, read_task};
+use ccr_pipeline::{Pipeline, TaskConfig, Variable, read, read_task};
 use ccr_process::{Ended, Launch};
-use ccr_protocol::RequestFault;
 use ccr_steps::{Answered, Ask};
 use serde_json::Value;
 use std::alloc::{AllocError, Global};
@@ -33,6 +32,29 @@ fn object(alloc: Global, text: &str) -> Result<Option<Object>, Fail> {
     Ok(Object::from_value(&Value::from_str(alloc, text)?)?)
 }
 
+/// The ask of a get of this resource as an artifact of another name.
+fn fetch<'r>(resource: &'r str, version: &'r Version, params: Option<&'r Object>) -> Ask<'r> {
+    Ask::Fetch {
+        artifact: "code",
+        resource,
+        version,
+        params,
+    }
+}
+
+/// The ask of a put of this resource as an artifact of another name.
+fn push<'r>(resource: &'r str, params: Option<&'r Object>) -> Ask<'r> {
+    Ask::Push {
+        artifact: "code",
+        resource,
+        params,
+    }
+}
+
+fn run<'r>(config: &'r TaskConfig, env: &'r [Variable]) -> Ask<'r> {
+    Ask::RunTask { config, env }
+}
+
 /// All that a launch holds, in one line.
 fn told(alloc: Global, launch: &Launch) -> Result<String, Fail> {
     let mut line = String::new(alloc);
@@ -54,6 +76,22 @@ fn told(alloc: Global, launch: &Launch) -> Result<String, Fail> {
     Ok(line)
 }
 
+/// What a check of the resource at a position of the pipeline launches.
+fn checked(
+    alloc: Global,
+    pipeline: &Pipeline,
+    position: usize,
+    version: Option<&Version>,
+) -> Result<String, Fail> {
+    let Some(resource) = pipeline.resources().get(position) else {
+        return Err(Fail::new("no resource"));
+    };
+    match check_launch(alloc, &places(alloc)?, resource, version) {
+        Ok(launch) => told(alloc, &launch),
+        Err(fault) => Ok(fault.to_string(alloc)?),
+    }
+}
+
 /// What build 3 of job j launches for an ask.
 fn launched(alloc: Global, pipeline: &Pipeline, ask: &Ask<'_>) -> Result<String, Fail> {
     if !can_launch(pipeline, ask) {
@@ -70,17 +108,14 @@ fn a_check_runs_in_the_folder_of_all_builds_and_is_told_the_newest_version(
     rt: HostRuntime,
 ) -> Result<(), Fail> {
     let alloc = rt.alloc();
-    let places = places(alloc)?;
     let pipeline = pipeline(alloc, "{\"uri\":\"x\",\"branch\":\"m\"}")?;
-    let first = check_launch(alloc, &places, &pipeline.resources()[0], None)?;
     assert_eq!(rt;
-        told(alloc, &first)?.as_str(),
+        checked(alloc, &pipeline, 0, None)?.as_str(),
         "/t/git/check in /w, kept, given {\"source\":{}}"
     );
     let version = version(alloc)?;
-    let later = check_launch(alloc, &places, &pipeline.resources()[1], Some(&version))?;
     assert_eq!(rt;
-        told(alloc, &later)?.as_str(),
+        checked(alloc, &pipeline, 1, Some(&version))?.as_str(),
         "/t/s3/check in /w, kept, given {\"source\":{\"branch\":\"m\",\"uri\":\"x\"},\"version\":{\"n\":\"2\"}}"
     );
     Ok(())
@@ -94,23 +129,14 @@ fn a_fetch_is_given_the_folder_of_its_artifact_and_a_push_that_of_its_build(
     let pipeline = pipeline(alloc, "{\"uri\":\"x\"}")?;
     let version = version(alloc)?;
     let params = object(alloc, "{\"depth\":1}")?;
-    let fetch = Ask::Fetch {
-        artifact: "code",
-        resource: "b",
-        version: &version,
-        params: params.as_ref(),
-    };
+    let fetched = launched(alloc, &pipeline, &fetch("b", &version, params.as_ref()))?;
     assert_eq!(rt;
-        launched(alloc, &pipeline, &fetch)?.as_str(),
+        fetched.as_str(),
         "/t/s3/in [/w/j/3/code] in /w/j/3, kept, given {\"params\":{\"depth\":1},\"source\":{\"uri\":\"x\"},\"version\":{\"n\":\"2\"}}"
     );
-    let push = Ask::Push {
-        artifact: "code",
-        resource: "a",
-        params: params.as_ref(),
-    };
+    let pushed = launched(alloc, &pipeline, &push("a", params.as_ref()))?;
     assert_eq!(rt;
-        launched(alloc, &pipeline, &push)?.as_str(),
+        pushed.as_str(),
         "/t/git/out [/w/j/3] in /w/j/3, kept, given {\"params\":{\"depth\":1},\"source\":{}}"
     );
     let places = places(alloc)?;
@@ -147,11 +173,8 @@ fn a_task_runs_its_program_with_the_step_s_variables_over_the_config_s(
         ),
     ] {
         let config = read_task(alloc, config.as_bytes())?;
-        let ask = Ask::RunTask {
-            config: &config,
-            env: step.as_slice(),
-        };
-        assert_eq!(rt; launched(alloc, &pipeline, &ask)?.as_str(), line);
+        let launched = launched(alloc, &pipeline, &run(&config, &step))?;
+        assert_eq!(rt; launched.as_str(), line);
     }
     Ok(())
 }
@@ -168,19 +191,15 @@ fn a_request_too_long_an_unknown_resource_and_a_file_launch_nothing(
     source.push_str("\"}")?;
     let pipeline = pipeline(alloc, source.as_str())?;
     for (resource, line) in [("b", "request too long"), ("c", "nothing")] {
-        let push = Ask::Push {
-            artifact: "code",
-            resource,
-            params: None,
-        };
-        assert_eq!(rt; launched(alloc, &pipeline, &push)?.as_str(), line);
+        let launched = launched(alloc, &pipeline, &push(resource, None))?;
+        assert_eq!(rt; launched.as_str(), line);
     }
     let file = Ask::ReadConfig {
         file: "code/unit.json",
     };
     assert_eq!(rt; launched(alloc, &pipeline, &file)?.as_str(), "nothing");
-    let check = check_launch(alloc, &places(alloc)?, &pipeline.resources()[1], None);
-    assert_eq!(rt; check.err(), Some(RequestFault::TooLong));
+    let check = checked(alloc, &pipeline, 1, None)?;
+    assert_eq!(rt; check.as_str(), "request too long");
     Ok(())
 }
 
@@ -196,55 +215,45 @@ fn word(alloc: Global, answer: Result<Answered, AllocError>) -> Result<String, F
     })
 }
 
+/// What an end of a fetch, of a push and of a task answers, in words.
+fn answers(alloc: Global, end: &Ended) -> Result<String, Fail> {
+    let version = version(alloc)?;
+    let config = read_task(alloc, b"{\"run\":{\"path\":\"x\"}}")?;
+    let fetch = word(
+        alloc,
+        answered_of(alloc, &fetch("a", &version, None), end.copy()?),
+    )?;
+    let push = word(alloc, answered_of(alloc, &push("a", None), end.copy()?))?;
+    let task = word(alloc, answered_of(alloc, &run(&config, &[]), end.copy()?))?;
+    Ok(format!(in alloc; "{fetch} {push} {task}")?)
+}
+
 #[test]
 fn an_end_answers_by_its_status_and_its_reply(rt: HostRuntime) -> Result<(), Fail> {
     let alloc = rt.alloc();
-    let version = version(alloc)?;
-    let config = read_task(alloc, b"{\"run\":{\"path\":\"x\"}}")?;
-    let fetch = Ask::Fetch {
-        artifact: "a",
-        resource: "a",
-        version: &version,
-        params: None,
-    };
-    let push = Ask::Push {
-        artifact: "a",
-        resource: "a",
-        params: None,
-    };
-    let task = Ask::RunTask {
-        config: &config,
-        env: &[],
-    };
     let reply = "{\"version\":{\"n\":\"7\"},\"metadata\":[]}";
-    for (status, output, of_fetch, of_push, of_task) in [
-        (0, reply, "done", "{\"n\":\"7\"}", "done"),
-        (0, "", "errored", "errored", "done"),
-        (0, "{\"version\":{\"n\"", "errored", "errored", "done"),
-        (0, "{\"version\":null}", "errored", "errored", "done"),
-        (1, reply, "failed", "failed", "failed"),
-        (255, "", "failed", "failed", "failed"),
+    for (status, output, told) in [
+        (0, reply, "done {\"n\":\"7\"} done"),
+        (0, "", "errored errored done"),
+        (0, "{\"version\":{\"n\"", "errored errored done"),
+        (0, "{\"version\":null}", "errored errored done"),
+        (1, reply, "failed failed failed"),
+        (255, "", "failed failed failed"),
     ] {
-        for (ask, answer) in [(&fetch, of_fetch), (&push, of_push), (&task, of_task)] {
-            let end = Ended::Exit(status, Vec::from_slice(alloc, output.as_bytes())?);
-            let told = word(alloc, answered_of(alloc, ask, end))?;
-            assert_eq!(rt; told.as_str(), answer, "{status} {output}");
-        }
+        let end = Ended::Exit(status, Vec::from_slice(alloc, output.as_bytes())?);
+        assert_eq!(rt; answers(alloc, &end)?.as_str(), told, "{status} {output}");
     }
-    for ask in [&fetch, &push, &task] {
-        for end in [
-            Ended::Killed,
-            Ended::NotStarted,
-            Ended::InputFault,
-            Ended::ReadFault,
-            Ended::OutputTooLong,
-        ] {
-            let told = word(alloc, answered_of(alloc, ask, end))?;
-            assert_eq!(rt; told.as_str(), "errored");
-        }
-        let told = word(alloc, answered_of(alloc, ask, Ended::NoMemory))?;
-        assert_eq!(rt; told.as_str(), "no memory");
+    for end in [
+        Ended::Killed,
+        Ended::NotStarted,
+        Ended::InputFault,
+        Ended::ReadFault,
+        Ended::OutputTooLong,
+    ] {
+        assert_eq!(rt; answers(alloc, &end)?.as_str(), "errored errored errored");
     }
+    let told = answers(alloc, &Ended::NoMemory)?;
+    assert_eq!(rt; told.as_str(), "no memory no memory no memory");
     Ok(())
 }
 
