@@ -2,7 +2,8 @@
 //!
 //! A [`Version`] and a [`Pin`] are maps from texts to texts, as a JSON object has them whose fields are all texts.
 //! Clauses see either as the list of its fields, a key with its text, keys ascending by bytes: so two are equal
-//! exactly where their maps are.
+//! exactly where their maps are. An [`Object`] is a source or params: a JSON object whose numbers are all whole, so that its
+//! text is exact. Clauses see it as its JSON value.
 //!
 //! What isn't such an object is refused: `NotObject` where it is no object, `VersionNotText` where a field isn't a
 //! text. `NoMemory` comes only where a growth was refused.

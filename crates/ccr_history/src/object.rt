@@ -40,7 +40,7 @@ impl Object {
 
     /// The object's compact JSON text with keys in ascending byte order.
     pub fn text(&self, alloc: Global) -> Result<String, AllocError>
-        ensures { IfOk result (λ text. string_bytes text ≡ compact_text ((view self.now.value))) }
+        ensures { IfOk result (λ text. string_bytes text ≡ compact_text (view self.now.value)) }
     {
         self.value.to_string(alloc)
     }

@@ -69,3 +69,32 @@ fn a_pin_is_met_by_versions_with_its_fields(rt: HostRuntime) -> Result<(), Fail>
     }
     Ok(())
 }
+
+#[test]
+fn an_object_has_whole_numbers_and_one_text(rt: HostRuntime) -> Result<(), Fail> {
+    for (text, told) in [
+        ("{}", Some("{}")),
+        (
+            "{ \"uri\": \"x\", \"depth\": [1, {\"n\": -2}] }",
+            Some("{\"depth\":[1,{\"n\":-2}],\"uri\":\"x\"}"),
+        ),
+        ("{\"a\":[{\"b\":1.5}]}", None),
+        ("{\"a\":-0}", None),
+        ("[]", None),
+        ("null", None),
+    ] {
+        let value = json(&rt, text)?;
+        let Some(object) = Object::from_value(&value)? else {
+            assert_eq!(rt; told, None, "of {text}");
+            continue;
+        };
+        let copy = object.copy()?;
+        let shown = copy.as_value().to_string(rt.alloc())?;
+        assert_eq!(rt; Some(object.text(rt.alloc())?.as_str()), told, "of {text}");
+        assert_eq!(rt; Some(shown.as_str()), told, "of a copy of {text}");
+    }
+    for (text, float) in [("[1,[2.5]]", true), ("{\"a\":{\"b\":2}}", false)] {
+        assert_eq!(rt; has_float(&json(&rt, text)?), float, "in {text}");
+    }
+    Ok(())
+}

@@ -186,12 +186,11 @@ pub fn can_launch(pipeline: &Pipeline, ask: &Ask<'_>) -> bool
 /// The launch of a build's ask: a fetch, a push or a task's program
 /// (Concourse: implementing a resource type, in and out; task config, run).
 ///
-/// The ask is one that [`can_launch`] tells. A fetch and a push run
-/// in the build folder, a task in the build folder or in the folder below it that its config names. The only argument
-/// of `in` is the artifact's folder, that of `out` the build folder. A task's path that begins with `/` or has none is
-/// used as it stands, another is taken from the build folder; its variables are the config's, those of the step
-/// replacing equal names, names ascending. `TooLong` exactly where the request has more than 65,536 bytes; `NoMemory`
-/// where a growth was refused.
+/// The ask is one that [`can_launch`] tells. A fetch and a push run in the build folder, a task in the build folder or in
+/// the folder below it that its config names. The only argument of `in` is the artifact's folder, that of `out` the
+/// build folder. A task's path that begins with `/` or has none is used as it stands, another is taken from the build
+/// folder; its variables are the config's, those of the step replacing equal names, names ascending. `TooLong` exactly
+/// where the request has more than 65,536 bytes; `NoMemory` where a growth was refused.
 pub fn launch_of(
     alloc: Global,
     places: &Places,
