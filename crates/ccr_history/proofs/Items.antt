@@ -2,25 +2,28 @@
 use Rattle.std.proofs.Common.{◌≡◌, ℕ, ◌+◌, ◌<◌, ◌≤◌, List, [], Bool, true, false, refl, sym, map, drop, get_or, length, drop-cons, add-one, arith}
 use Rattle.std.proofs.lemmas.Grind.{common_steps}
 use Rattle.serde_json.specs.declared.value.Value.{Value}
-use Rattle.serde_json.specs.Data.{Items, no_items, item}
+use Rattle.serde_json.specs.Data.{Data, Items, no_items, item}
 use Rattle.serde_json.specs.View.{view, items_of}
 use Rattle.serde_json.specs.Written.{has_float, items_have_float}
 
--- the members that are left, seen as data
+-- the items that are left of a list, seen as data
+abbrev pub left_of : {V : Type 0} → (V → Data) → ℕ → List V → Items
+left_of see i xs = items_of (map see (drop i xs))
+
+pub left_of-cons : {V : Type 0} (see : V → Data) (xs : List V) (i : ℕ) (x : V) → i < length xs → x ≡ get_or xs i x → left_of see i xs ≡ item (see x) (left_of see (i + 1) xs)
+left_of-cons see xs i x h e = rw (drop-cons xs i x h, sym e, add-one) refl
+
+pub left_of-end : {V : Type 0} (see : V → Data) (xs : List V) (i : ℕ) → length xs ≤ i → left_of see i xs ≡ no_items
+left_of-end see xs i h = let none : drop i xs ≡ [] = grind (arith, common_steps) in rw none refl
+
 abbrev pub left : ℕ → List Value → Items
-left i xs = items_of (map view (drop i xs))
-
-pub left-cons : (xs : List Value) (i : ℕ) (x : Value) → i < length xs → x ≡ get_or xs i x → left i xs ≡ item (view x) (left (i + 1) xs)
-left-cons xs i x h e = rw (drop-cons xs i x h, sym e, add-one) refl
-
-pub left-end : (xs : List Value) (i : ℕ) → length xs ≤ i → left i xs ≡ no_items
-left-end xs i h = let none : drop i xs ≡ [] = grind (arith, common_steps) in rw none refl
+left = left_of view
 
 pub float_next : (xs : List Value) (i : ℕ) (x : Value) (all : Bool) → all ≡ items_have_float (left i xs) → i < length xs → x ≡ get_or xs i x → has_float (view x) ≡ false → all ≡ items_have_float (left (i + 1) xs)
-float_next xs i x all e h is whole = rw (e, left-cons xs i x h is, whole) refl
+float_next xs i x all e h is whole = rw (e, left_of-cons view xs i x h is, whole) refl
 
 pub float_found : (xs : List Value) (i : ℕ) (x : Value) (all : Bool) → all ≡ items_have_float (left i xs) → i < length xs → x ≡ get_or xs i x → has_float (view x) ≡ true → true ≡ all
-float_found xs i x all e h is float = rw (e, left-cons xs i x h is, float) refl
+float_found xs i x all e h is float = rw (e, left_of-cons view xs i x h is, float) refl
 
 pub float_end : (xs : List Value) (i : ℕ) (all : Bool) → all ≡ items_have_float (left i xs) → length xs ≤ i → false ≡ all
-float_end xs i all e h = rw (e, left-end xs i h) refl
+float_end xs i all e h = rw (e, left_of-end view xs i h) refl

@@ -20,15 +20,13 @@ pub struct Object {
 impl Object {
     /// The object that a JSON value is: None where the value is of another kind, or a number in it isn't whole or is out
     /// of the range of 64 bits.
-    pub fn from_value(value: &Value) -> Result<Option<Object>, AllocError>
-        ensures { IfOk result (λ o. option_map (λ object. view object.value) o ≡ object_of (view value.now)) }
+    pub fn from_value(value: Value) -> Option<Object>
+        ensures { option_map (λ object. view object.value) result ≡ object_of (view value) }
     {
-        if !value.is_object() || has_float(value) {
-            return Ok(None);
+        if !value.is_object() || has_float(&value) {
+            return None;
         }
-        Ok(Some(Object {
-            value: value.clone()?,
-        }))
+        Some(Object { value })
     }
 
     /// The object as a JSON value.

@@ -83,8 +83,7 @@ fn an_object_has_whole_numbers_and_one_text(rt: HostRuntime) -> Result<(), Fail>
         ("[]", None),
         ("null", None),
     ] {
-        let value = json(&rt, text)?;
-        let Some(object) = Object::from_value(&value)? else {
+        let Some(object) = Object::from_value(json(&rt, text)?) else {
             assert_eq!(rt; told, None, "of {text}");
             continue;
         };

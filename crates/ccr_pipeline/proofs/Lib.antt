@@ -1,6 +1,11 @@
+pub mod Items
+pub mod Gathered
+pub mod Sorted
+pub mod NumberText
+pub mod Converted
 pub mod Faulted
 pub mod Loops
-pub mod Members
+pub mod Emptiness
 pub mod NameLemmas
 pub mod PlaceLemmas
 pub mod Visits

@@ -1,8 +1,8 @@
 -- Loops over the members of JSON lists.
 use Rattle.std.proofs.Common.{◌≡◌, ℕ, ◌+◌, ◌<◌, ◌≤◌, List, [], true, false, refl, get_or, length, Some}
-use Rattle.serde_json.specs.declared.value.Value.{Value}
-use Rattle.serde_json.specs.View.{view}
-use Rattle.ccr_history.proofs.Items.{left, left-cons, left-end}
+use Rattle.ccr_pipeline.specs.declared.value.Value.{Value}
+use Rattle.ccr_pipeline.specs.View.{view}
+use Rattle.ccr_pipeline.proofs.Items.{left, left-cons, left-end}
 use Rattle.ccr_pipeline.specs.declared.fault.Rule.TheVariants as rule
 use Rattle.ccr_pipeline.specs.declared.fault.ReadFault.{ReadFault}
 use Rattle.ccr_pipeline.specs.Faults.{Path, Faults, IsFirst, fault_of}

@@ -1,7 +1,7 @@
 -- Loops that look for names that aren't there.
 use Rattle.std.proofs.Common.{◌≡◌, ℕ, ◌<◌, List, get_or, drop, length, codes}
-use Rattle.serde_json.specs.declared.value.Value.{Value}
-use Rattle.serde_json.specs.View.{view}
+use Rattle.ccr_pipeline.specs.declared.value.Value.{Value}
+use Rattle.ccr_pipeline.specs.View.{view}
 use Rattle.ccr_pipeline.specs.declared.fault.ReadFault.{ReadFault}
 use Rattle.ccr_pipeline.specs.declared.place.Place.{Place}
 use Rattle.ccr_pipeline.specs.Faults.{Path, Faults, IsFirst}
@@ -9,7 +9,7 @@ use Rattle.ccr_pipeline.specs.Keys.{path_at}
 use Rattle.ccr_pipeline.specs.Places.{spot, spots}
 use Rattle.ccr_pipeline.specs.Unknown.{unknown_at, unknown_spots, unknown_job, unknown_jobs}
 use Rattle.ccr_pipeline.proofs.Faulted.{first_append}
-use Rattle.ccr_history.proofs.Items.{left, left-cons}
+use Rattle.ccr_pipeline.proofs.Items.{left, left-cons}
 use Rattle.ccr_pipeline.proofs.Visits.{spots-drop}
 
 pub unknown_fault : (resources jobs : List (List ℕ)) (xs : List Place) (i : ℕ) (x : Place) (all : Faults) (e : ReadFault) → all ≡ unknown_spots resources jobs (spots (drop i xs)) → i < length xs → x ≡ get_or xs i x → IsFirst (unknown_at resources jobs (spot x)) e → IsFirst all e

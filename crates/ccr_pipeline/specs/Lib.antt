@@ -1,3 +1,4 @@
+pub mod View
 pub mod Faults
 pub mod Keys
 pub mod Kinds

@@ -25,7 +25,10 @@ mod fault;
 mod input;
 mod key;
 mod kind;
+mod library;
+mod members;
 mod names;
+mod parse;
 mod pipeline;
 mod place;
 mod reader;
@@ -34,6 +37,7 @@ mod step;
 mod task;
 mod unknown;
 mod unused;
+mod value;
 
 pub use fault::ReadFault;
 pub use input::{Input, inputs_of};

@@ -82,6 +82,55 @@ fn the_first_fault_is_told_with_its_path(rt: HostRuntime) -> Result<(), Fail> {
 }
 
 #[test]
+fn bytes_are_read_as_the_json_that_they_spell(rt: HostRuntime) -> Result<(), Fail> {
+    for (text, told) in [
+        (" { } ", "read"),
+        ("{}}", "not JSON at pipeline"),
+        ("{\"x\":-0.5e-7}", "read"),
+        ("{\"x\":01}", "not JSON at pipeline"),
+        ("{\"x\":1e999}", "not JSON at pipeline"),
+        ("{\"x\":\"\\ud800\"}", "not JSON at pipeline"),
+        ("{\"j\\u006fbs\":0}", "wrong kind at jobs"),
+        // Of equal keys the last one counts.
+        ("{\"jobs\":0,\"jobs\":[]}", "read"),
+        ("{\"jobs\":[],\"jobs\":0}", "wrong kind at jobs"),
+        (
+            "{\"resources\":[{\"name\":\"a\",\"type\":\"t\",\"source\":{\"x\":1.5,\"x\":1}}]}",
+            "read",
+        ),
+        (
+            "{\"resources\":[{\"name\":\"a\",\"type\":\"t\",\"source\":{\"x\":1,\"x\":1.5}}]}",
+            "number not whole at resources[0].source",
+        ),
+        // Fields are told in ascending order, and not in that of the text.
+        (
+            "{\"resources\":[{\"name\":\"a\",\"type\":\"t\",\"version\":{\"n\":1,\"m\":2}}]}",
+            "wrong kind at resources[0].version.m",
+        ),
+    ] {
+        assert_eq!(rt; answer(&rt, text)?.as_str(), told, "{text}");
+    }
+    for (levels, told) in [(126, "read"), (127, "not JSON at pipeline")] {
+        let mut text = String::from_str(rt.alloc(), "{\"x\":")?;
+        for bracket in ["[", "]"] {
+            for _ in 0..levels {
+                text.push_str(bracket)?;
+            }
+        }
+        text.push_str("}")?;
+        assert_eq!(rt; answer(&rt, text.as_str())?.as_str(), told);
+    }
+    let fault = read(rt.alloc(), &[b'"', 0xff, b'"']).err().ok_or("read")?;
+    assert_eq!(rt;
+        fault.to_string(rt.alloc())?.as_str(),
+        "not JSON at pipeline"
+    );
+    let twice = read(rt.alloc(), b"{\"z\":1,\"jobs\":[],\"z\":2}")?;
+    assert_eq!(rt; twice.unused().len(), 1);
+    Ok(())
+}
+
+#[test]
 fn broken_variants_of_the_example_are_refused(rt: HostRuntime) -> Result<(), Fail> {
     assert_eq!(rt; answer(&rt, EXAMPLE)?.as_str(), "read");
     for (old, new, told) in BROKEN {

@@ -121,7 +121,7 @@ fn object_at(request: &Value, key: &str) -> Result<Option<Object>, Refusal> {
     let Some(found) = request.get(key) else {
         return Ok(None);
     };
-    match Object::from_value(found)? {
+    match Object::from_value(found.clone()?) {
         Some(object) => Ok(Some(object)),
         None => Err(Refusal::Reply(ReplyFault::WrongKind)),
     }

@@ -8,7 +8,7 @@ fn json(rt: &HostRuntime, text: &str) -> Result<Value, serde_json::Error> {
 }
 
 fn object(rt: &HostRuntime, text: &str) -> Result<Option<Object>, Fail> {
-    Ok(Object::from_value(&json(rt, text)?)?)
+    Ok(Object::from_value(json(rt, text)?))
 }
 
 /// The bytes of a request, or what refused it, in words.

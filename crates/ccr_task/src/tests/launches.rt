@@ -29,7 +29,7 @@ fn version(alloc: Global) -> Result<Version, Fail> {
 }
 
 fn object(alloc: Global, text: &str) -> Result<Option<Object>, Fail> {
-    Ok(Object::from_value(&Value::from_str(alloc, text)?)?)
+    Ok(Object::from_value(Value::from_str(alloc, text)?))
 }
 
 /// The ask of a get of this resource as an artifact of another name.

@@ -1,6 +1,6 @@
 use Rattle.std.proofs.Common.{◌≡◌, ◌++◌, map}
-use Rattle.serde_json.specs.View.{items_view}
-use Rattle.ccr_history.proofs.Items.{left}
+use Rattle.ccr_pipeline.specs.View.{items_view}
+use Rattle.ccr_pipeline.proofs.Items.{left}
 use Rattle.ccr_pipeline.specs.Pipelines.{resource_data, resources_in, IsResource, EachItem}
 use Rattle.ccr_pipeline.proofs.build_job.resources_of.Given as goal
 

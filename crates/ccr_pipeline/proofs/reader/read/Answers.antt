@@ -1,4 +1,4 @@
-use Rattle.serde_json.specs.View.{view}
+use Rattle.ccr_pipeline.specs.View.{view}
 use Rattle.ccr_pipeline.proofs.PlansKept.{kept_jobs, kept_resources}
 use Rattle.ccr_pipeline.proofs.reader.read.Goals as goal
 
