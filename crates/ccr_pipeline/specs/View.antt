@@ -20,9 +20,11 @@ level (Value-F.String s) = string (string_bytes s)
 level (Value-F.Array v) = array (items_of v.items)
 level (Value-F.Object v) = object (with_members no_members v.items)
 
+-- the value as the library's contracts see one
 abbrev pub view : Value → Data
 view = fold-Value Data level
 
+-- a list of values as the items of an array
 abbrev pub items_view : List Value → Items
 items_view vs = items_of (map view vs)
 
@@ -30,6 +32,7 @@ items_view vs = items_of (map view vs)
 abbrev pub member_view : String Global × Value → String Global × Data
 member_view m = (m.0, view m.1)
 
+-- a list of members as those of an object: by their keys in ascending order, of equal keys the last one
 abbrev pub members_view : List (String Global × Value) → Members
 members_view ms = with_members no_members (map member_view ms)
 
