@@ -1,10 +1,9 @@
 -- Loops over the members of JSON lists.
-use Rattle.std.proofs.Common.{◌≡◌, ℕ, ◌+◌, ◌<◌, ◌≤◌, List, [], Bool, true, false, refl, sym, map, drop, get_or, length, drop-cons, add-one, arith}
+use Rattle.std.proofs.Common.{◌≡◌, ℕ, ◌+◌, ◌<◌, ◌≤◌, List, [], refl, sym, map, drop, get_or, length, drop-cons, add-one, arith}
 use Rattle.std.proofs.lemmas.Grind.{common_steps}
 use Rattle.serde_json.specs.declared.value.Value.{Value}
 use Rattle.serde_json.specs.Data.{Data, Items, no_items, item}
 use Rattle.serde_json.specs.View.{view, items_of}
-use Rattle.serde_json.specs.Written.{has_float, items_have_float}
 
 -- the items that are left of a list, seen as data
 abbrev pub left_of : {V : Type 0} → (V → Data) → ℕ → List V → Items
@@ -18,12 +17,3 @@ left_of-end see xs i h = let none : drop i xs ≡ [] = grind (arith, common_step
 
 abbrev pub left : ℕ → List Value → Items
 left = left_of view
-
-pub float_next : (xs : List Value) (i : ℕ) (x : Value) (all : Bool) → all ≡ items_have_float (left i xs) → i < length xs → x ≡ get_or xs i x → has_float (view x) ≡ false → all ≡ items_have_float (left (i + 1) xs)
-float_next xs i x all e h is whole = rw (e, left_of-cons view xs i x h is, whole) refl
-
-pub float_found : (xs : List Value) (i : ℕ) (x : Value) (all : Bool) → all ≡ items_have_float (left i xs) → i < length xs → x ≡ get_or xs i x → has_float (view x) ≡ true → true ≡ all
-float_found xs i x all e h is float = rw (e, left_of-cons view xs i x h is, float) refl
-
-pub float_end : (xs : List Value) (i : ℕ) (all : Bool) → all ≡ items_have_float (left i xs) → length xs ≤ i → false ≡ all
-float_end xs i all e h = rw (e, left_of-end view xs i h) refl
