@@ -27,10 +27,11 @@ use Rattle.ccr_pipeline.specs.Plans.{plan_from}
 use Rattle.ccr_pipeline.specs.StepRules.{visit_by, visits, own_keys, get_faults}
 use Rattle.ccr_pipeline.specs.Steps.{step_tree, with_hook, with_hooks, each_tree, trees_in, parallel_trees, holder, action}
 use Rattle.ccr_pipeline.specs.Tree.{Text, Tree, get, put, task, in_order, in_parallel, tried, attempts, hook, no_trees, trees_of}
+use Rattle.ccr_pipeline.proofs.Inside.{EachAt, OwnSteps, Hooks}
 use Rattle.ccr_pipeline.proofs.Kept.{action-kept}
 use Rattle.ccr_pipeline.proofs.Named.{opened_own}
 use Rattle.ccr_pipeline.proofs.Subsequence.{Sub, none, keep, sub_none, sub_append, sub_left, sub_right, distinct_sub, NoRepeat, distinct}
-use Rattle.ccr_pipeline.proofs.Unfaulted.{nil_left, nil_right, visits-append, EachAt, OwnSteps, Hooks, Unfaulted, Opened, opened, planned}
+use Rattle.ccr_pipeline.proofs.Unfaulted.{nil_left, nil_right, visits-append, Unfaulted, Opened, opened, planned}
 
 -- what a get's visit says of its name
 
@@ -38,7 +39,7 @@ is_new : (p : Path) (b : Bool) → unless (not b) rule.Once p ≡ [] → b ≡ f
 is_new p true e = absurd (cc (e))
 is_new p false e = refl
 
-once : (names : List Text) (p : Path) (o : Option Text) → or_else o [] (λ name. unless (not (has_name names name)) rule.Once p) ≡ [] → IfSome o (λ s. has_name names s ≡ false)
+pub once : (names : List Text) (p : Path) (o : Option Text) → or_else o [] (λ name. unless (not (has_name names name)) rule.Once p) ≡ [] → IfSome o (λ s. has_name names s ≡ false)
 once names p None e = tt
 once names p (Some s) e = is_new p (has_name names s) e
 
@@ -61,7 +62,7 @@ is_text : (p : Path) (o : Option Text) → or_else o (unless false rule.Kind p) 
 is_text p None e = absurd (cc (e))
 is_text p (Some s) e = refl
 
-is_there : (p : Path) (o : Option Data) → or_else o (unless false rule.Presence p) (broken kind.Name p) ≡ [] → or_else (option_and_then as_str o) [] (λ s. s ∷ []) ≡ unwrap_or (option_and_then as_str o) [] ∷ []
+pub is_there : (p : Path) (o : Option Data) → or_else o (unless false rule.Presence p) (broken kind.Name p) ≡ [] → or_else (option_and_then as_str o) [] (λ s. s ∷ []) ≡ unwrap_or (option_and_then as_str o) [] ∷ []
 unfolding broken
 is_there p None e = absurd (cc (e))
 is_there p (Some d) e = is_text p (as_str d) e
@@ -72,7 +73,7 @@ one_name names p d e a = is_there (path_below p (codes "get")) (at_key (codes "g
 
 -- the names of gets don't repeat in visits without a fault
 
-with_text : (names rest : List Text) (o : Option Text) → IfSome o (λ s. has_name names s ≡ false) → NoRepeat (names ++ or_else o [] (λ s. s ∷ [])) rest → NoRepeat names (or_else o [] (λ s. s ∷ []) ++ rest)
+pub with_text : (names rest : List Text) (o : Option Text) → IfSome o (λ s. has_name names s ≡ false) → NoRepeat (names ++ or_else o [] (λ s. s ∷ [])) rest → NoRepeat names (or_else o [] (λ s. s ∷ []) ++ rest)
 with_text names rest None h g = rw (append-nil names) at g
 with_text names rest (Some s) h g = (h, g)
 

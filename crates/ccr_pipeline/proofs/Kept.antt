@@ -12,7 +12,7 @@ use Rattle.ccr_pipeline.specs.Meaning.{truth_from, get_from, put_from, task_from
 use Rattle.ccr_pipeline.specs.Pipelines.{EachItem}
 use Rattle.ccr_pipeline.specs.Steps.{with_hook, with_hooks, each_tree, trees_in, parallel_trees, holder, action}
 use Rattle.ccr_pipeline.specs.Tree.{Tree, get, put, task, in_order, in_parallel, tried, hook, no_trees, trees_of}
-use Rattle.ccr_pipeline.proofs.Unfaulted.{EachAt, OwnSteps, Hooks}
+use Rattle.ccr_pipeline.proofs.Inside.{EachAt, OwnSteps, Hooks}
 
 -- a step keeps Q, if the steps that it holds keep R
 pub record Holds (Q R : Tree → Type 0) : Type 0 where

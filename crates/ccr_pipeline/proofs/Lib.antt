@@ -12,6 +12,7 @@ pub mod Visits
 pub mod StepLemmas
 pub mod UnknownLemmas
 pub mod UsedKeys
+pub mod Inside
 pub mod Unfaulted
 pub mod Kept
 pub mod Shallow
@@ -20,4 +21,6 @@ pub mod Named
 pub mod Subsequence
 pub mod Distinct
 pub mod PlansKept
+pub mod Linked
+pub mod LinksKept
 pub mod Sorting

@@ -52,33 +52,38 @@ kept_resource names p d e =
     let kind : is_name (text_or [] (codes "type") d) ≡ true = required_at (path_below p (codes "type")) (at_key (codes "type") d) (nil_left (required kind.Name p (codes "type") d) _ (nil_right (new_name names p (codes "name") d) _ keys)) in
     and_from _ _ name kind
 
--- where no fault is present in a list of resources or of jobs, each of them is so
-module _ (m : Member) (Is : Data → Type 0) (one : (names : List (List ℕ)) (p : Path) (d : Data) → member_faults m names p d ≡ [] → Is d) where
-  in_members : (names : List (List ℕ)) (p : Path) (i : ℕ) (ds : Items) → members m names p i ds ≡ [] → EachItem Is ds
-  in_members names p i no_items e = tt
-  in_members names p i (item d ds) e =
-      (one names (path_at p i) d (nil_left (member_faults m names (path_at p i) d) _ e), in_members (names ++ names_at (codes "name") d) p (i + 1) ds (nil_right (member_faults m names (path_at p i) d) _ e))
-
-  in_items : (p : Path) (ds : Items) → member_items m [] p ds ≡ [] → EachItem Is ds
+-- where no fault is present in a list of resources or of jobs, none is in its members
+module _ (m : Member) (k : Path) where
+  in_list : (o : Option Items) → or_else o (unless false rule.Kind k) (member_items m [] k) ≡ [] → members m [] k 0 (or_else o no_items (λ ds. ds)) ≡ []
   unfolding member_items
-  in_items p ds e = in_members [] p 0 ds (nil_right _ (members m [] p 0 ds) e)
+  in_list None e = refl
+  in_list (Some ds) e = nil_right _ (members m [] k 0 ds) e
 
-  in_list : (k : Path) (o : Option Items) → or_else o (unless false rule.Kind k) (member_items m [] k) ≡ [] → EachItem Is (or_else o no_items (λ ds. ds))
-  in_list k None e = tt
-  in_list k (Some ds) e = in_items k ds e
+  at_list : (o : Option Data) → or_else o [] (λ found. or_else (as_array found) (unless false rule.Kind k) (member_items m [] k)) ≡ [] → members m [] k 0 (or_else o no_items (λ found. or_else (as_array found) no_items (λ ds. ds))) ≡ []
+  at_list None e = refl
+  at_list (Some found) e = in_list (as_array found) e
 
-  at_list : (k : Path) (o : Option Data) → or_else o [] (λ found. or_else (as_array found) (unless false rule.Kind k) (member_items m [] k)) ≡ [] → EachItem Is (or_else o no_items (λ found. or_else (as_array found) no_items (λ ds. ds)))
-  at_list k None e = tt
-  at_list k (Some found) e = in_list k (as_array found) e
-
-pub kept_jobs : (d : Data) → pipeline_faults d ≡ [] → EachItem IsJob (job_items d)
+pub resource_members : (d : Data) → pipeline_faults d ≡ [] → members Resource [] (codes "resources") 0 (resource_items d) ≡ []
 unfolding pipeline_faults list_faults
-kept_jobs d e =
-    at_list Job IsJob kept_job (codes "jobs") (at_key (codes "jobs") d)
+resource_members d e =
+    at_list Resource (codes "resources") (at_key (codes "resources") d)
+    (nil_left (member_list Resource (codes "resources") d) _ (nil_right _ (list_faults d) e))
+
+pub job_members : (d : Data) → pipeline_faults d ≡ [] → members Job [] (codes "jobs") 0 (job_items d) ≡ []
+unfolding pipeline_faults list_faults
+job_members d e =
+    at_list Job (codes "jobs") (at_key (codes "jobs") d)
     (nil_left (member_list Job (codes "jobs") d) _ (nil_right (member_list Resource (codes "resources") d) _ (nil_right _ (list_faults d) e)))
 
+-- members without a fault are so
+module _ (m : Member) (Is : Data → Type 0) (one : (names : List (List ℕ)) (p : Path) (d : Data) → member_faults m names p d ≡ [] → Is d) where
+  each : (names : List (List ℕ)) (p : Path) (i : ℕ) (ds : Items) → members m names p i ds ≡ [] → EachItem Is ds
+  each names p i no_items e = tt
+  each names p i (item d ds) e =
+      (one names (path_at p i) d (nil_left (member_faults m names (path_at p i) d) _ e), each (names ++ names_at (codes "name") d) p (i + 1) ds (nil_right (member_faults m names (path_at p i) d) _ e))
+
+pub kept_jobs : (d : Data) → pipeline_faults d ≡ [] → EachItem IsJob (job_items d)
+kept_jobs d e = each Job IsJob kept_job [] (codes "jobs") 0 (job_items d) (job_members d e)
+
 pub kept_resources : (d : Data) → pipeline_faults d ≡ [] → EachItem IsResource (resource_items d)
-unfolding pipeline_faults list_faults
-kept_resources d e =
-    at_list Resource IsResource kept_resource (codes "resources") (at_key (codes "resources") d)
-    (nil_left (member_list Resource (codes "resources") d) _ (nil_right _ (list_faults d) e))
+kept_resources d e = each Resource IsResource kept_resource [] (codes "resources") 0 (resource_items d) (resource_members d e)

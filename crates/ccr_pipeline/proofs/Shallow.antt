@@ -53,7 +53,7 @@ no_level names p d e =
 
 below : (n t : ℕ) (d : Data) → Unfaulted n t d → Below n (step_tree n d)
 unfolding step_tree steps_from
-below zero t d u = absurd (no_level u.0 u.1 d (nil_left _ _ u.2))
+below zero t d u = absurd (no_level u.1.0 u.0 d (nil_left _ _ u.1.1))
 below (suc n) t d u =
     let o : Opened n t d = opened n t d u in
     let rec : Data → Tree = step_tree n in

@@ -13,6 +13,8 @@ pub mod Steps
 pub mod Plans
 pub mod Inputs
 pub mod Limits
+pub mod JobData
+pub mod Links
 pub mod JobRules
 pub mod Unknown
 pub mod Unused

@@ -1,38 +1,16 @@
 -- What a pipeline is read as, where no fault is present in it.
-use Rattle.std.specs.Prelude.{◌≡◌, ℕ, Bool, List, [], ◌∷◌, Option, map, option_map, string_bytes, codes, IsTrue, ◌&&◌, ⊤}
+use Rattle.std.specs.Prelude.{◌≡◌, ℕ, List, [], ◌∷◌, map, string_bytes, codes, IsTrue, ◌&&◌, ⊤}
 use Rattle.serde_json.specs.Data.{Data, Items, no_items, item}
 use Rattle.serde_json.specs.Find.{as_array}
-use Rattle.ccr_history.specs.ObjectData.{object_data}
-use Rattle.ccr_history.specs.TextMap.{TextMap}
 use Rattle.ccr_pipeline.specs.declared.pipeline.Pipeline.{Pipeline}
-use Rattle.ccr_pipeline.specs.declared.resource.Resource.{Resource}
-use Rattle.ccr_pipeline.specs.declared.resource.Job.{Job}
+use Rattle.ccr_pipeline.specs.JobData.{ResourceData, resource_data, JobData, job_data}
 use Rattle.ccr_pipeline.specs.Keys.{at_key, or_else}
 use Rattle.ccr_pipeline.specs.Meaning.{text_or, texts_from, truth_from, whole_from, object_at, pin_from}
 use Rattle.ccr_pipeline.specs.Kinds.{is_name}
 use Rattle.ccr_pipeline.specs.Limits.{IsPlan}
 use Rattle.ccr_pipeline.specs.Plans.{plan_from}
-use Rattle.ccr_pipeline.specs.Tree.{Text, Tree, tree_of}
+use Rattle.ccr_pipeline.specs.Tree.{Text}
 use Rattle.ccr_pipeline.specs.Unused.{unused_in, IsSortedOnce}
-
-pub record ResourceData : Type 0 where
-  pub name : Text
-  pub kind : Text
-  pub source : Option Data
-  pub version : Option TextMap
-
-abbrev pub resource_data : Resource → ResourceData
-resource_data r = record { name = string_bytes r.name; kind = string_bytes r.kind; source = option_map object_data r.source; version = r.version }
-
-pub record JobData : Type 0 where
-  pub name : Text
-  pub plan : Tree
-  pub serial : Bool
-  pub serial_groups : List Text
-  pub max_in_flight : ℕ
-
-abbrev pub job_data : Job → JobData
-job_data j = record { name = string_bytes j.name; plan = tree_of j.plan; serial = j.serial; serial_groups = map string_bytes j.serial_groups.items; max_in_flight = j.max_in_flight }
 
 abbrev pub resource_from : Data → ResourceData
 resource_from d = record { name = text_or [] (codes "name") d; kind = text_or [] (codes "type") d; source = object_at (codes "source") d; version = pin_from (codes "version") d }

@@ -2,7 +2,8 @@
 ghost use Rattle.std.specs.Prelude.{◌≡◌, ◌++◌, [], map, codes, IfOk};
 ghost use Rattle.ccr_pipeline.specs.View.{view, items_view};
 ghost use Rattle.ccr_pipeline.specs.Keys.{at_key, or_else};
-ghost use Rattle.ccr_pipeline.specs.Pipelines.{resource_data, job_data, resource_from, resources_in, resources_from, job_from, jobs_in, job_items, jobs_from, resource_items, IsResource, IsJob, EachItem};
+ghost use Rattle.ccr_pipeline.specs.JobData.{resource_data, job_data};
+ghost use Rattle.ccr_pipeline.specs.Pipelines.{resource_from, resources_in, resources_from, job_from, jobs_in, job_items, jobs_from, resource_items, IsResource, IsJob, EachItem};
 ghost use Rattle.ccr_pipeline.specs.Plans.{plan_from};
 ghost use Rattle.ccr_pipeline.specs.Steps.{trees_in, step_tree, with_hooks};
 ghost use Rattle.ccr_pipeline.specs.Tree.{tree_of, trees_of};

@@ -29,6 +29,7 @@ mod library;
 mod members;
 mod names;
 mod parse;
+mod parts;
 mod pipeline;
 mod place;
 mod reader;

@@ -5,7 +5,7 @@ use Rattle.std.specs.Str.{bytes_eq}
 use Rattle.serde_json.specs.Data.{Data}
 use Rattle.ccr_history.specs.TextMap.{TextMap}
 use Rattle.ccr_pipeline.specs.Tree.{Text, ConfigData}
-use Rattle.ccr_pipeline.specs.Pipelines.{ResourceData}
+use Rattle.ccr_pipeline.specs.JobData.{ResourceData}
 use Rattle.ccr_steps.specs.Asks.{AskData, fetch, push, read_config, run_task}
 use Rattle.ccr_protocol.specs.Requests.{request_text}
 use Rattle.ccr_protocol.specs.declared.fault.RequestFault.{RequestFault}

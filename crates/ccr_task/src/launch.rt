@@ -1,7 +1,8 @@
 //! What checks and asks are launched as.
 ghost use Rattle.std.specs.Prelude.{◌≡◌, ◌∷◌, [], map, option_map, IfOk, IsTrue, codes, string_bytes};
 ghost use Rattle.std.specs.Option.{option_copied};
-ghost use Rattle.ccr_pipeline.specs.Pipelines.{resource_data, pipeline_data};
+ghost use Rattle.ccr_pipeline.specs.JobData.{resource_data};
+ghost use Rattle.ccr_pipeline.specs.Pipelines.{pipeline_data};
 ghost use Rattle.ccr_pipeline.specs.Tree.{config_data, variable_data};
 ghost use Rattle.ccr_protocol.specs.Requests.{data_of};
 ghost use Rattle.ccr_process.specs.Launches.{launch_data, texts_of};

@@ -1,7 +1,8 @@
 use Rattle.std.proofs.Common.{◌≡◌, ◌++◌, map}
 use Rattle.ccr_pipeline.specs.View.{items_view}
 use Rattle.ccr_pipeline.proofs.Items.{left}
-use Rattle.ccr_pipeline.specs.Pipelines.{resource_data, resources_in, IsResource, EachItem}
+use Rattle.ccr_pipeline.specs.JobData.{resource_data}
+use Rattle.ccr_pipeline.specs.Pipelines.{resources_in, IsResource, EachItem}
 use Rattle.ccr_pipeline.proofs.build_job.resources_of.Given as goal
 
 abbrev pub invariant-loop-member : goal.invariant-loop-member

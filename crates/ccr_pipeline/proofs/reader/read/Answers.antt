@@ -1,4 +1,9 @@
+use Rattle.std.proofs.Common.{◌≡◌, map, sym, subst}
+use Rattle.ccr_pipeline.specs.JobData.{resource_data, job_data}
+use Rattle.ccr_pipeline.specs.Links.{HasDistinctResources, HasDistinctJobs, AreLinked}
+use Rattle.ccr_pipeline.specs.Pipelines.{resources_from, jobs_from}
 use Rattle.ccr_pipeline.specs.View.{view}
+use Rattle.ccr_pipeline.proofs.LinksKept.{distinct_resources, distinct_jobs, are_linked}
 use Rattle.ccr_pipeline.proofs.PlansKept.{kept_jobs, kept_resources}
 use Rattle.ccr_pipeline.proofs.reader.read.Goals as goal
 
@@ -7,3 +12,15 @@ resources-requires c = kept_resources (view c.in_ok-value.value) c.in_ok-check_p
 
 pub jobs-requires : goal.jobs-requires
 jobs-requires c = kept_jobs (view c.in_ok-value.value) c.in_ok-check_pipeline.ensures
+
+pub invariant_of-result : goal.invariant_of-result
+invariant_of-result c =
+    let d = view c.in_ok-value.value in
+    let none = c.in_ok-check_pipeline.ensures in
+    let resources : resources_from d ≡ map resource_data c.in_ok-resources.resources.items = sym c.in_ok-resources.ensures in
+    let jobs : jobs_from d ≡ map job_data c.in_ok-jobs.jobs.items = sym c.in_ok-jobs.ensures in
+    record {
+      distinct_resources = subst HasDistinctResources resources (distinct_resources d none);
+      distinct_jobs = subst HasDistinctJobs jobs (distinct_jobs d none);
+      linked = subst (AreLinked (map resource_data c.in_ok-resources.resources.items)) jobs (subst (λ rs. AreLinked rs (jobs_from d)) resources (are_linked d none));
+    }

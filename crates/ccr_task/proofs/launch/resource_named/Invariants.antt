@@ -1,5 +1,5 @@
 use Rattle.std.proofs.Common.{◌≡◌, map, drop}
-use Rattle.ccr_pipeline.specs.Pipelines.{resource_data}
+use Rattle.ccr_pipeline.specs.JobData.{resource_data}
 use Rattle.ccr_task.specs.Launching.{resource_named}
 use Rattle.ccr_task.proofs.launch.resource_named.Given as goal
 

@@ -1,0 +1,189 @@
+-- Where no fault is present in a plan, the resources and jobs that it names are there.
+use Rattle.std.proofs.Common.{◌≡◌, ℕ, zero, suc, ◌+◌, List, [], ◌∷◌, ◌++◌, Bool, true, false, Option, Some, None, refl, append_assoc, if◌then◌else◌, option_and_then, unwrap_or, is_some, codes}
+use Rattle.std.proofs.lemmas.List.Elements.{All-nil, All-cons, All-append}
+use Rattle.std.specs.List.{AllByRecursion, AllPass}
+use Rattle.serde_json.specs.Data.{Data, Items, no_items, item}
+use Rattle.serde_json.specs.Find.{as_array, as_number, as_str, as_u64}
+use Rattle.ccr_pipeline.specs.declared.fault.Rule.TheVariants as rule
+use Rattle.ccr_pipeline.specs.declared.kind.Kind.{Kind}
+use Rattle.ccr_pipeline.specs.declared.kind.Kind.TheVariants as kind
+use Rattle.ccr_pipeline.specs.declared.place.Part.TheVariants.{Opening}
+use Rattle.ccr_pipeline.specs.declared.step.When.{When}
+use Rattle.ccr_pipeline.specs.Faults.{Path, Faults, unless}
+use Rattle.ccr_pipeline.specs.JobRules.{job_rest}
+use Rattle.ccr_pipeline.specs.Keys.{at_key, or_else, path_below, path_at}
+use Rattle.ccr_pipeline.specs.Kinds.{is_name, broken, required, optional, optional_keys}
+use Rattle.ccr_pipeline.specs.Links.{used_resources, used_resources_in, passed_jobs, passed_jobs_in, IsLinked}
+use Rattle.ccr_pipeline.specs.Meaning.{text_or, texts_from}
+use Rattle.ccr_pipeline.specs.Names.{has_name, text_at, texts_in, new_name}
+use Rattle.ccr_pipeline.specs.Places.{Spot, spot_of, plan_steps, tries_below}
+use Rattle.ccr_pipeline.specs.Plans.{plan_from}
+use Rattle.ccr_pipeline.specs.StepRules.{own_keys, get_faults, get_keys, put_keys, opening_faults}
+use Rattle.ccr_pipeline.specs.Steps.{step_tree, action}
+use Rattle.ccr_pipeline.specs.Tree.{Text, Tree, trees_of, hook, attempts}
+use Rattle.ccr_pipeline.specs.Unknown.{name_key, unknown_resource, unknown_texts, unknown_passed, unknown_names, unknown_spots, unknown_job}
+use Rattle.ccr_pipeline.proofs.Inside.{Inside, Opened, opened, Planned, planned}
+use Rattle.ccr_pipeline.proofs.Kept.{Holds, Leaves, action-kept, hooks-kept, plan-kept}
+use Rattle.ccr_pipeline.proofs.Named.{opened_own}
+use Rattle.ccr_pipeline.proofs.Unfaulted.{nil_left, nil_right, passes, IsUnfaulted, unfaulted_parts, unfaulted_plan, unfaulted_hooks}
+
+-- a text that is there is known, where no fault says otherwise
+
+text_known : (known : List Text) (p q : Path) (absent : Text) (o : Option Text) → unless (is_some o) rule.Kind q ≡ [] → or_else o [] (λ name. unless (has_name known name) rule.KnownResource p) ≡ [] → has_name known (unwrap_or o absent) ≡ true
+text_known known p q absent None e f = absurd (cc (e))
+text_known known p q absent (Some s) e f = passes (has_name known s) rule.KnownResource p f
+
+resource_known : (known : List Text) (p q : Path) (absent : Text) (o : Option Data) → is_some o ≡ true → or_else o [] (broken kind.Text q) ≡ [] → or_else (option_and_then as_str o) [] (λ name. unless (has_name known name) rule.KnownResource p) ≡ [] → has_name known (unwrap_or (option_and_then as_str o) absent) ≡ true
+unfolding broken
+resource_known known p q absent None there e f = absurd (cc (there))
+resource_known known p q absent (Some d) there e f = text_known known p q absent (as_str d) e f
+
+named_text : (q : Path) (o : Option Text) → or_else o (unless false rule.Kind q) (λ s. unless (is_name s) rule.Name q) ≡ [] → unless (is_some o) rule.Kind q ≡ []
+named_text q None e = e
+named_text q (Some s) e = refl
+
+name_known : (known : List Text) (p q : Path) (o : Option Data) → is_some o ≡ true → or_else o [] (broken kind.Name q) ≡ [] → or_else (option_and_then as_str o) [] (λ name. unless (has_name known name) rule.KnownResource p) ≡ [] → has_name known (unwrap_or (option_and_then as_str o) []) ≡ true
+unfolding broken
+name_known known p q None there e f = absurd (cc (there))
+name_known known p q (Some d) there e f = text_known known p q [] (as_str d) (named_text q (as_str d) e) f
+
+no_text : (absent : Text) (o : Option Data) → is_some o ≡ false → unwrap_or (option_and_then as_str o) absent ≡ absent
+no_text absent None e = refl
+no_text absent (Some d) e = absurd (cc (e))
+
+at_least : (k : Kind) (q : Path) (o : Option Data) → or_else o (unless false rule.Presence q) (broken k q) ≡ [] → or_else o [] (broken k q) ≡ []
+at_least k q None e = refl
+at_least k q (Some d) e = e
+
+-- a get or put whose own name stands at a key means a resource that is known
+module _ (known : List Text) (p : Path) (d : Data) where
+  meant : (k : List ℕ) → (b : Bool) → is_some (at_key (codes "resource") d) ≡ b → (b ≡ false → name_key d ≡ k) → is_some (at_key k d) ≡ true → or_else (at_key k d) [] (broken kind.Name (path_below p k)) ≡ [] → optional kind.Text p (codes "resource") d ≡ [] → or_else (text_at (name_key d) d) [] (λ name. unless (has_name known name) rule.KnownResource (path_below p (name_key d))) ≡ [] → has_name known (text_or (text_or [] k d) (codes "resource") d) ≡ true
+  meant k true is from there named text e =
+      let by : name_key d ≡ codes "resource" = rw is refl in
+      resource_known known (path_below p (codes "resource")) (path_below p (codes "resource")) (text_or [] k d) (at_key (codes "resource") d) is text (rw by at e)
+  meant k false is from there named text e =
+      let own : has_name known (text_or [] k d) ≡ true = name_known known (path_below p k) (path_below p k) (at_key k d) there named (rw (from refl) at e) in
+      rw (no_text (text_or [] k d) (at_key (codes "resource") d) is) own
+
+-- what a list names is known
+
+AllKnown-nil : (known : List Text) → AllPass (has_name known) []
+AllKnown-nil known = All-nil (λ s. has_name known s ≡ true)
+
+and : (known xs ys : List Text) → AllPass (has_name known) xs → AllPass (has_name known) ys → AllPass (has_name known) (xs ++ ys)
+and known xs ys h g = All-append (λ s. has_name known s ≡ true) xs ys h g
+
+one : (known : List Text) (s : Text) → has_name known s ≡ true → AllPass (has_name known) (s ∷ [])
+one known s h = All-cons (λ s. has_name known s ≡ true) s [] h (AllKnown-nil known)
+
+in_text : (known : List Text) (p : Path) (o : Option Text) → or_else o [] (λ name. unless (has_name known name) rule.KnownJob p) ≡ [] → AllPass (has_name known) (or_else o [] (λ s. s ∷ []))
+in_text known p None e = AllKnown-nil known
+in_text known p (Some s) e = one known s (passes (has_name known s) rule.KnownJob p e)
+
+in_texts : (known : List Text) (p : Path) (i : ℕ) (ds : Items) → unknown_texts known p i ds ≡ [] → AllPass (has_name known) (texts_in ds)
+in_texts known p i no_items e = AllKnown-nil known
+in_texts known p i (item d ds) e =
+    and known _ _ (in_text known (path_at p i) (as_str d) (nil_left _ (unknown_texts known p (i + 1) ds) e))
+    (in_texts known p (i + 1) ds (nil_right (or_else (as_str d) [] (λ name. unless (has_name known name) rule.KnownJob (path_at p i))) _ e))
+
+in_list : (known : List Text) (p : Path) (o : Option Items) → or_else o [] (unknown_texts known p 0) ≡ [] → AllPass (has_name known) (or_else o [] texts_in)
+in_list known p None e = AllKnown-nil known
+in_list known p (Some ds) e = in_texts known p 0 ds e
+
+at_list : (known : List Text) (p : Path) (o : Option Data) → or_else o [] (λ found. or_else (as_array found) [] (unknown_texts known p 0)) ≡ [] → AllPass (has_name known) (or_else o [] (λ found. or_else (as_array found) [] texts_in))
+at_list known p None e = AllKnown-nil known
+at_list known p (Some found) e = in_list known p (as_array found) e
+
+-- what no fault in a step's own keys and none among its names say of the step
+
+when : (b : Bool) (xs : Faults) → b ≡ true → (if b then xs else []) ≡ [] → xs ≡ []
+when true xs is e = e
+when false xs is e = absurd (cc (is))
+
+module _ (resources jobs : List Text) (names : List Text) (p : Path) (d : Data) (own : own_keys names p d ≡ []) (known : unknown_names resources jobs p d ≡ []) where
+  get_resource : is_some (at_key (codes "get") d) ≡ true → has_name resources (text_or (text_or [] (codes "get") d) (codes "resource") d) ≡ true
+  unfolding own_keys get_faults unknown_names unknown_resource new_name
+  get_resource a =
+      let keys : get_faults names p d ≡ [] = rw a at own in
+      let named = at_least kind.Name (path_below p (codes "get")) (at_key (codes "get") d) (nil_left (required kind.Name p (codes "get") d) _ (nil_left (new_name names p (codes "get") d) _ keys)) in
+      let text = nil_left (optional kind.Text p (codes "resource") d) _ (nil_right (new_name names p (codes "get") d) (optional_keys get_keys p d) keys) in
+      let there : unknown_resource resources p d ≡ [] = nil_left _ _ known in
+      meant resources p d (codes "get") (is_some (at_key (codes "resource") d)) refl (λ is. rw (is, a) refl) a named text (when _ _ (rw a refl) there)
+
+  get_passed : is_some (at_key (codes "get") d) ≡ true → AllPass (has_name jobs) (texts_from (codes "passed") d)
+  unfolding unknown_names unknown_passed
+  get_passed a =
+      let there : unknown_passed jobs p d ≡ [] = nil_right (unknown_resource resources p d) _ known in
+      at_list jobs (path_below p (codes "passed")) (at_key (codes "passed") d) (when _ _ a there)
+
+  put_resource : is_some (at_key (codes "get") d) ≡ false → is_some (at_key (codes "put") d) ≡ true → has_name resources (text_or (text_or [] (codes "put") d) (codes "resource") d) ≡ true
+  unfolding own_keys unknown_names unknown_resource
+  put_resource a b =
+      let keys : optional_keys put_keys p d ≡ [] = rw (a, b) at own in
+      let named = nil_left (optional kind.Name p (codes "put") d) _ keys in
+      let text = nil_left (optional kind.Text p (codes "resource") d) _ (nil_right (optional kind.Name p (codes "put") d) _ keys) in
+      let there : unknown_resource resources p d ≡ [] = nil_left _ _ known in
+      meant resources p d (codes "put") (is_some (at_key (codes "resource") d)) refl (λ is. rw (is, a) refl) b named text (when _ _ (rw (a, b) refl) there)
+
+-- the plans of a pipeline with these resources and jobs
+module _ (resources jobs : List Text) where
+  -- in visits, no fault is present and no name is unknown
+  abbrev Fine : List Spot → Type 0
+  Fine xs = IsUnfaulted xs × (unknown_spots resources jobs xs ≡ [])
+
+  unknown-append : (xs ys : List Spot) → unknown_spots resources jobs (xs ++ ys) ≡ unknown_spots resources jobs xs ++ unknown_spots resources jobs ys
+  unknown-append [] ys = refl
+  unknown-append (x ∷ xs) ys = rw (unknown-append xs ys, append_assoc) refl
+
+  parts : (xs ys : List Spot) → Fine (xs ++ ys) → Fine xs × Fine ys
+  parts xs ys f =
+      let known : unknown_spots resources jobs xs ++ unknown_spots resources jobs ys ≡ [] = rw (unknown-append xs ys) at f.1 in
+      let faults = unfaulted_parts xs ys f.0 in
+      ((faults.0, nil_left _ _ known), (faults.1, nil_right _ _ known))
+
+  abbrev InStep : Tree → Type 0
+  InStep t = IsLinked resources jobs t
+
+  none : AllPass (has_name resources) [] × AllPass (has_name jobs) []
+  none = (AllKnown-nil resources, AllKnown-nil jobs)
+
+  leaves : (n t : ℕ) (d : Data) (p : Path) → Fine (spot_of Opening p (suc n) t d ∷ []) → Leaves InStep d
+  leaves n t d p f =
+      let names = f.0.0 in
+      let own = opened_own names p (suc n) d (nil_left (opening_faults names p (suc n) d) [] f.0.1) in
+      let known = nil_left (unknown_names resources jobs p d) [] f.1 in
+      record {
+        getting = λ a. (one resources _ (get_resource resources jobs names p d own known a), get_passed resources jobs names p d own known a);
+        putting = λ a b. (one resources _ (put_resource resources jobs names p d own known a b), AllKnown-nil jobs);
+        doing = λ a b c. none;
+      }
+
+  all_linked : (ts : List Tree) → AllByRecursion InStep ts → AllPass (has_name resources) (used_resources_in (trees_of ts)) × AllPass (has_name jobs) (passed_jobs_in (trees_of ts))
+  all_linked [] h = none
+  all_linked (t ∷ ts) h =
+      let rest = all_linked ts h.1 in
+      (and resources (used_resources t) _ h.0.0 rest.0, and jobs (passed_jobs t) _ h.0.1 rest.1)
+
+  holds : Holds InStep InStep
+  holds = record { order = all_linked; parallel = λ ts fast h. all_linked ts h; trying = λ t h. h }
+
+  in_hook : (w : When) (t h : Tree) → InStep t → InStep h → InStep (hook w t h)
+  in_hook w t h a b = (and resources (used_resources t) _ a.0 b.0, and jobs (passed_jobs t) _ a.1 b.1)
+
+  in_attempts : (o : Option ℕ) (t : Tree) → InStep t → InStep (or_else o t (λ n. attempts n t))
+  in_attempts None t h = h
+  in_attempts (Some n) t h = h
+
+  in_step : (n t : ℕ) (d : Data) → Inside Fine n t d → InStep (step_tree n d)
+  unfolding step_tree
+  in_step zero t d f = none
+  in_step (suc n) t d f =
+      let o : Opened Fine n t d = opened Fine parts n t d f in
+      let acted = action-kept (Inside Fine n (tries_below t d)) InStep InStep (step_tree n) (in_step n (tries_below t d)) holds d (leaves n t d o.path o.opening) o.own in
+      hooks-kept (Inside Fine n (tries_below t d)) InStep InStep (step_tree n) (in_step n (tries_below t d)) in_hook d _ o.hooks (in_attempts (option_and_then as_u64 (option_and_then as_number (at_key (codes "attempts") d))) (action (step_tree n) d) acted)
+
+  pub linked_plan : (p : Path) (d : Data) → job_rest p d ≡ [] → unknown_job resources jobs p d ≡ [] → IsLinked resources jobs (plan_from d)
+  unfolding plan_from unknown_job
+  linked_plan p d e u =
+      let plan : Planned Fine d = planned Fine parts p d (unfaulted_plan p d e, nil_left _ _ u) (unfaulted_hooks p d e, nil_right (unknown_spots resources jobs (plan_steps p d)) _ u) in
+      plan-kept (Inside Fine 30 1) InStep InStep (step_tree 30) (in_step 30 1) holds in_hook d plan.steps plan.hooks

@@ -1,0 +1,118 @@
+-- Where no fault is present in a pipeline, no two of its resources and no two of its jobs have one name, and what its plans name is there.
+use Rattle.std.proofs.Common.{◌≡◌, ℕ, ◌+◌, List, [], ◌∷◌, ◌++◌, Option, Some, None, refl, ap, subst, ◌∙◌, is_some, codes}
+use Rattle.std.proofs.lemmas.List.Elements.{All-from_recursion}
+use Rattle.std.specs.List.{AllByRecursion, IsDistinct}
+use Rattle.std.specs.Str.{bytes_eq}
+use Rattle.serde_json.specs.Data.{Data, Items, no_items, item}
+use Rattle.serde_json.specs.Find.{as_array, as_object}
+use Rattle.ccr_pipeline.specs.declared.fault.Rule.TheVariants as rule
+use Rattle.ccr_pipeline.specs.declared.kind.Kind.TheVariants as kind
+use Rattle.ccr_pipeline.specs.declared.check_job.Member.{Member}
+use Rattle.ccr_pipeline.specs.declared.check_job.Member.TheVariants.{Resource, Job}
+use Rattle.ccr_pipeline.specs.Faults.{Path, unless}
+use Rattle.ccr_pipeline.specs.JobRules.{resource_faults, job_opening, job_rest, job_faults, member_faults, members, member_list, names_in, list_names}
+use Rattle.ccr_pipeline.specs.Keys.{at_key, or_else, path_below, path_at}
+use Rattle.ccr_pipeline.specs.Kinds.{required}
+use Rattle.ccr_pipeline.specs.Links.{resource_names, job_names, HasDistinctResources, HasDistinctJobs, IsLinked, AreLinked}
+use Rattle.ccr_pipeline.specs.Meaning.{text_or}
+use Rattle.ccr_pipeline.specs.Names.{text_at, names_at, new_name}
+use Rattle.ccr_pipeline.specs.Pipelines.{resource_items, job_items, job_from, resources_in, resources_from, jobs_in, jobs_from}
+use Rattle.ccr_pipeline.specs.Reading.{list_faults, pipeline_faults}
+use Rattle.ccr_pipeline.specs.Tree.{Text}
+use Rattle.ccr_pipeline.specs.Unknown.{unknown_job, unknown_jobs, unknown_in}
+use Rattle.ccr_pipeline.proofs.Distinct.{once, is_there, with_text}
+use Rattle.ccr_pipeline.proofs.Linked.{linked_plan}
+use Rattle.ccr_pipeline.proofs.PlansKept.{resource_members, job_members}
+use Rattle.ccr_pipeline.proofs.Subsequence.{NoRepeat, distinct}
+use Rattle.ccr_pipeline.proofs.Unfaulted.{nil_left, nil_right}
+
+member_new : (m : Member) (names : List Text) (p : Path) (d : Data) → member_faults m names p d ≡ [] → new_name names p (codes "name") d ≡ []
+unfolding resource_faults job_faults job_opening
+member_new Resource names p d e = nil_left (new_name names p (codes "name") d) _ (nil_right (unless (is_some (as_object d)) rule.Kind p) _ e)
+member_new Job names p d e = nil_left (new_name names p (codes "name") d) _ (nil_right (unless (is_some (as_object d)) rule.Kind p) _ (nil_left (job_opening names p d) _ e))
+
+-- no two members of a list have one name
+no_repeat : (m : Member) (names : List Text) (p : Path) (i : ℕ) (ds : Items) → members m names p i ds ≡ [] → NoRepeat names (names_in ds)
+unfolding new_name
+no_repeat m names p i no_items e = tt
+no_repeat m names p i (item d ds) e =
+    let new = member_new m names (path_at p i) d (nil_left (member_faults m names (path_at p i) d) _ e) in
+    with_text names (names_in ds) (text_at (codes "name") d) (once names (path_below (path_at p i) (codes "name")) (text_at (codes "name") d) (nil_right (required kind.Name (path_at p i) (codes "name") d) _ new))
+    (no_repeat m (names ++ names_at (codes "name") d) p (i + 1) ds (nil_right (member_faults m names (path_at p i) d) _ e))
+
+-- the members of a list have names, by which they are called
+abbrev called : Items → List Text
+called no_items = []
+called (item d ds) = text_or [] (codes "name") d ∷ called ds
+
+each_called : (m : Member) (names : List Text) (p : Path) (i : ℕ) (ds : Items) → members m names p i ds ≡ [] → names_in ds ≡ called ds
+unfolding new_name
+each_called m names p i no_items e = refl
+each_called m names p i (item d ds) e =
+    let new = member_new m names (path_at p i) d (nil_left (member_faults m names (path_at p i) d) _ e) in
+    let one : names_at (codes "name") d ≡ text_or [] (codes "name") d ∷ [] = is_there (path_below (path_at p i) (codes "name")) (at_key (codes "name") d) (nil_left (required kind.Name (path_at p i) (codes "name") d) _ new) in
+    let rest = each_called m (names ++ names_at (codes "name") d) p (i + 1) ds (nil_right (member_faults m names (path_at p i) d) _ e) in
+    rw (one, rest) refl
+
+resources_called : (ds : Items) → called ds ≡ resource_names (resources_in ds)
+resources_called no_items = refl
+resources_called (item d ds) = ap (λ names. text_or [] (codes "name") d ∷ names) (resources_called ds)
+
+jobs_called : (ds : Items) → called ds ≡ job_names (jobs_in ds)
+unfolding job_from
+jobs_called no_items = refl
+jobs_called (item d ds) = ap (λ names. text_or [] (codes "name") d ∷ names) (jobs_called ds)
+
+in_list : (o : Option Items) → or_else o [] names_in ≡ names_in (or_else o no_items (λ ds. ds))
+in_list None = refl
+in_list (Some ds) = refl
+
+at_list : (o : Option Data) → or_else o [] (λ found. or_else (as_array found) [] names_in) ≡ names_in (or_else o no_items (λ found. or_else (as_array found) no_items (λ ds. ds)))
+at_list None = refl
+at_list (Some found) = in_list (as_array found)
+
+module _ (d : Data) (none : pipeline_faults d ≡ []) where
+  resources_named : names_in (resource_items d) ≡ resource_names (resources_from d)
+  resources_named = each_called Resource [] (codes "resources") 0 (resource_items d) (resource_members d none) ∙ resources_called (resource_items d)
+
+  jobs_named : names_in (job_items d) ≡ job_names (jobs_from d)
+  jobs_named = each_called Job [] (codes "jobs") 0 (job_items d) (job_members d none) ∙ jobs_called (job_items d)
+
+  pub distinct_resources : HasDistinctResources (resources_from d)
+  distinct_resources = subst (IsDistinct bytes_eq) resources_named (distinct [] (names_in (resource_items d)) (no_repeat Resource [] (codes "resources") 0 (resource_items d) (resource_members d none)))
+
+  pub distinct_jobs : HasDistinctJobs (jobs_from d)
+  distinct_jobs = subst (IsDistinct bytes_eq) jobs_named (distinct [] (names_in (job_items d)) (no_repeat Job [] (codes "jobs") 0 (job_items d) (job_members d none)))
+
+-- the plans of a list of jobs
+module _ (resources jobs : List Text) where
+  each_linked : (names : List Text) (i : ℕ) (ds : Items) → members Job names (codes "jobs") i ds ≡ [] → unknown_jobs resources jobs i ds ≡ [] → AllByRecursion (λ j. IsLinked resources jobs j.plan) (jobs_in ds)
+  unfolding job_faults job_from
+  each_linked names i no_items e u = tt
+  each_linked names i (item d ds) e u =
+      let p = path_at (codes "jobs") i in
+      let one : job_faults names p d ≡ [] = nil_left (job_faults names p d) _ e in
+      let rest : job_rest p d ≡ [] = nil_right (job_opening names p d) _ one in (
+        linked_plan resources jobs p d rest (nil_left (unknown_job resources jobs p d) _ u),
+        each_linked (names ++ names_at (codes "name") d) (i + 1) ds (nil_right (job_faults names p d) _ e) (nil_right (unknown_job resources jobs p d) _ u),
+      )
+
+  unknown_list : (o : Option Items) → or_else o [] (unknown_jobs resources jobs 0) ≡ [] → unknown_jobs resources jobs 0 (or_else o no_items (λ ds. ds)) ≡ []
+  unknown_list None u = refl
+  unknown_list (Some ds) u = u
+
+  unknown_at : (o : Option Data) → or_else o [] (λ found. or_else (as_array found) [] (unknown_jobs resources jobs 0)) ≡ [] → unknown_jobs resources jobs 0 (or_else o no_items (λ found. or_else (as_array found) no_items (λ ds. ds))) ≡ []
+  unknown_at None u = refl
+  unknown_at (Some found) u = unknown_list (as_array found) u
+
+  all_linked : (d : Data) → pipeline_faults d ≡ [] → unknown_in resources jobs d ≡ [] → AllByRecursion (λ j. IsLinked resources jobs j.plan) (jobs_from d)
+  all_linked d none u = each_linked [] 0 (job_items d) (job_members d none) (unknown_at (at_key (codes "jobs") d) u)
+
+pub are_linked : (d : Data) → pipeline_faults d ≡ [] → AreLinked (resources_from d) (jobs_from d)
+unfolding pipeline_faults list_faults
+are_linked d none =
+    let known : unknown_in (list_names (codes "resources") d) (list_names (codes "jobs") d) d ≡ [] = nil_right (member_list Job (codes "jobs") d) _ (nil_right (member_list Resource (codes "resources") d) _ (nil_right _ (list_faults d) none)) in
+    let rs : list_names (codes "resources") d ≡ resource_names (resources_from d) = at_list (at_key (codes "resources") d) ∙ resources_named d none in
+    let js : list_names (codes "jobs") d ≡ job_names (jobs_from d) = at_list (at_key (codes "jobs") d) ∙ jobs_named d none in
+    All-from_recursion (λ j. IsLinked (resource_names (resources_from d)) (job_names (jobs_from d)) j.plan) (jobs_from d)
+    (all_linked (resource_names (resources_from d)) (job_names (jobs_from d)) d none (rw (rs, js) at known))
