@@ -3,6 +3,7 @@ pub mod Plays
 pub mod Joining
 pub mod Under
 pub mod Standing
+pub mod Naming
 pub mod Begins
 pub mod StepTrees
 pub mod GainLaws

@@ -1,10 +1,13 @@
 -- What a build asks for, what it is answered, and the versions that it was made for.
-use Rattle.std.specs.Prelude.{List, [], ◌∷◌, Option, map, option_map, if◌then◌else◌}
+use Rattle.std.specs.Prelude.{List, [], ◌∷◌, Option, Some, None, IsTrue, map, option_map, if◌then◌else◌}
+use Rattle.std.specs.Option.{IfSome}
 use Rattle.std.specs.Str.{bytes_eq}
 use Rattle.serde_json.specs.Data.{Data}
 use Rattle.ccr_history.specs.ObjectData.{object_data}
 use Rattle.ccr_history.specs.TextMap.{TextMap}
-use Rattle.ccr_pipeline.specs.Tree.{Text, ConfigData, config_data, variable_data, GetData, PutData}
+use Rattle.ccr_pipeline.specs.Links.{used_resources}
+use Rattle.ccr_pipeline.specs.Names.{has_name}
+use Rattle.ccr_pipeline.specs.Tree.{Text, ConfigData, config_data, variable_data, GetData, PutData, Tree}
 use Rattle.ccr_steps.specs.declared.ask.Ask.{Ask}
 use Rattle.ccr_steps.specs.declared.ask.Ask.TheVariants.{Fetch, Push, ReadConfig, RunTask}
 use Rattle.ccr_steps.specs.declared.ask.Answered.{Answered}
@@ -22,6 +25,17 @@ ask_data (Fetch artifact resource version params) = fetch artifact.now resource.
 ask_data (Push artifact resource params) = push artifact.now resource.now (option_map (λ p. object_data p.now) params)
 ask_data (ReadConfig file) = read_config file.now
 ask_data (RunTask config env) = run_task (config_data config.now) (map variable_data env.now)
+
+-- the resource that an ask names: a task's asks name none
+abbrev pub ask_resource : AskData → Option Text
+ask_resource (fetch artifact resource version params) = Some resource
+ask_resource (push artifact resource params) = Some resource
+ask_resource (read_config file) = None
+ask_resource (run_task config env) = None
+
+-- the resource that an ask names is one of this plan's
+abbrev pub NamesResourceOf : Tree → AskData → Type 0
+NamesResourceOf t a = IfSome (ask_resource a) (λ r. IsTrue (has_name (used_resources t) r))
 
 -- how it went; a version comes back from a push alone, a config from a task file alone
 pub data AnswerData : Type 0 where

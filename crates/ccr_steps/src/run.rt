@@ -1,7 +1,8 @@
 //! Builds that run.
 ghost use Rattle.std.specs.Prelude.{◌≡◌, [], ◌∷◌, ◌++◌, ◌↔◌, List, None, map, option_map, IfOk, OnOk, OnErr, IsErrOf};
+ghost use Rattle.std.specs.Option.{IfSome};
 ghost use Rattle.ccr_pipeline.specs.Tree.{Tree, tree_of};
-ghost use Rattle.ccr_steps.specs.Asks.{AskData, Chosen, Exchange, ask_data, answer_data, chosen, exchange};
+ghost use Rattle.ccr_steps.specs.Asks.{AskData, Chosen, Exchange, NamesResourceOf, ask_data, answer_data, chosen, exchange};
 ghost use Rattle.ccr_steps.specs.Gains.{moved_data};
 ghost use Rattle.ccr_steps.specs.Inputs.{input_names};
 ghost use Rattle.ccr_steps.specs.Moments.{moment_data, step_at};
@@ -58,10 +59,13 @@ pub fn start(alloc: Global, job: &Job, inputs: &[Version]) -> Result<BuildRun, A
 }
 
 impl BuildRun {
-    /// What the build waits for; None where it has ended. No memory is taken.
+    /// What the build waits for; None where it has ended. A resource that it names is one of the plan's. No memory is
+    /// taken.
     pub fn wants(&self) -> Option<Ask<'_>>
-        ensures { (plan : Tree) (inputs : Chosen) (es : List Exchange) → StandsFor (run_data self.now) plan inputs es
+        ensures next { (plan : Tree) (inputs : Chosen) (es : List Exchange) → StandsFor (run_data self.now) plan inputs es
             → IsWanted inputs plan es (option_map ask_data result) }
+        ensures named { (plan : Tree) (inputs : Chosen) (es : List Exchange) → StandsFor (run_data self.now) plan inputs es
+            → IfSome (option_map ask_data result) (NamesResourceOf plan) }
     {
         let Some(step) = self.at.step_of(&self.plan) else {
             return None;

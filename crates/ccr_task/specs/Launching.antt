@@ -78,6 +78,13 @@ can_launch rs (push artifact resource params) = is_some (resource_named resource
 can_launch rs (read_config file) = false
 can_launch rs (run_task config env) = true
 
+-- an ask starts a program, if it asks for no file
+abbrev pub starts_program : AskData → Bool
+starts_program (fetch artifact resource version params) = true
+starts_program (push artifact resource params) = true
+starts_program (read_config file) = false
+starts_program (run_task config env) = true
+
 -- what an ask of a build that works in this folder is launched as: a fetch, a push or a task's program
 abbrev pub LaunchesAsk : PlacesData → List ResourceData → Text → AskData → Result Launch RequestFault → Type 0
 LaunchesAsk places rs build (fetch artifact resource version params) result = (r : ResourceData) → resource_named resource rs ≡ Some r → Launches (fetch_launch places build artifact r version params) result

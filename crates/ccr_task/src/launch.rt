@@ -1,14 +1,15 @@
 //! What checks and asks are launched as.
 ghost use Rattle.std.specs.Prelude.{◌≡◌, ◌∷◌, [], map, option_map, IfOk, IsTrue, codes, string_bytes};
+ghost use Rattle.std.specs.List.{Contains};
 ghost use Rattle.std.specs.Option.{option_copied};
-ghost use Rattle.ccr_pipeline.specs.JobData.{resource_data};
+ghost use Rattle.ccr_pipeline.specs.JobData.{JobData, resource_data};
 ghost use Rattle.ccr_pipeline.specs.Pipelines.{pipeline_data};
 ghost use Rattle.ccr_pipeline.specs.Tree.{config_data, variable_data};
 ghost use Rattle.ccr_protocol.specs.Requests.{data_of};
 ghost use Rattle.ccr_process.specs.Launches.{launch_data, texts_of};
-ghost use Rattle.ccr_steps.specs.Asks.{ask_data};
+ghost use Rattle.ccr_steps.specs.Asks.{ask_data, NamesResourceOf};
 ghost use Rattle.ccr_task.specs.Places.{places_data, below, build_folder};
-ghost use Rattle.ccr_task.specs.Launching.{check_launch, fetch_launch, push_launch, task_program, task_folder, resource_named, begins_with_slash, Launches, LaunchesAsk, IsTaskLaunch, can_launch};
+ghost use Rattle.ccr_task.specs.Launching.{check_launch, fetch_launch, push_launch, task_program, task_folder, resource_named, begins_with_slash, Launches, LaunchesAsk, IsTaskLaunch, can_launch, starts_program};
 
 use crate::environment::environment;
 use crate::places::Places;
@@ -172,9 +173,13 @@ fn task_launch(
 }
 
 /// Whether an ask of a build starts a program: it asks for no file, and the pipeline has the resource that it names, if it
-/// names one.
+/// names one. It has each resource that a build of one of its jobs asks for.
 pub fn can_launch(pipeline: &Pipeline, ask: &Ask<'_>) -> bool
-    ensures { result ≡ can_launch (pipeline_data pipeline.now).resources (ask_data ask.now) }
+    ensures exact { result ≡ can_launch (pipeline_data pipeline.now).resources (ask_data ask.now) }
+
+    // What a build of one of the pipeline's jobs asks can be launched, unless it asks for a file.
+    ensures named { (job : JobData) → Contains (pipeline_data pipeline.now).jobs job → NamesResourceOf job.plan (ask_data ask.now)
+        → result ≡ starts_program (ask_data ask.now) }
 {
     match ask {
         Ask::Fetch { resource, .. } => resource_named(pipeline.resources(), resource).is_some(),
