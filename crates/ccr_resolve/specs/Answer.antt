@@ -3,7 +3,7 @@ use Rattle.std.specs.Prelude.{◌≡◌, ℕ, ◌≤◌}
 use Rattle.ccr_choice.specs.Problem.{ProblemValue, ChoiceValue}
 use Rattle.ccr_proof.specs.declared.claim.Claim.{Claim}
 use Rattle.ccr_proof.specs.declared.claim.Claim.TheVariants as claim
-use Rattle.ccr_proof.specs.Preference.{Preference}
+use Rattle.ccr_choice.specs.Preference.{Preference}
 use Rattle.ccr_proof.specs.Tree.{tree_of, count}
 use Rattle.ccr_proof.specs.Refutes.{IsAccepted}
 use Rattle.ccr_resolve.specs.declared.answer.Answer.{Answer}
