@@ -1,0 +1,5 @@
+pub mod RowLaws
+pub mod BestLaws
+pub mod GrowLaws
+pub mod VersionLaws
+pub mod IndexLaws

@@ -1,0 +1,100 @@
+//! The index of a problem, made from the problem.
+
+ghost use Rattle.std.specs.Prelude.{◌≡◌, ◌<◌, ◌^◌, ◌↔◌, ℕ, length, map, IsTrue, IfOk, All};
+ghost use Rattle.ccr_choice.specs.Preference.{order_of};
+ghost use Rattle.ccr_choice.specs.Assignment.{nothing_fixed};
+ghost use Rattle.ccr_choice.specs.Possible.{IsBestPlace};
+ghost use Rattle.ccr_choice.specs.Ascending.{AreAscending};
+ghost use Rattle.ccr_index.specs.Index.{AreTops, HasPassed};
+
+use crate::index::Index;
+use crate::input::InputRows;
+use crate::rows::JobRows;
+use ccr_choice::{Build, MOST_INPUTS, Problem};
+use std::alloc::{AllocError, Global};
+
+/// The index of this problem, in time that grows with the problem's text.
+pub fn build_index(alloc: Global, problem: &Problem) -> Result<Index, AllocError>
+    ensures { IfOk result (λ index. index ≡ record { problem = problem.now; spare_places = 0; spare_pairs = 0 }) }
+{
+    let inputs = inputs_of(alloc, problem)?;
+    let jobs = jobs_of(alloc, problem)?;
+    let tops = tops_of(problem, &jobs);
+    Ok(Index::new(inputs, jobs, tops))
+}
+
+fn inputs_of(alloc: Global, problem: &Problem) -> Result<Vec<InputRows>, AllocError>
+    ensures { IfOk result (λ inputs. map (λ x. x.input) inputs.items ≡ problem.now.inputs) }
+{
+    let mut inputs = Vec::new(alloc);
+    for input in problem.inputs() {
+        inputs.push(InputRows::of(alloc, input)?)?;
+    }
+    Ok(inputs)
+}
+
+fn jobs_of(alloc: Global, problem: &Problem) -> Result<Vec<JobRows>, AllocError>
+    ensures { IfOk result (λ jobs. map (λ r. r.builds) jobs.items ≡ problem.now.jobs) }
+{
+    let mut jobs = Vec::new(alloc);
+    for j in 0..problem.jobs().len() {
+        jobs.push(rows_of(alloc, problem.builds(j))?)?;
+    }
+    Ok(jobs)
+}
+
+fn rows_of(alloc: Global, builds: &[Build]) -> Result<JobRows, AllocError>
+    requires ascending { All (λ b. AreAscending b.pairs) builds.now }
+    requires few { All (λ b. length b.pairs < 2 ^ 32) builds.now }
+    ensures { IfOk result (λ rows. rows.builds ≡ builds.now) }
+{
+    let mut rows = JobRows::new(alloc);
+    for k in (0..builds.len()).rev() {
+        let pairs = builds[k].pairs();
+        rows.make_room(pairs.len() + 1)?;
+        rows.add(builds[k].number(), pairs);
+    }
+    Ok(rows)
+}
+
+/// The best place of each input where nothing is fixed, from the rows of its problem.
+fn tops_of(problem: &Problem, jobs: &[JobRows]) -> [u32; MOST_INPUTS as usize]
+    requires { map (λ r. r.builds) jobs.now ≡ problem.now.jobs }
+    ensures { AreTops problem.now result }
+{
+    let mut tops = [0; MOST_INPUTS as usize];
+    for i in 0..problem.inputs().len() {
+        tops[i] = top_of(problem, jobs, i);
+    }
+    tops
+}
+
+/// The greatest allowed place of input `input` that each job named there has a build with, or 0.
+fn top_of(problem: &Problem, jobs: &[JobRows], input: usize) -> u32
+    requires input { input < length problem.now.inputs }
+    requires jobs { map (λ r. r.builds) jobs.now ≡ problem.now.jobs }
+    ensures { IsBestPlace (order_of problem.now) problem.now nothing_fixed input result }
+{
+    let places = problem.inputs()[input].places();
+    for k in (0..places.len()).rev() {
+        if have_seen(problem, jobs, input, places[k]) {
+            return places[k];
+        }
+    }
+    0
+}
+
+/// Whether each job that input `input` names has a build with a place.
+fn have_seen(problem: &Problem, jobs: &[JobRows], input: usize, place: u32) -> bool
+    requires input { input < length problem.now.inputs }
+    requires jobs { map (λ r. r.builds) jobs.now ≡ problem.now.jobs }
+    ensures { IsTrue result ↔ HasPassed problem.now nothing_fixed input place }
+{
+    let scope = problem.inputs()[input].scope();
+    for job in problem.named(input) {
+        if !jobs[*job as usize].has_seen(scope, place) {
+            return false;
+        }
+    }
+    true
+}
