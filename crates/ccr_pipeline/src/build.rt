@@ -104,7 +104,7 @@ pub(crate) fn pin(alloc: Global, value: &Value, key: &str) -> Result<Option<Pin>
     let Some(found) = at_key(value, key) else {
         return Ok(None);
     };
-    match Pin::from_value(&to_library(alloc, found)?) {
+    match Pin::from_value(alloc, &to_library(alloc, found)?) {
         Ok(pin) => Ok(Some(pin)),
         Err(HistoryFault::NoMemory) => Err(AllocError),
         Err(HistoryFault::NotObject | HistoryFault::VersionNotText) => Ok(None),
@@ -255,7 +255,7 @@ fn wanted_of(alloc: Global, found: &Value) -> Result<Wanted, AllocError>
             Ok(Wanted::Latest)
         };
     }
-    match Pin::from_value(&to_library(alloc, found)?) {
+    match Pin::from_value(alloc, &to_library(alloc, found)?) {
         Ok(pin) => Ok(Wanted::Pinned(pin)),
         Err(HistoryFault::NoMemory) => Err(AllocError),
         Err(HistoryFault::NotObject | HistoryFault::VersionNotText) => Ok(Wanted::Latest),
