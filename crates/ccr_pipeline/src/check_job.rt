@@ -2,7 +2,7 @@
 ghost use Rattle.std.specs.Prelude.{◌≡◌, ◌++◌, [], length, drop, codes, map, nat_le, string_bytes, OnOk, IfOk};
 ghost use Rattle.std.specs.List.{flat_map};
 ghost use Rattle.serde_json.specs.Events.{items_len};
-ghost use Rattle.ccr_pipeline.specs.View.{view, items_view};
+ghost use Rattle.serde_json.specs.View.{view, items_view};
 ghost use Rattle.ccr_pipeline.specs.Faults.{unless, Checks, Reads, StartsWith, IsFirst, fault_of};
 ghost use Rattle.ccr_pipeline.specs.Keys.{at_key, or_else, path_below, path_at};
 ghost use Rattle.ccr_pipeline.specs.Kinds.{optional, required, broken, optional_keys, key_table};
@@ -20,7 +20,7 @@ use crate::key::{at_key, path_at, require, require_at};
 use crate::kind::{Kind, check_keys, required};
 use crate::names::{Names, check_new_name};
 use crate::place::{LEVELS, Place, push_hooks, push_list};
-use crate::value::Value;
+use serde_json::Value;
 use std::alloc::{AllocError, Global};
 
 /// How many resources, and how many jobs, a pipeline may have.

@@ -1,6 +1,6 @@
 //! Reading of pipelines and of task files.
 ghost use Rattle.std.specs.Prelude.{◌≡◌, ◌++◌, [], length, map, IfOk, IfErr, string_bytes, codes};
-ghost use Rattle.ccr_pipeline.specs.View.{view};
+ghost use Rattle.serde_json.specs.View.{view};
 ghost use Rattle.ccr_pipeline.specs.Faults.{unless, Checks, Reads, StartsWith, IsFirst, fault_of};
 ghost use Rattle.ccr_pipeline.specs.JobRules.{member_list, list_names};
 ghost use Rattle.ccr_pipeline.specs.Meaning.{config_from};
@@ -16,13 +16,11 @@ use crate::check_job::{Member, check_member_list};
 use crate::check_task::check_config;
 use crate::fault::{ReadFault, Rule};
 use crate::key::require;
-use crate::parse::parse;
 use crate::pipeline::Pipeline;
 use crate::task::TaskConfig;
 use crate::unknown::check_known;
 use crate::unused::unused;
-use crate::value::Value;
-use json::Error;
+use serde_json::Value;
 use std::alloc::Global;
 
 /// How many bytes a pipeline or a task file may have.
@@ -34,9 +32,9 @@ fn value_of(alloc: Global, text: &[u8], path: &str) -> Result<Value, ReadFault>
     ensures err { IfErr result (λ fault. IsNoValue path.now text.now (fault_of fault)) }
 {
     require(alloc, text.len() <= MOST_BYTES, Rule::Length, path)?;
-    match parse(alloc, text) {
+    match Value::from_slice(alloc, text) {
         Ok(value) => Ok(value),
-        Err(Error::OutOfMemory) => Err(ReadFault::NoMemory),
+        Err(error) if error.is_memory() => Err(ReadFault::NoMemory),
         Err(_) => Err(ReadFault::of(Rule::Json, String::from_str(alloc, path)?)),
     }
 }

@@ -2,7 +2,7 @@ use Rattle.std.proofs.Common.{◌≡◌, map, sym, subst}
 use Rattle.ccr_pipeline.specs.JobData.{resource_data, job_data}
 use Rattle.ccr_pipeline.specs.Links.{HasDistinctResources, HasDistinctJobs, AreLinked}
 use Rattle.ccr_pipeline.specs.Pipelines.{resources_from, jobs_from}
-use Rattle.ccr_pipeline.specs.View.{view}
+use Rattle.serde_json.specs.View.{view}
 use Rattle.ccr_pipeline.proofs.LinksKept.{distinct_resources, distinct_jobs, are_linked}
 use Rattle.ccr_pipeline.proofs.PlansKept.{kept_jobs, kept_resources}
 use Rattle.ccr_pipeline.proofs.reader.read.Goals as goal
