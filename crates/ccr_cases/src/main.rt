@@ -5,14 +5,21 @@
 //! The gate compares the output with the file `stdout` beside this crate, which was worked out by hand.
 #![tactic(auto)]
 
+mod versions;
+
 use std::alloc::{AllocError, Global};
 use std::io;
 use std::io::Read;
 use std::process::ExitCode;
+use versions::{meets_case, object_case, pin_case, version_case};
 
 /// The answer to a case of this kind, or that there is no such kind.
-fn answer_to(alloc: Global, kind: &str, _given: &str) -> Result<String, AllocError> {
+fn answer_to(alloc: Global, kind: &str, given: &str) -> Result<String, AllocError> {
     match kind {
+        "version" => version_case(alloc, given),
+        "pin" => pin_case(alloc, given),
+        "meets" => meets_case(alloc, given),
+        "object" => object_case(alloc, given),
         _ => format!(in alloc; "no case is called {kind}"),
     }
 }
