@@ -7,10 +7,15 @@
 //!
 //! The checker takes no memory. It keeps the fixed builds in a table of 32 entries, copied at each child of a job node, and looks
 //! for an input's best place among the pairs of the builds that each possible place must have passed.
+//!
+//! [`judge`] does the same from bytes to bytes. It is given the text of a problem, followed by that of a proof or of a claim, and
+//! says in one line what is to be thought of it (`specs/Judged.antt`, `specs/Accepted.antt`).
 #![tactic(auto)]
 
 mod accept;
+mod cut;
 mod fault;
+mod judging;
 mod law;
 #[cfg(test)]
 mod tests;
@@ -18,4 +23,5 @@ mod tree;
 
 pub use accept::check;
 pub use fault::CheckFault;
+pub use judging::judge;
 pub use law::accepted_is_right;

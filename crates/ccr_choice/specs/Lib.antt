@@ -4,3 +4,4 @@ pub mod Later
 pub mod Text
 pub mod Reading
 pub mod ProblemText
+pub mod Words

@@ -6,6 +6,7 @@ ghost use Rattle.ccr_choice.specs.Satisfies.{Satisfies, Moved, IsAllowed, IsSucc
 
 use crate::choice::Choice;
 use crate::problem::{Build, Problem};
+use std::fmt;
 
 /// What is wrong with a choice first, if anything is.
 #[derive(Clone, Copy, Debug, PartialEq, Eq)]
@@ -20,6 +21,23 @@ pub enum Verdict {
     NotSuccessful(usize),
     /// The place of this input isn't among the pairs of the chosen build of this job, which the input names.
     NotPassed(usize, usize),
+}
+
+impl fmt::Display for Verdict {
+    ghost use Rattle.std.specs.Prelude.{Some};
+    ghost use Rattle.ccr_choice.specs.Words.{verdict_words};
+
+    ghost output = { λ verdict. Some (verdict_words verdict) };
+
+    fn fmt<W: fmt::Write>(&self, f: &mut fmt::Formatter<W>) -> fmt::Result {
+        match self {
+            Verdict::Satisfies => write!(f, "satisfies"),
+            Verdict::WrongLength => write!(f, "wrong length"),
+            Verdict::NotAllowed(i) => write!(f, "input {i} not allowed"),
+            Verdict::NotSuccessful(j) => write!(f, "job {j} not successful"),
+            Verdict::NotPassed(i, j) => write!(f, "input {i} not passed job {j}"),
+        }
+    }
 }
 
 fn has_place(places: &[u32], place: u32) -> bool

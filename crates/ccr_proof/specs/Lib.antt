@@ -12,3 +12,4 @@ pub mod ProofText
 pub mod ProofRead
 pub mod Table
 pub mod Ascending
+pub mod Words
