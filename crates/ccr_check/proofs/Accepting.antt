@@ -5,7 +5,7 @@ use Rattle.std.proofs.lemmas.Bool.{cases_lt}
 use Rattle.std.proofs.lemmas.List.{append-nil}
 use Rattle.std.proofs.Math.Seq.{take-append_seam, drop-append_seam}
 use Rattle.ccr_choice.specs.Problem.{ProblemValue, ChoiceValue, IsProblem}
-use Rattle.ccr_choice.specs.ProblemText.{problem_lines, problem_text, problem_of}
+use Rattle.ccr_choice.specs.ProblemText.{problem_lines, problem_text, problem_in}
 use Rattle.ccr_choice.specs.declared.fault.ProblemFault.{ProblemFault}
 use Rattle.ccr_choice.specs.Words.{problem_fault_words}
 use Rattle.ccr_choice.proofs.ReadLaws.{problem_spelled, problem_text_again, problem_text_kept, problem_text_found, nothing_follows}
@@ -14,13 +14,13 @@ use Rattle.ccr_proof.specs.declared.claim.Claim.TheVariants.{Best, Nothing}
 use Rattle.ccr_proof.specs.declared.fault.ClaimFault.{ClaimFault}
 use Rattle.ccr_proof.specs.declared.fault.ProofFault.{ProofFault}
 use Rattle.ccr_proof.specs.ClaimText.{claim_in}
-use Rattle.ccr_proof.specs.Preference.{plain}
+use Rattle.ccr_choice.specs.Preference.{order_of}
 use Rattle.ccr_proof.specs.Proof.{IsProof}
-use Rattle.ccr_proof.specs.ProofText.{proof_text, proof_of}
+use Rattle.ccr_proof.specs.ProofText.{proof_text, proof_in}
 use Rattle.ccr_proof.specs.Refutes.{IsAccepted}
 use Rattle.ccr_proof.specs.Tree.{Tree}
 use Rattle.ccr_proof.specs.Words.{proof_fault_words}
-use Rattle.ccr_proof.proofs.PlainLaws.{plain_order}
+use Rattle.ccr_choice.proofs.PlainLaws.{is_order}
 use Rattle.ccr_proof.proofs.ProofLaws.{proof_text_again, text_kept}
 use Rattle.ccr_proof.proofs.Sound.{accepted_right}
 use Rattle.ccr_check.specs.declared.fault.CheckFault.TheVariants.{BadChoice}
@@ -61,19 +61,19 @@ between p c t is =
 -- ---- what is judged
 -- behind the cut, the proof is judged
 proof_judged : (p : ProblemValue) (c : Claim) (t : Tree) (out : List ℕ × ℕ) → IsProblem p → IsProof c t → (n : ℕ) → n ≡ length (problem_text p)
-    → IsProblemJudged (problem_of (take n (problem_text p ++ proof_text c t))) (drop n (problem_text p ++ proof_text c t)) out → IsProofJudged p (Ok (c, t)) out
+    → IsProblemJudged (problem_in (take n (problem_text p ++ proof_text c t))) (drop n (problem_text p ++ proof_text c t)) out → IsProofJudged p (Ok (c, t)) out
 proof_judged p c t out is is_proof n e h =
     let first = problem_text p in
     let second = proof_text c t in
-    let P : ℕ → Type 0 = λ m. IsProblemJudged (problem_of (take m (first ++ second))) (drop m (first ++ second)) out in
-    let Q : List ℕ → Type 0 = λ bs. IsProblemJudged (problem_of bs) (drop (length first) (first ++ second)) out in
-    let R : List ℕ → Type 0 = λ bs. IsProblemJudged (problem_of first) bs out in
+    let P : ℕ → Type 0 = λ m. IsProblemJudged (problem_in (take m (first ++ second))) (drop m (first ++ second)) out in
+    let Q : List ℕ → Type 0 = λ bs. IsProblemJudged (problem_in bs) (drop (length first) (first ++ second)) out in
+    let R : List ℕ → Type 0 = λ bs. IsProblemJudged (problem_in first) bs out in
     let S : Result ProblemValue ProblemFault → Type 0 = λ r. IsProblemJudged r second out in
     let T : Result (Claim × Tree) ProofFault → Type 0 = λ r. IsProofJudged p r out in
     subst T (proof_text_again (c, t) is_proof)
     (subst S (problem_text_again p is) (subst R (drop-append_seam first second) (subst Q (take-append_seam first second) (subst P e h))))
 
-once_accepted : (p : ProblemValue) (c : Claim) (t : Tree) (out : List ℕ × ℕ) → IsAccepted plain p c t → IsProofJudged p (Ok (c, t)) out → out ≡ (accepted_line c, 0)
+once_accepted : (p : ProblemValue) (c : Claim) (t : Tree) (out : List ℕ × ℕ) → IsAccepted (order_of p) p c t → IsProofJudged p (Ok (c, t)) out → out ≡ (accepted_line c, 0)
 once_accepted p c t out accepted (inl h) = h.1
 once_accepted p c t out accepted (inr h) = absurd (h.1 accepted)
 
@@ -110,7 +110,7 @@ claim_silent p (Ok (Best c)) out (inr h) s = silent out (refused (check_fault_wo
 record ProofAccepted (p : ProblemValue) (r : Result (Claim × Tree) ProofFault) (line : List ℕ) : Type 0 where
   read : Claim × Tree
   found : r ≡ Ok read
-  accepted : IsAccepted plain p read.0 read.1
+  accepted : IsAccepted (order_of p) p read.0 read.1
   said : line ≡ accepted_line read.0
 
 proof_accepted : (p : ProblemValue) (r : Result (Claim × Tree) ProofFault) (out : List ℕ × ℕ) → IsProofJudged p r out → IsTrue (says out.0) → ProofAccepted p r out.0
@@ -122,14 +122,14 @@ proof_accepted p (Ok x) out (inr h) s = absurd (silent out (refused (check_fault
 record TextAccepted (r : Result ProblemValue ProblemFault) (second line : List ℕ) : Type 0 where
   problem : ProblemValue
   found : r ≡ Ok problem
-  proof : ProofAccepted problem (proof_of second) line
+  proof : ProofAccepted problem (proof_in second) line
 
 problem_accepted : (r : Result ProblemValue ProblemFault) (second : List ℕ) (out : List ℕ × ℕ) → IsProblemJudged r second out → IsTrue (says out.0) → TextAccepted r second out.0
 problem_accepted (Err e) second out h s = absurd (silent out (refused (problem_fault_words e)) h.1 (refused_silent (problem_fault_words e)) s)
 problem_accepted (Ok p) second out h s =
-    record { problem = p; found = refl; proof = proof_accepted p (proof_of second) out (first_one (starts_with nat_eq second (codes "proof")) h) s }
+    record { problem = p; found = refl; proof = proof_accepted p (proof_in second) out (first_one (starts_with nat_eq second (codes "proof")) h) s }
   where
-    first_one : (b : Bool) → MatchBool b (IsProofJudged p (proof_of second) out) (IsClaimJudged p (claim_in second) out) → IsProofJudged p (proof_of second) out
+    first_one : (b : Bool) → MatchBool b (IsProofJudged p (proof_in second) out) (IsClaimJudged p (claim_in second) out) → IsProofJudged p (proof_in second) out
     first_one true h = h
     first_one false h = absurd (claim_silent p (claim_in second) out h s)
 
@@ -146,7 +146,7 @@ one_begins (x ∷ xs) (y ∷ ys) more rest e =
 
 -- problems with one text are one
 same_problem : (p q : ProblemValue) → IsProblem p → IsProblem q → problem_text p ≡ problem_text q → p ≡ q
-same_problem p q is_p is_q e = cc (problem_text_again p is_p, problem_text_again q is_q, ap problem_of e)
+same_problem p q is_p is_q e = cc (problem_text_again p is_p, problem_text_again q is_q, ap problem_in e)
 
 -- bytes begin with the text of one problem at the most
 one_problem : (p q : ProblemValue) (more rest : List ℕ) → IsProblem p → IsProblem q → problem_text p ++ more ≡ problem_text q ++ rest → p ≡ q
@@ -163,7 +163,7 @@ pub text_right : (bs : List ℕ) (out : List ℕ × ℕ) → IsJudged bs out →
 text_right bs out judged s =
     let first = take judged.0 bs in
     let second = drop judged.0 bs in
-    let a = problem_accepted (problem_of first) second out judged.2 s in
+    let a = problem_accepted (problem_in first) second out judged.2 s in
     let p = a.problem in
     let c = a.proof.read.0 in
     let kept = problem_text_kept first p a.found in
@@ -176,7 +176,7 @@ text_right bs out judged s =
       only = λ q more is e. one_problem q p more second is kept (sym e ∙ text);
       claim = c;
       says = a.proof.said;
-      right = accepted_right plain plain_order p kept c a.proof.read.1 a.proof.accepted;
+      right = accepted_right (order_of p) (is_order p) p kept c a.proof.read.1 a.proof.accepted;
     }
 
 -- ---- what judge promises

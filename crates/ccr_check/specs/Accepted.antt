@@ -3,8 +3,8 @@ use Rattle.std.specs.Prelude.{◌≡◌, ℕ, List, ◌++◌}
 use Rattle.ccr_choice.specs.Problem.{ProblemValue, IsProblem}
 use Rattle.ccr_choice.specs.ProblemText.{problem_text}
 use Rattle.ccr_proof.specs.declared.claim.Claim.{Claim}
-use Rattle.ccr_proof.specs.Optimal.{IsRight}
-use Rattle.ccr_proof.specs.Preference.{plain}
+use Rattle.ccr_proof.specs.Right.{IsRight}
+use Rattle.ccr_choice.specs.Preference.{order_of}
 use Rattle.ccr_proof.specs.Proof.{IsProof}
 use Rattle.ccr_proof.specs.ProofText.{proof_text}
 use Rattle.ccr_proof.specs.Refutes.{IsAccepted}
@@ -21,7 +21,7 @@ pub record IsRightlyAccepted (bs line : List ℕ) : Type 0 where
   pub only : (other : ProblemValue) (more : List ℕ) → IsProblem other → bs ≡ problem_text other ++ more → other ≡ problem
   pub claim : Claim
   pub says : line ≡ accepted_line claim
-  pub right : IsRight plain problem claim
+  pub right : IsRight (order_of problem) problem claim
 
 -- The bytes are the text of a problem followed by the text of a proof with this claim, which is accepted for the problem.
 pub record IsAcceptedText (bs : List ℕ) (c : Claim) : Type 0 where
@@ -29,5 +29,5 @@ pub record IsAcceptedText (bs : List ℕ) (c : Claim) : Type 0 where
   pub tree : Tree
   pub is_problem : IsProblem problem
   pub is_proof : IsProof c tree
-  pub accepted : IsAccepted plain problem c tree
+  pub accepted : IsAccepted (order_of problem) problem c tree
   pub text : bs ≡ problem_text problem ++ proof_text c tree

@@ -6,8 +6,8 @@ use Rattle.ccr_choice.specs.declared.verdict.Verdict.{Verdict}
 use Rattle.ccr_choice.specs.declared.verdict.Verdict.TheVariants as verdict
 use Rattle.ccr_proof.specs.declared.claim.Claim.{Claim}
 use Rattle.ccr_proof.specs.declared.claim.Claim.TheVariants.{Best, Nothing}
-use Rattle.ccr_proof.specs.Preference.{Preference}
-use Rattle.ccr_proof.specs.Assignment.{Assignment, nothing_fixed, with_build}
+use Rattle.ccr_choice.specs.Preference.{Preference}
+use Rattle.ccr_choice.specs.Assignment.{Assignment, nothing_fixed, with_build}
 use Rattle.ccr_proof.specs.Tree.{Tree, Trees, job, empty, bounded, no_child, child, width, count}
 use Rattle.ccr_proof.specs.Refutes.{HasNoPlace, IsBounded, Refutes}
 use Rattle.ccr_check.specs.declared.fault.CheckFault.{CheckFault}

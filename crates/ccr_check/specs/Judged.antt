@@ -4,7 +4,7 @@ use Rattle.std.specs.List.{starts_with, flat_map, join_with_byte}
 use Rattle.std.specs.Fmt.{decimal}
 use Rattle.ccr_choice.specs.Problem.{ProblemValue, ChoiceValue}
 use Rattle.ccr_choice.specs.Satisfies.{Satisfies, IsFirstVerdict}
-use Rattle.ccr_choice.specs.ProblemText.{problem_of}
+use Rattle.ccr_choice.specs.ProblemText.{problem_in}
 use Rattle.ccr_choice.specs.declared.verdict.Verdict.{Verdict}
 use Rattle.ccr_choice.specs.declared.verdict.Verdict.TheVariants as verdict
 use Rattle.ccr_choice.specs.declared.fault.ProblemFault.{ProblemFault}
@@ -12,8 +12,8 @@ use Rattle.ccr_choice.specs.declared.fault.ProblemFault.TheVariants as problem
 use Rattle.ccr_choice.specs.Text.{spelled}
 use Rattle.ccr_choice.specs.Words.{problem_fault_words}
 use Rattle.ccr_proof.specs.ClaimText.{claim_in, claim_line}
-use Rattle.ccr_proof.specs.ProofText.{proof_of}
-use Rattle.ccr_proof.specs.Preference.{plain}
+use Rattle.ccr_proof.specs.ProofText.{proof_in}
+use Rattle.ccr_choice.specs.Preference.{order_of}
 use Rattle.ccr_proof.specs.Refutes.{IsAccepted}
 use Rattle.ccr_proof.specs.Tree.{Tree}
 use Rattle.ccr_proof.specs.Words.{proof_fault_words}
@@ -59,16 +59,16 @@ IsClaimJudged p (Ok (Best c)) out =
 abbrev pub IsProofJudged : ProblemValue → Result (Claim × Tree) ProofFault → List ℕ × ℕ → Type 0
 IsProofJudged p (Err e) out = (e ≢ proof.NoMemory) × (out ≡ refused (proof_fault_words e))
 IsProofJudged p (Ok (c, t)) out =
-    (IsAccepted plain p c t × (out ≡ (accepted_line c, 0)))
-    ⊎ ((f : CheckFault) × (IsAccepted plain p c t → ⊥) × IsFault plain p c t f × (out ≡ refused (check_fault_words f)))
+    (IsAccepted (order_of p) p c t × (out ≡ (accepted_line c, 0)))
+    ⊎ ((f : CheckFault) × (IsAccepted (order_of p) p c t → ⊥) × IsFault (order_of p) p c t f × (out ≡ refused (check_fault_words f)))
 
 -- The problem is read first, and its fault comes before anything that is said of the second part. A second part that begins
 -- with `proof` is a proof, every other is a claim.
 abbrev pub IsProblemJudged : Result ProblemValue ProblemFault → List ℕ → List ℕ × ℕ → Type 0
 IsProblemJudged (Err e) second out = (e ≢ problem.NoMemory) × (out ≡ refused (problem_fault_words e))
 IsProblemJudged (Ok p) second out =
-    MatchBool (starts_with nat_eq second (codes "proof")) (IsProofJudged p (proof_of second) out) (IsClaimJudged p (claim_in second) out)
+    MatchBool (starts_with nat_eq second (codes "proof")) (IsProofJudged p (proof_in second) out) (IsClaimJudged p (claim_in second) out)
 
 -- The line and the status for a text: it is cut into two parts, and these are judged.
 abbrev pub IsJudged : List ℕ → List ℕ × ℕ → Type 0
-IsJudged bs out = (n : ℕ) × IsCut bs n × IsProblemJudged (problem_of (take n bs)) (drop n bs) out
+IsJudged bs out = (n : ℕ) × IsCut bs n × IsProblemJudged (problem_in (take n bs)) (drop n bs) out

@@ -3,7 +3,7 @@
 ghost use Rattle.std.specs.Prelude.{◌≡◌, ◌++◌, nat_eq, codes, IsTrue, IfOk, IfSome, OnOk, string_bytes};
 ghost use Rattle.std.specs.List.{flat_map, starts_with};
 ghost use Rattle.ccr_proof.specs.ClaimText.{claim_in};
-ghost use Rattle.ccr_proof.specs.ProofText.{proof_of};
+ghost use Rattle.ccr_proof.specs.ProofText.{proof_in};
 ghost use Rattle.ccr_check.specs.Accepted.{IsAcceptedText, IsRightlyAccepted};
 ghost use Rattle.ccr_check.specs.Judged.{spaced, choice_line, accepted_line, refused, IsProofJudged, IsClaimJudged, IsJudged};
 
@@ -56,7 +56,7 @@ fn refused<D: Display + Drop>(alloc: Global, why: D) -> Result<(String, u8), All
 }
 
 fn judge_proof(alloc: Global, problem: &Problem, text: &[u8]) -> Result<(String, u8), AllocError>
-    ensures { IfOk result (λ x. IsProofJudged problem.now (proof_of text.now) (string_bytes x.0, x.1)) }
+    ensures { IfOk result (λ x. IsProofJudged problem.now (proof_in text.now) (string_bytes x.0, x.1)) }
 {
     let proof = match read_proof(alloc, text) {
         Ok(proof) => proof,

@@ -40,7 +40,7 @@ impl fmt::Display for Verdict {
     }
 }
 
-fn has_place(places: &[u32], place: u32) -> bool
+fn contains_place(places: &[u32], place: u32) -> bool
     ensures { IsTrue result ↔ Contains places.now place }
 {
     places.contains(&place)
@@ -52,7 +52,7 @@ fn has_build(builds: &[Build], number: u32) -> bool
     builds.iter().any(|b| b.number() == number)
 }
 
-fn has_pair(pairs: &[(u32, u32)], scope: u32, place: u32) -> bool
+fn contains_pair(pairs: &[(u32, u32)], scope: u32, place: u32) -> bool
     ensures { IsTrue result ↔ Contains pairs.now (scope, place) }
 {
     pairs.iter().any(|p| p.0 == scope && p.1 == place)
@@ -61,7 +61,7 @@ fn has_pair(pairs: &[(u32, u32)], scope: u32, place: u32) -> bool
 fn has_moved(builds: &[Build], number: u32, scope: u32, place: u32) -> bool
     ensures { IsTrue result ↔ Moved builds.now number (scope, place) }
 {
-    builds.iter().any(|b| b.number() == number && has_pair(b.pairs(), scope, place))
+    builds.iter().any(|b| b.number() == number && contains_pair(b.pairs(), scope, place))
 }
 
 #[tactic(auto, unfolding(crate::specs::Satisfies::IsAllowed))]
@@ -70,7 +70,7 @@ fn is_allowed(problem: &Problem, places: &[u32], i: usize) -> bool
     requires places { length places.now ≡ length problem.now.inputs }
     ensures { IsTrue result ↔ IsAllowed problem.now places.now i }
 {
-    has_place(problem.inputs()[i].places(), places[i])
+    contains_place(problem.inputs()[i].places(), places[i])
 }
 
 #[tactic(auto, unfolding(crate::specs::Satisfies::IsSuccessful))]

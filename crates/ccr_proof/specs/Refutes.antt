@@ -4,9 +4,9 @@ use Rattle.ccr_choice.specs.Problem.{ProblemValue, BuildValue, builds_at}
 use Rattle.ccr_choice.specs.Satisfies.{Satisfies}
 use Rattle.ccr_proof.specs.declared.claim.Claim.{Claim}
 use Rattle.ccr_proof.specs.declared.claim.Claim.TheVariants.{Best, Nothing}
-use Rattle.ccr_proof.specs.Preference.{Preference, IsBetter}
-use Rattle.ccr_proof.specs.Assignment.{Assignment, nothing_fixed, with_build}
-use Rattle.ccr_proof.specs.Possible.{IsPossible, best_places}
+use Rattle.ccr_choice.specs.Preference.{Preference}
+use Rattle.ccr_choice.specs.Assignment.{Assignment, nothing_fixed, with_build}
+use Rattle.ccr_choice.specs.Possible.{IsPossible, AreBoundedBy}
 use Rattle.ccr_proof.specs.Tree.{Tree, Trees, job, empty, bounded, no_child, child}
 
 -- Input i is an input without a possible place.
@@ -16,7 +16,7 @@ HasNoPlace p a i = (i < length p.inputs) × ((place : ℕ) → ¬ IsPossible p a
 -- There is a bound, and the best places aren't better than it.
 abbrev pub IsBounded : Preference → ProblemValue → Option (List ℕ) → Assignment → Type 0
 IsBounded prefers p None a = ⊥
-IsBounded prefers p (Some bound) a = ¬ IsBetter prefers (best_places prefers p a) bound
+IsBounded prefers p (Some bound) a = AreBoundedBy prefers p a bound
 
 -- A tree refutes an assignment under a bound. A leaf names an input without a possible place, or says that the best places aren't
 -- better than the bound. A job node names a free job, and has one child for each successful build of the job, newest first; each

@@ -8,15 +8,17 @@ use Rattle.std.proofs.lemmas.Option.{slice_get-get_or}
 use Rattle.ccr_choice.specs.Problem.{ProblemValue, BuildValue, ChoiceValue, is_problem, builds_at}
 use Rattle.ccr_choice.specs.Satisfies.{Satisfies, IsSuccessful}
 use Rattle.ccr_proof.specs.declared.node.Node.{Node, Job, Empty, Bounded}
-use Rattle.ccr_proof.specs.Preference.{Preference, IsOrder, IsBetter}
-use Rattle.ccr_proof.specs.Assignment.{Assignment, with_build, nothing_fixed}
-use Rattle.ccr_proof.specs.Possible.{best_places}
+use Rattle.ccr_choice.specs.Preference.{Preference, IsOrder, IsBetter}
+use Rattle.ccr_choice.specs.Assignment.{Assignment, with_build, nothing_fixed}
+use Rattle.ccr_choice.specs.Possible.{AreBestPlaces, AreBoundedBy}
+use Rattle.ccr_choice.proofs.BestPlaces.{best_places}
+use Rattle.ccr_choice.proofs.PossibleLaws.{are_only, bounded_by}
 use Rattle.ccr_proof.specs.Tree.{Tree, Trees, job, empty, bounded, no_child, child, count, count_all, levels, levels_all, tree_of, trees_of}
 use Rattle.ccr_proof.specs.Refutes.{HasNoPlace, IsBounded, Refutes, RefuteEach}
-use Rattle.ccr_proof.specs.Table.{build_of, assigned}
-use Rattle.ccr_proof.proofs.TableLaws.{table_set, table_empty, zeros}
+use Rattle.ccr_choice.specs.Table.{build_of, assigned}
+use Rattle.ccr_choice.proofs.TableLaws.{table_set, table_empty, zeros}
 use Rattle.ccr_proof.proofs.Trees.{tree_of_job}
-use Rattle.ccr_resolve.specs.Room.{newest, top, TopFits, total, product, IsBelowRoom}
+use Rattle.ccr_resolve.specs.Room.{newest, TopFits, total, product, IsBelowRoom}
 use Rattle.ccr_resolve.specs.Search.{FixesKnown, FoundSatisfies, places_of, free_product, free_sum, free_jobs, OnPath, ReachesTop, IsNeeded, IsNoWorse, IsSearched, Searched}
 use Rattle.ccr_resolve.proofs.Counting.{product_set, product_same, sum_set, sum_same, product_one, product_empty, sum_empty, free_set, free_empty}
 use Rattle.ccr_resolve.proofs.Path.{better_irreflexive, better_trans, no_worse_refl, no_worse_trans, reach_more, path_place, path_top, one_node}
@@ -26,7 +28,7 @@ module _ (prefers : Preference) (p : ProblemValue) (x y : Option (List ℕ)) (wo
   bounded_more : (a : Assignment) (x y : Option (List ℕ)) → IsNoWorse prefers x y → IsBounded prefers p x a → IsBounded prefers p y a
   bounded_more a None y w h = absurd h
   bounded_more a (Some u) None w h = absurd w
-  bounded_more a (Some u) (Some v) w h = w (best_places prefers p a) h
+  bounded_more a (Some u) (Some v) w h = λ places best. w places (h places best)
 
   mutual
     pub refutes_more : (a : Assignment) (t : Tree) → Refutes prefers p x a t → Refutes prefers p y a t
@@ -136,17 +138,19 @@ module _ (prefers : Preference) (order : IsOrder prefers) (p : ProblemValue) (ru
 
   unbounded_kept : (table : List ℕ) (b : Option (List ℕ)) → (IsBounded prefers p b (assigned p table) → ⊥) → IsNoWorse prefers b (Some (best_places prefers p (assigned p table)))
   unbounded_kept table None h = tt
-  unbounded_kept table (Some x) h = λ places worse better. h (λ best. worse (better_trans prefers order places (best_places prefers p (assigned p table)) x better best))
+  unbounded_kept table (Some x) h = λ places worse better.
+      h ((bounded_by prefers order p (assigned p table) x).0 (λ best. worse (better_trans prefers order places (best_places prefers p (assigned p table)) x better best)))
 
   pub leaf_full : (table : List ℕ) (before : Option ChoiceValue) (c : ChoiceValue) (room left : ℕ) → (IsBounded prefers p (places_of before) (assigned p table) → ⊥)
-      → c.places ≡ best_places prefers p (assigned p table) → Satisfies p c.places c.builds → room ≡ left + 1 → IsSearched prefers p table before (Some c) room left bounded
-  leaf_full table before c room left h is found spent =
+      → AreBestPlaces prefers p (assigned p table) c.places → Satisfies p c.places c.builds → room ≡ left + 1 → IsSearched prefers p table before (Some c) room left bounded
+  leaf_full table before c room left h best found spent =
       let u = best_places prefers p (assigned p table) in
-      let P : List ℕ → Type 0 = λ xs. IsBetter prefers u xs → ⊥ in
+      let is : c.places ≡ u = are_only prefers order p (assigned p table) c.places best in
+      let P : List ℕ → Type 0 = λ xs. AreBoundedBy prefers p (assigned p table) xs in
       let Q : List ℕ → Type 0 = λ xs. IsNoWorse prefers (places_of before) (Some xs) in
-      let R : List ℕ → Type 0 = λ xs. IsBetter prefers (top prefers p) xs → ⊥ in
+      let R : List ℕ → Type 0 = λ xs. AreBoundedBy prefers p nothing_fixed xs in
       record {
-        refuted = subst P (sym is) (better_irreflexive prefers order u);
+        refuted = subst P (sym is) ((bounded_by prefers order p (assigned p table) u).0 (better_irreflexive prefers order u));
         kept = subst Q (sym is) (unbounded_kept table (places_of before) h);
         satisfies = found;
         shallow = omega arith;
@@ -306,7 +310,7 @@ module _ (prefers : Preference) (order : IsOrder prefers) (p : ProblemValue) (ru
 -- a job of the best places' choice has a build
 pub some_build : (prefers : Preference) (p : ProblemValue) (j : ℕ) → TopFits prefers p → j < length p.jobs → 0 < length (builds_at p j)
 unfolding IsSuccessful
-some_build prefers p j top within = among (builds_at p j) (slice_index (newest p.jobs) j) (one (newest p.jobs) (top.successful j within))
+some_build prefers p j top within = among (builds_at p j) (slice_index (newest p.jobs) j) (one (newest p.jobs) (top.2.successful j within))
   where
     one : (builds : List ℕ) → IsSuccessful p builds j → Any (λ b. b.number ≡ slice_index builds j) (builds_at p j)
     one builds h = h
