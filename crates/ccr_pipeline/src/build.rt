@@ -97,7 +97,7 @@ pub(crate) fn object(value: &Value, key: &str) -> Result<Option<Object>, AllocEr
 }
 
 /// The pin at a key.
-pub(crate) fn pin(value: &Value, key: &str) -> Result<Option<Pin>, AllocError>
+pub(crate) fn pin(alloc: Global, value: &Value, key: &str) -> Result<Option<Pin>, AllocError>
     ensures { IfOk result (λ o. o ≡ pin_from key.now (view value.now)) }
 {
     let Some(found) = at_key(value, key) else {
@@ -243,7 +243,7 @@ pub(crate) fn task(alloc: Global, step: &Value) -> Result<Task, AllocError>
     })
 }
 
-fn wanted_of(found: &Value) -> Result<Wanted, AllocError>
+fn wanted_of(alloc: Global, found: &Value) -> Result<Wanted, AllocError>
     ensures { IfOk result (λ w. wanted_data w ≡ wanted_in (view found.now)) }
 {
     if let Some(text) = found.as_str() {
@@ -260,11 +260,11 @@ fn wanted_of(found: &Value) -> Result<Wanted, AllocError>
     }
 }
 
-fn wanted(step: &Value) -> Result<Wanted, AllocError>
+fn wanted(alloc: Global, step: &Value) -> Result<Wanted, AllocError>
     ensures { IfOk result (λ w. wanted_data w ≡ wanted_from (view step.now)) }
 {
     match at_key(step, "version") {
-        Some(found) => wanted_of(found),
+        Some(found) => wanted_of(alloc, found),
         None => Ok(Wanted::Latest),
     }
 }
@@ -280,7 +280,7 @@ pub(crate) fn get(alloc: Global, step: &Value) -> Result<Get, AllocError>
         passed: texts(alloc, step, "passed")?,
         trigger: truth(step, "trigger"),
         params: object(step, "params")?,
-        wanted: wanted(step)?,
+        wanted: wanted(alloc, step)?,
     })
 }
 

@@ -27,7 +27,7 @@ fn resource(alloc: Global, value: &Value) -> Result<Resource, AllocError>
         name: text(alloc, value, "name")?,
         kind: text(alloc, value, "type")?,
         source: object(value, "source")?,
-        version: pin(value, "version")?,
+        version: pin(alloc, value, "version")?,
     })
 }
 
