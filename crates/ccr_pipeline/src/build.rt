@@ -103,7 +103,7 @@ pub(crate) fn pin(value: &Value, key: &str) -> Result<Option<Pin>, AllocError>
     let Some(found) = at_key(value, key) else {
         return Ok(None);
     };
-    match Pin::from_value(found) {
+    match Pin::from_value(alloc, found) {
         Ok(pin) => Ok(Some(pin)),
         Err(HistoryFault::NoMemory) => Err(AllocError),
         Err(HistoryFault::NotObject | HistoryFault::VersionNotText) => Ok(None),
@@ -253,7 +253,7 @@ fn wanted_of(found: &Value) -> Result<Wanted, AllocError>
             Ok(Wanted::Latest)
         };
     }
-    match Pin::from_value(found) {
+    match Pin::from_value(alloc, found) {
         Ok(pin) => Ok(Wanted::Pinned(pin)),
         Err(HistoryFault::NoMemory) => Err(AllocError),
         Err(HistoryFault::NotObject | HistoryFault::VersionNotText) => Ok(Wanted::Latest),

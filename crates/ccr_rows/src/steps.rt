@@ -31,7 +31,7 @@ pub(crate) fn versions_of(alloc: Global, text: &str) -> Result<Vec<Version>, Fai
     let mut versions = Vec::new(alloc);
     if let Some(items) = value.as_array() {
         for item in items {
-            versions.push(Version::from_value(item)?)?;
+            versions.push(Version::from_value(alloc, item)?)?;
         }
     }
     Ok(versions)
@@ -123,7 +123,7 @@ fn push_state(alloc: Global, text: &mut String, run: &BuildRun) -> Result<(), Al
 fn answer_of(alloc: Global, word: &str) -> Result<Answered, Fail> {
     if let Some(version) = word.strip_prefix("pushed:") {
         let value = Value::from_str(alloc, version)?;
-        return Ok(Answered::Pushed(Version::from_value(&value)?));
+        return Ok(Answered::Pushed(Version::from_value(alloc, &value)?));
     }
     if let Some(config) = word.strip_prefix("config:") {
         return Ok(Answered::Config(read_task(alloc, config.as_bytes())?));

@@ -14,7 +14,7 @@ use std::alloc::{AllocError, Global};
 fn no_version(alloc: Global) -> Result<Version, AllocError>
     ensures { IfOk result (λ v. v ≡ []) }
 {
-    match Version::from_value(&Value::Object(Map::new(alloc))) {
+    match Version::from_value(alloc, &Value::Object(Map::new(alloc))) {
         Ok(version) => Ok(version),
         Err(_) => Err(AllocError),
     }

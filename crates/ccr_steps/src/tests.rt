@@ -13,7 +13,7 @@ fn build_of(alloc: Global, text: &str, inputs: usize) -> Result<BuildRun, Fail> 
     let value = Value::from_str(alloc, "{\"n\":\"2\"}")?;
     let mut versions = Vec::new(alloc);
     for _ in 0..inputs {
-        versions.push(Version::from_value(&value)?)?;
+        versions.push(Version::from_value(alloc, &value)?)?;
     }
     let job = pipeline.jobs().first().ok_or("no job")?;
     Ok(start(alloc, job, &versions)?)
