@@ -14,7 +14,7 @@ use crate::fault::{ReadFault, Rule};
 use crate::key::{at_key, path_below, require, require_at};
 use crate::kind::{Kind, check_keys, optional, required};
 use crate::names::{Names, check_new_name};
-use crate::place::{MOST_TRIES, Part, Place};
+use crate::place::{MOST_ATTEMPTS, MOST_TRIES, Part, Place};
 use serde_json::Value;
 use std::alloc::Global;
 
@@ -201,7 +201,7 @@ fn check_attempts(alloc: Global, step: &Value, path: &str, tries: u64) -> Result
         };
         return require_at(alloc, false, rule, path, "attempts");
     };
-    let fits = 1 <= n && n <= 100 && tries.saturating_mul(n) <= MOST_TRIES;
+    let fits = 1 <= n && n <= MOST_ATTEMPTS && tries.saturating_mul(n) <= MOST_TRIES;
     require_at(alloc, fits, Rule::Attempts, path, "attempts")
 }
 

@@ -13,6 +13,9 @@ use serde_json::Value;
 use std::alloc::Global;
 use std::collections::BTreeMap;
 
+/// How many bytes a name may have.
+const MOST_NAME_BYTES: usize = 128;
+
 /// What a key's value has to be.
 #[derive(Clone, Copy, Debug, PartialEq, Eq)]
 pub(crate) enum Kind {
@@ -50,7 +53,7 @@ fn has_name_bytes(bytes: &[u8]) -> bool
 pub(crate) fn is_name(text: &str) -> bool
     ensures { result ≡ is_name text.now }
 {
-    if text.is_empty() || text.len() > 128 {
+    if text.is_empty() || text.len() > MOST_NAME_BYTES {
         return false;
     }
     if text == "." || text == ".." {

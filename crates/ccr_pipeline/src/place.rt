@@ -11,6 +11,9 @@ use std::alloc::{AllocError, Global};
 /// How many levels of steps a job may have.
 pub(crate) const LEVELS: u32 = 30;
 
+/// How many attempts a step may have.
+pub(crate) const MOST_ATTEMPTS: u64 = 100;
+
 /// The greatest product of the attempts from a job down to a step.
 pub(crate) const MOST_TRIES: u64 = 10_000;
 
@@ -43,7 +46,7 @@ fn counted(step: &Value) -> u64
         return 1;
     };
     match found.as_u64() {
-        Some(n) if 1 <= n && n <= 100 => n,
+        Some(n) if 1 <= n && n <= MOST_ATTEMPTS => n,
         _ => 1,
     }
 }
