@@ -54,13 +54,13 @@ fn meets(alloc: Global, version: &str, pin: &str) -> Result<Option<bool>, AllocE
     let Some(pin) = value_of(alloc, pin)? else {
         return Ok(None);
     };
-    match (
-        Version::from_value(alloc, &version),
-        Pin::from_value(alloc, &pin),
-    ) {
-        (Ok(version), Ok(pin)) => Ok(Some(version.meets(&pin))),
-        _ => Ok(None),
-    }
+    let Ok(version) = Version::from_value(alloc, &version) else {
+        return Ok(None);
+    };
+    let Ok(pin) = Pin::from_value(alloc, &pin) else {
+        return Ok(None);
+    };
+    Ok(Some(version.meets(&pin)))
 }
 
 /// `meets VERSION PIN`, texts without spaces: whether the version meets the pin.
