@@ -7,8 +7,12 @@ ghost use Rattle.serde_json.specs.View.{view, items_view, members_view};
 ghost use Rattle.ccr_history.specs.ObjectData.{object_data};
 ghost use Rattle.ccr_pipeline.specs.Keys.{at_key, or_else};
 ghost use Rattle.ccr_pipeline.specs.Names.{text_at, texts_in};
-ghost use Rattle.ccr_pipeline.specs.Tree.{run_data, input_data, variable_data, config_data, source_data, task_data, wanted_data, get_data, put_data};
-ghost use Rattle.ccr_pipeline.specs.Meaning.{text_or, texts_from, truth_from, whole_from, object_at, variable_value, variables_in, variables_from, run_from, inputs_in, inputs_from, outputs_in, outputs_from, config_from, source_from, task_from, wanted_in, wanted_from, get_from, put_from, pin_from};
+ghost use Rattle.ccr_pipeline.specs.Tree.{run_data, input_data, variable_data, config_data, source_data, task_data};
+ghost use Rattle.ccr_pipeline.specs.Tree.{wanted_data, get_data, put_data};
+ghost use Rattle.ccr_pipeline.specs.Meaning.{text_or, texts_from, truth_from, whole_from, object_at, variable_value};
+ghost use Rattle.ccr_pipeline.specs.Meaning.{variables_in, variables_from, run_from, inputs_in, inputs_from};
+ghost use Rattle.ccr_pipeline.specs.Meaning.{outputs_in, outputs_from, config_from, source_from, task_from};
+ghost use Rattle.ccr_pipeline.specs.Meaning.{wanted_in, wanted_from, get_from, put_from, pin_from};
 
 use crate::key::at_key;
 use crate::names::text_at;
@@ -97,7 +101,7 @@ pub(crate) fn object(value: &Value, key: &str) -> Result<Option<Object>, AllocEr
 }
 
 /// The pin at a key.
-pub(crate) fn pin(value: &Value, key: &str) -> Result<Option<Pin>, AllocError>
+pub(crate) fn pin(alloc: Global, value: &Value, key: &str) -> Result<Option<Pin>, AllocError>
     ensures { IfOk result (λ o. o ≡ pin_from key.now (view value.now)) }
 {
     let Some(found) = at_key(value, key) else {
@@ -243,7 +247,7 @@ pub(crate) fn task(alloc: Global, step: &Value) -> Result<Task, AllocError>
     })
 }
 
-fn wanted_of(found: &Value) -> Result<Wanted, AllocError>
+fn wanted_of(alloc: Global, found: &Value) -> Result<Wanted, AllocError>
     ensures { IfOk result (λ w. wanted_data w ≡ wanted_in (view found.now)) }
 {
     if let Some(text) = found.as_str() {
@@ -260,11 +264,11 @@ fn wanted_of(found: &Value) -> Result<Wanted, AllocError>
     }
 }
 
-fn wanted(step: &Value) -> Result<Wanted, AllocError>
+fn wanted(alloc: Global, step: &Value) -> Result<Wanted, AllocError>
     ensures { IfOk result (λ w. wanted_data w ≡ wanted_from (view step.now)) }
 {
     match at_key(step, "version") {
-        Some(found) => wanted_of(found),
+        Some(found) => wanted_of(alloc, found),
         None => Ok(Wanted::Latest),
     }
 }
@@ -280,7 +284,7 @@ pub(crate) fn get(alloc: Global, step: &Value) -> Result<Get, AllocError>
         passed: texts(alloc, step, "passed")?,
         trigger: truth(step, "trigger"),
         params: object(step, "params")?,
-        wanted: wanted(step)?,
+        wanted: wanted(alloc, step)?,
     })
 }
 

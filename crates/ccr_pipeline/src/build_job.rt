@@ -4,7 +4,8 @@ ghost use Rattle.serde_json.specs.Find.{get_member};
 ghost use Rattle.serde_json.specs.View.{view, items_view, members_view};
 ghost use Rattle.ccr_pipeline.specs.Keys.{at_key, or_else};
 ghost use Rattle.ccr_pipeline.specs.JobData.{resource_data, job_data};
-ghost use Rattle.ccr_pipeline.specs.Pipelines.{resource_from, resources_in, resources_from, job_from, jobs_in, job_items, jobs_from, resource_items, IsResource, IsJob, EachItem};
+ghost use Rattle.ccr_pipeline.specs.Pipelines.{resource_from, resources_in, resources_from, job_from, jobs_in};
+ghost use Rattle.ccr_pipeline.specs.Pipelines.{job_items, jobs_from, resource_items, IsResource, IsJob, EachItem};
 ghost use Rattle.ccr_pipeline.specs.Plans.{plan_from};
 ghost use Rattle.ccr_pipeline.specs.Steps.{trees_in, step_tree, with_hooks};
 ghost use Rattle.ccr_pipeline.specs.Tree.{tree_of, trees_of};
@@ -27,7 +28,7 @@ fn resource(alloc: Global, value: &Value) -> Result<Resource, AllocError>
         name: text(alloc, value, "name")?,
         kind: text(alloc, value, "type")?,
         source: object(value, "source")?,
-        version: pin(value, "version")?,
+        version: pin(alloc, value, "version")?,
     })
 }
 
