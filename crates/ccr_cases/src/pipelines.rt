@@ -172,6 +172,11 @@ fn text_of(alloc: Global, count: u32, what: &str) -> Result<String, AllocError> 
             let members = members.as_str();
             format!(in alloc; "{{\"resources\":[{members}]}}")
         }
+        "bytes in a name" => {
+            let name = repeated(alloc, "n", count)?;
+            let name = name.as_str();
+            format!(in alloc; "{{\"resources\":[{{\"name\":\"{name}\",\"type\":\"t\"}}]}}")
+        }
         "jobs" => {
             let members = listed(alloc, "{\"plan\":[],\"name\":\"j", "\"}", count)?;
             let members = members.as_str();
