@@ -1,7 +1,7 @@
 //! Claims and their texts by example.
 
-use ccr_proof::{Claim, ClaimFault, read_claim, write_claim};
 use ccr_choice::Choice;
+use ccr_proof::{Claim, ClaimFault, read_claim, write_claim};
 use std::alloc::Global;
 use std::test::Fail;
 

@@ -77,10 +77,22 @@ fn what_is_said_of_two_builds_is_judged(rt: HostRuntime) -> Result<(), Fail> {
             1,
         ),
         ("proof 1\nnone\njob 0 1000000\n", "refused: proof line 4", 1),
-        ("proof 1\nnone\nbounded\n", "refused: node 0: not bounded", 1),
-        ("proof 1\nnone\nempty 2\n", "refused: node 0: no such input", 1),
+        (
+            "proof 1\nnone\nbounded\n",
+            "refused: node 0: not bounded",
+            1,
+        ),
+        (
+            "proof 1\nnone\nempty 2\n",
+            "refused: node 0: no such input",
+            1,
+        ),
         ("proof 1\nnone\nempty 0\n", "refused: node 0: not empty", 1),
-        ("proof 1\nnone\njob 1 0\n", "refused: node 0: no such job", 1),
+        (
+            "proof 1\nnone\njob 1 0\n",
+            "refused: node 0: no such job",
+            1,
+        ),
         (
             "proof 1\nnone\njob 0 2\njob 0 2\nbounded\nbounded\nbounded\n",
             "refused: node 1: job twice",

@@ -1,7 +1,8 @@
 //! Problems, claims, proofs and answers whose texts and values were worked out by hand; each test is named by what it shows.
-//! There is no code here but tests.
+//! Beside the tests stands one law, [`resolved`]: the checker accepts what the resolver answers.
 #![tactic(auto)]
 
+mod accepted;
 #[cfg(test)]
 mod brute;
 #[cfg(test)]
@@ -18,3 +19,5 @@ mod problems;
 mod proofs;
 #[cfg(test)]
 mod resolving;
+
+pub use accepted::resolved;

@@ -6,6 +6,7 @@
 //! PROGRAMS/in for the last version and PROGRAMS/out in FOLDER, with FOLDER/in as the artifact's folder, and prints each version.
 //! `ccr_probe steps JOB` reads a pipeline in one line, the versions of the job's inputs in the next, and answers, one a line
 //! (`done`, `pushed VERSION`, `config CONFIG`, `failed`, `errored`): it prints what the build asks, and where it has ended, how.
+//! `ccr_probe versions N` makes N versions of two short fields and holds them at once.
 //! With `--repeat N` behind these the call is made N times, and the whole time is printed on standard error. Statuses: 0 read,
 //! resolved or ended, 1 refused, 2 usage, 3 over budget, 4 out of memory or unreadable.
 #![tactic(auto)]
@@ -15,6 +16,7 @@ ghost use Rattle.std.specs.Prelude.{◌≤◌};
 mod answer;
 mod programs;
 mod steps;
+mod versions;
 
 use answer::{Answer, OVER_BUDGET, answer_pipeline, answer_resolve, answer_task};
 use programs::{Trial, answer_launch, answer_type};
@@ -24,6 +26,7 @@ use std::process::ExitCode;
 use std::time::Instant;
 use std::{env, io};
 use steps::answer_steps;
+use versions::answer_versions;
 
 /// A node budget, from 1 to 1,000,000.
 #[derive(Clone, Copy, Debug, PartialEq, Eq)]
@@ -42,6 +45,7 @@ enum Call<'a> {
     Launch,
     Type(Trial<'a>),
     Steps(&'a str),
+    Versions(u32),
 }
 
 /// What the words ask for: a call, and how often it is made.
@@ -88,6 +92,10 @@ fn order_of(words: &[String]) -> Option<Order<'_>> {
             let (job, rest) = rest.split_first()?;
             (Call::Steps(job.as_str()), rest)
         }
+        "versions" => {
+            let (count, rest) = rest.split_first()?;
+            (Call::Versions(count.as_str().parse::<u32>().ok()?), rest)
+        }
         "resolve" => {
             let (budget, rest) = rest.split_first()?;
             (Call::Resolve(budget_of(budget.as_str())?), rest)
@@ -107,6 +115,7 @@ fn answer_of(rt: &HostRuntime, call: Call, text: &[u8]) -> Result<Answer, AllocE
         Call::Launch => answer_launch(rt, alloc),
         Call::Type(trial) => answer_type(rt, alloc, text, &trial),
         Call::Steps(job) => answer_steps(alloc, text, job),
+        Call::Versions(count) => answer_versions(alloc, count),
     }
 }
 
@@ -142,7 +151,7 @@ fn main(rt: HostRuntime) -> io::Result<ExitCode> {
     };
     let Some(order) = order_of(&words) else {
         eprintln!(rt;
-            "usage: ccr_probe pipeline|task|resolve BUDGET|launch|type PROGRAMS FOLDER|steps JOB [--repeat N]"
+            "usage: ccr_probe pipeline|task|resolve BUDGET|launch|type PROGRAMS FOLDER|steps JOB|versions N [--repeat N]"
         )?;
         return Ok(ExitCode::from(2));
     };

@@ -90,7 +90,11 @@ pub fn read_whole<R: Read>(alloc: Global, reader: &mut R) -> Result<Vec<u8>, Inp
 }
 
 /// All bytes that the first reader has left, and behind them those of the second. The errors are those of [`read_whole`].
-pub fn read_both<R: Read>(alloc: Global, first: &mut R, second: &mut R) -> Result<Vec<u8>, InputFault>
+pub fn read_both<R: Read>(
+    alloc: Global,
+    first: &mut R,
+    second: &mut R,
+) -> Result<Vec<u8>, InputFault>
     ensures { IfOk result (λ out. IfSome (R.remaining first.old) (λ front. IfSome (R.remaining second.old)
         (λ behind. out.items ≡ front ++ behind))) }
 {

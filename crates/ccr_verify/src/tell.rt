@@ -11,7 +11,10 @@ use std::process::ExitCode;
 /// Prints the line that was judged on standard output, or why there is none on standard error, and gives the exit status: the
 /// line's own; 2 for another number of words; 4 where nothing could be read or memory was refused. The only errors are those of
 /// printing.
-pub fn tell<R: Print + Eprint>(rt: &R, judged: Result<(String, u8), InputFault>) -> io::Result<ExitCode>
+pub fn tell<R: Print + Eprint>(
+    rt: &R,
+    judged: Result<(String, u8), InputFault>,
+) -> io::Result<ExitCode>
     ensures { IfOk result (λ code. exit_status code ≡ status_of judged) }
 {
     match judged {
