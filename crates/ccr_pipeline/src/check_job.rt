@@ -10,7 +10,9 @@ ghost use Rattle.ccr_pipeline.specs.Names.{names_at, new_name, with_names};
 ghost use Rattle.ccr_pipeline.specs.Places.{spots, plan_steps, job_hooks, gets_at};
 ghost use Rattle.ccr_pipeline.specs.StepRules.{visits};
 ghost use Rattle.ccr_pipeline.specs.Inputs.{are_few, input_data, named_jobs};
-ghost use Rattle.ccr_pipeline.specs.JobRules.{resource_faults, resource_keys, job_faults, job_opening, job_rest, after_plan, job_keys, too_many, member_faults, members, member_items, names_in, member_list, list_names};
+ghost use Rattle.ccr_pipeline.specs.JobRules.{resource_faults, resource_keys, job_faults, job_opening, job_rest};
+ghost use Rattle.ccr_pipeline.specs.JobRules.{after_plan, job_keys, too_many, member_faults, members, member_items};
+ghost use Rattle.ccr_pipeline.specs.JobRules.{names_in, member_list, list_names};
 
 use crate::build_job::plan;
 use crate::check_step::check_places;
@@ -30,7 +32,7 @@ pub(crate) const MOST_MEMBERS: usize = 200;
 const MOST_INPUTS: usize = 32;
 
 /// The two lists of a pipeline.
-#[derive(Clone, Copy, Debug, PartialEq, Eq)]
+#[derive(Clone, Copy)]
 pub(crate) enum Member {
     Resource,
     Job,

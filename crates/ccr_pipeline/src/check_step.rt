@@ -7,7 +7,10 @@ ghost use Rattle.ccr_pipeline.specs.Keys.{at_key, or_else, path_below, path_at};
 ghost use Rattle.ccr_pipeline.specs.Kinds.{optional, required, broken, optional_keys, key_table};
 ghost use Rattle.ccr_pipeline.specs.Names.{names_at, new_name};
 ghost use Rattle.ccr_pipeline.specs.Places.{spot, spots, gets_at};
-ghost use Rattle.ccr_pipeline.specs.StepRules.{kinds, undone_keys, get_faults, put_keys, parallel_object, parallel_faults, parallel_at, holder_keys, shape_faults, kind_faults, fail_fast_faults, own_keys, opening_faults, closing_faults, attempts_faults, visit_faults, visits};
+ghost use Rattle.ccr_pipeline.specs.StepRules.{kinds, undone_keys, get_faults, put_keys, parallel_object};
+ghost use Rattle.ccr_pipeline.specs.StepRules.{parallel_faults, parallel_at, holder_keys, shape_faults, kind_faults};
+ghost use Rattle.ccr_pipeline.specs.StepRules.{fail_fast_faults, own_keys, opening_faults, closing_faults};
+ghost use Rattle.ccr_pipeline.specs.StepRules.{attempts_faults, visit_faults, visits};
 
 use crate::check_task::check_task;
 use crate::fault::{ReadFault, Rule};
@@ -165,8 +168,9 @@ fn check_shape(alloc: Global, step: &Value, path: &str, left: u32) -> Result<(),
 fn check_one_kind(alloc: Global, step: &Value, path: &str) -> Result<(), ReadFault>
     ensures { Checks (kind_faults path.now (view step.now)) result }
 {
-    require(alloc, 0 < kinds(step), Rule::OneStep, path)?;
-    require(alloc, kinds(step) < 2, Rule::OnlyOneStep, path)
+    let kinds = kinds(step);
+    require(alloc, 0 < kinds, Rule::OneStep, path)?;
+    require(alloc, kinds < 2, Rule::OnlyOneStep, path)
 }
 
 /// Refuses a step that breaks a rule before the steps in it are read, and adds the name of a get to those of the job.

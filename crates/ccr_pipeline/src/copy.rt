@@ -1,7 +1,8 @@
 //! Copies of steps, which last longer than their pipeline.
 ghost use Rattle.std.specs.Prelude.{◌≡◌, map, option_map, string_bytes, IfOk};
 ghost use Rattle.ccr_history.specs.ObjectData.{object_data};
-ghost use Rattle.ccr_pipeline.specs.Tree.{tree_of, get_data, put_data, task_data, source_data, config_data, run_data, input_data, variable_data, wanted_data};
+ghost use Rattle.ccr_pipeline.specs.Tree.{tree_of, get_data, put_data, task_data, source_data, config_data, run_data};
+ghost use Rattle.ccr_pipeline.specs.Tree.{input_data, variable_data, wanted_data};
 
 use crate::step::{Get, Put, Step, Wanted};
 use crate::task::{Run, Task, TaskConfig, TaskInput, TaskSource, Variable};

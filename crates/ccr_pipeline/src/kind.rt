@@ -4,7 +4,8 @@ ghost use Rattle.std.specs.List.{list_all};
 ghost use Rattle.serde_json.specs.View.{view, items_view, members_view};
 ghost use Rattle.ccr_pipeline.specs.Faults.{unless, Checks, StartsWith, IsFirst, fault_of};
 ghost use Rattle.ccr_pipeline.specs.Keys.{at_key, or_else, path_below, path_at};
-ghost use Rattle.ccr_pipeline.specs.Kinds.{is_name, is_name_byte, is_text, broken, broken_texts, broken_fields, broken_pin, is_empty, optional, required, optional_keys, key_table};
+ghost use Rattle.ccr_pipeline.specs.Kinds.{is_name, is_name_byte, is_text, broken, broken_texts, broken_fields};
+ghost use Rattle.ccr_pipeline.specs.Kinds.{broken_pin, is_empty, optional, required, optional_keys, key_table};
 
 use crate::fault::{ReadFault, Rule};
 use crate::key::{at_key, path_at, path_below, require, require_at};
@@ -17,7 +18,7 @@ use std::collections::BTreeMap;
 const MOST_NAME_BYTES: usize = 128;
 
 /// What a key's value has to be.
-#[derive(Clone, Copy, Debug, PartialEq, Eq)]
+#[derive(Clone, Copy)]
 pub(crate) enum Kind {
     Text,
     /// A text that a resource, type, job, step or artifact may have as its name.

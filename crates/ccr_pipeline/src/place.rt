@@ -2,7 +2,8 @@
 ghost use Rattle.std.specs.Prelude.{◌≡◌, [], ◌∷◌, ◌++◌, length, drop, OnOk, string_bytes};
 ghost use Rattle.serde_json.specs.View.{view, items_view};
 ghost use Rattle.ccr_pipeline.specs.Keys.{at_key, or_else, path_below, path_at};
-ghost use Rattle.ccr_pipeline.specs.Places.{spots, spot_of, counted, tries_below, steps_from, steps_in, step_at, own_steps, hook_steps};
+ghost use Rattle.ccr_pipeline.specs.Places.{spots, spot_of, counted, tries_below, steps_from, steps_in, step_at};
+ghost use Rattle.ccr_pipeline.specs.Places.{own_steps, hook_steps};
 
 use crate::key::{at_key, path_at, path_below};
 use serde_json::Value;
@@ -18,7 +19,7 @@ pub(crate) const MOST_ATTEMPTS: u64 = 100;
 pub(crate) const MOST_TRIES: u64 = 10_000;
 
 /// The two visits of a step in the order of reading.
-#[derive(Clone, Copy, Debug, PartialEq, Eq)]
+#[derive(Clone, Copy)]
 pub(crate) enum Part {
     /// At its keys, before the steps that they hold.
     Opening,

@@ -6,7 +6,9 @@ ghost use Rattle.ccr_pipeline.specs.Faults.{unless, Checks, StartsWith, IsFirst,
 ghost use Rattle.ccr_pipeline.specs.Keys.{at_key, or_else, path_below, path_at};
 ghost use Rattle.ccr_pipeline.specs.Names.{text_at, has_name};
 ghost use Rattle.ccr_pipeline.specs.Places.{spot, spots, plan_steps, job_hooks};
-ghost use Rattle.ccr_pipeline.specs.Unknown.{name_key, unknown_resource, unknown_texts, unknown_passed, unknown_names, unknown_by, unknown_at, unknown_spots, unknown_job, unknown_jobs, unknown_in};
+ghost use Rattle.ccr_pipeline.specs.Unknown.{name_key, unknown_resource, unknown_texts, unknown_passed};
+ghost use Rattle.ccr_pipeline.specs.Unknown.{unknown_names, unknown_by, unknown_at, unknown_spots, unknown_job};
+ghost use Rattle.ccr_pipeline.specs.Unknown.{unknown_jobs, unknown_in};
 
 use crate::check_job::{hook_places, plan_places};
 use crate::fault::{ReadFault, Rule};

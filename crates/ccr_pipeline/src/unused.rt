@@ -6,7 +6,11 @@ ghost use Rattle.serde_json.specs.View.{view, items_view, members_view};
 ghost use Rattle.ccr_pipeline.specs.Keys.{at_key, or_else, path_below, path_at};
 ghost use Rattle.ccr_pipeline.specs.Places.{spot, spots, plan_steps, job_hooks};
 ghost use Rattle.ccr_pipeline.specs.Names.{names_of as texts_of};
-ghost use Rattle.ccr_pipeline.specs.Unused.{key_list, is_used, hook_keys, unused_at, unused_members, unused_keys, unused_items, unused_items_at, unused_keys_at, unused_config, unused_step_members, unused_step_keys, unused_task, unused_holder, unused_step, unused_by, unused_spot, unused_job, unused_jobs, unused_jobs_in, unused_in, IsSortedOnce};
+ghost use Rattle.ccr_pipeline.specs.Unused.{key_list, is_used, hook_keys, unused_at, unused_members, unused_keys};
+ghost use Rattle.ccr_pipeline.specs.Unused.{unused_items, unused_items_at, unused_keys_at, unused_config};
+ghost use Rattle.ccr_pipeline.specs.Unused.{unused_step_members, unused_step_keys, unused_task, unused_holder};
+ghost use Rattle.ccr_pipeline.specs.Unused.{unused_step, unused_by, unused_spot, unused_job, unused_jobs};
+ghost use Rattle.ccr_pipeline.specs.Unused.{unused_jobs_in, unused_in, IsSortedOnce};
 
 use crate::check_job::{hook_places, plan_places};
 use crate::key::{at_key, path_at, path_below};
