@@ -17,8 +17,6 @@ mod cut;
 mod fault;
 mod judging;
 mod law;
-#[cfg(test)]
-mod tests;
 mod tree;
 
 pub use accept::check;

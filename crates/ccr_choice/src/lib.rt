@@ -21,8 +21,6 @@ pub mod possible;
 mod problem;
 mod read;
 mod rules;
-#[cfg(test)]
-mod tests;
 pub mod text;
 mod verdict;
 mod write;
