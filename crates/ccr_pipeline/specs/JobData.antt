@@ -24,4 +24,4 @@ pub record JobData : Type 0 where
   pub max_in_flight : ℕ
 
 abbrev pub job_data : Job → JobData
-job_data j = record { name = string_bytes j.name; plan = tree_of j.plan; serial = j.serial; serial_groups = map string_bytes j.serial_groups.items; max_in_flight = j.max_in_flight }
+job_data j = record { name = string_bytes j.name; plan = tree_of j.plan.value; serial = j.serial; serial_groups = map string_bytes j.serial_groups.items; max_in_flight = j.max_in_flight }

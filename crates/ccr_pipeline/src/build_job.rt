@@ -17,6 +17,7 @@ use crate::resource::{Job, Resource};
 use crate::step::Step;
 use crate::value::Value;
 use std::alloc::{AllocError, Global};
+use std::rc::Rc;
 
 fn resource(alloc: Global, value: &Value) -> Result<Resource, AllocError>
     requires { IsResource (view value.now) }
@@ -74,7 +75,7 @@ fn job(alloc: Global, value: &Value) -> Result<Job, AllocError>
 {
     Ok(Job {
         name: text(alloc, value, "name")?,
-        plan: plan(alloc, value)?,
+        plan: Rc::new(alloc, plan(alloc, value)?)?,
         serial: truth(value, "serial"),
         serial_groups: texts(alloc, value, "serial_groups")?,
         max_in_flight: whole(value, "max_in_flight"),
