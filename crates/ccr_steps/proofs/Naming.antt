@@ -1,11 +1,11 @@
 -- The resource that a step's ask names is one of the plan's.
-use Rattle.std.proofs.Common.{◌≡◌, ℕ, zero, suc, List, [], ◌∷◌, ◌++◌, Bool, true, false, ◌||◌, Option, Some, None, refl, sym, subst}
+use Rattle.std.proofs.Common.{◌≡◌, List, [], ◌∷◌, ◌++◌, Bool, true, false, ◌||◌, Option, Some, None, refl, sym, subst}
 use Rattle.std.proofs.lemmas.Cmp.{nat_list_eq_equiv}
 use Rattle.std.proofs.lemmas.List.Folds.{list_any-append}
 use Rattle.std.specs.Option.{IfSome}
 use Rattle.ccr_pipeline.specs.Links.{used_resources, used_resources_in}
 use Rattle.ccr_pipeline.specs.Names.{has_name}
-use Rattle.ccr_pipeline.specs.Tree.{Text, SourceData, config, file, Tree, Trees, get, put, task, in_order, in_parallel, tried, attempts, hook, no_trees, tree}
+use Rattle.ccr_pipeline.specs.Tree.{Text, SourceData, config, file, Tree, get, put, task, in_order, in_parallel, tried, attempts, hook}
 use Rattle.ccr_steps.specs.declared.frame.Frame.{Frame}
 use Rattle.ccr_steps.specs.Asks.{AskData, Exchange, Chosen, ask_resource, NamesResourceOf, get_ask, put_ask, pushed_ask}
 use Rattle.ccr_steps.specs.Frames.{LeafData, first, fetching, running, source_ask, leaf_ask, leaf_at}

@@ -1,13 +1,12 @@
 -- The step that waits, if it is a get, has the name of an input of the plan, and so a version.
-use Rattle.std.proofs.Common.{◌≡◌, Bool, true, false, List, [], ◌∷◌, ◌++◌, ◌||◌, map, Option, Some, refl, sym, ap, ◌∙◌, subst}
+use Rattle.std.proofs.Common.{◌≡◌, Bool, true, false, List, ◌++◌, ◌||◌, map, Some, refl, sym, ◌∙◌, subst}
 use Rattle.std.proofs.lemmas.List.{map-append}
 use Rattle.std.proofs.lemmas.List.Folds.{list_any-append}
 use Rattle.ccr_pipeline.specs.declared.step.When.{When}
-use Rattle.ccr_pipeline.specs.declared.step.When.TheVariants.{OnSuccess, OnFailure, OnError, OnAbort, Ensure}
+use Rattle.ccr_pipeline.specs.declared.step.When.TheVariants.{OnError, OnAbort}
 use Rattle.ccr_pipeline.specs.Inputs.{InputData, inputs, inputs_in}
 use Rattle.ccr_pipeline.specs.Names.{has_name}
-use Rattle.ccr_pipeline.specs.Tree.{Text, Tree, Trees, get, put, task, in_order, in_parallel, tried, attempts, hook, no_trees, tree}
-use Rattle.ccr_steps.specs.Asks.{Chosen}
+use Rattle.ccr_pipeline.specs.Tree.{Text, Tree, get, hook}
 use Rattle.ccr_steps.specs.Inputs.{HasEach, HasVersion}
 use Rattle.ccr_steps.specs.Moments.{step_at}
 use Rattle.ccr_steps.specs.Runs.{RunData}

@@ -1,5 +1,5 @@
 //! What a build gains as it goes on.
-ghost use Rattle.std.specs.Prelude.{◌≡◌, [], ◌∷◌, map, string_bytes, length, take, IfOk, OnOk};
+ghost use Rattle.std.specs.Prelude.{◌≡◌, map, string_bytes, take, IfOk, OnOk};
 ghost use Rattle.std.specs.List.{list_all, list_any};
 ghost use Rattle.ccr_pipeline.specs.Tree.{input_data};
 ghost use Rattle.ccr_steps.specs.Gains.{gains_data, moved_data, Grew, no_gains, is_same, has_moved};

@@ -1,6 +1,6 @@
 //! The step at the end of a path of frames.
-ghost use Rattle.std.specs.Prelude.{◌≡◌, drop, map, option_map};
-ghost use Rattle.ccr_pipeline.specs.Tree.{tree_of, trees_of, in_order, tried, hook as hook_tree};
+ghost use Rattle.std.specs.Prelude.{◌≡◌, drop, option_map};
+ghost use Rattle.ccr_pipeline.specs.Tree.{tree_of, in_order};
 ghost use Rattle.ccr_steps.specs.Frames.{leaf_at, trees};
 
 use crate::frame::{Frame, frame_at, hook_in, is_in, left_in, place_in};
