@@ -6,18 +6,26 @@
 #![tactic(auto)]
 
 mod steps;
+mod versions;
 
 use std::alloc::{AllocError, Global};
 use std::io;
 use std::io::Read;
 use std::process::ExitCode;
+use versions::{meets_case, object_case, pin_case, version_case};
 
 /// The answer to a case of this kind, or that there is no such kind.
 fn answer_to(alloc: Global, kind: &str, given: &str) -> Result<String, AllocError> {
     if let Some(answer) = steps::answer_to(alloc, kind, given)? {
         return Ok(answer);
     }
-    format!(in alloc; "no case is called {kind}")
+    match kind {
+        "version" => version_case(alloc, given),
+        "pin" => pin_case(alloc, given),
+        "meets" => meets_case(alloc, given),
+        "object" => object_case(alloc, given),
+        _ => format!(in alloc; "no case is called {kind}"),
+    }
 }
 
 /// A line of the output: the case as it stands, and its answer.

@@ -45,7 +45,7 @@ fn versions_of(alloc: Global, text: &str) -> Result<Vec<Version>> {
     let value = Value::from_str(alloc, text)?;
     let mut versions = Vec::new(alloc);
     for item in value.as_array().ok_or(anyhow!("no list of versions"))? {
-        versions.push(Version::from_value(item)?)?;
+        versions.push(Version::from_value(alloc, item)?)?;
     }
     Ok(versions)
 }
@@ -158,7 +158,7 @@ fn push_turn(text: &mut String, run: &BuildRun) -> Result<()> {
 fn answer_of(alloc: Global, word: &str) -> Result<Answered> {
     if let Some(version) = word.strip_prefix("pushed:") {
         let value = Value::from_str(alloc, version)?;
-        return Ok(Answered::Pushed(Version::from_value(&value)?));
+        return Ok(Answered::Pushed(Version::from_value(alloc, &value)?));
     }
     if let Some(config) = word.strip_prefix("config:") {
         return Ok(Answered::Config(read_task(alloc, config.as_bytes())?));

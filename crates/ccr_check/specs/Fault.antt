@@ -6,8 +6,8 @@ use Rattle.ccr_choice.specs.declared.verdict.Verdict.{Verdict}
 use Rattle.ccr_choice.specs.declared.verdict.Verdict.TheVariants as verdict
 use Rattle.ccr_proof.specs.declared.claim.Claim.{Claim}
 use Rattle.ccr_proof.specs.declared.claim.Claim.TheVariants.{Best, Nothing}
-use Rattle.ccr_proof.specs.Preference.{Preference}
-use Rattle.ccr_proof.specs.Assignment.{Assignment, nothing_fixed, with_build}
+use Rattle.ccr_choice.specs.Preference.{Preference}
+use Rattle.ccr_choice.specs.Assignment.{Assignment, nothing_fixed, with_build}
 use Rattle.ccr_proof.specs.Tree.{Tree, Trees, job, empty, bounded, no_child, child, width, count}
 use Rattle.ccr_proof.specs.Refutes.{HasNoPlace, IsBounded, Refutes}
 use Rattle.ccr_check.specs.declared.fault.CheckFault.{CheckFault}
@@ -23,6 +23,9 @@ IsJobFault p a n j ts f =
 
 -- The first fault in preorder of a tree whose root is node n. A node's own fault comes before those of its children; a child's
 -- comes where all children before it refute.
+--
+-- IsFirstAmong says it of the children from position k on, the first of which is node n: it knows the job and all the children,
+-- and goes through the builds and the children that stand there.
 abbrev mutual
   pub IsFirstFault : Preference → ProblemValue → Option (List ℕ) → Assignment → ℕ → Tree → CheckFault → Type 0
   IsFirstFault prefers p bound a n (empty i) f =
@@ -30,15 +33,17 @@ abbrev mutual
   IsFirstFault prefers p bound a n bounded f = (f ≡ NotBounded n) × ¬ IsBounded prefers p bound a
   IsFirstFault prefers p bound a n (job j ts) f =
       IsJobFault p a n j ts f
-      ⊎ ((j < length p.jobs) × (a j ≡ None) × (width ts ≡ length (builds_at p j)) × IsFirstAmong prefers p bound a (n + 1) j (builds_at p j) ts f)
+      ⊎ ((j < length p.jobs) × (a j ≡ None) × (width ts ≡ length (builds_at p j))
+      × IsFirstAmong prefers p bound a (n + 1) j ts 0 (builds_at p j) ts f)
 
-  pub IsFirstAmong : Preference → ProblemValue → Option (List ℕ) → Assignment → ℕ → ℕ → List BuildValue → Trees → CheckFault → Type 0
-  IsFirstAmong prefers p bound a n j (b ∷ bs) (child t ts) f =
+  pub IsFirstAmong : Preference → ProblemValue → Option (List ℕ) → Assignment → ℕ → ℕ → Trees → ℕ → List BuildValue → Trees → CheckFault
+      → Type 0
+  IsFirstAmong prefers p bound a n j all k (b ∷ bs) (child t ts) f =
       IsFirstFault prefers p bound (with_build a j b) n t f
-      ⊎ (Refutes prefers p bound (with_build a j b) t × IsFirstAmong prefers p bound a (n + count t) j bs ts f)
-  IsFirstAmong prefers p bound a n j [] (child t ts) f = ⊥
-  IsFirstAmong prefers p bound a n j (b ∷ bs) no_child f = ⊥
-  IsFirstAmong prefers p bound a n j [] no_child f = ⊥
+      ⊎ (Refutes prefers p bound (with_build a j b) t × IsFirstAmong prefers p bound a (n + count t) j all (k + 1) bs ts f)
+  IsFirstAmong prefers p bound a n j all k [] (child t ts) f = ⊥
+  IsFirstAmong prefers p bound a n j all k (b ∷ bs) no_child f = ⊥
+  IsFirstAmong prefers p bound a n j all k [] no_child f = ⊥
 
 -- The choice of the claim doesn't satisfy, and this is said of it.
 pub record IsBadChoice (p : ProblemValue) (places builds : List ℕ) (f : CheckFault) : Type 0 where

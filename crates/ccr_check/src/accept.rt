@@ -2,15 +2,15 @@
 
 ghost use Rattle.std.specs.Prelude.{◌↔◌, IsOk, IfErr, OnOk, MatchResult};
 ghost use Rattle.std.specs.Option.{option_copied};
-ghost use Rattle.ccr_proof.specs.Preference.{plain};
+ghost use Rattle.ccr_choice.specs.Preference.{order_of};
 ghost use Rattle.ccr_proof.specs.Tree.{tree_of};
 ghost use Rattle.ccr_proof.specs.Refutes.{IsAccepted};
-ghost use Rattle.ccr_proof.specs.Optimal.{IsRight};
+ghost use Rattle.ccr_proof.specs.Right.{IsRight};
 ghost use Rattle.ccr_check.specs.Fault.{IsFault, HasBound, IsBadClaim};
 
 use crate::fault::CheckFault;
 use crate::tree::walk;
-use ccr_choice::{Problem, Verdict, satisfies};
+use ccr_choice::{MOST_JOBS, Problem, Verdict, satisfies};
 use ccr_proof::{Claim, Proof};
 
 /// The bound that a claim sets: the places of its choice, or none.
@@ -34,14 +34,14 @@ fn bound_of<'a>(problem: &Problem, claim: &'a Claim) -> Result<Option<&'a [u32]>
 /// Else the first fault: BadChoice with what is said of the choice; then the first node in preorder, counted from 0, whose own
 /// test fails, which comes before its children's. The check takes no memory, and no recursion is more than 33 deep.
 pub fn check(problem: &Problem, proof: &Proof) -> Result<(), CheckFault>
-    ensures exact { IsOk result ↔ IsAccepted plain problem.now proof.now.claim (tree_of proof.now.tree) }
+    ensures exact { IsOk result ↔ IsAccepted (order_of problem.now) problem.now proof.now.claim (tree_of proof.now.tree) }
 
     // Accepted means right: no choice that satisfies has later places, or none satisfies.
-    ensures right { OnOk result (IsRight plain problem.now proof.now.claim) }
-    ensures first { IfErr result (IsFault plain problem.now proof.now.claim (tree_of proof.now.tree)) }
+    ensures right { OnOk result (IsRight (order_of problem.now) problem.now proof.now.claim) }
+    ensures first { IfErr result (IsFault (order_of problem.now) problem.now proof.now.claim (tree_of proof.now.tree)) }
 {
     let bound = bound_of(problem, &proof.claim)?;
-    let fixed = [0; 32];
+    let fixed = [0; MOST_JOBS as usize];
     prove!(problem.jobs().len() <= fixed.len());
     walk(problem, bound, &fixed, 0, &proof.tree)?;
     Ok(())

@@ -5,9 +5,9 @@ ghost use Rattle.ccr_choice.specs.Problem.{ProblemValue, IsProblem};
 ghost use Rattle.ccr_choice.specs.Later.{IsLater};
 ghost use Rattle.ccr_proof.specs.declared.claim.Claim.{Claim};
 ghost use Rattle.ccr_proof.specs.Tree.{Tree};
-ghost use Rattle.ccr_proof.specs.Preference.{Preference, IsOrder, IsBetter, plain};
+ghost use Rattle.ccr_choice.specs.Preference.{Preference, IsOrder, IsBetter, order_of};
 ghost use Rattle.ccr_proof.specs.Refutes.{IsAccepted};
-ghost use Rattle.ccr_proof.specs.Optimal.{IsRight};
+ghost use Rattle.ccr_proof.specs.Right.{IsRight};
 
 /// The law behind [`check`](crate::check): whatever the order of preference, an accepted claim is right. The choice that it names
 /// satisfies and no choice that satisfies has better places; or it names none, and none satisfies.
@@ -17,7 +17,7 @@ pub fn accepted_is_right()
     ensures right { (prefers : Preference) → IsOrder prefers → (p : ProblemValue) → IsProblem p
         → (c : Claim) (t : Tree) → IsAccepted prefers p c t → IsRight prefers p c }
 
-    // The plain order is an order, and what is better in it is later.
-    ensures order { IsOrder plain }
-    ensures later { (places others : List ℕ) → IsBetter plain places others ↔ IsLater places others }
+    // The order of each problem is an order, and what is better in it is later.
+    ensures order { (p : ProblemValue) → IsOrder (order_of p) }
+    ensures later { (p : ProblemValue) (places others : List ℕ) → IsBetter (order_of p) places others ↔ IsLater places others }
 {}

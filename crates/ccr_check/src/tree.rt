@@ -2,16 +2,16 @@
 
 ghost use Rattle.std.specs.Prelude.{◌≡◌, ◌<◌, ◌+◌, ◌^◌, ◌↔◌, length, IsTrue, MatchResult};
 ghost use Rattle.std.specs.Option.{option_copied};
-ghost use Rattle.ccr_proof.specs.Preference.{plain};
+ghost use Rattle.ccr_choice.specs.Preference.{order_of};
 ghost use Rattle.ccr_proof.specs.Tree.{tree_of, count};
 ghost use Rattle.ccr_proof.specs.Refutes.{HasNoPlace, IsBounded, Refutes};
 ghost use Rattle.ccr_check.specs.Fault.{IsFirstFault};
-ghost use Rattle.ccr_proof.specs.Table.{assigned};
+ghost use Rattle.ccr_choice.specs.Table.{assigned};
 
 use crate::fault::CheckFault;
 use ccr_choice::Problem;
+use ccr_choice::possible::{Fixed, best_possible, fixed_build, is_bounded};
 use ccr_proof::Node;
-use ccr_proof::possible::{Fixed, best_possible, fixed_build, is_bounded};
 
 fn has_no_place(problem: &Problem, fixed: &Fixed, input: usize) -> bool
     requires { input < length problem.now.inputs }
@@ -21,7 +21,7 @@ fn has_no_place(problem: &Problem, fixed: &Fixed, input: usize) -> bool
 }
 
 fn is_under(problem: &Problem, fixed: &Fixed, bound: Option<&[u32]>) -> bool
-    ensures { IsTrue result ↔ IsBounded plain problem.now (option_copied bound.entry) (assigned problem.now fixed.now) }
+    ensures { IsTrue result ↔ IsBounded (order_of problem.now) problem.now (option_copied bound.entry) (assigned problem.now fixed.now) }
 {
     match bound {
         Some(places) => is_bounded(problem, fixed, places),
@@ -40,8 +40,8 @@ pub(crate) fn walk(
     requires { node + count (tree_of tree.now) < 2 ^ 32 }
     ensures { MatchResult result
         (λ next. (next ≡ node + count (tree_of tree.now))
-        × Refutes plain problem.now (option_copied bound.entry) (assigned problem.now fixed.now) (tree_of tree.now))
-        (IsFirstFault plain problem.now (option_copied bound.entry) (assigned problem.now fixed.now) node (tree_of tree.now)) }
+        × Refutes (order_of problem.now) problem.now (option_copied bound.entry) (assigned problem.now fixed.now) (tree_of tree.now))
+        (IsFirstFault (order_of problem.now) problem.now (option_copied bound.entry) (assigned problem.now fixed.now) node (tree_of tree.now)) }
 {
     match tree {
         Node::Empty(input) => {

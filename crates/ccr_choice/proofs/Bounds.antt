@@ -1,8 +1,8 @@
 -- How large the numbers of a problem are.
-use Rattle.std.proofs.Common.{◌≡◌, ℕ, zero, suc, ◌+◌, ◌*◌, ◌^◌, ◌<◌, ◌≤◌, List, [], ◌∷◌, length, slice_index_or, ap, ◌∙◌, Bool, true, false, ◌&&◌, ◌||◌, ◌==◌, nat_lt, nat_le, arith, subst, sym}
+use Rattle.std.proofs.Common.{◌≡◌, ℕ, zero, suc, ◌+◌, ◌<◌, ◌≤◌, List, [], ◌∷◌, length, slice_index_or, ap, ◌∙◌, true, arith, subst, sym}
 use Rattle.std.specs.List.{list_all, AllByRecursion}
 use Rattle.std.proofs.lemmas.Bool.{and_parts, ltb-true, leb-true, eqb-true}
-use Rattle.ccr_choice.specs.Problem.{InputValue, BuildValue, ProblemValue, is_problem, builds_at, is_input, is_build, are_inputs, are_builds, are_builds_below, are_numbered, are_places_after, are_pairs_after, next_used, used_after, scopes_after, jobs_after}
+use Rattle.ccr_choice.specs.Problem.{InputValue, BuildValue, ProblemValue, is_problem, builds_at, are_inputs, are_builds, are_numbered, next_used, used_after, scopes_after, jobs_after}
 
 -- ---- how many scopes and jobs are mentioned
 next_used-few : (used n : ℕ) → n < 32 → used ≤ 32 → next_used used n ≤ 32

@@ -1,11 +1,9 @@
 -- A list of bytes, cut at the first separator.
-use Rattle.std.proofs.Common.{if◌then◌else◌, ◌≡◌, ◌≢◌, ℕ, zero, suc, ◌+◌, ◌-◌, ◌<◌, List, [], ◌∷◌, ◌==◌, Bool, true, false, length, take, drop, get_or, ap, ◌∙◌, refl, sym, arith, eq-eqb, add-one}
+use Rattle.std.proofs.Common.{if◌then◌else◌, ◌≡◌, ℕ, zero, suc, ◌+◌, ◌-◌, ◌<◌, List, [], ◌∷◌, ◌==◌, false, length, take, drop, get_or, ap, ◌∙◌, refl, sym, arith, eq-eqb, add-one}
 use Rattle.std.proofs.lemmas.List.{take_rest}
 use Rattle.std.specs.List.{slice_split, onto_first, join_with_byte}
 use Rattle.std.proofs.lemmas.Bool.Decides.{nat_tests}
-use Rattle.std.proofs.lemmas.Grind.{common_steps}
 use Rattle.std.proofs.lemmas.List.Splits.{slice_split-cons_yes, slice_split-cons_no, length-slice_split, join_with_byte-slice_split}
-use Rattle.ccr_choice.specs.declared.text.word.Word.{Word}
 use Rattle.ccr_choice.specs.Text.{lines_from, words_of, lines_of, unended}
 
 ne_false : (b c : ℕ) → (b ≡ c → ⊥) → (b == c) ≡ false

@@ -1,6 +1,6 @@
 -- The laws of any format whose lines are read from the top: what is read is written so, what is written is read so, and no
 -- text begins another.
-use Rattle.std.proofs.Common.{◌≡◌, ℕ, ◌+◌, ◌-◌, ◌<◌, List, [], ◌∷◌, ◌++◌, length, Bool, true, false, cond, ◌==◌, Result, Ok, Err, ap, ◌∙◌, refl, sym, arith, eqb-true}
+use Rattle.std.proofs.Common.{◌≡◌, ℕ, List, [], ◌∷◌, ◌++◌, length, Bool, true, false, cond, ◌==◌, Ok, Err, ap, ◌∙◌, refl, sym, arith, eqb-true}
 use Rattle.std.specs.List.{AllByRecursion}
 use Rattle.std.proofs.lemmas.List.{append-nil}
 use Rattle.ccr_choice.specs.declared.text.word.Word.{Word}

@@ -1,12 +1,11 @@
 -- What a line says, both ways.
-use Rattle.std.proofs.Common.{◌≡◌, ◌≢◌, ℕ, zero, suc, ◌+◌, ◌<◌, List, [], ◌∷◌, ◌++◌, length, map, Bool, true, false, cond, ◌&&◌, ◌==◌, Option, Some, None, ap, ◌∙◌, refl, sym, subst, arith, eqb-true}
-use Rattle.std.proofs.lemmas.Grind.{common_steps}
+use Rattle.std.proofs.Common.{◌≡◌, ℕ, List, [], ◌∷◌, ◌++◌, length, Bool, true, false, cond, ◌==◌, Some, None, ap, ◌∙◌, refl, arith, eqb-true}
 use Rattle.std.proofs.lemmas.List.{append-nil}
 use Rattle.ccr_choice.specs.declared.text.word.Word.{Word}
-use Rattle.ccr_choice.specs.declared.text.word.Word.TheVariants.{Number, Problem, Inputs, Jobs, Places, Builds, Pairs, Proof, Best, Nothing, Job, Empty, Bounded, Other}
-use Rattle.ccr_choice.specs.Problem.{InputValue, BuildValue}
+use Rattle.ccr_choice.specs.declared.text.word.Word.TheVariants.{Number, Jobs, Places}
+use Rattle.ccr_choice.specs.Problem.{InputValue}
 use Rattle.ccr_choice.specs.Reading.{number_words, front_numbers, after_numbers}
-use Rattle.ccr_choice.specs.ProblemText.{input_line, places_of, input_of}
+use Rattle.ccr_choice.specs.ProblemText.{input_line, places_on, input_on}
 
 -- numbers, and then something else
 pub front-number_words : (ns : List ℕ) (ws : List Word) → front_numbers ws ≡ [] → front_numbers (number_words ns ++ ws) ≡ ns
@@ -30,11 +29,11 @@ pub after-all : (ns : List ℕ) → after_numbers (number_words ns) ≡ []
 after-all [] = refl
 after-all (n ∷ ns) = after-all ns
 
-places_again : (scope : ℕ) (jobs places : List ℕ) → places_of scope jobs (Places ∷ number_words places) ≡ Some (record { scope = scope; places = places; jobs = jobs })
+places_again : (scope : ℕ) (jobs places : List ℕ) → places_on scope jobs (Places ∷ number_words places) ≡ Some (record { scope = scope; places = places; jobs = jobs })
 places_again scope jobs places = rw (after-all places, front-all places) refl
 
-pub input_again : (i : InputValue) → input_of (input_line i) ≡ Some i
-unfolding input_of
+pub input_again : (i : InputValue) → input_on (input_line i) ≡ Some i
+unfolding input_on
 input_again i =
     rw (front-number_words i.jobs (Places ∷ number_words i.places) refl, after-number_words i.jobs (Places ∷ number_words i.places) refl) (places_again i.scope i.jobs i.places)
 
@@ -46,7 +45,7 @@ guard : {A : Type 0} (b : Bool) (y x : A) → cond b (Some y) None ≡ Some x �
 guard true y x h = (refl, cc)
 guard false y x h = cc
 
-places_found : (scope : ℕ) (jobs : List ℕ) (ws : List Word) (i : InputValue) → places_of scope jobs ws ≡ Some i
+places_found : (scope : ℕ) (jobs : List ℕ) (ws : List Word) (i : InputValue) → places_on scope jobs ws ≡ Some i
     → (ws ≡ Places ∷ number_words i.places) × (scope ≡ i.scope) × (jobs ≡ i.jobs)
 places_found scope jobs (Places ∷ ws) i h =
     let g = guard (length (after_numbers ws) == 0) (record { scope = scope; places = front_numbers ws; jobs = jobs }) i h in
@@ -55,8 +54,8 @@ places_found scope jobs (Places ∷ ws) i h =
 places_found scope jobs [] i h = cc
 places_found scope jobs (w ∷ ws) i h = cc
 
-pub input_found : (ws : List Word) (i : InputValue) → input_of ws ≡ Some i → ws ≡ input_line i
-unfolding input_of
+pub input_found : (ws : List Word) (i : InputValue) → input_on ws ≡ Some i → ws ≡ input_line i
+unfolding input_on
 input_found (Number scope ∷ Jobs ∷ ws) i h =
     let f = places_found scope (front_numbers ws) (after_numbers ws) i h in
     ap (λ s. Number s ∷ Jobs ∷ ws) f.1 ∙ ap (λ vs. Number i.scope ∷ Jobs ∷ vs) (numbers_are ws ∙ ap (λ js. number_words js ++ after_numbers ws) f.2 ∙ ap (λ vs. number_words i.jobs ++ vs) f.0)

@@ -1,14 +1,11 @@
 -- What is read keeps the rules of a problem.
-use Rattle.std.proofs.Common.{◌≡◌, ℕ, zero, suc, ◌+◌, ◌-◌, List, [], ◌∷◌, ◌++◌, length, Bool, true, false, cond, ◌&&◌, ◌==◌, nat_le, Option, Some, None, Result, Ok, Err, IsTrue, ap, ◌∙◌, ◌≤◌, refl, sym, arith, eq-eqb}
+use Rattle.std.proofs.Common.{◌≡◌, ℕ, zero, suc, List, [], ◌∷◌, length, Bool, true, false, cond, ◌&&◌, nat_le, Option, Some, None, Result, Ok, Err, IsTrue, ap, ◌∙◌, ◌≤◌, refl, sym, arith, eq-eqb}
 use Rattle.std.specs.List.{list_all}
 use Rattle.std.proofs.lemmas.Bool.{and_from, le-leb}
-use Rattle.std.proofs.lemmas.Bool.Decides.{nat_tests}
-use Rattle.std.proofs.lemmas.Grind.{common_steps}
 use Rattle.ccr_choice.specs.declared.text.word.Word.{Word}
-use Rattle.ccr_choice.specs.declared.text.word.Word.TheVariants.{Number, Problem, Inputs, Jobs, Places, Builds, Pairs, Proof, Best, Nothing, Job, Empty, Bounded, Other}
-use Rattle.ccr_choice.specs.Problem.{InputValue, BuildValue, ProblemValue, next_used, used_after, is_input, are_inputs, is_build, are_builds, are_builds_below, jobs_after, scopes_after, is_problem}
-use Rattle.ccr_choice.specs.Reading.{◌>>=◌, keep_if, or_broken, one_line, many_at}
-use Rattle.ccr_choice.specs.ProblemText.{next_counts, input_of, build_of, input_at, build_at, inputs_at, builds_at, job_at, jobs_at, build_count, builds_number, head_of, input_count, job_count, problem_at}
+use Rattle.ccr_choice.specs.Problem.{InputValue, BuildValue, ProblemValue, is_input, are_inputs, is_build, are_builds, are_builds_below, jobs_after, scopes_after, is_problem}
+use Rattle.ccr_choice.specs.Reading.{◌>>=◌, keep_if, or_broken, one_line, next_many}
+use Rattle.ccr_choice.specs.ProblemText.{next_counts, input_on, build_on, next_input, next_build, next_inputs, next_builds, next_job, next_jobs, build_count, builds_number, problem_head, input_count, job_count, next_problem}
 
 pub bind_ok : {A B E : Type 0} (r : Result A E) (f : A → Result B E) (y : B) → (r >>= f) ≡ Ok y → (x : A) × (r ≡ Ok x) × (f x ≡ Ok y)
 bind_ok (Ok x) f y h = (x, refl, h)
@@ -21,12 +18,12 @@ all_along test next s (x ∷ xs) = test s x && all_along test next (next s x) xs
 
 pub many_keeps : {S A : Type 0} (item : S → List (List Word) → Result (A × List (List Word)) ℕ) (next : S → A → S) (test : S → A → Bool)
     → ((s : S) (ls : List (List Word)) (x : A × List (List Word)) → item s ls ≡ Ok x → test s x.0 ≡ true)
-    → (n : ℕ) (s : S) (ls : List (List Word)) (xs : List A × List (List Word)) → many_at item next n s ls ≡ Ok xs
+    → (n : ℕ) (s : S) (ls : List (List Word)) (xs : List A × List (List Word)) → next_many item next n s ls ≡ Ok xs
     → (all_along test next s xs.0 ≡ true) × (length xs.0 ≡ n)
 many_keeps item next test each zero s ls xs h = let e : xs.0 ≡ [] = cc in (rw e refl, rw e refl)
 many_keeps item next test each (suc n) s ls xs h =
     let first = bind_ok (item s ls) _ xs h in
-    let others = bind_ok (many_at item next n (next s first.0.0) first.0.1) _ xs first.2 in
+    let others = bind_ok (next_many item next n (next s first.0.0) first.0.1) _ xs first.2 in
     let rest = many_keeps item next test each n (next s first.0.0) first.0.1 others.0 others.1 in
     let e : xs.0 ≡ first.0.0 ∷ others.0.0 = cc in
     (rw e (and_from _ _ (each s ls first.0 first.1) rest.0), rw e (ap suc rest.1))
@@ -55,28 +52,28 @@ pub inputs_are : (s : ℕ × ℕ) (is : List InputValue) → all_along (λ used 
 inputs_are s [] = refl
 inputs_are s (i ∷ is) = ap (λ b. is_input s.0 s.1 i && b) (inputs_are (next_counts s i) is)
 
-pub inputs_keep : (n : ℕ) (ls : List (List Word)) (x : List InputValue × List (List Word)) → inputs_at n ls ≡ Ok x
+pub inputs_keep : (n : ℕ) (ls : List (List Word)) (x : List InputValue × List (List Word)) → next_inputs n ls ≡ Ok x
     → (are_inputs 0 0 x.0 ≡ true) × (length x.0 ≡ n)
-unfolding inputs_at input_at
+unfolding next_inputs next_input
 inputs_keep n ls x h =
-    let k = many_keeps input_at next_counts (λ used i. is_input used.0 used.1 i) (λ s ls x h. one_kept (is_input s.0 s.1) input_of ls x h) n (0, 0) ls x h in
+    let k = many_keeps next_input next_counts (λ used i. is_input used.0 used.1 i) (λ s ls x h. one_kept (is_input s.0 s.1) input_on ls x h) n (0, 0) ls x h in
     (sym (inputs_are (0, 0) x.0) ∙ k.0, k.1)
 
 pub builds_are : (scopes high : ℕ) (bs : List BuildValue) → all_along (is_build scopes) (λ high b. b.number) high bs ≡ are_builds_below scopes high bs
 builds_are scopes high [] = refl
 builds_are scopes high (b ∷ bs) = ap (λ t. is_build scopes high b && t) (builds_are scopes b.number bs)
 
-pub builds_keep : (scopes n : ℕ) (ls : List (List Word)) (x : List BuildValue × List (List Word)) → builds_at scopes n ls ≡ Ok x
+pub builds_keep : (scopes n : ℕ) (ls : List (List Word)) (x : List BuildValue × List (List Word)) → next_builds scopes n ls ≡ Ok x
     → (are_builds_below scopes 1000001 x.0 ≡ true) × (length x.0 ≡ n)
-unfolding builds_at build_at
+unfolding next_builds next_build
 builds_keep scopes n ls x h =
-    let k = many_keeps (build_at scopes) (λ high b. b.number) (is_build scopes) (λ high ls x h. one_kept (is_build scopes high) build_of ls x h) n 1000001 ls x h in
+    let k = many_keeps (next_build scopes) (λ high b. b.number) (is_build scopes) (λ high ls x h. one_kept (is_build scopes high) build_on ls x h) n 1000001 ls x h in
     (sym (builds_are scopes 1000001 x.0) ∙ k.0, k.1)
 
-job_keeps : (scopes : ℕ) (ls : List (List Word)) (x : List BuildValue × List (List Word)) → job_at scopes ls ≡ Ok x → are_builds scopes x.0 ≡ true
-unfolding job_at
+job_keeps : (scopes : ℕ) (ls : List (List Word)) (x : List BuildValue × List (List Word)) → next_job scopes ls ≡ Ok x → are_builds scopes x.0 ≡ true
+unfolding next_job
 job_keeps scopes ls x h =
-    let b = bind_ok (one_line build_count ls) (λ count. builds_at scopes count.0 count.1) x h in
+    let b = bind_ok (one_line build_count ls) (λ count. next_builds scopes count.0 count.1) x h in
     let small : nat_le b.0.0 1000000 ≡ true = one_kept (λ n. nat_le n 1000000) builds_number ls b.0 b.1 in
     let k = builds_keep scopes b.0.0 b.0.1 x b.2 in
     and_from _ _ (ap (λ n. nat_le n 1000000) k.1 ∙ small) k.0
@@ -85,15 +82,15 @@ pub jobs_are : (scopes : ℕ) (js : List (List BuildValue)) → all_along are_bu
 jobs_are scopes [] = refl
 jobs_are scopes (j ∷ js) = ap (λ t. are_builds scopes j && t) (jobs_are scopes js)
 
-pub jobs_keep : (scopes n : ℕ) (ls : List (List Word)) (x : List (List BuildValue) × List (List Word)) → jobs_at scopes n ls ≡ Ok x
+pub jobs_keep : (scopes n : ℕ) (ls : List (List Word)) (x : List (List BuildValue) × List (List Word)) → next_jobs scopes n ls ≡ Ok x
     → (list_all (are_builds scopes) x.0 ≡ true) × (length x.0 ≡ n)
-unfolding jobs_at
+unfolding next_jobs
 jobs_keep scopes n ls x h =
-    let k = many_keeps job_at (λ s builds. s) are_builds job_keeps n scopes ls x h in
+    let k = many_keeps next_job (λ s builds. s) are_builds job_keeps n scopes ls x h in
     (sym (jobs_are scopes x.0) ∙ k.0, k.1)
 
 pub problem_keeps : (inputs jobs : ℕ) (a b : List (List Word)) (is : List InputValue) (rest : List (List Word)) (js : List (List BuildValue)) (after : List (List Word))
-    → inputs ≤ 32 → inputs_at inputs a ≡ Ok (is, rest) → jobs ≡ jobs_after 0 is → jobs_at (scopes_after 0 is) jobs b ≡ Ok (js, after)
+    → inputs ≤ 32 → next_inputs inputs a ≡ Ok (is, rest) → jobs ≡ jobs_after 0 is → next_jobs (scopes_after 0 is) jobs b ≡ Ok (js, after)
     → IsTrue (is_problem (record { inputs = is; jobs = js }))
 problem_keeps inputs jobs a b is rest js after few i mentioned j =
     let front = inputs_keep inputs a (is, rest) i in
@@ -102,11 +99,11 @@ problem_keeps inputs jobs a b is rest js after few i mentioned j =
 
 -- the parts of a problem that are read one after the other
 pub problem_read : (ls r1 r2 r3 r4 r5 : List (List Word)) (k n m scopes jobs : ℕ) (is : List InputValue) (js : List (List BuildValue)) (p : ProblemValue)
-    → one_line head_of ls ≡ Ok (k, r1) → one_line input_count r1 ≡ Ok (n, r2) → inputs_at n r2 ≡ Ok (is, r3)
+    → one_line problem_head ls ≡ Ok (k, r1) → one_line input_count r1 ≡ Ok (n, r2) → next_inputs n r2 ≡ Ok (is, r3)
     → scopes ≡ scopes_after 0 is → jobs ≡ jobs_after 0 is
-    → one_line (job_count jobs) r3 ≡ Ok (m, r4) → jobs_at scopes m r4 ≡ Ok (js, r5) → p ≡ record { inputs = is; jobs = js }
-    → problem_at ls ≡ Ok (p, r5)
-unfolding problem_at
+    → one_line (job_count jobs) r3 ≡ Ok (m, r4) → next_jobs scopes m r4 ≡ Ok (js, r5) → p ≡ record { inputs = is; jobs = js }
+    → next_problem ls ≡ Ok (p, r5)
+unfolding next_problem
 problem_read ls r1 r2 r3 r4 r5 k n m scopes jobs is js p head count inputs s j job builds e =
     let job' = rw j at job in
     let builds' = rw s at builds in

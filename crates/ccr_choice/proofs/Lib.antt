@@ -11,3 +11,11 @@ pub mod Found
 pub mod Whole
 pub mod Formats
 pub mod ReadLaws
+pub mod Members
+pub mod BestPlaces
+pub mod PossibleLaws
+pub mod PlainLaws
+pub mod Places
+pub mod Lookups
+pub mod Scopes
+pub mod TableLaws

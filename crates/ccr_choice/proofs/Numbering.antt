@@ -1,9 +1,7 @@
 -- Numbers given in order of first use lie below how many are used.
-use Rattle.std.proofs.Common.{◌≡◌, ℕ, subst, zero, suc, slice_index_or, ◌+◌, ◌<◌, ◌≤◌, List, [], ◌∷◌, ◌++◌, Bool, true, false, ◌&&◌, ◌==◌, nat_le, cond, length, slice_index, get_or, EachIndex, arith, refl}
-use Rattle.std.proofs.lemmas.Grind.{common_steps}
-use Rattle.std.proofs.lemmas.Bool.Decides.{nat_tests}
+use Rattle.std.proofs.Common.{◌≡◌, ℕ, subst, zero, suc, slice_index_or, ◌+◌, ◌<◌, ◌≤◌, List, [], ◌∷◌, ◌++◌, Bool, true, ◌&&◌, length, slice_index, arith, refl}
 use Rattle.std.proofs.lemmas.Bool.{and_parts, leb-true, eqb-true}
-use Rattle.ccr_choice.specs.Problem.{ProblemValue, InputValue, input_at, no_input, next_used, used_after, are_numbered, is_input, are_inputs, jobs_after, scopes_after, is_problem}
+use Rattle.ccr_choice.specs.Problem.{ProblemValue, InputValue, input_at, no_input, next_used, used_after, are_numbered, are_inputs, jobs_after, scopes_after, is_problem}
 
 le-next_used : (used n : ℕ) → used ≤ next_used used n
 le-next_used used n = grind arith

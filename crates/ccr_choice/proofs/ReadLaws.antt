@@ -1,16 +1,14 @@
 -- The laws of a problem's text: what is read is written so, what is written so is read, and no text begins another.
-use Rattle.std.proofs.Common.{◌≡◌, ◌≢◌, ℕ, zero, suc, ◌+◌, ◌-◌, ◌*◌, ◌^◌, ◌<◌, ◌≤◌, List, [], ◌∷◌, ◌++◌, length, map, Bool, true, false, cond, ◌&&◌, ◌||◌, ◌==◌, nat_lt, nat_le, Result, Ok, Err, IfOk, IsTrue, ap, ◌∙◌, refl, sym, arith, length-append}
+use Rattle.std.proofs.Common.{◌≡◌, ℕ, ◌+◌, ◌^◌, ◌<◌, ◌≤◌, List, [], ◌∷◌, ◌++◌, length, map, true, Result, Ok, Err, IfOk, ap, ◌∙◌, refl, sym, arith}
 use Rattle.std.specs.List.{flat_map, list_all, AllByRecursion}
-use Rattle.std.proofs.lemmas.Bool.{and_parts, eqb-true, ltb-true, leb-true}
-use Rattle.std.proofs.lemmas.List.{append-nil}
+use Rattle.std.proofs.lemmas.Bool.{and_parts, ltb-true, leb-true}
 use Rattle.ccr_choice.specs.declared.text.word.Word.{Word}
-use Rattle.ccr_choice.specs.declared.text.word.Word.TheVariants.{Number, Problem, Inputs, Jobs, Places, Builds, Pairs, Proof, Best, Nothing, Job, Empty, Bounded, Other}
 use Rattle.ccr_choice.specs.declared.fault.ProblemFault.{ProblemFault}
 use Rattle.ccr_choice.specs.declared.fault.ProblemFault.TheVariants.{BadLine, Trailing, NoMemory}
-use Rattle.ccr_choice.specs.Problem.{InputValue, BuildValue, ProblemValue, IsProblem, is_problem, is_input, is_build, are_inputs, are_builds, are_builds_below, are_numbered, are_distinct, are_places_after, are_pairs_after, next_used, used_after, scopes_after, jobs_after}
-use Rattle.ccr_choice.specs.Text.{IsWord, lines_of, text_of}
-use Rattle.ccr_choice.specs.Reading.{Read, whole, number_words}
-use Rattle.ccr_choice.specs.ProblemText.{pair_words, input_line, build_line, job_lines, problem_lines, problem_text, problem_at, problem_of, IsRead, IsReadAs, NothingFollows}
+use Rattle.ccr_choice.specs.Problem.{InputValue, BuildValue, ProblemValue, IsProblem, is_problem, is_input, are_inputs, are_builds, are_builds_below, are_numbered, are_places_after, are_pairs_after, next_used, used_after, scopes_after}
+use Rattle.ccr_choice.specs.Text.{IsWord, lines_of}
+use Rattle.ccr_choice.specs.Reading.{whole, number_words}
+use Rattle.ccr_choice.specs.ProblemText.{pair_words, input_line, build_line, job_lines, problem_lines, problem_text, next_problem, problem_in, IsRead, IsReadAs, NothingFollows}
 use Rattle.ccr_choice.proofs.Texts.{IsLine}
 use Rattle.ccr_choice.proofs.Formats.{IsFormat, text_read, text_found, text_again, text_alone}
 use Rattle.ccr_choice.proofs.Bounds.{rules_of, next_used-more}
@@ -105,25 +103,25 @@ problem_spelled p h =
 
 -- ---- both ways
 -- a problem's lines are a format
-pub problem_lines_format : IsFormat problem_at problem_lines IsProblem
+pub problem_lines_format : IsFormat next_problem problem_lines IsProblem
 problem_lines_format =
     record { found = problem_found; again = λ p rest rules. problem_again p rest rules; spelled = λ p rules. problem_spelled p rules }
 
-problem_is : (bs : List ℕ) → problem_of bs ≡ whole BadLine Trailing (length (lines_of bs)) (problem_at (lines_of bs))
-unfolding problem_of
+problem_is : (bs : List ℕ) → problem_in bs ≡ whole BadLine Trailing (length (lines_of bs)) (next_problem (lines_of bs))
+unfolding problem_in
 problem_is bs = refl
 
 -- what is read keeps the rules
-pub problem_text_kept : (bs : List ℕ) (p : ProblemValue) → problem_of bs ≡ Ok p → is_problem p ≡ true
+pub problem_text_kept : (bs : List ℕ) (p : ProblemValue) → problem_in bs ≡ Ok p → is_problem p ≡ true
 problem_text_kept bs p h =
-    problem_kept (lines_of bs) (p, []) (text_read BadLine Trailing (length (lines_of bs)) (problem_at (lines_of bs)) p (sym (problem_is bs) ∙ h))
+    problem_kept (lines_of bs) (p, []) (text_read BadLine Trailing (length (lines_of bs)) (next_problem (lines_of bs)) p (sym (problem_is bs) ∙ h))
 
 -- what is read is written so
-pub problem_text_found : (bs : List ℕ) (p : ProblemValue) → is_problem p ≡ true → problem_of bs ≡ Ok p → bs ≡ problem_text p
+pub problem_text_found : (bs : List ℕ) (p : ProblemValue) → is_problem p ≡ true → problem_in bs ≡ Ok p → bs ≡ problem_text p
 problem_text_found bs p rules h = text_found problem_lines_format BadLine Trailing bs p rules (sym (problem_is bs) ∙ h)
 
 -- what is written is read so
-pub problem_text_again : (p : ProblemValue) → is_problem p ≡ true → problem_of (problem_text p) ≡ Ok p
+pub problem_text_again : (p : ProblemValue) → is_problem p ≡ true → problem_in (problem_text p) ≡ Ok p
 problem_text_again p rules = problem_is (problem_text p) ∙ text_again problem_lines_format BadLine Trailing p rules
 
 -- no problem's text begins another's
@@ -131,8 +129,8 @@ pub nothing_follows : (bs : List ℕ) (p : ProblemValue) → is_problem p ≡ tr
 nothing_follows bs p rules e q more rules' f = text_alone problem_lines_format bs p q more rules rules' e f
 
 -- a text of a problem is read as it, whatever the reader answers
-pub read_as : (result : Result ProblemValue ProblemFault) (bs : List ℕ) (p : ProblemValue) → IsRead result (problem_of bs) → is_problem p ≡ true → bs ≡ problem_text p → IsReadAs result p
-read_as result bs p h rules e = answered result (problem_of bs) (ap problem_of e ∙ problem_text_again p rules) h
+pub read_as : (result : Result ProblemValue ProblemFault) (bs : List ℕ) (p : ProblemValue) → IsRead result (problem_in bs) → is_problem p ≡ true → bs ≡ problem_text p → IsReadAs result p
+read_as result bs p h rules e = answered result (problem_in bs) (ap problem_in e ∙ problem_text_again p rules) h
   where
     answered : (result read : Result ProblemValue ProblemFault) → read ≡ Ok p → IsRead result read → IsReadAs result p
     answered (Ok q) read e h = cc
@@ -141,10 +139,10 @@ read_as result bs p h rules e = answered result (problem_of bs) (ap problem_of e
     answered (Err Trailing) read e h = cc
 
 -- the text of what was read
-pub found_of : (result : Result ProblemValue ProblemFault) (bs : List ℕ) → IsRead result (problem_of bs) → IfOk result IsProblem → IfOk result (λ p. bs ≡ problem_text p)
+pub found_of : (result : Result ProblemValue ProblemFault) (bs : List ℕ) → IsRead result (problem_in bs) → IfOk result IsProblem → IfOk result (λ p. bs ≡ problem_text p)
 found_of (Ok p) bs read kept = problem_text_found bs p kept read
 found_of (Err e) bs read kept = tt
 
-pub alone_of : (result : Result ProblemValue ProblemFault) (bs : List ℕ) → IsRead result (problem_of bs) → IfOk result IsProblem → IfOk result (λ _. NothingFollows bs)
+pub alone_of : (result : Result ProblemValue ProblemFault) (bs : List ℕ) → IsRead result (problem_in bs) → IfOk result IsProblem → IfOk result (λ _. NothingFollows bs)
 alone_of (Ok p) bs read kept = nothing_follows bs p kept (problem_text_found bs p kept read)
 alone_of (Err e) bs read kept = tt

@@ -1,6 +1,13 @@
 pub mod Problem
 pub mod Satisfies
 pub mod Later
+pub mod Preference
+pub mod Assignment
+pub mod Possible
+pub mod Optimal
+pub mod Table
+pub mod Ascending
 pub mod Text
 pub mod Reading
 pub mod ProblemText
+pub mod Words

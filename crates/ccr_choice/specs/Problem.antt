@@ -1,6 +1,7 @@
 -- What a problem and a choice are, without where they lie in memory, and the rules that every problem keeps.
 use Rattle.std.specs.Prelude.{ℕ, ◌+◌, List, [], ◌∷◌, length, slice_index_or, Bool, true, not, ◌&&◌, ◌||◌, ◌==◌, nat_lt, nat_le, IsTrue, if◌then◌else◌}
 use Rattle.std.specs.List.{list_any, list_all}
+use Rattle.ccr_choice.specs.declared.problem.TheConstants.{MOST_INPUTS, MOST_JOBS, MOST_PLACES, MOST_BUILDS}
 
 -- An input: the scope of its versions, its allowed places there, and the jobs that its version must have passed.
 pub record InputValue : Type 0 where
@@ -34,21 +35,6 @@ input_at p i = slice_index_or p.inputs i no_input
 abbrev pub builds_at : ProblemValue → ℕ → List BuildValue
 builds_at p j = slice_index_or p.jobs j []
 
--- ---- the limits
-abbrev pub most_inputs : ℕ
-most_inputs = 32
-
-abbrev pub most_jobs : ℕ
-most_jobs = 32
-
--- the greatest place of a scope
-abbrev pub most_places : ℕ
-most_places = 100000
-
--- the greatest number of a build, and how many builds a job has at the most
-abbrev pub most_builds : ℕ
-most_builds = 1000000
-
 -- ---- the rules
 -- Scopes and jobs are numbered 0, 1, 2 in order of first mention: how many are mentioned once n, a known or the next one, is.
 abbrev pub next_used : ℕ → ℕ → ℕ
@@ -62,7 +48,7 @@ used_after used (n ∷ ns) = used_after (next_used used n) ns
 -- Each job is one that was mentioned before or the next one, within the limit.
 abbrev pub are_numbered : ℕ → List ℕ → Bool
 are_numbered used [] = true
-are_numbered used (n ∷ ns) = nat_le n used && (nat_lt n most_jobs && are_numbered (next_used used n) ns)
+are_numbered used (n ∷ ns) = nat_le n used && (nat_lt n MOST_JOBS && are_numbered (next_used used n) ns)
 
 -- No number stands twice.
 abbrev pub are_distinct : List ℕ → Bool
@@ -72,14 +58,14 @@ are_distinct (n ∷ ns) = not (list_any (λ m. m == n) ns) && are_distinct ns
 -- Places strictly ascend, from above low to the greatest place.
 abbrev pub are_places_after : ℕ → List ℕ → Bool
 are_places_after low [] = true
-are_places_after low (n ∷ ns) = nat_lt low n && (nat_le n most_places && are_places_after n ns)
+are_places_after low (n ∷ ns) = nat_lt low n && (nat_le n MOST_PLACES && are_places_after n ns)
 
 -- Pairs strictly ascend by scope and then by place, from above the pair given; their scopes are those of inputs.
 abbrev pub are_pairs_after : ℕ → ℕ → ℕ → List (ℕ × ℕ) → Bool
 are_pairs_after scopes scope place [] = true
 are_pairs_after scopes scope place (p ∷ ps) =
     (nat_lt scope p.0 || (scope == p.0 && nat_lt place p.1))
-    && (nat_lt p.0 scopes && (nat_lt 0 p.1 && (nat_le p.1 most_places && are_pairs_after scopes p.0 p.1 ps)))
+    && (nat_lt p.0 scopes && (nat_lt 0 p.1 && (nat_le p.1 MOST_PLACES && are_pairs_after scopes p.0 p.1 ps)))
 
 -- An input's scope is one that was mentioned before or the next one; so are its jobs, none of them twice; its places ascend.
 abbrev pub is_input : ℕ → ℕ → InputValue → Bool
@@ -113,11 +99,11 @@ are_builds_below scopes high (b ∷ bs) = is_build scopes high b && are_builds_b
 
 -- The builds of one job.
 abbrev pub are_builds : ℕ → List BuildValue → Bool
-are_builds scopes bs = nat_le (length bs) most_builds && are_builds_below scopes (most_builds + 1) bs
+are_builds scopes bs = nat_le (length bs) MOST_BUILDS && are_builds_below scopes (MOST_BUILDS + 1) bs
 
 abbrev pub is_problem : ProblemValue → Bool
 is_problem p =
-    nat_le (length p.inputs) most_inputs
+    nat_le (length p.inputs) MOST_INPUTS
     && (are_inputs 0 0 p.inputs
     && (length p.jobs == jobs_after 0 p.inputs
     && list_all (are_builds (scopes_after 0 p.inputs)) p.jobs))

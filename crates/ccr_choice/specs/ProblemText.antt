@@ -1,17 +1,15 @@
 -- The text of a problem: how it is written, and how it is read from the first line to the last.
-use Rattle.std.specs.Prelude.{◌≡◌, ◌≢◌, ℕ, ◌+◌, List, [], ◌∷◌, ◌++◌, length, map, nat_le, Option, Some, None, option_and_then, Result, Ok, Err, ◌==◌, if◌then◌else◌}
+use Rattle.std.specs.Prelude.{◌≡◌, ℕ, ◌+◌, List, [], ◌∷◌, ◌++◌, length, map, nat_le, Option, Some, None, option_and_then, Result, Ok, Err, ◌==◌, if◌then◌else◌}
 use Rattle.std.specs.List.{flat_map}
 use Rattle.ccr_choice.specs.declared.text.word.Word.{Word}
 use Rattle.ccr_choice.specs.declared.text.word.Word.TheVariants.{Number, Problem, Inputs, Jobs, Places, Builds, Pairs}
+use Rattle.ccr_choice.specs.declared.problem.TheConstants.{MOST_INPUTS, MOST_BUILDS}
+use Rattle.ccr_choice.specs.declared.read.TheConstants.{PROBLEM_FORMAT}
 use Rattle.ccr_choice.specs.declared.fault.ProblemFault.{ProblemFault}
 use Rattle.ccr_choice.specs.declared.fault.ProblemFault.TheVariants.{BadLine, Trailing, NoMemory}
-use Rattle.ccr_choice.specs.Problem.{InputValue, BuildValue, ProblemValue, IsProblem, most_inputs, most_builds, next_used, used_after, is_input, is_build, scopes_after, jobs_after}
+use Rattle.ccr_choice.specs.Problem.{InputValue, BuildValue, ProblemValue, IsProblem, next_used, used_after, is_input, is_build, scopes_after, jobs_after}
 use Rattle.ccr_choice.specs.Text.{text_of, lines_of}
-use Rattle.ccr_choice.specs.Reading.{Read, ◌>>=◌, keep_if, one_line, many_at, whole, number_words, front_numbers, after_numbers}
-
--- the version of the format
-abbrev pub problem_format : ℕ
-problem_format = 1
+use Rattle.ccr_choice.specs.Reading.{Read, ◌>>=◌, keep_if, one_line, next_many, whole, number_words, front_numbers, after_numbers}
 
 -- ---- writing
 abbrev pub pair_words : List (ℕ × ℕ) → List Word
@@ -33,7 +31,7 @@ job_lines bs = (Builds ∷ Number (length bs) ∷ []) ∷ map build_line bs
 -- `problem 1`, `inputs N`, a line for each input, `jobs M`, and the lines of each job
 abbrev pub problem_lines : ProblemValue → List (List Word)
 problem_lines p =
-    (Problem ∷ Number problem_format ∷ []) ∷ (Inputs ∷ Number (length p.inputs) ∷ []) ∷
+    (Problem ∷ Number PROBLEM_FORMAT ∷ []) ∷ (Inputs ∷ Number (length p.inputs) ∷ []) ∷
     (map input_line p.inputs ++ (Jobs ∷ Number (length p.jobs) ∷ []) ∷ flat_map job_lines p.jobs)
 
 -- The one text of a problem.
@@ -41,23 +39,23 @@ abbrev pub problem_text : ProblemValue → List ℕ
 problem_text p = text_of (problem_lines p)
 
 -- ---- what a line says
-abbrev pub places_of : ℕ → List ℕ → List Word → Option InputValue
-places_of scope jobs (Places ∷ ws) =
+abbrev pub places_on : ℕ → List ℕ → List Word → Option InputValue
+places_on scope jobs (Places ∷ ws) =
     if length (after_numbers ws) == 0 then Some (record { scope = scope; places = front_numbers ws; jobs = jobs }) else None
-places_of scope jobs ws = None
+places_on scope jobs ws = None
 
-unfoldable pub input_of : List Word → Option InputValue
-input_of (Number scope ∷ Jobs ∷ ws) = places_of scope (front_numbers ws) (after_numbers ws)
-input_of ws = None
+unfoldable pub input_on : List Word → Option InputValue
+input_on (Number scope ∷ Jobs ∷ ws) = places_on scope (front_numbers ws) (after_numbers ws)
+input_on ws = None
 
-abbrev pub pairs_of : List Word → Option (List (ℕ × ℕ))
-pairs_of [] = Some []
-pairs_of (Number scope ∷ Number place ∷ ws) = option_and_then (λ ps. Some ((scope, place) ∷ ps)) (pairs_of ws)
-pairs_of ws = None
+abbrev pub pairs_on : List Word → Option (List (ℕ × ℕ))
+pairs_on [] = Some []
+pairs_on (Number scope ∷ Number place ∷ ws) = option_and_then (λ ps. Some ((scope, place) ∷ ps)) (pairs_on ws)
+pairs_on ws = None
 
-unfoldable pub build_of : List Word → Option BuildValue
-build_of (Number n ∷ Pairs ∷ ws) = option_and_then (λ ps. Some (record { number = n; pairs = ps })) (pairs_of ws)
-build_of ws = None
+unfoldable pub build_on : List Word → Option BuildValue
+build_on (Number n ∷ Pairs ∷ ws) = option_and_then (λ ps. Some (record { number = n; pairs = ps })) (pairs_on ws)
+build_on ws = None
 
 abbrev pub problem_number : List Word → Option ℕ
 problem_number (Problem ∷ Number n ∷ []) = Some n
@@ -76,70 +74,70 @@ builds_number (Builds ∷ Number n ∷ []) = Some n
 builds_number ws = None
 
 -- ---- reading, a line being bad where it says nothing or breaks a rule of problems
-abbrev pub head_of : List Word → Option ℕ
-head_of ws = keep_if (λ n. n == problem_format) (problem_number ws)
+abbrev pub problem_head : List Word → Option ℕ
+problem_head ws = keep_if (λ n. n == PROBLEM_FORMAT) (problem_number ws)
 
 abbrev pub input_count : List Word → Option ℕ
-input_count ws = keep_if (λ n. nat_le n most_inputs) (inputs_number ws)
+input_count ws = keep_if (λ n. nat_le n MOST_INPUTS) (inputs_number ws)
 
 abbrev pub job_count : ℕ → List Word → Option ℕ
 job_count mentioned ws = keep_if (λ n. n == mentioned) (jobs_number ws)
 
 abbrev pub build_count : List Word → Option ℕ
-build_count ws = keep_if (λ n. nat_le n most_builds) (builds_number ws)
+build_count ws = keep_if (λ n. nat_le n MOST_BUILDS) (builds_number ws)
 
 -- how many scopes and jobs are mentioned, before an input and after it
 abbrev pub next_counts : ℕ × ℕ → InputValue → ℕ × ℕ
 next_counts used i = (next_used used.0 i.scope, used_after used.1 i.jobs)
 
-unfoldable pub input_at : ℕ × ℕ → List (List Word) → Read InputValue
-input_at used = one_line (λ l. keep_if (is_input used.0 used.1) (input_of l))
+unfoldable pub next_input : ℕ × ℕ → List (List Word) → Read InputValue
+next_input used = one_line (λ l. keep_if (is_input used.0 used.1) (input_on l))
 
-unfoldable pub build_at : ℕ → ℕ → List (List Word) → Read BuildValue
-build_at scopes high = one_line (λ l. keep_if (is_build scopes high) (build_of l))
+unfoldable pub next_build : ℕ → ℕ → List (List Word) → Read BuildValue
+next_build scopes high = one_line (λ l. keep_if (is_build scopes high) (build_on l))
 
 -- so many inputs
-unfoldable pub inputs_at : ℕ → List (List Word) → Read (List InputValue)
-inputs_at n = many_at input_at next_counts n (0, 0)
+unfoldable pub next_inputs : ℕ → List (List Word) → Read (List InputValue)
+next_inputs n = next_many next_input next_counts n (0, 0)
 
 -- so many builds of one job
-unfoldable pub builds_at : ℕ → ℕ → List (List Word) → Read (List BuildValue)
-builds_at scopes n = many_at (build_at scopes) (λ high b. b.number) n (most_builds + 1)
+unfoldable pub next_builds : ℕ → ℕ → List (List Word) → Read (List BuildValue)
+next_builds scopes n = next_many (next_build scopes) (λ high b. b.number) n (MOST_BUILDS + 1)
 
 -- the builds of one job, behind the line with their number
-unfoldable pub job_at : ℕ → List (List Word) → Read (List BuildValue)
-job_at scopes ls = do
+unfoldable pub next_job : ℕ → List (List Word) → Read (List BuildValue)
+next_job scopes ls = do
   count ← one_line build_count ls
-  builds_at scopes count.0 count.1
+  next_builds scopes count.0 count.1
 
 -- the builds of so many jobs
-unfoldable pub jobs_at : ℕ → ℕ → List (List Word) → Read (List (List BuildValue))
-jobs_at scopes n = many_at job_at (λ s builds. s) n scopes
+unfoldable pub next_jobs : ℕ → ℕ → List (List Word) → Read (List (List BuildValue))
+next_jobs scopes n = next_many next_job (λ s builds. s) n scopes
 
-unfoldable pub problem_at : List (List Word) → Read ProblemValue
-problem_at ls = do
-  head ← one_line head_of ls
+unfoldable pub next_problem : List (List Word) → Read ProblemValue
+next_problem ls = do
+  head ← one_line problem_head ls
   count ← one_line input_count head.1
-  inputs ← inputs_at count.0 count.1
+  inputs ← next_inputs count.0 count.1
   jobs ← one_line (job_count (jobs_after 0 inputs.0)) inputs.1
-  builds ← jobs_at (scopes_after 0 inputs.0) jobs.0 jobs.1
+  builds ← next_jobs (scopes_after 0 inputs.0) jobs.0 jobs.1
   Ok (record { inputs = inputs.0; jobs = builds.0 }, builds.1)
 
 -- The problem that a text stands for, or why it stands for none: the first line from the top that breaks a rule, lacks its line
 -- feed or is missing, or more than a problem.
-unfoldable pub problem_of : List ℕ → Result ProblemValue ProblemFault
-problem_of bytes = whole BadLine Trailing (length (lines_of bytes)) (problem_at (lines_of bytes))
+unfoldable pub problem_in : List ℕ → Result ProblemValue ProblemFault
+problem_in bytes = whole BadLine Trailing (length (lines_of bytes)) (next_problem (lines_of bytes))
 
 -- ---- what is said of a reader's answer
-abbrev pub IsFault : {Y : Type 0} → ProblemFault → Result Y ProblemFault → Type 0
-IsFault NoMemory read = Unit {0}
-IsFault (BadLine n) read = read ≡ Err (BadLine n)
-IsFault Trailing read = read ≡ Err Trailing
+abbrev pub IsProblemFault : {Y : Type 0} → ProblemFault → Result Y ProblemFault → Type 0
+IsProblemFault NoMemory read = Unit {0}
+IsProblemFault (BadLine n) read = read ≡ Err (BadLine n)
+IsProblemFault Trailing read = read ≡ Err Trailing
 
 -- The answer is what reading gives, unless memory ran out.
 abbrev pub IsRead : Result ProblemValue ProblemFault → Result ProblemValue ProblemFault → Type 0
 IsRead (Ok p) read = read ≡ Ok p
-IsRead (Err e) read = IsFault e read
+IsRead (Err e) read = IsProblemFault e read
 
 -- The answer is this problem, unless memory ran out.
 abbrev pub IsReadAs : Result ProblemValue ProblemFault → ProblemValue → Type 0

@@ -33,11 +33,11 @@ one_line rule (l ∷ ls) = do
   Ok (x, ls)
 
 -- So many things, one after the other, where each may change what is asked of the next.
-abbrev pub many_at : {S A : Type 0} → (S → List (List Word) → Read A) → (S → A → S) → ℕ → S → List (List Word) → Read (List A)
-many_at item next zero s ls = Ok ([], ls)
-many_at item next (suc n) s ls = do
+abbrev pub next_many : {S A : Type 0} → (S → List (List Word) → Read A) → (S → A → S) → ℕ → S → List (List Word) → Read (List A)
+next_many item next zero s ls = Ok ([], ls)
+next_many item next (suc n) s ls = do
   x ← item s ls
-  more ← many_at item next n (next s x.0) x.1
+  more ← next_many item next n (next s x.0) x.1
   Ok (x.0 ∷ more.0, more.1)
 
 -- The whole text is read, and nothing is left; else the first bad line, counted from 1, or more than the text.

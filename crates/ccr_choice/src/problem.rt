@@ -167,7 +167,7 @@ impl Problem {
     pub fn inputs(&self) -> &[Input]
         ensures value { result.now ≡ self.now.inputs }
         ensures kept { IsProblem self.now }
-        ensures few { length result.now ≤ 32 }
+        ensures few { length result.now ≤ MOST_INPUTS }
     {
         &self.inputs
     }
@@ -176,7 +176,7 @@ impl Problem {
     pub fn jobs(&self) -> &[JobBuilds]
         ensures value { result.now ≡ self.now.jobs }
         ensures kept { IsProblem self.now }
-        ensures few { length result.now ≤ 32 }
+        ensures few { length result.now ≤ MOST_JOBS }
     {
         self.jobs.as_slice()
     }

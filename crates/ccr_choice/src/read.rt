@@ -4,7 +4,7 @@ ghost use Rattle.std.specs.Prelude.{◌≡◌, ◌+◌, ◌≤◌, Some, length,
 ghost use Rattle.std.specs.Option.{option_map};
 ghost use Rattle.ccr_choice.specs.Problem.{ProblemValue, IsProblem, used_after, scopes_after, jobs_after};
 ghost use Rattle.ccr_choice.specs.Reading.{one_line, Gives};
-ghost use Rattle.ccr_choice.specs.ProblemText.{input_of, pairs_of, build_of, input_at, build_at, inputs_at, builds_at, job_at, jobs_at, head_of, input_count, job_count, build_count, problem_at, problem_of, problem_text, IsRead, IsReadAs, NothingFollows};
+ghost use Rattle.ccr_choice.specs.ProblemText.{input_on, pairs_on, build_on, next_input, next_build, next_inputs, next_builds, next_job, next_jobs, problem_head, input_count, job_count, build_count, next_problem, problem_in, problem_text, IsRead, IsReadAs, NothingFollows};
 
 use crate::fault::ProblemFault;
 use crate::problem::{Build, Input, JobBuilds, MOST_BUILDS, MOST_INPUTS, Problem};
@@ -13,7 +13,7 @@ use crate::text::{Line, Lines, Stop, Word, front_numbers};
 use std::alloc::{AllocError, Global};
 
 /// The version of the format.
-pub(crate) const FORMAT: u32 = 1;
+pub(crate) const PROBLEM_FORMAT: u32 = 1;
 
 /// The next line, which must be there.
 fn next_line(alloc: Global, lines: &mut Lines<'_>) -> Result<Line, Stop>
@@ -32,9 +32,9 @@ fn bad_line(lines: &Lines<'_>) -> Stop
     Stop::Left(lines.count() + 1)
 }
 
-#[tactic(auto, unfolding(crate::specs::ProblemText::input_of))]
-fn input_of(alloc: Global, words: &[Word]) -> Result<Option<Input>, AllocError>
-    ensures { IfOk result (λ o. o ≡ input_of words.now) }
+#[tactic(auto, unfolding(crate::specs::ProblemText::input_on))]
+fn input_on(alloc: Global, words: &[Word]) -> Result<Option<Input>, AllocError>
+    ensures { IfOk result (λ o. o ≡ input_on words.now) }
 {
     let [Word::Number(scope), Word::Jobs, rest @ ..] = words else {
         return Ok(None);
@@ -50,8 +50,8 @@ fn input_of(alloc: Global, words: &[Word]) -> Result<Option<Input>, AllocError>
     Ok(Some(Input::new(*scope, jobs, places)))
 }
 
-fn pairs_of(alloc: Global, words: &[Word]) -> Result<Option<Vec<(u32, u32)>>, AllocError>
-    ensures { IfOk result (λ o. option_map (λ v. v.items) o ≡ pairs_of words.now) }
+fn pairs_on(alloc: Global, words: &[Word]) -> Result<Option<Vec<(u32, u32)>>, AllocError>
+    ensures { IfOk result (λ o. option_map (λ v. v.items) o ≡ pairs_on words.now) }
 {
     let mut pairs = Vec::with_capacity(alloc, words.len() / 2)?;
     let mut rest = words;
@@ -65,32 +65,32 @@ fn pairs_of(alloc: Global, words: &[Word]) -> Result<Option<Vec<(u32, u32)>>, Al
     Ok(Some(pairs))
 }
 
-#[tactic(auto, unfolding(crate::specs::ProblemText::build_of))]
-fn build_of(alloc: Global, words: &[Word]) -> Result<Option<Build>, AllocError>
-    ensures { IfOk result (λ o. o ≡ build_of words.now) }
+#[tactic(auto, unfolding(crate::specs::ProblemText::build_on))]
+fn build_on(alloc: Global, words: &[Word]) -> Result<Option<Build>, AllocError>
+    ensures { IfOk result (λ o. o ≡ build_on words.now) }
 {
     let [Word::Number(number), Word::Pairs, rest @ ..] = words else {
         return Ok(None);
     };
-    let Some(pairs) = pairs_of(alloc, rest)? else {
+    let Some(pairs) = pairs_on(alloc, rest)? else {
         return Ok(None);
     };
     Ok(Some(Build::new(*number, pairs)))
 }
 
 /// The next input, and how many jobs are mentioned after it.
-#[tactic(auto, unfolding(crate::specs::ProblemText::input_at))]
-fn input_at(
+#[tactic(auto, unfolding(crate::specs::ProblemText::next_input))]
+fn next_input(
     alloc: Global,
     scopes: u32,
     jobs: u32,
     lines: &mut Lines<'_>,
 ) -> Result<(Input, u32), Stop>
-    ensures read { Gives (λ x. (x.0, lines.new)) result (input_at (scopes, jobs) lines.old) }
+    ensures read { Gives (λ x. (x.0, lines.new)) result (next_input (scopes, jobs) lines.old) }
     ensures counted { IfOk result (λ x. x.1 ≡ used_after jobs x.0.jobs) }
 {
     let line = next_line(alloc, lines)?;
-    let Some(input) = input_of(alloc, line.words())? else {
+    let Some(input) = input_on(alloc, line.words())? else {
         return Err(bad_line(lines));
     };
     let Some(jobs) = jobs_after_input(scopes, jobs, &input) else {
@@ -99,12 +99,12 @@ fn input_at(
     Ok((input, jobs))
 }
 
-#[tactic(auto, unfolding(crate::specs::ProblemText::build_at))]
-fn build_at(alloc: Global, scopes: u32, high: u32, lines: &mut Lines<'_>) -> Result<Build, Stop>
-    ensures { Gives (λ x. (x, lines.new)) result (build_at scopes high lines.old) }
+#[tactic(auto, unfolding(crate::specs::ProblemText::next_build))]
+fn next_build(alloc: Global, scopes: u32, high: u32, lines: &mut Lines<'_>) -> Result<Build, Stop>
+    ensures { Gives (λ x. (x, lines.new)) result (next_build scopes high lines.old) }
 {
     let line = next_line(alloc, lines)?;
-    let Some(build) = build_of(alloc, line.words())? else {
+    let Some(build) = build_on(alloc, line.words())? else {
         return Err(bad_line(lines));
     };
     if !is_build(scopes, high, &build) {
@@ -121,9 +121,9 @@ struct Inputs {
     jobs: u32,
 }
 
-fn inputs_of(alloc: Global, count: u32, lines: &mut Lines<'_>) -> Result<Inputs, Stop>
-    requires { count ≤ 32 }
-    ensures read { Gives (λ x. (x.inputs.items, lines.new)) result (inputs_at count lines.old) }
+fn next_inputs(alloc: Global, count: u32, lines: &mut Lines<'_>) -> Result<Inputs, Stop>
+    requires { count ≤ MOST_INPUTS }
+    ensures read { Gives (λ x. (x.inputs.items, lines.new)) result (next_inputs count lines.old) }
     ensures scopes { IfOk result (λ x. x.scopes ≡ scopes_after 0 x.inputs.items) }
     ensures jobs { IfOk result (λ x. x.jobs ≡ jobs_after 0 x.inputs.items) }
 {
@@ -131,7 +131,7 @@ fn inputs_of(alloc: Global, count: u32, lines: &mut Lines<'_>) -> Result<Inputs,
     let mut scopes: u32 = 0;
     let mut jobs: u32 = 0;
     for _ in 0..count {
-        let (input, after) = input_at(alloc, scopes, jobs, lines)?;
+        let (input, after) = next_input(alloc, scopes, jobs, lines)?;
         jobs = after;
         scopes = next_used(scopes, input.scope());
         inputs.push(input)?;
@@ -143,44 +143,44 @@ fn inputs_of(alloc: Global, count: u32, lines: &mut Lines<'_>) -> Result<Inputs,
     })
 }
 
-fn builds_of(
+fn next_builds(
     alloc: Global,
     scopes: u32,
     count: u32,
     lines: &mut Lines<'_>,
 ) -> Result<Vec<Build>, Stop>
-    ensures { Gives (λ x. (x.items, lines.new)) result (builds_at scopes count lines.old) }
+    ensures { Gives (λ x. (x.items, lines.new)) result (next_builds scopes count lines.old) }
 {
     let mut builds = Vec::new(alloc);
     let mut high: u32 = MOST_BUILDS + 1;
     for _ in 0..count {
-        let build = build_at(alloc, scopes, high, lines)?;
+        let build = next_build(alloc, scopes, high, lines)?;
         high = build.number();
         builds.push(build)?;
     }
     Ok(builds)
 }
 
-#[tactic(auto, unfolding(crate::specs::ProblemText::job_at))]
-fn job_at(alloc: Global, scopes: u32, lines: &mut Lines<'_>) -> Result<JobBuilds, Stop>
-    ensures { Gives (λ x. (x, lines.new)) result (job_at scopes lines.old) }
+#[tactic(auto, unfolding(crate::specs::ProblemText::next_job))]
+fn next_job(alloc: Global, scopes: u32, lines: &mut Lines<'_>) -> Result<JobBuilds, Stop>
+    ensures { Gives (λ x. (x, lines.new)) result (next_job scopes lines.old) }
 {
     let count = build_count(alloc, lines)?;
-    let builds = builds_of(alloc, scopes, count, lines)?;
+    let builds = next_builds(alloc, scopes, count, lines)?;
     Ok(JobBuilds::new(builds))
 }
 
-fn jobs_of(
+fn next_jobs(
     alloc: Global,
     scopes: u32,
     count: u32,
     lines: &mut Lines<'_>,
 ) -> Result<Vec<JobBuilds>, Stop>
-    ensures { Gives (λ x. (x.items, lines.new)) result (jobs_at scopes count lines.old) }
+    ensures { Gives (λ x. (x.items, lines.new)) result (next_jobs scopes count lines.old) }
 {
     let mut jobs = Vec::new(alloc);
     for _ in 0..count {
-        let job = job_at(alloc, scopes, lines)?;
+        let job = next_job(alloc, scopes, lines)?;
         jobs.push(job)?;
     }
     Ok(jobs)
@@ -188,11 +188,11 @@ fn jobs_of(
 
 /// The line `problem 1`.
 fn head(alloc: Global, lines: &mut Lines<'_>) -> Result<u32, Stop>
-    ensures { Gives (λ x. (x, lines.new)) result (one_line head_of lines.old) }
+    ensures { Gives (λ x. (x, lines.new)) result (one_line problem_head lines.old) }
 {
     let line = next_line(alloc, lines)?;
     match line.words() {
-        [Word::Problem, Word::Number(n)] if *n == FORMAT => Ok(*n),
+        [Word::Problem, Word::Number(n)] if *n == PROBLEM_FORMAT => Ok(*n),
         _ => Err(bad_line(lines)),
     }
 }
@@ -200,7 +200,7 @@ fn head(alloc: Global, lines: &mut Lines<'_>) -> Result<u32, Stop>
 /// The line `inputs N`.
 fn input_count(alloc: Global, lines: &mut Lines<'_>) -> Result<u32, Stop>
     ensures read { Gives (λ x. (x, lines.new)) result (one_line input_count lines.old) }
-    ensures few { IfOk result (λ x. x ≤ 32) }
+    ensures few { IfOk result (λ x. x ≤ MOST_INPUTS) }
 {
     let line = next_line(alloc, lines)?;
     match line.words() {
@@ -233,26 +233,26 @@ fn build_count(alloc: Global, lines: &mut Lines<'_>) -> Result<u32, Stop>
 }
 
 /// The problem at the front.
-#[tactic(auto, unfolding(crate::specs::ProblemText::problem_at))]
-fn problem_at(alloc: Global, lines: &mut Lines<'_>) -> Result<Problem, Stop>
-    ensures read { Gives (λ x. (x, lines.new)) result (problem_at lines.old) }
+#[tactic(auto, unfolding(crate::specs::ProblemText::next_problem))]
+fn next_problem(alloc: Global, lines: &mut Lines<'_>) -> Result<Problem, Stop>
+    ensures read { Gives (λ x. (x, lines.new)) result (next_problem lines.old) }
     ensures kept { IfOk result IsProblem }
 {
     let _head = head(alloc, lines)?;
     let count = input_count(alloc, lines)?;
-    let front = inputs_of(alloc, count, lines)?;
+    let front = next_inputs(alloc, count, lines)?;
     let count = job_count(alloc, front.jobs, lines)?;
-    let jobs = jobs_of(alloc, front.scopes, count, lines)?;
+    let jobs = next_jobs(alloc, front.scopes, count, lines)?;
     Ok(Problem::new(front.inputs, jobs))
 }
 
-#[tactic(auto, unfolding(crate::specs::ProblemText::problem_of))]
+#[tactic(auto, unfolding(crate::specs::ProblemText::problem_in))]
 fn read_whole(alloc: Global, bytes: &[u8]) -> Result<Problem, ProblemFault>
-    ensures read { IsRead result (problem_of bytes.now) }
+    ensures read { IsRead result (problem_in bytes.now) }
     ensures kept { IfOk result IsProblem }
 {
     let mut lines = Lines::new(bytes);
-    match problem_at(alloc, &mut lines) {
+    match next_problem(alloc, &mut lines) {
         Ok(problem) => {
             if lines.is_empty() {
                 Ok(problem)
@@ -284,7 +284,7 @@ pub fn read_problem(alloc: Global, bytes: &[u8]) -> Result<Problem, ProblemFault
     ensures alone { IfOk result (λ _. NothingFollows bytes.now) }
 
     // A refusal is the first bad line, or more than a problem.
-    ensures exact { IsRead result (problem_of bytes.now) }
+    ensures exact { IsRead result (problem_in bytes.now) }
 {
     read_whole(alloc, bytes)
 }

@@ -6,6 +6,7 @@ ghost use Rattle.ccr_choice.specs.Satisfies.{Satisfies, Moved, IsAllowed, IsSucc
 
 use crate::choice::Choice;
 use crate::problem::{Build, Problem};
+use std::fmt;
 
 /// What is wrong with a choice first, if anything is.
 #[derive(Clone, Copy, Debug, PartialEq, Eq)]
@@ -22,7 +23,24 @@ pub enum Verdict {
     NotPassed(usize, usize),
 }
 
-fn has_place(places: &[u32], place: u32) -> bool
+impl fmt::Display for Verdict {
+    ghost use Rattle.std.specs.Prelude.{Some};
+    ghost use Rattle.ccr_choice.specs.Words.{verdict_words};
+
+    ghost output = { λ verdict. Some (verdict_words verdict) };
+
+    fn fmt<W: fmt::Write>(&self, f: &mut fmt::Formatter<W>) -> fmt::Result {
+        match self {
+            Verdict::Satisfies => write!(f, "satisfies"),
+            Verdict::WrongLength => write!(f, "wrong length"),
+            Verdict::NotAllowed(i) => write!(f, "input {i} not allowed"),
+            Verdict::NotSuccessful(j) => write!(f, "job {j} not successful"),
+            Verdict::NotPassed(i, j) => write!(f, "input {i} not passed job {j}"),
+        }
+    }
+}
+
+fn contains_place(places: &[u32], place: u32) -> bool
     ensures { IsTrue result ↔ Contains places.now place }
 {
     places.contains(&place)
@@ -34,7 +52,7 @@ fn has_build(builds: &[Build], number: u32) -> bool
     builds.iter().any(|b| b.number() == number)
 }
 
-fn has_pair(pairs: &[(u32, u32)], scope: u32, place: u32) -> bool
+fn contains_pair(pairs: &[(u32, u32)], scope: u32, place: u32) -> bool
     ensures { IsTrue result ↔ Contains pairs.now (scope, place) }
 {
     pairs.iter().any(|p| p.0 == scope && p.1 == place)
@@ -43,7 +61,7 @@ fn has_pair(pairs: &[(u32, u32)], scope: u32, place: u32) -> bool
 fn has_moved(builds: &[Build], number: u32, scope: u32, place: u32) -> bool
     ensures { IsTrue result ↔ Moved builds.now number (scope, place) }
 {
-    builds.iter().any(|b| b.number() == number && has_pair(b.pairs(), scope, place))
+    builds.iter().any(|b| b.number() == number && contains_pair(b.pairs(), scope, place))
 }
 
 #[tactic(auto, unfolding(crate::specs::Satisfies::IsAllowed))]
@@ -52,7 +70,7 @@ fn is_allowed(problem: &Problem, places: &[u32], i: usize) -> bool
     requires places { length places.now ≡ length problem.now.inputs }
     ensures { IsTrue result ↔ IsAllowed problem.now places.now i }
 {
-    has_place(problem.inputs()[i].places(), places[i])
+    contains_place(problem.inputs()[i].places(), places[i])
 }
 
 #[tactic(auto, unfolding(crate::specs::Satisfies::IsSuccessful))]

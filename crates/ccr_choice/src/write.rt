@@ -4,10 +4,10 @@ ghost use Rattle.std.specs.Prelude.{◌≡◌, ◌<◌, ◌≤◌, ◌++◌, ◌
 ghost use Rattle.std.specs.List.{flat_map, AllByRecursion};
 ghost use Rattle.ccr_choice.specs.declared.text.word.Word.TheVariants.{Number};
 ghost use Rattle.ccr_choice.specs.Text.{line_text, text_of};
-ghost use Rattle.ccr_choice.specs.ProblemText.{input_line, build_line, job_lines, problem_text, problem_of};
+ghost use Rattle.ccr_choice.specs.ProblemText.{input_line, build_line, job_lines, problem_text, problem_in};
 
-use crate::problem::{Build, Input, JobBuilds, Problem};
-use crate::read::FORMAT;
+use crate::problem::{Build, Input, JobBuilds, MOST_BUILDS, Problem};
+use crate::read::PROBLEM_FORMAT;
 use crate::text::{Word, push_numbers, put_line};
 use std::alloc::{AllocError, Global};
 
@@ -70,7 +70,7 @@ fn put_builds(alloc: Global, out: &mut String, builds: &[Build]) -> Result<(), A
 }
 
 fn put_job(alloc: Global, out: &mut String, job: &JobBuilds) -> Result<(), AllocError>
-    requires { length job.now ≤ 1000000 }
+    requires { length job.now ≤ MOST_BUILDS }
     ensures { OnOk result (string_bytes out.new ≡ string_bytes out.old ++ text_of (job_lines job.now)) }
 {
     let builds = job.builds();
@@ -79,7 +79,7 @@ fn put_job(alloc: Global, out: &mut String, job: &JobBuilds) -> Result<(), Alloc
 }
 
 fn put_jobs(alloc: Global, out: &mut String, jobs: &[JobBuilds]) -> Result<(), AllocError>
-    requires { AllByRecursion (λ bs. length bs ≤ 1000000) jobs.now }
+    requires { AllByRecursion (λ bs. length bs ≤ MOST_BUILDS) jobs.now }
     ensures { OnOk result (string_bytes out.new ≡ string_bytes out.old ++ text_of (flat_map job_lines jobs.now)) }
 {
     let mut rest = jobs;
@@ -93,12 +93,12 @@ fn put_jobs(alloc: Global, out: &mut String, jobs: &[JobBuilds]) -> Result<(), A
 /// The one text of a problem. Reading it gives the problem back.
 pub fn write_problem(alloc: Global, problem: &Problem) -> Result<String, AllocError>
     ensures text { IfOk result (λ s. string_bytes s ≡ problem_text problem.now) }
-    ensures again { IfOk result (λ s. problem_of (string_bytes s) ≡ Ok problem.now) }
+    ensures again { IfOk result (λ s. problem_in (string_bytes s) ≡ Ok problem.now) }
 {
     let inputs = problem.inputs();
     let jobs = problem.jobs();
     let mut out = String::new(alloc);
-    put_count(&mut out, Word::Problem, FORMAT)?;
+    put_count(&mut out, Word::Problem, PROBLEM_FORMAT)?;
     put_count(&mut out, Word::Inputs, inputs.len() as u32)?;
     put_inputs(alloc, &mut out, inputs)?;
     put_count(&mut out, Word::Jobs, jobs.len() as u32)?;

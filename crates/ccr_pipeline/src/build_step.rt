@@ -1,6 +1,6 @@
 //! The steps that tested text is built into, in their modifiers.
 ghost use Rattle.std.specs.Prelude.{◌≡◌, ◌++◌, [], map, codes, IfOk};
-ghost use Rattle.ccr_pipeline.specs.View.{view, items_view};
+ghost use Rattle.serde_json.specs.View.{view, items_view};
 ghost use Rattle.ccr_pipeline.specs.Keys.{at_key, or_else};
 ghost use Rattle.ccr_pipeline.specs.Meaning.{truth_from};
 ghost use Rattle.ccr_pipeline.specs.Tree.{tree_of, trees_of};
@@ -10,7 +10,7 @@ ghost use Rattle.ccr_pipeline.specs.Hooks.{hook_key};
 use crate::build::{get, put, task, truth};
 use crate::key::at_key;
 use crate::step::{Step, When};
-use crate::value::Value;
+use serde_json::Value;
 use std::alloc::{AllocError, Global};
 
 fn add_attempts(alloc: Global, value: &Value, step: Step) -> Result<Step, AllocError>

@@ -1,7 +1,7 @@
 //! The tests of a step's own keys.
 ghost use Rattle.std.specs.Prelude.{◌≡◌, ◌++◌, [], drop, codes, is_some, count_by, OnOk};
 ghost use Rattle.std.specs.List.{flat_map};
-ghost use Rattle.ccr_pipeline.specs.View.{view};
+ghost use Rattle.serde_json.specs.View.{view};
 ghost use Rattle.ccr_pipeline.specs.Faults.{unless, Checks, StartsWith, IsFirst, fault_of};
 ghost use Rattle.ccr_pipeline.specs.Keys.{at_key, or_else, path_below, path_at};
 ghost use Rattle.ccr_pipeline.specs.Kinds.{optional, required, broken, optional_keys, key_table};
@@ -14,8 +14,8 @@ use crate::fault::{ReadFault, Rule};
 use crate::key::{at_key, path_below, require, require_at};
 use crate::kind::{Kind, check_keys, optional, required};
 use crate::names::{Names, check_new_name};
-use crate::place::{MOST_TRIES, Part, Place};
-use crate::value::Value;
+use crate::place::{MOST_ATTEMPTS, MOST_TRIES, Part, Place};
+use serde_json::Value;
 use std::alloc::Global;
 
 /// How many of the keys stand in an object.
@@ -201,7 +201,7 @@ fn check_attempts(alloc: Global, step: &Value, path: &str, tries: u64) -> Result
         };
         return require_at(alloc, false, rule, path, "attempts");
     };
-    let fits = 1 <= n && n <= 100 && tries.saturating_mul(n) <= MOST_TRIES;
+    let fits = 1 <= n && n <= MOST_ATTEMPTS && tries.saturating_mul(n) <= MOST_TRIES;
     require_at(alloc, fits, Rule::Attempts, path, "attempts")
 }
 

@@ -1,6 +1,6 @@
 //! The tests of task files, inline task configs and task steps.
 ghost use Rattle.std.specs.Prelude.{◌≡◌, ◌++◌, [], codes, OnOk};
-ghost use Rattle.ccr_pipeline.specs.View.{view, items_view};
+ghost use Rattle.serde_json.specs.View.{view, items_view};
 ghost use Rattle.ccr_pipeline.specs.Faults.{unless, Checks, StartsWith, IsFirst, fault_of};
 ghost use Rattle.ccr_pipeline.specs.Keys.{at_key, or_else, path_below, path_at};
 ghost use Rattle.ccr_pipeline.specs.Kinds.{optional, required, broken, optional_keys, key_table};
@@ -11,7 +11,7 @@ use crate::fault::{ReadFault, Rule};
 use crate::key::{at_key, path_at, path_below, require, require_at};
 use crate::kind::{Kind, check, check_keys, optional, required};
 use crate::names::{Names, check_new_name, text_at};
-use crate::value::Value;
+use serde_json::Value;
 use std::alloc::Global;
 
 /// The two kinds of artifacts of a task.

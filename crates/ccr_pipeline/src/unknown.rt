@@ -1,7 +1,7 @@
 //! The second walk: names of resources and jobs that the pipeline doesn't have.
 ghost use Rattle.std.specs.Prelude.{◌≡◌, ◌++◌, [], drop, codes};
 ghost use Rattle.std.specs.List.{flat_map};
-ghost use Rattle.ccr_pipeline.specs.View.{view, items_view};
+ghost use Rattle.serde_json.specs.View.{view, items_view};
 ghost use Rattle.ccr_pipeline.specs.Faults.{unless, Checks, StartsWith, IsFirst, fault_of};
 ghost use Rattle.ccr_pipeline.specs.Keys.{at_key, or_else, path_below, path_at};
 ghost use Rattle.ccr_pipeline.specs.Names.{text_at, has_name};
@@ -13,7 +13,7 @@ use crate::fault::{ReadFault, Rule};
 use crate::key::{at_key, path_at, path_below, require_at};
 use crate::names::{Names, text_at};
 use crate::place::{Part, Place};
-use crate::value::Value;
+use serde_json::Value;
 use std::alloc::Global;
 
 /// The key that names the resource of a get or put: `resource`, or the key of its own name.

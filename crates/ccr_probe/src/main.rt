@@ -7,6 +7,7 @@
 //! `ccr_probe steps JOB` reads a pipeline in one line, the versions of the job's inputs in the next, and answers, one a line
 //! (`done`, `pushed VERSION`, `config CONFIG`, `failed`, `errored`): it prints what the build asks, and where it has ended, how.
 //! `ccr_probe builds JOB COUNT` reads the same first two lines, and starts so many builds of the job, which it holds all at once.
+//! `ccr_probe versions N` makes N versions of two short fields and holds them at once.
 //! With `--repeat N` behind these the call is made N times, and the whole time is printed on standard error. Statuses: 0 read,
 //! resolved or ended, 1 refused, 2 usage, 3 over budget, 4 out of memory or unreadable.
 #![tactic(auto)]
@@ -16,6 +17,7 @@ ghost use Rattle.std.specs.Prelude.{◌≤◌};
 mod answer;
 mod programs;
 mod steps;
+mod versions;
 
 use answer::{Answer, OVER_BUDGET, answer_pipeline, answer_resolve, answer_task};
 use programs::{Trial, answer_launch, answer_type};
@@ -25,6 +27,7 @@ use std::process::ExitCode;
 use std::time::Instant;
 use std::{env, io};
 use steps::{Playing, answer_steps};
+use versions::answer_versions;
 
 /// A node budget, from 1 to 1,000,000.
 #[derive(Clone, Copy, Debug, PartialEq, Eq)]
@@ -43,6 +46,7 @@ enum Call<'a> {
     Launch,
     Type(Trial<'a>),
     Steps(&'a str, Playing),
+    Versions(u32),
 }
 
 /// What the words ask for: a call, and how often it is made.
@@ -95,6 +99,10 @@ fn order_of(words: &[String]) -> Option<Order<'_>> {
             let count = count.as_str().parse::<u32>().ok()?;
             (Call::Steps(job.as_str(), Playing::Held(count)), rest)
         }
+        "versions" => {
+            let (count, rest) = rest.split_first()?;
+            (Call::Versions(count.as_str().parse::<u32>().ok()?), rest)
+        }
         "resolve" => {
             let (budget, rest) = rest.split_first()?;
             (Call::Resolve(budget_of(budget.as_str())?), rest)
@@ -114,6 +122,7 @@ fn answer_of(rt: &HostRuntime, call: Call, text: &[u8]) -> Result<Answer, AllocE
         Call::Launch => answer_launch(rt, alloc),
         Call::Type(trial) => answer_type(rt, alloc, text, &trial),
         Call::Steps(job, what) => answer_steps(alloc, text, job, what),
+        Call::Versions(count) => answer_versions(alloc, count),
     }
 }
 
@@ -149,7 +158,7 @@ fn main(rt: HostRuntime) -> io::Result<ExitCode> {
     };
     let Some(order) = order_of(&words) else {
         eprintln!(rt;
-            "usage: ccr_probe pipeline|task|resolve BUDGET|launch|type PROGRAMS FOLDER|steps JOB|builds JOB COUNT [--repeat N]"
+            "usage: ccr_probe pipeline|task|resolve BUDGET|launch|type PROGRAMS FOLDER|steps JOB|builds JOB COUNT|versions N [--repeat N]"
         )?;
         return Ok(ExitCode::from(2));
     };

@@ -185,8 +185,8 @@ fn value_of(alloc: Global, text: &str) -> Result<Option<Value>, AllocError> {
     }
 }
 
-fn version_in(value: &Value) -> Result<Option<Version>, AllocError> {
-    match Version::from_value(value) {
+fn version_in(alloc: Global, value: &Value) -> Result<Option<Version>, AllocError> {
+    match Version::from_value(alloc, value) {
         Ok(version) => Ok(Some(version)),
         Err(HistoryFault::NoMemory) => Err(AllocError),
         Err(HistoryFault::NotObject | HistoryFault::VersionNotText) => Ok(None),
@@ -197,7 +197,7 @@ fn pushed_of(alloc: Global, text: &str) -> Result<Option<Answered>, AllocError> 
     let Some(value) = value_of(alloc, text)? else {
         return Ok(None);
     };
-    match version_in(&value)? {
+    match version_in(alloc, &value)? {
         Some(version) => Ok(Some(Answered::Pushed(version))),
         None => Ok(None),
     }
@@ -236,7 +236,7 @@ fn versions_of(alloc: Global, line: &str) -> Result<Option<Vec<Version>>, AllocE
     };
     let mut versions = Vec::new(alloc);
     for member in members {
-        let Some(version) = version_in(member)? else {
+        let Some(version) = version_in(alloc, member)? else {
             return Ok(None);
         };
         versions.push(version)?;

@@ -13,7 +13,7 @@ use Rattle.ccr_choice.proofs.Keeps.{bind_ok, or_ok}
 use Rattle.ccr_choice.proofs.Found.{front-number_words, after-number_words, numbers_are, front-all, after-all, none_left}
 use Rattle.ccr_choice.proofs.Formats.{IsFormat, text_found, text_again, text_alone, text_read}
 use Rattle.ccr_proof.specs.Claim.{IsClaim}
-use Rattle.ccr_proof.specs.ClaimText.{claim_line, claim_lines, claim_text, builds_part, claim_of, claim_at, claim_in, IsRead, IsReadAs, NothingFollows}
+use Rattle.ccr_proof.specs.ClaimText.{claim_line, claim_lines, claim_text, builds_part, claim_on, next_claim, claim_in, IsRead, IsReadAs, NothingFollows}
 use Rattle.ccr_proof.specs.declared.claim.Claim.{Claim}
 use Rattle.ccr_proof.specs.declared.claim.Claim.TheVariants.{Best, Nothing}
 use Rattle.ccr_proof.specs.declared.fault.ClaimFault.{ClaimFault}
@@ -53,8 +53,8 @@ best_found ws c part =
     subst P (sym part.is)
     (ap (λ vs. word.Best ∷ vs) (numbers_are ws ∙ ap (λ vs. number_words (front_numbers ws) ++ vs) part.words), part.few)
 
-pub claim_found : (ws : List Word) (c : Claim) → claim_of ws ≡ Some c → (ws ≡ claim_line c) × AreFew c
-unfolding claim_of
+pub claim_found : (ws : List Word) (c : Claim) → claim_on ws ≡ Some c → (ws ≡ claim_line c) × AreFew c
+unfolding claim_on
 claim_found (word.Nothing ∷ []) c h = let P : Claim → Type 0 = λ d. (word.Nothing ∷ [] ≡ claim_line d) × AreFew d in let e : Nothing ≡ c = cc in subst P e (refl, tt)
 claim_found (word.Best ∷ ws) c h = best_found ws c (part_found (front_numbers ws) (after_numbers ws) c h)
 claim_found [] c h = cc
@@ -64,8 +64,8 @@ part_again : (places builds : List ℕ) → length places ≤ 32 → length buil
 part_again places builds few short =
     rw (front-all builds, after-all builds) (ap (λ t. cond t (Some (Best (record { places = places; builds = builds }))) None) (and_from _ _ (le-leb _ _ few) (and_from _ _ (le-leb _ _ short) refl)))
 
-pub claim_again : (c : Claim) → IsClaim c → claim_of (claim_line c) ≡ Some c
-unfolding claim_of
+pub claim_again : (c : Claim) → IsClaim c → claim_on (claim_line c) ≡ Some c
+unfolding claim_on
 claim_again Nothing h = refl
 claim_again (Best c) h =
     rw (front-number_words c.places (word.Builds ∷ number_words c.builds) refl, after-number_words c.places (word.Builds ∷ number_words c.builds) refl)
@@ -84,25 +84,25 @@ pub claim_spelled : (c : Claim) → IsClaim c → IsLine (claim_line c)
 claim_spelled Nothing h = (omega arith, (tt, tt))
 claim_spelled (Best c) h = (omega arith, (tt, spelled_numbers c.places _ h.0.1 (tt, spelled_last c.builds h.1.1)))
 
-pub one_found : (ls : List (List Word)) (x : Claim × List (List Word)) → claim_at ls ≡ Ok x → (ls ≡ claim_lines x.0 ++ x.1) × AreFew x.0
-unfolding claim_at
+pub one_found : (ls : List (List Word)) (x : Claim × List (List Word)) → next_claim ls ≡ Ok x → (ls ≡ claim_lines x.0 ++ x.1) × AreFew x.0
+unfolding next_claim
 one_found [] x h = cc
 one_found (l ∷ ls) x h =
-    let b = bind_ok (or_broken ls (claim_of l)) (λ y. Ok (y, ls)) x h in
+    let b = bind_ok (or_broken ls (claim_on l)) (λ y. Ok (y, ls)) x h in
     let e : (b.0, ls) ≡ x = cc in
     let f = claim_found l b.0 (or_ok _ ls b.0 b.1) in
     (ap (λ v. v ∷ ls) f.0 ∙ ap (λ p. claim_line p.0 ∷ p.1) e, let P : Claim × List (List Word) → Type 0 = λ p. AreFew p.0 in subst P e f.1)
 
-pub one_again : (c : Claim) (rest : List (List Word)) → IsClaim c → claim_at (claim_lines c ++ rest) ≡ Ok (c, rest)
-unfolding claim_at
+pub one_again : (c : Claim) (rest : List (List Word)) → IsClaim c → next_claim (claim_lines c ++ rest) ≡ Ok (c, rest)
+unfolding next_claim
 one_again c rest h = ap (λ o. or_broken rest o >>= λ y. Ok (y, rest)) (claim_again c h)
 
 -- a claim's line is a format
-pub claim_lines_format : IsFormat claim_at claim_lines IsClaim
+pub claim_lines_format : IsFormat next_claim claim_lines IsClaim
 claim_lines_format =
     record { found = λ ls x h. (one_found ls x h).0; again = one_again; spelled = λ c h. (claim_spelled c h, tt) }
 
-claim_is : (bs : List ℕ) → claim_in bs ≡ whole BadLine Trailing (length (lines_of bs)) (claim_at (lines_of bs))
+claim_is : (bs : List ℕ) → claim_in bs ≡ whole BadLine Trailing (length (lines_of bs)) (next_claim (lines_of bs))
 unfolding claim_in
 claim_is bs = refl
 
@@ -123,7 +123,7 @@ fit_claim (Best c) few h =
 
 claim_kept : (bs : List ℕ) (c : Claim) → claim_in bs ≡ Ok c → IsClaim c
 claim_kept bs c h =
-    let read = text_read BadLine Trailing (length (lines_of bs)) (claim_at (lines_of bs)) c (sym (claim_is bs) ∙ h) in
+    let read = text_read BadLine Trailing (length (lines_of bs)) (next_claim (lines_of bs)) c (sym (claim_is bs) ∙ h) in
     let f = one_found (lines_of bs) (c, []) read in
     let P : List (List Word) → Type 0 = λ ls. AllByRecursion (λ l. AllByRecursion IsFit l) ls in
     let fits = subst P f.0 (lines_fit bs) in

@@ -1,12 +1,5 @@
 pub mod ClaimLaws
-pub mod Members
-pub mod PossibleLaws
-pub mod PlainLaws
 pub mod Trees
 pub mod ReadTree
 pub mod ProofLaws
-pub mod Places
 pub mod Sound
-pub mod Lookups
-pub mod Scopes
-pub mod TableLaws

@@ -19,13 +19,13 @@ use Rattle.ccr_proof.specs.declared.halt.Halt.TheVariants.{Memory, Left, TooMany
 use Rattle.ccr_proof.specs.declared.proof_read.NodeLine.{NodeLine}
 use Rattle.ccr_proof.specs.declared.proof_read.NodeLine.TheVariants as line
 use Rattle.ccr_proof.specs.Claim.{IsClaim}
-use Rattle.ccr_proof.specs.ClaimText.{claim_line, claim_at}
+use Rattle.ccr_proof.specs.ClaimText.{claim_line, next_claim}
 use Rattle.ccr_proof.specs.Halts.{NodeRead, of_lines}
 use Rattle.ccr_proof.specs.Proof.{IsSmall, AreSmall, IsProof}
 use Rattle.ccr_proof.specs.ProofRead.{IsRead, IsReadAs}
 use Rattle.ccr_proof.proofs.ClaimLaws.{one_found, one_again, claim_spelled, fit_claim}
 use Rattle.ccr_proof.specs.Tree.{Tree, Trees, job, empty, bounded, no_child, child, width, count, count_all, levels, levels_all, tree_of}
-use Rattle.ccr_proof.specs.ProofText.{tree_lines, trees_lines, proof_lines, proof_text, head_of, node_line, by_line, next_node, children_at, tree_at, proof_at, whole_proof, proof_of, NothingFollows}
+use Rattle.ccr_proof.specs.ProofText.{tree_lines, trees_lines, proof_lines, proof_text, proof_head, node_on, by_line, next_node, next_children, next_tree, next_proof, whole_proof, proof_in, NothingFollows}
 use Rattle.ccr_proof.proofs.ReadTree.{job_at, tree_full, tree_next}
 
 -- ---- a node's line, both ways
@@ -38,24 +38,24 @@ guard : (b : Bool) (y x : NodeLine) → cond b (Some y) None ≡ Some x → y �
 guard true y x h = cc
 guard false y x h = cc
 
-line_found : (l : List Word) (x : NodeLine) → node_line l ≡ Some x → l ≡ line_words x
-unfolding node_line
+line_found : (l : List Word) (x : NodeLine) → node_on l ≡ Some x → l ≡ line_words x
+unfolding node_on
 line_found (word.Job ∷ word.Number j ∷ word.Number k ∷ []) x h = ap line_words (guard (nat_le k 1000000) (line.Job j k) x h)
 line_found (word.Empty ∷ word.Number i ∷ []) x h = let e : line.Empty i ≡ x = cc in ap line_words e
 line_found (word.Bounded ∷ []) x h = let e : line.Bounded ≡ x = cc in ap line_words e
 line_found [] x h = cc
 line_found (w ∷ ws) x h = cc
 
-job_again : (j k : ℕ) → k ≤ 1000000 → node_line (word.Job ∷ word.Number j ∷ word.Number k ∷ []) ≡ Some (line.Job j k)
-unfolding node_line
+job_again : (j k : ℕ) → k ≤ 1000000 → node_on (word.Job ∷ word.Number j ∷ word.Number k ∷ []) ≡ Some (line.Job j k)
+unfolding node_on
 job_again j k few = ap (λ b. cond b (Some (line.Job j k)) None) (le-leb k 1000000 few)
 
-empty_again : (i : ℕ) → node_line (word.Empty ∷ word.Number i ∷ []) ≡ Some (line.Empty i)
-unfolding node_line
+empty_again : (i : ℕ) → node_on (word.Empty ∷ word.Number i ∷ []) ≡ Some (line.Empty i)
+unfolding node_on
 empty_again i = refl
 
-bounded_again : node_line (word.Bounded ∷ []) ≡ Some line.Bounded
-unfolding node_line
+bounded_again : node_on (word.Bounded ∷ []) ≡ Some line.Bounded
+unfolding node_on
 bounded_again = refl
 
 -- ---- what was read is written so, and within the limits
@@ -71,15 +71,15 @@ record TreesFound (most k nodes : ℕ) (ls : List (List Word)) (x : Trees × Lis
   few : nodes + count_all x.0 ≤ 1000000
 
 children_found : (most : ℕ) (item : ℕ → List (List Word) → NodeRead Tree) → ((nodes : ℕ) (ls : List (List Word)) (x : Tree × List (List Word)) → item nodes ls ≡ Ok x → TreeFound most nodes ls x)
-    → (k nodes : ℕ) (ls : List (List Word)) (x : Trees × List (List Word)) → nodes ≤ 1000000 → children_at item k nodes ls ≡ Ok x → TreesFound most k nodes ls x
+    → (k nodes : ℕ) (ls : List (List Word)) (x : Trees × List (List Word)) → nodes ≤ 1000000 → next_children item k nodes ls ≡ Ok x → TreesFound most k nodes ls x
 children_found most item each zero nodes ls x within h =
     let e : (no_child, ls) ≡ x = cc in
     let P : Trees × List (List Word) → Type 0 = λ y. TreesFound most 0 nodes ls y in
     subst P e (record { lines = refl; wide = refl; shallow = omega arith; few = omega arith })
 children_found most item each (suc k) nodes ls x within h =
-    let one = bind_ok (item nodes ls) (λ t. children_at item k (nodes + count t.0) t.1 >>= λ ts. Ok (child t.0 ts.0, ts.1)) x h in
+    let one = bind_ok (item nodes ls) (λ t. next_children item k (nodes + count t.0) t.1 >>= λ ts. Ok (child t.0 ts.0, ts.1)) x h in
     let first = each nodes ls one.0 one.1 in
-    let two = bind_ok (children_at item k (nodes + count one.0.0) one.0.1) (λ ts. Ok (child one.0.0 ts.0, ts.1)) x one.2 in
+    let two = bind_ok (next_children item k (nodes + count one.0.0) one.0.1) (λ ts. Ok (child one.0.0 ts.0, ts.1)) x one.2 in
     let rest = children_found most item each k (nodes + count one.0.0) one.0.1 two.0 first.few two.1 in
     let e : (child one.0.0 two.0.0, two.0.1) ≡ x = cc (two.2) in
     let P : Trees × List (List Word) → Type 0 = λ y. TreesFound most (suc k) nodes ls y in
@@ -90,7 +90,7 @@ children_found most item each (suc k) nodes ls x within h =
       few = omega (arith, rest.few);
     })
 
-by_found : (most nodes : ℕ) (after : List (List Word)) (l : List Word) (o : Option NodeLine) (x : Tree × List (List Word)) → nodes < 1000000 → node_line l ≡ o
+by_found : (most nodes : ℕ) (after : List (List Word)) (l : List Word) (o : Option NodeLine) (x : Tree × List (List Word)) → nodes < 1000000 → node_on l ≡ o
     → ((j k : ℕ) → job_at most nodes j k after ≡ Ok x → TreeFound most nodes ((word.Job ∷ word.Number j ∷ word.Number k ∷ []) ∷ after) x)
     → by_line o after (job_at most nodes) ≡ Ok x → TreeFound most nodes (l ∷ after) x
 by_found most nodes after l None x few says children h = absurd (cc (h))
@@ -111,12 +111,12 @@ node_found : (most nodes : ℕ) (ls : List (List Word)) (x : Tree × List (List 
     → ((j k : ℕ) (after : List (List Word)) → job_at most nodes j k after ≡ Ok x → TreeFound most nodes ((word.Job ∷ word.Number j ∷ word.Number k ∷ []) ∷ after) x)
     → next_node ls (job_at most nodes) ≡ Ok x → TreeFound most nodes ls x
 node_found most nodes [] x few children h = absurd (cc (h))
-node_found most nodes (l ∷ ls) x few children h = by_found most nodes ls l (node_line l) x few refl (λ j k e. children j k ls e) h
+node_found most nodes (l ∷ ls) x few children h = by_found most nodes ls l (node_on l) x few refl (λ j k e. children j k ls e) h
 
-job_found : (most nodes j k : ℕ) (after : List (List Word)) (x : Tree × List (List Word)) → nodes < 1000000 → ((ts : Trees × List (List Word)) → children_at (tree_at most) k (nodes + 1) after ≡ Ok ts → TreesFound most k (nodes + 1) after ts)
+job_found : (most nodes j k : ℕ) (after : List (List Word)) (x : Tree × List (List Word)) → nodes < 1000000 → ((ts : Trees × List (List Word)) → next_children (next_tree most) k (nodes + 1) after ≡ Ok ts → TreesFound most k (nodes + 1) after ts)
     → job_at (suc most) nodes j k after ≡ Ok x → TreeFound (suc most) nodes ((word.Job ∷ word.Number j ∷ word.Number k ∷ []) ∷ after) x
 job_found most nodes j k after x few children h =
-    let b = bind_ok (children_at (tree_at most) k (nodes + 1) after) (λ ts. Ok (job j ts.0, ts.1)) x h in
+    let b = bind_ok (next_children (next_tree most) k (nodes + 1) after) (λ ts. Ok (job j ts.0, ts.1)) x h in
     let rest = children b.0 b.1 in
     let e : (job j b.0.0, b.0.1) ≡ x = cc (b.2) in
     let P : Tree × List (List Word) → Type 0 = λ y. TreeFound (suc most) nodes ((word.Job ∷ word.Number j ∷ word.Number k ∷ []) ∷ after) y in
@@ -126,7 +126,7 @@ job_found most nodes j k after x few children h =
       few = omega (arith, rest.few);
     })
 
-pub tree_found : (most nodes : ℕ) (ls : List (List Word)) (x : Tree × List (List Word)) → tree_at most nodes ls ≡ Ok x → TreeFound most nodes ls x
+pub tree_found : (most nodes : ℕ) (ls : List (List Word)) (x : Tree × List (List Word)) → next_tree most nodes ls ≡ Ok x → TreeFound most nodes ls x
 tree_found zero nodes ls x h =
     elim (cases_lt nodes 1000000) [
       | inl few ↦ node_found 0 nodes ls x few (λ j k after e. absurd (cc (e))) (sym (tree_next 0 nodes ls few) ∙ h)
@@ -135,7 +135,7 @@ tree_found zero nodes ls x h =
 tree_found (suc most) nodes ls x h =
     elim (cases_lt nodes 1000000) [
       | inl few ↦ node_found (suc most) nodes ls x few
-          (λ j k after e. job_found most nodes j k after x few (λ ts r. children_found most (tree_at most) (λ n l y s. tree_found most n l y s) k (nodes + 1) after ts (omega arith) r) e)
+          (λ j k after e. job_found most nodes j k after x few (λ ts r. children_found most (next_tree most) (λ n l y s. tree_found most n l y s) k (nodes + 1) after ts (omega arith) r) e)
           (sym (tree_next (suc most) nodes ls few) ∙ h)
       | inr full ↦ absurd (cc (h, tree_full (suc most) nodes ls full))
     ]
@@ -151,22 +151,22 @@ le-width no_child = omega arith
 le-width (child t ts) = omega (arith, some_nodes t, le-width ts)
 
 read_job : (most nodes j : ℕ) (ts : Trees) (rest : List (List Word)) → nodes < 1000000 → width ts ≤ 1000000
-    → children_at (tree_at most) (width ts) (nodes + 1) (trees_lines ts ++ rest) ≡ Ok (ts, rest) → tree_at (suc most) nodes (tree_lines (job j ts) ++ rest) ≡ Ok (job j ts, rest)
+    → next_children (next_tree most) (width ts) (nodes + 1) (trees_lines ts ++ rest) ≡ Ok (ts, rest) → next_tree (suc most) nodes (tree_lines (job j ts) ++ rest) ≡ Ok (job j ts, rest)
 read_job most nodes j ts rest few wide children =
     tree_next (suc most) nodes (tree_lines (job j ts) ++ rest) few
     ∙ ap (λ o. by_line o (trees_lines ts ++ rest) (job_at (suc most) nodes)) (job_again j (width ts) wide)
     ∙ ap (λ r. r >>= λ x. Ok (job j x.0, x.1)) children
 
-read_child : (most nodes : ℕ) (t : Tree) (ts : Trees) (rest : List (List Word)) → tree_at most nodes (tree_lines t ++ (trees_lines ts ++ rest)) ≡ Ok (t, trees_lines ts ++ rest)
-    → children_at (tree_at most) (width ts) (nodes + count t) (trees_lines ts ++ rest) ≡ Ok (ts, rest)
-    → children_at (tree_at most) (width (child t ts)) nodes (trees_lines (child t ts) ++ rest) ≡ Ok (child t ts, rest)
+read_child : (most nodes : ℕ) (t : Tree) (ts : Trees) (rest : List (List Word)) → next_tree most nodes (tree_lines t ++ (trees_lines ts ++ rest)) ≡ Ok (t, trees_lines ts ++ rest)
+    → next_children (next_tree most) (width ts) (nodes + count t) (trees_lines ts ++ rest) ≡ Ok (ts, rest)
+    → next_children (next_tree most) (width (child t ts)) nodes (trees_lines (child t ts) ++ rest) ≡ Ok (child t ts, rest)
 read_child most nodes t ts rest first others =
-    ap (children_at (tree_at most) (suc (width ts)) nodes) (append_assoc (tree_lines t) (trees_lines ts) rest)
-    ∙ ap (λ r. r >>= λ x. children_at (tree_at most) (width ts) (nodes + count x.0) x.1 >>= λ xs. Ok (child x.0 xs.0, xs.1)) first
+    ap (next_children (next_tree most) (suc (width ts)) nodes) (append_assoc (tree_lines t) (trees_lines ts) rest)
+    ∙ ap (λ r. r >>= λ x. next_children (next_tree most) (width ts) (nodes + count x.0) x.1 >>= λ xs. Ok (child x.0 xs.0, xs.1)) first
     ∙ ap (λ r. r >>= λ xs. Ok (child t xs.0, xs.1)) others
 
 mutual
-  pub tree_again : (t : Tree) (most nodes : ℕ) (rest : List (List Word)) → levels t ≤ most → nodes + count t ≤ 1000000 → tree_at most nodes (tree_lines t ++ rest) ≡ Ok (t, rest)
+  pub tree_again : (t : Tree) (most nodes : ℕ) (rest : List (List Word)) → levels t ≤ most → nodes + count t ≤ 1000000 → next_tree most nodes (tree_lines t ++ rest) ≡ Ok (t, rest)
   tree_again (job j ts) zero nodes rest shallow few = absurd (omega arith)
   tree_again (job j ts) (suc most) nodes rest shallow few =
       read_job most nodes j ts rest (omega arith) (omega (arith, le-width ts)) (trees_again ts most (nodes + 1) rest (omega arith) (omega arith))
@@ -176,7 +176,7 @@ mutual
       tree_next most nodes (tree_lines bounded ++ rest) (omega arith) ∙ ap (λ o. by_line o rest (job_at most nodes)) bounded_again
 
   trees_again : (ts : Trees) (most nodes : ℕ) (rest : List (List Word)) → levels_all ts ≤ most → nodes + count_all ts ≤ 1000000
-      → children_at (tree_at most) (width ts) nodes (trees_lines ts ++ rest) ≡ Ok (ts, rest)
+      → next_children (next_tree most) (width ts) nodes (trees_lines ts ++ rest) ≡ Ok (ts, rest)
   trees_again no_child most nodes rest shallow few = refl
   trees_again (child t ts) most nodes rest shallow few =
       read_child most nodes t ts rest (tree_again t most nodes (trees_lines ts ++ rest) (omega arith) (omega arith)) (trees_again ts most (nodes + count t) rest (omega arith) (omega arith))
@@ -219,15 +219,15 @@ head_kept : (b : Bool) (n m : ℕ) → cond b (Some n) None ≡ Some m → b ≡
 head_kept true n m h = refl
 head_kept false n m h = cc
 
-head_line : (l : List Word) (n : ℕ) → head_of l ≡ Some n → l ≡ word.Proof ∷ word.Number 1 ∷ []
+head_line : (l : List Word) (n : ℕ) → proof_head l ≡ Some n → l ≡ word.Proof ∷ word.Number 1 ∷ []
 head_line (word.Proof ∷ word.Number m ∷ []) n h = ap (λ k. word.Proof ∷ word.Number k ∷ []) (eqb-true m 1 (head_kept (m == 1) m n h))
 head_line [] n h = cc
 head_line (w ∷ ws) n h = cc
 
-head_found : (ls : List (List Word)) (x : ℕ × List (List Word)) → one_line head_of ls ≡ Ok x → ls ≡ (word.Proof ∷ word.Number 1 ∷ []) ∷ x.1
+head_found : (ls : List (List Word)) (x : ℕ × List (List Word)) → one_line proof_head ls ≡ Ok x → ls ≡ (word.Proof ∷ word.Number 1 ∷ []) ∷ x.1
 head_found [] x h = cc
 head_found (l ∷ ls) x h =
-    let b = bind_ok (or_broken ls (head_of l)) (λ y. Ok (y, ls)) x h in
+    let b = bind_ok (or_broken ls (proof_head l)) (λ y. Ok (y, ls)) x h in
     let e : (b.0, ls) ≡ x = cc (b.2) in
     ap (λ v. v ∷ ls) (head_line l b.0 (or_ok _ ls b.0 b.1)) ∙ ap (λ y. (word.Proof ∷ word.Number 1 ∷ []) ∷ y.1) e
 
@@ -238,14 +238,14 @@ record ProofFound (ls : List (List Word)) (x : (Claim × Tree) × List (List Wor
   shallow : levels x.0.1 ≤ 32
   few : count x.0.1 ≤ 1000000
 
-proof_found : (ls : List (List Word)) (x : (Claim × Tree) × List (List Word)) → proof_at ls ≡ Ok x → ProofFound ls x
-unfolding proof_at
+proof_found : (ls : List (List Word)) (x : (Claim × Tree) × List (List Word)) → next_proof ls ≡ Ok x → ProofFound ls x
+unfolding next_proof
 proof_found ls x h =
-    let one = bind_ok (of_lines (one_line head_of ls)) (λ head. of_lines (claim_at head.1) >>= λ claim. tree_at 32 0 claim.1 >>= λ tree. Ok ((claim.0, tree.0), tree.1)) x h in
-    let two = bind_ok (of_lines (claim_at one.0.1)) (λ claim. tree_at 32 0 claim.1 >>= λ tree. Ok ((claim.0, tree.0), tree.1)) x one.2 in
-    let three = bind_ok (tree_at 32 0 two.0.1) (λ tree. Ok ((two.0.0, tree.0), tree.1)) x two.2 in
-    let head = head_found ls one.0 (lines_ok (one_line head_of ls) one.0 one.1) in
-    let claim = one_found one.0.1 two.0 (lines_ok (claim_at one.0.1) two.0 two.1) in
+    let one = bind_ok (of_lines (one_line proof_head ls)) (λ head. of_lines (next_claim head.1) >>= λ claim. next_tree 32 0 claim.1 >>= λ tree. Ok ((claim.0, tree.0), tree.1)) x h in
+    let two = bind_ok (of_lines (next_claim one.0.1)) (λ claim. next_tree 32 0 claim.1 >>= λ tree. Ok ((claim.0, tree.0), tree.1)) x one.2 in
+    let three = bind_ok (next_tree 32 0 two.0.1) (λ tree. Ok ((two.0.0, tree.0), tree.1)) x two.2 in
+    let head = head_found ls one.0 (lines_ok (one_line proof_head ls) one.0 one.1) in
+    let claim = one_found one.0.1 two.0 (lines_ok (next_claim one.0.1) two.0 two.1) in
     let tree = tree_found 32 0 two.0.1 three.0 three.1 in
     let e : ((two.0.0, three.0.0), three.0.1) ≡ x = cc (three.2) in
     let P : (Claim × Tree) × List (List Word) → Type 0 = λ y. ProofFound ls y in
@@ -256,10 +256,10 @@ proof_found ls x h =
       few = omega (arith, tree.few);
     })
 
-proof_again : (x : Claim × Tree) (rest : List (List Word)) → IsProof x.0 x.1 → proof_at (proof_lines x ++ rest) ≡ Ok (x, rest)
-unfolding proof_at
+proof_again : (x : Claim × Tree) (rest : List (List Word)) → IsProof x.0 x.1 → next_proof (proof_lines x ++ rest) ≡ Ok (x, rest)
+unfolding next_proof
 proof_again x rest is =
-    ap (λ r. of_lines r >>= λ claim. tree_at 32 0 claim.1 >>= λ tree. Ok ((claim.0, tree.0), tree.1)) (one_again x.0 (tree_lines x.1 ++ rest) is.claim)
+    ap (λ r. of_lines r >>= λ claim. next_tree 32 0 claim.1 >>= λ tree. Ok ((claim.0, tree.0), tree.1)) (one_again x.0 (tree_lines x.1 ++ rest) is.claim)
     ∙ ap (λ r. r >>= λ tree. Ok ((x.0, tree.0), tree.1)) (tree_again x.1 32 0 rest is.shallow (omega (arith, is.few_nodes)))
 
 proof_spelled : (x : Claim × Tree) → IsProof x.0 x.1 → AllByRecursion IsLine (proof_lines x)
@@ -282,7 +282,7 @@ unfolding forget
 forget_ok r x h = ap forget h
 
 read_at : List (List Word) → Read (Claim × Tree)
-read_at ls = forget (proof_at ls)
+read_at ls = forget (next_proof ls)
 
 abbrev IsPair : Claim × Tree → Type 0
 IsPair x = IsProof x.0 x.1
@@ -290,14 +290,14 @@ IsPair x = IsProof x.0 x.1
 proof_format : IsFormat read_at proof_lines IsPair
 unfolding read_at
 proof_format = record {
-  found = λ ls x h. (proof_found ls x (remembered (proof_at ls) x h)).lines;
-  again = λ x rest is. forget_ok (proof_at (proof_lines x ++ rest)) (x, rest) (proof_again x rest is);
+  found = λ ls x h. (proof_found ls x (remembered (next_proof ls) x h)).lines;
+  again = λ x rest is. forget_ok (next_proof (proof_lines x ++ rest)) (x, rest) (proof_again x rest is);
   spelled = proof_spelled;
 }
 
 -- ---- the text
-proof_is : (bs : List ℕ) → proof_of bs ≡ whole_proof (length (lines_of bs)) (proof_at (lines_of bs))
-unfolding proof_of
+proof_is : (bs : List ℕ) → proof_in bs ≡ whole_proof (length (lines_of bs)) (next_proof (lines_of bs))
+unfolding proof_in
 proof_is bs = refl
 
 finished : (b : Bool) (x y : Claim × Tree) → cond b (Ok x) (Err Trailing) ≡ Ok y → (b ≡ true) × (x ≡ y)
@@ -317,43 +317,43 @@ whole_ok n (Ok y) x h =
     ap (λ q. Ok (q, y.1)) f.1 ∙ ap (λ ls. Ok (x, ls)) (no_line y.1 f.0)
 
 -- what is read keeps the limits
-pub proof_kept : (bs : List ℕ) (x : Claim × Tree) (rest : List (List Word)) → proof_at (lines_of bs) ≡ Ok (x, rest) → IsPair x
+pub proof_kept : (bs : List ℕ) (x : Claim × Tree) (rest : List (List Word)) → next_proof (lines_of bs) ≡ Ok (x, rest) → IsPair x
 proof_kept bs x rest h =
     let found = proof_found (lines_of bs) (x, rest) h in
     let fits = subst AreFit found.lines (lines_fit bs) in
     record { claim = found.short fits.1.0; numbers = (fit_tree x.1 rest fits.1.1).0; few_nodes = found.few; shallow = found.shallow }
 
-pub text_kept : (bs : List ℕ) (x : Claim × Tree) → proof_of bs ≡ Ok x → IsPair x
-text_kept bs x h = proof_kept bs x [] (whole_ok (length (lines_of bs)) (proof_at (lines_of bs)) x (sym (proof_is bs) ∙ h))
+pub text_kept : (bs : List ℕ) (x : Claim × Tree) → proof_in bs ≡ Ok x → IsPair x
+text_kept bs x h = proof_kept bs x [] (whole_ok (length (lines_of bs)) (next_proof (lines_of bs)) x (sym (proof_is bs) ∙ h))
 
-pub proof_text_found : (bs : List ℕ) (x : Claim × Tree) → proof_of bs ≡ Ok x → bs ≡ text_of (proof_lines x)
+pub proof_text_found : (bs : List ℕ) (x : Claim × Tree) → proof_in bs ≡ Ok x → bs ≡ text_of (proof_lines x)
 unfolding read_at
 proof_text_found bs x h =
-    let read = whole_ok (length (lines_of bs)) (proof_at (lines_of bs)) x (sym (proof_is bs) ∙ h) in
-    text_found proof_format (λ n. n) 0 bs x (text_kept bs x h) (ap (λ r. whole (λ n. n) 0 (length (lines_of bs)) r) (forget_ok (proof_at (lines_of bs)) (x, []) read))
+    let read = whole_ok (length (lines_of bs)) (next_proof (lines_of bs)) x (sym (proof_is bs) ∙ h) in
+    text_found proof_format (λ n. n) 0 bs x (text_kept bs x h) (ap (λ r. whole (λ n. n) 0 (length (lines_of bs)) r) (forget_ok (next_proof (lines_of bs)) (x, []) read))
 
-pub proof_text_again : (x : Claim × Tree) → IsPair x → proof_of (text_of (proof_lines x)) ≡ Ok x
+pub proof_text_again : (x : Claim × Tree) → IsPair x → proof_in (text_of (proof_lines x)) ≡ Ok x
 unfolding read_at
 proof_text_again x is =
     let bs = text_of (proof_lines x) in
     let read = text_read (λ n. n) 0 (length (lines_of bs)) (read_at (lines_of bs)) x (text_again proof_format (λ n. n) 0 x is) in
-    proof_is bs ∙ ap (whole_proof (length (lines_of bs))) (remembered (proof_at (lines_of bs)) (x, []) read)
+    proof_is bs ∙ ap (whole_proof (length (lines_of bs))) (remembered (next_proof (lines_of bs)) (x, []) read)
 
 -- ---- what read_proof and write_proof promise
-pub kept_of : (result : Result Proof ProofFault) (bs : List ℕ) → IsRead result (proof_of bs) → IfOk result (λ p. IsProof p.claim (tree_of p.tree))
+pub kept_of : (result : Result Proof ProofFault) (bs : List ℕ) → IsRead result (proof_in bs) → IfOk result (λ p. IsProof p.claim (tree_of p.tree))
 kept_of (Ok p) bs read = text_kept bs (p.claim, tree_of p.tree) read
 kept_of (Err e) bs read = tt
 
-pub found_of : (result : Result Proof ProofFault) (bs : List ℕ) → IsRead result (proof_of bs) → IfOk result (λ p. bs ≡ proof_text p.claim (tree_of p.tree))
+pub found_of : (result : Result Proof ProofFault) (bs : List ℕ) → IsRead result (proof_in bs) → IfOk result (λ p. bs ≡ proof_text p.claim (tree_of p.tree))
 found_of (Ok p) bs read = proof_text_found bs (p.claim, tree_of p.tree) read
 found_of (Err e) bs read = tt
 
-pub alone_of : (result : Result Proof ProofFault) (bs : List ℕ) → IsRead result (proof_of bs) → IfOk result (λ _. NothingFollows bs)
+pub alone_of : (result : Result Proof ProofFault) (bs : List ℕ) → IsRead result (proof_in bs) → IfOk result (λ _. NothingFollows bs)
 alone_of (Ok p) bs read = λ c t more is f. text_alone proof_format bs (p.claim, tree_of p.tree) (c, t) more (text_kept bs (p.claim, tree_of p.tree) read) is (proof_text_found bs (p.claim, tree_of p.tree) read) f
 alone_of (Err e) bs read = tt
 
-pub read_as : (result : Result Proof ProofFault) (bs : List ℕ) (c : Claim) (t : Tree) → IsRead result (proof_of bs) → IsProof c t → bs ≡ proof_text c t → IsReadAs result c t
-read_as result bs c t h is e = answered result (proof_of bs) (ap proof_of e ∙ proof_text_again (c, t) is) h
+pub read_as : (result : Result Proof ProofFault) (bs : List ℕ) (c : Claim) (t : Tree) → IsRead result (proof_in bs) → IsProof c t → bs ≡ proof_text c t → IsReadAs result c t
+read_as result bs c t h is e = answered result (proof_in bs) (ap proof_in e ∙ proof_text_again (c, t) is) h
   where
     answered : (result : Result Proof ProofFault) (read : Result (Claim × Tree) ProofFault) → read ≡ Ok (c, t) → IsRead result read → IsReadAs result c t
     answered (Ok p) read e h =

@@ -11,26 +11,26 @@ use Rattle.ccr_proof.specs.declared.proof_read.NodeLine.TheVariants as line
 use Rattle.ccr_proof.specs.Halts.{NodeRead, Halts, GivesNode}
 use Rattle.ccr_proof.specs.Tree.{Tree, Trees, job, no_child, child, count, count_all, tree_of, trees_of}
 use Rattle.ccr_proof.proofs.Trees.{tree_of_job}
-use Rattle.ccr_proof.specs.ProofText.{node_line, by_line, next_node, children_at, tree_at}
+use Rattle.ccr_proof.specs.ProofText.{node_on, by_line, next_node, next_children, next_tree}
 
 -- what is read behind a job's line
 abbrev pub job_at : ℕ → ℕ → ℕ → ℕ → List (List Word) → NodeRead Tree
 job_at zero nodes j k after = Err (Left (suc (length after)))
-job_at (suc levels) nodes j k after = children_at (tree_at levels) k (nodes + 1) after >>= λ ts. Ok (job j ts.0, ts.1)
+job_at (suc levels) nodes j k after = next_children (next_tree levels) k (nodes + 1) after >>= λ ts. Ok (job j ts.0, ts.1)
 
-pub tree_full : (levels nodes : ℕ) (ls : List (List Word)) → 1000000 ≤ nodes → tree_at levels nodes ls ≡ Err TooMany
+pub tree_full : (levels nodes : ℕ) (ls : List (List Word)) → 1000000 ≤ nodes → next_tree levels nodes ls ≡ Err TooMany
 tree_full zero nodes ls full = cond-true (nat_le 1000000 nodes) _ _ (le-leb 1000000 nodes full)
 tree_full (suc levels) nodes ls full = cond-true (nat_le 1000000 nodes) _ _ (le-leb 1000000 nodes full)
 
-pub tree_next : (levels nodes : ℕ) (ls : List (List Word)) → nodes < 1000000 → tree_at levels nodes ls ≡ next_node ls (job_at levels nodes)
+pub tree_next : (levels nodes : ℕ) (ls : List (List Word)) → nodes < 1000000 → next_tree levels nodes ls ≡ next_node ls (job_at levels nodes)
 tree_next zero nodes ls few = cond-false (nat_le 1000000 nodes) _ _ (false_from_ne_true _ (λ e. let le = leb-true 1000000 nodes e in omega (arith, le, few)))
 tree_next (suc levels) nodes ls few = cond-false (nat_le 1000000 nodes) _ _ (false_from_ne_true _ (λ e. let le = leb-true 1000000 nodes e in omega (arith, le, few)))
 
-pub tree_none : (levels nodes : ℕ) (ls : List (List Word)) → nodes < 1000000 → ls ≡ [] → tree_at levels nodes ls ≡ Err (Left 0)
+pub tree_none : (levels nodes : ℕ) (ls : List (List Word)) → nodes < 1000000 → ls ≡ [] → next_tree levels nodes ls ≡ Err (Left 0)
 tree_none levels nodes ls few none = tree_next levels nodes ls few ∙ ap (λ xs. next_node xs (job_at levels nodes)) none
 
-pub tree_line : (levels nodes : ℕ) (ls rest : List (List Word)) (l : List Word) (o : Option NodeLine) → nodes < 1000000 → ls ≡ l ∷ rest → o ≡ node_line l
-    → tree_at levels nodes ls ≡ by_line o rest (job_at levels nodes)
+pub tree_line : (levels nodes : ℕ) (ls rest : List (List Word)) (l : List Word) (o : Option NodeLine) → nodes < 1000000 → ls ≡ l ∷ rest → o ≡ node_on l
+    → next_tree levels nodes ls ≡ by_line o rest (job_at levels nodes)
 tree_line levels nodes ls rest l o few is says =
     tree_next levels nodes ls few ∙ ap (λ xs. next_node xs (job_at levels nodes)) is ∙ ap (λ x. by_line x rest (job_at levels nodes)) (sym says)
 
@@ -38,11 +38,11 @@ pub job_none : (levels nodes j k : ℕ) (after : List (List Word)) → levels �
 job_none zero nodes j k after e = refl
 job_none (suc levels) nodes j k after e = absurd (omega (arith, e))
 
-pub job_some : (levels nodes j k : ℕ) (after : List (List Word)) → 0 < levels → job_at levels nodes j k after ≡ (children_at (tree_at (levels - 1)) k (nodes + 1) after >>= λ ts. Ok (job j ts.0, ts.1))
+pub job_some : (levels nodes j k : ℕ) (after : List (List Word)) → 0 < levels → job_at levels nodes j k after ≡ (next_children (next_tree (levels - 1)) k (nodes + 1) after >>= λ ts. Ok (job j ts.0, ts.1))
 job_some zero nodes j k after some = absurd (omega arith)
 job_some (suc levels) nodes j k after some =
     let e : levels ≡ suc levels - 1 = omega arith in
-    ap (λ n. children_at (tree_at n) k (nodes + 1) after >>= λ ts. Ok (job j ts.0, ts.1)) e
+    ap (λ n. next_children (next_tree n) k (nodes + 1) after >>= λ ts. Ok (job j ts.0, ts.1)) e
 
 -- ---- children, one after the other
 abbrev pub onto : List Node → Trees → Trees
@@ -70,56 +70,56 @@ with_push cs c (Ok x) = ap (λ ts. Ok (ts, x.1)) (sym (onto-push cs c x.0))
 with_push cs c (Err e) = refl
 
 pub children_start : (item : ℕ → List (List Word) → NodeRead Tree) (k n nodes m : ℕ) (cs : List Node) (ls : List (List Word)) → n ≡ k → m ≡ nodes → cs ≡ []
-    → with_children cs (children_at item n m ls) ≡ children_at item k nodes ls
+    → with_children cs (next_children item n m ls) ≡ next_children item k nodes ls
 children_start item k n nodes m cs ls same now none =
-    ap (λ xs. with_children xs (children_at item n m ls)) none ∙ with_none (children_at item n m ls) ∙ ap (λ x. children_at item x m ls) same ∙ ap (λ x. children_at item k x ls) now
+    ap (λ xs. with_children xs (next_children item n m ls)) none ∙ with_none (next_children item n m ls) ∙ ap (λ x. next_children item x m ls) same ∙ ap (λ x. next_children item k x ls) now
 
 pub children_step : (item : ℕ → List (List Word) → NodeRead Tree) (n k nodes next : ℕ) (cs more : List Node) (ls rest : List (List Word)) (c : Node) (all : NodeRead Trees)
     → n ≡ suc k → item nodes ls ≡ Ok (tree_of c, rest) → next ≡ nodes + count (tree_of c) → more ≡ cs ++ c ∷ []
-    → with_children cs (children_at item n nodes ls) ≡ all → with_children more (children_at item k next rest) ≡ all
+    → with_children cs (next_children item n nodes ls) ≡ all → with_children more (next_children item k next rest) ≡ all
 children_step item n k nodes next cs more ls rest c all same read counted grown whole =
-    ap (λ xs. with_children xs (children_at item k next rest)) grown
-    ∙ ap (λ m. with_children (cs ++ c ∷ []) (children_at item k m rest)) counted
-    ∙ sym (with_push cs c (children_at item k (nodes + count (tree_of c)) rest))
-    ∙ ap (λ r. with_children cs (r >>= λ t. children_at item k (nodes + count t.0) t.1 >>= λ ts. Ok (child t.0 ts.0, ts.1))) (sym read)
-    ∙ ap (λ m. with_children cs (children_at item m nodes ls)) (sym same)
+    ap (λ xs. with_children xs (next_children item k next rest)) grown
+    ∙ ap (λ m. with_children (cs ++ c ∷ []) (next_children item k m rest)) counted
+    ∙ sym (with_push cs c (next_children item k (nodes + count (tree_of c)) rest))
+    ∙ ap (λ r. with_children cs (r >>= λ t. next_children item k (nodes + count t.0) t.1 >>= λ ts. Ok (child t.0 ts.0, ts.1))) (sym read)
+    ∙ ap (λ m. with_children cs (next_children item m nodes ls)) (sym same)
     ∙ whole
 
 -- a child that isn't read ends it
 pub children_stop : (item : ℕ → List (List Word) → NodeRead Tree) (n k nodes : ℕ) (cs : List Node) (ls : List (List Word)) (h : Halt) (all : NodeRead Trees)
-    → n ≡ suc k → item nodes ls ≡ Err h → with_children cs (children_at item n nodes ls) ≡ all → all ≡ Err h
+    → n ≡ suc k → item nodes ls ≡ Err h → with_children cs (next_children item n nodes ls) ≡ all → all ≡ Err h
 children_stop item n k nodes cs ls h all same read whole =
-    sym whole ∙ ap (λ m. with_children cs (children_at item m nodes ls)) same
-    ∙ ap (λ r. with_children cs (r >>= λ t. children_at item k (nodes + count t.0) t.1 >>= λ ts. Ok (child t.0 ts.0, ts.1))) read
+    sym whole ∙ ap (λ m. with_children cs (next_children item m nodes ls)) same
+    ∙ ap (λ r. with_children cs (r >>= λ t. next_children item k (nodes + count t.0) t.1 >>= λ ts. Ok (child t.0 ts.0, ts.1))) read
 
 pub children_done : (item : ℕ → List (List Word) → NodeRead Tree) (n nodes : ℕ) (cs : List Node) (ls : List (List Word)) (all : NodeRead Trees)
-    → n ≡ 0 → with_children cs (children_at item n nodes ls) ≡ all → all ≡ Ok (trees_of cs, ls)
+    → n ≡ 0 → with_children cs (next_children item n nodes ls) ≡ all → all ≡ Ok (trees_of cs, ls)
 children_done item n nodes cs ls all none whole =
-    sym whole ∙ ap (λ m. with_children cs (children_at item m nodes ls)) none ∙ ap (λ ts. Ok (ts, ls)) (onto-none cs)
+    sym whole ∙ ap (λ m. with_children cs (next_children item m nodes ls)) none ∙ ap (λ ts. Ok (ts, ls)) (onto-none cs)
 
 pub count_push : (cs : List Node) (c : Node) → count_all (trees_of (cs ++ c ∷ [])) ≡ count_all (trees_of cs) + count (tree_of c)
 count_push [] c = omega arith
 count_push (x ∷ cs) c = omega (arith, count_push cs c)
 
 -- ---- a job's line with its children
-module _ (levels nodes j k : ℕ) (ls after : List (List Word)) (l : List Word) (few : nodes < 1000000) (is : ls ≡ l ∷ after) (says : Some (line.Job j k) ≡ node_line l) (some : 0 < levels) where
-  job_reads : tree_at levels nodes ls ≡ (children_at (tree_at (levels - 1)) k (nodes + 1) after >>= λ ts. Ok (job j ts.0, ts.1))
+module _ (levels nodes j k : ℕ) (ls after : List (List Word)) (l : List Word) (few : nodes < 1000000) (is : ls ≡ l ∷ after) (says : Some (line.Job j k) ≡ node_on l) (some : 0 < levels) where
+  job_reads : next_tree levels nodes ls ≡ (next_children (next_tree (levels - 1)) k (nodes + 1) after >>= λ ts. Ok (job j ts.0, ts.1))
   job_reads = tree_line levels nodes ls after l (Some (line.Job j k)) few is says ∙ job_some levels nodes j k after some
 
   pub job_done : (n now : ℕ) (cs : List Node) (children : Vec Node Global) (rest : List (List Word)) → n ≡ 0 → cs ≡ children.items
-      → with_children cs (children_at (tree_at (levels - 1)) n now rest) ≡ children_at (tree_at (levels - 1)) k (nodes + 1) after
-      → tree_at levels nodes ls ≡ Ok (tree_of (Job j children), rest)
+      → with_children cs (next_children (next_tree (levels - 1)) n now rest) ≡ next_children (next_tree (levels - 1)) k (nodes + 1) after
+      → next_tree levels nodes ls ≡ Ok (tree_of (Job j children), rest)
   job_done n now cs children rest none same whole =
       job_reads
-      ∙ ap (λ r. r >>= λ ts. Ok (job j ts.0, ts.1)) (children_done (tree_at (levels - 1)) n now cs rest _ none whole)
+      ∙ ap (λ r. r >>= λ ts. Ok (job j ts.0, ts.1)) (children_done (next_tree (levels - 1)) n now cs rest _ none whole)
       ∙ ap (λ xs. Ok (job j (trees_of xs), rest)) same
       ∙ ap (λ t. Ok (t, rest)) (sym (tree_of_job j children))
 
-  pub job_stop : (n m now : ℕ) (cs : List Node) (rest : List (List Word)) (h : Halt) → n ≡ suc m → tree_at (levels - 1) now rest ≡ Err h
-      → with_children cs (children_at (tree_at (levels - 1)) n now rest) ≡ children_at (tree_at (levels - 1)) k (nodes + 1) after
-      → tree_at levels nodes ls ≡ Err h
+  pub job_stop : (n m now : ℕ) (cs : List Node) (rest : List (List Word)) (h : Halt) → n ≡ suc m → next_tree (levels - 1) now rest ≡ Err h
+      → with_children cs (next_children (next_tree (levels - 1)) n now rest) ≡ next_children (next_tree (levels - 1)) k (nodes + 1) after
+      → next_tree levels nodes ls ≡ Err h
   job_stop n m now cs rest h same read whole =
-      job_reads ∙ ap (λ r. r >>= λ ts. Ok (job j ts.0, ts.1)) (children_stop (tree_at (levels - 1)) n m now cs rest h _ same read whole)
+      job_reads ∙ ap (λ r. r >>= λ ts. Ok (job j ts.0, ts.1)) (children_stop (next_tree (levels - 1)) n m now cs rest h _ same read whole)
 
 pub halts_on : {A B : Type 0} (h : Halt) (r : Result A Halt) (s : Result B Halt) → (r ≡ Err h → s ≡ Err h) → Halts h r → Halts h s
 halts_on Memory r s on stops = tt

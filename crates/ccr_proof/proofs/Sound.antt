@@ -8,14 +8,15 @@ use Rattle.ccr_choice.proofs.Bounds.{builds_kept}
 use Rattle.ccr_choice.proofs.Numbering.{named_below}
 use Rattle.ccr_proof.specs.declared.claim.Claim.{Claim}
 use Rattle.ccr_proof.specs.declared.claim.Claim.TheVariants.{Best, Nothing}
-use Rattle.ccr_proof.specs.Preference.{Preference, IsOrder, IsBetter}
-use Rattle.ccr_proof.specs.Assignment.{Assignment, nothing_fixed, with_build, Agrees}
-use Rattle.ccr_proof.specs.Possible.{IsPossible, best_possible, best_places, IsBestPossible}
+use Rattle.ccr_choice.specs.Preference.{Preference, IsOrder, IsBetter}
+use Rattle.ccr_choice.specs.Assignment.{Assignment, nothing_fixed, with_build, Agrees}
+use Rattle.ccr_choice.specs.Possible.{IsPossible, IsBestPossible}
+use Rattle.ccr_choice.proofs.BestPlaces.{best_possible, best_places}
 use Rattle.ccr_proof.specs.Tree.{Tree, Trees, job, empty, bounded, no_child, child}
 use Rattle.ccr_proof.specs.Refutes.{HasNoPlace, IsBounded, Refutes, RefuteEach, IsAccepted}
-use Rattle.ccr_proof.specs.Optimal.{IsRight}
-use Rattle.ccr_proof.proofs.Members.{contains_none, contains_first, contains_later, contains_cases, any_none, any_cases, any_more}
-use Rattle.ccr_proof.proofs.PossibleLaws.{best_is, length-best_places, best_places_at}
+use Rattle.ccr_proof.specs.Right.{IsRight}
+use Rattle.ccr_choice.proofs.Members.{contains_none, contains_first, contains_later, contains_cases, any_none, any_cases, any_more}
+use Rattle.ccr_choice.proofs.PossibleLaws.{best_is, length-best_places, best_places_at, bounded_by}
 
 -- ---- builds are told apart by their numbers
 pub below_high : (scopes high : ℕ) (bs : List BuildValue) (b : BuildValue) → are_builds_below scopes high bs ≡ true → Contains bs b → b.number < high
@@ -147,7 +148,7 @@ module _ (prefers : Preference) (order : IsOrder prefers) (p : ProblemValue) (ru
   pub bounded_holds : (a : Assignment) (bound : Option (List ℕ)) → AreKnown a → IsBounded prefers p bound a → Holds bound a
   bounded_holds a None known h places builds sat agrees = h
   bounded_holds a (Some bound) known h places builds sat agrees = λ better.
-      h (still_better a places (place_possible a places builds known agrees sat) bound better sat.lengths.place_each 0 (omega arith) better (omega arith) (λ k below. absurd (omega arith)) better.first (omega arith))
+      (bounded_by prefers order p a bound).1 h (still_better a places (place_possible a places builds known agrees sat) bound better sat.lengths.place_each 0 (omega arith) better (omega arith) (λ k below. absurd (omega arith)) better.first (omega arith))
 
   empty_holds : (a : Assignment) (bound : Option (List ℕ)) (i : ℕ) → AreKnown a → HasNoPlace p a i → Holds bound a
   empty_holds a bound i known h places builds sat agrees = absurd (h.1 (slice_index places i) (place_possible a places builds known agrees sat i h.0))
@@ -175,18 +176,18 @@ module _ (prefers : Preference) (order : IsOrder prefers) (p : ProblemValue) (ru
     refutes_holds bound a (empty i) known h = empty_holds a bound i known h
     refutes_holds bound a bounded known h = bounded_holds a bound known h
     refutes_holds bound a (job j ts) known h = λ places builds sat agrees.
-        each_holds bound a j (builds_at p j) ts known (λ b among. among) h.2 places builds sat agrees (successful_one builds j (sat.successful j h.0))
+        each_holds bound a j ts 0 (builds_at p j) ts known (λ b among. among) h.2 places builds sat agrees (successful_one builds j (sat.successful j h.0))
 
-    each_holds : (bound : Option (List ℕ)) (a : Assignment) (j : ℕ) (bs : List BuildValue) (ts : Trees) → AreKnown a → ((b : BuildValue) → Contains bs b → Contains (builds_at p j) b)
-        → RefuteEach prefers p bound a j bs ts → (places builds : List ℕ) → Satisfies p places builds → Agrees a builds → Any (λ b. b.number ≡ slice_index builds j) bs → IsNoBetter bound places
-    each_holds bound a j [] no_child known those h places builds sat agrees one = absurd (any_none (λ b. b.number ≡ slice_index builds j) one)
-    each_holds bound a j (b ∷ bs) (child t ts) known those h places builds sat agrees one =
+    each_holds : (bound : Option (List ℕ)) (a : Assignment) (j : ℕ) (all : Trees) (k : ℕ) (bs : List BuildValue) (ts : Trees) → AreKnown a → ((b : BuildValue) → Contains bs b → Contains (builds_at p j) b)
+        → RefuteEach prefers p bound a j all k bs ts → (places builds : List ℕ) → Satisfies p places builds → Agrees a builds → Any (λ b. b.number ≡ slice_index builds j) bs → IsNoBetter bound places
+    each_holds bound a j all k [] no_child known those h places builds sat agrees one = absurd (any_none (λ b. b.number ≡ slice_index builds j) one)
+    each_holds bound a j all k (b ∷ bs) (child t ts) known those h places builds sat agrees one =
         elim (any_cases (λ c. c.number ≡ slice_index builds j) b bs one) [
           | inl here ↦ refutes_holds bound (with_build a j b) t (known_with a j b known (those b (contains_first b bs))) h.0 places builds sat (agrees_with a j b builds agrees (sym here))
-          | inr there ↦ each_holds bound a j bs ts known (λ c among. those c (contains_later b c bs among)) h.1 places builds sat agrees there
+          | inr there ↦ each_holds bound a j all (k + 1) bs ts known (λ c among. those c (contains_later b c bs among)) h.1 places builds sat agrees there
         ]
-    each_holds bound a j [] (child t ts) known those h places builds sat agrees one = absurd h
-    each_holds bound a j (b ∷ bs) no_child known those h places builds sat agrees one = absurd h
+    each_holds bound a j all k [] (child t ts) known those h places builds sat agrees one = absurd h
+    each_holds bound a j all k (b ∷ bs) no_child known those h places builds sat agrees one = absurd h
 
   pub none_known : AreKnown nothing_fixed
   none_known j b e = absurd (cc (e))

@@ -1,12 +1,13 @@
 -- What is said of a problem.
 use Rattle.std.specs.Prelude.{ℕ, ◌<◌, ◌≤◌, ◌^◌, List, length}
 use Rattle.std.specs.List.{AllByRecursion}
+use Rattle.ccr_proof.specs.declared.claim.TheConstants.{MOST_NUMBERS}
 use Rattle.ccr_proof.specs.declared.claim.Claim.{Claim}
 use Rattle.ccr_proof.specs.declared.claim.Claim.TheVariants.{Best, Nothing}
 
--- At most 32 numbers, each below 2 ^ 32.
+-- A list that isn't long, of numbers below 2 ^ 32.
 abbrev pub IsShort : List ℕ → Type 0
-IsShort ns = (length ns ≤ 32) × AllByRecursion (λ n. n < 2 ^ 32) ns
+IsShort ns = (length ns ≤ MOST_NUMBERS) × AllByRecursion (λ n. n < 2 ^ 32) ns
 
 -- A claim that has a text: no list is long.
 abbrev pub IsClaim : Claim → Type 0

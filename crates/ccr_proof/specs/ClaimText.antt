@@ -5,6 +5,7 @@ use Rattle.ccr_choice.specs.declared.text.word.Word.TheVariants as word
 use Rattle.ccr_choice.specs.Text.{text_of, lines_of}
 use Rattle.ccr_choice.specs.Reading.{Read, one_line, whole, number_words, front_numbers, after_numbers}
 use Rattle.ccr_proof.specs.Claim.{IsClaim}
+use Rattle.ccr_proof.specs.declared.claim.TheConstants.{MOST_NUMBERS}
 use Rattle.ccr_proof.specs.declared.claim.Claim.{Claim}
 use Rattle.ccr_proof.specs.declared.claim.Claim.TheVariants.{Best, Nothing}
 use Rattle.ccr_proof.specs.declared.fault.ClaimFault.{ClaimFault}
@@ -27,34 +28,34 @@ claim_text c = text_of (claim_lines c)
 -- ---- reading
 abbrev pub builds_part : List ℕ → List Word → Option Claim
 builds_part places (word.Builds ∷ ws) =
-    if nat_le (length places) 32 && (nat_le (length (front_numbers ws)) 32 && length (after_numbers ws) == 0)
+    if nat_le (length places) MOST_NUMBERS && (nat_le (length (front_numbers ws)) MOST_NUMBERS && length (after_numbers ws) == 0)
     then Some (Best (record { places = places; builds = front_numbers ws })) else None
 builds_part places ws = None
 
 -- What a claim's line says.
-unfoldable pub claim_of : List Word → Option Claim
-claim_of (word.Nothing ∷ []) = Some Nothing
-claim_of (word.Best ∷ ws) = builds_part (front_numbers ws) (after_numbers ws)
-claim_of ws = None
+unfoldable pub claim_on : List Word → Option Claim
+claim_on (word.Nothing ∷ []) = Some Nothing
+claim_on (word.Best ∷ ws) = builds_part (front_numbers ws) (after_numbers ws)
+claim_on ws = None
 
 -- the claim on the next line
-unfoldable pub claim_at : List (List Word) → Read Claim
-claim_at = one_line claim_of
+unfoldable pub next_claim : List (List Word) → Read Claim
+next_claim = one_line claim_on
 
 -- The claim that a text stands for, or why it stands for none.
 unfoldable pub claim_in : List ℕ → Result Claim ClaimFault
-claim_in bytes = whole BadLine Trailing (length (lines_of bytes)) (claim_at (lines_of bytes))
+claim_in bytes = whole BadLine Trailing (length (lines_of bytes)) (next_claim (lines_of bytes))
 
 -- ---- what is said of a reader's answer
-abbrev pub IsFault : {Y : Type 0} → ClaimFault → Result Y ClaimFault → Type 0
-IsFault NoMemory read = Unit {0}
-IsFault (BadLine n) read = read ≡ Err (BadLine n)
-IsFault Trailing read = read ≡ Err Trailing
+abbrev pub IsClaimFault : {Y : Type 0} → ClaimFault → Result Y ClaimFault → Type 0
+IsClaimFault NoMemory read = Unit {0}
+IsClaimFault (BadLine n) read = read ≡ Err (BadLine n)
+IsClaimFault Trailing read = read ≡ Err Trailing
 
 -- The answer is what reading gives, unless memory ran out.
 abbrev pub IsRead : Result Claim ClaimFault → Result Claim ClaimFault → Type 0
 IsRead (Ok c) read = read ≡ Ok c
-IsRead (Err e) read = IsFault e read
+IsRead (Err e) read = IsClaimFault e read
 
 -- The answer is this claim, unless memory ran out.
 abbrev pub IsReadAs : Result Claim ClaimFault → Claim → Type 0

@@ -1,14 +1,10 @@
 pub mod Claim
 pub mod ClaimText
-pub mod Preference
-pub mod Assignment
-pub mod Possible
 pub mod Tree
 pub mod Refutes
-pub mod Optimal
+pub mod Right
 pub mod Proof
 pub mod Halts
 pub mod ProofText
 pub mod ProofRead
-pub mod Table
-pub mod Ascending
+pub mod Words

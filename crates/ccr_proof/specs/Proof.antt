@@ -3,6 +3,7 @@ use Rattle.std.specs.Prelude.{ℕ, ◌<◌, ◌≤◌, ◌^◌, List, [], ◌∷
 use Rattle.std.specs.List.{AllByRecursion}
 use Rattle.std.specs.Coded.{×_prop, Unit-prop, le_prop}
 use Rattle.ccr_proof.specs.declared.claim.Claim.{Claim}
+use Rattle.ccr_proof.specs.declared.proof.TheConstants.{MOST_NODES, MOST_LEVELS}
 use Rattle.ccr_proof.specs.declared.claim.Claim.TheVariants.{Best, Nothing}
 use Rattle.ccr_proof.specs.Claim.{IsClaim}
 use Rattle.ccr_proof.specs.Tree.{Tree, Trees, job, empty, bounded, no_child, child, count, levels}
@@ -23,8 +24,8 @@ abbrev mutual
 pub record IsProof (c : Claim) (t : Tree) : Type 0 where
   pub claim : IsClaim c
   pub numbers : IsSmall t
-  pub few_nodes : count t ≤ 1000000
-  pub shallow : levels t ≤ 32
+  pub few_nodes : count t ≤ MOST_NODES
+  pub shallow : levels t ≤ MOST_LEVELS
 
 -- ---- that a claim is short can be shown in one way only
 all-prop : (ns : List ℕ) → IsProp (AllByRecursion (λ n. n < 2 ^ 32) ns)

@@ -5,27 +5,17 @@ use Rattle.ccr_choice.specs.declared.text.word.Word.TheVariants as word
 use Rattle.ccr_choice.specs.Text.{text_of, lines_of}
 use Rattle.ccr_choice.specs.Reading.{◌>>=◌, keep_if, one_line}
 use Rattle.ccr_proof.specs.declared.claim.Claim.{Claim}
+use Rattle.ccr_proof.specs.declared.proof.TheConstants.{MOST_NODES, MOST_LEVELS}
+use Rattle.ccr_proof.specs.declared.proof_read.TheConstants.{PROOF_FORMAT}
 use Rattle.ccr_proof.specs.declared.fault.ProofFault.{ProofFault}
 use Rattle.ccr_proof.specs.declared.fault.ProofFault.TheVariants.{BadLine, TooManyNodes, Trailing, NoMemory}
 use Rattle.ccr_proof.specs.declared.halt.Halt.TheVariants.{Memory, Left, TooMany}
 use Rattle.ccr_proof.specs.declared.proof_read.NodeLine.{NodeLine}
 use Rattle.ccr_proof.specs.declared.proof_read.NodeLine.TheVariants as line
-use Rattle.ccr_proof.specs.ClaimText.{claim_line, claim_at}
+use Rattle.ccr_proof.specs.ClaimText.{claim_line, next_claim}
 use Rattle.ccr_proof.specs.Halts.{NodeRead, of_lines}
 use Rattle.ccr_proof.specs.Tree.{Tree, Trees, job, empty, bounded, no_child, child, width, count}
 use Rattle.ccr_proof.specs.Proof.{IsProof}
-
--- the version of the format
-abbrev pub proof_format : ℕ
-proof_format = 1
-
--- how many nodes a tree has at the most, and how many children a node
-abbrev pub most_nodes : ℕ
-most_nodes = 1000000
-
--- how many job nodes may lie below one another
-abbrev pub most_levels : ℕ
-most_levels = 32
 
 -- ---- writing
 -- A tree in preorder, one node a line: `job J K` with K children, whose trees follow; `empty I`; `bounded`.
@@ -41,7 +31,7 @@ abbrev mutual
 
 -- `proof 1`, the claim's line, and the lines of the tree
 abbrev pub proof_lines : Claim × Tree → List (List Word)
-proof_lines x = (word.Proof ∷ word.Number proof_format ∷ []) ∷ claim_line x.0 ∷ tree_lines x.1
+proof_lines x = (word.Proof ∷ word.Number PROOF_FORMAT ∷ []) ∷ claim_line x.0 ∷ tree_lines x.1
 
 -- The one text of a claim with a tree.
 abbrev pub proof_text : Claim → Tree → List ℕ
@@ -52,15 +42,15 @@ abbrev pub proof_number : List Word → Option ℕ
 proof_number (word.Proof ∷ word.Number n ∷ []) = Some n
 proof_number ws = None
 
-abbrev pub head_of : List Word → Option ℕ
-head_of ws = keep_if (λ n. n == proof_format) (proof_number ws)
+abbrev pub proof_head : List Word → Option ℕ
+proof_head ws = keep_if (λ n. n == PROOF_FORMAT) (proof_number ws)
 
 -- What a node's line says.
-unfoldable pub node_line : List Word → Option NodeLine
-node_line (word.Job ∷ word.Number j ∷ word.Number k ∷ []) = if nat_le k most_nodes then Some (line.Job j k) else None
-node_line (word.Empty ∷ word.Number i ∷ []) = Some (line.Empty i)
-node_line (word.Bounded ∷ []) = Some line.Bounded
-node_line ws = None
+unfoldable pub node_on : List Word → Option NodeLine
+node_on (word.Job ∷ word.Number j ∷ word.Number k ∷ []) = if nat_le k MOST_NODES then Some (line.Job j k) else None
+node_on (word.Empty ∷ word.Number i ∷ []) = Some (line.Empty i)
+node_on (word.Bounded ∷ []) = Some line.Bounded
+node_on ws = None
 
 abbrev pub by_line : Option NodeLine → List (List Word) → (ℕ → ℕ → List (List Word) → NodeRead Tree) → NodeRead Tree
 by_line None ls children = Err (Left (suc (length ls)))
@@ -71,29 +61,29 @@ by_line (Some line.Bounded) ls children = Ok (bounded, ls)
 -- a node on the next line, with what is read where it has children
 abbrev pub next_node : List (List Word) → (ℕ → ℕ → List (List Word) → NodeRead Tree) → NodeRead Tree
 next_node [] children = Err (Left 0)
-next_node (l ∷ ls) children = by_line (node_line l) ls children
+next_node (l ∷ ls) children = by_line (node_on l) ls children
 
 -- so many trees, where so many nodes were read before
-abbrev pub children_at : (ℕ → List (List Word) → NodeRead Tree) → ℕ → ℕ → List (List Word) → NodeRead Trees
-children_at item zero nodes ls = Ok (no_child, ls)
-children_at item (suc k) nodes ls = do
+abbrev pub next_children : (ℕ → List (List Word) → NodeRead Tree) → ℕ → ℕ → List (List Word) → NodeRead Trees
+next_children item zero nodes ls = Ok (no_child, ls)
+next_children item (suc k) nodes ls = do
   t ← item nodes ls
-  ts ← children_at item k (nodes + count t.0) t.1
+  ts ← next_children item k (nodes + count t.0) t.1
   Ok (child t.0 ts.0, ts.1)
 
 -- A tree with so many levels of job nodes at the most, where so many nodes were read before.
-abbrev pub tree_at : ℕ → ℕ → List (List Word) → NodeRead Tree
-tree_at zero nodes ls =
-    if nat_le most_nodes nodes then Err TooMany else next_node ls (λ j k after. Err (Left (suc (length after))))
-tree_at (suc levels) nodes ls =
-    if nat_le most_nodes nodes then Err TooMany
-    else next_node ls (λ j k after. children_at (tree_at levels) k (nodes + 1) after >>= λ ts. Ok (job j ts.0, ts.1))
+abbrev pub next_tree : ℕ → ℕ → List (List Word) → NodeRead Tree
+next_tree zero nodes ls =
+    if nat_le MOST_NODES nodes then Err TooMany else next_node ls (λ j k after. Err (Left (suc (length after))))
+next_tree (suc levels) nodes ls =
+    if nat_le MOST_NODES nodes then Err TooMany
+    else next_node ls (λ j k after. next_children (next_tree levels) k (nodes + 1) after >>= λ ts. Ok (job j ts.0, ts.1))
 
-unfoldable pub proof_at : List (List Word) → NodeRead (Claim × Tree)
-proof_at ls = do
-  head ← of_lines (one_line head_of ls)
-  claim ← of_lines (claim_at head.1)
-  tree ← tree_at most_levels 0 claim.1
+unfoldable pub next_proof : List (List Word) → NodeRead (Claim × Tree)
+next_proof ls = do
+  head ← of_lines (one_line proof_head ls)
+  claim ← of_lines (next_claim head.1)
+  tree ← next_tree MOST_LEVELS 0 claim.1
   Ok ((claim.0, tree.0), tree.1)
 
 -- The whole text is read, and nothing is left.
@@ -105,15 +95,15 @@ whole_proof lines (Err Memory) = Err NoMemory
 
 -- The claim and the tree that a text stands for, or why it stands for none: from the top, the first line that breaks a rule, lacks
 -- its line feed or is missing, or a node beyond the last that a tree may have, or more than a proof.
-unfoldable pub proof_of : List ℕ → Result (Claim × Tree) ProofFault
-proof_of bytes = whole_proof (length (lines_of bytes)) (proof_at (lines_of bytes))
+unfoldable pub proof_in : List ℕ → Result (Claim × Tree) ProofFault
+proof_in bytes = whole_proof (length (lines_of bytes)) (next_proof (lines_of bytes))
 
 -- ---- what is said of a reader's answer
-abbrev pub IsFault : {Y : Type 0} → ProofFault → Result Y ProofFault → Type 0
-IsFault NoMemory read = Unit {0}
-IsFault (BadLine n) read = read ≡ Err (BadLine n)
-IsFault TooManyNodes read = read ≡ Err TooManyNodes
-IsFault Trailing read = read ≡ Err Trailing
+abbrev pub IsProofFault : {Y : Type 0} → ProofFault → Result Y ProofFault → Type 0
+IsProofFault NoMemory read = Unit {0}
+IsProofFault (BadLine n) read = read ≡ Err (BadLine n)
+IsProofFault TooManyNodes read = read ≡ Err TooManyNodes
+IsProofFault Trailing read = read ≡ Err Trailing
 
 -- No proof's text goes on where this one ends.
 abbrev pub NothingFollows : List ℕ → Type 0

@@ -4,7 +4,7 @@
 //! root is a [`Node`]: the builds of a job one by one, an input without a possible place, or places that are no better than the
 //! claim's. Contracts see a tree without where it lies in memory (`specs/Tree.antt`). When a tree refutes what is better than a
 //! claim, when a proof is accepted, and when a claim is right, is defined here for all crates that speak of it
-//! (`specs/Refutes.antt`, `specs/Optimal.antt`), with the order of preference as a parameter; the checker is another crate.
+//! (`specs/Refutes.antt`, `specs/Right.antt`), with the order of preference as a parameter; the checker is another crate.
 //!
 //! Claims and proofs have one text each, and each text one claim or proof: [`write_claim`], [`read_claim`], [`write_proof`],
 //! [`read_proof`]. A text that is no claim's or no proof's is refused with its first bad line; a proof's also where its tree isn't
@@ -14,9 +14,7 @@
 mod claim;
 mod fault;
 mod halt;
-mod law;
 mod node;
-pub mod possible;
 mod proof;
 mod proof_read;
 #[cfg(test)]
@@ -29,9 +27,8 @@ mod write;
 
 pub use claim::{Claim, MOST_NUMBERS};
 pub use fault::{ClaimFault, ProofFault};
-pub use law::best_places_are_best;
 pub use node::Node;
-pub use proof::{MOST_DEPTH, MOST_NODES, Proof, count};
+pub use proof::{MOST_LEVELS, MOST_NODES, Proof, count};
 pub use proof_read::read_proof;
 pub use proof_write::write_proof;
 pub use read::read_claim;

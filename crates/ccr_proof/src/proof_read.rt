@@ -7,19 +7,19 @@ ghost use Rattle.ccr_proof.specs.Tree.{Tree, tree_of, count};
 ghost use Rattle.ccr_proof.specs.Proof.{IsProof};
 ghost use Rattle.ccr_proof.specs.Halts.{GivesNode};
 ghost use Rattle.ccr_proof.specs.ProofRead.{IsRead, IsReadAs};
-ghost use Rattle.ccr_proof.specs.ProofText.{head_of, node_line, tree_at, proof_at, proof_of, proof_text, NothingFollows};
+ghost use Rattle.ccr_proof.specs.ProofText.{proof_head, node_on, next_tree, next_proof, proof_in, proof_text, NothingFollows};
 
 use crate::claim::Claim;
 use crate::fault::ProofFault;
 use crate::halt::Halt;
 use crate::node::Node;
-use crate::proof::{MOST_DEPTH, MOST_NODES, Proof};
-use crate::read::claim_at;
+use crate::proof::{MOST_LEVELS, MOST_NODES, Proof};
+use crate::read::next_claim;
 use ccr_choice::text::{Line, Lines, Stop, Word};
 use std::alloc::Global;
 
 /// The version of the format.
-pub(crate) const FORMAT: u32 = 1;
+pub(crate) const PROOF_FORMAT: u32 = 1;
 
 /// What a node's line says.
 #[derive(Clone, Copy)]
@@ -32,9 +32,9 @@ pub(crate) enum NodeLine {
     Bounded,
 }
 
-#[tactic(auto, unfolding(crate::specs::ProofText::node_line))]
-fn node_line(words: &[Word]) -> Option<NodeLine>
-    ensures { result ≡ node_line words.now }
+#[tactic(auto, unfolding(crate::specs::ProofText::node_on))]
+fn node_on(words: &[Word]) -> Option<NodeLine>
+    ensures { result ≡ node_on words.now }
 {
     match words {
         [Word::Job, Word::Number(job), Word::Number(children)] => {
@@ -52,23 +52,28 @@ fn node_line(words: &[Word]) -> Option<NodeLine>
 
 /// The line `proof 1`.
 fn head(alloc: Global, lines: &mut Lines<'_>) -> Result<u32, Stop>
-    ensures { Gives (λ x. (x, lines.new)) result (one_line head_of lines.old) }
+    ensures { Gives (λ x. (x, lines.new)) result (one_line proof_head lines.old) }
 {
     let Some(line) = lines.next(alloc)? else {
         return Err(Stop::Left(0));
     };
     match line.words() {
-        [Word::Proof, Word::Number(n)] if *n == FORMAT => Ok(*n),
+        [Word::Proof, Word::Number(n)] if *n == PROOF_FORMAT => Ok(*n),
         _ => Err(Stop::Left(lines.count() + 1)),
     }
 }
 
 /// The tree at the front, with at most `levels` levels of job nodes. `nodes` is how many nodes were read before, and after.
-fn tree_at(alloc: Global, levels: u32, nodes: &mut u32, lines: &mut Lines<'_>) -> Result<Node, Halt>
-    requires { nodes.old ≤ 1000000 }
-    ensures read { GivesNode (λ x. (tree_of x, lines.new)) result (tree_at levels nodes.old lines.old) }
+fn next_tree(
+    alloc: Global,
+    levels: u32,
+    nodes: &mut u32,
+    lines: &mut Lines<'_>,
+) -> Result<Node, Halt>
+    requires { nodes.old ≤ MOST_NODES }
+    ensures read { GivesNode (λ x. (tree_of x, lines.new)) result (next_tree levels nodes.old lines.old) }
     ensures counted { IfOk result (λ x. nodes.new ≡ nodes.old + count (tree_of x)) }
-    ensures few { nodes.new ≤ 1000000 }
+    ensures few { nodes.new ≤ MOST_NODES }
 {
     if *nodes >= MOST_NODES {
         return Err(Halt::TooMany);
@@ -77,7 +82,7 @@ fn tree_at(alloc: Global, levels: u32, nodes: &mut u32, lines: &mut Lines<'_>) -
         return Err(Halt::Left(0));
     };
     *nodes += 1;
-    match node_line(line.words()) {
+    match node_on(line.words()) {
         Some(NodeLine::Empty(input)) => Ok(Node::Empty(input)),
         Some(NodeLine::Bounded) => Ok(Node::Bounded),
         Some(NodeLine::Job(job, count)) => {
@@ -86,7 +91,7 @@ fn tree_at(alloc: Global, levels: u32, nodes: &mut u32, lines: &mut Lines<'_>) -
             }
             let mut children = Vec::new(alloc);
             for _ in 0..count {
-                let child = tree_at(alloc, levels - 1, nodes, lines)?;
+                let child = next_tree(alloc, levels - 1, nodes, lines)?;
                 children.push(child)?;
             }
             Ok(Node::Job(job, children))
@@ -96,23 +101,23 @@ fn tree_at(alloc: Global, levels: u32, nodes: &mut u32, lines: &mut Lines<'_>) -
 }
 
 /// The claim and the tree at the front.
-#[tactic(auto, unfolding(crate::specs::ProofText::proof_at))]
-fn parts_at(alloc: Global, lines: &mut Lines<'_>) -> Result<(Claim, Node), Halt>
-    ensures { GivesNode (λ x. ((x.0, tree_of x.1), lines.new)) result (proof_at lines.old) }
+#[tactic(auto, unfolding(crate::specs::ProofText::next_proof))]
+fn next_parts(alloc: Global, lines: &mut Lines<'_>) -> Result<(Claim, Node), Halt>
+    ensures { GivesNode (λ x. ((x.0, tree_of x.1), lines.new)) result (next_proof lines.old) }
 {
     let _head = head(alloc, lines)?;
-    let claim = claim_at(alloc, lines)?;
+    let claim = next_claim(alloc, lines)?;
     let mut nodes = 0;
-    let tree = tree_at(alloc, MOST_DEPTH + 1, &mut nodes, lines)?;
+    let tree = next_tree(alloc, MOST_LEVELS, &mut nodes, lines)?;
     Ok((claim, tree))
 }
 
-#[tactic(auto, unfolding(crate::specs::ProofText::proof_of))]
+#[tactic(auto, unfolding(crate::specs::ProofText::proof_in))]
 fn read_whole(alloc: Global, bytes: &[u8]) -> Result<Proof, ProofFault>
-    ensures { IsRead result (proof_of bytes.now) }
+    ensures { IsRead result (proof_in bytes.now) }
 {
     let mut lines = Lines::new(bytes);
-    match parts_at(alloc, &mut lines) {
+    match next_parts(alloc, &mut lines) {
         Ok((claim, tree)) => {
             if lines.is_empty() {
                 Ok(Proof { claim, tree })
@@ -146,7 +151,7 @@ pub fn read_proof(alloc: Global, bytes: &[u8]) -> Result<Proof, ProofFault>
     ensures alone { IfOk result (λ _. NothingFollows bytes.now) }
 
     // A refusal is the first bad line, a node too many, or more than a proof.
-    ensures exact { IsRead result (proof_of bytes.now) }
+    ensures exact { IsRead result (proof_in bytes.now) }
 {
     read_whole(alloc, bytes)
 }

@@ -4,18 +4,18 @@ ghost use Rattle.std.specs.Prelude.{◌≡◌, ◌≤◌, ◌++◌, Ok, OnOk, If
 ghost use Rattle.ccr_choice.specs.Text.{text_of};
 ghost use Rattle.ccr_proof.specs.Tree.{tree_of, count};
 ghost use Rattle.ccr_proof.specs.Proof.{IsSmall};
-ghost use Rattle.ccr_proof.specs.ProofText.{tree_lines, proof_text, proof_of};
+ghost use Rattle.ccr_proof.specs.ProofText.{tree_lines, proof_text, proof_in};
 
 use crate::node::Node;
-use crate::proof::Proof;
-use crate::proof_read::FORMAT;
+use crate::proof::{MOST_NODES, Proof};
+use crate::proof_read::PROOF_FORMAT;
 use crate::write::claim_words;
 use ccr_choice::text::{Word, put_line};
 use std::alloc::{AllocError, Global};
 
 /// Adds the lines of the tree with this root, in preorder.
 fn put_tree(out: &mut String, node: &Node) -> Result<(), AllocError>
-    requires { count (tree_of node.now) ≤ 1000000 }
+    requires { count (tree_of node.now) ≤ MOST_NODES }
     ensures text { OnOk result (string_bytes out.new ≡ string_bytes out.old ++ text_of (tree_lines (tree_of node.now))) }
     ensures small { OnOk result (IsSmall (tree_of node.now)) }
 {
@@ -37,11 +37,11 @@ fn put_tree(out: &mut String, node: &Node) -> Result<(), AllocError>
 /// The one text of a proof. Reading it gives the proof back.
 pub fn write_proof(alloc: Global, proof: &Proof) -> Result<String, AllocError>
     ensures text { IfOk result (λ s. string_bytes s ≡ proof_text proof.now.claim (tree_of proof.now.tree)) }
-    ensures again { IfOk result (λ s. proof_of (string_bytes s) ≡ Ok (proof.now.claim, tree_of proof.now.tree)) }
+    ensures again { IfOk result (λ s. proof_in (string_bytes s) ≡ Ok (proof.now.claim, tree_of proof.now.tree)) }
 {
     let words = claim_words(alloc, &proof.claim)?;
     let mut out = String::new(alloc);
-    put_line(&mut out, &[Word::Proof, Word::Number(FORMAT)])?;
+    put_line(&mut out, &[Word::Proof, Word::Number(PROOF_FORMAT)])?;
     put_line(&mut out, &words)?;
     put_tree(&mut out, &proof.tree)?;
     Ok(out)

@@ -4,7 +4,7 @@ ghost use Rattle.std.specs.Prelude.{◌≡◌, IfOk};
 ghost use Rattle.ccr_choice.specs.Reading.{Gives};
 ghost use Rattle.ccr_proof.specs.declared.claim.Claim.{Claim};
 ghost use Rattle.ccr_proof.specs.Claim.{IsClaim};
-ghost use Rattle.ccr_proof.specs.ClaimText.{claim_of, claim_at, claim_in, claim_text, IsRead, IsReadAs, NothingFollows};
+ghost use Rattle.ccr_proof.specs.ClaimText.{claim_on, next_claim, claim_in, claim_text, IsRead, IsReadAs, NothingFollows};
 
 use crate::claim::{Claim, MOST_NUMBERS};
 use crate::fault::ClaimFault;
@@ -13,9 +13,9 @@ use ccr_choice::text::{Lines, Stop, Word, front_numbers};
 use std::alloc::{AllocError, Global};
 
 /// What a claim's line says.
-#[tactic(auto, unfolding(crate::specs::ClaimText::claim_of))]
-fn claim_of(alloc: Global, words: &[Word]) -> Result<Option<Claim>, AllocError>
-    ensures { IfOk result (λ o. o ≡ claim_of words.now) }
+#[tactic(auto, unfolding(crate::specs::ClaimText::claim_on))]
+fn claim_on(alloc: Global, words: &[Word]) -> Result<Option<Claim>, AllocError>
+    ensures { IfOk result (λ o. o ≡ claim_on words.now) }
 {
     match words {
         [Word::Nothing] => Ok(Some(Claim::Nothing)),
@@ -36,14 +36,14 @@ fn claim_of(alloc: Global, words: &[Word]) -> Result<Option<Claim>, AllocError>
 }
 
 /// The claim on the next line.
-#[tactic(auto, unfolding(crate::specs::ClaimText::claim_at))]
-pub(crate) fn claim_at(alloc: Global, lines: &mut Lines<'_>) -> Result<Claim, Stop>
-    ensures { Gives (λ c. (c, lines.new)) result (claim_at lines.old) }
+#[tactic(auto, unfolding(crate::specs::ClaimText::next_claim))]
+pub(crate) fn next_claim(alloc: Global, lines: &mut Lines<'_>) -> Result<Claim, Stop>
+    ensures { Gives (λ c. (c, lines.new)) result (next_claim lines.old) }
 {
     let Some(line) = lines.next(alloc)? else {
         return Err(Stop::Left(0));
     };
-    match claim_of(alloc, line.words())? {
+    match claim_on(alloc, line.words())? {
         Some(claim) => Ok(claim),
         None => Err(Stop::Left(lines.count() + 1)),
     }
@@ -54,7 +54,7 @@ fn read_whole(alloc: Global, bytes: &[u8]) -> Result<Claim, ClaimFault>
     ensures { IsRead result (claim_in bytes.now) }
 {
     let mut lines = Lines::new(bytes);
-    match claim_at(alloc, &mut lines) {
+    match next_claim(alloc, &mut lines) {
         Ok(claim) => {
             if lines.is_empty() {
                 Ok(claim)

@@ -24,10 +24,10 @@ fn value_of(alloc: Global, bytes: &[u8]) -> Result<Value, ReplyFault>
 }
 
 /// The version that a value is.
-fn version(value: &Value) -> Result<Version, ReplyFault>
+fn version(alloc: Global, value: &Value) -> Result<Version, ReplyFault>
     ensures { Gives (version_of (view value.now)) (λ v. v) result }
 {
-    match Version::from_value(value) {
+    match Version::from_value(alloc, value) {
         Ok(version) => Ok(version),
         Err(HistoryFault::NotObject) => Err(ReplyFault::WrongKind),
         Err(HistoryFault::VersionNotText) => Err(ReplyFault::VersionNotText),
@@ -47,20 +47,20 @@ fn versions(alloc: Global, value: &Value) -> Result<Vec<Version>, ReplyFault>
         return Err(ReplyFault::WrongKind);
     };
     for member in members {
-        versions.push(version(member)?)?;
+        versions.push(version(alloc, member)?)?;
     }
     Ok(versions)
 }
 
 /// The version that an object has.
-fn version_in(value: &Value) -> Result<Version, ReplyFault>
+fn version_in(alloc: Global, value: &Value) -> Result<Version, ReplyFault>
     ensures { Gives (step_reply (view value.now)) (λ v. v) result }
 {
     if !value.is_object() {
         return Err(ReplyFault::WrongKind);
     }
     match value.get("version") {
-        Some(found) if !found.is_null() => version(found),
+        Some(found) if !found.is_null() => version(alloc, found),
         _ => Err(ReplyFault::MissingVersion),
     }
 }
@@ -88,7 +88,7 @@ pub fn read_in(alloc: Global, reply: &[u8]) -> Result<Version, ReplyFault>
     ensures { Reads step_reply (λ v. v) reply.now result }
 {
     let value = value_of(alloc, reply)?;
-    version_in(&value)
+    version_in(alloc, &value)
 }
 
 /// Reads what `out` wrote: the version of an object, whose other keys are passed over, whatever they hold

@@ -45,7 +45,7 @@ fn stepped(rt: &HostRuntime, version: Result<Version, ReplyFault>) -> Result<Str
 #[test]
 fn requests_are_compact_with_ascending_keys(rt: HostRuntime) -> Result<(), Fail> {
     let alloc = rt.alloc();
-    let version = Version::from_value(&json(&rt, "{\"n\":\"2\"}")?)?;
+    let version = Version::from_value(alloc, &json(&rt, "{\"n\":\"2\"}")?)?;
     let source = object(&rt, "{\"uri\":\"x\",\"branch\":\"m\"}")?;
     let params = object(&rt, "{ \"depth\": 1 }")?;
     for (request, text) in [

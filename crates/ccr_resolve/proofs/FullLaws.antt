@@ -6,15 +6,16 @@ use Rattle.std.proofs.lemmas.Option.{slice_get-get_or}
 use Rattle.ccr_choice.specs.Problem.{ProblemValue, BuildValue, ChoiceValue, is_problem, input_at, builds_at}
 use Rattle.ccr_choice.specs.Satisfies.{Satisfies, HasLengths, Moved, IsAllowed, IsSuccessful, HasPassed, HasPassedAll}
 use Rattle.ccr_choice.proofs.Numbering.{named_below}
-use Rattle.ccr_proof.specs.Preference.{Preference, plain, IsOrder}
-use Rattle.ccr_proof.specs.Assignment.{Assignment}
-use Rattle.ccr_proof.specs.Possible.{CanHavePassed, IsPossible, best_places}
+use Rattle.ccr_choice.specs.Preference.{order_of}
+use Rattle.ccr_choice.specs.Assignment.{Assignment}
+use Rattle.ccr_choice.specs.Possible.{CanHavePassed, IsPossible}
+use Rattle.ccr_choice.proofs.BestPlaces.{best_places}
 use Rattle.ccr_proof.specs.Refutes.{HasNoPlace}
-use Rattle.ccr_proof.specs.Table.{build_of, assigned}
-use Rattle.ccr_proof.proofs.Members.{any_of}
-use Rattle.ccr_proof.proofs.PlainLaws.{plain_order}
-use Rattle.ccr_proof.proofs.PossibleLaws.{length-best_places}
-use Rattle.ccr_proof.proofs.TableLaws.{build_among}
+use Rattle.ccr_choice.specs.Table.{build_of, assigned}
+use Rattle.ccr_choice.proofs.Members.{any_of}
+use Rattle.ccr_choice.proofs.PlainLaws.{is_order}
+use Rattle.ccr_choice.proofs.PossibleLaws.{are_only}
+use Rattle.ccr_choice.proofs.TableLaws.{build_among}
 use Rattle.ccr_resolve.specs.Search.{number_or_0, numbers_of, IsFull, FixesKnown}
 use Rattle.ccr_resolve.proofs.Path.{best_is_possible}
 
@@ -62,14 +63,17 @@ module _ (p : ProblemValue) (rules : is_problem p ≡ true) (table : List ℕ) (
   build_number j within b e =
       ap (λ bs. slice_index bs j) full.1 ∙ number_at (assigned p table) (length p.jobs) j within ∙ ap number_or_0 e
 
+  places_best : c.places ≡ best_places (order_of p) p (assigned p table)
+  places_best = are_only (order_of p) (is_order p) p (assigned p table) c.places full.0
+
   places_are : (i : ℕ) → i < length p.inputs → IsPossible p (assigned p table) i (slice_index c.places i)
   places_are i within =
       let P : List ℕ → Type 0 = λ xs. IsPossible p (assigned p table) i (slice_index xs i) in
-      subst P (sym full.0) (best_is_possible plain plain_order p rules (assigned p table) some i within)
+      subst P (sym places_best) (best_is_possible (order_of p) (is_order p) p rules (assigned p table) some i within)
 
   lengths : HasLengths p c.places c.builds
   lengths = record {
-    place_each = ap length full.0 ∙ length-best_places plain p (assigned p table);
+    place_each = full.0.place_each;
     build_each = ap length full.1 ∙ length-numbers_of (assigned p table) (length p.jobs);
   }
 

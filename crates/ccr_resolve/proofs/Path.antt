@@ -4,16 +4,17 @@ use Rattle.std.specs.Prelude.{Contains, Any, EachIndex, MatchOption, unwrap_or, 
 use Rattle.std.proofs.lemmas.Bool.{false≢true, cases_lt}
 use Rattle.ccr_choice.specs.Problem.{ProblemValue, BuildValue, is_problem, input_at, builds_at}
 use Rattle.ccr_choice.specs.Satisfies.{Satisfies}
-use Rattle.ccr_proof.specs.Preference.{plain, Preference, IsOrder, IsBetter}
-use Rattle.ccr_proof.specs.Assignment.{Assignment, nothing_fixed, Agrees}
-use Rattle.ccr_proof.specs.Possible.{CanHavePassed, IsPossible, best_possible, best_place, best_places, IsBestPossible}
+use Rattle.ccr_choice.specs.Preference.{order_of, Preference, IsOrder, IsBetter}
+use Rattle.ccr_choice.specs.Assignment.{Assignment, nothing_fixed, Agrees}
+use Rattle.ccr_choice.specs.Possible.{CanHavePassed, IsPossible, IsBestPossible, AreBoundedBy}
+use Rattle.ccr_choice.proofs.BestPlaces.{best_possible, best_places}
 use Rattle.ccr_proof.specs.Refutes.{HasNoPlace, IsBounded}
-use Rattle.ccr_proof.specs.Table.{build_of, assigned}
-use Rattle.ccr_proof.proofs.Members.{any_of}
-use Rattle.ccr_proof.proofs.PossibleLaws.{best_is, length-best_places, best_places_at}
+use Rattle.ccr_choice.specs.Table.{build_of, assigned}
+use Rattle.ccr_choice.proofs.Members.{any_of}
+use Rattle.ccr_choice.proofs.PossibleLaws.{best_is, length-best_places, best_places_at, are_only, bounded_by}
 use Rattle.ccr_proof.proofs.Sound.{AreKnown, place_possible, still_better}
-use Rattle.ccr_proof.proofs.TableLaws.{build_among}
-use Rattle.ccr_resolve.specs.Room.{newest_number, newest, top, TopFits}
+use Rattle.ccr_choice.proofs.TableLaws.{build_among}
+use Rattle.ccr_resolve.specs.Room.{newest_number, newest, TopFits}
 use Rattle.ccr_resolve.specs.Search.{FixesKnown, OnPath, ReachesTop, IsNeeded, IsNoWorse}
 
 -- ---- the order of place lists
@@ -65,7 +66,7 @@ no_worse_trans prefers (Some x) (Some y) (Some z) h k = λ places e. k places (h
 pub reach_more : (prefers : Preference) (p : ProblemValue) (a b : Option (List ℕ)) → IsNoWorse prefers a b → ReachesTop prefers p a → ReachesTop prefers p b
 reach_more prefers p None b w h = absurd h
 reach_more prefers p (Some x) None w h = absurd w
-reach_more prefers p (Some x) (Some y) w h = w (top prefers p) h
+reach_more prefers p (Some x) (Some y) w h = λ places best. w places (h places best)
 
 newest_at : (jobs : List (List BuildValue)) (j : ℕ) → slice_index (newest jobs) j ≡ newest_number (slice_index_or jobs j [])
 newest_at [] j = refl
@@ -75,6 +76,15 @@ newest_at (job ∷ jobs) (suc j) = newest_at jobs j
 newest_is : (bs : List BuildValue) (b : BuildValue) → slice_get bs 0 ≡ Some b → newest_number bs ≡ b.number
 newest_is [] b h = absurd (cc (h))
 newest_is (x ∷ bs) b h = let same : x ≡ b = cc (h) in ap (λ y. y.number) same
+
+-- the best places where nothing is fixed
+abbrev pub top : Preference → ProblemValue → List ℕ
+top prefers p = best_places prefers p nothing_fixed
+
+top_fits : (prefers : Preference) → IsOrder prefers → (p : ProblemValue) → TopFits prefers p → Satisfies p (top prefers p) (newest p.jobs)
+top_fits prefers order p h =
+    let P : List ℕ → Type 0 = λ xs. Satisfies p xs (newest p.jobs) in
+    subst P (are_only prefers order p nothing_fixed h.0 h.1) h.2
 
 module _ (prefers : Preference) (order : IsOrder prefers) (p : ProblemValue) (rules : is_problem p ≡ true) where
   -- each fixed build of a table is one of its job
@@ -91,7 +101,7 @@ module _ (prefers : Preference) (order : IsOrder prefers) (p : ProblemValue) (ru
       newest_at p.jobs j ∙ newest_is (builds_at p j) b (path_entry (builds_at p j) (slice_index table j) b (path.newest j) e)
 
   path_possible : (table : List ℕ) (best : Option (List ℕ)) → OnPath prefers p table best → (i : ℕ) → i < length p.inputs → IsPossible p (assigned p table) i (slice_index (top prefers p) i)
-  path_possible table best path = place_possible prefers order p rules (assigned p table) (top prefers p) (newest p.jobs) (known_of table) (path_agrees table best path) path.top
+  path_possible table best path = place_possible prefers order p rules (assigned p table) (top prefers p) (newest p.jobs) (known_of table) (path_agrees table best path) (top_fits prefers order p path.top)
 
   pub path_place : (table : List ℕ) (best : Option (List ℕ)) (i : ℕ) → OnPath prefers p table best → HasNoPlace p (assigned p table) i → ⊥
   path_place table best i path h = h.1 (slice_index (top prefers p) i) (path_possible table best path i h.0)
@@ -102,10 +112,11 @@ module _ (prefers : Preference) (order : IsOrder prefers) (p : ProblemValue) (ru
   best_better a places bound possible each h =
       still_better prefers order p rules a places possible bound h each 0 (omega arith) h (omega arith) (λ k below. absurd (omega arith)) h.first (omega arith)
 
-  pub path_top : (table : List ℕ) (best : Option (List ℕ)) → OnPath prefers p table best → IsBetter prefers (top prefers p) (best_places prefers p (assigned p table)) → ⊥
-  path_top table best path h =
+  pub path_top : (table : List ℕ) (best : Option (List ℕ)) → OnPath prefers p table best
+      → AreBoundedBy prefers p nothing_fixed (best_places prefers p (assigned p table))
+  path_top table best path = (bounded_by prefers order p nothing_fixed (best_places prefers p (assigned p table))).0 (λ h.
       better_irreflexive prefers order (best_places prefers p (assigned p table))
-      (best_better (assigned p table) (top prefers p) (best_places prefers p (assigned p table)) (path_possible table best path) (length-best_places prefers p nothing_fixed) h)
+      (best_better (assigned p table) (top prefers p) (best_places prefers p (assigned p table)) (path_possible table best path) (length-best_places prefers p nothing_fixed) h))
 
   -- ---- where each input has a possible place, the best places are possible
   best_at : (a : Assignment) (i : ℕ) (o : Option ℕ) → IsBestPossible prefers p a i o → (HasNoPlace p a i → ⊥) → i < length p.inputs → IsPossible p a i (unwrap_or o 0)
@@ -132,11 +143,11 @@ module _ (prefers : Preference) (order : IsOrder prefers) (p : ProblemValue) (ru
   -- nothing under any table is better than the best places where nothing is fixed
   pub reach_bounded : (table : List ℕ) (best : Option (List ℕ)) → ReachesTop prefers p best → ((i : ℕ) → HasNoPlace p (assigned p table) i → ⊥) → IsBounded prefers p best (assigned p table)
   reach_bounded table None h some = absurd h
-  reach_bounded table (Some found) h some = λ better.
+  reach_bounded table (Some found) h some = (bounded_by prefers order p (assigned p table) found).0 (λ better.
       let u = best_places prefers p (assigned p table) in
-      h (best_better nothing_fixed u found
+      (bounded_by prefers order p nothing_fixed found).1 h (best_better nothing_fixed u found
       (λ i within. possible_free (assigned p table) i (slice_index u i) (known_of table) (best_is_possible (assigned p table) some i within))
-      (length-best_places prefers p (assigned p table)) better)
+      (length-best_places prefers p (assigned p table)) better))
 
   pub one_node : (table : List ℕ) (best : Option (List ℕ)) (n : ℕ) → ReachesTop prefers p best → IsNeeded prefers p table best n → n ≤ 1
   one_node table best n h needed =
@@ -146,10 +157,10 @@ module _ (prefers : Preference) (order : IsOrder prefers) (p : ProblemValue) (ru
       ]
 
 -- ---- where there is no best possible place, no place is possible
-pub none_place : (p : ProblemValue) (a : Assignment) (i : ℕ) (o : Option ℕ) → i < length p.inputs → IsBestPossible plain p a i o → is_some o ≡ false → HasNoPlace p a i
+pub none_place : (p : ProblemValue) (a : Assignment) (i : ℕ) (o : Option ℕ) → i < length p.inputs → IsBestPossible (order_of p) p a i o → is_some o ≡ false → HasNoPlace p a i
 none_place p a i None within best e = (within, best)
 none_place p a i (Some x) within best e = absurd (cc (e))
 
-pub some_place : (p : ProblemValue) (a : Assignment) (i : ℕ) (o : Option ℕ) → IsBestPossible plain p a i o → is_some o ≡ true → HasNoPlace p a i → ⊥
+pub some_place : (p : ProblemValue) (a : Assignment) (i : ℕ) (o : Option ℕ) → IsBestPossible (order_of p) p a i o → is_some o ≡ true → HasNoPlace p a i → ⊥
 some_place p a i None best e h = absurd (cc (e))
 some_place p a i (Some x) best e h = h.1 x best.0

@@ -8,15 +8,17 @@ use Rattle.std.proofs.lemmas.Option.{slice_get-get_or}
 use Rattle.ccr_choice.specs.Problem.{ProblemValue, BuildValue, ChoiceValue, is_problem, builds_at}
 use Rattle.ccr_choice.specs.Satisfies.{Satisfies, IsSuccessful}
 use Rattle.ccr_proof.specs.declared.node.Node.{Node, Job, Empty, Bounded}
-use Rattle.ccr_proof.specs.Preference.{Preference, IsOrder, IsBetter}
-use Rattle.ccr_proof.specs.Assignment.{Assignment, with_build, nothing_fixed}
-use Rattle.ccr_proof.specs.Possible.{best_places}
+use Rattle.ccr_choice.specs.Preference.{Preference, IsOrder, IsBetter}
+use Rattle.ccr_choice.specs.Assignment.{Assignment, with_build, nothing_fixed}
+use Rattle.ccr_choice.specs.Possible.{AreBestPlaces, AreBoundedBy}
+use Rattle.ccr_choice.proofs.BestPlaces.{best_places}
+use Rattle.ccr_choice.proofs.PossibleLaws.{are_only, bounded_by}
 use Rattle.ccr_proof.specs.Tree.{Tree, Trees, job, empty, bounded, no_child, child, count, count_all, levels, levels_all, tree_of, trees_of}
 use Rattle.ccr_proof.specs.Refutes.{HasNoPlace, IsBounded, Refutes, RefuteEach}
-use Rattle.ccr_proof.specs.Table.{build_of, assigned}
-use Rattle.ccr_proof.proofs.TableLaws.{table_set, table_empty, zeros}
+use Rattle.ccr_choice.specs.Table.{build_of, assigned}
+use Rattle.ccr_choice.proofs.TableLaws.{table_set, table_empty, zeros}
 use Rattle.ccr_proof.proofs.Trees.{tree_of_job}
-use Rattle.ccr_resolve.specs.Room.{newest, top, TopFits, total, product, IsBelowRoom}
+use Rattle.ccr_resolve.specs.Room.{newest, TopFits, total, product, IsBelowRoom}
 use Rattle.ccr_resolve.specs.Search.{FixesKnown, FoundSatisfies, places_of, free_product, free_sum, free_jobs, OnPath, ReachesTop, IsNeeded, IsNoWorse, IsSearched, Searched}
 use Rattle.ccr_resolve.proofs.Counting.{product_set, product_same, sum_set, sum_same, product_one, product_empty, sum_empty, free_set, free_empty}
 use Rattle.ccr_resolve.proofs.Path.{better_irreflexive, better_trans, no_worse_refl, no_worse_trans, reach_more, path_place, path_top, one_node}
@@ -26,27 +28,28 @@ module _ (prefers : Preference) (p : ProblemValue) (x y : Option (List ℕ)) (wo
   bounded_more : (a : Assignment) (x y : Option (List ℕ)) → IsNoWorse prefers x y → IsBounded prefers p x a → IsBounded prefers p y a
   bounded_more a None y w h = absurd h
   bounded_more a (Some u) None w h = absurd w
-  bounded_more a (Some u) (Some v) w h = w (best_places prefers p a) h
+  bounded_more a (Some u) (Some v) w h = λ places best. w places (h places best)
 
   mutual
     pub refutes_more : (a : Assignment) (t : Tree) → Refutes prefers p x a t → Refutes prefers p y a t
     refutes_more a (empty i) h = h
     refutes_more a bounded h = bounded_more a x y worse h
-    refutes_more a (job j ts) h = (h.0, h.1, each_more a j (builds_at p j) ts h.2)
+    refutes_more a (job j ts) h = (h.0, h.1, each_more a j ts 0 (builds_at p j) ts h.2)
 
-    pub each_more : (a : Assignment) (j : ℕ) (bs : List BuildValue) (ts : Trees) → RefuteEach prefers p x a j bs ts → RefuteEach prefers p y a j bs ts
-    each_more a j [] no_child h = tt
-    each_more a j (b ∷ bs) (child t ts) h = (refutes_more (with_build a j b) t h.0, each_more a j bs ts h.1)
-    each_more a j [] (child t ts) h = absurd h
-    each_more a j (b ∷ bs) no_child h = absurd h
+    pub each_more : (a : Assignment) (j : ℕ) (all : Trees) (k : ℕ) (bs : List BuildValue) (ts : Trees)
+        → RefuteEach prefers p x a j all k bs ts → RefuteEach prefers p y a j all k bs ts
+    each_more a j all k [] no_child h = tt
+    each_more a j all k (b ∷ bs) (child t ts) h = (refutes_more (with_build a j b) t h.0, each_more a j all (k + 1) bs ts h.1)
+    each_more a j all k [] (child t ts) h = absurd h
+    each_more a j all k (b ∷ bs) no_child h = absurd h
 
 -- ---- one child more
-pub each_one : (prefers : Preference) (p : ProblemValue) (bound : Option (List ℕ)) (a : Assignment) (j : ℕ) (bs : List BuildValue) (cs : List Node) (b : BuildValue) (c : Node)
-    → RefuteEach prefers p bound a j bs (trees_of cs) → Refutes prefers p bound (with_build a j b) (tree_of c) → RefuteEach prefers p bound a j (bs ++ b ∷ []) (trees_of (cs ++ c ∷ []))
-each_one prefers p bound a j [] [] b c h k = (k, tt)
-each_one prefers p bound a j (x ∷ bs) (y ∷ cs) b c h k = (h.0, each_one prefers p bound a j bs cs b c h.1 k)
-each_one prefers p bound a j [] (y ∷ cs) b c h k = absurd h
-each_one prefers p bound a j (x ∷ bs) [] b c h k = absurd h
+pub each_one : (prefers : Preference) (p : ProblemValue) (bound : Option (List ℕ)) (a : Assignment) (j : ℕ) (all : Trees) (m : ℕ) (bs : List BuildValue) (cs : List Node) (b : BuildValue) (c : Node)
+    → RefuteEach prefers p bound a j all m bs (trees_of cs) → Refutes prefers p bound (with_build a j b) (tree_of c) → RefuteEach prefers p bound a j all m (bs ++ b ∷ []) (trees_of (cs ++ c ∷ []))
+each_one prefers p bound a j all m [] [] b c h k = (k, tt)
+each_one prefers p bound a j all m (x ∷ bs) (y ∷ cs) b c h k = (h.0, each_one prefers p bound a j all (m + 1) bs cs b c h.1 k)
+each_one prefers p bound a j all m [] (y ∷ cs) b c h k = absurd h
+each_one prefers p bound a j all m (x ∷ bs) [] b c h k = absurd h
 
 count_one : (cs : List Node) (c : Node) → count_all (trees_of (cs ++ c ∷ [])) ≡ count_all (trees_of cs) + count (tree_of c)
 count_one [] c = omega arith
@@ -90,7 +93,7 @@ module _ (prefers : Preference) (p : ProblemValue) where
 
   -- the first k builds of the job have their trees
   pub record IsLooping (table : List ℕ) (j : ℕ) (before : Option (List ℕ)) (room k : ℕ) (children : List Node) (best : Option ChoiceValue) (left : ℕ) : Type 0 where
-    pub each : RefuteEach prefers p (places_of best) (assigned p table) j (take k (builds_at p j)) (trees_of children)
+    pub each : (all : Trees) → RefuteEach prefers p (places_of best) (assigned p table) j all 0 (take k (builds_at p j)) (trees_of children)
     pub kept : IsNoWorse prefers before (places_of best)
     pub satisfies : FoundSatisfies p best
     pub shallow : levels_all (trees_of children) < free_jobs table
@@ -136,17 +139,19 @@ module _ (prefers : Preference) (order : IsOrder prefers) (p : ProblemValue) (ru
 
   unbounded_kept : (table : List ℕ) (b : Option (List ℕ)) → (IsBounded prefers p b (assigned p table) → ⊥) → IsNoWorse prefers b (Some (best_places prefers p (assigned p table)))
   unbounded_kept table None h = tt
-  unbounded_kept table (Some x) h = λ places worse better. h (λ best. worse (better_trans prefers order places (best_places prefers p (assigned p table)) x better best))
+  unbounded_kept table (Some x) h = λ places worse better.
+      h ((bounded_by prefers order p (assigned p table) x).0 (λ best. worse (better_trans prefers order places (best_places prefers p (assigned p table)) x better best)))
 
   pub leaf_full : (table : List ℕ) (before : Option ChoiceValue) (c : ChoiceValue) (room left : ℕ) → (IsBounded prefers p (places_of before) (assigned p table) → ⊥)
-      → c.places ≡ best_places prefers p (assigned p table) → Satisfies p c.places c.builds → room ≡ left + 1 → IsSearched prefers p table before (Some c) room left bounded
-  leaf_full table before c room left h is found spent =
+      → AreBestPlaces prefers p (assigned p table) c.places → Satisfies p c.places c.builds → room ≡ left + 1 → IsSearched prefers p table before (Some c) room left bounded
+  leaf_full table before c room left h best found spent =
       let u = best_places prefers p (assigned p table) in
-      let P : List ℕ → Type 0 = λ xs. IsBetter prefers u xs → ⊥ in
+      let is : c.places ≡ u = are_only prefers order p (assigned p table) c.places best in
+      let P : List ℕ → Type 0 = λ xs. AreBoundedBy prefers p (assigned p table) xs in
       let Q : List ℕ → Type 0 = λ xs. IsNoWorse prefers (places_of before) (Some xs) in
-      let R : List ℕ → Type 0 = λ xs. IsBetter prefers (top prefers p) xs → ⊥ in
+      let R : List ℕ → Type 0 = λ xs. AreBoundedBy prefers p nothing_fixed xs in
       record {
-        refuted = subst P (sym is) (better_irreflexive prefers order u);
+        refuted = subst P (sym is) ((bounded_by prefers order p (assigned p table) u).0 (better_irreflexive prefers order u));
         kept = subst Q (sym is) (unbounded_kept table (places_of before) h);
         satisfies = found;
         shallow = omega arith;
@@ -167,7 +172,7 @@ module _ (prefers : Preference) (order : IsOrder prefers) (p : ProblemValue) (ru
         let P : Option (List ℕ) → Type 0 = λ x. IsNoWorse prefers x (places_of best) in
         let some = fewer_free 0 in
         record {
-          each = tt;
+          each = λ all. tt;
           kept = subst P same (no_worse_refl prefers (places_of best));
           satisfies = found;
           shallow = omega (arith, some);
@@ -248,10 +253,12 @@ module _ (prefers : Preference) (order : IsOrder prefers) (p : ProblemValue) (ru
         let n = searched.used in
         let table_is : assigned p (slice_set table j (k + 1)) ≡ with_build (assigned p table) j b = table_set p table j k b now.wide (slice_get-get_or bs k (record { number = 0; pairs = [] }) l) in
         let A : Assignment → Type 0 = λ a. Refutes prefers p (places_of best') a (tree_of c) in
-        let below = each_more prefers p (places_of best) (places_of best') searched.kept (assigned p table) j (take k bs) (trees_of children) loop.each in
-        let after = each_one prefers p (places_of best') (assigned p table) j (take k bs) children b c below (subst A table_is searched.refuted) in
+        let after : (all : Trees) → RefuteEach prefers p (places_of best') (assigned p table) j all 0 (take k bs ++ b ∷ []) (trees_of (children ++ c ∷ [])) = λ all.
+        each_one prefers p (places_of best') (assigned p table) j all 0 (take k bs) children b c
+        (each_more prefers p (places_of best) (places_of best') searched.kept (assigned p table) j all 0 (take k bs) (trees_of children) (loop.each all))
+        (subst A table_is searched.refuted) in
         let taken : take (k + 1) bs ≡ take k bs ++ b ∷ [] = take_more bs k (record { number = 0; pairs = [] }) l in
-        let Q : List BuildValue → List Node → Type 0 = λ x y. RefuteEach prefers p (places_of best') (assigned p table) j x (trees_of y) in
+        let Q : List BuildValue → List Node → Type 0 = λ x y. (all : Trees) → RefuteEach prefers p (places_of best') (assigned p table) j all 0 x (trees_of y) in
         let counted : count_all (trees_of more) ≡ count_all (trees_of children) + count (tree_of c) = ap (λ cs. count_all (trees_of cs)) is ∙ count_one children c in
         let free = fewer_free k in
         let deep : levels_all (trees_of (children ++ c ∷ [])) < free_jobs table =
@@ -282,13 +289,13 @@ module _ (prefers : Preference) (order : IsOrder prefers) (p : ProblemValue) (ru
     loop_end room k children before' best left same some e loop =
         let bs = builds_at p j in
         let all : take k bs ≡ bs = take_all k bs (omega (arith, e)) in
-        let Q : List BuildValue → Type 0 = λ x. RefuteEach prefers p (places_of best) (assigned p table) j x (trees_of children.items) in
+        let Q : List BuildValue → Type 0 = λ x. RefuteEach prefers p (places_of best) (assigned p table) j (trees_of children.items) 0 x (trees_of children.items) in
         let B : Option (List ℕ) → Type 0 = λ x. IsNoWorse prefers x (places_of best) in
         let N : Option (List ℕ) → Type 0 = λ x. IsNeeded prefers p table x (1 + loop.used) in
         let R : Option (List ℕ) → Type 0 = λ x. OnPath prefers p table x → ReachesTop prefers p (places_of best) in
         let T : Tree → Type 0 = λ t. IsSearched prefers p table before' best room left t in
         subst T (sym (tree_of_job j children)) (record {
-          refuted = (now.inside, free_none (builds_at p j) (slice_index table j) now.free, subst Q all loop.each);
+          refuted = (now.inside, free_none (builds_at p j) (slice_index table j) now.free, subst Q all (loop.each (trees_of children.items)));
           kept = subst B (sym same) loop.kept;
           satisfies = loop.satisfies;
           shallow = omega (arith, loop.shallow);
@@ -306,7 +313,7 @@ module _ (prefers : Preference) (order : IsOrder prefers) (p : ProblemValue) (ru
 -- a job of the best places' choice has a build
 pub some_build : (prefers : Preference) (p : ProblemValue) (j : ℕ) → TopFits prefers p → j < length p.jobs → 0 < length (builds_at p j)
 unfolding IsSuccessful
-some_build prefers p j top within = among (builds_at p j) (slice_index (newest p.jobs) j) (one (newest p.jobs) (top.successful j within))
+some_build prefers p j top within = among (builds_at p j) (slice_index (newest p.jobs) j) (one (newest p.jobs) (top.2.successful j within))
   where
     one : (builds : List ℕ) → IsSuccessful p builds j → Any (λ b. b.number ≡ slice_index builds j) (builds_at p j)
     one builds h = h

@@ -2,9 +2,9 @@
 use Rattle.std.specs.Prelude.{ℕ, ◌+◌, ◌*◌, ◌<◌, List, [], ◌∷◌, length}
 use Rattle.ccr_choice.specs.Problem.{ProblemValue, BuildValue}
 use Rattle.ccr_choice.specs.Satisfies.{Satisfies}
-use Rattle.ccr_proof.specs.Preference.{Preference}
-use Rattle.ccr_proof.specs.Assignment.{nothing_fixed}
-use Rattle.ccr_proof.specs.Possible.{best_places}
+use Rattle.ccr_choice.specs.Preference.{Preference}
+use Rattle.ccr_choice.specs.Assignment.{nothing_fixed}
+use Rattle.ccr_choice.specs.Possible.{AreBestPlaces}
 use Rattle.ccr_proof.specs.Refutes.{HasNoPlace}
 
 -- The number of all successful builds of the named jobs.
@@ -27,13 +27,9 @@ abbrev pub newest : List (List BuildValue) → List ℕ
 newest [] = []
 newest (job ∷ jobs) = newest_number job ∷ newest jobs
 
--- The best places where nothing is fixed.
-abbrev pub top : Preference → ProblemValue → List ℕ
-top prefers p = best_places prefers p nothing_fixed
-
 -- The best places where nothing is fixed make, with the newest build of each job, a choice that satisfies.
 abbrev pub TopFits : Preference → ProblemValue → Type 0
-TopFits prefers p = Satisfies p (top prefers p) (newest p.jobs)
+TopFits prefers p = (top : List ℕ) × AreBestPlaces prefers p nothing_fixed top × Satisfies p top (newest p.jobs)
 
 -- The room is 1, where an input has no possible place; else one plus the number of all builds, where the best places fit the
 -- newest builds; else the product. These grow in this order, so a number is below the room where it is below each that applies.

@@ -3,13 +3,13 @@ use Rattle.std.specs.Prelude.{◌≡◌, ◌≢◌, ℕ, zero, suc, ◌+◌, ◌
 use Rattle.ccr_choice.specs.Problem.{ProblemValue, BuildValue, ChoiceValue, builds_at}
 use Rattle.ccr_choice.specs.Satisfies.{Satisfies}
 use Rattle.ccr_proof.specs.declared.node.Node.{Node}
-use Rattle.ccr_proof.specs.Preference.{Preference, plain, IsBetter}
-use Rattle.ccr_proof.specs.Assignment.{Assignment}
-use Rattle.ccr_proof.specs.Possible.{best_places}
+use Rattle.ccr_choice.specs.Preference.{Preference, order_of, IsBetter}
+use Rattle.ccr_choice.specs.Assignment.{Assignment, nothing_fixed}
+use Rattle.ccr_choice.specs.Possible.{AreBestPlaces}
 use Rattle.ccr_proof.specs.Tree.{Tree, tree_of, count, levels}
 use Rattle.ccr_proof.specs.Refutes.{HasNoPlace, IsBounded, Refutes}
-use Rattle.ccr_proof.specs.Table.{assigned}
-use Rattle.ccr_resolve.specs.Room.{top, TopFits}
+use Rattle.ccr_choice.specs.Table.{assigned}
+use Rattle.ccr_resolve.specs.Room.{TopFits}
 
 -- the number of a fixed build, 0 where none is fixed
 abbrev pub number_or_0 : Option BuildValue → ℕ
@@ -23,7 +23,7 @@ numbers_of a (suc n) = numbers_of a n ++ number_or_0 (a n) ∷ []
 
 -- The best places with the numbers of the fixed builds.
 abbrev pub IsFull : ProblemValue → Assignment → ChoiceValue → Type 0
-IsFull p a c = (c.places ≡ best_places plain p a) × (c.builds ≡ numbers_of a (length p.jobs))
+IsFull p a c = AreBestPlaces (order_of p) p a c.places × (c.builds ≡ numbers_of a (length p.jobs))
 
 -- Each fixed build is one of its job.
 abbrev pub FixesKnown : ProblemValue → List ℕ → Type 0
@@ -64,8 +64,7 @@ pub record OnPath (prefers : Preference) (p : ProblemValue) (table : List ℕ) (
 
 -- What is found is no worse than the best places where nothing is fixed.
 abbrev pub ReachesTop : Preference → ProblemValue → Option (List ℕ) → Type 0
-ReachesTop prefers p None = ⊥
-ReachesTop prefers p (Some found) = ¬ IsBetter prefers (top prefers p) found
+ReachesTop prefers p best = IsBounded prefers p best nothing_fixed
 
 -- So many nodes are no more than the table may need.
 pub record IsNeeded (prefers : Preference) (p : ProblemValue) (table : List ℕ) (best : Option (List ℕ)) (n : ℕ) : Type 0 where

@@ -1,18 +1,18 @@
 //! The choice where every job has a fixed build.
 
 ghost use Rattle.std.specs.Prelude.{◌≡◌, length, IfOk};
-ghost use Rattle.ccr_proof.specs.Preference.{plain};
-ghost use Rattle.ccr_proof.specs.Possible.{best_places};
-ghost use Rattle.ccr_proof.specs.Table.{assigned};
+ghost use Rattle.ccr_choice.specs.Preference.{order_of};
+ghost use Rattle.ccr_choice.specs.Possible.{AreBestPlaces};
+ghost use Rattle.ccr_choice.specs.Table.{assigned};
 ghost use Rattle.ccr_resolve.specs.Search.{numbers_of, IsFull};
 
+use ccr_choice::possible::{Fixed, best_possible, fixed_build};
 use ccr_choice::{Choice, Problem};
-use ccr_proof::possible::{Fixed, best_possible, fixed_build};
 use std::alloc::{AllocError, Global};
 
 /// The best place of each input.
 fn best_places(alloc: Global, problem: &Problem, fixed: &Fixed) -> Result<Vec<u32>, AllocError>
-    ensures { IfOk result (λ v. v.items ≡ best_places plain problem.now (assigned problem.now fixed.now)) }
+    ensures { IfOk result (λ v. AreBestPlaces (order_of problem.now) problem.now (assigned problem.now fixed.now) v.items) }
 {
     let mut places = Vec::new(alloc);
     for i in 0..problem.inputs().len() {

@@ -2,15 +2,15 @@
 
 ghost use Rattle.std.specs.Prelude.{◌≡◌, ◌≢◌, ◌<◌, ◌≤◌, ◌↔◌, ℕ, length, slice_index, IsTrue, IfOk, MatchOption};
 ghost use Rattle.ccr_choice.specs.Problem.{IsProblem};
-ghost use Rattle.ccr_proof.specs.Preference.{plain};
+ghost use Rattle.ccr_choice.specs.Preference.{order_of};
 ghost use Rattle.ccr_proof.specs.Refutes.{HasNoPlace, IsBounded};
-ghost use Rattle.ccr_proof.specs.Table.{assigned};
+ghost use Rattle.ccr_choice.specs.Table.{assigned};
 ghost use Rattle.ccr_resolve.specs.Search.{FixesKnown, FoundSatisfies, places_of, Searched};
 
 use crate::full::full_choice;
-use ccr_choice::{Choice, Problem};
+use ccr_choice::possible::{Fixed, best_possible, is_bounded};
+use ccr_choice::{Choice, MOST_JOBS, Problem};
 use ccr_proof::Node;
-use ccr_proof::possible::{Fixed, best_possible, is_bounded};
 use std::alloc::{AllocError, Global};
 
 fn first_empty(problem: &Problem, fixed: &Fixed) -> Option<u32>
@@ -29,7 +29,7 @@ fn first_empty(problem: &Problem, fixed: &Fixed) -> Option<u32>
 
 /// Whether the best places are no better than what was found.
 fn is_closed(problem: &Problem, fixed: &Fixed, best: &Option<Choice>) -> bool
-    ensures { IsTrue result ↔ IsBounded plain problem.now (places_of best.now) (assigned problem.now fixed.now) }
+    ensures { IsTrue result ↔ IsBounded (order_of problem.now) problem.now (places_of best.now) (assigned problem.now fixed.now) }
 {
     match best {
         None => false,
@@ -39,7 +39,7 @@ fn is_closed(problem: &Problem, fixed: &Fixed, best: &Option<Choice>) -> bool
 
 /// The first of so many named jobs without a fixed build.
 fn first_free(jobs: usize, fixed: &Fixed) -> Option<usize>
-    requires { jobs ≤ 32 }
+    requires { jobs ≤ MOST_JOBS }
     ensures { MatchOption result
         ((j : ℕ) → j < jobs → slice_index fixed.now j ≢ 0)
         (λ j. (j < jobs) × (slice_index fixed.now j ≡ 0)) }
@@ -59,7 +59,7 @@ pub(crate) fn search(
     requires known { FixesKnown problem.now fixed.now }
     requires found { FoundSatisfies problem.now best.old }
     ensures rules { IsProblem problem.now }
-    ensures found { IfOk result (λ tree. Searched plain problem.now fixed.now best.old best.new left.old left.new tree) }
+    ensures found { IfOk result (λ tree. Searched (order_of problem.now) problem.now fixed.now best.old best.new left.old left.new tree) }
 {
     let jobs = problem.jobs();
     if *left == 0 {

@@ -24,7 +24,7 @@ pub(crate) fn versions_of(alloc: Global, text: &str) -> Result<Vec<Version>, Fai
     let mut versions = Vec::new(alloc);
     if let Some(items) = value.as_array() {
         for item in items {
-            versions.push(Version::from_value(item)?)?;
+            versions.push(Version::from_value(alloc, item)?)?;
         }
     }
     Ok(versions)

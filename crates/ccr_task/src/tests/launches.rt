@@ -25,7 +25,7 @@ fn pipeline(alloc: Global, source: &str) -> Result<Pipeline, Fail> {
 }
 
 fn version(alloc: Global) -> Result<Version, Fail> {
-    Ok(Version::from_value(&Value::from_str(alloc, "{\"n\":\"2\"}")?)?)
+    Ok(Version::from_value(alloc, &Value::from_str(alloc, "{\"n\":\"2\"}")?)?)
 }
 
 fn object(alloc: Global, text: &str) -> Result<Option<Object>, Fail> {

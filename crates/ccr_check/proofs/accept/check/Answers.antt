@@ -1,9 +1,8 @@
-use Rattle.std.proofs.Common.{◌≡◌, replicate, refl, option_copied}
+use Rattle.std.proofs.Common.{refl, option_copied}
 use Rattle.std.proofs.lemmas.Result.{err_from_is_err_and}
 use Rattle.ccr_proof.specs.Tree.{tree_of}
-use Rattle.ccr_proof.specs.Preference.{plain}
-use Rattle.ccr_proof.proofs.PlainLaws.{plain_order}
-use Rattle.ccr_proof.specs.Table.{assigned}
+use Rattle.ccr_choice.specs.Preference.{order_of}
+use Rattle.ccr_choice.proofs.PlainLaws.{is_order}
 use Rattle.ccr_check.proofs.Claims.{empty_table, accepted_from, fault_from, not_accepted, refused}
 use Rattle.ccr_proof.proofs.Sound.{accepted_right}
 use Rattle.ccr_check.proofs.accept.check.Goals as goal
@@ -29,5 +28,5 @@ returns-clause-exact c =
 pub returns-clause-right : goal.returns-clause-right
 returns-clause-right c =
     let none = empty_table c.args.problem.now _ refl in
-    accepted_right plain plain_order c.args.problem.now c.jobs.ensures.kept c.args.proof.now.claim (tree_of c.args.proof.now.tree)
+    accepted_right (order_of c.args.problem.now) (is_order c.args.problem.now) c.args.problem.now c.jobs.ensures.kept c.args.proof.now.claim (tree_of c.args.proof.now.tree)
     (accepted_from c.args.problem.now c.args.proof.now.claim (tree_of c.args.proof.now.tree) (option_copied c.in_ok-bound.bound) _ none c.in_ok-bound.ensures c.in_ok-walk.ensures.1)

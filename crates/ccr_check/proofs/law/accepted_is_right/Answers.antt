@@ -1,4 +1,4 @@
-use Rattle.ccr_proof.proofs.PlainLaws.{plain_order, plain_is_later}
+use Rattle.ccr_choice.proofs.PlainLaws.{is_order, plain_is_later}
 use Rattle.ccr_proof.proofs.Sound.{accepted_right}
 use Rattle.ccr_check.proofs.law.accepted_is_right.Goals as goal
 
@@ -6,7 +6,7 @@ pub returns-clause-right : goal.returns-clause-right
 returns-clause-right c = λ prefers order p rules claim t h. accepted_right prefers order p rules claim t h
 
 pub returns-clause-order : goal.returns-clause-order
-returns-clause-order c = plain_order
+returns-clause-order c = is_order
 
 pub returns-clause-later : goal.returns-clause-later
-returns-clause-later c = plain_is_later
+returns-clause-later c = λ p. plain_is_later

@@ -1,18 +1,17 @@
-use Rattle.std.proofs.Common.{◌≡◌, ℕ, ◌+◌, ◌<◌, List, [], length, get_or, slice_set, refl, sym, ap, ◌∙◌, subst, arith, option_copied, Some, Vec, Global}
-use Rattle.std.specs.Prelude.{slice_get}
+use Rattle.std.proofs.Common.{◌<◌, [], length, get_or, refl, sym, ap, ◌∙◌, subst, arith, option_copied}
 use Rattle.std.proofs.lemmas.List.{get_or_default}
 use Rattle.std.proofs.lemmas.Option.{slice_get-get_or}
 use Rattle.std.proofs.lemmas.Result.{err_from_is_err_and}
 use Rattle.ccr_choice.specs.Problem.{BuildValue, builds_at}
-use Rattle.ccr_proof.specs.Preference.{plain}
-use Rattle.ccr_proof.specs.Assignment.{Assignment, with_build}
+use Rattle.ccr_choice.specs.Preference.{order_of}
+use Rattle.ccr_choice.specs.Assignment.{Assignment}
 use Rattle.ccr_proof.specs.Tree.{tree_of}
 use Rattle.ccr_proof.specs.Refutes.{Refutes}
 use Rattle.ccr_proof.proofs.Trees.{tree_is, count_is}
 use Rattle.ccr_check.specs.Fault.{IsFirstFault}
-use Rattle.ccr_proof.specs.Table.{assigned}
+use Rattle.ccr_choice.specs.Table.{assigned}
 use Rattle.ccr_check.proofs.Walk.{is_free, wrong_children, start_refuted, start_faulty, child_count, step_refuted, here_faulty, step_faulty}
-use Rattle.ccr_proof.proofs.TableLaws.{table_set}
+use Rattle.ccr_choice.proofs.TableLaws.{table_set}
 use Rattle.ccr_check.proofs.tree.+walk.Goals as goal
 
 no_build : BuildValue
@@ -51,7 +50,7 @@ returns-in_err-next-in-Job t c =
     let in_bs : k < length bs = omega (arith, c.if-children-builds.false, ap length c.builds-builds.ensures.value) in
     let b = get_or bs k no_build in
     let set = table_set p c.args.fixed.now j k b (omega (arith, c.told-fixed, c.jobs.ensures.few)) (slice_get-get_or bs k no_build in_bs) in
-    let P : Assignment → Type 0 = λ x. IsFirstFault plain p (option_copied c.args.bound) x c.loop-k.next (tree_of c.index-children-k.result) c.in_err-next-in-Job.field-0.0 in
+    let P : Assignment → Type 0 = λ x. IsFirstFault (order_of p) p (option_copied c.args.bound) x c.loop-k.next (tree_of c.index-children-k.result) c.in_err-next-in-Job.field-0.0 in
     let here = here_faulty p (option_copied c.args.bound) a j k cs bs c.index-children-k.result b (omega arith) in_bs c.index-children-k.is (get_or_default bs k no_build b in_bs)
     c.loop-k.next c.in_err-next-in-Job.field-0.0 (subst P set c.in_err-next-in-Job.ensures) in
     let r = err_from_is_err_and c.from_residual.result c.from_residual.ensures.1 in
@@ -70,7 +69,7 @@ loop-k-preserved t c =
     let b = get_or bs k no_build in
     let b_at = get_or_default bs k no_build b in_bs in
     let set = table_set p c.args.fixed.now j k b (omega (arith, c.told-fixed, c.jobs.ensures.few)) (slice_get-get_or bs k no_build in_bs) in
-    let P : Assignment → Type 0 = λ x. Refutes plain p (option_copied c.args.bound) x (tree_of c.index-children-k.result) in
+    let P : Assignment → Type 0 = λ x. Refutes (order_of p) p (option_copied c.args.bound) x (tree_of c.index-children-k.result) in
     let refutes = subst P set c.in_ok-next-in-Job.ensures.1 in
     let counted = child_count p (option_copied c.args.bound) a j k cs bs c.index-children-k.result b in_cs in_bs c.index-children-k.is b_at in
     record {

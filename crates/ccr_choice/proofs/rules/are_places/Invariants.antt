@@ -1,4 +1,4 @@
-use Rattle.std.proofs.Common.{◌≡◌, ◌++◌, ◌<◌, ◌≤◌, length, option_map, Some, None, if◌then◌else◌}
+use Rattle.std.proofs.Common.{◌≡◌, length}
 use Rattle.ccr_choice.specs.Problem.{are_places_after}
 use Rattle.ccr_choice.proofs.rules.are_places.Given as goal
 

@@ -1,8 +1,7 @@
-use Rattle.std.proofs.Common.{◌≡◌, ◌≤◌, List, length, arith, ap, ◌∙◌, refl, sym, string_bytes}
+use Rattle.std.proofs.Common.{◌≡◌, length, arith, ap, ◌∙◌, string_bytes}
 use Rattle.std.proofs.lemmas.Grind.{common_steps}
-use Rattle.ccr_choice.specs.Problem.{IsProblem}
-use Rattle.ccr_choice.specs.ProblemText.{problem_text, problem_of}
-use Rattle.ccr_choice.proofs.Bounds.{rules_of, few_builds, builds_few}
+use Rattle.ccr_choice.specs.ProblemText.{problem_text, problem_in}
+use Rattle.ccr_choice.proofs.Bounds.{rules_of, builds_few}
 use Rattle.ccr_choice.proofs.ReadLaws.{problem_text_again}
 use Rattle.ccr_choice.proofs.write.write_problem.Goals as goal
 
@@ -17,4 +16,4 @@ put_jobs-requires c = builds_few c.args.problem.now c.jobs-jobs.result.now c.job
 pub returns-clause-again : goal.returns-clause-again
 returns-clause-again c =
     let text : string_bytes c.put_jobs.new.out ≡ problem_text c.args.problem.now = grind (arith, common_steps) in
-    ap problem_of text ∙ problem_text_again c.args.problem.now c.jobs-jobs.ensures.kept
+    ap problem_in text ∙ problem_text_again c.args.problem.now c.jobs-jobs.ensures.kept

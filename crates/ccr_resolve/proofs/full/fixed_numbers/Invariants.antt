@@ -1,5 +1,5 @@
 use Rattle.std.proofs.Common.{◌≡◌}
-use Rattle.ccr_proof.specs.Table.{assigned}
+use Rattle.ccr_choice.specs.Table.{assigned}
 use Rattle.ccr_resolve.specs.Search.{numbers_of}
 use Rattle.ccr_resolve.proofs.full.fixed_numbers.Given as goal
 

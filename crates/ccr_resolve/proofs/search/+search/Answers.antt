@@ -1,28 +1,28 @@
 use Rattle.std.proofs.Common.{ℕ, List, [], ◌≢◌, slice_index, ◌≡◌, ◌<◌, ◌≤◌, ◌+◌, ◌-◌, length, slice_set, arith, sym, ap, ◌∙◌, subst, refl}
 use Rattle.ccr_choice.specs.Problem.{builds_at}
 use Rattle.ccr_proof.specs.declared.node.Node.{Node}
-use Rattle.ccr_proof.specs.Preference.{plain}
-use Rattle.ccr_proof.proofs.PlainLaws.{plain_order}
+use Rattle.ccr_choice.specs.Preference.{order_of}
+use Rattle.ccr_choice.proofs.PlainLaws.{is_order}
 use Rattle.ccr_resolve.specs.Search.{places_of, free_jobs}
 use Rattle.ccr_resolve.proofs.FullLaws.{full_satisfies}
 use Rattle.ccr_resolve.proofs.Steps.{needed_one, leaf_empty, leaf_bounded, leaf_full, IsOpen, IsLooping, fewer_free, loop_first, loop_over, loop_next, loop_end, some_build, child_known, none_needed, some_searched}
 use Rattle.ccr_resolve.proofs.search.+search.Goals as goal
 
 pub returns-then-left-eq0-clause-found : goal.returns-then-left-eq0-clause-found
-returns-then-left-eq0-clause-found t c = needed_one plain c.args.problem.now c.args.fixed.now (places_of c.args.best.now) _ (omega arith)
+returns-then-left-eq0-clause-found t c = needed_one (order_of c.args.problem.now) c.args.problem.now c.args.fixed.now (places_of c.args.best.now) _ (omega arith)
 
 pub returns-in-Some-clause-found : goal.returns-in-Some-clause-found
-returns-in-Some-clause-found t c = leaf_empty plain plain_order c.args.problem.now c.jobs-jobs.ensures.kept c.args.fixed.now c.args.best.now c.args.left.now _ c.in-Some.i c.in-Some.ensures c.requires.found (omega arith)
+returns-in-Some-clause-found t c = leaf_empty (order_of c.args.problem.now) (is_order c.args.problem.now) c.args.problem.now c.jobs-jobs.ensures.kept c.args.fixed.now c.args.best.now c.args.left.now _ c.in-Some.i c.in-Some.ensures c.requires.found (omega arith)
 
 pub returns-then-is_closed-clause-found : goal.returns-then-is_closed-clause-found
-returns-then-is_closed-clause-found t c = leaf_bounded plain plain_order c.args.problem.now c.jobs-jobs.ensures.kept c.args.fixed.now c.args.best.now c.args.left.now _ (c.if-is_closed.ensures.0 refl) c.requires.found (omega arith)
+returns-then-is_closed-clause-found t c = leaf_bounded (order_of c.args.problem.now) (is_order c.args.problem.now) c.args.problem.now c.jobs-jobs.ensures.kept c.args.fixed.now c.args.best.now c.args.left.now _ (c.if-is_closed.ensures.0 refl) c.requires.found (omega arith)
 
 pub returns-in_default-first_free-clause-found : goal.returns-in_default-first_free-clause-found
 returns-in_default-first_free-clause-found t c =
     let p = c.args.problem.now in
     let full = c.in_ok-full_choice.ensures in
     let all : (j : ℕ) → j < length p.jobs → slice_index c.args.fixed.now j ≢ 0 = λ j within. c.in_default-first_free.ensures j (omega (arith, within, ap length c.jobs-jobs.ensures.value)) in
-    leaf_full plain plain_order p c.jobs-jobs.ensures.kept c.args.fixed.now c.args.best.now c.in_ok-full_choice.field-0 c.args.left.now _ (λ x. absurd (cc (c.if-is_closed.ensures.1 x)))
+    leaf_full (order_of p) (is_order p) p c.jobs-jobs.ensures.kept c.args.fixed.now c.args.best.now c.in_ok-full_choice.field-0 c.args.left.now _ (λ x. absurd (cc (c.if-is_closed.ensures.1 x)))
     full.0 (full_satisfies p c.jobs-jobs.ensures.kept c.args.fixed.now c.requires.known all c.in_default.ensures c.in_ok-full_choice.field-0 full) (omega arith)
 
 pub loop-k-init : goal.loop-k-init
@@ -34,10 +34,10 @@ loop-k-init t c =
     let before = places_of c.args.best.now in
     let inside : j < length p.jobs = omega (arith, c.in-Some-first_free.ensures.0, ap length c.jobs-jobs.ensures.value) in
     let wide : j < length table = omega (arith, inside, ap length c.jobs-jobs.ensures.value, c.jobs-jobs.ensures.few, c.told-fixed) in
-    let now : IsOpen plain p table j before =
+    let now : IsOpen (order_of p) p table j before =
     record { inside = inside; wide = wide; free = c.in-Some-first_free.ensures.1; possible = c.in_default.ensures; unbounded = λ x. absurd (cc (c.if-is_closed.ensures.1 x)) } in
-    let P : List Node → Type 0 = λ cs. IsLooping plain p table j before c.args.left.now 0 cs c.args.best.now (c.args.left.now - 1) in
-    subst P (sym c.new-children.ensures.items) (loop_first plain plain_order p rules table j before now c.args.best.now c.args.left.now (c.args.left.now - 1) refl c.requires.found (omega arith))
+    let P : List Node → Type 0 = λ cs. IsLooping (order_of p) p table j before c.args.left.now 0 cs c.args.best.now (c.args.left.now - 1) in
+    subst P (sym c.new-children.ensures.items) (loop_first (order_of p) (is_order p) p rules table j before now c.args.best.now c.args.left.now (c.args.left.now - 1) refl c.requires.found (omega arith))
 
 pub search-requires : goal.search-requires
 search-requires t c =
@@ -48,10 +48,10 @@ search-requires t c =
     let before = places_of c.args.best.now in
     let inside : j < length p.jobs = omega (arith, c.in-Some-first_free.ensures.0, ap length c.jobs-jobs.ensures.value) in
     let wide : j < length table = omega (arith, inside, ap length c.jobs-jobs.ensures.value, c.jobs-jobs.ensures.few, c.told-fixed) in
-    let now : IsOpen plain p table j before =
+    let now : IsOpen (order_of p) p table j before =
     record { inside = inside; wide = wide; free = c.in-Some-first_free.ensures.1; possible = c.in_default.ensures; unbounded = λ x. absurd (cc (c.if-is_closed.ensures.1 x)) } in
     let within : c.loop-k.k < length (builds_at p j) = omega (arith, c.loop-k-test.true, ap length c.builds-count.ensures.value) in
-    let less : free_jobs (slice_set table j (c.loop-k.k + 1)) < free_jobs table = fewer_free plain plain_order p rules table j before now c.loop-k.k in
+    let less : free_jobs (slice_set table j (c.loop-k.k + 1)) < free_jobs table = fewer_free (order_of p) (is_order p) p rules table j before now c.loop-k.k in
     (subst (λ x. free_jobs (slice_set table j (c.loop-k.k + 1)) < x) c.decreases less, (child_known p table j c.loop-k.k c.requires.known wide within, c.loop-k.invariant.satisfies))
 
 pub returns-in_default-2-clause-found : goal.returns-in_default-2-clause-found
@@ -63,11 +63,11 @@ returns-in_default-2-clause-found t c =
     let before = places_of c.args.best.now in
     let inside : j < length p.jobs = omega (arith, c.in-Some-first_free.ensures.0, ap length c.jobs-jobs.ensures.value) in
     let wide : j < length table = omega (arith, inside, ap length c.jobs-jobs.ensures.value, c.jobs-jobs.ensures.few, c.told-fixed) in
-    let now : IsOpen plain p table j before =
+    let now : IsOpen (order_of p) p table j before =
     record { inside = inside; wide = wide; free = c.in-Some-first_free.ensures.1; possible = c.in_default.ensures; unbounded = λ x. absurd (cc (c.if-is_closed.ensures.1 x)) } in
     let within : c.loop-k.k < length (builds_at p j) = omega (arith, c.loop-k-test.true, ap length c.builds-count.ensures.value) in
-    loop_over plain plain_order p rules table j before now c.args.left.now c.loop-k.k c.loop-k.children.items c.loop-k.best c.loop-k.left within c.loop-k.invariant
-    (none_needed plain p (slice_set table j (c.loop-k.k + 1)) c.loop-k.best c.search.new.best c.loop-k.left c.search.new.left c.in_ok-child.field-0 c.in_ok-child.ensures.found c.in_default-2.is)
+    loop_over (order_of p) (is_order p) p rules table j before now c.args.left.now c.loop-k.k c.loop-k.children.items c.loop-k.best c.loop-k.left within c.loop-k.invariant
+    (none_needed (order_of p) p (slice_set table j (c.loop-k.k + 1)) c.loop-k.best c.search.new.best c.loop-k.left c.search.new.left c.in_ok-child.field-0 c.in_ok-child.ensures.found c.in_default-2.is)
 
 pub loop-k-preserved : goal.loop-k-preserved
 loop-k-preserved t c =
@@ -78,12 +78,12 @@ loop-k-preserved t c =
     let before = places_of c.args.best.now in
     let inside : j < length p.jobs = omega (arith, c.in-Some-first_free.ensures.0, ap length c.jobs-jobs.ensures.value) in
     let wide : j < length table = omega (arith, inside, ap length c.jobs-jobs.ensures.value, c.jobs-jobs.ensures.few, c.told-fixed) in
-    let now : IsOpen plain p table j before =
+    let now : IsOpen (order_of p) p table j before =
     record { inside = inside; wide = wide; free = c.in-Some-first_free.ensures.1; possible = c.in_default.ensures; unbounded = λ x. absurd (cc (c.if-is_closed.ensures.1 x)) } in
     let within : c.loop-k.k < length (builds_at p j) = omega (arith, c.loop-k-test.true, ap length c.builds-count.ensures.value) in
-    loop_next plain plain_order p rules table j before now c.args.left.now c.loop-k.k c.loop-k.children.items c.push.new.self.items c.loop-k.best c.search.new.best c.loop-k.left c.search.new.left c.in-Some-2.child within
+    loop_next (order_of p) (is_order p) p rules table j before now c.args.left.now c.loop-k.k c.loop-k.children.items c.push.new.self.items c.loop-k.best c.search.new.best c.loop-k.left c.search.new.left c.in-Some-2.child within
     c.in_ok-push.ensures.items c.loop-k.invariant
-    (some_searched plain p (slice_set table j (c.loop-k.k + 1)) c.loop-k.best c.search.new.best c.loop-k.left c.search.new.left c.in_ok-child.field-0 c.in-Some-2.child c.in_ok-child.ensures.found c.in-Some-2.is)
+    (some_searched (order_of p) p (slice_set table j (c.loop-k.k + 1)) c.loop-k.best c.search.new.best c.loop-k.left c.search.new.left c.in_ok-child.field-0 c.in-Some-2.child c.in_ok-child.ensures.found c.in-Some-2.is)
 
 pub returns-clause-found : goal.returns-clause-found
 returns-clause-found t c =
@@ -94,8 +94,8 @@ returns-clause-found t c =
     let before = places_of c.args.best.now in
     let inside : j < length p.jobs = omega (arith, c.in-Some-first_free.ensures.0, ap length c.jobs-jobs.ensures.value) in
     let wide : j < length table = omega (arith, inside, ap length c.jobs-jobs.ensures.value, c.jobs-jobs.ensures.few, c.told-fixed) in
-    let now : IsOpen plain p table j before =
+    let now : IsOpen (order_of p) p table j before =
     record { inside = inside; wide = wide; free = c.in-Some-first_free.ensures.1; possible = c.in_default.ensures; unbounded = λ x. absurd (cc (c.if-is_closed.ensures.1 x)) } in
     let all : c.loop-k.k ≡ length (builds_at p j) = omega (arith, c.loop-k-test.false, c.loop-k.auto.k-end, ap length c.builds-count.ensures.value) in
-    loop_end plain plain_order p rules table j before now c.args.left.now c.loop-k.k c.loop-k.children c.args.best.now c.loop-k.best c.loop-k.left refl
-    (λ path. some_build plain p j path.top inside) all c.loop-k.invariant
+    loop_end (order_of p) (is_order p) p rules table j before now c.args.left.now c.loop-k.k c.loop-k.children c.args.best.now c.loop-k.best c.loop-k.left refl
+    (λ path. some_build (order_of p) p j path.top inside) all c.loop-k.invariant

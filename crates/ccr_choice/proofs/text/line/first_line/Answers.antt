@@ -1,5 +1,5 @@
-use Rattle.std.proofs.Common.{◌≡◌, ◌<◌, ◌∷◌, [], length, ap, ◌∙◌, refl, sym, eqb-true}
-use Rattle.ccr_choice.specs.Text.{words_of, lines_of, unended}
+use Rattle.std.proofs.Common.{◌∷◌, [], ap, ◌∙◌, refl, sym, eqb-true}
+use Rattle.ccr_choice.specs.Text.{lines_of}
 use Rattle.ccr_choice.proofs.Cuts.{lines_step, lines_none, lines_unended, some_bytes}
 use Rattle.ccr_choice.proofs.text.line.first_line.Goals as goal
 

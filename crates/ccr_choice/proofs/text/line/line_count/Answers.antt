@@ -1,6 +1,4 @@
-use Rattle.std.proofs.Common.{◌≡◌, ◌<◌, ◌+◌, ◌≤◌, ◌∷◌, [], length, ap, ◌∙◌, sym, arith, eqb-true}
-use Rattle.std.proofs.lemmas.Bool.{eqb-false}
-use Rattle.ccr_choice.specs.Text.{words_of, lines_of, unended}
+use Rattle.std.proofs.Common.{length, ap, ◌∙◌, sym, arith, eqb-true}
 use Rattle.ccr_choice.proofs.Cuts.{lines_step, lines_none, lines_unended, some_bytes}
 use Rattle.ccr_choice.proofs.text.line.line_count.Goals as goal
 

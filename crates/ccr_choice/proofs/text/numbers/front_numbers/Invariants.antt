@@ -1,4 +1,4 @@
-use Rattle.std.proofs.Common.{◌≡◌, ◌++◌, ◌<◌, ◌≤◌, length, option_map, Some, None, if◌then◌else◌}
+use Rattle.std.proofs.Common.{◌≡◌, ◌++◌, length}
 use Rattle.ccr_choice.specs.Reading.{front_numbers, after_numbers}
 use Rattle.ccr_choice.proofs.text.numbers.front_numbers.Given as goal
 

@@ -1,8 +1,0 @@
-use Rattle.std.proofs.Common.{◌≡◌, ℕ, ◌<◌, slice_index}
-use Rattle.ccr_proof.specs.Preference.{plain}
-use Rattle.ccr_proof.specs.Possible.{best_places}
-use Rattle.ccr_proof.specs.Table.{assigned}
-use Rattle.ccr_proof.proofs.possible.is_bounded.Given as goal
-
-abbrev pub invariant-loop-i : goal.invariant-loop-i
-invariant-loop-i l = (k : ℕ) → k < l.i → slice_index (best_places plain l.problem (assigned l.problem l.fixed)) k ≡ slice_index l.bound k

@@ -1,8 +1,0 @@
-use Rattle.std.proofs.Common.{ℕ, ◌<◌, slice_index}
-use Rattle.ccr_choice.specs.Problem.{input_at}
-use Rattle.ccr_proof.specs.Possible.{CanHavePassed}
-use Rattle.ccr_proof.specs.Table.{assigned}
-use Rattle.ccr_proof.proofs.possible.is_possible.Given as goal
-
-abbrev pub invariant-loop-job : goal.invariant-loop-job
-invariant-loop-job l = (k : ℕ) → k < l.job-index → CanHavePassed l.problem (assigned l.problem l.fixed) (l.scope, l.place) (slice_index (input_at l.problem l.input).jobs k)
