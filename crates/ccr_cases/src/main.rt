@@ -7,6 +7,7 @@
 #![tactic(auto)]
 
 mod pipelines;
+mod steps;
 mod versions;
 
 use std::alloc::{AllocError, Global};
@@ -18,6 +19,9 @@ use versions::{meets_case, object_case, pin_case, version_case};
 /// The answer to a case of this kind, or that there is no such kind.
 fn answer_to(alloc: Global, example: &str, kind: &str, given: &str) -> Result<String, AllocError> {
     if let Some(answer) = pipelines::answer_to(alloc, example, kind, given)? {
+        return Ok(answer);
+    }
+    if let Some(answer) = steps::answer_to(alloc, kind, given)? {
         return Ok(answer);
     }
     match kind {

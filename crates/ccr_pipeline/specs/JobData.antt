@@ -35,7 +35,7 @@ pub record JobData : Type 0 where
 abbrev pub job_data : Job → JobData
 job_data j = record {
   name = string_bytes j.name;
-  plan = tree_of j.plan;
+  plan = tree_of j.plan.value;
   serial = j.serial;
   serial_groups = map string_bytes j.serial_groups.items;
   max_in_flight = j.max_in_flight;

@@ -19,6 +19,7 @@ use crate::step::Step;
 use serde_json::Value;
 use std::alloc::{AllocError, Global};
 use std::collections::BTreeMap;
+use std::rc::Rc;
 
 fn resource(alloc: Global, value: &Value) -> Result<Resource, AllocError>
     requires { IsResource (view value.now) }
@@ -76,7 +77,7 @@ fn job(alloc: Global, value: &Value) -> Result<Job, AllocError>
 {
     Ok(Job {
         name: text(alloc, value, "name")?,
-        plan: plan(alloc, value)?,
+        plan: Rc::new(alloc, plan(alloc, value)?)?,
         serial: truth(value, "serial"),
         serial_groups: texts(alloc, value, "serial_groups")?,
         max_in_flight: whole(value, "max_in_flight"),

@@ -6,6 +6,7 @@
 //! PROGRAMS/in for the last version and PROGRAMS/out in FOLDER, with FOLDER/in as the artifact's folder, and prints each version.
 //! `ccr_probe steps JOB` reads a pipeline in one line, the versions of the job's inputs in the next, and answers, one a line
 //! (`done`, `pushed VERSION`, `config CONFIG`, `failed`, `errored`): it prints what the build asks, and where it has ended, how.
+//! `ccr_probe builds JOB COUNT` reads the same first two lines, and starts so many builds of the job, which it holds all at once.
 //! `ccr_probe versions N` makes N versions of two short fields and holds them at once.
 //! With `--repeat N` behind these the call is made N times, and the whole time is printed on standard error. Statuses: 0 read,
 //! resolved or ended, 1 refused, 2 usage, 3 over budget, 4 out of memory or unreadable.
@@ -25,7 +26,7 @@ use std::io::Read;
 use std::process::ExitCode;
 use std::time::Instant;
 use std::{env, io};
-use steps::answer_steps;
+use steps::{Playing, answer_steps};
 use versions::answer_versions;
 
 /// A node budget, from 1 to 1,000,000.
@@ -44,7 +45,7 @@ enum Call<'a> {
     Resolve(Budget),
     Launch,
     Type(Trial<'a>),
-    Steps(&'a str),
+    Steps(&'a str, Playing),
     Versions(u32),
 }
 
@@ -90,7 +91,13 @@ fn order_of(words: &[String]) -> Option<Order<'_>> {
         }
         "steps" => {
             let (job, rest) = rest.split_first()?;
-            (Call::Steps(job.as_str()), rest)
+            (Call::Steps(job.as_str(), Playing::Answered), rest)
+        }
+        "builds" => {
+            let (job, rest) = rest.split_first()?;
+            let (count, rest) = rest.split_first()?;
+            let count = count.as_str().parse::<u32>().ok()?;
+            (Call::Steps(job.as_str(), Playing::Held(count)), rest)
         }
         "versions" => {
             let (count, rest) = rest.split_first()?;
@@ -114,7 +121,7 @@ fn answer_of(rt: &HostRuntime, call: Call, text: &[u8]) -> Result<Answer, AllocE
         Call::Resolve(budget) => answer_resolve(alloc, text, budget.nodes),
         Call::Launch => answer_launch(rt, alloc),
         Call::Type(trial) => answer_type(rt, alloc, text, &trial),
-        Call::Steps(job) => answer_steps(alloc, text, job),
+        Call::Steps(job, what) => answer_steps(alloc, text, job, what),
         Call::Versions(count) => answer_versions(alloc, count),
     }
 }
@@ -151,7 +158,7 @@ fn main(rt: HostRuntime) -> io::Result<ExitCode> {
     };
     let Some(order) = order_of(&words) else {
         eprintln!(rt;
-            "usage: ccr_probe pipeline|task|resolve BUDGET|launch|type PROGRAMS FOLDER|steps JOB|versions N [--repeat N]"
+            "usage: ccr_probe pipeline|task|resolve BUDGET|launch|type PROGRAMS FOLDER|steps JOB|builds JOB COUNT|versions N [--repeat N]"
         )?;
         return Ok(ExitCode::from(2));
     };

@@ -1,9 +1,9 @@
 //! Builds whose programs are launched and end by a script: what is launched, and how the build ends.
 
-use crate::steps::{pipeline_text, versions_of};
+use crate::steps::{pipeline_text, started, versions_of};
 use ccr_pipeline::{Pipeline, read};
 use ccr_process::{Ended, Launch, Runner, Scripted};
-use ccr_steps::{Answered, Ask, BuildRun, start};
+use ccr_steps::{Answered, Ask, BuildRun};
 use ccr_task::{
     Places, Shelf, ShelfAnswer, ShelfScript, answered_of, can_launch, config_of, launch_of,
 };
@@ -122,7 +122,7 @@ fn shows(rt: &impl Abort, alloc: Global, rows: &[Row<'_>]) -> Result<(), Fail> {
         let Some(job) = pipeline.jobs().first() else {
             return Err(Fail::new("no job"));
         };
-        let mut run = start(alloc, job, &versions)?;
+        let mut run = started(alloc, job, &versions)?;
         let mut world = World {
             places: Places {
                 types: String::from_str(alloc, "/t")?,
