@@ -5,8 +5,6 @@
 #[cfg(test)]
 mod brute;
 #[cfg(test)]
-mod programs;
-#[cfg(test)]
 mod resolving;
 #[cfg(test)]
 mod steps;

@@ -1,9 +1,8 @@
-//! Shelves: the machine's folders, a reader and a system that fail, and scripts.
+//! The machine's folders, and a reader and a system that fail.
 
 mod fake;
 
-use crate::folders::read_opened;
-use crate::{Folders, Shelf, ShelfAnswer, ShelfFault, ShelfScript};
+use ccr_task::{Folders, Shelf, ShelfFault, read_opened};
 use fake::{Broken, Pieces};
 use std::alloc::Global;
 use std::collections::VecDeque;
@@ -196,79 +195,5 @@ fn a_reader_that_fails_at_any_call_gives_its_fault_and_no_cut_bytes(
     }
     let read = read_pieces(alloc, 6, ErrorKind::Other)??;
     assert_eq!(rt; read.as_slice(), b"0123456789".as_slice());
-    Ok(())
-}
-
-/// A script of these answers.
-fn script(alloc: Global, answers: Vec<ShelfAnswer>) -> Result<ShelfScript, Fail> {
-    let mut queue = VecDeque::new(alloc);
-    for answer in answers {
-        queue.push_back(answer)?;
-    }
-    Ok(ShelfScript::new(queue))
-}
-
-#[test]
-fn a_script_gives_its_answers_in_order_and_then_fails(rt: HostRuntime) -> Result<(), Fail> {
-    let alloc = rt.alloc();
-    let mut shelf = script(
-        alloc,
-        vec![in alloc;
-            ShelfAnswer::Done,
-            ShelfAnswer::Read(b"hello".to_vec(alloc)?),
-            ShelfAnswer::Fault(ShelfFault::TooLong),
-            ShelfAnswer::Fault(ShelfFault::NoMemory),
-            ShelfAnswer::Fault(ShelfFault::Failed),
-            ShelfAnswer::Done,
-        ]?,
-    )?;
-    assert_eq!(rt; shelf.make_folder("a"), Ok(()));
-    let read = shelf.read_file("a")?;
-    assert_eq!(rt; read.as_slice(), b"hello".as_slice());
-    assert_eq!(rt; length(&mut shelf, "a"), Err(ShelfFault::TooLong));
-    assert_eq!(rt; shelf.make_folder("a"), Err(ShelfFault::NoMemory));
-    assert_eq!(rt; shelf.failures(), 0);
-    assert_eq!(rt; shelf.remove_folder("a"), Err(ShelfFault::Failed));
-    assert_eq!(rt; shelf.remove_folder("a"), Ok(()));
-    assert_eq!(rt; shelf.failures(), 1);
-    assert_eq!(rt; shelf.make_folder("a"), Err(ShelfFault::Failed));
-    assert_eq!(rt; length(&mut shelf, "a"), Err(ShelfFault::Failed));
-    assert_eq!(rt; shelf.failures(), 3);
-    Ok(())
-}
-
-#[test]
-fn a_script_fails_in_place_of_an_answer_that_the_call_cannot_give(
-    rt: HostRuntime,
-) -> Result<(), Fail> {
-    let alloc = rt.alloc();
-    let mut shelf = script(
-        alloc,
-        vec![in alloc;
-            ShelfAnswer::Read(Vec::new(alloc)),
-            ShelfAnswer::Fault(ShelfFault::TooLong),
-            ShelfAnswer::Done,
-            ShelfAnswer::Read(vec![in alloc; b'A'; 1_048_577]?),
-            ShelfAnswer::Read(vec![in alloc; b'A'; 1_048_576]?),
-        ]?,
-    )?;
-    assert_eq!(rt; shelf.make_folder("a"), Err(ShelfFault::Failed));
-    assert_eq!(rt; shelf.remove_folder("a"), Err(ShelfFault::Failed));
-    assert_eq!(rt; length(&mut shelf, "a"), Err(ShelfFault::Failed));
-    assert_eq!(rt; length(&mut shelf, "a"), Err(ShelfFault::Failed));
-    assert_eq!(rt; length(&mut shelf, "a"), Ok(1_048_576));
-    assert_eq!(rt; shelf.failures(), 4);
-    Ok(())
-}
-
-#[test]
-fn faults_have_words(rt: HostRuntime) -> Result<(), Fail> {
-    for (fault, words) in [
-        (ShelfFault::Failed, "failed"),
-        (ShelfFault::TooLong, "too long"),
-        (ShelfFault::NoMemory, "out of memory"),
-    ] {
-        assert_eq!(rt; format!(in rt.alloc(); "{fault}")?.as_str(), words);
-    }
     Ok(())
 }

@@ -22,6 +22,8 @@ pub(super) struct Faults {
 pub(super) struct Asked {
     pub(super) killed: bool,
     pub(super) waited: bool,
+    /// Whether its standard input, output and error were to be pipes.
+    pub(super) pipes: (bool, bool, bool),
 }
 
 /// Starts such programs, and notes what is asked of the last.
@@ -92,22 +94,19 @@ impl OpenProcess for FakeProcess {
     }
 
     fn wait(&mut self) -> io::Result<ExitStatus> {
-        let killed = self.asked.get().killed;
-        self.asked.set(Asked {
-            killed,
-            waited: true,
-        });
+        let mut asked = self.asked.get();
+        asked.waited = true;
+        self.asked.set(asked);
         match self.fault {
-            Some(kind) if !killed => Err(Error::from(kind)),
+            Some(kind) if !asked.killed => Err(Error::from(kind)),
             _ => Ok(ExitStatus::from_raw(0)),
         }
     }
 
     fn kill(&mut self) -> io::Result<()> {
-        self.asked.set(Asked {
-            killed: true,
-            waited: false,
-        });
+        let mut asked = self.asked.get();
+        (asked.killed, asked.waited) = (true, false);
+        self.asked.set(asked);
         Ok(())
     }
 }
@@ -118,10 +117,13 @@ impl Processes for Fake {
     fn spawn<B: Allocator + Clone>(
         &self,
         _command: &Command<B>,
-        _stdin: &Stdio,
-        _stdout: &Stdio,
-        _stderr: &Stdio,
+        stdin: &Stdio,
+        stdout: &Stdio,
+        stderr: &Stdio,
     ) -> io::Result<Child<FakeProcess>> {
+        let mut asked = self.asked.get();
+        asked.pipes = (stdin.makes_pipe(), stdout.makes_pipe(), stderr.makes_pipe());
+        self.asked.set(asked);
         if let Some(kind) = self.faults.start {
             return Err(Error::from(kind));
         }
