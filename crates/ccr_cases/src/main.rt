@@ -7,6 +7,7 @@
 #![tactic(auto)]
 
 mod pipelines;
+mod programs;
 mod steps;
 mod versions;
 
@@ -22,6 +23,9 @@ fn answer_to(alloc: Global, example: &str, kind: &str, given: &str) -> Result<St
         return Ok(answer);
     }
     if let Some(answer) = steps::answer_to(alloc, kind, given)? {
+        return Ok(answer);
+    }
+    if let Some(answer) = programs::answer_to(alloc, kind, given)? {
         return Ok(answer);
     }
     match kind {

@@ -8,6 +8,7 @@ use Rattle.ccr_history.specs.declared.object.Object.{Object}
 use Rattle.ccr_history.specs.ObjectData.{object_data}
 use Rattle.ccr_history.specs.Sources.{source_or_empty}
 use Rattle.ccr_history.specs.TextMap.{TextMap, members_of}
+use Rattle.ccr_protocol.specs.declared.request.TheConstants.{MOST_REQUEST}
 use Rattle.ccr_protocol.specs.declared.fault.RequestFault.{RequestFault}
 use Rattle.ccr_protocol.specs.declared.fault.RequestFault.TheVariants.{TooLong, NoMemory}
 
@@ -35,8 +36,9 @@ request_data params source version =
 unfoldable pub request_text : Option Data → Option Data → Option TextMap → List ℕ
 request_text params source version = compact_text (request_data params source version)
 
--- a text of at most 65,536 bytes is sent as it is, a longer one is refused; of memory it says nothing
+-- a text is sent as it is, and refused exactly where it has more bytes than a request may have; of memory it says
+-- nothing
 abbrev pub Sends : List ℕ → Result (Vec ℕ Global) RequestFault → Type 0
-Sends text (Ok bytes) = (bytes.items ≡ text) × (length text ≤ 65536)
-Sends text (Err TooLong) = 65536 < length text
+Sends text (Ok bytes) = (bytes.items ≡ text) × (length text ≤ MOST_REQUEST)
+Sends text (Err TooLong) = MOST_REQUEST < length text
 Sends text (Err NoMemory) = ⊤

@@ -2,7 +2,7 @@
 ghost use Rattle.std.specs.Prelude.{◌≡◌, ◌⊎◌, None, IfOk, IfErr, IsUtf8};
 ghost use Rattle.serde_json.specs.View.{view};
 ghost use Rattle.serde_json.specs.Read.{read as json};
-ghost use Rattle.ccr_protocol.specs.Replies.{version_of, check_reply, step_reply, Spells, Gives, Reads};
+ghost use Rattle.ccr_protocol.specs.Replies.{version_reading, check_reply, step_reply, IsTextOf, IsReadAs, ReadsReply};
 ghost use Rattle.ccr_protocol.specs.declared.fault.ReplyFault.TheVariants.{NotJson, NoMemory};
 
 use crate::fault::ReplyFault;
@@ -12,7 +12,7 @@ use std::alloc::Global;
 
 /// The JSON value that the bytes spell.
 fn value_of(alloc: Global, bytes: &[u8]) -> Result<Value, ReplyFault>
-    ensures ok { IfOk result (λ value. Spells bytes.now (view value)) }
+    ensures ok { IfOk result (λ value. IsTextOf bytes.now (view value)) }
     ensures err { IfErr result (λ fault. (fault ≡ NoMemory)
         ⊎ ((fault ≡ NotJson) × (IsUtf8 bytes.now → json bytes.now ≡ None))) }
 {
@@ -25,7 +25,7 @@ fn value_of(alloc: Global, bytes: &[u8]) -> Result<Value, ReplyFault>
 
 /// The version that a value is.
 fn version(alloc: Global, value: &Value) -> Result<Version, ReplyFault>
-    ensures { Gives (version_of (view value.now)) (λ v. v) result }
+    ensures { IsReadAs (version_reading (view value.now)) (λ v. v) result }
 {
     match Version::from_value(alloc, value) {
         Ok(version) => Ok(version),
@@ -37,7 +37,7 @@ fn version(alloc: Global, value: &Value) -> Result<Version, ReplyFault>
 
 /// The versions that a list's members are, up to the first fault.
 fn versions(alloc: Global, value: &Value) -> Result<Vec<Version>, ReplyFault>
-    ensures { Gives (check_reply (view value.now)) (λ v. v.items) result }
+    ensures { IsReadAs (check_reply (view value.now)) (λ v. v.items) result }
 {
     let mut versions = Vec::new(alloc);
     if value.is_null() {
@@ -54,7 +54,7 @@ fn versions(alloc: Global, value: &Value) -> Result<Vec<Version>, ReplyFault>
 
 /// The version that an object has.
 fn version_in(alloc: Global, value: &Value) -> Result<Version, ReplyFault>
-    ensures { Gives (step_reply (view value.now)) (λ v. v) result }
+    ensures { IsReadAs (step_reply (view value.now)) (λ v. v) result }
 {
     if !value.is_object() {
         return Err(ReplyFault::WrongKind);
@@ -72,7 +72,7 @@ fn version_in(alloc: Global, value: &Value) -> Result<Version, ReplyFault>
 /// member that has one: `WrongKind` where it is no object, `VersionNotText` where a field isn't a text. `NoMemory`
 /// where a growth was refused.
 pub fn read_check(alloc: Global, reply: &[u8]) -> Result<Vec<Version>, ReplyFault>
-    ensures { Reads check_reply (λ v. v.items) reply.now result }
+    ensures { ReadsReply check_reply (λ v. v.items) reply.now result }
 {
     let value = value_of(alloc, reply)?;
     versions(alloc, &value)
@@ -85,7 +85,7 @@ pub fn read_check(alloc: Global, reply: &[u8]) -> Result<Vec<Version>, ReplyFaul
 /// `MissingVersion` where the version is absent or null, `VersionNotText` where a field of it isn't a text. `NoMemory`
 /// where a growth was refused.
 pub fn read_in(alloc: Global, reply: &[u8]) -> Result<Version, ReplyFault>
-    ensures { Reads step_reply (λ v. v) reply.now result }
+    ensures { ReadsReply step_reply (λ v. v) reply.now result }
 {
     let value = value_of(alloc, reply)?;
     version_in(alloc, &value)
@@ -96,7 +96,7 @@ pub fn read_in(alloc: Global, reply: &[u8]) -> Result<Version, ReplyFault>
 ///
 /// The form and the faults are those of [`read_in`].
 pub fn read_out(alloc: Global, reply: &[u8]) -> Result<Version, ReplyFault>
-    ensures { Reads step_reply (λ v. v) reply.now result }
+    ensures { ReadsReply step_reply (λ v. v) reply.now result }
 {
     read_in(alloc, reply)
 }

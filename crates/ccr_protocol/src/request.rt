@@ -10,8 +10,8 @@ use crate::fault::RequestFault;
 use ccr_history::{Object, Version};
 use std::alloc::{AllocError, Global};
 
-/// How many bytes a request may have.
-const MOST_BYTES: usize = 65_536;
+/// The greatest number of bytes of a request.
+pub const MOST_REQUEST: usize = 65_536;
 
 /// The member of the params, with the comma that follows it; nothing where there are none.
 fn params_member(alloc: Global, params: Option<&Object>) -> Result<String, AllocError>
@@ -77,7 +77,7 @@ fn request(
     ensures { Sends (request_text (data_of params.entry) (data_of source.entry) (option_copied version.entry)) result }
 {
     let text = request_body(alloc, params, source, version)?;
-    if text.len() > MOST_BYTES {
+    if text.len() > MOST_REQUEST {
         return Err(RequestFault::TooLong);
     }
     Ok(text.into_bytes())
