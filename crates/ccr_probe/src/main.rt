@@ -2,6 +2,7 @@
 //!
 //! `ccr_probe pipeline` reads a pipeline, `ccr_probe task` a task file; `ccr_probe resolve BUDGET` reads a problem and prints the
 //! proof of its best choice, or that none satisfies, of at most BUDGET nodes. `ccr_probe launch` starts `sh -c true`.
+//! `ccr_probe launches COUNT` starts so many programs by one runner, each of which writes 64 KiB.
 //! `ccr_probe type PROGRAMS FOLDER` reads `{"source":..,"params":..}` and tries a resource type: it starts PROGRAMS/check,
 //! PROGRAMS/in for the last version and PROGRAMS/out in FOLDER, with FOLDER/in as the artifact's folder, and prints each version.
 //! `ccr_probe steps JOB` reads a pipeline in one line, the versions of the job's inputs in the next, and answers, one a line
@@ -20,7 +21,7 @@ mod steps;
 mod versions;
 
 use answer::{Answer, OVER_BUDGET, answer_pipeline, answer_resolve, answer_task};
-use programs::{Trial, answer_launch, answer_type};
+use programs::{Trial, answer_launch, answer_launches, answer_type};
 use std::alloc::AllocError;
 use std::io::Read;
 use std::process::ExitCode;
@@ -44,6 +45,7 @@ enum Call<'a> {
     Task,
     Resolve(Budget),
     Launch,
+    Launches(u32),
     Type(Trial<'a>),
     Steps(&'a str, Playing),
     Versions(u32),
@@ -80,6 +82,10 @@ fn order_of(words: &[String]) -> Option<Order<'_>> {
         "pipeline" => (Call::Pipeline, rest),
         "task" => (Call::Task, rest),
         "launch" => (Call::Launch, rest),
+        "launches" => {
+            let (count, rest) = rest.split_first()?;
+            (Call::Launches(count.as_str().parse::<u32>().ok()?), rest)
+        }
         "type" => {
             let (programs, rest) = rest.split_first()?;
             let (folder, rest) = rest.split_first()?;
@@ -120,6 +126,7 @@ fn answer_of(rt: &HostRuntime, call: Call, text: &[u8]) -> Result<Answer, AllocE
         Call::Task => answer_task(alloc, text),
         Call::Resolve(budget) => answer_resolve(alloc, text, budget.nodes),
         Call::Launch => answer_launch(rt, alloc),
+        Call::Launches(count) => answer_launches(rt, alloc, count),
         Call::Type(trial) => answer_type(rt, alloc, text, &trial),
         Call::Steps(job, what) => answer_steps(alloc, text, job, what),
         Call::Versions(count) => answer_versions(alloc, count),
@@ -158,7 +165,7 @@ fn main(rt: HostRuntime) -> io::Result<ExitCode> {
     };
     let Some(order) = order_of(&words) else {
         eprintln!(rt;
-            "usage: ccr_probe pipeline|task|resolve BUDGET|launch|type PROGRAMS FOLDER|steps JOB|builds JOB COUNT|versions N [--repeat N]"
+            "usage: ccr_probe pipeline|task|resolve BUDGET|launch|launches COUNT|type PROGRAMS FOLDER|steps JOB|builds JOB COUNT|versions N [--repeat N]"
         )?;
         return Ok(ExitCode::from(2));
     };
