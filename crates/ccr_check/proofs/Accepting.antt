@@ -5,21 +5,23 @@ use Rattle.std.proofs.lemmas.Bool.{cases_lt}
 use Rattle.std.proofs.lemmas.List.{append-nil}
 use Rattle.std.proofs.Math.Seq.{take-append_seam, drop-append_seam}
 use Rattle.ccr_choice.specs.Problem.{ProblemValue, ChoiceValue, IsProblem}
-use Rattle.ccr_choice.specs.ProblemText.{problem_lines, problem_text, problem_in}
+use Rattle.ccr_choice.specs.ProblemText.{problem_lines, problem_text, problem_in, IsProblemFault}
+use Rattle.ccr_choice.specs.Reading.{Refusal}
 use Rattle.ccr_choice.specs.declared.fault.ProblemFault.{ProblemFault}
-use Rattle.ccr_choice.specs.Words.{problem_fault_words}
+use Rattle.ccr_choice.specs.declared.fault.ProblemFault.TheVariants as problem
+use Rattle.ccr_choice.specs.Words.{problem_fault_words, problem_refusal_words}
 use Rattle.ccr_choice.proofs.ReadLaws.{problem_spelled, problem_text_again, problem_text_kept, problem_text_found, nothing_follows}
 use Rattle.ccr_proof.specs.declared.claim.Claim.{Claim}
 use Rattle.ccr_proof.specs.declared.claim.Claim.TheVariants.{Best, Nothing}
-use Rattle.ccr_proof.specs.declared.fault.ClaimFault.{ClaimFault}
 use Rattle.ccr_proof.specs.declared.fault.ProofFault.{ProofFault}
+use Rattle.ccr_proof.specs.declared.fault.ProofFault.TheVariants as proof
 use Rattle.ccr_proof.specs.ClaimText.{claim_in}
 use Rattle.ccr_choice.specs.Preference.{order_of}
 use Rattle.ccr_proof.specs.Proof.{IsProof}
-use Rattle.ccr_proof.specs.ProofText.{proof_text, proof_in}
+use Rattle.ccr_proof.specs.ProofText.{ProofRefusal, proof_text, proof_in, IsProofFault}
 use Rattle.ccr_proof.specs.Refutes.{IsAccepted}
 use Rattle.ccr_proof.specs.Tree.{Tree}
-use Rattle.ccr_proof.specs.Words.{proof_fault_words}
+use Rattle.ccr_proof.specs.Words.{proof_fault_words, proof_refusal_words}
 use Rattle.ccr_choice.proofs.PlainLaws.{is_order}
 use Rattle.ccr_proof.proofs.ProofLaws.{proof_text_again, text_kept}
 use Rattle.ccr_proof.proofs.Sound.{accepted_right}
@@ -68,8 +70,8 @@ proof_judged p c t out is is_proof n e h =
     let P : ℕ → Type 0 = λ m. IsProblemJudged (problem_in (take m (first ++ second))) (drop m (first ++ second)) out in
     let Q : List ℕ → Type 0 = λ bs. IsProblemJudged (problem_in bs) (drop (length first) (first ++ second)) out in
     let R : List ℕ → Type 0 = λ bs. IsProblemJudged (problem_in first) bs out in
-    let S : Result ProblemValue ProblemFault → Type 0 = λ r. IsProblemJudged r second out in
-    let T : Result (Claim × Tree) ProofFault → Type 0 = λ r. IsProofJudged p r out in
+    let S : Result ProblemValue Refusal → Type 0 = λ r. IsProblemJudged r second out in
+    let T : Result (Claim × Tree) ProofRefusal → Type 0 = λ r. IsProofJudged p r out in
     subst T (proof_text_again (c, t) is_proof)
     (subst S (problem_text_again p is) (subst R (drop-append_seam first second) (subst Q (take-append_seam first second) (subst P e h))))
 
@@ -100,32 +102,32 @@ refused_silent why = refl
 satisfies_silent : (c : ChoiceValue) → says (choice_line (codes "satisfies") c) ≡ false
 satisfies_silent c = refl
 
-claim_silent : (p : ProblemValue) (r : Result Claim ClaimFault) (out : List ℕ × ℕ) → IsClaimJudged p r out → IsTrue (says out.0) → ⊥
+claim_silent : (p : ProblemValue) (r : Result Claim Refusal) (out : List ℕ × ℕ) → IsClaimJudged p r out → IsTrue (says out.0) → ⊥
 claim_silent p (Err e) out h s = silent out (refused (codes "claim line")) h refl s
 claim_silent p (Ok Nothing) out h s = silent out (refused (codes "a bare none")) h refl s
 claim_silent p (Ok (Best c)) out (inl h) s = silent out (choice_line (codes "satisfies") c, 0) h.1 (satisfies_silent c) s
 claim_silent p (Ok (Best c)) out (inr h) s = silent out (refused (check_fault_words (BadChoice h.0))) h.3 (refused_silent (check_fault_words (BadChoice h.0))) s
 
 -- a proof was read, and is accepted
-record ProofAccepted (p : ProblemValue) (r : Result (Claim × Tree) ProofFault) (line : List ℕ) : Type 0 where
+record ProofAccepted (p : ProblemValue) (r : Result (Claim × Tree) ProofRefusal) (line : List ℕ) : Type 0 where
   read : Claim × Tree
   found : r ≡ Ok read
   accepted : IsAccepted (order_of p) p read.0 read.1
   said : line ≡ accepted_line read.0
 
-proof_accepted : (p : ProblemValue) (r : Result (Claim × Tree) ProofFault) (out : List ℕ × ℕ) → IsProofJudged p r out → IsTrue (says out.0) → ProofAccepted p r out.0
-proof_accepted p (Err e) out h s = absurd (silent out (refused (proof_fault_words e)) h.1 (refused_silent (proof_fault_words e)) s)
+proof_accepted : (p : ProblemValue) (r : Result (Claim × Tree) ProofRefusal) (out : List ℕ × ℕ) → IsProofJudged p r out → IsTrue (says out.0) → ProofAccepted p r out.0
+proof_accepted p (Err e) out h s = absurd (silent out (refused (proof_refusal_words e)) h (refused_silent (proof_refusal_words e)) s)
 proof_accepted p (Ok x) out (inl h) s = record { read = x; found = refl; accepted = h.0; said = ap (λ y. y.0) h.1 }
 proof_accepted p (Ok x) out (inr h) s = absurd (silent out (refused (check_fault_words h.0)) h.3 (refused_silent (check_fault_words h.0)) s)
 
 -- a problem was read, and behind it a proof that is accepted
-record TextAccepted (r : Result ProblemValue ProblemFault) (second line : List ℕ) : Type 0 where
+record TextAccepted (r : Result ProblemValue Refusal) (second line : List ℕ) : Type 0 where
   problem : ProblemValue
   found : r ≡ Ok problem
   proof : ProofAccepted problem (proof_in second) line
 
-problem_accepted : (r : Result ProblemValue ProblemFault) (second : List ℕ) (out : List ℕ × ℕ) → IsProblemJudged r second out → IsTrue (says out.0) → TextAccepted r second out.0
-problem_accepted (Err e) second out h s = absurd (silent out (refused (problem_fault_words e)) h.1 (refused_silent (problem_fault_words e)) s)
+problem_accepted : (r : Result ProblemValue Refusal) (second : List ℕ) (out : List ℕ × ℕ) → IsProblemJudged r second out → IsTrue (says out.0) → TextAccepted r second out.0
+problem_accepted (Err e) second out h s = absurd (silent out (refused (problem_refusal_words e)) h (refused_silent (problem_refusal_words e)) s)
 problem_accepted (Ok p) second out h s =
     record { problem = p; found = refl; proof = proof_accepted p (proof_in second) out (first_one (starts_with nat_eq second (codes "proof")) h) s }
   where
@@ -178,6 +180,21 @@ text_right bs out judged s =
       says = a.proof.said;
       right = accepted_right (order_of p) (is_order p) p kept c a.proof.read.1 a.proof.accepted;
     }
+
+-- ---- refusals of readers
+-- the words of the fault that was read are those of the refusal
+pub problem_refused : (f : ProblemFault) (read : Result ProblemValue Refusal) (second : List ℕ) (out : List ℕ × ℕ) → IsProblemFault f read → (f ≡ problem.NoMemory → ⊥)
+    → out ≡ refused (problem_fault_words f) → IsProblemJudged read second out
+problem_refused problem.NoMemory read second out h some e = absurd (some refl)
+problem_refused (problem.BadLine n) read second out h some e = let P : Result ProblemValue Refusal → Type 0 = λ r. IsProblemJudged r second out in subst P (sym h) e
+problem_refused problem.Trailing read second out h some e = let P : Result ProblemValue Refusal → Type 0 = λ r. IsProblemJudged r second out in subst P (sym h) e
+
+pub proof_refused : (p : ProblemValue) (f : ProofFault) (read : Result (Claim × Tree) ProofRefusal) (out : List ℕ × ℕ) → IsProofFault f read → (f ≡ proof.NoMemory → ⊥)
+    → out ≡ refused (proof_fault_words f) → IsProofJudged p read out
+proof_refused p proof.NoMemory read out h some e = absurd (some refl)
+proof_refused p (proof.BadLine n) read out h some e = let P : Result (Claim × Tree) ProofRefusal → Type 0 = λ r. IsProofJudged p r out in subst P (sym h) e
+proof_refused p proof.TooManyNodes read out h some e = let P : Result (Claim × Tree) ProofRefusal → Type 0 = λ r. IsProofJudged p r out in subst P (sym h) e
+proof_refused p proof.Trailing read out h some e = let P : Result (Claim × Tree) ProofRefusal → Type 0 = λ r. IsProofJudged p r out in subst P (sym h) e
 
 -- ---- what judge promises
 pub accepted_of : {X E : Type 0} (view : X → List ℕ × ℕ) (result : Result X E) (bs : List ℕ) → IfOk result (λ x. IsJudged bs (view x))

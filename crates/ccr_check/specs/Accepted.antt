@@ -11,19 +11,21 @@ use Rattle.ccr_proof.specs.Refutes.{IsAccepted}
 use Rattle.ccr_proof.specs.Tree.{Tree}
 use Rattle.ccr_check.specs.Judged.{accepted_line}
 
--- What it means that a line says `accepted`: the bytes begin with the text of a problem, and of no other; and the line has a
--- claim that is right for this problem.
+-- What it means that a line says `accepted`: the bytes begin with the text of a problem, and of no other; and the line
+-- has a claim that is right for this problem.
 pub record IsRightlyAccepted (bs line : List ℕ) : Type 0 where
   pub problem : ProblemValue
   pub is_problem : IsProblem problem
   pub behind : List ℕ
   pub text : bs ≡ problem_text problem ++ behind
-  pub only : (other : ProblemValue) (more : List ℕ) → IsProblem other → bs ≡ problem_text other ++ more → other ≡ problem
+  pub only : (other : ProblemValue) (more : List ℕ) → IsProblem other → bs ≡ problem_text other ++ more
+      → other ≡ problem
   pub claim : Claim
   pub says : line ≡ accepted_line claim
   pub right : IsRight (order_of problem) problem claim
 
--- The bytes are the text of a problem followed by the text of a proof with this claim, which is accepted for the problem.
+-- The bytes are the text of a problem followed by the text of a proof with this claim, which is accepted for the
+-- problem.
 pub record IsAcceptedText (bs : List ℕ) (c : Claim) : Type 0 where
   pub problem : ProblemValue
   pub tree : Tree

@@ -7,21 +7,17 @@ use Rattle.ccr_choice.specs.Satisfies.{Satisfies, IsFirstVerdict}
 use Rattle.ccr_choice.specs.ProblemText.{problem_in}
 use Rattle.ccr_choice.specs.declared.verdict.Verdict.{Verdict}
 use Rattle.ccr_choice.specs.declared.verdict.Verdict.TheVariants as verdict
-use Rattle.ccr_choice.specs.declared.fault.ProblemFault.{ProblemFault}
-use Rattle.ccr_choice.specs.declared.fault.ProblemFault.TheVariants as problem
 use Rattle.ccr_choice.specs.Text.{spelled}
-use Rattle.ccr_choice.specs.Words.{problem_fault_words}
+use Rattle.ccr_choice.specs.Reading.{Refusal}
+use Rattle.ccr_choice.specs.Words.{problem_refusal_words}
 use Rattle.ccr_proof.specs.ClaimText.{claim_in, claim_line}
-use Rattle.ccr_proof.specs.ProofText.{proof_in}
+use Rattle.ccr_proof.specs.ProofText.{ProofRefusal, proof_in}
 use Rattle.ccr_choice.specs.Preference.{order_of}
 use Rattle.ccr_proof.specs.Refutes.{IsAccepted}
 use Rattle.ccr_proof.specs.Tree.{Tree}
-use Rattle.ccr_proof.specs.Words.{proof_fault_words}
+use Rattle.ccr_proof.specs.Words.{proof_refusal_words}
 use Rattle.ccr_proof.specs.declared.claim.Claim.{Claim}
 use Rattle.ccr_proof.specs.declared.claim.Claim.TheVariants.{Best, Nothing}
-use Rattle.ccr_proof.specs.declared.fault.ClaimFault.{ClaimFault}
-use Rattle.ccr_proof.specs.declared.fault.ProofFault.{ProofFault}
-use Rattle.ccr_proof.specs.declared.fault.ProofFault.TheVariants as proof
 use Rattle.ccr_check.specs.Fault.{IsFault}
 use Rattle.ccr_check.specs.Words.{check_fault_words}
 use Rattle.ccr_check.specs.declared.fault.CheckFault.{CheckFault}
@@ -46,28 +42,32 @@ abbrev pub refused : List ℕ → List ℕ × ℕ
 refused why = (codes "refused: " ++ why, 1)
 
 -- ---- what is judged
--- A claim that names a choice: that it satisfies, or the choice's first verdict. A bare `none` shows nothing, and is refused.
-abbrev pub IsClaimJudged : ProblemValue → Result Claim ClaimFault → List ℕ × ℕ → Type 0
+-- A claim that names a choice: that it satisfies, or the choice's first verdict. A bare `none` shows nothing, and is
+-- refused.
+abbrev pub IsClaimJudged : ProblemValue → Result Claim Refusal → List ℕ × ℕ → Type 0
 IsClaimJudged p (Err e) out = out ≡ refused (codes "claim line")
 IsClaimJudged p (Ok Nothing) out = out ≡ refused (codes "a bare none")
 IsClaimJudged p (Ok (Best c)) out =
     (Satisfies p c.places c.builds × (out ≡ (choice_line (codes "satisfies") c, 0)))
-    ⊎ ((v : Verdict) × (v ≢ verdict.Satisfies) × IsFirstVerdict p c.places c.builds v × (out ≡ refused (check_fault_words (BadChoice v))))
+    ⊎ ((v : Verdict) × (v ≢ verdict.Satisfies) × IsFirstVerdict p c.places c.builds v
+    × (out ≡ refused (check_fault_words (BadChoice v))))
 
--- A proof is accepted with its claim's line exactly where it is one, in the plain order; else its first fault is told. A text that
--- is no proof's is refused with what reading says.
-abbrev pub IsProofJudged : ProblemValue → Result (Claim × Tree) ProofFault → List ℕ × ℕ → Type 0
-IsProofJudged p (Err e) out = (e ≢ proof.NoMemory) × (out ≡ refused (proof_fault_words e))
+-- A proof is accepted with its claim's line exactly where it is one, in the order of the problem; else its first fault is
+-- told. A text that is no proof's is refused with what reading says.
+abbrev pub IsProofJudged : ProblemValue → Result (Claim × Tree) ProofRefusal → List ℕ × ℕ → Type 0
+IsProofJudged p (Err e) out = out ≡ refused (proof_refusal_words e)
 IsProofJudged p (Ok (c, t)) out =
     (IsAccepted (order_of p) p c t × (out ≡ (accepted_line c, 0)))
-    ⊎ ((f : CheckFault) × (IsAccepted (order_of p) p c t → ⊥) × IsFault (order_of p) p c t f × (out ≡ refused (check_fault_words f)))
+    ⊎ ((f : CheckFault) × (IsAccepted (order_of p) p c t → ⊥) × IsFault (order_of p) p c t f
+    × (out ≡ refused (check_fault_words f)))
 
 -- The problem is read first, and its fault comes before anything that is said of the second part. A second part that begins
 -- with `proof` is a proof, every other is a claim.
-abbrev pub IsProblemJudged : Result ProblemValue ProblemFault → List ℕ → List ℕ × ℕ → Type 0
-IsProblemJudged (Err e) second out = (e ≢ problem.NoMemory) × (out ≡ refused (problem_fault_words e))
+abbrev pub IsProblemJudged : Result ProblemValue Refusal → List ℕ → List ℕ × ℕ → Type 0
+IsProblemJudged (Err e) second out = out ≡ refused (problem_refusal_words e)
 IsProblemJudged (Ok p) second out =
-    MatchBool (starts_with nat_eq second (codes "proof")) (IsProofJudged p (proof_in second) out) (IsClaimJudged p (claim_in second) out)
+    MatchBool (starts_with nat_eq second (codes "proof"))
+    (IsProofJudged p (proof_in second) out) (IsClaimJudged p (claim_in second) out)
 
 -- The line and the status for a text: it is cut into two parts, and these are judged.
 abbrev pub IsJudged : List ℕ → List ℕ × ℕ → Type 0

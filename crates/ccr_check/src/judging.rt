@@ -55,6 +55,7 @@ fn refused<D: Display + Drop>(alloc: Global, why: D) -> Result<(String, u8), All
     Ok((line, 1))
 }
 
+#[tactic(auto, using(crate::proofs::Accepting::proof_refused))]
 fn judge_proof(alloc: Global, problem: &Problem, text: &[u8]) -> Result<(String, u8), AllocError>
     ensures { IfOk result (λ x. IsProofJudged problem.now (proof_in text.now) (string_bytes x.0, x.1)) }
 {
@@ -83,6 +84,7 @@ fn judge_claim(alloc: Global, problem: &Problem, text: &[u8]) -> Result<(String,
     }
 }
 
+#[tactic(auto, using(crate::proofs::Accepting::problem_refused))]
 fn judge_text(alloc: Global, bytes: &[u8]) -> Result<(String, u8), AllocError>
     ensures { IfOk result (λ x. IsJudged bytes.now (string_bytes x.0, x.1)) }
 {
@@ -99,16 +101,19 @@ fn judge_text(alloc: Global, bytes: &[u8]) -> Result<(String, u8), AllocError>
     }
 }
 
-/// The line and the exit status for a problem's text that is followed by a proof's or a claim's: status 0 where the proof is
-/// accepted or the claim's choice satisfies the problem, 1 where the text is refused. The only error is want of memory.
+/// The line and the exit status for a problem's text that is followed by a proof's or a claim's: status 0 where the
+/// proof is accepted or the claim's choice satisfies the problem, 1 where the text is refused. The only error is want
+/// of memory.
 pub fn judge(alloc: Global, bytes: &[u8]) -> Result<(String, u8), AllocError>
     ensures judged { IfOk result (λ x. IsJudged bytes.now (string_bytes x.0, x.1)) }
 
-    // A problem's text followed by the text of a proof that is accepted for it: `accepted`, the claim's line, and status 0.
-    ensures accepted { IfOk result (λ x. (c : Claim) → IsAcceptedText bytes.now c → (string_bytes x.0 ≡ accepted_line c) × (x.1 ≡ 0)) }
+    // A problem's text followed by that of a proof that is accepted for it: `accepted`, the claim's line, and status 0.
+    ensures accepted { IfOk result (λ x. (c : Claim) → IsAcceptedText bytes.now c
+        → (string_bytes x.0 ≡ accepted_line c) × (x.1 ≡ 0)) }
 
     // `accepted` is said of nothing else, and of no claim that isn't right.
-    ensures right { IfOk result (λ x. IsTrue (starts_with nat_eq (string_bytes x.0) (codes "accepted ")) → IsRightlyAccepted bytes.now (string_bytes x.0)) }
+    ensures right { IfOk result (λ x. IsTrue (starts_with nat_eq (string_bytes x.0) (codes "accepted "))
+        → IsRightlyAccepted bytes.now (string_bytes x.0)) }
 {
     judge_text(alloc, bytes)
 }

@@ -1,9 +1,10 @@
 //! The checker of proofs, which can be trusted with anybody's.
 //!
-//! A [`Proof`](ccr_proof::Proof) claims that a choice is the best one for a problem, or that there is none, and brings a tree of
-//! cases. [`check`] accepts it exactly where the definitions of `ccr_proof` do (`specs/Refutes.antt`), and where it accepts, the
-//! claim is right (`specs/Right.antt`): the law is [`accepted_is_right`], which speaks of no program. A proof that isn't accepted
-//! is refused with its first fault: the claim's choice, or the first node in preorder whose own test fails.
+//! A [`Proof`](ccr_proof::Proof) claims that a choice is the best one for a problem, or that there is none, and brings
+//! a tree of cases. [`check`] accepts it exactly where the definitions of `ccr_proof` do (`specs/Refutes.antt`), and
+//! where it accepts, the claim is right (`specs/Right.antt`): the law is [`accepted_is_right`], which speaks of no
+//! program. A proof that isn't accepted is refused with its first fault: the claim's choice, or the first node in
+//! preorder whose own test fails.
 //!
 //! The checker takes no memory. It keeps the fixed builds in a table of 32 entries, copied at each child of a job node, and looks
 //! for an input's best place among the pairs of the builds that each possible place must have passed.

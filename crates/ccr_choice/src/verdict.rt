@@ -152,7 +152,8 @@ fn first_not_passed(problem: &Problem, places: &[u32], builds: &[u32]) -> Option
     ensures { MatchOption result
         ((i : ℕ) → i < length problem.now.inputs → HasPassedAll problem.now places.now builds.now i)
         (λ found. IsFirstFailure (length problem.now.inputs) (HasPassedAll problem.now places.now builds.now) found.0
-        × IsFirstFailing (input_at problem.now found.0).jobs (HasPassed problem.now places.now builds.now found.0) found.1) }
+        × IsFirstFailing (input_at problem.now found.0).jobs
+        (HasPassed problem.now places.now builds.now found.0) found.1) }
 {
     for i in 0..problem.inputs().len() {
         if let Some(job) = first_missing(problem, places, builds, i) {
@@ -162,9 +163,9 @@ fn first_not_passed(problem: &Problem, places: &[u32], builds: &[u32]) -> Option
     None
 }
 
-/// Whether a choice satisfies a problem, and else what is wrong with it first, in the order of the verdicts: the least input
-/// whose place isn't allowed, the least job whose build isn't successful, the least input that hasn't passed with the first
-/// such job in its list (Concourse: get step, `passed`, all named jobs together).
+/// Whether a choice satisfies a problem, and else what is wrong with it first, in the order of the verdicts: the least
+/// input whose place isn't allowed, the least job whose build isn't successful, the least input that hasn't passed with
+/// the first such job in its list (Concourse: get step, `passed`, all named jobs together).
 pub fn satisfies(problem: &Problem, choice: &Choice) -> Verdict
     ensures first { IsFirstVerdict problem.now choice.now.places choice.now.builds result }
     ensures exact { (result ≡ Verdict.Satisfies) ↔ Satisfies problem.now choice.now.places choice.now.builds }

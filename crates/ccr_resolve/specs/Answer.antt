@@ -11,14 +11,17 @@ use Rattle.ccr_resolve.specs.declared.answer.Answer.{Answer}
 use Rattle.ccr_resolve.specs.declared.answer.Answer.TheVariants.{Best, Nothing, OverBudget}
 use Rattle.ccr_resolve.specs.Room.{IsBelowRoom}
 
--- A proof that may be given for a problem within a budget: it is accepted, its claim is right, and it has at most so many nodes.
+-- A proof that may be given for a problem within a budget: it is accepted, its claim is right, and it has at most so
+-- many nodes.
 pub record IsWithin (prefers : Preference) (p : ProblemValue) (budget : ℕ) (proof : Proof) : Type 0 where
   pub accepted : IsAccepted prefers p proof.claim (tree_of proof.tree)
   pub right : IsRight prefers p proof.claim
   pub few_nodes : count (tree_of proof.tree) ≤ budget
 
--- An answer of the best choice, or of none, has such a proof of its claim; over budget names the budget, which is below the room.
+-- An answer of the best choice, or of none, has such a proof of its claim; over budget names the budget, which is below
+-- the room.
 abbrev pub IsAnswer : Preference → ProblemValue → ℕ → Answer → Type 0
-IsAnswer prefers p budget (Best proof) = ((c : ChoiceValue) × (proof.claim ≡ claim.Best c)) × IsWithin prefers p budget proof
+IsAnswer prefers p budget (Best proof) =
+    ((c : ChoiceValue) × (proof.claim ≡ claim.Best c)) × IsWithin prefers p budget proof
 IsAnswer prefers p budget (Nothing proof) = (proof.claim ≡ claim.Nothing) × IsWithin prefers p budget proof
 IsAnswer prefers p budget (OverBudget n) = (n ≡ budget) × IsBelowRoom prefers p budget

@@ -1,11 +1,9 @@
 use Rattle.std.proofs.Common.{◌≡◌, ℕ, List, ◌++◌, Result, Ok, Err, IfOk, arith, string_bytes}
 use Rattle.std.proofs.lemmas.Grind.{common_steps}
 use Rattle.ccr_choice.specs.ProblemText.{problem_text}
-use Rattle.ccr_choice.proofs.ReadLaws.{problem_text_kept}
 use Rattle.ccr_proof.specs.declared.claim.Claim.{Claim}
 use Rattle.ccr_proof.specs.ProofText.{proof_text}
 use Rattle.ccr_proof.specs.Tree.{tree_of}
-use Rattle.ccr_proof.proofs.ProofLaws.{text_kept}
 use Rattle.ccr_check.specs.Accepted.{IsAcceptedText}
 use Rattle.ccr_check.specs.Judged.{accepted_line}
 use Rattle.ccr_choice_rows.proofs.accepted.judged.Goals as goal
@@ -26,8 +24,8 @@ returns c =
     applied (λ x. (string_bytes x.0, x.1)) c.judge.result c.as_bytes.result.now claim c.judge.ensures.accepted (record {
       problem = p;
       tree = t;
-      is_problem = problem_text_kept (string_bytes c.in_ok-text.text) p c.in_ok-text.ensures.again;
-      is_proof = text_kept (string_bytes c.in_ok-behind.behind) (claim, t) c.in_ok-behind.ensures.again;
+      is_problem = (c.problem_has_one_text.ensures.written (string_bytes c.in_ok-text.text) p c.in_ok-text.ensures.again).0;
+      is_proof = c.in_ok-behind.ensures.kept;
       accepted = c.requires;
       text = text;
     })
