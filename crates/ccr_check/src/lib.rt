@@ -13,8 +13,6 @@
 mod accept;
 mod fault;
 mod law;
-#[cfg(test)]
-mod tests;
 mod tree;
 
 pub use accept::check;

@@ -24,8 +24,6 @@ pub mod possible;
 mod problem;
 mod read;
 mod rules;
-#[cfg(test)]
-mod tests;
 pub mod text;
 mod verdict;
 mod write;

@@ -19,12 +19,8 @@ mod law;
 mod node;
 mod proof;
 mod proof_read;
-#[cfg(test)]
-mod proof_tests;
 mod proof_write;
 mod read;
-#[cfg(test)]
-mod tests;
 mod write;
 
 pub use claim::{Claim, MOST_NUMBERS};
