@@ -1,7 +1,6 @@
 -- What an answer of the resolver promises.
 use Rattle.std.specs.Prelude.{◌≡◌, ℕ, ◌≤◌}
 use Rattle.ccr_choice.specs.Problem.{ProblemValue, ChoiceValue}
-use Rattle.ccr_proof.specs.declared.claim.Claim.{Claim}
 use Rattle.ccr_proof.specs.declared.claim.Claim.TheVariants as claim
 use Rattle.ccr_choice.specs.Preference.{Preference}
 use Rattle.ccr_proof.specs.Tree.{tree_of, count}
