@@ -1,6 +1,7 @@
 //! Laws over the definitions alone: what best places are, and that a problem has one text.
 
-ghost use Rattle.std.specs.Prelude.{◌≡◌, ◌++◌, ℕ, List, [], Ok};
+ghost use Rattle.std.specs.Prelude.{◌≡◌, ◌↔◌, ◌++◌, ℕ, List, [], Ok, Err};
+ghost use Rattle.ccr_choice.specs.Reading.{bad_line, IsFirstBad};
 ghost use Rattle.ccr_choice.specs.Problem.{ProblemValue, IsProblem};
 ghost use Rattle.ccr_choice.specs.ProblemText.{problem_text, problem_in};
 ghost use Rattle.ccr_choice.specs.Preference.{Preference, IsOrder, order_of};
@@ -34,4 +35,14 @@ pub fn problem_has_one_text()
     // No problem's text begins another's.
     ensures alone { (p q : ProblemValue) (more : List ℕ) → IsProblem p → IsProblem q
         → problem_text q ≡ problem_text p ++ more → more ≡ [] }
+{}
+
+/// Line n of a problem's text is told as the bad one exactly where it is the first bad one as it is seen from outside: the
+/// lines before it alone are refused for want of line n, and where it has its line feed, the first n lines are refused so
+/// whatever follows.
+///
+/// It is a law over the definitions alone; nothing runs.
+pub fn bad_line_of_a_problem_is_the_first()
+    ensures { (bytes : List ℕ) (n : ℕ)
+        → (problem_in bytes ≡ Err (bad_line n)) ↔ IsFirstBad problem_in bad_line bytes n }
 {}

@@ -30,7 +30,7 @@ mod write;
 
 pub use choice::Choice;
 pub use fault::ProblemFault;
-pub use law::{best_places_are_one, problem_has_one_text};
+pub use law::{bad_line_of_a_problem_is_the_first, best_places_are_one, problem_has_one_text};
 pub use order::later;
 pub use problem::{
     Build, Input, JobBuilds, MOST_BUILDS, MOST_INPUTS, MOST_JOBS, MOST_PLACES, Problem,

@@ -19,12 +19,12 @@ use Rattle.ccr_proof.specs.declared.proof_read.NodeLine.{NodeLine}
 use Rattle.ccr_proof.specs.declared.proof_read.NodeLine.TheVariants as line
 use Rattle.ccr_proof.specs.Claim.{IsClaim}
 use Rattle.ccr_proof.specs.ClaimText.{claim_line, next_claim}
-use Rattle.ccr_proof.specs.Halts.{NodeStop, left, too_many, NodeRead, of_lines}
+use Rattle.ccr_proof.specs.Halts.{left, too_many, NodeRead, of_lines}
 use Rattle.ccr_proof.specs.Proof.{IsSmall, AreSmall, IsProof}
 use Rattle.ccr_proof.specs.ProofRead.{IsRead, IsReadAs}
 use Rattle.ccr_proof.proofs.ClaimLaws.{one_found, one_again, claim_spelled, fit_claim}
 use Rattle.ccr_proof.specs.Tree.{Tree, Trees, job, empty, bounded, no_child, child, width, count, count_all, levels, levels_all, tree_of}
-use Rattle.ccr_proof.specs.ProofText.{ProofRefusal, bad_line, too_many_nodes, trailing, tree_lines, trees_lines, proof_lines, proof_text, proof_head, node_on, by_line, next_node, next_children, next_tree, next_proof, whole_proof, proof_in, NothingFollows}
+use Rattle.ccr_proof.specs.ProofText.{ProofRefusal, trailing, tree_lines, trees_lines, proof_lines, proof_text, proof_head, node_on, by_line, next_node, next_children, next_tree, next_proof, whole_proof, proof_in, NothingFollows}
 use Rattle.ccr_proof.proofs.ReadTree.{job_at, tree_full, tree_next}
 
 -- ---- a node's line, both ways
@@ -210,7 +210,7 @@ mutual
       ((first.0, rest.0), rest.1)
 
 -- ---- a whole proof, both ways
-lines_ok : {A : Type 0} (r : Read A) (x : A × List (List Word)) → of_lines r ≡ Ok x → r ≡ Ok x
+pub lines_ok : {A : Type 0} (r : Read A) (x : A × List (List Word)) → of_lines r ≡ Ok x → r ≡ Ok x
 lines_ok (Ok y) x h = let e : y ≡ x = cc (h) in ap Ok e
 lines_ok (Err k) x h = absurd (cc (h))
 

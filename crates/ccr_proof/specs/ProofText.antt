@@ -12,7 +12,7 @@ use Rattle.ccr_proof.specs.declared.fault.ProofFault.TheVariants.{BadLine, TooMa
 use Rattle.ccr_proof.specs.declared.proof_read.NodeLine.{NodeLine}
 use Rattle.ccr_proof.specs.declared.proof_read.NodeLine.TheVariants as line
 use Rattle.ccr_proof.specs.ClaimText.{claim_line, next_claim}
-use Rattle.ccr_proof.specs.Halts.{NodeStop, left, too_many, NodeRead, of_lines}
+use Rattle.ccr_proof.specs.Halts.{left, too_many, NodeRead, of_lines}
 use Rattle.ccr_proof.specs.Tree.{Tree, Trees, job, empty, bounded, no_child, child, width, count}
 use Rattle.ccr_proof.specs.Proof.{IsProof}
 

@@ -25,7 +25,10 @@ mod write;
 
 pub use claim::{Claim, MOST_NUMBERS};
 pub use fault::{ClaimFault, ProofFault};
-pub use law::{claim_has_one_text, proof_has_one_text};
+pub use law::{
+    bad_line_of_a_claim_is_the_first, bad_line_of_a_proof_is_the_first, claim_has_one_text,
+    proof_has_one_text,
+};
 pub use node::Node;
 pub use proof::{MOST_LEVELS, MOST_NODES, Proof, count};
 pub use proof_read::read_proof;
