@@ -1,4 +1,4 @@
-# demo: judges an example · test: proves and tests everything · bench: prints figures
+# demo: builds the programs into bin/ and plays the examples · test: proves and tests everything · bench: prints figures
 .PHONY: demo test bench
 
 demo:

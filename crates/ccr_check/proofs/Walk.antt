@@ -32,17 +32,17 @@ module _ (p : ProblemValue) (bound : Option (List ℕ)) (a : Assignment) (j : �
       subst P (sym is) (inl (inr (inr (refl, within, free, λ e. differ (sym (width_of cs) ∙ e)))))
 
   pub start_refuted : (t : Tree) (cs : List Node) (bs : List BuildValue) → t ≡ job j (trees_of cs) → bs ≡ builds_at p j → j < length p.jobs → a j ≡ None
-      → RefuteEach (order_of p) p bound a j bs (trees_of cs) → Refutes (order_of p) p bound a t
+      → RefuteEach (order_of p) p bound a j (trees_of cs) 0 bs (trees_of cs) → Refutes (order_of p) p bound a t
   start_refuted t cs bs is same within free h =
       let P : Tree → Type 0 = λ s. Refutes (order_of p) p bound a s in
-      let Q : List BuildValue → Type 0 = λ xs. RefuteEach (order_of p) p bound a j xs (trees_of cs) in
+      let Q : List BuildValue → Type 0 = λ xs. RefuteEach (order_of p) p bound a j (trees_of cs) 0 xs (trees_of cs) in
       subst P (sym is) (within, free, subst Q same h)
 
   pub start_faulty : (n : ℕ) (t : Tree) (cs : List Node) (bs : List BuildValue) (f : CheckFault) → t ≡ job j (trees_of cs) → bs ≡ builds_at p j → j < length p.jobs → a j ≡ None → length cs ≡ length bs
-      → IsFirstAmong (order_of p) p bound a (n + 1) j bs (trees_of cs) f → IsFirstFault (order_of p) p bound a n t f
+      → IsFirstAmong (order_of p) p bound a (n + 1) j (trees_of cs) 0 bs (trees_of cs) f → IsFirstFault (order_of p) p bound a n t f
   start_faulty n t cs bs f is same within free equal h =
       let P : Tree → Type 0 = λ s. IsFirstFault (order_of p) p bound a n s f in
-      let Q : List BuildValue → Type 0 = λ xs. IsFirstAmong (order_of p) p bound a (n + 1) j xs (trees_of cs) f in
+      let Q : List BuildValue → Type 0 = λ xs. IsFirstAmong (order_of p) p bound a (n + 1) j (trees_of cs) 0 xs (trees_of cs) f in
       subst P (sym is) (inr (within, free, width_of cs ∙ equal ∙ ap length same, subst Q same h))
 
   -- the k-th child
@@ -53,42 +53,42 @@ module _ (p : ProblemValue) (bound : Option (List ℕ)) (a : Assignment) (j : �
     builds_step : drop k bs ≡ b ∷ drop (k + 1) bs
     builds_step = cc (drop-cons bs k b in_bs, add-one k)
 
-    pub step_refuted : Refutes (order_of p) p bound (with_build a j b) (tree_of c) → RefuteEach (order_of p) p bound a j (drop (k + 1) bs) (trees_of (drop (k + 1) cs)) → RefuteEach (order_of p) p bound a j (drop k bs) (trees_of (drop k cs))
+    pub step_refuted : Refutes (order_of p) p bound (with_build a j b) (tree_of c) → RefuteEach (order_of p) p bound a j (trees_of cs) (k + 1) (drop (k + 1) bs) (trees_of (drop (k + 1) cs)) → RefuteEach (order_of p) p bound a j (trees_of cs) k (drop k bs) (trees_of (drop k cs))
     step_refuted h rest =
-        let P : List BuildValue → Type 0 = λ xs. RefuteEach (order_of p) p bound a j xs (trees_of (drop k cs)) in
-        let Q : Trees → Type 0 = λ ts. RefuteEach (order_of p) p bound a j (b ∷ drop (k + 1) bs) ts in
+        let P : List BuildValue → Type 0 = λ xs. RefuteEach (order_of p) p bound a j (trees_of cs) k xs (trees_of (drop k cs)) in
+        let Q : Trees → Type 0 = λ ts. RefuteEach (order_of p) p bound a j (trees_of cs) k (b ∷ drop (k + 1) bs) ts in
         subst P (sym builds_step) (subst Q (sym (trees_at cs k c in_cs c_at)) (h, rest))
 
     from_pair : (n : ℕ) (f : CheckFault) → IsFirstFault (order_of p) p bound (with_build a j b) n (tree_of c) f
-        ⊎ (Refutes (order_of p) p bound (with_build a j b) (tree_of c) × IsFirstAmong (order_of p) p bound a (n + count (tree_of c)) j (drop (k + 1) bs) (trees_of (drop (k + 1) cs)) f)
-        → IsFirstAmong (order_of p) p bound a n j (drop k bs) (trees_of (drop k cs)) f
+        ⊎ (Refutes (order_of p) p bound (with_build a j b) (tree_of c) × IsFirstAmong (order_of p) p bound a (n + count (tree_of c)) j (trees_of cs) (k + 1) (drop (k + 1) bs) (trees_of (drop (k + 1) cs)) f)
+        → IsFirstAmong (order_of p) p bound a n j (trees_of cs) k (drop k bs) (trees_of (drop k cs)) f
     from_pair n f h =
-        let P : List BuildValue → Type 0 = λ xs. IsFirstAmong (order_of p) p bound a n j xs (trees_of (drop k cs)) f in
-        let Q : Trees → Type 0 = λ ts. IsFirstAmong (order_of p) p bound a n j (b ∷ drop (k + 1) bs) ts f in
+        let P : List BuildValue → Type 0 = λ xs. IsFirstAmong (order_of p) p bound a n j (trees_of cs) k xs (trees_of (drop k cs)) f in
+        let Q : Trees → Type 0 = λ ts. IsFirstAmong (order_of p) p bound a n j (trees_of cs) k (b ∷ drop (k + 1) bs) ts f in
         subst P (sym builds_step) (subst Q (sym (trees_at cs k c in_cs c_at)) h)
 
-    pub here_faulty : (n : ℕ) (f : CheckFault) → IsFirstFault (order_of p) p bound (with_build a j b) n (tree_of c) f → IsFirstAmong (order_of p) p bound a n j (drop k bs) (trees_of (drop k cs)) f
+    pub here_faulty : (n : ℕ) (f : CheckFault) → IsFirstFault (order_of p) p bound (with_build a j b) n (tree_of c) f → IsFirstAmong (order_of p) p bound a n j (trees_of cs) k (drop k bs) (trees_of (drop k cs)) f
     here_faulty n f h = from_pair n f (inl h)
 
     pub step_faulty : (n next : ℕ) (f : CheckFault) → next ≡ n + count (tree_of c) → Refutes (order_of p) p bound (with_build a j b) (tree_of c)
-        → IsFirstAmong (order_of p) p bound a next j (drop (k + 1) bs) (trees_of (drop (k + 1) cs)) f → IsFirstAmong (order_of p) p bound a n j (drop k bs) (trees_of (drop k cs)) f
+        → IsFirstAmong (order_of p) p bound a next j (trees_of cs) (k + 1) (drop (k + 1) bs) (trees_of (drop (k + 1) cs)) f → IsFirstAmong (order_of p) p bound a n j (trees_of cs) k (drop k bs) (trees_of (drop k cs)) f
     step_faulty n next f e refutes rest =
-        let P : ℕ → Type 0 = λ m. IsFirstAmong (order_of p) p bound a m j (drop (k + 1) bs) (trees_of (drop (k + 1) cs)) f in
+        let P : ℕ → Type 0 = λ m. IsFirstAmong (order_of p) p bound a m j (trees_of cs) (k + 1) (drop (k + 1) bs) (trees_of (drop (k + 1) cs)) f in
         from_pair n f (inr (refutes, subst P e rest))
 
-  pub all_refuted : (k : ℕ) (cs : List Node) (bs : List BuildValue) → length cs ≤ k → length bs ≤ k → RefuteEach (order_of p) p bound a j (drop k bs) (trees_of (drop k cs))
+  pub all_refuted : (k : ℕ) (cs : List Node) (bs : List BuildValue) → length cs ≤ k → length bs ≤ k → RefuteEach (order_of p) p bound a j (trees_of cs) k (drop k bs) (trees_of (drop k cs))
   all_refuted k cs bs done_cs done_bs =
-      let P : List BuildValue → Type 0 = λ xs. RefuteEach (order_of p) p bound a j xs (trees_of (drop k cs)) in
-      let Q : List Node → Type 0 = λ ys. RefuteEach (order_of p) p bound a j [] (trees_of ys) in
+      let P : List BuildValue → Type 0 = λ xs. RefuteEach (order_of p) p bound a j (trees_of cs) k xs (trees_of (drop k cs)) in
+      let Q : List Node → Type 0 = λ ys. RefuteEach (order_of p) p bound a j (trees_of cs) k [] (trees_of ys) in
       subst P (sym (drop_all k bs done_bs)) (subst Q (sym (drop_all k cs done_cs)) tt)
 
 -- a tree that refutes has no fault
 module _ (prefers : Preference) (p : ProblemValue) (bound : Option (List ℕ)) where
-  each_width : (a : Assignment) (j : ℕ) (bs : List BuildValue) (ts : Trees) → RefuteEach prefers p bound a j bs ts → width ts ≡ length bs
-  each_width a j [] no_child h = refl
-  each_width a j (b ∷ bs) (child t ts) h = ap suc (each_width a j bs ts h.1)
-  each_width a j [] (child t ts) h = absurd h
-  each_width a j (b ∷ bs) no_child h = absurd h
+  each_width : (a : Assignment) (j : ℕ) (all : Trees) (k : ℕ) (bs : List BuildValue) (ts : Trees) → RefuteEach prefers p bound a j all k bs ts → width ts ≡ length bs
+  each_width a j all k [] no_child h = refl
+  each_width a j all k (b ∷ bs) (child t ts) h = ap suc (each_width a j all (k + 1) bs ts h.1)
+  each_width a j all k [] (child t ts) h = absurd h
+  each_width a j all k (b ∷ bs) no_child h = absurd h
 
   mutual
     pub faultless : (a : Assignment) (n : ℕ) (t : Tree) (f : CheckFault) → Refutes prefers p bound a t → IsFirstFault prefers p bound a n t f → ⊥
@@ -97,12 +97,13 @@ module _ (prefers : Preference) (p : ProblemValue) (bound : Option (List ℕ)) w
     faultless a n bounded f h fault = fault.1 h
     faultless a n (job j ts) f h (inl (inl fault)) = absurd (omega (arith, h.0, fault.1))
     faultless a n (job j ts) f h (inl (inr (inl fault))) = fault.2 h.1
-    faultless a n (job j ts) f h (inl (inr (inr fault))) = fault.3 (each_width a j (builds_at p j) ts h.2)
-    faultless a n (job j ts) f h (inr fault) = each_faultless a (n + 1) j (builds_at p j) ts f h.2 fault.3
+    faultless a n (job j ts) f h (inl (inr (inr fault))) = fault.3 (each_width a j ts 0 (builds_at p j) ts h.2)
+    faultless a n (job j ts) f h (inr fault) = each_faultless a (n + 1) j ts 0 (builds_at p j) ts f h.2 fault.3
 
-    each_faultless : (a : Assignment) (n j : ℕ) (bs : List BuildValue) (ts : Trees) (f : CheckFault) → RefuteEach prefers p bound a j bs ts → IsFirstAmong prefers p bound a n j bs ts f → ⊥
-    each_faultless a n j [] no_child f h fault = fault
-    each_faultless a n j (b ∷ bs) (child t ts) f h (inl fault) = faultless (with_build a j b) n t f h.0 fault
-    each_faultless a n j (b ∷ bs) (child t ts) f h (inr fault) = each_faultless a (n + count t) j bs ts f h.1 fault.1
-    each_faultless a n j [] (child t ts) f h fault = fault
-    each_faultless a n j (b ∷ bs) no_child f h fault = fault
+    each_faultless : (a : Assignment) (n j : ℕ) (all : Trees) (k : ℕ) (bs : List BuildValue) (ts : Trees) (f : CheckFault) → RefuteEach prefers p bound a j all k bs ts
+        → IsFirstAmong prefers p bound a n j all k bs ts f → ⊥
+    each_faultless a n j all k [] no_child f h fault = fault
+    each_faultless a n j all k (b ∷ bs) (child t ts) f h (inl fault) = faultless (with_build a j b) n t f h.0 fault
+    each_faultless a n j all k (b ∷ bs) (child t ts) f h (inr fault) = each_faultless a (n + count t) j all (k + 1) bs ts f h.1 fault.1
+    each_faultless a n j all k [] (child t ts) f h fault = fault
+    each_faultless a n j all k (b ∷ bs) no_child f h fault = fault

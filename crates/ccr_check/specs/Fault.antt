@@ -13,16 +13,19 @@ use Rattle.ccr_proof.specs.Refutes.{HasNoPlace, IsBounded, Refutes}
 use Rattle.ccr_check.specs.declared.fault.CheckFault.{CheckFault}
 use Rattle.ccr_check.specs.declared.fault.CheckFault.TheVariants.{BadChoice, NoSuchJob, JobTwice, WrongChildren, NotEmpty, NotBounded, NoSuchInput}
 
--- What is wrong with a job node itself, the faults in the order of their numbers: no such job, a job with a fixed build, another
--- number of children than the job has successful builds.
+-- What is wrong with a job node itself, the faults in the order of their numbers: no such job, a job with a fixed
+-- build, another number of children than the job has successful builds.
 abbrev pub IsJobFault : ProblemValue → Assignment → ℕ → ℕ → Trees → CheckFault → Type 0
 IsJobFault p a n j ts f =
     ((f ≡ NoSuchJob n) × (length p.jobs ≤ j))
     ⊎ (((f ≡ JobTwice n) × (j < length p.jobs) × (a j ≢ None))
     ⊎ ((f ≡ WrongChildren n) × (j < length p.jobs) × (a j ≡ None) × (width ts ≢ length (builds_at p j))))
 
--- The first fault in preorder of a tree whose root is node n. A node's own fault comes before those of its children; a child's
--- comes where all children before it refute.
+-- The first fault in preorder of a tree whose root is node n. A node's own fault comes before those of its children; a
+-- child's comes where all children before it refute.
+--
+-- IsFirstAmong says it of the children from position k on, the first of which is node n: it knows the job and all the
+-- children, and goes through the builds and the children that stand there.
 abbrev mutual
   pub IsFirstFault : Preference → ProblemValue → Option (List ℕ) → Assignment → ℕ → Tree → CheckFault → Type 0
   IsFirstFault prefers p bound a n (empty i) f =
@@ -30,15 +33,19 @@ abbrev mutual
   IsFirstFault prefers p bound a n bounded f = (f ≡ NotBounded n) × ¬ IsBounded prefers p bound a
   IsFirstFault prefers p bound a n (job j ts) f =
       IsJobFault p a n j ts f
-      ⊎ ((j < length p.jobs) × (a j ≡ None) × (width ts ≡ length (builds_at p j)) × IsFirstAmong prefers p bound a (n + 1) j (builds_at p j) ts f)
+      ⊎ ((j < length p.jobs) × (a j ≡ None) × (width ts ≡ length (builds_at p j))
+      × IsFirstAmong prefers p bound a (n + 1) j ts 0 (builds_at p j) ts f)
 
-  pub IsFirstAmong : Preference → ProblemValue → Option (List ℕ) → Assignment → ℕ → ℕ → List BuildValue → Trees → CheckFault → Type 0
-  IsFirstAmong prefers p bound a n j (b ∷ bs) (child t ts) f =
+  pub IsFirstAmong : Preference → ProblemValue → Option (List ℕ) → Assignment → ℕ → ℕ → Trees → ℕ → List BuildValue
+      → Trees → CheckFault
+      → Type 0
+  IsFirstAmong prefers p bound a n j all k (b ∷ bs) (child t ts) f =
       IsFirstFault prefers p bound (with_build a j b) n t f
-      ⊎ (Refutes prefers p bound (with_build a j b) t × IsFirstAmong prefers p bound a (n + count t) j bs ts f)
-  IsFirstAmong prefers p bound a n j [] (child t ts) f = ⊥
-  IsFirstAmong prefers p bound a n j (b ∷ bs) no_child f = ⊥
-  IsFirstAmong prefers p bound a n j [] no_child f = ⊥
+      ⊎ (Refutes prefers p bound (with_build a j b) t
+      × IsFirstAmong prefers p bound a (n + count t) j all (k + 1) bs ts f)
+  IsFirstAmong prefers p bound a n j all k [] (child t ts) f = ⊥
+  IsFirstAmong prefers p bound a n j all k (b ∷ bs) no_child f = ⊥
+  IsFirstAmong prefers p bound a n j all k [] no_child f = ⊥
 
 -- The choice of the claim doesn't satisfy, and this is said of it.
 pub record IsBadChoice (p : ProblemValue) (places builds : List ℕ) (f : CheckFault) : Type 0 where
@@ -47,7 +54,8 @@ pub record IsBadChoice (p : ProblemValue) (places builds : List ℕ) (f : CheckF
   pub refused : said ≢ verdict.Satisfies
   pub first : IsFirstVerdict p places builds said
 
--- What is wrong with a claim and its tree first: the choice that the claim names, or else the first node of the tree from node 0.
+-- What is wrong with a claim and its tree first: the choice that the claim names, or else the first node of the tree
+-- from node 0.
 abbrev pub IsFault : Preference → ProblemValue → Claim → Tree → CheckFault → Type 0
 IsFault prefers p (Best c) t f =
     IsBadChoice p c.places c.builds f

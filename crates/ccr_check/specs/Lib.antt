@@ -1,1 +1,5 @@
 pub mod Fault
+pub mod Words
+pub mod Cut
+pub mod Judged
+pub mod Accepted

@@ -9,8 +9,8 @@ ghost use Rattle.ccr_choice.specs.Preference.{Preference, IsOrder, IsBetter, ord
 ghost use Rattle.ccr_proof.specs.Refutes.{IsAccepted};
 ghost use Rattle.ccr_proof.specs.Right.{IsRight};
 
-/// The law behind [`check`](crate::check): whatever the order of preference, an accepted claim is right. The choice that it names
-/// satisfies and no choice that satisfies has better places; or it names none, and none satisfies.
+/// The law behind [`check`](crate::check): whatever the order of preference, an accepted claim is right. The choice
+/// that it names satisfies and no choice that satisfies has better places; or it names none, and none satisfies.
 ///
 /// It is a law over the definitions alone: no checker, resolver or text is spoken of, and nothing runs.
 pub fn accepted_is_right()
@@ -19,5 +19,6 @@ pub fn accepted_is_right()
 
     // The order of each problem is an order, and what is better in it is later.
     ensures order { (p : ProblemValue) → IsOrder (order_of p) }
-    ensures later { (p : ProblemValue) (places others : List ℕ) → IsBetter (order_of p) places others ↔ IsLater places others }
+    ensures later { (p : ProblemValue) (places others : List ℕ)
+        → IsBetter (order_of p) places others ↔ IsLater places others }
 {}

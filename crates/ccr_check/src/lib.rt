@@ -1,21 +1,26 @@
 //! The checker of proofs, which can be trusted with anybody's.
 //!
-//! A [`Proof`](ccr_proof::Proof) claims that a choice is the best one for a problem, or that there is none, and brings a tree of
-//! cases. [`check`] accepts it exactly where the definitions of `ccr_proof` do (`specs/Refutes.antt`), and where it accepts, the
-//! claim is right (`specs/Right.antt`): the law is [`accepted_is_right`], which speaks of no program. A proof that isn't accepted
-//! is refused with its first fault: the claim's choice, or the first node in preorder whose own test fails.
+//! A [`Proof`](ccr_proof::Proof) claims that a choice is the best one for a problem, or that there is none, and brings
+//! a tree of cases. [`check`] accepts it exactly where the definitions of `ccr_proof` do (`specs/Refutes.antt`), and
+//! where it accepts, the claim is right (`specs/Right.antt`): the law is [`accepted_is_right`], which speaks of no
+//! program. A proof that isn't accepted is refused with its first fault: the claim's choice, or the first node in
+//! preorder whose own test fails.
 //!
 //! The checker takes no memory. It keeps the fixed builds in a table of 32 entries, copied at each child of a job node, and looks
 //! for an input's best place among the pairs of the builds that each possible place must have passed.
+//!
+//! [`judge`] does the same from bytes to bytes. It is given the text of a problem, followed by that of a proof or of a claim, and
+//! says in one line what is to be thought of it (`specs/Judged.antt`, `specs/Accepted.antt`).
 #![tactic(auto)]
 
 mod accept;
+mod cut;
 mod fault;
+mod judging;
 mod law;
-#[cfg(test)]
-mod tests;
 mod tree;
 
 pub use accept::check;
 pub use fault::CheckFault;
+pub use judging::judge;
 pub use law::accepted_is_right;

@@ -21,7 +21,8 @@ fn has_no_place(problem: &Problem, fixed: &Fixed, input: usize) -> bool
 }
 
 fn is_under(problem: &Problem, fixed: &Fixed, bound: Option<&[u32]>) -> bool
-    ensures { IsTrue result ↔ IsBounded (order_of problem.now) problem.now (option_copied bound.entry) (assigned problem.now fixed.now) }
+    ensures { IsTrue result
+        ↔ IsBounded (order_of problem.now) problem.now (option_copied bound.entry) (assigned problem.now fixed.now) }
 {
     match bound {
         Some(places) => is_bounded(problem, fixed, places),
@@ -40,8 +41,10 @@ pub(crate) fn walk(
     requires { node + count (tree_of tree.now) < 2 ^ 32 }
     ensures { MatchResult result
         (λ next. (next ≡ node + count (tree_of tree.now))
-        × Refutes (order_of problem.now) problem.now (option_copied bound.entry) (assigned problem.now fixed.now) (tree_of tree.now))
-        (IsFirstFault (order_of problem.now) problem.now (option_copied bound.entry) (assigned problem.now fixed.now) node (tree_of tree.now)) }
+        × Refutes (order_of problem.now) problem.now (option_copied bound.entry) (assigned problem.now fixed.now)
+        (tree_of tree.now))
+        (IsFirstFault (order_of problem.now) problem.now (option_copied bound.entry)
+        (assigned problem.now fixed.now) node (tree_of tree.now)) }
 {
     match tree {
         Node::Empty(input) => {

@@ -19,3 +19,6 @@ pub mod Places
 pub mod Lookups
 pub mod Scopes
 pub mod TableLaws
+pub mod Forward
+pub mod BadLines
+pub mod ProblemForward

@@ -7,7 +7,7 @@ use Rattle.ccr_choice.specs.declared.fault.ProblemFault.{ProblemFault}
 use Rattle.ccr_choice.specs.declared.fault.ProblemFault.TheVariants.{BadLine, Trailing, NoMemory}
 use Rattle.ccr_choice.specs.Problem.{InputValue, BuildValue, ProblemValue, IsProblem, is_problem, is_input, are_inputs, are_builds, are_builds_below, are_numbered, are_places_after, are_pairs_after, next_used, used_after, scopes_after}
 use Rattle.ccr_choice.specs.Text.{IsWord, lines_of}
-use Rattle.ccr_choice.specs.Reading.{whole, number_words}
+use Rattle.ccr_choice.specs.Reading.{Refusal, bad_line, trailing, whole, number_words}
 use Rattle.ccr_choice.specs.ProblemText.{pair_words, input_line, build_line, job_lines, problem_lines, problem_text, next_problem, problem_in, IsRead, IsReadAs, NothingFollows}
 use Rattle.ccr_choice.proofs.Texts.{IsLine}
 use Rattle.ccr_choice.proofs.Formats.{IsFormat, text_read, text_found, text_again, text_alone}
@@ -107,22 +107,22 @@ pub problem_lines_format : IsFormat next_problem problem_lines IsProblem
 problem_lines_format =
     record { found = problem_found; again = λ p rest rules. problem_again p rest rules; spelled = λ p rules. problem_spelled p rules }
 
-problem_is : (bs : List ℕ) → problem_in bs ≡ whole BadLine Trailing (length (lines_of bs)) (next_problem (lines_of bs))
+problem_is : (bs : List ℕ) → problem_in bs ≡ whole bad_line trailing (length (lines_of bs)) (next_problem (lines_of bs))
 unfolding problem_in
 problem_is bs = refl
 
 -- what is read keeps the rules
 pub problem_text_kept : (bs : List ℕ) (p : ProblemValue) → problem_in bs ≡ Ok p → is_problem p ≡ true
 problem_text_kept bs p h =
-    problem_kept (lines_of bs) (p, []) (text_read BadLine Trailing (length (lines_of bs)) (next_problem (lines_of bs)) p (sym (problem_is bs) ∙ h))
+    problem_kept (lines_of bs) (p, []) (text_read bad_line trailing (length (lines_of bs)) (next_problem (lines_of bs)) p (sym (problem_is bs) ∙ h))
 
 -- what is read is written so
 pub problem_text_found : (bs : List ℕ) (p : ProblemValue) → is_problem p ≡ true → problem_in bs ≡ Ok p → bs ≡ problem_text p
-problem_text_found bs p rules h = text_found problem_lines_format BadLine Trailing bs p rules (sym (problem_is bs) ∙ h)
+problem_text_found bs p rules h = text_found problem_lines_format bad_line trailing bs p rules (sym (problem_is bs) ∙ h)
 
 -- what is written is read so
 pub problem_text_again : (p : ProblemValue) → is_problem p ≡ true → problem_in (problem_text p) ≡ Ok p
-problem_text_again p rules = problem_is (problem_text p) ∙ text_again problem_lines_format BadLine Trailing p rules
+problem_text_again p rules = problem_is (problem_text p) ∙ text_again problem_lines_format bad_line trailing p rules
 
 -- no problem's text begins another's
 pub nothing_follows : (bs : List ℕ) (p : ProblemValue) → is_problem p ≡ true → bs ≡ problem_text p → NothingFollows bs
@@ -132,7 +132,7 @@ nothing_follows bs p rules e q more rules' f = text_alone problem_lines_format b
 pub read_as : (result : Result ProblemValue ProblemFault) (bs : List ℕ) (p : ProblemValue) → IsRead result (problem_in bs) → is_problem p ≡ true → bs ≡ problem_text p → IsReadAs result p
 read_as result bs p h rules e = answered result (problem_in bs) (ap problem_in e ∙ problem_text_again p rules) h
   where
-    answered : (result read : Result ProblemValue ProblemFault) → read ≡ Ok p → IsRead result read → IsReadAs result p
+    answered : (result : Result ProblemValue ProblemFault) (read : Result ProblemValue Refusal) → read ≡ Ok p → IsRead result read → IsReadAs result p
     answered (Ok q) read e h = cc
     answered (Err NoMemory) read e h = refl
     answered (Err (BadLine n)) read e h = cc

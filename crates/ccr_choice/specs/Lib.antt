@@ -10,3 +10,4 @@ pub mod Ascending
 pub mod Text
 pub mod Reading
 pub mod ProblemText
+pub mod Words

@@ -4,18 +4,21 @@ use Rattle.ccr_choice.specs.Problem.{ProblemValue, input_at, builds_at}
 use Rattle.ccr_choice.specs.Preference.{Preference, IsBetter}
 use Rattle.ccr_choice.specs.Assignment.{Assignment}
 
--- A pair of scope and place can have passed job j: it is among the pairs of the job's fixed build, or, where none is fixed, among
--- those of some successful build of the job.
+-- A pair of scope and place can have passed job j: it is among the pairs of the job's fixed build, or, where none is
+-- fixed, among those of some successful build of the job.
 abbrev pub CanHavePassed : ProblemValue → Assignment → ℕ × ℕ → ℕ → Type 0
-CanHavePassed p a pair j = MatchOption (a j) (Any (λ b. Contains b.pairs pair) (builds_at p j)) (λ b. Contains b.pairs pair)
+CanHavePassed p a pair j =
+    MatchOption (a j) (Any (λ b. Contains b.pairs pair) (builds_at p j)) (λ b. Contains b.pairs pair)
 
--- A place is possible for input i: it is allowed, and in the input's scope it can have passed each job that the input names.
+-- A place is possible for input i: it is allowed, and in the input's scope it can have passed each job that the input
+-- names.
 pub record IsPossible (p : ProblemValue) (a : Assignment) (i place : ℕ) : Type 0 where
   pub allowed : Contains (input_at p i).places place
   pub passed : EachIndex (input_at p i).jobs
       (λ k. CanHavePassed p a ((input_at p i).scope, place) (slice_index (input_at p i).jobs k))
 
--- The best possible place of input i: a possible one to which no possible one is preferred, or None where none is possible.
+-- The best possible place of input i: a possible one to which no possible one is preferred, or None where none is
+-- possible.
 abbrev pub IsBestPossible : Preference → ProblemValue → Assignment → ℕ → Option ℕ → Type 0
 IsBestPossible prefers p a i best = MatchOption best
     ((place : ℕ) → ¬ IsPossible p a i place)

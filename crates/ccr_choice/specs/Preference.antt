@@ -2,7 +2,8 @@
 use Rattle.std.specs.Prelude.{◌≡◌, ◌≢◌, ℕ, ◌<◌, ◌⊎◌, List, length, slice_index, Bool, true, false, nat_lt, IsTrue}
 use Rattle.ccr_choice.specs.Problem.{ProblemValue}
 
--- A preference says of each input, by its position in the plan, whether the first of two places is preferred to the second.
+-- A preference says of each input, by its position in the plan, whether the first of two places is preferred to the
+-- second.
 abbrev pub Preference : Type 0
 Preference = ℕ → ℕ → ℕ → Bool
 
@@ -14,14 +15,15 @@ plain i x y = nat_lt y x
 abbrev pub order_of : ProblemValue → Preference
 order_of p = plain
 
--- A preference is an order: no place is preferred to itself, what is preferred to a preferred place is preferred, and of two
--- different places one is preferred.
+-- A preference is an order: no place is preferred to itself, what is preferred to a preferred place is preferred, and
+-- of two different places one is preferred.
 pub record IsOrder (prefers : Preference) : Type 0 where
   pub irreflexive : (i x : ℕ) → prefers i x x ≡ false
   pub transitive : (i x y z : ℕ) → prefers i x y ≡ true → prefers i y z ≡ true → prefers i x z ≡ true
   pub total : (i x y : ℕ) → x ≢ y → (prefers i x y ≡ true) ⊎ (prefers i y x ≡ true)
 
--- A list of places is better than another if, at the first position where they differ, as far as both go, its place is preferred.
+-- A list of places is better than another if, at the first position where they differ, as far as both go, its place is
+-- preferred.
 pub record IsBetter (prefers : Preference) (places others : List ℕ) : Type 0 where
   pub first : ℕ
   pub within : first < length places

@@ -36,7 +36,8 @@ abbrev pub builds_at : ProblemValue → ℕ → List BuildValue
 builds_at p j = slice_index_or p.jobs j []
 
 -- ---- the rules
--- Scopes and jobs are numbered 0, 1, 2 in order of first mention: how many are mentioned once n, a known or the next one, is.
+-- Scopes and jobs are numbered 0, 1, 2 in order of first mention: how many are mentioned once n, a known or the next
+-- one, is.
 abbrev pub next_used : ℕ → ℕ → ℕ
 next_used used n = if n == used then used + 1 else used
 
@@ -67,7 +68,8 @@ are_pairs_after scopes scope place (p ∷ ps) =
     (nat_lt scope p.0 || (scope == p.0 && nat_lt place p.1))
     && (nat_lt p.0 scopes && (nat_lt 0 p.1 && (nat_le p.1 MOST_PLACES && are_pairs_after scopes p.0 p.1 ps)))
 
--- An input's scope is one that was mentioned before or the next one; so are its jobs, none of them twice; its places ascend.
+-- An input's scope is one that was mentioned before or the next one; so are its jobs, none of them twice; its places
+-- ascend.
 abbrev pub is_input : ℕ → ℕ → InputValue → Bool
 is_input scopes jobs i =
     nat_le i.scope scopes && (are_distinct i.jobs && (are_numbered jobs i.jobs && are_places_after 0 i.places))

@@ -9,7 +9,7 @@ use Rattle.ccr_choice.specs.declared.fault.ProblemFault.{ProblemFault}
 use Rattle.ccr_choice.specs.declared.fault.ProblemFault.TheVariants.{BadLine, Trailing, NoMemory}
 use Rattle.ccr_choice.specs.Problem.{InputValue, BuildValue, ProblemValue, IsProblem, next_used, used_after, is_input, is_build, scopes_after, jobs_after}
 use Rattle.ccr_choice.specs.Text.{text_of, lines_of}
-use Rattle.ccr_choice.specs.Reading.{Read, ◌>>=◌, keep_if, one_line, next_many, whole, number_words, front_numbers, after_numbers}
+use Rattle.ccr_choice.specs.Reading.{Refusal, bad_line, trailing, Read, ◌>>=◌, keep_if, one_line, next_many, whole, number_words, front_numbers, after_numbers}
 
 -- ---- writing
 abbrev pub pair_words : List (ℕ × ℕ) → List Word
@@ -41,7 +41,8 @@ problem_text p = text_of (problem_lines p)
 -- ---- what a line says
 abbrev pub places_on : ℕ → List ℕ → List Word → Option InputValue
 places_on scope jobs (Places ∷ ws) =
-    if length (after_numbers ws) == 0 then Some (record { scope = scope; places = front_numbers ws; jobs = jobs }) else None
+    if length (after_numbers ws) == 0
+    then Some (record { scope = scope; places = front_numbers ws; jobs = jobs }) else None
 places_on scope jobs ws = None
 
 unfoldable pub input_on : List Word → Option InputValue
@@ -123,19 +124,20 @@ next_problem ls = do
   builds ← next_jobs (scopes_after 0 inputs.0) jobs.0 jobs.1
   Ok (record { inputs = inputs.0; jobs = builds.0 }, builds.1)
 
--- The problem that a text stands for, or why it stands for none: the first line from the top that breaks a rule, lacks its line
--- feed or is missing, or more than a problem.
-unfoldable pub problem_in : List ℕ → Result ProblemValue ProblemFault
-problem_in bytes = whole BadLine Trailing (length (lines_of bytes)) (next_problem (lines_of bytes))
+-- The problem that a text stands for, or why it stands for none: the first line from the top that breaks a rule, lacks
+-- its line feed or is missing, or more than a problem.
+unfoldable pub problem_in : List ℕ → Result ProblemValue Refusal
+problem_in bytes = whole bad_line trailing (length (lines_of bytes)) (next_problem (lines_of bytes))
 
 -- ---- what is said of a reader's answer
-abbrev pub IsProblemFault : {Y : Type 0} → ProblemFault → Result Y ProblemFault → Type 0
+-- The fault says why reading refuses, unless memory ran out.
+abbrev pub IsProblemFault : {Y : Type 0} → ProblemFault → Result Y Refusal → Type 0
 IsProblemFault NoMemory read = Unit {0}
-IsProblemFault (BadLine n) read = read ≡ Err (BadLine n)
-IsProblemFault Trailing read = read ≡ Err Trailing
+IsProblemFault (BadLine n) read = read ≡ Err (bad_line n)
+IsProblemFault Trailing read = read ≡ Err trailing
 
 -- The answer is what reading gives, unless memory ran out.
-abbrev pub IsRead : Result ProblemValue ProblemFault → Result ProblemValue ProblemFault → Type 0
+abbrev pub IsRead : Result ProblemValue ProblemFault → Result ProblemValue Refusal → Type 0
 IsRead (Ok p) read = read ≡ Ok p
 IsRead (Err e) read = IsProblemFault e read
 

@@ -1,12 +1,19 @@
 -- Reading lines from the first to the last: a line that must be there, a count of things, and what a reader answers.
-use Rattle.std.specs.Prelude.{◌≡◌, ℕ, zero, suc, ◌+◌, ◌-◌, List, [], ◌∷◌, length, map, Bool, ◌==◌, Option, Some, None, Result, Ok, Err, if◌then◌else◌}
+use Rattle.std.specs.Prelude.{◌≡◌, ℕ, zero, suc, ◌+◌, ◌-◌, ◌≤◌, List, [], ◌∷◌, ◌++◌, length, map, Bool, ◌==◌, Option, Some, None, Result, Ok, Err, if◌then◌else◌}
 use Rattle.ccr_choice.specs.declared.text.word.Word.{Word}
 use Rattle.ccr_choice.specs.declared.text.word.Word.TheVariants.{Number}
+use Rattle.ccr_choice.specs.Text.{first_lines, ended_lines}
 use Rattle.ccr_choice.specs.declared.text.stop.Stop.{Stop}
 use Rattle.ccr_choice.specs.declared.text.stop.Stop.TheVariants as stop
 
--- Reading answers what was read with the lines behind it, or Err k: of the lines that are left, the first, which is the last but
--- k - 1, breaks a rule; where k is 0, no line is left and one is missing.
+-- Why a text is refused: the first line, counted from 1, that breaks a rule, lacks its line feed or is missing; or more
+-- bytes behind the last line.
+pub data Refusal : Type 0 where
+  bad_line : ℕ → Refusal
+  trailing : Refusal
+
+-- Reading answers what was read with the lines behind it, or Err k: of the lines that are left, the first, which is the
+-- last but k - 1, breaks a rule; where k is 0, no line is left and one is missing.
 abbrev pub Read : Type 0 → Type 0
 Read A = Result (A × List (List Word)) ℕ
 
@@ -33,7 +40,8 @@ one_line rule (l ∷ ls) = do
   Ok (x, ls)
 
 -- So many things, one after the other, where each may change what is asked of the next.
-abbrev pub next_many : {S A : Type 0} → (S → List (List Word) → Read A) → (S → A → S) → ℕ → S → List (List Word) → Read (List A)
+abbrev pub next_many : {S A : Type 0} → (S → List (List Word) → Read A) → (S → A → S) → ℕ → S → List (List Word)
+    → Read (List A)
 next_many item next zero s ls = Ok ([], ls)
 next_many item next (suc n) s ls = do
   x ← item s ls
@@ -42,8 +50,14 @@ next_many item next (suc n) s ls = do
 
 -- The whole text is read, and nothing is left; else the first bad line, counted from 1, or more than the text.
 abbrev pub whole : {A E : Type 0} → (ℕ → E) → E → ℕ → Read A → Result A E
-whole bad trailing lines (Err left) = Err (bad (lines + 1 - left))
-whole bad trailing lines (Ok x) = if length x.1 == 0 then Ok x.0 else Err trailing
+whole bad more lines (Err left) = Err (bad (lines + 1 - left))
+whole bad more lines (Ok x) = if length x.1 == 0 then Ok x.0 else Err more
+
+-- Line n is the first bad one of a text, as it is seen from outside: the lines before it alone are refused for want of
+-- line n; and where line n has its line feed, the first n lines are refused for line n whatever follows.
+pub record IsFirstBad {V R : Type 0} (read : List ℕ → Result V R) (bad : ℕ → R) (bytes : List ℕ) (n : ℕ) : Type 0 where
+  pub before : read (first_lines (n - 1) bytes) ≡ Err (bad n)
+  pub whatever : n ≤ ended_lines bytes → (more : List ℕ) → read (first_lines n bytes ++ more) ≡ Err (bad n)
 
 -- ---- numbers on a line
 -- the words that spell these numbers

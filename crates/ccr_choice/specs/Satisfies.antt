@@ -23,14 +23,17 @@ Moved builds number pair = Any (λ b. (b.number ≡ number) × Contains b.pairs 
 
 -- The place of input i, in the scope of input i, is among the pairs of the build of job j.
 unfoldable pub HasPassed : ProblemValue → List ℕ → List ℕ → ℕ → ℕ → Type 0
-HasPassed p places builds i j = Moved (builds_at p j) (slice_index builds j) ((input_at p i).scope, slice_index places i)
+HasPassed p places builds i j =
+    Moved (builds_at p j) (slice_index builds j) ((input_at p i).scope, slice_index places i)
 
 -- The place of input i has passed each job that input i names.
 unfoldable pub HasPassedAll : ProblemValue → List ℕ → List ℕ → ℕ → Type 0
-HasPassedAll p places builds i = EachIndex (input_at p i).jobs (λ k. HasPassed p places builds i (slice_index (input_at p i).jobs k))
+HasPassedAll p places builds i =
+    EachIndex (input_at p i).jobs (λ k. HasPassed p places builds i (slice_index (input_at p i).jobs k))
 
--- A choice satisfies a problem: the lengths are right, each place is allowed, each build is a successful build of its job,
--- and each input's place has passed each job that the input names, in the one build that the choice has for that job.
+-- A choice satisfies a problem: the lengths are right, each place is allowed, each build is a successful build of its
+-- job, and each input's place has passed each job that the input names, in the one build that the choice has for that
+-- job.
 pub record Satisfies (p : ProblemValue) (places builds : List ℕ) : Type 0 where
   pub lengths : HasLengths p places builds
   pub allowed : (i : ℕ) → i < length p.inputs → IsAllowed p places i
@@ -47,8 +50,9 @@ pub record IsFirstFailure (n : ℕ) (P : ℕ → Type 0) (i : ℕ) : Type 0 wher
 abbrev pub IsFirstFailing : List ℕ → (ℕ → Type 0) → ℕ → Type 0
 IsFirstFailing js P j = (k : ℕ) × (slice_index js k ≡ j) × IsFirstFailure (length js) (λ m. P (slice_index js m)) k
 
--- The first verdict is the first in this order that holds: a wrong length, the least input whose place isn't allowed, the least
--- job whose build isn't successful, the least input that hasn't passed with the first such job in its list; else it satisfies.
+-- The first verdict is the first in this order that holds: a wrong length, the least input whose place isn't allowed,
+-- the least job whose build isn't successful, the least input that hasn't passed with the first such job in its list;
+-- else it satisfies.
 abbrev pub IsFirstVerdict : ProblemValue → List ℕ → List ℕ → Verdict → Type 0
 IsFirstVerdict p places builds verdict.Satisfies = Satisfies p places builds
 IsFirstVerdict p places builds verdict.WrongLength = ¬ HasLengths p places builds

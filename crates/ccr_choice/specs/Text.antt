@@ -1,5 +1,5 @@
 -- Texts as lines of words, in the one spelling that all formats share: problem, claim and proof.
-use Rattle.std.specs.Prelude.{ℕ, ◌+◌, ◌-◌, ◌*◌, ◌<◌, ◌^◌, List, [], ◌∷◌, ◌++◌, length, map, ◌&&◌, ◌==◌, nat_lt, Option, Some, None, if◌then◌else◌, codes}
+use Rattle.std.specs.Prelude.{ℕ, zero, suc, ◌+◌, ◌-◌, ◌*◌, ◌<◌, ◌^◌, List, [], ◌∷◌, ◌++◌, length, map, ◌&&◌, ◌==◌, nat_lt, Option, Some, None, if◌then◌else◌, codes}
 use Rattle.std.specs.List.{slice_split, join_with_byte, flat_map}
 use Rattle.std.specs.Str.{bytes_eq}
 use Rattle.std.specs.Fmt.{decimal}
@@ -83,7 +83,8 @@ words_of line = map word_of (slice_split (λ b. b == 32) line)
 abbrev pub unended : List Word
 unended = Other ∷ []
 
--- The lines that the parts between line feeds make; behind the last line feed stands nothing, or a line that isn't ended.
+-- The lines that the parts between line feeds make; behind the last line feed stands nothing, or a line that isn't
+-- ended.
 abbrev pub lines_from : List (List ℕ) → List (List Word)
 lines_from [] = []
 lines_from (x ∷ []) = if length x == 0 then [] else unended ∷ []
@@ -92,3 +93,15 @@ lines_from (x ∷ y ∷ more) = words_of x ∷ lines_from (y ∷ more)
 -- The lines of a text, as their words.
 unfoldable pub lines_of : List ℕ → List (List Word)
 lines_of bs = lines_from (slice_split (λ b. b == 10) bs)
+
+-- ---- cutting
+-- The first n lines of a text, with their line feeds.
+abbrev pub first_lines : ℕ → List ℕ → List ℕ
+first_lines zero bs = []
+first_lines (suc n) [] = []
+first_lines (suc n) (b ∷ bs) = b ∷ (if b == 10 then first_lines n bs else first_lines (suc n) bs)
+
+-- How many lines of a text have their line feed.
+abbrev pub ended_lines : List ℕ → ℕ
+ended_lines [] = 0
+ended_lines (b ∷ bs) = (if b == 10 then 1 else 0) + ended_lines bs

@@ -1,19 +1,48 @@
-//! What the definitions of possible and best places mean.
+//! Laws over the definitions alone: what best places are, and that a problem has one text.
 
-ghost use Rattle.std.specs.Prelude.{◌≡◌, ℕ, List};
-ghost use Rattle.ccr_choice.specs.Problem.{ProblemValue};
+ghost use Rattle.std.specs.Prelude.{◌≡◌, ◌↔◌, ◌++◌, ℕ, List, [], Ok, Err};
+ghost use Rattle.ccr_choice.specs.Reading.{bad_line, IsFirstBad};
+ghost use Rattle.ccr_choice.specs.Problem.{ProblemValue, IsProblem};
+ghost use Rattle.ccr_choice.specs.ProblemText.{problem_text, problem_in};
 ghost use Rattle.ccr_choice.specs.Preference.{Preference, IsOrder, order_of};
 ghost use Rattle.ccr_choice.specs.Assignment.{Assignment};
 ghost use Rattle.ccr_choice.specs.Possible.{AreBestPlaces};
 
-/// Whatever the order of preference and the partial assignment, there are best places, and no others. The order of each problem
-/// is an order.
+/// Whatever the order of preference and the partial assignment, there are best places, and no others. The order of each
+/// problem is an order.
 ///
 /// It is a law over the definitions alone; nothing runs.
 pub fn best_places_are_one()
     ensures some { (prefers : Preference) → IsOrder prefers → (p : ProblemValue) (a : Assignment)
         → ((places : List ℕ) × AreBestPlaces prefers p a places) }
-    ensures only { (prefers : Preference) → IsOrder prefers → (p : ProblemValue) (a : Assignment) (places others : List ℕ)
+    ensures only { (prefers : Preference) → IsOrder prefers
+        → (p : ProblemValue) (a : Assignment) (places others : List ℕ)
         → AreBestPlaces prefers p a places → AreBestPlaces prefers p a others → places ≡ others }
     ensures order { (p : ProblemValue) → IsOrder (order_of p) }
+{}
+
+/// Each problem has one text and each text at most one problem, whether or not there is memory to read it.
+///
+/// It is a law over the definitions alone; nothing runs.
+pub fn problem_has_one_text()
+    // The text of a problem is read as this problem.
+    ensures read { (p : ProblemValue) → IsProblem p → problem_in (problem_text p) ≡ Ok p }
+
+    // What is read keeps the rules, and the text is its text.
+    ensures written { (bytes : List ℕ) (p : ProblemValue) → problem_in bytes ≡ Ok p
+        → IsProblem p × (bytes ≡ problem_text p) }
+
+    // No problem's text begins another's.
+    ensures alone { (p q : ProblemValue) (more : List ℕ) → IsProblem p → IsProblem q
+        → problem_text q ≡ problem_text p ++ more → more ≡ [] }
+{}
+
+/// Line n of a problem's text is told as the bad one exactly where it is the first bad one as it is seen from outside: the
+/// lines before it alone are refused for want of line n, and where it has its line feed, the first n lines are refused so
+/// whatever follows.
+///
+/// It is a law over the definitions alone; nothing runs.
+pub fn bad_line_of_a_problem_is_the_first()
+    ensures { (bytes : List ℕ) (n : ℕ)
+        → (problem_in bytes ≡ Err (bad_line n)) ↔ IsFirstBad problem_in bad_line bytes n }
 {}

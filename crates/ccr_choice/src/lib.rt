@@ -1,16 +1,19 @@
 //! What has to be chosen for a job, and whether a choice fits.
 //!
-//! A [`Problem`] has the inputs of a job in plan order, each with its scope, its allowed places and the jobs that its version
-//! must have passed, and for each of these named jobs its successful builds with their pairs of scope and place. A [`Choice`]
-//! gives each input a place and each named job one build; [`satisfies`] says whether it fits, or what is wrong with it first,
-//! and [`later`] compares two lists of places. Contracts see a problem as a record of lists (`specs/Problem.antt`).
+//! A [`Problem`] has the inputs of a job in plan order, each with its scope, its allowed places and the jobs that its
+//! version must have passed, and for each of these named jobs its successful builds with their pairs of scope and
+//! place. A [`Choice`] gives each input a place and each named job one build; [`satisfies`] says whether it fits, or
+//! what is wrong with it first, and [`later`] compares two lists of places. Contracts see a problem as a record of
+//! lists (`specs/Problem.antt`).
 //!
-//! Where the builds of some jobs are fixed (`specs/Assignment.antt`), [`possible`] finds the best place that each input can still
-//! have (`specs/Possible.antt`). What is preferred is a parameter of the definitions (`specs/Preference.antt`), and so is what
-//! the best choice is (`specs/Optimal.antt`); the order of a problem is said in one place, `order_of`.
+//! Where the builds of some jobs are fixed (`specs/Assignment.antt`), [`possible`] finds the best place that each input
+//! can still have (`specs/Possible.antt`). What is preferred is a parameter of the definitions
+//! (`specs/Preference.antt`), and so is what the best choice is (`specs/Optimal.antt`); the order of a problem is said
+//! in one place, `order_of`.
 //!
-//! A problem has one text and each text one problem: [`write_problem`], [`read_problem`]. The texts of claims and proofs are
-//! made of the same words and lines, so [`text`] is public. A text is refused with the first line that breaks a rule.
+//! A problem has one text and each text one problem: [`write_problem`], [`read_problem`]. The texts of claims and
+//! proofs are made of the same words and lines, so [`text`] is public. A text is refused with the first line that
+//! breaks a rule.
 #![tactic(auto)]
 
 mod choice;
@@ -21,15 +24,13 @@ pub mod possible;
 mod problem;
 mod read;
 mod rules;
-#[cfg(test)]
-mod tests;
 pub mod text;
 mod verdict;
 mod write;
 
 pub use choice::Choice;
 pub use fault::ProblemFault;
-pub use law::best_places_are_one;
+pub use law::{bad_line_of_a_problem_is_the_first, best_places_are_one, problem_has_one_text};
 pub use order::later;
 pub use problem::{
     Build, Input, JobBuilds, MOST_BUILDS, MOST_INPUTS, MOST_JOBS, MOST_PLACES, Problem,

@@ -10,7 +10,8 @@ ghost use Rattle.ccr_choice.specs.Table.{assigned, Reaches};
 
 use crate::problem::{Build, MOST_JOBS, Problem};
 
-/// For each named job 0 where it is free, else one more than the position of its fixed build among its successful builds.
+/// For each named job 0 where it is free, else one more than the position of its fixed build among its successful
+/// builds.
 pub type Fixed = [usize; MOST_JOBS as usize];
 
 /// Whether a place is among places that ascend.
@@ -86,8 +87,8 @@ fn is_possible(problem: &Problem, fixed: &Fixed, input: usize, place: u32) -> bo
     has_place(inputs[input].places(), place)
 }
 
-/// Builds of a job that input `input` names, with one of which each possible place must have passed: the fixed build of a job,
-/// else all builds of the first named job. None where the input names no job.
+/// Builds of a job that input `input` names, with one of which each possible place must have passed: the fixed build of
+/// a job, else all builds of the first named job. None where the input names no job.
 fn sources<'a>(problem: &'a Problem, fixed: &Fixed, input: usize) -> Option<&'a [Build]>
     requires { input < length problem.now.inputs }
     ensures passed { MatchOption result ((input_at problem.now input).jobs ≡ [])
@@ -116,8 +117,8 @@ fn is_better(place: u32, best: Option<u32>) -> bool
     }
 }
 
-/// The best of `best` and the possible places among a build's pairs. It goes down from the last pair of the input's scope, and
-/// ends at the first place that is possible, or no better than `best`.
+/// The best of `best` and the possible places among a build's pairs. It goes down from the last pair of the input's
+/// scope, and ends at the first place that is possible, or no better than `best`.
 fn best_in(
     problem: &Problem,
     fixed: &Fixed,
@@ -201,7 +202,8 @@ pub fn best_possible(problem: &Problem, fixed: &Fixed, input: usize) -> Option<u
 
 /// Whether the best places aren't better than these.
 pub fn is_bounded(problem: &Problem, fixed: &Fixed, bound: &[u32]) -> bool
-    ensures { IsTrue result ↔ AreBoundedBy (order_of problem.now) problem.now (assigned problem.now fixed.now) bound.now }
+    ensures { IsTrue result
+        ↔ AreBoundedBy (order_of problem.now) problem.now (assigned problem.now fixed.now) bound.now }
 {
     let both = problem.inputs().len().min(bound.len());
     for i in 0..both {

@@ -59,9 +59,9 @@ impl Model for JobBuilds {
 
 /// The inputs of a job in plan order, and for each named job its successful builds, newest first.
 ///
-/// Every problem keeps the rules of its text (`specs/Problem.antt`): at most 32 inputs and 32 named jobs; scopes and jobs
-/// numbered in order of first mention; places from 1 to 100,000 and pairs strictly ascending; build numbers from 1 to
-/// 1,000,000 strictly descending.
+/// Every problem keeps the rules of its text (`specs/Problem.antt`): at most 32 inputs and 32 named jobs; scopes and
+/// jobs numbered in order of first mention; places from 1 to 100,000 and pairs strictly ascending; build numbers from 1
+/// to 1,000,000 strictly descending.
 #[derive(Drop)]
 pub struct Problem {
     inputs: Vec<Input>,

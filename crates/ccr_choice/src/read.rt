@@ -270,8 +270,8 @@ fn read_whole(alloc: Global, bytes: &[u8]) -> Result<Problem, ProblemFault>
 
 /// The problem that a text stands for.
 ///
-/// BadLine(n): line n, counted from 1, is the first that breaks a rule, lacks its line feed or is missing. Trailing: more bytes
-/// follow the last line. NoMemory: memory was refused, and nothing is said of the text.
+/// BadLine(n): line n, counted from 1, is the first that breaks a rule, lacks its line feed or is missing. Trailing:
+/// more bytes follow the last line. NoMemory: memory was refused, and nothing is said of the text.
 pub fn read_problem(alloc: Global, bytes: &[u8]) -> Result<Problem, ProblemFault>
     // What is read keeps the rules, and the text is its text.
     ensures kept { IfOk result IsProblem }

@@ -1,7 +1,7 @@
 //! The text layer that problems, claims and proofs share: lines of words, with one spelling for each.
 //!
-//! A line is words with one blank between two of them and a line feed. [`Lines`] gives a text's lines from the top, one at a
-//! time; a reader that stops says by [`Stop`] how many lines were left.
+//! A line is words with one blank between two of them and a line feed. [`Lines`] gives a text's lines from the top, one
+//! at a time; a reader that stops says by [`Stop`] how many lines were left.
 
 mod line;
 mod numbers;

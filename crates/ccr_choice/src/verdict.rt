@@ -6,6 +6,7 @@ ghost use Rattle.ccr_choice.specs.Satisfies.{Satisfies, Moved, IsAllowed, IsSucc
 
 use crate::choice::Choice;
 use crate::problem::{Build, Problem};
+use std::fmt;
 
 /// What is wrong with a choice first, if anything is.
 #[derive(Clone, Copy, Debug, PartialEq, Eq)]
@@ -20,6 +21,23 @@ pub enum Verdict {
     NotSuccessful(usize),
     /// The place of this input isn't among the pairs of the chosen build of this job, which the input names.
     NotPassed(usize, usize),
+}
+
+impl fmt::Display for Verdict {
+    ghost use Rattle.std.specs.Prelude.{Some};
+    ghost use Rattle.ccr_choice.specs.Words.{verdict_words};
+
+    ghost output = { λ verdict. Some (verdict_words verdict) };
+
+    fn fmt<W: fmt::Write>(&self, f: &mut fmt::Formatter<W>) -> fmt::Result {
+        match self {
+            Verdict::Satisfies => write!(f, "satisfies"),
+            Verdict::WrongLength => write!(f, "wrong length"),
+            Verdict::NotAllowed(i) => write!(f, "input {i} not allowed"),
+            Verdict::NotSuccessful(j) => write!(f, "job {j} not successful"),
+            Verdict::NotPassed(i, j) => write!(f, "input {i} not passed job {j}"),
+        }
+    }
 }
 
 fn contains_place(places: &[u32], place: u32) -> bool
@@ -134,7 +152,8 @@ fn first_not_passed(problem: &Problem, places: &[u32], builds: &[u32]) -> Option
     ensures { MatchOption result
         ((i : ℕ) → i < length problem.now.inputs → HasPassedAll problem.now places.now builds.now i)
         (λ found. IsFirstFailure (length problem.now.inputs) (HasPassedAll problem.now places.now builds.now) found.0
-        × IsFirstFailing (input_at problem.now found.0).jobs (HasPassed problem.now places.now builds.now found.0) found.1) }
+        × IsFirstFailing (input_at problem.now found.0).jobs
+        (HasPassed problem.now places.now builds.now found.0) found.1) }
 {
     for i in 0..problem.inputs().len() {
         if let Some(job) = first_missing(problem, places, builds, i) {
@@ -144,9 +163,9 @@ fn first_not_passed(problem: &Problem, places: &[u32], builds: &[u32]) -> Option
     None
 }
 
-/// Whether a choice satisfies a problem, and else what is wrong with it first, in the order of the verdicts: the least input
-/// whose place isn't allowed, the least job whose build isn't successful, the least input that hasn't passed with the first
-/// such job in its list (Concourse: get step, `passed`, all named jobs together).
+/// Whether a choice satisfies a problem, and else what is wrong with it first, in the order of the verdicts: the least
+/// input whose place isn't allowed, the least job whose build isn't successful, the least input that hasn't passed with
+/// the first such job in its list (Concourse: get step, `passed`, all named jobs together).
 pub fn satisfies(problem: &Problem, choice: &Choice) -> Verdict
     ensures first { IsFirstVerdict problem.now choice.now.places choice.now.builds result }
     ensures exact { (result ≡ Verdict.Satisfies) ↔ Satisfies problem.now choice.now.places choice.now.builds }

@@ -1,2 +1,3 @@
 pub mod TextMaps
+pub mod Members
 pub mod Items

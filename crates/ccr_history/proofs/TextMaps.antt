@@ -1,21 +1,23 @@
--- What holds of objects whose fields are all texts.
-use Rattle.std.proofs.Common.{◌≡◌, ℕ, List, [], ◌∷◌, true, false, ◌&&◌, refl, ap, sym, ◌∙◌, Option, Some, None, is_some, option_map, option_and_then, unwrap_or, string_bytes, String, Global, Result, Ok, Err}
-use Rattle.std.specs.List.{list_all}
-use Rattle.std.specs.Map.{values_of}
-use Rattle.std.specs.Result.{IsErrAnd, IsErrOf}
-use Rattle.std.specs.Ordering.{nat_cmp, match_ordering}
-use Rattle.std.specs.declared.cmp.Ordering.{Ordering}
-use Rattle.std.specs.declared.cmp.Ordering.TheVariants.{Less, Equal, Greater}
+-- Maps from texts to texts, as JSON objects.
+use Rattle.std.proofs.Common.{◌≡◌, ℕ, suc, ◌≤◌, List, [], ◌∷◌, true, false, ◌&&◌, Option, Some, None, refl, ap, ◌∙◌, map, is_some, option_map, option_and_then, unwrap_or, string_bytes, String, Global, Ok, Err, Result, IsErrOf, sym, arith}
+use Rattle.std.specs.Prelude.{IsErrAnd}
+use Rattle.std.specs.List.{list_all, AllByRecursion}
+use Rattle.std.specs.Map.{keys_of, values_of}
+use Rattle.std.specs.String.{string_cmp}
+use Rattle.std.specs.declared.cmp.Ordering.TheVariants.{Less}
+use Rattle.std.specs.Ordering.{nat_cmp}
 use Rattle.std.specs.Cmp.Lexicographic.{slice_cmp}
+use Rattle.std.specs.List.Sorted.{IsStrictlySortedBy}
 use Rattle.serde_json.specs.declared.value.Value.{Value}
+use Rattle.serde_json.specs.Data.{Data, null, boolean, number, string, array, object, Members, no_members, member, depth, members_depth}
+use Rattle.serde_json.specs.Find.{as_object, as_str}
+use Rattle.serde_json.specs.Read.{read, max_depth}
 use Rattle.serde_json.specs.View.{view, members_view}
-use Rattle.serde_json.specs.Data.{Data, null, boolean, number, string, array, object, Members, no_members, member}
-use Rattle.serde_json.specs.Find.{as_object, as_str, get, get_member}
 use Rattle.serde_json.specs.Written.{compact_text, has_float, members_have_float}
-use Rattle.ccr_history.specs.TextMap.{TextMap, texts_of, text_map_of, fields_of, IsTextMap, text_at, has, meets, members_of, key_text}
+use Rattle.ccr_history.specs.TextMap.{TextMap, texts_of, text_map_of, members_of, key_text, fields_in, IsKey, IsAscending}
 use Rattle.ccr_history.specs.declared.fault.HistoryFault.{HistoryFault}
 use Rattle.ccr_history.specs.declared.fault.HistoryFault.TheVariants.{VersionNotText, NoMemory}
-use Rattle.ccr_history.specs.Members.{is_text, has_member}
+use Rattle.ccr_history.specs.Members.{is_text}
 
 -- the members of a JSON object as the code holds them
 abbrev pub Entries : Type 0
@@ -35,17 +37,20 @@ none_of : (o : Option TextMap) → is_some o ≡ false → o ≡ None
 none_of None e = refl
 none_of (Some fs) e = cc
 
-some_of : (o : Option TextMap) → is_some o ≡ true → o ≡ Some (unwrap_or o [])
+some_of : (o : Option TextMap) → is_some o ≡ true → (fs : TextMap) × (o ≡ Some fs)
 some_of None e = cc
-some_of (Some fs) e = refl
+some_of (Some fs) e = (fs, refl)
 
 -- an object with a field that isn't a text is no map of texts
 pub text_map_of-none : (d : Data) (es : Entries) → Some (members_view es) ≡ as_object d → list_all (λ member. is_text (view member)) (values_of es) ≡ false → text_map_of d ≡ None
 text_map_of-none d es e not = rw (← e) (none_of (texts_of (members_view es)) (is_some-texts_of es ∙ not))
 
 -- an object whose fields are all texts is one
-pub text_map_of-some : (d : Data) (es : Entries) → Some (members_view es) ≡ as_object d → list_all (λ member. is_text (view member)) (values_of es) ≡ true → IsTextMap d
-text_map_of-some d es e all = rw (← e) (some_of (texts_of (members_view es)) (is_some-texts_of es ∙ all))
+pub texts_of-some : (es : Entries) → list_all (λ member. is_text (view member)) (values_of es) ≡ true → (fs : TextMap) × (texts_of (members_view es) ≡ Some fs)
+texts_of-some es all = some_of (texts_of (members_view es)) (is_some-texts_of es ∙ all)
+
+pub text_map_of-some : (d : Data) (es : Entries) (fs : TextMap) → Some (members_view es) ≡ as_object d → texts_of (members_view es) ≡ Some fs → text_map_of d ≡ Some fs
+text_map_of-some d es fs e is = rw (← e) is
 
 -- the object with the fields of a map of texts
 text_of : (d : Data) (t : List ℕ) → as_str d ≡ Some t → d ≡ string t
@@ -72,24 +77,13 @@ members_of-texts_of (member k d ms) fs e =
     let f = first_field k (as_str d) (texts_of ms) fs e in
     member_again k d ms fs f.0 f.1 f.2 f.4 (members_of-texts_of ms f.1 f.3)
 
-pub no_float : (fs : TextMap) → members_have_float (members_of fs) ≡ false
+no_float : (fs : TextMap) → members_have_float (members_of fs) ≡ false
 no_float [] = refl
 no_float (f ∷ fs) = no_float fs
 
-by_order : (o : Ordering) (found : Option Data) (t : List ℕ) (rest : Option (List ℕ)) → option_and_then as_str found ≡ rest → option_and_then as_str (match_ordering o found (Some (string t)) found) ≡ match_ordering o rest (Some t) rest
-by_order Less found t rest e = e
-by_order Equal found t rest e = refl
-by_order Greater found t rest e = e
-
-found_again : (k l : List ℕ) (d : Data) (ms : Members) (fs : TextMap) (t : List ℕ) (more : TextMap) → as_str d ≡ Some t → fs ≡ (l, t) ∷ more → option_and_then as_str (get_member k ms) ≡ text_at k more → option_and_then as_str (get_member k (member l d ms)) ≡ text_at k fs
-found_again k l d ms fs t more is at rest = rw (at, text_of d t is) (by_order (slice_cmp nat_cmp k l) (get_member k ms) t (text_at k more) rest)
-
--- a member is found as the field that it is
-pub text_at-texts_of : (k : List ℕ) (ms : Members) (fs : TextMap) → texts_of ms ≡ Some fs → option_and_then as_str (get_member k ms) ≡ text_at k fs
-text_at-texts_of k no_members fs e = let h : fs ≡ [] = cc in rw h refl
-text_at-texts_of k (member l d ms) fs e =
-    let f = first_field l (as_str d) (texts_of ms) fs e in
-    found_again k l d ms fs f.0 f.1 f.2 f.4 (text_at-texts_of k ms f.1 f.3)
+flat : (fs : TextMap) → members_depth (members_of fs) ≡ 0
+flat [] = refl
+flat (f ∷ fs) = rw (flat fs) refl
 
 -- a map of texts is an object, that of its fields
 pub object-members_of : (d : Data) (fs : TextMap) → text_map_of d ≡ Some fs → d ≡ object (members_of fs)
@@ -100,37 +94,48 @@ object-members_of (string s) fs e = cc
 object-members_of (array ds) fs e = cc
 object-members_of (object ms) fs e = ap object (members_of-texts_of ms fs e)
 
-pub no_float-text_map : (d : Data) (fs : TextMap) → text_map_of d ≡ Some fs → has_float d ≡ false
-no_float-text_map d fs e = rw (object-members_of d fs e) (no_float fs)
+-- ---- the order of the keys
 
--- its text is that of its fields
-pub text-text_map : (d : Data) (fs : TextMap) → text_map_of d ≡ Some fs → compact_text d ≡ key_text fs
-text-text_map d fs e = ap compact_text (object-members_of d fs e)
+same_less : (k : String Global) (ks : List (String Global)) → AllByRecursion (λ l. string_cmp k l ≡ Less) ks → AllByRecursion (λ t. slice_cmp nat_cmp (string_bytes k) t ≡ Less) (map string_bytes ks)
+same_less k [] h = h
+same_less k (l ∷ ks) h = (h.0, same_less k ks h.1)
 
-pub text_at-get : (k : List ℕ) (d : Data) (fs : TextMap) → text_map_of d ≡ Some fs → option_and_then as_str (get k d) ≡ text_at k fs
-text_at-get k null fs e = cc
-text_at-get k (boolean b) fs e = cc
-text_at-get k (number n) fs e = cc
-text_at-get k (string s) fs e = cc
-text_at-get k (array ds) fs e = cc
-text_at-get k (object ms) fs e = text_at-texts_of k ms fs e
+sorted_texts : (ks : List (String Global)) → IsStrictlySortedBy string_cmp ks → IsStrictlySortedBy (slice_cmp nat_cmp) (map string_bytes ks)
+unfolding IsStrictlySortedBy
+sorted_texts [] h = h
+sorted_texts (k ∷ ks) h = (same_less k ks h.0, sorted_texts ks h.1)
 
-has_again : (d : Data) (vs : TextMap) (e : String Global × Value) (t : List ℕ) → text_map_of d ≡ Some vs → as_str (view e.1) ≡ Some t → has_member d (string_bytes e.0) (view e.1) ≡ has vs (string_bytes e.0, t)
-has_again d vs e t is text = rw (text, text_at-get (string_bytes e.0) d vs is) refl
+keys_again : (e : String Global × Value) (es : Entries) (fs : TextMap) (t : List ℕ) (more : TextMap) → fs ≡ (string_bytes e.0, t) ∷ more → map string_bytes (keys_of es) ≡ map (λ field. field.0) more → map string_bytes (keys_of (e ∷ es)) ≡ map (λ field. field.0) fs
+keys_again e es fs t more at rest = rw (at, rest) refl
 
-all_again : (d : Data) (vs : TextMap) (e : String Global × Value) (es : Entries) (fs : TextMap) (t : List ℕ) (more : TextMap) → text_map_of d ≡ Some vs → as_str (view e.1) ≡ Some t → fs ≡ (string_bytes e.0, t) ∷ more → list_all (λ m. has_member d (string_bytes m.0) (view m.1)) es ≡ meets vs more → list_all (λ m. has_member d (string_bytes m.0) (view m.1)) (e ∷ es) ≡ meets vs fs
-all_again d vs e es fs t more is text at rest = rw (at, has_again d vs e t is text, rest) refl
-
--- the object has each member exactly where its fields meet those of the members
-pub meets-members : (d : Data) (vs : TextMap) (es : Entries) (fs : TextMap) → text_map_of d ≡ Some vs → texts_of (members_view es) ≡ Some fs → list_all (λ m. has_member d (string_bytes m.0) (view m.1)) es ≡ meets vs fs
-meets-members d vs [] fs is e = let h : fs ≡ [] = cc in rw h refl
-meets-members d vs (m ∷ es) fs is e =
+keys_of-texts_of : (es : Entries) (fs : TextMap) → texts_of (members_view es) ≡ Some fs → map string_bytes (keys_of es) ≡ map (λ field. field.0) fs
+keys_of-texts_of [] fs e = let h : fs ≡ [] = cc in rw h refl
+keys_of-texts_of (m ∷ es) fs e =
     let f = first_field (string_bytes m.0) (as_str (view m.1)) (texts_of (members_view es)) fs e in
-    all_again d vs m es fs f.0 f.1 is f.2 f.4 (meets-members d vs es f.1 is f.3)
+    keys_again m es fs f.0 f.1 f.4 (keys_of-texts_of es f.1 f.3)
 
--- the fields of a map of texts with these members
-pub fields-members : (d : Data) (ms : Members) → Some ms ≡ as_object d → IsTextMap d → texts_of ms ≡ Some (fields_of d)
-fields-members d ms e is = let h : text_map_of d ≡ texts_of ms = rw (← e) refl in sym h ∙ is
+pub ascending : (es : Entries) (fs : TextMap) → IsStrictlySortedBy string_cmp (keys_of es) → texts_of (members_view es) ≡ Some fs → IsAscending fs
+ascending es fs sorted is = rw (← keys_of-texts_of es fs is) (sorted_texts (keys_of es) sorted)
+
+-- ---- the text of such an object, which reads as it
+
+pub key_is : (d : Data) (fs : TextMap) (text : List ℕ) → text_map_of d ≡ Some fs → (has_float d ≡ false → text ≡ compact_text d) → text ≡ key_text fs
+key_is d fs text is writes =
+    let same = object-members_of d fs is in
+    let float : has_float d ≡ false = ap has_float same ∙ no_float fs in
+    writes float ∙ ap compact_text same
+
+pub fields_again : (d : Data) (fs : TextMap) (text : List ℕ) → text_map_of d ≡ Some fs → (depth d ≤ max_depth → read text ≡ Some d) → fields_in text ≡ fs
+unfolding fields_in
+fields_again d fs text is reads =
+    let same = object-members_of d fs is in
+    let deep : depth d ≡ 1 = ap depth same ∙ ap suc (flat fs) in
+    let within : depth d ≤ max_depth = omega (arith, deep) in
+    let found : option_and_then text_map_of (read text) ≡ Some fs = ap (option_and_then text_map_of) (reads within) ∙ is in
+    ap (λ o. unwrap_or o []) found
+
+pub is_key : (fs : TextMap) (text : List ℕ) → text ≡ key_text fs → fields_in text ≡ fs → IsAscending fs → IsKey text
+is_key fs text is again ascends = (is ∙ ap key_text (sym again), rw again ascends)
 
 -- want of memory is no other fault
 pub memory_alone : {T : Type 0} (r : Result T HistoryFault) → IsErrAnd r (λ fault. fault ≡ NoMemory) → IsErrOf r VersionNotText → ⊥

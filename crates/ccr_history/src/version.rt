@@ -1,12 +1,13 @@
 //! Versions of a resource.
-ghost use Rattle.std.specs.Prelude.{◌≡◌, ◌↔◌, Some, None, IfOk, IsErrOf, IsSome, string_bytes};
+ghost use Rattle.std.specs.Prelude.{◌≡◌, ◌↔◌, Some, None, IfOk, IfErr, IsTrue, IsErrOf, IsSome, string_bytes};
 ghost use Rattle.serde_json.specs.Find.{as_object};
 ghost use Rattle.serde_json.specs.View.{view};
-ghost use Rattle.ccr_history.specs.TextMap.{text_map_of, key_text, meets};
+ghost use Rattle.ccr_history.specs.Faults.{is_fault_of_value};
+ghost use Rattle.ccr_history.specs.TextMap.{text_map_of, key_text, fields_in, meets, IsAscending};
 
 use crate::fault::HistoryFault;
+use crate::key_text::{has_members, key_of};
 use crate::pin::Pin;
-use crate::text_map::text_map;
 use serde_json::Value;
 use std::alloc::{AllocError, Global};
 use std::marker::Model;
@@ -15,18 +16,18 @@ use std::marker::Model;
 /// (Concourse: implementing a resource type).
 #[derive(Drop)]
 pub struct Version {
-    fields: Value,
+    key: String,
 }
 
 impl Model for Version {
-    ghost use Rattle.serde_json.specs.View.{view as data_of};
-    ghost use Rattle.ccr_history.specs.TextMap.{TextMap, fields_of, IsTextMap};
+    ghost use Rattle.std.specs.Prelude.{string_bytes};
+    ghost use Rattle.ccr_history.specs.TextMap.{TextMap, fields_in, IsKey};
 
     ghost Value = { TextMap };
 
-    ghost view = { λ v. fields_of (data_of v.fields) };
+    ghost view = { λ v. fields_in (string_bytes v.key) };
 
-    ghost invariant = { λ v. IsTextMap (data_of v.fields) };
+    ghost invariant = { λ v. IsKey (string_bytes v.key) };
 }
 
 impl Version {
@@ -34,23 +35,26 @@ impl Version {
     ///
     /// Ok exactly for an object whose fields are all texts, memory aside: `NotObject` for a value of another kind,
     /// `VersionNotText` where a field isn't a text.
-    pub fn from_value(value: &Value) -> Result<Version, HistoryFault>
+    pub fn from_value(alloc: Global, value: &Value) -> Result<Version, HistoryFault>
         ensures ok { IfOk result (λ v. text_map_of (view value.now) ≡ Some v) }
         ensures not_object { IsErrOf result HistoryFault.NotObject
             ↔ (as_object (view value.now) ≡ None) }
         ensures not_text { IsErrOf result HistoryFault.VersionNotText
             ↔ (IsSome (as_object (view value.now)) × (text_map_of (view value.now) ≡ None)) }
+        ensures only { IfErr result (λ fault. IsTrue (is_fault_of_value fault)) }
     {
         Ok(Version {
-            fields: text_map(value)?,
+            key: key_of(alloc, value)?,
         })
     }
 
     /// The version's key: its compact JSON text with keys in ascending byte order.
     pub fn key(&self, alloc: Global) -> Result<String, AllocError>
-        ensures { IfOk result (λ key. string_bytes key ≡ key_text self.now) }
+        ensures is { IfOk result (λ key. string_bytes key ≡ key_text self.now) }
+        ensures again { IfOk result (λ key. fields_in (string_bytes key) ≡ self.now) }
+        ensures ascends { IsAscending self.now }
     {
-        self.fields.to_string(alloc)
+        String::from_str(alloc, self.key.as_str())
     }
 
     /// A copy of the version.
@@ -58,7 +62,7 @@ impl Version {
         ensures { IfOk result (λ v. v ≡ self.now) }
     {
         Ok(Version {
-            fields: self.fields.clone()?,
+            key: self.key.clone()?,
         })
     }
 
@@ -67,6 +71,6 @@ impl Version {
     pub fn meets(&self, pin: &Pin) -> bool
         ensures { result ≡ meets self.now pin.now }
     {
-        pin.is_met_by(&self.fields)
+        has_members(self.key.as_bytes(), pin.as_bytes())
     }
 }

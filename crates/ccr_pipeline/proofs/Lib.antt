@@ -1,11 +1,6 @@
-pub mod Items
-pub mod Gathered
-pub mod Sorted
-pub mod NumberText
-pub mod Converted
 pub mod Faulted
 pub mod Loops
-pub mod Emptiness
+pub mod Members
 pub mod NameLemmas
 pub mod PlaceLemmas
 pub mod Visits

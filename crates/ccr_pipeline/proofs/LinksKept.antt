@@ -1,19 +1,22 @@
 -- Where no fault is present in a pipeline, no two of its resources and no two of its jobs have one name, and what its plans name is there.
-use Rattle.std.proofs.Common.{◌≡◌, ℕ, ◌+◌, List, [], ◌∷◌, ◌++◌, Option, Some, None, refl, ap, subst, ◌∙◌, is_some, codes}
+use Rattle.std.proofs.Common.{◌≡◌, ℕ, suc, ◌+◌, ◌≤◌, true, false, nat_le, length, arith, List, [], ◌∷◌, ◌++◌, Option, Some, None, refl, ap, subst, ◌∙◌, is_some, codes}
+use Rattle.std.proofs.lemmas.Bool.Decides.{nat_tests}
 use Rattle.std.proofs.lemmas.List.Elements.{All-from_recursion}
 use Rattle.std.specs.List.{AllByRecursion, IsDistinct}
 use Rattle.std.specs.Str.{bytes_eq}
 use Rattle.serde_json.specs.Data.{Data, Items, no_items, item}
+use Rattle.serde_json.specs.Events.{items_len}
 use Rattle.serde_json.specs.Find.{as_array, as_object}
 use Rattle.ccr_pipeline.specs.declared.fault.Rule.TheVariants as rule
 use Rattle.ccr_pipeline.specs.declared.kind.Kind.TheVariants as kind
 use Rattle.ccr_pipeline.specs.declared.check_job.Member.{Member}
 use Rattle.ccr_pipeline.specs.declared.check_job.Member.TheVariants.{Resource, Job}
+use Rattle.ccr_pipeline.specs.declared.check_job.TheConstants.{MOST_MEMBERS}
 use Rattle.ccr_pipeline.specs.Faults.{Path, unless}
-use Rattle.ccr_pipeline.specs.JobRules.{resource_faults, job_opening, job_rest, job_faults, member_faults, members, member_list, names_in, list_names}
+use Rattle.ccr_pipeline.specs.JobRules.{resource_faults, job_opening, job_rest, job_faults, member_faults, members, member_items, member_list, names_in, list_names}
 use Rattle.ccr_pipeline.specs.Keys.{at_key, or_else, path_below, path_at}
 use Rattle.ccr_pipeline.specs.Kinds.{required}
-use Rattle.ccr_pipeline.specs.Links.{resource_names, job_names, HasDistinctResources, HasDistinctJobs, IsLinked, AreLinked}
+use Rattle.ccr_pipeline.specs.Links.{HasFewMembers, resource_names, job_names, HasDistinctResources, HasDistinctJobs, IsLinked, AreLinked}
 use Rattle.ccr_pipeline.specs.Meaning.{text_or}
 use Rattle.ccr_pipeline.specs.Names.{text_at, names_at, new_name}
 use Rattle.ccr_pipeline.specs.Pipelines.{resource_items, job_items, job_from, resources_in, resources_from, jobs_in, jobs_from}
@@ -24,7 +27,7 @@ use Rattle.ccr_pipeline.proofs.Distinct.{once, is_there, with_text}
 use Rattle.ccr_pipeline.proofs.Linked.{linked_plan}
 use Rattle.ccr_pipeline.proofs.PlansKept.{resource_members, job_members}
 use Rattle.ccr_pipeline.proofs.Subsequence.{NoRepeat, distinct}
-use Rattle.ccr_pipeline.proofs.Unfaulted.{nil_left, nil_right}
+use Rattle.ccr_pipeline.proofs.Unfaulted.{nil_left, nil_right, passes}
 
 member_new : (m : Member) (names : List Text) (p : Path) (d : Data) → member_faults m names p d ≡ [] → new_name names p (codes "name") d ≡ []
 unfolding resource_faults job_faults job_opening
@@ -107,6 +110,36 @@ module _ (resources jobs : List Text) where
 
   all_linked : (d : Data) → pipeline_faults d ≡ [] → unknown_in resources jobs d ≡ [] → AllByRecursion (λ j. IsLinked resources jobs j.plan) (jobs_from d)
   all_linked d none u = each_linked [] 0 (job_items d) (job_members d none) (unknown_at (at_key (codes "jobs") d) u)
+
+-- a list of resources or jobs is short where no fault is present in it
+module _ (m : Member) (k : Path) where
+  few_list : (o : Option Items) → or_else o (unless false rule.Kind k) (member_items m [] k) ≡ [] → nat_le (items_len (or_else o no_items (λ ds. ds))) MOST_MEMBERS ≡ true
+  unfolding member_items
+  few_list None e = refl
+  few_list (Some ds) e = passes (nat_le (items_len ds) MOST_MEMBERS) rule.Number k (nil_left _ (members m [] k 0 ds) e)
+
+  few_at : (o : Option Data) → or_else o [] (λ found. or_else (as_array found) (unless false rule.Kind k) (member_items m [] k)) ≡ [] → nat_le (items_len (or_else o no_items (λ found. or_else (as_array found) no_items (λ ds. ds)))) MOST_MEMBERS ≡ true
+  few_at None e = refl
+  few_at (Some found) e = few_list (as_array found) e
+
+counted_resources : (ds : Items) → items_len ds ≡ length (resources_in ds)
+counted_resources no_items = refl
+counted_resources (item d ds) = ap suc (counted_resources ds)
+
+counted_jobs : (ds : Items) → items_len ds ≡ length (jobs_in ds)
+counted_jobs no_items = refl
+counted_jobs (item d ds) = ap suc (counted_jobs ds)
+
+at_most : (n m : ℕ) → nat_le n MOST_MEMBERS ≡ true → n ≡ m → m ≤ MOST_MEMBERS
+at_most n m few e = grind (arith, nat_tests)
+
+pub few_resources : (d : Data) → pipeline_faults d ≡ [] → HasFewMembers (resources_from d)
+unfolding pipeline_faults list_faults
+few_resources d none = at_most _ _ (few_at Resource (codes "resources") (at_key (codes "resources") d) (nil_left (member_list Resource (codes "resources") d) _ (nil_right _ (list_faults d) none))) (counted_resources (resource_items d))
+
+pub few_jobs : (d : Data) → pipeline_faults d ≡ [] → HasFewMembers (jobs_from d)
+unfolding pipeline_faults list_faults
+few_jobs d none = at_most _ _ (few_at Job (codes "jobs") (at_key (codes "jobs") d) (nil_left (member_list Job (codes "jobs") d) _ (nil_right (member_list Resource (codes "resources") d) _ (nil_right _ (list_faults d) none)))) (counted_jobs (job_items d))
 
 pub are_linked : (d : Data) → pipeline_faults d ≡ [] → AreLinked (resources_from d) (jobs_from d)
 unfolding pipeline_faults list_faults

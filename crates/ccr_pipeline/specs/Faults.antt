@@ -53,6 +53,6 @@ Checks fs (Ok t) = fs ≡ []
 Checks fs (Err e) = IsFirst fs e
 
 -- a value without a fault is read as this, seen so; else the first fault is told
-abbrev pub Reads : {T U : Type 0} → Faults → U → (T → U) → Result T ReadFault → Type 0
-Reads fs u see (Ok t) = (fs ≡ []) × (see t ≡ u)
-Reads fs u see (Err e) = IsFirst fs e
+abbrev pub ChecksAs : {T U : Type 0} → Faults → U → (T → U) → Result T ReadFault → Type 0
+ChecksAs fs u see (Ok t) = (fs ≡ []) × (see t ≡ u)
+ChecksAs fs u see (Err e) = IsFirst fs e

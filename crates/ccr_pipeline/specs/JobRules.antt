@@ -9,6 +9,7 @@ use Rattle.ccr_pipeline.specs.declared.kind.Kind.{Kind}
 use Rattle.ccr_pipeline.specs.declared.kind.Kind.TheVariants as kind
 use Rattle.ccr_pipeline.specs.declared.check_job.Member.{Member}
 use Rattle.ccr_pipeline.specs.declared.check_job.Member.TheVariants.{Resource, Job}
+use Rattle.ccr_pipeline.specs.declared.check_job.TheConstants.{MOST_MEMBERS}
 use Rattle.ccr_pipeline.specs.Faults.{Path, Faults, unless}
 use Rattle.ccr_pipeline.specs.Inputs.{inputs, are_few}
 use Rattle.ccr_pipeline.specs.Plans.{plan_from}
@@ -20,11 +21,14 @@ use Rattle.ccr_pipeline.specs.StepRules.{visits}
 
 -- the keys of a resource after its name
 unfoldable pub resource_keys : Path → Data → Faults
-resource_keys p d = required kind.Name p (codes "type") d ++ optional_keys ((kind.Params, codes "source") ∷ (kind.Fields, codes "version") ∷ []) p d
+resource_keys p d =
+    required kind.Name p (codes "type") d
+    ++ optional_keys ((kind.Params, codes "source") ∷ (kind.Fields, codes "version") ∷ []) p d
 
 -- a resource, after those of these names
 unfoldable pub resource_faults : List (List ℕ) → Path → Data → Faults
-resource_faults names p d = unless (is_some (as_object d)) rule.Kind p ++ (new_name names p (codes "name") d ++ resource_keys p d)
+resource_faults names p d =
+    unless (is_some (as_object d)) rule.Kind p ++ (new_name names p (codes "name") d ++ resource_keys p d)
 
 -- the keys of a job between its plan and its hooks
 abbrev pub job_keys : List (Kind × List ℕ)
@@ -32,13 +36,17 @@ job_keys = (kind.Truth, codes "serial") ∷ (kind.Texts, codes "serial_groups") 
 
 -- a job has a new name and a plan
 unfoldable pub job_opening : List (List ℕ) → Path → Data → Faults
-job_opening names p d = unless (is_some (as_object d)) rule.Kind p ++ (new_name names p (codes "name") d ++ required kind.List p (codes "plan") d)
+job_opening names p d =
+    unless (is_some (as_object d)) rule.Kind p
+    ++ (new_name names p (codes "name") d
+    ++ required kind.List p (codes "plan") d)
 
 -- at most 32 inputs, which name at most 32 jobs
 unfoldable pub too_many : Path → Data → Faults
 too_many p d = unless (are_few (inputs (plan_from d))) rule.Number (path_below p (codes "plan"))
 
--- the job's keys after its plan, its hooks, and the number of its inputs and named jobs, where the plan's gets have these names
+-- the job's keys after its plan, its hooks, and the number of its inputs and named jobs, where the plan's gets have
+-- these names
 unfoldable pub after_plan : List (List ℕ) → Path → Data → Faults
 after_plan gets p d = optional_keys job_keys p d ++ (visits gets (job_hooks p d) ++ too_many p d)
 
@@ -50,6 +58,7 @@ job_rest p d = visits [] (plan_steps p d) ++ after_plan (flat_map gets_at (plan_
 unfoldable pub job_faults : List (List ℕ) → Path → Data → Faults
 job_faults names p d = job_opening names p d ++ job_rest p d
 
+-- what is broken in a member of one list or the other, after those of these names
 abbrev pub member_faults : Member → List (List ℕ) → Path → Data → Faults
 member_faults Resource names p d = resource_faults names p d
 member_faults Job names p d = job_faults names p d
@@ -57,16 +66,19 @@ member_faults Job names p d = job_faults names p d
 -- resources or jobs from position i on, after those of these names
 abbrev pub members : Member → List (List ℕ) → Path → ℕ → Items → Faults
 members m names p i no_items = []
-members m names p i (item d ds) = member_faults m names (path_at p i) d ++ members m (names ++ names_at (codes "name") d) p (i + 1) ds
+members m names p i (item d ds) =
+    member_faults m names (path_at p i) d ++ members m (names ++ names_at (codes "name") d) p (i + 1) ds
 
 -- at most 200 of them
 unfoldable pub member_items : Member → List (List ℕ) → Path → Items → Faults
-member_items m names p ds = unless (nat_le (items_len ds) 200) rule.Number p ++ members m names p 0 ds
+member_items m names p ds = unless (nat_le (items_len ds) MOST_MEMBERS) rule.Number p ++ members m names p 0 ds
 
 -- the list at a key of the pipeline
 abbrev pub member_list : Member → List ℕ → Data → Faults
-member_list m k d = or_else (at_key k d) [] (λ found. or_else (as_array found) (unless false rule.Kind k) (member_items m [] k))
+member_list m k d =
+    or_else (at_key k d) [] (λ found. or_else (as_array found) (unless false rule.Kind k) (member_items m [] k))
 
+-- the names of a list's members that have one
 abbrev pub names_in : Items → List (List ℕ)
 names_in no_items = []
 names_in (item d ds) = names_at (codes "name") d ++ names_in ds

@@ -4,6 +4,7 @@ use Rattle.serde_json.specs.Data.{Data}
 use Rattle.serde_json.specs.Find.{as_null, get}
 use Rattle.ccr_pipeline.specs.Faults.{Path}
 
+-- the value, unless it is null
 abbrev pub unless_null : Data → Option Data
 unless_null d = if is_some (as_null d) then None else Some d
 

@@ -9,9 +9,11 @@ use Rattle.serde_json.specs.Written.{has_float}
 use Rattle.ccr_pipeline.specs.declared.fault.Rule.TheVariants as rule
 use Rattle.ccr_pipeline.specs.declared.kind.Kind.{Kind}
 use Rattle.ccr_pipeline.specs.declared.kind.Kind.TheVariants as kind
+use Rattle.ccr_pipeline.specs.declared.kind.TheConstants.{MOST_NAME_BYTES}
 use Rattle.ccr_pipeline.specs.Faults.{Path, Faults, unless}
 use Rattle.ccr_pipeline.specs.Keys.{at_key, or_else, path_below, path_at}
 
+-- the value is a text
 abbrev pub is_text : Data → Bool
 is_text d = is_some (as_str d)
 
@@ -21,7 +23,9 @@ is_name_byte b = nat_le 32 b && not (nat_eq b 127) && not (nat_eq b 47)
 
 -- 1 to 128 bytes, each of them one of a name, and neither one point nor two
 unfoldable pub is_name : List ℕ → Bool
-is_name s = not (length s == 0) && (nat_le (length s) 128 && (not (bytes_eq s (codes ".")) && (not (bytes_eq s (codes "..")) && list_all is_name_byte s)))
+is_name s =
+    not (length s == 0) && (nat_le (length s) MOST_NAME_BYTES
+    && (not (bytes_eq s (codes ".")) && (not (bytes_eq s (codes "..")) && list_all is_name_byte s)))
 
 -- a list's members that are no texts
 abbrev pub broken_texts : Path → ℕ → Items → Faults
@@ -33,6 +37,7 @@ abbrev pub broken_fields : Path → Members → Faults
 broken_fields p no_members = []
 broken_fields p (member k d ms) = unless (is_text d) rule.Kind (path_below p k) ++ broken_fields p ms
 
+-- an object has no members
 abbrev pub is_empty : Members → Bool
 is_empty no_members = true
 is_empty (member k d ms) = false
@@ -50,10 +55,13 @@ broken kind.Truth p d = unless (is_some (as_bool d)) rule.Kind p
 broken kind.Whole p d = unless (is_some (option_and_then as_u64 (as_number d))) rule.Kind p
 broken kind.List p d = unless (is_some (as_array d)) rule.Kind p
 broken kind.Object p d = unless (is_some (as_object d)) rule.Kind p
-broken kind.Params p d = or_else (as_object d) (unless false rule.Kind p) (λ ms. unless (not (has_float d)) rule.Whole p)
+broken kind.Params p d =
+    or_else (as_object d) (unless false rule.Kind p) (λ ms. unless (not (has_float d)) rule.Whole p)
 broken kind.Fields p d = broken_pin p d
 broken kind.Nothing p d = or_else (as_object d) (unless false rule.Kind p) (λ ms. unless (is_empty ms) rule.Supported p)
-broken kind.Wanted p d = or_else (as_str d) (broken_pin p d) (λ s. unless (bytes_eq s (codes "latest") || bytes_eq s (codes "every")) rule.Kind p)
+broken kind.Wanted p d =
+    or_else (as_str d) (broken_pin p d)
+    (λ s. unless (bytes_eq s (codes "latest") || bytes_eq s (codes "every")) rule.Kind p)
 broken kind.Undone p d = unless false rule.Supported p
 
 -- a key that may be absent
@@ -62,7 +70,8 @@ optional k p key d = or_else (at_key key d) [] (broken k (path_below p key))
 
 -- a key that has to be there
 abbrev pub required : Kind → Path → List ℕ → Data → Faults
-required k p key d = or_else (at_key key d) (unless false rule.Presence (path_below p key)) (broken k (path_below p key))
+required k p key d =
+    or_else (at_key key d) (unless false rule.Presence (path_below p key)) (broken k (path_below p key))
 
 -- a table of keys with their kinds
 abbrev pub key_table : List (Kind × Bor (List ℕ)) → List (Kind × List ℕ)

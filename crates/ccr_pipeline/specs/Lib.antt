@@ -1,4 +1,3 @@
-pub mod View
 pub mod Faults
 pub mod Keys
 pub mod Kinds

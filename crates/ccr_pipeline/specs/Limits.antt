@@ -3,11 +3,13 @@ use Rattle.std.specs.Prelude.{ℕ, suc, max, ◌*◌, ◌≤◌, List, [], ◌�
 use Rattle.std.specs.Coded.{×_prop, Unit-prop, le_prop}
 use Rattle.std.specs.List.{AllPass, IsDistinct}
 use Rattle.std.specs.Str.{bytes_eq}
+use Rattle.ccr_pipeline.specs.declared.place.TheConstants.{LEVELS, MOST_ATTEMPTS, MOST_TRIES}
 use Rattle.ccr_pipeline.specs.Inputs.{inputs, are_few}
 use Rattle.ccr_pipeline.specs.Kinds.{is_name}
 use Rattle.ccr_pipeline.specs.Tree.{Text, SourceData, config, file, Tree, Trees, get, put, task, in_order, in_parallel, tried, attempts, hook, no_trees, tree}
 
--- how many levels of steps are in a step: those of a do, an in_parallel or a try and a hook are a level below the step that has them
+-- how many levels of steps are in a step: those of a do, an in_parallel or a try and a hook are a level below the
+-- step that has them
 abbrev mutual
   pub levels : Tree → ℕ
   levels (get g) = 0
@@ -26,7 +28,7 @@ abbrev mutual
 
 -- the steps of a plan lie at most 30 levels deep
 abbrev pub IsShallow : Tree → Type 0
-IsShallow t = levels t ≤ 30
+IsShallow t = levels t ≤ LEVELS
 
 -- the product of a step's own attempts
 abbrev pub tries : Tree → ℕ
@@ -39,7 +41,8 @@ tries (tried t) = 1
 tries (attempts n t) = n * tries t
 tries (hook w t h) = tries t
 
--- below steps whose attempts have this product, each attempts in a step is from 1 to 100, and the product down to it, its own with it, at most 10,000; a hook is below the attempts of its step
+-- below steps whose attempts have this product, each attempts in a step is from 1 to 100, and the product down to it,
+-- its own with it, at most 10,000; a hook is below the attempts of its step
 abbrev mutual
   pub TriesFit : ℕ → Tree → Type 0
   TriesFit p (get g) = ⊤
@@ -48,7 +51,7 @@ abbrev mutual
   TriesFit p (in_order ts) = AllTriesFit p ts
   TriesFit p (in_parallel ts fast) = AllTriesFit p ts
   TriesFit p (tried t) = TriesFit p t
-  TriesFit p (attempts n t) = ((1 ≤ n) × (n ≤ 100)) × ((p * n ≤ 10000) × TriesFit (p * n) t)
+  TriesFit p (attempts n t) = ((1 ≤ n) × (n ≤ MOST_ATTEMPTS)) × ((p * n ≤ MOST_TRIES) × TriesFit (p * n) t)
   TriesFit p (hook w t h) = TriesFit p t × TriesFit (p * tries t) h
 
   -- this holds of each step of a list
@@ -106,7 +109,8 @@ input_names t = map (λ input. input.name) (inputs t)
 abbrev pub HasDistinctInputs : Tree → Type 0
 HasDistinctInputs t = IsDistinct bytes_eq (input_names t)
 
--- what every plan keeps: it has few inputs, which name few jobs, no two of one name; it is shallow, has few tries and is well named
+-- what every plan keeps: it has few inputs, which name few jobs, no two of one name; it is shallow, has few tries and
+-- is well named
 pub record IsPlan (t : Tree) : Type 0 where
   pub few : IsTrue (are_few (inputs t))
   pub distinct : HasDistinctInputs t

@@ -1,7 +1,8 @@
--- What the resources and jobs of a pipeline are to each other: no two have one name, and what a plan names is there.
-use Rattle.std.specs.Prelude.{List, [], ◌∷◌, ◌++◌, map}
+-- What the resources and jobs of a pipeline keep: they are few, no two have one name, and what a plan names is there.
+use Rattle.std.specs.Prelude.{◌≤◌, List, [], ◌∷◌, ◌++◌, length, map}
 use Rattle.std.specs.List.{All, AllPass, IsDistinct}
 use Rattle.std.specs.Str.{bytes_eq}
+use Rattle.ccr_pipeline.specs.declared.check_job.TheConstants.{MOST_MEMBERS}
 use Rattle.ccr_pipeline.specs.JobData.{ResourceData, JobData}
 use Rattle.ccr_pipeline.specs.Names.{has_name}
 use Rattle.ccr_pipeline.specs.Tree.{Text, Tree, Trees, get, put, task, in_order, in_parallel, tried, attempts, hook, no_trees, tree}
@@ -44,11 +45,17 @@ abbrev mutual
 abbrev pub IsLinked : List Text → List Text → Tree → Type 0
 IsLinked resources jobs t = AllPass (has_name resources) (used_resources t) × AllPass (has_name jobs) (passed_jobs t)
 
+-- what resources are called
 abbrev pub resource_names : List ResourceData → List Text
 resource_names rs = map (λ r. r.name) rs
 
+-- what jobs are called
 abbrev pub job_names : List JobData → List Text
 job_names js = map (λ j. j.name) js
+
+-- no more members than a pipeline may have
+abbrev pub HasFewMembers : {M : Type 0} → List M → Type 0
+HasFewMembers ms = length ms ≤ MOST_MEMBERS
 
 -- no two resources have one name
 abbrev pub HasDistinctResources : List ResourceData → Type 0

@@ -11,9 +11,11 @@ use Rattle.ccr_pipeline.specs.Faults.{Path, Faults, unless}
 use Rattle.ccr_pipeline.specs.Keys.{at_key, or_else, path_below}
 use Rattle.ccr_pipeline.specs.Kinds.{required}
 
+-- texts by their bytes
 abbrev pub names_of : List (String Global) → List (List ℕ)
 names_of names = map string_bytes names
 
+-- the name is among these
 abbrev pub has_name : List (List ℕ) → List ℕ → Bool
 has_name names name = list_any (bytes_eq name) names
 
@@ -31,7 +33,9 @@ names_at k d = or_else (text_at k d) [] (λ name. name ∷ [])
 
 -- what is broken where a name has to be there that isn't among the names before
 unfoldable pub new_name : List (List ℕ) → Path → List ℕ → Data → Faults
-new_name names p k d = required kind.Name p k d ++ or_else (text_at k d) [] (λ name. unless (not (has_name names name)) rule.Once (path_below p k))
+new_name names p k d =
+    required kind.Name p k d
+    ++ or_else (text_at k d) [] (λ name. unless (not (has_name names name)) rule.Once (path_below p k))
 
 -- the names with those of a list that they lack, in its order
 abbrev pub with_names : List (List ℕ) → List (List ℕ) → List (List ℕ)

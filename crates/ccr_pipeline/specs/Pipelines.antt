@@ -12,23 +12,40 @@ use Rattle.ccr_pipeline.specs.Plans.{plan_from}
 use Rattle.ccr_pipeline.specs.Tree.{Text}
 use Rattle.ccr_pipeline.specs.Unused.{unused_in, IsSortedOnce}
 
+-- a resource
 abbrev pub resource_from : Data → ResourceData
-resource_from d = record { name = text_or [] (codes "name") d; kind = text_or [] (codes "type") d; source = object_at (codes "source") d; version = pin_from (codes "version") d }
+resource_from d = record {
+  name = text_or [] (codes "name") d;
+  kind = text_or [] (codes "type") d;
+  source = object_at (codes "source") d;
+  version = pin_from (codes "version") d;
+}
 
+-- the resources of a list
 abbrev pub resources_in : Items → List ResourceData
 resources_in no_items = []
 resources_in (item d ds) = resource_from d ∷ resources_in ds
 
 -- the texts of a pipeline's resources
 abbrev pub resource_items : Data → Items
-resource_items d = or_else (at_key (codes "resources") d) no_items (λ found. or_else (as_array found) no_items (λ ds. ds))
+resource_items d =
+    or_else (at_key (codes "resources") d) no_items (λ found. or_else (as_array found) no_items (λ ds. ds))
 
+-- a pipeline's resources
 abbrev pub resources_from : Data → List ResourceData
 resources_from d = resources_in (resource_items d)
 
+-- a job
 unfoldable pub job_from : Data → JobData
-job_from d = record { name = text_or [] (codes "name") d; plan = plan_from d; serial = truth_from (codes "serial") d; serial_groups = texts_from (codes "serial_groups") d; max_in_flight = whole_from (codes "max_in_flight") d }
+job_from d = record {
+  name = text_or [] (codes "name") d;
+  plan = plan_from d;
+  serial = truth_from (codes "serial") d;
+  serial_groups = texts_from (codes "serial_groups") d;
+  max_in_flight = whole_from (codes "max_in_flight") d;
+}
 
+-- the jobs of a list
 abbrev pub jobs_in : Items → List JobData
 jobs_in no_items = []
 jobs_in (item d ds) = job_from d ∷ jobs_in ds
@@ -37,6 +54,7 @@ jobs_in (item d ds) = job_from d ∷ jobs_in ds
 abbrev pub job_items : Data → Items
 job_items d = or_else (at_key (codes "jobs") d) no_items (λ found. or_else (as_array found) no_items (λ ds. ds))
 
+-- a pipeline's jobs
 abbrev pub jobs_from : Data → List JobData
 jobs_from d = jobs_in (job_items d)
 
@@ -60,8 +78,14 @@ pub record PipelineData : Type 0 where
   pub resources : List ResourceData
   pub jobs : List JobData
 
+-- what a pipeline shows, without where it lies in memory
 abbrev pub pipeline_data : Pipeline → PipelineData
-pipeline_data p = record { text = p.text.items; unused = map string_bytes p.unused.items; resources = map resource_data p.resources.items; jobs = map job_data p.jobs.items }
+pipeline_data p = record {
+  text = p.text.items;
+  unused = map string_bytes p.unused.items;
+  resources = map resource_data p.resources.items;
+  jobs = map job_data p.jobs.items;
+}
 
 -- the pipeline of a text that spells this value
 pub record IsPipelineOf (text : List ℕ) (d : Data) (p : PipelineData) : Type 0 where

@@ -2,10 +2,11 @@
 use Rattle.std.specs.Prelude.{ℕ, zero, suc, ◌+◌, ◌*◌, min, List, [], ◌∷◌, ◌++◌, map, ◌&&◌, nat_le, option_and_then, string_bytes, codes, if◌then◌else◌}
 use Rattle.serde_json.specs.Data.{Data, Items, no_items, item}
 use Rattle.serde_json.specs.Find.{as_array, as_number, as_u64}
-use Rattle.ccr_pipeline.specs.View.{view}
+use Rattle.serde_json.specs.View.{view}
 use Rattle.ccr_pipeline.specs.declared.place.Part.{Part}
 use Rattle.ccr_pipeline.specs.declared.place.Part.TheVariants.{Opening, Closing}
 use Rattle.ccr_pipeline.specs.declared.place.Place.{Place}
+use Rattle.ccr_pipeline.specs.declared.place.TheConstants.{LEVELS, MOST_ATTEMPTS, MOST_TRIES}
 use Rattle.ccr_pipeline.specs.Faults.{Path}
 use Rattle.ccr_pipeline.specs.Keys.{at_key, or_else, path_below, path_at}
 use Rattle.ccr_pipeline.specs.Names.{names_at}
@@ -18,22 +19,27 @@ pub record Spot : Type 0 where
   pub tries : ℕ
   pub step : Data
 
+-- a visit, made of its parts
 abbrev pub spot_of : Part → Path → ℕ → ℕ → Data → Spot
 spot_of x p n t d = record { part = x; path = p; levels = n; tries = t; step = d }
 
+-- the visit that a place stands for
 abbrev pub spot : Place → Spot
 spot x = spot_of x.part (string_bytes x.path) x.left x.tries (view x.step.now)
 
+-- the visits that places stand for
 abbrev pub spots : List Place → List Spot
 spots xs = map spot xs
 
 -- what attempts count for the steps below: 1 where they aren't from 1 to 100
 abbrev pub counted : Data → ℕ
-counted d = or_else (option_and_then as_u64 (option_and_then as_number (at_key (codes "attempts") d))) 1 (λ n. if nat_le 1 n && nat_le n 100 then n else 1)
+counted d =
+    or_else (option_and_then as_u64 (option_and_then as_number (at_key (codes "attempts") d))) 1
+    (λ n. if nat_le 1 n && nat_le n MOST_ATTEMPTS then n else 1)
 
 -- the product of attempts for the steps below, no further than one above the limit
 abbrev pub tries_below : ℕ → Data → ℕ
-tries_below t d = min (t * counted d) 10001
+tries_below t d = min (t * counted d) (MOST_TRIES + 1)
 
 -- the steps of a list, each by rec from the product of attempts, its path and its text
 abbrev pub each_step : (ℕ → Path → Data → List Spot) → ℕ → Path → ℕ → Items → List Spot
@@ -52,7 +58,8 @@ step_at rec t p k d = or_else (at_key k d) [] (rec t (path_below p k))
 unfoldable pub own_steps : (ℕ → Path → Data → List Spot) → ℕ → Path → Data → List Spot
 own_steps rec t p d =
     steps_in rec t p (codes "do") d ++ (steps_in rec t p (codes "in_parallel") d
-    ++ (or_else (at_key (codes "in_parallel") d) [] (steps_in rec t (path_below p (codes "in_parallel")) (codes "steps"))
+    ++ (or_else (at_key (codes "in_parallel") d) []
+    (steps_in rec t (path_below p (codes "in_parallel")) (codes "steps"))
     ++ step_at rec t p (codes "try") d))
 
 -- the hooks of a step or a job
@@ -62,7 +69,8 @@ hook_steps rec t p d =
     ++ (step_at rec t p (codes "on_error") d ++ (step_at rec t p (codes "on_abort") d
     ++ step_at rec t p (codes "ensure") d)))
 
--- a step and those in it: its own keys, the steps that they hold, the keys after these, its hooks; what lies too deep isn't looked into
+-- a step and those in it: its own keys, the steps that they hold, the keys after these, its hooks; what lies too deep
+-- isn't looked into
 unfoldable pub steps_from : ℕ → ℕ → Path → Data → List Spot
 steps_from zero t p d = spot_of Opening p 0 t d ∷ []
 steps_from (suc n) t p d =
@@ -74,13 +82,14 @@ abbrev pub gets_by : Part → Data → List (List ℕ)
 gets_by Opening d = names_at (codes "get") d
 gets_by Closing d = []
 
+-- the name of the get that is visited, at the first of its two visits
 abbrev pub gets_at : Spot → List (List ℕ)
 gets_at x = gets_by x.part x.step
 
--- the steps of a job's plan: 30 levels, and no attempts above
+-- the steps of a job's plan: all levels are left, and no attempts are above
 abbrev pub plan_steps : Path → Data → List Spot
-plan_steps p d = steps_in (steps_from 30) 1 p (codes "plan") d
+plan_steps p d = steps_in (steps_from LEVELS) 1 p (codes "plan") d
 
 -- those of its hooks
 abbrev pub job_hooks : Path → Data → List Spot
-job_hooks p d = hook_steps (steps_from 30) 1 p d
+job_hooks p d = hook_steps (steps_from LEVELS) 1 p d

@@ -6,6 +6,7 @@ use Rattle.serde_json.specs.Read.{read as json}
 use Rattle.ccr_pipeline.specs.declared.fault.Rule.{Rule}
 use Rattle.ccr_pipeline.specs.declared.fault.Rule.TheVariants as rule
 use Rattle.ccr_pipeline.specs.declared.check_job.Member.TheVariants.{Resource, Job}
+use Rattle.ccr_pipeline.specs.declared.reader.TheConstants.{MOST_BYTES}
 use Rattle.ccr_pipeline.specs.Faults.{Path, Faults, unless, StartsWith}
 use Rattle.ccr_pipeline.specs.JobRules.{member_list, list_names}
 use Rattle.ccr_pipeline.specs.Unknown.{unknown_in}
@@ -20,18 +21,21 @@ list_faults d =
 unfoldable pub pipeline_faults : Data → Faults
 pipeline_faults d = unless (is_some (as_object d)) rule.Kind (codes "pipeline") ++ list_faults d
 
--- bytes that are no longer than 1 MiB and spell a JSON value
-abbrev pub Spells : List ℕ → Data → Type 0
-Spells bytes d = (length bytes ≤ 1048576) × IsUtf8 bytes × (json bytes ≡ Some d)
+-- the bytes are the text of a JSON value: no more than a text may have, and they spell it
+abbrev pub IsTextOf : List ℕ → Data → Type 0
+IsTextOf bytes d = (length bytes ≤ MOST_BYTES) × IsUtf8 bytes × (json bytes ≡ Some d)
 
 -- bytes that are too long, or else spell no JSON value, and the fault that says so
 abbrev pub IsUnread : Path → List ℕ → Rule × Path → Type 0
-IsUnread p bytes f = ((1048576 < length bytes) × (f ≡ (rule.Length, p))) ⊎ ((length bytes ≤ 1048576) × (IsUtf8 bytes → json bytes ≡ None) × (f ≡ (rule.Json, p)))
+IsUnread p bytes f =
+    ((MOST_BYTES < length bytes) × (f ≡ (rule.Length, p)))
+    ⊎ ((length bytes ≤ MOST_BYTES) × (IsUtf8 bytes → json bytes ≡ None) × (f ≡ (rule.Json, p)))
 
--- a refusal of bytes: they are unread, or the fault is the first that is present in their value; of memory it says nothing
+-- a refusal of bytes: they are unread, or the fault is the first that is present in their value; of memory it says
+-- nothing
 abbrev pub Refuses : Path → (Data → Faults) → List ℕ → Option (Rule × Path) → Type 0
 Refuses p faults bytes None = ⊤
-Refuses p faults bytes (Some f) = IsUnread p bytes f ⊎ ((d : Data) × Spells bytes d × StartsWith (faults d) (Some f))
+Refuses p faults bytes (Some f) = IsUnread p bytes f ⊎ ((d : Data) × IsTextOf bytes d × StartsWith (faults d) (Some f))
 
 -- a refusal to make a value of bytes
 abbrev pub IsNoValue : Path → List ℕ → Option (Rule × Path) → Type 0
@@ -40,4 +44,4 @@ IsNoValue p bytes (Some f) = IsUnread p bytes f
 
 -- what was read is that of the bytes' value, in which no fault is present
 abbrev pub IsReading : (Data → Faults) → List ℕ → (Data → Type 0) → Type 0
-IsReading faults bytes Is = (d : Data) × Spells bytes d × (faults d ≡ []) × Is d
+IsReading faults bytes Is = (d : Data) × IsTextOf bytes d × (faults d ≡ []) × Is d

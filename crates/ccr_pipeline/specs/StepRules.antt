@@ -8,6 +8,7 @@ use Rattle.ccr_pipeline.specs.declared.kind.Kind.{Kind}
 use Rattle.ccr_pipeline.specs.declared.kind.Kind.TheVariants as kind
 use Rattle.ccr_pipeline.specs.declared.place.Part.{Part}
 use Rattle.ccr_pipeline.specs.declared.place.Part.TheVariants.{Opening, Closing}
+use Rattle.ccr_pipeline.specs.declared.place.TheConstants.{MOST_ATTEMPTS, MOST_TRIES}
 use Rattle.ccr_pipeline.specs.Faults.{Path, Faults, unless}
 use Rattle.ccr_pipeline.specs.Keys.{at_key, or_else, path_below}
 use Rattle.ccr_pipeline.specs.Kinds.{optional, required, optional_keys}
@@ -25,15 +26,21 @@ kinds d = count_by (λ k. is_some (at_key k d)) kind_keys
 
 -- what isn't done here
 abbrev pub undone_keys : List (Kind × List ℕ)
-undone_keys = (kind.Undone, codes "across") ∷ (kind.Undone, codes "set_pipeline") ∷ (kind.Undone, codes "load_var") ∷ (kind.Undone, codes "aggregate") ∷ []
+undone_keys =
+    (kind.Undone, codes "across") ∷ (kind.Undone, codes "set_pipeline") ∷ (kind.Undone, codes "load_var")
+    ∷ (kind.Undone, codes "aggregate") ∷ []
 
 -- the own keys of a get after its name
 abbrev pub get_keys : List (Kind × List ℕ)
-get_keys = (kind.Text, codes "resource") ∷ (kind.Texts, codes "passed") ∷ (kind.Truth, codes "trigger") ∷ (kind.Params, codes "params") ∷ (kind.Wanted, codes "version") ∷ []
+get_keys =
+    (kind.Text, codes "resource") ∷ (kind.Texts, codes "passed") ∷ (kind.Truth, codes "trigger")
+    ∷ (kind.Params, codes "params") ∷ (kind.Wanted, codes "version") ∷ []
 
 -- the own keys of a put
 abbrev pub put_keys : List (Kind × List ℕ)
-put_keys = (kind.Name, codes "put") ∷ (kind.Text, codes "resource") ∷ (kind.Params, codes "params") ∷ (kind.Params, codes "get_params") ∷ (kind.Truth, codes "no_get") ∷ []
+put_keys =
+    (kind.Name, codes "put") ∷ (kind.Text, codes "resource") ∷ (kind.Params, codes "params")
+    ∷ (kind.Params, codes "get_params") ∷ (kind.Truth, codes "no_get") ∷ []
 
 -- the own keys of a get, after gets of these names
 unfoldable pub get_faults : List (List ℕ) → Path → Data → Faults
@@ -43,12 +50,15 @@ get_faults names p d = new_name names p (codes "get") d ++ optional_keys get_key
 unfoldable pub parallel_object : Path → Data → Faults
 parallel_object p d = unless (is_some (as_object d)) rule.Kind p ++ required kind.List p (codes "steps") d
 
+-- what is broken in the value of in_parallel
 unfoldable pub parallel_faults : Path → Data → Faults
 parallel_faults p d = if is_some (as_array d) then [] else parallel_object p d
 
+-- what is broken at in_parallel, if it is there
 unfoldable pub parallel_at : Path → Data → Faults
 parallel_at p d = or_else (at_key (codes "in_parallel") d) [] (parallel_faults (path_below p (codes "in_parallel")))
 
+-- the own keys of a step that holds steps
 unfoldable pub holder_keys : Path → Data → Faults
 holder_keys p d = optional kind.List p (codes "do") d ++ parallel_at p d
 
@@ -61,7 +71,10 @@ own_keys names p d =
 
 -- a step is an object, not too deep, without a key that isn't done here
 unfoldable pub shape_faults : Path → ℕ → Data → Faults
-shape_faults p left d = unless (is_some (as_object d)) rule.Kind p ++ (unless (nat_lt 0 left) rule.Depth p ++ optional_keys undone_keys p d)
+shape_faults p left d =
+    unless (is_some (as_object d)) rule.Kind p
+    ++ (unless (nat_lt 0 left) rule.Depth p
+    ++ optional_keys undone_keys p d)
 
 -- a step is of one kind
 unfoldable pub kind_faults : Path → Data → Faults
@@ -79,10 +92,14 @@ no_count d = if is_some (option_and_then as_i64 (as_number d)) then rule.Attempt
 abbrev pub attempts_faults : Path → ℕ → Data → Faults
 attempts_faults p tries d = or_else (at_key (codes "attempts") d) [] (λ found.
     or_else (option_and_then as_u64 (as_number found)) (unless false (no_count found) (path_below p (codes "attempts")))
-    (λ n. unless (nat_le 1 n && (nat_le n 100 && nat_le (tries * n) 10000)) rule.Attempts (path_below p (codes "attempts"))))
+    (λ n. unless (nat_le 1 n && (nat_le n MOST_ATTEMPTS && nat_le (tries * n) MOST_TRIES)) rule.Attempts
+    (path_below p (codes "attempts"))))
 
+-- fail_fast is true or false
 abbrev pub fail_fast_faults : Path → Data → Faults
-fail_fast_faults p d = or_else (at_key (codes "in_parallel") d) [] (optional kind.Truth (path_below p (codes "in_parallel")) (codes "fail_fast"))
+fail_fast_faults p d =
+    or_else (at_key (codes "in_parallel") d) []
+    (optional kind.Truth (path_below p (codes "in_parallel")) (codes "fail_fast"))
 
 -- the keys after the steps of a step
 unfoldable pub closing_faults : Path → ℕ → Data → Faults
@@ -93,6 +110,7 @@ abbrev pub visit_by : Part → List (List ℕ) → Path → ℕ → ℕ → Data
 visit_by Opening names p left tries d = opening_faults names p left d
 visit_by Closing names p left tries d = closing_faults p tries d
 
+-- what is broken at a visit, after gets of these names
 abbrev pub visit_faults : List (List ℕ) → Spot → Faults
 visit_faults names x = visit_by x.part names x.path x.levels x.tries x.step
 

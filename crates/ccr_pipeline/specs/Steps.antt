@@ -11,7 +11,8 @@ use Rattle.ccr_pipeline.specs.Tree.{Tree, get, put, task, in_order, in_parallel,
 
 -- the step in its attempts
 abbrev pub with_attempts : Data → Tree → Tree
-with_attempts d t = or_else (option_and_then as_u64 (option_and_then as_number (at_key (codes "attempts") d))) t (λ n. attempts n t)
+with_attempts d t =
+    or_else (option_and_then as_u64 (option_and_then as_number (at_key (codes "attempts") d))) t (λ n. attempts n t)
 
 -- the step in a hook, if it has it
 unfoldable pub with_hook : (Data → Tree) → When → Data → Tree → Tree
@@ -19,8 +20,11 @@ with_hook rec w d t = or_else (at_key (hook_key w) d) t (λ found. hook w t (rec
 
 -- the step in its hooks, outermost ensure, then on_error, on_abort, on_failure, on_success
 unfoldable pub with_hooks : (Data → Tree) → Data → Tree → Tree
-with_hooks rec d t = with_hook rec Ensure d (with_hook rec OnError d (with_hook rec OnAbort d (with_hook rec OnFailure d (with_hook rec OnSuccess d t))))
+with_hooks rec d t =
+    with_hook rec Ensure d (with_hook rec OnError d (with_hook rec OnAbort d
+    (with_hook rec OnFailure d (with_hook rec OnSuccess d t))))
 
+-- the steps of a list, each by rec from its text
 abbrev pub each_tree : (Data → Tree) → Items → List Tree
 each_tree rec no_items = []
 each_tree rec (item d ds) = rec d ∷ each_tree rec ds
@@ -31,7 +35,8 @@ trees_in rec d = or_else (as_array d) [] (each_tree rec)
 
 -- the steps of an in_parallel: a list, or an object with a list of steps
 abbrev pub parallel_trees : (Data → Tree) → Data → List Tree
-parallel_trees rec d = if is_some (as_array d) then trees_in rec d else or_else (at_key (codes "steps") d) [] (trees_in rec)
+parallel_trees rec d =
+    if is_some (as_array d) then trees_in rec d else or_else (at_key (codes "steps") d) [] (trees_in rec)
 
 -- a step that holds steps
 unfoldable pub holder : (Data → Tree) → Data → Tree

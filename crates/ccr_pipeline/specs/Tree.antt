@@ -19,6 +19,7 @@ use Rattle.ccr_pipeline.specs.declared.step.Step.{Step}
 use Rattle.ccr_pipeline.specs.declared.step.Step.TheOpen.{Step-F}
 use Rattle.ccr_pipeline.specs.declared.step.Step.TheFolds.{fold-Step}
 
+-- the bytes of a text
 abbrev pub Text : Type 0
 Text = List ℕ
 
@@ -28,11 +29,13 @@ pub data WantedData : Type 0 where
   every : WantedData
   pinned : TextMap → WantedData
 
+-- which versions a get wants, without where they lie in memory
 abbrev pub wanted_data : Wanted → WantedData
 wanted_data Latest = latest
 wanted_data Every = every
 wanted_data (Pinned p) = pinned p
 
+-- what a get holds
 pub record GetData : Type 0 where
   pub name : Text
   pub resource : Text
@@ -41,9 +44,18 @@ pub record GetData : Type 0 where
   pub params : Option Data
   pub wanted : WantedData
 
+-- what a get holds, without where it lies in memory
 abbrev pub get_data : Get → GetData
-get_data g = record { name = string_bytes g.name; resource = string_bytes g.resource; passed = map string_bytes g.passed.items; trigger = g.trigger; params = option_map object_data g.params; wanted = wanted_data g.wanted }
+get_data g = record {
+  name = string_bytes g.name;
+  resource = string_bytes g.resource;
+  passed = map string_bytes g.passed.items;
+  trigger = g.trigger;
+  params = option_map object_data g.params;
+  wanted = wanted_data g.wanted;
+}
 
+-- what a put holds
 pub record PutData : Type 0 where
   pub name : Text
   pub resource : Text
@@ -51,16 +63,29 @@ pub record PutData : Type 0 where
   pub get_params : Option Data
   pub no_get : Bool
 
+-- what a put holds, without where it lies in memory
 abbrev pub put_data : Put → PutData
-put_data p = record { name = string_bytes p.name; resource = string_bytes p.resource; params = option_map object_data p.params; get_params = option_map object_data p.get_params; no_get = p.no_get }
+put_data p = record {
+  name = string_bytes p.name;
+  resource = string_bytes p.resource;
+  params = option_map object_data p.params;
+  get_params = option_map object_data p.get_params;
+  no_get = p.no_get;
+}
 
+-- the program of a task: its path, its arguments and its folder
 pub record RunData : Type 0 where
   pub path : Text
   pub args : List Text
   pub dir : Option Text
 
+-- the program of a task, without where it lies in memory
 abbrev pub run_data : Run → RunData
-run_data r = record { path = string_bytes r.path; args = map string_bytes r.args.items; dir = option_map string_bytes r.dir }
+run_data r = record {
+  path = string_bytes r.path;
+  args = map string_bytes r.args.items;
+  dir = option_map string_bytes r.dir;
+}
 
 -- an input by its name, and whether it is optional
 abbrev pub input_data : TaskInput → Text × Bool
@@ -70,31 +95,45 @@ input_data i = (string_bytes i.name, i.optional)
 abbrev pub variable_data : Variable → Text × Text
 variable_data v = (string_bytes v.name, string_bytes v.value)
 
+-- a task's config: its program, its inputs, the names of its outputs, and its variables
 pub record ConfigData : Type 0 where
   pub run : RunData
   pub inputs : List (Text × Bool)
   pub outputs : List Text
   pub params : List (Text × Text)
 
+-- a task's config, without where it lies in memory
 abbrev pub config_data : TaskConfig → ConfigData
-config_data c = record { run = run_data c.run; inputs = map input_data c.inputs.items; outputs = map string_bytes c.outputs.items; params = map variable_data c.params.items }
+config_data c = record {
+  run = run_data c.run;
+  inputs = map input_data c.inputs.items;
+  outputs = map string_bytes c.outputs.items;
+  params = map variable_data c.params.items;
+}
 
 -- what says how a task runs: its config, or a file
 pub data SourceData : Type 0 where
   config : ConfigData → SourceData
   file : Text → SourceData
 
+-- what says how a task runs, without where it lies in memory
 abbrev pub source_data : TaskSource → SourceData
 source_data (Config c) = config (config_data c)
 source_data (File path) = file (string_bytes path)
 
+-- what a task step holds
 pub record TaskData : Type 0 where
   pub name : Text
   pub source : SourceData
   pub params : List (Text × Text)
 
+-- what a task step holds, without where it lies in memory
 abbrev pub task_data : Task → TaskData
-task_data t = record { name = string_bytes t.name; source = source_data t.source; params = map variable_data t.params.items }
+task_data t = record {
+  name = string_bytes t.name;
+  source = source_data t.source;
+  params = map variable_data t.params.items;
+}
 
 -- a step in its modifiers
 mutual
@@ -108,10 +147,12 @@ mutual
     attempts : ℕ → Tree → Tree
     hook : When → Tree → Tree → Tree
 
+  -- the steps of a list
   pub data Trees : Type 0 where
     no_trees : Trees
     tree : Tree → Trees → Trees
 
+-- a list of steps, as the steps of a tree
 abbrev pub trees_of : List Tree → Trees
 trees_of [] = no_trees
 trees_of (t ∷ ts) = tree t (trees_of ts)

@@ -12,46 +12,59 @@ use Rattle.ccr_pipeline.specs.Places.{Spot, plan_steps, job_hooks}
 
 -- the key that names the resource of a get or put
 abbrev pub name_key : Data → List ℕ
-name_key d = if is_some (at_key (codes "resource") d) then codes "resource" else (if is_some (at_key (codes "get") d) then codes "get" else codes "put")
+name_key d =
+    if is_some (at_key (codes "resource") d) then codes "resource" else
+    (if is_some (at_key (codes "get") d) then codes "get" else codes "put")
 
 -- a get or put of a resource that isn't there
 unfoldable pub unknown_resource : List (List ℕ) → Path → Data → Faults
 unknown_resource resources p d = if is_some (at_key (codes "get") d) || is_some (at_key (codes "put") d) then
-    or_else (text_at (name_key d) d) [] (λ name. unless (has_name resources name) rule.KnownResource (path_below p (name_key d))) else []
+    or_else (text_at (name_key d) d) []
+    (λ name. unless (has_name resources name) rule.KnownResource (path_below p (name_key d))) else []
 
 -- the texts of a list, from position i on, that are no jobs
 abbrev pub unknown_texts : List (List ℕ) → Path → ℕ → Items → Faults
 unknown_texts jobs p i no_items = []
-unknown_texts jobs p i (item d ds) = or_else (as_str d) [] (λ name. unless (has_name jobs name) rule.KnownJob (path_at p i)) ++ unknown_texts jobs p (i + 1) ds
+unknown_texts jobs p i (item d ds) =
+    or_else (as_str d) [] (λ name. unless (has_name jobs name) rule.KnownJob (path_at p i))
+    ++ unknown_texts jobs p (i + 1) ds
 
 -- the jobs that a get names in passed and that aren't there
 unfoldable pub unknown_passed : List (List ℕ) → Path → Data → Faults
 unknown_passed jobs p d = if is_some (at_key (codes "get") d) then
-    or_else (at_key (codes "passed") d) [] (λ found. or_else (as_array found) [] (unknown_texts jobs (path_below p (codes "passed")) 0)) else []
+    or_else (at_key (codes "passed") d) []
+    (λ found. or_else (as_array found) [] (unknown_texts jobs (path_below p (codes "passed")) 0)) else []
 
+-- what a step names that isn't there
 unfoldable pub unknown_names : List (List ℕ) → List (List ℕ) → Path → Data → Faults
 unknown_names resources jobs p d = unknown_resource resources p d ++ unknown_passed jobs p d
 
+-- the first of the two visits of a step tells what it names
 abbrev pub unknown_by : Part → List (List ℕ) → List (List ℕ) → Path → Data → Faults
 unknown_by Opening resources jobs p d = unknown_names resources jobs p d
 unknown_by Closing resources jobs p d = []
 
+-- what the visited step names that isn't there
 abbrev pub unknown_at : List (List ℕ) → List (List ℕ) → Spot → Faults
 unknown_at resources jobs x = unknown_by x.part resources jobs x.path x.step
 
+-- what the visited steps name that isn't there, in the order of the visits
 abbrev pub unknown_spots : List (List ℕ) → List (List ℕ) → List Spot → Faults
 unknown_spots resources jobs [] = []
 unknown_spots resources jobs (x ∷ xs) = unknown_at resources jobs x ++ unknown_spots resources jobs xs
 
 -- a job's plan, and then its hooks
 unfoldable pub unknown_job : List (List ℕ) → List (List ℕ) → Path → Data → Faults
-unknown_job resources jobs p d = unknown_spots resources jobs (plan_steps p d) ++ unknown_spots resources jobs (job_hooks p d)
+unknown_job resources jobs p d =
+    unknown_spots resources jobs (plan_steps p d) ++ unknown_spots resources jobs (job_hooks p d)
 
 -- the jobs from position i on
 abbrev pub unknown_jobs : List (List ℕ) → List (List ℕ) → ℕ → Items → Faults
 unknown_jobs resources jobs i no_items = []
-unknown_jobs resources jobs i (item d ds) = unknown_job resources jobs (path_at (codes "jobs") i) d ++ unknown_jobs resources jobs (i + 1) ds
+unknown_jobs resources jobs i (item d ds) =
+    unknown_job resources jobs (path_at (codes "jobs") i) d ++ unknown_jobs resources jobs (i + 1) ds
 
 -- all jobs of a pipeline
 abbrev pub unknown_in : List (List ℕ) → List (List ℕ) → Data → Faults
-unknown_in resources jobs d = or_else (at_key (codes "jobs") d) [] (λ found. or_else (as_array found) [] (unknown_jobs resources jobs 0))
+unknown_in resources jobs d =
+    or_else (at_key (codes "jobs") d) [] (λ found. or_else (as_array found) [] (unknown_jobs resources jobs 0))

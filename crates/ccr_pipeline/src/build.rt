@@ -3,22 +3,25 @@
 //! The text has been tested before, so each value is of its key's kind. What is absent, and only that, is built as
 //! empty, false or none.
 ghost use Rattle.std.specs.Prelude.{◌≡◌, ◌++◌, [], map, option_map, IfOk, OnOk, string_bytes, codes};
-ghost use Rattle.ccr_pipeline.specs.View.{view, items_view, members_view};
+ghost use Rattle.serde_json.specs.View.{view, items_view, members_view};
 ghost use Rattle.ccr_history.specs.ObjectData.{object_data};
 ghost use Rattle.ccr_pipeline.specs.Keys.{at_key, or_else};
 ghost use Rattle.ccr_pipeline.specs.Names.{text_at, texts_in};
-ghost use Rattle.ccr_pipeline.specs.Tree.{run_data, input_data, variable_data, config_data, source_data, task_data, wanted_data, get_data, put_data};
-ghost use Rattle.ccr_pipeline.specs.Meaning.{text_or, texts_from, truth_from, whole_from, object_at, variable_value, variables_in, variables_from, run_from, inputs_in, inputs_from, outputs_in, outputs_from, config_from, source_from, task_from, wanted_in, wanted_from, get_from, put_from, pin_from};
+ghost use Rattle.ccr_pipeline.specs.Tree.{run_data, input_data, variable_data, config_data, source_data, task_data};
+ghost use Rattle.ccr_pipeline.specs.Tree.{wanted_data, get_data, put_data};
+ghost use Rattle.ccr_pipeline.specs.Meaning.{text_or, texts_from, truth_from, whole_from, object_at, variable_value};
+ghost use Rattle.ccr_pipeline.specs.Meaning.{variables_in, variables_from, run_from, inputs_in, inputs_from};
+ghost use Rattle.ccr_pipeline.specs.Meaning.{outputs_in, outputs_from, config_from, source_from, task_from};
+ghost use Rattle.ccr_pipeline.specs.Meaning.{wanted_in, wanted_from, get_from, put_from, pin_from};
 
 use crate::key::at_key;
-use crate::library::to_library;
-use crate::members::sorted;
 use crate::names::text_at;
 use crate::step::{Get, Put, Wanted};
 use crate::task::{Run, Task, TaskConfig, TaskInput, TaskSource, Variable};
-use crate::value::Value;
 use ccr_history::{HistoryFault, Object, Pin, has_float};
+use serde_json::Value;
 use std::alloc::{AllocError, Global};
+use std::collections::BTreeMap;
 
 /// The text at a key.
 pub(crate) fn text(alloc: Global, value: &Value, key: &str) -> Result<String, AllocError>
@@ -88,11 +91,11 @@ pub(crate) fn whole(value: &Value, key: &str) -> u64
 }
 
 /// The object at a key.
-pub(crate) fn object(alloc: Global, value: &Value, key: &str) -> Result<Option<Object>, AllocError>
+pub(crate) fn object(value: &Value, key: &str) -> Result<Option<Object>, AllocError>
     ensures { IfOk result (λ o. option_map object_data o ≡ object_at key.now (view value.now)) }
 {
     match at_key(value, key) {
-        Some(found) => Ok(Object::from_value(to_library(alloc, found)?)),
+        Some(found) => Ok(Object::from_value(found.clone()?)),
         None => Ok(None),
     }
 }
@@ -104,7 +107,7 @@ pub(crate) fn pin(alloc: Global, value: &Value, key: &str) -> Result<Option<Pin>
     let Some(found) = at_key(value, key) else {
         return Ok(None);
     };
-    match Pin::from_value(&to_library(alloc, found)?) {
+    match Pin::from_value(alloc, found) {
         Ok(pin) => Ok(Some(pin)),
         Err(HistoryFault::NoMemory) => Err(AllocError),
         Err(HistoryFault::NotObject | HistoryFault::VersionNotText) => Ok(None),
@@ -117,24 +120,23 @@ fn variable_value(alloc: Global, value: &Value) -> Result<String, AllocError>
     if let Some(text) = value.as_str() {
         return String::from_str(alloc, text);
     }
-    if value.is_null() {
-        return Ok(String::new(alloc));
-    }
-    let value = to_library(alloc, value)?;
-    if has_float(&value) {
+    if value.is_null() || has_float(value) {
         return Ok(String::new(alloc));
     }
     value.to_string(alloc)
 }
 
-fn variables_of(alloc: Global, members: &Vec<(String, Value)>) -> Result<Vec<Variable>, AllocError>
+fn variables_of(
+    alloc: Global,
+    members: &BTreeMap<String, Value>,
+) -> Result<Vec<Variable>, AllocError>
     ensures { IfOk result
-        (λ v. map variable_data v.items ≡ variables_in (members_view members.now.items)) }
+        (λ v. map variable_data v.items ≡ variables_in (members_view members.now.entries)) }
 {
     let mut variables = Vec::new(alloc);
-    for (key, member) in sorted(alloc, members)? {
+    for (key, member) in members.iter() {
         variables.push(Variable {
-            name: String::from_str(alloc, key)?,
+            name: key.clone()?,
             value: variable_value(alloc, member)?,
         })?;
     }
@@ -255,7 +257,7 @@ fn wanted_of(alloc: Global, found: &Value) -> Result<Wanted, AllocError>
             Ok(Wanted::Latest)
         };
     }
-    match Pin::from_value(&to_library(alloc, found)?) {
+    match Pin::from_value(alloc, found) {
         Ok(pin) => Ok(Wanted::Pinned(pin)),
         Err(HistoryFault::NoMemory) => Err(AllocError),
         Err(HistoryFault::NotObject | HistoryFault::VersionNotText) => Ok(Wanted::Latest),
@@ -281,7 +283,7 @@ pub(crate) fn get(alloc: Global, step: &Value) -> Result<Get, AllocError>
         name,
         passed: texts(alloc, step, "passed")?,
         trigger: truth(step, "trigger"),
-        params: object(alloc, step, "params")?,
+        params: object(step, "params")?,
         wanted: wanted(alloc, step)?,
     })
 }
@@ -294,8 +296,8 @@ pub(crate) fn put(alloc: Global, step: &Value) -> Result<Put, AllocError>
     Ok(Put {
         resource: text_or(alloc, step, "resource", name.as_str())?,
         name,
-        params: object(alloc, step, "params")?,
-        get_params: object(alloc, step, "get_params")?,
+        params: object(step, "params")?,
+        get_params: object(step, "get_params")?,
         no_get: truth(step, "no_get"),
     })
 }

@@ -1,9 +1,11 @@
 //! The resources and jobs that tested text is built into.
-ghost use Rattle.std.specs.Prelude.{◌≡◌, ◌++◌, [], map, codes, IfOk};
-ghost use Rattle.ccr_pipeline.specs.View.{view, items_view};
+ghost use Rattle.std.specs.Prelude.{◌≡◌, ◌++◌, [], map, option_map, codes, IfOk};
+ghost use Rattle.serde_json.specs.Find.{get_member};
+ghost use Rattle.serde_json.specs.View.{view, items_view, members_view};
 ghost use Rattle.ccr_pipeline.specs.Keys.{at_key, or_else};
 ghost use Rattle.ccr_pipeline.specs.JobData.{resource_data, job_data};
-ghost use Rattle.ccr_pipeline.specs.Pipelines.{resource_from, resources_in, resources_from, job_from, jobs_in, job_items, jobs_from, resource_items, IsResource, IsJob, EachItem};
+ghost use Rattle.ccr_pipeline.specs.Pipelines.{resource_from, resources_in, resources_from, job_from, jobs_in};
+ghost use Rattle.ccr_pipeline.specs.Pipelines.{job_items, jobs_from, resource_items, IsResource, IsJob, EachItem};
 ghost use Rattle.ccr_pipeline.specs.Plans.{plan_from};
 ghost use Rattle.ccr_pipeline.specs.Steps.{trees_in, step_tree, with_hooks};
 ghost use Rattle.ccr_pipeline.specs.Tree.{tree_of, trees_of};
@@ -11,12 +13,13 @@ ghost use Rattle.ccr_pipeline.specs.Tree.{tree_of, trees_of};
 use crate::build::{object, pin, text, texts, truth, whole};
 use crate::build_step::{add_hooks, steps_of};
 use crate::key::at_key;
-use crate::members::take;
 use crate::place::LEVELS;
 use crate::resource::{Job, Resource};
 use crate::step::Step;
-use crate::value::Value;
+use serde_json::Value;
 use std::alloc::{AllocError, Global};
+use std::collections::BTreeMap;
+use std::rc::Rc;
 
 fn resource(alloc: Global, value: &Value) -> Result<Resource, AllocError>
     requires { IsResource (view value.now) }
@@ -25,7 +28,7 @@ fn resource(alloc: Global, value: &Value) -> Result<Resource, AllocError>
     Ok(Resource {
         name: text(alloc, value, "name")?,
         kind: text(alloc, value, "type")?,
-        source: object(alloc, value, "source")?,
+        source: object(value, "source")?,
         version: pin(alloc, value, "version")?,
     })
 }
@@ -74,11 +77,19 @@ fn job(alloc: Global, value: &Value) -> Result<Job, AllocError>
 {
     Ok(Job {
         name: text(alloc, value, "name")?,
-        plan: plan(alloc, value)?,
+        plan: Rc::new(alloc, plan(alloc, value)?)?,
         serial: truth(value, "serial"),
         serial_groups: texts(alloc, value, "serial_groups")?,
         max_in_flight: whole(value, "max_in_flight"),
     })
+}
+
+/// What stands at a key of the members, which are dropped.
+fn member(members: BTreeMap<String, Value>, key: &str) -> Option<Value>
+    ensures { option_map view result ≡ get_member key.now (members_view members.entries) }
+{
+    let mut members = members;
+    members.remove(key)
 }
 
 /// The list of jobs of a pipeline, of which nothing else is kept.
@@ -88,7 +99,7 @@ fn job_list(alloc: Global, pipeline: Value) -> Vec<Value>
     let Value::Object(members) = pipeline else {
         return Vec::new(alloc);
     };
-    match take(members, "jobs") {
+    match member(members, "jobs") {
         Some(Value::Array(list)) => list,
         _ => Vec::new(alloc),
     }

@@ -1,16 +1,17 @@
 //! The steps that tested text is built into, in their modifiers.
 ghost use Rattle.std.specs.Prelude.{◌≡◌, ◌++◌, [], map, codes, IfOk};
-ghost use Rattle.ccr_pipeline.specs.View.{view, items_view};
+ghost use Rattle.serde_json.specs.View.{view, items_view};
 ghost use Rattle.ccr_pipeline.specs.Keys.{at_key, or_else};
 ghost use Rattle.ccr_pipeline.specs.Meaning.{truth_from};
 ghost use Rattle.ccr_pipeline.specs.Tree.{tree_of, trees_of};
-ghost use Rattle.ccr_pipeline.specs.Steps.{with_attempts, with_hook, with_hooks, each_tree, trees_in, parallel_trees, holder, action, step_tree};
+ghost use Rattle.ccr_pipeline.specs.Steps.{with_attempts, with_hook, with_hooks, each_tree, trees_in, parallel_trees};
+ghost use Rattle.ccr_pipeline.specs.Steps.{holder, action, step_tree};
 ghost use Rattle.ccr_pipeline.specs.Hooks.{hook_key};
 
 use crate::build::{get, put, task, truth};
 use crate::key::at_key;
 use crate::step::{Step, When};
-use crate::value::Value;
+use serde_json::Value;
 use std::alloc::{AllocError, Global};
 
 fn add_attempts(alloc: Global, value: &Value, step: Step) -> Result<Step, AllocError>

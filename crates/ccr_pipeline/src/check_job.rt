@@ -2,15 +2,17 @@
 ghost use Rattle.std.specs.Prelude.{◌≡◌, ◌++◌, [], length, drop, codes, map, nat_le, string_bytes, OnOk, IfOk};
 ghost use Rattle.std.specs.List.{flat_map};
 ghost use Rattle.serde_json.specs.Events.{items_len};
-ghost use Rattle.ccr_pipeline.specs.View.{view, items_view};
-ghost use Rattle.ccr_pipeline.specs.Faults.{unless, Checks, Reads, StartsWith, IsFirst, fault_of};
+ghost use Rattle.serde_json.specs.View.{view, items_view};
+ghost use Rattle.ccr_pipeline.specs.Faults.{unless, Checks, ChecksAs, StartsWith, IsFirst, fault_of};
 ghost use Rattle.ccr_pipeline.specs.Keys.{at_key, or_else, path_below, path_at};
 ghost use Rattle.ccr_pipeline.specs.Kinds.{optional, required, broken, optional_keys, key_table};
 ghost use Rattle.ccr_pipeline.specs.Names.{names_at, new_name, with_names};
 ghost use Rattle.ccr_pipeline.specs.Places.{spots, plan_steps, job_hooks, gets_at};
 ghost use Rattle.ccr_pipeline.specs.StepRules.{visits};
 ghost use Rattle.ccr_pipeline.specs.Inputs.{are_few, input_data, named_jobs};
-ghost use Rattle.ccr_pipeline.specs.JobRules.{resource_faults, resource_keys, job_faults, job_opening, job_rest, after_plan, job_keys, too_many, member_faults, members, member_items, names_in, member_list, list_names};
+ghost use Rattle.ccr_pipeline.specs.JobRules.{resource_faults, resource_keys, job_faults, job_opening, job_rest};
+ghost use Rattle.ccr_pipeline.specs.JobRules.{after_plan, job_keys, too_many, member_faults, members, member_items};
+ghost use Rattle.ccr_pipeline.specs.JobRules.{names_in, member_list, list_names};
 
 use crate::build_job::plan;
 use crate::check_step::check_places;
@@ -20,17 +22,17 @@ use crate::key::{at_key, path_at, require, require_at};
 use crate::kind::{Kind, check_keys, required};
 use crate::names::{Names, check_new_name};
 use crate::place::{LEVELS, Place, push_hooks, push_list};
-use crate::value::Value;
+use serde_json::Value;
 use std::alloc::{AllocError, Global};
 
 /// How many resources, and how many jobs, a pipeline may have.
-const MOST_MEMBERS: usize = 200;
+pub(crate) const MOST_MEMBERS: usize = 200;
 
 /// How many inputs, and how many named jobs, a plan may have.
 const MOST_INPUTS: usize = 32;
 
 /// The two lists of a pipeline.
-#[derive(Clone, Copy, Debug, PartialEq, Eq)]
+#[derive(Clone, Copy)]
 pub(crate) enum Member {
     Resource,
     Job,
@@ -235,7 +237,7 @@ fn check_members(
 
 /// Whether there are no more than a pipeline may have.
 fn are_few(list: &Vec<Value>) -> bool
-    ensures { result ≡ nat_le (items_len (items_view list.now.items)) 200 }
+    ensures { result ≡ nat_le (items_len (items_view list.now.items)) MOST_MEMBERS }
 {
     list.len() <= MOST_MEMBERS
 }
@@ -262,7 +264,8 @@ pub(crate) fn check_member_list(
     pipeline: &Value,
     key: &str,
 ) -> Result<Names, ReadFault>
-    ensures { Reads (member_list member key.now (view pipeline.now)) (list_names key.now (view pipeline.now)) (λ names. names) result }
+    ensures { ChecksAs (member_list member key.now (view pipeline.now)) (list_names key.now (view pipeline.now))
+        (λ names. names) result }
 {
     let mut names = Names::new(alloc);
     let Some(found) = at_key(pipeline, key) else {

@@ -1,21 +1,24 @@
 //! The tests of a step's own keys.
 ghost use Rattle.std.specs.Prelude.{◌≡◌, ◌++◌, [], drop, codes, is_some, count_by, OnOk};
 ghost use Rattle.std.specs.List.{flat_map};
-ghost use Rattle.ccr_pipeline.specs.View.{view};
+ghost use Rattle.serde_json.specs.View.{view};
 ghost use Rattle.ccr_pipeline.specs.Faults.{unless, Checks, StartsWith, IsFirst, fault_of};
 ghost use Rattle.ccr_pipeline.specs.Keys.{at_key, or_else, path_below, path_at};
 ghost use Rattle.ccr_pipeline.specs.Kinds.{optional, required, broken, optional_keys, key_table};
 ghost use Rattle.ccr_pipeline.specs.Names.{names_at, new_name};
 ghost use Rattle.ccr_pipeline.specs.Places.{spot, spots, gets_at};
-ghost use Rattle.ccr_pipeline.specs.StepRules.{kinds, undone_keys, get_faults, put_keys, parallel_object, parallel_faults, parallel_at, holder_keys, shape_faults, kind_faults, fail_fast_faults, own_keys, opening_faults, closing_faults, attempts_faults, visit_faults, visits};
+ghost use Rattle.ccr_pipeline.specs.StepRules.{kinds, undone_keys, get_faults, put_keys, parallel_object};
+ghost use Rattle.ccr_pipeline.specs.StepRules.{parallel_faults, parallel_at, holder_keys, shape_faults, kind_faults};
+ghost use Rattle.ccr_pipeline.specs.StepRules.{fail_fast_faults, own_keys, opening_faults, closing_faults};
+ghost use Rattle.ccr_pipeline.specs.StepRules.{attempts_faults, visit_faults, visits};
 
 use crate::check_task::check_task;
 use crate::fault::{ReadFault, Rule};
 use crate::key::{at_key, path_below, require, require_at};
 use crate::kind::{Kind, check_keys, optional, required};
 use crate::names::{Names, check_new_name};
-use crate::place::{MOST_TRIES, Part, Place};
-use crate::value::Value;
+use crate::place::{MOST_ATTEMPTS, MOST_TRIES, Part, Place};
+use serde_json::Value;
 use std::alloc::Global;
 
 /// How many of the keys stand in an object.
@@ -165,8 +168,9 @@ fn check_shape(alloc: Global, step: &Value, path: &str, left: u32) -> Result<(),
 fn check_one_kind(alloc: Global, step: &Value, path: &str) -> Result<(), ReadFault>
     ensures { Checks (kind_faults path.now (view step.now)) result }
 {
-    require(alloc, 0 < kinds(step), Rule::OneStep, path)?;
-    require(alloc, kinds(step) < 2, Rule::OnlyOneStep, path)
+    let kinds = kinds(step);
+    require(alloc, 0 < kinds, Rule::OneStep, path)?;
+    require(alloc, kinds < 2, Rule::OnlyOneStep, path)
 }
 
 /// Refuses a step that breaks a rule before the steps in it are read, and adds the name of a get to those of the job.
@@ -201,7 +205,7 @@ fn check_attempts(alloc: Global, step: &Value, path: &str, tries: u64) -> Result
         };
         return require_at(alloc, false, rule, path, "attempts");
     };
-    let fits = 1 <= n && n <= 100 && tries.saturating_mul(n) <= MOST_TRIES;
+    let fits = 1 <= n && n <= MOST_ATTEMPTS && tries.saturating_mul(n) <= MOST_TRIES;
     require_at(alloc, fits, Rule::Attempts, path, "attempts")
 }
 

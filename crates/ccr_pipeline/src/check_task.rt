@@ -1,21 +1,23 @@
 //! The tests of task files, inline task configs and task steps.
 ghost use Rattle.std.specs.Prelude.{◌≡◌, ◌++◌, [], codes, OnOk};
-ghost use Rattle.ccr_pipeline.specs.View.{view, items_view};
+ghost use Rattle.serde_json.specs.View.{view, items_view};
 ghost use Rattle.ccr_pipeline.specs.Faults.{unless, Checks, StartsWith, IsFirst, fault_of};
 ghost use Rattle.ccr_pipeline.specs.Keys.{at_key, or_else, path_below, path_at};
 ghost use Rattle.ccr_pipeline.specs.Kinds.{optional, required, broken, optional_keys, key_table};
 ghost use Rattle.ccr_pipeline.specs.Names.{text_at, names_at, new_name};
-ghost use Rattle.ccr_pipeline.specs.TaskRules.{other_path, artifact_faults, artifacts, artifact_list, artifact_keys, config_rest, run_keys, run_at, config_faults, task_source, task_faults};
+ghost use Rattle.ccr_pipeline.specs.TaskRules.{other_path, artifact_faults, artifacts, artifact_list, artifact_keys};
+ghost use Rattle.ccr_pipeline.specs.TaskRules.{config_rest, run_keys, run_at, config_faults, task_source};
+ghost use Rattle.ccr_pipeline.specs.TaskRules.{task_faults};
 
 use crate::fault::{ReadFault, Rule};
 use crate::key::{at_key, path_at, path_below, require, require_at};
 use crate::kind::{Kind, check, check_keys, optional, required};
 use crate::names::{Names, check_new_name, text_at};
-use crate::value::Value;
+use serde_json::Value;
 use std::alloc::Global;
 
 /// The two kinds of artifacts of a task.
-#[derive(Clone, Copy, Debug, PartialEq, Eq)]
+#[derive(Clone, Copy)]
 pub(crate) enum Artifact {
     Input,
     Output,

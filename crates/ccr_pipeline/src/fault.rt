@@ -61,7 +61,7 @@ pub enum ReadFault {
 }
 
 /// The rule that a fault breaks.
-#[derive(Clone, Copy, Debug, PartialEq, Eq)]
+#[derive(Clone, Copy)]
 pub(crate) enum Rule {
     Length,
     Json,

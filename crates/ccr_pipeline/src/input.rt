@@ -100,9 +100,9 @@ pub(crate) fn inputs_in(alloc: Global, step: &Step) -> Result<Vec<Input>, AllocE
 /// order, then its hooks in the order `on_success`, `on_failure`, `on_error`, `on_abort`, `ensure`; the job's own hooks
 /// come after its plan.
 pub fn inputs_of(alloc: Global, job: &Job) -> Result<Vec<Input>, AllocError>
-    ensures inputs { IfOk result (λ v. map input_data v.items ≡ inputs (tree_of job.now.plan)) }
+    ensures inputs { IfOk result (λ v. map input_data v.items ≡ inputs (tree_of job.now.plan.value)) }
     // At most 32, which name at most 32 jobs.
-    ensures few { IsTrue (are_few (inputs (tree_of job.now.plan))) }
+    ensures few { IsTrue (are_few (inputs (tree_of job.now.plan.value))) }
 {
     inputs_in(alloc, &job.plan)
 }

@@ -1,11 +1,11 @@
 //! Keys of JSON objects, and the paths of what stands at them.
 ghost use Rattle.std.specs.Prelude.{◌≡◌, Option, option_map, string_bytes, IfOk, OnOk};
-ghost use Rattle.ccr_pipeline.specs.View.{view};
+ghost use Rattle.serde_json.specs.View.{view};
 ghost use Rattle.ccr_pipeline.specs.Faults.{unless, Checks, StartsWith, IsFirst, fault_of};
 ghost use Rattle.ccr_pipeline.specs.Keys.{at_key, path_below, path_at};
 
 use crate::fault::{ReadFault, Rule};
-use crate::value::Value;
+use serde_json::Value;
 use std::alloc::{AllocError, Global};
 
 /// What stands at a key of an object; `null` is as absent.

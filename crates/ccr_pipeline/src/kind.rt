@@ -1,21 +1,24 @@
 //! The kinds of value that a key may have, and their tests.
 ghost use Rattle.std.specs.Prelude.{◌≡◌, ◌++◌, [], length, drop, option_map, string_bytes};
 ghost use Rattle.std.specs.List.{list_all};
-ghost use Rattle.ccr_pipeline.specs.View.{view, items_view, members_view};
+ghost use Rattle.serde_json.specs.View.{view, items_view, members_view};
 ghost use Rattle.ccr_pipeline.specs.Faults.{unless, Checks, StartsWith, IsFirst, fault_of};
 ghost use Rattle.ccr_pipeline.specs.Keys.{at_key, or_else, path_below, path_at};
-ghost use Rattle.ccr_pipeline.specs.Kinds.{is_name, is_name_byte, is_text, broken, broken_texts, broken_fields, broken_pin, is_empty, optional, required, optional_keys, key_table};
+ghost use Rattle.ccr_pipeline.specs.Kinds.{is_name, is_name_byte, is_text, broken, broken_texts, broken_fields};
+ghost use Rattle.ccr_pipeline.specs.Kinds.{broken_pin, is_empty, optional, required, optional_keys, key_table};
 
 use crate::fault::{ReadFault, Rule};
 use crate::key::{at_key, path_at, path_below, require, require_at};
-use crate::library::to_library;
-use crate::members::sorted;
-use crate::value::Value;
 use ccr_history::has_float;
+use serde_json::Value;
 use std::alloc::Global;
+use std::collections::BTreeMap;
+
+/// How many bytes a name may have.
+const MOST_NAME_BYTES: usize = 128;
 
 /// What a key's value has to be.
-#[derive(Clone, Copy, Debug, PartialEq, Eq)]
+#[derive(Clone, Copy)]
 pub(crate) enum Kind {
     Text,
     /// A text that a resource, type, job, step or artifact may have as its name.
@@ -51,7 +54,7 @@ fn has_name_bytes(bytes: &[u8]) -> bool
 pub(crate) fn is_name(text: &str) -> bool
     ensures { result ≡ is_name text.now }
 {
-    if text.is_empty() || text.len() > 128 {
+    if text.is_empty() || text.len() > MOST_NAME_BYTES {
         return false;
     }
     if text == "." || text == ".." {
@@ -80,26 +83,29 @@ fn check_texts(alloc: Global, list: &[Value], path: &str, key: &str) -> Result<(
 
 fn check_fields(
     alloc: Global,
-    members: &Vec<(String, Value)>,
+    members: &BTreeMap<String, Value>,
     path: &str,
     key: &str,
 ) -> Result<(), ReadFault>
-    ensures { Checks (broken_fields (path_below path.now key.now) (members_view members.now.items))
+    ensures { Checks (broken_fields (path_below path.now key.now) (members_view members.now.entries))
         result }
 {
-    for (field, member) in sorted(alloc, members)? {
+    for (field, member) in members.iter() {
         if !member.is_string() {
             let below = path_below(alloc, path, key)?;
-            return Err(ReadFault::of(Rule::Kind, path_below(alloc, below.as_str(), field)?));
+            return Err(ReadFault::of(
+                Rule::Kind,
+                path_below(alloc, below.as_str(), field.as_str())?,
+            ));
         }
     }
     Ok(())
 }
 
-fn is_empty(members: &Vec<(String, Value)>) -> bool
-    ensures { result ≡ is_empty (members_view members.now.items) }
+fn is_empty(members: &BTreeMap<String, Value>) -> bool
+    ensures { result ≡ is_empty (members_view members.now.entries) }
 {
-    members.is_empty()
+    members.len() == 0
 }
 
 fn check_pin(alloc: Global, found: &Value, path: &str, key: &str) -> Result<(), ReadFault>
@@ -137,10 +143,7 @@ pub(crate) fn check(
             None => require_at(alloc, false, Rule::Kind, path, key),
         },
         Kind::Params => match found.as_object() {
-            Some(_) => {
-                let is_whole = !has_float(&to_library(alloc, found)?);
-                require_at(alloc, is_whole, Rule::Whole, path, key)
-            }
+            Some(_) => require_at(alloc, !has_float(found), Rule::Whole, path, key),
             None => require_at(alloc, false, Rule::Kind, path, key),
         },
         Kind::Fields => check_pin(alloc, found, path, key),

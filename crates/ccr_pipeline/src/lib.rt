@@ -25,10 +25,7 @@ mod fault;
 mod input;
 mod key;
 mod kind;
-mod library;
-mod members;
 mod names;
-mod parse;
 mod parts;
 mod pipeline;
 mod place;
@@ -38,7 +35,6 @@ mod step;
 mod task;
 mod unknown;
 mod unused;
-mod value;
 
 pub use fault::ReadFault;
 pub use input::{Input, inputs_of};
@@ -48,6 +44,3 @@ pub use reader::{read, read_task};
 pub use resource::{Job, Resource};
 pub use step::{Get, Put, Step, Wanted, When};
 pub use task::{Run, Task, TaskConfig, TaskInput, TaskSource, Variable};
-
-#[cfg(test)]
-mod tests;

@@ -1,6 +1,6 @@
 //! Names that may not be repeated.
 ghost use Rattle.std.specs.Prelude.{◌≡◌, ◌++◌, [], not, length, take, option_map, IfOk, OnOk, OnErr};
-ghost use Rattle.ccr_pipeline.specs.View.{view};
+ghost use Rattle.serde_json.specs.View.{view};
 ghost use Rattle.ccr_pipeline.specs.Faults.{unless, Checks, StartsWith, IsFirst, fault_of};
 ghost use Rattle.ccr_pipeline.specs.Keys.{at_key, or_else, path_below};
 ghost use Rattle.ccr_pipeline.specs.Kinds.{broken, optional, required};
@@ -9,8 +9,8 @@ ghost use Rattle.ccr_pipeline.specs.Names.{has_name, with_name, text_at, names_a
 use crate::fault::{ReadFault, Rule};
 use crate::key::{at_key, require_at};
 use crate::kind::{Kind, required};
-use crate::value::Value;
 use indexmap::IndexSet;
+use serde_json::Value;
 use std::alloc::{AllocError, Global};
 use std::marker::Model;
 

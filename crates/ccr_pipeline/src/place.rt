@@ -1,21 +1,25 @@
 //! Where the steps of a job stand in its text.
 ghost use Rattle.std.specs.Prelude.{◌≡◌, [], ◌∷◌, ◌++◌, length, drop, OnOk, string_bytes};
-ghost use Rattle.ccr_pipeline.specs.View.{view, items_view};
+ghost use Rattle.serde_json.specs.View.{view, items_view};
 ghost use Rattle.ccr_pipeline.specs.Keys.{at_key, or_else, path_below, path_at};
-ghost use Rattle.ccr_pipeline.specs.Places.{spots, spot_of, counted, tries_below, steps_from, steps_in, step_at, own_steps, hook_steps};
+ghost use Rattle.ccr_pipeline.specs.Places.{spots, spot_of, counted, tries_below, steps_from, steps_in, step_at};
+ghost use Rattle.ccr_pipeline.specs.Places.{own_steps, hook_steps};
 
 use crate::key::{at_key, path_at, path_below};
-use crate::value::Value;
+use serde_json::Value;
 use std::alloc::{AllocError, Global};
 
 /// How many levels of steps a job may have.
 pub(crate) const LEVELS: u32 = 30;
 
+/// How many attempts a step may have.
+pub(crate) const MOST_ATTEMPTS: u64 = 100;
+
 /// The greatest product of the attempts from a job down to a step.
 pub(crate) const MOST_TRIES: u64 = 10_000;
 
 /// The two visits of a step in the order of reading.
-#[derive(Clone, Copy, Debug, PartialEq, Eq)]
+#[derive(Clone, Copy)]
 pub(crate) enum Part {
     /// At its keys, before the steps that they hold.
     Opening,
@@ -43,7 +47,7 @@ fn counted(step: &Value) -> u64
         return 1;
     };
     match found.as_u64() {
-        Some(n) if 1 <= n && n <= 100 => n,
+        Some(n) if 1 <= n && n <= MOST_ATTEMPTS => n,
         _ => 1,
     }
 }

@@ -1,14 +1,14 @@
 //! Reading of pipelines and of task files.
 ghost use Rattle.std.specs.Prelude.{◌≡◌, ◌++◌, [], length, map, IfOk, IfErr, string_bytes, codes};
-ghost use Rattle.ccr_pipeline.specs.View.{view};
-ghost use Rattle.ccr_pipeline.specs.Faults.{unless, Checks, Reads, StartsWith, IsFirst, fault_of};
+ghost use Rattle.serde_json.specs.View.{view};
+ghost use Rattle.ccr_pipeline.specs.Faults.{unless, Checks, ChecksAs, StartsWith, IsFirst, fault_of};
 ghost use Rattle.ccr_pipeline.specs.JobRules.{member_list, list_names};
 ghost use Rattle.ccr_pipeline.specs.Meaning.{config_from};
 ghost use Rattle.ccr_pipeline.specs.Pipelines.{pipeline_data, IsPipelineOf};
 ghost use Rattle.ccr_pipeline.specs.TaskRules.{config_faults};
 ghost use Rattle.ccr_pipeline.specs.Tree.{config_data};
 ghost use Rattle.ccr_pipeline.specs.Unknown.{unknown_in};
-ghost use Rattle.ccr_pipeline.specs.Reading.{pipeline_faults, list_faults, Spells, IsNoValue, Refuses, IsReading};
+ghost use Rattle.ccr_pipeline.specs.Reading.{pipeline_faults, list_faults, IsTextOf, IsNoValue, Refuses, IsReading};
 
 use crate::build;
 use crate::build_job::{jobs, resources};
@@ -16,13 +16,11 @@ use crate::check_job::{Member, check_member_list};
 use crate::check_task::check_config;
 use crate::fault::{ReadFault, Rule};
 use crate::key::require;
-use crate::parse::parse;
 use crate::pipeline::Pipeline;
 use crate::task::TaskConfig;
 use crate::unknown::check_known;
 use crate::unused::unused;
-use crate::value::Value;
-use json::Error;
+use serde_json::Value;
 use std::alloc::Global;
 
 /// How many bytes a pipeline or a task file may have.
@@ -30,13 +28,13 @@ const MOST_BYTES: usize = 1_048_576;
 
 /// The JSON value of a text that isn't too long.
 fn value_of(alloc: Global, text: &[u8], path: &str) -> Result<Value, ReadFault>
-    ensures ok { IfOk result (λ value. Spells text.now (view value)) }
+    ensures ok { IfOk result (λ value. IsTextOf text.now (view value)) }
     ensures err { IfErr result (λ fault. IsNoValue path.now text.now (fault_of fault)) }
 {
     require(alloc, text.len() <= MOST_BYTES, Rule::Length, path)?;
-    match parse(alloc, text) {
+    match Value::from_slice(alloc, text) {
         Ok(value) => Ok(value),
-        Err(Error::OutOfMemory) => Err(ReadFault::NoMemory),
+        Err(error) if error.is_memory() => Err(ReadFault::NoMemory),
         Err(_) => Err(ReadFault::of(Rule::Json, String::from_str(alloc, path)?)),
     }
 }
@@ -58,7 +56,7 @@ fn check_pipeline(alloc: Global, pipeline: &Value) -> Result<(), ReadFault>
     check_lists(alloc, pipeline)
 }
 
-/// Reads a pipeline from JSON, as `fly get-pipeline --json` prints it (Concourse: pipeline schema).
+/// ChecksAs a pipeline from JSON, as `fly get-pipeline --json` prints it (Concourse: pipeline schema).
 ///
 /// `TooLong` above 1,048,576 bytes, `NotJson` where the bytes are no JSON value, both at `pipeline`; else the first
 /// fault that is present in the value: the first broken rule of the resources, then of the jobs, keys in the order of
@@ -86,7 +84,7 @@ pub fn read(alloc: Global, text: &[u8]) -> Result<Pipeline, ReadFault>
     })
 }
 
-/// Reads a task file from JSON (Concourse: tasks).
+/// ChecksAs a task file from JSON (Concourse: tasks).
 ///
 /// `TooLong` above 1,048,576 bytes, `NotJson` where the bytes are no JSON value, both at `task`; else the first fault
 /// that is present in the value, at a path that begins with `task`. `NoMemory` where a growth was refused.

@@ -8,6 +8,7 @@ ghost use Rattle.ccr_pipeline.specs.Tree.{tree_of};
 
 use crate::step::Step;
 use ccr_history::{Object, Pin};
+use std::rc::Rc;
 
 /// A resource (Concourse: resources).
 #[derive(Drop)]
@@ -29,8 +30,8 @@ pub struct Resource {
 pub struct Job {
     /// The job's name; no two jobs have the same.
     pub name: String,
-    /// The plan as a `do`, in the job's hooks.
-    pub plan: Step,
+    /// The plan as a `do`, in the job's hooks. The job's builds share it, also after the pipeline has gone.
+    pub plan: Rc<Step>,
     /// Whether at most one build runs.
     pub serial: bool,
     /// The groups of which at most one build runs.
@@ -40,13 +41,13 @@ pub struct Job {
     // What it is called may be a name.
     pub ghost named: { IsTrue (is_name (string_bytes name)) },
     // The plan has at most 32 inputs, and they name at most 32 jobs.
-    pub ghost few: { IsTrue (are_few (inputs (tree_of plan))) },
+    pub ghost few: { IsTrue (are_few (inputs (tree_of plan.value))) },
     // No two inputs have one name.
-    pub ghost distinct: { HasDistinctInputs (tree_of plan) } by { Prim.hlevel props },
+    pub ghost distinct: { HasDistinctInputs (tree_of plan.value) } by { Prim.hlevel props },
     // Its steps lie at most 30 levels deep.
-    pub ghost shallow: { IsShallow (tree_of plan) },
+    pub ghost shallow: { IsShallow (tree_of plan.value) },
     // Each attempts is from 1 to 100, and the product of those from the job down to a step at most 10,000.
-    pub ghost few_tries: { TriesFit 1 (tree_of plan) } by { TriesFit-prop 1 (tree_of plan) },
+    pub ghost few_tries: { TriesFit 1 (tree_of plan.value) } by { TriesFit-prop 1 (tree_of plan.value) },
     // What its gets, puts, task inputs and task outputs are called may be a name.
-    pub ghost well_named: { IsWellNamed (tree_of plan) },
+    pub ghost well_named: { IsWellNamed (tree_of plan.value) },
 }

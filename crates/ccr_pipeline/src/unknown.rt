@@ -1,19 +1,21 @@
 //! The second walk: names of resources and jobs that the pipeline doesn't have.
 ghost use Rattle.std.specs.Prelude.{◌≡◌, ◌++◌, [], drop, codes};
 ghost use Rattle.std.specs.List.{flat_map};
-ghost use Rattle.ccr_pipeline.specs.View.{view, items_view};
+ghost use Rattle.serde_json.specs.View.{view, items_view};
 ghost use Rattle.ccr_pipeline.specs.Faults.{unless, Checks, StartsWith, IsFirst, fault_of};
 ghost use Rattle.ccr_pipeline.specs.Keys.{at_key, or_else, path_below, path_at};
 ghost use Rattle.ccr_pipeline.specs.Names.{text_at, has_name};
 ghost use Rattle.ccr_pipeline.specs.Places.{spot, spots, plan_steps, job_hooks};
-ghost use Rattle.ccr_pipeline.specs.Unknown.{name_key, unknown_resource, unknown_texts, unknown_passed, unknown_names, unknown_by, unknown_at, unknown_spots, unknown_job, unknown_jobs, unknown_in};
+ghost use Rattle.ccr_pipeline.specs.Unknown.{name_key, unknown_resource, unknown_texts, unknown_passed};
+ghost use Rattle.ccr_pipeline.specs.Unknown.{unknown_names, unknown_by, unknown_at, unknown_spots, unknown_job};
+ghost use Rattle.ccr_pipeline.specs.Unknown.{unknown_jobs, unknown_in};
 
 use crate::check_job::{hook_places, plan_places};
 use crate::fault::{ReadFault, Rule};
 use crate::key::{at_key, path_at, path_below, require_at};
 use crate::names::{Names, text_at};
 use crate::place::{Part, Place};
-use crate::value::Value;
+use serde_json::Value;
 use std::alloc::Global;
 
 /// The key that names the resource of a get or put: `resource`, or the key of its own name.

@@ -2,18 +2,22 @@
 ghost use Rattle.std.specs.Prelude.{◌≡◌, ◌++◌, [], ◌∷◌, drop, map, codes, OnOk, IfOk, string_bytes};
 ghost use Rattle.std.specs.List.{flat_map, list_any};
 ghost use Rattle.std.specs.Str.{bytes_eq};
-ghost use Rattle.ccr_pipeline.specs.View.{view, items_view, members_view};
+ghost use Rattle.serde_json.specs.View.{view, items_view, members_view};
 ghost use Rattle.ccr_pipeline.specs.Keys.{at_key, or_else, path_below, path_at};
 ghost use Rattle.ccr_pipeline.specs.Places.{spot, spots, plan_steps, job_hooks};
 ghost use Rattle.ccr_pipeline.specs.Names.{names_of as texts_of};
-ghost use Rattle.ccr_pipeline.specs.Unused.{key_list, is_used, hook_keys, unused_at, unused_members, unused_keys, unused_items, unused_items_at, unused_keys_at, unused_config, unused_step_members, unused_step_keys, unused_task, unused_holder, unused_step, unused_by, unused_spot, unused_job, unused_jobs, unused_jobs_in, unused_in, IsSortedOnce};
+ghost use Rattle.ccr_pipeline.specs.Unused.{key_list, is_used, hook_keys, unused_at, unused_members, unused_keys};
+ghost use Rattle.ccr_pipeline.specs.Unused.{unused_items, unused_items_at, unused_keys_at, unused_config};
+ghost use Rattle.ccr_pipeline.specs.Unused.{unused_step_members, unused_step_keys, unused_task, unused_holder};
+ghost use Rattle.ccr_pipeline.specs.Unused.{unused_step, unused_by, unused_spot, unused_job, unused_jobs};
+ghost use Rattle.ccr_pipeline.specs.Unused.{unused_jobs_in, unused_in, IsSortedOnce};
 
 use crate::check_job::{hook_places, plan_places};
 use crate::key::{at_key, path_at, path_below};
-use crate::members::sorted;
 use crate::place::{Part, Place};
-use crate::value::Value;
+use serde_json::Value;
 use std::alloc::{AllocError, Global};
+use std::collections::BTreeMap;
 
 fn is_among(keys: &[&str], key: &str) -> bool
     ensures { result ≡ list_any (λ known. bytes_eq known.now key.now) keys.now }
@@ -59,15 +63,15 @@ fn push_member(
 fn push_members(
     alloc: Global,
     out: &mut Vec<String>,
-    members: &Vec<(String, Value)>,
+    members: &BTreeMap<String, Value>,
     path: &str,
     used: &[&str],
 ) -> Result<(), AllocError>
     ensures { OnOk result (texts_of out.new.items ≡ texts_of out.old.items
-        ++ unused_members (key_list used.now) path.now (members_view members.now.items)) }
+        ++ unused_members (key_list used.now) path.now (members_view members.now.entries)) }
 {
-    for (key, member) in sorted(alloc, members)? {
-        push_member(alloc, out, member, path, key, used)?;
+    for (key, member) in members.iter() {
+        push_member(alloc, out, member, path, key.as_str(), used)?;
     }
     Ok(())
 }
@@ -184,16 +188,16 @@ pub(crate) fn push_config(
 fn push_step_members(
     alloc: Global,
     out: &mut Vec<String>,
-    members: &Vec<(String, Value)>,
+    members: &BTreeMap<String, Value>,
     path: &str,
     used: &[&str],
 ) -> Result<(), AllocError>
     ensures { OnOk result (texts_of out.new.items ≡ texts_of out.old.items
-        ++ unused_step_members (key_list used.now) path.now (members_view members.now.items)) }
+        ++ unused_step_members (key_list used.now) path.now (members_view members.now.entries)) }
 {
-    for (key, member) in sorted(alloc, members)? {
-        if !is_hook(key) {
-            push_member(alloc, out, member, path, key, used)?;
+    for (key, member) in members.iter() {
+        if !is_hook(key.as_str()) {
+            push_member(alloc, out, member, path, key.as_str(), used)?;
         }
     }
     Ok(())

@@ -2,10 +2,13 @@
 //!
 //! `ccr_probe pipeline` reads a pipeline, `ccr_probe task` a task file; `ccr_probe resolve BUDGET` reads a problem and prints the
 //! proof of its best choice, or that none satisfies, of at most BUDGET nodes. `ccr_probe launch` starts `sh -c true`.
+//! `ccr_probe launches COUNT` starts so many programs by one runner, each of which writes 64 KiB.
 //! `ccr_probe type PROGRAMS FOLDER` reads `{"source":..,"params":..}` and tries a resource type: it starts PROGRAMS/check,
 //! PROGRAMS/in for the last version and PROGRAMS/out in FOLDER, with FOLDER/in as the artifact's folder, and prints each version.
 //! `ccr_probe steps JOB` reads a pipeline in one line, the versions of the job's inputs in the next, and answers, one a line
 //! (`done`, `pushed VERSION`, `config CONFIG`, `failed`, `errored`): it prints what the build asks, and where it has ended, how.
+//! `ccr_probe builds JOB COUNT` reads the same first two lines, and starts so many builds of the job, which it holds all at once.
+//! `ccr_probe versions N` makes N versions of two short fields and holds them at once.
 //! With `--repeat N` behind these the call is made N times, and the whole time is printed on standard error. Statuses: 0 read,
 //! resolved or ended, 1 refused, 2 usage, 3 over budget, 4 out of memory or unreadable.
 #![tactic(auto)]
@@ -15,15 +18,17 @@ ghost use Rattle.std.specs.Prelude.{◌≤◌};
 mod answer;
 mod programs;
 mod steps;
+mod versions;
 
 use answer::{Answer, OVER_BUDGET, answer_pipeline, answer_resolve, answer_task};
-use programs::{Trial, answer_launch, answer_type};
+use programs::{Trial, answer_launch, answer_launches, answer_type};
 use std::alloc::AllocError;
 use std::io::Read;
 use std::process::ExitCode;
 use std::time::Instant;
 use std::{env, io};
-use steps::answer_steps;
+use steps::{Playing, answer_steps};
+use versions::answer_versions;
 
 /// A node budget, from 1 to 1,000,000.
 #[derive(Clone, Copy, Debug, PartialEq, Eq)]
@@ -40,8 +45,10 @@ enum Call<'a> {
     Task,
     Resolve(Budget),
     Launch,
+    Launches(u32),
     Type(Trial<'a>),
-    Steps(&'a str),
+    Steps(&'a str, Playing),
+    Versions(u32),
 }
 
 /// What the words ask for: a call, and how often it is made.
@@ -75,6 +82,10 @@ fn order_of(words: &[String]) -> Option<Order<'_>> {
         "pipeline" => (Call::Pipeline, rest),
         "task" => (Call::Task, rest),
         "launch" => (Call::Launch, rest),
+        "launches" => {
+            let (count, rest) = rest.split_first()?;
+            (Call::Launches(count.as_str().parse::<u32>().ok()?), rest)
+        }
         "type" => {
             let (programs, rest) = rest.split_first()?;
             let (folder, rest) = rest.split_first()?;
@@ -86,7 +97,17 @@ fn order_of(words: &[String]) -> Option<Order<'_>> {
         }
         "steps" => {
             let (job, rest) = rest.split_first()?;
-            (Call::Steps(job.as_str()), rest)
+            (Call::Steps(job.as_str(), Playing::Answered), rest)
+        }
+        "builds" => {
+            let (job, rest) = rest.split_first()?;
+            let (count, rest) = rest.split_first()?;
+            let count = count.as_str().parse::<u32>().ok()?;
+            (Call::Steps(job.as_str(), Playing::Held(count)), rest)
+        }
+        "versions" => {
+            let (count, rest) = rest.split_first()?;
+            (Call::Versions(count.as_str().parse::<u32>().ok()?), rest)
         }
         "resolve" => {
             let (budget, rest) = rest.split_first()?;
@@ -105,8 +126,10 @@ fn answer_of(rt: &HostRuntime, call: Call, text: &[u8]) -> Result<Answer, AllocE
         Call::Task => answer_task(alloc, text),
         Call::Resolve(budget) => answer_resolve(alloc, text, budget.nodes),
         Call::Launch => answer_launch(rt, alloc),
+        Call::Launches(count) => answer_launches(rt, alloc, count),
         Call::Type(trial) => answer_type(rt, alloc, text, &trial),
-        Call::Steps(job) => answer_steps(alloc, text, job),
+        Call::Steps(job, what) => answer_steps(alloc, text, job, what),
+        Call::Versions(count) => answer_versions(alloc, count),
     }
 }
 
@@ -142,7 +165,7 @@ fn main(rt: HostRuntime) -> io::Result<ExitCode> {
     };
     let Some(order) = order_of(&words) else {
         eprintln!(rt;
-            "usage: ccr_probe pipeline|task|resolve BUDGET|launch|type PROGRAMS FOLDER|steps JOB [--repeat N]"
+            "usage: ccr_probe pipeline|task|resolve BUDGET|launch|launches COUNT|type PROGRAMS FOLDER|steps JOB|builds JOB COUNT|versions N [--repeat N]"
         )?;
         return Ok(ExitCode::from(2));
     };

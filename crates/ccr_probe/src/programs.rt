@@ -100,6 +100,38 @@ pub(crate) fn answer_launch<R: Processes + Drop>(
     }
 }
 
+/// How many bytes each of many programs writes.
+const BYTES: usize = 65_536;
+
+/// Starts so many programs by one machine, and says nothing where each wrote 64 KiB and ended with status 0.
+pub(crate) fn answer_launches<R: Processes + Drop>(
+    rt: R,
+    alloc: Global,
+    count: u32,
+) -> Result<Answer, AllocError> {
+    let launch = Launch {
+        program: String::from_str(alloc, "head")?,
+        args: texts(alloc, &["-c", "65536", "/dev/zero"])?,
+        folder: String::from_str(alloc, "/")?,
+        env: Vec::new(alloc),
+        input: Vec::new(alloc),
+        keep: true,
+    };
+    let mut machine = Machine::new(rt, alloc);
+    for _ in 0..count {
+        let refusal = match output(machine.run(&launch)) {
+            Ok(bytes) if bytes.len() == BYTES => continue,
+            Ok(_) => Refusal::Ended("another output"),
+            Err(refusal) => refusal,
+        };
+        return refused(alloc, String::new(alloc), refusal);
+    }
+    Ok(Answer {
+        lines: String::new(alloc),
+        status: 0,
+    })
+}
+
 /// The lines so far, and the refusal behind them.
 fn refused(alloc: Global, mut lines: String, refusal: Refusal) -> Result<Answer, AllocError> {
     if let Refusal::NoMemory = refusal {

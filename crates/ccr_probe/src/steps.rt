@@ -2,7 +2,7 @@
 
 use crate::answer::{Answer, refused};
 use ccr_history::{HistoryFault, Object, Version};
-use ccr_pipeline::{Job, Pipeline, ReadFault, TaskConfig, Variable, read, read_task};
+use ccr_pipeline::{Job, Pipeline, ReadFault, TaskConfig, Variable, inputs_of, read, read_task};
 use ccr_steps::{Answered, Ask, BuildRun, FeedFault, Outcome, start};
 use serde_json::{Map, Value};
 use std::alloc::{AllocError, Global};
@@ -66,7 +66,7 @@ fn run_of(alloc: Global, config: &TaskConfig) -> Result<Value, AllocError> {
     Ok(Value::Object(members))
 }
 
-fn inputs_of(alloc: Global, config: &TaskConfig) -> Result<Value, AllocError> {
+fn task_inputs_of(alloc: Global, config: &TaskConfig) -> Result<Value, AllocError> {
     let mut items = Vec::new(alloc);
     for input in &config.inputs {
         let mut members = Map::new(alloc);
@@ -79,7 +79,7 @@ fn inputs_of(alloc: Global, config: &TaskConfig) -> Result<Value, AllocError> {
 
 fn config_of(alloc: Global, config: &TaskConfig) -> Result<Value, AllocError> {
     let mut members = Map::new(alloc);
-    let inputs = inputs_of(alloc, config)?;
+    let inputs = task_inputs_of(alloc, config)?;
     put(alloc, &mut members, "inputs", inputs)?;
     let outputs = texts_of(alloc, &config.outputs)?;
     put(alloc, &mut members, "outputs", outputs)?;
@@ -185,8 +185,8 @@ fn value_of(alloc: Global, text: &str) -> Result<Option<Value>, AllocError> {
     }
 }
 
-fn version_in(value: &Value) -> Result<Option<Version>, AllocError> {
-    match Version::from_value(value) {
+fn version_in(alloc: Global, value: &Value) -> Result<Option<Version>, AllocError> {
+    match Version::from_value(alloc, value) {
         Ok(version) => Ok(Some(version)),
         Err(HistoryFault::NoMemory) => Err(AllocError),
         Err(HistoryFault::NotObject | HistoryFault::VersionNotText) => Ok(None),
@@ -197,7 +197,7 @@ fn pushed_of(alloc: Global, text: &str) -> Result<Option<Answered>, AllocError> 
     let Some(value) = value_of(alloc, text)? else {
         return Ok(None);
     };
-    match version_in(&value)? {
+    match version_in(alloc, &value)? {
         Some(version) => Ok(Some(Answered::Pushed(version))),
         None => Ok(None),
     }
@@ -236,7 +236,7 @@ fn versions_of(alloc: Global, line: &str) -> Result<Option<Vec<Version>>, AllocE
     };
     let mut versions = Vec::new(alloc);
     for member in members {
-        let Some(version) = version_in(member)? else {
+        let Some(version) = version_in(alloc, member)? else {
             return Ok(None);
         };
         versions.push(version)?;
@@ -268,13 +268,24 @@ fn feed_line(
     }
 }
 
+/// A build of a job; None where there isn't one version for each input.
+fn started(alloc: Global, job: &Job, versions: &[Version]) -> Result<Option<BuildRun>, AllocError> {
+    let inputs = inputs_of(alloc, job)?;
+    if versions.len() != inputs.len() {
+        return Ok(None);
+    }
+    Ok(Some(start(alloc, job, versions)?))
+}
+
 fn play(
     alloc: Global,
     job: &Job,
     versions: &[Version],
     answers: &[&str],
 ) -> Result<Answer, AllocError> {
-    let mut run = start(alloc, job, versions)?;
+    let Some(mut run) = started(alloc, job, versions)? else {
+        return refused_as(alloc, "not one version for each input");
+    };
     let mut lines = String::new(alloc);
     push_state(alloc, &mut lines, &run)?;
     for line in answers {
@@ -286,9 +297,39 @@ fn play(
     Ok(Answer { lines, status: 0 })
 }
 
-/// What a build of a job asks, answered line by line: the first line is the pipeline, the second the list of the inputs' versions,
-/// each other an answer (`done`, `failed`, `errored`, `pushed VERSION` or `config CONFIG`).
-pub(crate) fn answer_steps(alloc: Global, text: &[u8], name: &str) -> Result<Answer, AllocError> {
+/// Starts so many builds, and holds them all.
+fn hold(alloc: Global, job: &Job, versions: &[Version], count: u32) -> Result<Answer, AllocError> {
+    let mut runs = Vec::new(alloc);
+    for _ in 0..count {
+        let Some(run) = started(alloc, job, versions)? else {
+            return refused_as(alloc, "not one version for each input");
+        };
+        runs.push(run)?;
+    }
+    let held = runs.len();
+    Ok(Answer {
+        lines: format!(in alloc; "{held} builds\n")?,
+        status: 0,
+    })
+}
+
+/// What is done with a job.
+#[derive(Clone, Copy)]
+pub(crate) enum Playing {
+    /// A build is answered line by line.
+    Answered,
+    /// So many builds are started.
+    Held(u32),
+}
+
+/// What a build of a job asks, answered line by line, or that so many builds of it were started. The first line is the pipeline, the
+/// second the list of the inputs' versions, each other an answer (`done`, `failed`, `errored`, `pushed VERSION` or `config CONFIG`).
+pub(crate) fn answer_steps(
+    alloc: Global,
+    text: &[u8],
+    name: &str,
+    what: Playing,
+) -> Result<Answer, AllocError> {
     let Ok(text) = std::str::from_utf8(text) else {
         return refused_as(alloc, "not text");
     };
@@ -303,8 +344,11 @@ pub(crate) fn answer_steps(alloc: Global, text: &[u8], name: &str) -> Result<Ans
     let Some(versions) = versions_of(alloc, versions)? else {
         return refused_as(alloc, "versions");
     };
-    match job_of(&pipeline, name) {
-        Some(job) => play(alloc, job, &versions, answers),
-        None => refused_as(alloc, "no such job"),
+    let Some(job) = job_of(&pipeline, name) else {
+        return refused_as(alloc, "no such job");
+    };
+    match what {
+        Playing::Answered => play(alloc, job, &versions, answers),
+        Playing::Held(count) => hold(alloc, job, &versions, count),
     }
 }

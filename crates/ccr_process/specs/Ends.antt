@@ -1,5 +1,6 @@
 -- How a program ended.
 use Rattle.std.specs.Prelude.{◌≡◌, ◌≤◌, ℕ, List, [], Bool, false, length, ⊤}
+use Rattle.ccr_process.specs.declared.pipes.TheConstants.{MOST_OUTPUT}
 use Rattle.ccr_process.specs.declared.ended.Ended.{Ended}
 use Rattle.ccr_process.specs.declared.ended.Ended.TheVariants.{Exit, Killed, NotStarted, InputFault, ReadFault, OutputTooLong, NoMemory}
 
@@ -13,6 +14,7 @@ pub data EndData : Type 0 where
   output_too_long : EndData
   no_memory : EndData
 
+-- what an end holds
 abbrev pub end_data : Ended → EndData
 end_data (Exit status output) = exited status output.items
 end_data Killed = killed
@@ -22,11 +24,11 @@ end_data ReadFault = read_fault
 end_data OutputTooLong = output_too_long
 end_data NoMemory = no_memory
 
--- an output has at most 1 MiB, and none where it isn't kept
+-- an output has at most as many bytes as are kept, and none where it isn't kept
 abbrev pub IsOutput : Bool → List ℕ → Type 0
-IsOutput keep output = (length output ≤ 1048576) × (keep ≡ false → output ≡ [])
+IsOutput keep output = (length output ≤ MOST_OUTPUT) × (keep ≡ false → output ≡ [])
 
--- what an end says of the output
+-- an end holds such an output
 abbrev pub HasOutput : Bool → EndData → Type 0
 HasOutput keep (exited status output) = IsOutput keep output
 HasOutput keep killed = ⊤

@@ -1,4 +1,5 @@
 pub mod Launches
 pub mod Ends
+pub mod Pipes
 pub mod Runs
 pub mod Commands

@@ -11,6 +11,7 @@ use Rattle.ccr_process.specs.declared.machine.Machine.{Machine}
 abbrev pub Pair : Type 0
 Pair = LaunchData × EndData
 
+-- the pairs, each without where it lies in memory
 abbrev pub pairs_of : List (Launch × Ended) → List Pair
 pairs_of pairs = map (λ p. (launch_data p.0, end_data p.1)) pairs
 
@@ -29,13 +30,14 @@ Plays old_ends old launch end new_ends new =
     ((end ≡ next_end old_ends) × (new_ends ≡ drop 1 old_ends) × (new ≡ old ++ (launch, end) ∷ []))
     ⊎ ((end ≡ no_memory) × (new_ends ≡ old_ends) × (new ≡ old))
 
--- the pairs that a script has added, and the ends that it has left
+-- the pairs that a script has added
 abbrev pub script_pairs : Scripted → List Pair
 script_pairs s = pairs_of s.done.items
 
+-- the ends that a script has left
 abbrev pub ends_left : Scripted → List EndData
 ends_left s = map end_data s.ends.items
 
 -- the pairs that a machine has added
 abbrev pub machine_pairs : {R P I O E : Type 0} → Machine R P I O E → List Pair
-machine_pairs m = pairs_of m.done.items
+machine_pairs m = map (λ p. (launch_data p.0.value, end_data p.1.value)) m.done.items

@@ -1,7 +1,7 @@
 //! What the system is told to start.
 ghost use Rattle.std.specs.Prelude.{◌≡◌, ◌&&◌, IfOk, OnOk, string_bytes};
 ghost use Rattle.std.specs.List.{list_all};
-ghost use Rattle.ccr_process.specs.Launches.{launch_data, texts_of, variables_of, has_no_nul, is_name, can_start};
+ghost use Rattle.ccr_process.specs.Launches.{launch_data, texts_of, variables_of, has_no_nul, is_variable_name, can_start};
 ghost use Rattle.ccr_process.specs.Commands.{IsCommandOf, AddsArgs, AddsVariables, SetsVariable};
 
 use crate::launch::Launch;
@@ -15,7 +15,7 @@ fn is_nul_free(text: &str) -> bool
 }
 
 fn is_variable_name(text: &str) -> bool
-    ensures { result ≡ is_name text.now }
+    ensures { result ≡ is_variable_name text.now }
 {
     is_nul_free(text) && !text.as_bytes().contains(&b'=') && !text.is_empty()
 }
@@ -27,7 +27,7 @@ fn are_nul_free(texts: &[String]) -> bool
 }
 
 fn are_variables(env: &[(String, String)]) -> bool
-    ensures { result ≡ list_all (λ e. is_name (string_bytes e.0) && has_no_nul (string_bytes e.1)) env.now }
+    ensures { result ≡ list_all (λ e. is_variable_name (string_bytes e.0) && has_no_nul (string_bytes e.1)) env.now }
 {
     env.iter().all(|e| is_variable_name(e.0.as_str()) && is_nul_free(e.1.as_str()))
 }

@@ -20,8 +20,6 @@ mod scripted;
 pub use ended::Ended;
 pub use launch::Launch;
 pub use machine::Machine;
+pub use pipes::{GiveFault, TakeFault, give_input, take_output};
 pub use runner::Runner;
 pub use scripted::Scripted;
-
-#[cfg(test)]
-mod tests;

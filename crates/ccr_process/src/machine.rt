@@ -1,10 +1,10 @@
 //! Programs of this machine.
-ghost use Rattle.std.specs.Prelude.{◌≡◌, ◌⊎◌, [], ◌∷◌, ◌++◌, ◌<◌, false, vec_len, vec_capacity};
+ghost use Rattle.std.specs.Prelude.{◌≡◌, ◌⊎◌, [], false};
 ghost use Rattle.ccr_process.specs.Launches.{launch_data, can_start};
 ghost use Rattle.ccr_process.specs.Commands.{IsCommandOf};
 ghost use Rattle.ccr_process.specs.Ends.{end_data, HasOutput};
 ghost use Rattle.ccr_process.specs.declared.ended.Ended.TheVariants.{NotStarted, NoMemory};
-ghost use Rattle.ccr_process.specs.Runs.{pairs_of, machine_pairs, AddsPair};
+ghost use Rattle.ccr_process.specs.Runs.{machine_pairs, AddsPair};
 
 use crate::command::{command_of, is_startable};
 use crate::ended::Ended;
@@ -14,13 +14,15 @@ use crate::runner::Runner;
 use std::alloc::{AllocError, Global};
 use std::io::ErrorKind;
 use std::process::{Child, Command, OpenProcess, Processes};
+use std::snapshot::Snapshot;
 
 /// Starts programs of this machine by a runtime `R`, one at a time, and waits for each.
 #[derive(Drop)]
 pub struct Machine<R: Processes> {
     rt: R,
     alloc: Global,
-    done: Vec<(Launch, Ended)>,
+    // No bytes: the pairs are there for contracts alone.
+    done: Vec<(Snapshot<Launch>, Snapshot<Ended>)>,
 }
 
 /// Kills a program, waits for it, and gives the end that it has.
@@ -84,26 +86,6 @@ fn start<R: Processes>(rt: &R, alloc: Global, mut command: Command, launch: &Lau
     }
 }
 
-/// Adds the pair of a launch and its end, for which there is room, and gives the end: `NoMemory` where it can't be
-/// copied.
-fn add(pairs: &mut Vec<(Launch, Ended)>, launch: Launch, end: Ended) -> Ended
-    requires { vec_len pairs.old < vec_capacity pairs.old }
-    ensures end { (result ≡ end) ⊎ (result ≡ NoMemory) }
-    ensures added { pairs_of pairs.new.items
-        ≡ pairs_of pairs.old.items ++ (launch_data launch, end_data result) ∷ [] }
-{
-    match end.copy() {
-        Ok(copied) => {
-            pairs.push((launch, copied)).unwrap();
-            end
-        }
-        Err(_) => {
-            pairs.push((launch, Ended::NoMemory)).unwrap();
-            Ended::NoMemory
-        }
-    }
-}
-
 impl<R: Processes> Machine<R> {
     /// A machine that has started nothing yet.
     pub fn new(rt: R, alloc: Global) -> Machine<R>
@@ -114,13 +96,6 @@ impl<R: Processes> Machine<R> {
             alloc,
             done: Vec::new(alloc),
         }
-    }
-
-    /// The pairs so far, in their order.
-    pub fn pairs(&self) -> &[(Launch, Ended)]
-        ensures { pairs_of result.now ≡ machine_pairs self.now }
-    {
-        &self.done
     }
 }
 
@@ -134,9 +109,6 @@ impl<R: Processes> Runner for Machine<R> {
         ensures unstartable { can_start launch.now ≡ false
             → (result ≡ NotStarted) ⊎ (result ≡ NoMemory) }
     {
-        let Ok(kept) = launch.copy() else {
-            return Ended::NoMemory;
-        };
         let Ok(command) = command_of(self.alloc, launch) else {
             return Ended::NoMemory;
         };
@@ -144,6 +116,8 @@ impl<R: Processes> Runner for Machine<R> {
             return Ended::NoMemory;
         }
         let end = start(&self.rt, self.alloc, command, launch);
-        add(&mut self.done, kept, end)
+        let pair = (Snapshot::of(launch), Snapshot::of(&end));
+        self.done.push(pair).unwrap();
+        end
     }
 }

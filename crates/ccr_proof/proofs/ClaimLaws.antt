@@ -6,7 +6,7 @@ use Rattle.std.proofs.lemmas.List.{append-nil}
 use Rattle.ccr_choice.specs.declared.text.word.Word.{Word}
 use Rattle.ccr_choice.specs.declared.text.word.Word.TheVariants as word
 use Rattle.ccr_choice.specs.Text.{IsWord, lines_of}
-use Rattle.ccr_choice.specs.Reading.{◌>>=◌, or_broken, whole, number_words, front_numbers, after_numbers}
+use Rattle.ccr_choice.specs.Reading.{Refusal, bad_line, trailing, ◌>>=◌, or_broken, whole, number_words, front_numbers, after_numbers}
 use Rattle.ccr_choice.proofs.Words.{IsFit}
 use Rattle.ccr_choice.proofs.Texts.{IsLine, lines_fit}
 use Rattle.ccr_choice.proofs.Keeps.{bind_ok, or_ok}
@@ -102,7 +102,7 @@ pub claim_lines_format : IsFormat next_claim claim_lines IsClaim
 claim_lines_format =
     record { found = λ ls x h. (one_found ls x h).0; again = one_again; spelled = λ c h. (claim_spelled c h, tt) }
 
-claim_is : (bs : List ℕ) → claim_in bs ≡ whole BadLine Trailing (length (lines_of bs)) (next_claim (lines_of bs))
+claim_is : (bs : List ℕ) → claim_in bs ≡ whole bad_line trailing (length (lines_of bs)) (next_claim (lines_of bs))
 unfolding claim_in
 claim_is bs = refl
 
@@ -121,9 +121,9 @@ fit_claim (Best c) few h =
     let front = fit_numbers c.places (word.Builds ∷ number_words c.builds) h.1 in
     ((few.0, front.0), (few.1, fit_last c.builds front.1.1))
 
-claim_kept : (bs : List ℕ) (c : Claim) → claim_in bs ≡ Ok c → IsClaim c
+pub claim_kept : (bs : List ℕ) (c : Claim) → claim_in bs ≡ Ok c → IsClaim c
 claim_kept bs c h =
-    let read = text_read BadLine Trailing (length (lines_of bs)) (next_claim (lines_of bs)) c (sym (claim_is bs) ∙ h) in
+    let read = text_read bad_line trailing (length (lines_of bs)) (next_claim (lines_of bs)) c (sym (claim_is bs) ∙ h) in
     let f = one_found (lines_of bs) (c, []) read in
     let P : List (List Word) → Type 0 = λ ls. AllByRecursion (λ l. AllByRecursion IsFit l) ls in
     let fits = subst P f.0 (lines_fit bs) in
@@ -134,15 +134,15 @@ pub kept_of : (result : Result Claim ClaimFault) (bs : List ℕ) → IsRead resu
 kept_of (Ok c) bs read = claim_kept bs c read
 kept_of (Err e) bs read = tt
 
-claim_text_found : (bs : List ℕ) (c : Claim) → claim_in bs ≡ Ok c → bs ≡ claim_text c
-claim_text_found bs c h = text_found claim_lines_format BadLine Trailing bs c (claim_kept bs c h) (sym (claim_is bs) ∙ h)
+pub claim_text_found : (bs : List ℕ) (c : Claim) → claim_in bs ≡ Ok c → bs ≡ claim_text c
+claim_text_found bs c h = text_found claim_lines_format bad_line trailing bs c (claim_kept bs c h) (sym (claim_is bs) ∙ h)
 
 pub found_of : (result : Result Claim ClaimFault) (bs : List ℕ) → IsRead result (claim_in bs) → IfOk result (λ c. bs ≡ claim_text c)
 found_of (Ok c) bs read = claim_text_found bs c read
 found_of (Err e) bs read = tt
 
 pub claim_text_again : (c : Claim) → IsClaim c → claim_in (claim_text c) ≡ Ok c
-claim_text_again c h = claim_is (claim_text c) ∙ text_again claim_lines_format BadLine Trailing c h
+claim_text_again c h = claim_is (claim_text c) ∙ text_again claim_lines_format bad_line trailing c h
 
 pub alone_of : (result : Result Claim ClaimFault) (bs : List ℕ) → IsRead result (claim_in bs) → IfOk result (λ _. NothingFollows bs)
 alone_of (Ok c) bs read = λ d more h f. text_alone claim_lines_format bs c d more (claim_kept bs c read) h (claim_text_found bs c read) f
@@ -151,7 +151,7 @@ alone_of (Err e) bs read = tt
 pub read_as : (result : Result Claim ClaimFault) (bs : List ℕ) (c : Claim) → IsRead result (claim_in bs) → IsClaim c → bs ≡ claim_text c → IsReadAs result c
 read_as result bs c h rules e = answered result (claim_in bs) (ap claim_in e ∙ claim_text_again c rules) h
   where
-    answered : (result read : Result Claim ClaimFault) → read ≡ Ok c → IsRead result read → IsReadAs result c
+    answered : (result : Result Claim ClaimFault) (read : Result Claim Refusal) → read ≡ Ok c → IsRead result read → IsReadAs result c
     answered (Ok d) read e h = cc
     answered (Err NoMemory) read e h = refl
     answered (Err (BadLine n)) read e h = cc

@@ -3,3 +3,4 @@ pub mod Trees
 pub mod ReadTree
 pub mod ProofLaws
 pub mod Sound
+pub mod ProofForward

@@ -15,17 +15,16 @@ use Rattle.ccr_proof.specs.declared.claim.Claim.{Claim}
 use Rattle.ccr_proof.specs.declared.proof.Proof.{Proof}
 use Rattle.ccr_proof.specs.declared.fault.ProofFault.{ProofFault}
 use Rattle.ccr_proof.specs.declared.fault.ProofFault.TheVariants.{BadLine, TooManyNodes, Trailing, NoMemory}
-use Rattle.ccr_proof.specs.declared.halt.Halt.TheVariants.{Memory, Left, TooMany}
 use Rattle.ccr_proof.specs.declared.proof_read.NodeLine.{NodeLine}
 use Rattle.ccr_proof.specs.declared.proof_read.NodeLine.TheVariants as line
 use Rattle.ccr_proof.specs.Claim.{IsClaim}
 use Rattle.ccr_proof.specs.ClaimText.{claim_line, next_claim}
-use Rattle.ccr_proof.specs.Halts.{NodeRead, of_lines}
+use Rattle.ccr_proof.specs.Halts.{left, too_many, NodeRead, of_lines}
 use Rattle.ccr_proof.specs.Proof.{IsSmall, AreSmall, IsProof}
 use Rattle.ccr_proof.specs.ProofRead.{IsRead, IsReadAs}
 use Rattle.ccr_proof.proofs.ClaimLaws.{one_found, one_again, claim_spelled, fit_claim}
 use Rattle.ccr_proof.specs.Tree.{Tree, Trees, job, empty, bounded, no_child, child, width, count, count_all, levels, levels_all, tree_of}
-use Rattle.ccr_proof.specs.ProofText.{tree_lines, trees_lines, proof_lines, proof_text, proof_head, node_on, by_line, next_node, next_children, next_tree, next_proof, whole_proof, proof_in, NothingFollows}
+use Rattle.ccr_proof.specs.ProofText.{ProofRefusal, trailing, tree_lines, trees_lines, proof_lines, proof_text, proof_head, node_on, by_line, next_node, next_children, next_tree, next_proof, whole_proof, proof_in, NothingFollows}
 use Rattle.ccr_proof.proofs.ReadTree.{job_at, tree_full, tree_next}
 
 -- ---- a node's line, both ways
@@ -211,7 +210,7 @@ mutual
       ((first.0, rest.0), rest.1)
 
 -- ---- a whole proof, both ways
-lines_ok : {A : Type 0} (r : Read A) (x : A × List (List Word)) → of_lines r ≡ Ok x → r ≡ Ok x
+pub lines_ok : {A : Type 0} (r : Read A) (x : A × List (List Word)) → of_lines r ≡ Ok x → r ≡ Ok x
 lines_ok (Ok y) x h = let e : y ≡ x = cc (h) in ap Ok e
 lines_ok (Err k) x h = absurd (cc (h))
 
@@ -281,13 +280,13 @@ forget_ok : {A : Type 0} (r : NodeRead A) (x : A × List (List Word)) → r ≡ 
 unfolding forget
 forget_ok r x h = ap forget h
 
-read_at : List (List Word) → Read (Claim × Tree)
+pub read_at : List (List Word) → Read (Claim × Tree)
 read_at ls = forget (next_proof ls)
 
-abbrev IsPair : Claim × Tree → Type 0
+abbrev pub IsPair : Claim × Tree → Type 0
 IsPair x = IsProof x.0 x.1
 
-proof_format : IsFormat read_at proof_lines IsPair
+pub proof_format : IsFormat read_at proof_lines IsPair
 unfolding read_at
 proof_format = record {
   found = λ ls x h. (proof_found ls x (remembered (next_proof ls) x h)).lines;
@@ -300,7 +299,7 @@ proof_is : (bs : List ℕ) → proof_in bs ≡ whole_proof (length (lines_of bs)
 unfolding proof_in
 proof_is bs = refl
 
-finished : (b : Bool) (x y : Claim × Tree) → cond b (Ok x) (Err Trailing) ≡ Ok y → (b ≡ true) × (x ≡ y)
+finished : (b : Bool) (x y : Claim × Tree) → cond b (Ok x) (Err trailing) ≡ Ok y → (b ≡ true) × (x ≡ y)
 finished true x y h = (refl, cc)
 finished false x y h = cc
 
@@ -309,9 +308,8 @@ no_line [] h = refl
 no_line (l ∷ ls) h = absurd (omega (arith, eqb-true (length (l ∷ ls)) 0 h))
 
 whole_ok : (n : ℕ) (r : NodeRead (Claim × Tree)) (x : Claim × Tree) → whole_proof n r ≡ Ok x → r ≡ Ok (x, [])
-whole_ok n (Err Memory) x h = cc
-whole_ok n (Err (Left k)) x h = cc
-whole_ok n (Err TooMany) x h = cc
+whole_ok n (Err (left k)) x h = cc
+whole_ok n (Err too_many) x h = cc
 whole_ok n (Ok y) x h =
     let f = finished (length y.1 == 0) y.0 x h in
     ap (λ q. Ok (q, y.1)) f.1 ∙ ap (λ ls. Ok (x, ls)) (no_line y.1 f.0)
@@ -355,7 +353,7 @@ alone_of (Err e) bs read = tt
 pub read_as : (result : Result Proof ProofFault) (bs : List ℕ) (c : Claim) (t : Tree) → IsRead result (proof_in bs) → IsProof c t → bs ≡ proof_text c t → IsReadAs result c t
 read_as result bs c t h is e = answered result (proof_in bs) (ap proof_in e ∙ proof_text_again (c, t) is) h
   where
-    answered : (result : Result Proof ProofFault) (read : Result (Claim × Tree) ProofFault) → read ≡ Ok (c, t) → IsRead result read → IsReadAs result c t
+    answered : (result : Result Proof ProofFault) (read : Result (Claim × Tree) ProofRefusal) → read ≡ Ok (c, t) → IsRead result read → IsReadAs result c t
     answered (Ok p) read e h =
         let same : ◌≡◌ {A = Claim × Tree} (p.claim, tree_of p.tree) (c, t) = cc (e, h) in
         (ap (λ x. x.0) same, ap (λ x. x.1) same)

@@ -8,17 +8,17 @@ use Rattle.ccr_proof.specs.declared.halt.Halt.{Halt}
 use Rattle.ccr_proof.specs.declared.halt.Halt.TheVariants.{Memory, Left, TooMany}
 use Rattle.ccr_proof.specs.declared.proof_read.NodeLine.{NodeLine}
 use Rattle.ccr_proof.specs.declared.proof_read.NodeLine.TheVariants as line
-use Rattle.ccr_proof.specs.Halts.{NodeRead, Halts, GivesNode}
+use Rattle.ccr_proof.specs.Halts.{NodeStop, left, too_many, NodeRead, Halts, GivesNode}
 use Rattle.ccr_proof.specs.Tree.{Tree, Trees, job, no_child, child, count, count_all, tree_of, trees_of}
 use Rattle.ccr_proof.proofs.Trees.{tree_of_job}
 use Rattle.ccr_proof.specs.ProofText.{node_on, by_line, next_node, next_children, next_tree}
 
 -- what is read behind a job's line
 abbrev pub job_at : ℕ → ℕ → ℕ → ℕ → List (List Word) → NodeRead Tree
-job_at zero nodes j k after = Err (Left (suc (length after)))
+job_at zero nodes j k after = Err (left (suc (length after)))
 job_at (suc levels) nodes j k after = next_children (next_tree levels) k (nodes + 1) after >>= λ ts. Ok (job j ts.0, ts.1)
 
-pub tree_full : (levels nodes : ℕ) (ls : List (List Word)) → 1000000 ≤ nodes → next_tree levels nodes ls ≡ Err TooMany
+pub tree_full : (levels nodes : ℕ) (ls : List (List Word)) → 1000000 ≤ nodes → next_tree levels nodes ls ≡ Err too_many
 tree_full zero nodes ls full = cond-true (nat_le 1000000 nodes) _ _ (le-leb 1000000 nodes full)
 tree_full (suc levels) nodes ls full = cond-true (nat_le 1000000 nodes) _ _ (le-leb 1000000 nodes full)
 
@@ -26,7 +26,7 @@ pub tree_next : (levels nodes : ℕ) (ls : List (List Word)) → nodes < 1000000
 tree_next zero nodes ls few = cond-false (nat_le 1000000 nodes) _ _ (false_from_ne_true _ (λ e. let le = leb-true 1000000 nodes e in omega (arith, le, few)))
 tree_next (suc levels) nodes ls few = cond-false (nat_le 1000000 nodes) _ _ (false_from_ne_true _ (λ e. let le = leb-true 1000000 nodes e in omega (arith, le, few)))
 
-pub tree_none : (levels nodes : ℕ) (ls : List (List Word)) → nodes < 1000000 → ls ≡ [] → next_tree levels nodes ls ≡ Err (Left 0)
+pub tree_none : (levels nodes : ℕ) (ls : List (List Word)) → nodes < 1000000 → ls ≡ [] → next_tree levels nodes ls ≡ Err (left 0)
 tree_none levels nodes ls few none = tree_next levels nodes ls few ∙ ap (λ xs. next_node xs (job_at levels nodes)) none
 
 pub tree_line : (levels nodes : ℕ) (ls rest : List (List Word)) (l : List Word) (o : Option NodeLine) → nodes < 1000000 → ls ≡ l ∷ rest → o ≡ node_on l
@@ -34,7 +34,7 @@ pub tree_line : (levels nodes : ℕ) (ls rest : List (List Word)) (l : List Word
 tree_line levels nodes ls rest l o few is says =
     tree_next levels nodes ls few ∙ ap (λ xs. next_node xs (job_at levels nodes)) is ∙ ap (λ x. by_line x rest (job_at levels nodes)) (sym says)
 
-pub job_none : (levels nodes j k : ℕ) (after : List (List Word)) → levels ≡ 0 → job_at levels nodes j k after ≡ Err (Left (suc (length after)))
+pub job_none : (levels nodes j k : ℕ) (after : List (List Word)) → levels ≡ 0 → job_at levels nodes j k after ≡ Err (left (suc (length after)))
 job_none zero nodes j k after e = refl
 job_none (suc levels) nodes j k after e = absurd (omega (arith, e))
 
@@ -86,7 +86,7 @@ children_step item n k nodes next cs more ls rest c all same read counted grown 
     ∙ whole
 
 -- a child that isn't read ends it
-pub children_stop : (item : ℕ → List (List Word) → NodeRead Tree) (n k nodes : ℕ) (cs : List Node) (ls : List (List Word)) (h : Halt) (all : NodeRead Trees)
+pub children_stop : (item : ℕ → List (List Word) → NodeRead Tree) (n k nodes : ℕ) (cs : List Node) (ls : List (List Word)) (h : NodeStop) (all : NodeRead Trees)
     → n ≡ suc k → item nodes ls ≡ Err h → with_children cs (next_children item n nodes ls) ≡ all → all ≡ Err h
 children_stop item n k nodes cs ls h all same read whole =
     sym whole ∙ ap (λ m. with_children cs (next_children item m nodes ls)) same
@@ -115,17 +115,17 @@ module _ (levels nodes j k : ℕ) (ls after : List (List Word)) (l : List Word) 
       ∙ ap (λ xs. Ok (job j (trees_of xs), rest)) same
       ∙ ap (λ t. Ok (t, rest)) (sym (tree_of_job j children))
 
-  pub job_stop : (n m now : ℕ) (cs : List Node) (rest : List (List Word)) (h : Halt) → n ≡ suc m → next_tree (levels - 1) now rest ≡ Err h
+  pub job_stop : (n m now : ℕ) (cs : List Node) (rest : List (List Word)) (h : NodeStop) → n ≡ suc m → next_tree (levels - 1) now rest ≡ Err h
       → with_children cs (next_children (next_tree (levels - 1)) n now rest) ≡ next_children (next_tree (levels - 1)) k (nodes + 1) after
       → next_tree levels nodes ls ≡ Err h
   job_stop n m now cs rest h same read whole =
       job_reads ∙ ap (λ r. r >>= λ ts. Ok (job j ts.0, ts.1)) (children_stop (next_tree (levels - 1)) n m now cs rest h _ same read whole)
 
-pub halts_on : {A B : Type 0} (h : Halt) (r : Result A Halt) (s : Result B Halt) → (r ≡ Err h → s ≡ Err h) → Halts h r → Halts h s
+pub halts_on : {A B : Type 0} (h : Halt) (r : Result A NodeStop) (s : Result B NodeStop) → ((x : NodeStop) → r ≡ Err x → s ≡ Err x) → Halts h r → Halts h s
 halts_on Memory r s on stops = tt
-halts_on (Left k) r s on stops = on stops
-halts_on TooMany r s on stops = on stops
+halts_on (Left k) r s on stops = on (left k) stops
+halts_on TooMany r s on stops = on too_many stops
 
-pub gives_err : {X Y : Type 0} (view : X → Y) (r : Result X Halt) (y : Halt) (read : Result Y Halt) → r ≡ Err y → Halts y read → GivesNode view r read
+pub gives_err : {X Y : Type 0} (view : X → Y) (r : Result X Halt) (y : Halt) (read : Result Y NodeStop) → r ≡ Err y → Halts y read → GivesNode view r read
 gives_err view (Ok x) y read e stops = absurd (cc (e))
 gives_err view (Err z) y read e stops = let P : Halt → Type 0 = λ h. Halts h read in let same : y ≡ z = cc (e) in subst P same stops

@@ -176,18 +176,18 @@ module _ (prefers : Preference) (order : IsOrder prefers) (p : ProblemValue) (ru
     refutes_holds bound a (empty i) known h = empty_holds a bound i known h
     refutes_holds bound a bounded known h = bounded_holds a bound known h
     refutes_holds bound a (job j ts) known h = λ places builds sat agrees.
-        each_holds bound a j (builds_at p j) ts known (λ b among. among) h.2 places builds sat agrees (successful_one builds j (sat.successful j h.0))
+        each_holds bound a j ts 0 (builds_at p j) ts known (λ b among. among) h.2 places builds sat agrees (successful_one builds j (sat.successful j h.0))
 
-    each_holds : (bound : Option (List ℕ)) (a : Assignment) (j : ℕ) (bs : List BuildValue) (ts : Trees) → AreKnown a → ((b : BuildValue) → Contains bs b → Contains (builds_at p j) b)
-        → RefuteEach prefers p bound a j bs ts → (places builds : List ℕ) → Satisfies p places builds → Agrees a builds → Any (λ b. b.number ≡ slice_index builds j) bs → IsNoBetter bound places
-    each_holds bound a j [] no_child known those h places builds sat agrees one = absurd (any_none (λ b. b.number ≡ slice_index builds j) one)
-    each_holds bound a j (b ∷ bs) (child t ts) known those h places builds sat agrees one =
+    each_holds : (bound : Option (List ℕ)) (a : Assignment) (j : ℕ) (all : Trees) (k : ℕ) (bs : List BuildValue) (ts : Trees) → AreKnown a → ((b : BuildValue) → Contains bs b → Contains (builds_at p j) b)
+        → RefuteEach prefers p bound a j all k bs ts → (places builds : List ℕ) → Satisfies p places builds → Agrees a builds → Any (λ b. b.number ≡ slice_index builds j) bs → IsNoBetter bound places
+    each_holds bound a j all k [] no_child known those h places builds sat agrees one = absurd (any_none (λ b. b.number ≡ slice_index builds j) one)
+    each_holds bound a j all k (b ∷ bs) (child t ts) known those h places builds sat agrees one =
         elim (any_cases (λ c. c.number ≡ slice_index builds j) b bs one) [
           | inl here ↦ refutes_holds bound (with_build a j b) t (known_with a j b known (those b (contains_first b bs))) h.0 places builds sat (agrees_with a j b builds agrees (sym here))
-          | inr there ↦ each_holds bound a j bs ts known (λ c among. those c (contains_later b c bs among)) h.1 places builds sat agrees there
+          | inr there ↦ each_holds bound a j all (k + 1) bs ts known (λ c among. those c (contains_later b c bs among)) h.1 places builds sat agrees there
         ]
-    each_holds bound a j [] (child t ts) known those h places builds sat agrees one = absurd h
-    each_holds bound a j (b ∷ bs) no_child known those h places builds sat agrees one = absurd h
+    each_holds bound a j all k [] (child t ts) known those h places builds sat agrees one = absurd h
+    each_holds bound a j all k (b ∷ bs) no_child known those h places builds sat agrees one = absurd h
 
   pub none_known : AreKnown nothing_fixed
   none_known j b e = absurd (cc (e))

@@ -3,7 +3,7 @@ use Rattle.std.specs.Prelude.{◌≡◌, ℕ, List, [], ◌∷◌, ◌++◌, len
 use Rattle.ccr_choice.specs.declared.text.word.Word.{Word}
 use Rattle.ccr_choice.specs.declared.text.word.Word.TheVariants as word
 use Rattle.ccr_choice.specs.Text.{text_of, lines_of}
-use Rattle.ccr_choice.specs.Reading.{Read, one_line, whole, number_words, front_numbers, after_numbers}
+use Rattle.ccr_choice.specs.Reading.{Refusal, bad_line, trailing, Read, one_line, whole, number_words, front_numbers, after_numbers}
 use Rattle.ccr_proof.specs.Claim.{IsClaim}
 use Rattle.ccr_proof.specs.declared.claim.TheConstants.{MOST_NUMBERS}
 use Rattle.ccr_proof.specs.declared.claim.Claim.{Claim}
@@ -28,7 +28,8 @@ claim_text c = text_of (claim_lines c)
 -- ---- reading
 abbrev pub builds_part : List ℕ → List Word → Option Claim
 builds_part places (word.Builds ∷ ws) =
-    if nat_le (length places) MOST_NUMBERS && (nat_le (length (front_numbers ws)) MOST_NUMBERS && length (after_numbers ws) == 0)
+    if nat_le (length places) MOST_NUMBERS
+    && (nat_le (length (front_numbers ws)) MOST_NUMBERS && length (after_numbers ws) == 0)
     then Some (Best (record { places = places; builds = front_numbers ws })) else None
 builds_part places ws = None
 
@@ -43,17 +44,18 @@ unfoldable pub next_claim : List (List Word) → Read Claim
 next_claim = one_line claim_on
 
 -- The claim that a text stands for, or why it stands for none.
-unfoldable pub claim_in : List ℕ → Result Claim ClaimFault
-claim_in bytes = whole BadLine Trailing (length (lines_of bytes)) (next_claim (lines_of bytes))
+unfoldable pub claim_in : List ℕ → Result Claim Refusal
+claim_in bytes = whole bad_line trailing (length (lines_of bytes)) (next_claim (lines_of bytes))
 
 -- ---- what is said of a reader's answer
-abbrev pub IsClaimFault : {Y : Type 0} → ClaimFault → Result Y ClaimFault → Type 0
+-- The fault says why reading refuses, unless memory ran out.
+abbrev pub IsClaimFault : {Y : Type 0} → ClaimFault → Result Y Refusal → Type 0
 IsClaimFault NoMemory read = Unit {0}
-IsClaimFault (BadLine n) read = read ≡ Err (BadLine n)
-IsClaimFault Trailing read = read ≡ Err Trailing
+IsClaimFault (BadLine n) read = read ≡ Err (bad_line n)
+IsClaimFault Trailing read = read ≡ Err trailing
 
 -- The answer is what reading gives, unless memory ran out.
-abbrev pub IsRead : Result Claim ClaimFault → Result Claim ClaimFault → Type 0
+abbrev pub IsRead : Result Claim ClaimFault → Result Claim Refusal → Type 0
 IsRead (Ok c) read = read ≡ Ok c
 IsRead (Err e) read = IsClaimFault e read
 

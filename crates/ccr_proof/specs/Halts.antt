@@ -1,5 +1,5 @@
 -- Where reading a proof stops.
-use Rattle.std.specs.Prelude.{◌≡◌, Result, Ok, Err, List}
+use Rattle.std.specs.Prelude.{◌≡◌, ℕ, Result, Ok, Err, List}
 use Rattle.ccr_choice.specs.declared.text.word.Word.{Word}
 use Rattle.ccr_choice.specs.declared.text.stop.Stop.{Stop}
 use Rattle.ccr_choice.specs.declared.text.stop.Stop.TheVariants as stop
@@ -12,23 +12,29 @@ abbrev pub halt_of : Stop → Halt
 halt_of stop.Memory = Memory
 halt_of (stop.Left k) = Left k
 
--- Reading nodes answers what was read with the lines behind it; or Left k, where of the lines that are left, the first, which is
--- the last but k - 1, breaks a rule or, where k is 0, none is left and one is missing; or that too many nodes are asked for.
+-- Where reading nodes stops: left k, where of the lines that are left, the first, which is the last but k - 1, breaks a
+-- rule or, where k is 0, none is left and one is missing; or too_many, where more nodes are asked for than a tree may
+-- have.
+pub data NodeStop : Type 0 where
+  left : ℕ → NodeStop
+  too_many : NodeStop
+
+-- Reading nodes answers what was read with the lines behind it, or where it stops.
 abbrev pub NodeRead : Type 0 → Type 0
-NodeRead A = Result (A × List (List Word)) Halt
+NodeRead A = Result (A × List (List Word)) NodeStop
 
 -- What lines say, before nodes are read.
 abbrev pub of_lines : {A : Type 0} → Read A → NodeRead A
 of_lines (Ok x) = Ok x
-of_lines (Err k) = Err (Left k)
+of_lines (Err k) = Err (left k)
 
 -- A reader that stopped says where reading stops, unless memory ran out.
-abbrev pub Halts : {Y : Type 0} → Halt → Result Y Halt → Type 0
+abbrev pub Halts : {Y : Type 0} → Halt → Result Y NodeStop → Type 0
 Halts Memory read = Unit {0}
-Halts (Left k) read = read ≡ Err (Left k)
-Halts TooMany read = read ≡ Err TooMany
+Halts (Left k) read = read ≡ Err (left k)
+Halts TooMany read = read ≡ Err too_many
 
 -- What a function answered, seen by view, is what reading gives, unless memory ran out.
-abbrev pub GivesNode : {X Y : Type 0} → (X → Y) → Result X Halt → Result Y Halt → Type 0
+abbrev pub GivesNode : {X Y : Type 0} → (X → Y) → Result X Halt → Result Y NodeStop → Type 0
 GivesNode view (Ok x) read = read ≡ Ok (view x)
 GivesNode view (Err e) read = Halts e read

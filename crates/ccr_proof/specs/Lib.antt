@@ -7,3 +7,4 @@ pub mod Proof
 pub mod Halts
 pub mod ProofText
 pub mod ProofRead
+pub mod Words

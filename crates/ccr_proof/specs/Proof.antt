@@ -19,8 +19,8 @@ abbrev mutual
   AreSmall no_child = Unit {0}
   AreSmall (child t ts) = IsSmall t × AreSmall ts
 
--- A claim and a tree that make a proof: no list of the claim is long, and the tree has at most 1,000,000 nodes, of which the job
--- nodes have depth at most 31, the root's being 0.
+-- A claim and a tree that make a proof: no list of the claim is long, and the tree has at most 1,000,000 nodes, of
+-- which the job nodes have depth at most 31, the root's being 0.
 pub record IsProof (c : Claim) (t : Tree) : Type 0 where
   pub claim : IsClaim c
   pub numbers : IsSmall t

@@ -5,10 +5,10 @@ use Rattle.ccr_proof.specs.declared.proof.Proof.{Proof}
 use Rattle.ccr_proof.specs.declared.fault.ProofFault.{ProofFault}
 use Rattle.ccr_proof.specs.declared.fault.ProofFault.TheVariants.{NoMemory}
 use Rattle.ccr_proof.specs.Tree.{Tree, tree_of}
-use Rattle.ccr_proof.specs.ProofText.{IsProofFault}
+use Rattle.ccr_proof.specs.ProofText.{ProofRefusal, IsProofFault}
 
 -- The answer is what reading gives, unless memory ran out.
-abbrev pub IsRead : Result Proof ProofFault → Result (Claim × Tree) ProofFault → Type 0
+abbrev pub IsRead : Result Proof ProofFault → Result (Claim × Tree) ProofRefusal → Type 0
 IsRead (Ok p) read = read ≡ Ok (p.claim, tree_of p.tree)
 IsRead (Err e) read = IsProofFault e read
 

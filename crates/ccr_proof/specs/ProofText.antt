@@ -9,11 +9,10 @@ use Rattle.ccr_proof.specs.declared.proof.TheConstants.{MOST_NODES, MOST_LEVELS}
 use Rattle.ccr_proof.specs.declared.proof_read.TheConstants.{PROOF_FORMAT}
 use Rattle.ccr_proof.specs.declared.fault.ProofFault.{ProofFault}
 use Rattle.ccr_proof.specs.declared.fault.ProofFault.TheVariants.{BadLine, TooManyNodes, Trailing, NoMemory}
-use Rattle.ccr_proof.specs.declared.halt.Halt.TheVariants.{Memory, Left, TooMany}
 use Rattle.ccr_proof.specs.declared.proof_read.NodeLine.{NodeLine}
 use Rattle.ccr_proof.specs.declared.proof_read.NodeLine.TheVariants as line
 use Rattle.ccr_proof.specs.ClaimText.{claim_line, next_claim}
-use Rattle.ccr_proof.specs.Halts.{NodeRead, of_lines}
+use Rattle.ccr_proof.specs.Halts.{left, too_many, NodeRead, of_lines}
 use Rattle.ccr_proof.specs.Tree.{Tree, Trees, job, empty, bounded, no_child, child, width, count}
 use Rattle.ccr_proof.specs.Proof.{IsProof}
 
@@ -53,14 +52,14 @@ node_on (word.Bounded ∷ []) = Some line.Bounded
 node_on ws = None
 
 abbrev pub by_line : Option NodeLine → List (List Word) → (ℕ → ℕ → List (List Word) → NodeRead Tree) → NodeRead Tree
-by_line None ls children = Err (Left (suc (length ls)))
+by_line None ls children = Err (left (suc (length ls)))
 by_line (Some (line.Job j k)) ls children = children j k ls
 by_line (Some (line.Empty i)) ls children = Ok (empty i, ls)
 by_line (Some line.Bounded) ls children = Ok (bounded, ls)
 
 -- a node on the next line, with what is read where it has children
 abbrev pub next_node : List (List Word) → (ℕ → ℕ → List (List Word) → NodeRead Tree) → NodeRead Tree
-next_node [] children = Err (Left 0)
+next_node [] children = Err (left 0)
 next_node (l ∷ ls) children = by_line (node_on l) ls children
 
 -- so many trees, where so many nodes were read before
@@ -74,10 +73,11 @@ next_children item (suc k) nodes ls = do
 -- A tree with so many levels of job nodes at the most, where so many nodes were read before.
 abbrev pub next_tree : ℕ → ℕ → List (List Word) → NodeRead Tree
 next_tree zero nodes ls =
-    if nat_le MOST_NODES nodes then Err TooMany else next_node ls (λ j k after. Err (Left (suc (length after))))
+    if nat_le MOST_NODES nodes then Err too_many else next_node ls (λ j k after. Err (left (suc (length after))))
 next_tree (suc levels) nodes ls =
-    if nat_le MOST_NODES nodes then Err TooMany
-    else next_node ls (λ j k after. next_children (next_tree levels) k (nodes + 1) after >>= λ ts. Ok (job j ts.0, ts.1))
+    if nat_le MOST_NODES nodes then Err too_many
+    else next_node ls
+    (λ j k after. next_children (next_tree levels) k (nodes + 1) after >>= λ ts. Ok (job j ts.0, ts.1))
 
 unfoldable pub next_proof : List (List Word) → NodeRead (Claim × Tree)
 next_proof ls = do
@@ -86,24 +86,31 @@ next_proof ls = do
   tree ← next_tree MOST_LEVELS 0 claim.1
   Ok ((claim.0, tree.0), tree.1)
 
--- The whole text is read, and nothing is left.
-abbrev pub whole_proof : ℕ → NodeRead (Claim × Tree) → Result (Claim × Tree) ProofFault
-whole_proof lines (Ok x) = if length x.1 == 0 then Ok x.0 else Err Trailing
-whole_proof lines (Err (Left k)) = Err (BadLine (lines + 1 - k))
-whole_proof lines (Err TooMany) = Err TooManyNodes
-whole_proof lines (Err Memory) = Err NoMemory
+-- Why a proof's text is refused: the first line, counted from 1, that breaks a rule, lacks its line feed or is missing;
+-- a node beyond the last that a tree may have; or more bytes behind the last line.
+pub data ProofRefusal : Type 0 where
+  bad_line : ℕ → ProofRefusal
+  too_many_nodes : ProofRefusal
+  trailing : ProofRefusal
 
--- The claim and the tree that a text stands for, or why it stands for none: from the top, the first line that breaks a rule, lacks
--- its line feed or is missing, or a node beyond the last that a tree may have, or more than a proof.
-unfoldable pub proof_in : List ℕ → Result (Claim × Tree) ProofFault
+-- The whole text is read, and nothing is left.
+abbrev pub whole_proof : ℕ → NodeRead (Claim × Tree) → Result (Claim × Tree) ProofRefusal
+whole_proof lines (Ok x) = if length x.1 == 0 then Ok x.0 else Err trailing
+whole_proof lines (Err (left k)) = Err (bad_line (lines + 1 - k))
+whole_proof lines (Err too_many) = Err too_many_nodes
+
+-- The claim and the tree that a text stands for, or why it stands for none: from the top, the first line that breaks a
+-- rule, lacks its line feed or is missing, or a node beyond the last that a tree may have, or more than a proof.
+unfoldable pub proof_in : List ℕ → Result (Claim × Tree) ProofRefusal
 proof_in bytes = whole_proof (length (lines_of bytes)) (next_proof (lines_of bytes))
 
 -- ---- what is said of a reader's answer
-abbrev pub IsProofFault : {Y : Type 0} → ProofFault → Result Y ProofFault → Type 0
+-- The fault says why reading refuses, unless memory ran out.
+abbrev pub IsProofFault : {Y : Type 0} → ProofFault → Result Y ProofRefusal → Type 0
 IsProofFault NoMemory read = Unit {0}
-IsProofFault (BadLine n) read = read ≡ Err (BadLine n)
-IsProofFault TooManyNodes read = read ≡ Err TooManyNodes
-IsProofFault Trailing read = read ≡ Err Trailing
+IsProofFault (BadLine n) read = read ≡ Err (bad_line n)
+IsProofFault TooManyNodes read = read ≡ Err too_many_nodes
+IsProofFault Trailing read = read ≡ Err trailing
 
 -- No proof's text goes on where this one ends.
 abbrev pub NothingFollows : List ℕ → Type 0

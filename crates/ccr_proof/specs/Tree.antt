@@ -2,7 +2,8 @@
 use Rattle.std.specs.Prelude.{ℕ, suc, ◌+◌, max, List, [], ◌∷◌}
 use Rattle.ccr_proof.specs.declared.node.Node.{Node, Empty, Bounded, Job', Row_of-Node, end_of-Node, more_of-Node}
 
--- A tree: a case for each build of a job, or an input without a possible place, or places that are no better than the claim's.
+-- A tree: a case for each build of a job, or an input without a possible place, or places that are no better than the
+-- claim's.
 mutual
   pub data Tree : Type 0 where
     job : ℕ → Trees → Tree
@@ -29,7 +30,8 @@ abbrev mutual
   count_all no_child = 0
   count_all (child t ts) = count t + count_all ts
 
--- How many job nodes lie below one another at the most: the deepest one has this depth, less one, where the root's is 0.
+-- How many job nodes lie below one another at the most: the deepest one has this depth, less one, where the root's is
+-- 0.
 abbrev mutual
   pub levels : Tree → ℕ
   levels (job j ts) = suc (levels_all ts)

@@ -12,8 +12,8 @@ use ccr_choice::MOST_JOBS;
 
 /// How many nodes a tree has at the most.
 pub const MOST_NODES: u32 = 1_000_000;
-/// How many job nodes lie below one another at the most: each names a job of its own, so the deepest has depth 31, the root's
-/// being 0.
+/// How many job nodes lie below one another at the most: each names a job of its own, so the deepest has depth 31, the
+/// root's being 0.
 pub const MOST_LEVELS: u32 = MOST_JOBS;
 
 /// A claim with a tree that is to show it. Whether it does is for the checker to say.

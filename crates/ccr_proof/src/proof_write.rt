@@ -3,7 +3,7 @@
 ghost use Rattle.std.specs.Prelude.{◌≡◌, ◌≤◌, ◌++◌, Ok, OnOk, IfOk, string_bytes};
 ghost use Rattle.ccr_choice.specs.Text.{text_of};
 ghost use Rattle.ccr_proof.specs.Tree.{tree_of, count};
-ghost use Rattle.ccr_proof.specs.Proof.{IsSmall};
+ghost use Rattle.ccr_proof.specs.Proof.{IsSmall, IsProof};
 ghost use Rattle.ccr_proof.specs.ProofText.{tree_lines, proof_text, proof_in};
 
 use crate::node::Node;
@@ -16,7 +16,8 @@ use std::alloc::{AllocError, Global};
 /// Adds the lines of the tree with this root, in preorder.
 fn put_tree(out: &mut String, node: &Node) -> Result<(), AllocError>
     requires { count (tree_of node.now) ≤ MOST_NODES }
-    ensures text { OnOk result (string_bytes out.new ≡ string_bytes out.old ++ text_of (tree_lines (tree_of node.now))) }
+    ensures text { OnOk result
+        (string_bytes out.new ≡ string_bytes out.old ++ text_of (tree_lines (tree_of node.now))) }
     ensures small { OnOk result (IsSmall (tree_of node.now)) }
 {
     match node {
@@ -38,6 +39,9 @@ fn put_tree(out: &mut String, node: &Node) -> Result<(), AllocError>
 pub fn write_proof(alloc: Global, proof: &Proof) -> Result<String, AllocError>
     ensures text { IfOk result (λ s. string_bytes s ≡ proof_text proof.now.claim (tree_of proof.now.tree)) }
     ensures again { IfOk result (λ s. proof_in (string_bytes s) ≡ Ok (proof.now.claim, tree_of proof.now.tree)) }
+
+    // What is written keeps the rules of a proof.
+    ensures kept { OnOk result (IsProof proof.now.claim (tree_of proof.now.tree)) }
 {
     let words = claim_words(alloc, &proof.claim)?;
     let mut out = String::new(alloc);

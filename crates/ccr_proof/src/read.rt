@@ -72,8 +72,8 @@ fn read_whole(alloc: Global, bytes: &[u8]) -> Result<Claim, ClaimFault>
 
 /// The claim that a text stands for.
 ///
-/// BadLine(1): the line is no claim, lacks its line feed or is missing. Trailing: more bytes follow the line. NoMemory: memory
-/// was refused, and nothing is said of the text.
+/// BadLine(1): the line is no claim, lacks its line feed or is missing. Trailing: more bytes follow the line. NoMemory:
+/// memory was refused, and nothing is said of the text.
 pub fn read_claim(alloc: Global, bytes: &[u8]) -> Result<Claim, ClaimFault>
     // What is read keeps the rules, and the text is its text.
     ensures kept { IfOk result IsClaim }

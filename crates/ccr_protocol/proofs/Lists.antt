@@ -6,7 +6,7 @@ use Rattle.serde_json.specs.Data.{Items, no_items, item}
 use Rattle.serde_json.specs.View.{view, items_of}
 use Rattle.ccr_history.specs.TextMap.{TextMap}
 use Rattle.ccr_protocol.specs.declared.fault.ReplyFault.{ReplyFault}
-use Rattle.ccr_protocol.specs.Replies.{Reading, version_of, before, versions_of}
+use Rattle.ccr_protocol.specs.Replies.{Reading, version_reading, before, versions_reading}
 
 -- the members that are left, seen as data
 abbrev pub left : ℕ → List Value → Items
@@ -30,11 +30,11 @@ after_before vs v (Ok ws) = rw (append_assoc vs (v ∷ []) ws) refl
 after_none : (vs : List TextMap) → after vs (Ok []) ≡ Ok vs
 after_none vs = rw append-nil refl
 
-pub read_next : (xs : List Value) (i : ℕ) (x : Value) (vs : List TextMap) (v : TextMap) (all : Reading (List TextMap)) → all ≡ after vs (versions_of (left i xs)) → i < length xs → x ≡ get_or xs i x → version_of (view x) ≡ Ok v → all ≡ after (vs ++ v ∷ []) (versions_of (left (i + 1) xs))
-read_next xs i x vs v all e h is read = rw (e, left-cons xs i x h is, read) (after_before vs v (versions_of (left (i + 1) xs)))
+pub read_next : (xs : List Value) (i : ℕ) (x : Value) (vs : List TextMap) (v : TextMap) (all : Reading (List TextMap)) → all ≡ after vs (versions_reading (left i xs)) → i < length xs → x ≡ get_or xs i x → version_reading (view x) ≡ Ok v → all ≡ after (vs ++ v ∷ []) (versions_reading (left (i + 1) xs))
+read_next xs i x vs v all e h is read = rw (e, left-cons xs i x h is, read) (after_before vs v (versions_reading (left (i + 1) xs)))
 
-pub read_fault : (xs : List Value) (i : ℕ) (x : Value) (vs : List TextMap) (f : ReplyFault) (all : Reading (List TextMap)) → all ≡ after vs (versions_of (left i xs)) → i < length xs → x ≡ get_or xs i x → version_of (view x) ≡ Err f → all ≡ Err f
+pub read_fault : (xs : List Value) (i : ℕ) (x : Value) (vs : List TextMap) (f : ReplyFault) (all : Reading (List TextMap)) → all ≡ after vs (versions_reading (left i xs)) → i < length xs → x ≡ get_or xs i x → version_reading (view x) ≡ Err f → all ≡ Err f
 read_fault xs i x vs f all e h is read = rw (e, left-cons xs i x h is, read) refl
 
-pub read_end : (xs : List Value) (i : ℕ) (vs : List TextMap) (all : Reading (List TextMap)) → all ≡ after vs (versions_of (left i xs)) → length xs ≤ i → all ≡ Ok vs
+pub read_end : (xs : List Value) (i : ℕ) (vs : List TextMap) (all : Reading (List TextMap)) → all ≡ after vs (versions_reading (left i xs)) → length xs ≤ i → all ≡ Ok vs
 read_end xs i vs all e h = rw (e, left-end xs i h) (after_none vs)

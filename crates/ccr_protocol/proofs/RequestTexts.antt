@@ -4,8 +4,9 @@ use Rattle.std.specs.Option.{option_map_or}
 use Rattle.serde_json.proofs.OnLiterals.{serde_json_on_literals}
 use Rattle.serde_json.specs.Data.{Data}
 use Rattle.serde_json.specs.Written.{compact_text}
+use Rattle.ccr_history.specs.Sources.{source_or_empty}
 use Rattle.ccr_history.specs.TextMap.{TextMap, key_text}
-use Rattle.ccr_protocol.specs.Requests.{request_text, source_or_empty}
+use Rattle.ccr_protocol.specs.Requests.{request_text}
 
 abbrev pub params_piece : Option Data → List ℕ
 params_piece params = option_map_or (λ d. codes "\"params\":" ++ compact_text d ++ codes ",") params []

@@ -17,13 +17,13 @@ texts_or_fault None = Err VersionNotText
 texts_or_fault (Some fields) = Ok fields
 
 -- a version is an object whose fields are all texts
-abbrev pub version_of : Data → Reading TextMap
-version_of null = Err WrongKind
-version_of (boolean b) = Err WrongKind
-version_of (number n) = Err WrongKind
-version_of (string s) = Err WrongKind
-version_of (array ds) = Err WrongKind
-version_of (object ms) = texts_or_fault (texts_of ms)
+abbrev pub version_reading : Data → Reading TextMap
+version_reading null = Err WrongKind
+version_reading (boolean b) = Err WrongKind
+version_reading (number n) = Err WrongKind
+version_reading (string s) = Err WrongKind
+version_reading (array ds) = Err WrongKind
+version_reading (object ms) = texts_or_fault (texts_of ms)
 
 -- a version before others: its own fault comes first
 abbrev pub before : Reading TextMap → Reading (List TextMap) → Reading (List TextMap)
@@ -32,9 +32,9 @@ before (Ok v) (Err f) = Err f
 before (Ok v) (Ok vs) = Ok (v ∷ vs)
 
 -- a list's members, each a version, in order: the first member that has a fault gives it
-abbrev pub versions_of : Items → Reading (List TextMap)
-versions_of no_items = Ok []
-versions_of (item d ds) = before (version_of d) (versions_of ds)
+abbrev pub versions_reading : Items → Reading (List TextMap)
+versions_reading no_items = Ok []
+versions_reading (item d ds) = before (version_reading d) (versions_reading ds)
 
 -- check's reply: a list of versions, and null is the empty list (Concourse: implementing a resource type, check)
 abbrev pub check_reply : Data → Reading (List TextMap)
@@ -42,14 +42,14 @@ check_reply null = Ok []
 check_reply (boolean b) = Err WrongKind
 check_reply (number n) = Err WrongKind
 check_reply (string s) = Err WrongKind
-check_reply (array ds) = versions_of ds
+check_reply (array ds) = versions_reading ds
 check_reply (object ms) = Err WrongKind
 
 -- the version at a key, which is missing also where it is null
 abbrev pub version_or_missing : Option Data → Reading TextMap
 version_or_missing None = Err MissingVersion
 version_or_missing (Some null) = Err MissingVersion
-version_or_missing (Some d) = version_of d
+version_or_missing (Some d) = version_reading d
 
 -- the reply of in and out: an object with a version; its other keys are passed over
 -- (Concourse: implementing a resource type, in and out)
@@ -61,18 +61,23 @@ step_reply (string s) = Err WrongKind
 step_reply (array ds) = Err WrongKind
 step_reply (object ms) = version_or_missing (get_member (codes "version") ms)
 
--- the bytes spell this JSON value
-abbrev pub Spells : List ℕ → Data → Type 0
-Spells bytes d = IsUtf8 bytes × (json bytes ≡ Some d)
+-- the bytes are a text of this JSON value
+abbrev pub IsTextOf : List ℕ → Data → Type 0
+IsTextOf bytes d = IsUtf8 bytes × (json bytes ≡ Some d)
 
 -- what a reply's bytes are by a rule for values: what the rule says of their value, or no JSON
 abbrev pub IsReply : {T : Type 0} → (Data → Reading T) → List ℕ → Reading T → Type 0
-IsReply rule bytes reading = ((d : Data) × Spells bytes d × (rule d ≡ reading)) ⊎ ((IsUtf8 bytes → json bytes ≡ None) × (reading ≡ Err NotJson))
+IsReply rule bytes reading =
+    ((d : Data) × IsTextOf bytes d × (rule d ≡ reading))
+    ⊎ ((IsUtf8 bytes → json bytes ≡ None) × (reading ≡ Err NotJson))
 
 -- an answer about a value is what its reading is, memory aside
-abbrev pub Gives : {T U : Type 0} → Reading U → (T → U) → Result T ReplyFault → Type 0
-Gives reading see result = MatchResult result (λ t. reading ≡ Ok (see t)) (λ fault. (fault ≡ NoMemory) ⊎ (reading ≡ Err fault))
+abbrev pub IsReadAs : {T U : Type 0} → Reading U → (T → U) → Result T ReplyFault → Type 0
+IsReadAs reading see result =
+    MatchResult result (λ t. reading ≡ Ok (see t)) (λ fault. (fault ≡ NoMemory) ⊎ (reading ≡ Err fault))
 
 -- an answer about bytes is what the reply is, memory aside
-abbrev pub Reads : {T U : Type 0} → (Data → Reading U) → (T → U) → List ℕ → Result T ReplyFault → Type 0
-Reads rule see bytes result = MatchResult result (λ t. IsReply rule bytes (Ok (see t))) (λ fault. (fault ≡ NoMemory) ⊎ IsReply rule bytes (Err fault))
+abbrev pub ReadsReply : {T U : Type 0} → (Data → Reading U) → (T → U) → List ℕ → Result T ReplyFault → Type 0
+ReadsReply rule see bytes result =
+    MatchResult result (λ t. IsReply rule bytes (Ok (see t)))
+    (λ fault. (fault ≡ NoMemory) ⊎ IsReply rule bytes (Err fault))

@@ -1,12 +1,14 @@
 -- What a resource's program is sent on its standard input.
-use Rattle.std.specs.Prelude.{◌≡◌, ℕ, ◌<◌, ◌≤◌, List, Option, Some, None, option_map, unwrap_or, Result, Ok, Err, codes, length, Vec, ⊤}
+use Rattle.std.specs.Prelude.{◌≡◌, ℕ, ◌<◌, ◌≤◌, List, Option, Some, None, option_map, Result, Ok, Err, codes, length, Vec, ⊤}
 use Rattle.std.specs.Borrow.{Bor}
 use Rattle.std.specs.declared.alloc.Global.{Global}
 use Rattle.serde_json.specs.Data.{Data, object, Members, no_members, member}
 use Rattle.serde_json.specs.Written.{compact_text}
 use Rattle.ccr_history.specs.declared.object.Object.{Object}
 use Rattle.ccr_history.specs.ObjectData.{object_data}
+use Rattle.ccr_history.specs.Sources.{source_or_empty}
 use Rattle.ccr_history.specs.TextMap.{TextMap, members_of}
+use Rattle.ccr_protocol.specs.declared.request.TheConstants.{MOST_REQUEST}
 use Rattle.ccr_protocol.specs.declared.fault.RequestFault.{RequestFault}
 use Rattle.ccr_protocol.specs.declared.fault.RequestFault.TheVariants.{TooLong, NoMemory}
 
@@ -18,10 +20,6 @@ data_of found = option_map (λ o. object_data o.now) found
 abbrev pub member_if : List ℕ → Option Data → Members → Members
 member_if key None ms = ms
 member_if key (Some d) ms = member key d ms
-
--- a source that is absent is the empty object
-abbrev pub source_or_empty : Option Data → Data
-source_or_empty source = unwrap_or source (object no_members)
 
 -- a version is the object of its fields
 abbrev pub version_data : TextMap → Data
@@ -38,8 +36,9 @@ request_data params source version =
 unfoldable pub request_text : Option Data → Option Data → Option TextMap → List ℕ
 request_text params source version = compact_text (request_data params source version)
 
--- a text of at most 65,536 bytes is sent as it is, a longer one is refused; of memory it says nothing
+-- a text is sent as it is, and refused exactly where it has more bytes than a request may have; of memory it says
+-- nothing
 abbrev pub Sends : List ℕ → Result (Vec ℕ Global) RequestFault → Type 0
-Sends text (Ok bytes) = (bytes.items ≡ text) × (length text ≤ 65536)
-Sends text (Err TooLong) = 65536 < length text
+Sends text (Ok bytes) = (bytes.items ≡ text) × (length text ≤ MOST_REQUEST)
+Sends text (Err TooLong) = MOST_REQUEST < length text
 Sends text (Err NoMemory) = ⊤

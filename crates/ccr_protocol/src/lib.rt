@@ -14,7 +14,4 @@ mod request;
 
 pub use fault::{ReplyFault, RequestFault};
 pub use reply::{read_check, read_in, read_out};
-pub use request::{check_request, in_request, out_request};
-
-#[cfg(test)]
-mod tests;
+pub use request::{MOST_REQUEST, check_request, in_request, out_request};

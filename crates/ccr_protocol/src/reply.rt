@@ -2,7 +2,7 @@
 ghost use Rattle.std.specs.Prelude.{◌≡◌, ◌⊎◌, None, IfOk, IfErr, IsUtf8};
 ghost use Rattle.serde_json.specs.View.{view};
 ghost use Rattle.serde_json.specs.Read.{read as json};
-ghost use Rattle.ccr_protocol.specs.Replies.{version_of, check_reply, step_reply, Spells, Gives, Reads};
+ghost use Rattle.ccr_protocol.specs.Replies.{version_reading, check_reply, step_reply, IsTextOf, IsReadAs, ReadsReply};
 ghost use Rattle.ccr_protocol.specs.declared.fault.ReplyFault.TheVariants.{NotJson, NoMemory};
 
 use crate::fault::ReplyFault;
@@ -12,7 +12,7 @@ use std::alloc::Global;
 
 /// The JSON value that the bytes spell.
 fn value_of(alloc: Global, bytes: &[u8]) -> Result<Value, ReplyFault>
-    ensures ok { IfOk result (λ value. Spells bytes.now (view value)) }
+    ensures ok { IfOk result (λ value. IsTextOf bytes.now (view value)) }
     ensures err { IfErr result (λ fault. (fault ≡ NoMemory)
         ⊎ ((fault ≡ NotJson) × (IsUtf8 bytes.now → json bytes.now ≡ None))) }
 {
@@ -24,10 +24,10 @@ fn value_of(alloc: Global, bytes: &[u8]) -> Result<Value, ReplyFault>
 }
 
 /// The version that a value is.
-fn version(value: &Value) -> Result<Version, ReplyFault>
-    ensures { Gives (version_of (view value.now)) (λ v. v) result }
+fn version(alloc: Global, value: &Value) -> Result<Version, ReplyFault>
+    ensures { IsReadAs (version_reading (view value.now)) (λ v. v) result }
 {
-    match Version::from_value(value) {
+    match Version::from_value(alloc, value) {
         Ok(version) => Ok(version),
         Err(HistoryFault::NotObject) => Err(ReplyFault::WrongKind),
         Err(HistoryFault::VersionNotText) => Err(ReplyFault::VersionNotText),
@@ -37,7 +37,7 @@ fn version(value: &Value) -> Result<Version, ReplyFault>
 
 /// The versions that a list's members are, up to the first fault.
 fn versions(alloc: Global, value: &Value) -> Result<Vec<Version>, ReplyFault>
-    ensures { Gives (check_reply (view value.now)) (λ v. v.items) result }
+    ensures { IsReadAs (check_reply (view value.now)) (λ v. v.items) result }
 {
     let mut versions = Vec::new(alloc);
     if value.is_null() {
@@ -47,20 +47,20 @@ fn versions(alloc: Global, value: &Value) -> Result<Vec<Version>, ReplyFault>
         return Err(ReplyFault::WrongKind);
     };
     for member in members {
-        versions.push(version(member)?)?;
+        versions.push(version(alloc, member)?)?;
     }
     Ok(versions)
 }
 
 /// The version that an object has.
-fn version_in(value: &Value) -> Result<Version, ReplyFault>
-    ensures { Gives (step_reply (view value.now)) (λ v. v) result }
+fn version_in(alloc: Global, value: &Value) -> Result<Version, ReplyFault>
+    ensures { IsReadAs (step_reply (view value.now)) (λ v. v) result }
 {
     if !value.is_object() {
         return Err(ReplyFault::WrongKind);
     }
     match value.get("version") {
-        Some(found) if !found.is_null() => version(found),
+        Some(found) if !found.is_null() => version(alloc, found),
         _ => Err(ReplyFault::MissingVersion),
     }
 }
@@ -72,7 +72,7 @@ fn version_in(value: &Value) -> Result<Version, ReplyFault>
 /// member that has one: `WrongKind` where it is no object, `VersionNotText` where a field isn't a text. `NoMemory`
 /// where a growth was refused.
 pub fn read_check(alloc: Global, reply: &[u8]) -> Result<Vec<Version>, ReplyFault>
-    ensures { Reads check_reply (λ v. v.items) reply.now result }
+    ensures { ReadsReply check_reply (λ v. v.items) reply.now result }
 {
     let value = value_of(alloc, reply)?;
     versions(alloc, &value)
@@ -85,10 +85,10 @@ pub fn read_check(alloc: Global, reply: &[u8]) -> Result<Vec<Version>, ReplyFaul
 /// `MissingVersion` where the version is absent or null, `VersionNotText` where a field of it isn't a text. `NoMemory`
 /// where a growth was refused.
 pub fn read_in(alloc: Global, reply: &[u8]) -> Result<Version, ReplyFault>
-    ensures { Reads step_reply (λ v. v) reply.now result }
+    ensures { ReadsReply step_reply (λ v. v) reply.now result }
 {
     let value = value_of(alloc, reply)?;
-    version_in(&value)
+    version_in(alloc, &value)
 }
 
 /// Reads what `out` wrote: the version of an object, whose other keys are passed over, whatever they hold
@@ -96,7 +96,7 @@ pub fn read_in(alloc: Global, reply: &[u8]) -> Result<Version, ReplyFault>
 ///
 /// The form and the faults are those of [`read_in`].
 pub fn read_out(alloc: Global, reply: &[u8]) -> Result<Version, ReplyFault>
-    ensures { Reads step_reply (λ v. v) reply.now result }
+    ensures { ReadsReply step_reply (λ v. v) reply.now result }
 {
     read_in(alloc, reply)
 }

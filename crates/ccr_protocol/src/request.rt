@@ -2,15 +2,16 @@
 ghost use Rattle.std.specs.Prelude.{◌≡◌, ◌++◌, [], Some, None, IfOk, string_bytes, codes};
 ghost use Rattle.std.specs.Option.{option_map_or, option_copied};
 ghost use Rattle.serde_json.specs.Written.{compact_text};
+ghost use Rattle.ccr_history.specs.Sources.{source_or_empty};
 ghost use Rattle.ccr_history.specs.TextMap.{key_text};
-ghost use Rattle.ccr_protocol.specs.Requests.{data_of, request_text, source_or_empty, Sends};
+ghost use Rattle.ccr_protocol.specs.Requests.{data_of, request_text, Sends};
 
 use crate::fault::RequestFault;
 use ccr_history::{Object, Version};
 use std::alloc::{AllocError, Global};
 
-/// How many bytes a request may have.
-const MOST_BYTES: usize = 65_536;
+/// The greatest number of bytes of a request.
+pub const MOST_REQUEST: usize = 65_536;
 
 /// The member of the params, with the comma that follows it; nothing where there are none.
 fn params_member(alloc: Global, params: Option<&Object>) -> Result<String, AllocError>
@@ -76,7 +77,7 @@ fn request(
     ensures { Sends (request_text (data_of params.entry) (data_of source.entry) (option_copied version.entry)) result }
 {
     let text = request_body(alloc, params, source, version)?;
-    if text.len() > MOST_BYTES {
+    if text.len() > MOST_REQUEST {
         return Err(RequestFault::TooLong);
     }
     Ok(text.into_bytes())

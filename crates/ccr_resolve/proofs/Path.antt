@@ -1,12 +1,12 @@
 -- Places that are possible under a table, and what the best places where nothing is fixed have to do with them.
-use Rattle.std.proofs.Common.{◌≡◌, ◌≢◌, ℕ, zero, suc, ◌+◌, ◌<◌, ◌≤◌, inl, inr, Bool, true, false, List, [], ◌∷◌, length, slice_index, slice_index_or, refl, sym, ap, ◌∙◌, subst, arith, Option, Some, None, IsTrue}
-use Rattle.std.specs.Prelude.{Contains, Any, EachIndex, MatchOption, unwrap_or, is_some, slice_get}
+use Rattle.std.proofs.Common.{◌≡◌, ◌≢◌, ℕ, zero, suc, ◌<◌, ◌≤◌, inl, inr, true, false, List, [], ◌∷◌, length, slice_index, slice_index_or, refl, sym, ap, ◌∙◌, subst, arith, Option, Some, None}
+use Rattle.std.specs.Prelude.{Contains, Any, MatchOption, unwrap_or, is_some, slice_get}
 use Rattle.std.proofs.lemmas.Bool.{false≢true, cases_lt}
 use Rattle.ccr_choice.specs.Problem.{ProblemValue, BuildValue, is_problem, input_at, builds_at}
 use Rattle.ccr_choice.specs.Satisfies.{Satisfies}
 use Rattle.ccr_choice.specs.Preference.{order_of, Preference, IsOrder, IsBetter}
 use Rattle.ccr_choice.specs.Assignment.{Assignment, nothing_fixed, Agrees}
-use Rattle.ccr_choice.specs.Possible.{CanHavePassed, IsPossible, IsBestPossible, AreBoundedBy}
+use Rattle.ccr_choice.specs.Possible.{IsPossible, IsBestPossible, AreBoundedBy}
 use Rattle.ccr_choice.proofs.BestPlaces.{best_possible, best_places}
 use Rattle.ccr_proof.specs.Refutes.{HasNoPlace, IsBounded}
 use Rattle.ccr_choice.specs.Table.{build_of, assigned}
@@ -15,7 +15,7 @@ use Rattle.ccr_choice.proofs.PossibleLaws.{best_is, length-best_places, best_pla
 use Rattle.ccr_proof.proofs.Sound.{AreKnown, place_possible, still_better}
 use Rattle.ccr_choice.proofs.TableLaws.{build_among}
 use Rattle.ccr_resolve.specs.Room.{newest_number, newest, TopFits}
-use Rattle.ccr_resolve.specs.Search.{FixesKnown, OnPath, ReachesTop, IsNeeded, IsNoWorse}
+use Rattle.ccr_resolve.specs.Search.{OnPath, ReachesTop, IsNeeded, IsNoWorse}
 
 -- ---- the order of place lists
 pub better_irreflexive : (prefers : Preference) → IsOrder prefers → (xs : List ℕ) → IsBetter prefers xs xs → ⊥

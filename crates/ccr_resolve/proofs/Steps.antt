@@ -1,14 +1,14 @@
 -- The steps of the search.
-use Rattle.std.proofs.Common.{true, ◌≡◌, ◌≢◌, ℕ, zero, suc, ◌+◌, ◌*◌, ◌<◌, ◌≤◌, ◌⊎◌, inl, inr, max, List, [], ◌∷◌, ◌++◌, length, take, get_or, slice_index, slice_index_or, slice_set, replicate, refl, sym, ap, ◌∙◌, subst, arith, Option, Some, None, Vec, Global}
-use Rattle.std.specs.Prelude.{slice_get, Any}
+use Rattle.std.proofs.Common.{true, ◌≡◌, ℕ, zero, suc, ◌+◌, ◌*◌, ◌<◌, ◌≤◌, ◌⊎◌, inl, inr, List, [], ◌∷◌, ◌++◌, length, take, get_or, slice_index, slice_set, replicate, refl, sym, ap, ◌∙◌, subst, arith, Option, Some, None, Vec, Global}
+use Rattle.std.specs.Prelude.{Any}
 use Rattle.std.proofs.lemmas.Bool.{cases_eq}
 use Rattle.std.proofs.lemmas.List.{take_more, take_all, get_or-set_same, get_or-set_other}
 use Rattle.std.proofs.lemmas.Nat.{mul-le}
 use Rattle.std.proofs.lemmas.Option.{slice_get-get_or}
 use Rattle.ccr_choice.specs.Problem.{ProblemValue, BuildValue, ChoiceValue, is_problem, builds_at}
 use Rattle.ccr_choice.specs.Satisfies.{Satisfies, IsSuccessful}
-use Rattle.ccr_proof.specs.declared.node.Node.{Node, Job, Empty, Bounded}
-use Rattle.ccr_choice.specs.Preference.{Preference, IsOrder, IsBetter}
+use Rattle.ccr_proof.specs.declared.node.Node.{Node, Job}
+use Rattle.ccr_choice.specs.Preference.{Preference, IsOrder}
 use Rattle.ccr_choice.specs.Assignment.{Assignment, with_build, nothing_fixed}
 use Rattle.ccr_choice.specs.Possible.{AreBestPlaces, AreBoundedBy}
 use Rattle.ccr_choice.proofs.BestPlaces.{best_places}
@@ -18,9 +18,9 @@ use Rattle.ccr_proof.specs.Refutes.{HasNoPlace, IsBounded, Refutes, RefuteEach}
 use Rattle.ccr_choice.specs.Table.{build_of, assigned}
 use Rattle.ccr_choice.proofs.TableLaws.{table_set, table_empty, zeros}
 use Rattle.ccr_proof.proofs.Trees.{tree_of_job}
-use Rattle.ccr_resolve.specs.Room.{newest, TopFits, total, product, IsBelowRoom}
+use Rattle.ccr_resolve.specs.Room.{newest, TopFits, IsBelowRoom}
 use Rattle.ccr_resolve.specs.Search.{FixesKnown, FoundSatisfies, places_of, free_product, free_sum, free_jobs, OnPath, ReachesTop, IsNeeded, IsNoWorse, IsSearched, Searched}
-use Rattle.ccr_resolve.proofs.Counting.{product_set, product_same, sum_set, sum_same, product_one, product_empty, sum_empty, free_set, free_empty}
+use Rattle.ccr_resolve.proofs.Counting.{product_set, product_same, sum_set, sum_same, product_one, product_empty, sum_empty, free_set}
 use Rattle.ccr_resolve.proofs.Path.{better_irreflexive, better_trans, no_worse_refl, no_worse_trans, reach_more, path_place, path_top, one_node}
 
 -- ---- a bound that rises keeps each refutation
@@ -34,21 +34,22 @@ module _ (prefers : Preference) (p : ProblemValue) (x y : Option (List ℕ)) (wo
     pub refutes_more : (a : Assignment) (t : Tree) → Refutes prefers p x a t → Refutes prefers p y a t
     refutes_more a (empty i) h = h
     refutes_more a bounded h = bounded_more a x y worse h
-    refutes_more a (job j ts) h = (h.0, h.1, each_more a j (builds_at p j) ts h.2)
+    refutes_more a (job j ts) h = (h.0, h.1, each_more a j ts 0 (builds_at p j) ts h.2)
 
-    pub each_more : (a : Assignment) (j : ℕ) (bs : List BuildValue) (ts : Trees) → RefuteEach prefers p x a j bs ts → RefuteEach prefers p y a j bs ts
-    each_more a j [] no_child h = tt
-    each_more a j (b ∷ bs) (child t ts) h = (refutes_more (with_build a j b) t h.0, each_more a j bs ts h.1)
-    each_more a j [] (child t ts) h = absurd h
-    each_more a j (b ∷ bs) no_child h = absurd h
+    pub each_more : (a : Assignment) (j : ℕ) (all : Trees) (k : ℕ) (bs : List BuildValue) (ts : Trees)
+        → RefuteEach prefers p x a j all k bs ts → RefuteEach prefers p y a j all k bs ts
+    each_more a j all k [] no_child h = tt
+    each_more a j all k (b ∷ bs) (child t ts) h = (refutes_more (with_build a j b) t h.0, each_more a j all (k + 1) bs ts h.1)
+    each_more a j all k [] (child t ts) h = absurd h
+    each_more a j all k (b ∷ bs) no_child h = absurd h
 
 -- ---- one child more
-pub each_one : (prefers : Preference) (p : ProblemValue) (bound : Option (List ℕ)) (a : Assignment) (j : ℕ) (bs : List BuildValue) (cs : List Node) (b : BuildValue) (c : Node)
-    → RefuteEach prefers p bound a j bs (trees_of cs) → Refutes prefers p bound (with_build a j b) (tree_of c) → RefuteEach prefers p bound a j (bs ++ b ∷ []) (trees_of (cs ++ c ∷ []))
-each_one prefers p bound a j [] [] b c h k = (k, tt)
-each_one prefers p bound a j (x ∷ bs) (y ∷ cs) b c h k = (h.0, each_one prefers p bound a j bs cs b c h.1 k)
-each_one prefers p bound a j [] (y ∷ cs) b c h k = absurd h
-each_one prefers p bound a j (x ∷ bs) [] b c h k = absurd h
+pub each_one : (prefers : Preference) (p : ProblemValue) (bound : Option (List ℕ)) (a : Assignment) (j : ℕ) (all : Trees) (m : ℕ) (bs : List BuildValue) (cs : List Node) (b : BuildValue) (c : Node)
+    → RefuteEach prefers p bound a j all m bs (trees_of cs) → Refutes prefers p bound (with_build a j b) (tree_of c) → RefuteEach prefers p bound a j all m (bs ++ b ∷ []) (trees_of (cs ++ c ∷ []))
+each_one prefers p bound a j all m [] [] b c h k = (k, tt)
+each_one prefers p bound a j all m (x ∷ bs) (y ∷ cs) b c h k = (h.0, each_one prefers p bound a j all (m + 1) bs cs b c h.1 k)
+each_one prefers p bound a j all m [] (y ∷ cs) b c h k = absurd h
+each_one prefers p bound a j all m (x ∷ bs) [] b c h k = absurd h
 
 count_one : (cs : List Node) (c : Node) → count_all (trees_of (cs ++ c ∷ [])) ≡ count_all (trees_of cs) + count (tree_of c)
 count_one [] c = omega arith
@@ -92,7 +93,7 @@ module _ (prefers : Preference) (p : ProblemValue) where
 
   -- the first k builds of the job have their trees
   pub record IsLooping (table : List ℕ) (j : ℕ) (before : Option (List ℕ)) (room k : ℕ) (children : List Node) (best : Option ChoiceValue) (left : ℕ) : Type 0 where
-    pub each : RefuteEach prefers p (places_of best) (assigned p table) j (take k (builds_at p j)) (trees_of children)
+    pub each : (all : Trees) → RefuteEach prefers p (places_of best) (assigned p table) j all 0 (take k (builds_at p j)) (trees_of children)
     pub kept : IsNoWorse prefers before (places_of best)
     pub satisfies : FoundSatisfies p best
     pub shallow : levels_all (trees_of children) < free_jobs table
@@ -171,7 +172,7 @@ module _ (prefers : Preference) (order : IsOrder prefers) (p : ProblemValue) (ru
         let P : Option (List ℕ) → Type 0 = λ x. IsNoWorse prefers x (places_of best) in
         let some = fewer_free 0 in
         record {
-          each = tt;
+          each = λ all. tt;
           kept = subst P same (no_worse_refl prefers (places_of best));
           satisfies = found;
           shallow = omega (arith, some);
@@ -252,10 +253,12 @@ module _ (prefers : Preference) (order : IsOrder prefers) (p : ProblemValue) (ru
         let n = searched.used in
         let table_is : assigned p (slice_set table j (k + 1)) ≡ with_build (assigned p table) j b = table_set p table j k b now.wide (slice_get-get_or bs k (record { number = 0; pairs = [] }) l) in
         let A : Assignment → Type 0 = λ a. Refutes prefers p (places_of best') a (tree_of c) in
-        let below = each_more prefers p (places_of best) (places_of best') searched.kept (assigned p table) j (take k bs) (trees_of children) loop.each in
-        let after = each_one prefers p (places_of best') (assigned p table) j (take k bs) children b c below (subst A table_is searched.refuted) in
+        let after : (all : Trees) → RefuteEach prefers p (places_of best') (assigned p table) j all 0 (take k bs ++ b ∷ []) (trees_of (children ++ c ∷ [])) = λ all.
+        each_one prefers p (places_of best') (assigned p table) j all 0 (take k bs) children b c
+        (each_more prefers p (places_of best) (places_of best') searched.kept (assigned p table) j all 0 (take k bs) (trees_of children) (loop.each all))
+        (subst A table_is searched.refuted) in
         let taken : take (k + 1) bs ≡ take k bs ++ b ∷ [] = take_more bs k (record { number = 0; pairs = [] }) l in
-        let Q : List BuildValue → List Node → Type 0 = λ x y. RefuteEach prefers p (places_of best') (assigned p table) j x (trees_of y) in
+        let Q : List BuildValue → List Node → Type 0 = λ x y. (all : Trees) → RefuteEach prefers p (places_of best') (assigned p table) j all 0 x (trees_of y) in
         let counted : count_all (trees_of more) ≡ count_all (trees_of children) + count (tree_of c) = ap (λ cs. count_all (trees_of cs)) is ∙ count_one children c in
         let free = fewer_free k in
         let deep : levels_all (trees_of (children ++ c ∷ [])) < free_jobs table =
@@ -286,13 +289,13 @@ module _ (prefers : Preference) (order : IsOrder prefers) (p : ProblemValue) (ru
     loop_end room k children before' best left same some e loop =
         let bs = builds_at p j in
         let all : take k bs ≡ bs = take_all k bs (omega (arith, e)) in
-        let Q : List BuildValue → Type 0 = λ x. RefuteEach prefers p (places_of best) (assigned p table) j x (trees_of children.items) in
+        let Q : List BuildValue → Type 0 = λ x. RefuteEach prefers p (places_of best) (assigned p table) j (trees_of children.items) 0 x (trees_of children.items) in
         let B : Option (List ℕ) → Type 0 = λ x. IsNoWorse prefers x (places_of best) in
         let N : Option (List ℕ) → Type 0 = λ x. IsNeeded prefers p table x (1 + loop.used) in
         let R : Option (List ℕ) → Type 0 = λ x. OnPath prefers p table x → ReachesTop prefers p (places_of best) in
         let T : Tree → Type 0 = λ t. IsSearched prefers p table before' best room left t in
         subst T (sym (tree_of_job j children)) (record {
-          refuted = (now.inside, free_none (builds_at p j) (slice_index table j) now.free, subst Q all loop.each);
+          refuted = (now.inside, free_none (builds_at p j) (slice_index table j) now.free, subst Q all (loop.each (trees_of children.items)));
           kept = subst B (sym same) loop.kept;
           satisfies = loop.satisfies;
           shallow = omega (arith, loop.shallow);

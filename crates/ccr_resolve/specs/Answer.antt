@@ -1,20 +1,27 @@
 -- What an answer of the resolver promises.
 use Rattle.std.specs.Prelude.{◌≡◌, ℕ, ◌≤◌}
 use Rattle.ccr_choice.specs.Problem.{ProblemValue, ChoiceValue}
-use Rattle.ccr_proof.specs.declared.claim.Claim.{Claim}
 use Rattle.ccr_proof.specs.declared.claim.Claim.TheVariants as claim
 use Rattle.ccr_choice.specs.Preference.{Preference}
 use Rattle.ccr_proof.specs.Tree.{tree_of, count}
 use Rattle.ccr_proof.specs.Refutes.{IsAccepted}
+use Rattle.ccr_proof.specs.Right.{IsRight}
+use Rattle.ccr_proof.specs.declared.proof.Proof.{Proof}
 use Rattle.ccr_resolve.specs.declared.answer.Answer.{Answer}
 use Rattle.ccr_resolve.specs.declared.answer.Answer.TheVariants.{Best, Nothing, OverBudget}
 use Rattle.ccr_resolve.specs.Room.{IsBelowRoom}
 
--- An answer of the best choice, or of none, has an accepted proof of its claim, of at most so many nodes as the budget; over budget
--- names the budget, which is below the room.
+-- A proof that may be given for a problem within a budget: it is accepted, its claim is right, and it has at most so
+-- many nodes.
+pub record IsWithin (prefers : Preference) (p : ProblemValue) (budget : ℕ) (proof : Proof) : Type 0 where
+  pub accepted : IsAccepted prefers p proof.claim (tree_of proof.tree)
+  pub right : IsRight prefers p proof.claim
+  pub few_nodes : count (tree_of proof.tree) ≤ budget
+
+-- An answer of the best choice, or of none, has such a proof of its claim; over budget names the budget, which is below
+-- the room.
 abbrev pub IsAnswer : Preference → ProblemValue → ℕ → Answer → Type 0
 IsAnswer prefers p budget (Best proof) =
-    ((c : ChoiceValue) × (proof.claim ≡ claim.Best c)) × IsAccepted prefers p proof.claim (tree_of proof.tree) × (count (tree_of proof.tree) ≤ budget)
-IsAnswer prefers p budget (Nothing proof) =
-    (proof.claim ≡ claim.Nothing) × IsAccepted prefers p proof.claim (tree_of proof.tree) × (count (tree_of proof.tree) ≤ budget)
+    ((c : ChoiceValue) × (proof.claim ≡ claim.Best c)) × IsWithin prefers p budget proof
+IsAnswer prefers p budget (Nothing proof) = (proof.claim ≡ claim.Nothing) × IsWithin prefers p budget proof
 IsAnswer prefers p budget (OverBudget n) = (n ≡ budget) × IsBelowRoom prefers p budget

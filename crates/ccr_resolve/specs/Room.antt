@@ -31,8 +31,9 @@ newest (job ∷ jobs) = newest_number job ∷ newest jobs
 abbrev pub TopFits : Preference → ProblemValue → Type 0
 TopFits prefers p = (top : List ℕ) × AreBestPlaces prefers p nothing_fixed top × Satisfies p top (newest p.jobs)
 
--- The room is 1, where an input has no possible place; else one plus the number of all builds, where the best places fit the
--- newest builds; else the product. These grow in this order, so a number is below the room where it is below each that applies.
+-- The room is 1, where an input has no possible place; else one plus the number of all builds, where the best places
+-- fit the newest builds; else the product. These grow in this order, so a number is below the room where it is below
+-- each that applies.
 pub record IsBelowRoom (prefers : Preference) (p : ProblemValue) (n : ℕ) : Type 0 where
   pub product : n < product p.jobs
   pub fitting : TopFits prefers p → n < 1 + total p.jobs

@@ -1,5 +1,5 @@
 -- What the search gives, and how many nodes it may need. No public contract names these.
-use Rattle.std.specs.Prelude.{◌≡◌, ◌≢◌, ℕ, zero, suc, ◌+◌, ◌*◌, ◌<◌, ◌≤◌, ◌==◌, List, [], ◌∷◌, ◌++◌, Option, Some, None, length, slice_index, if◌then◌else◌}
+use Rattle.std.specs.Prelude.{◌≡◌, ◌≢◌, ℕ, zero, suc, ◌+◌, ◌*◌, ◌≤◌, ◌==◌, List, [], ◌∷◌, ◌++◌, Option, Some, None, length, slice_index, if◌then◌else◌}
 use Rattle.ccr_choice.specs.Problem.{ProblemValue, BuildValue, ChoiceValue, builds_at}
 use Rattle.ccr_choice.specs.Satisfies.{Satisfies}
 use Rattle.ccr_proof.specs.declared.node.Node.{Node}
@@ -67,7 +67,8 @@ abbrev pub ReachesTop : Preference → ProblemValue → Option (List ℕ) → Ty
 ReachesTop prefers p best = IsBounded prefers p best nothing_fixed
 
 -- So many nodes are no more than the table may need.
-pub record IsNeeded (prefers : Preference) (p : ProblemValue) (table : List ℕ) (best : Option (List ℕ)) (n : ℕ) : Type 0 where
+pub record IsNeeded (prefers : Preference) (p : ProblemValue) (table : List ℕ) (best : Option (List ℕ))
+    (n : ℕ) : Type 0 where
   pub product : n ≤ free_product p.jobs table
   pub lacking : (i : ℕ) → HasNoPlace p (assigned p table) i → n ≤ 1
   pub bounded : IsBounded prefers p best (assigned p table) → n ≤ 1
@@ -77,10 +78,12 @@ pub record IsNeeded (prefers : Preference) (p : ProblemValue) (table : List ℕ)
 abbrev pub IsNoWorse : Preference → Option (List ℕ) → Option (List ℕ) → Type 0
 IsNoWorse prefers None found = Unit {0}
 IsNoWorse prefers (Some before) None = ⊥
-IsNoWorse prefers (Some before) (Some found) = (places : List ℕ) → ¬ IsBetter prefers places before → ¬ IsBetter prefers places found
+IsNoWorse prefers (Some before) (Some found) =
+    (places : List ℕ) → ¬ IsBetter prefers places before → ¬ IsBetter prefers places found
 
 -- A tree that refutes the table under what was found in the end, with its nodes counted.
-pub record IsSearched (prefers : Preference) (p : ProblemValue) (table : List ℕ) (before after : Option ChoiceValue) (room left : ℕ) (tree : Tree) : Type 0 where
+pub record IsSearched (prefers : Preference) (p : ProblemValue) (table : List ℕ) (before after : Option ChoiceValue)
+    (room left : ℕ) (tree : Tree) : Type 0 where
   pub refuted : Refutes prefers p (places_of after) (assigned p table) tree
   pub kept : IsNoWorse prefers (places_of before) (places_of after)
   pub satisfies : FoundSatisfies p after
@@ -92,6 +95,8 @@ pub record IsSearched (prefers : Preference) (p : ProblemValue) (table : List �
   pub reached : OnPath prefers p table (places_of before) → ReachesTop prefers p (places_of after)
 
 -- No tree is given only where the room is less than what the table may need.
-abbrev pub Searched : Preference → ProblemValue → List ℕ → Option ChoiceValue → Option ChoiceValue → ℕ → ℕ → Option Node → Type 0
+abbrev pub Searched : Preference → ProblemValue → List ℕ → Option ChoiceValue → Option ChoiceValue → ℕ → ℕ
+    → Option Node → Type 0
 Searched prefers p table before after room left None = IsNeeded prefers p table (places_of before) (room + 1)
-Searched prefers p table before after room left (Some node) = IsSearched prefers p table before after room left (tree_of node)
+Searched prefers p table before after room left (Some node) =
+    IsSearched prefers p table before after room left (tree_of node)

@@ -12,7 +12,8 @@ use std::alloc::{AllocError, Global};
 
 /// The best place of each input.
 fn best_places(alloc: Global, problem: &Problem, fixed: &Fixed) -> Result<Vec<u32>, AllocError>
-    ensures { IfOk result (λ v. AreBestPlaces (order_of problem.now) problem.now (assigned problem.now fixed.now) v.items) }
+    ensures { IfOk result
+        (λ v. AreBestPlaces (order_of problem.now) problem.now (assigned problem.now fixed.now) v.items) }
 {
     let mut places = Vec::new(alloc);
     for i in 0..problem.inputs().len() {

@@ -10,8 +10,9 @@ use ccr_choice::{MOST_JOBS, Problem};
 use ccr_proof::{Claim, MOST_NODES, Proof};
 use std::alloc::{AllocError, Global};
 
-/// The best choice that satisfies a problem, or that none does, with a proof that is accepted and has at most `budget` nodes, from
-/// 1 to 1,000,000; or that the budget is over, only where it is below the room of the problem. The only error is want of memory.
+/// The best choice that satisfies a problem, or that none does, rightly so, with a proof that is accepted and has at
+/// most `budget` nodes, from 1 to 1,000,000; or that the budget is over, only where it is below the room of the problem.
+/// The only error is want of memory.
 pub fn resolve(alloc: Global, problem: &Problem, budget: u32) -> Result<Answer, AllocError>
     requires least { 1 ≤ budget }
     requires most { budget ≤ MOST_NODES }

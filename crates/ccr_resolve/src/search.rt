@@ -29,7 +29,8 @@ fn first_empty(problem: &Problem, fixed: &Fixed) -> Option<u32>
 
 /// Whether the best places are no better than what was found.
 fn is_closed(problem: &Problem, fixed: &Fixed, best: &Option<Choice>) -> bool
-    ensures { IsTrue result ↔ IsBounded (order_of problem.now) problem.now (places_of best.now) (assigned problem.now fixed.now) }
+    ensures { IsTrue result
+        ↔ IsBounded (order_of problem.now) problem.now (places_of best.now) (assigned problem.now fixed.now) }
 {
     match best {
         None => false,
@@ -47,8 +48,8 @@ fn first_free(jobs: usize, fixed: &Fixed) -> Option<usize>
     (0..jobs).find(|j| fixed[*j] == 0)
 }
 
-/// A tree that refutes what is better than the best choice found in the end, and that choice; None where it would need more
-/// nodes than are left.
+/// A tree that refutes what is better than the best choice found in the end, and that choice; None where it would need
+/// more nodes than are left.
 pub(crate) fn search(
     alloc: Global,
     problem: &Problem,
@@ -59,7 +60,8 @@ pub(crate) fn search(
     requires known { FixesKnown problem.now fixed.now }
     requires found { FoundSatisfies problem.now best.old }
     ensures rules { IsProblem problem.now }
-    ensures found { IfOk result (λ tree. Searched (order_of problem.now) problem.now fixed.now best.old best.new left.old left.new tree) }
+    ensures found { IfOk result
+        (λ tree. Searched (order_of problem.now) problem.now fixed.now best.old best.new left.old left.new tree) }
 {
     let jobs = problem.jobs();
     if *left == 0 {

@@ -3,7 +3,9 @@ pub mod Plays
 pub mod Joining
 pub mod Under
 pub mod Standing
+pub mod Upwards
 pub mod Naming
+pub mod Versions
 pub mod Begins
 pub mod StepTrees
 pub mod GainLaws

@@ -1,76 +1,43 @@
 -- The resource that a step's ask names is one of the plan's.
-use Rattle.std.proofs.Common.{◌≡◌, ℕ, zero, suc, List, [], ◌∷◌, ◌++◌, Bool, true, false, ◌||◌, Option, Some, None, refl, sym, subst}
+use Rattle.std.proofs.Common.{◌≡◌, List, [], ◌∷◌, ◌++◌, Bool, true, false, ◌||◌, Option, Some, None, refl, sym, subst}
 use Rattle.std.proofs.lemmas.Cmp.{nat_list_eq_equiv}
 use Rattle.std.proofs.lemmas.List.Folds.{list_any-append}
 use Rattle.std.specs.Option.{IfSome}
 use Rattle.ccr_pipeline.specs.Links.{used_resources, used_resources_in}
 use Rattle.ccr_pipeline.specs.Names.{has_name}
-use Rattle.ccr_pipeline.specs.Tree.{Text, SourceData, config, file, Tree, Trees, get, put, task, in_order, in_parallel, tried, attempts, hook, no_trees, tree}
+use Rattle.ccr_pipeline.specs.Tree.{Text, SourceData, config, file, Tree, get, put, task, in_order, in_parallel, tried, attempts, hook}
 use Rattle.ccr_steps.specs.declared.frame.Frame.{Frame}
-use Rattle.ccr_steps.specs.declared.frame.Frame.TheVariants.{At, In, Left, Hook}
 use Rattle.ccr_steps.specs.Asks.{AskData, Exchange, Chosen, ask_resource, NamesResourceOf, get_ask, put_ask, pushed_ask}
-use Rattle.ccr_steps.specs.Frames.{LeafData, first, fetching, running, source_ask, leaf_ask, leaf_at, leaf_in}
+use Rattle.ccr_steps.specs.Frames.{LeafData, first, fetching, running, source_ask, leaf_ask, leaf_at}
 use Rattle.ccr_steps.specs.Moments.{step_at}
 use Rattle.ccr_steps.specs.Runs.{RunData, StandsFor}
 use Rattle.ccr_steps.proofs.Standing.{step_leaf}
+use Rattle.ccr_steps.proofs.Upwards.{GoesUp, goes_up}
 
 or_right : (a b : Bool) → b ≡ true → (a || b) ≡ true
 or_right true b e = refl
 or_right false b e = e
 
-in_left : (xs ys : List Text) (r : Text) → has_name xs r ≡ true → has_name (xs ++ ys) r ≡ true
+pub in_left : (xs ys : List Text) (r : Text) → has_name xs r ≡ true → has_name (xs ++ ys) r ≡ true
 in_left xs ys r h = rw (list_any-append, h) refl
 
-in_right : (xs ys : List Text) (r : Text) → has_name ys r ≡ true → has_name (xs ++ ys) r ≡ true
+pub in_right : (xs ys : List Text) (r : Text) → has_name ys r ≡ true → has_name (xs ++ ys) r ≡ true
 in_right xs ys r h = rw list_any-append (or_right (has_name xs r) (has_name ys r) h)
 
--- all resources of the one step are those of the other
-abbrev Within : Tree → Tree → Type 0
-Within s t = (r : Text) → has_name (used_resources s) r ≡ true → has_name (used_resources t) r ≡ true
+-- that a resource is one of a step's goes up to the steps round it
+resource_up : (r : Text) → GoesUp (λ t. has_name (used_resources t) r ≡ true) (λ ts. has_name (used_resources_in ts) r ≡ true)
+resource_up r = record {
+  ordered = λ ts h. h;
+  parallel = λ ts fast h. h;
+  trying = λ t h. h;
+  again = λ n t h. h;
+  hooked = λ w t h is. in_left (used_resources t) (used_resources h) r is;
+  hooks = λ w t h is. in_right (used_resources t) (used_resources h) r is;
+  here = λ t ts is. in_left (used_resources t) (used_resources_in ts) r is;
+  later = λ t ts is. in_right (used_resources t) (used_resources_in ts) r is;
+}
 
-itself : (s t : Tree) → ◌≡◌ {A = Option Tree} (Some t) (Some s) → Within s t
-itself s t e =
-    let same : t ≡ s = cc (e) in
-    subst (λ x. Within x t) same (λ r h. h)
-
--- the step at the end of a path is in the step
-mutual
-  below : (t : Tree) (fs : List Frame) (s : Tree) → leaf_at t fs ≡ Some s → Within s t
-  below (get d) fs s e = itself s (get d) e
-  below (put p) fs s e = itself s (put p) e
-  below (task d) fs s e = itself s (task d) e
-  below (in_order ts) [] s e = absurd (cc (e))
-  below (in_order ts) (At k worst ∷ fs) s e = below_in ts k fs s e
-  below (in_order ts) (In ∷ fs) s e = absurd (cc (e))
-  below (in_order ts) (Left k ∷ fs) s e = absurd (cc (e))
-  below (in_order ts) (Hook end ∷ fs) s e = absurd (cc (e))
-  below (in_parallel ts fast) [] s e = absurd (cc (e))
-  below (in_parallel ts fast) (At k worst ∷ fs) s e = below_in ts k fs s e
-  below (in_parallel ts fast) (In ∷ fs) s e = absurd (cc (e))
-  below (in_parallel ts fast) (Left k ∷ fs) s e = absurd (cc (e))
-  below (in_parallel ts fast) (Hook end ∷ fs) s e = absurd (cc (e))
-  below (tried t) [] s e = absurd (cc (e))
-  below (tried t) (At k worst ∷ fs) s e = absurd (cc (e))
-  below (tried t) (In ∷ fs) s e = below t fs s e
-  below (tried t) (Left k ∷ fs) s e = absurd (cc (e))
-  below (tried t) (Hook end ∷ fs) s e = absurd (cc (e))
-  below (attempts n t) [] s e = absurd (cc (e))
-  below (attempts n t) (At k worst ∷ fs) s e = absurd (cc (e))
-  below (attempts n t) (In ∷ fs) s e = absurd (cc (e))
-  below (attempts n t) (Left k ∷ fs) s e = below t fs s e
-  below (attempts n t) (Hook end ∷ fs) s e = absurd (cc (e))
-  below (hook w t h) [] s e = absurd (cc (e))
-  below (hook w t h) (At k worst ∷ fs) s e = absurd (cc (e))
-  below (hook w t h) (In ∷ fs) s e = λ r is. in_left (used_resources t) (used_resources h) r (below t fs s e r is)
-  below (hook w t h) (Left k ∷ fs) s e = absurd (cc (e))
-  below (hook w t h) (Hook end ∷ fs) s e = λ r is. in_right (used_resources t) (used_resources h) r (below h fs s e r is)
-
-  below_in : (ts : Trees) (k : ℕ) (fs : List Frame) (s : Tree) → leaf_in ts k fs ≡ Some s → (r : Text) → has_name (used_resources s) r ≡ true → has_name (used_resources_in ts) r ≡ true
-  below_in no_trees k fs s e = absurd (cc (e))
-  below_in (tree t ts) zero fs s e = λ r is. in_left (used_resources t) (used_resources_in ts) r (below t fs s e r is)
-  below_in (tree t ts) (suc k) fs s e = λ r is. in_right (used_resources t) (used_resources_in ts) r (below_in ts k fs s e r is)
-
-only : (r : Text) → has_name (r ∷ []) r ≡ true
+pub only : (r : Text) → has_name (r ∷ []) r ≡ true
 only r = rw (nat_list_eq_equiv.refl r) refl
 
 of_source : (t : Tree) (source : SourceData) (env : List (Text × Text)) → NamesResourceOf t (source_ask source env)
@@ -99,13 +66,13 @@ asked c (tried t) l a e = absurd (cc (e))
 asked c (attempts n t) l a e = absurd (cc (e))
 asked c (hook w t h) l a e = absurd (cc (e))
 
-inside : (s t : Tree) (o : Option Text) → Within s t → IfSome o (λ r. has_name (used_resources s) r ≡ true) → IfSome o (λ r. has_name (used_resources t) r ≡ true)
-inside s t None w h = tt
-inside s t (Some r) w h = w r h
+-- what a step at the end of a path asks names a resource of the whole
+inside : (t : Tree) (fs : List Frame) (s : Tree) → leaf_at t fs ≡ Some s → (o : Option Text) → IfSome o (λ r. has_name (used_resources s) r ≡ true) → IfSome o (λ r. has_name (used_resources t) r ≡ true)
+inside t fs s e None h = tt
+inside t fs s e (Some r) h = goes_up _ _ (resource_up r) t fs s e h
 
 -- what a build wants names a resource of its plan
 pub stands_names : (r : RunData) (plan : Tree) (inputs : Chosen) (es : List Exchange) (s : Tree) (o : Option AskData) → step_at r.at r.plan ≡ Some s → o ≡ leaf_ask r.inputs s r.at.leaf → StandsFor r plan inputs es → IfSome o (NamesResourceOf plan)
 stands_names r plan inputs es s None at e st = tt
 stands_names r plan inputs es s (Some a) at e st =
-    let there = below r.plan r.at.frames s (step_leaf r.at.outcome r.at r.plan s at) in
-    subst (λ t. NamesResourceOf t a) st.0 (inside s r.plan (ask_resource a) there (asked r.inputs s r.at.leaf a (sym e)))
+    subst (λ t. NamesResourceOf t a) st.0 (inside r.plan r.at.frames s (step_leaf r.at.outcome r.at r.plan s at) (ask_resource a) (asked r.inputs s r.at.leaf a (sym e)))

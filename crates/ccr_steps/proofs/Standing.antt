@@ -1,19 +1,19 @@
 -- What a build wants, how it ended and what it moved, by the exchanges that it stands for.
 use Rattle.std.specs.Prelude.{OnErr}
-use Rattle.std.proofs.Common.{Result, Ok, Err, arith, ◌≡◌, ◌↔◌, ℕ, ◌+◌, ◌*◌, ◌/◌, ◌%◌, ◌^◌, length-append, List, [], ◌∷◌, ◌++◌, length, Option, Some, None, IsSome, option_and_then, refl, sym, ap, ◌∙◌, subst}
+use Rattle.std.proofs.Common.{Result, Ok, Err, arith, ◌≡◌, ◌↔◌, ℕ, ◌+◌, ◌*◌, ◌/◌, ◌%◌, ◌^◌, length-append, append_assoc, List, [], ◌∷◌, ◌++◌, length, Option, Some, None, IsSome, option_and_then, refl, sym, ap, ◌∙◌, subst}
 use Rattle.std.proofs.Math.Nat.{mod-add-div', add-mul-mod_self_right}
 use Rattle.ccr_pipeline.specs.Tree.{Tree}
 use Rattle.ccr_steps.specs.declared.outcome.Outcome.{Outcome}
-use Rattle.ccr_steps.specs.Asks.{AskData, AnswerData, Exchange, exchange, Chosen}
+use Rattle.ccr_steps.specs.Asks.{AskData, AnswerData, errored, Exchange, exchange, Chosen}
 use Rattle.ccr_steps.specs.Gains.{GainsData, no_gains}
 use Rattle.ccr_steps.specs.Means.{Means}
 use Rattle.ccr_steps.specs.Play.{Play, ended, asks, and_then, Leads, play}
 use Rattle.ccr_steps.specs.declared.frame.Frame.{Frame}
 use Rattle.ccr_steps.specs.Frames.{LeafData, first, leaf_ask, leaf_next, leaf_play, asks_if, leaf_at, goes_on, waiting_in, waiting, Waits, Came}
-use Rattle.ccr_steps.specs.Progress.{IsAllowed, Begins, IsNext, IsWanted, IsOutcome, HasMoved}
+use Rattle.ccr_steps.specs.Progress.{IsAllowed, Begins, IsNext, IsWanted, IsOutcome, HasMoved, answers, AskAlike}
 use Rattle.ccr_steps.specs.Moments.{MomentData, step_by, step_at, play_by, waits_by, GoesTo}
 use Rattle.ccr_steps.specs.Runs.{RunData, rest_of, IsWell, StandsFor, Goes, TakesAnswer, wanted}
-use Rattle.ccr_steps.proofs.Leading.{leads_on, leads_cut, leads_one, finish}
+use Rattle.ccr_steps.proofs.Leading.{leads_on, leads_cut, leads_one, finish, leads_front, same_asks, answers_begin}
 use Rattle.ccr_steps.proofs.Plays.{plays}
 
 whole : (c : Chosen) (t : Tree) (es : List Exchange) (o : Outcome) (g : GainsData) → Leads (play c t no_gains) es (ended o g) → Means c t no_gains es o g
@@ -97,6 +97,36 @@ module _ (r : RunData) (plan : Tree) (inputs : Chosen) (es : List Exchange) wher
   stands_nothing (there, back) (p, i, t, w, l) =
       let (on, off) = step_there r.at.outcome w l in
       (λ p. on (there p), λ h. back (off h))
+
+  pub stands_begun : StandsFor r plan inputs es → Begins inputs plan es
+  stands_begun (p, i, t, w, l) =
+      let (rest, o, g, m) = finish (rest_of r) in
+      (rest, (o, g, whole inputs plan (es ++ rest) o g (leads_on (play inputs plan no_gains) es rest (rest_of r) (ended o g) l m)))
+
+begins_leads : (c : Chosen) (t : Tree) (es : List Exchange) → Begins c t es → (r : Play) × Leads (play c t no_gains) es r
+begins_leads c t es (rest, (o, g, m)) = leads_front (play c t no_gains) es rest (ended o g) (leads c t (es ++ rest) o g m)
+
+-- only one thing is asked next
+one_wanted : (c : Chosen) (t : Tree) (es : List Exchange) (a b : Option AskData) → IsWanted c t es a → IsWanted c t es b → a ≡ b
+one_wanted c t es None None v w = refl
+one_wanted c t es None (Some b) v w = absurd (w.1 v)
+one_wanted c t es (Some a) None v w = absurd (v.1 w)
+one_wanted c t es (Some a) (Some b) v w =
+    let (rest, (o, g, m)) = v.0.0 errored in
+    let all : IsAllowed c t (es ++ exchange a errored ∷ rest) = (o, g, subst (λ l. Means c t no_gains l o g) (append_assoc es (exchange a errored ∷ []) rest) m) in
+    ap (λ x. Some x) (w.0.1 (exchange a errored) rest all)
+
+-- two beginnings of allowed lists ask alike
+pub ask_alike : (c : Chosen) (t : Tree) (es fs : List Exchange) → Begins c t es → Begins c t fs → AskAlike c t es fs
+ask_alike c t es fs b d =
+    let (q, l) = begins_leads c t es b in
+    let (r, m) = begins_leads c t fs d in
+    let one : answers es ≡ answers fs → es ≡ fs = answers_begin (play c t no_gains) es fs q r l m in
+    record {
+      so_far = same_asks (play c t no_gains) es fs q r l m;
+      whole = one;
+      next = λ e x y v w. one_wanted c t fs x y (subst (λ k. IsWanted c t k x) (one e) v) w;
+    }
 
 swap : (a b : ℕ) → (a + b) + 1 ≡ (a + 1) + b
 swap a b = omega arith

@@ -20,8 +20,10 @@ pub data AskData : Type 0 where
   read_config : (file : Text) → AskData
   run_task : (config : ConfigData) (env : List (Text × Text)) → AskData
 
+-- an ask, without where its parts lie in memory
 abbrev pub ask_data : Ask → AskData
-ask_data (Fetch artifact resource version params) = fetch artifact.now resource.now version.now (option_map (λ p. object_data p.now) params)
+ask_data (Fetch artifact resource version params) =
+    fetch artifact.now resource.now version.now (option_map (λ p. object_data p.now) params)
 ask_data (Push artifact resource params) = push artifact.now resource.now (option_map (λ p. object_data p.now) params)
 ask_data (ReadConfig file) = read_config file.now
 ask_data (RunTask config env) = run_task (config_data config.now) (map variable_data env.now)
@@ -45,6 +47,7 @@ pub data AnswerData : Type 0 where
   failed : AnswerData
   errored : AnswerData
 
+-- an answer, without where its parts lie in memory
 abbrev pub answer_data : Answered → AnswerData
 answer_data Done = done
 answer_data (Pushed version) = pushed version
@@ -57,6 +60,7 @@ pub record Exchange : Type 0 where
   pub ask : AskData
   pub answer : AnswerData
 
+-- the exchange of an ask and its answer
 abbrev pub exchange : AskData → AnswerData → Exchange
 exchange a x = record { ask = a; answer = x }
 
@@ -69,7 +73,7 @@ abbrev pub chosen : List Text → List TextMap → Chosen
 chosen (n ∷ ns) (v ∷ vs) = (n, v) ∷ chosen ns vs
 chosen ns vs = []
 
--- the version that was chosen for the input of this name; a name that no input has, as no get does, would have the version without fields
+-- the version that was chosen for the input of this name; each get of a plan has one of its inputs' names
 abbrev pub version_of : Chosen → Text → TextMap
 version_of [] name = []
 version_of (i ∷ is) name = if bytes_eq i.0 name then i.1 else version_of is name

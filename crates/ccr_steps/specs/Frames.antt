@@ -1,7 +1,8 @@
 -- Where a build waits: a path of frames down to a step that asks, and what is left to do when that step has ended.
-use Rattle.std.specs.Prelude.{◌≡◌, ℕ, zero, suc, Bool, true, false, List, ◌∷◌, ◌++◌, Option, Some, None, IsSome}
+use Rattle.std.specs.Prelude.{◌≡◌, ℕ, zero, suc, ◌+◌, Bool, true, false, List, ◌∷◌, ◌++◌, take, drop, map, slice_get, Option, Some, None, IsSome}
 use Rattle.ccr_history.specs.TextMap.{TextMap}
-use Rattle.ccr_pipeline.specs.Tree.{Text, ConfigData, config_data, SourceData, config, file, TaskData, Tree, Trees, get, put, task, in_order, in_parallel, tried, attempts, hook, no_trees, tree}
+use Rattle.ccr_pipeline.specs.declared.step.Step.{Step}
+use Rattle.ccr_pipeline.specs.Tree.{Text, ConfigData, config_data, SourceData, config, file, TaskData, Tree, Trees, get, put, task, in_order, in_parallel, tried, attempts, hook, no_trees, tree, tree_of, trees_of}
 use Rattle.ccr_steps.specs.declared.outcome.Outcome.{Outcome}
 use Rattle.ccr_steps.specs.declared.outcome.Outcome.TheVariants.{Succeeded, Failed, Errored, Aborted}
 use Rattle.ccr_steps.specs.declared.frame.Frame.{Frame}
@@ -20,11 +21,13 @@ pub data LeafData : Type 0 where
   fetching : TextMap → LeafData
   running : ConfigData → LeafData
 
+-- which ask it waits for, without where it lies in memory
 abbrev pub leaf_data : Leaf → LeafData
 leaf_data First = first
 leaf_data (Fetching v) = fetching v
 leaf_data (Running k) = running (config_data k)
 
+-- what a task asks first: its program, or its file
 abbrev pub source_ask : SourceData → List (Text × Text) → AskData
 source_ask (config k) env = run_task k env
 source_ask (file path) env = read_config path
@@ -38,6 +41,7 @@ leaf_ask c (task t) first = Some (source_ask t.source t.params)
 leaf_ask c (task t) (running k) = Some (run_task k t.params)
 leaf_ask c t l = None
 
+-- how a task goes on with the answer to its first ask
 abbrev pub source_next : SourceData → List (Text × Text) → AnswerData → Going
 source_next (config k) env x g = after_run k.outputs x g
 source_next (file path) env x g = after_read env x g
@@ -51,6 +55,7 @@ leaf_next c (task t) first x g = source_next t.source t.params x g
 leaf_next c (task t) (running k) x g = after_run k.outputs x g
 leaf_next c t l x g = ended Errored g
 
+-- a play that asks this, where it asks at all
 abbrev pub asks_if : Option AskData → (AnswerData → Play) → Going
 asks_if None then g = ended Errored g
 asks_if (Some a) then g = asks a then
@@ -78,6 +83,7 @@ abbrev mutual
   leaf_at (hook w t h) (Hook end ∷ fs) = leaf_at h fs
   leaf_at t fs = None
 
+  -- the same, from the step at a place of a list
   pub leaf_in : Trees → ℕ → List Frame → Option Tree
   leaf_in no_trees k fs = None
   leaf_in (tree t ts) zero fs = leaf_at t fs
@@ -98,21 +104,24 @@ abbrev mutual
   goes_on c (hook w t h) (Hook end ∷ fs) o g = and_then (goes_on c h fs o g) (and_worse_end end)
   goes_on c t fs o g = ended Errored g
 
+  -- a list in order goes on in the step at a place, and then with those after it
   pub goes_on_in_order : Chosen → Trees → ℕ → List Frame → Outcome → Going
   goes_on_in_order c no_trees k fs o g = ended Errored g
   goes_on_in_order c (tree t ts) zero fs o g = and_then (goes_on c t fs o g) (after_do (play_in_order c ts))
   goes_on_in_order c (tree t ts) (suc k) fs o g = goes_on_in_order c ts k fs o g
 
+  -- a list of which all steps run goes on so; the outcome is the worst, with what came before
   pub goes_on_all : Chosen → Outcome → Trees → ℕ → List Frame → Outcome → Going
   goes_on_all c worst no_trees k fs o g = ended Errored g
   goes_on_all c worst (tree t ts) zero fs o g = and_then (goes_on c t fs o g) (and_worst worst (play_all c ts))
   goes_on_all c worst (tree t ts) (suc k) fs o g = goes_on_all c worst ts k fs o g
 
--- the whole step, where the one at the end of a path waits
+-- the step that is there waits, and then this follows
 abbrev pub waiting_in : Chosen → Option Tree → LeafData → (Outcome → Going) → Going
 waiting_in c None l next g = ended Errored g
 waiting_in c (Some t) l next g = and_then (leaf_play c t l g) next
 
+-- the whole step, where the one at the end of a path waits
 abbrev pub waiting : Chosen → Tree → List Frame → LeafData → Going
 waiting c t fs l g = waiting_in c (leaf_at t fs) l (goes_on c t fs) g
 
@@ -123,12 +132,39 @@ Waits c t fs l = (s : Tree) × (leaf_at t fs ≡ Some s) × IsSome (leaf_ask c s
 -- a play has come to its end, with the frames as they were, or waits at the frames added
 abbrev pub Came : (Chosen → Play) → Tree → GainsData → List Frame → List Frame → Option Outcome → Type 0
 Came p t g old new (Some o) = (new ≡ old) × ((c : Chosen) → p c ≡ ended o g)
-Came p t g old new None = (added : List Frame) × (new ≡ old ++ added) × ((c : Chosen) → Waits c t added first × (p c ≡ waiting c t added first g))
+Came p t g old new None =
+    (added : List Frame) × (new ≡ old ++ added)
+    × ((c : Chosen) → Waits c t added first × (p c ≡ waiting c t added first g))
 
 -- the same, where what waits lies under a frame
-abbrev pub CameUnder : Frame → (Chosen → Play) → Tree → GainsData → List Frame → List Frame → Option Outcome → Type 0
+abbrev pub CameUnder :
+    Frame → (Chosen → Play) → Tree → GainsData → List Frame → List Frame → Option Outcome → Type 0
 CameUnder f p t g old new (Some o) = (new ≡ old) × ((c : Chosen) → p c ≡ ended o g)
-CameUnder f p t g old new None = (added : List Frame) × (new ≡ old ++ f ∷ added) × ((c : Chosen) → Waits c t added first × (p c ≡ waiting c t added first g))
+CameUnder f p t g old new None =
+    (added : List Frame) × (new ≡ old ++ f ∷ added)
+    × ((c : Chosen) → Waits c t added first × (p c ≡ waiting c t added first g))
+
+-- a step was begun: it has ended, or waits at the frames added
+abbrev pub Begun : Tree → GainsData → List Frame → List Frame → Option Outcome → Type 0
+Begun t g old new r = Came (λ c. play c t g) t g old new r
+
+-- the same, under a frame
+abbrev pub BegunUnder : Frame → Tree → GainsData → List Frame → List Frame → Option Outcome → Type 0
+BegunUnder f t g old new r = CameUnder f (λ c. play c t g) t g old new r
+
+-- the step at the end of a path ended so, and the one at this level of the path went on: it has ended, or waits again
+abbrev pub WentOn : Tree → GainsData → ℕ → Outcome → List Frame → List Frame → Option Outcome → Type 0
+WentOn t g level end old new r = Came (λ c. goes_on c t (drop level old) end g) t g (take level old) new r
+
+-- the same of the step below the frame at this level
+abbrev pub WentOnUnder : Tree → GainsData → ℕ → Outcome → List Frame → List Frame → Option Outcome → Type 0
+WentOnUnder t g level end old new r =
+    (f : Frame) → slice_get old level ≡ Some f
+    → CameUnder f (λ c. goes_on c t (drop (level + 1) old) end g) t g (take level old) new r
+
+-- the steps of a list as trees
+abbrev pub trees : List Step → Trees
+trees steps = trees_of (map tree_of steps)
 
 -- the outcome of a try whose step ended so
 abbrev pub tried_outcome : Outcome → Outcome
@@ -149,10 +185,12 @@ abbrev pub ends_if : Bool → Option Outcome
 ends_if true = None
 ends_if false = Some Errored
 
+-- the same, by where the task's config comes from
 abbrev pub begins_by : SourceData → GainsData → Option Outcome
 begins_by (config k) g = ends_if (has_inputs k.inputs g)
 begins_by (file path) g = None
 
+-- the same, of a task
 abbrev pub begins_task : TaskData → GainsData → Option Outcome
 begins_task t g = begins_by t.source g
 

@@ -13,6 +13,7 @@ pub record MovedData : Type 0 where
   pub resource : Text
   pub version : TextMap
 
+-- a moved version, without where its parts lie in memory
 abbrev pub moved_data : Moved → MovedData
 moved_data m = record { resource = string_bytes m.resource; version = m.version }
 
@@ -20,6 +21,7 @@ moved_data m = record { resource = string_bytes m.resource; version = m.version 
 abbrev pub is_same : MovedData → Text → Text → Bool
 is_same m resource key = bytes_eq m.resource resource && bytes_eq (key_text m.version) key
 
+-- one of the moved versions is of this resource and has this key
 abbrev pub has_moved : List MovedData → Text → Text → Bool
 has_moved ms resource key = list_any (λ m. is_same m resource key) ms
 
@@ -32,6 +34,7 @@ pub record GainsData : Type 0 where
   pub names : List Text
   pub moved : List MovedData
 
+-- a build begins with no artifact and no moved version
 abbrev pub no_gains : GainsData
 no_gains = record { names = []; moved = [] }
 
@@ -45,7 +48,8 @@ register_all names g = record { names = with_names g.names names; moved = g.move
 
 -- with a version moved
 abbrev pub move : Text → TextMap → GainsData → GainsData
-move resource version g = record { names = g.names; moved = with_moved g.moved (record { resource = resource; version = version }) }
+move resource version g =
+    record { names = g.names; moved = with_moved g.moved (record { resource = resource; version = version }) }
 
 -- as it is
 abbrev pub same : GainsData → GainsData
@@ -61,7 +65,10 @@ has_inputs inputs g = list_all (has_input g) inputs
 
 -- more came at the ends
 abbrev pub Grew : GainsData → GainsData → Type 0
-Grew old new = (names : List Text) × (moved : List MovedData) × (new.names ≡ old.names ++ names) × (new.moved ≡ old.moved ++ moved)
+Grew old new =
+    (names : List Text) × (moved : List MovedData)
+    × (new.names ≡ old.names ++ names) × (new.moved ≡ old.moved ++ moved)
 
+-- what a build gained, without where it lies in memory
 abbrev pub gains_data : Gains → GainsData
 gains_data g = record { names = g.names; moved = map moved_data g.moved.items }

@@ -47,7 +47,9 @@ Asks ask then g es o g' = (x : AnswerData) × (rest : List Exchange) × (es ≡ 
 
 -- one part, and then another by how the first ended, with the gains that it left
 abbrev pub Joined : Meaning → (Outcome → Meaning) → Meaning
-Joined A B g es o g' = (front back : List Exchange) × (mid : Outcome) × (between : GainsData) × (es ≡ front ++ back) × A g front mid between × B mid between back o g'
+Joined A B g es o g' =
+    (front back : List Exchange) × (mid : Outcome) × (between : GainsData)
+    × (es ≡ front ++ back) × A g front mid between × B mid between back o g'
 
 -- THE STEPS
 
@@ -63,14 +65,16 @@ AfterFetch gain errored = Ends Errored same
 abbrev pub got_version : GetData → TextMap → GainsData → GainsData
 got_version d v g = move d.resource v (register d.name g)
 
+-- what a get gains with the version that was chosen for its input
 abbrev pub got : Chosen → GetData → GainsData → GainsData
 got c d = got_version d (version_of c d.name)
 
--- the pushed version is fetched under the put's name, unless no_get says otherwise; that it was moved stays, however the fetch ends
+-- the pushed version is fetched under the put's name, unless no_get says otherwise; it is moved however the fetch ends
 abbrev pub AfterPushed : Bool → PutData → TextMap → Meaning
 AfterPushed true p v g = Ends Succeeded (move p.resource v) g
 AfterPushed false p v g = Asks (pushed_ask p v) (AfterFetch (register p.name)) (move p.resource v g)
 
+-- a push that gave a version is followed by its fetch; an answer of another kind is an error
 abbrev pub AfterPush : PutData → AnswerData → Meaning
 AfterPush p done = Ends Errored same
 AfterPush p (pushed v) = AfterPushed p.no_get p v
@@ -86,6 +90,7 @@ AfterRun outputs (configured k) = Ends Errored same
 AfterRun outputs failed = Ends Failed (register_all outputs)
 AfterRun outputs errored = Ends Errored same
 
+-- the program runs if its inputs are there; else it is an error
 abbrev pub RunsIf : Bool → ConfigData → List (Text × Text) → Meaning
 RunsIf true k env = Asks (run_task k env) (AfterRun k.outputs)
 RunsIf false k env = Ends Errored same
@@ -94,6 +99,7 @@ RunsIf false k env = Ends Errored same
 abbrev pub Runs : ConfigData → List (Text × Text) → Meaning
 Runs k env g = RunsIf (has_inputs k.inputs g) k env g
 
+-- a task file that was read is run; without one the task is an error
 abbrev pub AfterRead : List (Text × Text) → AnswerData → Meaning
 AfterRead env done = Ends Errored same
 AfterRead env (pushed v) = Ends Errored same
@@ -141,6 +147,7 @@ abbrev pub HookIf : Bool → Meaning → Outcome → Meaning
 HookIf true more o = AndWorse more o
 HookIf false more o = Ends o same
 
+-- after a step that ended so, its hook, if it runs then
 abbrev pub AfterHooked : When → Meaning → Outcome → Meaning
 AfterHooked w more o = HookIf (runs_after w o) more o
 

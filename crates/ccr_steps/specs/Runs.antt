@@ -1,7 +1,8 @@
 -- What a build stands for.
-use Rattle.std.specs.Prelude.{◌≡◌, ℕ, List, Option, option_and_then, length, ◌+◌, ◌%◌, ◌^◌}
+use Rattle.std.specs.Prelude.{◌≡◌, ℕ, List, Option, option_and_then, length, take, ◌+◌, ◌%◌, ◌^◌}
 use Rattle.ccr_pipeline.specs.Tree.{Tree, tree_of}
-use Rattle.ccr_steps.specs.declared.run.BuildRun.{BuildRun}
+use Rattle.ccr_steps.specs.declared.before.Before.{Before}
+use Rattle.ccr_steps.specs.declared.build.BuildRun.{BuildRun}
 use Rattle.ccr_steps.specs.Asks.{AskData, AnswerData, Exchange, Chosen}
 use Rattle.ccr_steps.specs.Gains.{GainsData, Grew, no_gains, gains_data}
 use Rattle.ccr_steps.specs.Inputs.{inputs_data}
@@ -17,8 +18,15 @@ pub record RunData : Type 0 where
   pub gains : GainsData
   pub turn : ℕ
 
+-- a build, without where its parts lie in memory
 abbrev pub run_data : BuildRun → RunData
-run_data r = record { plan = tree_of r.plan; inputs = inputs_data r.inputs; at = moment_data r.at; gains = gains_data r.gains; turn = r.turn }
+run_data r = record {
+  plan = tree_of r.plan.value;
+  inputs = inputs_data r.inputs;
+  at = moment_data r.at;
+  gains = gains_data r.gains;
+  turn = r.turn;
+}
 
 -- the play from here on
 abbrev pub rest_of : RunData → Play
@@ -54,5 +62,14 @@ TakesAnswer old new x =
 
 -- a build that is as it was, but that more may have come at the ends of what it gained
 abbrev pub Grown : RunData → RunData → Type 0
-Grown old new =
-    (new ≡ record { plan = old.plan; inputs = old.inputs; at = old.at; gains = new.gains; turn = old.turn }) × Grew old.gains new.gains
+Grown old new = (new ≡ record old { gains = new.gains }) × Grew old.gains new.gains
+
+-- a build as it was before an answer
+abbrev pub undone : Before → RunData → RunData
+undone b r = record {
+  plan = r.plan;
+  inputs = r.inputs;
+  at = moment_data b.at;
+  gains = record { names = take b.names r.gains.names; moved = take b.moved r.gains.moved };
+  turn = b.turn;
+}

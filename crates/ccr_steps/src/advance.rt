@@ -1,9 +1,9 @@
 //! How a build goes on when the step that it waited for has ended: up the path to the next ask, or to its end.
-ghost use Rattle.std.specs.Prelude.{ℕ, false, ◌≡◌, ◌<◌, ◌+◌, length, take, drop, map, slice_get, None, Some, IfOk};
-ghost use Rattle.ccr_pipeline.specs.Tree.{Tree, tree_of, trees_of, in_order, in_parallel, tried, attempts, hook as hook_tree};
+ghost use Rattle.std.specs.Prelude.{ℕ, false, ◌≡◌, ◌<◌, length, take, slice_get, None, Some, IfOk};
+ghost use Rattle.ccr_pipeline.specs.Tree.{Tree, tree_of, in_order, in_parallel, tried, attempts, hook as hook_tree};
 ghost use Rattle.ccr_steps.specs.FrameKinds.{hook_frame};
 ghost use Rattle.ccr_steps.specs.Gains.{gains_data};
-ghost use Rattle.ccr_steps.specs.Frames.{Came, CameUnder, goes_on};
+ghost use Rattle.ccr_steps.specs.Frames.{WentOn, WentOnUnder, trees};
 
 use crate::begin::{begin_all, begin_hook, begin_in_order, retry};
 use crate::frame::{Frame, frame_at, hook_in, is_in, left_in, place_in};
@@ -31,7 +31,8 @@ fn advance_under(
     ended: Outcome,
 ) -> Result<Option<Outcome>, AllocError>
     requires { level < length frames.old.items }
-    ensures { IfOk result (λ r. (f : Frame) → slice_get frames.old.items level ≡ Some f → CameUnder f (λ c. goes_on c (tree_of step.now) (drop (level + 1) frames.old.items) ended (gains_data gains.now)) (tree_of step.now) (gains_data gains.now) (take level frames.old.items) frames.new.items r) }
+    ensures { IfOk result (λ r. WentOnUnder (tree_of step.now) (gains_data gains.now) level ended
+        frames.old.items frames.new.items r) }
 {
     let came = advance(step, gains, frames, level + 1, ended)?;
     if came.is_some() {
@@ -50,7 +51,8 @@ pub(crate) fn advance(
     level: usize,
     ended: Outcome,
 ) -> Result<Option<Outcome>, AllocError>
-    ensures { IfOk result (λ r. Came (λ c. goes_on c (tree_of step.now) (drop level frames.old.items) ended (gains_data gains.now)) (tree_of step.now) (gains_data gains.now) (take level frames.old.items) frames.new.items r) }
+    ensures { IfOk result (λ r. WentOn (tree_of step.now) (gains_data gains.now) level ended
+        frames.old.items frames.new.items r) }
 {
     match step {
         Step::Get(_) | Step::Put(_) | Step::Task(_) => {
@@ -82,7 +84,8 @@ fn advance_try(
     level: usize,
     ended: Outcome,
 ) -> Result<Option<Outcome>, AllocError>
-    ensures { IfOk result (λ r. Came (λ c. goes_on c (tried (tree_of step.now)) (drop level frames.old.items) ended (gains_data gains.now)) (tried (tree_of step.now)) (gains_data gains.now) (take level frames.old.items) frames.new.items r) }
+    ensures { IfOk result (λ r. WentOn (tried (tree_of step.now)) (gains_data gains.now) level ended
+        frames.old.items frames.new.items r) }
 {
     if !is_in(frame_at(frames, level)) {
         return Ok(lost(frames, level));
@@ -101,7 +104,8 @@ fn advance_tries(
     level: usize,
     ended: Outcome,
 ) -> Result<Option<Outcome>, AllocError>
-    ensures { IfOk result (λ r. (n : ℕ) → Came (λ c. goes_on c (attempts n (tree_of step.now)) (drop level frames.old.items) ended (gains_data gains.now)) (attempts n (tree_of step.now)) (gains_data gains.now) (take level frames.old.items) frames.new.items r) }
+    ensures { IfOk result (λ r. (n : ℕ) → WentOn (attempts n (tree_of step.now)) (gains_data gains.now) level ended
+        frames.old.items frames.new.items r) }
 {
     let Some(left) = left_in(frame_at(frames, level)) else {
         return Ok(lost(frames, level));
@@ -123,7 +127,8 @@ fn advance_hooked(
     ended: Outcome,
 ) -> Result<Option<Outcome>, AllocError>
     requires { hook_frame (slice_get frames.old.items level) ≡ None }
-    ensures { IfOk result (λ r. Came (λ c. goes_on c (hook_tree when (tree_of step.now) (tree_of hook.now)) (drop level frames.old.items) ended (gains_data gains.now)) (hook_tree when (tree_of step.now) (tree_of hook.now)) (gains_data gains.now) (take level frames.old.items) frames.new.items r) }
+    ensures { IfOk result (λ r. WentOn (hook_tree when (tree_of step.now) (tree_of hook.now)) (gains_data gains.now)
+        level ended frames.old.items frames.new.items r) }
 {
     if !is_in(frame_at(frames, level)) {
         return Ok(lost(frames, level));
@@ -145,7 +150,9 @@ fn advance_in_hook(
 ) -> Result<Option<Outcome>, AllocError>
     requires within { level < length frames.old.items }
     requires at { slice_get frames.old.items level ≡ Some (Frame.Hook outcome) }
-    ensures { IfOk result (λ r. (w : When) (t : Tree) → Came (λ c. goes_on c (hook_tree w t (tree_of hook.now)) (drop level frames.old.items) ended (gains_data gains.now)) (hook_tree w t (tree_of hook.now)) (gains_data gains.now) (take level frames.old.items) frames.new.items r) }
+    ensures { IfOk result (λ r. (w : When) (t : Tree)
+        → WentOn (hook_tree w t (tree_of hook.now)) (gains_data gains.now)
+        level ended frames.old.items frames.new.items r) }
 {
     match advance_under(hook, gains, frames, level, ended)? {
         Some(end) => Ok(Some(outcome.worse(end))),
@@ -161,7 +168,8 @@ fn advance_in_order(
     level: usize,
     ended: Outcome,
 ) -> Result<Option<Outcome>, AllocError>
-    ensures { IfOk result (λ r. Came (λ c. goes_on c (in_order (trees_of (map tree_of steps.now))) (drop level frames.old.items) ended (gains_data gains.now)) (in_order (trees_of (map tree_of steps.now))) (gains_data gains.now) (take level frames.old.items) frames.new.items r) }
+    ensures { IfOk result (λ r. WentOn (in_order (trees steps.now)) (gains_data gains.now) level ended
+        frames.old.items frames.new.items r) }
 {
     let Some((k, _worst)) = place_in(frame_at(frames, level)) else {
         return Ok(lost(frames, level));
@@ -184,7 +192,8 @@ fn advance_all(
     level: usize,
     ended: Outcome,
 ) -> Result<Option<Outcome>, AllocError>
-    ensures { IfOk result (λ r. Came (λ c. goes_on c (in_parallel (trees_of (map tree_of steps.now)) false) (drop level frames.old.items) ended (gains_data gains.now)) (in_parallel (trees_of (map tree_of steps.now)) false) (gains_data gains.now) (take level frames.old.items) frames.new.items r) }
+    ensures { IfOk result (λ r. WentOn (in_parallel (trees steps.now) false) (gains_data gains.now) level ended
+        frames.old.items frames.new.items r) }
 {
     let Some((k, worst)) = place_in(frame_at(frames, level)) else {
         return Ok(lost(frames, level));

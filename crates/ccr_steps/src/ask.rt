@@ -49,8 +49,8 @@ pub enum Answered {
     Pushed(Version),
     /// The task file holds this.
     Config(TaskConfig),
-    /// A program told that it failed.
+    /// The program reported a failure.
     Failed,
-    /// Something was in the way of a program, or it told nothing that can be read.
+    /// The program couldn't be run, or its reply couldn't be read.
     Errored,
 }

@@ -1,9 +1,10 @@
 //! How a step is begun: down to the first ask, or to its end where nothing is asked.
-ghost use Rattle.std.specs.Prelude.{ℕ, false, ◌≡◌, ◌≤◌, [], ◌∷◌, ◌++◌, length, drop, map, IfOk, OnOk};
-ghost use Rattle.ccr_pipeline.specs.Tree.{tree_of, trees_of, task_data, Tree, in_order, in_parallel, attempts, hook as hook_tree};
+ghost use Rattle.std.specs.Prelude.{ℕ, false, ◌≡◌, ◌≤◌, [], ◌∷◌, ◌++◌, length, drop, IfOk, OnOk};
+ghost use Rattle.ccr_pipeline.specs.Tree.{tree_of, task_data, Tree, in_order, in_parallel, attempts};
+ghost use Rattle.ccr_pipeline.specs.Tree.{hook as hook_tree};
 ghost use Rattle.ccr_steps.specs.Gains.{gains_data};
-ghost use Rattle.ccr_steps.specs.Play.{and_then, and_worse_end, after_hooked, play, play_in_order, play_all, task_by, tries};
-ghost use Rattle.ccr_steps.specs.Frames.{Came, CameUnder, begins_task, more_tries};
+ghost use Rattle.ccr_steps.specs.Play.{and_then, and_worse_end, after_hooked, play, play_in_order, play_all, tries};
+ghost use Rattle.ccr_steps.specs.Frames.{Came, Begun, BegunUnder, begins_task, more_tries, trees};
 
 use crate::frame::Frame;
 use crate::gains::Gains;
@@ -36,7 +37,8 @@ fn begin_under(
     gains: &Gains,
     frames: &mut Vec<Frame>,
 ) -> Result<Option<Outcome>, AllocError>
-    ensures { IfOk result (λ r. CameUnder frame (λ c. play c (tree_of step.now) (gains_data gains.now)) (tree_of step.now) (gains_data gains.now) frames.old.items frames.new.items r) }
+    ensures { IfOk result (λ r. BegunUnder frame (tree_of step.now) (gains_data gains.now)
+        frames.old.items frames.new.items r) }
 {
     let level = frames.len();
     put(frames, frame)?;
@@ -54,7 +56,7 @@ pub(crate) fn begin(
     gains: &Gains,
     frames: &mut Vec<Frame>,
 ) -> Result<Option<Outcome>, AllocError>
-    ensures { IfOk result (λ r. Came (λ c. play c (tree_of step.now) (gains_data gains.now)) (tree_of step.now) (gains_data gains.now) frames.old.items frames.new.items r) }
+    ensures { IfOk result (λ r. Begun (tree_of step.now) (gains_data gains.now) frames.old.items frames.new.items r) }
 {
     match step {
         Step::Get(_get) => Ok(None),
@@ -91,12 +93,15 @@ pub(crate) fn begin_tries(
     gains: &Gains,
     frames: &mut Vec<Frame>,
 ) -> Result<Option<Outcome>, AllocError>
-    ensures { IfOk result (λ r. (n : ℕ) → Came (λ c. tries left (play c (tree_of step.now)) (gains_data gains.now)) (attempts n (tree_of step.now)) (gains_data gains.now) frames.old.items frames.new.items r) }
+    ensures { IfOk result (λ r. (n : ℕ)
+        → Came (λ c. tries left (play c (tree_of step.now)) (gains_data gains.now))
+        (attempts n (tree_of step.now)) (gains_data gains.now) frames.old.items frames.new.items r) }
 {
     begin_under(Frame::Left(left), step, gains, frames)
 }
 
-/// Begins another try of a step that ended so, if it may be tried again and a try is left; else the outcome is the try's.
+/// Begins another try of a step that ended so, if it may be tried again and a try is left; else the outcome is the
+/// try's.
 pub(crate) fn retry(
     left: u64,
     outcome: Outcome,
@@ -104,7 +109,9 @@ pub(crate) fn retry(
     gains: &Gains,
     frames: &mut Vec<Frame>,
 ) -> Result<Option<Outcome>, AllocError>
-    ensures { IfOk result (λ r. (n : ℕ) → Came (λ c. more_tries left (play c (tree_of step.now)) outcome (gains_data gains.now)) (attempts n (tree_of step.now)) (gains_data gains.now) frames.old.items frames.new.items r) }
+    ensures { IfOk result (λ r. (n : ℕ)
+        → Came (λ c. more_tries left (play c (tree_of step.now)) outcome (gains_data gains.now))
+        (attempts n (tree_of step.now)) (gains_data gains.now) frames.old.items frames.new.items r) }
 {
     if left == 0 || !outcome.is_tried_again() {
         return Ok(Some(outcome));
@@ -121,7 +128,9 @@ pub(crate) fn begin_hook(
     gains: &Gains,
     frames: &mut Vec<Frame>,
 ) -> Result<Option<Outcome>, AllocError>
-    ensures { IfOk result (λ r. (t : Tree) → Came (λ c. after_hooked when (play c (tree_of hook.now)) outcome (gains_data gains.now)) (hook_tree when t (tree_of hook.now)) (gains_data gains.now) frames.old.items frames.new.items r) }
+    ensures { IfOk result (λ r. (t : Tree)
+        → Came (λ c. after_hooked when (play c (tree_of hook.now)) outcome (gains_data gains.now))
+        (hook_tree when t (tree_of hook.now)) (gains_data gains.now) frames.old.items frames.new.items r) }
 {
     if !runs_after(when, outcome) {
         return Ok(Some(outcome));
@@ -141,7 +150,8 @@ pub(crate) fn begin_in_order(
     frames: &mut Vec<Frame>,
 ) -> Result<Option<Outcome>, AllocError>
     requires { from ≤ length steps.now }
-    ensures { IfOk result (λ r. Came (λ c. play_in_order c (trees_of (map tree_of (drop from steps.now))) (gains_data gains.now)) (in_order (trees_of (map tree_of steps.now))) (gains_data gains.now) frames.old.items frames.new.items r) }
+    ensures { IfOk result (λ r. Came (λ c. play_in_order c (trees (drop from steps.now)) (gains_data gains.now))
+        (in_order (trees steps.now)) (gains_data gains.now) frames.old.items frames.new.items r) }
 {
     for i in from..steps.len() {
         match begin_under(Frame::At(i, Outcome::Succeeded), &steps[i], gains, frames)? {
@@ -163,7 +173,9 @@ pub(crate) fn begin_all(
     frames: &mut Vec<Frame>,
 ) -> Result<Option<Outcome>, AllocError>
     requires { from ≤ length steps.now }
-    ensures { IfOk result (λ r. Came (λ c. and_then (play_all c (trees_of (map tree_of (drop from steps.now))) (gains_data gains.now)) (and_worse_end worst)) (in_parallel (trees_of (map tree_of steps.now)) false) (gains_data gains.now) frames.old.items frames.new.items r) }
+    ensures { IfOk result (λ r.
+        Came (λ c. and_then (play_all c (trees (drop from steps.now)) (gains_data gains.now)) (and_worse_end worst))
+        (in_parallel (trees steps.now) false) (gains_data gains.now) frames.old.items frames.new.items r) }
 {
     let mut worst = worst;
     for i in from..steps.len() {

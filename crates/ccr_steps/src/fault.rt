@@ -11,7 +11,7 @@ pub enum FeedFault {
     /// The build has ended: it asks nothing.
     #[error("nothing asked")]
     NothingAsked,
-    /// A growth of memory was refused.
+    /// Out of memory.
     #[error("out of memory")]
     NoMemory,
 }

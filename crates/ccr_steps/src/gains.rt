@@ -1,8 +1,9 @@
 //! What a build gains as it goes on.
-ghost use Rattle.std.specs.Prelude.{◌≡◌, [], ◌∷◌, map, string_bytes, length, take, IfOk, OnOk};
+ghost use Rattle.std.specs.Prelude.{◌≡◌, map, string_bytes, take, IfOk, OnOk};
 ghost use Rattle.std.specs.List.{list_all, list_any};
 ghost use Rattle.ccr_pipeline.specs.Tree.{input_data};
-ghost use Rattle.ccr_steps.specs.Gains.{gains_data, moved_data, Grew, no_gains, is_same, has_moved, register, register_all, move, has_input, has_inputs};
+ghost use Rattle.ccr_steps.specs.Gains.{gains_data, moved_data, Grew, no_gains, is_same, has_moved};
+ghost use Rattle.ccr_steps.specs.Gains.{register, register_all, move, has_input, has_inputs};
 
 use crate::moved::Moved;
 use ccr_history::Version;

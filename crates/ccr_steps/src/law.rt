@@ -1,8 +1,14 @@
 //! The laws of what steps mean.
-ghost use Rattle.ccr_steps.specs.Progress.{AnswersDecide};
+ghost use Rattle.ccr_steps.specs.Progress.{AnswersDecide, BeginningsDecide};
 
-/// The answers decide: two lists of exchanges that one plan allows for the same input versions, and whose answers agree,
-/// have the same asks, outcome and moved versions, whatever stands between them.
+/// The answers decide: two lists of exchanges that one plan allows for the same input versions, and whose answers
+/// agree, have the same asks, outcome and moved versions, whatever stands between them.
 pub fn answers_decide()
     ensures { AnswersDecide }
+{}
+
+/// The answers decide in builds that still run, too: two lists of exchanges that one plan allows as beginnings for the
+/// same input versions, and whose answers agree, have the same asks as far as both go, and the same next ask.
+pub fn beginnings_decide()
+    ensures { BeginningsDecide }
 {}

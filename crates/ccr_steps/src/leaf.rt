@@ -4,20 +4,21 @@ ghost use Rattle.ccr_pipeline.specs.Tree.{tree_of, get_data, put_data, task_data
 ghost use Rattle.ccr_steps.specs.Asks.{Chosen, ask_data, answer_data};
 ghost use Rattle.ccr_steps.specs.Frames.{first, leaf_data, leaf_ask, leaf_next, source_next, NextIs};
 ghost use Rattle.ccr_steps.specs.Gains.{gains_data, Grew, register};
-ghost use Rattle.ccr_steps.specs.Inputs.{inputs_data};
+ghost use Rattle.ccr_steps.specs.Inputs.{inputs_data, HasVersion};
 ghost use Rattle.ccr_steps.specs.Means.{got_version};
 ghost use Rattle.ccr_steps.specs.Play.{ended, after_fetch, after_push, after_read, after_run};
 
 use crate::ask::{Answered, Ask};
-use crate::chosen::Inputs;
 use crate::frame::Leaf;
 use crate::gains::Gains;
+use crate::inputs::Inputs;
 use crate::outcome::Outcome;
 use ccr_history::Version;
 use ccr_pipeline::{Get, Put, Step, Task, TaskSource};
 use std::alloc::{AllocError, Global};
 
 fn first_ask<'r>(step: &'r Step, inputs: &'r Inputs) -> Option<Ask<'r>>
+    requires { HasVersion (inputs_data inputs.now) (tree_of step.now) }
     ensures { option_map ask_data result ≡ leaf_ask (inputs_data inputs.now) (tree_of step.now) first }
 {
     match step {
@@ -47,7 +48,9 @@ fn first_ask<'r>(step: &'r Step, inputs: &'r Inputs) -> Option<Ask<'r>>
 
 /// What a step at the end of a path waits for.
 pub(crate) fn leaf_ask<'r>(step: &'r Step, leaf: &'r Leaf, inputs: &'r Inputs) -> Option<Ask<'r>>
-    ensures { option_map ask_data result ≡ leaf_ask (inputs_data inputs.now) (tree_of step.now) (leaf_data leaf.now) }
+    requires { HasVersion (inputs_data inputs.now) (tree_of step.now) }
+    ensures { option_map ask_data result
+        ≡ leaf_ask (inputs_data inputs.now) (tree_of step.now) (leaf_data leaf.now) }
 {
     match (step, leaf) {
         (_, Leaf::First) => first_ask(step, inputs),
@@ -81,7 +84,9 @@ fn answer_get(
     gains: &mut Gains,
     answer: &Answered,
 ) -> Result<Outcome, AllocError>
-    ensures ok { IfOk result (λ o. after_fetch (got_version (get_data get.now) version.now) (answer_data answer.now) (gains_data gains.old) ≡ ended o (gains_data gains.new)) }
+    ensures ok { IfOk result (λ o.
+        after_fetch (got_version (get_data get.now) version.now) (answer_data answer.now) (gains_data gains.old)
+        ≡ ended o (gains_data gains.new)) }
     ensures grew { Grew (gains_data gains.old) (gains_data gains.new) }
 {
     match answer {
@@ -101,7 +106,9 @@ fn answer_fetch(
     gains: &mut Gains,
     answer: &Answered,
 ) -> Result<Outcome, AllocError>
-    ensures ok { IfOk result (λ o. after_fetch (register name.now) (answer_data answer.now) (gains_data gains.old) ≡ ended o (gains_data gains.new)) }
+    ensures ok { IfOk result (λ o.
+        after_fetch (register name.now) (answer_data answer.now) (gains_data gains.old)
+        ≡ ended o (gains_data gains.new)) }
     ensures grew { Grew (gains_data gains.old) (gains_data gains.new) }
 {
     match answer {
@@ -120,7 +127,9 @@ fn answer_push(
     gains: &mut Gains,
     answer: Answered,
 ) -> Result<Next, AllocError>
-    ensures ok { IfOk result (λ n. (c : Chosen) → NextIs c (after_push (put_data put.now) (answer_data answer) (gains_data gains.old)) (put_tree (put_data put.now)) (gains_data gains.new) n) }
+    ensures ok { IfOk result (λ n. (c : Chosen)
+        → NextIs c (after_push (put_data put.now) (answer_data answer) (gains_data gains.old))
+        (put_tree (put_data put.now)) (gains_data gains.new) n) }
     ensures grew { Grew (gains_data gains.old) (gains_data gains.new) }
 {
     match answer {
@@ -144,7 +153,9 @@ fn answer_run(
     gains: &mut Gains,
     answer: &Answered,
 ) -> Result<Outcome, AllocError>
-    ensures ok { IfOk result (λ o. after_run (map string_bytes outputs.now) (answer_data answer.now) (gains_data gains.old) ≡ ended o (gains_data gains.new)) }
+    ensures ok { IfOk result (λ o.
+        after_run (map string_bytes outputs.now) (answer_data answer.now) (gains_data gains.old)
+        ≡ ended o (gains_data gains.new)) }
     ensures grew { Grew (gains_data gains.old) (gains_data gains.new) }
 {
     let outcome = match answer {
@@ -159,7 +170,9 @@ fn answer_run(
 }
 
 fn answer_read(task: &Task, gains: &Gains, answer: Answered) -> Next
-    ensures { (c : Chosen) → NextIs c (after_read (task_data task.now).params (answer_data answer) (gains_data gains.now)) (task_tree (task_data task.now)) (gains_data gains.now) result }
+    ensures { (c : Chosen)
+        → NextIs c (after_read (task_data task.now).params (answer_data answer) (gains_data gains.now))
+        (task_tree (task_data task.now)) (gains_data gains.now) result }
 {
     let Answered::Config(config) = answer else {
         return Next::Ended(Outcome::Errored);
@@ -177,7 +190,9 @@ fn answer_task(
     gains: &mut Gains,
     answer: Answered,
 ) -> Result<Next, AllocError>
-    ensures ok { IfOk result (λ n. (c : Chosen) → NextIs c (source_next (task_data task.now).source (task_data task.now).params (answer_data answer) (gains_data gains.old)) (task_tree (task_data task.now)) (gains_data gains.new) n) }
+    ensures ok { let t = task_data task.now in IfOk result (λ n. (c : Chosen)
+        → NextIs c (source_next t.source t.params (answer_data answer) (gains_data gains.old))
+        (task_tree t) (gains_data gains.new) n) }
     ensures grew { Grew (gains_data gains.old) (gains_data gains.new) }
 {
     match &task.source {
@@ -188,8 +203,8 @@ fn answer_task(
     }
 }
 
-/// Goes on with an answer in a step at the end of a path. What the build has gained grows at its ends, also where memory is
-/// refused.
+/// Goes on with an answer in a step at the end of a path. What the build has gained grows at its ends, also where it is
+/// out of memory.
 pub(crate) fn answer_leaf(
     alloc: Global,
     step: &Step,
@@ -198,7 +213,10 @@ pub(crate) fn answer_leaf(
     gains: &mut Gains,
     answer: Answered,
 ) -> Result<Next, AllocError>
-    ensures ok { IfOk result (λ n. NextIs (inputs_data inputs.now) (leaf_next (inputs_data inputs.now) (tree_of step.now) (leaf_data leaf.now) (answer_data answer) (gains_data gains.old)) (tree_of step.now) (gains_data gains.new) n) }
+    requires { HasVersion (inputs_data inputs.now) (tree_of step.now) }
+    ensures ok { let c = inputs_data inputs.now in IfOk result (λ n.
+        NextIs c (leaf_next c (tree_of step.now) (leaf_data leaf.now) (answer_data answer) (gains_data gains.old))
+        (tree_of step.now) (gains_data gains.new) n) }
     ensures grew { Grew (gains_data gains.old) (gains_data gains.new) }
 {
     match (step, leaf) {

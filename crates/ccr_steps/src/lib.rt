@@ -8,17 +8,19 @@
 //! build stands for the exchanges that it has had so far: they begin a list that its plan allows, what it wants is the
 //! ask that comes next in every such list, and it has ended exactly where the list is whole.
 //!
-//! A build owns a copy of its plan, which never changes, and beside it a path down to the step that waits, one small
-//! frame a level. So going on takes as long as the way from one asking step to the next, however much was asked before.
+//! The builds of a job share its plan, which never changes. Each has a path of its own down to the step that waits, one
+//! small frame a level. So going on takes as long as the way from one asking step to the next, however much was asked
+//! before.
 //!
-//! Refusals are the variants of [`FeedFault`]; they leave the build as it was. Want of memory is answered only where a
-//! growth was refused.
+//! Refusals are the variants of [`FeedFault`]; they leave the build as it was. An answer that a build took can be taken
+//! back: [`BuildRun::feed_back`] gives what [`BuildRun::undo`] needs.
 #![tactic(auto)]
 
 mod advance;
 mod ask;
+mod before;
 mod begin;
-mod chosen;
+mod build;
 mod fault;
 mod frame;
 mod gains;
@@ -32,11 +34,10 @@ mod path;
 mod run;
 
 pub use ask::{Answered, Ask};
+pub use before::Before;
+pub use build::BuildRun;
 pub use fault::FeedFault;
-pub use law::answers_decide;
+pub use law::{answers_decide, beginnings_decide};
 pub use moved::Moved;
 pub use outcome::Outcome;
-pub use run::{BuildRun, start};
-
-#[cfg(test)]
-mod tests;
+pub use run::start;

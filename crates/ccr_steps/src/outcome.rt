@@ -8,11 +8,11 @@ use ccr_pipeline::When;
 /// How a step, a build or a try of it ended, from best to worst.
 #[derive(Clone, Copy, Debug, PartialEq, Eq)]
 pub enum Outcome {
-    /// What it was to do is done.
+    /// It did what it was to do.
     Succeeded,
-    /// A program told that it failed.
+    /// A program reported a failure.
     Failed,
-    /// Something was in the way of a program, or it told nothing that can be read.
+    /// A program couldn't be run, or its reply couldn't be read.
     Errored,
     /// It was stopped by command.
     Aborted,

@@ -1,14 +1,14 @@
 //! The step at the end of a path of frames.
-ghost use Rattle.std.specs.Prelude.{◌≡◌, drop, map, option_map};
-ghost use Rattle.ccr_pipeline.specs.Tree.{tree_of, trees_of, in_order, tried, hook as hook_tree};
-ghost use Rattle.ccr_steps.specs.Frames.{leaf_at};
+ghost use Rattle.std.specs.Prelude.{◌≡◌, drop, option_map};
+ghost use Rattle.ccr_pipeline.specs.Tree.{tree_of, in_order};
+ghost use Rattle.ccr_steps.specs.Frames.{leaf_at, trees};
 
 use crate::frame::{Frame, frame_at, hook_in, is_in, left_in, place_in};
 use ccr_pipeline::Step;
 
 #[cycle(paths)]
 fn leaf_in<'r>(steps: &'r [Step], frames: &[Frame], level: usize) -> Option<&'r Step>
-    ensures { option_map (λ s. tree_of s.now) result ≡ leaf_at (in_order (trees_of (map tree_of steps.now))) (drop level frames.now) }
+    ensures { option_map (λ s. tree_of s.now) result ≡ leaf_at (in_order (trees steps.now)) (drop level frames.now) }
 {
     let Some((k, _worst)) = place_in(frame_at(frames, level)) else {
         return None;

@@ -1,46 +1,45 @@
 //! Builds that run.
-ghost use Rattle.std.specs.Prelude.{◌≡◌, [], ◌∷◌, ◌++◌, ◌↔◌, List, None, map, option_map, IfOk, OnOk, OnErr, IsErrOf};
+ghost use Rattle.std.specs.Prelude.{◌≡◌, [], ◌∷◌, ◌++◌, ◌↔◌, List, None, length, map, option_map};
+ghost use Rattle.std.specs.Prelude.{IfOk, OnOk, OnErr, IsErrOf};
 ghost use Rattle.std.specs.Option.{IfSome};
+ghost use Rattle.ccr_pipeline.specs.Inputs.{inputs};
+ghost use Rattle.ccr_pipeline.specs.Limits.{input_names};
 ghost use Rattle.ccr_pipeline.specs.Tree.{Tree, tree_of};
-ghost use Rattle.ccr_steps.specs.Asks.{AskData, Chosen, Exchange, NamesResourceOf, ask_data, answer_data, chosen, exchange};
-ghost use Rattle.ccr_steps.specs.Gains.{moved_data};
-ghost use Rattle.ccr_steps.specs.Inputs.{input_names};
+ghost use Rattle.ccr_steps.specs.Asks.{AskData, Chosen, Exchange, NamesResourceOf};
+ghost use Rattle.ccr_steps.specs.Asks.{ask_data, answer_data, chosen, exchange};
+ghost use Rattle.ccr_steps.specs.Gains.{gains_data, moved_data, Grew};
 ghost use Rattle.ccr_steps.specs.Moments.{moment_data, step_at};
-ghost use Rattle.ccr_steps.specs.Progress.{IsAllowed, IsNext, IsWanted, IsOutcome, HasMoved};
-ghost use Rattle.ccr_steps.specs.Runs.{run_data, StandsFor, TakesAnswer, HasTurn, Grown};
+ghost use Rattle.ccr_steps.specs.Progress.{IsAllowed, Begins, IsNext, IsWanted, IsOutcome, HasMoved};
+ghost use Rattle.ccr_steps.specs.Runs.{run_data, StandsFor, TakesAnswer, HasTurn, Grown, undone};
 
 use crate::ask::{Answered, Ask};
+use crate::before::Before;
 use crate::begin::begin;
-use crate::chosen::Inputs;
+use crate::build::BuildRun;
 use crate::fault::FeedFault;
 use crate::frame::Leaf;
 use crate::gains::Gains;
+use crate::inputs::Inputs;
 use crate::leaf::{answer_leaf, leaf_ask};
 use crate::moment::Moment;
 use crate::moved::Moved;
 use crate::outcome::Outcome;
 use ccr_history::Version;
-use ccr_pipeline::{Job, Step};
+use ccr_pipeline::Job;
 use std::alloc::{AllocError, Global};
-
-/// A build that runs: it gives one ask at a time, is stopped, and goes on with the answer.
-#[derive(Drop)]
-pub struct BuildRun {
-    pub(crate) plan: Step,
-    pub(crate) inputs: Inputs,
-    pub(crate) at: Moment,
-    pub(crate) gains: Gains,
-    pub(crate) turn: u64,
-}
+use std::mem;
 
 /// A build of a job that has had no answer yet, with a version for each of the job's inputs, in their order
 /// (`ccr_pipeline::inputs_of`). A build whose plan asks nothing has ended already.
-pub fn start(alloc: Global, job: &Job, inputs: &[Version]) -> Result<BuildRun, AllocError>
-    ensures { IfOk result (λ run. StandsFor (run_data run) (tree_of job.now.plan)
-        (chosen (input_names (tree_of job.now.plan)) inputs.now) []) }
+///
+/// The plan isn't copied: the build shares it with the job, and keeps it when the pipeline changes.
+pub fn start(alloc: Global, job: &Job, versions: &[Version]) -> Result<BuildRun, AllocError>
+    requires { length versions.now ≡ length (inputs (tree_of job.now.plan.value)) }
+    ensures { IfOk result (λ run. StandsFor (run_data run) (tree_of job.now.plan.value)
+        (chosen (input_names (tree_of job.now.plan.value)) versions.now) []) }
 {
-    let plan = job.plan.copy(alloc)?;
-    let inputs = Inputs::new(alloc, job, inputs)?;
+    let plan = job.plan.clone()?;
+    let inputs = Inputs::new(alloc, job, versions)?;
     let gains = Gains::new(alloc);
     let mut frames = Vec::new(alloc);
     let outcome = begin(&plan, &gains, &mut frames)?;
@@ -62,9 +61,11 @@ impl BuildRun {
     /// What the build waits for; None where it has ended. A resource that it names is one of the plan's. No memory is
     /// taken.
     pub fn wants(&self) -> Option<Ask<'_>>
-        ensures next { (plan : Tree) (inputs : Chosen) (es : List Exchange) → StandsFor (run_data self.now) plan inputs es
+        ensures next { (plan : Tree) (inputs : Chosen) (es : List Exchange)
+            → StandsFor (run_data self.now) plan inputs es
             → IsWanted inputs plan es (option_map ask_data result) }
-        ensures named { (plan : Tree) (inputs : Chosen) (es : List Exchange) → StandsFor (run_data self.now) plan inputs es
+        ensures named { (plan : Tree) (inputs : Chosen) (es : List Exchange)
+            → StandsFor (run_data self.now) plan inputs es
             → IfSome (option_map ask_data result) (NamesResourceOf plan) }
     {
         let Some(step) = self.at.step_of(&self.plan) else {
@@ -75,8 +76,13 @@ impl BuildRun {
 
     /// How the build ended; None where it hasn't. No memory is taken.
     pub fn outcome(&self) -> Option<Outcome>
-        ensures { (plan : Tree) (inputs : Chosen) (es : List Exchange) → StandsFor (run_data self.now) plan inputs es
+        ensures outcome { (plan : Tree) (inputs : Chosen) (es : List Exchange)
+            → StandsFor (run_data self.now) plan inputs es
             → IsOutcome inputs plan es result }
+        // What it stands for begins a list that its plan allows.
+        ensures begun { (plan : Tree) (inputs : Chosen) (es : List Exchange)
+            → StandsFor (run_data self.now) plan inputs es
+            → Begins inputs plan es }
     {
         self.at.outcome
     }
@@ -84,7 +90,8 @@ impl BuildRun {
     /// The versions that the build moved, each once: those of the inputs that were fetched, and those that were pushed.
     /// No memory is taken.
     pub fn moved(&self) -> &[Moved]
-        ensures { (plan : Tree) (inputs : Chosen) (es : List Exchange) → StandsFor (run_data self.now) plan inputs es
+        ensures { (plan : Tree) (inputs : Chosen) (es : List Exchange)
+            → StandsFor (run_data self.now) plan inputs es
             → HasMoved inputs plan es (map moved_data result.now) }
     {
         &self.gains.moved
@@ -92,7 +99,8 @@ impl BuildRun {
 
     /// The number of answers so far, modulo 2 to the 64th. No memory is taken.
     pub fn turn(&self) -> u64
-        ensures { (plan : Tree) (inputs : Chosen) (es : List Exchange) → StandsFor (run_data self.now) plan inputs es
+        ensures { (plan : Tree) (inputs : Chosen) (es : List Exchange)
+            → StandsFor (run_data self.now) plan inputs es
             → HasTurn es result }
     {
         self.turn
@@ -103,28 +111,67 @@ impl BuildRun {
     ///
     /// `NothingAsked` where the build has ended; it and `NoMemory` leave the build as it was.
     pub fn feed(&mut self, answer: Answered) -> Result<(), FeedFault>
-        ensures fed { OnOk result ((plan : Tree) (inputs : Chosen) (es : List Exchange) → StandsFor (run_data self.old) plan inputs es
+        ensures fed { OnOk result ((plan : Tree) (inputs : Chosen) (es : List Exchange)
+            → StandsFor (run_data self.old) plan inputs es
             → (a : AskData) × IsNext inputs plan es a
             × StandsFor (run_data self.new) plan inputs (es ++ exchange a (answer_data answer) ∷ [])) }
-        ensures nothing { (plan : Tree) (inputs : Chosen) (es : List Exchange) → StandsFor (run_data self.old) plan inputs es
+        ensures nothing { (plan : Tree) (inputs : Chosen) (es : List Exchange)
+            → StandsFor (run_data self.old) plan inputs es
             → (IsErrOf result FeedFault.NothingAsked ↔ IsAllowed inputs plan es) }
         ensures unchanged { OnErr result (run_data self.new ≡ run_data self.old) }
     {
-        let names = self.gains.names.len();
-        let moved = self.gains.moved.len();
-        let fed = self.take(answer);
-        if fed.is_err() {
-            self.gains.cut(names, moved);
-        }
-        fed
+        let _before = self.feed_back(answer)?;
+        Ok(())
     }
 
-    /// Goes on with an answer. A refusal changes nothing, but that want of memory may leave more at the ends of what
-    /// the build has gained.
-    fn take(&mut self, answer: Answered) -> Result<(), FeedFault>
+    /// Goes on with an answer as [`BuildRun::feed`] does, and gives what [`BuildRun::undo`] takes the answer back with.
+    ///
+    /// `NothingAsked` where the build has ended; it and `NoMemory` leave the build as it was.
+    pub fn feed_back(&mut self, answer: Answered) -> Result<Before, FeedFault>
+        ensures fed { OnOk result ((plan : Tree) (inputs : Chosen) (es : List Exchange)
+            → StandsFor (run_data self.old) plan inputs es
+            → (a : AskData) × IsNext inputs plan es a
+            × StandsFor (run_data self.new) plan inputs (es ++ exchange a (answer_data answer) ∷ [])) }
+        ensures nothing { (plan : Tree) (inputs : Chosen) (es : List Exchange)
+            → StandsFor (run_data self.old) plan inputs es
+            → (IsErrOf result FeedFault.NothingAsked ↔ IsAllowed inputs plan es) }
+        ensures unchanged { OnErr result (run_data self.new ≡ run_data self.old) }
+        ensures back { IfOk result (λ before. undone before (run_data self.new) ≡ run_data self.old) }
+    {
+        let names = self.gains.names.len();
+        let moved = self.gains.moved.len();
+        let turn = self.turn;
+        match self.take(answer) {
+            Ok(at) => Ok(Before {
+                at,
+                names,
+                moved,
+                turn,
+            }),
+            Err(fault) => {
+                self.gains.cut(names, moved);
+                Err(fault)
+            }
+        }
+    }
+
+    /// Takes back the last answer: `before` is what [`BuildRun::feed_back`] gave for it. No memory is taken.
+    pub fn undo(&mut self, before: Before)
+        ensures { run_data self.new ≡ undone before (run_data self.old) }
+    {
+        self.gains.cut(before.names, before.moved);
+        self.turn = before.turn;
+        self.at = before.at;
+    }
+
+    /// Goes on with an answer, and gives where the build was. A refusal changes nothing, but out of memory may leave
+    /// more at the ends of what the build has gained.
+    fn take(&mut self, answer: Answered) -> Result<Moment, FeedFault>
         ensures taken { OnOk result (TakesAnswer (run_data self.old) (run_data self.new) (answer_data answer)) }
+        ensures before { IfOk result (λ m. moment_data m ≡ moment_data self.old.at) }
+        ensures grew { Grew (gains_data self.old.gains) (gains_data self.new.gains) }
         ensures nothing { IsErrOf result FeedFault.NothingAsked
-            ↔ (step_at (moment_data self.old.at) (tree_of self.old.plan) ≡ None) }
+            ↔ (step_at (moment_data self.old.at) (tree_of self.old.plan.value) ≡ None) }
         ensures refused { OnErr result (Grown (run_data self.old) (run_data self.new)) }
     {
         let alloc = *self.at.frames.allocator();
@@ -139,8 +186,8 @@ impl BuildRun {
             &mut self.gains,
             answer,
         )?;
-        self.at = self.at.after(alloc, &self.plan, &self.gains, next)?;
+        let at = self.at.after(alloc, &self.plan, &self.gains, next)?;
         self.turn = self.turn.wrapping_add(1);
-        Ok(())
+        Ok(mem::replace(&mut self.at, at))
     }
 }

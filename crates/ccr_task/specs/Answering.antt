@@ -23,7 +23,8 @@ replied of (Err fault) = errored
 abbrev pub AnswersReply : (TextMap → AnswerData) → List ℕ → AnswerData → Type 0
 AnswersReply of output x = (reading : Reading TextMap) × IsReply step_reply output reading × (x ≡ replied of reading)
 
--- what a program that ended with status 0 answers: a fetch is done and a push gives its version, where the reply has one; a task is done; an ask for a file starts no program
+-- what a program that ended with status 0 answers: a fetch is done and a push gives its version, where the reply has
+-- one; a task is done; an ask for a file starts no program
 abbrev pub AnswersOutput : AskData → List ℕ → AnswerData → Type 0
 AnswersOutput (fetch artifact resource version params) output x = AnswersReply (λ v. done) output x
 AnswersOutput (push artifact resource params) output x = AnswersReply pushed output x
@@ -45,11 +46,14 @@ AnswersEnd ask read_fault x = x ≡ errored
 AnswersEnd ask output_too_long x = x ≡ errored
 AnswersEnd ask no_memory x = ⊥
 
--- what a task file's bytes answer: the config that they are read as, or errored where a fault of the file is told (Concourse: tasks)
+-- what a task file's bytes answer: the config that they are read as, or errored where a fault of the file is told
+-- (Concourse: tasks)
 abbrev pub AnswersConfig : List ℕ → AnswerData → Type 0
 AnswersConfig bytes x =
-    ((config : ConfigData) × IsReading (config_faults (codes "task")) bytes (λ d. config ≡ config_from d) × (x ≡ configured config))
-    ⊎ ((fault : ReadFault) × IsSome (fault_of fault) × Refuses (codes "task") (config_faults (codes "task")) bytes (fault_of fault) × (x ≡ errored))
+    ((config : ConfigData) × IsReading (config_faults (codes "task")) bytes (λ d. config ≡ config_from d)
+    × (x ≡ configured config))
+    ⊎ ((fault : ReadFault) × IsSome (fault_of fault)
+    × Refuses (codes "task") (config_faults (codes "task")) bytes (fault_of fault) × (x ≡ errored))
 
 -- what an answer of a shelf to a task's file answers; want of memory answers nothing
 abbrev pub AnswersFile : Result (Vec ℕ Global) ShelfFault → AnswerData → Type 0

@@ -21,7 +21,8 @@ value_of name vs = lookup (bytes_eq name) vs
 abbrev pub IsAscending : Variables → Type 0
 IsAscending vs = IsStrictlySortedBy (slice_cmp nat_cmp) (keys_of vs)
 
--- a task's environment: the step's variables and those of the config that the step doesn't have, names ascending (Concourse: task step, params)
+-- a task's environment: the step's variables and those of the config that the step doesn't have, names ascending
+-- (Concourse: task step, params)
 pub record IsEnvironment (config step env : Variables) : Type 0 where
   pub ascending : IsAscending env
   pub values : (name : Text) → value_of name env ≡ value_of name (step ++ config)

@@ -8,6 +8,7 @@ use Rattle.ccr_pipeline.specs.Tree.{Text, ConfigData}
 use Rattle.ccr_pipeline.specs.JobData.{ResourceData}
 use Rattle.ccr_steps.specs.Asks.{AskData, fetch, push, read_config, run_task}
 use Rattle.ccr_protocol.specs.Requests.{request_text}
+use Rattle.ccr_protocol.specs.declared.request.TheConstants.{MOST_REQUEST}
 use Rattle.ccr_protocol.specs.declared.fault.RequestFault.{RequestFault}
 use Rattle.ccr_protocol.specs.declared.fault.RequestFault.TheVariants.{TooLong, NoMemory}
 use Rattle.ccr_process.specs.Launches.{LaunchData, launch_data}
@@ -17,19 +18,31 @@ use Rattle.ccr_task.specs.Environment.{Variables, IsEnvironment}
 
 -- a program of a resource's type: its request is its input, its output is kept, and its environment is the server's
 abbrev pub program_launch : PlacesData → ResourceData → Text → List Text → Text → Text → LaunchData
-program_launch places r name args folder request = record { program = program_path places r.kind name; args = args; folder = folder; env = []; input = request; keep = true }
+program_launch places r name args folder request = record {
+  program = program_path places r.kind name;
+  args = args;
+  folder = folder;
+  env = [];
+  input = request;
+  keep = true;
+}
 
--- a check runs in the folder of all builds, without an argument; it is told the newest version, if there is one (Concourse: implementing a resource type, check)
+-- a check runs in the folder of all builds, without an argument; it is told the newest version, if there is one
+-- (Concourse: implementing a resource type, check)
 abbrev pub check_launch : PlacesData → ResourceData → Option TextMap → LaunchData
-check_launch places r version = program_launch places r (codes "check") [] places.work (request_text None r.source version)
+check_launch places r version =
+    program_launch places r (codes "check") [] places.work (request_text None r.source version)
 
--- a fetch runs in the build folder, and the artifact's folder in it is its only argument (Concourse: implementing a resource type, in)
+-- a fetch runs in the build folder, and the artifact's folder in it is its only argument (Concourse: implementing a
+-- resource type, in)
 abbrev pub fetch_launch : PlacesData → Text → Text → ResourceData → TextMap → Option Data → LaunchData
-fetch_launch places build artifact r version params = program_launch places r (codes "in") (below build artifact ∷ []) build (request_text params r.source (Some version))
+fetch_launch places build artifact r version params =
+    program_launch places r (codes "in") (below build artifact ∷ []) build (request_text params r.source (Some version))
 
 -- a push runs in the build folder, which is its only argument (Concourse: implementing a resource type, out)
 abbrev pub push_launch : PlacesData → Text → ResourceData → Option Data → LaunchData
-push_launch places build r params = program_launch places r (codes "out") (build ∷ []) build (request_text params r.source None)
+push_launch places build r params =
+    program_launch places r (codes "out") (build ∷ []) build (request_text params r.source None)
 
 -- the text begins with a slash
 abbrev pub begins_with_slash : Text → Bool
@@ -38,14 +51,16 @@ begins_with_slash (b ∷ bs) = b == 47
 
 -- a path that begins with a slash, or a name without one, stands as it is; another path begins at the build folder
 abbrev pub task_program : Text → Text → Text
-task_program build path = if begins_with_slash path || not (list_any (λ b. b == 47) path) then path else below build path
+task_program build path =
+    if begins_with_slash path || not (list_any (λ b. b == 47) path) then path else below build path
 
 -- a task runs in the build folder, or in the folder below it that its config names
 abbrev pub task_folder : Text → Option Text → Text
 task_folder build None = build
 task_folder build (Some dir) = below build dir
 
--- a task's program in a build folder, with the step's variables: nothing is its input, and its output isn't kept (Concourse: task config, run)
+-- a task's program in a build folder, with the step's variables: nothing is its input, and its output isn't kept
+-- (Concourse: task config, run)
 pub record IsTaskLaunch (build : Text) (config : ConfigData) (step : Variables) (l : LaunchData) : Type 0 where
   pub program : l.program ≡ task_program build config.run.path
   pub args : l.args ≡ config.run.args
@@ -54,10 +69,10 @@ pub record IsTaskLaunch (build : Text) (config : ConfigData) (step : Variables) 
   pub input : l.input ≡ []
   pub keep : l.keep ≡ false
 
--- this launch, or a refusal exactly where its input has more than 65,536 bytes; of memory it says nothing
+-- this launch, or a refusal exactly where its input is more than a request may be; of memory it says nothing
 abbrev pub Launches : LaunchData → Result Launch RequestFault → Type 0
-Launches l (Ok launch) = (launch_data launch ≡ l) × (length l.input ≤ 65536)
-Launches l (Err TooLong) = 65536 < length l.input
+Launches l (Ok launch) = (launch_data launch ≡ l) × (length l.input ≤ MOST_REQUEST)
+Launches l (Err TooLong) = MOST_REQUEST < length l.input
 Launches l (Err NoMemory) = ⊤
 
 -- a task's launch is refused for want of memory alone
@@ -87,7 +102,11 @@ starts_program (run_task config env) = true
 
 -- what an ask of a build that works in this folder is launched as: a fetch, a push or a task's program
 abbrev pub LaunchesAsk : PlacesData → List ResourceData → Text → AskData → Result Launch RequestFault → Type 0
-LaunchesAsk places rs build (fetch artifact resource version params) result = (r : ResourceData) → resource_named resource rs ≡ Some r → Launches (fetch_launch places build artifact r version params) result
-LaunchesAsk places rs build (push artifact resource params) result = (r : ResourceData) → resource_named resource rs ≡ Some r → Launches (push_launch places build r params) result
+LaunchesAsk places rs build (fetch artifact resource version params) result =
+    (r : ResourceData) → resource_named resource rs ≡ Some r
+    → Launches (fetch_launch places build artifact r version params) result
+LaunchesAsk places rs build (push artifact resource params) result =
+    (r : ResourceData) → resource_named resource rs ≡ Some r
+    → Launches (push_launch places build r params) result
 LaunchesAsk places rs build (read_config file) result = ⊤
 LaunchesAsk places rs build (run_task config env) result = LaunchesTask build config env result

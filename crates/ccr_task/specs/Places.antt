@@ -8,6 +8,7 @@ pub record PlacesData : Type 0 where
   pub types : Text
   pub work : Text
 
+-- the folders as their paths
 abbrev pub places_data : Places → PlacesData
 places_data p = record { types = string_bytes p.types; work = string_bytes p.work }
 

@@ -3,6 +3,7 @@ use Rattle.std.specs.Prelude.{◌≡◌, ◌≢◌, ◌⊎◌, ◌+◌, ℕ, Lis
 use Rattle.std.specs.declared.alloc.Global.{Global}
 use Rattle.std.specs.declared.io.ErrorKind.{ErrorKind}
 use Rattle.std.specs.declared.io.ErrorKind.TheVariants.{NotFound, OutOfMemory}
+use Rattle.ccr_task.specs.declared.shelf.TheConstants.{MOST_FILE}
 use Rattle.ccr_task.specs.declared.fault.ShelfFault.{ShelfFault}
 use Rattle.ccr_task.specs.declared.fault.ShelfFault.TheVariants.{Failed, TooLong, NoMemory}
 use Rattle.ccr_task.specs.declared.folders.Folders.{Folders}
@@ -46,7 +47,7 @@ folder_answer (Fault NoMemory ∷ rest) = Err NoMemory
 abbrev pub file_answer : List ShelfAnswer → Result (Vec ℕ Global) ShelfFault
 file_answer [] = Err Failed
 file_answer (Done ∷ rest) = Err Failed
-file_answer (Read bytes ∷ rest) = if nat_le (vec_len bytes) 1048576 then Ok bytes else Err Failed
+file_answer (Read bytes ∷ rest) = if nat_le (vec_len bytes) MOST_FILE then Ok bytes else Err Failed
 file_answer (Fault fault ∷ rest) = Err fault
 
 -- the answers that a script has left

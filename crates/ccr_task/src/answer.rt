@@ -49,8 +49,8 @@ fn exited(alloc: Global, ask: &Ask<'_>, output: &[u8]) -> Result<Answered, Alloc
 /// What the end of an ask's program answers (Concourse: implementing a resource type, in and out; task step).
 ///
 /// With status 0 a fetch is done and a push gives its version, where the reply has one and can be read; a task is done.
-/// Another status is a failure; all else, an unreadable reply too, is an error. An ask for a file starts no program: its
-/// end with status 0 is an error. `AllocError` where a growth was refused, here or in the runner.
+/// Another status is a failure; all else, an unreadable reply too, is an error. An ask for a file starts no program:
+/// its end with status 0 is an error. `AllocError` where a growth was refused, here or in the runner.
 pub fn answered_of(alloc: Global, ask: &Ask<'_>, end: Ended) -> Result<Answered, AllocError>
     ensures { IfOk result (λ a. AnswersEnd (ask_data ask.now) (end_data end) (answer_data a)) }
 {
@@ -79,8 +79,8 @@ fn config_in(alloc: Global, bytes: &[u8]) -> Result<Answered, AllocError>
 
 /// What a shelf's answer to a task's file answers (Concourse: task step, file).
 ///
-/// The config that the file holds; an error where there is no such file, or a fault is in it. `AllocError` where a growth
-/// was refused, here or to the shelf.
+/// The config that the file holds; an error where there is no such file, or a fault is in it. `AllocError` where a
+/// growth was refused, here or to the shelf.
 pub fn config_of(alloc: Global, file: Result<Vec<u8>, ShelfFault>) -> Result<Answered, AllocError>
     ensures { IfOk result (λ a. AnswersFile file (answer_data a)) }
 {

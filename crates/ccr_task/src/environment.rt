@@ -38,7 +38,8 @@ fn entries(
     env: BTreeMap<String, String>,
 ) -> Result<Vec<(String, String)>, AllocError>
     ensures listed { IfOk result (λ v. v.items ≡ env.entries) }
-    ensures ordered { IsStrictlySortedBy (λ x y. slice_cmp nat_cmp (string_bytes x) (string_bytes y)) (keys_of env.entries) }
+    ensures ordered { IsStrictlySortedBy (λ x y. slice_cmp nat_cmp (string_bytes x) (string_bytes y))
+        (keys_of env.entries) }
 {
     env.into_iter().collect(alloc)
 }

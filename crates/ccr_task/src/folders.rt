@@ -4,7 +4,7 @@ ghost use Rattle.std.specs.IoError.{error_kind};
 ghost use Rattle.ccr_task.specs.Shelves.{IsFaultOf, RemovesAs, folders_failures};
 
 use crate::fault::ShelfFault;
-use crate::shelf::{MOST_BYTES, Shelf, counted};
+use crate::shelf::{MOST_FILE, Shelf, counted};
 use std::alloc::Global;
 use std::io::{ErrorKind, Read};
 use std::rt::Files;
@@ -56,17 +56,17 @@ fn removed(end: io::Result<()>) -> Result<(), ShelfFault>
 
 /// All bytes that a reader has left. An interrupted read counts and is tried again.
 fn read_all<T: Read>(alloc: Global, reader: &mut T) -> Result<Vec<u8>, ShelfFault>
-    ensures short { IfOk result (λ bytes. vec_len bytes ≤ 1048576) }
+    ensures short { IfOk result (λ bytes. vec_len bytes ≤ MOST_FILE) }
     ensures whole { IfOk result (λ bytes. IfSome (T.remaining reader.old) (λ all. bytes.items ≡ all)) }
     ensures too_long { result ≡ Err ShelfFault.TooLong
-        → IfSome (T.remaining reader.old) (λ all. 1048576 < length all) }
+        → IfSome (T.remaining reader.old) (λ all. MOST_FILE < length all) }
 {
     let mut bytes = Vec::new(alloc);
     let mut chunk = [0u8; 8192];
     for _ in 0..MOST_READS {
         match reader.read(&mut chunk) {
             Ok(0) => return Ok(bytes),
-            Ok(count) if count > MOST_BYTES - bytes.len() => return Err(ShelfFault::TooLong),
+            Ok(count) if count > MOST_FILE - bytes.len() => return Err(ShelfFault::TooLong),
             Ok(count) => bytes.extend_from_slice(&chunk[..count])?,
             Err(error) if error.kind() == ErrorKind::Interrupted => {}
             Err(error) => return Err(fault_of(&error)),
@@ -75,16 +75,19 @@ fn read_all<T: Read>(alloc: Global, reader: &mut T) -> Result<Vec<u8>, ShelfFaul
     Err(ShelfFault::Failed)
 }
 
-/// All bytes of a file that was to be opened.
-pub(crate) fn read_opened<T: Read + Drop>(
+/// All bytes of a file that the system was asked to open, as [`Folders`] reads it.
+///
+/// `Failed` if it wasn't opened, a read failed, or its end wasn't reached after 1,000,000,000 reads, interrupted ones
+/// included; `TooLong` if it has more than 1,048,576 bytes; `NoMemory`.
+pub fn read_opened<T: Read + Drop>(
     alloc: Global,
     opened: io::Result<T>,
 ) -> Result<Vec<u8>, ShelfFault>
-    ensures short { IfOk result (λ bytes. vec_len bytes ≤ 1048576) }
+    ensures short { IfOk result (λ bytes. vec_len bytes ≤ MOST_FILE) }
     ensures whole { IfOk result (λ bytes. IsOkAnd opened
         (λ file. IfSome (T.remaining file) (λ all. bytes.items ≡ all))) }
     ensures too_long { result ≡ Err ShelfFault.TooLong → IsOkAnd opened
-        (λ file. IfSome (T.remaining file) (λ all. 1048576 < length all)) }
+        (λ file. IfSome (T.remaining file) (λ all. MOST_FILE < length all)) }
     ensures unopened { IfErr opened (λ error. IsErrAnd result (IsFaultOf (error_kind error))) }
 {
     match opened {

@@ -172,14 +172,14 @@ fn task_launch(
     })
 }
 
-/// Whether an ask of a build starts a program: it asks for no file, and the pipeline has the resource that it names, if it
-/// names one. It has each resource that a build of one of its jobs asks for.
+/// Whether an ask of a build starts a program: it asks for no file, and the pipeline has the resource that it names, if
+/// it names one. It has each resource that a build of one of its jobs asks for.
 pub fn can_launch(pipeline: &Pipeline, ask: &Ask<'_>) -> bool
     ensures exact { result ≡ can_launch (pipeline_data pipeline.now).resources (ask_data ask.now) }
 
     // What a build of one of the pipeline's jobs asks can be launched, unless it asks for a file.
-    ensures named { (job : JobData) → Contains (pipeline_data pipeline.now).jobs job → NamesResourceOf job.plan (ask_data ask.now)
-        → result ≡ starts_program (ask_data ask.now) }
+    ensures named { (job : JobData) → Contains (pipeline_data pipeline.now).jobs job
+        → NamesResourceOf job.plan (ask_data ask.now) → result ≡ starts_program (ask_data ask.now) }
 {
     match ask {
         Ask::Fetch { resource, .. } => resource_named(pipeline.resources(), resource).is_some(),
@@ -192,8 +192,8 @@ pub fn can_launch(pipeline: &Pipeline, ask: &Ask<'_>) -> bool
 /// The launch of a build's ask: a fetch, a push or a task's program
 /// (Concourse: implementing a resource type, in and out; task config, run).
 ///
-/// The ask is one that [`can_launch`] tells. A fetch and a push run in the build folder, a task in the build folder or in
-/// the folder below it that its config names. The only argument of `in` is the artifact's folder, that of `out` the
+/// The ask is one that [`can_launch`] tells. A fetch and a push run in the build folder, a task in the build folder or
+/// in the folder below it that its config names. The only argument of `in` is the artifact's folder, that of `out` the
 /// build folder. A task's path that begins with `/` or has none is used as it stands, another is taken from the build
 /// folder; its variables are the config's, those of the step replacing equal names, names ascending. `TooLong` exactly
 /// where the request has more than 65,536 bytes; `NoMemory` where a growth was refused.

@@ -22,11 +22,8 @@ mod shelf;
 
 pub use answer::{answered_of, config_of};
 pub use fault::ShelfFault;
-pub use folders::Folders;
+pub use folders::{Folders, read_opened};
 pub use launch::{can_launch, check_launch, launch_of};
 pub use places::Places;
 pub use script::{ShelfAnswer, ShelfScript};
 pub use shelf::Shelf;
-
-#[cfg(test)]
-mod tests;

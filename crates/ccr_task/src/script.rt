@@ -3,7 +3,7 @@ ghost use Rattle.std.specs.Prelude.{◌≡◌, drop};
 ghost use Rattle.ccr_task.specs.Shelves.{Counts, folder_answer, file_answer, answers_left, script_failures};
 
 use crate::fault::ShelfFault;
-use crate::shelf::{MOST_BYTES, Shelf, counted};
+use crate::shelf::{MOST_FILE, Shelf, counted};
 use std::collections::VecDeque;
 
 /// What a script answers to one call.
@@ -20,8 +20,8 @@ pub enum ShelfAnswer {
 /// Answers that were handed in, given in their order, one a call.
 ///
 /// `Failed` comes when they run out, and in place of an answer that the call can't give: to a folder's call `Read` and
-/// `TooLong`, to a file's `Done` and a `Read` of more than 1,048,576 bytes. Such an answer is used up too. No call takes
-/// memory.
+/// `TooLong`, to a file's `Done` and a `Read` of more than 1,048,576 bytes. Such an answer is used up too. No call
+/// takes memory.
 #[derive(Drop)]
 pub struct ShelfScript {
     answers: VecDeque<ShelfAnswer>,
@@ -76,7 +76,7 @@ impl Shelf for ShelfScript {
         ensures counted { Counts (script_failures self.old) result (script_failures self.new) }
     {
         let answer = match self.answers.pop_front() {
-            Some(ShelfAnswer::Read(bytes)) if bytes.len() <= MOST_BYTES => Ok(bytes),
+            Some(ShelfAnswer::Read(bytes)) if bytes.len() <= MOST_FILE => Ok(bytes),
             Some(ShelfAnswer::Fault(fault)) => Err(fault),
             _ => Err(ShelfFault::Failed),
         };

@@ -4,8 +4,8 @@ ghost use Rattle.ccr_task.specs.Shelves.{Counts};
 
 use crate::fault::ShelfFault;
 
-/// How many bytes of a file are read.
-pub(crate) const MOST_BYTES: usize = 1_048_576;
+/// The greatest number of bytes of a file that is read.
+pub(crate) const MOST_FILE: usize = 1_048_576;
 
 /// What holds folders and files, each named by its path, and counts its failures.
 ///
@@ -28,7 +28,7 @@ pub trait Shelf {
     fn read_file(&mut self, path: &str) -> Result<Vec<u8>, ShelfFault>
         ensures counted { Counts (failures self.old) result (failures self.new) }
         ensures grows { failures self.old ≤ failures self.new }
-        ensures short { IfOk result (λ bytes. vec_len bytes ≤ 1048576) };
+        ensures short { IfOk result (λ bytes. vec_len bytes ≤ MOST_FILE) };
 
     /// Removes a folder with all that is in it. One that isn't there is no fault.
     ///

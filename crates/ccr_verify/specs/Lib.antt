@@ -1,3 +1,1 @@
-pub mod Cut
-pub mod Judged
-pub mod Accepted
+pub mod Told

@@ -1,62 +1,32 @@
 //! `ccr_verify`: judges anybody's claims about problems.
 //!
-//! It reads a problem's text that is followed by a claim's, from standard input or from two files, and prints one line. All
-//! that it decides is decided by [`judge`], whose contract names the definitions (`specs/Judged.antt`).
+//! It reads a problem's text that is followed by a claim's or a proof's, from standard input or from two files, prints one line, and
+//! ends with that line's status. All that it decides is decided by [`judge`], whose contract names the definitions.
 #![tactic(auto)]
 
-mod cut;
 mod input;
-mod judge;
+mod tell;
 #[cfg(test)]
 mod tests;
 
-use input::{InputFault, fault_of, read_files, read_standard};
-use judge::judge;
-use std::process::ExitCode;
-use std::{env, io};
+ghost use Rattle.std.specs.Prelude.{ℕ, List, IfOk, string_bytes};
+ghost use Rattle.ccr_check.specs.Judged.{IsJudged};
 
-/// The text that the program's words name, or None for the wrong number of words.
-fn read_words(rt: &HostRuntime) -> Result<Option<Vec<u8>>, InputFault> {
-    let mut words = match env::args(rt) {
-        Ok(words) => words,
-        Err(error) => return Err(fault_of(&error)),
-    };
-    let _program = words.next();
-    match (words.next(), words.next(), words.next()) {
-        (None, None, None) => Ok(Some(read_standard(rt)?)),
-        (Some(problem), Some(proof), None) => Ok(Some(read_files(
-            rt,
-            problem.as_str(),
-            proof.as_str(),
-        )?)),
-        _ => Ok(None),
-    }
+use ccr_check::judge;
+use input::{InputFault, read_words};
+use std::io;
+use std::process::ExitCode;
+use tell::tell;
+
+/// The line and the status for what the program's words name.
+fn judged(rt: &HostRuntime) -> Result<(String, u8), InputFault>
+    ensures { IfOk result (λ x. (bytes : List ℕ) × IsJudged bytes (string_bytes x.0, x.1)) }
+{
+    let bytes = read_words(rt)?;
+    let told = judge(rt.alloc(), &bytes)?;
+    Ok(told)
 }
 
 fn main(rt: HostRuntime) -> io::Result<ExitCode> {
-    let bytes = match read_words(&rt) {
-        Ok(Some(bytes)) => bytes,
-        Ok(None) => {
-            eprintln!(rt; "usage: ccr_verify [PROBLEM PROOF]")?;
-            return Ok(ExitCode::from(2));
-        }
-        Err(InputFault::Unreadable) => {
-            eprintln!(rt; "cannot read")?;
-            return Ok(ExitCode::from(4));
-        }
-        Err(InputFault::NoMemory) => {
-            eprintln!(rt; "out of memory")?;
-            return Ok(ExitCode::from(4));
-        }
-    };
-    match judge(rt.alloc(), &bytes) {
-        Ok((line, status)) => {
-            println!(rt; "{line}")?;
-            Ok(ExitCode::from(status))
-        }
-        Err(_) => {
-            eprintln!(rt; "out of memory")?;
-            Ok(ExitCode::from(4))
-        }
-    }
+    tell(&rt, judged(&rt))
 }

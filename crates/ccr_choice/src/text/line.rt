@@ -80,7 +80,8 @@ fn unended_line(alloc: Global) -> Result<Line, AllocError>
 
 /// The first line of a text, and what follows it; None where nothing is left.
 fn first_line(alloc: Global, bytes: &[u8]) -> Result<Option<(Line, &[u8])>, AllocError>
-    ensures { IfOk result (λ o. MatchOption o (lines_of bytes.now ≡ []) (λ x. lines_of bytes.now ≡ x.0 ∷ lines_of x.1.now)) }
+    ensures { IfOk result
+        (λ o. MatchOption o (lines_of bytes.now ≡ []) (λ x. lines_of bytes.now ≡ x.0 ∷ lines_of x.1.now)) }
 {
     if bytes.is_empty() {
         return Ok(None);
@@ -135,10 +136,11 @@ impl<'a> Lines<'a> {
         Lines { rest: text }
     }
 
-    /// The next line, which is read with this; None where none is left. A last line without its line feed is one word that
-    /// no format has.
+    /// The next line, which is read with this; None where none is left. A last line without its line feed is one word
+    /// that no format has.
     pub fn next(&mut self, alloc: Global) -> Result<Option<Line>, AllocError>
-        ensures { IfOk result (λ o. MatchOption o ((self.old ≡ []) × (self.new ≡ [])) (λ line. self.old ≡ line ∷ self.new)) }
+        ensures { IfOk result
+            (λ o. MatchOption o ((self.old ≡ []) × (self.new ≡ [])) (λ line. self.old ≡ line ∷ self.new)) }
     {
         match first_line(alloc, self.rest)? {
             Some((line, others)) => {

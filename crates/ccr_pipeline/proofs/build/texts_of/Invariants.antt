@@ -1,7 +1,7 @@
 use Rattle.std.proofs.Common.{◌≡◌, ◌++◌, map, string_bytes}
-use Rattle.ccr_pipeline.specs.View.{items_view}
+use Rattle.serde_json.specs.View.{items_view}
 use Rattle.ccr_pipeline.specs.Names.{texts_in}
-use Rattle.ccr_pipeline.proofs.Items.{left}
+use Rattle.ccr_history.proofs.Items.{left}
 use Rattle.ccr_pipeline.proofs.build.texts_of.Given as goal
 
 abbrev pub invariant-loop-member : goal.invariant-loop-member

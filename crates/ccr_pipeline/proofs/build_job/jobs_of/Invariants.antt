@@ -1,6 +1,6 @@
 use Rattle.std.proofs.Common.{◌≡◌, ◌++◌, map, length}
 use Rattle.std.specs.Vec.Iter.{into_iter_items, into_iter_len}
-use Rattle.ccr_pipeline.specs.View.{items_view}
+use Rattle.serde_json.specs.View.{items_view}
 use Rattle.ccr_pipeline.specs.JobData.{job_data}
 use Rattle.ccr_pipeline.specs.Pipelines.{jobs_in, IsJob, EachItem}
 use Rattle.ccr_pipeline.proofs.build_job.jobs_of.Given as goal

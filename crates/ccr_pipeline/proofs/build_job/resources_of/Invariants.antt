@@ -1,6 +1,6 @@
 use Rattle.std.proofs.Common.{◌≡◌, ◌++◌, map}
-use Rattle.ccr_pipeline.specs.View.{items_view}
-use Rattle.ccr_pipeline.proofs.Items.{left}
+use Rattle.serde_json.specs.View.{items_view}
+use Rattle.ccr_history.proofs.Items.{left}
 use Rattle.ccr_pipeline.specs.JobData.{resource_data}
 use Rattle.ccr_pipeline.specs.Pipelines.{resources_in, IsResource, EachItem}
 use Rattle.ccr_pipeline.proofs.build_job.resources_of.Given as goal

@@ -1,5 +1,5 @@
 use Rattle.std.proofs.Common.{◌≡◌, drop}
-use Rattle.ccr_pipeline.specs.View.{view}
+use Rattle.serde_json.specs.View.{view}
 use Rattle.ccr_pipeline.specs.Kinds.{optional_keys, key_table}
 use Rattle.ccr_pipeline.proofs.kind.check_keys.Given as goal
 

@@ -1,8 +1,8 @@
 use Rattle.std.proofs.Common.{◌≡◌, ◌+◌, ◌*◌, ◌++◌}
-use Rattle.ccr_pipeline.specs.View.{items_view}
+use Rattle.serde_json.specs.View.{items_view}
 use Rattle.ccr_pipeline.specs.Keys.{path_below}
 use Rattle.ccr_pipeline.specs.Places.{spots, each_step, steps_from}
-use Rattle.ccr_pipeline.proofs.Items.{left}
+use Rattle.ccr_history.proofs.Items.{left}
 use Rattle.ccr_pipeline.proofs.place.+places.Given as goal
 
 abbrev pub decreases-push_steps : goal.decreases-push_steps

@@ -1,5 +1,5 @@
 use Rattle.std.proofs.Common.{codes}
-use Rattle.ccr_pipeline.specs.View.{view}
+use Rattle.serde_json.specs.View.{view}
 use Rattle.ccr_pipeline.specs.declared.check_job.Member.TheVariants.{Resource, Job}
 use Rattle.ccr_pipeline.specs.JobRules.{member_list, list_names}
 use Rattle.ccr_pipeline.specs.Reading.{list_faults}

@@ -1,9 +1,9 @@
 use Rattle.std.proofs.Common.{◌≡◌, map, sym, subst}
 use Rattle.ccr_pipeline.specs.JobData.{resource_data, job_data}
-use Rattle.ccr_pipeline.specs.Links.{HasDistinctResources, HasDistinctJobs, AreLinked}
+use Rattle.ccr_pipeline.specs.Links.{HasFewMembers, HasDistinctResources, HasDistinctJobs, AreLinked}
 use Rattle.ccr_pipeline.specs.Pipelines.{resources_from, jobs_from}
-use Rattle.ccr_pipeline.specs.View.{view}
-use Rattle.ccr_pipeline.proofs.LinksKept.{distinct_resources, distinct_jobs, are_linked}
+use Rattle.serde_json.specs.View.{view}
+use Rattle.ccr_pipeline.proofs.LinksKept.{few_resources, few_jobs, distinct_resources, distinct_jobs, are_linked}
 use Rattle.ccr_pipeline.proofs.PlansKept.{kept_jobs, kept_resources}
 use Rattle.ccr_pipeline.proofs.reader.read.Goals as goal
 
@@ -20,6 +20,8 @@ invariant_of-result c =
     let resources : resources_from d ≡ map resource_data c.in_ok-resources.resources.items = sym c.in_ok-resources.ensures in
     let jobs : jobs_from d ≡ map job_data c.in_ok-jobs.jobs.items = sym c.in_ok-jobs.ensures in
     record {
+      few_resources = subst HasFewMembers resources (few_resources d none);
+      few_jobs = subst HasFewMembers jobs (few_jobs d none);
       distinct_resources = subst HasDistinctResources resources (distinct_resources d none);
       distinct_jobs = subst HasDistinctJobs jobs (distinct_jobs d none);
       linked = subst (AreLinked (map resource_data c.in_ok-resources.resources.items)) jobs (subst (λ rs. AreLinked rs (jobs_from d)) resources (are_linked d none));

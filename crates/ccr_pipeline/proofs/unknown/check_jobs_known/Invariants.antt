@@ -1,7 +1,7 @@
 use Rattle.std.proofs.Common.{◌≡◌}
-use Rattle.ccr_pipeline.specs.View.{items_view}
+use Rattle.serde_json.specs.View.{items_view}
 use Rattle.ccr_pipeline.specs.Unknown.{unknown_jobs}
-use Rattle.ccr_pipeline.proofs.Items.{left}
+use Rattle.ccr_history.proofs.Items.{left}
 use Rattle.ccr_pipeline.proofs.unknown.check_jobs_known.Given as goal
 
 abbrev pub invariant-loop-i : goal.invariant-loop-i

@@ -1,8 +1,8 @@
 use Rattle.std.proofs.Common.{◌≡◌, ◌++◌}
-use Rattle.ccr_pipeline.specs.View.{items_view}
+use Rattle.serde_json.specs.View.{items_view}
 use Rattle.ccr_pipeline.specs.Names.{names_of}
 use Rattle.ccr_pipeline.specs.Unused.{key_list, unused_items}
-use Rattle.ccr_pipeline.proofs.Items.{left}
+use Rattle.ccr_history.proofs.Items.{left}
 use Rattle.ccr_pipeline.proofs.unused.push_items.Given as goal
 
 abbrev pub invariant-loop-i : goal.invariant-loop-i

@@ -1,5 +1,5 @@
-use Rattle.ccr_process.specs.Ends.{IsOutput}
+use Rattle.ccr_process.proofs.Calls.{ReadsSoFar}
 use Rattle.ccr_process.proofs.pipes.take_output.Given as goal
 
 abbrev pub invariant-loop : goal.invariant-loop
-invariant-loop g l = IsOutput l.keep l.output.items
+invariant-loop g l = ReadsSoFar (g.R.Read.remaining l.fn.reader) (g.R.Read.remaining l.reader) l.keep l.output.items l.counter

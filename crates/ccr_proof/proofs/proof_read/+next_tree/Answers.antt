@@ -14,8 +14,8 @@ returns-in_err-child-in-Some-Job-clause-read t c =
     cc (c.in-Some-Job.is, c.in-Some-Job.field-0-is, c.in-Some-Job.job-is, c.in-Some-Job.count-is, c.node_on.ensures, ap node_on c.words.ensures) in
     let r = err_from_is_err_and c.from_residual-in_err-child-in-Some-Job.result c.from_residual-in_err-child-in-Some-Job.ensures.1 in
     let stops = halts_on c.in_err-child-in-Some-Job.field-0.0 (next_tree (c.args.levels - 1) c.loop.nodes c.loop.lines) (next_tree c.args.levels c.args.nodes.now c.args.lines.now)
-    (λ e. job_stop c.args.levels c.args.nodes.now c.in-Some-Job.job c.in-Some-Job.count c.args.lines.now c.next.new.self c.in-Some.line (omega arith) is says (omega arith)
-    (c.in-Some-Job.count - c.loop.counter) (c.in-Some-Job.count - (c.loop.counter + 1)) c.loop.nodes c.loop.children.items c.loop.lines c.in_err-child-in-Some-Job.field-0.0 (omega arith) e c.loop.invariant.read)
+    (λ x e. job_stop c.args.levels c.args.nodes.now c.in-Some-Job.job c.in-Some-Job.count c.args.lines.now c.next.new.self c.in-Some.line (omega arith) is says (omega arith)
+    (c.in-Some-Job.count - c.loop.counter) (c.in-Some-Job.count - (c.loop.counter + 1)) c.loop.nodes c.loop.children.items c.loop.lines x (omega arith) e c.loop.invariant.read)
     c.in_err-child-in-Some-Job.ensures.read in
     gives_err _ c.from_residual-in_err-child-in-Some-Job.result c.in_err-child-in-Some-Job.field-0.0 _ (r.1 ∙ ap (λ y. Err y) r.2) stops
 

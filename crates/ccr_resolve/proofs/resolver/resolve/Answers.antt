@@ -6,7 +6,11 @@ use Rattle.ccr_choice.specs.Assignment.{Assignment}
 use Rattle.ccr_proof.specs.Tree.{tree_of, count, levels}
 use Rattle.ccr_proof.specs.Refutes.{Refutes}
 use Rattle.ccr_choice.specs.Table.{assigned}
+use Rattle.ccr_choice.proofs.PlainLaws.{is_order}
 use Rattle.ccr_choice.proofs.TableLaws.{zeros, table_empty}
+use Rattle.ccr_proof.specs.declared.claim.Claim.TheVariants.{Best, Nothing}
+use Rattle.ccr_proof.specs.Refutes.{IsAccepted}
+use Rattle.ccr_proof.proofs.Sound.{accepted_right}
 use Rattle.ccr_resolve.specs.Search.{IsSearched, places_of, free_jobs}
 use Rattle.ccr_resolve.proofs.Counting.{free_empty}
 use Rattle.ccr_resolve.proofs.ClaimFits.{short_claim}
@@ -44,11 +48,15 @@ returns-in-None c =
     let p = c.args.problem.now in
     let done = none_found (order_of p) p (replicate 32 0) None c.search.new.best c.args.budget c.search.new.left c.in_ok-tree.field-0 c.in-Some.tree c.in_ok-tree.ensures.found c.in-Some.is c.in-None.is in
     let P : Assignment → Type 0 = λ a. Refutes (order_of p) p None a (tree_of c.in-Some.tree) in
-    (refl, subst P (table_empty p 32) done.refuted, omega (arith, done.counted, done.spent))
+    let accepted : IsAccepted (order_of p) p Nothing (tree_of c.in-Some.tree) = subst P (table_empty p 32) done.refuted in
+    let right = accepted_right (order_of p) (is_order p) p c.search.ensures.rules Nothing (tree_of c.in-Some.tree) accepted in
+    (refl, record { accepted = accepted; right = right; few_nodes = omega (arith, done.counted, done.spent) })
 
 pub returns-in-Some-best : goal.returns-in-Some-best
 returns-in-Some-best c =
     let p = c.args.problem.now in
     let done = found_in (order_of p) p (replicate 32 0) None c.search.new.best c.args.budget c.search.new.left c.in_ok-tree.field-0 c.in-Some.tree c.in-Some-best.choice c.in_ok-tree.ensures.found c.in-Some.is c.in-Some-best.is in
     let P : Assignment → Type 0 = λ a. Refutes (order_of p) p (Some c.in-Some-best.choice.places) a (tree_of c.in-Some.tree) in
-    ((c.in-Some-best.choice, refl), (done.satisfies, subst P (table_empty p 32) done.refuted), omega (arith, done.counted, done.spent))
+    let accepted : IsAccepted (order_of p) p (Best c.in-Some-best.choice) (tree_of c.in-Some.tree) = (done.satisfies, subst P (table_empty p 32) done.refuted) in
+    let right = accepted_right (order_of p) (is_order p) p c.search.ensures.rules (Best c.in-Some-best.choice) (tree_of c.in-Some.tree) accepted in
+    ((c.in-Some-best.choice, refl), record { accepted = accepted; right = right; few_nodes = omega (arith, done.counted, done.spent) })

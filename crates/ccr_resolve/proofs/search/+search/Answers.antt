@@ -1,4 +1,4 @@
-use Rattle.std.proofs.Common.{ℕ, List, [], ◌≢◌, slice_index, ◌≡◌, ◌<◌, ◌≤◌, ◌+◌, ◌-◌, length, slice_set, arith, sym, ap, ◌∙◌, subst, refl}
+use Rattle.std.proofs.Common.{ℕ, List, ◌≢◌, slice_index, ◌≡◌, ◌<◌, ◌+◌, ◌-◌, length, slice_set, arith, sym, ap, subst, refl}
 use Rattle.ccr_choice.specs.Problem.{builds_at}
 use Rattle.ccr_proof.specs.declared.node.Node.{Node}
 use Rattle.ccr_choice.specs.Preference.{order_of}

@@ -1,0 +1,90 @@
+//! Cases of programs: requests and replies, launches and ends, and whole builds whose programs end by a script.
+//!
+//! A part of a case that is absent is written `-`. Parts are set apart by ` | `.
+
+mod builds;
+mod launches;
+mod replies;
+mod requests;
+mod scripts;
+
+use anyhow::{Result, anyhow};
+use ccr_history::{Object, Version};
+use serde_json::Value;
+use std::alloc::{AllocError, Global};
+
+/// The answer to a case, if it is one of programs.
+pub(crate) fn answer_to(
+    alloc: Global,
+    kind: &str,
+    given: &str,
+) -> Result<Option<String>, AllocError> {
+    let answer = match kind {
+        "request" => requests::sent(alloc, given),
+        "request-length" => requests::length(alloc, given),
+        "reply" => replies::read(alloc, given.as_bytes()),
+        "reply-line" => replies::read_line(alloc, given),
+        "reply-cut" => replies::cut(alloc, given.as_bytes()),
+        "reply-spoilt" => replies::spoilt(alloc, given.as_bytes()),
+        "launch" => launches::launched(alloc, given),
+        "in-build" => launches::in_build(alloc, given),
+        "end" => launches::ended(alloc, given),
+        "task-file" => launches::task_file(alloc, given),
+        "task-file-fault" => launches::task_file_fault(alloc, given),
+        "runner" => scripts::ran(alloc, given),
+        "shelf" => scripts::asked(alloc, given),
+        "build" => builds::played(alloc, given),
+        _ => return Ok(None),
+    };
+    match answer {
+        Ok(text) => Ok(Some(text)),
+        Err(error) => Ok(Some(format!(in alloc; "no answer: {error}")?)),
+    }
+}
+
+/// The part of a case at a position; `-` where there is none.
+fn part(given: &str, position: usize) -> &str {
+    given.split(" | ").nth(position).unwrap_or("-")
+}
+
+/// A text of so many letters.
+fn letters(alloc: Global, count: usize) -> Result<String, AllocError> {
+    let mut text = String::new(alloc);
+    for _ in 0..count {
+        text.push_str("a")?;
+    }
+    Ok(text)
+}
+
+/// The text of a source: as it stands, or that of an object with one text of so many letters, by `letters:COUNT`.
+fn source_text(alloc: Global, part: &str) -> Result<String> {
+    let Some(count) = part.strip_prefix("letters:") else {
+        return Ok(String::from_str(alloc, part)?);
+    };
+    let letters = letters(alloc, count.parse::<usize>()?)?;
+    let letters = letters.as_str();
+    Ok(format!(in alloc; "{{\"x\":\"{letters}\"}}")?)
+}
+
+/// The object that a part is, if it is there.
+fn object(alloc: Global, part: &str) -> Result<Option<Object>> {
+    if part == "-" {
+        return Ok(None);
+    }
+    let text = source_text(alloc, part)?;
+    Ok(Object::from_value(Value::from_str(alloc, text.as_str())?))
+}
+
+/// The version that a part is, if it is there.
+fn version(alloc: Global, part: &str) -> Result<Option<Version>> {
+    if part == "-" {
+        return Ok(None);
+    }
+    let value = Value::from_str(alloc, part)?;
+    Ok(Some(Version::from_value(alloc, &value)?))
+}
+
+/// The version that a part has to be.
+fn some_version(alloc: Global, part: &str) -> Result<Version> {
+    version(alloc, part)?.ok_or(anyhow!("no version"))
+}

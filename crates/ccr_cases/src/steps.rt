@@ -1,0 +1,250 @@
+//! Cases of builds: what a build asks, step by step, how it ends and which versions it moved.
+//!
+//! `steps JOB | VERSIONS | ANSWERS`: the job's members but its name, a JSON list of its inputs' versions, and the answers with a
+//! blank between: `done`, `failed`, `errored`, `pushed:VERSION`, `config:CONFIG`, or `undo`, which takes the last answer back. In
+//! the job `<x>` stands for the members of a task that runs x; the pipeline has the resources a, b and p.
+//! `steps-repeated JOB | VERSIONS | ANSWER` gives each ask that answer, up to the build's end, and tells how often each was asked.
+
+use anyhow::{Result, anyhow, bail};
+use ccr_history::{Object, Version};
+use ccr_pipeline::{Job, inputs_of, read, read_task};
+use ccr_steps::{Answered, Ask, Before, BuildRun, FeedFault, start};
+use serde_json::Value;
+use std::alloc::{AllocError, Global};
+
+const RESOURCES: &str =
+    r#""resources":[{"name":"a","type":"t"},{"name":"b","type":"t"},{"name":"p","type":"t"}]"#;
+
+/// The answer to a case, if it is one of builds.
+pub(crate) fn answer_to(
+    alloc: Global,
+    kind: &str,
+    given: &str,
+) -> Result<Option<String>, AllocError> {
+    let answer = match kind {
+        "steps" => played(alloc, given),
+        "steps-repeated" => repeated(alloc, given),
+        _ => return Ok(None),
+    };
+    match answer {
+        Ok(text) => Ok(Some(text)),
+        Err(error) => Ok(Some(format!(in alloc; "no answer: {error}")?)),
+    }
+}
+
+/// The pipeline of one job, of which these are the members but its name.
+fn pipeline_text(alloc: Global, job: &str) -> Result<String, AllocError> {
+    let opened = job.replace(alloc, "<", r#""task":"t","config":{"run":{"path":""#)?;
+    let job = opened.as_str().replace(alloc, ">", r#""}}"#)?;
+    let job = job.as_str();
+    format!(in alloc; "{{{RESOURCES},\"jobs\":[{{\"name\":\"j\",{job}}}]}}")
+}
+
+/// The versions of a JSON list.
+fn versions_of(alloc: Global, text: &str) -> Result<Vec<Version>> {
+    let value = Value::from_str(alloc, text)?;
+    let mut versions = Vec::new(alloc);
+    for item in value.as_array().ok_or(anyhow!("no list of versions"))? {
+        versions.push(Version::from_value(alloc, item)?)?;
+    }
+    Ok(versions)
+}
+
+/// A build of a job.
+pub(crate) fn started(alloc: Global, job: &Job, versions: &[Version]) -> Result<BuildRun> {
+    let inputs = inputs_of(alloc, job)?;
+    if versions.len() != inputs.len() {
+        bail!("not one version for each input");
+    }
+    Ok(start(alloc, job, versions)?)
+}
+
+/// A build of the case's job.
+fn build_of(alloc: Global, job: &str, versions: &str) -> Result<BuildRun> {
+    let text = pipeline_text(alloc, job)?;
+    let pipeline = read(alloc, text.as_bytes())?;
+    let versions = versions_of(alloc, versions)?;
+    let job = pipeline.jobs().first().ok_or(anyhow!("no job"))?;
+    started(alloc, job, &versions)
+}
+
+fn push_params(alloc: Global, text: &mut String, params: Option<&Object>) -> Result<()> {
+    if let Some(params) = params {
+        let params = params.text(alloc)?;
+        text.push_str(" with ")?;
+        text.push_str(params.as_str())?;
+    }
+    Ok(())
+}
+
+/// An artifact's name, and the resource that it is of where that has another.
+fn push_name(text: &mut String, artifact: &str, resource: &str) -> Result<()> {
+    text.push_str(artifact)?;
+    if artifact != resource {
+        text.push_str(" of ")?;
+        text.push_str(resource)?;
+    }
+    Ok(())
+}
+
+fn push_ask(alloc: Global, text: &mut String, ask: &Ask<'_>) -> Result<()> {
+    match ask {
+        Ask::Fetch {
+            artifact,
+            resource,
+            version,
+            params,
+        } => {
+            text.push_str("fetch ")?;
+            push_name(text, artifact, resource)?;
+            let key = version.key(alloc)?;
+            text.push_str(" ")?;
+            text.push_str(key.as_str())?;
+            push_params(alloc, text, *params)?;
+        }
+        Ask::Push {
+            artifact,
+            resource,
+            params,
+        } => {
+            text.push_str("push ")?;
+            push_name(text, artifact, resource)?;
+            push_params(alloc, text, *params)?;
+        }
+        Ask::ReadConfig { file } => {
+            text.push_str("config ")?;
+            text.push_str(file)?;
+        }
+        Ask::RunTask { config, env } => {
+            text.push_str("task ")?;
+            text.push_str(config.run.path.as_str())?;
+            for variable in env.iter() {
+                let name = variable.name.as_str();
+                let value = variable.value.as_str();
+                write!(text, " {name}={value}")?;
+            }
+        }
+    }
+    text.push_str("; ")?;
+    Ok(())
+}
+
+/// What the build asks now, or how it ended and what it moved.
+fn push_state(alloc: Global, text: &mut String, run: &BuildRun) -> Result<()> {
+    if let Some(ask) = run.wants() {
+        return push_ask(alloc, text, &ask);
+    }
+    let Some(outcome) = run.outcome() else {
+        bail!("a build that neither asks nor has ended");
+    };
+    write!(text, "{outcome:?}")?;
+    for moved in run.moved() {
+        let key = moved.version.key(alloc)?;
+        let resource = moved.resource.as_str();
+        let key = key.as_str();
+        write!(text, ", moved {resource} {key}")?;
+    }
+    text.push_str("; ")?;
+    Ok(())
+}
+
+fn push_turn(text: &mut String, run: &BuildRun) -> Result<()> {
+    let turn = run.turn();
+    write!(text, "turn {turn}")?;
+    Ok(())
+}
+
+/// The answer of a word.
+fn answer_of(alloc: Global, word: &str) -> Result<Answered> {
+    if let Some(version) = word.strip_prefix("pushed:") {
+        let value = Value::from_str(alloc, version)?;
+        return Ok(Answered::Pushed(Version::from_value(alloc, &value)?));
+    }
+    if let Some(config) = word.strip_prefix("config:") {
+        return Ok(Answered::Config(read_task(alloc, config.as_bytes())?));
+    }
+    match word {
+        "done" => Ok(Answered::Done),
+        "failed" => Ok(Answered::Failed),
+        "errored" => Ok(Answered::Errored),
+        _ => bail!("no answer is called {word}"),
+    }
+}
+
+/// Feeds an answer, or takes the last one back. A refusal is told.
+fn push_fed(
+    alloc: Global,
+    text: &mut String,
+    run: &mut BuildRun,
+    last: &mut Option<Before>,
+    word: &str,
+) -> Result<()> {
+    if word == "undo" {
+        let before = last.take().ok_or(anyhow!("nothing to take back"))?;
+        run.undo(before);
+        return Ok(());
+    }
+    match run.feed_back(answer_of(alloc, word)?) {
+        Ok(before) => *last = Some(before),
+        Err(FeedFault::NothingAsked) => text.push_str("nothing asked; ")?,
+        Err(fault) => return Err(fault.into()),
+    }
+    Ok(())
+}
+
+/// The parts of a case: a job's members, versions and answers.
+fn parts_of(given: &str) -> Result<(&str, &str, &str)> {
+    let (job, rest) = given.split_once(" | ").ok_or(anyhow!("no versions"))?;
+    let (versions, answers) = rest.split_once(" | ").unwrap_or((rest, ""));
+    Ok((job, versions, answers))
+}
+
+/// What is seen of a build: each ask, its outcome with the versions that it moved, and the number of answers that it took.
+fn played(alloc: Global, given: &str) -> Result<String> {
+    let (job, versions, answers) = parts_of(given)?;
+    let mut run = build_of(alloc, job, versions)?;
+    let mut seen = String::new(alloc);
+    let mut last = None;
+    push_state(alloc, &mut seen, &run)?;
+    for word in answers.split_whitespace() {
+        push_fed(alloc, &mut seen, &mut run, &mut last, word)?;
+        push_state(alloc, &mut seen, &run)?;
+    }
+    push_turn(&mut seen, &run)?;
+    Ok(seen)
+}
+
+/// An ask that came so often in a row.
+fn push_times(text: &mut String, times: u64, ask: &str) -> Result<()> {
+    if times > 0 {
+        write!(text, "{times} times {ask}")?;
+    }
+    Ok(())
+}
+
+/// What is seen of a build whose asks all have one answer: how often each was asked in a row, and then as of any build.
+fn repeated(alloc: Global, given: &str) -> Result<String> {
+    let (job, versions, word) = parts_of(given)?;
+    let mut run = build_of(alloc, job, versions)?;
+    let mut seen = String::new(alloc);
+    let mut last = String::new(alloc);
+    let mut times = 0u64;
+    for _ in 0..100_000u32 {
+        let Some(ask) = run.wants() else {
+            break;
+        };
+        let mut now = String::new(alloc);
+        push_ask(alloc, &mut now, &ask)?;
+        if now.as_str() != last.as_str() {
+            push_times(&mut seen, times, last.as_str())?;
+            last = now;
+            times = 0;
+        }
+        times = times.saturating_add(1);
+        run.feed(answer_of(alloc, word)?)?;
+    }
+    push_times(&mut seen, times, last.as_str())?;
+    push_state(alloc, &mut seen, &run)?;
+    push_turn(&mut seen, &run)?;
+    Ok(seen)
+}

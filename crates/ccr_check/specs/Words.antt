@@ -1,0 +1,16 @@
+-- The words in which a fault is printed.
+use Rattle.std.specs.Prelude.{ℕ, List, ◌++◌, codes}
+use Rattle.std.specs.Fmt.{decimal}
+use Rattle.ccr_choice.specs.Words.{verdict_words}
+use Rattle.ccr_check.specs.declared.fault.CheckFault.{CheckFault}
+use Rattle.ccr_check.specs.declared.fault.CheckFault.TheVariants.{BadChoice, NoSuchJob, JobTwice, WrongChildren, NotEmpty, NotBounded, NoSuchInput}
+
+-- Why a proof isn't accepted.
+abbrev pub check_fault_words : CheckFault → List ℕ
+check_fault_words (BadChoice v) = codes "choice: " ++ verdict_words v
+check_fault_words (NoSuchJob n) = codes "node " ++ decimal n ++ codes ": no such job"
+check_fault_words (JobTwice n) = codes "node " ++ decimal n ++ codes ": job twice"
+check_fault_words (WrongChildren n) = codes "node " ++ decimal n ++ codes ": wrong children"
+check_fault_words (NotEmpty n) = codes "node " ++ decimal n ++ codes ": not empty"
+check_fault_words (NotBounded n) = codes "node " ++ decimal n ++ codes ": not bounded"
+check_fault_words (NoSuchInput n) = codes "node " ++ decimal n ++ codes ": no such input"

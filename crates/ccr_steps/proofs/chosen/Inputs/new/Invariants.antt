@@ -1,9 +1,0 @@
-use Rattle.std.proofs.Common.{◌≡◌, ◌++◌, map, drop}
-use Rattle.ccr_pipeline.specs.Inputs.{input_data}
-use Rattle.ccr_pipeline.specs.Tree.{tree_of}
-use Rattle.ccr_steps.specs.Asks.{chosen}
-use Rattle.ccr_steps.specs.Inputs.{input_names, chosen_data}
-use Rattle.ccr_steps.proofs.chosen.Inputs.new.Given as goal
-
-abbrev pub invariant-loop-i : goal.invariant-loop-i
-invariant-loop-i l = map chosen_data l.chosen.items ++ chosen (map (λ i. i.name) (map input_data (drop l.i l.inputs.items))) (drop l.i l.versions) ≡ chosen (input_names (tree_of l.job.plan)) l.versions

@@ -1,7 +1,0 @@
-use Rattle.std.proofs.Common.{◌≡◌, map, drop}
-use Rattle.ccr_steps.specs.Asks.{version_of}
-use Rattle.ccr_steps.specs.Inputs.{chosen_data}
-use Rattle.ccr_steps.proofs.chosen.Inputs.version_of.Given as goal
-
-abbrev pub invariant-loop-input : goal.invariant-loop-input
-invariant-loop-input l = version_of (map chosen_data (drop l.input-index l.input-items)) l.name ≡ version_of (map chosen_data l.input-items) l.name

@@ -1,2 +1,0 @@
-mod launches;
-mod shelves;

@@ -1,4 +1,0 @@
-pub mod CutLemmas
-pub mod AcceptedLine
-pub mod QuietLines
-pub mod Accepting

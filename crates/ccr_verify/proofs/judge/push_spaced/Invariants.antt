@@ -1,7 +1,0 @@
-use Rattle.std.proofs.Common.{◌≡◌, ◌++◌, take, string_bytes}
-use Rattle.std.specs.List.{flat_map}
-use Rattle.ccr_verify.specs.Judged.{spaced}
-use Rattle.ccr_verify.proofs.judge.push_spaced.Given as goal
-
-abbrev pub invariant-loop-n : goal.invariant-loop-n
-invariant-loop-n l = string_bytes l.out ≡ string_bytes l.fn.out ++ flat_map spaced (take l.n-index l.numbers)
