@@ -2,7 +2,8 @@
 //!
 //! An [`Index`] stands for a problem ([`ccr_choice::Problem`]). It answers the greatest place that an input can have while the
 //! builds of some named jobs are fixed ([`Index::greatest`]), and how many builds of a job leave each input a place
-//! ([`Index::viable`]). The work is that of the fixed builds' own pairs, whatever the number of builds ever made.
+//! ([`Index::viable`]). The first looks only at the fixed builds' own pairs, whatever the number of builds ever made, the second so at
+//! each build of its job.
 //!
 //! It is made from a problem by [`build_index`], and then follows the problem row by row: [`Index::add_version`] adds an allowed
 //! place, [`Index::add_build`] a build. [`Index::make_room`] takes the memory for both beforehand, so that the two aren't refused
