@@ -1,0 +1,70 @@
+-- From no tables to six, and the row of the format.
+use Rattle.std.proofs.Common.{◌≡◌, ◌≢◌, IfOk, true, List, [], ◌∷◌, map, Ok, Err, Result, refl, sym, subst, IsPermutation}
+use Rattle.std.specs.List.{AllByRecursion}
+use Rattle.std.proofs.lemmas.List.Sorted.{IsPermutation-refl}
+use Rattle.sqlite.specs.Order.{Row}
+use Rattle.sqlite.specs.Schema.{Schema}
+use Rattle.sqlite.specs.declared.error.Error.{Error}
+use Rattle.sqlite.specs.Effect.{Database}
+use Rattle.sqlite.specs.State.{State}
+use Rattle.sqlite_trees.specs.declared.store.Shape.TheVariants.{Table as Shaped}
+use Rattle.sqlite_trees.specs.View.{IsShaped}
+use Rattle.ccr_tables.specs.Schema.{our_schema}
+use Rattle.ccr_tables.specs.Contents.{Contents, Holds, IsBuild, no_contents, new_contents, meta_row, scope_row, version_row, build_row, pair_row, pin_row}
+use Rattle.ccr_tables.specs.Step.{Alters, IsBare, Creates, Founds}
+use Rattle.ccr_tables.specs.Written.{with_meta}
+use Rattle.ccr_tables.specs.declared.creation.Creation.{Creation}
+use Rattle.ccr_tables.specs.declared.creation.Creation.TheVariants.{Made}
+use Rattle.ccr_tables.proofs.Inserts.{same_value}
+use Rattle.ccr_tables.proofs.InTurn.{keeps_then}
+
+pub creates_then : {X Y : Type 0} (a b c : Schema) (s t u : State) (x : X) (r : Result Y Error) → Creates a b s t (Ok x) → Creates b c t u r → Creates a c s u r
+creates_then a b c s t u x (Ok y) first next = record { kept = keeps_then s t u first.kept next.kept; made = (next.made.0, λ bare. next.made.1 (first.made.1 bare)) }
+creates_then a b c s t u x (Err e) first next = record { kept = keeps_then s t u first.kept next.kept; made = tt }
+
+none_shown : (shown : Row → Row) (rows : List Row) → rows ≡ [] → IsPermutation [] (map shown rows)
+none_shown shown rows e = subst (λ l. IsPermutation [] (map shown l)) (sym e) (IsPermutation-refl [])
+
+none_shaped : (rows : List Row) → rows ≡ [] → IsShaped Shaped rows
+none_shaped rows e = subst (IsShaped Shaped) (sym e) (tt, tt)
+
+bare_holds : (db : Database) → IsBare our_schema db → Holds no_contents db
+bare_holds db bare = record {
+  schema = bare.0;
+  rows = record {
+    meta = none_shown meta_row (db.trees 0) bare.1.0;
+    scopes = none_shown scope_row (db.trees 1) bare.1.1.0;
+    versions = none_shown version_row (db.trees 3) bare.1.1.1.0;
+    builds = none_shown build_row (db.trees 6) bare.1.1.1.1.0;
+    pairs = none_shown pair_row (db.trees 8) bare.1.1.1.1.1.0;
+    pins = none_shown pin_row (db.trees 10) bare.1.1.1.1.1.1.0;
+    numbered_meta = none_shaped (db.trees 0) bare.1.0;
+    numbered_builds = none_shaped (db.trees 6) bare.1.1.1.1.0;
+    numbered_pins = none_shaped (db.trees 10) bare.1.1.1.1.1.1.0;
+    typed_builds = subst (AllByRecursion IsBuild) (sym bare.1.1.1.1.0) tt;
+  };
+}
+
+pub founds_then : {X Y : Type 0} (a : Schema) (s t u : State) (x : X) (r : Result Y Error) → Creates a our_schema s t (Ok x) → Alters t u (with_meta 1 (49 ∷ [])) r → Founds a s u r
+founds_then a s t u x (Ok y) first next =
+    record { kept = keeps_then s t u first.kept next.kept; made = (next.made.0, λ bare. next.made.1 no_contents (bare_holds t.now (first.made.1 bare))) }
+founds_then a s t u x (Err e) first next = record { kept = keeps_then s t u first.kept next.kept; made = tt }
+
+-- a step that failed is a failure of the whole
+pub creates_fails : {X Y : Type 0} (a b c : Schema) (s t : State) (e f : Error) (r : Result Y Error) → r ≡ Err f → Creates {X = X} a b s t (Err e) → Creates {X = Y} a c s t r
+creates_fails {X} {Y} a b c s t e f r is it = subst (Creates {X = Y} a c s t) (sym is) (record { kept = it.kept; made = tt })
+
+pub founds_fails : {X Y : Type 0} (a b : Schema) (s t : State) (e f : Error) (r : Result Y Error) → r ≡ Err f → Creates {X = X} a b s t (Err e) → Founds {X = Y} a s t r
+founds_fails {X} {Y} a b s t e f r is it = subst (Founds {X = Y} a s t) (sym is) (record { kept = it.kept; made = tt })
+
+pub founds_stops : {X Y : Type 0} (a : Schema) (s t : State) (e f : Error) (r : Result Y Error) → r ≡ Err f → Founds {X = X} a s t (Err e) → Founds {X = Y} a s t r
+founds_stops {X} {Y} a s t e f r is it = subst (Founds {X = Y} a s t) (sym is) (record { kept = it.kept; made = tt })
+
+pub founds_all : {X Y : Type 0} (a b : Schema) (s t u : State) (x : X) (r : Result Y Error) → Creates a b s t (Ok x) → Founds b t u r → Founds a s u r
+founds_all a b s t u x (Ok y) first next = record { kept = keeps_then s t u first.kept next.kept; made = (next.made.0, λ bare. next.made.1 (first.made.1 bare)) }
+founds_all a b s t u x (Err e) first next = record { kept = keeps_then s t u first.kept next.kept; made = tt }
+
+-- an answer that is never `Made` isn't
+pub not_made : (r : Result Creation Error) → IfOk r (λ it. it ≢ Made) → r ≡ Ok Made → ⊥
+not_made (Ok it) h e = h (same_value e)
+not_made (Err x) h e = absurd (let bad = e in cc)

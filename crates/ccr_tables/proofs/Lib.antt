@@ -1,0 +1,12 @@
+pub mod Texts
+pub mod Edits
+pub mod Selects
+pub mod Lists
+pub mod Inserts
+pub mod Turns
+pub mod Adds
+pub mod Updates
+pub mod Changes
+pub mod Creations
+pub mod InTurn
+pub mod Founding

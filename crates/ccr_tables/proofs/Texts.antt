@@ -1,0 +1,249 @@
+-- What the statement texts mean, over the six tables.
+use Rattle.std.proofs.Common.{◌≡◌, ℕ, List, codes, Ok, refl, [], ◌∷◌, None, Some, false, pos, negsuc, map}
+use Rattle.sqlite_tied.specs.Compute.{everything}
+use Rattle.sqlite.specs.Listing.{understood, reads_listing}
+use Rattle.sqlite.specs.declared.types.Value.TheVariants.{Null, Int, Text}
+use Rattle.sqlite.specs.Term.{Term, lit, col, op2}
+use Rattle.sqlite.specs.Query.{Query, inner, end}
+use Rattle.sqlite.specs.Collation.TheVariants.{Binary}
+use Rattle.sqlite_value.specs.Keys.{ascending}
+use Rattle.sqlite_sql.specs.declared.ops.BinaryOp.TheVariants.{Compare}
+use Rattle.sqlite_sql.specs.declared.ops.CompareOp.TheVariants.{Eq}
+use Rattle.sqlite_schema.specs.declared.command.Conflict.TheVariants.{Abort}
+use Rattle.sqlite.specs.Source.TheVariants.{Values}
+use Rattle.sqlite.specs.Command.TheVariants.{Insert, InsertOr, Select, Update, Delete}
+use Rattle.sqlite.proofs.Callers.{IsPlain, command_of, statement_of}
+use Rattle.ccr_tables.specs.Schema.{our_schema}
+
+-- SELECT project FROM the table in this tree WHERE tests ORDER BY keys
+abbrev pub query : ℕ → List Term → List Term → List Term → Query
+query tree tests keys project = record {
+  from = inner tree end;
+  filter = tests;
+  group = None;
+  project = project;
+  distinct = false;
+  collations = [];
+  order = map (λ t. (t, ascending Binary)) keys;
+  limit = lit (Int (negsuc 0));
+  offset = lit (Int (pos 0));
+}
+
+-- the rows where the two terms are equal
+abbrev pub where_equal : ℕ → Term → Term → List Term → Query
+where_equal tree a b project = query tree (op2 (Compare Eq Binary) a b ∷ []) [] project
+
+abbrev pub columns : List ℕ → List Term
+columns places = map (λ at. col 1 at) places
+
+abbrev pub scope_text : List ℕ
+scope_text = codes "INSERT INTO scopes(id, resource, kind, source) VALUES(?1, ?2, ?3, ?4)"
+
+pub scope_command : command_of (understood our_schema scope_text) ≡ Insert 1 (Values (col 0 0 ∷ lit Null ∷ col 0 1 ∷ col 0 2 ∷ col 0 3 ∷ []) 5)
+unfolding understood everything
+scope_command = refl
+
+pub scope_plain : IsPlain (understood our_schema scope_text)
+unfolding understood everything
+scope_plain = (refl, refl)
+
+abbrev pub version_text : List ℕ
+version_text = codes "INSERT INTO versions(scope, place, body) VALUES(?1, ?2, ?3)"
+
+pub version_command : command_of (understood our_schema version_text) ≡ Insert 2 (Values (lit Null ∷ col 0 0 ∷ col 0 1 ∷ col 0 2 ∷ []) 4)
+unfolding understood everything
+version_command = refl
+
+pub version_plain : IsPlain (understood our_schema version_text)
+unfolding understood everything
+version_plain = (refl, refl)
+
+abbrev pub build_text : List ℕ
+build_text = codes "INSERT INTO builds(id, job, number, status) VALUES(?1, ?2, ?3, ?4)"
+
+pub build_command : command_of (understood our_schema build_text) ≡ Insert 3 (Values (col 0 0 ∷ lit Null ∷ col 0 1 ∷ col 0 2 ∷ col 0 3 ∷ []) 5)
+unfolding understood everything
+build_command = refl
+
+pub build_plain : IsPlain (understood our_schema build_text)
+unfolding understood everything
+build_plain = (refl, refl)
+
+abbrev pub pair_text : List ℕ
+pair_text = codes "INSERT INTO pairs(build, input, scope, place) VALUES(?1, ?2, ?3, ?4)"
+
+pub pair_command : command_of (understood our_schema pair_text) ≡ Insert 4 (Values (lit Null ∷ col 0 0 ∷ col 0 1 ∷ col 0 2 ∷ col 0 3 ∷ []) 5)
+unfolding understood everything
+pair_command = refl
+
+pub pair_plain : IsPlain (understood our_schema pair_text)
+unfolding understood everything
+pair_plain = (refl, refl)
+
+abbrev pub meta_text : List ℕ
+meta_text = codes "SELECT k, v FROM meta ORDER BY k"
+
+abbrev pub meta_names : List (List ℕ)
+meta_names = codes "k" ∷ codes "v" ∷ []
+
+pub meta_command : command_of (understood our_schema meta_text) ≡ Select (record { lets = []; body = query 0 [] (col 1 0 ∷ []) (col 1 0 ∷ col 1 2 ∷ []) }) meta_names
+unfolding understood everything
+meta_command = refl
+
+pub meta_unlisted : reads_listing our_schema meta_text ≡ false
+unfolding understood everything
+meta_unlisted = refl
+
+pub meta_plain : IsPlain (understood our_schema meta_text)
+unfolding understood everything
+meta_plain = (refl, refl)
+
+abbrev pub scopes_text : List ℕ
+scopes_text = codes "SELECT id, resource, kind, source FROM scopes ORDER BY id"
+
+abbrev pub scopes_names : List (List ℕ)
+scopes_names = codes "id" ∷ codes "resource" ∷ codes "kind" ∷ codes "source" ∷ []
+
+pub scopes_command : command_of (understood our_schema scopes_text) ≡ Select (record { lets = []; body = query 1 [] (col 1 0 ∷ []) (col 1 0 ∷ col 1 2 ∷ col 1 3 ∷ col 1 4 ∷ []) }) scopes_names
+unfolding understood everything
+scopes_command = refl
+
+pub scopes_unlisted : reads_listing our_schema scopes_text ≡ false
+unfolding understood everything
+scopes_unlisted = refl
+
+pub scopes_plain : IsPlain (understood our_schema scopes_text)
+unfolding understood everything
+scopes_plain = (refl, refl)
+
+abbrev pub versions_text : List ℕ
+versions_text = codes "SELECT scope, place, body FROM versions ORDER BY scope, place"
+
+abbrev pub versions_names : List (List ℕ)
+versions_names = codes "scope" ∷ codes "place" ∷ codes "body" ∷ []
+
+pub versions_command : command_of (understood our_schema versions_text) ≡ Select (record { lets = []; body = query 3 [] (col 1 1 ∷ col 1 2 ∷ []) (col 1 1 ∷ col 1 2 ∷ col 1 3 ∷ []) }) versions_names
+unfolding understood everything
+versions_command = refl
+
+pub versions_unlisted : reads_listing our_schema versions_text ≡ false
+unfolding understood everything
+versions_unlisted = refl
+
+pub versions_plain : IsPlain (understood our_schema versions_text)
+unfolding understood everything
+versions_plain = (refl, refl)
+
+abbrev pub builds_text : List ℕ
+builds_text = codes "SELECT id, job, number, status FROM builds ORDER BY id"
+
+abbrev pub builds_names : List (List ℕ)
+builds_names = codes "id" ∷ codes "job" ∷ codes "number" ∷ codes "status" ∷ []
+
+pub builds_command : command_of (understood our_schema builds_text) ≡ Select (record { lets = []; body = query 6 [] (col 1 0 ∷ []) (col 1 0 ∷ col 1 2 ∷ col 1 3 ∷ col 1 4 ∷ []) }) builds_names
+unfolding understood everything
+builds_command = refl
+
+pub builds_unlisted : reads_listing our_schema builds_text ≡ false
+unfolding understood everything
+builds_unlisted = refl
+
+pub builds_plain : IsPlain (understood our_schema builds_text)
+unfolding understood everything
+builds_plain = (refl, refl)
+
+abbrev pub pairs_text : List ℕ
+pairs_text = codes "SELECT build, input, scope, place FROM pairs ORDER BY build, input, scope, place"
+
+abbrev pub pairs_names : List (List ℕ)
+pairs_names = codes "build" ∷ codes "input" ∷ codes "scope" ∷ codes "place" ∷ []
+
+pub pairs_command : command_of (understood our_schema pairs_text) ≡ Select (record { lets = []; body = query 8 [] (col 1 1 ∷ col 1 2 ∷ col 1 3 ∷ col 1 4 ∷ []) (col 1 1 ∷ col 1 2 ∷ col 1 3 ∷ col 1 4 ∷ []) }) pairs_names
+unfolding understood everything
+pairs_command = refl
+
+pub pairs_unlisted : reads_listing our_schema pairs_text ≡ false
+unfolding understood everything
+pairs_unlisted = refl
+
+pub pairs_plain : IsPlain (understood our_schema pairs_text)
+unfolding understood everything
+pairs_plain = (refl, refl)
+
+abbrev pub pins_text : List ℕ
+pins_text = codes "SELECT resource, body FROM pins ORDER BY resource"
+
+abbrev pub pins_names : List (List ℕ)
+pins_names = codes "resource" ∷ codes "body" ∷ []
+
+pub pins_command : command_of (understood our_schema pins_text) ≡ Select (record { lets = []; body = query 10 [] (col 1 1 ∷ []) (col 1 1 ∷ col 1 2 ∷ []) }) pins_names
+unfolding understood everything
+pins_command = refl
+
+pub pins_unlisted : reads_listing our_schema pins_text ≡ false
+unfolding understood everything
+pins_unlisted = refl
+
+pub pins_plain : IsPlain (understood our_schema pins_text)
+unfolding understood everything
+pins_plain = (refl, refl)
+
+abbrev pub put_meta_text : List ℕ
+put_meta_text = codes "INSERT INTO meta(k, v) VALUES(?1, ?2) ON CONFLICT(k) DO UPDATE SET v = excluded.v"
+
+-- where meta has the row already, its new value
+abbrev pub meta_over : Query
+meta_over = where_equal 0 (col 1 0) (col 0 2) (col 1 0 ∷ col 1 0 ∷ lit Null ∷ col 0 5 ∷ [])
+
+pub put_meta_command : command_of (understood our_schema put_meta_text) ≡ InsertOr 0 Abort (Values (col 0 0 ∷ lit Null ∷ col 0 1 ∷ []) 3) ((record { target = Some (0 ∷ []); update = Some (record { lets = []; body = meta_over }) }) ∷ [])
+unfolding understood everything
+put_meta_command = refl
+
+pub put_meta_plain : IsPlain (understood our_schema put_meta_text)
+unfolding understood everything
+put_meta_plain = (refl, refl)
+
+abbrev pub put_pin_text : List ℕ
+put_pin_text = codes "INSERT INTO pins(resource, body) VALUES(?1, ?2) ON CONFLICT(resource) DO UPDATE SET body = excluded.body"
+
+-- where the resource has a pin already, its new body
+abbrev pub pin_over : Query
+pin_over = where_equal 10 (col 1 0) (col 0 2) (col 1 0 ∷ col 1 0 ∷ col 1 1 ∷ col 0 5 ∷ [])
+
+pub put_pin_command : command_of (understood our_schema put_pin_text) ≡ InsertOr 5 Abort (Values (lit Null ∷ col 0 0 ∷ col 0 1 ∷ []) 3) ((record { target = Some (1 ∷ []); update = Some (record { lets = []; body = pin_over }) }) ∷ [])
+unfolding understood everything
+put_pin_command = refl
+
+pub put_pin_plain : IsPlain (understood our_schema put_pin_text)
+unfolding understood everything
+put_pin_plain = (refl, refl)
+
+abbrev pub set_status_text : List ℕ
+set_status_text = codes "UPDATE builds SET status = ?2 WHERE id = ?1"
+
+-- the build with its new status
+abbrev pub status_set : Query
+status_set = where_equal 6 (col 1 0) (col 0 0) (col 1 0 ∷ col 1 0 ∷ lit Null ∷ col 1 2 ∷ col 1 3 ∷ col 0 1 ∷ [])
+
+pub set_status_command : command_of (understood our_schema set_status_text) ≡ Update 3 (record { lets = []; body = status_set })
+unfolding understood everything
+set_status_command = refl
+
+pub set_status_plain : IsPlain (understood our_schema set_status_text)
+unfolding understood everything
+set_status_plain = (refl, refl)
+
+abbrev pub remove_pin_text : List ℕ
+remove_pin_text = codes "DELETE FROM pins WHERE resource = ?1"
+
+-- the numbers of the pins of the resource
+abbrev pub pin_gone : Query
+pin_gone = where_equal 10 (col 1 1) (col 0 0) (col 1 0 ∷ [])
+
+pub remove_pin_command : command_of (understood our_schema remove_pin_text) ≡ Delete 5 (record { lets = []; body = pin_gone })
+unfolding understood everything
+remove_pin_command = refl
+
+pub remove_pin_plain : IsPlain (understood our_schema remove_pin_text)
+unfolding understood everything
+remove_pin_plain = (refl, refl)

@@ -1,0 +1,48 @@
+use Rattle.std.proofs.Common.{arith}
+use Rattle.std.proofs.lemmas.Result.{err_from_is_err_and}
+use Rattle.sqlite.specs.State.{HasCleanDisk}
+use Rattle.sqlite.specs.Held.{state}
+use Rattle.ccr_tables.specs.Schema.{meta_schema, our_schema}
+use Rattle.ccr_tables.proofs.InTurn.{survives_both}
+use Rattle.ccr_tables.proofs.Founding.{founds_then, founds_fails, founds_stops}
+use Rattle.ccr_tables.proofs.creation.create_all.Goals as goal
+
+pub returns-in_err-create_tables-clause-step : goal.returns-in_err-create_tables-clause-step
+returns-in_err-create_tables-clause-step g c clean inside =
+    let s0 = state g.S.Store c.args.tx.now.conn.now in
+    let s1 = state g.S.Store c.create_tables.new.tx.conn.now in
+    let r = err_from_is_err_and c.from_residual.result c.from_residual.ensures.1 in
+    founds_fails meta_schema our_schema s0 s1 _ r.0 c.from_residual.result r.1 (c.in_err-create_tables.ensures.step clean inside)
+
+pub returns-in_err-put-clause-step : goal.returns-in_err-put-clause-step
+returns-in_err-put-clause-step g c clean inside =
+    let s0 = state g.S.Store c.args.tx.now.conn.now in
+    let s1 = state g.S.Store c.create_tables.new.tx.conn.now in
+    let s2 = state g.S.Store c.put.new.tx.conn.now in
+    let clean1 : HasCleanDisk s1 = omega (arith, c.put.ensures.survives.clean) in
+    let t1 = c.in_ok-create_tables.ensures.step clean1 inside in
+    let t2 = founds_then meta_schema s0 s1 s2 _ _ t1 (c.in_err-put.ensures.step clean t1.made.0) in
+    let r = err_from_is_err_and c.from_residual-in_err-put.result c.from_residual-in_err-put.ensures.1 in
+    founds_stops meta_schema s0 s2 _ r.0 c.from_residual-in_err-put.result r.1 t2
+
+pub returns-in_err-put-clause-survives : goal.returns-in_err-put-clause-survives
+returns-in_err-put-clause-survives g c =
+    let s0 = state g.S.Store c.args.tx.now.conn.now in
+    let s1 = state g.S.Store c.create_tables.new.tx.conn.now in
+    survives_both s0 s1 (state g.S.Store c.put.new.tx.conn.now) c.create_tables.ensures.survives c.put.ensures.survives
+
+pub returns-clause-step : goal.returns-clause-step
+returns-clause-step g c clean inside =
+    let s0 = state g.S.Store c.args.tx.now.conn.now in
+    let s1 = state g.S.Store c.create_tables.new.tx.conn.now in
+    let s2 = state g.S.Store c.put.new.tx.conn.now in
+    let clean1 : HasCleanDisk s1 = omega (arith, c.put.ensures.survives.clean) in
+    let t1 = c.in_ok-create_tables.ensures.step clean1 inside in
+    let t2 = founds_then meta_schema s0 s1 s2 _ _ t1 (c.in_ok-put.ensures.step clean t1.made.0) in
+    record { kept = t2.kept; made = t2.made }
+
+pub returns-clause-survives : goal.returns-clause-survives
+returns-clause-survives g c =
+    let s0 = state g.S.Store c.args.tx.now.conn.now in
+    let s1 = state g.S.Store c.create_tables.new.tx.conn.now in
+    survives_both s0 s1 (state g.S.Store c.put.new.tx.conn.now) c.create_tables.ensures.survives c.put.ensures.survives

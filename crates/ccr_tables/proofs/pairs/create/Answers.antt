@@ -1,0 +1,7 @@
+use Rattle.sqlite.specs.Held.{state}
+use Rattle.ccr_tables.proofs.Creations.{create_pairs}
+use Rattle.ccr_tables.proofs.pairs.create.Goals as goal
+
+pub returns-clause-step : goal.returns-clause-step
+returns-clause-step g c clean inside =
+    create_pairs (state g.S.Store c.args.tx.now.conn.now) (state g.S.Store c.execute.new.self.conn.now) c.execute.result (c.execute.ensures.runs clean inside)

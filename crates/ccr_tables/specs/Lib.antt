@@ -1,0 +1,6 @@
+pub mod Schema
+pub mod Contents
+pub mod Written
+pub mod Step
+pub mod Listing
+pub mod Cause

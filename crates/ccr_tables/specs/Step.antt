@@ -1,0 +1,36 @@
+-- What a statement does to the tables, and what a crash can leave of them.
+use Rattle.std.specs.Prelude.{◌≡◌, true, [], Result, OnOk}
+use Rattle.std.specs.List.{AllByRecursion}
+use Rattle.sqlite.specs.Schema.{Schema}
+use Rattle.sqlite.specs.declared.error.Error.{Error}
+use Rattle.sqlite.specs.Tree.{Trees}
+use Rattle.sqlite.specs.Effect.{Database}
+use Rattle.sqlite.specs.State.{State, KeepsCommit}
+use Rattle.ccr_tables.specs.Contents.{Contents, Keeps, Holds, new_contents}
+
+-- where the first database holds some contents, the second holds what the change makes of them
+abbrev pub Turns : (Contents → Contents) → Database → Database → Type 0
+Turns change old new = (these : Contents) → Holds these old → Holds (change these) new
+
+-- statements inside a transaction: nothing is committed; where they are made, the transaction goes on and sees the change
+pub record Alters {X : Type 0} (old new : State) (change : Contents → Contents) (result : Result X Error) : Type 0 where
+  pub kept : KeepsCommit old new
+  pub made : OnOk result ((new.in_transaction ≡ true) × Turns change old.now new.now)
+
+-- the database has the tables of this schema and no rows
+abbrev pub IsBare : Schema → Database → Type 0
+IsBare schema db = (db.schema ≡ schema) × AllByRecursion (λ t. db.trees t.tree ≡ []) schema.tables
+
+-- a statement inside a transaction that makes the next table
+pub record Creates {X : Type 0} (before after : Schema) (old new : State) (result : Result X Error) : Type 0 where
+  pub kept : KeepsCommit old new
+  pub made : OnOk result ((new.in_transaction ≡ true) × (IsBare before old.now → IsBare after new.now))
+
+-- statements inside a transaction that make the tables from this schema on, and write the row of the format
+pub record Founds {X : Type 0} (before : Schema) (old new : State) (result : Result X Error) : Type 0 where
+  pub kept : KeepsCommit old new
+  pub made : OnOk result ((new.in_transaction ≡ true) × (IsBare before old.now → Holds new_contents new.now))
+
+-- the trees hold what the change makes of the contents that the database held
+abbrev pub IsLeft : (Contents → Contents) → Database → Trees → Type 0
+IsLeft change old trees = (these : Contents) → Holds these old → Keeps (change these) trees

@@ -1,0 +1,127 @@
+//! A new database.
+
+ghost use Rattle.std.specs.Prelude.{◌≡◌, ◌≢◌, false, IsTrue, IfOk, IfErr};
+ghost use Rattle.sqlite.specs.State.{HasCleanDisk, KeepsCommit, Survives};
+ghost use Rattle.sqlite.specs.Held.{state};
+ghost use Rattle.ccr_tables.specs.Cause.{cause_of};
+ghost use Rattle.ccr_tables.specs.Contents.{Holds, Keeps, new_contents};
+ghost use Rattle.ccr_tables.specs.Schema.{no_schema, meta_schema, our_schema};
+ghost use Rattle.ccr_tables.specs.Step.{Creates, Founds, IsBare};
+
+use crate::cause::Cause;
+use crate::{builds, meta, pairs, pins, scopes, versions};
+use sqlite::{Alter, Connection, Error, Transaction};
+
+/// What `create` found.
+#[derive(Clone, Copy, Debug, PartialEq, Eq)]
+pub enum Creation {
+    /// The database was new; it has the six tables now, and the number of the format.
+    Made,
+    /// The first table was refused, so that tables are there already; nothing is changed.
+    Found,
+    /// A later table was refused; nothing is changed.
+    Foreign,
+}
+
+fn create_tables<S: Alter>(tx: &mut Transaction<'_, S>) -> Result<(), Error>
+    ensures same_reference { tx.new.conn.ghost_name ≡ tx.old.conn.ghost_name }
+    ensures step { let old = state S.Store tx.old.conn.now in
+        let new = state S.Store tx.new.conn.now in
+        HasCleanDisk new → IsTrue old.in_transaction → Creates meta_schema our_schema old new result }
+    ensures survives { Survives (state S.Store tx.old.conn.now) (state S.Store tx.new.conn.now) (λ _. ⊥) }
+{
+    scopes::create(tx)?;
+    versions::create(tx)?;
+    builds::create(tx)?;
+    pairs::create(tx)?;
+    pins::create(tx)?;
+    Ok(())
+}
+
+fn create_all<S: Alter>(tx: &mut Transaction<'_, S>) -> Result<(), Error>
+    ensures same_reference { tx.new.conn.ghost_name ≡ tx.old.conn.ghost_name }
+    ensures step { let old = state S.Store tx.old.conn.now in
+        let new = state S.Store tx.new.conn.now in
+        HasCleanDisk new → IsTrue old.in_transaction → Founds meta_schema old new result }
+    ensures survives { Survives (state S.Store tx.old.conn.now) (state S.Store tx.new.conn.now) (λ _. ⊥) }
+{
+    create_tables(tx)?;
+    meta::put(tx, 1, b"1")?;
+    Ok(())
+}
+
+/// `otherwise` where the statement was refused, and else the failure.
+fn if_refused(error: Error, otherwise: Creation) -> Result<Creation, Error>
+    requires { otherwise ≢ Creation.Made }
+    ensures ok { IfOk result (λ it. it ≢ Creation.Made) }
+    ensures err { IfErr result (λ e. cause_of e ≢ Cause.Refused) }
+{
+    if Cause::of(&error) == Cause::Refused {
+        Ok(otherwise)
+    } else {
+        Err(error)
+    }
+}
+
+fn create_rest<S: Alter>(tx: &mut Transaction<'_, S>) -> Result<Creation, Error>
+    ensures same_reference { tx.new.conn.ghost_name ≡ tx.old.conn.ghost_name }
+    ensures kept { let old = state S.Store tx.old.conn.now in
+        let new = state S.Store tx.new.conn.now in
+        HasCleanDisk new → IsTrue old.in_transaction → KeepsCommit old new }
+    ensures made { let old = state S.Store tx.old.conn.now in
+        let new = state S.Store tx.new.conn.now in
+        HasCleanDisk new → IsTrue old.in_transaction → result ≡ Ok Creation.Made
+        → IsTrue new.in_transaction × (IsBare meta_schema old.now → Holds new_contents new.now) }
+    ensures survives { Survives (state S.Store tx.old.conn.now) (state S.Store tx.new.conn.now) (λ _. ⊥) }
+{
+    match create_all(tx) {
+        Ok(()) => Ok(Creation::Made),
+        Err(error) => if_refused(error, Creation::Foreign),
+    }
+}
+
+fn create_in<S: Alter>(tx: &mut Transaction<'_, S>) -> Result<Creation, Error>
+    ensures same_reference { tx.new.conn.ghost_name ≡ tx.old.conn.ghost_name }
+    ensures kept { let old = state S.Store tx.old.conn.now in
+        let new = state S.Store tx.new.conn.now in
+        HasCleanDisk new → IsTrue old.in_transaction → KeepsCommit old new }
+    ensures made { let old = state S.Store tx.old.conn.now in
+        let new = state S.Store tx.new.conn.now in
+        HasCleanDisk new → IsTrue old.in_transaction → result ≡ Ok Creation.Made
+        → IsTrue new.in_transaction × (old.now.schema ≡ no_schema → Holds new_contents new.now) }
+    ensures survives { Survives (state S.Store tx.old.conn.now) (state S.Store tx.new.conn.now) (λ _. ⊥) }
+{
+    match meta::create(tx) {
+        Ok(_) => create_rest(tx),
+        Err(error) => if_refused(error, Creation::Found),
+    }
+}
+
+/// Makes the six tables and writes the number of the format, in one transaction. Where a CREATE is refused the answer
+/// says which; a failure of memory or disk is an `Err`. In both cases the database stays as it was.
+pub fn create<S: Alter>(conn: &mut Connection<S>) -> Result<Creation, Error>
+    requires { (state S.Store conn.old).in_transaction ≡ false }
+    ensures made { let old = state S.Store conn.old in
+        let new = state S.Store conn.new in
+        HasCleanDisk new → result ≡ Ok Creation.Made
+        → (new.committed ≡ new.now) × (old.now.schema ≡ no_schema → Holds new_contents new.now) }
+    ensures kept { let old = state S.Store conn.old in
+        let new = state S.Store conn.new in
+        HasCleanDisk new → IsTrue new.is_open → result ≢ Ok Creation.Made
+        → (new.now ≡ old.committed) × (new.committed ≡ old.committed) }
+    ensures crash { let old = state S.Store conn.old in
+        Survives old (state S.Store conn.new) (λ trees. old.now.schema ≡ no_schema → Keeps new_contents trees) }
+    ensures mode { (state S.Store conn.new).in_transaction ≡ false }
+{
+    let mut tx = conn.transaction();
+    match create_in(&mut tx)? {
+        Creation::Made => {
+            tx.commit()?;
+            Ok(Creation::Made)
+        }
+        refused => {
+            tx.rollback();
+            Ok(refused)
+        }
+    }
+}

@@ -1,0 +1,55 @@
+//! The table `meta`: row 1 is the number of the format, row 2 the text of the pipeline.
+
+ghost use Rattle.std.specs.Prelude.{◌≡◌, pos, false, IsTrue, IfOk, OnOk};
+ghost use Rattle.sqlite.specs.State.{HasCleanDisk, IsUnchanged, Survives};
+ghost use Rattle.sqlite.specs.Held.{state};
+ghost use Rattle.ccr_tables.specs.Schema.{meta_schema, no_schema, our_schema};
+ghost use Rattle.ccr_tables.specs.Contents.{Holds};
+ghost use Rattle.ccr_tables.specs.Listing.{IsListed};
+ghost use Rattle.ccr_tables.specs.Step.{Alters, Creates};
+ghost use Rattle.ccr_tables.specs.Written.{with_meta};
+
+use sqlite::{Alter, Connection, Error, Row, Transaction, params};
+
+/// Makes the table.
+pub(crate) fn create<S: Alter>(tx: &mut Transaction<'_, S>) -> Result<usize, Error>
+    ensures same_reference { tx.new.conn.ghost_name ≡ tx.old.conn.ghost_name }
+    ensures step { let old = state S.Store tx.old.conn.now in
+        let new = state S.Store tx.new.conn.now in
+        HasCleanDisk new → IsTrue old.in_transaction → Creates no_schema meta_schema old new result }
+    ensures survives { Survives (state S.Store tx.old.conn.now) (state S.Store tx.new.conn.now) (λ _. ⊥) }
+{
+    tx.execute(
+        "CREATE TABLE meta(k INTEGER PRIMARY KEY, v BLOB NOT NULL)",
+        &[],
+    )
+}
+
+/// Writes a row of `meta` in place of one with its key.
+pub(crate) fn put<S: Alter>(tx: &mut Transaction<'_, S>, k: u32, v: &[u8]) -> Result<usize, Error>
+    ensures same_reference { tx.new.conn.ghost_name ≡ tx.old.conn.ghost_name }
+    ensures step { let old = state S.Store tx.old.conn.now in
+        let new = state S.Store tx.new.conn.now in
+        HasCleanDisk new → IsTrue old.in_transaction → Alters old new (with_meta k v.now) result }
+    ensures survives { Survives (state S.Store tx.old.conn.now) (state S.Store tx.new.conn.now) (λ _. ⊥) }
+{
+    tx.execute(
+        "INSERT INTO meta(k, v) VALUES(?1, ?2) ON CONFLICT(k) DO UPDATE SET v = excluded.v",
+        params![k, v],
+    )
+}
+
+/// All rows of `meta`: k, v, by k. A failure of `sqlite` is answered.
+pub fn select<S: Alter>(conn: &mut Connection<S>) -> Result<Vec<Row>, Error>
+    ensures rows { let old = state S.Store conn.old in
+        HasCleanDisk (state S.Store conn.new)
+        → IfOk result (λ rows. (these : _) → Holds these old.now → IsListed 1 these.meta rows.items) }
+    ensures same { let old = state S.Store conn.old in
+        let new = state S.Store conn.new in
+        HasCleanDisk new → old.now.schema ≡ our_schema → OnOk result (IsUnchanged old new) }
+    ensures mode { conn.old.in_transaction ≡ false → conn.new.in_transaction ≡ false }
+    ensures survives { let old = state S.Store conn.old in
+        old.now.schema ≡ our_schema → Survives old (state S.Store conn.new) (λ _. ⊥) }
+{
+    conn.query_all("SELECT k, v FROM meta ORDER BY k", &[])
+}

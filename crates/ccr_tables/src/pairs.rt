@@ -1,0 +1,64 @@
+//! The table `pairs`: the used places of each build under their inputs, its moved pairs under the empty input.
+
+ghost use Rattle.std.specs.Prelude.{◌≡◌, pos, false, IsTrue, IfOk, OnOk};
+ghost use Rattle.sqlite.specs.State.{HasCleanDisk, IsUnchanged, Survives};
+ghost use Rattle.sqlite.specs.Held.{state};
+ghost use Rattle.ccr_tables.specs.Schema.{builds_schema, our_schema, pairs_schema};
+ghost use Rattle.ccr_tables.specs.Contents.{Holds};
+ghost use Rattle.ccr_tables.specs.Listing.{IsListed};
+ghost use Rattle.ccr_tables.specs.Step.{Alters, Creates};
+ghost use Rattle.ccr_tables.specs.Written.{with_pair};
+
+use sqlite::{Alter, Connection, Error, Row, Transaction, params};
+
+/// Makes the table.
+pub(crate) fn create<S: Alter>(tx: &mut Transaction<'_, S>) -> Result<usize, Error>
+    ensures same_reference { tx.new.conn.ghost_name ≡ tx.old.conn.ghost_name }
+    ensures step { let old = state S.Store tx.old.conn.now in
+        let new = state S.Store tx.new.conn.now in
+        HasCleanDisk new → IsTrue old.in_transaction → Creates builds_schema pairs_schema old new result }
+    ensures survives { Survives (state S.Store tx.old.conn.now) (state S.Store tx.new.conn.now) (λ _. ⊥) }
+{
+    tx.execute(
+        "CREATE TABLE pairs(build INTEGER NOT NULL, input TEXT NOT NULL,\n  scope INTEGER NOT NULL, place INTEGER NOT NULL,\n  PRIMARY KEY(build, input, scope, place))",
+        &[],
+    )
+}
+
+/// Adds a row of `pairs`.
+pub(crate) fn insert<S: Alter>(
+    tx: &mut Transaction<'_, S>,
+    build: u32,
+    input: &str,
+    scope: u32,
+    place: u32,
+) -> Result<usize, Error>
+    ensures same_reference { tx.new.conn.ghost_name ≡ tx.old.conn.ghost_name }
+    ensures step { let old = state S.Store tx.old.conn.now in
+        let new = state S.Store tx.new.conn.now in
+        HasCleanDisk new → IsTrue old.in_transaction → Alters old new (with_pair build input.now scope place) result }
+    ensures survives { Survives (state S.Store tx.old.conn.now) (state S.Store tx.new.conn.now) (λ _. ⊥) }
+{
+    tx.execute(
+        "INSERT INTO pairs(build, input, scope, place) VALUES(?1, ?2, ?3, ?4)",
+        params![build, input, scope, place],
+    )
+}
+
+/// All rows of `pairs`: build, input, scope, place, by build, input, scope, place. A failure of `sqlite` is answered.
+pub fn select<S: Alter>(conn: &mut Connection<S>) -> Result<Vec<Row>, Error>
+    ensures rows { let old = state S.Store conn.old in
+        HasCleanDisk (state S.Store conn.new)
+        → IfOk result (λ rows. (these : _) → Holds these old.now → IsListed 4 these.pairs rows.items) }
+    ensures same { let old = state S.Store conn.old in
+        let new = state S.Store conn.new in
+        HasCleanDisk new → old.now.schema ≡ our_schema → OnOk result (IsUnchanged old new) }
+    ensures mode { conn.old.in_transaction ≡ false → conn.new.in_transaction ≡ false }
+    ensures survives { let old = state S.Store conn.old in
+        old.now.schema ≡ our_schema → Survives old (state S.Store conn.new) (λ _. ⊥) }
+{
+    conn.query_all(
+        "SELECT build, input, scope, place FROM pairs ORDER BY build, input, scope, place",
+        &[],
+    )
+}

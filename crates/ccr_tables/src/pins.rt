@@ -1,0 +1,70 @@
+//! The table `pins`: the pin of each resource that has one.
+
+ghost use Rattle.std.specs.Prelude.{◌≡◌, pos, false, IsTrue, IfOk, OnOk};
+ghost use Rattle.sqlite.specs.State.{HasCleanDisk, IsUnchanged, Survives};
+ghost use Rattle.sqlite.specs.Held.{state};
+ghost use Rattle.ccr_tables.specs.Schema.{our_schema, pairs_schema};
+ghost use Rattle.ccr_tables.specs.Contents.{Holds};
+ghost use Rattle.ccr_tables.specs.Listing.{IsListed};
+ghost use Rattle.ccr_tables.specs.Step.{Alters, Creates};
+ghost use Rattle.ccr_tables.specs.Written.{with_pin, without_pin};
+
+use sqlite::{Alter, Connection, Error, Row, Transaction, params};
+
+/// Makes the table.
+pub(crate) fn create<S: Alter>(tx: &mut Transaction<'_, S>) -> Result<usize, Error>
+    ensures same_reference { tx.new.conn.ghost_name ≡ tx.old.conn.ghost_name }
+    ensures step { let old = state S.Store tx.old.conn.now in
+        let new = state S.Store tx.new.conn.now in
+        HasCleanDisk new → IsTrue old.in_transaction → Creates pairs_schema our_schema old new result }
+    ensures survives { Survives (state S.Store tx.old.conn.now) (state S.Store tx.new.conn.now) (λ _. ⊥) }
+{
+    tx.execute(
+        "CREATE TABLE pins(resource TEXT PRIMARY KEY, body TEXT NOT NULL)",
+        &[],
+    )
+}
+
+/// Writes a row of `pins` in place of one with its resource.
+pub(crate) fn put<S: Alter>(
+    tx: &mut Transaction<'_, S>,
+    resource: &str,
+    body: &str,
+) -> Result<usize, Error>
+    ensures same_reference { tx.new.conn.ghost_name ≡ tx.old.conn.ghost_name }
+    ensures step { let old = state S.Store tx.old.conn.now in
+        let new = state S.Store tx.new.conn.now in
+        HasCleanDisk new → IsTrue old.in_transaction → Alters old new (with_pin resource.now body.now) result }
+    ensures survives { Survives (state S.Store tx.old.conn.now) (state S.Store tx.new.conn.now) (λ _. ⊥) }
+{
+    tx.execute(
+        "INSERT INTO pins(resource, body) VALUES(?1, ?2) ON CONFLICT(resource) DO UPDATE SET body = excluded.body",
+        params![resource, body],
+    )
+}
+
+/// Removes the row of `pins` with this resource, if there is one.
+pub(crate) fn remove<S: Alter>(tx: &mut Transaction<'_, S>, resource: &str) -> Result<usize, Error>
+    ensures same_reference { tx.new.conn.ghost_name ≡ tx.old.conn.ghost_name }
+    ensures step { let old = state S.Store tx.old.conn.now in
+        let new = state S.Store tx.new.conn.now in
+        HasCleanDisk new → IsTrue old.in_transaction → Alters old new (without_pin resource.now) result }
+    ensures survives { Survives (state S.Store tx.old.conn.now) (state S.Store tx.new.conn.now) (λ _. ⊥) }
+{
+    tx.execute("DELETE FROM pins WHERE resource = ?1", params![resource])
+}
+
+/// All rows of `pins`: resource, body, by resource. A failure of `sqlite` is answered.
+pub fn select<S: Alter>(conn: &mut Connection<S>) -> Result<Vec<Row>, Error>
+    ensures rows { let old = state S.Store conn.old in
+        HasCleanDisk (state S.Store conn.new)
+        → IfOk result (λ rows. (these : _) → Holds these old.now → IsListed 1 these.pins rows.items) }
+    ensures same { let old = state S.Store conn.old in
+        let new = state S.Store conn.new in
+        HasCleanDisk new → old.now.schema ≡ our_schema → OnOk result (IsUnchanged old new) }
+    ensures mode { conn.old.in_transaction ≡ false → conn.new.in_transaction ≡ false }
+    ensures survives { let old = state S.Store conn.old in
+        old.now.schema ≡ our_schema → Survives old (state S.Store conn.new) (λ _. ⊥) }
+{
+    conn.query_all("SELECT resource, body FROM pins ORDER BY resource", &[])
+}

@@ -1,0 +1,63 @@
+//! The table `versions`: the versions of each scope by place.
+
+ghost use Rattle.std.specs.Prelude.{◌≡◌, pos, false, IsTrue, IfOk, OnOk};
+ghost use Rattle.sqlite.specs.State.{HasCleanDisk, IsUnchanged, Survives};
+ghost use Rattle.sqlite.specs.Held.{state};
+ghost use Rattle.ccr_tables.specs.Schema.{our_schema, scopes_schema, versions_schema};
+ghost use Rattle.ccr_tables.specs.Contents.{Holds};
+ghost use Rattle.ccr_tables.specs.Listing.{IsListed};
+ghost use Rattle.ccr_tables.specs.Step.{Alters, Creates};
+ghost use Rattle.ccr_tables.specs.Written.{with_version};
+
+use sqlite::{Alter, Connection, Error, Row, Transaction, params};
+
+/// Makes the table.
+pub(crate) fn create<S: Alter>(tx: &mut Transaction<'_, S>) -> Result<usize, Error>
+    ensures same_reference { tx.new.conn.ghost_name ≡ tx.old.conn.ghost_name }
+    ensures step { let old = state S.Store tx.old.conn.now in
+        let new = state S.Store tx.new.conn.now in
+        HasCleanDisk new → IsTrue old.in_transaction → Creates scopes_schema versions_schema old new result }
+    ensures survives { Survives (state S.Store tx.old.conn.now) (state S.Store tx.new.conn.now) (λ _. ⊥) }
+{
+    tx.execute(
+        "CREATE TABLE versions(scope INTEGER NOT NULL, place INTEGER NOT NULL,\n  body TEXT NOT NULL, PRIMARY KEY(scope, place), UNIQUE(scope, body))",
+        &[],
+    )
+}
+
+/// Adds a row of `versions`.
+pub(crate) fn insert<S: Alter>(
+    tx: &mut Transaction<'_, S>,
+    scope: u32,
+    place: u32,
+    body: &str,
+) -> Result<usize, Error>
+    ensures same_reference { tx.new.conn.ghost_name ≡ tx.old.conn.ghost_name }
+    ensures step { let old = state S.Store tx.old.conn.now in
+        let new = state S.Store tx.new.conn.now in
+        HasCleanDisk new → IsTrue old.in_transaction → Alters old new (with_version scope place body.now) result }
+    ensures survives { Survives (state S.Store tx.old.conn.now) (state S.Store tx.new.conn.now) (λ _. ⊥) }
+{
+    tx.execute(
+        "INSERT INTO versions(scope, place, body) VALUES(?1, ?2, ?3)",
+        params![scope, place, body],
+    )
+}
+
+/// All rows of `versions`: scope, place, body, by scope, place. A failure of `sqlite` is answered.
+pub fn select<S: Alter>(conn: &mut Connection<S>) -> Result<Vec<Row>, Error>
+    ensures rows { let old = state S.Store conn.old in
+        HasCleanDisk (state S.Store conn.new)
+        → IfOk result (λ rows. (these : _) → Holds these old.now → IsListed 2 these.versions rows.items) }
+    ensures same { let old = state S.Store conn.old in
+        let new = state S.Store conn.new in
+        HasCleanDisk new → old.now.schema ≡ our_schema → OnOk result (IsUnchanged old new) }
+    ensures mode { conn.old.in_transaction ≡ false → conn.new.in_transaction ≡ false }
+    ensures survives { let old = state S.Store conn.old in
+        old.now.schema ≡ our_schema → Survives old (state S.Store conn.new) (λ _. ⊥) }
+{
+    conn.query_all(
+        "SELECT scope, place, body FROM versions ORDER BY scope, place",
+        &[],
+    )
+}
