@@ -19,6 +19,7 @@ pub enum Cause {
 }
 
 impl Cause {
+    /// The cause that an error of SQLite stands for.
     pub fn of(error: &Error) -> Cause
         ensures { result ≡ cause_of error.now }
     {
