@@ -5,3 +5,15 @@ pub mod Objects
 pub mod ObjectData
 pub mod Sources
 pub mod Faults
+pub mod Text
+pub mod Tables
+pub mod Keys
+pub mod Names
+pub mod Builds
+pub mod Rows
+pub mod History
+pub mod Orderly
+pub mod Changes
+pub mod Edits
+pub mod Pins
+pub mod Conditions

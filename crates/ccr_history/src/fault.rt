@@ -2,7 +2,7 @@
 ghost use Rattle.std.specs.Prelude.{◌≡◌};
 ghost use Rattle.ccr_history.specs.declared.fault.HistoryFault.TheVariants.{NoMemory};
 
-use std::alloc::AllocError;
+use std::alloc::{AllocError, AllocFailed};
 use thiserror::Error;
 
 /// Why a call is refused, in the order in which the causes are tested.
@@ -17,12 +17,32 @@ pub enum HistoryFault {
     /// A growth of memory was refused.
     #[error("out of memory")]
     NoMemory,
+    /// A scope would have too many versions, or there would be too many scopes.
+    #[error("table full")]
+    TableFull,
+    /// There are as many builds as are kept.
+    #[error("too many builds")]
+    BuildsFull,
+    /// The job has no build of this number.
+    #[error("no such build")]
+    NoBuild,
+    /// The build has ended already.
+    #[error("already ended")]
+    AlreadyEnded,
 }
 
 impl From<AllocError> for HistoryFault {
     ghost from_gives = { λ _ fault. fault ≡ NoMemory };
 
     fn from(_error: AllocError) -> HistoryFault {
+        HistoryFault::NoMemory
+    }
+}
+
+impl<T: Drop> From<AllocFailed<T>> for HistoryFault {
+    ghost from_gives = { λ _ fault. fault ≡ NoMemory };
+
+    fn from(_error: AllocFailed<T>) -> HistoryFault {
         HistoryFault::NoMemory
     }
 }

@@ -1,4 +1,9 @@
-//! What has been seen of the resources: versions, and the pins that hold a resource to some of them.
+//! What has been seen of the resources, what was built, and what is set: histories.
+//!
+//! A [`History`] holds a table of versions for each scope, the builds in order of making, the pins by command and the
+//! pipeline's text. Clauses see it as a record of these, without where they lie in memory, which keeps the rules of
+//! `IsHistory`. Each call that changes a history gives the named change of it, an [`Edit`]; a [`Change`] is a list of
+//! edits, in the order in which they are made.
 //!
 //! A [`Version`] and a [`Pin`] are maps from texts to texts, as a JSON object has them whose fields are all texts.
 //! Clauses see either as the list of its fields, a key with its text, keys ascending by bytes: so two are equal
@@ -7,17 +12,43 @@
 //! An [`Object`] is a source or params: a JSON object whose numbers are all whole, so that its text is exact.
 //! Clauses see it as its JSON value.
 //!
-//! What isn't such an object is refused: `NotObject` where it is no object, `VersionNotText` where a field isn't a
-//! text. `NoMemory` comes only where a growth was refused.
+//! A refused call changes nothing. A JSON value that is no version is refused: `NotObject` where it is no object,
+//! `VersionNotText` where a field isn't a text. A history has its limits, `TableFull` and `BuildsFull`, and refuses to
+//! end a build that isn't there, `NoBuild`, or that doesn't run, `AlreadyEnded`. `NoMemory` comes only where a growth was
+//! refused.
 #![tactic(auto)]
 
+mod build;
+mod build_ref;
+mod builds;
+mod change;
+mod conditions;
 mod fault;
+mod history;
+mod job_builds;
 mod key_text;
+mod law;
+mod names;
 mod object;
 mod pin;
+mod pins;
+mod row;
+mod scope;
+mod table;
+mod tables;
+mod used_row;
 mod version;
 
+pub use build::{Status, Used};
+pub use build_ref::BuildRef;
+pub use builds::MOST_BUILDS;
+pub use change::{Change, Edit};
 pub use fault::HistoryFault;
+pub use history::History;
+pub use law::changes_keep_histories;
 pub use object::{Object, has_float};
 pub use pin::Pin;
+pub use pins::Pins;
+pub use scope::Scope;
+pub use table::{MOST_SCOPES, MOST_VERSIONS};
 pub use version::Version;

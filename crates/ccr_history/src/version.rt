@@ -1,8 +1,11 @@
 //! Versions of a resource.
 ghost use Rattle.std.specs.Prelude.{◌≡◌, ◌↔◌, Some, None, IfOk, IfErr, IsTrue, IsErrOf, IsSome, string_bytes};
+ghost use Rattle.std.specs.Cmp.{partial_equiv_from_equiv};
 ghost use Rattle.serde_json.specs.Find.{as_object};
 ghost use Rattle.serde_json.specs.View.{view};
 ghost use Rattle.ccr_history.specs.Faults.{is_fault_of_value};
+ghost use Rattle.ccr_history.specs.Keys.{version_equiv, version_writes, versions_alike};
+ghost use Rattle.ccr_history.specs.Tables.{is_version};
 ghost use Rattle.ccr_history.specs.TextMap.{text_map_of, key_text, fields_in, meets, IsAscending};
 
 use crate::fault::HistoryFault;
@@ -10,6 +13,7 @@ use crate::key_text::{has_members, key_of};
 use crate::pin::Pin;
 use serde_json::Value;
 use std::alloc::{AllocError, Global};
+use std::hash::{Hash, Hasher};
 use std::marker::Model;
 
 /// What a resource's program calls one state of the resource: a map from texts to texts
@@ -57,13 +61,19 @@ impl Version {
         String::from_str(alloc, self.key.as_str())
     }
 
+    /// The version's key, as it is kept.
+    pub(crate) fn as_str(&self) -> &str
+        ensures is { result.now ≡ key_text self.now }
+        ensures ascends { IsAscending self.now }
+    {
+        self.key.as_str()
+    }
+
     /// A copy of the version.
     pub fn copy(&self) -> Result<Version, AllocError>
         ensures { IfOk result (λ v. v ≡ self.now) }
     {
-        Ok(Version {
-            key: self.key.clone()?,
-        })
+        self.clone()
     }
 
     /// Whether the version has each field that the pin names, with the same text.
@@ -72,5 +82,39 @@ impl Version {
         ensures { result ≡ meets self.now pin.now }
     {
         has_members(self.key.as_bytes(), pin.as_bytes())
+    }
+}
+
+impl Clone for Version {
+    ghost is_clone = { λ version copy. (copy ≡ version) × IsAscending version };
+
+    fn clone(&self) -> Result<Version, AllocError> {
+        Ok(Version {
+            key: self.key.clone()?,
+        })
+    }
+}
+
+impl PartialEq for Version {
+    ghost eq = { is_version };
+
+    ghost laws = { partial_equiv_from_equiv version_equiv };
+
+    fn eq(&self, other: &Version) -> bool {
+        self.as_str() == other.as_str()
+    }
+}
+
+impl Eq for Version {
+    ghost laws = { version_equiv };
+}
+
+impl Hash for Version {
+    ghost hash_input = { version_writes };
+
+    ghost respects_eq = { versions_alike };
+
+    fn hash<H: Hasher>(&self, state: &mut H) {
+        self.as_str().hash(state);
     }
 }

@@ -110,7 +110,7 @@ pub(crate) fn pin(alloc: Global, value: &Value, key: &str) -> Result<Option<Pin>
     match Pin::from_value(alloc, found) {
         Ok(pin) => Ok(Some(pin)),
         Err(HistoryFault::NoMemory) => Err(AllocError),
-        Err(HistoryFault::NotObject | HistoryFault::VersionNotText) => Ok(None),
+        Err(_) => Ok(None),
     }
 }
 
@@ -260,7 +260,7 @@ fn wanted_of(alloc: Global, found: &Value) -> Result<Wanted, AllocError>
     match Pin::from_value(alloc, found) {
         Ok(pin) => Ok(Wanted::Pinned(pin)),
         Err(HistoryFault::NoMemory) => Err(AllocError),
-        Err(HistoryFault::NotObject | HistoryFault::VersionNotText) => Ok(Wanted::Latest),
+        Err(_) => Ok(Wanted::Latest),
     }
 }
 

@@ -189,7 +189,7 @@ fn version_in(alloc: Global, value: &Value) -> Result<Option<Version>, AllocErro
     match Version::from_value(alloc, value) {
         Ok(version) => Ok(Some(version)),
         Err(HistoryFault::NoMemory) => Err(AllocError),
-        Err(HistoryFault::NotObject | HistoryFault::VersionNotText) => Ok(None),
+        Err(_) => Ok(None),
     }
 }
 

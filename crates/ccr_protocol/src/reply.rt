@@ -32,6 +32,7 @@ fn version(alloc: Global, value: &Value) -> Result<Version, ReplyFault>
         Err(HistoryFault::NotObject) => Err(ReplyFault::WrongKind),
         Err(HistoryFault::VersionNotText) => Err(ReplyFault::VersionNotText),
         Err(HistoryFault::NoMemory) => Err(ReplyFault::NoMemory),
+        Err(_) => unreachable!(),
     }
 }
 

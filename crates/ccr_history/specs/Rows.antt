@@ -1,0 +1,84 @@
+-- How builds are kept: each a row, with numbers in place of the names of its job and its inputs.
+use Rattle.std.specs.Prelude.{◌≡◌, ℕ, ◌<◌, ◌≤◌, List, [], ◌∷◌, ◌++◌, ◌⊎◌, map, length, slice_get, Bool, ◌&&◌, ◌==◌, Some}
+use Rattle.std.specs.List.{AllByRecursion, list_any}
+use Rattle.ccr_history.specs.declared.build.Status.{Status}
+use Rattle.ccr_history.specs.declared.build.Status.TheVariants.{Running}
+use Rattle.ccr_history.specs.declared.used_row.UsedRow.{UsedRow}
+use Rattle.ccr_history.specs.Text.{Text}
+use Rattle.ccr_history.specs.Names.{name_at}
+use Rattle.ccr_history.specs.Builds.{UsedData, BuildData, positions}
+
+-- a build, its job by number
+pub record RowData : Type 0 where
+  pub job : ℕ
+  pub number : ℕ
+  pub status : Status
+  pub used : List UsedRow
+  pub moved : List (ℕ × ℕ)
+
+-- what is kept of a job: the positions of its builds, and each place that one of them used
+pub record JobData : Type 0 where
+  pub at : List ℕ
+  pub used : List UsedRow
+
+-- ---- rows as builds
+-- a used place, its input by name
+abbrev pub used_data : (inputs : List Text) → UsedRow → UsedData
+used_data inputs u = record { input = name_at inputs u.input; scope = u.scope; place = u.place }
+
+-- a build, its job and its inputs by name
+abbrev pub build_data : (jobs inputs : List Text) → RowData → BuildData
+build_data jobs inputs r =
+    record {
+      job = name_at jobs r.job;
+      number = r.number;
+      status = r.status;
+      used = map (used_data inputs) r.used;
+      moved = r.moved;
+    }
+
+-- the builds that the rows are
+abbrev pub builds_data : (jobs inputs : List Text) → List RowData → List BuildData
+builds_data jobs inputs rows = map (build_data jobs inputs) rows
+
+-- a row as it begins
+abbrev pub new_row : ℕ → ℕ → List UsedRow → RowData
+new_row job number used = record { job = job; number = number; status = Running; used = used; moved = [] }
+
+-- a row that ended so
+abbrev pub ended_row : Status → List (ℕ × ℕ) → RowData → RowData
+ended_row status moved r =
+    record { job = r.job; number = r.number; status = status; used = r.used; moved = moved }
+
+-- ---- what is kept beside the rows
+-- the two used places are one
+abbrev pub is_same : UsedRow → UsedRow → Bool
+is_same u v = u.input == v.input && (u.scope == v.scope && u.place == v.place)
+
+-- the row is a build of the job
+abbrev pub is_row_of : ℕ → RowData → Bool
+is_row_of job r = job == r.job
+
+-- a row of the job used this place
+abbrev pub has_used_row : ℕ → UsedRow → List RowData → Bool
+has_used_row job u rows = list_any (λ r. is_row_of job r && list_any (is_same u) r.used) rows
+
+-- the job and the inputs of a row have names
+abbrev pub IsNamed : (jobs inputs : ℕ) → RowData → Type 0
+IsNamed jobs inputs r = (r.job < jobs) × AllByRecursion (λ u. u.input < inputs) r.used
+
+-- each build of the job is kept, and each place that one of them used
+abbrev pub KeepsJob : List RowData → ℕ → JobData → Type 0
+KeepsJob rows job kept =
+    (kept.at ≡ positions (is_row_of job) rows)
+    × ((u : UsedRow) → list_any (is_same u) kept.used ≡ has_used_row job u rows)
+
+-- the rows have names, and of each job its builds are kept
+pub record IsLinked (jobs inputs : List Text) (rows : List RowData) (kept : List JobData) : Type 0 where
+  pub named : AllByRecursion (IsNamed (length jobs) (length inputs)) rows
+  pub enough : length jobs ≤ length kept
+  pub keeps : (job : ℕ) (d : JobData) → slice_get kept job ≡ Some d → KeepsJob rows job d
+
+-- the second has what is kept of the same jobs, and of at most one more, which has no builds
+abbrev pub HasOneMore : List JobData → List JobData → Type 0
+HasOneMore kept more = (more ≡ kept) ⊎ (more ≡ kept ++ record { at = []; used = [] } ∷ [])
