@@ -83,7 +83,7 @@ ghost use Rattle.ccr_choice.specs.Problem.{are_builds, builds_at, input_at, scop
 
 impl Input {
     /// An input of these parts.
-    pub(crate) fn new(scope: u32, jobs: Vec<u32>, places: Vec<u32>) -> Self
+    pub fn new(scope: u32, jobs: Vec<u32>, places: Vec<u32>) -> Self
         ensures { result ≡ record { scope = scope; places = places.items; jobs = jobs.items } }
     {
         Input {
@@ -117,7 +117,7 @@ impl Input {
 
 impl Build {
     /// A build of these parts.
-    pub(crate) fn new(number: u32, pairs: Vec<(u32, u32)>) -> Self
+    pub fn new(number: u32, pairs: Vec<(u32, u32)>) -> Self
         ensures { result ≡ record { number = number; pairs = pairs.items } }
     {
         Build { number, pairs }
@@ -140,7 +140,7 @@ impl Build {
 
 impl JobBuilds {
     /// The builds of one job.
-    pub(crate) fn new(builds: Vec<Build>) -> Self
+    pub fn new(builds: Vec<Build>) -> Self
         ensures { result ≡ builds.items }
     {
         JobBuilds { builds }
@@ -156,7 +156,7 @@ impl JobBuilds {
 
 impl Problem {
     /// A problem of parts that keep the rules.
-    pub(crate) fn new(inputs: Vec<Input>, jobs: Vec<JobBuilds>) -> Self
+    pub fn new(inputs: Vec<Input>, jobs: Vec<JobBuilds>) -> Self
         requires { IsProblem (record { inputs = inputs.items; jobs = jobs.items }) }
         ensures { result ≡ record { inputs = inputs.items; jobs = jobs.items } }
     {

@@ -1,0 +1,4 @@
+pub mod Numbering
+pub mod Allowed
+pub mod Passed
+pub mod ProblemOf

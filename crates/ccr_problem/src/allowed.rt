@@ -1,0 +1,71 @@
+//! Which versions an input may take.
+ghost use Rattle.std.specs.Prelude.{◌≡◌, ◌≤◌, length, IfOk};
+ghost use Rattle.std.specs.Option.{option_copied};
+ghost use Rattle.ccr_history.specs.TextMap.{meets};
+ghost use Rattle.ccr_problem.specs.Allowed.{meets_if, meets_all, allowed_places};
+
+use ccr_history::{Pin, Version};
+use std::alloc::{AllocError, Global};
+use std::marker::Model;
+
+/// The pins that hold an input to some of its versions, as far as there are such.
+#[derive(Drop)]
+pub(crate) struct Pins<'p> {
+    /// The pin that the pipeline sets on the resource.
+    pub(crate) by_resource: Option<&'p Pin>,
+    /// The pin that the get sets.
+    pub(crate) by_get: Option<&'p Pin>,
+    /// The pin that was set on the resource by command.
+    pub(crate) by_command: Option<&'p Pin>,
+}
+
+impl<'p> Model for Pins<'p> {
+    ghost use Rattle.std.specs.Option.{option_copied};
+    ghost use Rattle.ccr_problem.specs.Allowed.{PinsData};
+
+    ghost Value = { PinsData };
+
+    ghost view = { λ p. record {
+      by_resource = option_copied p.by_resource;
+      by_get = option_copied p.by_get;
+      by_command = option_copied p.by_command;
+    } };
+}
+
+fn meets_if(version: &Version, pin: Option<&Pin>) -> bool
+    ensures { result ≡ meets_if (option_copied pin.entry) version.now }
+{
+    match pin {
+        Some(pin) => version.meets(pin),
+        None => true,
+    }
+}
+
+impl<'p> Pins<'p> {
+    /// Whether a version meets all of the pins together (Concourse: pinning versions).
+    fn are_met_by(&self, version: &Version) -> bool
+        ensures { result ≡ meets_all self.now version.now }
+    {
+        meets_if(version, self.by_resource)
+            && meets_if(version, self.by_get)
+            && meets_if(version, self.by_command)
+    }
+}
+
+/// The places, from 1, of the versions that meet all of the pins, ascending.
+pub(crate) fn allowed_places(
+    alloc: Global,
+    pins: &Pins<'_>,
+    versions: &[Version],
+) -> Result<Vec<u32>, AllocError>
+    requires { length versions.now ≤ 100000 }
+    ensures { IfOk result (λ v. v.items ≡ allowed_places pins.now versions.now) }
+{
+    let mut places = Vec::new(alloc);
+    for (before, version) in versions.iter().enumerate() {
+        if pins.are_met_by(version) {
+            places.push(before as u32 + 1)?;
+        }
+    }
+    Ok(places)
+}

@@ -1,0 +1,143 @@
+//! The inputs of a job, as its problem has them.
+ghost use Rattle.std.specs.Prelude.{◌≡◌, ◌≤◌, [], length, map, string_bytes, IfOk};
+ghost use Rattle.std.specs.Option.{option_copied};
+ghost use Rattle.ccr_pipeline.specs.Inputs.{input_data, named_jobs};
+ghost use Rattle.ccr_pipeline.specs.Pipelines.{pipeline_data};
+ghost use Rattle.ccr_pipeline.specs.Tree.{wanted_data};
+ghost use Rattle.ccr_problem.specs.Numbering.{each_once, number_of};
+ghost use Rattle.ccr_problem.specs.ProblemOf.{get_pin, input_places, input_value, used_resources};
+
+use crate::allowed::{Pins, allowed_places};
+use crate::numbering::Numbering;
+use crate::scopes::{resource_named, scope_of};
+use ccr_choice::Input as ChoiceInput;
+use ccr_history::{History, Pin};
+use ccr_pipeline::{Input, Pipeline, Wanted};
+use std::alloc::{AllocError, Global};
+
+/// The resources that inputs use, each once, in order of first use.
+pub(crate) fn used_resources(alloc: Global, inputs: &[Input]) -> Result<Numbering, AllocError>
+    ensures { IfOk result (λ n. n ≡ used_resources (map input_data inputs.now)) }
+{
+    let mut resources = Numbering::new(alloc);
+    for input in inputs {
+        resources.add(alloc, input.resource.as_str())?;
+    }
+    Ok(resources)
+}
+
+/// The jobs that inputs name in `passed`, each once, in order of first mention.
+pub(crate) fn named_jobs(alloc: Global, inputs: &[Input]) -> Result<Numbering, AllocError>
+    ensures { IfOk result (λ n. n ≡ named_jobs [] (map input_data inputs.now)) }
+{
+    let mut jobs = Numbering::new(alloc);
+    for input in inputs {
+        jobs.add_all(alloc, &input.passed)?;
+    }
+    Ok(jobs)
+}
+
+/// The pin that a get sets, if it sets one. Of `every` it says nothing: any version may be taken.
+fn get_pin(wanted: &Wanted) -> Option<&Pin>
+    ensures { option_copied result ≡ get_pin (wanted_data wanted.now) }
+{
+    match wanted {
+        Wanted::Latest | Wanted::Every => None,
+        Wanted::Pinned(pin) => Some(pin),
+    }
+}
+
+/// The allowed places of an input.
+fn input_places(
+    alloc: Global,
+    pipeline: &Pipeline,
+    history: &History,
+    input: &Input,
+) -> Result<Vec<u32>, AllocError>
+    ensures { IfOk result (λ v. v.items
+        ≡ input_places (pipeline_data pipeline.now) history.now (input_data input.now)) }
+{
+    let Some(resource) = resource_named(pipeline.resources(), input.resource.as_str()) else {
+        return Ok(Vec::new(alloc));
+    };
+    let pins = Pins {
+        by_resource: resource.version.as_ref(),
+        by_get: get_pin(&input.wanted),
+        by_command: history.pin(input.resource.as_str()),
+    };
+    let scope = scope_of(alloc, resource)?;
+    // A scope has few versions.
+    history.rules();
+    allowed_places(alloc, &pins, history.versions(&scope))
+}
+
+/// The numbers of names.
+fn numbers_of(
+    alloc: Global,
+    numbering: &Numbering,
+    names: &[String],
+) -> Result<Vec<u32>, AllocError>
+    requires { length numbering.now ≤ 32 }
+    ensures { IfOk result (λ v. v.items ≡ map (number_of numbering.now) (map string_bytes names.now)) }
+{
+    let mut numbers = Vec::new(alloc);
+    for name in names {
+        numbers.push(numbering.number(name.as_str()))?;
+    }
+    Ok(numbers)
+}
+
+/// The numbers of the jobs that an input names, each once.
+fn passed_numbers(
+    alloc: Global,
+    jobs: &Numbering,
+    passed: &[String],
+) -> Result<Vec<u32>, AllocError>
+    requires { length jobs.now ≤ 32 }
+    ensures { IfOk result (λ v. v.items
+        ≡ map (number_of jobs.now) (each_once (map string_bytes passed.now))) }
+{
+    let mut once = Numbering::new(alloc);
+    once.add_all(alloc, passed)?;
+    numbers_of(alloc, jobs, once.names())
+}
+
+fn input_value(
+    alloc: Global,
+    pipeline: &Pipeline,
+    history: &History,
+    resources: &Numbering,
+    jobs: &Numbering,
+    input: &Input,
+) -> Result<ChoiceInput, AllocError>
+    requires few_resources { length resources.now ≤ 32 }
+    requires few_jobs { length jobs.now ≤ 32 }
+    ensures { IfOk result (λ v. v ≡ input_value (pipeline_data pipeline.now) history.now
+        resources.now jobs.now (input_data input.now)) }
+{
+    let scope = resources.number(input.resource.as_str());
+    let passed = passed_numbers(alloc, jobs, &input.passed)?;
+    let places = input_places(alloc, pipeline, history, input)?;
+    Ok(ChoiceInput::new(scope, passed, places))
+}
+
+/// The inputs, where these resources and jobs are numbered.
+pub(crate) fn input_values(
+    alloc: Global,
+    pipeline: &Pipeline,
+    history: &History,
+    resources: &Numbering,
+    jobs: &Numbering,
+    inputs: &[Input],
+) -> Result<Vec<ChoiceInput>, AllocError>
+    requires few_resources { length resources.now ≤ 32 }
+    requires few_jobs { length jobs.now ≤ 32 }
+    ensures { IfOk result (λ v. v.items ≡ map (input_value (pipeline_data pipeline.now) history.now
+        resources.now jobs.now) (map input_data inputs.now)) }
+{
+    let mut values = Vec::new(alloc);
+    for input in inputs {
+        values.push(input_value(alloc, pipeline, history, resources, jobs, input)?)?;
+    }
+    Ok(values)
+}
