@@ -3,3 +3,4 @@ pub mod Path
 pub mod FullLaws
 pub mod Steps
 pub mod ClaimFits
+pub mod UpperLaws

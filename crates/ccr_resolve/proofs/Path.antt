@@ -88,7 +88,7 @@ top_fits prefers order p h =
 
 module _ (prefers : Preference) (order : IsOrder prefers) (p : ProblemValue) (rules : is_problem p ≡ true) where
   -- each fixed build of a table is one of its job
-  known_of : (table : List ℕ) → AreKnown prefers order p rules (assigned p table)
+  pub known_of : (table : List ℕ) → AreKnown prefers order p rules (assigned p table)
   known_of table j b e = build_among (builds_at p j) (slice_index table j) b e
 
   -- ---- on the path
@@ -100,7 +100,7 @@ module _ (prefers : Preference) (order : IsOrder prefers) (p : ProblemValue) (ru
   path_agrees table best path j b e =
       newest_at p.jobs j ∙ newest_is (builds_at p j) b (path_entry (builds_at p j) (slice_index table j) b (path.newest j) e)
 
-  path_possible : (table : List ℕ) (best : Option (List ℕ)) → OnPath prefers p table best → (i : ℕ) → i < length p.inputs → IsPossible p (assigned p table) i (slice_index (top prefers p) i)
+  pub path_possible : (table : List ℕ) (best : Option (List ℕ)) → OnPath prefers p table best → (i : ℕ) → i < length p.inputs → IsPossible p (assigned p table) i (slice_index (top prefers p) i)
   path_possible table best path = place_possible prefers order p rules (assigned p table) (top prefers p) (newest p.jobs) (known_of table) (path_agrees table best path) (top_fits prefers order p path.top)
 
   pub path_place : (table : List ℕ) (best : Option (List ℕ)) (i : ℕ) → OnPath prefers p table best → HasNoPlace p (assigned p table) i → ⊥

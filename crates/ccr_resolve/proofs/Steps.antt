@@ -1,5 +1,5 @@
 -- The steps of the search.
-use Rattle.std.proofs.Common.{true, ◌≡◌, ℕ, zero, suc, ◌+◌, ◌*◌, ◌<◌, ◌≤◌, ◌⊎◌, inl, inr, List, [], ◌∷◌, ◌++◌, length, take, get_or, slice_index, slice_set, replicate, refl, sym, ap, ◌∙◌, subst, arith, Option, Some, None, Vec, Global}
+use Rattle.std.proofs.Common.{Bool, true, false, ◌≡◌, ℕ, zero, suc, ◌+◌, ◌*◌, ◌<◌, ◌≤◌, ◌⊎◌, inl, inr, List, [], ◌∷◌, ◌++◌, length, take, get_or, slice_index, slice_set, replicate, refl, sym, ap, ◌∙◌, subst, arith, Option, Some, None, Vec, Global}
 use Rattle.std.specs.Prelude.{Any}
 use Rattle.std.proofs.lemmas.Bool.{cases_eq}
 use Rattle.std.proofs.lemmas.List.{take_more, take_all, get_or-set_same, get_or-set_other}
@@ -19,7 +19,7 @@ use Rattle.ccr_choice.specs.Table.{build_of, assigned}
 use Rattle.ccr_choice.proofs.TableLaws.{table_set, table_empty, zeros}
 use Rattle.ccr_proof.proofs.Trees.{tree_of_job}
 use Rattle.ccr_resolve.specs.Room.{newest, TopFits, IsBelowRoom}
-use Rattle.ccr_resolve.specs.Search.{FixesKnown, FoundSatisfies, places_of, free_product, free_sum, free_jobs, OnPath, ReachesTop, IsNeeded, IsNoWorse, IsSearched, Searched}
+use Rattle.ccr_resolve.specs.Search.{FixesKnown, FoundSatisfies, places_of, free_product, free_sum, free_jobs, OnPath, ReachesTop, IsNeeded, IsNoWorse, IsSearched, Searched, Sought}
 use Rattle.ccr_resolve.proofs.Counting.{product_set, product_same, sum_set, sum_same, product_one, product_empty, sum_empty, free_set}
 use Rattle.ccr_resolve.proofs.Path.{better_irreflexive, better_trans, no_worse_refl, no_worse_trans, reach_more, path_place, path_top, one_node}
 
@@ -44,22 +44,28 @@ module _ (prefers : Preference) (p : ProblemValue) (x y : Option (List ℕ)) (wo
     each_more a j all k (b ∷ bs) no_child h = absurd h
 
 -- ---- one child more
-pub each_one : (prefers : Preference) (p : ProblemValue) (bound : Option (List ℕ)) (a : Assignment) (j : ℕ) (all : Trees) (m : ℕ) (bs : List BuildValue) (cs : List Node) (b : BuildValue) (c : Node)
-    → RefuteEach prefers p bound a j all m bs (trees_of cs) → Refutes prefers p bound (with_build a j b) (tree_of c) → RefuteEach prefers p bound a j all m (bs ++ b ∷ []) (trees_of (cs ++ c ∷ []))
-each_one prefers p bound a j all m [] [] b c h k = (k, tt)
-each_one prefers p bound a j all m (x ∷ bs) (y ∷ cs) b c h k = (h.0, each_one prefers p bound a j all (m + 1) bs cs b c h.1 k)
-each_one prefers p bound a j all m [] (y ∷ cs) b c h k = absurd h
-each_one prefers p bound a j all m (x ∷ bs) [] b c h k = absurd h
+abbrev pub with_child : Trees → Tree → Trees
+with_child no_child t = child t no_child
+with_child (child x ts) t = child x (with_child ts t)
 
-count_one : (cs : List Node) (c : Node) → count_all (trees_of (cs ++ c ∷ [])) ≡ count_all (trees_of cs) + count (tree_of c)
-count_one [] c = omega arith
-count_one (x ∷ cs) c = let e = count_one cs c in omega (arith, e)
+pub each_one : (prefers : Preference) (p : ProblemValue) (bound : Option (List ℕ)) (a : Assignment) (j : ℕ) (all : Trees) (m : ℕ) (bs : List BuildValue) (ts : Trees) (b : BuildValue) (t : Tree)
+    → RefuteEach prefers p bound a j all m bs ts → Refutes prefers p bound (with_build a j b) t → RefuteEach prefers p bound a j all m (bs ++ b ∷ []) (with_child ts t)
+each_one prefers p bound a j all m [] no_child b t h k = (k, tt)
+each_one prefers p bound a j all m (x ∷ bs) (child y ts) b t h k = (h.0, each_one prefers p bound a j all (m + 1) bs ts b t h.1 k)
+each_one prefers p bound a j all m [] (child y ts) b t h k = absurd h
+each_one prefers p bound a j all m (x ∷ bs) no_child b t h k = absurd h
 
-levels_one : (cs : List Node) (c : Node) (n : ℕ) → levels_all (trees_of cs) ≤ n → levels (tree_of c) ≤ n → levels_all (trees_of (cs ++ c ∷ [])) ≤ n
-levels_one [] c n h k = omega arith
-levels_one (x ∷ cs) c n h k =
-    let rest = levels_one cs c n (omega arith) k in
-    omega (arith, rest, h)
+count_one : (ts : Trees) (t : Tree) → count_all (with_child ts t) ≡ count_all ts + count t
+count_one no_child t = omega arith
+count_one (child x ts) t = let e = count_one ts t in omega (arith, e)
+
+deep_one : (ts : Trees) (t : Tree) (n : ℕ) → levels_all ts < n → levels t < n → levels_all (with_child ts t) < n
+deep_one no_child t n h k = omega arith
+deep_one (child x ts) t n h k = let rest = deep_one ts t n (omega arith) k in omega (arith, rest, h)
+
+trees_more : (cs : List Node) (c : Node) → with_child (trees_of cs) (tree_of c) ≡ trees_of (cs ++ c ∷ [])
+trees_more [] c = refl
+trees_more (x ∷ cs) c = ap (child (tree_of x)) (trees_more cs c)
 
 -- ---- numbers
 times_more : (k n m : ℕ) → k ≤ n → k * m ≤ n * m
@@ -92,13 +98,13 @@ module _ (prefers : Preference) (p : ProblemValue) where
   PathSoFar table j k n best = ((k ≡ 0) × (n ≡ 0) × (best ≡ None)) ⊎ (ReachesTop prefers p best × (n ≤ free_sum p.jobs (slice_set table j 1) + k))
 
   -- the first k builds of the job have their trees
-  pub record IsLooping (table : List ℕ) (j : ℕ) (before : Option (List ℕ)) (room k : ℕ) (children : List Node) (best : Option ChoiceValue) (left : ℕ) : Type 0 where
-    pub each : (all : Trees) → RefuteEach prefers p (places_of best) (assigned p table) j all 0 (take k (builds_at p j)) (trees_of children)
+  pub record IsLooping (table : List ℕ) (j : ℕ) (before : Option (List ℕ)) (room k : ℕ) (children : Trees) (best : Option ChoiceValue) (left : ℕ) : Type 0 where
+    pub each : (all : Trees) → RefuteEach prefers p (places_of best) (assigned p table) j all 0 (take k (builds_at p j)) children
     pub kept : IsNoWorse prefers before (places_of best)
     pub satisfies : FoundSatisfies p best
-    pub shallow : levels_all (trees_of children) < free_jobs table
+    pub shallow : levels_all children < free_jobs table
     pub used : ℕ
-    pub counted : count_all (trees_of children) ≤ used
+    pub counted : count_all children ≤ used
     pub spent : room ≡ left + (1 + used)
     pub product : used ≤ k * free_product p.jobs (slice_set table j 1)
     pub path : OnPath prefers p table before → PathSoFar table j k used (places_of best)
@@ -167,7 +173,7 @@ module _ (prefers : Preference) (order : IsOrder prefers) (p : ProblemValue) (ru
     pub fewer_free : (k : ℕ) → free_jobs (slice_set table j (k + 1)) < free_jobs table
     fewer_free k = free_set table j (k + 1) (λ z. absurd (omega arith)) now.free now.wide
 
-    pub loop_first : (best : Option ChoiceValue) (room left : ℕ) → places_of best ≡ before → FoundSatisfies p best → room ≡ left + 1 → IsLooping prefers p table j before room 0 [] best left
+    pub loop_first : (best : Option ChoiceValue) (room left : ℕ) → places_of best ≡ before → FoundSatisfies p best → room ≡ left + 1 → IsLooping prefers p table j before room 0 no_child best left
     loop_first best room left same found spent =
         let P : Option (List ℕ) → Type 0 = λ x. IsNoWorse prefers x (places_of best) in
         let some = fewer_free 0 in
@@ -229,7 +235,7 @@ module _ (prefers : Preference) (order : IsOrder prefers) (p : ProblemValue) (ru
         omega (arith, more, so.1)
 
     -- the budget ends in a child
-    pub loop_over : (room k : ℕ) (children : List Node) (best : Option ChoiceValue) (left : ℕ) → k < length (builds_at p j) → IsLooping prefers p table j before room k children best left
+    pub loop_over : (room k : ℕ) (children : Trees) (best : Option ChoiceValue) (left : ℕ) → k < length (builds_at p j) → IsLooping prefers p table j before room k children best left
         → IsNeeded prefers p (slice_set table j (k + 1)) (places_of best) (left + 1) → IsNeeded prefers p table before (room + 1)
     loop_over room k children best left l loop needed =
         let m = loop.used in
@@ -244,58 +250,58 @@ module _ (prefers : Preference) (order : IsOrder prefers) (p : ProblemValue) (ru
     path_next m k room left t best best' (inr so) searched path = reach_more prefers p (places_of best) (places_of best') searched.kept so.0
 
     -- one build more
-    pub loop_next : (room k : ℕ) (children more : List Node) (best best' : Option ChoiceValue) (left left' : ℕ) (c : Node) → k < length (builds_at p j) → more ≡ children ++ c ∷ []
-        → IsLooping prefers p table j before room k children best left → IsSearched prefers p (slice_set table j (k + 1)) best best' left left' (tree_of c) → IsLooping prefers p table j before room (k + 1) more best' left'
-    loop_next room k children more best best' left left' c l is loop searched =
+    pub loop_next : (room k : ℕ) (children : Trees) (best best' : Option ChoiceValue) (left left' : ℕ) (t : Tree) → k < length (builds_at p j)
+        → IsLooping prefers p table j before room k children best left → IsSearched prefers p (slice_set table j (k + 1)) best best' left left' t → IsLooping prefers p table j before room (k + 1) (with_child children t) best' left'
+    loop_next room k children best best' left left' t l loop searched =
         let bs = builds_at p j in
         let b = get_or bs k (record { number = 0; pairs = [] }) in
         let m = loop.used in
         let n = searched.used in
         let table_is : assigned p (slice_set table j (k + 1)) ≡ with_build (assigned p table) j b = table_set p table j k b now.wide (slice_get-get_or bs k (record { number = 0; pairs = [] }) l) in
-        let A : Assignment → Type 0 = λ a. Refutes prefers p (places_of best') a (tree_of c) in
-        let after : (all : Trees) → RefuteEach prefers p (places_of best') (assigned p table) j all 0 (take k bs ++ b ∷ []) (trees_of (children ++ c ∷ [])) = λ all.
-        each_one prefers p (places_of best') (assigned p table) j all 0 (take k bs) children b c
-        (each_more prefers p (places_of best) (places_of best') searched.kept (assigned p table) j all 0 (take k bs) (trees_of children) (loop.each all))
+        let A : Assignment → Type 0 = λ a. Refutes prefers p (places_of best') a t in
+        let after : (all : Trees) → RefuteEach prefers p (places_of best') (assigned p table) j all 0 (take k bs ++ b ∷ []) (with_child children t) = λ all.
+        each_one prefers p (places_of best') (assigned p table) j all 0 (take k bs) children b t
+        (each_more prefers p (places_of best) (places_of best') searched.kept (assigned p table) j all 0 (take k bs) children (loop.each all))
         (subst A table_is searched.refuted) in
         let taken : take (k + 1) bs ≡ take k bs ++ b ∷ [] = take_more bs k (record { number = 0; pairs = [] }) l in
-        let Q : List BuildValue → List Node → Type 0 = λ x y. (all : Trees) → RefuteEach prefers p (places_of best') (assigned p table) j all 0 x (trees_of y) in
-        let counted : count_all (trees_of more) ≡ count_all (trees_of children) + count (tree_of c) = ap (λ cs. count_all (trees_of cs)) is ∙ count_one children c in
+        let Q : List BuildValue → Type 0 = λ x. (all : Trees) → RefuteEach prefers p (places_of best') (assigned p table) j all 0 x (with_child children t) in
+        let counted : count_all (with_child children t) ≡ count_all children + count t = count_one children t in
         let free = fewer_free k in
-        let deep : levels_all (trees_of (children ++ c ∷ [])) < free_jobs table =
-        deep_one children c (free_jobs table) loop.shallow (omega (arith, searched.shallow, free)) in
         record {
-          each = subst (λ x. Q x more) (sym taken) (subst (λ y. Q (take k bs ++ b ∷ []) y) (sym is) after);
+          each = subst Q (sym taken) after;
           kept = no_worse_trans prefers before (places_of best) (places_of best') loop.kept searched.kept;
           satisfies = searched.satisfies;
-          shallow = subst (λ cs. levels_all (trees_of cs) < free_jobs table) (sym is) deep;
+          shallow = deep_one children t (free_jobs table) loop.shallow (omega (arith, searched.shallow, free));
           used = m + n;
           counted = omega (arith, loop.counted, searched.counted, counted);
           spent = omega (arith, loop.spent, searched.spent);
           product = child_product k m n (places_of best) loop.product searched.needed;
-          path = λ path. inr (path_next m k left left' (tree_of c) best best' (loop.path path) searched path, child_path k m n (places_of best) (loop.path path) searched.needed path);
+          path = λ path. inr (path_next m k left left' t best best' (loop.path path) searched path, child_path k m n (places_of best) (loop.path path) searched.needed path);
         }
-      where
-        deep_one : (cs : List Node) (c : Node) (n : ℕ) → levels_all (trees_of cs) < n → levels (tree_of c) < n → levels_all (trees_of (cs ++ c ∷ [])) < n
-        deep_one [] c n h k = omega arith
-        deep_one (x ∷ cs) c n h k = let rest = deep_one cs c n (omega arith) k in omega (arith, rest, h)
+
+    pub loop_next_node : (room k : ℕ) (children more : List Node) (best best' : Option ChoiceValue) (left left' : ℕ) (c : Node) → k < length (builds_at p j) → more ≡ children ++ c ∷ []
+        → IsLooping prefers p table j before room k (trees_of children) best left → IsSearched prefers p (slice_set table j (k + 1)) best best' left left' (tree_of c)
+        → IsLooping prefers p table j before room (k + 1) (trees_of more) best' left'
+    loop_next_node room k children more best best' left left' c l is loop searched =
+        let P : Trees → Type 0 = λ ts. IsLooping prefers p table j before room (k + 1) ts best' left' in
+        subst P (trees_more children c ∙ ap trees_of (sym is)) (loop_next room k (trees_of children) best best' left left' (tree_of c) l loop searched)
 
     -- on the path a job has a build
     end_path : (k m : ℕ) (best : Option (List ℕ)) → 0 < length (builds_at p j) → k ≡ length (builds_at p j) → PathSoFar prefers p table j k m best → OnPath prefers p table before → ReachesTop prefers p best × (m ≤ free_sum p.jobs (slice_set table j 1) + k)
     end_path k m best some e (inl so) path = absurd (omega (arith, some, e, so.0))
     end_path k m best some e (inr so) path = so
 
-    pub loop_end : (room k : ℕ) (children : Vec Node Global) (before' best : Option ChoiceValue) (left : ℕ) → places_of before' ≡ before → (OnPath prefers p table before → 0 < length (builds_at p j)) → k ≡ length (builds_at p j)
-        → IsLooping prefers p table j before room k children.items best left → IsSearched prefers p table before' best room left (tree_of (Job j children))
+    pub loop_end : (room k : ℕ) (children : Trees) (before' best : Option ChoiceValue) (left : ℕ) → places_of before' ≡ before → (OnPath prefers p table before → 0 < length (builds_at p j)) → k ≡ length (builds_at p j)
+        → IsLooping prefers p table j before room k children best left → IsSearched prefers p table before' best room left (job j children)
     loop_end room k children before' best left same some e loop =
         let bs = builds_at p j in
         let all : take k bs ≡ bs = take_all k bs (omega (arith, e)) in
-        let Q : List BuildValue → Type 0 = λ x. RefuteEach prefers p (places_of best) (assigned p table) j (trees_of children.items) 0 x (trees_of children.items) in
+        let Q : List BuildValue → Type 0 = λ x. RefuteEach prefers p (places_of best) (assigned p table) j children 0 x children in
         let B : Option (List ℕ) → Type 0 = λ x. IsNoWorse prefers x (places_of best) in
         let N : Option (List ℕ) → Type 0 = λ x. IsNeeded prefers p table x (1 + loop.used) in
         let R : Option (List ℕ) → Type 0 = λ x. OnPath prefers p table x → ReachesTop prefers p (places_of best) in
-        let T : Tree → Type 0 = λ t. IsSearched prefers p table before' best room left t in
-        subst T (sym (tree_of_job j children)) (record {
-          refuted = (now.inside, free_none (builds_at p j) (slice_index table j) now.free, subst Q all (loop.each (trees_of children.items)));
+        record {
+          refuted = (now.inside, free_none (builds_at p j) (slice_index table j) now.free, subst Q all (loop.each children));
           kept = subst B (sym same) loop.kept;
           satisfies = loop.satisfies;
           shallow = omega (arith, loop.shallow);
@@ -304,11 +310,45 @@ module _ (prefers : Preference) (order : IsOrder prefers) (p : ProblemValue) (ru
           spent = loop.spent;
           needed = subst N (sym same) (needed_whole k loop.used (omega (arith, e)) loop.product (λ path. (end_path k loop.used (places_of best) (some path) e (loop.path path) path).1));
           reached = subst R (sym same) (λ path. (end_path k loop.used (places_of best) (some path) e (loop.path path) path).0);
-        })
+        }
       where
         free_none : (bs : List BuildValue) (k : ℕ) → k ≡ 0 → build_of bs k ≡ None
         free_none bs zero e = refl
         free_none bs (suc k) e = absurd (omega arith)
+
+    pub loop_end_node : (room k : ℕ) (children : Vec Node Global) (before' best : Option ChoiceValue) (left : ℕ) → places_of before' ≡ before → (OnPath prefers p table before → 0 < length (builds_at p j)) → k ≡ length (builds_at p j)
+        → IsLooping prefers p table j before room k (trees_of children.items) best left → IsSearched prefers p table before' best room left (tree_of (Job j children))
+    loop_end_node room k children before' best left same some e loop =
+        let T : Tree → Type 0 = λ t. IsSearched prefers p table before' best room left t in
+        subst T (sym (tree_of_job j children)) (loop_end room k (trees_of children.items) before' best left same some e loop)
+
+    -- nothing under the table is better than what its first builds led to
+    pub loop_closed : (room k : ℕ) (children : Trees) (before' best : Option ChoiceValue) (left : ℕ) → places_of before' ≡ before → k ≤ length (builds_at p j) → IsBounded prefers p (places_of best) (assigned p table)
+        → IsLooping prefers p table j before room k children best left → IsSearched prefers p table before' best room left bounded
+    loop_closed room k children before' best left same l closed loop =
+        let B : Option (List ℕ) → Type 0 = λ x. IsNoWorse prefers x (places_of best) in
+        let N : Option (List ℕ) → Type 0 = λ x. IsNeeded prefers p table x (1 + loop.used) in
+        let R : Option (List ℕ) → Type 0 = λ x. OnPath prefers p table x → ReachesTop prefers p (places_of best) in
+        record {
+          refuted = closed;
+          kept = subst B (sym same) loop.kept;
+          satisfies = loop.satisfies;
+          shallow = omega arith;
+          used = 1 + loop.used;
+          counted = omega arith;
+          spent = loop.spent;
+          needed = subst N (sym same) (needed_whole k loop.used l loop.product (λ path. few k loop.used (places_of best) (loop.path path)));
+          reached = subst R (sym same) (λ path. reaches k loop.used (places_of best) closed (loop.path path));
+        }
+      where
+        few : (k m : ℕ) (o : Option (List ℕ)) → PathSoFar prefers p table j k m o → m ≤ free_sum p.jobs (slice_set table j 1) + k
+        few k m o (inl so) = omega (arith, so.1)
+        few k m o (inr so) = so.1
+
+        reaches : (k m : ℕ) (o : Option (List ℕ)) → IsBounded prefers p o (assigned p table) → PathSoFar prefers p table j k m o → ReachesTop prefers p o
+        reaches k m None h so = absurd h
+        reaches k m (Some x) h (inl so) = absurd (let e = so.2 in cc)
+        reaches k m (Some x) h (inr so) = so.0
 
 -- a job of the best places' choice has a build
 pub some_build : (prefers : Preference) (p : ProblemValue) (j : ℕ) → TopFits prefers p → j < length p.jobs → 0 < length (builds_at p j)
@@ -339,6 +379,13 @@ none_needed prefers p table before after room left o h e = let P : Option Node �
 pub some_searched : (prefers : Preference) (p : ProblemValue) (table : List ℕ) (before after : Option ChoiceValue) (room left : ℕ) (o : Option Node) (c : Node) → Searched prefers p table before after room left o → o ≡ Some c → IsSearched prefers p table before after room left (tree_of c)
 some_searched prefers p table before after room left o c h e = let P : Option Node → Type 0 = λ x. Searched prefers p table before after room left x in subst P e h
 
+pub over_needed : (prefers : Preference) (p : ProblemValue) (table : List ℕ) (before after : Option ChoiceValue) (room left : ℕ) (o : Bool) → Sought prefers p table before after room left o → o ≡ true → IsNeeded prefers p table (places_of before) (room + 1)
+over_needed prefers p table before after room left o h e = let P : Bool → Type 0 = λ x. Sought prefers p table before after room left x in subst P e h
+
+pub tree_sought : (prefers : Preference) (p : ProblemValue) (table : List ℕ) (before after : Option ChoiceValue) (room left : ℕ) (o : Bool) → Sought prefers p table before after room left o → o ≡ false
+    → (tree : Tree) × IsSearched prefers p table before after room left tree
+tree_sought prefers p table before after room left o h e = let P : Bool → Type 0 = λ x. Sought prefers p table before after room left x in subst P e h
+
 -- ---- the room
 pub room_over : (prefers : Preference) (p : ProblemValue) (budget n : ℕ) → IsNeeded prefers p (replicate n 0) None (budget + 1) → IsBelowRoom prefers p budget
 room_over prefers p budget n needed = record {
@@ -348,6 +395,15 @@ room_over prefers p budget n needed = record {
       let P : Assignment → Type 0 = λ a. HasNoPlace p a i in
       let h = needed.lacking i (subst P (sym (table_empty p n)) none) in
       omega (arith, h);
+}
+
+-- as much, where a place is possible for each input and the best places don't fit the newest builds
+pub room_over_found : (prefers : Preference) (p : ProblemValue) (budget n : ℕ) (best : Option (List ℕ)) → (TopFits prefers p → ⊥) → ((i : ℕ) → HasNoPlace p nothing_fixed i → ⊥)
+    → IsNeeded prefers p (replicate n 0) best (budget + 1) → IsBelowRoom prefers p budget
+room_over_found prefers p budget n best fits some needed = record {
+  product = (let h = needed.product in omega (arith, h, product_empty p.jobs n));
+  fitting = λ top. absurd (fits top);
+  lacking = λ i none. absurd (some i none);
 }
 
 -- what was found in the end

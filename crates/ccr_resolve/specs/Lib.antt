@@ -1,3 +1,4 @@
 pub mod Room
 pub mod Answer
 pub mod Search
+pub mod Chosen

@@ -1,11 +1,11 @@
 -- What the search gives, and how many nodes it may need. No public contract names these.
-use Rattle.std.specs.Prelude.{◌≡◌, ◌≢◌, ℕ, zero, suc, ◌+◌, ◌*◌, ◌≤◌, ◌==◌, List, [], ◌∷◌, ◌++◌, Option, Some, None, length, slice_index, if◌then◌else◌}
+use Rattle.std.specs.Prelude.{◌≡◌, ◌≢◌, ℕ, zero, suc, ◌+◌, ◌*◌, ◌<◌, ◌≤◌, ◌==◌, List, [], ◌∷◌, ◌++◌, Bool, true, false, Option, Some, None, length, slice_index, if◌then◌else◌}
 use Rattle.ccr_choice.specs.Problem.{ProblemValue, BuildValue, ChoiceValue, builds_at}
 use Rattle.ccr_choice.specs.Satisfies.{Satisfies}
 use Rattle.ccr_proof.specs.declared.node.Node.{Node}
 use Rattle.ccr_choice.specs.Preference.{Preference, order_of, IsBetter}
 use Rattle.ccr_choice.specs.Assignment.{Assignment, nothing_fixed}
-use Rattle.ccr_choice.specs.Possible.{AreBestPlaces}
+use Rattle.ccr_choice.specs.Possible.{IsBestPlace, AreBestPlaces, AreBoundedBy}
 use Rattle.ccr_proof.specs.Tree.{Tree, tree_of, count, levels}
 use Rattle.ccr_proof.specs.Refutes.{HasNoPlace, IsBounded, Refutes}
 use Rattle.ccr_choice.specs.Table.{assigned}
@@ -100,3 +100,25 @@ abbrev pub Searched : Preference → ProblemValue → List ℕ → Option Choice
 Searched prefers p table before after room left None = IsNeeded prefers p table (places_of before) (room + 1)
 Searched prefers p table before after room left (Some node) =
     IsSearched prefers p table before after room left (tree_of node)
+
+-- The same without the tree, which is there all the same: the search is over where the room is less than what the table
+-- may need.
+abbrev pub Sought : Preference → ProblemValue → List ℕ → Option ChoiceValue → Option ChoiceValue → ℕ → ℕ → Bool → Type 0
+Sought prefers p table before after room left true = IsNeeded prefers p table (places_of before) (room + 1)
+Sought prefers p table before after room left false =
+    (tree : Tree) × IsSearched prefers p table before after room left tree
+
+-- ---- best places that are handed down
+-- For each input the best place, in a row that may be longer.
+abbrev pub AreUpper : ProblemValue → Assignment → List ℕ → Type 0
+AreUpper p a upper = (i : ℕ) → i < length p.inputs → IsBestPlace (order_of p) p a i (slice_index upper i)
+
+-- The table fixes the newest build of each job, and each job has one.
+pub record IsNewest (p : ProblemValue) (table : List ℕ) : Type 0 where
+  pub known : FixesKnown p table
+  pub all : (j : ℕ) → j < length p.jobs → slice_index table j ≡ 1
+  pub newest : (j : ℕ) → slice_index table j ≢ 0 → slice_index table j ≡ 1
+
+-- A choice that satisfies, and no best places where nothing is fixed are better than its places.
+abbrev pub IsTopChoice : ProblemValue → ChoiceValue → Type 0
+IsTopChoice p c = Satisfies p c.places c.builds × AreBoundedBy (order_of p) p nothing_fixed c.places

@@ -39,7 +39,7 @@ fn is_closed(problem: &Problem, fixed: &Fixed, best: &Option<Choice>) -> bool
 }
 
 /// The first of so many named jobs without a fixed build.
-fn first_free(jobs: usize, fixed: &Fixed) -> Option<usize>
+pub(crate) fn first_free(jobs: usize, fixed: &Fixed) -> Option<usize>
     requires { jobs ≤ MOST_JOBS }
     ensures { MatchOption result
         ((j : ℕ) → j < jobs → slice_index fixed.now j ≢ 0)

@@ -1,20 +1,16 @@
-use Rattle.std.proofs.Common.{◌≡◌, ℕ, ◌+◌, ◌≤◌, List, Option, Some, None, length, replicate, slice_index, ap, subst, sym, refl, arith}
-use Rattle.ccr_choice.specs.Problem.{ChoiceValue, builds_at}
-use Rattle.ccr_proof.specs.declared.node.Node.{Node}
+use Rattle.std.proofs.Common.{Some, None, replicate, subst, refl, arith}
 use Rattle.ccr_choice.specs.Preference.{order_of}
 use Rattle.ccr_choice.specs.Assignment.{Assignment}
-use Rattle.ccr_proof.specs.Tree.{tree_of, count, levels}
+use Rattle.ccr_proof.specs.Tree.{tree_of}
 use Rattle.ccr_proof.specs.Refutes.{Refutes}
-use Rattle.ccr_choice.specs.Table.{assigned}
 use Rattle.ccr_choice.proofs.PlainLaws.{is_order}
 use Rattle.ccr_choice.proofs.TableLaws.{zeros, table_empty}
 use Rattle.ccr_proof.specs.declared.claim.Claim.TheVariants.{Best, Nothing}
 use Rattle.ccr_proof.specs.Refutes.{IsAccepted}
 use Rattle.ccr_proof.proofs.Sound.{accepted_right}
-use Rattle.ccr_resolve.specs.Search.{IsSearched, places_of, free_jobs}
 use Rattle.ccr_resolve.proofs.Counting.{free_empty}
 use Rattle.ccr_resolve.proofs.ClaimFits.{short_claim}
-use Rattle.ccr_resolve.proofs.Steps.{none_needed, some_searched, room_over, found_in, none_found}
+use Rattle.ccr_resolve.proofs.Steps.{none_needed, room_over, found_in, none_found}
 use Rattle.ccr_resolve.proofs.resolver.resolve.Goals as goal
 
 pub search-requires-clause-known : goal.search-requires-clause-known

@@ -3,9 +3,10 @@ use Rattle.ccr_choice.specs.Problem.{builds_at}
 use Rattle.ccr_proof.specs.declared.node.Node.{Node}
 use Rattle.ccr_choice.specs.Preference.{order_of}
 use Rattle.ccr_choice.proofs.PlainLaws.{is_order}
+use Rattle.ccr_proof.specs.Tree.{trees_of}
 use Rattle.ccr_resolve.specs.Search.{places_of, free_jobs}
 use Rattle.ccr_resolve.proofs.FullLaws.{full_satisfies}
-use Rattle.ccr_resolve.proofs.Steps.{needed_one, leaf_empty, leaf_bounded, leaf_full, IsOpen, IsLooping, fewer_free, loop_first, loop_over, loop_next, loop_end, some_build, child_known, none_needed, some_searched}
+use Rattle.ccr_resolve.proofs.Steps.{needed_one, leaf_empty, leaf_bounded, leaf_full, IsOpen, IsLooping, fewer_free, loop_first, loop_over, loop_next_node, loop_end_node, some_build, child_known, none_needed, some_searched}
 use Rattle.ccr_resolve.proofs.search.+search.Goals as goal
 
 pub returns-then-left-eq0-clause-found : goal.returns-then-left-eq0-clause-found
@@ -36,7 +37,7 @@ loop-k-init t c =
     let wide : j < length table = omega (arith, inside, ap length c.jobs-jobs.ensures.value, c.jobs-jobs.ensures.few, c.told-fixed) in
     let now : IsOpen (order_of p) p table j before =
     record { inside = inside; wide = wide; free = c.in-Some-first_free.ensures.1; possible = c.in_default.ensures; unbounded = λ x. absurd (cc (c.if-is_closed.ensures.1 x)) } in
-    let P : List Node → Type 0 = λ cs. IsLooping (order_of p) p table j before c.args.left.now 0 cs c.args.best.now (c.args.left.now - 1) in
+    let P : List Node → Type 0 = λ cs. IsLooping (order_of p) p table j before c.args.left.now 0 (trees_of cs) c.args.best.now (c.args.left.now - 1) in
     subst P (sym c.new-children.ensures.items) (loop_first (order_of p) (is_order p) p rules table j before now c.args.best.now c.args.left.now (c.args.left.now - 1) refl c.requires.found (omega arith))
 
 pub search-requires : goal.search-requires
@@ -66,7 +67,7 @@ returns-in_default-2-clause-found t c =
     let now : IsOpen (order_of p) p table j before =
     record { inside = inside; wide = wide; free = c.in-Some-first_free.ensures.1; possible = c.in_default.ensures; unbounded = λ x. absurd (cc (c.if-is_closed.ensures.1 x)) } in
     let within : c.loop-k.k < length (builds_at p j) = omega (arith, c.loop-k-test.true, ap length c.builds-count.ensures.value) in
-    loop_over (order_of p) (is_order p) p rules table j before now c.args.left.now c.loop-k.k c.loop-k.children.items c.loop-k.best c.loop-k.left within c.loop-k.invariant
+    loop_over (order_of p) (is_order p) p rules table j before now c.args.left.now c.loop-k.k (trees_of c.loop-k.children.items) c.loop-k.best c.loop-k.left within c.loop-k.invariant
     (none_needed (order_of p) p (slice_set table j (c.loop-k.k + 1)) c.loop-k.best c.search.new.best c.loop-k.left c.search.new.left c.in_ok-child.field-0 c.in_ok-child.ensures.found c.in_default-2.is)
 
 pub loop-k-preserved : goal.loop-k-preserved
@@ -81,7 +82,7 @@ loop-k-preserved t c =
     let now : IsOpen (order_of p) p table j before =
     record { inside = inside; wide = wide; free = c.in-Some-first_free.ensures.1; possible = c.in_default.ensures; unbounded = λ x. absurd (cc (c.if-is_closed.ensures.1 x)) } in
     let within : c.loop-k.k < length (builds_at p j) = omega (arith, c.loop-k-test.true, ap length c.builds-count.ensures.value) in
-    loop_next (order_of p) (is_order p) p rules table j before now c.args.left.now c.loop-k.k c.loop-k.children.items c.push.new.self.items c.loop-k.best c.search.new.best c.loop-k.left c.search.new.left c.in-Some-2.child within
+    loop_next_node (order_of p) (is_order p) p rules table j before now c.args.left.now c.loop-k.k c.loop-k.children.items c.push.new.self.items c.loop-k.best c.search.new.best c.loop-k.left c.search.new.left c.in-Some-2.child within
     c.in_ok-push.ensures.items c.loop-k.invariant
     (some_searched (order_of p) p (slice_set table j (c.loop-k.k + 1)) c.loop-k.best c.search.new.best c.loop-k.left c.search.new.left c.in_ok-child.field-0 c.in-Some-2.child c.in_ok-child.ensures.found c.in-Some-2.is)
 
@@ -97,5 +98,5 @@ returns-clause-found t c =
     let now : IsOpen (order_of p) p table j before =
     record { inside = inside; wide = wide; free = c.in-Some-first_free.ensures.1; possible = c.in_default.ensures; unbounded = λ x. absurd (cc (c.if-is_closed.ensures.1 x)) } in
     let all : c.loop-k.k ≡ length (builds_at p j) = omega (arith, c.loop-k-test.false, c.loop-k.auto.k-end, ap length c.builds-count.ensures.value) in
-    loop_end (order_of p) (is_order p) p rules table j before now c.args.left.now c.loop-k.k c.loop-k.children c.args.best.now c.loop-k.best c.loop-k.left refl
+    loop_end_node (order_of p) (is_order p) p rules table j before now c.args.left.now c.loop-k.k c.loop-k.children c.args.best.now c.loop-k.best c.loop-k.left refl
     (λ path. some_build (order_of p) p j path.top inside) all c.loop-k.invariant

@@ -1,4 +1,5 @@
 use Rattle.ccr_choice.specs.Preference.{order_of}
+use Rattle.ccr_proof.specs.Tree.{trees_of}
 use Rattle.ccr_resolve.specs.Search.{places_of, free_jobs}
 use Rattle.ccr_resolve.proofs.Steps.{IsLooping}
 use Rattle.ccr_resolve.proofs.search.+search.Given as goal
@@ -7,4 +8,4 @@ abbrev pub decreases-search : goal.decreases-search
 decreases-search l = free_jobs l.fixed.now
 
 abbrev pub invariant-loop-k : goal.invariant-loop-k
-invariant-loop-k l = IsLooping (order_of l.problem) l.problem l.fixed l.j (places_of l.fn.best) l.fn.left l.k l.children.items l.best l.left
+invariant-loop-k l = IsLooping (order_of l.problem) l.problem l.fixed l.j (places_of l.fn.best) l.fn.left l.k (trees_of l.children.items) l.best l.left

@@ -1,0 +1,111 @@
+//! The best choice, without the proof.
+
+ghost use Rattle.std.specs.Prelude.{◌≤◌, IfOk};
+ghost use Rattle.ccr_choice.specs.Preference.{order_of};
+ghost use Rattle.ccr_choice.specs.Table.{assigned};
+ghost use Rattle.ccr_resolve.specs.Chosen.{IsChosen};
+ghost use Rattle.ccr_resolve.specs.Search.{AreUpper, FixesKnown, FoundSatisfies, Sought};
+
+use crate::choice::full_choice;
+use crate::dive::good_choice;
+use crate::newest::newest_choice;
+use crate::pick::cheapest_job;
+use crate::upper::{BestPlaces, first_empty, is_closed, lowered, tops};
+use ccr_choice::possible::Fixed;
+use ccr_choice::{Choice, MOST_JOBS};
+use ccr_index::Index;
+use ccr_proof::MOST_NODES;
+use std::alloc::{AllocError, Global};
+
+/// What is chosen.
+#[derive(Drop)]
+pub enum Chosen {
+    /// The best choice.
+    Best(Choice),
+    /// No choice satisfies.
+    Nothing,
+    /// More boxes than this many, the budget, would have to be looked at.
+    OverBudget(u32),
+}
+
+/// The best choice that satisfies the problem of an index, or that none does, rightly so; or that the budget, from 1 to
+/// 1,000,000, is over, only where it is below the room of the problem. It is the answer of [`crate::resolve_indexed`]
+/// without the proof. The only error is want of memory.
+pub fn choose(alloc: Global, index: &Index, budget: u32) -> Result<Chosen, AllocError>
+    requires least { 1 ≤ budget }
+    requires most { budget ≤ MOST_NODES }
+    ensures { IfOk result (IsChosen (order_of index.now.problem) index.now.problem budget) }
+{
+    let upper = tops(index);
+    if let Some(_) = first_empty(index, &upper) {
+        return Ok(Chosen::Nothing);
+    }
+    let newest = newest_choice(alloc, index, &upper)?;
+    if let Some(choice) = newest {
+        return Ok(Chosen::Best(choice));
+    }
+    let mut best = good_choice(alloc, index, &upper)?;
+    let mut left = budget;
+    let is_over = seek(
+        alloc,
+        index,
+        &[0; MOST_JOBS as usize],
+        &upper,
+        &mut best,
+        &mut left,
+    )?;
+    if is_over {
+        return Ok(Chosen::OverBudget(budget));
+    }
+    match best {
+        None => Ok(Chosen::Nothing),
+        Some(choice) => Ok(Chosen::Best(choice)),
+    }
+}
+
+/// Looks for the best choice while these builds are fixed; true where more boxes would have to be looked at than are
+/// left.
+fn seek(
+    alloc: Global,
+    index: &Index,
+    fixed: &Fixed,
+    upper: &BestPlaces,
+    best: &mut Option<Choice>,
+    left: &mut u32,
+) -> Result<bool, AllocError>
+    requires known { FixesKnown index.now.problem fixed.now }
+    requires upper { AreUpper index.now.problem (assigned index.now.problem fixed.now) upper.now }
+    requires found { FoundSatisfies index.now.problem best.old }
+    ensures { IfOk result (λ is_over. Sought (order_of index.now.problem) index.now.problem fixed.now
+        best.old best.new left.old left.new is_over) }
+{
+    if *left == 0 {
+        return Ok(true);
+    }
+    *left -= 1;
+    if let Some(_) = first_empty(index, upper) {
+        return Ok(false);
+    }
+    if is_closed(index, upper, best) {
+        return Ok(false);
+    }
+    let Some(j) = cheapest_job(index, fixed, upper, best) else {
+        *best = Some(full_choice(alloc, index, fixed, upper)?);
+        return Ok(false);
+    };
+    let rows = index.rows(j);
+    let count = rows.len();
+    for k in 0..count {
+        if is_closed(index, upper, best) {
+            return Ok(false);
+        }
+        let mut inner = *fixed;
+        inner[j] = k + 1;
+        let places = lowered(index, upper, &inner, j);
+        let is_over = seek(alloc, index, &inner, &places, best, left)?;
+        if is_over {
+            return Ok(true);
+        }
+    }
+    Ok(false)
+}

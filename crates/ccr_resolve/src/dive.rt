@@ -1,0 +1,133 @@
+//! A good choice to begin with: the best builds of each job first, and no proof.
+
+ghost use Rattle.std.specs.Prelude.{◌<◌, ℕ, length, IfOk, All};
+ghost use Rattle.ccr_choice.specs.Problem.{builds_at};
+ghost use Rattle.ccr_choice.specs.Assignment.{nothing_fixed};
+ghost use Rattle.ccr_choice.specs.Table.{assigned};
+ghost use Rattle.ccr_resolve.specs.Search.{AreUpper, FixesKnown, FoundSatisfies};
+
+use crate::choice::full_choice;
+use crate::search::first_free;
+use crate::upper::{BestPlaces, first_empty, is_closed, lowered};
+use ccr_choice::possible::Fixed;
+use ccr_choice::{Choice, MOST_JOBS, later};
+use ccr_index::Index;
+use std::alloc::{AllocError, Global};
+
+/// How many boxes are looked at in all, at the most.
+const MOST_BOXES: u32 = 2_000;
+/// How many of a job's builds, the newest ones, are looked at in a box.
+const LOOKED_AT: usize = 1_000;
+/// How many of them are gone into.
+const GONE_INTO: usize = 16;
+
+/// A build of a job, with the best places that it leaves.
+#[derive(Drop)]
+struct Step {
+    build: usize,
+    upper: BestPlaces,
+}
+
+/// A choice that satisfies, and is good as a rule.
+pub(crate) fn good_choice(
+    alloc: Global,
+    index: &Index,
+    upper: &BestPlaces,
+) -> Result<Option<Choice>, AllocError>
+    requires { AreUpper index.now.problem nothing_fixed upper.now }
+    ensures { IfOk result (FoundSatisfies index.now.problem) }
+{
+    let mut best = None;
+    let mut boxes = MOST_BOXES;
+    dive(
+        alloc,
+        index,
+        &[0; MOST_JOBS as usize],
+        upper,
+        &mut best,
+        &mut boxes,
+    )?;
+    Ok(best)
+}
+
+/// The best builds of a job to fix next, the best first.
+fn steps(
+    alloc: Global,
+    index: &Index,
+    fixed: &Fixed,
+    upper: &BestPlaces,
+    best: &Option<Choice>,
+    job: usize,
+) -> Result<Vec<Step>, AllocError>
+    requires { job < length index.now.problem.jobs }
+    ensures { IfOk result (λ steps. All (λ s. s.build < length (builds_at index.now.problem job)) steps.items) }
+{
+    let mut steps = Vec::new(alloc);
+    let builds = index.rows(job).len().min(LOOKED_AT);
+    for build in 0..builds {
+        let mut inner = *fixed;
+        inner[job] = build + 1;
+        let places = lowered(index, upper, &inner, job);
+        if first_empty(index, &places).is_none() && !is_closed(index, &places, best) {
+            add_step(
+                &mut steps,
+                Step {
+                    build,
+                    upper: places,
+                },
+            )?;
+        }
+    }
+    Ok(steps)
+}
+
+/// Adds a step behind those that are no worse, and drops the last of too many.
+fn add_step(steps: &mut Vec<Step>, step: Step) -> Result<(), AllocError>
+    ensures { (n : ℕ) → step.build < n → All (λ s. s.build < n) steps.old.items
+        → All (λ s. s.build < n) steps.new.items }
+{
+    let at = steps
+        .iter()
+        .position(|other| later(&step.upper, &other.upper))
+        .unwrap_or(steps.len());
+    if at < GONE_INTO {
+        steps.insert(at, step)?;
+        steps.truncate(GONE_INTO);
+    }
+    Ok(())
+}
+
+/// Looks for a choice that is better than the one found. Jobs are numbered in order of first mention, so that the first
+/// free one belongs to the first input that isn't settled.
+fn dive(
+    alloc: Global,
+    index: &Index,
+    fixed: &Fixed,
+    upper: &BestPlaces,
+    best: &mut Option<Choice>,
+    boxes: &mut u32,
+) -> Result<(), AllocError>
+    requires known { FixesKnown index.now.problem fixed.now }
+    requires upper { AreUpper index.now.problem (assigned index.now.problem fixed.now) upper.now }
+    requires found { FoundSatisfies index.now.problem best.old }
+    ensures { FoundSatisfies index.now.problem best.new }
+{
+    if let Some(_) = first_empty(index, upper) {
+        return Ok(());
+    }
+    if *boxes == 0 || is_closed(index, upper, best) {
+        return Ok(());
+    }
+    *boxes -= 1;
+    let Some(j) = first_free(index.job_count(), fixed) else {
+        *best = Some(full_choice(alloc, index, fixed, upper)?);
+        return Ok(());
+    };
+    for step in &steps(alloc, index, fixed, upper, best, j)? {
+        let mut inner = *fixed;
+        inner[j] = step.build + 1;
+        let places = lowered(index, upper, &inner, j);
+        dive(alloc, index, &inner, &places, best, boxes)?;
+    }
+    Ok(())
+}
