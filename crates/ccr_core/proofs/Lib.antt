@@ -1,0 +1,14 @@
+pub mod RunningLists
+pub mod Counting
+pub mod Owning
+pub mod Limiting
+pub mod Moving
+pub mod Seeing
+pub mod Choosing
+pub mod Keeping
+pub mod Placing
+pub mod Naming
+pub mod Using
+pub mod Sound
+pub mod Ending
+pub mod Telling

@@ -1,0 +1,394 @@
+-- Each change that a step makes is one that the history takes.
+use Rattle.std.proofs.Common.{◌≡◌, ◌≢◌, ℕ, ◌+◌, ◌<◌, ◌≤◌, Bool, true, false, cond, ◌||◌, List, [], ◌∷◌, ◌++◌, length, map, Option, Some, None, IsSomeAnd, Ok, Err, bytes_eq, refl, sym, ap, ◌∙◌, subst, arith}
+use Rattle.std.specs.List.{AllByRecursion}
+use Rattle.std.specs.Option.{option_map_or}
+use Rattle.std.proofs.lemmas.List.Elements.{recursion_from_All}
+use Rattle.ccr_history.specs.declared.build.Status.TheVariants.{Running, Errored}
+use Rattle.ccr_history.specs.declared.builds.TheConstants.{MOST_BUILDS}
+use Rattle.ccr_history.specs.Text.{Text}
+use Rattle.ccr_history.specs.TextMap.{TextMap, IsAscending}
+use Rattle.ccr_history.specs.Tables.{has_version, versions_of, is_table_full}
+use Rattle.ccr_history.specs.Builds.{BuildData, count_of, build_of, new_build}
+use Rattle.ccr_history.specs.Changes.{EditData, text, versions, build, ended, pin_set, pin_cleared, edited, changed, IsRunning, Takes, TakesAll}
+use Rattle.ccr_history.specs.History.{HistoryData}
+use Rattle.ccr_pipeline.specs.Inputs.{inputs}
+use Rattle.ccr_pipeline.specs.JobData.{ResourceData, JobData}
+use Rattle.ccr_pipeline.specs.Kinds.{is_name}
+use Rattle.ccr_pipeline.specs.Limits.{IsPlan, names}
+use Rattle.ccr_pipeline.specs.Links.{IsLinked, used_resources, resource_names, job_names}
+use Rattle.ccr_pipeline.specs.Names.{has_name}
+use Rattle.ccr_pipeline.specs.Pipelines.{PipelineData}
+use Rattle.ccr_steps.specs.Asks.{AskData, push, AnswerData, pushed, exchange}
+use Rattle.ccr_steps.specs.Gains.{GainsData, no_gains}
+use Rattle.ccr_steps.specs.Means.{Means}
+use Rattle.ccr_steps.specs.Progress.{IsNext}
+use Rattle.ccr_steps.specs.declared.outcome.Outcome.{Outcome}
+use Rattle.ccr_steps.specs.declared.outcome.Outcome.TheVariants as outcome
+use Rattle.ccr_choice.specs.Satisfies.{Satisfies}
+use Rattle.ccr_core.specs.declared.fault.CoreFault.TheVariants.{TableFull}
+use Rattle.ccr_core.specs.declared.reply.Reply.{Reply}
+use Rattle.ccr_core.specs.declared.reply.Reply.TheVariants.{Set, New, Made, NotNew, Goes, Ends, Pinned, Unpinned, Restarted}
+use Rattle.ccr_problem.specs.ProblemOf.{resource_of, scope_of, job_of, problem_with}
+use Rattle.ccr_core.specs.Builds.{status_of, begun, history_with, Makes, with_answer, Takes as TakesAnswer, cut}
+use Rattle.ccr_core.specs.Choices.{best, Finds, used_at}
+use Rattle.ccr_core.specs.Events.{EventData, set_pipeline, checked, schedule, trigger, answer, pin, unpin, restart}
+use Rattle.ccr_core.specs.Faults.{PushOverfills}
+use Rattle.ccr_core.specs.Kept.{IsPipeline, IsAnswer, IsEvent, IsStart, IsTakenTo, EachChangeIsTaken}
+use Rattle.ccr_core.specs.Replies.{Replied}
+use Rattle.ccr_core.specs.Seen.{pairs_of, is_used_for, report, Overfills, pushed_by, report_by}
+use Rattle.ccr_core.specs.State.{RunningData, State, pipeline_of, moved_on, with_history, running_at, replaced, without}
+use Rattle.ccr_core.specs.Steps.{with_pipeline, Schedules, Triggers, Step, Run}
+use Rattle.ccr_core.proofs.Choosing.{IsSeen, ArePlaced, satisfied_placed, chosen_seen, are_used}
+use Rattle.ccr_core.proofs.Counting.{count_edited, fresh}
+use Rattle.ccr_core.proofs.Keeping.{AreKnown, known_start, known_new, known_end, number_known, new_found, found_there, found_other}
+use Rattle.ccr_core.proofs.Moving.{IsPushed, ArePushed, IsGot}
+use Rattle.ccr_core.proofs.Naming.{inputs_named}
+use Rattle.ccr_core.proofs.Owning.{job_at, none_runs}
+use Rattle.ccr_core.proofs.Placing.{IsKnown, moved_fit}
+use Rattle.ccr_core.proofs.RunningLists.{all_weaker, all_append, all_both, id_flip, IsApart, apart_with, apart_less, apart_more, none_all, all_with, all_less, all_at}
+use Rattle.ccr_core.proofs.Seeing.{has_report, has_changed, report_builds, pushed_builds}
+use Rattle.ccr_core.proofs.Using.{IsRight, right_changed, begun_right, begun_each}
+
+-- ---- changes, one after another
+changed_more : (es fs : List EditData) (h : HistoryData) → changed (es ++ fs) h ≡ changed fs (changed es h)
+changed_more [] fs h = refl
+changed_more (e ∷ es) fs h = changed_more es fs (edited e h)
+
+takes_more : (es fs : List EditData) (h : HistoryData) → TakesAll h es → TakesAll (changed es h) fs → TakesAll h (es ++ fs)
+takes_more [] fs h first then = then
+takes_more (e ∷ es) fs h first then = (first.0, takes_more es fs (edited e h) first.1 then)
+
+taken_more : (f g h : HistoryData) → IsTakenTo f g → IsTakenTo g h → IsTakenTo f h
+taken_more f g h (es, first, to) (fs, then, on) =
+    (es ++ fs, takes_more es fs f first (subst (λ y. TakesAll y fs) to then), on ∙ ap (changed fs) to ∙ sym (changed_more es fs f))
+
+-- ---- what holds of a build that runs
+-- the history has it, running, and its inputs are the versions at the places that it used
+abbrev pub IsStored : HistoryData → RunningData → Type 0
+IsStored h b =
+    (c : BuildData) × (build_of b.job b.number h.builds ≡ Some c) × (c.status ≡ Running)
+    × AllByRecursion (IsRight h.tables b.inputs) c.used × AllByRecursion (λ i. is_used_for c.used i.0 ≡ true) b.inputs
+
+is_running : (h : HistoryData) (b : RunningData) → IsStored h b → IsRunning b.job b.number h.builds
+is_running h b (c, found, runs, right, each) = (c, found, runs)
+
+pub record IsSoundBuild (p : PipelineData) (h : HistoryData) (b : RunningData) : Type 0 where
+  pub held : IsStored h b
+  pub got : AllByRecursion (IsGot (IsSeen p h) b.inputs) (inputs b.plan)
+  pub known : AllByRecursion (IsKnown p) (used_resources b.plan)
+  pub pushes : ArePushed (IsKnown p) (IsSeen p h) b.exchanges
+
+pub record IsSound (s : State) : Type 0 where
+  pub piped : IsPipeline (pipeline_of s)
+  pub numbers : AreKnown s.history.builds s.history.builds
+  pub apart : IsApart s.running
+  pub each : AllByRecursion (IsSoundBuild (pipeline_of s) s.history) s.running
+
+-- what a step leaves
+pub record Leaves (before after : State) : Type 0 where
+  pub sound : IsSound after
+  pub taken : IsTakenTo before.history after.history
+
+module _ (p : PipelineData) (h : HistoryData) (es : List EditData) where
+  pushed_on : (o : Option (Text × TextMap)) → IsPushed (IsKnown p) (IsSeen p h) o → IsPushed (IsKnown p) (IsSeen p (changed es h)) o
+  pushed_on None f = tt
+  pushed_on (Some m) f = λ u. (let (x, at, has) = f u in (x, at, has_changed (scope_of x) m.1 es h has))
+
+  -- changes leave what holds of a build, if it still runs
+  build_on : (b : RunningData) → ((c : BuildData) → build_of b.job b.number h.builds ≡ Some c → build_of b.job b.number (changed es h).builds ≡ Some c) → IsSoundBuild p h b → IsSoundBuild p (changed es h) b
+  build_on b on sb = record {
+    held = (let (c, found, runs, right, each) = sb.held in (c, on c found, runs, all_weaker (λ u r. right_changed es h b.inputs u r) c.used right, each));
+    got = all_weaker (λ i seen. (let (x, at, has) = seen in (x, at, has_changed (scope_of x) _ es h has))) (inputs b.plan) sb.got;
+    known = sb.known;
+    pushes = all_weaker (λ e f. pushed_on (pushed_by e.ask e.answer) f) b.exchanges sb.pushes;
+  }
+
+-- what holds of the number of a build that runs
+numbers_known : (s : State) → IsSound s → AllByRecursion (λ b. b.number ≤ count_of b.job s.history.builds) s.running
+numbers_known s k = all_weaker (λ b sb. number_known s.history.builds b.job b.number k.numbers (is_running s.history b sb.held)) s.running k.each
+
+sound_history : (s : State) (es : List EditData) → (changed es s.history).builds ≡ s.history.builds → IsSound s → IsSound (with_history s (changed es s.history))
+sound_history s es same k = record {
+  piped = k.piped;
+  numbers = subst (λ bs. AreKnown bs bs) (sym same) k.numbers;
+  apart = k.apart;
+  each = all_weaker (λ b sb. build_on (pipeline_of s) s.history es b (λ c found. ap (build_of b.job b.number) same ∙ found) sb) s.running k.each;
+}
+
+-- ---- reports
+takes_report : (s : State) (resource : Text) (vs : List TextMap) → ¬ Overfills s resource vs → AllByRecursion IsAscending vs → TakesAll s.history (report (pipeline_of s) resource vs)
+takes_report s resource vs room up = by (resource_of resource (pipeline_of s).resources) refl
+  where
+    full : (x : ResourceData) → resource_of resource (pipeline_of s).resources ≡ Some x → (t : Bool) → is_table_full (scope_of x) vs s.history.tables ≡ t → is_table_full (scope_of x) vs s.history.tables ≡ false
+    full x at true is = absurd (room (subst (λ o. IsSomeAnd o (λ r. is_table_full (scope_of r) vs s.history.tables ≡ true)) (sym at) is))
+    full x at false is = is
+
+    by : (o : Option ResourceData) → resource_of resource (pipeline_of s).resources ≡ o → TakesAll s.history (option_map_or (λ r. versions (scope_of r) vs ∷ []) o [])
+    by None at = tt
+    by (Some x) at = ((full x at (is_table_full (scope_of x) vs s.history.tables) refl, up), tt)
+
+-- ---- a build is made
+-- what holds of each job holds of the one that is found
+job_has : (P : JobData → Type 0) (name : Text) (js : List JobData) (j : JobData) → AllByRecursion P js → job_of name js ≡ Some j → P j
+job_has P name [] j h e = absurd (cc (e))
+job_has P name (k ∷ js) j h e = by (bytes_eq name k.name) (job_has P name js j h.1) e
+  where
+    by : (t : Bool) → (job_of name js ≡ Some j → P j) → cond t (Some k) (job_of name js) ≡ Some j → P j
+    by true more e = let same : k ≡ j = cc e in subst P same h.0
+    by false more e = more e
+
+known_by_name : (rs : List ResourceData) (name : Text) → has_name (resource_names rs) name ≡ true → (x : ResourceData) × (resource_of name rs ≡ Some x)
+known_by_name [] name e = absurd (cc (e))
+known_by_name (r ∷ rs) name e = by (bytes_eq name r.name) (known_by_name rs name) e
+  where
+    by : (t : Bool) → (has_name (resource_names rs) name ≡ true → (x : ResourceData) × (resource_of name rs ≡ Some x)) → (t || has_name (resource_names rs) name) ≡ true → (x : ResourceData) × (cond t (Some r) (resource_of name rs) ≡ Some x)
+    by true more e = (r, refl)
+    by false more e = more e
+
+ends_not : (o : Outcome) → status_of o ≢ Running
+ends_not outcome.Succeeded e = absurd (cc (e))
+ends_not outcome.Failed e = absurd (cc (e))
+ends_not outcome.Errored e = absurd (cc (e))
+ends_not outcome.Aborted e = absurd (cc (e))
+
+module _ (s : State) (name : Text) (j : JobData) (places : List ℕ) (k : IsSound s) (at : job_of name (pipeline_of s).jobs ≡ Some j) (finds : Finds s j.name (best places)) (room : ¬ (MOST_BUILDS ≤ length s.history.builds)) where
+  placed : ArePlaced (pipeline_of s) s.history (inputs j.plan) places
+  placed =
+      let (problem, is, (builds, optimal)) = finds in
+      let same : problem ≡ problem_with (pipeline_of s) s.history (inputs j.plan) = subst (λ o. IsSomeAnd o (λ i. problem ≡ problem_with (pipeline_of s) s.history (inputs i.plan))) (job_at name (pipeline_of s).jobs j at) is in
+      satisfied_placed (pipeline_of s) s.history (inputs j.plan) places builds (subst (λ q. Satisfies q places builds) same optimal.satisfies)
+
+  plan_kept : IsPlan j.plan
+  plan_kept = job_has (λ i. IsPlan i.plan) name (pipeline_of s).jobs j (recursion_from_All (λ i. IsPlan i.plan) (pipeline_of s).jobs k.piped.plans) at
+
+  linked : IsLinked (resource_names (pipeline_of s).resources) (job_names (pipeline_of s).jobs) j.plan
+  linked = job_has (λ i. IsLinked (resource_names (pipeline_of s).resources) (job_names (pipeline_of s).jobs) i.plan) name (pipeline_of s).jobs j (recursion_from_All (λ i. IsLinked (resource_names (pipeline_of s).resources) (job_names (pipeline_of s).jobs) i.plan) (pipeline_of s).jobs k.piped.linked) at
+
+  abbrev made_edit : EditData
+  made_edit = build j.name (used_at (pipeline_of s) s.history (inputs j.plan) places)
+
+  abbrev now : HistoryData
+  now = history_with (pipeline_of s) s.history j places
+
+  abbrev b : RunningData
+  b = begun (pipeline_of s) s.history j places
+
+  takes_build : Takes s.history (build j.name (used_at (pipeline_of s) s.history (inputs j.plan) places))
+  takes_build =
+      (omega (arith, room), are_used (pipeline_of s) s.history (inputs j.plan) places placed plan_kept.distinct (inputs_named j.plan (recursion_from_All (λ n. is_name n ≡ true) (names j.plan) plan_kept.well_named)))
+
+  pub sound_begun : IsSoundBuild (pipeline_of s) (history_with (pipeline_of s) s.history j places) (begun (pipeline_of s) s.history j places)
+  sound_begun = record {
+    held = (
+      new_build j.name (count_of j.name s.history.builds + 1) (used_at (pipeline_of s) s.history (inputs j.plan) places),
+      new_found j.name (used_at (pipeline_of s) s.history (inputs j.plan) places) s.history.builds k.numbers,
+      refl,
+      begun_right (pipeline_of s) s.history (inputs j.plan) places placed plan_kept.distinct,
+      begun_each (pipeline_of s) s.history (inputs j.plan) places placed,
+    );
+    got = all_weaker (λ i seen. (let (x, there, has) = seen in (x, there, has))) (inputs j.plan) (chosen_seen (pipeline_of s) s.history (inputs j.plan) places placed plan_kept.distinct);
+    known = all_weaker (λ r has. known_by_name (pipeline_of s).resources r has) (used_resources j.plan) (recursion_from_All (λ r. has_name (resource_names (pipeline_of s).resources) r ≡ true) (used_resources j.plan) linked.0);
+    pushes = tt;
+  }
+
+  none_there : running_at (begun (pipeline_of s) s.history j places).job (begun (pipeline_of s) s.history j places).number s.running ≡ None
+  none_there =
+      let lt : count_of j.name s.history.builds < count_of j.name s.history.builds + 1 = omega arith in
+      fresh s.history.builds j.name (count_of j.name s.history.builds + 1) lt s.running (numbers_known s k)
+
+  numbers_now : AreKnown now.builds now.builds
+  numbers_now = known_new j.name (used_at (pipeline_of s) s.history (inputs j.plan) places) s.history.builds (λ i. count_edited i (build j.name (used_at (pipeline_of s) s.history (inputs j.plan) places)) s.history) k.numbers
+
+  -- a build that ran runs
+  on_now : (y : RunningData) → IsSoundBuild (pipeline_of s) s.history y → IsSoundBuild (pipeline_of s) (history_with (pipeline_of s) s.history j places) y
+  on_now y sy = build_on (pipeline_of s) s.history (build j.name (used_at (pipeline_of s) s.history (inputs j.plan) places) ∷ []) y (λ c found. found_there y.job y.number s.history.builds (new_build j.name (count_of j.name s.history.builds + 1) (used_at (pipeline_of s) s.history (inputs j.plan) places)) c found) sy
+
+  made_open : Leaves s (moved_on s now (s.running ++ b ∷ []))
+  made_open = record {
+    sound = record {
+      piped = k.piped;
+      numbers = numbers_now;
+      apart = apart_more s.running b k.apart none_there;
+      each = all_append (IsSoundBuild (pipeline_of s) now) s.running b (all_weaker on_now s.running k.each) sound_begun;
+    };
+    taken = (made_edit ∷ [], (takes_build, tt), refl);
+  }
+
+  made_ended : (o : Outcome) (g : GainsData) → Means b.inputs b.plan no_gains [] o g → Leaves s (moved_on s (edited (ended b.job b.number (status_of o) (pairs_of (pipeline_of s) now g.moved)) now) s.running)
+  made_ended o g means =
+      let p = pipeline_of s in
+      let mv = pairs_of p now g.moved in
+      let end = ended b.job b.number (status_of o) mv in
+      let fits = moved_fit p now b.inputs b.plan [] o g sound_begun.got sound_begun.known tt means in
+      record {
+        sound = record {
+          piped = k.piped;
+          numbers = known_end b.job b.number (status_of o) mv now.builds numbers_now;
+          apart = k.apart;
+          each = all_both (λ y sy other. build_on p now (end ∷ []) y (λ c found. found_other y.job y.number b.job b.number (status_of o) mv (id_flip b.job y.job b.number y.number other) now.builds ∙ found) (on_now y sy)) s.running k.each (none_all b.job b.number s.running none_there);
+        };
+        taken = (made_edit ∷ end ∷ [], (takes_build, ((is_running now b sound_begun.held, ends_not o, fits), tt)), refl);
+      }
+
+  leaves_made : (m : ℕ) (after : State) → Makes s j places m after → Leaves s after
+  leaves_made m after (number, (None, h, (begins, waits, is), to)) = subst (Leaves s) (sym to) (subst (λ y. Leaves s (moved_on s y (s.running ++ b ∷ []))) (sym is) made_open)
+  leaves_made m after (number, (Some o, h, (g, means, is), to)) = subst (Leaves s) (sym to) (subst (λ y. Leaves s (moved_on s y s.running)) (sym is) (made_ended o g means))
+
+-- ---- a build is answered
+-- what is pushed is seen then
+pushed_seen : (p : PipelineData) (h : HistoryData) (o : Option (Text × TextMap)) → IsPushed (IsKnown p) (IsSeen p (changed (option_map_or (λ m. report p m.0 (m.1 ∷ [])) o []) h)) o
+pushed_seen p h None = tt
+pushed_seen p h (Some m) = λ u. (let (x, at) = u in (x, at, subst (λ z. has_version (versions_of (scope_of x) (changed (option_map_or (λ r. versions (scope_of r) (m.1 ∷ []) ∷ []) z []) h).tables) m.1 ≡ true) (sym at) (has_report (scope_of x) m.1 h.tables)))
+
+-- a pushed version has its keys in order
+pushed_up : (a : AskData) (x : AnswerData) (r : Text) (v : TextMap) → IsAnswer x → pushed_by a x ≡ Some (r, v) → IsAscending v
+pushed_up (push artifact resource params) (pushed w) r v up e = let same : ◌≡◌ {A = Text × TextMap} (resource, w) (r, v) = cc e in subst IsAscending (ap (λ q. q.1) same) up
+pushed_up a x r v up e = absurd (cc (e))
+
+module _ (s : State) (job : Text) (number : ℕ) (b : RunningData) (a : AskData) (x : AnswerData) (k : IsSound s) (at : running_at job number s.running ≡ Some b) where
+  abbrev edits : List EditData
+  edits = report_by (pipeline_of s) a x
+
+  abbrev then : HistoryData
+  then = changed (report_by (pipeline_of s) a x) s.history
+
+  own_sound : IsSoundBuild (pipeline_of s) s.history b
+  own_sound = all_at (IsSoundBuild (pipeline_of s) s.history) job number s.running b k.each at
+
+  same_builds : (changed (report_by (pipeline_of s) a x) s.history).builds ≡ s.history.builds
+  same_builds = pushed_builds (pipeline_of s) a x s.history
+
+  on_then : (y : RunningData) → IsSoundBuild (pipeline_of s) s.history y → IsSoundBuild (pipeline_of s) (changed (report_by (pipeline_of s) a x) s.history) y
+  on_then y sy = build_on (pipeline_of s) s.history (report_by (pipeline_of s) a x) y (λ c found. ap (build_of y.job y.number) same_builds ∙ found) sy
+
+  pub sound_answered : IsSoundBuild (pipeline_of s) (changed (report_by (pipeline_of s) a x) s.history) (with_answer b a x)
+  sound_answered =
+      let was = on_then b own_sound in
+      record {
+        held = was.held;
+        got = was.got;
+        known = was.known;
+        pushes = all_append (λ e. IsPushed (IsKnown (pipeline_of s)) (IsSeen (pipeline_of s) then) (pushed_by e.ask e.answer)) b.exchanges (exchange a x) was.pushes (pushed_seen (pipeline_of s) s.history (pushed_by a x));
+      }
+
+  numbers_then : AreKnown then.builds then.builds
+  numbers_then = subst (λ bs. AreKnown bs bs) (sym same_builds) k.numbers
+
+  module _ (next : IsNext b.inputs b.plan b.exchanges a) (room : ¬ PushOverfills s job number x) (up : IsAnswer x) where
+    takes_push : TakesAll s.history (report_by (pipeline_of s) a x)
+    takes_push = by (pushed_by a x) refl
+      where
+        by : (o : Option (Text × TextMap)) → pushed_by a x ≡ o → TakesAll s.history (option_map_or (λ m. report (pipeline_of s) m.0 (m.1 ∷ [])) o [])
+        by None is = tt
+        by (Some (r, v)) is = takes_report s r (v ∷ []) (λ full. room (b, a, r, v, at, next, is, full)) (pushed_up a x r v up is, tt)
+
+    answered_open : Leaves s (moved_on s then (replaced (with_answer b a x) s.running))
+    answered_open = record {
+      sound = record {
+        piped = k.piped;
+        numbers = numbers_then;
+        apart = apart_with (with_answer b a x) s.running k.apart;
+        each = all_with (with_answer b a x) (λ y other sy. on_then y sy) sound_answered s.running k.apart k.each;
+      };
+      taken = (edits, takes_push, refl);
+    }
+
+    answered_ended : (o : Outcome) (g : GainsData) → Means b.inputs b.plan no_gains (b.exchanges ++ exchange a x ∷ []) o g → Leaves s (moved_on s (edited (ended b.job b.number (status_of o) (pairs_of (pipeline_of s) then g.moved)) then) (without b.job b.number s.running))
+    answered_ended o g means =
+        let p = pipeline_of s in
+        let mv = pairs_of p then g.moved in
+        let end = ended b.job b.number (status_of o) mv in
+        let fits = moved_fit p then b.inputs b.plan (b.exchanges ++ exchange a x ∷ []) o g sound_answered.got sound_answered.known sound_answered.pushes means in
+        record {
+          sound = record {
+            piped = k.piped;
+            numbers = known_end b.job b.number (status_of o) mv then.builds numbers_then;
+            apart = apart_less b.job b.number s.running k.apart;
+            each = all_less b.job b.number (λ y other sy. build_on p then (end ∷ []) y (λ c found. found_other y.job y.number b.job b.number (status_of o) mv (id_flip b.job y.job b.number y.number other) then.builds ∙ found) (on_then y sy)) s.running k.apart k.each;
+          };
+          taken = taken_more s.history then (edited end then) (edits, takes_push, refl) (end ∷ [], ((is_running then b sound_answered.held, ends_not o, fits), tt), refl);
+        }
+
+leaves_taken : (s : State) (job : Text) (number : ℕ) (b : RunningData) (x : AnswerData) (o : Option Outcome) (after : State) → IsSound s → running_at job number s.running ≡ Some b → ¬ PushOverfills s job number x → IsAnswer x → TakesAnswer s b x o after → Leaves s after
+leaves_taken s job number b x None after k at room up (a, next, (h, (begins, waits, is), to)) =
+    subst (Leaves s) (sym to) (subst (λ y. Leaves s (moved_on s y (replaced (with_answer b a x) s.running))) (sym is) (answered_open s job number b a x k at next room up))
+leaves_taken s job number b x (Some o) after k at room up (a, next, (h, (g, means, is), to)) =
+    subst (Leaves s) (sym to) (subst (λ y. Leaves s (moved_on s y (without b.job b.number s.running))) (sym is) (answered_ended s job number b a x k at next room up o g means))
+
+-- ---- a restart
+cut_takes : (bs : List RunningData) (h : HistoryData) → IsApart bs → AllByRecursion (λ b. IsRunning b.job b.number h.builds) bs → TakesAll h (map cut bs)
+cut_takes [] h apart runs = tt
+cut_takes (b ∷ bs) h (none, apart) (first, rest) = (
+  (first, (λ e. absurd (cc (e))), ((λ i j d before within. absurd (omega (arith, within))), tt)),
+  cut_takes bs (edited (cut b) h) apart (all_both (λ y r other. (let (c, found, runs) = r in (c, found_other y.job y.number b.job b.number Errored [] (id_flip b.job y.job b.number y.number other) h.builds ∙ found, runs))) bs rest (none_all b.job b.number bs none)),
+)
+
+cut_known : (bs : List RunningData) (h : HistoryData) → AreKnown h.builds h.builds → AreKnown (changed (map cut bs) h).builds (changed (map cut bs) h).builds
+cut_known [] h known = known
+cut_known (b ∷ bs) h known = cut_known bs (edited (cut b) h) (known_end b.job b.number Errored [] h.builds known)
+
+-- ---- each step
+leaves_same : (s after : State) → IsSound s → after ≡ s → Leaves s after
+leaves_same s after k is = subst (Leaves s) (sym is) (record { sound = k; taken = ([], tt, refl) })
+
+leaves_scheduled : (s : State) (name : Text) (j : JobData) (r : Reply) (after : State) → IsSound s → job_of name (pipeline_of s).jobs ≡ Some j → ¬ (MOST_BUILDS ≤ length s.history.builds) → Schedules s j r after → Leaves s after
+leaves_scheduled s name j (Made m) after k at room (idle, (places, finds, news, makes)) = leaves_made s name j places k at finds room m after makes
+leaves_scheduled s name j NotNew after k at room (idle, (places, finds, news, is)) = leaves_same s after k is
+leaves_scheduled s name j r after k at room (held, is) = leaves_same s after k is
+
+leaves_triggered : (s : State) (name : Text) (j : JobData) (r : Reply) (after : State) → IsSound s → job_of name (pipeline_of s).jobs ≡ Some j → ¬ (MOST_BUILDS ≤ length s.history.builds) → Triggers s j r after → Leaves s after
+leaves_triggered s name j (Made m) after k at room (idle, (places, finds, makes)) = leaves_made s name j places k at finds room m after makes
+leaves_triggered s name j r after k at room (held, is) = leaves_same s after k is
+
+set_sound : (s : State) (p : PipelineData) → IsPipeline p → s.running ≡ [] → IsSound s → IsSound (with_pipeline s p)
+set_sound s p piped none k = record {
+  piped = piped;
+  numbers = k.numbers;
+  apart = k.apart;
+  each = subst (AllByRecursion (IsSoundBuild p (edited (text p.text) s.history))) (sym none) tt;
+}
+
+pub leaves_step : (s : State) (e : EventData) (r : Replied) (after : State) → IsEvent e → IsSound s → Step s e r after → Leaves s after
+leaves_step s (set_pipeline p) (Ok Set) after piped k (free, is) =
+    subst (Leaves s) (sym is) (record { sound = set_sound s p piped (none_runs s p free) k; taken = (text p.text ∷ [], (tt, tt), refl) })
+leaves_step s (checked resource vs) (Ok (New n)) after up k (free, (news, is)) =
+    let edits = report (pipeline_of s) resource vs in
+    subst (Leaves s) (sym is) (record { sound = sound_history s edits (report_builds (pipeline_of s) resource vs s.history) k; taken = (edits, takes_report s resource vs (free TableFull) up, refl) })
+leaves_step s (schedule job) (Ok r) after up k (free, (j, at, how)) = leaves_scheduled s job j r after k at (free TableFull) how
+leaves_step s (trigger job) (Ok r) after up k (free, (j, at, how)) = leaves_triggered s job j r after k at (free TableFull) how
+leaves_step s (answer j n turn x) (Ok Goes) after up k (free, (b, at, takes)) = leaves_taken s j n b x None after k at (free TableFull) up takes
+leaves_step s (answer j n turn x) (Ok (Ends o)) after up k (free, (b, at, takes)) = leaves_taken s j n b x (Some o) after k at (free TableFull) up takes
+leaves_step s (pin resource p) (Ok Pinned) after up k (free, is) =
+    subst (Leaves s) (sym is) (record { sound = sound_history s (pin_set resource p ∷ []) refl k; taken = (pin_set resource p ∷ [], (up, tt), refl) })
+leaves_step s (unpin resource) (Ok Unpinned) after up k (free, is) =
+    subst (Leaves s) (sym is) (record { sound = sound_history s (pin_cleared resource ∷ []) refl k; taken = (pin_cleared resource ∷ [], (tt, tt), refl) })
+leaves_step s restart (Ok Restarted) after up k (free, is) =
+    subst (Leaves s) (sym is) (record {
+      sound = record { piped = k.piped; numbers = cut_known s.running s.history k.numbers; apart = tt; each = tt };
+      taken = (map cut s.running, cut_takes s.running s.history k.apart (all_weaker (λ b sb. is_running s.history b sb.held) s.running k.each), refl);
+    })
+leaves_step s e (Err f) after up k (may, is) = leaves_same s after k is
+leaves_step s e (Ok r) after up k (free, does) = absurd does
+
+-- ---- each run
+pub leaves_run : (s : State) (es : List EventData) (rs : List Replied) (after : State) → AllByRecursion IsEvent es → IsSound s → Run s es rs after → Leaves s after
+leaves_run s [] [] after up k h = leaves_same s after k h
+leaves_run s [] (r ∷ rs) after up k h = absurd h
+leaves_run s (e ∷ es) [] after up k h = absurd h
+leaves_run s (e ∷ es) (r ∷ rs) after up k (mid, step, run) =
+    let first = leaves_step s e r mid up.0 k step in
+    let rest = leaves_run mid es rs after up.1 first.sound run in
+    record { sound = rest.sound; taken = taken_more s.history mid.history after.history first.taken rest.taken }
+
+pub starts : (s : State) → IsStart s → IsSound s
+starts s start = record {
+  piped = start.pipeline;
+  numbers = known_start s.history.builds start.history.1.1;
+  apart = subst IsApart (sym start.none_runs) tt;
+  each = subst (AllByRecursion (IsSoundBuild (pipeline_of s) s.history)) (sym start.none_runs) tt;
+}
+
+pub each_change_is_taken : EachChangeIsTaken
+each_change_is_taken s after es rs start up run =
+    let end = leaves_run s es rs after up (starts s start) run in
+    (end.taken, all_weaker (λ b sb. (let (c, found, runs, right, each) = sb.held in (c, found, runs, (each, all_weaker (λ u r. r.1) c.used right)))) after.running end.sound.each)

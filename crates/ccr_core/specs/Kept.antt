@@ -1,0 +1,62 @@
+-- What a history takes, over any list of events.
+use Rattle.std.specs.Prelude.{◌≡◌, List, [], Some, All, ⊤}
+use Rattle.std.specs.List.{AllByRecursion}
+use Rattle.ccr_history.specs.TextMap.{IsAscending}
+use Rattle.ccr_history.specs.declared.build.Status.TheVariants.{Running}
+use Rattle.ccr_history.specs.Builds.{BuildData, build_of}
+use Rattle.ccr_history.specs.Changes.{EditData, changed, TakesAll}
+use Rattle.ccr_history.specs.History.{HistoryData, IsHistory}
+use Rattle.ccr_pipeline.specs.Limits.{IsPlan}
+use Rattle.ccr_pipeline.specs.Links.{AreLinked}
+use Rattle.ccr_pipeline.specs.Pipelines.{PipelineData}
+use Rattle.ccr_steps.specs.Asks.{AnswerData, pushed}
+use Rattle.ccr_core.specs.Events.{EventData, set_pipeline, checked, answer, pin}
+use Rattle.ccr_core.specs.Replies.{Replied}
+use Rattle.ccr_core.specs.Seen.{AreThoseUsed}
+use Rattle.ccr_core.specs.State.{RunningData, State, pipeline_of}
+use Rattle.ccr_core.specs.Steps.{Run}
+
+-- what every pipeline that was read keeps: its plans keep their limits, and the resources and jobs that they name are
+-- there
+pub record IsPipeline (p : PipelineData) : Type 0 where
+  pub plans : All (λ j. IsPlan j.plan) p.jobs
+  pub linked : AreLinked p.resources p.jobs
+
+-- a version that an answer brings has its keys in order
+abbrev pub IsAnswer : AnswerData → Type 0
+IsAnswer (pushed v) = IsAscending v
+IsAnswer x = ⊤
+
+-- what every event keeps: a pipeline was read, and versions and pins have their keys in order
+abbrev pub IsEvent : EventData → Type 0
+IsEvent (set_pipeline p) = IsPipeline p
+IsEvent (checked resource vs) = AllByRecursion IsAscending vs
+IsEvent (answer job number turn x) = IsAnswer x
+IsEvent (pin resource p) = IsAscending p
+IsEvent e = ⊤
+
+-- a state from which a run begins: its history is one, its pipeline was read, and nothing runs
+pub record IsStart (s : State) : Type 0 where
+  pub history : IsHistory s.history
+  pub pipeline : IsPipeline (pipeline_of s)
+  pub none_runs : s.running ≡ []
+
+-- the second history is the first after changes, each of which the history takes by then
+abbrev pub IsTakenTo : HistoryData → HistoryData → Type 0
+IsTakenTo before after = (edits : List EditData) × TakesAll before edits × (after ≡ changed edits before)
+
+-- the history has the build as one that runs, and its inputs are the versions at the places that it used
+abbrev pub IsKeptBy : HistoryData → RunningData → Type 0
+IsKeptBy h b =
+    (c : BuildData) × (build_of b.job b.number h.builds ≡ Some c) × (c.status ≡ Running)
+    × AreThoseUsed h.tables c.used b.inputs
+
+-- EACH CHANGE IS TAKEN: the conditions of a history's changes hold whenever a step makes one, and no limit refuses it.
+-- So what each build used are places of the tables, and what it moved too, each once. What runs does so in the history,
+-- with the versions that it used.
+abbrev pub EachChangeIsTaken : Type 0
+EachChangeIsTaken =
+    (s after : State) (es : List EventData) (rs : List Replied)
+    → IsStart s → AllByRecursion IsEvent es → Run s es rs after
+    → IsTakenTo s.history after.history
+    × AllByRecursion (IsKeptBy after.history) after.running

@@ -1,0 +1,14 @@
+pub mod State
+pub mod Events
+pub mod Replies
+pub mod Seen
+pub mod Faults
+pub mod Busy
+pub mod Choices
+pub mod Builds
+pub mod Steps
+pub mod Own
+pub mod Limits
+pub mod Kept
+pub mod Told
+pub mod Fates

@@ -1,0 +1,73 @@
+//! The laws over every list of events.
+ghost use Rattle.ccr_core.specs.Fates.{EachHasItsFate, EndedStays};
+ghost use Rattle.ccr_core.specs.Kept.{EachChangeIsTaken};
+ghost use Rattle.ccr_core.specs.Limits.{LimitsAreKept};
+ghost use Rattle.ccr_core.specs.Told.{EachHasItsOwn, EachEndsAsMeant, EachIsCutShort, RunsAgree, EndsAgree};
+
+use ccr_steps::{answers_decide, beginnings_decide};
+
+/// Whatever events come, from a state in which nothing runs: each build that runs has had the answers that were
+/// addressed to it and not refused, in order, and no others. Its plan is that of its job, and its exchanges begin a
+/// list that the plan allows, and aren't whole.
+///
+/// It is a law over the definitions alone; nothing runs.
+pub fn each_has_its_own()
+    ensures { EachHasItsOwn }
+{}
+
+/// Whatever events come, from a state in which nothing runs: a build that a step ends had its own answers and no
+/// others. Its exchanges are a whole list that its job's plan allows for the versions at the places that it used; its
+/// status is their outcome, its moved pairs are what they moved, each once, and these passed the job only if it
+/// succeeded. A build that a restart ends is errored, and has moved nothing.
+///
+/// It is a law over the definitions alone; nothing runs.
+pub fn each_ends_as_meant()
+    // By an answer, or in the event that made it.
+    ensures meant { EachEndsAsMeant }
+
+    // By a restart.
+    ensures cut { EachIsCutShort }
+{}
+
+/// Whatever events come, from a state in which nothing runs: each build that has ended in the history after them had
+/// ended before them, or ended among them as its plan means, by the answers that were its own in all of them, or was
+/// cut short by a restart. What has ended stays as it is.
+///
+/// It is a law over the definitions alone; nothing runs.
+pub fn each_has_its_fate()
+    ensures fate { EachHasItsFate }
+    ensures stays { EndedStays }
+{}
+
+/// Two runs that give a build the same plan, the same input versions and the same answers of its own give it the same
+/// exchanges, whatever stands between them; if it has ended in both, it ended the same.
+///
+/// It is a law over the definitions alone; nothing runs.
+pub fn runs_agree()
+    // Where it runs.
+    ensures running { RunsAgree }
+
+    // Where it has ended.
+    ensures ended { EndsAgree }
+{
+    answers_decide();
+    beginnings_decide();
+}
+
+/// Whatever events come, from a state in which nothing runs: at most 64 builds run, of each job at most as many as its
+/// limit, and two jobs that share a serial group never both have a running build.
+///
+/// It is a law over the definitions alone; nothing runs.
+pub fn limits_are_kept()
+    ensures { LimitsAreKept }
+{}
+
+/// Whatever events come, from a state in which nothing runs: each change of the history is one that the history takes.
+/// The places that a new build uses are in the tables, one for each input; a build that ends had run; what it moved are
+/// places of the tables, each once; and no table grows past its limit. Each build that runs does so in the history, and
+/// its inputs are the versions at the places that it used there.
+///
+/// It is a law over the definitions alone; nothing runs.
+pub fn each_change_is_taken()
+    ensures { EachChangeIsTaken }
+{}
