@@ -1,0 +1,9 @@
+pub mod SameRows
+pub mod ReportRows
+pub mod BuildRows
+pub mod EndRows
+pub mod PinRows
+pub mod ChangeRows
+pub mod OutlineLaws
+pub mod MirrorLemmas
+pub mod EndLemmas

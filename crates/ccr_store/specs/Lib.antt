@@ -1,0 +1,5 @@
+pub mod Rows
+pub mod WriteData
+pub mod Writes
+pub mod Reordered
+pub mod Outline

@@ -1,0 +1,35 @@
+-- What the store keeps of a history to number the rows of a change.
+use Rattle.std.specs.Prelude.{◌≡◌, ℕ, ◌<◌, [], length, map, false, Some, ⊤}
+use Rattle.ccr_history.specs.declared.builds.TheConstants.{MOST_BUILDS}
+use Rattle.ccr_history.specs.Text.{Text}
+use Rattle.ccr_history.specs.Tables.{is_table_full}
+use Rattle.ccr_history.specs.Builds.{BuildData, build_of}
+use Rattle.ccr_history.specs.History.{HistoryData}
+use Rattle.ccr_history.specs.Changes.{EditData, text, versions, build, ended, pin_set, pin_cleared, edited}
+
+-- a build's job and its number
+abbrev pub name_of : BuildData → Text × ℕ
+name_of b = (b.job, b.number)
+
+-- the second is the first without what its builds used and moved, how they stand, its pins and its text
+pub record IsOutline (h outline : HistoryData) : Type 0 where
+  pub tables : outline.tables ≡ h.tables
+  pub builds : map name_of outline.builds ≡ map name_of h.builds
+
+-- the outline after a change: reports and new builds count, and builds are kept without what they use
+abbrev pub outlined : EditData → HistoryData → HistoryData
+outlined (text bytes) o = o
+outlined (versions scope seen) o = edited (versions scope seen) o
+outlined (build job used) o = edited (build job []) o
+outlined (ended job number status moved) o = o
+outlined (pin_set resource pin) o = o
+outlined (pin_cleared resource) o = o
+
+-- the change can be written by an outline: no limit refuses it, and a build that ends is there
+abbrev pub Allows : HistoryData → EditData → Type 0
+Allows o (text bytes) = ⊤
+Allows o (versions scope seen) = is_table_full scope seen o.tables ≡ false
+Allows o (build job used) = length o.builds < MOST_BUILDS
+Allows o (ended job number status moved) = (b : BuildData) × (build_of job number o.builds ≡ Some b)
+Allows o (pin_set resource pin) = ⊤
+Allows o (pin_cleared resource) = ⊤

@@ -1,0 +1,16 @@
+//! The history in a database: what its rows are, and what a change writes.
+//!
+//! A law says that the writes of a change take tables that hold a history to tables that hold the changed history. A
+//! [`Mirror`] makes the writes: it knows of the history what numbers them, and does work in proportion to the change.
+//! What the columns hold is told in docs/FORMATS.md. No program uses this crate yet.
+//!
+//! `NoMemory` is the one fault so far: it comes only where a growth was refused.
+#![tactic(auto)]
+
+mod fault;
+mod law;
+mod mirror;
+
+pub use fault::StoreFault;
+pub use law::{changes_write_their_rows, outlines_number_rows};
+pub use mirror::Mirror;
