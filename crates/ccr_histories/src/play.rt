@@ -1,0 +1,238 @@
+//! A history that is played, with its pipeline.
+
+use crate::grow::{extend, grow, one_more};
+use crate::show::history_text;
+use crate::words::{number_of, numbered, pair_of, status_of, used_of, version_of, versions_of};
+use anyhow::{Result, anyhow, bail};
+use ccr_choice::write_problem;
+use ccr_history::{History, HistoryFault, Pin, Scope, Status, Version};
+use ccr_pipeline::{Pipeline, read};
+use ccr_problem::{problem_of, scope_of};
+use ccr_proof::write_proof;
+use ccr_resolve::{Answer, resolve};
+use serde_json::Value;
+use std::alloc::{AllocError, Global};
+
+/// The history, and the pipeline that was set last.
+#[derive(Drop)]
+pub(crate) struct Play {
+    history: History,
+    pipeline: Option<Pipeline>,
+}
+
+/// Reports versions and takes the report back: how many of them were new.
+fn taken_back(
+    alloc: Global,
+    history: &mut History,
+    scope: &Scope,
+    versions: &[Version],
+) -> Result<u32, HistoryFault> {
+    history.rules();
+    let new = history.append_versions(alloc, scope, versions)?;
+    history.take_back(scope, new);
+    Ok(new)
+}
+
+impl Play {
+    /// Nothing seen, and no pipeline.
+    pub(crate) fn new(alloc: Global) -> Play {
+        Play {
+            history: History::new(alloc),
+            pipeline: None,
+        }
+    }
+
+    /// The answer to a line, or why there is none.
+    pub(crate) fn answer_to(&mut self, alloc: Global, line: &str) -> Result<String, AllocError> {
+        match self.played(alloc, line) {
+            Ok(text) => Ok(text),
+            Err(error) => format!(in alloc; "{error}"),
+        }
+    }
+
+    fn played(&mut self, alloc: Global, line: &str) -> Result<String> {
+        let (kind, given) = line.split_once(" ").unwrap_or((line, ""));
+        let (first, rest) = given.split_once(" ").unwrap_or((given, ""));
+        match kind {
+            "pipeline" => {
+                self.history = History::new(alloc);
+                self.set(alloc, given)
+            }
+            "again" => self.set(alloc, given),
+            "versions" => {
+                let versions = versions_of(alloc, rest)?;
+                self.reported(alloc, first, &versions)
+            }
+            "fill" => {
+                let versions = numbered(alloc, number_of(rest)?)?;
+                self.reported(alloc, first, &versions)
+            }
+            "tried" => self.tried(alloc, first, rest),
+            "place" => self.place(alloc, first, rest),
+            "build" => self.made(alloc, first, rest),
+            "failed" => self.failed(alloc, first, number_of(rest)?),
+            "end" => self.ended(alloc, first, rest),
+            "used" => self.used(alloc, first, rest),
+            "pin" => self.pinned(alloc, first, rest),
+            "unpin" => self.unpinned(alloc, first),
+            "problem" => self.problem(alloc, first),
+            "resolve" => self.resolved(alloc, first, number_of(rest)?),
+            "grow" | "more" | "extend" => self.grown(alloc, kind, first, rest),
+            "copy" => {
+                self.history = self.history.copy(alloc)?;
+                Ok(String::from_str(alloc, "copied")?)
+            }
+            "history" => history_text(alloc, &self.history),
+            _ => bail!("no line begins with {kind}"),
+        }
+    }
+
+    fn set(&mut self, alloc: Global, text: &str) -> Result<String> {
+        let pipeline = read(alloc, text.as_bytes())?;
+        let resources = pipeline.resources().len();
+        let jobs = pipeline.jobs().len();
+        self.history
+            .set_text(Vec::from_slice(alloc, text.as_bytes())?);
+        self.pipeline = Some(pipeline);
+        Ok(format!(in alloc; "{resources} resources, {jobs} jobs")?)
+    }
+
+    fn pipeline(&self) -> Result<&Pipeline> {
+        self.pipeline.as_ref().ok_or(anyhow!("no pipeline"))
+    }
+
+    /// The scope of a resource of the pipeline.
+    fn scope(&self, alloc: Global, name: &str) -> Result<Scope> {
+        for resource in self.pipeline()?.resources() {
+            if resource.name.as_str() == name {
+                return Ok(scope_of(alloc, resource)?);
+            }
+        }
+        bail!("no resource is called {name}")
+    }
+
+    fn reported(&mut self, alloc: Global, name: &str, versions: &[Version]) -> Result<String> {
+        let scope = self.scope(alloc, name)?;
+        let new = self.history.append_versions(alloc, &scope, versions)?;
+        Ok(format!(in alloc; "{new} new")?)
+    }
+
+    fn tried(&mut self, alloc: Global, name: &str, text: &str) -> Result<String> {
+        let scope = self.scope(alloc, name)?;
+        let versions = versions_of(alloc, text)?;
+        let new = taken_back(alloc, &mut self.history, &scope, &versions)?;
+        Ok(format!(in alloc; "{new} taken back")?)
+    }
+
+    /// The lines for large histories: `grow BUILDS JOBS PLACES`, `more JOB SCOPE PLACE COUNT`, `extend RESOURCE FIRST COUNT`.
+    fn grown(&mut self, alloc: Global, kind: &str, first: &str, rest: &str) -> Result<String> {
+        let (second, rest) = rest.split_once(" ").ok_or(anyhow!("no second number"))?;
+        if kind == "extend" {
+            let scope = self.scope(alloc, first)?;
+            let new = extend(
+                alloc,
+                &mut self.history,
+                &scope,
+                number_of(second)?,
+                number_of(rest)?,
+            )?;
+            return Ok(format!(in alloc; "{new} new")?);
+        }
+        if kind == "grow" {
+            let (builds, jobs) = (number_of(first)?, number_of(second)?);
+            grow(alloc, &mut self.history, builds, jobs, number_of(rest)?)?;
+        } else {
+            let (place, count) = rest.split_once(" ").ok_or(anyhow!("no count"))?;
+            for _ in 0..number_of(count)? {
+                one_more(
+                    alloc,
+                    &mut self.history,
+                    first,
+                    number_of(second)?,
+                    number_of(place)?,
+                )?;
+            }
+        }
+        let builds = self.history.build_count();
+        Ok(format!(in alloc; "{builds} builds")?)
+    }
+
+    fn place(&self, alloc: Global, name: &str, text: &str) -> Result<String> {
+        let scope = self.scope(alloc, name)?;
+        let version = version_of(alloc, text)?;
+        let place = self.history.place_of(&scope, &version);
+        Ok(format!(in alloc; "{place}")?)
+    }
+
+    fn made(&mut self, alloc: Global, job: &str, words: &str) -> Result<String> {
+        let mut used = Vec::new(alloc);
+        for word in words.split_whitespace() {
+            used.push(used_of(alloc, word)?)?;
+        }
+        if !self.history.can_use(&used) {
+            bail!("no such places")
+        }
+        let number = self.history.add_build(alloc, job, &used)?;
+        Ok(format!(in alloc; "{number}")?)
+    }
+
+    fn ended(&mut self, alloc: Global, job: &str, words: &str) -> Result<String> {
+        let (number, words) = words.split_once(" ").ok_or(anyhow!("no number"))?;
+        let (status, words) = words.split_once(" ").unwrap_or((words, ""));
+        let mut moved = Vec::new(alloc);
+        for word in words.split_whitespace() {
+            moved.push(pair_of(word)?)?;
+        }
+        if !self.history.can_move(&moved) {
+            bail!("no such places")
+        }
+        self.history
+            .end_build(alloc, job, number_of(number)?, status_of(status)?, &moved)?;
+        Ok(String::from_str(alloc, "ended")?)
+    }
+
+    fn failed(&mut self, alloc: Global, job: &str, count: u32) -> Result<String> {
+        let mut last = 0;
+        for _ in 0..count {
+            last = self.history.add_build(alloc, job, &[])?;
+            self.history
+                .end_build(alloc, job, last, Status::Failed, &[])?;
+        }
+        Ok(format!(in alloc; "{last}")?)
+    }
+
+    fn used(&self, alloc: Global, job: &str, words: &str) -> Result<String> {
+        let (input, pair) = words.split_once(" ").ok_or(anyhow!("no place"))?;
+        let (scope, place) = pair_of(pair)?;
+        let has = self.history.has_used(job, input, scope, place);
+        Ok(format!(in alloc; "{has}")?)
+    }
+
+    fn pinned(&mut self, alloc: Global, name: &str, text: &str) -> Result<String> {
+        let value = Value::from_str(alloc, text)?;
+        let pin = Pin::from_value(alloc, &value)?;
+        self.history.set_pin(alloc, name, pin)?;
+        Ok(String::from_str(alloc, "pinned")?)
+    }
+
+    fn unpinned(&mut self, alloc: Global, name: &str) -> Result<String> {
+        let had = self.history.clear_pin(name);
+        Ok(String::from_str(alloc, if had { "unpinned" } else { "no pin" })?)
+    }
+
+    fn problem(&self, alloc: Global, job: &str) -> Result<String> {
+        let problem = problem_of(alloc, self.pipeline()?, &self.history, job)?;
+        Ok(write_problem(alloc, &problem)?)
+    }
+
+    fn resolved(&self, alloc: Global, job: &str, budget: u32) -> Result<String> {
+        if budget < 1 || budget > 1_000_000 {
+            bail!("no such budget")
+        }
+        let problem = problem_of(alloc, self.pipeline()?, &self.history, job)?;
+        match resolve(alloc, &problem, budget)? {
+            Answer::Best(proof) | Answer::Nothing(proof) => Ok(write_proof(alloc, &proof)?),
+            Answer::OverBudget(budget) => Ok(format!(in alloc; "over budget {budget}")?),
+        }
+    }
+}
