@@ -55,6 +55,13 @@ impl Pin {
         String::from_str(alloc, self.key.as_str())
     }
 
+    /// Every pin keeps its keys in ascending byte order, each once. Nothing runs.
+    pub fn rules(&self)
+        ensures { IsAscending self.now }
+    {
+        let _bytes = self.key.as_bytes();
+    }
+
     /// A copy of the pin.
     pub fn copy(&self) -> Result<Pin, AllocError>
         ensures { IfOk result (λ p. p ≡ self.now) }

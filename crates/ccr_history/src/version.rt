@@ -69,6 +69,13 @@ impl Version {
         self.key.as_str()
     }
 
+    /// Every version keeps its keys in ascending byte order, each once. Nothing runs.
+    pub fn rules(&self)
+        ensures { IsAscending self.now }
+    {
+        let _bytes = self.key.as_bytes();
+    }
+
     /// A copy of the version.
     pub fn copy(&self) -> Result<Version, AllocError>
         ensures { IfOk result (λ v. v ≡ self.now) }
