@@ -18,6 +18,7 @@ pub mod Numbered
 pub mod Sorting
 pub mod OrderlyKept
 pub mod Links
+pub mod KeptRows
 pub mod NameLemmas
 pub mod UsedPlaces
 pub mod Added

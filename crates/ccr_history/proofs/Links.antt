@@ -37,7 +37,7 @@ slice_get_set (z ∷ zs) (suc i) y zero x e = inr (λ h. absurd (omega (arith, h
 slice_get_set (z ∷ zs) (suc i) y (suc j) x e =
     ⊎_elim (λ h. inl (ap (λ n. suc n) h.0, h.1)) (λ h. inr (λ k. h.0 (omega (arith, k)), h.1)) (slice_get_set zs i y j x e)
 
-map_same : {X Y : Type 0} (f g : X → Y) (xs : List X) → AllByRecursion (λ x. f x ≡ g x) xs → map f xs ≡ map g xs
+pub map_same : {X Y : Type 0} (f g : X → Y) (xs : List X) → AllByRecursion (λ x. f x ≡ g x) xs → map f xs ≡ map g xs
 map_same f g [] all = refl
 map_same f g (x ∷ xs) all = ap (λ y. y ∷ map f xs) all.0 ∙ ap (λ l. g x ∷ l) (map_same f g xs all.1)
 

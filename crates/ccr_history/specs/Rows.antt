@@ -1,5 +1,5 @@
 -- How builds are kept: each a row, with numbers in place of the names of its job and its inputs.
-use Rattle.std.specs.Prelude.{◌≡◌, ℕ, ◌<◌, ◌≤◌, List, [], ◌∷◌, ◌++◌, ◌⊎◌, map, length, slice_get, Bool, ◌&&◌, ◌==◌, Some}
+use Rattle.std.specs.Prelude.{◌≡◌, ℕ, ◌+◌, ◌<◌, ◌≤◌, List, [], ◌∷◌, ◌++◌, ◌⊎◌, map, take, drop, length, slice_get, Bool, ◌&&◌, ◌==◌, Some}
 use Rattle.std.specs.List.{AllByRecursion, list_any}
 use Rattle.ccr_history.specs.declared.build.Status.{Status}
 use Rattle.ccr_history.specs.declared.build.Status.TheVariants.{Running}
@@ -16,10 +16,39 @@ pub record RowData : Type 0 where
   pub used : List UsedRow
   pub moved : List (ℕ × ℕ)
 
+-- a build as it is kept: its used places are so many of those of all builds, from this one on
+pub record KeptData : Type 0 where
+  pub job : ℕ
+  pub number : ℕ
+  pub status : Status
+  pub from : ℕ
+  pub count : ℕ
+  pub moved : List (ℕ × ℕ)
+
+-- the builds, and how many more of them and of their used places there is room for
+pub record RowsData : Type 0 where
+  pub rows : List RowData
+  pub room : ℕ
+  pub places : ℕ
+
 -- what is kept of a job: the positions of its builds, and each place that one of them used
 pub record JobData : Type 0 where
   pub at : List ℕ
   pub used : List UsedRow
+
+-- ---- what is kept as rows
+-- a build with its used places
+abbrev pub with_places : List UsedRow → KeptData → RowData
+with_places used k =
+    record { job = k.job; number = k.number; status = k.status; used = used; moved = k.moved }
+
+-- a build with its part of the used places of all
+abbrev pub row_data : List UsedRow → KeptData → RowData
+row_data places k = with_places (take k.count (drop k.from places)) k
+
+-- its part is there
+abbrev pub IsWithin : List UsedRow → KeptData → Type 0
+IsWithin places k = k.from + k.count ≤ length places
 
 -- ---- rows as builds
 -- a used place, its input by name

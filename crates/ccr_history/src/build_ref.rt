@@ -1,16 +1,18 @@
 //! Builds, lent by a history.
 ghost use Rattle.std.specs.Prelude.{◌≡◌, length, slice_get, option_map};
-ghost use Rattle.ccr_history.specs.Rows.{build_data, IsNamed};
+ghost use Rattle.ccr_history.specs.Rows.{build_data, with_places, IsNamed};
 
 use crate::build::Status;
 use crate::names::Names;
 use crate::row::Row;
+use crate::used_row::UsedRow;
 use std::marker::Model;
 
 /// A build of a history. Its readers take no memory.
 #[derive(Drop)]
 pub struct BuildRef<'a> {
     row: &'a Row,
+    used: &'a [UsedRow],
     jobs: &'a Names,
     inputs: &'a Names,
 }
@@ -18,22 +20,32 @@ pub struct BuildRef<'a> {
 impl<'a> Model for BuildRef<'a> {
     ghost use Rattle.std.specs.Prelude.{length};
     ghost use Rattle.ccr_history.specs.Builds.{BuildData};
-    ghost use Rattle.ccr_history.specs.Rows.{build_data, IsNamed};
+    ghost use Rattle.ccr_history.specs.Rows.{build_data, with_places, IsNamed};
 
     ghost Value = { BuildData };
 
-    ghost view = { λ b. build_data b.jobs.now b.inputs.now b.row.now };
+    ghost view = { λ b. build_data b.jobs.now b.inputs.now (with_places b.used.now b.row.now) };
 
-    ghost invariant = { λ b. IsNamed (length b.jobs.now) (length b.inputs.now) b.row.now };
+    ghost invariant = { λ b. IsNamed (length b.jobs.now) (length b.inputs.now) (with_places b.used.now b.row.now) };
 }
 
 impl<'a> BuildRef<'a> {
-    /// The build of a row, whose names are there.
-    pub(crate) fn new(row: &'a Row, jobs: &'a Names, inputs: &'a Names) -> BuildRef<'a>
-        requires { IsNamed (length jobs.now) (length inputs.now) row.now }
-        ensures { result ≡ build_data jobs.now inputs.now row.now }
+    /// The build of a row with the places that it used, whose names are there.
+    pub(crate) fn new(
+        row: &'a Row,
+        used: &'a [UsedRow],
+        jobs: &'a Names,
+        inputs: &'a Names,
+    ) -> BuildRef<'a>
+        requires { IsNamed (length jobs.now) (length inputs.now) (with_places used.now row.now) }
+        ensures { result ≡ build_data jobs.now inputs.now (with_places used.now row.now) }
     {
-        BuildRef { row, jobs, inputs }
+        BuildRef {
+            row,
+            used,
+            jobs,
+            inputs,
+        }
     }
 
     /// The name of the build's job.
@@ -61,7 +73,7 @@ impl<'a> BuildRef<'a> {
     pub fn used_count(&self) -> usize
         ensures { result ≡ length self.now.used }
     {
-        self.row.used().len()
+        self.used.len()
     }
 
     /// An input of the build, counted from 0 in ascending order of the names: its name, and the scope and the place
@@ -70,7 +82,7 @@ impl<'a> BuildRef<'a> {
         ensures { option_map (λ u. record { input = u.0.now; scope = u.1; place = u.2 }) result
             ≡ slice_get self.now.used index }
     {
-        let used = self.row.used().get(index)?;
+        let used = self.used.get(index)?;
         Some((self.inputs.get(used.input), used.scope, used.place))
     }
 

@@ -1,5 +1,5 @@
 //! The builds of a history, in order of making.
-ghost use Rattle.std.specs.Prelude.{◌≡◌, ◌≢◌, ◌⊎◌, ◌↔◌, ◌+◌, ◌<◌, ◌≤◌, ◌++◌, [], ◌∷◌, None, Some, length, map, vec_len, vec_capacity, slice_get, false, AllPairs, IsTrue, IsOk, IfSome, IfNone, IfOk, IfErr, OnOk, OnErr, IsErrOf};
+ghost use Rattle.std.specs.Prelude.{◌≡◌, ◌≢◌, ◌⊎◌, ◌↔◌, ◌+◌, ◌<◌, ◌≤◌, [], None, Some, length, map, slice_get, false, AllPairs, IsTrue, IsOk, IfSome, IfNone, IfOk, IfErr, OnOk, OnErr, IsErrOf};
 ghost use Rattle.std.specs.List.{AllByRecursion};
 ghost use Rattle.std.specs.Str.{bytes_eq};
 ghost use Rattle.ccr_history.specs.declared.build.Status.TheVariants.{Running};
@@ -15,7 +15,7 @@ use crate::build_ref::BuildRef;
 use crate::fault::HistoryFault;
 use crate::job_builds::JobBuilds;
 use crate::names::Names;
-use crate::row::Row;
+use crate::rows::Rows;
 use crate::used_row::{UsedRow, used_rows};
 use std::alloc::{AllocError, Global};
 use std::marker::Model;
@@ -29,7 +29,7 @@ pub const MOST_BUILDS: usize = 1_000_000;
 /// the places that they used. So a build is added, ended and found in a time that doesn't grow with the history.
 #[derive(Drop)]
 pub(crate) struct Builds {
-    made: Vec<Row>,
+    made: Rows,
     jobs: Names,
     // By the number of the job. There may be one more, left by a call that was out of memory.
     of_jobs: Vec<JobBuilds>,
@@ -44,10 +44,10 @@ impl Model for Builds {
 
     ghost Value = { List BuildData };
 
-    ghost view = { λ b. builds_data b.jobs b.inputs b.made.items };
+    ghost view = { λ b. builds_data b.jobs b.inputs b.made.rows };
 
-    ghost invariant = { λ b. IsLinked b.jobs b.inputs b.made.items b.of_jobs.items
-        × AreOrderly (builds_data b.jobs b.inputs b.made.items) };
+    ghost invariant = { λ b. IsLinked b.jobs b.inputs b.made.rows b.of_jobs.items
+        × AreOrderly (builds_data b.jobs b.inputs b.made.rows) };
 }
 
 /// The number of a job's name and what it used, by numbers. Names that are new come to the ends of the names.
@@ -77,32 +77,13 @@ fn numbers(
     Ok((job, used))
 }
 
-/// Makes room for one more row. It grows by half, so that at most a third of the rows' memory is unused.
-fn make_room(rows: &mut Vec<Row>) -> Result<(), AllocError>
-    ensures same { rows.new.items ≡ rows.old.items }
-    ensures room { OnOk result (vec_len rows.new < vec_capacity rows.new) }
-{
-    if rows.len() == rows.capacity() {
-        rows.reserve_exact(rows.len() / 2 + 1)?;
-    }
-    Ok(())
-}
-
-/// Adds a row at the end, where there is room for it.
-fn push_within(rows: &mut Vec<Row>, row: Row)
-    requires { vec_len rows.old < vec_capacity rows.old }
-    ensures { rows.new.items ≡ rows.old.items ++ row ∷ [] }
-{
-    let _pushed = rows.push(row);
-}
-
 impl Builds {
     /// No builds.
     pub(crate) fn new(alloc: Global) -> Builds
         ensures { result ≡ [] }
     {
         Builds {
-            made: Vec::new(alloc),
+            made: Rows::new(alloc),
             jobs: Names::new(alloc),
             of_jobs: Vec::new(alloc),
             inputs: Names::new(alloc),
@@ -129,7 +110,6 @@ impl Builds {
         if self.made.len() == MOST_BUILDS {
             return Err(HistoryFault::BuildsFull);
         }
-        make_room(&mut self.made)?;
         let (job, used) = numbers(
             alloc,
             &mut self.jobs,
@@ -138,11 +118,12 @@ impl Builds {
             job,
             used,
         )?;
+        self.made.reserve(used.len())?;
         let position = self.made.len() as u32;
         let kept = &mut self.of_jobs[job as usize];
         let number = kept.positions().len() as u32 + 1;
         kept.add(position, &used)?;
-        push_within(&mut self.made, Row::new(alloc, job, number, used));
+        self.made.add(alloc, job, number, &used);
         Ok(number)
     }
 
@@ -190,8 +171,8 @@ impl Builds {
     pub(crate) fn at(&self, position: usize) -> Option<BuildRef<'_>>
         ensures { result ≡ slice_get self.now position }
     {
-        let row = self.made.get(position)?;
-        Some(BuildRef::new(row, &self.jobs, &self.inputs))
+        let (row, used) = self.made.get(position)?;
+        Some(BuildRef::new(row, used, &self.jobs, &self.inputs))
     }
 
     /// The job's build of this number, if there is one.
@@ -231,8 +212,7 @@ impl Builds {
         let Some(position) = self.position_of(job, number) else {
             return Err(HistoryFault::NoBuild);
         };
-        let row = &self.made[position];
-        if row.status().is_running() {
+        if self.made.status(position).is_running() {
             Ok(position)
         } else {
             Err(HistoryFault::AlreadyEnded)
@@ -263,8 +243,7 @@ impl Builds {
         let position = self.running_at(job, number)?;
         moved.sort_unstable();
         moved.shrink_to_fit();
-        let row = &mut self.made[position];
-        row.end(status, moved);
+        self.made.end(position, status, moved);
         Ok(())
     }
 
@@ -297,22 +276,12 @@ impl Builds {
         ensures { IfOk result (λ builds. builds ≡ self.now) }
     {
         Ok(Builds {
-            made: copy_rows(alloc, &self.made)?,
+            made: self.made.copy(alloc)?,
             jobs: self.jobs.copy(alloc)?,
             of_jobs: copy_jobs(alloc, &self.of_jobs)?,
             inputs: self.inputs.copy(alloc)?,
         })
     }
-}
-
-fn copy_rows(alloc: Global, rows: &[Row]) -> Result<Vec<Row>, AllocError>
-    ensures { IfOk result (λ copies. copies.items ≡ rows.now) }
-{
-    let mut copies = Vec::with_capacity(alloc, rows.len())?;
-    for row in rows {
-        copies.push(row.copy(alloc)?)?;
-    }
-    Ok(copies)
 }
 
 fn copy_jobs(alloc: Global, of_jobs: &[JobBuilds]) -> Result<Vec<JobBuilds>, AllocError>

@@ -33,6 +33,7 @@ mod object;
 mod pin;
 mod pins;
 mod row;
+mod rows;
 mod scope;
 mod table;
 mod tables;

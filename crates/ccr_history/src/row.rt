@@ -1,53 +1,65 @@
 //! Builds as they are kept.
-ghost use Rattle.std.specs.Prelude.{◌≡◌, IfOk};
-ghost use Rattle.ccr_history.specs.Rows.{new_row, ended_row};
+ghost use Rattle.std.specs.Prelude.{◌≡◌, [], IfOk};
+ghost use Rattle.ccr_history.specs.declared.build.Status.TheVariants.{Running};
 
 use crate::build::Status;
-use crate::used_row::UsedRow;
 use std::alloc::{AllocError, Global};
 use std::marker::Model;
 
-/// A build, with numbers in place of the names of its job and its inputs.
+/// A build, with the number of its job in place of the name. Its used places are so many of those of all builds, from
+/// this one on.
 #[derive(Drop)]
 pub(crate) struct Row {
     job: u32,
     number: u32,
+    from: usize,
+    count: u32,
     status: Status,
-    used: Vec<UsedRow>,
     moved: Vec<(u32, u32)>,
 }
 
 impl Model for Row {
-    ghost use Rattle.ccr_history.specs.Rows.{RowData};
+    ghost use Rattle.ccr_history.specs.Rows.{KeptData};
 
-    ghost Value = { RowData };
+    ghost Value = { KeptData };
 
     ghost view = { λ r. record {
       job = r.job;
       number = r.number;
       status = r.status;
-      used = r.used.items;
+      from = r.from;
+      count = r.count;
       moved = r.moved.items;
     } };
 }
 
 impl Row {
     /// A build as it begins.
-    pub(crate) fn new(alloc: Global, job: u32, number: u32, used: Vec<UsedRow>) -> Row
-        ensures { result ≡ new_row job number used.items }
+    pub(crate) fn new(alloc: Global, job: u32, number: u32, from: usize, count: u32) -> Row
+        ensures { result
+            ≡ record { job = job; number = number; status = Running; from = from; count = count; moved = [] } }
     {
         Row {
             job,
             number,
+            from,
+            count,
             status: Status::Running,
-            used,
             moved: Vec::new(alloc),
         }
     }
 
     /// The build has ended so, with these pairs by scope and place.
     pub(crate) fn end(&mut self, status: Status, moved: Vec<(u32, u32)>)
-        ensures { self.new ≡ ended_row status moved.items self.old }
+        ensures { self.new
+            ≡ record {
+              job = self.old.job;
+              number = self.old.number;
+              status = status;
+              from = self.old.from;
+              count = self.old.count;
+              moved = moved.items;
+            } }
     {
         self.status = status;
         self.moved = moved;
@@ -74,11 +86,18 @@ impl Row {
         self.status
     }
 
-    /// The places that the build used, by input name.
-    pub(crate) fn used(&self) -> &[UsedRow]
-        ensures { result.now ≡ self.now.used }
+    /// Where its used places begin.
+    pub(crate) fn from(&self) -> usize
+        ensures { result ≡ self.now.from }
     {
-        &self.used
+        self.from
+    }
+
+    /// How many used places it has.
+    pub(crate) fn count(&self) -> usize
+        ensures { result ≡ self.now.count }
+    {
+        self.count as usize
     }
 
     /// The pairs that the build moved, by scope and place.
@@ -95,8 +114,9 @@ impl Row {
         Ok(Row {
             job: self.job,
             number: self.number,
+            from: self.from,
+            count: self.count,
             status: self.status,
-            used: Vec::from_slice(alloc, &self.used)?,
             moved: Vec::from_slice(alloc, &self.moved)?,
         })
     }

@@ -12,9 +12,9 @@ returns-in-Some-clause-is c =
     let at : slice_get s.of_jobs.items c.in-Some.job ≡ Some c.index-kept.result.now =
     slice_get_read s.of_jobs.items (length s.of_jobs.items) c.in-Some.job c.index-kept.result.now refl within c.index-kept.ensures in
     rw (← c.self.view_is)
-    (c.positions.ensures ∙ positions_kept s.jobs s.inputs s.made.items s.of_jobs.items linked c.in-Some.ensures.apart c.args.job.now c.in-Some.job c.index-kept.result.now found at)
+    (c.positions.ensures ∙ positions_kept s.jobs s.inputs s.made.rows s.of_jobs.items linked c.in-Some.ensures.apart c.args.job.now c.in-Some.job c.index-kept.result.now found at)
 
 pub returns-in-None-clause-is : goal.returns-in-None-clause-is
 returns-in-None-clause-is c =
     let s = c.self.inside in
-    rw (← c.self.view_is) (sym (positions_absent s.jobs s.inputs s.made.items s.of_jobs.items c.self.invariant.0 c.args.job.now c.in-None.ensures.absent))
+    rw (← c.self.view_is) (sym (positions_absent s.jobs s.inputs s.made.rows s.of_jobs.items c.self.invariant.0 c.args.job.now c.in-None.ensures.absent))

@@ -9,13 +9,13 @@ pub returns-in_default : goal.returns-in_default
 returns-in_default c =
     let s = c.self.inside in
     let u : UsedData = record { input = c.args.input.now; scope = c.args.scope; place = c.args.place } in
-    rw (← c.self.view_is) (sym (used_absent_job s.jobs s.inputs s.made.items s.of_jobs.items c.self.invariant.0 c.args.job.now u c.in_default.ensures.absent))
+    rw (← c.self.view_is) (sym (used_absent_job s.jobs s.inputs s.made.rows s.of_jobs.items c.self.invariant.0 c.args.job.now u c.in_default.ensures.absent))
 
 pub returns-in_default-find : goal.returns-in_default-find
 returns-in_default-find c =
     let s = c.self.inside in
     let u : UsedData = record { input = c.args.input.now; scope = c.args.scope; place = c.args.place } in
-    rw (← c.self.view_is) (sym (used_absent_input s.jobs s.inputs s.made.items s.of_jobs.items c.self.invariant.0 c.args.job.now u c.in_default-find.ensures.absent))
+    rw (← c.self.view_is) (sym (used_absent_input s.jobs s.inputs s.made.rows s.of_jobs.items c.self.invariant.0 c.args.job.now u c.in_default-find.ensures.absent))
 
 pub index-kept-requires : goal.index-kept-requires
 index-kept-requires c =
@@ -32,4 +32,4 @@ returns c =
     slice_get_read s.of_jobs.items (length s.of_jobs.items) c.in-Some.job c.index-kept.result.now refl within c.index-kept.ensures in
     let u : UsedRow = record { input = c.in-Some-find.input; scope = c.args.scope; place = c.args.place } in
     rw (← c.self.view_is)
-    (c.has_used.ensures ∙ used_kept s.jobs s.inputs s.made.items s.of_jobs.items linked c.in-Some.ensures.apart c.in-Some-find.ensures.apart c.args.job.now c.args.input.now c.in-Some.job u c.index-kept.result.now found c.in-Some-find.ensures.found at)
+    (c.has_used.ensures ∙ used_kept s.jobs s.inputs s.made.rows s.of_jobs.items linked c.in-Some.ensures.apart c.in-Some-find.ensures.apart c.args.job.now c.args.input.now c.in-Some.job u c.index-kept.result.now found c.in-Some-find.ensures.found at)
