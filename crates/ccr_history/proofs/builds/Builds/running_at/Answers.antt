@@ -1,7 +1,7 @@
-use Rattle.std.proofs.Common.{◌≡◌, ◌<◌, ◌∙◌, ap, sym, refl, arith, length, Some}
+use Rattle.std.proofs.Common.{◌≡◌, ◌∙◌, ap, sym, refl, arith, length, Some}
 use Rattle.std.proofs.lemmas.Option.{slice_get_within}
 use Rattle.std.proofs.lemmas.List.{length-map}
-use Rattle.ccr_history.specs.Builds.{BuildData, build_of, is_running}
+use Rattle.ccr_history.specs.Builds.{BuildData, build_of}
 use Rattle.ccr_history.specs.Rows.{build_data}
 use Rattle.ccr_history.proofs.Added.{found_status, runs, runs_not}
 use Rattle.ccr_history.proofs.builds.Builds.running_at.Goals as goal

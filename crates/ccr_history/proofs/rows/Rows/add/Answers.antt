@@ -1,4 +1,4 @@
-use Rattle.std.proofs.Common.{◌≡◌, ◌∙◌, ◌++◌, ◌∷◌, [], ap, arith, length, map}
+use Rattle.std.proofs.Common.{◌∙◌, ◌++◌, ◌∷◌, [], ap, arith, length, map}
 use Rattle.ccr_history.specs.Rows.{KeptData, new_row, row_data}
 use Rattle.ccr_history.proofs.KeptRows.{added_row}
 use Rattle.ccr_history.proofs.rows.Rows.add.Goals as goal

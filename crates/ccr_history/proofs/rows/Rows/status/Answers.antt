@@ -1,4 +1,4 @@
-use Rattle.std.proofs.Common.{◌≡◌, ◌<◌, ◌∙◌, ap, sym, refl, arith, length, slice_get, Some}
+use Rattle.std.proofs.Common.{◌≡◌, ◌<◌, ap, sym, refl, arith, length, slice_get, Some}
 use Rattle.std.proofs.lemmas.Option.{slice_get_read}
 use Rattle.std.proofs.lemmas.List.{length-map}
 use Rattle.ccr_history.specs.Rows.{row_data}
