@@ -33,6 +33,21 @@ fn taken_back(
     Ok(new)
 }
 
+/// Room for the answer to a change. It is made before the change, so that no answer is refused memory after one.
+fn room(alloc: Global) -> Result<String, AllocError> {
+    String::with_capacity(alloc, 32)
+}
+
+/// Makes so many builds of a job, and ends each as failed: the number of the last.
+fn fail(alloc: Global, history: &mut History, job: &str, count: u32) -> Result<u32> {
+    let mut last = 0;
+    for _ in 0..count {
+        last = history.add_build(alloc, job, &[])?;
+        history.end_build(alloc, job, last, Status::Failed, &[])?;
+    }
+    Ok(last)
+}
+
 impl Play {
     /// Nothing seen, and no pipeline.
     pub(crate) fn new(alloc: Global) -> Play {
@@ -113,8 +128,10 @@ impl Play {
 
     fn reported(&mut self, alloc: Global, name: &str, versions: &[Version]) -> Result<String> {
         let scope = self.scope(alloc, name)?;
+        let mut text = room(alloc)?;
         let new = self.history.append_versions(alloc, &scope, versions)?;
-        Ok(format!(in alloc; "{new} new")?)
+        write!(text, "{new} new")?;
+        Ok(text)
     }
 
     fn tried(&mut self, alloc: Global, name: &str, text: &str) -> Result<String> {
@@ -172,8 +189,10 @@ impl Play {
         if !self.history.can_use(&used) {
             bail!("no such places")
         }
+        let mut text = room(alloc)?;
         let number = self.history.add_build(alloc, job, &used)?;
-        Ok(format!(in alloc; "{number}")?)
+        write!(text, "{number}")?;
+        Ok(text)
     }
 
     fn ended(&mut self, alloc: Global, job: &str, words: &str) -> Result<String> {
@@ -186,19 +205,20 @@ impl Play {
         if !self.history.can_move(&moved) {
             bail!("no such places")
         }
+        let text = String::from_str(alloc, "ended")?;
         self.history
             .end_build(alloc, job, number_of(number)?, status_of(status)?, &moved)?;
-        Ok(String::from_str(alloc, "ended")?)
+        Ok(text)
     }
 
+    /// The builds are made in a copy, so that either all of them are there or none.
     fn failed(&mut self, alloc: Global, job: &str, count: u32) -> Result<String> {
-        let mut last = 0;
-        for _ in 0..count {
-            last = self.history.add_build(alloc, job, &[])?;
-            self.history
-                .end_build(alloc, job, last, Status::Failed, &[])?;
-        }
-        Ok(format!(in alloc; "{last}")?)
+        let mut text = room(alloc)?;
+        let mut history = self.history.copy(alloc)?;
+        let last = fail(alloc, &mut history, job, count)?;
+        self.history = history;
+        write!(text, "{last}")?;
+        Ok(text)
     }
 
     fn used(&self, alloc: Global, job: &str, words: &str) -> Result<String> {
@@ -216,8 +236,10 @@ impl Play {
     }
 
     fn unpinned(&mut self, alloc: Global, name: &str) -> Result<String> {
+        let mut text = room(alloc)?;
         let had = self.history.clear_pin(name);
-        Ok(String::from_str(alloc, if had { "unpinned" } else { "no pin" })?)
+        text.push_str(if had { "unpinned" } else { "no pin" })?;
+        Ok(text)
     }
 
     fn problem(&self, alloc: Global, job: &str) -> Result<String> {
