@@ -87,7 +87,7 @@ allowed_at : (q : ProblemValue) (places : List ℕ) (i : ℕ) → IsAllowed q pl
 unfolding IsAllowed
 allowed_at q places i h = h
 
-length_map : {X Y : Type 0} → (f : X → Y) (xs : List X) → length (map f xs) ≡ length xs
+pub length_map : {X Y : Type 0} → (f : X → Y) (xs : List X) → length (map f xs) ≡ length xs
 length_map f [] = refl
 length_map f (x ∷ xs) = let e = length_map f xs in omega (arith, e)
 

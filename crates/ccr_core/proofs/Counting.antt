@@ -15,7 +15,7 @@ pub count_cons : (j : Text) (b : BuildData) (bs : List BuildData) → count_of j
 count_cons j b bs = sum_by-cons (λ x. cond (is_of j x) 1 0) b bs
 
 -- a build more
-count_more : (j : Text) (bs : List BuildData) (b : BuildData) → count_of j (bs ++ b ∷ []) ≡ count_of j bs + cond (is_of j b) 1 0
+pub count_more : (j : Text) (bs : List BuildData) (b : BuildData) → count_of j (bs ++ b ∷ []) ≡ count_of j bs + cond (is_of j b) 1 0
 count_more j [] b = count_cons j b [] ∙ omega arith
 count_more j (x ∷ bs) b =
     let first = count_cons j x (bs ++ b ∷ []) in

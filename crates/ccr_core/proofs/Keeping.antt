@@ -33,7 +33,7 @@ count_take (x ∷ bs) (suc i) b e =
     let whole = count_cons b.job x bs in
     omega (arith, rest, before, whole)
 
-all_from_get : {X : Type 0} → (P : X → Type 0) → (xs : List X) → ((i : ℕ) (x : X) → slice_get xs i ≡ Some x → P x) → AllByRecursion P xs
+pub all_from_get : {X : Type 0} → (P : X → Type 0) → (xs : List X) → ((i : ℕ) (x : X) → slice_get xs i ≡ Some x → P x) → AllByRecursion P xs
 all_from_get P [] h = tt
 all_from_get P (x ∷ xs) h = (h zero x refl, all_from_get P xs (λ i y e. h (suc i) y e))
 

@@ -12,3 +12,16 @@ pub mod Using
 pub mod Sound
 pub mod Ending
 pub mod Telling
+pub mod Finding
+pub mod Refusing
+pub mod Reaching
+pub mod Continuing
+pub mod Opening
+pub mod Editing
+pub mod Resuming
+pub mod Piping
+pub mod Standing
+pub mod Wanting
+pub mod Answering
+pub mod Making
+pub mod Busying

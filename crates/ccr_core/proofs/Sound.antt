@@ -69,7 +69,7 @@ IsStored h b =
     (c : BuildData) × (build_of b.job b.number h.builds ≡ Some c) × (c.status ≡ Running)
     × AllByRecursion (IsRight h.tables b.inputs) c.used × AllByRecursion (λ i. is_used_for c.used i.0 ≡ true) b.inputs
 
-is_running : (h : HistoryData) (b : RunningData) → IsStored h b → IsRunning b.job b.number h.builds
+pub is_running : (h : HistoryData) (b : RunningData) → IsStored h b → IsRunning b.job b.number h.builds
 is_running h b (c, found, runs, right, each) = (c, found, runs)
 
 pub record IsSoundBuild (p : PipelineData) (h : HistoryData) (b : RunningData) : Type 0 where
@@ -152,7 +152,7 @@ ends_not outcome.Errored e = absurd (cc (e))
 ends_not outcome.Aborted e = absurd (cc (e))
 
 module _ (s : State) (name : Text) (j : JobData) (places : List ℕ) (k : IsSound s) (at : job_of name (pipeline_of s).jobs ≡ Some j) (finds : Finds s j.name (best places)) (room : ¬ (MOST_BUILDS ≤ length s.history.builds)) where
-  placed : ArePlaced (pipeline_of s) s.history (inputs j.plan) places
+  pub placed : ArePlaced (pipeline_of s) s.history (inputs j.plan) places
   placed =
       let (problem, is, (builds, optimal)) = finds in
       let same : problem ≡ problem_with (pipeline_of s) s.history (inputs j.plan) = subst (λ o. IsSomeAnd o (λ i. problem ≡ problem_with (pipeline_of s) s.history (inputs i.plan))) (job_at name (pipeline_of s).jobs j at) is in
@@ -173,7 +173,7 @@ module _ (s : State) (name : Text) (j : JobData) (places : List ℕ) (k : IsSoun
   abbrev b : RunningData
   b = begun (pipeline_of s) s.history j places
 
-  takes_build : Takes s.history (build j.name (used_at (pipeline_of s) s.history (inputs j.plan) places))
+  pub takes_build : Takes s.history (build j.name (used_at (pipeline_of s) s.history (inputs j.plan) places))
   takes_build =
       (omega (arith, room), are_used (pipeline_of s) s.history (inputs j.plan) places placed plan_kept.distinct (inputs_named j.plan (recursion_from_All (λ n. is_name n ≡ true) (names j.plan) plan_kept.well_named)))
 
@@ -241,7 +241,7 @@ pushed_seen p h None = tt
 pushed_seen p h (Some m) = λ u. (let (x, at) = u in (x, at, subst (λ z. has_version (versions_of (scope_of x) (changed (option_map_or (λ r. versions (scope_of r) (m.1 ∷ []) ∷ []) z []) h).tables) m.1 ≡ true) (sym at) (has_report (scope_of x) m.1 h.tables)))
 
 -- a pushed version has its keys in order
-pushed_up : (a : AskData) (x : AnswerData) (r : Text) (v : TextMap) → IsAnswer x → pushed_by a x ≡ Some (r, v) → IsAscending v
+pub pushed_up : (a : AskData) (x : AnswerData) (r : Text) (v : TextMap) → IsAnswer x → pushed_by a x ≡ Some (r, v) → IsAscending v
 pushed_up (push artifact resource params) (pushed w) r v up e = let same : ◌≡◌ {A = Text × TextMap} (resource, w) (r, v) = cc e in subst IsAscending (ap (λ q. q.1) same) up
 pushed_up a x r v up e = absurd (cc (e))
 
@@ -316,7 +316,7 @@ leaves_taken s job number b x (Some o) after k at room up (a, next, (h, (g, mean
     subst (Leaves s) (sym to) (subst (λ y. Leaves s (moved_on s y (without b.job b.number s.running))) (sym is) (answered_ended s job number b a x k at next room up o g means))
 
 -- ---- a restart
-cut_takes : (bs : List RunningData) (h : HistoryData) → IsApart bs → AllByRecursion (λ b. IsRunning b.job b.number h.builds) bs → TakesAll h (map cut bs)
+pub cut_takes : (bs : List RunningData) (h : HistoryData) → IsApart bs → AllByRecursion (λ b. IsRunning b.job b.number h.builds) bs → TakesAll h (map cut bs)
 cut_takes [] h apart runs = tt
 cut_takes (b ∷ bs) h (none, apart) (first, rest) = (
   (first, (λ e. absurd (cc (e))), ((λ i j d before within. absurd (omega (arith, within))), tt)),

@@ -12,3 +12,12 @@ pub mod Limits
 pub mod Kept
 pub mod Told
 pub mod Fates
+pub mod Holding
+pub mod Cores
+pub mod Resumed
+pub mod Opening
+pub mod Positions
+pub mod Wanting
+pub mod Endings
+pub mod Going
+pub mod Picking

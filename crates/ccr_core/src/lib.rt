@@ -8,15 +8,40 @@
 //! is a list of events with their replies, one step after another. Which programs ran, how long they took and what else
 //! happened between comes in by the answers alone.
 //!
-//! This crate has the events, replies and faults, and the laws that hold over every list of events. The machine that
-//! makes the steps isn't here yet.
+//! A [`Core`] is the machine. Its contracts see the states that it stands for: from each of them, [`Core::step`] leads
+//! to one that it stands for then. What a core stands for is reached by events from a state in which nothing runs, so
+//! the laws over every list of events hold of it.
 #![tactic(auto)]
 
+mod answered;
+mod busy;
+mod change;
+mod end;
 mod event;
 mod fault;
+mod going;
 mod law;
 mod limit;
+mod machine;
+mod made;
+mod named;
+mod opened;
+mod parts;
+mod pick;
+mod pinned;
+mod piped;
+mod place;
+mod position;
+mod pushed;
 mod reply;
+mod reported;
+mod restarted;
+mod resumed;
+mod scheduled;
+mod search;
+mod step;
+mod used;
+mod wanted;
 
 pub use event::Event;
 pub use fault::CoreFault;
@@ -25,4 +50,6 @@ pub use law::{
     runs_agree,
 };
 pub use limit::MOST_RUNNING;
+pub use machine::Core;
 pub use reply::Reply;
+pub use wanted::wants_are_answered;

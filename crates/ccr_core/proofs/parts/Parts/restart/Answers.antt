@@ -1,0 +1,25 @@
+use Rattle.std.proofs.Common.{◌≡◌, map, refl, sym, ap, ◌∙◌, subst}
+use Rattle.ccr_history.specs.Changes.{changed, TakesAll}
+use Rattle.ccr_steps.specs.Runs.{run_data}
+use Rattle.ccr_core.specs.Cores.{core_data}
+use Rattle.ccr_core.specs.Holding.{name_data}
+use Rattle.ccr_core.specs.Resumed.{cut_name}
+use Rattle.ccr_core.proofs.Editing.{all_taken, restarted_so}
+use Rattle.ccr_core.proofs.parts.Parts.restart.Goals as goal
+
+pub cut_all-requires : goal.cut_all-requires
+cut_all-requires c =
+    subst (λ l. TakesAll c.args.self.now.history (map cut_name (map name_data l))) (sym c.deref-in-Ok.ensures.value) (all_taken (core_data c.args.self.now) c.requires)
+
+pub returns-in-Ok-clause-step : goal.returns-in-Ok-clause-step
+returns-in-Ok-clause-step c =
+    restarted_so (core_data c.args.self.now) c.cut_all.new.history (map name_data c.clear.new.self.items) (map run_data c.clear-in-Ok.new.self.items)
+    (c.cut_all.ensures ∙ ap (λ l. changed (map cut_name (map name_data l)) c.args.self.now.history) c.deref-in-Ok.ensures.value)
+    (ap (map name_data) c.clear.ensures.items) (ap (map run_data) c.clear-in-Ok.ensures.items)
+
+pub returns-in-Ok-clause-change : goal.returns-in-Ok-clause-change
+returns-in-Ok-clause-change c =
+    let same = c.in-Ok.ensures ∙ ap (λ l. map cut_name (map name_data l)) c.deref.ensures.value in (
+      subst (TakesAll c.args.self.now.history) (sym same) (all_taken (core_data c.args.self.now) c.requires),
+      ap (λ es. changed es c.args.self.now.history) same ∙ sym (c.cut_all.ensures ∙ ap (λ l. changed (map cut_name (map name_data l)) c.args.self.now.history) c.deref-in-Ok.ensures.value),
+    )

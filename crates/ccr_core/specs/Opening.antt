@@ -1,0 +1,56 @@
+-- What the parts of a core do at an event.
+use Rattle.std.specs.Prelude.{◌≡◌, ◌⊎◌, ℕ, Bool, true, false, List, [], ◌∷◌, ◌++◌, Option, Some, None}
+use Rattle.ccr_history.specs.Text.{Text}
+use Rattle.ccr_history.specs.TextMap.{TextMap}
+use Rattle.ccr_history.specs.Tables.{ScopeData, new_count, is_table_full}
+use Rattle.ccr_history.specs.Changes.{EditData, versions, edited}
+use Rattle.ccr_history.specs.History.{HistoryData}
+use Rattle.ccr_pipeline.specs.JobData.{ResourceData, JobData}
+use Rattle.ccr_pipeline.specs.Pipelines.{PipelineData}
+use Rattle.ccr_steps.specs.Runs.{RunData}
+use Rattle.ccr_steps.specs.declared.outcome.Outcome.{Outcome}
+use Rattle.ccr_problem.specs.ProblemOf.{resource_of}
+use Rattle.ccr_core.specs.declared.fault.CoreFault.{CoreFault}
+use Rattle.ccr_core.specs.declared.fault.CoreFault.TheVariants.{NoPipeline, NoResource, TableFull, NoMemory}
+use Rattle.ccr_core.specs.Events.{EventData, schedule, trigger}
+use Rattle.ccr_core.specs.Going.{IsMade}
+use Rattle.ccr_core.specs.Holding.{CoreData}
+
+-- a job is triggered, if it is by command; else it is scheduled
+abbrev pub asked : Bool → Text → EventData
+asked true job = trigger job
+asked false job = schedule job
+
+-- one more stands at the end, unless the build has ended
+abbrev pub Opens : {X : Type 0} → Option Outcome → X → List X → List X → Type 0
+Opens None x before after = after ≡ before ++ x ∷ []
+Opens (Some o) x before after = after ≡ before
+
+-- a build is made, and its name and its machine come to the end, unless it has ended
+abbrev pub IsOpened : PipelineData → HistoryData → JobData → List ℕ → ℕ → HistoryData
+    → List (Text × ℕ) → List (Text × ℕ) → List RunData → List RunData → Type 0
+IsOpened p h j places number after names named runs ran =
+    (o : Option Outcome) × (run : RunData) × IsMade p h j places number o after run
+    × Opens o (j.name, number) names named × Opens o run runs ran
+
+-- the pipeline has a resource of this name
+abbrev pub HasResource : CoreData → Text → Type 0
+HasResource c name =
+    (p : PipelineData) × (r : ResourceData) × (c.pipeline ≡ Some p) × (resource_of name p.resources ≡ Some r)
+
+-- why there is no resource of this name
+abbrev pub LacksResource : CoreData → Text → CoreFault → Type 0
+LacksResource c name NoPipeline = c.pipeline ≡ None
+LacksResource c name NoResource = (p : PipelineData) × (c.pipeline ≡ Some p) × (resource_of name p.resources ≡ None)
+LacksResource c name f = ⊥
+
+-- a report of versions of a scope: the history after it, how many were new, and the edit that says it
+abbrev pub IsReported : HistoryData → HistoryData → ScopeData → List TextMap → ℕ → List EditData → Type 0
+IsReported h after scope seen count edits =
+    (is_table_full scope seen h.tables ≡ false) × (after ≡ edited (versions scope seen) h)
+    × (count ≡ new_count scope seen h.tables) × (edits ≡ versions scope seen ∷ [])
+
+-- why a report of versions of a scope is refused: it has no place, or out of memory
+abbrev pub IsNotReported : HistoryData → ScopeData → List TextMap → CoreFault → Type 0
+IsNotReported h scope seen fault =
+    (fault ≡ NoMemory) ⊎ ((fault ≡ TableFull) × (is_table_full scope seen h.tables ≡ true))

@@ -1,0 +1,15 @@
+//! Changes of one edit.
+ghost use Rattle.std.specs.Prelude.{◌≡◌, [], ◌∷◌, map, IfOk};
+ghost use Rattle.ccr_history.specs.Edits.{edit_data};
+
+use ccr_history::{Change, Edit};
+use std::alloc::{AllocError, Global};
+
+/// The change that one edit is.
+pub(crate) fn change_of(alloc: Global, edit: Edit) -> Result<Change, AllocError>
+    ensures { IfOk result (λ change. map edit_data change.items ≡ edit_data edit ∷ []) }
+{
+    let mut change = Vec::new(alloc);
+    change.push(edit)?;
+    Ok(change)
+}

@@ -1,0 +1,89 @@
+//! How a build ends, and the history with it.
+ghost use Rattle.std.specs.Prelude.{◌≡◌, ◌<◌, map, IfOk, vec_len, vec_capacity};
+ghost use Rattle.ccr_history.specs.Changes.{changed, IsRunning};
+ghost use Rattle.ccr_history.specs.Edits.{edit_data};
+ghost use Rattle.ccr_pipeline.specs.Pipelines.{pipeline_data};
+ghost use Rattle.ccr_steps.specs.Runs.{run_data};
+ghost use Rattle.ccr_core.specs.Builds.{status_of};
+ghost use Rattle.ccr_core.specs.Endings.{Stands, end_edits, PairsFit};
+
+use crate::place::places_of;
+use ccr_history::{Edit, History, Status};
+use ccr_pipeline::Pipeline;
+use ccr_steps::{BuildRun, Outcome};
+use std::alloc::{AllocError, Global};
+
+/// How a build stands, with all that its end takes: nothing grows once it is made.
+#[derive(Drop)]
+pub(crate) struct Ending {
+    // How it ended; None where it goes on.
+    pub(crate) outcome: Option<Outcome>,
+    // Where what it moved stands.
+    pub(crate) pairs: Vec<(u32, u32)>,
+    // The edit that ends it, if it has ended, and room for one before it.
+    pub(crate) edits: Vec<Edit>,
+}
+
+fn status_of(outcome: Outcome) -> Status
+    ensures { result ≡ status_of outcome }
+{
+    match outcome {
+        Outcome::Succeeded => Status::Succeeded,
+        Outcome::Failed => Status::Failed,
+        Outcome::Errored => Status::Errored,
+        Outcome::Aborted => Status::Aborted,
+    }
+}
+
+/// How a build stands. Nothing changes.
+pub(crate) fn ending_of(
+    alloc: Global,
+    pipeline: &Pipeline,
+    history: &History,
+    run: &BuildRun,
+    job: &str,
+    number: u32,
+) -> Result<Ending, AllocError>
+    ensures stands { IfOk result (λ e. Stands (pipeline_data pipeline.now) history.now (run_data run.now)
+        e.outcome e.pairs.items) }
+    ensures edits { IfOk result (λ e. map edit_data e.edits.items
+        ≡ end_edits job.now number e.outcome e.pairs.items) }
+    ensures room { IfOk result (λ e. vec_len e.edits < vec_capacity e.edits) }
+{
+    let mut edits = Vec::with_capacity(alloc, 2)?;
+    let Some(outcome) = run.outcome() else {
+        return Ok(Ending {
+            outcome: None,
+            pairs: Vec::new(alloc),
+            edits,
+        });
+    };
+    let pairs = places_of(alloc, pipeline, history, run.moved())?;
+    let kept = Vec::from_slice(alloc, &pairs)?;
+    let name = String::from_str(alloc, job)?;
+    edits.push(Edit::Ended(name, number, status_of(outcome), kept))?;
+    Ok(Ending {
+        outcome: Some(outcome),
+        pairs,
+        edits,
+    })
+}
+
+/// Ends a build in the history, if it has ended. It takes no memory.
+pub(crate) fn finish(
+    history: &mut History,
+    job: &str,
+    number: u32,
+    outcome: Option<Outcome>,
+    pairs: Vec<(u32, u32)>,
+)
+    requires running { IsRunning job.now number history.old.builds }
+    requires fits { PairsFit history.old.tables outcome pairs.items }
+    ensures { history.new ≡ changed (end_edits job.now number outcome pairs.items) history.old }
+{
+    if let Some(outcome) = outcome {
+        history
+            .end_build_with(job, number, status_of(outcome), pairs)
+            .unwrap();
+    }
+}

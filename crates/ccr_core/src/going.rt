@@ -1,0 +1,133 @@
+//! One build that goes on, and the history with it.
+ghost use Rattle.std.specs.Prelude.{◌≡◌, ◌⊎◌, ◌<◌, ◌++◌, map, List, vec_len, vec_capacity};
+ghost use Rattle.std.specs.Prelude.{IfOk, IfErr, OnOk, OnErr};
+ghost use Rattle.ccr_history.specs.Changes.{changed, IsRunning};
+ghost use Rattle.ccr_history.specs.Edits.{edit_data};
+ghost use Rattle.ccr_pipeline.specs.Pipelines.{pipeline_data};
+ghost use Rattle.ccr_pipeline.specs.Tree.{Tree};
+ghost use Rattle.ccr_steps.specs.Asks.{Chosen, Exchange, answer_data};
+ghost use Rattle.ccr_steps.specs.Runs.{run_data, StandsFor};
+ghost use Rattle.ccr_core.specs.declared.fault.CoreFault.TheVariants.{TableFull, NoMemory};
+ghost use Rattle.ccr_core.specs.Builds.{Settles};
+ghost use Rattle.ccr_core.specs.Going.{CanGoOn, GoesOn, IsRefused, Changes, named};
+ghost use Rattle.ccr_core.specs.Kept.{IsAnswer};
+ghost use Rattle.ccr_core.specs.Endings.{reports, IsOver, EndFits, ReportFits};
+
+use crate::end::{Ending, ending_of, finish};
+use crate::fault::CoreFault;
+use crate::pushed::{Report, append, report_by, rules_of, take_back};
+use ccr_history::{Edit, History};
+use ccr_pipeline::Pipeline;
+use ccr_steps::{Answered, BuildRun, Outcome};
+use std::alloc::{AllocError, Global};
+
+/// Ends a build in the history, if it has ended; its edits have room for one more. Where memory is refused, nothing
+/// changes.
+fn settle(
+    alloc: Global,
+    pipeline: &Pipeline,
+    history: &mut History,
+    run: &BuildRun,
+    job: &str,
+    number: u32,
+) -> Result<(Option<Outcome>, Vec<Edit>), AllocError>
+    requires running { IsRunning job.now number history.old.builds }
+    requires fits { EndFits (pipeline_data pipeline.now) history.old (run_data run.now) }
+    ensures settled { IfOk result (λ r. (plan : Tree) (inputs : Chosen) (es : List Exchange)
+        → StandsFor (run_data run.now) plan inputs es
+        → Settles (pipeline_data pipeline.now) history.old (named job.now number plan inputs es) r.0 history.new) }
+    ensures change { IfOk result (λ r. Changes (map edit_data r.1.items) history.old history.new) }
+    ensures room { IfOk result (λ r. vec_len r.1 < vec_capacity r.1) }
+    ensures err { OnErr result (history.new ≡ history.old) }
+{
+    let Ending {
+        outcome,
+        pairs,
+        edits,
+    } = ending_of(alloc, pipeline, history, run, job, number)?;
+    finish(history, job, number, outcome, pairs);
+    Ok((outcome, edits))
+}
+
+/// The edits of an answer: what it reports, and then what it ends. It takes no memory.
+fn with_report(report: Option<Report>, mut edits: Vec<Edit>) -> Vec<Edit>
+    requires { vec_len edits < vec_capacity edits }
+    ensures { map edit_data result.items ≡ reports report ++ map edit_data edits.items }
+{
+    if let Some(report) = report {
+        edits
+            .insert(0, Edit::Versions(report.scope, report.versions))
+            .unwrap();
+    }
+    edits
+}
+
+/// The history after an answer that the build has taken. Where it is refused, nothing changes.
+fn go_on(
+    alloc: Global,
+    pipeline: &Pipeline,
+    history: &mut History,
+    run: &BuildRun,
+    job: &str,
+    number: u32,
+    report: Option<Report>,
+) -> Result<(Option<Outcome>, Vec<Edit>), CoreFault>
+    requires running { IsRunning job.now number history.old.builds }
+    requires fits { ReportFits (pipeline_data pipeline.now) history.old report (run_data run.now) }
+    ensures settled { IfOk result (λ r. (plan : Tree) (inputs : Chosen) (es : List Exchange)
+        → StandsFor (run_data run.now) plan inputs es
+        → Settles (pipeline_data pipeline.now) (changed (reports report) history.old)
+        (named job.now number plan inputs es) r.0 history.new) }
+    ensures change { IfOk result (λ r. Changes (map edit_data r.1.items) history.old history.new) }
+    ensures room { OnOk result (IsOver report history.old → ⊥) }
+    ensures err { OnErr result (history.new ≡ history.old) }
+    ensures refused { IfErr result (λ f. (f ≡ NoMemory) ⊎ ((f ≡ TableFull) × IsOver report history.old)) }
+{
+    history.rules();
+    let count = append(alloc, history, &report)?;
+    match settle(alloc, pipeline, history, run, job, number) {
+        Ok((outcome, edits)) => Ok((outcome, with_report(report, edits))),
+        Err(fault) => {
+            take_back(history, &report, count);
+            Err(CoreFault::from(fault))
+        }
+    }
+}
+
+/// Gives a build an answer. Where it is refused, nothing changes.
+pub(crate) fn answer_build(
+    alloc: Global,
+    pipeline: &Pipeline,
+    history: &mut History,
+    run: &mut BuildRun,
+    job: &str,
+    number: u32,
+    answer: Answered,
+) -> Result<(Option<Outcome>, Vec<Edit>), CoreFault>
+    requires { CanGoOn (pipeline_data pipeline.now) history.old (run_data run.old) job.now number }
+    ensures on { IfOk result (λ r. GoesOn (pipeline_data pipeline.now) history.old (run_data run.old) job.now number
+        (answer_data answer) r.0 history.new (run_data run.new)) }
+    ensures change { IfOk result (λ r. Changes (map edit_data r.1.items) history.old history.new) }
+    ensures history { OnErr result (history.new ≡ history.old) }
+    ensures run { OnErr result (run_data run.new ≡ run_data run.old) }
+    ensures refused { IfErr result (IsRefused (pipeline_data pipeline.now) history.old (run_data run.old)
+        (answer_data answer)) }
+    ensures kept { OnOk result (IsAnswer (answer_data answer)) }
+{
+    rules_of(&answer);
+    // It waits for an answer.
+    let ask = run.wants().unwrap();
+    let report = report_by(alloc, pipeline, &ask, &answer)?;
+    let before = match run.feed_back(answer) {
+        Ok(before) => before,
+        // It waits: only memory is refused.
+        Err(_) => return Err(CoreFault::NoMemory),
+    };
+    match go_on(alloc, pipeline, history, run, job, number, report) {
+        Ok(gone) => Ok(gone),
+        Err(fault) => {
+            run.undo(before);
+            Err(fault)
+        }
+    }
+}

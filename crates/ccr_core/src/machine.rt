@@ -1,0 +1,141 @@
+//! The machine: a core, and what it is told.
+
+use crate::event::Event;
+use crate::fault::CoreFault;
+use crate::parts::Parts;
+use crate::position::position_of;
+use crate::reply::Reply;
+use crate::resumed::begin;
+use ccr_history::{Change, History};
+use ccr_pipeline::Pipeline;
+use ccr_steps::Ask;
+use std::alloc::Global;
+use std::marker::Model;
+
+/// The server without the world: a history, a pipeline if one was set, how many nodes a search may take, and the builds
+/// that run.
+///
+/// What it stands for is reached by events from a state in which nothing runs.
+#[derive(Drop)]
+pub struct Core {
+    parts: Parts,
+}
+
+impl Model for Core {
+    ghost use Rattle.ccr_core.specs.contracts.parts.Parts.{the_row};
+    ghost use Rattle.ccr_core.specs.declared.parts.Parts.{Parts};
+    ghost use Rattle.ccr_core.specs.Cores.{core_data};
+    ghost use Rattle.ccr_core.specs.Holding.{IsCore};
+
+    ghost Value = { Parts };
+
+    ghost coded = { the_row.coded };
+
+    ghost view = { λ c. c.parts };
+
+    ghost invariant = { λ c. IsCore (core_data c.parts) };
+}
+
+impl Core {
+    ghost use Rattle.std.specs.Prelude.{◌≡◌, ◌≤◌, Ok, Err, map, option_map, IfOk, IfErr, OnErr};
+    ghost use Rattle.std.specs.Option.{IfSome, option_copied};
+    ghost use Rattle.ccr_history.specs.Edits.{edit_data};
+    ghost use Rattle.ccr_pipeline.specs.Pipelines.{pipeline_data};
+    ghost use Rattle.ccr_proof.specs.declared.proof.TheConstants.{MOST_NODES};
+    ghost use Rattle.ccr_core.specs.Cores.{core_data};
+    ghost use Rattle.ccr_core.specs.Events.{event_data};
+    ghost use Rattle.ccr_core.specs.Going.{Changes};
+    ghost use Rattle.ccr_core.specs.Holding.{name_data, IsCore, Takes, Wants};
+    ghost use Rattle.ccr_core.specs.Positions.{IsMadeAt};
+    ghost use Rattle.ccr_core.specs.Resumed.{resumed, IsReadable, IsResumed};
+    ghost use Rattle.ccr_core.specs.declared.fault.CoreFault.TheVariants.{NoMemory};
+
+    /// A core that begins with a history, whose searches take at most so many nodes, and what changed of the history:
+    /// each build that runs in it is errored, with nothing moved, in order of making. The pipeline is that of the
+    /// history's text, if it has one.
+    ///
+    /// The caller gives a text that `ccr_pipeline::read` accepts, and a budget from 1 to 1,000,000. The only error is
+    /// `NoMemory`.
+    pub fn resume(alloc: Global, history: History, budget: u32) -> Result<(Core, Change), CoreFault>
+        requires least { 1 ≤ budget }
+        requires most { budget ≤ MOST_NODES }
+        requires readable { IfSome history.text IsReadable }
+        ensures begun { IfOk result (λ r. IsResumed history budget (core_data r.0)) }
+        ensures is { IfOk result (λ r. map edit_data r.1.items ≡ resumed history) }
+        ensures change { IfOk result (λ r. Changes (map edit_data r.1.items) history (core_data r.0).history) }
+        ensures only { IfErr result (λ fault. fault ≡ NoMemory) }
+    {
+        match begin(alloc, history, budget) {
+            Ok((parts, change)) => Ok((Core { parts }, change)),
+            Err(fault) => Err(fault),
+        }
+    }
+
+    /// One step: the reply to an event, and what changed of the history.
+    ///
+    /// From each state that the core stood for, the event may have this reply, and leads to a state that the core
+    /// stands for then: so it met no fault. A refusal names the first fault that the event meets in such a state, and
+    /// changes nothing; `NoMemory` where a growth was refused.
+    pub fn step(&mut self, alloc: Global, event: Event) -> Result<(Reply, Change), CoreFault>
+        ensures step { IfOk result (λ r. Takes (core_data self.old) (core_data self.new) (event_data event) (Ok r.0)) }
+        ensures change { IfOk result (λ r. Changes (map edit_data r.1.items)
+            (core_data self.old).history (core_data self.new).history) }
+        ensures refused { IfErr result (λ f. Takes (core_data self.old) (core_data self.old)
+            (event_data event) (Err f)) }
+        ensures unchanged { OnErr result (core_data self.new ≡ core_data self.old) }
+    {
+        self.parts.take(alloc, event)
+    }
+
+    /// The builds that run, in order of making: the name of the job, and the number. Each of them wants something.
+    pub fn running(&self) -> &[(String, u32)]
+        ensures { map name_data result.now ≡ (core_data self.now).names }
+    {
+        &self.parts.names
+    }
+
+    /// What the job's build of this number waits for, and at which turn; None exactly where it doesn't run. No memory
+    /// is taken.
+    pub fn wants(&self, job: &str, number: u32) -> Option<(u64, Ask<'_>)>
+        ensures { Wants (core_data self.now) job.now number result }
+    {
+        self.parts.wants(job, number)
+    }
+
+    /// Where the job's build of this number stands among all builds of the history, counted from 0 in order of making;
+    /// None where there is no such build. So turns can go round, though builds in between end. No memory is taken.
+    pub fn made_at(&self, job: &str, number: u32) -> Option<u32>
+        ensures { IsMadeAt (core_data self.now).history.builds job.now number result }
+    {
+        position_of(&self.parts.history, job, number)
+    }
+
+    /// The history.
+    pub fn history(&self) -> &History
+        ensures { result.now ≡ (core_data self.now).history }
+    {
+        &self.parts.history
+    }
+
+    /// The pipeline, if one was set.
+    pub fn pipeline(&self) -> Option<&Pipeline>
+        ensures { option_map pipeline_data (option_copied result) ≡ (core_data self.now).pipeline }
+    {
+        self.parts.pipeline.as_ref()
+    }
+
+    /// How many nodes a search may take.
+    pub fn budget(&self) -> u32
+        ensures { result ≡ (core_data self.now).budget }
+    {
+        self.parts.budget
+    }
+
+    /// Every core keeps the rules of cores: what it stands for is reached by events from a state in which nothing runs.
+    /// Nothing runs.
+    pub fn rules(&self)
+        ensures { IsCore (core_data self.now) }
+    {
+        let _parts = &self.parts;
+    }
+}

@@ -1,0 +1,107 @@
+//! Pins by command.
+ghost use Rattle.std.specs.Prelude.{◌≡◌, [], ◌∷◌, Ok, Err, map, IfOk, IfErr, OnOk, OnErr};
+ghost use Rattle.ccr_history.specs.Changes.{pin_set, pin_cleared};
+ghost use Rattle.ccr_history.specs.Edits.{edit_data};
+ghost use Rattle.ccr_history.specs.TextMap.{IsAscending};
+ghost use Rattle.ccr_core.specs.Cores.{core_data};
+ghost use Rattle.ccr_core.specs.Events.{pin, unpin};
+ghost use Rattle.ccr_core.specs.Going.{Changes};
+ghost use Rattle.ccr_core.specs.Holding.{Takes};
+ghost use Rattle.ccr_core.specs.Opening.{HasResource, LacksResource};
+
+use crate::change::change_of;
+use crate::fault::CoreFault;
+use crate::named::resource_named;
+use crate::parts::Parts;
+use crate::reply::Reply;
+use ccr_history::{Change, Edit, Pin};
+use std::alloc::{AllocError, Global};
+
+/// The change that a pin by command is.
+fn pin_change(alloc: Global, resource: &str, pin: &Pin) -> Result<Change, AllocError>
+    ensures is { IfOk result (λ change. map edit_data change.items ≡ pin_set resource.now pin.now ∷ []) }
+    ensures ascends { OnOk result (IsAscending pin.now) }
+{
+    pin.rules();
+    change_of(
+        alloc,
+        Edit::PinSet(String::from_str(alloc, resource)?, pin.copy()?),
+    )
+}
+
+/// The change that the end of a pin by command is.
+fn unpin_change(alloc: Global, resource: &str) -> Result<Change, AllocError>
+    ensures { IfOk result (λ change. map edit_data change.items ≡ pin_cleared resource.now ∷ []) }
+{
+    change_of(alloc, Edit::PinCleared(String::from_str(alloc, resource)?))
+}
+
+impl Parts {
+    /// Whether the pipeline has a resource of a name, or why not.
+    fn has_resource(&self, resource: &str) -> Result<(), CoreFault>
+        ensures has { OnOk result (HasResource (core_data self.now) resource.now) }
+        ensures lacks { IfErr result (LacksResource (core_data self.now) resource.now) }
+    {
+        let Some(pipeline) = &self.pipeline else {
+            return Err(CoreFault::NoPipeline);
+        };
+        match resource_named(pipeline.resources(), resource) {
+            Some(_) => Ok(()),
+            None => Err(CoreFault::NoResource),
+        }
+    }
+
+    /// A resource is pinned by command. Where it is refused, nothing changes.
+    pub(crate) fn pin(
+        &mut self,
+        alloc: Global,
+        resource: &str,
+        given: Pin,
+    ) -> Result<(Reply, Change), CoreFault>
+        ensures step { IfOk result (λ r. Takes (core_data self.old) (core_data self.new)
+            (pin resource.now given) (Ok r.0)) }
+        ensures change { IfOk result (λ r. Changes (map edit_data r.1.items) self.old.history self.new.history) }
+        ensures refused { IfErr result (λ f. Takes (core_data self.old) (core_data self.old)
+            (pin resource.now given) (Err f)) }
+        ensures unchanged { OnErr result (core_data self.new ≡ core_data self.old) }
+        ensures kept { OnOk result (IsAscending given) }
+        ensures budget { self.new.budget ≡ self.old.budget }
+    {
+        match self.has_resource(resource) {
+            Ok(()) => match pin_change(alloc, resource, &given) {
+                Ok(change) => match self.history.set_pin(alloc, resource, given) {
+                    Ok(()) => Ok((Reply::Pinned, change)),
+                    Err(_) => Err(CoreFault::NoMemory),
+                },
+                Err(_) => Err(CoreFault::NoMemory),
+            },
+            Err(fault) => Err(fault),
+        }
+    }
+
+    /// The pin by command of a resource is taken away. Where it is refused, nothing changes.
+    pub(crate) fn unpin(
+        &mut self,
+        alloc: Global,
+        resource: &str,
+    ) -> Result<(Reply, Change), CoreFault>
+        ensures step { IfOk result (λ r. Takes (core_data self.old) (core_data self.new)
+            (unpin resource.now) (Ok r.0)) }
+        ensures change { IfOk result (λ r. Changes (map edit_data r.1.items) self.old.history self.new.history) }
+        ensures refused { IfErr result (λ f. Takes (core_data self.old) (core_data self.old)
+            (unpin resource.now) (Err f)) }
+        ensures unchanged { OnErr result (core_data self.new ≡ core_data self.old) }
+        ensures budget { self.new.budget ≡ self.old.budget }
+    {
+        match self.has_resource(resource) {
+            Ok(()) => match unpin_change(alloc, resource) {
+                Ok(change) => {
+                    let _had = self.history.clear_pin(resource);
+                    Ok((Reply::Unpinned, change))
+                }
+                Err(_) => Err(CoreFault::NoMemory),
+            },
+            Err(fault) => Err(fault),
+        }
+    }
+}

@@ -1,0 +1,59 @@
+//! New pipelines.
+ghost use Rattle.std.specs.Prelude.{◌≡◌, [], ◌∷◌, Ok, Err, map, IfOk, IfErr, OnErr};
+ghost use Rattle.ccr_history.specs.Changes.{text};
+ghost use Rattle.ccr_history.specs.Edits.{edit_data};
+ghost use Rattle.ccr_pipeline.specs.Pipelines.{pipeline_data};
+ghost use Rattle.ccr_core.specs.Cores.{core_data};
+ghost use Rattle.ccr_core.specs.Events.{set_pipeline};
+ghost use Rattle.ccr_core.specs.Going.{Changes};
+ghost use Rattle.ccr_core.specs.Holding.{IsCore, Takes};
+ghost use Rattle.ccr_core.specs.Kept.{IsPipeline};
+
+use crate::change::change_of;
+use crate::fault::CoreFault;
+use crate::parts::Parts;
+use crate::reply::Reply;
+use ccr_history::{Change, Edit};
+use ccr_pipeline::Pipeline;
+use std::alloc::{AllocError, Global};
+
+/// The text of a pipeline, and the change that it is.
+fn text_change(alloc: Global, pipeline: &Pipeline) -> Result<(Vec<u8>, Change), AllocError>
+    ensures text { IfOk result (λ r. r.0.items ≡ (pipeline_data pipeline.now).text) }
+    ensures change { IfOk result (λ r. map edit_data r.1.items ≡ text (pipeline_data pipeline.now).text ∷ []) }
+{
+    let text = Vec::from_slice(alloc, pipeline.text())?;
+    let copy = Vec::from_slice(alloc, pipeline.text())?;
+    Ok((text, change_of(alloc, Edit::Text(copy))?))
+}
+
+impl Parts {
+    /// This is the pipeline from now on. Where it is refused, nothing changes.
+    pub(crate) fn set_pipeline(
+        &mut self,
+        alloc: Global,
+        pipeline: Pipeline,
+    ) -> Result<(Reply, Change), CoreFault>
+        requires { IsCore (core_data self.old) }
+        ensures step { IfOk result (λ r. Takes (core_data self.old) (core_data self.new)
+            (set_pipeline (pipeline_data pipeline)) (Ok r.0)) }
+        ensures change { IfOk result (λ r. Changes (map edit_data r.1.items) self.old.history self.new.history) }
+        ensures refused { IfErr result (λ f. Takes (core_data self.old) (core_data self.old)
+            (set_pipeline (pipeline_data pipeline)) (Err f)) }
+        ensures unchanged { OnErr result (core_data self.new ≡ core_data self.old) }
+        ensures kept { IsPipeline (pipeline_data pipeline) }
+        ensures budget { self.new.budget ≡ self.old.budget }
+    {
+        if !self.runs.is_empty() {
+            return Err(CoreFault::BuildsOpen);
+        }
+        match text_change(alloc, &pipeline) {
+            Ok((text, change)) => {
+                self.history.set_text(text);
+                self.pipeline = Some(pipeline);
+                Ok((Reply::Set, change))
+            }
+            Err(_) => Err(CoreFault::NoMemory),
+        }
+    }
+}

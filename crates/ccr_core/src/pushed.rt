@@ -1,0 +1,105 @@
+//! What an answer to a push reports.
+ghost use Rattle.std.specs.Prelude.{◌≡◌, ◌∷◌, [], ◌⊎◌, IfOk, IfErr, OnOk, OnErr};
+ghost use Rattle.ccr_history.specs.Changes.{changed};
+ghost use Rattle.ccr_history.specs.History.{HistoryData, IsHistory};
+ghost use Rattle.ccr_pipeline.specs.Pipelines.{pipeline_data};
+ghost use Rattle.ccr_steps.specs.Asks.{ask_data, answer_data};
+ghost use Rattle.ccr_core.specs.declared.fault.CoreFault.TheVariants.{TableFull, NoMemory};
+ghost use Rattle.ccr_core.specs.Kept.{IsAnswer};
+ghost use Rattle.ccr_core.specs.Seen.{report, report_by};
+ghost use Rattle.ccr_core.specs.Endings.{reports, IsOver, new_in};
+
+use crate::fault::CoreFault;
+use crate::named::scope_named;
+use ccr_history::{History, HistoryFault, Scope, Version};
+use ccr_pipeline::Pipeline;
+use ccr_steps::{Answered, Ask};
+use std::alloc::{AllocError, Global};
+
+/// Versions that were seen of a scope.
+#[derive(Drop)]
+pub(crate) struct Report {
+    pub(crate) scope: Scope,
+    pub(crate) versions: Vec<Version>,
+}
+
+/// What every answer keeps: a version that it brings has its keys in order. Nothing runs.
+pub(crate) fn rules_of(answer: &Answered)
+    ensures { IsAnswer (answer_data answer.now) }
+{
+    if let Answered::Pushed(version) = answer {
+        version.rules();
+    }
+}
+
+/// A report of one version of a resource, if the pipeline has the resource.
+fn report_of(
+    alloc: Global,
+    pipeline: &Pipeline,
+    resource: &str,
+    version: &Version,
+) -> Result<Option<Report>, AllocError>
+    ensures { IfOk result (λ r. reports r ≡ report (pipeline_data pipeline.now) resource.now (version.now ∷ [])) }
+{
+    match scope_named(alloc, pipeline, resource)? {
+        Some(scope) => {
+            let mut versions = Vec::new(alloc);
+            versions.push(version.copy()?)?;
+            Ok(Some(Report { scope, versions }))
+        }
+        None => Ok(None),
+    }
+}
+
+/// What an answer to an ask reports: a pushed version.
+pub(crate) fn report_by(
+    alloc: Global,
+    pipeline: &Pipeline,
+    ask: &Ask<'_>,
+    answer: &Answered,
+) -> Result<Option<Report>, AllocError>
+    ensures { IfOk result (λ r. reports r
+        ≡ report_by (pipeline_data pipeline.now) (ask_data ask.now) (answer_data answer.now)) }
+{
+    let Ask::Push { resource, .. } = ask else {
+        return Ok(None);
+    };
+    let Answered::Pushed(version) = answer else {
+        return Ok(None);
+    };
+    report_of(alloc, pipeline, resource, version)
+}
+
+/// Appends what was reported, and gives how many versions are new. Where it is refused, nothing changes.
+pub(crate) fn append(
+    alloc: Global,
+    history: &mut History,
+    report: &Option<Report>,
+) -> Result<u32, CoreFault>
+    ensures ok { OnOk result (history.new ≡ changed (reports report.now) history.old) }
+    ensures count { IfOk result (λ n. n ≡ new_in report.now history.old) }
+    ensures fits { OnOk result (IsOver report.now history.old → ⊥) }
+    ensures err { OnErr result (history.new ≡ history.old) }
+    ensures refused { IfErr result (λ f. (f ≡ NoMemory) ⊎ ((f ≡ TableFull) × IsOver report.now history.old)) }
+{
+    let Some(report) = report else {
+        return Ok(0);
+    };
+    match history.append_versions(alloc, &report.scope, &report.versions) {
+        Ok(count) => Ok(count),
+        Err(HistoryFault::TableFull) => Err(CoreFault::TableFull),
+        Err(_) => Err(CoreFault::NoMemory),
+    }
+}
+
+/// Takes back what was appended last, with so many new versions. It takes no memory.
+pub(crate) fn take_back(history: &mut History, report: &Option<Report>, count: u32)
+    requires { (before : HistoryData) × IsHistory before
+        × (history.old ≡ changed (reports report.now) before) × (count ≡ new_in report.now before) }
+    ensures { (before : HistoryData) → IsHistory before → history.old ≡ changed (reports report.now) before
+        → count ≡ new_in report.now before → history.new ≡ before }
+{
+    if let Some(report) = report {
+        history.take_back(&report.scope, count);
+    }
+}

@@ -1,0 +1,84 @@
+//! Reports of checks.
+ghost use Rattle.std.specs.Prelude.{◌≡◌, Ok, Err, map, IfOk, IfErr, OnOk, OnErr};
+ghost use Rattle.std.specs.List.{AllByRecursion};
+ghost use Rattle.ccr_history.specs.Edits.{edit_data};
+ghost use Rattle.ccr_history.specs.TextMap.{IsAscending};
+ghost use Rattle.ccr_core.specs.Cores.{core_data};
+ghost use Rattle.ccr_core.specs.Events.{checked};
+ghost use Rattle.ccr_core.specs.Going.{Changes};
+ghost use Rattle.ccr_core.specs.Holding.{Takes};
+ghost use Rattle.ccr_core.specs.Opening.{IsReported, IsNotReported};
+
+use crate::fault::CoreFault;
+use crate::named::scope_named;
+use crate::parts::Parts;
+use crate::reply::Reply;
+use ccr_history::{Change, Edit, History, HistoryFault, Scope, Version};
+use std::alloc::Global;
+
+/// Each version has its keys in order. Nothing runs.
+fn versions_ascend(versions: &[Version])
+    ensures { AllByRecursion IsAscending versions.now }
+{
+    for version in versions {
+        version.rules();
+    }
+}
+
+/// Reports versions of a scope, and gives how many were new. Where it is refused, nothing changes.
+fn append(
+    alloc: Global,
+    history: &mut History,
+    scope: Scope,
+    seen: Vec<Version>,
+) -> Result<(u32, Change), CoreFault>
+    ensures ok { IfOk result (λ r. IsReported history.old history.new scope seen.items r.0 (map edit_data r.1.items)) }
+    ensures refused { IfErr result (IsNotReported history.old scope seen.items) }
+    ensures err { OnErr result (history.new ≡ history.old) }
+{
+    let mut change = Vec::with_capacity(alloc, 1)?;
+    match history.append_versions(alloc, &scope, &seen) {
+        Ok(count) => {
+            change.push_reserved(Edit::Versions(scope, seen));
+            Ok((count, change))
+        }
+        Err(HistoryFault::TableFull) => Err(CoreFault::TableFull),
+        Err(_) => Err(CoreFault::NoMemory),
+    }
+}
+
+impl Parts {
+    /// A check of a resource found these versions. Where it is refused, nothing changes.
+    pub(crate) fn report(
+        &mut self,
+        alloc: Global,
+        resource: &str,
+        seen: Vec<Version>,
+    ) -> Result<(Reply, Change), CoreFault>
+        ensures step { IfOk result (λ r. Takes (core_data self.old) (core_data self.new)
+            (checked resource.now seen.items) (Ok r.0)) }
+        ensures change { IfOk result (λ r. Changes (map edit_data r.1.items) self.old.history self.new.history) }
+        ensures refused { IfErr result (λ f. Takes (core_data self.old) (core_data self.old)
+            (checked resource.now seen.items) (Err f)) }
+        ensures unchanged { OnErr result (core_data self.new ≡ core_data self.old) }
+        ensures kept { OnOk result (AllByRecursion IsAscending seen.items) }
+        ensures budget { self.new.budget ≡ self.old.budget }
+    {
+        let Some(pipeline) = &self.pipeline else {
+            return Err(CoreFault::NoPipeline);
+        };
+        match scope_named(alloc, pipeline, resource) {
+            Ok(found) => match found {
+                Some(scope) => {
+                    versions_ascend(&seen);
+                    match append(alloc, &mut self.history, scope, seen) {
+                        Ok((count, change)) => Ok((Reply::New(count), change)),
+                        Err(fault) => Err(fault),
+                    }
+                }
+                None => Err(CoreFault::NoResource),
+            },
+            Err(_) => Err(CoreFault::NoMemory),
+        }
+    }
+}

@@ -1,0 +1,60 @@
+//! Restarts.
+ghost use Rattle.std.specs.Prelude.{◌≡◌, Ok, Err, map, IfOk, IfErr, OnErr};
+ghost use Rattle.ccr_history.specs.Changes.{changed, TakesAll};
+ghost use Rattle.ccr_history.specs.Edits.{edit_data};
+ghost use Rattle.ccr_core.specs.Cores.{core_data};
+ghost use Rattle.ccr_core.specs.Events.{restart};
+ghost use Rattle.ccr_core.specs.Going.{Changes};
+ghost use Rattle.ccr_core.specs.Holding.{name_data, IsCore, Takes};
+ghost use Rattle.ccr_core.specs.Resumed.{cut_name};
+
+use crate::fault::CoreFault;
+use crate::parts::Parts;
+use crate::reply::Reply;
+use ccr_history::{Change, Edit, History, Status};
+use std::alloc::{AllocError, Global};
+
+/// The ends of builds that are cut short, in order: each is errored, and has moved nothing.
+pub(crate) fn cuts(alloc: Global, names: &[(String, u32)]) -> Result<Change, AllocError>
+    ensures { IfOk result (λ change. map edit_data change.items ≡ map cut_name (map name_data names.now)) }
+{
+    let mut change = Vec::new(alloc);
+    for name in names {
+        let job = String::from_str(alloc, name.0.as_str())?;
+        change.push(Edit::Ended(job, name.1, Status::Errored, Vec::new(alloc)))?;
+    }
+    Ok(change)
+}
+
+/// Cuts builds short that run. It takes no memory.
+pub(crate) fn cut_all(alloc: Global, history: &mut History, names: &[(String, u32)])
+    requires { TakesAll history.old (map cut_name (map name_data names.now)) }
+    ensures { history.new ≡ changed (map cut_name (map name_data names.now)) history.old }
+{
+    for name in names {
+        let job = name.0.as_str();
+        let _ended = history.end_build_with(job, name.1, Status::Errored, Vec::new(alloc));
+    }
+}
+
+impl Parts {
+    /// Each build that runs is errored, with nothing moved. Where it is refused, nothing changes.
+    pub(crate) fn restart(&mut self, alloc: Global) -> Result<(Reply, Change), CoreFault>
+        requires { IsCore (core_data self.old) }
+        ensures step { IfOk result (λ r. Takes (core_data self.old) (core_data self.new) restart (Ok r.0)) }
+        ensures change { IfOk result (λ r. Changes (map edit_data r.1.items) self.old.history self.new.history) }
+        ensures refused { IfErr result (λ f. Takes (core_data self.old) (core_data self.old) restart (Err f)) }
+        ensures unchanged { OnErr result (core_data self.new ≡ core_data self.old) }
+        ensures budget { self.new.budget ≡ self.old.budget }
+    {
+        match cuts(alloc, &self.names) {
+            Ok(change) => {
+                cut_all(alloc, &mut self.history, &self.names);
+                self.names.clear();
+                self.runs.clear();
+                Ok((Reply::Restarted, change))
+            }
+            Err(_) => Err(CoreFault::NoMemory),
+        }
+    }
+}

@@ -1,0 +1,114 @@
+//! What a core begins with.
+ghost use Rattle.std.specs.Prelude.{◌≡◌, ◌≤◌, ◌+◌, ◌++◌, drop, map, option_map, IfOk, IfErr, OnOk};
+ghost use Rattle.std.specs.Option.{IfSome};
+ghost use Rattle.ccr_pipeline.specs.Pipelines.{pipeline_data};
+ghost use Rattle.ccr_history.specs.Edits.{edit_data};
+ghost use Rattle.ccr_proof.specs.declared.proof.TheConstants.{MOST_NODES};
+ghost use Rattle.ccr_core.specs.Cores.{core_data};
+ghost use Rattle.ccr_core.specs.Going.{Changes};
+ghost use Rattle.ccr_core.specs.Holding.{name_data, IsCore};
+ghost use Rattle.ccr_core.specs.Resumed.{running_in, resumed, IsReadable, IsPipelineIn, IsResumed};
+ghost use Rattle.ccr_core.specs.declared.fault.CoreFault.TheVariants.{NoMemory};
+
+use crate::fault::CoreFault;
+use crate::parts::Parts;
+use crate::restarted::{cut_all, cuts};
+use ccr_history::{Change, History, Status};
+use ccr_pipeline::{Pipeline, ReadFault, read};
+use std::alloc::{AllocError, Global};
+
+/// The pipeline of a history's text, if it has one.
+fn pipeline_in(alloc: Global, history: &History) -> Result<Option<Pipeline>, CoreFault>
+    requires { IfSome history.now.text IsReadable }
+    ensures ok { IfOk result (λ p. IsPipelineIn history.now.text (option_map pipeline_data p)) }
+    ensures only { IfErr result (λ fault. fault ≡ NoMemory) }
+{
+    let Some(text) = history.text() else {
+        return Ok(None);
+    };
+    match read(alloc, text) {
+        Ok(pipeline) => Ok(Some(pipeline)),
+        Err(ReadFault::NoMemory) => Err(CoreFault::NoMemory),
+        // The text is one that is read.
+        Err(_) => unreachable!(),
+    }
+}
+
+/// Takes the name of the build at a position, if it runs.
+fn add_running(
+    alloc: Global,
+    names: &mut Vec<(String, u32)>,
+    history: &History,
+    position: usize,
+) -> Result<(), AllocError>
+    ensures { OnOk result (map name_data names.new.items ++ running_in (drop (position + 1) history.now.builds)
+        ≡ map name_data names.old.items ++ running_in (drop position history.now.builds)) }
+{
+    match history.build_at(position) {
+        Some(build) => match build.status() {
+            Status::Running => {
+                let job = String::from_str(alloc, build.job())?;
+                names.push((job, build.number()))?;
+                Ok(())
+            }
+            _ => Ok(()),
+        },
+        None => Ok(()),
+    }
+}
+
+/// The names of the builds that run in a history, in order of making.
+fn running_in(alloc: Global, history: &History) -> Result<Vec<(String, u32)>, AllocError>
+    ensures { IfOk result (λ names. map name_data names.items ≡ running_in history.now.builds) }
+{
+    let mut names = Vec::new(alloc);
+    for position in 0..history.build_count() {
+        add_running(alloc, &mut names, history, position)?;
+    }
+    Ok(names)
+}
+
+/// The names of the builds that run in a history, and the change that cuts them short.
+fn cuts_in(alloc: Global, history: &History) -> Result<(Vec<(String, u32)>, Change), AllocError>
+    ensures names { IfOk result (λ r. map name_data r.0.items ≡ running_in history.now.builds) }
+    ensures change { IfOk result (λ r. map edit_data r.1.items ≡ resumed history.now) }
+{
+    let names = running_in(alloc, history)?;
+    let change = cuts(alloc, &names)?;
+    Ok((names, change))
+}
+
+/// The parts of a core that begins with a history, and what changed of the history.
+pub(crate) fn begin(
+    alloc: Global,
+    history: History,
+    budget: u32,
+) -> Result<(Parts, Change), CoreFault>
+    requires least { 1 ≤ budget }
+    requires most { budget ≤ MOST_NODES }
+    requires readable { IfSome history.text IsReadable }
+    ensures begun { IfOk result (λ r. IsResumed history budget (core_data r.0)) }
+    ensures core { IfOk result (λ r. IsCore (core_data r.0)) }
+    ensures is { IfOk result (λ r. map edit_data r.1.items ≡ resumed history) }
+    ensures change { IfOk result (λ r. Changes (map edit_data r.1.items) history r.0.history) }
+    ensures only { IfErr result (λ fault. fault ≡ NoMemory) }
+{
+    let mut after = history;
+    let pipeline = pipeline_in(alloc, &after)?;
+    match cuts_in(alloc, &after) {
+        Ok((names, change)) => {
+            after.rules();
+            cut_all(alloc, &mut after, &names);
+            after.rules();
+            let parts = Parts {
+                history: after,
+                pipeline,
+                budget,
+                names: Vec::new(alloc),
+                runs: Vec::new(alloc),
+            };
+            Ok((parts, change))
+        }
+        Err(_) => Err(CoreFault::NoMemory),
+    }
+}

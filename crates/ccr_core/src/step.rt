@@ -1,0 +1,42 @@
+//! Steps: what each event does.
+ghost use Rattle.std.specs.Prelude.{◌≡◌, Ok, Err, map, IfOk, IfErr, OnOk, OnErr};
+ghost use Rattle.ccr_history.specs.Edits.{edit_data};
+ghost use Rattle.ccr_core.specs.Cores.{core_data};
+ghost use Rattle.ccr_core.specs.Events.{event_data};
+ghost use Rattle.ccr_core.specs.Going.{Changes};
+ghost use Rattle.ccr_core.specs.Holding.{IsCore, Takes};
+ghost use Rattle.ccr_core.specs.Kept.{IsEvent};
+
+use crate::event::Event;
+use crate::fault::CoreFault;
+use crate::parts::Parts;
+use crate::reply::Reply;
+use ccr_history::Change;
+use std::alloc::Global;
+
+impl Parts {
+    /// One step. Where it is refused, nothing changes.
+    pub(crate) fn take(&mut self, alloc: Global, event: Event) -> Result<(Reply, Change), CoreFault>
+        requires { IsCore (core_data self.old) }
+        ensures step { IfOk result (λ r. Takes (core_data self.old) (core_data self.new) (event_data event) (Ok r.0)) }
+        ensures change { IfOk result (λ r. Changes (map edit_data r.1.items) self.old.history self.new.history) }
+        ensures refused { IfErr result (λ f. Takes (core_data self.old) (core_data self.old)
+            (event_data event) (Err f)) }
+        ensures unchanged { OnErr result (core_data self.new ≡ core_data self.old) }
+        ensures kept { OnOk result (IsEvent (event_data event)) }
+        ensures budget { self.new.budget ≡ self.old.budget }
+    {
+        match event {
+            Event::SetPipeline(pipeline) => self.set_pipeline(alloc, pipeline),
+            Event::Checked(resource, versions) => self.report(alloc, resource.as_str(), versions),
+            Event::Schedule(job) => self.make(alloc, job.as_str(), false),
+            Event::Trigger(job) => self.make(alloc, job.as_str(), true),
+            Event::Answer(job, number, turn, answered) => {
+                self.answer(alloc, job.as_str(), number, turn, answered)
+            }
+            Event::Pin(resource, pin) => self.pin(alloc, resource.as_str(), pin),
+            Event::Unpin(resource) => self.unpin(alloc, resource.as_str()),
+            Event::Restart => self.restart(alloc),
+        }
+    }
+}

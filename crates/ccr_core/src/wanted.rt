@@ -1,0 +1,46 @@
+//! What running builds want.
+ghost use Rattle.std.specs.Prelude.{◌≡◌, map};
+ghost use Rattle.ccr_core.specs.Cores.{core_data};
+ghost use Rattle.ccr_core.specs.Holding.{name_data, name_index, Wants};
+ghost use Rattle.ccr_core.specs.Wanting.{EachWants, WantedIsTaken};
+
+use crate::parts::Parts;
+use ccr_steps::Ask;
+
+/// Where the job's build of this number stands among names; past the end if it isn't there.
+pub(crate) fn index_of(names: &[(String, u32)], job: &str, number: u32) -> usize
+    ensures { result ≡ name_index job.now number (map name_data names.now) }
+{
+    for (i, name) in names.iter().enumerate() {
+        if job == name.0.as_str() && number == name.1 {
+            return i;
+        }
+    }
+    names.len()
+}
+
+impl Parts {
+    /// What the job's build of this number waits for, and at which turn; None where it doesn't run.
+    pub(crate) fn wants(&self, job: &str, number: u32) -> Option<(u64, Ask<'_>)>
+        ensures { Wants (core_data self.now) job.now number result }
+    {
+        let k = index_of(&self.names, job, number);
+        if k >= self.runs.len() {
+            return None;
+        }
+        let run = &self.runs[k];
+        match run.wants() {
+            Some(ask) => Some((run.turn(), ask)),
+            None => None,
+        }
+    }
+}
+
+/// Each build that runs in a core wants something; and an answer to what a build wants, at its turn, is refused only as
+/// `TableFull`, where what it pushes has no place, or out of memory.
+///
+/// It is a law over the definitions alone; nothing runs.
+pub fn wants_are_answered()
+    ensures each { EachWants }
+    ensures taken { WantedIsTaken }
+{}
