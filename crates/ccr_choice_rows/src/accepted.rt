@@ -11,6 +11,7 @@ ghost use Rattle.ccr_check.specs.Judged.{accepted_line};
 
 use ccr_check::judge;
 use ccr_choice::{Problem, problem_has_one_text, write_problem};
+use ccr_index::build_index;
 use ccr_proof::{MOST_NODES, Proof, write_proof};
 use ccr_resolve::{Answer, resolve};
 use std::alloc::{AllocError, Global};
@@ -31,7 +32,7 @@ fn judged(alloc: Global, problem: &Problem, proof: &Proof) -> Result<(String, u8
 /// the line of a claim that is right, and status 0. None where the budget, from 1 to 1,000,000 nodes, is over; it is
 /// then below the room.
 ///
-/// This follows from what [`resolve`], [`write_problem`], [`write_proof`] and [`judge`] promise, and from nothing else.
+/// This follows from what [`build_index`], [`resolve`], [`write_problem`], [`write_proof`] and [`judge`] promise, and from nothing else.
 pub fn resolved(
     alloc: Global,
     problem: &Problem,
@@ -43,7 +44,8 @@ pub fn resolved(
         (λ x. (c : Claim) × IsRight (order_of problem.now) problem.now c
         × (string_bytes x.0 ≡ accepted_line c) × (x.1 ≡ 0))) }
 {
-    match resolve(alloc, problem, budget)? {
+    let index = build_index(alloc, problem)?;
+    match resolve(alloc, problem, &index, budget)? {
         Answer::Best(proof) | Answer::Nothing(proof) => {
             let told = judged(alloc, problem, &proof)?;
             Ok(Some(told))

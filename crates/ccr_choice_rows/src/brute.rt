@@ -3,6 +3,7 @@
 ghost use Rattle.std.specs.Prelude.{◌<◌};
 
 use ccr_choice::{Choice, Problem, Verdict, later, read_problem, satisfies};
+use ccr_index::build_index;
 use ccr_proof::Claim;
 use ccr_resolve::{Answer, resolve};
 use std::alloc::{AllocError, Global};
@@ -112,7 +113,8 @@ fn the_resolver_finds_what_brute_force_finds(rt: HostRuntime) -> Result<(), Fail
         let text = some_problem(rt.alloc(), &mut seeded)?;
         let problem = read_problem(rt.alloc(), text.as_bytes())?;
         let places = latest(rt.alloc(), &problem)?;
-        let answer = resolve(rt.alloc(), &problem, 1000)?;
+        let index = build_index(rt.alloc(), &problem)?;
+        let answer = resolve(rt.alloc(), &problem, &index, 1000)?;
         assert!(rt; agrees(&answer, &places), "{round}: {text}");
         found = found.saturating_add(u32::from(places.is_some()));
     }

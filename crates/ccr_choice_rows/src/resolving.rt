@@ -4,6 +4,7 @@ ghost use Rattle.std.specs.Prelude.{◌≤◌};
 
 use ccr_check::check;
 use ccr_choice::{Problem, read_problem};
+use ccr_index::build_index;
 use ccr_proof::{Claim, Proof, count, read_proof, write_proof};
 use ccr_resolve::{Answer, resolve};
 use std::alloc::{AllocError, Global};
@@ -38,7 +39,8 @@ fn answers(alloc: Global, problem: &Problem, budget: u32, expected: &Expected) -
     requires least { 1 ≤ budget }
     requires most { budget ≤ 1000000 }
 {
-    match (resolve(alloc, problem, budget)?, expected) {
+    let index = build_index(alloc, problem)?;
+    match (resolve(alloc, problem, &index, budget)?, expected) {
         (Answer::Best(proof), Expected::Best(places, builds)) => {
             Ok(is_accepted(alloc, problem, &proof, budget)? && names(&proof.claim, places, builds))
         }

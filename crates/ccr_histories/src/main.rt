@@ -12,6 +12,7 @@
 //! and ends them as failed; `used JOB INPUT SCOPE.PLACE` asks whether a build of the job used this place.
 //! `pin RESOURCE JSON`, `unpin RESOURCE`. `problem JOB` prints the problem of a job, `resolve JOB BUDGET` its proof.
 //! `history` prints the history; `copy` goes on with a copy of it.
+//! `core BUDGET` begins a core beside the history, with nothing seen and no pipeline; `event LINE` plays a line of its events.
 //! `grow BUILDS JOBS PLACES`, `more JOB SCOPE PLACE COUNT` and `extend RESOURCE FIRST COUNT` make large histories, for benchmarks.
 #![tactic(auto)]
 

@@ -5,7 +5,9 @@ use crate::show::history_text;
 use crate::words::{number_of, numbered, pair_of, status_of, used_of, version_of, versions_of};
 use anyhow::{Result, anyhow, bail};
 use ccr_choice::write_problem;
+use ccr_events::Player;
 use ccr_history::{History, HistoryFault, Pin, Scope, Status, Version};
+use ccr_index::build_index;
 use ccr_pipeline::{Pipeline, read};
 use ccr_problem::{problem_of, scope_of};
 use ccr_proof::write_proof;
@@ -13,11 +15,12 @@ use ccr_resolve::{Answer, resolve};
 use serde_json::Value;
 use std::alloc::{AllocError, Global};
 
-/// The history, and the pipeline that was set last.
+/// The history, and the pipeline that was set last; the core that was begun last, if one was.
 #[derive(Drop)]
 pub(crate) struct Play {
     history: History,
     pipeline: Option<Pipeline>,
+    player: Option<Player>,
 }
 
 /// Reports versions and takes the report back: how many of them were new.
@@ -54,6 +57,7 @@ impl Play {
         Play {
             history: History::new(alloc),
             pipeline: None,
+            player: None,
         }
     }
 
@@ -98,6 +102,8 @@ impl Play {
                 Ok(String::from_str(alloc, "copied")?)
             }
             "history" => history_text(alloc, &self.history),
+            "core" => self.began(alloc, number_of(given)?),
+            "event" => self.event(alloc, given),
             _ => bail!("no line begins with {kind}"),
         }
     }
@@ -110,6 +116,20 @@ impl Play {
             .set_text(Vec::from_slice(alloc, text.as_bytes())?);
         self.pipeline = Some(pipeline);
         Ok(format!(in alloc; "{resources} resources, {jobs} jobs")?)
+    }
+
+    /// Begins a core, with nothing seen and no pipeline.
+    fn began(&mut self, alloc: Global, budget: u32) -> Result<String> {
+        if budget < 1 || budget > 1_000_000 {
+            bail!("no such budget")
+        }
+        self.player = Some(Player::new(alloc, budget)?);
+        Ok(String::from_str(alloc, "begun")?)
+    }
+
+    fn event(&mut self, alloc: Global, line: &str) -> Result<String> {
+        let player = self.player.as_mut().ok_or(anyhow!("no core"))?;
+        Ok(player.play(alloc, line)?)
     }
 
     fn pipeline(&self) -> Result<&Pipeline> {
@@ -252,7 +272,8 @@ impl Play {
             bail!("no such budget")
         }
         let problem = problem_of(alloc, self.pipeline()?, &self.history, job)?;
-        match resolve(alloc, &problem, budget)? {
+        let index = build_index(alloc, &problem)?;
+        match resolve(alloc, &problem, &index, budget)? {
             Answer::Best(proof) | Answer::Nothing(proof) => Ok(write_proof(alloc, &proof)?),
             Answer::OverBudget(budget) => Ok(format!(in alloc; "over budget {budget}")?),
         }

@@ -98,13 +98,14 @@ pub builds_few_pairs : (scopes : ℕ) (bs : List BuildValue) → scopes ≤ 32 �
 builds_few_pairs scopes bs few h = each_rule scopes 1000001 bs few (and_parts (nat_le (length bs) 1000000) (are_builds_below scopes 1000001 bs) h).1
 
 -- the new build of a problem that keeps the rules
-pub new_rule : (p : ProblemValue) (j : ℕ) (b : BuildValue) → j < length p.jobs → is_problem (with_new_build p j b) ≡ true → AreAscending b.pairs × (length b.pairs < 2 ^ 32)
+pub new_rule : (p : ProblemValue) (j : ℕ) (b : BuildValue) → j < length p.jobs → is_problem (with_new_build p j b) ≡ true → AreAscending b.pairs × (length b.pairs < 2 ^ 32) × (length (builds_at p j) < 1000000)
 new_rule p j b within rules =
     let q : ProblemValue = with_new_build p j b in
     let kept = builds_kept q j (b ∷ builds_at p j) rules (omega (arith, within, length-set p.jobs j (b ∷ builds_at p j))) (sym (get_or-set_same p.jobs j (b ∷ builds_at p j) [] within)) in
     let a = and_parts (nat_le (length (b ∷ builds_at p j)) 1000000) (are_builds_below (scopes_after 0 p.inputs) 1000001 (b ∷ builds_at p j)) kept in
     let c = and_parts (is_build (scopes_after 0 p.inputs) 1000001 b) (are_builds_below (scopes_after 0 p.inputs) b.number (builds_at p j)) a.1 in
-    pairs_rule (scopes_after 0 p.inputs) 1000001 b (rules_of q rules).few_scopes c.0
+    let pairs = pairs_rule (scopes_after 0 p.inputs) 1000001 b (rules_of q rules).few_scopes c.0 in
+    (pairs.0, pairs.1, (let most = leb-true _ _ a.0 in omega (arith, most)))
 
 -- ---- a row added
 pub version_in : (inputs : List InputRowsValue) (jobs : List JobRowsValue) (i place : ℕ) (x : InputRowsValue) → x.input ≡ with_place (input_at (problem_in inputs jobs) i) place

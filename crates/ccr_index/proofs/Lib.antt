@@ -3,3 +3,4 @@ pub mod BestLaws
 pub mod GrowLaws
 pub mod VersionLaws
 pub mod IndexLaws
+pub mod RuleLaws

@@ -1,5 +1,6 @@
 -- What an index keeps of an input and of a named job's builds.
-use Rattle.std.specs.Prelude.{ℕ, ◌+◌, ◌<◌, ◌≤◌, List, [], ◌∷◌, ◌++◌, length, map, reverse, Bool, ◌&&◌, ◌==◌, nat_eq, is_some, Option, Some, None, if◌then◌else◌, slice_range, slice_index_or, All, Any, Contains, IsTrue, ◌↔◌, min}
+use Rattle.std.specs.Prelude.{◌≡◌, ℕ, ◌+◌, ◌<◌, ◌≤◌, List, [], ◌∷◌, ◌++◌, length, map, reverse, take, Bool, ◌&&◌, ◌==◌, nat_eq, Option, Some, None, unwrap_or, if◌then◌else◌, slice_range, slice_index, slice_index_or, All, min}
+use Rattle.std.specs.List.{list_any}
 use Rattle.std.specs.HashMap.{HashMap, get}
 use Rattle.ccr_choice.specs.Problem.{InputValue, BuildValue}
 use Rattle.ccr_choice.specs.Ascending.{AreAscending}
@@ -14,6 +15,11 @@ pub record InputRowsValue : Type 0 where
 -- The input with one more allowed place, the last.
 abbrev pub with_place : InputValue → ℕ → InputValue
 with_place x place = record { scope = x.scope; places = x.places ++ place ∷ []; jobs = x.jobs }
+
+-- The last of these numbers, or the one given where there is none.
+abbrev pub last_after : ℕ → List ℕ → ℕ
+last_after low [] = low
+last_after low (n ∷ ns) = last_after n ns
 
 -- ---- builds
 -- The builds of a job, newest first, and how many further pairs and builds there is room for.
@@ -46,20 +52,34 @@ builds_of pool rows = reverse (map (build_of_row pool) rows)
 abbrev pub pair_eq : ℕ × ℕ → ℕ × ℕ → Bool
 pair_eq p q = nat_eq p.0 q.0 && nat_eq p.1 q.1
 
--- The map has an entry for this pair.
-abbrev pub has_key : {X S : Type 0} → HashMap (ℕ × ℕ) X S → ℕ × ℕ → Bool
-has_key m pair = is_some (get pair_eq m pair)
+-- Whether this pair is among these.
+abbrev pub is_among : List (ℕ × ℕ) → ℕ × ℕ → Bool
+is_among pairs pair = list_any (λ q. pair_eq q pair) pairs
+
+-- How many builds there are up to the newest one with this pair, counted from the oldest; 0 where none has the pair.
+abbrev pub last_with : List BuildValue → ℕ × ℕ → ℕ
+last_with [] pair = 0
+last_with (b ∷ bs) pair = if is_among b.pairs pair then length bs + 1 else last_with bs pair
+
+-- The number that a map has for this pair, 0 where it has none.
+abbrev pub number_for : {S : Type 0} → HashMap (ℕ × ℕ) ℕ S → ℕ × ℕ → ℕ
+number_for m pair = unwrap_or (get pair_eq m pair) 0
 
 -- A row's pairs lie in the pool and ascend.
 pub record IsRow (pool : List (ℕ × ℕ)) (r : Row) : Type 0 where
   pub within : r.from + r.count ≤ length pool
   pub ascending : AreAscending (slice_range pool r.from (r.from + r.count))
 
--- What every table of rows keeps: the rows are rows of the pool, and seen tells of each pair whether some build has it.
-pub record AreRows (pool : List (ℕ × ℕ)) (rows : List Row) (seen : ℕ × ℕ → Bool) : Type 0 where
+-- What every table of rows keeps: the rows are rows of the pool; of each pair, newest tells the last row with it, and earlier, at
+-- the place of a row's pair in the pool, the last row before with the same pair.
+pub record AreRows (pool : List (ℕ × ℕ)) (rows : List Row) (earlier : List ℕ) (newest : ℕ × ℕ → ℕ) : Type 0 where
   pub each : All (IsRow pool) rows
-  pub told : (pair : ℕ × ℕ) → IsTrue (seen pair) ↔ Any (λ b. Contains b.pairs pair) (builds_of pool rows)
+  pub long : length earlier ≡ length pool
+  pub told : (pair : ℕ × ℕ) → newest pair ≡ last_with (builds_of pool rows) pair
+  pub before : (k n : ℕ) (d : Row) → k < length rows → n < (slice_index_or rows k d).count
+      → slice_index earlier ((slice_index_or rows k d).from + n)
+      ≡ last_with (builds_of pool (take k rows)) (slice_index_or pool ((slice_index_or rows k d).from + n) (0, 0))
 
--- The least of three numbers of places that are left.
-abbrev pub least : ℕ → ℕ → ℕ → ℕ
-least a b c = min a (min b c)
+-- The least of four numbers of places that are left.
+abbrev pub least : ℕ → ℕ → ℕ → ℕ → ℕ
+least a b c d = min a (min b (min c d))

@@ -1,6 +1,6 @@
 //! The index of a problem, made from the problem.
 
-ghost use Rattle.std.specs.Prelude.{◌≡◌, ◌<◌, ◌^◌, ◌↔◌, ℕ, length, map, IsTrue, IfOk, All};
+ghost use Rattle.std.specs.Prelude.{◌≡◌, ◌<◌, ◌≤◌, ◌^◌, ◌↔◌, ℕ, length, map, IsTrue, IfOk, All};
 ghost use Rattle.ccr_choice.specs.Preference.{order_of};
 ghost use Rattle.ccr_choice.specs.Assignment.{nothing_fixed};
 ghost use Rattle.ccr_choice.specs.Possible.{IsBestPlace};
@@ -46,6 +46,7 @@ fn jobs_of(alloc: Global, problem: &Problem) -> Result<Vec<JobRows>, AllocError>
 fn rows_of(alloc: Global, builds: &[Build]) -> Result<JobRows, AllocError>
     requires ascending { All (λ b. AreAscending b.pairs) builds.now }
     requires few { All (λ b. length b.pairs < 2 ^ 32) builds.now }
+    requires limit { length builds.now ≤ 1000000 }
     ensures { IfOk result (λ rows. rows.builds ≡ builds.now) }
 {
     let mut rows = JobRows::new(alloc);

@@ -19,6 +19,7 @@ mod index;
 mod input;
 mod raised;
 mod rows;
+mod rules;
 
 pub use best::FixedBuilds;
 pub use build::build_index;

@@ -1,11 +1,10 @@
 //! The builds of a named job, in the order in which they were made.
 
-ghost use Rattle.std.specs.Prelude.{◌≡◌, ◌+◌, ◌<◌, ◌≤◌, ◌^◌, ◌↔◌, ◌||◌, ℕ, [], ◌∷◌, length, slice_index_or, IsTrue, Any, Contains, OnOk, IsOk};
-ghost use Rattle.std.specs.List.{list_any};
+ghost use Rattle.std.specs.Prelude.{◌≡◌, ◌+◌, ◌-◌, ◌<◌, ◌≤◌, ◌^◌, ◌↔◌, ◌++◌, ℕ, [], ◌∷◌, length, map, drop, if◌then◌else◌, slice_index_or, IsTrue, Any, Contains, OnOk, IsOk, vec_len, vec_capacity};
 ghost use Rattle.std.specs.HashMap.{spare};
 ghost use Rattle.ccr_choice.specs.Ascending.{AreAscending};
 ghost use Rattle.ccr_choice.specs.Table.{build_of};
-ghost use Rattle.ccr_index.specs.Rows.{no_build, has_key, pair_eq, AreDescending, numbered};
+ghost use Rattle.ccr_index.specs.Rows.{no_build, number_for, is_among, last_with, AreDescending, numbered};
 
 use std::alloc::{AllocError, Global};
 use std::collections::HashMap;
@@ -29,23 +28,26 @@ pub struct JobRows {
     rows: Vec<Row>,
     /// The pairs of all builds, those of each beside each other.
     pairs: Vec<(u32, u32)>,
-    /// To each pair that a build has, the row of the newest such build.
-    newest: HashMap<(u32, u32), usize>,
+    /// To each pair of the pool, one more than the row of the last earlier build with the same pair, or 0.
+    earlier: Vec<u32>,
+    /// To each pair that a build has, one more than the row of the last such build.
+    newest: HashMap<(u32, u32), u32>,
 }
 
 impl Model for JobRows {
     ghost use Rattle.std.specs.Prelude.{◌-◌, vec_len, vec_capacity};
     ghost use Rattle.std.specs.HashMap.{spare as room};
-    ghost use Rattle.ccr_index.specs.Rows.{JobRowsValue, builds_of, AreRows, has_key, least};
+    ghost use Rattle.ccr_index.specs.Rows.{JobRowsValue, builds_of, AreRows, number_for, least};
 
     ghost Value = { JobRowsValue };
 
     ghost view = { λ a. record {
       builds = builds_of a.pairs.items a.rows.items;
-      spare = least (vec_capacity a.rows - vec_len a.rows) (vec_capacity a.pairs - vec_len a.pairs) (room a.newest);
+      spare = least (vec_capacity a.rows - vec_len a.rows) (vec_capacity a.pairs - vec_len a.pairs)
+          (vec_capacity a.earlier - vec_len a.earlier) (room a.newest);
     } };
 
-    ghost invariant = { λ a. AreRows a.pairs.items a.rows.items (λ pair. has_key a.newest pair) };
+    ghost invariant = { λ a. AreRows a.pairs.items a.rows.items a.earlier.items (λ pair. number_for a.newest pair) };
 }
 
 impl JobRows {
@@ -56,6 +58,7 @@ impl JobRows {
         JobRows {
             rows: Vec::new(alloc),
             pairs: Vec::new(alloc),
+            earlier: Vec::new(alloc),
             newest: HashMap::new(alloc),
         }
     }
@@ -73,6 +76,16 @@ impl JobRows {
         ensures { result ≡ (slice_index_or self.now.builds build no_build).number }
     {
         self.rows[self.rows.len() - 1 - build].number
+    }
+
+    /// The number of the newest build, 0 where there is none.
+    pub(crate) fn newest_number(&self) -> u32
+        ensures { result ≡ (slice_index_or self.now.builds 0 no_build).number }
+    {
+        if self.len() == 0 {
+            return 0;
+        }
+        self.number(0)
     }
 
     /// The pairs of build `build`, ascending, the newest build being build 0.
@@ -102,7 +115,25 @@ impl JobRows {
     pub fn has_seen(&self, scope: u32, place: u32) -> bool
         ensures { IsTrue result ↔ Any (λ b. Contains b.pairs (scope, place)) self.now.builds }
     {
-        self.newest.contains_key(&(scope, place))
+        self.last_with(scope, place) > 0
+    }
+
+    /// How many builds there are up to the newest one with this pair, counted from the oldest; 0 where none has the pair.
+    pub fn last_with(&self, scope: u32, place: u32) -> usize
+        ensures { result ≡ last_with self.now.builds (scope, place) }
+    {
+        self.newest.get(&(scope, place)).copied().unwrap_or(0) as usize
+    }
+
+    /// The same among the builds that are older than build `build`, which has the pair.
+    pub fn last_before(&self, build: usize, scope: u32, place: u32) -> usize
+        requires build { build < length self.now.builds }
+        requires has { Contains (slice_index_or self.now.builds build no_build).pairs (scope, place) }
+        ensures { result ≡ last_with (drop (build + 1) self.now.builds) (scope, place) }
+    {
+        let row = self.rows[self.rows.len() - 1 - build];
+        let at = place_of(self.pairs(build), scope, place);
+        self.earlier[row.from + at] as usize
     }
 
     /// Makes room for so many builds and pairs.
@@ -114,6 +145,7 @@ impl JobRows {
     {
         self.rows.reserve(pairs)?;
         self.pairs.reserve(pairs)?;
+        self.earlier.reserve(pairs)?;
         self.newest.reserve(pairs)?;
         Ok(())
     }
@@ -123,12 +155,14 @@ impl JobRows {
         requires ascending { AreAscending pairs.now }
         requires room { length pairs.now < self.old.spare }
         requires few { length pairs.now < 2 ^ 32 }
+        requires limit { length self.old.builds < 1000000 }
         ensures builds { self.new.builds ≡ record { number = number; pairs = pairs.now } ∷ self.old.builds }
         ensures spare { self.old.spare ≤ self.new.spare + length pairs.now + 1 }
     {
         let row = self.rows.len();
         let from = self.pairs.len();
         let count = pairs.len() as u32;
+        note_earlier(&mut self.earlier, &self.newest, pairs);
         let has_pairs = self.pairs.extend_from_slice(pairs).is_ok();
         prove!(has_pairs);
         let has_row = self
@@ -140,16 +174,38 @@ impl JobRows {
             })
             .is_ok();
         prove!(has_row);
-        note(&mut self.newest, pairs, row);
+        note(&mut self.newest, pairs, row as u32 + 1);
     }
 }
 
-/// Notes of these pairs that row `row` has them.
-fn note(newest: &mut HashMap<(u32, u32), usize>, pairs: &[(u32, u32)], row: usize)
+/// Where a pair stands among pairs that ascend, if it does.
+fn place_of(pairs: &[(u32, u32)], scope: u32, place: u32) -> usize
+    requires { AreAscending pairs.now }
+    ensures { Contains pairs.now (scope, place)
+        → (result < length pairs.now) × (slice_index_or pairs.now result (0, 0) ≡ (scope, place)) }
+{
+    pairs.partition_point(|q| q.0 < scope || (q.0 == scope && q.1 < place))
+}
+
+/// Notes of each of these pairs which row had it last.
+fn note_earlier(earlier: &mut Vec<u32>, newest: &HashMap<(u32, u32), u32>, pairs: &[(u32, u32)])
+    requires { length pairs.now ≤ vec_capacity earlier.old - vec_len earlier.old }
+    ensures items { earlier.new.items ≡ earlier.old.items ++ map (λ q. number_for newest.now q) pairs.now }
+    ensures spare { vec_capacity earlier.old - vec_len earlier.old
+        ≤ vec_capacity earlier.new - vec_len earlier.new + length pairs.now }
+{
+    for pair in pairs {
+        let has_room = earlier.push(newest.get(pair).copied().unwrap_or(0)).is_ok();
+        prove!(has_room);
+    }
+}
+
+/// Notes of these pairs that a row, by one more than its number, is the last one that has them.
+fn note(newest: &mut HashMap<(u32, u32), u32>, pairs: &[(u32, u32)], row: u32)
     requires { length pairs.now ≤ spare newest.old }
     ensures spare { spare newest.old ≤ spare newest.new + length pairs.now }
-    ensures told { (pair : ℕ × ℕ) → has_key newest.new pair
-        ≡ (has_key newest.old pair || list_any (λ q. pair_eq q pair) pairs.now) }
+    ensures told { (pair : ℕ × ℕ) → number_for newest.new pair
+        ≡ (if is_among pairs.now pair then row else number_for newest.old pair) }
 {
     for pair in pairs {
         let has_room = newest.insert(*pair, row).is_ok();

@@ -2,6 +2,7 @@
 ghost use Rattle.std.specs.Prelude.{◌≤◌};
 
 use ccr_choice::{ProblemFault, read_problem};
+use ccr_index::build_index;
 use ccr_pipeline::{ReadFault, read, read_task};
 use ccr_proof::write_proof;
 use ccr_resolve::{Answer as Resolved, resolve};
@@ -75,14 +76,19 @@ pub(crate) fn answer_resolve(alloc: Global, text: &[u8], budget: u32) -> Result<
         Ok(problem) => problem,
         Err(fault) => return bad_problem(alloc, fault),
     };
-    match resolve(alloc, &problem, budget)? {
+    let index = build_index(alloc, &problem)?;
+    match resolve(alloc, &problem, &index, budget)? {
         Resolved::Best(proof) | Resolved::Nothing(proof) => Ok(Answer {
             lines: write_proof(alloc, &proof)?,
             status: 0,
         }),
-        Resolved::OverBudget(n) => Ok(Answer {
-            lines: format!(in alloc; "over budget {n}\n")?,
-            status: OVER_BUDGET,
-        }),
+        Resolved::OverBudget(n) => over_budget(alloc, n),
     }
+}
+
+fn over_budget(alloc: Global, budget: u32) -> Result<Answer, AllocError> {
+    Ok(Answer {
+        lines: format!(in alloc; "over budget {budget}\n")?,
+        status: OVER_BUDGET,
+    })
 }

@@ -8,6 +8,7 @@
 //! `ccr_probe steps JOB` reads a pipeline in one line, the versions of the job's inputs in the next, and answers, one a line
 //! (`done`, `pushed VERSION`, `config CONFIG`, `failed`, `errored`): it prints what the build asks, and where it has ended, how.
 //! `ccr_probe builds JOB COUNT` reads the same first two lines, and starts so many builds of the job, which it holds all at once.
+//! `ccr_probe events BUDGET` reads a pipeline in one line and events, one a line, and prints what a core answers to each.
 //! `ccr_probe versions N` makes N versions of two short fields and holds them at once.
 //! With `--repeat N` behind these the call is made N times, and the whole time is printed on standard error. Statuses: 0 read,
 //! resolved or ended, 1 refused, 2 usage, 3 over budget, 4 out of memory or unreadable.
@@ -16,11 +17,13 @@
 ghost use Rattle.std.specs.Prelude.{◌≤◌};
 
 mod answer;
+mod events;
 mod programs;
 mod steps;
 mod versions;
 
 use answer::{Answer, OVER_BUDGET, answer_pipeline, answer_resolve, answer_task};
+use events::answer_events;
 use programs::{Trial, answer_launch, answer_launches, answer_type};
 use std::alloc::AllocError;
 use std::io::Read;
@@ -44,6 +47,7 @@ enum Call<'a> {
     Pipeline,
     Task,
     Resolve(Budget),
+    Events(Budget),
     Launch,
     Launches(u32),
     Type(Trial<'a>),
@@ -113,6 +117,10 @@ fn order_of(words: &[String]) -> Option<Order<'_>> {
             let (budget, rest) = rest.split_first()?;
             (Call::Resolve(budget_of(budget.as_str())?), rest)
         }
+        "events" => {
+            let (budget, rest) = rest.split_first()?;
+            (Call::Events(budget_of(budget.as_str())?), rest)
+        }
         _ => return None,
     };
     let times = times_of(rest)?;
@@ -125,6 +133,7 @@ fn answer_of(rt: &HostRuntime, call: Call, text: &[u8]) -> Result<Answer, AllocE
         Call::Pipeline => answer_pipeline(alloc, text),
         Call::Task => answer_task(alloc, text),
         Call::Resolve(budget) => answer_resolve(alloc, text, budget.nodes),
+        Call::Events(budget) => answer_events(alloc, text, budget.nodes),
         Call::Launch => answer_launch(rt, alloc),
         Call::Launches(count) => answer_launches(rt, alloc, count),
         Call::Type(trial) => answer_type(rt, alloc, text, &trial),
@@ -165,7 +174,7 @@ fn main(rt: HostRuntime) -> io::Result<ExitCode> {
     };
     let Some(order) = order_of(&words) else {
         eprintln!(rt;
-            "usage: ccr_probe pipeline|task|resolve BUDGET|launch|launches COUNT|type PROGRAMS FOLDER|steps JOB|builds JOB COUNT|versions N [--repeat N]"
+            "usage: ccr_probe pipeline|task|resolve BUDGET|events BUDGET|launch|launches COUNT|type PROGRAMS FOLDER|steps JOB|builds JOB COUNT|versions N [--repeat N]"
         )?;
         return Ok(ExitCode::from(2));
     };

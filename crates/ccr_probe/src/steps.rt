@@ -1,158 +1,21 @@
 //! A build of one job, step by step: the answers are lines, and so are its asks.
 
 use crate::answer::{Answer, refused};
-use ccr_history::{HistoryFault, Object, Version};
-use ccr_pipeline::{Job, Pipeline, ReadFault, TaskConfig, Variable, inputs_of, read, read_task};
-use ccr_steps::{Answered, Ask, BuildRun, FeedFault, Outcome, start};
-use serde_json::{Map, Value};
+use ccr_events::{ask_value, outcome_name};
+use ccr_history::{HistoryFault, Version};
+use ccr_pipeline::{Job, Pipeline, ReadFault, inputs_of, read, read_task};
+use ccr_steps::{Answered, Ask, BuildRun, FeedFault, start};
+use serde_json::Value;
 use std::alloc::{AllocError, Global};
-
-type Members = Map<String, Value>;
-
-fn text_of(alloc: Global, text: &str) -> Result<Value, AllocError> {
-    Ok(Value::String(String::from_str(alloc, text)?))
-}
-
-fn put(alloc: Global, members: &mut Members, key: &str, value: Value) -> Result<(), AllocError> {
-    drop(members.insert(String::from_str(alloc, key)?, value)?);
-    Ok(())
-}
-
-fn put_text(alloc: Global, members: &mut Members, key: &str, text: &str) -> Result<(), AllocError> {
-    let text = text_of(alloc, text)?;
-    put(alloc, members, key, text)
-}
-
-fn put_params(
-    alloc: Global,
-    members: &mut Members,
-    params: Option<&Object>,
-) -> Result<(), AllocError> {
-    match params {
-        Some(params) => put(alloc, members, "params", params.as_value().clone()?),
-        None => Ok(()),
-    }
-}
-
-fn variables_of(alloc: Global, variables: &[Variable]) -> Result<Value, AllocError> {
-    let mut members = Map::new(alloc);
-    for variable in variables {
-        put_text(
-            alloc,
-            &mut members,
-            variable.name.as_str(),
-            variable.value.as_str(),
-        )?;
-    }
-    Ok(Value::Object(members))
-}
-
-fn texts_of(alloc: Global, texts: &[String]) -> Result<Value, AllocError> {
-    let mut items = Vec::new(alloc);
-    for text in texts {
-        items.push(text_of(alloc, text.as_str())?)?;
-    }
-    Ok(Value::Array(items))
-}
-
-fn run_of(alloc: Global, config: &TaskConfig) -> Result<Value, AllocError> {
-    let mut members = Map::new(alloc);
-    put_text(alloc, &mut members, "path", config.run.path.as_str())?;
-    let args = texts_of(alloc, &config.run.args)?;
-    put(alloc, &mut members, "args", args)?;
-    if let Some(dir) = &config.run.dir {
-        put_text(alloc, &mut members, "dir", dir.as_str())?;
-    }
-    Ok(Value::Object(members))
-}
-
-fn task_inputs_of(alloc: Global, config: &TaskConfig) -> Result<Value, AllocError> {
-    let mut items = Vec::new(alloc);
-    for input in &config.inputs {
-        let mut members = Map::new(alloc);
-        put_text(alloc, &mut members, "name", input.name.as_str())?;
-        put(alloc, &mut members, "optional", Value::Bool(input.optional))?;
-        items.push(Value::Object(members))?;
-    }
-    Ok(Value::Array(items))
-}
-
-fn config_of(alloc: Global, config: &TaskConfig) -> Result<Value, AllocError> {
-    let mut members = Map::new(alloc);
-    let inputs = task_inputs_of(alloc, config)?;
-    put(alloc, &mut members, "inputs", inputs)?;
-    let outputs = texts_of(alloc, &config.outputs)?;
-    put(alloc, &mut members, "outputs", outputs)?;
-    let params = variables_of(alloc, &config.params)?;
-    put(alloc, &mut members, "params", params)?;
-    let run = run_of(alloc, config)?;
-    put(alloc, &mut members, "run", run)?;
-    Ok(Value::Object(members))
-}
-
-fn version_of(alloc: Global, version: &Version) -> Result<Value, AllocError> {
-    let key = version.key(alloc)?;
-    Value::from_str(alloc, key.as_str()).map_err(|_| AllocError)
-}
-
-fn fetch_of(alloc: Global, members: &mut Members, version: &Version) -> Result<(), AllocError> {
-    let version = version_of(alloc, version)?;
-    put(alloc, members, "version", version)
-}
 
 /// An ask as one line of JSON, keys ascending.
 fn ask_line(alloc: Global, ask: &Ask<'_>) -> Result<String, AllocError> {
-    let mut members = Map::new(alloc);
-    match ask {
-        Ask::Fetch {
-            artifact,
-            resource,
-            version,
-            params,
-        } => {
-            put_text(alloc, &mut members, "ask", "fetch")?;
-            put_text(alloc, &mut members, "artifact", artifact)?;
-            put_text(alloc, &mut members, "resource", resource)?;
-            put_params(alloc, &mut members, *params)?;
-            fetch_of(alloc, &mut members, version)?;
-        }
-        Ask::Push {
-            artifact,
-            resource,
-            params,
-        } => {
-            put_text(alloc, &mut members, "ask", "push")?;
-            put_text(alloc, &mut members, "artifact", artifact)?;
-            put_text(alloc, &mut members, "resource", resource)?;
-            put_params(alloc, &mut members, *params)?;
-        }
-        Ask::ReadConfig { file } => {
-            put_text(alloc, &mut members, "ask", "config")?;
-            put_text(alloc, &mut members, "file", file)?;
-        }
-        Ask::RunTask { config, env } => {
-            put_text(alloc, &mut members, "ask", "task")?;
-            let config = config_of(alloc, config)?;
-            put(alloc, &mut members, "config", config)?;
-            let env = variables_of(alloc, env)?;
-            put(alloc, &mut members, "env", env)?;
-        }
-    }
-    Value::Object(members).to_string(alloc)
+    Value::Object(ask_value(alloc, ask)?).to_string(alloc)
 }
 
-fn push_line(text: &mut String, line: &str) -> Result<(), AllocError> {
+pub(crate) fn push_line(text: &mut String, line: &str) -> Result<(), AllocError> {
     text.push_str(line)?;
     text.push_str("\n")
-}
-
-fn outcome_name(outcome: Outcome) -> &'static str {
-    match outcome {
-        Outcome::Succeeded => "succeeded",
-        Outcome::Failed => "failed",
-        Outcome::Errored => "errored",
-        Outcome::Aborted => "aborted",
-    }
 }
 
 /// The line of what a build waits for, or, where it has ended, those of its outcome and of what it moved.
@@ -248,7 +111,7 @@ fn job_of<'p>(pipeline: &'p Pipeline, name: &str) -> Option<&'p Job> {
     pipeline.jobs().iter().find(|job| job.name.as_str() == name)
 }
 
-fn refused_as(alloc: Global, why: &str) -> Result<Answer, AllocError> {
+pub(crate) fn refused_as(alloc: Global, why: &str) -> Result<Answer, AllocError> {
     Ok(Answer {
         lines: format!(in alloc; "refused: {why}\n")?,
         status: 1,

@@ -4,3 +4,5 @@ pub mod FullLaws
 pub mod Steps
 pub mod ClaimFits
 pub mod UpperLaws
+pub mod SoughtLaws
+pub mod WantedLaws

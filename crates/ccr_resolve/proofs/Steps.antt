@@ -1,5 +1,5 @@
 -- The steps of the search.
-use Rattle.std.proofs.Common.{Bool, true, false, ◌≡◌, ℕ, zero, suc, ◌+◌, ◌*◌, ◌<◌, ◌≤◌, ◌⊎◌, inl, inr, List, [], ◌∷◌, ◌++◌, length, take, get_or, slice_index, slice_set, replicate, refl, sym, ap, ◌∙◌, subst, arith, Option, Some, None, Vec, Global}
+use Rattle.std.proofs.Common.{true, ◌≡◌, ℕ, zero, suc, ◌+◌, ◌*◌, ◌<◌, ◌≤◌, ◌⊎◌, inl, inr, List, [], ◌∷◌, ◌++◌, length, take, get_or, slice_index, slice_set, replicate, refl, sym, ap, ◌∙◌, subst, arith, Option, Some, None, Vec, Global}
 use Rattle.std.specs.Prelude.{Any}
 use Rattle.std.proofs.lemmas.Bool.{cases_eq}
 use Rattle.std.proofs.lemmas.List.{take_more, take_all, get_or-set_same, get_or-set_other}
@@ -16,11 +16,11 @@ use Rattle.ccr_choice.proofs.PossibleLaws.{are_only, bounded_by}
 use Rattle.ccr_proof.specs.Tree.{Tree, Trees, job, empty, bounded, no_child, child, count, count_all, levels, levels_all, tree_of, trees_of}
 use Rattle.ccr_proof.specs.Refutes.{HasNoPlace, IsBounded, Refutes, RefuteEach}
 use Rattle.ccr_choice.specs.Table.{build_of, assigned}
-use Rattle.ccr_choice.proofs.TableLaws.{table_set, table_empty, zeros}
+use Rattle.ccr_choice.proofs.TableLaws.{table_set}
 use Rattle.ccr_proof.proofs.Trees.{tree_of_job}
 use Rattle.ccr_resolve.specs.Room.{newest, TopFits, IsBelowRoom}
-use Rattle.ccr_resolve.specs.Search.{FixesKnown, FoundSatisfies, places_of, free_product, free_sum, free_jobs, OnPath, ReachesTop, IsNeeded, IsNoWorse, IsSearched, Searched, Sought}
-use Rattle.ccr_resolve.proofs.Counting.{product_set, product_same, sum_set, sum_same, product_one, product_empty, sum_empty, free_set}
+use Rattle.ccr_resolve.specs.Search.{FixesKnown, FoundSatisfies, places_of, free_product, free_sum, free_jobs, OnPath, ReachesTop, IsNeeded, IsNoWorse, IsSearched, Searched}
+use Rattle.ccr_resolve.proofs.Counting.{product_set, product_same, sum_set, sum_same, product_one, product_empty, free_set}
 use Rattle.ccr_resolve.proofs.Path.{better_irreflexive, better_trans, no_worse_refl, no_worse_trans, reach_more, path_place, path_top, one_node}
 
 -- ---- a bound that rises keeps each refutation
@@ -379,25 +379,7 @@ none_needed prefers p table before after room left o h e = let P : Option Node �
 pub some_searched : (prefers : Preference) (p : ProblemValue) (table : List ℕ) (before after : Option ChoiceValue) (room left : ℕ) (o : Option Node) (c : Node) → Searched prefers p table before after room left o → o ≡ Some c → IsSearched prefers p table before after room left (tree_of c)
 some_searched prefers p table before after room left o c h e = let P : Option Node → Type 0 = λ x. Searched prefers p table before after room left x in subst P e h
 
-pub over_needed : (prefers : Preference) (p : ProblemValue) (table : List ℕ) (before after : Option ChoiceValue) (room left : ℕ) (o : Bool) → Sought prefers p table before after room left o → o ≡ true → IsNeeded prefers p table (places_of before) (room + 1)
-over_needed prefers p table before after room left o h e = let P : Bool → Type 0 = λ x. Sought prefers p table before after room left x in subst P e h
-
-pub tree_sought : (prefers : Preference) (p : ProblemValue) (table : List ℕ) (before after : Option ChoiceValue) (room left : ℕ) (o : Bool) → Sought prefers p table before after room left o → o ≡ false
-    → (tree : Tree) × IsSearched prefers p table before after room left tree
-tree_sought prefers p table before after room left o h e = let P : Bool → Type 0 = λ x. Sought prefers p table before after room left x in subst P e h
-
--- ---- the room
-pub room_over : (prefers : Preference) (p : ProblemValue) (budget n : ℕ) → IsNeeded prefers p (replicate n 0) None (budget + 1) → IsBelowRoom prefers p budget
-room_over prefers p budget n needed = record {
-  product = (let h = needed.product in omega (arith, h, product_empty p.jobs n));
-  fitting = λ top. (let h = needed.path (record { nothing = refl; top = top; newest = λ j some. absurd (some (zeros n j)) }) in omega (arith, h, sum_empty p.jobs n));
-  lacking = λ i none.
-      let P : Assignment → Type 0 = λ a. HasNoPlace p a i in
-      let h = needed.lacking i (subst P (sym (table_empty p n)) none) in
-      omega (arith, h);
-}
-
--- as much, where a place is possible for each input and the best places don't fit the newest builds
+-- the room is as much, where a place is possible for each input and the best places don't fit the newest builds
 pub room_over_found : (prefers : Preference) (p : ProblemValue) (budget n : ℕ) (best : Option (List ℕ)) → (TopFits prefers p → ⊥) → ((i : ℕ) → HasNoPlace p nothing_fixed i → ⊥)
     → IsNeeded prefers p (replicate n 0) best (budget + 1) → IsBelowRoom prefers p budget
 room_over_found prefers p budget n best fits some needed = record {

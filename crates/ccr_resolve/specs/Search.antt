@@ -1,5 +1,5 @@
 -- What the search gives, and how many nodes it may need. No public contract names these.
-use Rattle.std.specs.Prelude.{◌≡◌, ◌≢◌, ℕ, zero, suc, ◌+◌, ◌*◌, ◌<◌, ◌≤◌, ◌==◌, List, [], ◌∷◌, ◌++◌, Bool, true, false, Option, Some, None, length, slice_index, if◌then◌else◌}
+use Rattle.std.specs.Prelude.{◌≡◌, ◌≢◌, ℕ, zero, suc, ◌+◌, ◌*◌, ◌<◌, ◌≤◌, ◌==◌, List, [], ◌∷◌, ◌++◌, Option, Some, None, length, slice_index, if◌then◌else◌}
 use Rattle.ccr_choice.specs.Problem.{ProblemValue, BuildValue, ChoiceValue, builds_at}
 use Rattle.ccr_choice.specs.Satisfies.{Satisfies}
 use Rattle.ccr_proof.specs.declared.node.Node.{Node}
@@ -100,13 +100,6 @@ abbrev pub Searched : Preference → ProblemValue → List ℕ → Option Choice
 Searched prefers p table before after room left None = IsNeeded prefers p table (places_of before) (room + 1)
 Searched prefers p table before after room left (Some node) =
     IsSearched prefers p table before after room left (tree_of node)
-
--- The same without the tree, which is there all the same: the search is over where the room is less than what the table
--- may need.
-abbrev pub Sought : Preference → ProblemValue → List ℕ → Option ChoiceValue → Option ChoiceValue → ℕ → ℕ → Bool → Type 0
-Sought prefers p table before after room left true = IsNeeded prefers p table (places_of before) (room + 1)
-Sought prefers p table before after room left false =
-    (tree : Tree) × IsSearched prefers p table before after room left tree
 
 -- ---- best places that are handed down
 -- For each input the best place, in a row that may be longer.

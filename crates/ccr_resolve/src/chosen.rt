@@ -4,13 +4,14 @@ ghost use Rattle.std.specs.Prelude.{◌≤◌, IfOk};
 ghost use Rattle.ccr_choice.specs.Preference.{order_of};
 ghost use Rattle.ccr_choice.specs.Table.{assigned};
 ghost use Rattle.ccr_resolve.specs.Chosen.{IsChosen};
-ghost use Rattle.ccr_resolve.specs.Search.{AreUpper, FixesKnown, FoundSatisfies, Sought};
+ghost use Rattle.ccr_resolve.specs.Search.{AreUpper, FixesKnown, FoundSatisfies};
+ghost use Rattle.ccr_resolve.specs.Sought.{Sought};
 
 use crate::choice::full_choice;
 use crate::dive::good_choice;
 use crate::newest::newest_choice;
-use crate::pick::cheapest_job;
 use crate::upper::{BestPlaces, first_empty, is_closed, lowered, tops};
+use crate::wanted::next_split;
 use ccr_choice::possible::Fixed;
 use ccr_choice::{Choice, MOST_JOBS};
 use ccr_index::Index;
@@ -31,6 +32,8 @@ pub enum Chosen {
 /// The best choice that satisfies the problem of an index, or that none does, rightly so; or that the budget, from 1 to
 /// 1,000,000, is over, only where it is below the room of the problem. It is the answer of [`crate::resolve_indexed`]
 /// without the proof. The only error is want of memory.
+///
+/// Where a job has few builds that can be part of a better choice than the one found, it goes into these alone.
 pub fn choose(alloc: Global, index: &Index, budget: u32) -> Result<Chosen, AllocError>
     requires least { 1 ≤ budget }
     requires most { budget ≤ MOST_NODES }
@@ -89,16 +92,16 @@ fn seek(
     if is_closed(index, upper, best) {
         return Ok(false);
     }
-    let Some(j) = cheapest_job(index, fixed, upper, best) else {
+    let Some(found) = next_split(alloc, index, fixed, upper, best)? else {
         *best = Some(full_choice(alloc, index, fixed, upper)?);
         return Ok(false);
     };
-    let rows = index.rows(j);
-    let count = rows.len();
-    for k in 0..count {
+    let j = found.job;
+    for t in 0..found.builds.len() {
         if is_closed(index, upper, best) {
             return Ok(false);
         }
+        let k = found.builds[t];
         let mut inner = *fixed;
         inner[j] = k + 1;
         let places = lowered(index, upper, &inner, j);

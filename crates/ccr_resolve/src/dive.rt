@@ -7,7 +7,7 @@ ghost use Rattle.ccr_choice.specs.Table.{assigned};
 ghost use Rattle.ccr_resolve.specs.Search.{AreUpper, FixesKnown, FoundSatisfies};
 
 use crate::choice::full_choice;
-use crate::search::first_free;
+use crate::pick::first_free;
 use crate::upper::{BestPlaces, first_empty, is_closed, lowered};
 use ccr_choice::possible::Fixed;
 use ccr_choice::{Choice, MOST_JOBS, later};

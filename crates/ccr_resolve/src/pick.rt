@@ -1,12 +1,21 @@
 //! Which job is split next.
 
-ghost use Rattle.std.specs.Prelude.{◌≡◌, ◌≢◌, ◌<◌, ℕ, length, slice_index, MatchOption};
+ghost use Rattle.std.specs.Prelude.{◌≡◌, ◌≢◌, ◌<◌, ◌≤◌, ℕ, length, slice_index, MatchOption};
 
-use crate::search::first_free;
 use crate::upper::{BestPlaces, first_empty, is_closed, lowered};
-use ccr_choice::Choice;
 use ccr_choice::possible::Fixed;
+use ccr_choice::{Choice, MOST_JOBS};
 use ccr_index::Index;
+
+/// The first of so many named jobs without a fixed build.
+pub(crate) fn first_free(jobs: usize, fixed: &Fixed) -> Option<usize>
+    requires { jobs ≤ MOST_JOBS }
+    ensures { MatchOption result
+        ((j : ℕ) → j < jobs → slice_index fixed.now j ≢ 0)
+        (λ j. (j < jobs) × (slice_index fixed.now j ≡ 0)) }
+{
+    (0..jobs).find(|j| fixed[*j] == 0)
+}
 
 /// Whether a build of a free job, fixed as well, leaves each input a place, and best places that are better than what
 /// was found.

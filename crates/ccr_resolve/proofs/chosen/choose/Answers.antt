@@ -1,4 +1,4 @@
-use Rattle.std.proofs.Common.{Option, Some, None, replicate, subst, sym, refl, arith}
+use Rattle.std.proofs.Common.{Option, replicate, subst, sym, refl, arith}
 use Rattle.std.specs.Prelude.{MatchOption}
 use Rattle.ccr_choice.specs.Problem.{ChoiceValue}
 use Rattle.ccr_choice.specs.Preference.{order_of}
@@ -7,11 +7,10 @@ use Rattle.ccr_choice.proofs.PlainLaws.{is_order}
 use Rattle.ccr_choice.proofs.TableLaws.{zeros, table_empty}
 use Rattle.ccr_proof.specs.declared.claim.Claim.TheVariants.{Best, Nothing}
 use Rattle.ccr_proof.specs.Tree.{empty, bounded}
-use Rattle.ccr_proof.specs.Refutes.{Refutes}
 use Rattle.ccr_proof.proofs.Sound.{accepted_right}
 use Rattle.ccr_resolve.specs.Room.{TopFits}
-use Rattle.ccr_resolve.specs.Search.{AreUpper, IsSearched, IsTopChoice, places_of}
-use Rattle.ccr_resolve.proofs.Steps.{over_needed, tree_sought, room_over_found}
+use Rattle.ccr_resolve.specs.Search.{AreUpper, IsTopChoice}
+use Rattle.ccr_resolve.proofs.SoughtLaws.{over_is, sought_is, over_room, none_sought, best_sought}
 use Rattle.ccr_resolve.proofs.chosen.choose.Goals as goal
 
 pub returns-in-Some : goal.returns-in-Some
@@ -43,25 +42,18 @@ returns-then-is_over c =
     let P : Option ChoiceValue → Type 0 = λ o. MatchOption o (TopFits (order_of p) p → ⊥) (IsTopChoice p) in
     let fits : TopFits (order_of p) p → ⊥ = subst P c.in_default-newest.is c.in_ok-newest.ensures in (
       refl,
-      room_over_found (order_of p) p c.args.budget 32 (places_of c.in_ok-best.best) fits (c.in_default.ensures.found nothing_fixed c.tops-upper.ensures)
-          (over_needed (order_of p) p (replicate 32 0) c.in_ok-best.best c.seek.new.best c.args.budget c.seek.new.left c.in_ok-is_over.is_over c.in_ok-is_over.ensures c.if-is_over.true),
+      over_room (order_of p) p c.args.budget 32 fits (c.in_default.ensures.found nothing_fixed c.tops-upper.ensures)
+          (over_is (order_of p) p (replicate 32 0) c.in_ok-best.best c.seek.new.best c.args.budget c.seek.new.left c.in_ok-is_over.is_over c.in_ok-is_over.ensures c.if-is_over.true),
     )
 
 pub returns-in-None : goal.returns-in-None
 returns-in-None c =
     let p = c.args.index.now.problem in
-    let one = tree_sought (order_of p) p (replicate 32 0) c.in_ok-best.best c.seek.new.best c.args.budget c.seek.new.left c.in_ok-is_over.is_over c.in_ok-is_over.ensures c.if-is_over.false in
-    let Q : Option ChoiceValue → Type 0 = λ x. IsSearched (order_of p) p (replicate 32 0) c.in_ok-best.best x c.args.budget c.seek.new.left one.0 in
-    let done : Q None = subst Q c.in-None.is one.1 in
-    let P : Assignment → Type 0 = λ a. Refutes (order_of p) p None a one.0 in
-    accepted_right (order_of p) (is_order p) p c.first_empty.ensures.rules Nothing one.0 (subst P (table_empty p 32) done.refuted)
+    none_sought (order_of p) p c.in_ok-best.best c.seek.new.best c.args.budget c.seek.new.left
+    (sought_is (order_of p) p (replicate 32 0) c.in_ok-best.best c.seek.new.best c.args.budget c.seek.new.left c.in_ok-is_over.is_over c.in_ok-is_over.ensures c.if-is_over.false) c.in-None.is
 
 pub returns-in-Some-best : goal.returns-in-Some-best
 returns-in-Some-best c =
     let p = c.args.index.now.problem in
-    let choice = c.in-Some-best.choice in
-    let one = tree_sought (order_of p) p (replicate 32 0) c.in_ok-best.best c.seek.new.best c.args.budget c.seek.new.left c.in_ok-is_over.is_over c.in_ok-is_over.ensures c.if-is_over.false in
-    let Q : Option ChoiceValue → Type 0 = λ x. IsSearched (order_of p) p (replicate 32 0) c.in_ok-best.best x c.args.budget c.seek.new.left one.0 in
-    let done : Q (Some choice) = subst Q c.in-Some-best.is one.1 in
-    let P : Assignment → Type 0 = λ a. Refutes (order_of p) p (Some choice.places) a one.0 in
-    accepted_right (order_of p) (is_order p) p c.first_empty.ensures.rules (Best choice) one.0 (done.satisfies, subst P (table_empty p 32) done.refuted)
+    best_sought (order_of p) p c.in_ok-best.best c.seek.new.best c.args.budget c.seek.new.left c.in-Some-best.choice
+    (sought_is (order_of p) p (replicate 32 0) c.in_ok-best.best c.seek.new.best c.args.budget c.seek.new.left c.in_ok-is_over.is_over c.in_ok-is_over.ensures c.if-is_over.false) c.in-Some-best.is

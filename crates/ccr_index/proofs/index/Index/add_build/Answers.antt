@@ -14,6 +14,14 @@ add-requires-clause-ascending c = (new_rule c.args.self.now.problem c.args.job (
 pub add-requires-clause-few : goal.add-requires-clause-few
 add-requires-clause-few c = (new_rule c.args.self.now.problem c.args.job (record { number = c.args.number; pairs = c.args.pairs.now }) c.requires.job c.requires.rules).1
 
+pub add-requires-clause-limit : goal.add-requires-clause-limit
+add-requires-clause-limit c =
+    let few = (new_rule c.args.self.now.problem c.args.job (record { number = c.args.number; pairs = c.args.pairs.now }) c.requires.job c.requires.rules).2 in
+    let inside = job_inside c.self.inside.inputs.items c.self.inside.jobs.items c.self.inside.spare_places c.self.inside.spare_pairs c.args.self.now c.self.view_is c.args.job c.requires.job in
+    let was = rows_in c.self.inside.inputs.items c.self.inside.jobs.items c.args.job c.index_mut-rows.result.now inside c.index_mut-rows.ensures.value in
+    let same = ap (λ (v : IndexValue). length (builds_at v.problem c.args.job)) c.self.view_is in
+    omega (arith, few, ap length c.make_room.ensures.builds, ap length was, same)
+
 pub invariant_of-self : goal.invariant_of-self
 invariant_of-self c =
     let inside = job_inside c.self.inside.inputs.items c.self.inside.jobs.items c.self.inside.spare_places c.self.inside.spare_pairs c.args.self.now c.self.view_is c.args.job c.requires.job in

@@ -1,11 +1,16 @@
-use Rattle.std.proofs.Common.{◌↔◌, List, Bool, IsTrue, sym, subst}
-use Rattle.std.specs.Prelude.{Any, Contains}
-use Rattle.ccr_choice.specs.Problem.{BuildValue}
-use Rattle.ccr_index.specs.Rows.{JobRowsValue, builds_of}
+use Rattle.std.proofs.Common.{◌≢◌, ◌<◌, ℕ, inl, inr, arith}
+use Rattle.std.proofs.lemmas.Bool.{cases_lt, ltb-true, lt-ltb}
+use Rattle.ccr_index.specs.Rows.{last_with}
+use Rattle.ccr_index.proofs.RowLaws.{last_some}
 use Rattle.ccr_index.proofs.rows.JobRows.has_seen.Goals as goal
+
+above : (n : ℕ) → n ≢ 0 → 0 < n
+above n some = elim (cases_lt 0 n) [ inl less ↦ less | inr none ↦ absurd (some (omega (arith, none))) ]
 
 pub returns : goal.returns
 returns c =
-    let P : List BuildValue → Type 0 = λ bs. IsTrue c.contains_key.result ↔ Any (λ b. Contains b.pairs (c.args.scope, c.args.place)) bs in
-    let Q : Bool → Type 0 = λ t. IsTrue t ↔ Any (λ b. Contains b.pairs (c.args.scope, c.args.place)) (builds_of c.self.inside.pairs.items c.self.inside.rows.items) in
-    let V : JobRowsValue → Type 0 = λ v. P v.builds in subst V c.self.view_is (subst Q (sym c.contains_key.ensures) (c.self.invariant.told (c.args.scope, c.args.place)))
+    let bs = c.args.self.now.builds in
+    let pair : ℕ × ℕ = (c.args.scope, c.args.place) in (
+      λ h. (last_some bs pair).0 (λ z. let more = ltb-true 0 _ h in omega (arith, more, c.last_with.ensures, z)),
+      λ h. lt-ltb 0 _ (let more = above (last_with bs pair) ((last_some bs pair).1 h) in omega (arith, more, c.last_with.ensures)),
+    )

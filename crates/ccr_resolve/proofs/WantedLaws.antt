@@ -1,0 +1,213 @@
+-- Which builds can be part of a choice that is better than the one found.
+use Rattle.std.proofs.Common.{◌≡◌, ◌≢◌, ℕ, ◌+◌, ◌-◌, ◌<◌, ◌≤◌, inl, inr, true, ◌==◌, List, [], ◌∷◌, ◌++◌, length, length-append, All, drop, slice_index, slice_index_or, slice_set, refl, sym, ap, ◌∙◌, subst, arith, Option, Some, None}
+use Rattle.std.specs.Prelude.{Contains, Any, MatchOption, unwrap_or, slice_get}
+use Rattle.std.proofs.lemmas.Bool.{cases_Bool, cases_lt, cond-true, cond-false, eq-eqb, eqb-true, ltb-true, lt-ltb}
+use Rattle.std.proofs.lemmas.List.{get_or_default, get_or-drop, length-drop}
+use Rattle.std.proofs.lemmas.List.Elements.{All-append, All-cons, All-nil, Contains-append_left, Contains-append_right}
+use Rattle.std.proofs.lemmas.Option.{get_or_from_slice_get}
+use Rattle.ccr_choice.specs.Problem.{ProblemValue, BuildValue, is_problem, input_at, builds_at}
+use Rattle.ccr_choice.specs.Preference.{plain, order_of, IsBetter}
+use Rattle.ccr_choice.specs.Assignment.{Assignment, Agrees, with_build}
+use Rattle.ccr_choice.specs.Possible.{CanHavePassed, IsPossible, IsBestPossible, IsBestPlace}
+use Rattle.ccr_choice.specs.Table.{build_of, assigned}
+use Rattle.ccr_choice.proofs.Members.{contains_first}
+use Rattle.ccr_choice.proofs.PlainLaws.{is_order}
+use Rattle.ccr_choice.proofs.TableLaws.{table_set}
+use Rattle.ccr_proof.proofs.Sound.{AreKnown, place_possible}
+use Rattle.ccr_index.specs.Rows.{no_build, last_with}
+use Rattle.ccr_index.proofs.RowLaws.{last_within, last_has, none_newer}
+use Rattle.ccr_resolve.specs.Search.{AreUpper}
+use Rattle.ccr_resolve.specs.Sought.{IsRuledOut, HasAll, AreWanted, IsSplit}
+use Rattle.ccr_resolve.proofs.Path.{known_of}
+
+-- ---- from a build with a pair to the next older one
+pub step_low : (bs : List BuildValue) (pair : ℕ × ℕ) (build next : ℕ) → build < length bs → next ≡ last_with (drop (build + 1) bs) pair → next + (build + 1) ≤ length bs
+step_low bs pair build next within e = let low = last_within (drop (build + 1) bs) pair in omega (arith, low, e, length-drop (build + 1) bs, within)
+
+pub step_has : (bs : List BuildValue) (pair : ℕ × ℕ) (build next : ℕ) → build < length bs → next ≡ last_with (drop (build + 1) bs) pair → next ≢ 0
+    → Contains (slice_index_or bs (length bs - next) no_build).pairs pair
+step_has bs pair build next within e some =
+    let low = step_low bs pair build next within e in
+    let older : List BuildValue = drop (build + 1) bs in
+    let k = length older - next in
+    let here : build + 1 + k ≡ length bs - next = omega (arith, low, length-drop (build + 1) bs, within) in
+    let fits : k + last_with older pair ≡ length older = omega (arith, low, e, length-drop (build + 1) bs, within) in
+    let P : ℕ → Type 0 = λ n. Contains (slice_index_or bs n no_build).pairs pair in
+    let Q : BuildValue → Type 0 = λ b. Contains b.pairs pair in
+    subst P here (subst Q (get_or-drop (build + 1) bs k no_build) (last_has older pair k no_build (λ z. some (e ∙ z)) fits))
+
+pub step_none : (bs : List BuildValue) (pair : ℕ × ℕ) (build next k : ℕ) → build < length bs → next ≡ last_with (drop (build + 1) bs) pair → build < k → k + next < length bs
+    → Contains (slice_index_or bs k no_build).pairs pair → ⊥
+step_none bs pair build next k within e beyond less h =
+    let older : List BuildValue = drop (build + 1) bs in
+    let m = k - (build + 1) in
+    let back : build + 1 + m ≡ k = omega (arith, beyond) in
+    let P : ℕ → Type 0 = λ n. Contains (slice_index_or bs n no_build).pairs pair in
+    let Q : BuildValue → Type 0 = λ b. Contains b.pairs pair in
+    none_newer older pair m no_build (omega (arith, less, e, length-drop (build + 1) bs, beyond)) (subst Q (sym (get_or-drop (build + 1) bs m no_build)) (subst P (sym back) h))
+
+-- the builds with a pair that are newer than the last one looked at are in the list
+pub record IsWalked (bs : List BuildValue) (pair : ℕ × ℕ) (last : ℕ) (list old : List ℕ) (most : ℕ) : Type 0 where
+  pub low : last ≤ length bs
+  pub has : last ≢ 0 → Contains (slice_index_or bs (length bs - last) no_build).pairs pair
+  pub done : (k : ℕ) → k + last < length bs → Contains (slice_index_or bs k no_build).pairs pair → Contains list k
+  pub within : All (λ k. k < length bs) list
+  pub few : length list ≤ most
+  pub kept : (k : ℕ) → Contains old k → Contains list k
+
+pub walk_first : (bs : List BuildValue) (pair : ℕ × ℕ) (last : ℕ) (list : List ℕ) (most : ℕ) → last ≡ last_with bs pair → All (λ k. k < length bs) list → length list ≤ most → IsWalked bs pair last list list most
+walk_first bs pair last list most e within few = record {
+  low = (let low = last_within bs pair in omega (arith, low, e));
+  has = λ some. last_has bs pair (length bs - last) no_build (λ z. some (e ∙ z)) (let low = last_within bs pair in omega (arith, low, e));
+  done = λ k less h. absurd (none_newer bs pair k no_build (omega (arith, less, e)) h);
+  within = within;
+  few = few;
+  kept = λ k h. h;
+}
+
+above : (n : ℕ) → n ≢ 0 → 0 < n
+above n some = elim (cases_lt 0 n) [ inl less ↦ less | inr none ↦ absurd (some (omega (arith, none))) ]
+
+pub walk_inside : (bs : List BuildValue) (pair : ℕ × ℕ) (last build : ℕ) (list old : List ℕ) (most : ℕ) → IsWalked bs pair last list old most → last ≢ 0 → build ≡ length bs - last → build < length bs
+walk_inside bs pair last build list old most so some e = let more = above last some in omega (arith, more, so.low, e)
+
+pub walk_has : (bs : List BuildValue) (pair : ℕ × ℕ) (last build : ℕ) (list old : List ℕ) (most : ℕ) → IsWalked bs pair last list old most → last ≢ 0 → build ≡ length bs - last
+    → Contains (slice_index_or bs build no_build).pairs pair
+walk_has bs pair last build list old most so some e =
+    let P : ℕ → Type 0 = λ n. Contains (slice_index_or bs n no_build).pairs pair in
+    subst P (sym e) (so.has some)
+
+pub walk_less : (bs : List BuildValue) (pair : ℕ × ℕ) (last next build : ℕ) (list old : List ℕ) (most : ℕ) → IsWalked bs pair last list old most → last ≢ 0 → build ≡ length bs - last → next ≡ last_with (drop (build + 1) bs) pair → next < last
+walk_less bs pair last next build list old most so some e is =
+    let low = step_low bs pair build next (walk_inside bs pair last build list old most so some e) is in omega (arith, low, so.low, e)
+
+pub walk_next : (bs : List BuildValue) (pair : ℕ × ℕ) (last next build : ℕ) (list list' old : List ℕ) (most : ℕ) → IsWalked bs pair last list old most → last ≢ 0 → build ≡ length bs - last
+    → next ≡ last_with (drop (build + 1) bs) pair → list' ≡ list ++ build ∷ [] → length list < most → IsWalked bs pair next list' old most
+walk_next bs pair last next build list list' old most so some e is pushed room =
+    let inside = walk_inside bs pair last build list old most so some e in
+    let low = step_low bs pair build next inside is in
+    let P : List ℕ → Type 0 = λ xs. IsWalked bs pair next xs old most in
+    subst P (sym pushed) (record {
+      low = omega (arith, low);
+      has = step_has bs pair build next inside is;
+      done = λ k less h. elim (cases_lt (k + last) (length bs)) [
+        | inl old_one ↦ Contains-append_left list (build ∷ []) k (so.done k old_one h)
+        | inr reached ↦ elim (cases_lt build k) [
+          | inl beyond ↦ absurd (step_none bs pair build next k inside is beyond less h)
+          | inr le ↦ (let now : build ≡ k = omega (arith, le, reached, e, so.low) in
+              let Q : ℕ → Type 0 = λ n. Contains (list ++ build ∷ []) n in
+              subst Q now (Contains-append_right list (build ∷ []) build (contains_first build [])))
+        ]
+      ];
+      within = All-append (λ k. k < length bs) list (build ∷ []) so.within (All-cons (λ k. k < length bs) build [] inside (All-nil (λ k. k < length bs)));
+      few = omega (arith, room, length-append list (build ∷ []));
+      kept = λ k h. Contains-append_left list (build ∷ []) k (so.kept k h);
+    })
+
+pub walk_end : (bs : List BuildValue) (pair : ℕ × ℕ) (last : ℕ) (list old : List ℕ) (most : ℕ) → IsWalked bs pair last list old most → last ≡ 0 → HasAll bs pair list
+walk_end bs pair last list old most so e = λ k within h. so.done k (omega (arith, within, e)) h
+
+-- one place after the other, from the last one down
+pub places_next : (bs : List BuildValue) (scope to step : ℕ) (list list' : List ℕ) → ((place : ℕ) → place ≤ to → to < place + step → HasAll bs (scope, place) list) → ((k : ℕ) → Contains list k → Contains list' k)
+    → step ≤ to → HasAll bs (scope, to - step) list' → (place : ℕ) → place ≤ to → to < place + (step + 1) → HasAll bs (scope, place) list'
+places_next bs scope to step list list' all kept le new place below reached =
+    elim (cases_lt to (place + step)) [
+      | inl old ↦ (λ k within h. kept k (all place below old k within h))
+      | inr last ↦ (let now : to - step ≡ place = omega (arith, last, reached, le) in
+          let P : ℕ → Type 0 = λ n. HasAll bs (scope, n) list' in subst P now new)
+    ]
+
+pub places_end : (bs bs' : List BuildValue) (scope scope' from to step most : ℕ) (list : List ℕ) → bs ≡ bs' → scope ≡ scope' → All (λ k. k < length bs) list → length list ≤ most → most ≤ length bs
+    → ((place : ℕ) → place ≤ to → to < place + step → HasAll bs (scope, place) list) → to < from + step → AreWanted bs' scope' from to list
+places_end bs bs' scope scope' from to step most list e f within few fits all last =
+    let made : AreWanted bs scope from to list = record {
+      few = omega (arith, few, fits);
+      within = within;
+      all = λ place reached below. all place below (omega (arith, reached, last));
+    } in
+    let P : List BuildValue → Type 0 = λ xs. AreWanted xs scope' from to list in
+    let Q : ℕ → Type 0 = λ n. AreWanted bs n from to list in
+    subst P e (subst Q f made)
+
+-- all builds of a job
+pub full_split : (p : ProblemValue) (table : List ℕ) (best : Option (List ℕ)) (job : ℕ) (list : List ℕ) → job < length p.jobs → slice_index table job ≡ 0
+    → length list ≡ length (builds_at p job) → ((k : ℕ) → k < length (builds_at p job) → slice_index list k ≡ k) → IsSplit p table best job list
+full_split p table best job list inside free long each = record {
+  inside = inside;
+  free = free;
+  few = omega (arith, long);
+  within = λ k d within. let is = get_or_default list k d 0 within in let at = each k (omega (arith, within, long)) in omega (arith, is, at, within, long);
+  left_out = λ k b within got out.
+      let here : k < length list = omega (arith, within, long) in
+      absurd (out (k, here, get_or_default list k k 0 here ∙ each k within));
+}
+
+-- ---- the places that a better choice can have
+no_better_of : (p : ProblemValue) (a : Assignment) (i place upper : ℕ) (o : Option ℕ) → IsBestPossible plain p a i o → upper ≡ unwrap_or o 0 → IsPossible p a i place → place ≤ upper
+no_better_of p a i place upper None best e h = absurd (best place h)
+no_better_of p a i place upper (Some x) best e h =
+    elim (cases_lt x place) [
+      | inl more ↦ absurd (best.1 place h (lt-ltb x place more))
+      | inr le ↦ omega (arith, le, e)
+    ]
+
+no_better : (p : ProblemValue) (a : Assignment) (i place upper : ℕ) → IsBestPlace plain p a i upper → IsPossible p a i place → place ≤ upper
+no_better p a i place upper best h = no_better_of p a i place upper best.0 best.1 best.2 h
+
+reaches : (places best upper : List ℕ) (i : ℕ) → IsBetter plain places best → ((y : ℕ) → y < i → slice_index upper y ≡ slice_index best y) → ((y : ℕ) → y ≤ i → slice_index places y ≤ slice_index upper y)
+    → slice_index best i ≤ slice_index places i
+reaches places best upper i h same low =
+    let more : slice_index best h.first < slice_index places h.first = ltb-true _ _ h.preferred in
+    elim (cases_lt i h.first) [
+      | inl before ↦ omega (arith, h.same_before i before)
+      | inr reached ↦ elim (cases_lt h.first i) [
+        | inl less ↦ (let top = low h.first (omega (arith, less)) in absurd (omega (arith, more, top, same h.first less)))
+        | inr at ↦ (let now : h.first ≡ i = omega (arith, reached, at) in
+            let P : ℕ → Type 0 = λ n. slice_index best n < slice_index places n in
+            let less : P i = subst P now more in omega (arith, less))
+      ]
+    ]
+
+free_none : (p : ProblemValue) (table : List ℕ) (j : ℕ) → slice_index table j ≡ 0 → assigned p table j ≡ None
+free_none p table j e = ap (build_of (builds_at p j)) e
+
+-- where a job is free, what agrees with one of its builds fixed agrees without it
+agrees_less : (a : Assignment) (j : ℕ) (b : BuildValue) (builds : List ℕ) → a j ≡ None → Agrees (with_build a j b) builds → Agrees a builds
+agrees_less a j b builds free agrees k c e =
+    elim (cases_Bool (k == j)) [
+      | inl same ↦ (let none : a k ≡ None = ap a (eqb-true k j same) ∙ free in absurd (cc (e, none)))
+      | inr other ↦ agrees k c (cond-false (k == j) (Some b) (a k) other ∙ e)
+    ]
+
+module _ (p : ProblemValue) (rules : is_problem p ≡ true) (table upper best : List ℕ) (i j : ℕ) (list : List ℕ)
+    (uppers : AreUpper p (assigned p table) upper) (inside : i < length p.inputs) (named : Contains (input_at p i).jobs j) (free : slice_index table j ≡ 0) (wide : j < length table)
+    (same : (y : ℕ) → y < i → slice_index upper y ≡ slice_index best y)
+    (wanted : AreWanted (builds_at p j) (input_at p i).scope (slice_index best i) (slice_index upper i) list) where
+  known_with : (k : ℕ) (b : BuildValue) → slice_get (builds_at p j) k ≡ Some b → AreKnown (order_of p) (is_order p) p rules (with_build (assigned p table) j b)
+  known_with k b got =
+      let P : Assignment → Type 0 = λ a. AreKnown (order_of p) (is_order p) p rules a in
+      subst P (table_set p table j k b wide got) (known_of (order_of p) (is_order p) p rules (slice_set table j (k + 1)))
+
+  -- a place that is possible with a build of the job is among the build's pairs
+  has_pair : (b : BuildValue) (place : ℕ) → IsPossible p (with_build (assigned p table) j b) i place → Contains b.pairs ((input_at p i).scope, place)
+  has_pair b place h =
+      let pair : ℕ × ℕ = ((input_at p i).scope, place) in
+      let is : slice_index (input_at p i).jobs named.0 ≡ j = get_or_default (input_at p i).jobs named.0 0 j named.1 ∙ named.2 in
+      let P : ℕ → Type 0 = λ n. CanHavePassed p (with_build (assigned p table) j b) pair n in
+      let Q : Option BuildValue → Type 0 = λ o. MatchOption o (Any (λ x. Contains x.pairs pair) (builds_at p j)) (λ x. Contains x.pairs pair) in
+      subst Q (cond-true (j == j) (Some b) (assigned p table j) (eq-eqb j j refl)) (subst P is (h.passed named.0 named.1))
+
+  pub wanted_out : (k : ℕ) (b : BuildValue) → k < length (builds_at p j) → slice_get (builds_at p j) k ≡ Some b → (Contains list k → ⊥) → IsRuledOut (order_of p) p (Some best) (with_build (assigned p table) j b)
+  wanted_out k b within got out = λ places builds sat agrees better.
+      let a = assigned p table in
+      let without : Agrees a builds = agrees_less a j b builds (free_none p table j free) agrees in
+      let low : (y : ℕ) → y ≤ i → slice_index places y ≤ slice_index upper y = λ y le.
+      no_better p a y (slice_index places y) (slice_index upper y) (uppers y (omega (arith, le, inside)))
+      (place_possible (order_of p) (is_order p) p rules a places builds (known_of (order_of p) (is_order p) p rules table) without sat y (omega (arith, le, inside))) in
+      let from = reaches places best upper i better same low in
+      let possible = place_possible (order_of p) (is_order p) p rules (with_build a j b) places builds (known_with k b got) agrees sat i inside in
+      let P : BuildValue → Type 0 = λ x. Contains x.pairs ((input_at p i).scope, slice_index places i) in
+      out (wanted.all (slice_index places i) from (low i (omega arith)) k within (subst P (sym (get_or_from_slice_get (builds_at p j) k b no_build got)) (has_pair b (slice_index places i) possible)))
+
+  pub wanted_split : j < length p.jobs → IsSplit p table (Some best) j list
+  wanted_split within = record { inside = within; free = free; few = wanted.few; within = wanted.within; left_out = wanted_out }

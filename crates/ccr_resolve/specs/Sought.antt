@@ -1,0 +1,52 @@
+-- What the search without a proof gives. No public contract names these.
+use Rattle.std.specs.Prelude.{◌≡◌, ℕ, ◌+◌, ◌<◌, ◌≤◌, List, length, Bool, true, false, Option, Some, None, slice_index, slice_index_or, slice_get, All, Contains}
+use Rattle.ccr_choice.specs.Problem.{ProblemValue, BuildValue, ChoiceValue, builds_at}
+use Rattle.ccr_choice.specs.Satisfies.{Satisfies}
+use Rattle.ccr_choice.specs.Preference.{Preference, order_of, IsBetter}
+use Rattle.ccr_choice.specs.Assignment.{Assignment, Agrees, with_build}
+use Rattle.ccr_choice.specs.Table.{assigned}
+use Rattle.ccr_index.specs.Rows.{no_build}
+use Rattle.ccr_resolve.specs.Search.{places_of, FoundSatisfies, free_product, IsNoWorse}
+
+-- Each choice that satisfies and agrees with these builds is no better than what was found; there is none where nothing was.
+abbrev pub IsRuledOut : Preference → ProblemValue → Option (List ℕ) → Assignment → Type 0
+IsRuledOut prefers p None a = (places builds : List ℕ) → Satisfies p places builds → ¬ Agrees a builds
+IsRuledOut prefers p (Some best) a =
+    (places builds : List ℕ) → Satisfies p places builds → Agrees a builds → ¬ IsBetter prefers places best
+
+-- Whatever agrees with the table is ruled out by what was found in the end, and no more boxes were looked at than the table
+-- may need.
+pub record IsSought (prefers : Preference) (p : ProblemValue) (table : List ℕ) (before after : Option ChoiceValue)
+    (room left : ℕ) : Type 0 where
+  pub ruled_out : IsRuledOut prefers p (places_of after) (assigned p table)
+  pub kept : IsNoWorse prefers (places_of before) (places_of after)
+  pub satisfies : FoundSatisfies p after
+  pub used : ℕ
+  pub spent : room ≡ left + used
+  pub few : used ≤ free_product p.jobs table
+
+-- The search is over only where the room is less than what the table may need.
+abbrev pub Sought : Preference → ProblemValue → List ℕ → Option ChoiceValue → Option ChoiceValue → ℕ → ℕ → Bool → Type 0
+Sought prefers p table before after room left true = room + 1 ≤ free_product p.jobs table
+Sought prefers p table before after room left false = IsSought prefers p table before after room left
+
+-- ---- the builds of a job that are gone into
+-- The list has each position of a build with this pair.
+abbrev pub HasAll : List BuildValue → ℕ × ℕ → List ℕ → Type 0
+HasAll builds pair list =
+    (k : ℕ) → k < length builds → Contains (slice_index_or builds k no_build).pairs pair → Contains list k
+
+-- Positions of builds, with all that have one of these places of a scope.
+pub record AreWanted (builds : List BuildValue) (scope from to : ℕ) (list : List ℕ) : Type 0 where
+  pub few : length list ≤ length builds
+  pub within : All (λ k. k < length builds) list
+  pub all : (place : ℕ) → from ≤ place → place ≤ to → HasAll builds (scope, place) list
+
+-- A free job, and positions of its builds: each build that is left out is ruled out.
+pub record IsSplit (p : ProblemValue) (table : List ℕ) (best : Option (List ℕ)) (job : ℕ) (list : List ℕ) : Type 0 where
+  pub inside : job < length p.jobs
+  pub free : slice_index table job ≡ 0
+  pub few : length list ≤ length (builds_at p job)
+  pub within : All (λ k. k < length (builds_at p job)) list
+  pub left_out : (k : ℕ) (b : BuildValue) → k < length (builds_at p job) → slice_get (builds_at p job) k ≡ Some b
+      → ¬ Contains list k → IsRuledOut (order_of p) p best (with_build (assigned p table) job b)

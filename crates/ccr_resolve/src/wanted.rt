@@ -1,0 +1,160 @@
+//! The builds that can still be part of a better choice. They are found by their pairs, so that the work doesn't grow with those that
+//! can't.
+
+ghost use Rattle.std.specs.Prelude.{◌≡◌, ◌≢◌, ◌<◌, ◌≤◌, ℕ, length, slice_index, IfOk, IfSome, MatchOption, IsTrue, not, All, Contains, Some};
+ghost use Rattle.ccr_choice.specs.Problem.{input_at, builds_at};
+ghost use Rattle.ccr_choice.specs.Table.{assigned};
+ghost use Rattle.ccr_resolve.specs.Search.{AreUpper, places_of};
+ghost use Rattle.ccr_resolve.specs.Sought.{HasAll, AreWanted, IsSplit};
+
+use crate::pick::cheapest_job;
+use crate::upper::BestPlaces;
+use ccr_choice::Choice;
+use ccr_choice::possible::Fixed;
+use ccr_index::{Index, JobRows};
+use std::alloc::{AllocError, Global};
+
+/// How many wanted builds of a job are few.
+const FEW: usize = 32;
+/// How many are looked for where no job has few.
+const MANY: usize = 4_096;
+
+/// A free job, and the positions of those of its builds that are gone into.
+#[derive(Drop)]
+pub(crate) struct Split {
+    pub(crate) job: usize,
+    pub(crate) builds: Vec<usize>,
+}
+
+/// Adds the positions of those builds that have a pair, newest first; true where there would be more than `most` in all.
+fn add_builds_with(
+    builds: &mut Vec<usize>,
+    rows: &JobRows,
+    scope: u32,
+    place: u32,
+    most: usize,
+) -> Result<bool, AllocError>
+    requires within { All (λ k. k < length rows.now.builds) builds.old.items }
+    requires few { length builds.old.items ≤ most }
+    ensures within { All (λ k. k < length rows.now.builds) builds.new.items }
+    ensures few { length builds.new.items ≤ most }
+    ensures kept { (k : ℕ) → Contains builds.old.items k → Contains builds.new.items k }
+    ensures all { IfOk result (λ is_over. IsTrue (not is_over) → HasAll rows.now.builds (scope, place) builds.new.items) }
+{
+    let mut last = rows.last_with(scope, place);
+    while last != 0 {
+        if builds.len() >= most {
+            return Ok(true);
+        }
+        let build = rows.len() - last;
+        builds.push(build)?;
+        last = rows.last_before(build, scope, place);
+    }
+    Ok(false)
+}
+
+/// The positions of those builds of a job that have a place from `from` to `to` in the scope of an input, if they are at most
+/// `most`.
+fn wanted_builds(
+    alloc: Global,
+    index: &Index,
+    job: usize,
+    input: usize,
+    from: u32,
+    to: u32,
+    most: usize,
+) -> Result<Option<Vec<usize>>, AllocError>
+    requires job { job < length index.now.problem.jobs }
+    requires input { input < length index.now.problem.inputs }
+    ensures { IfOk result (λ found. IfSome found (λ builds.
+        AreWanted (builds_at index.now.problem job) (input_at index.now.problem input).scope from to builds.items)) }
+{
+    let rows = index.rows(job);
+    let most = most.min(rows.len());
+    if to < from || (to - from) as usize >= most {
+        return Ok(None);
+    }
+    let scope = index.input(input).scope();
+    let mut builds = Vec::new(alloc);
+    for step in 0..(to - from + 1) {
+        let is_over = add_builds_with(&mut builds, rows, scope, to - step, most)?;
+        if is_over {
+            return Ok(None);
+        }
+    }
+    Ok(Some(builds))
+}
+
+/// A free job with at most `most` builds that can be part of a better choice. A better one has the places found before the first input whose
+/// best place is better, and there a place from the one found to the best.
+fn best_split(
+    alloc: Global,
+    index: &Index,
+    fixed: &Fixed,
+    upper: &BestPlaces,
+    best: &Choice,
+    most: usize,
+) -> Result<Option<Split>, AllocError>
+    requires { AreUpper index.now.problem (assigned index.now.problem fixed.now) upper.now }
+    ensures { IfOk result (λ found. IfSome found (λ split.
+        IsSplit index.now.problem fixed.now (Some best.now.places) split.job split.builds.items)) }
+{
+    for i in 0..index.input_count() {
+        let Some(from) = best.places.get(i) else {
+            return Ok(None);
+        };
+        for name in index.input(i).jobs() {
+            let job = *name as usize;
+            if fixed[job] == 0 {
+                if let Some(builds) = wanted_builds(alloc, index, job, i, *from, upper[i], most)? {
+                    return Ok(Some(Split { job, builds }));
+                }
+            }
+        }
+        if upper[i] != *from {
+            return Ok(None);
+        }
+    }
+    Ok(None)
+}
+
+/// The positions below this one.
+fn all_below(alloc: Global, count: usize) -> Result<Vec<usize>, AllocError>
+    ensures { IfOk result (λ all. (length all.items ≡ count)
+        × ((k : ℕ) → k < count → slice_index all.items k ≡ k)) }
+{
+    let mut all = Vec::new(alloc);
+    for k in 0..count {
+        all.push(k)?;
+    }
+    Ok(all)
+}
+
+/// A free job and the builds of it to go into: few that can be part of a better choice, or all of the job that costs the least. None
+/// where no job is free.
+pub(crate) fn next_split(
+    alloc: Global,
+    index: &Index,
+    fixed: &Fixed,
+    upper: &BestPlaces,
+    best: &Option<Choice>,
+) -> Result<Option<Split>, AllocError>
+    requires { AreUpper index.now.problem (assigned index.now.problem fixed.now) upper.now }
+    ensures { IfOk result (λ found. MatchOption found
+        ((j : ℕ) → j < length index.now.problem.jobs → slice_index fixed.now j ≢ 0)
+        (λ split. IsSplit index.now.problem fixed.now (places_of best.now) split.job split.builds.items)) }
+{
+    if let Some(choice) = best {
+        if let Some(found) = best_split(alloc, index, fixed, upper, choice, FEW)? {
+            return Ok(Some(found));
+        }
+        if let Some(found) = best_split(alloc, index, fixed, upper, choice, MANY)? {
+            return Ok(Some(found));
+        }
+    }
+    let Some(job) = cheapest_job(index, fixed, upper, best) else {
+        return Ok(None);
+    };
+    let builds = all_below(alloc, index.rows(job).len())?;
+    Ok(Some(Split { job, builds }))
+}
