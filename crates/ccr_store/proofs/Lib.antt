@@ -7,3 +7,5 @@ pub mod ChangeRows
 pub mod OutlineLaws
 pub mod MirrorLemmas
 pub mod EndLemmas
+pub mod StoreLemmas
+pub mod ListedRows

@@ -10,12 +10,13 @@ use Rattle.ccr_history.specs.Text.{Text}
 use Rattle.ccr_history.specs.Tables.{TableData, reported, is_table_full}
 use Rattle.ccr_history.specs.Builds.{BuildData, is_of, is_build_of, build_of, count_of, new_build, ended as ended_build, with_end}
 use Rattle.ccr_history.specs.History.{HistoryData}
-use Rattle.ccr_history.specs.Changes.{EditData, text, versions, build, ended, pin_set, pin_cleared, edited, Takes}
+use Rattle.ccr_history.specs.Changes.{EditData, text, versions, build, ended, pin_set, pin_cleared, edited, changed, Takes, TakesAll}
 use Rattle.ccr_history.specs.Orderly.{IsOnly}
-use Rattle.ccr_store.specs.Outline.{IsOutline, name_of, outlined, Allows}
+use Rattle.ccr_store.specs.Outline.{IsOutline, name_of, outlined, Allows, all_outlined, AllowsAll, outline_writes}
 use Rattle.ccr_store.specs.Rows.{status_number}
+use Rattle.ccr_store.specs.WriteData.{WriteData}
 use Rattle.ccr_store.specs.WriteData as write
-use Rattle.ccr_store.specs.Writes.{build_id, used_write, moved_write, report_writes, writes_of}
+use Rattle.ccr_store.specs.Writes.{build_id, used_write, moved_write, report_writes, writes_of, all_writes_of}
 
 -- ---- the id of the only build of a number
 pub build_id-only : (job : Text) (number k : ℕ) (bs : List BuildData) (i : ℕ) → IsOnly (is_build_of job number) bs i → build_id k job number bs ≡ k + i
@@ -115,3 +116,17 @@ outline_allows (build job used) h o it takes = subst (λ (n : ℕ). n < MOST_BUI
 outline_allows (ended job number how moved) h o it takes = same_found job number o.builds h.builds it.builds takes.0.0 takes.0.1
 outline_allows (pin_set resource pin) h o it takes = tt
 outline_allows (pin_cleared resource) h o it takes = tt
+
+-- ---- any number of changes
+pub all_allowed : (es : List EditData) (h o : HistoryData) → IsOutline h o → TakesAll h es → AllowsAll o es
+all_allowed [] h o it takes = tt
+all_allowed (e ∷ es) h o it takes = (outline_allows e h o it takes.0, all_allowed es (edited e h) (outlined e o) (outline_kept e h o it) takes.1)
+
+pub all_writes_same : (es : List EditData) (h o : HistoryData) → IsOutline h o → all_writes_of es h ≡ outline_writes es o
+all_writes_same [] h o it = refl
+all_writes_same (e ∷ es) h o it =
+    ap₂ (λ (ws vs : List WriteData). ws ++ vs) (writes_same e h o it) (all_writes_same es (edited e h) (outlined e o) (outline_kept e h o it))
+
+pub all_kept : (es : List EditData) (h o : HistoryData) → IsOutline h o → IsOutline (changed es h) (all_outlined es o)
+all_kept [] h o it = it
+all_kept (e ∷ es) h o it = all_kept es (edited e h) (outlined e o) (outline_kept e h o it)

@@ -6,7 +6,7 @@ ghost use Rattle.ccr_tables.specs.Contents.{Contents, Keeps};
 ghost use Rattle.sqlite.specs.Tree.{Trees};
 ghost use Rattle.ccr_tables.specs.Written.{all_written};
 ghost use Rattle.ccr_tables.specs.declared.write.Write.{Write};
-ghost use Rattle.ccr_store.specs.Outline.{IsOutline, outlined, Allows};
+ghost use Rattle.ccr_store.specs.Outline.{IsOutline, outlined, Allows, all_outlined, AllowsAll, outline_writes};
 ghost use Rattle.ccr_store.specs.Reordered.{HasSameRows};
 ghost use Rattle.ccr_store.specs.Rows.{rows_of};
 ghost use Rattle.ccr_store.specs.WriteData.{write_data, all_made};
@@ -51,4 +51,12 @@ pub fn outlines_number_rows()
     // After the change the outline is one again.
     ensures kept { (e : EditData) (h outline : HistoryData) → IsOutline h outline
         → IsOutline (edited e h) (outlined e outline) }
+
+    // All three hold of any number of changes.
+    ensures allows_all { (es : List EditData) (h outline : HistoryData) → IsOutline h outline → TakesAll h es
+        → AllowsAll outline es }
+    ensures writes_all { (es : List EditData) (h outline : HistoryData) → IsOutline h outline
+        → all_writes_of es h ≡ outline_writes es outline }
+    ensures kept_all { (es : List EditData) (h outline : HistoryData) → IsOutline h outline
+        → IsOutline (changed es h) (all_outlined es outline) }
 {}

@@ -7,10 +7,17 @@
 //! `NoMemory` is the one fault so far: it comes only where a growth was refused.
 #![tactic(auto)]
 
+mod columns;
 mod fault;
+mod found;
 mod law;
+mod loading;
+mod matching;
 mod mirror;
+mod reading;
+mod store;
 
 pub use fault::StoreFault;
 pub use law::{changes_write_their_rows, outlines_number_rows};
 pub use mirror::Mirror;
+pub use store::Store;

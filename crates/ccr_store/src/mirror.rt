@@ -1,15 +1,15 @@
 //! What the store keeps of a history to number the rows of a change.
-ghost use Rattle.std.specs.Prelude.{◌≡◌, ◌+◌, ◌<◌, ◌≤◌, ◌++◌, [], ◌∷◌, length, drop, map, false, if◌then◌else◌, OnOk, IfErr};
+ghost use Rattle.std.specs.Prelude.{◌≡◌, ◌+◌, ◌<◌, ◌≤◌, ◌++◌, [], ◌∷◌, length, drop, map, false, if◌then◌else◌, OnOk, IfOk, IfErr};
 ghost use Rattle.ccr_history.specs.declared.table.TheConstants.{MOST_VERSIONS};
 ghost use Rattle.ccr_history.specs.declared.builds.TheConstants.{MOST_BUILDS};
 ghost use Rattle.ccr_history.specs.declared.build.Status.TheVariants.{Running};
-ghost use Rattle.ccr_history.specs.Edits.{edit_data};
+ghost use Rattle.ccr_history.specs.Edits.{edit_data, change_data};
 ghost use Rattle.ccr_history.specs.TextMap.{key_text};
 ghost use Rattle.ccr_history.specs.Tables.{is_table_full};
 ghost use Rattle.ccr_history.specs.Changes.{versions, build, ended, edited};
 ghost use Rattle.ccr_history.specs.History.{no_history};
 ghost use Rattle.ccr_store.specs.declared.fault.StoreFault.TheVariants.{NoMemory};
-ghost use Rattle.ccr_store.specs.Outline.{outlined, Allows};
+ghost use Rattle.ccr_store.specs.Outline.{outlined, Allows, all_outlined, AllowsAll, outline_writes};
 ghost use Rattle.ccr_store.specs.Rows.{status_number};
 ghost use Rattle.ccr_store.specs.WriteData.{write_data};
 ghost use Rattle.ccr_store.specs.WriteData as write;
@@ -37,7 +37,7 @@ impl Model for Mirror {
 }
 
 /// How a build stands, as a number.
-fn number_of(status: Status) -> u32
+pub(crate) fn number_of(status: Status) -> u32
     ensures { result ≡ status_number status }
 {
     match status {
@@ -200,6 +200,13 @@ impl Mirror {
         }
     }
 
+    /// The mirror of a history.
+    pub fn of(history: History) -> Mirror
+        ensures { result ≡ history }
+    {
+        Mirror { outline: history }
+    }
+
     /// Writes what a report adds: its scope, if it is new, and its new versions.
     fn report(
         &mut self,
@@ -303,5 +310,22 @@ impl Mirror {
             Edit::PinSet(resource, pin) => write_pin(alloc, resource, pin, writes),
             Edit::PinCleared(resource) => write_no_pin(alloc, resource, writes),
         }
+    }
+
+    /// What a change writes, in order. Brings the mirror up to date.
+    ///
+    /// The edits are ones that the history takes, each by then. `NoMemory` if out of memory; the mirror is of no use then.
+    pub fn writes(&mut self, alloc: Global, change: &[Edit]) -> Result<Vec<Write>, StoreFault>
+        requires { AllowsAll self.old (change_data change.now) }
+        ensures kept { OnOk result (self.new ≡ all_outlined (change_data change.now) self.old) }
+        ensures written { IfOk result (λ writes.
+            map write_data writes.items ≡ outline_writes (change_data change.now) self.old) }
+        ensures only { IfErr result (λ fault. fault ≡ NoMemory) }
+    {
+        let mut writes = Vec::new(alloc);
+        for edit in change {
+            self.write(alloc, edit, &mut writes)?;
+        }
+        Ok(writes)
     }
 }

@@ -1,5 +1,5 @@
 -- What the CREATE TABLEs do.
-use Rattle.std.proofs.Common.{◌≡◌, ℕ, List, [], codes, true, false, Some, None, Ok, Err, Result, inl, inr, refl, sym, ap, subst, ◌∙◌}
+use Rattle.std.proofs.Common.{◌≡◌, ℕ, List, [], codes, IfOk, true, false, Some, None, Ok, Err, Result, inl, inr, refl, sym, ap, subst, ◌∙◌}
 use Rattle.std.specs.List.{AllByRecursion}
 use Rattle.sqlite.specs.Table.{Table}
 use Rattle.sqlite.specs.Schema.{Schema}
@@ -11,7 +11,7 @@ use Rattle.sqlite_tied.specs.Compute.{everything}
 use Rattle.sqlite.specs.Listing.{understood}
 use Rattle.sqlite.specs.declared.error.Error.{Error}
 use Rattle.sqlite.specs.Effect.{Database}
-use Rattle.sqlite.specs.State.{State, Writes, Executes, ExecutesInside, KeepsCommit}
+use Rattle.sqlite.specs.State.{State, Writes, Executes, ExecutesIn, ExecutesInside, KeepsCommit}
 use Rattle.sqlite.proofs.Callers.{IsPlain, command_of, statement_of, runs_as}
 use Rattle.ccr_tables.specs.Schema.{no_schema, meta_schema, scopes_schema, versions_schema, builds_schema, pairs_schema, our_schema, meta, scopes, versions, builds, pairs, pins}
 use Rattle.ccr_tables.specs.Step.{IsBare, Creates}
@@ -58,6 +58,16 @@ meta_plain = (refl, refl)
 
 pub create_meta : (old new : State) (r : Result ℕ Error) → ExecutesInside 0 meta_text [] old new r → Creates no_schema meta_schema old new r
 create_meta = bares meta_text no_schema meta meta_meaning.0 meta_meaning.1 meta_plain meta_meaning.2 meta_meaning.3 (λ old new bare empty keeps. (empty, tt))
+
+meta_taken : IfOk (understood our_schema meta_text) (λ _. ⊥)
+unfolding understood everything
+meta_taken = tt
+
+-- where the six tables are there, the first of them can't be made
+pub no_second_meta : (old new : State) (r : Result ℕ Error) → old.now.schema ≡ our_schema → ExecutesInside 0 meta_text [] old new r → IfOk r (λ _. ⊥)
+unfolding ExecutesIn
+no_second_meta old new (Ok count) has h = subst (λ x. IfOk x (λ _. ⊥)) (ap (λ s. understood s meta_text) (sym has) ∙ h.0.1.is) meta_taken
+no_second_meta old new (Err e) has h = tt
 
 abbrev pub scopes_text : List ℕ
 scopes_text = codes "CREATE TABLE scopes(id INTEGER PRIMARY KEY, resource TEXT NOT NULL,\n  kind TEXT NOT NULL, source TEXT NOT NULL, UNIQUE(resource, kind, source))"

@@ -1,5 +1,5 @@
 -- What the SELECT of each table gives.
-use Rattle.std.proofs.Common.{◌≡◌, ℕ, List, [], ◌∷◌, map, refl, Vec, Global, Result, IfOk, OnOk, IsPermutation}
+use Rattle.std.proofs.Common.{◌≡◌, ℕ, List, [], ◌∷◌, map, refl, Vec, Global, Result, IfOk, OnOk, IsPermutation, IsTrue}
 use Rattle.sqlite.specs.declared.error.Error.{Error}
 use Rattle.sqlite.specs.Order.{Row}
 use Rattle.sqlite.specs.Term.{Term, col}
@@ -26,6 +26,9 @@ same_meta = select.same 0 (col 1 0 ∷ []) (col 1 0 ∷ col 1 2 ∷ []) meta_row
 
 pub survive_meta : (old new : State) → old.now.schema ≡ our_schema → Survives old new (CommitsShowing texts.meta_text [] old) → Survives old new (λ _. ⊥)
 survive_meta = select.survives 0 (col 1 0 ∷ []) (col 1 0 ∷ col 1 2 ∷ []) meta_row 1 (λ r. refl) (λ a b. refl) texts.meta_text texts.meta_names texts.meta_command texts.meta_plain texts.meta_unlisted (λ db. refl)
+
+pub open_meta : (old new : State) (r : Result (Vec Row Global) Error) → IfOk r (λ rows. Shown texts.meta_text [] old new rows.items) → IfOk r (λ _. IsTrue old.is_open)
+open_meta = select.shown_open (λ rows. rows.items) texts.meta_text
 
 pub list_scopes : (these : Contents) (old new : State) (r : Result (Vec Row Global) Error) → Holds these old.now → IfOk r (λ rows. Shown texts.scopes_text [] old new rows.items)
     → IfOk r (λ rows. IsListed 1 these.scopes rows.items)

@@ -1,5 +1,5 @@
 -- What a SELECT shows.
-use Rattle.std.proofs.Common.{◌≡◌, ◌<◌, ◌+◌, ℕ, List, [], ◌∷◌, map, filter, flat_map, Bool, true, false, cond, ◌&&◌, get_or, length, arith, refl, sym, ap, ap₂, subst, ◌∙◌, IsPermutation, IsSorted, IsTrue, Vec, Global, Ok, Err, Result, IfOk, OnOk, Ordering, is_lt}
+use Rattle.std.proofs.Common.{◌≡◌, ◌<◌, ◌+◌, ℕ, List, [], ◌∷◌, map, filter, flat_map, Bool, true, false, cond, ◌&&◌, get_or, length, arith, refl, sym, ap, ap₂, subst, ◌∙◌, IsPermutation, IsSorted, IsTrue, Vec, Global, Ok, Err, Result, IfOk, OnOk, Ordering, is_lt, Option, Some, None}
 use Rattle.std.specs.List.{AllByRecursion, list_all}
 use Rattle.std.specs.Ordering.{on}
 use Rattle.std.proofs.lemmas.List.Concat.{flat_map_single}
@@ -14,7 +14,9 @@ use Rattle.sqlite.specs.Query.{Query, Output, IsAnswer, output, output_cmp, inne
 use Rattle.sqlite.specs.Program.{overlay}
 use Rattle.sqlite.specs.Command.TheVariants.{Select}
 use Rattle.sqlite.specs.Listing.{understood, reads_listing}
-use Rattle.sqlite.specs.State.{State, Shown, IsUnchanged, Survives, CommitsShowing, HasCleanDisk}
+use Rattle.sqlite.specs.State.{State, Shown, ShowsRows, IsUnchanged, Survives, CommitsShowing, HasCleanDisk}
+use Rattle.sqlite.specs.Clock.{timed}
+use Rattle.sqlite_schema.specs.declared.command.Returning.{Returning}
 use Rattle.sqlite_sql.specs.Term.{eval_all, holds}
 use Rattle.sqlite.proofs.Callers.{IsPlain, command_of, reads_as, never_commits}
 use Rattle.sqlite.proofs.StateLemmas.{survives_weaker}
@@ -105,3 +107,13 @@ module _ (tree : ℕ) (keys project : List Term) (shown : Row → Row) (width : 
     pub survives : (old new : State) → old.now.schema ≡ our_schema → Survives old new (CommitsShowing text [] old) → Survives old new (λ _. ⊥)
     survives old new has h =
         let here = subst (λ s. IsPlain (understood s text)) (sym has) plain in survives_weaker old new _ _ (λ _ db. never_commits text [] old db here) h
+
+-- what is shown is shown by an open connection
+pub shown_open : {X : Type 0} (rows_of : X → List Row) (text : List ℕ) (old new : State) (r : Result X Error) → IfOk r (λ x. Shown text [] old new (rows_of x)) → IfOk r (λ _. IsTrue old.is_open)
+unfolding Shown
+shown_open rows_of text old new (Err e) h = tt
+shown_open rows_of text old new (Ok x) h = by h.0.returning h.2
+  where
+    by : (what : Option Returning) → ShowsRows old new text h.0 (timed [] h.0.formats h.1.now) (rows_of x) what → IsTrue old.is_open
+    by None shown = shown.3.0.was_open
+    by (Some what) shown = shown.1.shown.was_open

@@ -89,6 +89,9 @@ fn create_in<S: Alter>(tx: &mut Transaction<'_, S>) -> Result<Creation, Error>
         let new = state S.Store tx.new.conn.now in
         HasCleanDisk new → IsTrue old.in_transaction → result ≡ Ok Creation.Made
         → IsTrue new.in_transaction × (old.now.schema ≡ no_schema → Holds new_contents new.now) }
+    ensures taken { let old = state S.Store tx.old.conn.now in
+        HasCleanDisk (state S.Store tx.new.conn.now) → IsTrue old.in_transaction
+        → old.now.schema ≡ our_schema → result ≢ Ok Creation.Made }
     ensures survives { Survives (state S.Store tx.old.conn.now) (state S.Store tx.new.conn.now) (λ _. ⊥) }
 {
     match meta::create(tx) {
@@ -109,6 +112,8 @@ pub fn create<S: Alter>(conn: &mut Connection<S>) -> Result<Creation, Error>
         let new = state S.Store conn.new in
         HasCleanDisk new → IsTrue new.is_open → result ≢ Ok Creation.Made
         → (new.now ≡ old.committed) × (new.committed ≡ old.committed) }
+    ensures taken { HasCleanDisk (state S.Store conn.new) → (state S.Store conn.old).now.schema ≡ our_schema
+        → result ≢ Ok Creation.Made }
     ensures crash { let old = state S.Store conn.old in
         Survives old (state S.Store conn.new) (λ trees. old.now.schema ≡ no_schema → Keeps new_contents trees) }
     ensures mode { (state S.Store conn.new).in_transaction ≡ false }

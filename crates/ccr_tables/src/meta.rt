@@ -17,6 +17,9 @@ pub(crate) fn create<S: Alter>(tx: &mut Transaction<'_, S>) -> Result<usize, Err
     ensures step { let old = state S.Store tx.old.conn.now in
         let new = state S.Store tx.new.conn.now in
         HasCleanDisk new → IsTrue old.in_transaction → Creates no_schema meta_schema old new result }
+    ensures taken { let old = state S.Store tx.old.conn.now in
+        HasCleanDisk (state S.Store tx.new.conn.now) → IsTrue old.in_transaction
+        → old.now.schema ≡ our_schema → IfOk result (λ _. ⊥) }
     ensures survives { Survives (state S.Store tx.old.conn.now) (state S.Store tx.new.conn.now) (λ _. ⊥) }
 {
     tx.execute(
@@ -47,6 +50,8 @@ pub fn select<S: Alter>(conn: &mut Connection<S>) -> Result<Vec<Row>, Error>
     ensures same { let old = state S.Store conn.old in
         let new = state S.Store conn.new in
         HasCleanDisk new → old.now.schema ≡ our_schema → OnOk result (IsUnchanged old new) }
+    ensures clean { HasCleanDisk (state S.Store conn.new) → HasCleanDisk (state S.Store conn.old) }
+    ensures open { HasCleanDisk (state S.Store conn.new) → IfOk result (λ _. IsTrue (state S.Store conn.old).is_open) }
     ensures mode { conn.old.in_transaction ≡ false → conn.new.in_transaction ≡ false }
     ensures survives { let old = state S.Store conn.old in
         old.now.schema ≡ our_schema → Survives old (state S.Store conn.new) (λ _. ⊥) }

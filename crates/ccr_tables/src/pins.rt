@@ -62,6 +62,7 @@ pub fn select<S: Alter>(conn: &mut Connection<S>) -> Result<Vec<Row>, Error>
     ensures same { let old = state S.Store conn.old in
         let new = state S.Store conn.new in
         HasCleanDisk new → old.now.schema ≡ our_schema → OnOk result (IsUnchanged old new) }
+    ensures clean { HasCleanDisk (state S.Store conn.new) → HasCleanDisk (state S.Store conn.old) }
     ensures mode { conn.old.in_transaction ≡ false → conn.new.in_transaction ≡ false }
     ensures survives { let old = state S.Store conn.old in
         old.now.schema ≡ our_schema → Survives old (state S.Store conn.new) (λ _. ⊥) }

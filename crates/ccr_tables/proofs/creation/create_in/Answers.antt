@@ -33,3 +33,11 @@ returns-in-Err-clause-kept g c clean inside = (c.in-Err.ensures.step clean insid
 
 pub returns-in-Err-clause-made : goal.returns-in-Err-clause-made
 returns-in-Err-clause-made g c clean inside is = absurd (not_made _ c.if_refused.ensures.ok is)
+
+pub returns-in-Ok-clause-taken : goal.returns-in-Ok-clause-taken
+returns-in-Ok-clause-taken g c clean inside has made =
+    let clean1 : HasCleanDisk (state g.S.Store c.create.new.tx.conn.now) = omega (arith, c.create_rest.ensures.survives.clean) in
+    c.in-Ok.ensures.taken clean1 inside has
+
+pub returns-in-Err-clause-taken : goal.returns-in-Err-clause-taken
+returns-in-Err-clause-taken g c clean inside has made = not_made _ c.if_refused.ensures.ok made

@@ -1,7 +1,7 @@
 use Rattle.std.proofs.Common.{IfOk}
 use Rattle.sqlite.specs.Held.{state}
 use Rattle.ccr_tables.specs.Listing.{IsListed}
-use Rattle.ccr_tables.proofs.Lists.{list_meta, same_meta, survive_meta, each}
+use Rattle.ccr_tables.proofs.Lists.{list_meta, open_meta, same_meta, survive_meta, each}
 use Rattle.ccr_tables.proofs.meta.select.Goals as goal
 
 pub returns-clause-rows : goal.returns-clause-rows
@@ -16,3 +16,7 @@ returns-clause-same g c clean has =
 
 pub returns-clause-survives : goal.returns-clause-survives
 returns-clause-survives g c has = survive_meta (state g.S.Store c.args.conn.now) (state g.S.Store c.query_all.new.self) has c.query_all.ensures.survives
+
+pub returns-clause-open : goal.returns-clause-open
+returns-clause-open g c clean =
+    open_meta (state g.S.Store c.args.conn.now) (state g.S.Store c.query_all.new.self) c.query_all.result (c.query_all.ensures.ok clean)

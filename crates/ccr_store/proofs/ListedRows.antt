@@ -1,0 +1,126 @@
+-- Rows in the order of their keys, compared with a history from the first to the last.
+use Rattle.std.proofs.Common.{◌≡◌, ℕ, zero, suc, ◌+◌, ◌-◌, ◌<◌, List, [], ◌∷◌, ◌++◌, map, length, take, drop, get_or, Option, Some, None, option_map, unwrap_or, refl, sym, ap, ap₂, ◌∙◌, arith, IsPermutation}
+use Rattle.std.proofs.lemmas.Bool.{ne_eqb}
+use Rattle.std.proofs.lemmas.List.{append_assoc, take-append-drop}
+use Rattle.std.proofs.lemmas.List.Sorted.{IsPermutation-refl, IsPermutation-sym, IsPermutation-trans, IsPermutation-append, IsPermutation-append_comm}
+use Rattle.std.proofs.lemmas.Option.{slice_get-get_or, same_Some}
+use Rattle.std.specs.List.{slice_get}
+use Rattle.sqlite.specs.declared.types.Value.{Value}
+use Rattle.sqlite.specs.Order.{Row, column}
+use Rattle.sqlite_keyed.proofs.ListLemmas.{IsPermutation-same}
+use Rattle.ccr_history.specs.Tables.{ScopeData, TableData, at_place, versions_at}
+use Rattle.ccr_history.specs.Builds.{BuildData}
+use Rattle.ccr_history.specs.History.{HistoryData}
+use Rattle.ccr_tables.specs.Contents.{Contents}
+use Rattle.ccr_tables.specs.Listing.{IsListed}
+use Rattle.ccr_store.specs.Listed.{AreSeen, AreBuilt, listed_pairs, listed, contents_of}
+use Rattle.ccr_store.specs.Reordered.{HasSameRows}
+use Rattle.ccr_store.specs.Rows.{version_rows, table_rows, used_row, moved_row, pair_rows, rows_of}
+
+-- ---- the columns of a row
+pub two : (r : Row) (a b : Value) → length r ≡ 2 → column r 0 ≡ a → column r 1 ≡ b → r ≡ a ∷ b ∷ []
+two [] a b many p q = absurd (omega (arith, many))
+two (x ∷ []) a b many p q = absurd (omega (arith, many))
+two (x ∷ y ∷ []) a b many p q = ap₂ (λ (v w : Value). v ∷ w ∷ []) p q
+two (x ∷ y ∷ z ∷ r) a b many p q = absurd (omega (arith, many))
+
+pub three : (r : Row) (a b c : Value) → length r ≡ 3 → column r 0 ≡ a → column r 1 ≡ b → column r 2 ≡ c → r ≡ a ∷ b ∷ c ∷ []
+three [] a b c many p q s = absurd (omega (arith, many))
+three (x ∷ r) a b c many p q s =
+    let rest : length r ≡ 2 = omega (arith, many) in
+    ap₂ (λ (v : Value) (vs : Row). v ∷ vs) p (two r b c rest q s)
+
+pub four : (r : Row) (a b c d : Value) → length r ≡ 4 → column r 0 ≡ a → column r 1 ≡ b → column r 2 ≡ c → column r 3 ≡ d → r ≡ a ∷ b ∷ c ∷ d ∷ []
+four [] a b c d many p q s t = absurd (omega (arith, many))
+four (x ∷ r) a b c d many p q s t =
+    let rest : length r ≡ 3 = omega (arith, many) in
+    ap₂ (λ (v : Value) (vs : Row). v ∷ vs) p (three r b c d rest q s t)
+
+-- ---- from one element on
+pub drop_at : {X : Type 0} → (xs : List X) (i : ℕ) (x : X) → slice_get xs i ≡ Some x → drop i xs ≡ x ∷ drop (i + 1) xs
+drop_at [] i x at = absurd (cc)
+drop_at (y ∷ ys) zero x at = let same : y ≡ x = cc in ap (λ z. z ∷ ys) same
+drop_at (y ∷ ys) (suc i) x at =
+    let next : suc (i + 1) ≡ suc i + 1 = omega arith in
+    drop_at ys i x at ∙ ap (λ n. x ∷ drop n (y ∷ ys)) next
+
+pub drop_read : {X : Type 0} → (xs : List X) (i : ℕ) (x : X) → i < length xs → x ≡ get_or xs i x → drop i xs ≡ x ∷ drop (i + 1) xs
+drop_read xs i x within is = drop_at xs i x (slice_get-get_or xs i x within ∙ ap Some (sym is))
+
+-- a row for each element, numbered from 1: from one element on, if it is so from the next one on
+pub rows_step : {X : Type 0} → (rows_from : ℕ → List X → List Row) (row_of : ℕ → X → Row) → ((k : ℕ) (x : X) (xs : List X) → rows_from k (x ∷ xs) ≡ row_of k x ∷ rows_from (k + 1) xs)
+    → (rows : List Row) (xs : List X) (i : ℕ) (row : Row) (x : X) → i < length rows → row ≡ get_or rows i row → slice_get xs i ≡ Some x → row ≡ row_of (i + 1) x
+    → drop (i + 1) rows ≡ rows_from (i + 1 + 1) (drop (i + 1) xs) → drop i rows ≡ rows_from (i + 1) (drop i xs)
+rows_step rows_from row_of each rows xs i row x within is at same rest =
+    drop_read rows i row within is ∙ ap₂ (λ (r : Row) (rs : List Row). r ∷ rs) same rest
+    ∙ sym (each (i + 1) x (drop (i + 1) xs)) ∙ ap (rows_from (i + 1)) (sym (drop_at xs i x at))
+
+-- the versions of one scope and of those behind it
+pub tables_step : (ts : List TableData) (i : ℕ) (t : TableData) (rest here more : List Row) → slice_get ts i ≡ Some t → rest ≡ here ++ more → here ≡ version_rows (i + 1) 1 t.versions
+    → more ≡ table_rows (i + 1 + 1) (drop (i + 1) ts) → rest ≡ table_rows (i + 1) (drop i ts)
+tables_step ts i t rest here more at both first second =
+    both ∙ ap₂ (λ (r s : List Row). r ++ s) first second ∙ ap (table_rows (i + 1)) (sym (drop_at ts i t at))
+
+-- the pairs of one build and of those behind it
+pub pairs_step : (bs : List BuildData) (i : ℕ) (b : BuildData) (rest more : List Row) → slice_get bs i ≡ Some b → rest ≡ (map (moved_row (i + 1)) b.moved ++ map (used_row (i + 1)) b.used) ++ more
+    → more ≡ listed_pairs (i + 1 + 1) (drop (i + 1) bs) → rest ≡ listed_pairs (i + 1) (drop i bs)
+pairs_step bs i b rest more at both second =
+    both ∙ ap (λ (s : List Row). (map (moved_row (i + 1)) b.moved ++ map (used_row (i + 1)) b.used) ++ s) second ∙ ap (listed_pairs (i + 1)) (sym (drop_at bs i b at))
+
+some_at : {X : Type 0} → (xs : List X) (i : ℕ) → i < length xs → (x : X) × (slice_get xs i ≡ Some x)
+some_at [] i within = absurd (omega arith)
+some_at (x ∷ xs) zero within = (x, refl)
+some_at (x ∷ xs) (suc i) within = some_at xs i (omega arith)
+
+-- what stands at a place, the first at 1
+at_next : {X : Type 0} → (xs : List X) (i : ℕ) → at_place (i + 1) xs ≡ slice_get xs i
+at_next xs i =
+    let back : i + 1 - 1 ≡ i = omega arith in
+    rw (ne_eqb (i + 1) 0 (λ e. omega (arith, e)), back) refl
+
+-- the table whose scope has this number
+pub scope_there : (ts : List TableData) (n i : ℕ) (s : ScopeData) → n ≡ i → option_map (λ (t : TableData). t.scope) (at_place (n + 1) ts) ≡ Some s → (t : TableData) × (slice_get ts i ≡ Some t) × (t.scope ≡ s)
+scope_there ts n i s same has = by (slice_get ts i) refl (sym (ap (option_map (λ (t : TableData). t.scope)) (at_next ts n ∙ ap (slice_get ts) same)) ∙ has)
+  where
+    by : (o : Option TableData) → slice_get ts i ≡ o → option_map (λ (t : TableData). t.scope) (slice_get ts i) ≡ Some s → (t : TableData) × (slice_get ts i ≡ Some t) × (t.scope ≡ s)
+    by None at is = absurd (let both = ap (option_map (λ (t : TableData). t.scope)) (sym at) ∙ is in cc)
+    by (Some t) at is = let both : Some t.scope ≡ Some s = ap (option_map (λ (t : TableData). t.scope)) (sym at) ∙ is in (t, at, same_Some t.scope s both)
+
+-- the table of this number has its versions
+pub versions_there : (ts : List TableData) (i : ℕ) → i < length ts → (t : TableData) × (slice_get ts i ≡ Some t) × (versions_at (i + 1) ts ≡ t.versions)
+versions_there ts i within =
+    let it = some_at ts i within in
+    (it.0, it.1, ap (λ o. unwrap_or (option_map (λ (t : TableData). t.versions) o) []) (at_next ts i ∙ it.1))
+
+-- two parts of a list and the rest
+pub parted : (rows first rest second more a b : List Row) (n m : ℕ) → first ≡ take n rows → rest ≡ drop n rows → second ≡ take m rest → more ≡ drop m rest → first ≡ a → second ≡ b → rows ≡ (a ++ b) ++ more
+parted rows first rest second more a b n m p q r s one two =
+    sym (take-append-drop n rows) ∙ ap₂ (λ (x y : List Row). x ++ y) (sym p ∙ one) (sym q ∙ sym (take-append-drop m rest) ∙ ap₂ (λ (x y : List Row). x ++ y) (sym r ∙ two) (sym s))
+    ∙ sym (append_assoc a b more)
+
+-- ---- the same rows in another order
+pairs_listed : (id : ℕ) (bs : List BuildData) → IsPermutation (pair_rows id bs) (listed_pairs id bs)
+pairs_listed id [] = IsPermutation-refl []
+pairs_listed id (b ∷ bs) =
+    IsPermutation-append (map (used_row id) b.used ++ map (moved_row id) b.moved) (map (moved_row id) b.moved ++ map (used_row id) b.used) (pair_rows (id + 1) bs) (listed_pairs (id + 1) bs)
+    (IsPermutation-append_comm (map (used_row id) b.used) (map (moved_row id) b.moved)) (pairs_listed (id + 1) bs)
+
+-- the rows that the SELECTs show are those of the history
+found : (xs these rows : List Row) (width : ℕ) → xs ≡ rows → IsListed width these rows → IsPermutation xs these
+found xs these rows width same shown = IsPermutation-trans xs rows these (IsPermutation-same xs rows same) (IsPermutation-sym these rows shown.same)
+
+pub loaded : (h : HistoryData) (these : Contents) (meta scopes versions builds pairs pins : List Row) → listed h ≡ contents_of meta scopes versions builds pairs pins
+    → AreSeen these meta scopes versions → AreBuilt these builds pairs pins → HasSameRows (rows_of h) these
+loaded h these meta scopes versions builds pairs pins is seen built = record {
+  meta = found (rows_of h).meta these.meta meta 1 (ap (λ (c : Contents). c.meta) is) seen.set;
+  scopes = found (rows_of h).scopes these.scopes scopes 1 (ap (λ (c : Contents). c.scopes) is) seen.named;
+  versions = found (rows_of h).versions these.versions versions 2 (ap (λ (c : Contents). c.versions) is) seen.reported;
+  builds = found (rows_of h).builds these.builds builds 1 (ap (λ (c : Contents). c.builds) is) built.made;
+  pairs = IsPermutation-trans (rows_of h).pairs (listed h).pairs these.pairs (pairs_listed 1 h.builds) (found (listed h).pairs these.pairs pairs 4 (ap (λ (c : Contents). c.pairs) is) built.given);
+  pins = found (rows_of h).pins these.pins pins 1 (ap (λ (c : Contents). c.pins) is) built.held;
+}
+
+-- six tables with a history's rows are what the history lists
+pub listed_are : (h : HistoryData) (meta scopes versions builds pairs pins : List Row) → meta ≡ (listed h).meta → scopes ≡ (listed h).scopes → versions ≡ (listed h).versions → builds ≡ (listed h).builds → pairs ≡ (listed h).pairs → pins ≡ (listed h).pins
+    → listed h ≡ contents_of meta scopes versions builds pairs pins
+listed_are h meta scopes versions builds pairs pins a b c d e f = rw (a, b, c, d, e, f) refl

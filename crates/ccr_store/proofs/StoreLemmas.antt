@@ -1,0 +1,88 @@
+-- What a commit leaves, over what a store is.
+use Rattle.std.proofs.Common.{◌≡◌, Ok, Result, List, map, sym, ap, ◌∙◌, subst}
+use Rattle.sqlite_trees.specs.declared.store.Store.{Ghosts}
+use Rattle.sqlite.specs.declared.error.Error.{Error}
+use Rattle.sqlite.specs.Tree.{Trees}
+use Rattle.sqlite.specs.Effect.{Database}
+use Rattle.sqlite.specs.State.{State, IsUnchanged, Survives}
+use Rattle.sqlite.specs.Held.{state}
+use Rattle.sqlite.proofs.StateLemmas.{survives_weaker}
+use Rattle.ccr_history.specs.History.{HistoryData, IsHistory}
+use Rattle.ccr_history.specs.Changes.{EditData, changed, TakesAll}
+use Rattle.ccr_history.proofs.ChangeLaws.{all_kept as history_kept}
+use Rattle.ccr_tables.specs.Contents.{Contents, Holds, Keeps}
+use Rattle.ccr_tables.specs.Schema.{our_schema}
+use Rattle.ccr_tables.specs.Step.{Turns, IsLeft}
+use Rattle.ccr_tables.specs.Written.{all_written}
+use Rattle.ccr_tables.specs.declared.creation.Creation.{Creation}
+use Rattle.ccr_tables.specs.declared.creation.Creation.TheVariants.{Made, Found}
+use Rattle.ccr_tables.specs.declared.write.Write.{Write}
+use Rattle.ccr_store.specs.Outline.{IsOutline, name_of, all_outlined, outline_writes}
+use Rattle.ccr_store.specs.Reordered.{HasSameRows}
+use Rattle.ccr_store.specs.Rows.{rows_of}
+use Rattle.ccr_store.specs.StoreData.{StoreData, IsStored}
+use Rattle.ccr_store.specs.WriteData.{WriteData, write_data, all_made}
+use Rattle.ccr_store.proofs.ChangeRows.{changes_kept}
+use Rattle.ccr_store.proofs.OutlineLaws.{all_kept, all_writes_same}
+use Rattle.ccr_store.proofs.SameRows.{all_written-made, keeps_same}
+
+pub outlined_now : {S : Type 0} (s t : StoreData S) (n : HistoryData) (es : List EditData) (h : HistoryData) → s ≡ t → n ≡ all_outlined es s.outline → IsOutline h t.outline → IsOutline (changed es h) n
+outlined_now s t n es h same now it =
+    subst (IsOutline (changed es h)) (sym now) (all_kept es h s.outline (subst (λ (k : StoreData _). IsOutline h k.outline) (sym same) it))
+
+-- trees that hold what the writes make of the history's rows hold those of the changed history
+left_keeps : (h o : HistoryData) (es : List EditData) (ws : List Write) (db : Database) (trees : Trees) → IsStored h db o → TakesAll h es → map write_data ws ≡ outline_writes es o → IsLeft (all_written ws) db trees → Keeps (rows_of (changed es h)) trees
+left_keeps h o es ws db trees it takes are left =
+    changes_kept es h trees it.rules takes
+    (subst (λ (these : Contents). Keeps these trees)
+    (all_written-made ws (rows_of h) ∙ ap (λ (l : List WriteData). all_made l (rows_of h)) (are ∙ sym (all_writes_same es h o it.outlined)))
+    (left (rows_of h) it.rows))
+
+pub stored_now : {S : Type 0} (g : Ghosts S) (s t : StoreData S) (next : Database) (n : HistoryData) (es : List EditData) (ws : List Write) (h : HistoryData) → s ≡ t → n ≡ all_outlined es s.outline → map write_data ws ≡ outline_writes es s.outline
+    → Turns (all_written ws) (state g s.conn).now next → IsStored h (state g t.conn).now t.outline → TakesAll h es → IsStored (changed es h) next n
+stored_now g s t next n es ws h same now are turns it takes =
+    let here : IsStored h (state g s.conn).now s.outline = subst (λ (k : StoreData _). IsStored h (state g k.conn).now k.outline) (sym same) it in
+    record {
+      rules = history_kept es h here.rules takes;
+      rows = record {
+        schema = (turns (rows_of h) here.rows).schema;
+        rows = left_keeps h s.outline es ws (state g s.conn).now next.trees here takes are (λ these holds. (turns these holds).rows);
+      };
+      outlined = outlined_now s t n es h same now it.outlined;
+    }
+
+pub crash_now : {S : Type 0} (g : Ghosts S) (s t : StoreData S) (new : State) (es : List EditData) (ws : List Write) → s ≡ t → map write_data ws ≡ outline_writes es s.outline
+    → Survives (state g s.conn) new (IsLeft (all_written ws) (state g s.conn).now)
+    → Survives (state g t.conn) new (λ trees. (h : HistoryData) → IsStored h (state g t.conn).now t.outline → TakesAll h es → Keeps (rows_of (changed es h)) trees)
+crash_now g s t new es ws same are one =
+    subst (λ (k : StoreData _). Survives (state g k.conn) new (λ trees. (h : HistoryData) → IsStored h (state g k.conn).now k.outline → TakesAll h es → Keeps (rows_of (changed es h)) trees)) same
+    (survives_weaker (state g s.conn) new _ _ (λ clean trees left h it takes. left_keeps h s.outline es ws (state g s.conn).now trees it takes are left) one)
+
+-- the history that was loaded is stored, and the outline is one of it
+pub stored_loaded : {S : Type 0} (g : Ghosts S) (s t : StoreData S) (new : State) (h o : HistoryData) (these : Contents) → s ≡ t → o ≡ h → IsHistory h → (Holds these (state g s.conn).now → HasSameRows (rows_of h) these)
+    → ((state g s.conn).now.schema ≡ our_schema → IsUnchanged (state g s.conn) new) → Holds these (state g t.conn).now → HasSameRows (rows_of h) these × IsStored h new.now o
+stored_loaded g s t new h o these same is rules rows unchanged holds =
+    let here : Holds these (state g s.conn).now = subst (λ (k : StoreData _). Holds these (state g k.conn).now) (sym same) holds in
+    let there : Holds these new.now = subst (Holds these) (sym (unchanged here.schema).0.now_is) here in (
+      rows here,
+      record {
+        rules = rules;
+        rows = record { schema = there.schema; rows = keeps_same (rows_of h) these new.now.trees (rows here) there.rows };
+        outlined = record { tables = ap (λ (k : HistoryData). k.tables) is; builds = ap (λ (k : HistoryData). map name_of k.builds) is };
+      },
+    )
+
+-- a read that changes nothing of the connection changes nothing of the store
+pub same_loaded : {S : Type 0} (g : Ghosts S) (s t : StoreData S) (new : State) → s ≡ t → ((state g s.conn).now.schema ≡ our_schema → IsUnchanged (state g s.conn) new) → (state g t.conn).now.schema ≡ our_schema → IsUnchanged (state g t.conn) new
+same_loaded g s t new same unchanged has =
+    subst (λ (k : StoreData _). IsUnchanged (state g k.conn) new) same (unchanged (subst (λ (k : StoreData _). (state g k.conn).now.schema ≡ our_schema) (sym same) has))
+
+-- ---- a store over a database
+pub found_not_made : (r : Result Creation Error) (it : Creation) → r ≡ Ok it → it ≡ Found → r ≡ Ok Made → ⊥
+found_not_made r it answer which made = absurd (cc)
+
+pub found_stored : (old mid new : State) (k o : HistoryData) (these : Contents) → mid.now ≡ old.committed → old.now ≡ old.committed → Holds these old.now → (Holds these mid.now → HasSameRows (rows_of k) these × IsStored k new.now o)
+    → (h : HistoryData) × HasSameRows (rows_of h) these × IsStored h new.now o
+found_stored old mid new k o these kept settled holds loaded =
+    let both = loaded (subst (Holds these) (settled ∙ sym kept) holds) in
+    (k, both.0, both.1)

@@ -1,0 +1,7 @@
+use Rattle.std.proofs.Common.{◌≡◌, map}
+use Rattle.ccr_history.specs.Pins.{pins_of}
+use Rattle.ccr_store.specs.Rows.{pin_row}
+use Rattle.ccr_store.proofs.matching.are_pins.Given as goal
+
+abbrev pub invariant-loop-resource : goal.invariant-loop-resource
+invariant-loop-resource l = l.rest ≡ map pin_row (pins_of l.resource-iterator) → l.rows ≡ map pin_row l.pins

@@ -1,0 +1,29 @@
+-- What a store is to its callers.
+use Rattle.std.specs.Prelude.{refl}
+use Rattle.std.specs.Coded.{Coded, code_by, coded×}
+use Rattle.sqlite.specs.Effect.{Database}
+use Rattle.sqlite.specs.Held.{Held, held_code}
+use Rattle.ccr_tables.specs.Contents.{Holds}
+use Rattle.ccr_history.specs.History.{HistoryData, IsHistory}
+use Rattle.ccr_store.specs.Outline.{IsOutline}
+use Rattle.ccr_store.specs.Rows.{rows_of}
+use Rattle.ccr_store.specs.contracts.mirror.Mirror as mirror
+
+-- a connection, and what is kept of the history to number its next rows
+pub record StoreData (S : Type 0) : Type 0 where
+  pub conn : Held S
+  pub outline : HistoryData
+
+-- how the prover stores it
+abbrev pub store_code : {S : Type 0} → Coded S → Coded (StoreData S)
+store_code {S} store =
+    code_by (Held S × HistoryData) (coded× (held_code store) mirror.the_row.coded)
+    (λ s. (s.conn, s.outline))
+    (λ p. record { conn = p.0; outline = p.1 })
+    (λ _. refl)
+
+-- the history is stored: a database with the six tables holds its rows, and the outline is one of it
+pub record IsStored (h : HistoryData) (db : Database) (outline : HistoryData) : Type 0 where
+  pub rules : IsHistory h
+  pub rows : Holds (rows_of h) db
+  pub outlined : IsOutline h outline

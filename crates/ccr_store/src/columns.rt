@@ -1,0 +1,48 @@
+//! Columns of a row.
+ghost use Rattle.std.specs.Prelude.{◌≡◌, pos, IsTrue};
+ghost use Rattle.sqlite.specs.declared.types.Value.TheVariants.{Int, Text, Blob};
+ghost use Rattle.sqlite.specs.Order.{column};
+
+use crate::fault::StoreFault;
+use ccr_tables::Cause;
+use sqlite::Row;
+use sqlite::types::{FromSql, ValueRef};
+
+/// What a history's row has in a column: `NotOurs` where it has another kind of value there, and `NoMemory` if out of memory.
+pub(crate) fn read_column<T: FromSql>(row: &Row, at: usize) -> Result<T, StoreFault> {
+    match row.get::<T>(at) {
+        Ok(value) => Ok(value),
+        Err(error) if Cause::of(&error) == Cause::NoMemory => Err(StoreFault::NoMemory),
+        Err(_) => Err(StoreFault::NotOurs),
+    }
+}
+
+/// Whether the column has this number.
+pub(crate) fn is_number(row: &Row, at: usize, number: u32) -> bool
+    ensures { IsTrue result → column row.now at ≡ Int (pos number) }
+{
+    match row.get_ref(at) {
+        Ok(ValueRef::Int(found)) => found == i64::from(number),
+        _ => false,
+    }
+}
+
+/// Whether the column has this text.
+pub(crate) fn is_text(row: &Row, at: usize, text: &str) -> bool
+    ensures { IsTrue result → column row.now at ≡ Text text.now }
+{
+    match row.get_ref(at) {
+        Ok(ValueRef::Text(found)) => found == text.as_bytes(),
+        _ => false,
+    }
+}
+
+/// Whether the column has these bytes.
+pub(crate) fn is_blob(row: &Row, at: usize, bytes: &[u8]) -> bool
+    ensures { IsTrue result → column row.now at ≡ Blob bytes.now }
+{
+    match row.get_ref(at) {
+        Ok(ValueRef::Blob(found)) => found == bytes,
+        _ => false,
+    }
+}

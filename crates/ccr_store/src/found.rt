@@ -1,0 +1,67 @@
+//! The rows that the six tables have.
+ghost use Rattle.std.specs.Prelude.{◌≡◌, false, IsTrue, IfOk, OnOk};
+ghost use Rattle.sqlite.specs.State.{HasCleanDisk, IsUnchanged};
+ghost use Rattle.sqlite.specs.Held.{state};
+ghost use Rattle.ccr_tables.specs.Contents.{Holds};
+ghost use Rattle.ccr_tables.specs.Schema.{our_schema};
+ghost use Rattle.ccr_store.specs.Listed.{AreSeen, AreBuilt};
+
+use ccr_tables::{builds, meta, pairs, pins, scopes, versions};
+use sqlite::{Alter, Connection, Error as SqlError, Row};
+
+/// The rows of what was set and seen, each table in the order of its key.
+#[derive(Drop)]
+pub(crate) struct Seen {
+    pub(crate) meta: Vec<Row>,
+    pub(crate) scopes: Vec<Row>,
+    pub(crate) versions: Vec<Row>,
+}
+
+/// The rows of what was built and pinned, each table in the order of its key.
+#[derive(Drop)]
+pub(crate) struct Built {
+    pub(crate) builds: Vec<Row>,
+    pub(crate) pairs: Vec<Row>,
+    pub(crate) pins: Vec<Row>,
+}
+
+/// Reads what was set and seen.
+pub(crate) fn read_seen<S: Alter>(conn: &mut Connection<S>) -> Result<Seen, SqlError>
+    ensures rows { HasCleanDisk (state S.Store conn.new) → IfOk result (λ seen. (these : _)
+        → Holds these (state S.Store conn.old).now → AreSeen these seen.meta.items seen.scopes.items seen.versions.items) }
+    ensures same { let old = state S.Store conn.old in
+        let new = state S.Store conn.new in
+        HasCleanDisk new → old.now.schema ≡ our_schema → OnOk result (IsUnchanged old new) }
+    ensures clean { HasCleanDisk (state S.Store conn.new) → HasCleanDisk (state S.Store conn.old) }
+    ensures open { HasCleanDisk (state S.Store conn.new) → IfOk result (λ _. IsTrue (state S.Store conn.old).is_open) }
+    ensures mode { conn.old.in_transaction ≡ false → conn.new.in_transaction ≡ false }
+{
+    let meta = meta::select(conn)?;
+    let scopes = scopes::select(conn)?;
+    let versions = versions::select(conn)?;
+    Ok(Seen {
+        meta,
+        scopes,
+        versions,
+    })
+}
+
+/// Reads what was built and pinned.
+pub(crate) fn read_built<S: Alter>(conn: &mut Connection<S>) -> Result<Built, SqlError>
+    ensures rows { HasCleanDisk (state S.Store conn.new) → IfOk result (λ built. (these : _)
+        → Holds these (state S.Store conn.old).now → AreBuilt these built.builds.items built.pairs.items built.pins.items) }
+    ensures same { let old = state S.Store conn.old in
+        let new = state S.Store conn.new in
+        HasCleanDisk new → old.now.schema ≡ our_schema → OnOk result (IsUnchanged old new) }
+    ensures clean { HasCleanDisk (state S.Store conn.new) → HasCleanDisk (state S.Store conn.old) }
+    ensures mode { conn.old.in_transaction ≡ false → conn.new.in_transaction ≡ false }
+{
+    let builds = builds::select(conn)?;
+    let pairs = pairs::select(conn)?;
+    let pins = pins::select(conn)?;
+    Ok(Built {
+        builds,
+        pairs,
+        pins,
+    })
+}

@@ -1,0 +1,89 @@
+//! The history whose rows the tables have.
+ghost use Rattle.std.specs.Prelude.{◌≡◌, false, IsTrue, IfOk, OnOk};
+ghost use Rattle.sqlite.specs.State.{HasCleanDisk, IsUnchanged};
+ghost use Rattle.sqlite.specs.Held.{state};
+ghost use Rattle.ccr_history.specs.History.{IsHistory};
+ghost use Rattle.ccr_tables.specs.Contents.{Contents, Holds};
+ghost use Rattle.ccr_tables.specs.Schema.{our_schema};
+ghost use Rattle.ccr_store.specs.Listed.{listed, contents_of};
+ghost use Rattle.ccr_store.specs.Reordered.{HasSameRows};
+ghost use Rattle.ccr_store.specs.Rows.{rows_of};
+
+use crate::fault::StoreFault;
+use crate::found::{Built, Seen, read_built, read_seen};
+use crate::matching::{are_builds, are_meta, are_pairs, are_pins, are_scopes, are_versions};
+use crate::reading::read_rows;
+use ccr_history::History;
+use sqlite::{Alter, Connection, Error as SqlError};
+use std::alloc::{AllocError, Global};
+
+/// The fault of a failed read; a read that is refused finds other tables.
+fn fault_of(error: &SqlError) -> StoreFault {
+    match StoreFault::of(error) {
+        StoreFault::Refused => StoreFault::NotOurs,
+        fault => fault,
+    }
+}
+
+/// Whether the rows are those of a history.
+#[tactic(auto, using(crate::proofs::ListedRows::listed_are))]
+fn are_rows_of(
+    alloc: Global,
+    seen: &Seen,
+    built: &Built,
+    history: &History,
+) -> Result<bool, AllocError>
+    ensures rows { IfOk result (λ same. IsTrue same → listed history.now ≡ contents_of
+        seen.now.meta.items seen.now.scopes.items seen.now.versions.items
+        built.now.builds.items built.now.pairs.items built.now.pins.items) }
+{
+    let has_versions = are_versions(alloc, &seen.versions, history)?;
+    let has_pins = are_pins(alloc, &built.pins, history.pins())?;
+    Ok(
+        has_versions
+            && has_pins
+            && are_meta(&seen.meta, history.text())
+            && are_scopes(&seen.scopes, history)
+            && are_builds(&built.builds, history)
+            && are_pairs(&built.pairs, history),
+    )
+}
+
+/// The history that has these rows.
+fn history_of(alloc: Global, seen: &Seen, built: &Built) -> Result<History, StoreFault>
+    ensures rows { IfOk result (λ history. listed history ≡ contents_of
+        seen.now.meta.items seen.now.scopes.items seen.now.versions.items
+        built.now.builds.items built.now.pairs.items built.now.pins.items) }
+    ensures rules { IfOk result IsHistory }
+{
+    let history = read_rows(alloc, seen, built)?;
+    history.rules();
+    if are_rows_of(alloc, seen, built, &history)? {
+        Ok(history)
+    } else {
+        Err(StoreFault::NotOurs)
+    }
+}
+
+/// Reads each table once, and gives the history whose rows they have: `NotOurs` where a read is refused, or where no history
+/// has the rows.
+pub(crate) fn load<S: Alter>(alloc: Global, conn: &mut Connection<S>) -> Result<History, StoreFault>
+    ensures rows { HasCleanDisk (state S.Store conn.new) → IfOk result (λ history. (these : Contents)
+        → Holds these (state S.Store conn.old).now → HasSameRows (rows_of history) these) }
+    ensures same { let old = state S.Store conn.old in
+        let new = state S.Store conn.new in
+        HasCleanDisk new → old.now.schema ≡ our_schema → OnOk result (IsUnchanged old new) }
+    ensures clean { HasCleanDisk (state S.Store conn.new) → HasCleanDisk (state S.Store conn.old) }
+    ensures rules { IfOk result IsHistory }
+    ensures open { HasCleanDisk (state S.Store conn.new) → IfOk result (λ _. IsTrue (state S.Store conn.old).is_open) }
+    ensures mode { conn.old.in_transaction ≡ false → conn.new.in_transaction ≡ false }
+{
+    let seen = match read_seen(conn) {
+        Ok(seen) => seen,
+        Err(error) => return Err(fault_of(&error)),
+    };
+    match read_built(conn) {
+        Ok(built) => history_of(alloc, &seen, &built),
+        Err(error) => Err(fault_of(&error)),
+    }
+}

@@ -1,0 +1,271 @@
+//! Whether rows are those of a history.
+ghost use Rattle.std.specs.Prelude.{◌≡◌, ◌≤◌, ◌++◌, [], ◌∷◌, pos, length, map, IsTrue, IfOk, IfSome, option_copied};
+ghost use Rattle.sqlite.specs.declared.types.Value.TheVariants.{Int, Text, Blob};
+ghost use Rattle.ccr_history.specs.declared.table.TheConstants.{MOST_VERSIONS};
+ghost use Rattle.ccr_store.specs.Listed.{listed_pairs};
+ghost use Rattle.ccr_store.specs.Rows.{meta_rows, scope_row, scope_rows, version_rows, table_rows, build_row, build_rows, used_row, moved_row, pin_row};
+
+use crate::columns::{is_blob, is_number, is_text};
+use crate::mirror::number_of;
+use ccr_history::{BuildRef, History, Pins, Scope, Version};
+use sqlite::Row;
+use std::alloc::{AllocError, Global};
+
+// ---- what was set
+#[tactic(auto, using(crate::proofs::ListedRows::two))]
+fn is_meta(row: &Row, key: u32, bytes: &[u8]) -> bool
+    ensures { IsTrue result → row.now ≡ Int (pos key) ∷ Blob bytes.now ∷ [] }
+{
+    row.column_count() == 2 && is_number(row, 0, key) && is_blob(row, 1, bytes)
+}
+
+/// Whether the rows are those of the format and of this text.
+pub(crate) fn are_meta(rows: &[Row], text: Option<&[u8]>) -> bool
+    ensures { IsTrue result → rows.now ≡ meta_rows (option_copied text.entry) }
+{
+    let [format, more @ ..] = rows else {
+        return false;
+    };
+    if !is_meta(format, 1, b"1") {
+        return false;
+    }
+    let Some(text) = text else {
+        return more.is_empty();
+    };
+    match more {
+        [row] => is_meta(row, 2, text),
+        _ => false,
+    }
+}
+
+// ---- what was seen
+#[tactic(auto, using(crate::proofs::ListedRows::four))]
+fn is_scope(row: &Row, id: u32, scope: &Scope) -> bool
+    ensures { IsTrue result → row.now ≡ scope_row id scope.now }
+{
+    row.column_count() == 4
+        && is_number(row, 0, id)
+        && is_text(row, 1, scope.resource.as_str())
+        && is_text(row, 2, scope.kind.as_str())
+        && is_text(row, 3, scope.source.as_str())
+}
+
+/// Whether the rows are those of the scopes.
+pub(crate) fn are_scopes(rows: &[Row], history: &History) -> bool
+    ensures { IsTrue result → rows.now ≡ scope_rows 1 history.now.tables }
+{
+    if rows.len() != history.scope_count() as usize {
+        return false;
+    }
+    let mut id: u32 = 0;
+    for row in rows {
+        id += 1;
+        let Some(scope) = history.scope_at(id) else {
+            return false;
+        };
+        if !is_scope(row, id, scope) {
+            return false;
+        }
+    }
+    true
+}
+
+#[tactic(auto, using(crate::proofs::ListedRows::three))]
+fn is_version(row: &Row, scope: u32, place: u32, key: &str) -> bool
+    ensures { IsTrue result → row.now ≡ Int (pos scope) ∷ Int (pos place) ∷ Text key.now ∷ [] }
+{
+    row.column_count() == 3
+        && is_number(row, 0, scope)
+        && is_number(row, 1, place)
+        && is_text(row, 2, key)
+}
+
+/// Whether the rows are those of a scope's versions.
+fn are_bodies(
+    alloc: Global,
+    rows: &[Row],
+    scope: u32,
+    versions: &[Version],
+) -> Result<bool, AllocError>
+    requires { length versions.now ≤ MOST_VERSIONS }
+    ensures { IfOk result (λ same. IsTrue same → rows.now ≡ version_rows scope 1 versions.now) }
+{
+    if rows.len() != versions.len() {
+        return Ok(false);
+    }
+    let mut place: u32 = 0;
+    for row in rows {
+        let key = versions[place as usize].key(alloc)?;
+        place += 1;
+        if !is_version(row, scope, place, key.as_str()) {
+            return Ok(false);
+        }
+    }
+    Ok(true)
+}
+
+/// Whether the rows are those of the versions of all scopes.
+pub(crate) fn are_versions(
+    alloc: Global,
+    rows: &[Row],
+    history: &History,
+) -> Result<bool, AllocError>
+    ensures { IfOk result (λ same. IsTrue same → rows.now ≡ table_rows 1 history.now.tables) }
+{
+    let mut rest = rows;
+    for index in 0..history.scope_count() {
+        let versions = history.versions_at(index + 1);
+        if rest.len() < versions.len() {
+            return Ok(false);
+        }
+        let (here, more) = rest.split_at(versions.len());
+        if !are_bodies(alloc, here, index + 1, versions)? {
+            return Ok(false);
+        }
+        rest = more;
+    }
+    Ok(rest.is_empty())
+}
+
+// ---- what was built
+#[tactic(auto, using(crate::proofs::ListedRows::four))]
+fn is_build(row: &Row, id: u32, build: &BuildRef<'_>) -> bool
+    ensures { IsTrue result → row.now ≡ build_row id build.now }
+{
+    row.column_count() == 4
+        && is_number(row, 0, id)
+        && is_text(row, 1, build.job())
+        && is_number(row, 2, build.number())
+        && is_number(row, 3, number_of(build.status()))
+}
+
+/// Whether the rows are those of the builds.
+pub(crate) fn are_builds(rows: &[Row], history: &History) -> bool
+    ensures { IsTrue result → rows.now ≡ build_rows 1 history.now.builds }
+{
+    if rows.len() != history.build_count() {
+        return false;
+    }
+    let mut id: u32 = 0;
+    for row in rows {
+        let Some(build) = history.build_at(id as usize) else {
+            return false;
+        };
+        id += 1;
+        if !is_build(row, id, &build) {
+            return false;
+        }
+    }
+    true
+}
+
+#[tactic(auto, using(crate::proofs::ListedRows::four))]
+fn is_pair(row: &Row, id: u32, input: &str, scope: u32, place: u32) -> bool
+    ensures { IsTrue result
+        → row.now ≡ Int (pos id) ∷ Text input.now ∷ Int (pos scope) ∷ Int (pos place) ∷ [] }
+{
+    row.column_count() == 4
+        && is_number(row, 0, id)
+        && is_text(row, 1, input)
+        && is_number(row, 2, scope)
+        && is_number(row, 3, place)
+}
+
+/// Whether the rows are those of what a build moved.
+fn are_moved(rows: &[Row], id: u32, moved: &[(u32, u32)]) -> bool
+    ensures { IsTrue result → rows.now ≡ map (moved_row id) moved.now }
+{
+    if rows.len() != moved.len() {
+        return false;
+    }
+    for (index, row) in rows.iter().enumerate() {
+        let (scope, place) = moved[index];
+        if !is_pair(row, id, "", scope, place) {
+            return false;
+        }
+    }
+    true
+}
+
+/// Whether the rows are those of what a build used.
+fn are_used(rows: &[Row], id: u32, build: &BuildRef<'_>) -> bool
+    ensures { IsTrue result → rows.now ≡ map (used_row id) build.now.used }
+{
+    if rows.len() != build.used_count() {
+        return false;
+    }
+    for (index, row) in rows.iter().enumerate() {
+        let Some((input, scope, place)) = build.used(index) else {
+            return false;
+        };
+        if !is_pair(row, id, input, scope, place) {
+            return false;
+        }
+    }
+    true
+}
+
+/// What is left of the rows behind those of what a build moved and used, if they begin with these.
+#[tactic(auto, using(crate::proofs::ListedRows::parted))]
+fn after_build<'a>(rows: &'a [Row], id: u32, build: &BuildRef<'_>) -> Option<&'a [Row]>
+    ensures { IfSome result (λ more. rows.now
+        ≡ (map (moved_row id) build.now.moved ++ map (used_row id) build.now.used) ++ more.now) }
+{
+    let moved = build.moved();
+    if rows.len() < moved.len() {
+        return None;
+    }
+    let (first, rest) = rows.split_at(moved.len());
+    if rest.len() < build.used_count() {
+        return None;
+    }
+    let (second, more) = rest.split_at(build.used_count());
+    if are_moved(first, id, moved) && are_used(second, id, build) {
+        Some(more)
+    } else {
+        None
+    }
+}
+
+/// Whether the rows are those of what the builds moved and used.
+pub(crate) fn are_pairs(rows: &[Row], history: &History) -> bool
+    ensures { IsTrue result → rows.now ≡ listed_pairs 1 history.now.builds }
+{
+    let mut rest = rows;
+    for index in 0..history.build_count() {
+        let Some(build) = history.build_at(index) else {
+            return false;
+        };
+        let Some(more) = after_build(rest, index as u32 + 1, &build) else {
+            return false;
+        };
+        rest = more;
+    }
+    rest.is_empty()
+}
+
+// ---- what is pinned
+#[tactic(auto, using(crate::proofs::ListedRows::two))]
+fn is_pin(row: &Row, resource: &str, text: &str) -> bool
+    ensures { IsTrue result → row.now ≡ Text resource.now ∷ Text text.now ∷ [] }
+{
+    row.column_count() == 2 && is_text(row, 0, resource) && is_text(row, 1, text)
+}
+
+/// Whether the rows are those of the pins.
+pub(crate) fn are_pins(alloc: Global, rows: &[Row], pins: &Pins) -> Result<bool, AllocError>
+    ensures { IfOk result (λ same. IsTrue same → rows.now ≡ map pin_row pins.now) }
+{
+    let mut rest = rows;
+    for (resource, pin) in pins.as_map().iter() {
+        let [row, more @ ..] = rest else {
+            return Ok(false);
+        };
+        let text = pin.text(alloc)?;
+        if !is_pin(row, resource.as_str(), text.as_str()) {
+            return Ok(false);
+        }
+        rest = more;
+    }
+    Ok(rest.is_empty())
+}

@@ -1,0 +1,156 @@
+//! The history in a database.
+ghost use Rattle.std.specs.Prelude.{◌≡◌, ◌≢◌, false, IsTrue, IfOk, IfErr, OnOk, OnErr};
+ghost use Rattle.sqlite.specs.State.{HasCleanDisk, IsUnchanged, Survives};
+ghost use Rattle.sqlite.specs.Held.{state};
+ghost use Rattle.sqlite.specs.Steps.{over_memory};
+ghost use Rattle.ccr_history.specs.History.{HistoryData, no_history};
+ghost use Rattle.ccr_history.specs.Edits.{change_data};
+ghost use Rattle.ccr_history.specs.Changes.{changed, TakesAll};
+ghost use Rattle.ccr_tables.specs.Contents.{Contents, Holds, Keeps};
+ghost use Rattle.ccr_tables.specs.Schema.{no_schema, our_schema};
+ghost use Rattle.ccr_store.specs.declared.fault.StoreFault.TheVariants.{NotOurs};
+ghost use Rattle.ccr_store.specs.Outline.{IsOutline, AllowsAll};
+ghost use Rattle.ccr_store.specs.Reordered.{HasSameRows};
+ghost use Rattle.ccr_store.specs.Rows.{rows_of};
+ghost use Rattle.ccr_store.specs.StoreData.{IsStored};
+
+use crate::fault::StoreFault;
+use crate::loading;
+use crate::mirror::Mirror;
+use ccr_history::{Edit, History};
+use ccr_tables::{Creation, commit, create};
+use sqlite::{Alter, Connection, MemStore};
+use std::alloc::Global;
+use std::marker::Model;
+
+/// The history in a database, which nothing else writes.
+#[derive(Drop)]
+pub struct Store<S: Alter> {
+    conn: Connection<S>,
+    mirror: Mirror,
+}
+
+impl<S: Alter> Model for Store<S> {
+    ghost use Rattle.std.specs.Prelude.{◌≡◌, false};
+    ghost use Rattle.ccr_store.specs.StoreData.{StoreData, store_code};
+
+    ghost Value = { StoreData S };
+
+    ghost coded = { store_code S.code };
+
+    ghost view = { λ s. record { conn = s.conn; outline = s.mirror } };
+
+    ghost invariant = { λ s. s.conn.in_transaction ≡ false };
+}
+
+impl Store<MemStore> {
+    /// A store of the empty history in memory.
+    ///
+    /// `NoMemory` if out of memory.
+    pub fn open_in_memory(alloc: Global) -> Result<Store<MemStore>, StoreFault>
+        ensures { IfOk result (λ store. IsStored no_history (state over_memory store.conn).now store.outline) }
+    {
+        Store::adopt(alloc, Connection::open_in_memory(alloc)?)
+    }
+}
+
+impl<S: Alter + Drop> Store<S> {
+    /// A store over a database. One without tables gets the six tables, and has the empty history then; in another the
+    /// tables of a history have to be.
+    ///
+    /// - `NotOurs` where other tables are there, or rows that no history has; nothing is written then.
+    /// - `Refused`, `Disk` or `Interrupted` where `sqlite` failed so.
+    /// - `NoMemory` if out of memory.
+    pub fn adopt(alloc: Global, conn: Connection<S>) -> Result<Store<S>, StoreFault>
+        requires { (state S.Store conn).in_transaction ≡ false }
+        ensures made { IfOk result (λ store. let old = state S.Store conn in
+            let new = state S.Store store.conn in
+            HasCleanDisk new → old.now ≡ old.committed → old.now.schema ≡ no_schema
+            → IsStored no_history new.now store.outline) }
+        ensures found { IfOk result (λ store. let old = state S.Store conn in
+            let new = state S.Store store.conn in
+            (these : Contents) → HasCleanDisk new → old.now ≡ old.committed → Holds these old.now
+            → (h : HistoryData) × HasSameRows (rows_of h) these × IsStored h new.now store.outline) }
+    {
+        let mut conn = conn;
+        let has_tables = conn.schema().tables.len() > 0;
+        let created = create(&mut conn);
+        let mut store = Store {
+            conn,
+            mirror: Mirror::new(alloc),
+        };
+        match created {
+            Ok(Creation::Made) => Ok(store),
+            Ok(Creation::Found) if has_tables => {
+                store.load(alloc)?;
+                Ok(store)
+            }
+            Ok(_) => Err(StoreFault::NotOurs),
+            Err(error) => Err(StoreFault::of(&error)),
+        }
+    }
+}
+
+impl<S: Alter> Store<S> {
+    /// Writes what a change of the history changes, in one transaction.
+    ///
+    /// The edits are ones that the history takes, each by then. After an `Err` the tables hold what they held, but the store
+    /// is of no use; another one is made of the database.
+    ///
+    /// - `Refused`, `Disk` or `Interrupted` where `sqlite` failed so.
+    /// - `NoMemory` if out of memory.
+    pub fn commit(&mut self, alloc: Global, change: &[Edit]) -> Result<(), StoreFault>
+        requires { AllowsAll self.old.outline (change_data change.now) }
+        ensures outlined { (h : HistoryData) → IsOutline h self.old.outline
+            → OnOk result (IsOutline (changed (change_data change.now) h) self.new.outline) }
+        ensures done { let old = state S.Store self.old.conn in
+            let new = state S.Store self.new.conn in
+            let edits = change_data change.now in
+            (h : HistoryData) → IsStored h old.now self.old.outline → TakesAll h edits → HasCleanDisk new
+            → OnOk result (IsStored (changed edits h) new.now self.new.outline × (new.committed ≡ new.now)) }
+        ensures refused { let old = state S.Store self.old.conn in
+            let new = state S.Store self.new.conn in
+            HasCleanDisk new → IsTrue new.is_open
+            → OnErr result ((old.now ≡ old.committed → new.now ≡ old.now) × (new.committed ≡ old.committed)) }
+        ensures crash { let old = state S.Store self.old.conn in
+            let edits = change_data change.now in
+            Survives old (state S.Store self.new.conn) (λ trees. (h : HistoryData)
+            → IsStored h old.now self.old.outline → TakesAll h edits → Keeps (rows_of (changed edits h)) trees) }
+        ensures durable { let new = state S.Store self.new.conn in
+            IsTrue new.is_open → (trees : _) → new.may_leave trees → trees ≡ new.committed.trees }
+        ensures only { IfErr result (λ fault. fault ≢ NotOurs) }
+    {
+        let writes = self.mirror.writes(alloc, change)?;
+        match commit(&mut self.conn, &writes) {
+            Ok(()) => Ok(()),
+            Err(error) => Err(StoreFault::of(&error)),
+        }
+    }
+
+    /// The history whose rows the tables have. Each table is read once.
+    ///
+    /// - `NotOurs` where the tables aren't those of a history, or no history has their rows.
+    /// - `Disk` or `Interrupted` where `sqlite` failed so.
+    /// - `NoMemory` if out of memory.
+    pub fn load(&mut self, alloc: Global) -> Result<History, StoreFault>
+        ensures outlined { IfOk result (λ history. IsOutline history self.new.outline) }
+        ensures stored { let old = state S.Store self.old.conn in
+            let new = state S.Store self.new.conn in
+            HasCleanDisk new → IfOk result (λ history. (these : Contents) → Holds these old.now
+            → HasSameRows (rows_of history) these × IsStored history new.now self.new.outline) }
+        ensures same { let old = state S.Store self.old.conn in
+            let new = state S.Store self.new.conn in
+            HasCleanDisk new → old.now.schema ≡ our_schema → OnOk result (IsUnchanged old new) }
+        ensures open { let old = state S.Store self.old.conn in
+            HasCleanDisk (state S.Store self.new.conn) → HasCleanDisk old × IfOk result (λ _. IsTrue old.is_open) }
+    {
+        let history = loading::load(alloc, &mut self.conn)?;
+        match history.copy(alloc) {
+            Ok(outline) => {
+                self.mirror = Mirror::of(outline);
+                Ok(history)
+            }
+            Err(_) => Err(StoreFault::NoMemory),
+        }
+    }
+}
