@@ -1,0 +1,3 @@
+mod Launching
+mod GoingRound
+mod Telling

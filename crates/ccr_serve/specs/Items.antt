@@ -1,0 +1,76 @@
+-- What a call of the server is made of: items, one after another.
+use Rattle.std.specs.Prelude.{◌≡◌, ◌⊎◌, ℕ, List, [], ◌∷◌, ◌++◌, Bool, true, false, Option, None, flat_map, option_to_list}
+use Rattle.ccr_history.specs.Text.{Text}
+use Rattle.ccr_process.specs.Runs.{Pair}
+use Rattle.ccr_core.specs.Events.{EventData}
+use Rattle.ccr_core.specs.Replies.{Replied}
+use Rattle.ccr_core.specs.State.{State}
+
+-- where a server stands: the core's state, the rank of the build served last, which counts from 1 in order of making,
+-- or 0 where none was served, and how often its shelf failed
+pub record World : Type 0 where
+  pub core : State
+  pub last : ℕ
+  pub failures : ℕ
+
+-- a check of a resource, a schedule of a job, a turn of the build whose turn it is, or the event of a command
+pub data Item : Type 0 where
+  check : (resource : Text) → Item
+  schedule : (job : Text) → Item
+  turn : Item
+  tell : (event : EventData) → Item
+
+-- what came of an item: the launch of its program with the end, its event with the reply, and its lines
+pub record Done : Type 0 where
+  pub pair : Option Pair
+  pub event : Option (EventData × Replied)
+  pub lines : Text
+
+-- nothing came of it
+abbrev pub nothing : Done
+nothing = record { pair = None; event = None; lines = [] }
+
+-- the pairs of what was done, in order
+abbrev pub pairs_of : List Done → List Pair
+pairs_of ds = flat_map (λ d. option_to_list d.pair) ds
+
+-- the lines of what was done, in order
+abbrev pub lines_of_all : List Done → Text
+lines_of_all ds = flat_map (λ d. d.lines) ds
+
+-- an item may lead from one world to the next, and this come of it
+abbrev pub Serve : Type 1
+Serve = Item → World → Done → World → Type 0
+
+-- each item after the one before, from where that led
+abbrev pub Each : Serve → List Item → World → List Done → World → Type 0
+Each Serves [] old [] new = new ≡ old
+Each Serves (i ∷ is) old (d ∷ ds) new = (mid : World) × Serves i old d mid × Each Serves is mid ds new
+Each Serves [] old (d ∷ ds) new = ⊥
+Each Serves (i ∷ is) old [] new = ⊥
+
+-- a part of a call, done whole (true) or cut short (false)
+abbrev pub Part : Type 1
+Part = World → List Done → Bool → World → Type 0
+
+-- these items in order; cut short, those of a front of the list
+abbrev pub Items : Serve → List Item → Part
+Items Serves is old ds true new = Each Serves is old ds new
+Items Serves is old ds false new =
+    (front : List Item) × (rest : List Item) × (is ≡ front ++ rest) × Each Serves front old ds new
+
+-- what was done in the first part, then in the second
+pub record Both (First Second : World → List Done → World → Type 0) (old : World) (ds : List Done) (new : World)
+    : Type 0 where
+  pub mid : World
+  pub front : List Done
+  pub back : List Done
+  pub first : First old front mid
+  pub second : Second mid back new
+  pub joined : ds ≡ front ++ back
+
+-- one part, then another; where the first is cut short, nothing of the other
+abbrev pub Then : Part → Part → Part
+Then First Second old ds true new = Both (λ w es v. First w es true v) (λ w es v. Second w es true v) old ds new
+Then First Second old ds false new =
+    First old ds false new ⊎ Both (λ w es v. First w es true v) (λ w es v. Second w es false v) old ds new

@@ -1,0 +1,174 @@
+//! How what a build asks is answered.
+ghost use Rattle.std.specs.Prelude.{◌≡◌, ◌≢◌, ◌≤◌, IfOk, OnErr, Option};
+ghost use Rattle.ccr_pipeline.specs.Pipelines.{pipeline_data};
+ghost use Rattle.ccr_process.specs.Runs.{Pair};
+ghost use Rattle.ccr_steps.specs.Asks.{ask_data, answer_data};
+ghost use Rattle.ccr_task.specs.Launching.{can_launch, starts_program};
+ghost use Rattle.ccr_task.specs.Places.{places_data, build_folder};
+ghost use Rattle.ccr_task.specs.Shelves.{Counts};
+ghost use Rattle.ccr_serve.specs.Asked.{AnswersByFile, AnswersByLaunch, Answers};
+ghost use Rattle.ccr_serve.specs.Pairs.{Adds, AddsAtMostOne};
+
+use ccr_pipeline::Pipeline;
+use ccr_process::{Launch, Runner};
+use ccr_protocol::RequestFault;
+use ccr_steps::{Answered, Ask};
+use ccr_task::{Places, Shelf, ShelfFault, answered_of, config_of, launch_of};
+use std::alloc::{AllocError, Global};
+
+/// Makes the folder of an artifact anew.
+fn make_anew<S: Shelf>(shelf: &mut S, path: &str) -> Result<(), ShelfFault>
+    ensures counted { Counts (S.failures shelf.old) result (S.failures shelf.new) }
+    ensures grows { S.failures shelf.old ≤ S.failures shelf.new }
+    ensures kind { result ≢ Err ShelfFault.TooLong }
+{
+    match shelf.remove_folder(path) {
+        Ok(()) => shelf.make_folder(path),
+        Err(fault) => Err(fault),
+    }
+}
+
+/// Makes a folder in a build's folder for each of these names, those that aren't there yet.
+fn make_each<S: Shelf>(
+    alloc: Global,
+    shelf: &mut S,
+    places: &Places,
+    job: &str,
+    number: u32,
+    names: &[String],
+) -> Result<(), ShelfFault>
+    ensures counted { Counts (S.failures shelf.old) result (S.failures shelf.new) }
+    ensures grows { S.failures shelf.old ≤ S.failures shelf.new }
+    ensures kind { result ≢ Err ShelfFault.TooLong }
+{
+    for name in names {
+        let Ok(path) = places.in_build(alloc, job, number, name.as_str()) else {
+            return Err(ShelfFault::NoMemory);
+        };
+        match shelf.make_folder(path.as_str()) {
+            Ok(()) => {}
+            Err(fault) => return Err(fault),
+        }
+    }
+    Ok(())
+}
+
+/// Makes the folders that an ask's program finds: for a fetch the artifact's folder, anew; for a push and a task the
+/// build's folder, and for a task those of its outputs. Those that are there are left.
+fn make_folders<S: Shelf>(
+    alloc: Global,
+    shelf: &mut S,
+    places: &Places,
+    job: &str,
+    number: u32,
+    ask: &Ask<'_>,
+) -> Result<(), ShelfFault>
+    ensures counted { Counts (S.failures shelf.old) result (S.failures shelf.new) }
+    ensures grows { S.failures shelf.old ≤ S.failures shelf.new }
+    ensures kind { result ≢ Err ShelfFault.TooLong }
+{
+    if let Ask::Fetch { artifact, .. } = ask {
+        let Ok(path) = places.in_build(alloc, job, number, artifact) else {
+            return Err(ShelfFault::NoMemory);
+        };
+        return make_anew(shelf, path.as_str());
+    }
+    let Ok(build) = places.build_folder(alloc, job, number) else {
+        return Err(ShelfFault::NoMemory);
+    };
+    match shelf.make_folder(build.as_str()) {
+        Ok(()) => {}
+        Err(fault) => return Err(fault),
+    }
+    match ask {
+        Ask::RunTask { config, .. } => make_each(
+            alloc,
+            shelf,
+            places,
+            job,
+            number,
+            &config.outputs,
+        ),
+        _ => Ok(()),
+    }
+}
+
+/// Runs an ask's program, once its folders are made.
+fn answer_by_launch<R: Runner, S: Shelf>(
+    alloc: Global,
+    runner: &mut R,
+    shelf: &mut S,
+    places: &Places,
+    job: &str,
+    number: u32,
+    ask: &Ask<'_>,
+    launch: Result<Launch, RequestFault>,
+) -> Result<Answered, AllocError>
+    ensures ok { IfOk result (λ a. (pair : Option Pair) × Adds (R.pairs runner.old) pair (R.pairs runner.new)
+        × AnswersByLaunch (ask_data ask.now) launch
+        (S.failures shelf.old) (S.failures shelf.new) pair (answer_data a)) }
+    ensures err { OnErr result (AddsAtMostOne (R.pairs runner.old) (R.pairs runner.new)) }
+    ensures grows { S.failures shelf.old ≤ S.failures shelf.new }
+{
+    let launch = match launch {
+        Ok(launch) => launch,
+        Err(RequestFault::TooLong) => return Ok(Answered::Errored),
+        Err(RequestFault::NoMemory) => return Err(AllocError),
+    };
+    match make_folders(alloc, shelf, places, job, number, ask) {
+        Ok(()) => {}
+        Err(ShelfFault::Failed) => return Ok(Answered::Errored),
+        Err(ShelfFault::TooLong | ShelfFault::NoMemory) => return Err(AllocError),
+    }
+    answered_of(alloc, ask, runner.run(&launch))
+}
+
+/// Reads a task's file, which is taken from the build's folder.
+fn answer_by_file<S: Shelf>(
+    alloc: Global,
+    shelf: &mut S,
+    places: &Places,
+    job: &str,
+    number: u32,
+    file: &str,
+) -> Result<Answered, AllocError>
+    ensures ok { IfOk result (λ a.
+        AnswersByFile (S.failures shelf.old) (S.failures shelf.new) (answer_data a)) }
+    ensures grows { S.failures shelf.old ≤ S.failures shelf.new }
+{
+    let Ok(path) = places.in_build(alloc, job, number, file) else {
+        return Err(AllocError);
+    };
+    config_of(alloc, shelf.read_file(path.as_str()))
+}
+
+/// Answers what a job's build of this number asks: its one program is run once its folders are made, or its task's file
+/// is read.
+///
+/// Errored where the request is too long, or a folder can't be made or removed; then no program is started. The only
+/// error is want of memory; at most one pair is then the runner's that answers nothing.
+pub(crate) fn answer_to<R: Runner, S: Shelf>(
+    alloc: Global,
+    runner: &mut R,
+    shelf: &mut S,
+    places: &Places,
+    pipeline: &Pipeline,
+    job: &str,
+    number: u32,
+    ask: &Ask<'_>,
+) -> Result<Answered, AllocError>
+    requires { can_launch (pipeline_data pipeline.now).resources (ask_data ask.now)
+        ≡ starts_program (ask_data ask.now) }
+    ensures ok { IfOk result (λ a. (pair : Option Pair) × Adds (R.pairs runner.old) pair (R.pairs runner.new)
+        × Answers (places_data places.now) (pipeline_data pipeline.now).resources
+        (build_folder (places_data places.now) job.now number) (ask_data ask.now)
+        (S.failures shelf.old) (S.failures shelf.new) pair (answer_data a)) }
+    ensures err { OnErr result (AddsAtMostOne (R.pairs runner.old) (R.pairs runner.new)) }
+    ensures grows { S.failures shelf.old ≤ S.failures shelf.new }
+{
+    if let Ask::ReadConfig { file } = ask {
+        return answer_by_file(alloc, shelf, places, job, number, file);
+    }
+    let launch = launch_of(alloc, places, pipeline, job, number, ask);
+    answer_by_launch(alloc, runner, shelf, places, job, number, ask, launch)
+}

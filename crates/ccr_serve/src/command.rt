@@ -1,0 +1,26 @@
+//! What the server is commanded.
+
+/// A command, with its arguments as they were typed.
+#[derive(Drop)]
+pub enum Command {
+    /// The pipeline in the file at this path is set.
+    SetPipeline(String),
+    /// The resource of this name is checked.
+    CheckResource(String),
+    /// The versions of the resource of this name are shown.
+    ResourceVersions(String),
+    /// The resource of this name is pinned to the versions that meet this JSON text.
+    PinResource(String, String),
+    /// The pin by command of the resource of this name is taken away.
+    UnpinResource(String),
+    /// The choice for the next build of the job of this name is shown, with its proof.
+    Resolve(String),
+    /// The problem of the next build of the job of this name is shown.
+    Problem(String),
+    /// A build of the job of this name is made, and run to its end.
+    TriggerJob(String),
+    /// All builds are shown.
+    Builds,
+    /// So many rounds are run, from 1 to 1,000,000, and then all builds to their ends.
+    Run(u32),
+}

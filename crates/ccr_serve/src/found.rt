@@ -1,0 +1,116 @@
+//! What a check finds.
+ghost use Rattle.std.specs.Prelude.{◌≡◌, ◌==◌, ◌≤◌, IfOk, OnErr, Option};
+ghost use Rattle.std.specs.Option.{option_copied};
+ghost use Rattle.ccr_pipeline.specs.JobData.{resource_data};
+ghost use Rattle.ccr_process.specs.Ends.{end_data};
+ghost use Rattle.ccr_process.specs.Runs.{Pair};
+ghost use Rattle.ccr_task.specs.Places.{places_data};
+ghost use Rattle.ccr_serve.specs.Found.{found_data, newest, FindsOutput, FindsExit, FindsBy, Finds};
+ghost use Rattle.ccr_serve.specs.Pairs.{Adds, AddsAtMostOne};
+
+use crate::cause::Cause;
+use ccr_history::{History, Version};
+use ccr_pipeline::Resource;
+use ccr_problem::scope_of;
+use ccr_process::{Ended, Runner};
+use ccr_protocol::{ReplyFault, RequestFault, read_check};
+use ccr_task::{Places, Shelf, ShelfFault, check_launch};
+use std::alloc::{AllocError, Global};
+
+/// What a check of a resource finds.
+#[derive(Drop)]
+pub(crate) enum Found {
+    /// Its program listed these versions.
+    Versions(Vec<Version>),
+    /// Nothing, for this cause.
+    Nothing(Cause),
+}
+
+/// What the output of a check's program finds, which ended with status 0.
+fn found_in(alloc: Global, output: &[u8]) -> Result<Found, AllocError>
+    ensures { IfOk result (λ f. FindsOutput output.now (found_data f)) }
+{
+    match read_check(alloc, output) {
+        Ok(versions) => Ok(Found::Versions(versions)),
+        Err(ReplyFault::NotJson) => Ok(Found::Nothing(Cause::NotJson)),
+        Err(ReplyFault::WrongKind | ReplyFault::MissingVersion) => Ok(Found::Nothing(
+            Cause::WrongKind,
+        )),
+        Err(ReplyFault::VersionNotText) => Ok(Found::Nothing(Cause::VersionNotText)),
+        Err(ReplyFault::NoMemory) => Err(AllocError),
+    }
+}
+
+/// What a check's program finds that ended with this status.
+fn found_at(alloc: Global, status: u8, output: &[u8]) -> Result<Found, AllocError>
+    ensures { IfOk result (λ f. FindsExit (status == 0) status output.now (found_data f)) }
+{
+    if status == 0 {
+        found_in(alloc, output)
+    } else {
+        Ok(Found::Nothing(Cause::Status(status)))
+    }
+}
+
+/// What the end of a check's program finds.
+fn found_by(alloc: Global, end: Ended) -> Result<Found, AllocError>
+    ensures { IfOk result (λ f. FindsBy (end_data end) (found_data f)) }
+{
+    match end {
+        Ended::Exit(status, output) => found_at(alloc, status, &output),
+        Ended::Killed => Ok(Found::Nothing(Cause::Killed)),
+        Ended::NotStarted => Ok(Found::Nothing(Cause::NotStarted)),
+        Ended::InputFault => Ok(Found::Nothing(Cause::InputFault)),
+        Ended::ReadFault => Ok(Found::Nothing(Cause::ReadFault)),
+        Ended::OutputTooLong => Ok(Found::Nothing(Cause::OutputTooLong)),
+        Ended::NoMemory => Err(AllocError),
+    }
+}
+
+/// The version of a resource with the greatest place, if there is one.
+fn newest_of<'h>(
+    alloc: Global,
+    history: &'h History,
+    resource: &Resource,
+) -> Result<Option<&'h Version>, AllocError>
+    ensures { IfOk result (λ version. option_copied version ≡ newest (resource_data resource.now) history.now) }
+{
+    let scope = scope_of(alloc, resource)?;
+    Ok(history.versions(&scope).last())
+}
+
+/// Checks a resource, which is told its newest version: the folder of all builds is made, the one program is run, and
+/// its output is read.
+///
+/// The only error is want of memory; at most one pair is then the runner's that finds nothing.
+pub(crate) fn find<R: Runner, S: Shelf>(
+    alloc: Global,
+    runner: &mut R,
+    shelf: &mut S,
+    places: &Places,
+    resource: &Resource,
+    history: &History,
+) -> Result<Found, AllocError>
+    ensures ok { IfOk result (λ f. (pair : Option Pair) × Adds (R.pairs runner.old) pair (R.pairs runner.new)
+        × Finds (places_data places.now) (resource_data resource.now)
+        (newest (resource_data resource.now) history.now)
+        (S.failures shelf.old) (S.failures shelf.new) pair (found_data f)) }
+    ensures err { OnErr result (AddsAtMostOne (R.pairs runner.old) (R.pairs runner.new)) }
+    ensures grows { S.failures shelf.old ≤ S.failures shelf.new }
+{
+    let version = match newest_of(alloc, history, resource) {
+        Ok(version) => version,
+        Err(error) => return Err(error),
+    };
+    let launch = match check_launch(alloc, places, resource, version) {
+        Ok(launch) => launch,
+        Err(RequestFault::TooLong) => return Ok(Found::Nothing(Cause::RequestTooLong)),
+        Err(RequestFault::NoMemory) => return Err(AllocError),
+    };
+    match shelf.make_folder(places.work.as_str()) {
+        Ok(()) => {}
+        Err(ShelfFault::Failed) => return Ok(Found::Nothing(Cause::FolderFault)),
+        Err(ShelfFault::TooLong | ShelfFault::NoMemory) => return Err(AllocError),
+    }
+    found_by(alloc, runner.run(&launch))
+}
