@@ -1,0 +1,63 @@
+-- The command that a command line names.
+use Rattle.std.specs.Prelude.{ℕ, List, Option, Some, None, option_map, option_and_then, codes, string_bytes, if◌then◌else◌}
+use Rattle.std.specs.Str.{bytes_eq}
+use Rattle.clap.specs.declared.parser.matches.ArgMatches.{ArgMatches}
+use Rattle.clap.specs.Words.{Row, Text, first_of, subcommand_rows_of}
+use Rattle.ccr_serve.specs.declared.command.Command.{Command}
+use Rattle.ccr_serve.specs.declared.command.Command.TheVariants as command
+use Rattle.ccr_command.specs.Numbers.{number_of}
+
+-- a command with its arguments
+pub data CommandData : Type 0 where
+  set_pipeline : (file : Text) → CommandData
+  check_resource : (resource : Text) → CommandData
+  resource_versions : (resource : Text) → CommandData
+  pin_resource : (resource pin : Text) → CommandData
+  unpin_resource : (resource : Text) → CommandData
+  resolve : (job : Text) → CommandData
+  problem : (job : Text) → CommandData
+  trigger_job : (job : Text) → CommandData
+  builds : CommandData
+  run : (rounds : ℕ) → CommandData
+
+-- what a value of the program's type stands for
+abbrev pub command_data : Command → CommandData
+command_data (command.SetPipeline path) = set_pipeline (string_bytes path)
+command_data (command.CheckResource resource) = check_resource (string_bytes resource)
+command_data (command.ResourceVersions resource) = resource_versions (string_bytes resource)
+command_data (command.PinResource resource pin) = pin_resource (string_bytes resource) (string_bytes pin)
+command_data (command.UnpinResource resource) = unpin_resource (string_bytes resource)
+command_data (command.Resolve job) = resolve (string_bytes job)
+command_data (command.Problem job) = problem (string_bytes job)
+command_data (command.TriggerJob job) = trigger_job (string_bytes job)
+command_data command.Builds = builds
+command_data (command.Run rounds) = run rounds
+
+-- a pin of a resource, where both its arguments have a value
+abbrev pub pin_named : Option Text → Option Text → Option CommandData
+pin_named (Some resource) (Some pin) = Some (pin_resource resource pin)
+pin_named _ _ = None
+
+-- a run of so many rounds, where their number is in its range
+abbrev pub run_named : Option Text → Option CommandData
+run_named rounds = option_map run (option_and_then number_of rounds)
+
+-- the command that a word names, with the first value of each of its arguments; none where there is no such command, or
+-- where a value is absent or out of its range
+abbrev pub command_named : Text → List Row → Option CommandData
+command_named word values =
+    if bytes_eq word (codes "set-pipeline") then option_map set_pipeline (first_of (codes "FILE") values)
+    else if bytes_eq word (codes "check-resource") then option_map check_resource (first_of (codes "NAME") values)
+    else if bytes_eq word (codes "resource-versions") then option_map resource_versions (first_of (codes "NAME") values)
+    else if bytes_eq word (codes "pin-resource") then pin_named (first_of (codes "NAME") values) (first_of (codes "JSON") values)
+    else if bytes_eq word (codes "unpin-resource") then option_map unpin_resource (first_of (codes "NAME") values)
+    else if bytes_eq word (codes "resolve") then option_map resolve (first_of (codes "JOB") values)
+    else if bytes_eq word (codes "problem") then option_map problem (first_of (codes "JOB") values)
+    else if bytes_eq word (codes "trigger-job") then option_map trigger_job (first_of (codes "JOB") values)
+    else if bytes_eq word (codes "builds") then Some builds
+    else if bytes_eq word (codes "run") then run_named (first_of (codes "rounds") values)
+    else None
+
+-- THE COMMAND THAT MATCHES NAME: that of their subcommand and its values
+abbrev pub command_in : ArgMatches → Option CommandData
+command_in m = option_and_then (λ found. command_named found.0 found.1) (subcommand_rows_of m)

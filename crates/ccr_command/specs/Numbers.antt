@@ -1,0 +1,24 @@
+-- Numbers as they are typed.
+use Rattle.std.specs.Prelude.{ℕ, List, length, Bool, Option, Some, None, ◌&&◌, nat_lt, nat_le, if◌then◌else◌}
+use Rattle.std.specs.Str.{all_ascii_digits}
+use Rattle.std.specs.Str.Parse.{digits_value, without_leading_plus}
+
+-- the highest number that is taken: of rounds, and as a budget
+abbrev pub MOST : ℕ
+MOST = 1000000
+
+-- the number, where it is one from 1 to the highest
+abbrev pub in_range : ℕ → Option ℕ
+in_range n = if nat_le 1 n && nat_le n MOST then Some n else None
+
+-- one decimal digit or more, and nothing else
+abbrev pub is_numeral : List ℕ → Bool
+is_numeral ds = nat_lt 0 (length ds) && all_ascii_digits ds
+
+-- the number that these digits write, where it is in the range
+abbrev pub numeral_of : List ℕ → Option ℕ
+numeral_of ds = if is_numeral ds then in_range (digits_value 10 ds) else None
+
+-- THE NUMBER THAT A TEXT WRITES in decimal digits, where a plus may stand first, if it is in the range
+abbrev pub number_of : List ℕ → Option ℕ
+number_of text = numeral_of (without_leading_plus text)

@@ -1,0 +1,42 @@
+-- The options of a command line.
+use Rattle.std.specs.Prelude.{ℕ, Option, Some, None, Result, Ok, Err, Bool, false, ◌==◌, option_and_then, slice_get, codes, if◌then◌else◌}
+use Rattle.std.specs.Option.{option_map_or}
+use Rattle.clap.specs.declared.parser.matches.Found.{Found}
+use Rattle.clap.specs.Words.{Text, first_value}
+use Rattle.ccr_command.specs.declared.options.Options.{Options}
+use Rattle.ccr_command.specs.declared.options.OptionFault.{OptionFault}
+use Rattle.ccr_command.specs.declared.options.OptionFault.TheVariants.{Database, Types, Work, Budget}
+use Rattle.ccr_command.specs.Numbers.{number_of}
+
+-- the four options
+pub record OptionsData : Type 0 where
+  pub database : Text
+  pub types : Text
+  pub work : Text
+  pub budget : ℕ
+
+-- what a value of the program's type stands for
+abbrev pub options_data : Options → OptionsData
+options_data o = record { database = o.database.now; types = o.types.now; work = o.work.now; budget = o.budget }
+
+-- the path begins with a slash
+abbrev pub is_from_the_top : Text → Bool
+is_from_the_top path = option_map_or (λ first. first == 47) (slice_get path 0) false
+
+-- the path, where it begins with a slash
+abbrev pub from_the_top : Text → Option Text
+from_the_top path = if is_from_the_top path then Some path else None
+
+-- what is made of a value, or the fault of its absence
+abbrev pub given_or : {A : Type 0} → OptionFault → Option A → (A → Result OptionsData OptionFault) → Result OptionsData OptionFault
+given_or fault None make = Err fault
+given_or fault (Some a) make = make a
+
+-- THE OPTIONS OF MATCHES, or the first that is absent or out of its range
+abbrev pub options_in : Found → Result OptionsData OptionFault
+options_in found =
+    given_or Database (first_value found (codes "db")) (λ database.
+    given_or Types (option_and_then from_the_top (first_value found (codes "types"))) (λ types.
+    given_or Work (option_and_then from_the_top (first_value found (codes "work"))) (λ work.
+    given_or Budget (option_and_then number_of (first_value found (codes "budget"))) (λ budget.
+    Ok (record { database = database; types = types; work = work; budget = budget })))))

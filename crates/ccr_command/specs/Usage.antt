@@ -1,0 +1,85 @@
+-- The words of the command line: its options and commands, as `clap` reads them.
+use Rattle.std.specs.Prelude.{◌≡◌, List, [], ◌∷◌, true, false, Some, pos, codes}
+use Rattle.clap.specs.declared.builder.command.Command.{Command}
+use Rattle.clap.specs.declared.builder.command.Command.TheViews.{out-Command}
+use Rattle.clap.specs.declared.builder.value_parser.ValueParser.TheVariants.{Signed}
+use Rattle.clap.specs.Words.{App, Rule, Shape, Text, new_rule, shape_of, with_subcommand}
+use Rattle.clap.specs.Simple.{new_shape}
+use Rattle.ccr_command.specs.Numbers.{MOST}
+
+-- ---- arguments
+-- one that has to be there, without a name before it
+abbrev pub value_rule : Text → Rule
+value_rule id = record (new_rule id) { required = true }
+
+-- an option, which is named by two dashes and its id
+abbrev pub option_rule : Text → Rule
+option_rule id = record (new_rule id) { long = Some id; value_names = 1 }
+
+-- an option that has to be there
+abbrev pub required_rule : Text → Rule
+required_rule id = record (option_rule id) { required = true }
+
+-- an option that has this value where it isn't there
+abbrev pub optional_rule : Text → Text → Rule
+optional_rule id default = record (option_rule id) { defaults = default ∷ [] }
+
+-- the same, which is a number from 1 to the highest
+abbrev pub as_number : Rule → Rule
+as_number a = record a { parser = Some (Signed (pos 1) (pos MOST)) }
+
+-- ---- commands
+-- a command with these arguments
+abbrev pub command_shape : Text → List Rule → Shape
+command_shape name arguments = record (new_shape name) { rules = arguments }
+
+-- a command is this one; it gives no argument to others
+abbrev pub IsCommand : Text → List Rule → Command → Type 0
+IsCommand name arguments c = (shape_of c ≡ command_shape name arguments) × ((out-Command c).has_globals ≡ false)
+
+-- the commands for the pipeline and its resources
+abbrev pub resource_commands : List Shape
+resource_commands =
+    command_shape (codes "set-pipeline") (value_rule (codes "FILE") ∷ [])
+    ∷ command_shape (codes "check-resource") (value_rule (codes "NAME") ∷ [])
+    ∷ command_shape (codes "resource-versions") (value_rule (codes "NAME") ∷ [])
+    ∷ command_shape (codes "pin-resource") (value_rule (codes "NAME") ∷ value_rule (codes "JSON") ∷ [])
+    ∷ command_shape (codes "unpin-resource") (value_rule (codes "NAME") ∷ [])
+    ∷ []
+
+-- the commands for jobs and builds
+abbrev pub job_commands : List Shape
+job_commands =
+    command_shape (codes "resolve") (value_rule (codes "JOB") ∷ [])
+    ∷ command_shape (codes "problem") (value_rule (codes "JOB") ∷ [])
+    ∷ command_shape (codes "trigger-job") (value_rule (codes "JOB") ∷ [])
+    ∷ command_shape (codes "builds") []
+    ∷ command_shape (codes "run") (as_number (required_rule (codes "rounds")) ∷ [])
+    ∷ []
+
+-- ---- the line
+-- the options
+abbrev pub options : List Rule
+options =
+    required_rule (codes "db")
+    ∷ optional_rule (codes "types") (codes "/usr/local/lib/ccr/types")
+    ∷ optional_rule (codes "work") (codes "/var/tmp/ccr")
+    ∷ as_number (optional_rule (codes "budget") (codes "100000"))
+    ∷ []
+
+-- the program, to which a command has to be given
+abbrev pub program : App
+program = record { top = record (new_shape (codes "ccr_run")) { subcommand_required = true }; subs = [] }
+
+-- the same with its options
+abbrev pub options_line : App
+options_line = record { top = record program.top { rules = options }; subs = [] }
+
+-- the same with these commands
+abbrev pub with_all : App → List Shape → App
+with_all a [] = a
+with_all a (s ∷ ss) = with_all (with_subcommand a s) ss
+
+-- THE COMMAND LINE: the options, and then one of the commands
+abbrev pub line : App
+line = with_all (with_all options_line resource_commands) job_commands

@@ -1,0 +1,79 @@
+//! The command that a command line names.
+ghost use Rattle.std.specs.Prelude.{◌≡◌, IfOk, codes, option_map, string_bytes};
+ghost use Rattle.clap.specs.Words.{first_of, found_of, rows_of};
+ghost use Rattle.ccr_command.specs.Commands.{command_data, pin_named, run_named, command_named, command_in};
+
+use crate::number::number_of;
+use ccr_serve::Command;
+use clap::ArgMatches;
+use std::alloc::{AllocError, Global};
+
+/// A copy of the first value of an argument; None where it has none.
+fn value_of(alloc: Global, values: &ArgMatches<'_>, id: &str) -> Result<Option<String>, AllocError>
+    ensures { IfOk result (λ value. option_map string_bytes value ≡ first_of id.now (rows_of (found_of values.now))) }
+{
+    match values.get_str(id) {
+        Some(text) => Ok(Some(String::from_str(alloc, text)?)),
+        None => Ok(None),
+    }
+}
+
+/// The pin of a resource; None where one of its values is absent.
+fn pin_of(alloc: Global, values: &ArgMatches<'_>) -> Result<Option<Command>, AllocError>
+    ensures { IfOk result (λ command. option_map command_data command
+        ≡ pin_named (first_of (codes "NAME") (rows_of (found_of values.now)))
+        (first_of (codes "JSON") (rows_of (found_of values.now)))) }
+{
+    let resource = value_of(alloc, values, "NAME")?;
+    let pin = value_of(alloc, values, "JSON")?;
+    match (resource, pin) {
+        (Some(resource), Some(pin)) => Ok(Some(Command::PinResource(resource, pin))),
+        _ => Ok(None),
+    }
+}
+
+/// The run of so many rounds; None where their number is absent or out of its range.
+fn run_of(values: &ArgMatches<'_>) -> Option<Command>
+    ensures { option_map command_data result ≡ run_named (first_of (codes "rounds") (rows_of (found_of values.now))) }
+{
+    match values.get_str("rounds") {
+        Some(text) => match number_of(text) {
+            Some(rounds) => Some(Command::Run(rounds)),
+            None => None,
+        },
+        None => None,
+    }
+}
+
+/// The command that a word names, with its values.
+fn named(alloc: Global, word: &str, values: &ArgMatches<'_>) -> Result<Option<Command>, AllocError>
+    ensures { IfOk result (λ command.
+        option_map command_data command ≡ command_named word.now (rows_of (found_of values.now))) }
+{
+    match word {
+        "set-pipeline" => Ok(value_of(alloc, values, "FILE")?.map(Command::SetPipeline)),
+        "check-resource" => Ok(value_of(alloc, values, "NAME")?.map(Command::CheckResource)),
+        "resource-versions" => Ok(value_of(alloc, values, "NAME")?.map(Command::ResourceVersions)),
+        "pin-resource" => pin_of(alloc, values),
+        "unpin-resource" => Ok(value_of(alloc, values, "NAME")?.map(Command::UnpinResource)),
+        "resolve" => Ok(value_of(alloc, values, "JOB")?.map(Command::Resolve)),
+        "problem" => Ok(value_of(alloc, values, "JOB")?.map(Command::Problem)),
+        "trigger-job" => Ok(value_of(alloc, values, "JOB")?.map(Command::TriggerJob)),
+        "builds" => Ok(Some(Command::Builds)),
+        "run" => Ok(run_of(values)),
+        _ => Ok(None),
+    }
+}
+
+/// The command that the subcommand of the matches names, with the first value of each of its arguments. It is None where
+/// there is no such command, or where a value is absent or out of its range (`run --rounds`: 1 to 1,000,000).
+///
+/// The only error is that a growth of memory was refused.
+pub fn command_of(alloc: Global, matches: &ArgMatches<'_>) -> Result<Option<Command>, AllocError>
+    ensures { IfOk result (λ command. option_map command_data command ≡ command_in matches.now) }
+{
+    match matches.subcommand() {
+        Some((word, values)) => named(alloc, word, values),
+        None => Ok(None),
+    }
+}

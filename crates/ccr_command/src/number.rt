@@ -1,0 +1,27 @@
+//! Numbers as they are typed.
+ghost use Rattle.std.specs.Prelude.{◌≡◌};
+ghost use Rattle.ccr_command.specs.Numbers.{in_range, number_of};
+
+/// The highest number that is taken: of rounds, and as a budget.
+const MOST: u32 = 1_000_000;
+
+/// The number, where it is one from 1 to the highest.
+fn in_range(number: u32) -> Option<u32>
+    ensures { result ≡ in_range number }
+{
+    if 1 <= number && number <= MOST {
+        Some(number)
+    } else {
+        None
+    }
+}
+
+/// The number that a text writes; None where it is no number from 1 to 1,000,000.
+pub(crate) fn number_of(text: &str) -> Option<u32>
+    ensures { result ≡ number_of text.now }
+{
+    match text.parse::<u32>() {
+        Ok(number) => in_range(number),
+        Err(_) => None,
+    }
+}

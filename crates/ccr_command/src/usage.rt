@@ -1,0 +1,107 @@
+//! The command line, with its help.
+ghost use Rattle.std.specs.Prelude.{◌≡◌, IfOk};
+ghost use Rattle.clap.specs.Words.{app_of};
+ghost use Rattle.ccr_command.specs.Usage.{program, options_line, with_all, resource_commands, job_commands, line};
+
+use crate::argument::{as_number, optional, required};
+use crate::commands::{
+    builds, check_resource, pin_resource, problem, resolve, resource_versions, run, set_pipeline,
+    trigger_job, unpin_resource,
+};
+use clap::Command;
+use std::alloc::{AllocError, Global};
+
+/// What the program does, at the top of its help.
+const ABOUT: &str = "Runs pipelines: checks resources, makes builds of jobs, and remembers both";
+
+/// The end of the program's help.
+const MORE: &str = "\
+Exit statuses: 0 done, 1 refused, 2 usage, 3 over the budget, 4 disk or memory.
+What is done stands on standard output, line by line as it happens; a refusal on standard error.
+
+Example:
+  ccr_run --db ci.db set-pipeline pipeline.json
+  ccr_run --db ci.db run --rounds 10
+  ccr_run --db ci.db builds";
+
+/// The program, to which a command has to be given.
+fn program<'a>(alloc: Global) -> Command<'a>
+    ensures { app_of result ≡ program }
+{
+    Command::new(alloc, "ccr_run")
+        .about(ABOUT)
+        .after_help(MORE)
+        .subcommand_required(true)
+}
+
+/// The program with its options.
+fn with_options<'a>(alloc: Global) -> Result<Command<'a>, AllocError>
+    ensures { IfOk result (λ made. app_of made ≡ options_line) }
+{
+    let database = required(
+        alloc,
+        "db",
+        "FILE",
+        "The database; it is made where there is none",
+    );
+    let types = optional(
+        alloc,
+        "types",
+        "DIR",
+        "/usr/local/lib/ccr/types",
+        "The folder with a folder of programs for each type of resource; begins with /",
+    );
+    let work = optional(
+        alloc,
+        "work",
+        "DIR",
+        "/var/tmp/ccr",
+        "The folder in which checks and builds run; begins with /",
+    );
+    let budget = optional(
+        alloc,
+        "budget",
+        "N",
+        "100000",
+        "How many nodes the proof of a choice may have, from 1 to 1000000",
+    );
+    program(alloc)
+        .arg(database)?
+        .arg(types)?
+        .arg(work)?
+        .arg(as_number(budget))
+}
+
+/// The same with the commands for the pipeline and its resources.
+fn with_resource_commands<'a>(alloc: Global, line: Command<'a>) -> Result<Command<'a>, AllocError>
+    ensures { IfOk result (λ made. app_of made ≡ with_all (app_of line.entry) resource_commands) }
+{
+    let line = line.subcommand(set_pipeline(alloc)?)?;
+    let line = line.subcommand(check_resource(alloc)?)?;
+    let line = line.subcommand(resource_versions(alloc)?)?;
+    let line = line.subcommand(pin_resource(alloc)?)?;
+    line.subcommand(unpin_resource(alloc)?)
+}
+
+/// The same with the commands for jobs and builds.
+fn with_job_commands<'a>(alloc: Global, line: Command<'a>) -> Result<Command<'a>, AllocError>
+    ensures { IfOk result (λ made. app_of made ≡ with_all (app_of line.entry) job_commands) }
+{
+    let line = line.subcommand(resolve(alloc)?)?;
+    let line = line.subcommand(problem(alloc)?)?;
+    let line = line.subcommand(trigger_job(alloc)?)?;
+    let line = line.subcommand(builds(alloc))?;
+    line.subcommand(run(alloc)?)
+}
+
+/// The program's command line: `ccr_run --db FILE [--types DIR] [--work DIR] [--budget N] COMMAND`, with the help of the
+/// program and of each of its ten commands.
+///
+/// The only error is that a growth of memory was refused.
+pub fn command_line<'a>(alloc: Global) -> Result<Command<'a>, AllocError>
+    ensures { IfOk result (λ made. app_of made ≡ line) }
+{
+    let line = with_options(alloc)?;
+    let line = with_resource_commands(alloc, line)?;
+    with_job_commands(alloc, line)
+}
