@@ -22,6 +22,8 @@ pub mod Resuming
 pub mod Piping
 pub mod Standing
 pub mod Wanting
+pub mod Asking
+pub mod Ordering
 pub mod Answering
 pub mod Making
 pub mod Busying

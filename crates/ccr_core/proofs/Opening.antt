@@ -1,6 +1,6 @@
 -- A build that a core makes, and a schedule or a trigger that it refuses.
 use Rattle.std.proofs.Common.{◌≡◌, ◌⊎◌, inl, inr, ℕ, ◌<◌, ◌≤◌, Bool, true, false, List, [], ◌∷◌, ◌++◌, Option, Some, None, Ok, Err, length, map, String, string_bytes, refl, sym, ap, ◌∙◌, subst, arith}
-use Rattle.std.specs.Prelude.{unwrap_or}
+use Rattle.std.specs.Prelude.{unwrap_or, Result, IfErr, IsErrAnd}
 use Rattle.std.specs.declared.alloc.Global.{Global}
 use Rattle.ccr_history.specs.declared.builds.TheConstants.{MOST_BUILDS}
 use Rattle.ccr_history.specs.Text.{Text}
@@ -13,7 +13,8 @@ use Rattle.ccr_steps.specs.Runs.{RunData, run_data, StandsFor}
 use Rattle.ccr_steps.specs.declared.build.BuildRun.{BuildRun}
 use Rattle.ccr_steps.specs.declared.outcome.Outcome.{Outcome}
 use Rattle.ccr_problem.specs.ProblemOf.{job_of}
-use Rattle.ccr_core.specs.declared.fault.CoreFault.TheVariants.{TooManyOpen, TableFull}
+use Rattle.ccr_core.specs.declared.fault.CoreFault.{CoreFault}
+use Rattle.ccr_core.specs.declared.fault.CoreFault.TheVariants.{NoPipeline, NoJob, NoResource, NoBuild, BuildsOpen, NotWanted, TooManyOpen, TableFull, NoMemory}
 use Rattle.ccr_core.specs.declared.limit.TheConstants.{MOST_RUNNING}
 use Rattle.ccr_core.specs.declared.pick.Picked.{Picked}
 use Rattle.ccr_core.specs.declared.pick.Picked.TheVariants as pick
@@ -24,7 +25,7 @@ use Rattle.ccr_core.specs.Choices.{best, Finds}
 use Rattle.ccr_core.specs.Faults.{Meets, MayRefuse, IsFree}
 use Rattle.ccr_core.specs.Going.{CanMake, IsMade}
 use Rattle.ccr_core.specs.Holding.{CoreData, name_data, AreRuns, Stands, IsCore, Takes}
-use Rattle.ccr_core.specs.Opening.{asked, IsOpened}
+use Rattle.ccr_core.specs.Opening.{asked, LacksRoom, IsOpened}
 use Rattle.ccr_core.specs.Picking.{name_of, Picks, IsPicked}
 use Rattle.ccr_core.specs.State.{RunningData, State, no_pipeline, pipeline_of, jobs_of, moved_on}
 use Rattle.ccr_core.specs.Steps.{IsIdle, IsHeld, has_news, Step}
@@ -198,3 +199,19 @@ module _ (p : PipelineData) (h : HistoryData) (j : JobData) (places : List ℕ) 
 pub name_more : (ns ms : Names) (name : String Global) (m : ℕ) (job : Text) (number : ℕ) → ms ≡ ns ++ (name, m) ∷ [] → string_bytes name ≡ job → m ≡ number → map name_data ms ≡ map name_data ns ++ (job, number) ∷ []
 name_more ns ms name m job number is called numbered =
     ap (map name_data) is ∙ map_more name_data ns (name, m) ∙ ap (λ j. map name_data ns ++ (j, m) ∷ []) called ∙ ap (λ n. map name_data ns ++ (job, n) ∷ []) numbered
+
+-- a schedule or a trigger is refused where there is no room
+pub no_room : (c : CoreData) (by_command : Bool) (name : Text) (p : PipelineData) (piped : c.pipeline ≡ Some p) (j : JobData) (at : job_of name p.jobs ≡ Some j) (running : ℕ) (f : CoreFault) → running ≡ length c.names → LacksRoom c.history running f → Takes c c (asked by_command name) (Err f)
+no_room c by_command name p piped j at running TooManyOpen same many = too_many c by_command name p piped j at (omega (arith, same, many))
+no_room c by_command name p piped j at running TableFull same (less, many) = table_full c by_command name p piped j at (omega (arith, same, less)) many
+no_room c by_command name p piped j at running NoPipeline same lacks = absurd lacks
+no_room c by_command name p piped j at running NoJob same lacks = absurd lacks
+no_room c by_command name p piped j at running NoResource same lacks = absurd lacks
+no_room c by_command name p piped j at running NoBuild same lacks = absurd lacks
+no_room c by_command name p piped j at running BuildsOpen same lacks = absurd lacks
+no_room c by_command name p piped j at running NotWanted same lacks = absurd lacks
+no_room c by_command name p piped j at running NoMemory same lacks = absurd lacks
+
+pub ends_so : {X : Type 0} → (P : CoreFault → Type 0) → (r : Result X CoreFault) (f : CoreFault) → IsErrAnd r (λ e. e ≡ f) → P f → IfErr r P
+ends_so P (Ok x) f is h = tt
+ends_so P (Err e) f is h = subst P (sym is) h

@@ -1,21 +1,24 @@
 -- What a core holds, and which states it stands for.
 use Rattle.std.specs.Prelude.{◌≡◌, ℕ, ◌+◌, ◌==◌, ◌≤◌, ◌&&◌, List, [], ◌∷◌, Option, Some, None, string_bytes, if◌then◌else◌, ⊤}
-use Rattle.std.specs.Prelude.{String}
+use Rattle.std.specs.Prelude.{String, IsTrue}
 use Rattle.std.specs.List.{AllByRecursion}
+use Rattle.std.specs.Option.{IfSome}
 use Rattle.std.specs.Str.{bytes_eq}
 use Rattle.std.specs.declared.alloc.Global.{Global}
 use Rattle.ccr_history.specs.Text.{Text}
 use Rattle.ccr_history.specs.History.{HistoryData}
+use Rattle.ccr_pipeline.specs.Links.{resource_names}
+use Rattle.ccr_pipeline.specs.Names.{has_name}
 use Rattle.ccr_pipeline.specs.Pipelines.{PipelineData}
 use Rattle.ccr_proof.specs.declared.proof.TheConstants.{MOST_NODES}
-use Rattle.ccr_steps.specs.Asks.{ask_data}
+use Rattle.ccr_steps.specs.Asks.{AskData, ask_data, ask_resource}
 use Rattle.ccr_steps.specs.Progress.{IsAllowed, IsNext}
 use Rattle.ccr_steps.specs.Runs.{RunData, StandsFor, HasTurn}
 use Rattle.ccr_steps.specs.declared.ask.Ask.{Ask}
 use Rattle.ccr_core.specs.Events.{EventData}
 use Rattle.ccr_core.specs.Kept.{IsEvent, IsStart}
 use Rattle.ccr_core.specs.Replies.{Replied}
-use Rattle.ccr_core.specs.State.{RunningData, State, running_at}
+use Rattle.ccr_core.specs.State.{RunningData, State, resources_of, running_at}
 use Rattle.ccr_core.specs.Steps.{Step, Run}
 
 -- a build's job and number
@@ -72,6 +75,10 @@ IsAsked b w = ⊥
 -- what the job's build of this number wants, in each state that the core stands for
 abbrev pub Wants : CoreData → Text → ℕ → Option (ℕ × Ask) → Type 0
 Wants c job number w = (s : State) → Stands c s → IsAsked (running_at job number s.running) w
+
+-- the resource that an ask names is one of the pipeline's; a task's asks name none
+abbrev pub NamesResource : State → AskData → Type 0
+NamesResource s a = IfSome (ask_resource a) (λ r. IsTrue (has_name (resource_names (resources_of s)) r))
 
 -- where the job's build of this number stands among the names; past the end if it doesn't run
 abbrev pub name_index : Text → ℕ → List (Text × ℕ) → ℕ

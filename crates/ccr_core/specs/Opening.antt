@@ -1,5 +1,6 @@
 -- What the parts of a core do at an event.
-use Rattle.std.specs.Prelude.{◌≡◌, ◌⊎◌, ℕ, Bool, true, false, List, [], ◌∷◌, ◌++◌, Option, Some, None}
+use Rattle.std.specs.Prelude.{◌≡◌, ◌⊎◌, ℕ, ◌<◌, ◌≤◌, Bool, true, false, List, [], ◌∷◌, ◌++◌, length, Option, Some, None}
+use Rattle.ccr_history.specs.declared.builds.TheConstants.{MOST_BUILDS}
 use Rattle.ccr_history.specs.Text.{Text}
 use Rattle.ccr_history.specs.TextMap.{TextMap}
 use Rattle.ccr_history.specs.Tables.{ScopeData, new_count, is_table_full}
@@ -11,7 +12,8 @@ use Rattle.ccr_steps.specs.Runs.{RunData}
 use Rattle.ccr_steps.specs.declared.outcome.Outcome.{Outcome}
 use Rattle.ccr_problem.specs.ProblemOf.{resource_of}
 use Rattle.ccr_core.specs.declared.fault.CoreFault.{CoreFault}
-use Rattle.ccr_core.specs.declared.fault.CoreFault.TheVariants.{NoPipeline, NoResource, TableFull, NoMemory}
+use Rattle.ccr_core.specs.declared.fault.CoreFault.TheVariants.{NoPipeline, NoResource, TooManyOpen, TableFull, NoMemory}
+use Rattle.ccr_core.specs.declared.limit.TheConstants.{MOST_RUNNING}
 use Rattle.ccr_core.specs.Events.{EventData, schedule, trigger}
 use Rattle.ccr_core.specs.Going.{IsMade}
 use Rattle.ccr_core.specs.Holding.{CoreData}
@@ -20,6 +22,16 @@ use Rattle.ccr_core.specs.Holding.{CoreData}
 abbrev pub asked : Bool → Text → EventData
 asked true job = trigger job
 asked false job = schedule job
+
+-- there is room for one more build in the history, and beside so many that run
+abbrev pub HasRoom : HistoryData → ℕ → Type 0
+HasRoom h running = (running < MOST_RUNNING) × (length h.builds < MOST_BUILDS)
+
+-- why there is no room for one more build
+abbrev pub LacksRoom : HistoryData → ℕ → CoreFault → Type 0
+LacksRoom h running TooManyOpen = MOST_RUNNING ≤ running
+LacksRoom h running TableFull = (running < MOST_RUNNING) × (MOST_BUILDS ≤ length h.builds)
+LacksRoom h running f = ⊥
 
 -- one more stands at the end, unless the build has ended
 abbrev pub Opens : {X : Type 0} → Option Outcome → X → List X → List X → Type 0

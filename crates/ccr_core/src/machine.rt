@@ -45,8 +45,10 @@ impl Core {
     ghost use Rattle.ccr_core.specs.Cores.{core_data};
     ghost use Rattle.ccr_core.specs.Events.{event_data};
     ghost use Rattle.ccr_core.specs.Going.{Changes};
-    ghost use Rattle.ccr_core.specs.Holding.{name_data, IsCore, Takes, Wants};
-    ghost use Rattle.ccr_core.specs.Positions.{IsMadeAt};
+    ghost use Rattle.ccr_steps.specs.Asks.{ask_data};
+    ghost use Rattle.ccr_core.specs.Holding.{name_data, IsCore, NamesResource, Stands, Takes, Wants};
+    ghost use Rattle.ccr_core.specs.Positions.{IsMadeAt, AreInOrder};
+    ghost use Rattle.ccr_core.specs.State.{State};
     ghost use Rattle.ccr_core.specs.Resumed.{resumed, IsReadable, IsResumed};
     ghost use Rattle.ccr_core.specs.declared.fault.CoreFault.TheVariants.{NoMemory};
 
@@ -89,15 +91,18 @@ impl Core {
 
     /// The builds that run, in order of making: the name of the job, and the number. Each of them wants something.
     pub fn running(&self) -> &[(String, u32)]
-        ensures { map name_data result.now ≡ (core_data self.now).names }
+        ensures names { map name_data result.now ≡ (core_data self.now).names }
+        ensures ordered { AreInOrder (core_data self.now).history.builds 0 (core_data self.now).names }
     {
         &self.parts.names
     }
 
-    /// What the job's build of this number waits for, and at which turn; None exactly where it doesn't run. No memory
-    /// is taken.
+    /// What the job's build of this number waits for, and at which turn; None exactly where it doesn't run. A resource
+    /// that it names is one of the pipeline's. No memory is taken.
     pub fn wants(&self, job: &str, number: u32) -> Option<(u64, Ask<'_>)>
-        ensures { Wants (core_data self.now) job.now number result }
+        ensures asked { Wants (core_data self.now) job.now number result }
+        ensures named { (s : State) → Stands (core_data self.now) s
+            → IfSome result (λ w. NamesResource s (ask_data w.1)) }
     {
         self.parts.wants(job, number)
     }

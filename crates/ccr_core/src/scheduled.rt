@@ -1,10 +1,10 @@
 //! Builds that are to be made, because there is something new or by command.
-ghost use Rattle.std.specs.Prelude.{◌≡◌, Ok, Err, map, IfOk, IfErr, OnErr};
+ghost use Rattle.std.specs.Prelude.{◌≡◌, Ok, Err, map, IfOk, IfErr, OnOk, OnErr};
 ghost use Rattle.ccr_history.specs.Edits.{edit_data};
 ghost use Rattle.ccr_core.specs.Cores.{core_data};
 ghost use Rattle.ccr_core.specs.Going.{Changes};
 ghost use Rattle.ccr_core.specs.Holding.{IsCore, Takes};
-ghost use Rattle.ccr_core.specs.Opening.{asked};
+ghost use Rattle.ccr_core.specs.Opening.{asked, HasRoom, LacksRoom};
 
 use crate::fault::CoreFault;
 use crate::limit::MOST_RUNNING;
@@ -13,8 +13,22 @@ use crate::opened::open_build;
 use crate::parts::Parts;
 use crate::pick::{Picked, pick};
 use crate::reply::Reply;
-use ccr_history::{Change, MOST_BUILDS};
+use ccr_history::{Change, History, MOST_BUILDS};
 use std::alloc::Global;
+
+/// Whether there is room for one more build where so many run, or why not.
+fn check_room(history: &History, running: usize) -> Result<(), CoreFault>
+    ensures has { OnOk result (HasRoom history.now running) }
+    ensures lacks { IfErr result (LacksRoom history.now running) }
+{
+    if running >= MOST_RUNNING {
+        return Err(CoreFault::TooManyOpen);
+    }
+    if history.build_count() >= MOST_BUILDS {
+        return Err(CoreFault::TableFull);
+    }
+    Ok(())
+}
 
 impl Parts {
     /// A build of a job is to be made: by command, or else only if there is something new. Where it is refused, nothing
@@ -40,12 +54,7 @@ impl Parts {
         let Some(found) = job_named(pipeline.jobs(), job) else {
             return Err(CoreFault::NoJob);
         };
-        if self.names.len() >= MOST_RUNNING {
-            return Err(CoreFault::TooManyOpen);
-        }
-        if self.history.build_count() >= MOST_BUILDS {
-            return Err(CoreFault::TableFull);
-        }
+        check_room(&self.history, self.names.len())?;
         match pick(
             alloc,
             pipeline,

@@ -1,7 +1,10 @@
 //! What running builds want.
 ghost use Rattle.std.specs.Prelude.{◌≡◌, map};
+ghost use Rattle.std.specs.Option.{IfSome};
+ghost use Rattle.ccr_steps.specs.Asks.{ask_data};
 ghost use Rattle.ccr_core.specs.Cores.{core_data};
-ghost use Rattle.ccr_core.specs.Holding.{name_data, name_index, Wants};
+ghost use Rattle.ccr_core.specs.Holding.{name_data, name_index, IsCore, NamesResource, Stands, Wants};
+ghost use Rattle.ccr_core.specs.State.{State};
 ghost use Rattle.ccr_core.specs.Wanting.{EachWants, WantedIsTaken};
 
 use crate::parts::Parts;
@@ -20,9 +23,13 @@ pub(crate) fn index_of(names: &[(String, u32)], job: &str, number: u32) -> usize
 }
 
 impl Parts {
-    /// What the job's build of this number waits for, and at which turn; None where it doesn't run.
+    /// What the job's build of this number waits for, and at which turn; None where it doesn't run. A resource that it
+    /// names is one of the pipeline's.
     pub(crate) fn wants(&self, job: &str, number: u32) -> Option<(u64, Ask<'_>)>
-        ensures { Wants (core_data self.now) job.now number result }
+        requires { IsCore (core_data self.now) }
+        ensures asked { Wants (core_data self.now) job.now number result }
+        ensures named { (s : State) → Stands (core_data self.now) s
+            → IfSome result (λ w. NamesResource s (ask_data w.1)) }
     {
         let k = index_of(&self.names, job, number);
         if k >= self.runs.len() {

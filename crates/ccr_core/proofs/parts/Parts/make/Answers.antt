@@ -10,17 +10,13 @@ use Rattle.ccr_core.specs.Holding.{name_data}
 use Rattle.ccr_core.specs.Opening.{IsOpened}
 use Rattle.ccr_core.specs.Picking.{IsPicked}
 use Rattle.ccr_core.proofs.Choosing.{length_map}
-use Rattle.ccr_core.proofs.Opening.{too_many, table_full, picks, busy, none_satisfies, over_budget, not_new, can, made}
+use Rattle.ccr_core.proofs.Opening.{no_room, ends_so, picks, busy, none_satisfies, over_budget, not_new, can, made}
 use Rattle.ccr_core.proofs.Owning.{job_at}
 use Rattle.ccr_core.proofs.parts.Parts.make.Goals as goal
 
-pub returns-then-len-ge-MOST_RUNNING-clause-refused : goal.returns-then-len-ge-MOST_RUNNING-clause-refused
-returns-then-len-ge-MOST_RUNNING-clause-refused c =
-    too_many (core_data c.args.self.now) c.args.by_command c.args.job.now (pipeline_data c.in-Some.pipeline) (ap (option_map pipeline_data) c.in-Some.is) (job_data c.in-Some-job_named.found.now) (ap (job_of c.args.job.now) (sym c.jobs.ensures) ∙ sym c.in-Some-job_named.ensures) (let names = length_map name_data c.args.self.now.names.items in omega (arith, names, c.if-len-ge-MOST_RUNNING.true, c.len.ensures, c.args.self.now.names.ok))
-
-pub returns-then-build_count-ge-MOST_BUILDS-clause-refused : goal.returns-then-build_count-ge-MOST_BUILDS-clause-refused
-returns-then-build_count-ge-MOST_BUILDS-clause-refused c =
-    table_full (core_data c.args.self.now) c.args.by_command c.args.job.now (pipeline_data c.in-Some.pipeline) (ap (option_map pipeline_data) c.in-Some.is) (job_data c.in-Some-job_named.found.now) (ap (job_of c.args.job.now) (sym c.jobs.ensures) ∙ sym c.in-Some-job_named.ensures) (let names = length_map name_data c.args.self.now.names.items in omega (arith, names, c.if-len-ge-MOST_RUNNING.false, c.len.ensures, c.args.self.now.names.ok)) (omega (arith, c.if-build_count-ge-MOST_BUILDS.true, c.build_count.ensures.is))
+pub returns-in_err-check_room-clause-refused : goal.returns-in_err-check_room-clause-refused
+returns-in_err-check_room-clause-refused c =
+    ends_so _ c.from_residual.result _ c.from_residual.ensures.1 (no_room (core_data c.args.self.now) c.args.by_command c.args.job.now (pipeline_data c.in-Some.pipeline) (ap (option_map pipeline_data) c.in-Some.is) (job_data c.in-Some-job_named.found.now) (ap (job_of c.args.job.now) (sym c.jobs.ensures) ∙ sym c.in-Some-job_named.ensures) c.len.result _ (let names = length_map name_data c.args.self.now.names.items in omega (arith, names, c.len.ensures, c.args.self.now.names.ok)) c.in_err-check_room.ensures.lacks)
 
 pub pick-requires-clause-there : goal.pick-requires-clause-there
 pick-requires-clause-there c =
@@ -28,24 +24,24 @@ pick-requires-clause-there c =
 
 pub returns-in-Busy-clause-step : goal.returns-in-Busy-clause-step
 returns-in-Busy-clause-step c =
-    busy (core_data c.args.self.now) c.args.by_command c.args.job.now (pipeline_data c.in-Some.pipeline) (ap (option_map pipeline_data) c.in-Some.is) (job_data c.in-Some-job_named.found.now) (ap (job_of c.args.job.now) (sym c.jobs.ensures) ∙ sym c.in-Some-job_named.ensures) (let names = length_map name_data c.args.self.now.names.items in omega (arith, names, c.if-len-ge-MOST_RUNNING.false, c.len.ensures, c.args.self.now.names.ok)) (omega (arith, c.if-build_count-ge-MOST_BUILDS.false, c.build_count.ensures.is)) (subst (IsPicked (pipeline_data c.in-Some.pipeline) c.args.self.now.history c.args.self.now.budget (map name_data c.args.self.now.names.items) (job_data c.in-Some-job_named.found.now) c.args.by_command) c.in-Busy.is (subst (λ l. IsPicked (pipeline_data c.in-Some.pipeline) c.args.self.now.history c.args.self.now.budget (map name_data l) (job_data c.in-Some-job_named.found.now) c.args.by_command c.in-Ok.pick) c.deref.ensures.value c.in-Ok.ensures))
+    busy (core_data c.args.self.now) c.args.by_command c.args.job.now (pipeline_data c.in-Some.pipeline) (ap (option_map pipeline_data) c.in-Some.is) (job_data c.in-Some-job_named.found.now) (ap (job_of c.args.job.now) (sym c.jobs.ensures) ∙ sym c.in-Some-job_named.ensures) (let names = length_map name_data c.args.self.now.names.items in let room = c.in_ok-check_room.ensures.has.0 in omega (arith, names, room, c.len.ensures, c.args.self.now.names.ok)) c.in_ok-check_room.ensures.has.1 (subst (IsPicked (pipeline_data c.in-Some.pipeline) c.args.self.now.history c.args.self.now.budget (map name_data c.args.self.now.names.items) (job_data c.in-Some-job_named.found.now) c.args.by_command) c.in-Busy.is (subst (λ l. IsPicked (pipeline_data c.in-Some.pipeline) c.args.self.now.history c.args.self.now.budget (map name_data l) (job_data c.in-Some-job_named.found.now) c.args.by_command c.in-Ok.pick) c.deref.ensures.value c.in-Ok.ensures))
 
 pub returns-in-NoneSatisfies-clause-step : goal.returns-in-NoneSatisfies-clause-step
 returns-in-NoneSatisfies-clause-step c =
-    none_satisfies (core_data c.args.self.now) c.args.by_command c.args.job.now (pipeline_data c.in-Some.pipeline) (ap (option_map pipeline_data) c.in-Some.is) (job_data c.in-Some-job_named.found.now) (ap (job_of c.args.job.now) (sym c.jobs.ensures) ∙ sym c.in-Some-job_named.ensures) (let names = length_map name_data c.args.self.now.names.items in omega (arith, names, c.if-len-ge-MOST_RUNNING.false, c.len.ensures, c.args.self.now.names.ok)) (omega (arith, c.if-build_count-ge-MOST_BUILDS.false, c.build_count.ensures.is)) (subst (IsPicked (pipeline_data c.in-Some.pipeline) c.args.self.now.history c.args.self.now.budget (map name_data c.args.self.now.names.items) (job_data c.in-Some-job_named.found.now) c.args.by_command) c.in-NoneSatisfies.is (subst (λ l. IsPicked (pipeline_data c.in-Some.pipeline) c.args.self.now.history c.args.self.now.budget (map name_data l) (job_data c.in-Some-job_named.found.now) c.args.by_command c.in-Ok.pick) c.deref.ensures.value c.in-Ok.ensures))
+    none_satisfies (core_data c.args.self.now) c.args.by_command c.args.job.now (pipeline_data c.in-Some.pipeline) (ap (option_map pipeline_data) c.in-Some.is) (job_data c.in-Some-job_named.found.now) (ap (job_of c.args.job.now) (sym c.jobs.ensures) ∙ sym c.in-Some-job_named.ensures) (let names = length_map name_data c.args.self.now.names.items in let room = c.in_ok-check_room.ensures.has.0 in omega (arith, names, room, c.len.ensures, c.args.self.now.names.ok)) c.in_ok-check_room.ensures.has.1 (subst (IsPicked (pipeline_data c.in-Some.pipeline) c.args.self.now.history c.args.self.now.budget (map name_data c.args.self.now.names.items) (job_data c.in-Some-job_named.found.now) c.args.by_command) c.in-NoneSatisfies.is (subst (λ l. IsPicked (pipeline_data c.in-Some.pipeline) c.args.self.now.history c.args.self.now.budget (map name_data l) (job_data c.in-Some-job_named.found.now) c.args.by_command c.in-Ok.pick) c.deref.ensures.value c.in-Ok.ensures))
 
 pub returns-in-OverBudget-clause-step : goal.returns-in-OverBudget-clause-step
 returns-in-OverBudget-clause-step c =
-    over_budget (core_data c.args.self.now) c.args.by_command c.args.job.now (pipeline_data c.in-Some.pipeline) (ap (option_map pipeline_data) c.in-Some.is) (job_data c.in-Some-job_named.found.now) (ap (job_of c.args.job.now) (sym c.jobs.ensures) ∙ sym c.in-Some-job_named.ensures) (let names = length_map name_data c.args.self.now.names.items in omega (arith, names, c.if-len-ge-MOST_RUNNING.false, c.len.ensures, c.args.self.now.names.ok)) (omega (arith, c.if-build_count-ge-MOST_BUILDS.false, c.build_count.ensures.is)) c.in-OverBudget.budget (subst (IsPicked (pipeline_data c.in-Some.pipeline) c.args.self.now.history c.args.self.now.budget (map name_data c.args.self.now.names.items) (job_data c.in-Some-job_named.found.now) c.args.by_command) c.in-OverBudget.is (subst (λ l. IsPicked (pipeline_data c.in-Some.pipeline) c.args.self.now.history c.args.self.now.budget (map name_data l) (job_data c.in-Some-job_named.found.now) c.args.by_command c.in-Ok.pick) c.deref.ensures.value c.in-Ok.ensures))
+    over_budget (core_data c.args.self.now) c.args.by_command c.args.job.now (pipeline_data c.in-Some.pipeline) (ap (option_map pipeline_data) c.in-Some.is) (job_data c.in-Some-job_named.found.now) (ap (job_of c.args.job.now) (sym c.jobs.ensures) ∙ sym c.in-Some-job_named.ensures) (let names = length_map name_data c.args.self.now.names.items in let room = c.in_ok-check_room.ensures.has.0 in omega (arith, names, room, c.len.ensures, c.args.self.now.names.ok)) c.in_ok-check_room.ensures.has.1 c.in-OverBudget.budget (subst (IsPicked (pipeline_data c.in-Some.pipeline) c.args.self.now.history c.args.self.now.budget (map name_data c.args.self.now.names.items) (job_data c.in-Some-job_named.found.now) c.args.by_command) c.in-OverBudget.is (subst (λ l. IsPicked (pipeline_data c.in-Some.pipeline) c.args.self.now.history c.args.self.now.budget (map name_data l) (job_data c.in-Some-job_named.found.now) c.args.by_command c.in-Ok.pick) c.deref.ensures.value c.in-Ok.ensures))
 
 pub returns-in-NotNew-clause-step : goal.returns-in-NotNew-clause-step
 returns-in-NotNew-clause-step c =
-    not_new (core_data c.args.self.now) c.args.by_command c.args.job.now (pipeline_data c.in-Some.pipeline) (ap (option_map pipeline_data) c.in-Some.is) (job_data c.in-Some-job_named.found.now) (ap (job_of c.args.job.now) (sym c.jobs.ensures) ∙ sym c.in-Some-job_named.ensures) (let names = length_map name_data c.args.self.now.names.items in omega (arith, names, c.if-len-ge-MOST_RUNNING.false, c.len.ensures, c.args.self.now.names.ok)) (omega (arith, c.if-build_count-ge-MOST_BUILDS.false, c.build_count.ensures.is)) (subst (IsPicked (pipeline_data c.in-Some.pipeline) c.args.self.now.history c.args.self.now.budget (map name_data c.args.self.now.names.items) (job_data c.in-Some-job_named.found.now) c.args.by_command) c.in-NotNew.is (subst (λ l. IsPicked (pipeline_data c.in-Some.pipeline) c.args.self.now.history c.args.self.now.budget (map name_data l) (job_data c.in-Some-job_named.found.now) c.args.by_command c.in-Ok.pick) c.deref.ensures.value c.in-Ok.ensures))
+    not_new (core_data c.args.self.now) c.args.by_command c.args.job.now (pipeline_data c.in-Some.pipeline) (ap (option_map pipeline_data) c.in-Some.is) (job_data c.in-Some-job_named.found.now) (ap (job_of c.args.job.now) (sym c.jobs.ensures) ∙ sym c.in-Some-job_named.ensures) (let names = length_map name_data c.args.self.now.names.items in let room = c.in_ok-check_room.ensures.has.0 in omega (arith, names, room, c.len.ensures, c.args.self.now.names.ok)) c.in_ok-check_room.ensures.has.1 (subst (IsPicked (pipeline_data c.in-Some.pipeline) c.args.self.now.history c.args.self.now.budget (map name_data c.args.self.now.names.items) (job_data c.in-Some-job_named.found.now) c.args.by_command) c.in-NotNew.is (subst (λ l. IsPicked (pipeline_data c.in-Some.pipeline) c.args.self.now.history c.args.self.now.budget (map name_data l) (job_data c.in-Some-job_named.found.now) c.args.by_command c.in-Ok.pick) c.deref.ensures.value c.in-Ok.ensures))
 
 pub open_build-requires : goal.open_build-requires
 open_build-requires c =
-    subst (CanMake (pipeline_data c.in-Some.pipeline) c.args.self.now.history (job_data c.in-Some-job_named.found.now)) (sym c.deref-in-Best.ensures.value) (can (core_data c.args.self.now) c.args.by_command c.args.job.now (pipeline_data c.in-Some.pipeline) (ap (option_map pipeline_data) c.in-Some.is) (job_data c.in-Some-job_named.found.now) (ap (job_of c.args.job.now) (sym c.jobs.ensures) ∙ sym c.in-Some-job_named.ensures) (let names = length_map name_data c.args.self.now.names.items in omega (arith, names, c.if-len-ge-MOST_RUNNING.false, c.len.ensures, c.args.self.now.names.ok)) (omega (arith, c.if-build_count-ge-MOST_BUILDS.false, c.build_count.ensures.is)) c.in-Best.places.items (picks (core_data c.args.self.now) c.args.by_command c.args.job.now (pipeline_data c.in-Some.pipeline) (ap (option_map pipeline_data) c.in-Some.is) (job_data c.in-Some-job_named.found.now) (ap (job_of c.args.job.now) (sym c.jobs.ensures) ∙ sym c.in-Some-job_named.ensures) (let names = length_map name_data c.args.self.now.names.items in omega (arith, names, c.if-len-ge-MOST_RUNNING.false, c.len.ensures, c.args.self.now.names.ok)) (omega (arith, c.if-build_count-ge-MOST_BUILDS.false, c.build_count.ensures.is)) (pick.Best c.in-Best.places) (subst (IsPicked (pipeline_data c.in-Some.pipeline) c.args.self.now.history c.args.self.now.budget (map name_data c.args.self.now.names.items) (job_data c.in-Some-job_named.found.now) c.args.by_command) c.in-Best.is (subst (λ l. IsPicked (pipeline_data c.in-Some.pipeline) c.args.self.now.history c.args.self.now.budget (map name_data l) (job_data c.in-Some-job_named.found.now) c.args.by_command c.in-Ok.pick) c.deref.ensures.value c.in-Ok.ensures))) c.requires)
+    subst (CanMake (pipeline_data c.in-Some.pipeline) c.args.self.now.history (job_data c.in-Some-job_named.found.now)) (sym c.deref-in-Best.ensures.value) (can (core_data c.args.self.now) c.args.by_command c.args.job.now (pipeline_data c.in-Some.pipeline) (ap (option_map pipeline_data) c.in-Some.is) (job_data c.in-Some-job_named.found.now) (ap (job_of c.args.job.now) (sym c.jobs.ensures) ∙ sym c.in-Some-job_named.ensures) (let names = length_map name_data c.args.self.now.names.items in let room = c.in_ok-check_room.ensures.has.0 in omega (arith, names, room, c.len.ensures, c.args.self.now.names.ok)) c.in_ok-check_room.ensures.has.1 c.in-Best.places.items (picks (core_data c.args.self.now) c.args.by_command c.args.job.now (pipeline_data c.in-Some.pipeline) (ap (option_map pipeline_data) c.in-Some.is) (job_data c.in-Some-job_named.found.now) (ap (job_of c.args.job.now) (sym c.jobs.ensures) ∙ sym c.in-Some-job_named.ensures) (let names = length_map name_data c.args.self.now.names.items in let room = c.in_ok-check_room.ensures.has.0 in omega (arith, names, room, c.len.ensures, c.args.self.now.names.ok)) c.in_ok-check_room.ensures.has.1 (pick.Best c.in-Best.places) (subst (IsPicked (pipeline_data c.in-Some.pipeline) c.args.self.now.history c.args.self.now.budget (map name_data c.args.self.now.names.items) (job_data c.in-Some-job_named.found.now) c.args.by_command) c.in-Best.is (subst (λ l. IsPicked (pipeline_data c.in-Some.pipeline) c.args.self.now.history c.args.self.now.budget (map name_data l) (job_data c.in-Some-job_named.found.now) c.args.by_command c.in-Ok.pick) c.deref.ensures.value c.in-Ok.ensures))) c.requires)
 
 pub returns-in-Ok-open_build-clause-step : goal.returns-in-Ok-open_build-clause-step
 returns-in-Ok-open_build-clause-step c =
-    made (core_data c.args.self.now) c.args.by_command c.args.job.now (pipeline_data c.in-Some.pipeline) (ap (option_map pipeline_data) c.in-Some.is) (job_data c.in-Some-job_named.found.now) (ap (job_of c.args.job.now) (sym c.jobs.ensures) ∙ sym c.in-Some-job_named.ensures) (let names = length_map name_data c.args.self.now.names.items in omega (arith, names, c.if-len-ge-MOST_RUNNING.false, c.len.ensures, c.args.self.now.names.ok)) (omega (arith, c.if-build_count-ge-MOST_BUILDS.false, c.build_count.ensures.is)) c.in-Best.places.items (picks (core_data c.args.self.now) c.args.by_command c.args.job.now (pipeline_data c.in-Some.pipeline) (ap (option_map pipeline_data) c.in-Some.is) (job_data c.in-Some-job_named.found.now) (ap (job_of c.args.job.now) (sym c.jobs.ensures) ∙ sym c.in-Some-job_named.ensures) (let names = length_map name_data c.args.self.now.names.items in omega (arith, names, c.if-len-ge-MOST_RUNNING.false, c.len.ensures, c.args.self.now.names.ok)) (omega (arith, c.if-build_count-ge-MOST_BUILDS.false, c.build_count.ensures.is)) (pick.Best c.in-Best.places) (subst (IsPicked (pipeline_data c.in-Some.pipeline) c.args.self.now.history c.args.self.now.budget (map name_data c.args.self.now.names.items) (job_data c.in-Some-job_named.found.now) c.args.by_command) c.in-Best.is (subst (λ l. IsPicked (pipeline_data c.in-Some.pipeline) c.args.self.now.history c.args.self.now.budget (map name_data l) (job_data c.in-Some-job_named.found.now) c.args.by_command c.in-Ok.pick) c.deref.ensures.value c.in-Ok.ensures))) c.in-Ok-open_build.number c.open_build.new.history (map name_data c.open_build.new.names.items) (map run_data c.open_build.new.runs.items) (subst (λ l. IsOpened (pipeline_data c.in-Some.pipeline) c.args.self.now.history (job_data c.in-Some-job_named.found.now) l c.in-Ok-open_build.number c.open_build.new.history (map name_data c.args.self.now.names.items) (map name_data c.open_build.new.names.items) (map run_data c.args.self.now.runs.items) (map run_data c.open_build.new.runs.items)) c.deref-in-Best.ensures.value c.in-Ok-open_build.ensures.opened)
+    made (core_data c.args.self.now) c.args.by_command c.args.job.now (pipeline_data c.in-Some.pipeline) (ap (option_map pipeline_data) c.in-Some.is) (job_data c.in-Some-job_named.found.now) (ap (job_of c.args.job.now) (sym c.jobs.ensures) ∙ sym c.in-Some-job_named.ensures) (let names = length_map name_data c.args.self.now.names.items in let room = c.in_ok-check_room.ensures.has.0 in omega (arith, names, room, c.len.ensures, c.args.self.now.names.ok)) c.in_ok-check_room.ensures.has.1 c.in-Best.places.items (picks (core_data c.args.self.now) c.args.by_command c.args.job.now (pipeline_data c.in-Some.pipeline) (ap (option_map pipeline_data) c.in-Some.is) (job_data c.in-Some-job_named.found.now) (ap (job_of c.args.job.now) (sym c.jobs.ensures) ∙ sym c.in-Some-job_named.ensures) (let names = length_map name_data c.args.self.now.names.items in let room = c.in_ok-check_room.ensures.has.0 in omega (arith, names, room, c.len.ensures, c.args.self.now.names.ok)) c.in_ok-check_room.ensures.has.1 (pick.Best c.in-Best.places) (subst (IsPicked (pipeline_data c.in-Some.pipeline) c.args.self.now.history c.args.self.now.budget (map name_data c.args.self.now.names.items) (job_data c.in-Some-job_named.found.now) c.args.by_command) c.in-Best.is (subst (λ l. IsPicked (pipeline_data c.in-Some.pipeline) c.args.self.now.history c.args.self.now.budget (map name_data l) (job_data c.in-Some-job_named.found.now) c.args.by_command c.in-Ok.pick) c.deref.ensures.value c.in-Ok.ensures))) c.in-Ok-open_build.number c.open_build.new.history (map name_data c.open_build.new.names.items) (map run_data c.open_build.new.runs.items) (subst (λ l. IsOpened (pipeline_data c.in-Some.pipeline) c.args.self.now.history (job_data c.in-Some-job_named.found.now) l c.in-Ok-open_build.number c.open_build.new.history (map name_data c.args.self.now.names.items) (map name_data c.open_build.new.names.items) (map run_data c.args.self.now.runs.items) (map run_data c.open_build.new.runs.items)) c.deref-in-Best.ensures.value c.in-Ok-open_build.ensures.opened)
