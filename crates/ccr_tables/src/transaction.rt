@@ -40,6 +40,9 @@ pub fn commit<S: Alter>(conn: &mut Connection<S>, writes: &[Write]) -> Result<()
     ensures durable { let new = state S.Store conn.new in
         IsTrue new.is_open → (trees : _) → new.may_leave trees → trees ≡ new.committed.trees }
     ensures open { HasCleanDisk (state S.Store conn.new) → OnOk result (IsTrue (state S.Store conn.new).is_open) }
+    ensures was_open { let old = state S.Store conn.old in
+        let new = state S.Store conn.new in
+        HasCleanDisk new → IsTrue new.is_open → HasCleanDisk old × IsTrue old.is_open }
 {
     let mut tx = conn.transaction();
     write_all(&mut tx, writes)?;
