@@ -1,10 +1,10 @@
 -- What a commit leaves, over what a store is.
-use Rattle.std.proofs.Common.{◌≡◌, Ok, Result, List, map, sym, ap, ◌∙◌, subst}
+use Rattle.std.proofs.Common.{◌≡◌, Ok, Err, OnOk, Result, List, map, sym, ap, ◌∙◌, subst, IsTrue}
 use Rattle.sqlite_trees.specs.declared.store.Store.{Ghosts}
 use Rattle.sqlite.specs.declared.error.Error.{Error}
 use Rattle.sqlite.specs.Tree.{Trees}
 use Rattle.sqlite.specs.Effect.{Database}
-use Rattle.sqlite.specs.State.{State, IsUnchanged, Survives}
+use Rattle.sqlite.specs.State.{State, HasCleanDisk, IsUnchanged, Survives}
 use Rattle.sqlite.specs.Held.{state}
 use Rattle.sqlite.proofs.StateLemmas.{survives_weaker}
 use Rattle.ccr_history.specs.History.{HistoryData, IsHistory}
@@ -19,8 +19,9 @@ use Rattle.ccr_tables.specs.declared.creation.Creation.TheVariants.{Made, Found}
 use Rattle.ccr_tables.specs.declared.write.Write.{Write}
 use Rattle.ccr_store.specs.Outline.{IsOutline, name_of, all_outlined, outline_writes}
 use Rattle.ccr_store.specs.Reordered.{HasSameRows}
-use Rattle.ccr_store.specs.Rows.{rows_of}
-use Rattle.ccr_store.specs.StoreData.{StoreData, IsStored}
+use Rattle.ccr_storage.specs.declared.fault.StoreFault.{StoreFault}
+use Rattle.ccr_store.specs.Rows.{HasFormat, rows_of}
+use Rattle.ccr_store.specs.StoreData.{StoreData, IsStored, IsKept}
 use Rattle.ccr_store.specs.WriteData.{WriteData, write_data, all_made}
 use Rattle.ccr_store.proofs.ChangeRows.{changes_kept}
 use Rattle.ccr_store.proofs.OutlineLaws.{all_kept, all_writes_same}
@@ -81,8 +82,34 @@ same_loaded g s t new same unchanged has =
 pub found_not_made : (r : Result Creation Error) (it : Creation) → r ≡ Ok it → it ≡ Found → r ≡ Ok Made → ⊥
 found_not_made r it answer which made = absurd (cc)
 
-pub found_stored : (old mid new : State) (k o : HistoryData) (these : Contents) → mid.now ≡ old.committed → old.now ≡ old.committed → Holds these old.now → (Holds these mid.now → HasSameRows (rows_of k) these × IsStored k new.now o)
-    → (h : HistoryData) × HasSameRows (rows_of h) these × IsStored h new.now o
-found_stored old mid new k o these kept settled holds loaded =
-    let both = loaded (subst (Holds these) (settled ∙ sym kept) holds) in
-    (k, both.0, both.1)
+-- the tables that were found stay
+pub found_kept : (r : Result (Unit {0}) StoreFault) (old mid new : State) (these : Contents) → mid.now ≡ old.committed → old.now ≡ old.committed → Holds these old.now
+    → OnOk r ((those : Contents) → Holds those mid.now → HasFormat those) → (mid.now.schema ≡ our_schema → OnOk r (IsUnchanged mid new)) → OnOk r (Holds these new.now × HasFormat these)
+found_kept (Err e) old mid new these kept settled holds format unchanged = tt
+found_kept (Ok u) old mid new these kept settled holds format unchanged =
+    let here : Holds these mid.now = subst (Holds these) (settled ∙ sym kept) holds in
+    (subst (Holds these) (sym (unchanged here.schema).0.now_is) here, format these here)
+
+-- ---- a store as a storage
+-- a commit that was made keeps the changed history
+pub kept_changed : {S : Type 0} (g : Ghosts S) (s t : StoreData S) (es : List EditData) (h : HistoryData) → IsOutline h s.outline → IsKept g s h → TakesAll h es
+    → (HasCleanDisk (state g t.conn) → IsTrue (state g t.conn).is_open → HasCleanDisk (state g s.conn) × IsTrue (state g s.conn).is_open)
+    → (IsStored h (state g s.conn).now s.outline → HasCleanDisk (state g t.conn) → IsStored (changed es h) (state g t.conn).now t.outline × ((state g t.conn).committed ≡ (state g t.conn).now))
+    → IsKept g t (changed es h)
+kept_changed g s t es h knows kept takes was done clean up =
+    let before = was clean up in
+    let it = kept before.0 before.1 in
+    let after = done (record { rules = it.1; rows = it.2; outlined = knows }) clean in
+    (sym after.1, after.0.rules, after.0.rows)
+
+-- a commit that was refused keeps the history
+pub kept_still : {S : Type 0} (g : Ghosts S) (s t : StoreData S) (h : HistoryData) → IsKept g s h
+    → (HasCleanDisk (state g t.conn) → IsTrue (state g t.conn).is_open → HasCleanDisk (state g s.conn) × IsTrue (state g s.conn).is_open)
+    → (HasCleanDisk (state g t.conn) → IsTrue (state g t.conn).is_open → ((state g s.conn).now ≡ (state g s.conn).committed → (state g t.conn).now ≡ (state g s.conn).now) × ((state g t.conn).committed ≡ (state g s.conn).committed))
+    → IsKept g t h
+kept_still g s t h kept was refused clean up =
+    let before = was clean up in
+    let it = kept before.0 before.1 in
+    let after = refused clean up in
+    let now = after.0 it.0 in
+    (now ∙ it.0 ∙ sym after.1, it.1, subst (Holds (rows_of h)) (sym now) it.2)

@@ -1,5 +1,5 @@
 -- The rows of a history in the six tables.
-use Rattle.std.specs.Prelude.{pos, ℕ, ◌+◌, [], ◌∷◌, ◌++◌, List, map, Option, Some, None}
+use Rattle.std.specs.Prelude.{pos, ℕ, ◌+◌, [], ◌∷◌, ◌++◌, List, map, Option, Some, None, IsPermutation}
 use Rattle.sqlite.specs.declared.types.Value.TheVariants.{Int, Text as Words, Blob}
 use Rattle.sqlite.specs.Order.{Row}
 use Rattle.ccr_tables.specs.Contents.{Contents}
@@ -19,6 +19,10 @@ format_row = Int (pos 1) ∷ Blob (49 ∷ []) ∷ []
 -- row 2 has the text of the pipeline, byte by byte
 abbrev pub text_row : Text → Row
 text_row t = Int (pos 2) ∷ Blob t ∷ []
+
+-- one of the rows is that of the format
+abbrev pub HasFormat : Contents → Type 0
+HasFormat these = (more : List Row) × IsPermutation these.meta (format_row ∷ more)
 
 -- the second row is there once a text was set
 abbrev pub meta_rows : Option Text → List Row

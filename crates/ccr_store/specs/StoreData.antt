@@ -1,8 +1,10 @@
 -- What a store is to its callers.
-use Rattle.std.specs.Prelude.{refl}
+use Rattle.std.specs.Prelude.{◌≡◌, IsTrue, refl}
 use Rattle.std.specs.Coded.{Coded, code_by, coded×}
 use Rattle.sqlite.specs.Effect.{Database}
-use Rattle.sqlite.specs.Held.{Held, held_code}
+use Rattle.sqlite_trees.specs.declared.store.Store.{Ghosts}
+use Rattle.sqlite.specs.State.{HasCleanDisk}
+use Rattle.sqlite.specs.Held.{Held, held_code, state}
 use Rattle.ccr_tables.specs.Contents.{Holds}
 use Rattle.ccr_history.specs.History.{HistoryData, IsHistory}
 use Rattle.ccr_store.specs.Outline.{IsOutline}
@@ -27,3 +29,10 @@ pub record IsStored (h : HistoryData) (db : Database) (outline : HistoryData) : 
   pub rules : IsHistory h
   pub rows : Holds (rows_of h) db
   pub outlined : IsOutline h outline
+
+-- while the disk returns what was written and the connection is open, the database holds the rows of the history, all of
+-- them committed
+abbrev pub IsKept : {S : Type 0} → Ghosts S → StoreData S → HistoryData → Type 0
+IsKept g store h =
+    let db = state g store.conn in
+    HasCleanDisk db → IsTrue db.is_open → (db.now ≡ db.committed) × IsHistory h × Holds (rows_of h) db.now

@@ -3,7 +3,7 @@ ghost use Rattle.std.specs.Prelude.{◌≡◌, pos, IsTrue};
 ghost use Rattle.sqlite.specs.declared.types.Value.TheVariants.{Int, Text, Blob};
 ghost use Rattle.sqlite.specs.Order.{column};
 
-use crate::fault::StoreFault;
+use ccr_storage::StoreFault;
 use ccr_tables::Cause;
 use sqlite::Row;
 use sqlite::types::{FromSql, ValueRef};

@@ -2,9 +2,9 @@
 //!
 //! A law says that the writes of a change take tables that hold a history to tables that hold the changed history. A
 //! [`Mirror`] makes the writes: it knows of the history what numbers them, and does work in proportion to the change.
-//! What the columns hold is told in docs/FORMATS.md. No program uses this crate yet.
+//! What the columns hold is told in docs/FORMATS.md.
 //!
-//! `NoMemory` is the one fault so far: it comes only where a growth was refused.
+//! A [`Store`] keeps a history in a database by these, and is a server's [`Storage`](ccr_storage::Storage).
 #![tactic(auto)]
 
 mod columns;
@@ -15,9 +15,11 @@ mod loading;
 mod matching;
 mod mirror;
 mod reading;
+mod storage;
 mod store;
 
-pub use fault::StoreFault;
+pub use ccr_storage::StoreFault;
+pub use fault::open_fault_of;
 pub use law::{changes_write_their_rows, outlines_number_rows};
 pub use mirror::Mirror;
 pub use store::Store;

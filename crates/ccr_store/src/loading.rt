@@ -7,21 +7,43 @@ ghost use Rattle.ccr_tables.specs.Contents.{Contents, Holds};
 ghost use Rattle.ccr_tables.specs.Schema.{our_schema};
 ghost use Rattle.ccr_store.specs.Listed.{listed, contents_of};
 ghost use Rattle.ccr_store.specs.Reordered.{HasSameRows};
-ghost use Rattle.ccr_store.specs.Rows.{rows_of};
+ghost use Rattle.ccr_store.specs.Rows.{HasFormat, rows_of};
 
-use crate::fault::StoreFault;
+use crate::fault::fault_of;
 use crate::found::{Built, Seen, read_built, read_seen};
-use crate::matching::{are_builds, are_meta, are_pairs, are_pins, are_scopes, are_versions};
+use crate::matching::{
+    are_builds, are_meta, are_pairs, are_pins, are_scopes, are_versions, has_format,
+};
 use crate::reading::read_rows;
 use ccr_history::History;
+use ccr_storage::StoreFault;
+use ccr_tables::meta;
 use sqlite::{Alter, Connection, Error as SqlError};
 use std::alloc::{AllocError, Global};
 
 /// The fault of a failed read; a read that is refused finds other tables.
-fn fault_of(error: &SqlError) -> StoreFault {
-    match StoreFault::of(error) {
+fn read_fault_of(error: &SqlError) -> StoreFault {
+    match fault_of(error) {
         StoreFault::Refused => StoreFault::NotOurs,
         fault => fault,
+    }
+}
+
+/// Reads the first row of `meta`: `NotOurs` where the read is refused, or where the row isn't that of the format.
+pub(crate) fn check_format<S: Alter>(conn: &mut Connection<S>) -> Result<(), StoreFault>
+    ensures format { HasCleanDisk (state S.Store conn.new) → OnOk result ((these : Contents)
+        → Holds these (state S.Store conn.old).now → HasFormat these) }
+    ensures same { let old = state S.Store conn.old in
+        let new = state S.Store conn.new in
+        HasCleanDisk new → old.now.schema ≡ our_schema → OnOk result (IsUnchanged old new) }
+    ensures clean { HasCleanDisk (state S.Store conn.new) → HasCleanDisk (state S.Store conn.old) }
+    ensures open { HasCleanDisk (state S.Store conn.new) → OnOk result (IsTrue (state S.Store conn.old).is_open) }
+    ensures mode { conn.old.in_transaction ≡ false → conn.new.in_transaction ≡ false }
+{
+    match meta::select(conn) {
+        Ok(rows) if has_format(&rows) => Ok(()),
+        Ok(_) => Err(StoreFault::NotOurs),
+        Err(error) => Err(read_fault_of(&error)),
     }
 }
 
@@ -80,10 +102,10 @@ pub(crate) fn load<S: Alter>(alloc: Global, conn: &mut Connection<S>) -> Result<
 {
     let seen = match read_seen(conn) {
         Ok(seen) => seen,
-        Err(error) => return Err(fault_of(&error)),
+        Err(error) => return Err(read_fault_of(&error)),
     };
     match read_built(conn) {
         Ok(built) => history_of(alloc, &seen, &built),
-        Err(error) => Err(fault_of(&error)),
+        Err(error) => Err(read_fault_of(&error)),
     }
 }

@@ -1,9 +1,10 @@
 //! Whether rows are those of a history.
-ghost use Rattle.std.specs.Prelude.{◌≡◌, ◌≤◌, ◌++◌, [], ◌∷◌, pos, length, map, IsTrue, IfOk, IfSome, option_copied};
+ghost use Rattle.std.specs.Prelude.{◌≡◌, ◌≤◌, ◌++◌, List, [], ◌∷◌, pos, length, map, IsTrue, IfOk, IfSome, option_copied};
 ghost use Rattle.sqlite.specs.declared.types.Value.TheVariants.{Int, Text, Blob};
+ghost use Rattle.sqlite.specs.Order.{Row as RowData};
 ghost use Rattle.ccr_history.specs.declared.table.TheConstants.{MOST_VERSIONS};
 ghost use Rattle.ccr_store.specs.Listed.{listed_pairs};
-ghost use Rattle.ccr_store.specs.Rows.{meta_rows, scope_row, scope_rows, version_rows, table_rows, build_row, build_rows, used_row, moved_row, pin_row};
+ghost use Rattle.ccr_store.specs.Rows.{format_row, meta_rows, scope_row, scope_rows, version_rows, table_rows, build_row, build_rows, used_row, moved_row, pin_row};
 
 use crate::columns::{is_blob, is_number, is_text};
 use crate::mirror::number_of;
@@ -17,6 +18,16 @@ fn is_meta(row: &Row, key: u32, bytes: &[u8]) -> bool
     ensures { IsTrue result → row.now ≡ Int (pos key) ∷ Blob bytes.now ∷ [] }
 {
     row.column_count() == 2 && is_number(row, 0, key) && is_blob(row, 1, bytes)
+}
+
+/// Whether the first row is that of the format.
+pub(crate) fn has_format(rows: &[Row]) -> bool
+    ensures { IsTrue result → (more : List RowData) × (rows.now ≡ format_row ∷ more) }
+{
+    match rows {
+        [format, ..] => is_meta(format, 1, b"1"),
+        [] => false,
+    }
 }
 
 /// Whether the rows are those of the format and of this text.

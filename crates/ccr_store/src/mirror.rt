@@ -8,15 +8,15 @@ ghost use Rattle.ccr_history.specs.TextMap.{key_text};
 ghost use Rattle.ccr_history.specs.Tables.{is_table_full};
 ghost use Rattle.ccr_history.specs.Changes.{versions, build, ended, edited};
 ghost use Rattle.ccr_history.specs.History.{no_history};
-ghost use Rattle.ccr_store.specs.declared.fault.StoreFault.TheVariants.{NoMemory};
+ghost use Rattle.ccr_storage.specs.declared.fault.StoreFault.TheVariants.{NoMemory};
 ghost use Rattle.ccr_store.specs.Outline.{outlined, Allows, all_outlined, AllowsAll, outline_writes};
 ghost use Rattle.ccr_store.specs.Rows.{status_number};
 ghost use Rattle.ccr_store.specs.WriteData.{write_data};
 ghost use Rattle.ccr_store.specs.WriteData as write;
 ghost use Rattle.ccr_store.specs.Writes.{writes_of, build_id, version_writes, used_write, moved_write};
 
-use crate::fault::StoreFault;
 use ccr_history::{Edit, History, Pin, Scope, Status, Used, Version};
+use ccr_storage::StoreFault;
 use ccr_tables::Write;
 use std::alloc::Global;
 use std::marker::Model;

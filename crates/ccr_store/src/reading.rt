@@ -3,10 +3,10 @@ ghost use Rattle.std.specs.Prelude.{◌≢◌, ◌≤◌, length, IfSome};
 ghost use Rattle.ccr_history.specs.declared.build.Status.TheVariants.{Running};
 
 use crate::columns::{is_number, is_text, read_column};
-use crate::fault::StoreFault;
 use crate::found::{Built, Seen};
 use ccr_history::{History, HistoryFault, Pin, Scope, Status, Used, Version};
 use ccr_pipeline::{ReadFault, read};
+use ccr_storage::StoreFault;
 use serde_json::Value;
 use sqlite::Row;
 use std::alloc::Global;

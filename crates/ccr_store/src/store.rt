@@ -6,18 +6,19 @@ ghost use Rattle.sqlite.specs.Steps.{over_memory};
 ghost use Rattle.ccr_history.specs.History.{HistoryData, no_history};
 ghost use Rattle.ccr_history.specs.Edits.{change_data};
 ghost use Rattle.ccr_history.specs.Changes.{changed, TakesAll};
-ghost use Rattle.ccr_tables.specs.Contents.{Contents, Holds, Keeps};
+ghost use Rattle.ccr_tables.specs.Contents.{Contents, Holds, Keeps, new_contents};
 ghost use Rattle.ccr_tables.specs.Schema.{no_schema, our_schema};
-ghost use Rattle.ccr_store.specs.declared.fault.StoreFault.TheVariants.{NotOurs};
+ghost use Rattle.ccr_storage.specs.declared.fault.StoreFault.TheVariants.{NotOurs};
 ghost use Rattle.ccr_store.specs.Outline.{IsOutline, AllowsAll};
 ghost use Rattle.ccr_store.specs.Reordered.{HasSameRows};
-ghost use Rattle.ccr_store.specs.Rows.{rows_of};
-ghost use Rattle.ccr_store.specs.StoreData.{IsStored};
+ghost use Rattle.ccr_store.specs.Rows.{HasFormat, rows_of};
+ghost use Rattle.ccr_store.specs.StoreData.{IsStored, IsKept};
 
-use crate::fault::StoreFault;
+use crate::fault::fault_of;
 use crate::loading;
 use crate::mirror::Mirror;
 use ccr_history::{Edit, History};
+use ccr_storage::StoreFault;
 use ccr_tables::{Creation, commit, create};
 use sqlite::{Alter, Connection, MemStore};
 use std::alloc::Global;
@@ -28,6 +29,28 @@ use std::marker::Model;
 pub struct Store<S: Alter> {
     conn: Connection<S>,
     mirror: Mirror,
+}
+
+/// Makes the six tables in a database without tables. Where the first of them is there already, the number of the format
+/// has to be there too.
+fn prepare<S: Alter>(conn: &mut Connection<S>) -> Result<(), StoreFault>
+    requires { (state S.Store conn.old).in_transaction ≡ false }
+    ensures made { let new = state S.Store conn.new in
+        HasCleanDisk new → (state S.Store conn.old).now.schema ≡ no_schema
+        → OnOk result (Holds new_contents new.now × (new.committed ≡ new.now)) }
+    ensures found { let old = state S.Store conn.old in
+        let new = state S.Store conn.new in
+        (these : Contents) → HasCleanDisk new → old.now ≡ old.committed → Holds these old.now
+        → OnOk result (Holds these new.now × HasFormat these) }
+    ensures mode { (state S.Store conn.new).in_transaction ≡ false }
+{
+    let has_tables = conn.schema().tables.len() > 0;
+    match create(conn) {
+        Ok(Creation::Made) => Ok(()),
+        Ok(Creation::Found) if has_tables => loading::check_format(conn),
+        Ok(_) => Err(StoreFault::NotOurs),
+        Err(error) => Err(fault_of(&error)),
+    }
 }
 
 impl<S: Alter> Model for Store<S> {
@@ -48,46 +71,42 @@ impl Store<MemStore> {
     ///
     /// `NoMemory` if out of memory.
     pub fn open_in_memory(alloc: Global) -> Result<Store<MemStore>, StoreFault>
-        ensures { IfOk result (λ store. IsStored no_history (state over_memory store.conn).now store.outline) }
+        ensures stored { IfOk result
+            (λ store. IsStored no_history (state over_memory store.conn).now store.outline) }
+        ensures kept { IfOk result
+            (λ store. IsKept over_memory store no_history × IsOutline no_history store.outline) }
     {
         Store::adopt(alloc, Connection::open_in_memory(alloc)?)
     }
 }
 
 impl<S: Alter + Drop> Store<S> {
-    /// A store over a database. One without tables gets the six tables, and has the empty history then; in another the
-    /// tables of a history have to be.
+    /// A store over a database. One without tables gets the six tables, and has the empty history then. Tables that are
+    /// there are taken as they are found, and [`load`](Store::load) says which history they hold; until then the store
+    /// knows none.
     ///
-    /// - `NotOurs` where other tables are there, or rows that no history has; nothing is written then.
+    /// - `NotOurs` where a table of another program has the name of one of the six, or the tables haven't the number of
+    ///   the format; nothing is written then.
     /// - `Refused`, `Disk` or `Interrupted` where `sqlite` failed so.
     /// - `NoMemory` if out of memory.
     pub fn adopt(alloc: Global, conn: Connection<S>) -> Result<Store<S>, StoreFault>
         requires { (state S.Store conn).in_transaction ≡ false }
-        ensures made { IfOk result (λ store. let old = state S.Store conn in
-            let new = state S.Store store.conn in
-            HasCleanDisk new → old.now ≡ old.committed → old.now.schema ≡ no_schema
-            → IsStored no_history new.now store.outline) }
+        ensures made { IfOk result (λ store. let new = state S.Store store.conn in
+            HasCleanDisk new → (state S.Store conn).now.schema ≡ no_schema
+            → IsStored no_history new.now store.outline × (new.committed ≡ new.now)) }
+        ensures kept { IfOk result (λ store. (state S.Store conn).now.schema ≡ no_schema
+            → IsKept S.Store store no_history × IsOutline no_history store.outline) }
         ensures found { IfOk result (λ store. let old = state S.Store conn in
             let new = state S.Store store.conn in
             (these : Contents) → HasCleanDisk new → old.now ≡ old.committed → Holds these old.now
-            → (h : HistoryData) × HasSameRows (rows_of h) these × IsStored h new.now store.outline) }
+            → Holds these new.now × HasFormat these) }
     {
         let mut conn = conn;
-        let has_tables = conn.schema().tables.len() > 0;
-        let created = create(&mut conn);
-        let mut store = Store {
+        prepare(&mut conn)?;
+        Ok(Store {
             conn,
             mirror: Mirror::new(alloc),
-        };
-        match created {
-            Ok(Creation::Made) => Ok(store),
-            Ok(Creation::Found) if has_tables => {
-                store.load(alloc)?;
-                Ok(store)
-            }
-            Ok(_) => Err(StoreFault::NotOurs),
-            Err(error) => Err(StoreFault::of(&error)),
-        }
+        })
     }
 }
 
@@ -118,12 +137,15 @@ impl<S: Alter> Store<S> {
             → IsStored h old.now self.old.outline → TakesAll h edits → Keeps (rows_of (changed edits h)) trees) }
         ensures durable { let new = state S.Store self.new.conn in
             IsTrue new.is_open → (trees : _) → new.may_leave trees → trees ≡ new.committed.trees }
+        ensures open { let old = state S.Store self.old.conn in
+            let new = state S.Store self.new.conn in
+            HasCleanDisk new → IsTrue new.is_open → HasCleanDisk old × IsTrue old.is_open }
         ensures only { IfErr result (λ fault. fault ≢ NotOurs) }
     {
         let writes = self.mirror.writes(alloc, change)?;
         match commit(&mut self.conn, &writes) {
             Ok(()) => Ok(()),
-            Err(error) => Err(StoreFault::of(&error)),
+            Err(error) => Err(fault_of(&error)),
         }
     }
 
@@ -138,6 +160,8 @@ impl<S: Alter> Store<S> {
             let new = state S.Store self.new.conn in
             HasCleanDisk new → IfOk result (λ history. (these : Contents) → Holds these old.now
             → HasSameRows (rows_of history) these × IsStored history new.now self.new.outline) }
+        ensures kept { IfOk result (λ history. (these : Contents) → Holds these (state S.Store self.old.conn).now
+            → IsKept S.Store self.new history) }
         ensures same { let old = state S.Store self.old.conn in
             let new = state S.Store self.new.conn in
             HasCleanDisk new → old.now.schema ≡ our_schema → OnOk result (IsUnchanged old new) }
@@ -148,6 +172,8 @@ impl<S: Alter> Store<S> {
         match history.copy(alloc) {
             Ok(outline) => {
                 self.mirror = Mirror::of(outline);
+                // Outside a transaction an open database is as it was committed.
+                self.conn.is_autocommit();
                 Ok(history)
             }
             Err(_) => Err(StoreFault::NoMemory),

@@ -1,4 +1,4 @@
-use Rattle.std.proofs.Common.{◌∙◌}
+use Rattle.std.proofs.Common.{◌≡◌, ◌∙◌, not, false, ap}
 use Rattle.sqlite.specs.Held.{state}
 use Rattle.ccr_store.proofs.StoreLemmas.{stored_loaded, same_loaded}
 use Rattle.ccr_store.proofs.store.Store.load.Goals as goal
@@ -11,3 +11,11 @@ returns-in-Ok-clause-stored g c clean these holds =
 pub returns-in-Ok-clause-same : goal.returns-in-Ok-clause-same
 returns-in-Ok-clause-same g c clean has =
     same_loaded g.S.Store (record { conn = c.self.inside.conn; outline = c.self.inside.mirror }) c.args.self.now (state g.S.Store c.load.new.conn) c.self.view_is (c.in_ok-history.ensures.same clean) has
+
+pub returns-in-Ok-clause-kept : goal.returns-in-Ok-clause-kept
+returns-in-Ok-clause-kept g c these holds clean up =
+    let both =
+    stored_loaded g.S.Store (record { conn = c.self.inside.conn; outline = c.self.inside.mirror }) c.args.self.now (state g.S.Store c.load.new.conn) c.in_ok-history.history c.of.result these c.self.view_is
+    (c.of.ensures ∙ c.in-Ok.ensures) c.in_ok-history.ensures.rules (c.in_ok-history.ensures.rows clean these) (c.in_ok-history.ensures.same clean) holds in
+    let ended : c.load.new.conn.in_transaction ≡ false = c.in_ok-history.ensures.mode c.self.invariant in
+    (c.is_autocommit.ensures.settled (c.is_autocommit.ensures.value ∙ ap not ended) up, both.1.rules, both.1.rows)
