@@ -6,3 +6,4 @@ pub mod Outline
 pub mod StoreData
 pub mod Faults
 pub mod Listed
+pub mod Readable

@@ -1,11 +1,12 @@
 //! The history whose rows the tables have.
-ghost use Rattle.std.specs.Prelude.{◌≡◌, false, IsTrue, IfOk, OnOk};
+ghost use Rattle.std.specs.Prelude.{◌≡◌, false, IsTrue, IfOk, IfSome, OnOk};
 ghost use Rattle.sqlite.specs.State.{HasCleanDisk, IsUnchanged};
 ghost use Rattle.sqlite.specs.Held.{state};
 ghost use Rattle.ccr_history.specs.History.{IsHistory};
 ghost use Rattle.ccr_tables.specs.Contents.{Contents, Holds};
 ghost use Rattle.ccr_tables.specs.Schema.{our_schema};
 ghost use Rattle.ccr_store.specs.Listed.{listed, contents_of};
+ghost use Rattle.ccr_store.specs.Readable.{IsReadable};
 ghost use Rattle.ccr_store.specs.Reordered.{HasSameRows};
 ghost use Rattle.ccr_store.specs.Rows.{HasFormat, rows_of};
 
@@ -14,7 +15,7 @@ use crate::found::{Built, Seen, read_built, read_seen};
 use crate::matching::{
     are_builds, are_meta, are_pairs, are_pins, are_scopes, are_versions, has_format,
 };
-use crate::reading::read_rows;
+use crate::reading::{check_text, read_rows};
 use ccr_history::History;
 use ccr_storage::StoreFault;
 use ccr_tables::meta;
@@ -77,9 +78,11 @@ fn history_of(alloc: Global, seen: &Seen, built: &Built) -> Result<History, Stor
         seen.now.meta.items seen.now.scopes.items seen.now.versions.items
         built.now.builds.items built.now.pairs.items built.now.pins.items) }
     ensures rules { IfOk result IsHistory }
+    ensures readable { IfOk result (λ history. IfSome history.text IsReadable) }
 {
     let history = read_rows(alloc, seen, built)?;
     history.rules();
+    check_text(alloc, history.text())?;
     if are_rows_of(alloc, seen, built, &history)? {
         Ok(history)
     } else {
@@ -97,6 +100,7 @@ pub(crate) fn load<S: Alter>(alloc: Global, conn: &mut Connection<S>) -> Result<
         HasCleanDisk new → old.now.schema ≡ our_schema → OnOk result (IsUnchanged old new) }
     ensures clean { HasCleanDisk (state S.Store conn.new) → HasCleanDisk (state S.Store conn.old) }
     ensures rules { IfOk result IsHistory }
+    ensures readable { IfOk result (λ history. IfSome history.text IsReadable) }
     ensures open { HasCleanDisk (state S.Store conn.new) → IfOk result (λ _. IsTrue (state S.Store conn.old).is_open) }
     ensures mode { conn.old.in_transaction ≡ false → conn.new.in_transaction ≡ false }
 {

@@ -1,5 +1,6 @@
 //! A history, made of rows by its own calls.
-ghost use Rattle.std.specs.Prelude.{◌≢◌, ◌≤◌, length, IfSome};
+ghost use Rattle.std.specs.Prelude.{◌≢◌, ◌≤◌, length, IfSome, OnOk, option_copied};
+ghost use Rattle.ccr_store.specs.Readable.{IsReadable};
 ghost use Rattle.ccr_history.specs.declared.build.Status.TheVariants.{Running};
 
 use crate::columns::{is_number, is_text, read_column};
@@ -189,13 +190,20 @@ fn add_pins(alloc: Global, history: &mut History, pins: &[Row]) -> Result<(), St
     Ok(())
 }
 
-fn add_text(alloc: Global, history: &mut History, row: &Row) -> Result<(), StoreFault> {
-    let text: Vec<u8> = read_column(row, 1)?;
-    match read(alloc, &text) {
-        Ok(_) => {
-            history.set_text(text);
-            Ok(())
-        }
+fn add_text(history: &mut History, row: &Row) -> Result<(), StoreFault> {
+    history.set_text(read_column(row, 1)?);
+    Ok(())
+}
+
+/// `NotOurs` where there is a text that no pipeline can be read from.
+pub(crate) fn check_text(alloc: Global, text: Option<&[u8]>) -> Result<(), StoreFault>
+    ensures { OnOk result (IfSome (option_copied text.entry) IsReadable) }
+{
+    let Some(text) = text else {
+        return Ok(());
+    };
+    match read(alloc, text) {
+        Ok(_) => Ok(()),
         Err(ReadFault::NoMemory) => Err(StoreFault::NoMemory),
         Err(_) => Err(StoreFault::NotOurs),
     }
@@ -205,7 +213,7 @@ fn add_text(alloc: Global, history: &mut History, row: &Row) -> Result<(), Store
 pub(crate) fn read_rows(alloc: Global, seen: &Seen, built: &Built) -> Result<History, StoreFault> {
     let mut history = History::new(alloc);
     if let [_, row] = seen.meta.as_slice() {
-        add_text(alloc, &mut history, row)?;
+        add_text(&mut history, row)?;
     }
     add_tables(alloc, &mut history, &seen.scopes, &seen.versions)?;
     add_builds(alloc, &mut history, &built.builds, &built.pairs)?;

@@ -1,5 +1,5 @@
 //! The history in a database.
-ghost use Rattle.std.specs.Prelude.{◌≡◌, ◌≢◌, false, IsTrue, IfOk, IfErr, OnOk, OnErr};
+ghost use Rattle.std.specs.Prelude.{◌≡◌, ◌≢◌, false, IsTrue, IfOk, IfErr, IfSome, OnOk, OnErr};
 ghost use Rattle.sqlite.specs.State.{HasCleanDisk, IsUnchanged, Survives};
 ghost use Rattle.sqlite.specs.Held.{state};
 ghost use Rattle.sqlite.specs.Steps.{over_memory};
@@ -10,6 +10,7 @@ ghost use Rattle.ccr_tables.specs.Contents.{Contents, Holds, Keeps, new_contents
 ghost use Rattle.ccr_tables.specs.Schema.{no_schema, our_schema};
 ghost use Rattle.ccr_storage.specs.declared.fault.StoreFault.TheVariants.{NotOurs};
 ghost use Rattle.ccr_store.specs.Outline.{IsOutline, AllowsAll};
+ghost use Rattle.ccr_store.specs.Readable.{IsReadable};
 ghost use Rattle.ccr_store.specs.Reordered.{HasSameRows};
 ghost use Rattle.ccr_store.specs.Rows.{HasFormat, rows_of};
 ghost use Rattle.ccr_store.specs.StoreData.{IsStored, IsKept};
@@ -156,6 +157,7 @@ impl<S: Alter> Store<S> {
     /// - `NoMemory` if out of memory.
     pub fn load(&mut self, alloc: Global) -> Result<History, StoreFault>
         ensures outlined { IfOk result (λ history. IsOutline history self.new.outline) }
+        ensures readable { IfOk result (λ history. IfSome history.text IsReadable) }
         ensures stored { let old = state S.Store self.old.conn in
             let new = state S.Store self.new.conn in
             HasCleanDisk new → IfOk result (λ history. (these : Contents) → Holds these old.now
