@@ -1,3 +1,7 @@
 mod Launching
 mod GoingRound
-mod Telling
+mod Composing
+mod Loops
+mod RoundParts
+mod Ending
+mod Staying

@@ -14,8 +14,8 @@ use Rattle.ccr_process.specs.Runs.{Pair}
 use Rattle.ccr_task.specs.Launching.{check_launch}
 use Rattle.ccr_task.specs.Places.{PlacesData}
 use Rattle.ccr_task.specs.Shelves.{Rose}
-use Rattle.ccr_serve.specs.declared.cause.Cause.{Cause}
-use Rattle.ccr_serve.specs.declared.cause.Cause.TheVariants.{RequestTooLong, FolderFault, NotStarted, Killed, InputFault, ReadFault, OutputTooLong, Status, NotJson, WrongKind, VersionNotText}
+use Rattle.ccr_lines.specs.declared.cause.Cause.{Cause}
+use Rattle.ccr_lines.specs.declared.cause.Cause.TheVariants.{RequestTooLong, FolderFault, NotStarted, Killed, InputFault, ReadFault, OutputTooLong, Status, NotJson, WrongKind, VersionNotText}
 use Rattle.ccr_serve.specs.declared.found.Found.{Found}
 use Rattle.ccr_serve.specs.declared.found.Found.TheVariants.{Versions, Nothing}
 

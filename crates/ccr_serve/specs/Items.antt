@@ -5,6 +5,7 @@ use Rattle.ccr_process.specs.Runs.{Pair}
 use Rattle.ccr_core.specs.Events.{EventData}
 use Rattle.ccr_core.specs.Replies.{Replied}
 use Rattle.ccr_core.specs.State.{State}
+use Rattle.ccr_lines.specs.Shown.{Shown}
 
 -- where a server stands: the core's state, the rank of the build served last, which counts from 1 in order of making,
 -- or 0 where none was served, and how often its shelf failed
@@ -13,12 +14,14 @@ pub record World : Type 0 where
   pub last : ℕ
   pub failures : ℕ
 
--- a check of a resource, a schedule of a job, a turn of the build whose turn it is, or the event of a command
+-- a check of a resource, a schedule of a job, a turn of the build whose turn it is, the event of a command, or what a
+-- command shows
 pub data Item : Type 0 where
   check : (resource : Text) → Item
   schedule : (job : Text) → Item
   turn : Item
   tell : (event : EventData) → Item
+  show : (what : Shown) → Item
 
 -- what came of an item: the launch of its program with the end, its event with the reply, and its lines
 pub record Done : Type 0 where
@@ -68,6 +71,11 @@ pub record Both (First Second : World → List Done → World → Type 0) (old :
   pub first : First old front mid
   pub second : Second mid back new
   pub joined : ds ≡ front ++ back
+
+-- a part, of which this is noted once it is whole
+abbrev pub Noting : Part → (List Done → Type 0) → Part
+Noting P Note old ds true new = P old ds true new × Note ds
+Noting P Note old ds false new = P old ds false new
 
 -- one part, then another; where the first is cut short, nothing of the other
 abbrev pub Then : Part → Part → Part

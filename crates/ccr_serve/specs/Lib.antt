@@ -1,9 +1,10 @@
 pub mod Pairs
 pub mod Found
 pub mod Asked
-pub mod Lines
 pub mod Items
 pub mod Turns
 pub mod Serving
 pub mod Runs
 pub mod Views
+pub mod Commands
+pub mod Commanding

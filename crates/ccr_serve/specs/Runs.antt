@@ -1,6 +1,8 @@
 -- Rounds, and turns until no build runs.
 use Rattle.std.specs.Prelude.{◌≡◌, ◌≢◌, ◌≤◌, ℕ, zero, suc, List, [], ◌∷◌, ◌++◌, length, map, replicate, Bool, true, false, IsSome, ⊤}
 use Rattle.std.specs.List.{AllByRecursion}
+use Rattle.ccr_pipeline.specs.JobData.{ResourceData}
+use Rattle.ccr_problem.specs.ProblemOf.{resource_of}
 use Rattle.ccr_task.specs.Places.{PlacesData}
 use Rattle.ccr_core.specs.Events as event
 use Rattle.ccr_core.specs.State.{State, resources_of, jobs_of}
@@ -16,6 +18,10 @@ checks_and_schedules s = map (λ r. check r.name) (resources_of s) ++ map (λ j.
 abbrev pub TurnOfEach : PlacesData → Part
 TurnOfEach places old ds whole new =
     Items (Serves places) (replicate (length old.core.running) turn) old ds whole new
+
+-- each of these names is that of a resource
+abbrev pub AreThere : List Text → List ResourceData → Type 0
+AreThere names rs = AllByRecursion (λ name. IsSome (resource_of name rs)) names
 
 -- a round
 abbrev pub Round : PlacesData → Part
@@ -53,6 +59,11 @@ ToTheEnd places old ds whole new =
 abbrev pub UsedUp : PlacesData → Part
 UsedUp places old ds whole new =
     (n : ℕ) × (n ≡ MOST_TURNS) × TurnsMade places n old ds new × (new.core.running ≢ [])
+
+-- turns until no build runs, or as many as a command may take
+abbrev pub TurnsTo : PlacesData → Bool → Part
+TurnsTo places true = ToTheEnd places
+TurnsTo places false = UsedUp places
 
 -- a run: its rounds, and then turns until no build runs
 abbrev pub Run : PlacesData → ℕ → Part

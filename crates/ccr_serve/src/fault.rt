@@ -1,16 +1,26 @@
 //! Why a call of the server ends early.
 
 use ccr_core::CoreFault;
+use ccr_pipeline::ReadFault;
+use ccr_storage::StoreFault;
 
 /// Why a call ends early. What it did before stays done, with its lines.
-#[derive(Clone, Copy, Debug, PartialEq, Eq)]
+#[derive(Debug, Drop)]
 pub enum ServeFault {
-    /// The core refused the event of a command.
+    /// A command is refused: no pipeline was set, it names what the pipeline lacks, or the core refuses its event.
     Core(CoreFault),
-    /// More than 10,000,000 turns, and a build still runs.
-    TurnsUsedUp,
+    /// The storage failed. Every later call answers `Closed`; another server is made of the database.
+    Store(StoreFault),
+    /// The pipeline's text is refused, with the path of its fault.
+    Read(ReadFault),
+    /// The pipeline's file can't be read.
+    File,
+    /// A pin's text is no JSON object of texts.
+    BadPin,
     /// A growth of memory was refused.
     NoMemory,
-    /// The store failed at an earlier call.
+    /// The storage failed at an earlier call.
     Closed,
+    /// More than 10,000,000 turns were taken after the rounds, and a build still runs.
+    TurnsUsedUp,
 }

@@ -8,8 +8,8 @@ ghost use Rattle.ccr_task.specs.Places.{places_data};
 ghost use Rattle.ccr_serve.specs.Found.{found_data, newest, FindsOutput, FindsExit, FindsBy, Finds};
 ghost use Rattle.ccr_serve.specs.Pairs.{Adds, AddsAtMostOne};
 
-use crate::cause::Cause;
 use ccr_history::{History, Version};
+use ccr_lines::Cause;
 use ccr_pipeline::Resource;
 use ccr_problem::scope_of;
 use ccr_process::{Ended, Runner};

@@ -6,21 +6,19 @@
 //! (`specs/Items.antt`): it names what the runner ran, what the core was told and replied, and the lines, and no loop
 //! of the code.
 //!
-//! This crate has what a check finds, how what a build asks is answered, where lines go and which lines events have, and
-//! the law that turns go round. The server that calls them isn't here yet.
+//! A [`Server`] stands over a runner of programs, a shelf of folders and a storage of its history.
 #![tactic(auto)]
 
 mod answer;
-mod cause;
 mod command;
 mod fault;
 mod found;
 mod law;
-mod lines;
-mod tell;
+mod named;
+mod open;
+mod server;
 
-pub use cause::Cause;
 pub use command::Command;
 pub use fault::ServeFault;
 pub use law::turns_go_round;
-pub use lines::Lines;
+pub use server::Server;

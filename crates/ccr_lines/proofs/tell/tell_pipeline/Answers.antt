@@ -2,8 +2,8 @@ use Rattle.std.proofs.Common.{length, decimal, sym, ◌∙◌, ap}
 use Rattle.std.proofs.lemmas.List.{length-map}
 use Rattle.ccr_pipeline.specs.JobData.{resource_data, job_data}
 use Rattle.ccr_pipeline.specs.Pipelines.{pipeline_data}
-use Rattle.ccr_serve.proofs.Telling.{pipeline_told}
-use Rattle.ccr_serve.proofs.tell.tell_pipeline.Goals as goal
+use Rattle.ccr_lines.proofs.Telling.{pipeline_told}
+use Rattle.ccr_lines.proofs.tell.tell_pipeline.Goals as goal
 
 pub returns : goal.returns
 returns g c =

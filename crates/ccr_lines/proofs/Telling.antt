@@ -4,7 +4,7 @@ use Rattle.std.specs.declared.alloc.Global.{Global}
 use Rattle.std.proofs.lemmas.List.Folds.{flat_map-map}
 use Rattle.ccr_history.specs.Text.{Text}
 use Rattle.ccr_pipeline.specs.Pipelines.{PipelineData}
-use Rattle.ccr_serve.specs.Lines.{line, pipeline_lines}
+use Rattle.ccr_lines.specs.Lines.{line, pipeline_lines}
 
 -- the lines of paths, as they lie in memory
 paths_lines : (paths : List (String Global)) (us : List Text) → map string_bytes paths ≡ us

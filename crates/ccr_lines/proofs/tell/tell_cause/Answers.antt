@@ -1,4 +1,4 @@
-use Rattle.ccr_serve.proofs.tell.tell_cause.Goals as goal
+use Rattle.ccr_lines.proofs.tell.tell_cause.Goals as goal
 
 pub returns-in-RequestTooLong : goal.returns-in-RequestTooLong
 returns-in-RequestTooLong g c = rw c.in-RequestTooLong.is c.tell_refusal.ensures

@@ -3,7 +3,7 @@ ghost use Rattle.std.specs.Prelude.{◌≡◌, ◌+◌, ◌*◌, ◌<◌, ◌≤
 ghost use Rattle.std.specs.List.{sum_by};
 ghost use Rattle.ccr_core.specs.Builds.{status_of};
 ghost use Rattle.ccr_pipeline.specs.Pipelines.{pipeline_data};
-ghost use Rattle.ccr_serve.specs.Lines.{line, check_line, refused_line, cause_words, build_line, end_word_line, status_word, job_line, job_lines, refused_job_lines, pipeline_lines};
+ghost use Rattle.ccr_lines.specs.Lines.{line, check_line, refused_line, cause_words, build_line, end_word_line, status_word, job_line, job_lines, refused_job_lines, pipeline_lines};
 
 use crate::cause::Cause;
 use crate::lines::Lines;
@@ -29,7 +29,7 @@ fn tell_line<O: Lines>(out: &mut O, parts: &[&str])
 // ---- checks
 
 /// Writes how many of the versions that a check found are new.
-pub(crate) fn tell_new<O: Lines>(out: &mut O, resource: &str, new: u32)
+pub fn tell_new<O: Lines>(out: &mut O, resource: &str, new: u32)
     requires { length resource.now + 64 ≤ O.room out.old }
     ensures { O.written out.new ≡ O.written out.old ++ check_line resource.now (decimal new ∷ codes " new" ∷ []) }
 {
@@ -67,7 +67,7 @@ fn tell_status<O: Lines>(out: &mut O, resource: &str, status: u8)
 }
 
 /// Writes that a check found nothing, and why.
-pub(crate) fn tell_cause<O: Lines>(out: &mut O, resource: &str, cause: Cause)
+pub fn tell_cause<O: Lines>(out: &mut O, resource: &str, cause: Cause)
     requires { length resource.now + 64 ≤ O.room out.old }
     ensures { O.written out.new ≡ O.written out.old ++ refused_line resource.now (cause_words cause) }
 {
@@ -87,7 +87,7 @@ pub(crate) fn tell_cause<O: Lines>(out: &mut O, resource: &str, cause: Cause)
 }
 
 /// Writes that the versions that a check found have no place.
-pub(crate) fn tell_full<O: Lines>(out: &mut O, resource: &str)
+pub fn tell_full<O: Lines>(out: &mut O, resource: &str)
     requires { length resource.now + 64 ≤ O.room out.old }
     ensures { O.written out.new ≡ O.written out.old ++ refused_line resource.now (codes "table full" ∷ []) }
 {
@@ -97,7 +97,7 @@ pub(crate) fn tell_full<O: Lines>(out: &mut O, resource: &str)
 // ---- builds
 
 /// Writes a job's build with a word.
-fn tell_build<O: Lines>(out: &mut O, job: &str, number: u32, word: &str)
+pub(crate) fn tell_build<O: Lines>(out: &mut O, job: &str, number: u32, word: &str)
     requires { length job.now + (length word.now + 13) ≤ O.room out.old }
     ensures told { O.written out.new ≡ O.written out.old ++ build_line job.now number word.now }
     ensures left { O.room out.old ≤ O.room out.new + (length job.now + (length word.now + 13)) }
@@ -121,7 +121,7 @@ fn tell_ended<O: Lines>(out: &mut O, job: &str, number: u32, status: Status)
 }
 
 /// Writes that a build has ended so.
-pub(crate) fn tell_end<O: Lines>(out: &mut O, job: &str, number: u32, outcome: Outcome)
+pub fn tell_end<O: Lines>(out: &mut O, job: &str, number: u32, outcome: Outcome)
     requires { length job.now + 64 ≤ O.room out.old }
     ensures { O.written out.new ≡ O.written out.old ++ build_line job.now number (status_word (status_of outcome)) }
 {
@@ -163,7 +163,7 @@ fn tell_made<O: Lines>(out: &mut O, job: &str, number: u32, history: &History)
 }
 
 /// Writes what came of a job that is scheduled or triggered.
-pub(crate) fn tell_job<O: Lines>(out: &mut O, job: &str, reply: Reply, history: &History)
+pub fn tell_job<O: Lines>(out: &mut O, job: &str, reply: Reply, history: &History)
     requires { 2 * length job.now + 64 ≤ O.room out.old }
     ensures { O.written out.new ≡ O.written out.old ++ job_lines job.now reply history.now }
 {
@@ -184,7 +184,7 @@ pub(crate) fn tell_job<O: Lines>(out: &mut O, job: &str, reply: Reply, history: 
 }
 
 /// Writes that a job's schedule is refused, where its limits are why.
-pub(crate) fn tell_refused_job<O: Lines>(out: &mut O, job: &str, fault: CoreFault)
+pub fn tell_refused_job<O: Lines>(out: &mut O, job: &str, fault: CoreFault)
     requires { length job.now + 64 ≤ O.room out.old }
     ensures { O.written out.new ≡ O.written out.old ++ refused_job_lines job.now fault }
 {
@@ -204,7 +204,7 @@ pub(crate) fn tell_refused_job<O: Lines>(out: &mut O, job: &str, fault: CoreFaul
 // ---- pins
 
 /// Writes that a resource was pinned.
-pub(crate) fn tell_pinned<O: Lines>(out: &mut O, resource: &str)
+pub fn tell_pinned<O: Lines>(out: &mut O, resource: &str)
     requires { length resource.now + 64 ≤ O.room out.old }
     ensures { O.written out.new ≡ O.written out.old ++ line (codes "pinned " ∷ resource.now ∷ []) }
 {
@@ -212,7 +212,7 @@ pub(crate) fn tell_pinned<O: Lines>(out: &mut O, resource: &str)
 }
 
 /// Writes that a resource's pin was taken away.
-pub(crate) fn tell_unpinned<O: Lines>(out: &mut O, resource: &str)
+pub fn tell_unpinned<O: Lines>(out: &mut O, resource: &str)
     requires { length resource.now + 64 ≤ O.room out.old }
     ensures { O.written out.new ≡ O.written out.old ++ line (codes "unpinned " ∷ resource.now ∷ []) }
 {
@@ -242,7 +242,7 @@ fn tell_each_unused<O: Lines>(out: &mut O, paths: &[String])
 }
 
 /// Writes that a pipeline was set, and its keys without effect.
-pub(crate) fn tell_pipeline<O: Lines>(out: &mut O, pipeline: &Pipeline)
+pub fn tell_pipeline<O: Lines>(out: &mut O, pipeline: &Pipeline)
     requires { sum_by (λ path. length path + 8) (pipeline_data pipeline.now).unused + 80 ≤ O.room out.old }
     ensures { O.written out.new ≡ O.written out.old ++ pipeline_lines (pipeline_data pipeline.now) }
 {
@@ -262,7 +262,7 @@ pub(crate) fn tell_pipeline<O: Lines>(out: &mut O, pipeline: &Pipeline)
 }
 
 /// For how many bytes the lines of a pipeline need room; None where no number tells it.
-pub(crate) fn pipeline_room(pipeline: &Pipeline) -> Option<usize>
+pub fn pipeline_room(pipeline: &Pipeline) -> Option<usize>
     ensures { IfSome result (λ room.
         sum_by (λ path. length path + 8) (pipeline_data pipeline.now).unused + 80 ≤ room) }
 {

@@ -14,8 +14,8 @@ use Rattle.ccr_core.specs.declared.reply.Reply.TheVariants.{Set, New, Made, None
 use Rattle.ccr_core.specs.Builds.{status_of}
 use Rattle.ccr_core.specs.Events.{EventData, set_pipeline, checked, schedule, trigger, answer, pin, unpin}
 use Rattle.ccr_core.specs.Replies.{Replied}
-use Rattle.ccr_serve.specs.declared.cause.Cause.{Cause}
-use Rattle.ccr_serve.specs.declared.cause.Cause.TheVariants as cause
+use Rattle.ccr_lines.specs.declared.cause.Cause.{Cause}
+use Rattle.ccr_lines.specs.declared.cause.Cause.TheVariants as cause
 
 -- a line of these parts
 abbrev pub line : List Text → Text

@@ -1,6 +1,6 @@
 use Rattle.std.proofs.Common.{◌≡◌, ◌++◌, ◌∷◌, [], codes, subst}
-use Rattle.ccr_serve.specs.Lines.{job_line}
-use Rattle.ccr_serve.proofs.tell.tell_budget.Goals as goal
+use Rattle.ccr_lines.specs.Lines.{job_line}
+use Rattle.ccr_lines.proofs.tell.tell_budget.Goals as goal
 
 pub returns : goal.returns
 returns g c =

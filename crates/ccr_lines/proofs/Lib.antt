@@ -1,0 +1,3 @@
+mod Printing
+mod Showing
+mod Telling

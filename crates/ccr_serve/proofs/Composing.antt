@@ -1,0 +1,198 @@
+-- Parts of calls, one after another.
+use Rattle.std.proofs.Common.{◌≡◌, ◌≤◌, ◌++◌, ℕ, List, [], ◌∷◌, length, Bool, true, false, option_to_list, refl, sym, ◌∙◌, ap, subst, append-nil, append_assoc, arith, inl, inr}
+use Rattle.ccr_process.specs.Runs.{Pair}
+use Rattle.ccr_core.specs.Holding.{Stands}
+use Rattle.ccr_core.specs.State.{State}
+use Rattle.ccr_serve.specs.Items.{World, Item, Done, Serve, Each, Part, Items, Both, Then, pairs_of, lines_of_all}
+use Rattle.ccr_serve.specs.Views.{View, world_of, IsReady, StandsAt, Called, Calls}
+
+pub pairs_of-append : (ds es : List Done) → pairs_of (ds ++ es) ≡ pairs_of ds ++ pairs_of es
+pairs_of-append [] es = refl
+pairs_of-append (d ∷ ds) es =
+    ap (λ ps. option_to_list d.pair ++ ps) (pairs_of-append ds es)
+    ∙ sym (append_assoc (option_to_list d.pair) (pairs_of ds) (pairs_of es))
+
+pub lines_of_all-append : (ds es : List Done) → lines_of_all (ds ++ es) ≡ lines_of_all ds ++ lines_of_all es
+lines_of_all-append [] es = refl
+lines_of_all-append (d ∷ ds) es =
+    ap (λ ls. d.lines ++ ls) (lines_of_all-append ds es)
+    ∙ sym (append_assoc d.lines (lines_of_all ds) (lines_of_all es))
+
+-- items, and then others
+pub each-append : (S : Serve) (is js : List Item) (old mid new : World) (ds es : List Done)
+    → Each S is old ds mid → Each S js mid es new → Each S (is ++ js) old (ds ++ es) new
+each-append S [] js old mid new [] es a b = subst (λ w. Each S js w es new) a b
+each-append S [] js old mid new (d ∷ ds) es a b = absurd a
+each-append S (i ∷ is) js old mid new [] es a b = absurd a
+each-append S (i ∷ is) js old mid new (d ∷ ds) es (w, one, rest) b =
+    (w, one, each-append S is js w mid new ds es rest b)
+
+abbrev world_at : State → ℕ → ℕ → World
+world_at s last failures = record { core = s; last = last; failures = failures }
+
+-- a server that stands for a world's state is there
+pub at_world : (v : View) (w : World) → v.last ≡ w.last → v.failures ≡ w.failures → world_of v w.core ≡ w
+at_world v w last failures =
+    ap (λ n. world_at w.core n v.failures) last ∙ ap (λ n. world_at w.core w.last n) failures
+
+module _ (A B : Part) (v0 v1 v2 : View) (s : State) (whole : Bool) where
+  pub called_then : (a : Called A v0 s true v1) → Called B v1 a.now.core whole v2 → Called (Then A B) v0 s whole v2
+  called_then a b = record {
+    dones = a.dones ++ b.dones;
+    now = b.now;
+    does = both whole
+        (subst (λ w. B w b.dones whole b.now) (at_world v1 a.now a.stands.2 a.stands.3) b.does);
+    lost = b.lost;
+    pairs = pairs;
+    few = b.few;
+    lines = b.lines
+        ∙ (ap (λ ls. ls ++ lines_of_all b.dones) a.lines
+        ∙ (append_assoc v0.lines (lines_of_all a.dones) (lines_of_all b.dones)
+        ∙ ap (λ ls. v0.lines ++ ls) (sym (lines_of_all-append a.dones b.dones))));
+    holds = b.holds;
+    stands = b.stands;
+  } where
+    both : (whole : Bool) → B a.now b.dones whole b.now
+        → Then A B (world_of v0 s) (a.dones ++ b.dones) whole b.now
+    both true second = record {
+      mid = a.now;
+      front = a.dones;
+      back = b.dones;
+      first = a.does;
+      second = second;
+      joined = refl;
+    }
+    both false second = inr (record {
+      mid = a.now;
+      front = a.dones;
+      back = b.dones;
+      first = a.does;
+      second = second;
+      joined = refl;
+    })
+
+    first : v1.pairs ≡ v0.pairs ++ pairs_of a.dones
+    first = a.pairs
+        ∙ ap (λ ps. v0.pairs ++ ps) (ap (λ ps. pairs_of a.dones ++ ps) a.few ∙ append-nil (pairs_of a.dones))
+
+    pairs : v2.pairs ≡ v0.pairs ++ (pairs_of (a.dones ++ b.dones) ++ b.lost)
+    pairs = b.pairs
+        ∙ (ap (λ ps. ps ++ (pairs_of b.dones ++ b.lost)) first
+        ∙ (append_assoc v0.pairs (pairs_of a.dones) (pairs_of b.dones ++ b.lost)
+        ∙ ap (λ ps. v0.pairs ++ ps)
+        (sym (append_assoc (pairs_of a.dones) (pairs_of b.dones) b.lost)
+        ∙ ap (λ ps. ps ++ b.lost) (sym (pairs_of-append a.dones b.dones)))))
+
+-- one call after another is a call of both
+pub calls_then : (A B : Part) (v0 v1 v2 : View) (whole : Bool)
+    → Calls A v0 true v1 → Calls B v1 whole v2 → Calls (Then A B) v0 whole v2
+calls_then A B v0 v1 v2 whole a b s h =
+    called_then A B v0 v1 v2 s whole (a s h) (b (a s h).now.core (a s h).stands.1)
+
+-- what was done of the one part does the other
+pub called_to : (A B : Part) (v0 v1 : View) (s : State) (whole : Bool) (c : Called A v0 s whole v1)
+    → B (world_of v0 s) c.dones whole c.now → Called B v0 s whole v1
+called_to A B v0 v1 s whole c does = record {
+  dones = c.dones;
+  now = c.now;
+  does = does;
+  lost = c.lost;
+  pairs = c.pairs;
+  few = c.few;
+  lines = c.lines;
+  holds = c.holds;
+  stands = c.stands;
+}
+
+-- what does the one part there does the other
+pub called_as : (A B : Part) (v0 v1 : View) (s : State) (whole : Bool)
+    → ((ds : List Done) (new : World) → A (world_of v0 s) ds whole new → B (world_of v0 s) ds whole new)
+    → Called A v0 s whole v1 → Called B v0 s whole v1
+called_as A B v0 v1 s whole f c = called_to A B v0 v1 s whole c (f c.dones c.now c.does)
+
+-- what does the one part does the other
+pub calls_as : (A B : Part) (v0 v1 : View) (whole : Bool)
+    → ((old : World) (ds : List Done) (new : World) → A old ds whole new → B old ds whole new)
+    → Calls A v0 whole v1 → Calls B v0 whole v1
+calls_as A B v0 v1 whole f a s h = called_as A B v0 v1 s whole (f (world_of v0 s)) (a s h)
+
+-- where the first is cut short, both are
+pub calls_first : (A B : Part) (v0 v1 : View) → Calls A v0 false v1 → Calls (Then A B) v0 false v1
+calls_first A B v0 v1 a = calls_as A (Then A B) v0 v1 false (λ old ds new d. inl d) a
+
+-- nothing is done yet
+pub calls_none : (S : Serve) (v : View) → IsReady v → Calls (Items S []) v true v
+calls_none S v ready s h = record {
+  dones = [];
+  now = world_of v s;
+  does = refl;
+  lost = [];
+  pairs = sym (append-nil v.pairs);
+  few = refl;
+  lines = sym (append-nil v.lines);
+  holds = subst v.holds h.0 ready.holds;
+  stands = (ready.is_open, h, refl, refl);
+}
+
+-- an item was done, which led to a state that the core stands for
+pub called_one : (S : Serve) (i : Item) (old new : View) (s after : State) (d : Done)
+    → S i (world_of old s) d (world_of new after) → Stands new.core after
+    → new.pairs ≡ old.pairs ++ option_to_list d.pair → new.lines ≡ old.lines ++ d.lines → IsReady new
+    → Called (Items S (i ∷ [])) old s true new
+called_one S i old new s after d serves stands pairs lines ready = record {
+  dones = d ∷ [];
+  now = world_of new after;
+  does = (world_of new after, serves, refl);
+  lost = [];
+  pairs = pairs
+      ∙ ap (λ ps. old.pairs ++ ps)
+      (sym (append-nil (option_to_list d.pair ++ []) ∙ append-nil (option_to_list d.pair)));
+  few = refl;
+  lines = lines ∙ ap (λ ls. old.lines ++ ls) (sym (append-nil d.lines));
+  holds = subst new.holds stands.0 ready.holds;
+  stands = (ready.is_open, stands, refl, refl);
+}
+
+-- from each state an item was done, which led to a state that the core stands for
+pub calls_one : (S : Serve) (i : Item) (old new : View)
+    → ((s : State) → Stands old.core s → (after : State) × (d : Done)
+    × S i (world_of old s) d (world_of new after) × Stands new.core after
+    × (new.pairs ≡ old.pairs ++ option_to_list d.pair) × (new.lines ≡ old.lines ++ d.lines))
+    → IsReady new → Calls (Items S (i ∷ [])) old true new
+calls_one S i old new one ready s h = let o = one s h in
+    called_one S i old new s o.0 o.1 o.2 o.3 o.4 o.5 ready
+
+-- nothing was done of the items
+pub calls_cut : (S : Serve) (is : List Item) (old new : View) (lost : List Pair)
+    → new.pairs ≡ old.pairs ++ lost → length lost ≤ 1 → new.lines ≡ old.lines → new.holds old.core.history
+    → ((s : State) → Stands old.core s → StandsAt false new.closed (world_of old s) new)
+    → Calls (Items S is) old false new
+calls_cut S is old new lost pairs few lines holds stands s h = record {
+  dones = [];
+  now = world_of old s;
+  does = ([], is, refl, refl);
+  lost = lost;
+  pairs = pairs;
+  few = few;
+  lines = lines ∙ sym (append-nil old.lines);
+  holds = subst new.holds h.0 holds;
+  stands = stands s h;
+}
+
+-- nothing was done of the items, and the server goes on
+pub stands_back : (old new : View) → new.core ≡ old.core → new.last ≡ old.last → old.failures ≤ new.failures
+    → new.closed ≡ false → (s : State) → Stands old.core s → StandsAt false new.closed (world_of old s) new
+stands_back old new core last failures is_open s h =
+    subst (λ c. StandsAt false c (world_of old s) new) (sym is_open)
+    (subst (λ c. Stands c s) (sym core) h, last, failures)
+
+-- nothing was done, and nothing has changed
+pub calls_back : (S : Serve) (is : List Item) (v : View) → IsReady v → Calls (Items S is) v false v
+calls_back S is v ready =
+    calls_cut S is v v [] (sym (append-nil v.pairs)) nil_few refl ready.holds
+    (stands_back v v refl refl same ready.is_open) where
+      nil_few : length {A = Pair} [] ≤ 1
+      nil_few = omega arith
+
+      same : v.failures ≤ v.failures
+      same = omega arith

@@ -1,0 +1,220 @@
+-- What commands do, and how they are refused.
+use Rattle.std.specs.Prelude.{◌≡◌, ◌≢◌, ◌⊎◌, ℕ, List, [], ◌∷◌, Bool, true, false, Option, Some, None, IsSome, option_and_then, codes, string_bytes, Result, Ok, Err, if◌then◌else◌, ⊤}
+use Rattle.serde_json.specs.Read.{read as json}
+use Rattle.ccr_history.specs.Text.{Text}
+use Rattle.ccr_history.specs.TextMap.{TextMap, text_map_of}
+use Rattle.ccr_history.specs.Builds.{BuildData, build_of}
+use Rattle.ccr_history.specs.History.{HistoryData}
+use Rattle.ccr_history.specs.declared.build.Status.{Status}
+use Rattle.ccr_history.specs.declared.build.Status.TheVariants.{Succeeded}
+use Rattle.ccr_pipeline.specs.Pipelines.{PipelineData, IsPipelineOf}
+use Rattle.ccr_pipeline.specs.Faults.{fault_of}
+use Rattle.ccr_pipeline.specs.Reading.{pipeline_faults, Refuses, IsReading}
+use Rattle.ccr_pipeline.specs.declared.fault.ReadFault.{ReadFault}
+use Rattle.ccr_pipeline.specs.declared.fault.ReadFault.TheVariants.{TooLong}
+use Rattle.ccr_problem.specs.ProblemOf.{resource_of, job_of}
+use Rattle.ccr_task.specs.Places.{PlacesData}
+use Rattle.ccr_task.specs.Shelves.{Rose}
+use Rattle.ccr_core.specs.declared.fault.CoreFault.{CoreFault}
+use Rattle.ccr_core.specs.declared.fault.CoreFault.TheVariants.{NoPipeline, NoJob, NoResource, BuildsOpen, TooManyOpen, TableFull}
+use Rattle.ccr_core.specs.declared.reply.Reply.{Reply}
+use Rattle.ccr_core.specs.declared.reply.Reply.TheVariants.{New, Made, OverBudget}
+use Rattle.ccr_core.specs.Events as event
+use Rattle.ccr_core.specs.Faults.{IsFirstFault}
+use Rattle.ccr_core.specs.Holding.{Stands}
+use Rattle.ccr_core.specs.State.{State, pipeline_of, resources_of, jobs_of}
+use Rattle.ccr_lines.specs.Shown.{versions, problem, proof, IsOverBudget}
+use Rattle.ccr_lines.specs.Shown as shown
+use Rattle.ccr_serve.specs.declared.fault.ServeFault.{ServeFault}
+use Rattle.ccr_serve.specs.declared.fault.ServeFault.TheVariants.{Core, Store, Read, File, BadPin, NoMemory, TurnsUsedUp}
+use Rattle.ccr_serve.specs.Commands.{CommandData, set_pipeline, check_resource, resource_versions, pin_resource, unpin_resource, resolve, trigger_job, builds, run}
+use Rattle.ccr_serve.specs.Commands as command
+use Rattle.ccr_serve.specs.Items.{World, Item, check, tell, show, Done, Each, Part, Items, Then}
+use Rattle.ccr_serve.specs.Runs.{Rounds, ToTheEnd, UsedUp, Run, TriggerAndRun}
+use Rattle.ccr_serve.specs.Serving.{Serves}
+use Rattle.ccr_serve.specs.Views.{View, Calls}
+
+-- a server isn't opened for want of memory, or because its storage failed
+abbrev pub KeepsFromOpening : ServeFault → Type 0
+KeepsFromOpening NoMemory = ⊤
+KeepsFromOpening (Store f) = ⊤
+KeepsFromOpening f = ⊥
+
+-- ---- what is named
+-- the pin that a text spells, if it spells one
+abbrev pub pin_in : Text → Option TextMap
+pin_in text = option_and_then text_map_of (json text)
+
+abbrev pub HasResource : State → Text → Type 0
+HasResource s name = IsSome (resource_of name (resources_of s))
+
+abbrev pub HasJob : State → Text → Type 0
+HasJob s name = IsSome (job_of name (jobs_of s))
+
+-- what a command needs: a pipeline, in which what it names is there, and a pin that is one
+abbrev pub IsFit : CommandData → State → Type 0
+IsFit (set_pipeline file) s = ⊤
+IsFit (check_resource resource) s = HasResource s resource
+IsFit (resource_versions resource) s = HasResource s resource
+IsFit (pin_resource resource pin) s = HasResource s resource × IsSome (pin_in pin)
+IsFit (unpin_resource resource) s = HasResource s resource
+IsFit (resolve job) s = HasJob s job
+IsFit (command.problem job) s = HasJob s job
+IsFit (trigger_job job) s = HasJob s job
+IsFit builds s = ⊤
+IsFit (run rounds) s = IsSome s.pipeline
+
+-- ---- statuses
+-- the first event was replied so
+abbrev pub IsFirstReply : List Done → Reply → Type 0
+IsFirstReply [] r = ⊥
+IsFirstReply (d ∷ ds) r = (e : event.EventData) × (d.event ≡ Some (e, Ok r))
+
+-- 0 for a check whose versions were taken, else 1
+abbrev pub IsCheckStatus : List Done → ℕ → Type 0
+IsCheckStatus ds status =
+    ((status ≡ 0) × ((n : ℕ) × IsFirstReply ds (New n)))
+    ⊎ ((status ≡ 1) × ((n : ℕ) → IsFirstReply ds (New n) → ⊥))
+
+-- 0 for a build that succeeded, else 1
+abbrev pub build_status : Option BuildData → ℕ
+build_status None = 1
+build_status (Some b) = end_status b.status where
+  end_status : Status → ℕ
+  end_status Succeeded = 0
+  end_status s = 1
+
+-- 0 where the build that was made has succeeded, 3 over the budget, and else 1
+abbrev pub trigger_status : Text → Reply → HistoryData → ℕ
+trigger_status job (Made number) h = build_status (build_of job number h.builds)
+trigger_status job (OverBudget n) h = 3
+trigger_status job r h = 1
+
+-- ---- commands
+-- a part, of which this is so once it is whole: where it began, what was done, and where it led
+abbrev pub Such : (World → List Done → World → Type 0) → Part → Part
+Such Is P old ds true new = P old ds true new × Is old ds new
+Such Is P old ds false new = P old ds false new
+
+-- a pipeline is set that was read from a file's bytes
+abbrev pub SetsPipeline : PlacesData → Part
+SetsPipeline places old ds true new =
+    (bytes : List ℕ) × (p : PipelineData) × IsReading pipeline_faults bytes (λ d. IsPipelineOf bytes d p)
+    × Each (Serves places) (tell (event.set_pipeline p) ∷ []) old ds new
+SetsPipeline places old ds false new =
+    Each (Serves places) [] old ds new
+    ⊎ ((p : PipelineData) × Items (Serves places) (tell (event.set_pipeline p) ∷ []) old ds false new)
+
+-- a resource is pinned to the pin that a text spells
+abbrev pub Pins : PlacesData → Text → Text → Part
+Pins places resource text old ds true new =
+    (p : TextMap) × (pin_in text ≡ Some p) × Each (Serves places) (tell (event.pin resource p) ∷ []) old ds new
+Pins places resource text old ds false new =
+    Each (Serves places) [] old ds new
+    ⊎ ((p : TextMap) × (pin_in text ≡ Some p)
+    × Items (Serves places) (tell (event.pin resource p) ∷ []) old ds false new)
+
+-- the proof of a choice is shown with status 0; over the budget nothing is, with status 3
+abbrev pub Resolves : PlacesData → Text → ℕ → Part
+Resolves places job status old ds true new =
+    ((status ≡ 0) × Each (Serves places) (show (proof job) ∷ []) old ds new)
+    ⊎ ((status ≡ 3) × IsOverBudget (pipeline_of old.core) old.core.history old.core.budget job
+    × Each (Serves places) [] old ds new)
+Resolves places job status old ds false new = Items (Serves places) (show (proof job) ∷ []) old ds false new
+
+-- what a command consists of, which ends with this status
+abbrev pub Consists : PlacesData → CommandData → ℕ → Part
+Consists places (set_pipeline file) status = Such (λ old ds new. status ≡ 0) (SetsPipeline places)
+Consists places (check_resource resource) status =
+    Such (λ old ds new. IsCheckStatus ds status) (Items (Serves places) (check resource ∷ []))
+Consists places (resource_versions resource) status =
+    Such (λ old ds new. status ≡ 0) (Items (Serves places) (show (versions resource) ∷ []))
+Consists places (pin_resource resource pin) status = Such (λ old ds new. status ≡ 0) (Pins places resource pin)
+Consists places (unpin_resource resource) status =
+    Such (λ old ds new. status ≡ 0) (Items (Serves places) (tell (event.unpin resource) ∷ []))
+Consists places (resolve job) status = Resolves places job status
+Consists places (command.problem job) status =
+    Such (λ old ds new. status ≡ 0) (Items (Serves places) (show (problem job) ∷ []))
+Consists places (trigger_job job) status =
+    Such (λ old ds new. (r : Reply) × IsFirstReply ds r × (status ≡ trigger_status job r new.core.history))
+    (TriggerAndRun places job)
+Consists places builds status = Such (λ old ds new. status ≡ 0) (Items (Serves places) (show shown.builds ∷ []))
+Consists places (run rounds) status = Such (λ old ds new. status ≡ 0) (Run places rounds)
+
+-- WHAT A COMMAND DOES that ends with this status; it was fit
+abbrev pub Commanded : PlacesData → CommandData → ℕ → Part
+Commanded places c status = Such (λ old ds new. IsFit c old.core) (Consists places c status)
+
+-- what a command does that takes as many turns as it may, and a build still runs
+abbrev pub Unended : PlacesData → CommandData → Part
+Unended places (trigger_job job) =
+    Such (λ old ds new. HasJob old.core job)
+    (Then (Items (Serves places) (tell (event.trigger job) ∷ [])) (UsedUp places))
+Unended places (run rounds) =
+    Such (λ old ds new. IsSome old.core.pipeline) (Then (Rounds places rounds) (UsedUp places))
+Unended places c = λ old ds whole new. ⊥
+
+-- ---- refusals
+-- the command needs a pipeline
+abbrev pub NeedsPipeline : CommandData → Type 0
+NeedsPipeline (set_pipeline file) = ⊥
+NeedsPipeline builds = ⊥
+NeedsPipeline c = ⊤
+
+-- the resource that a command names
+abbrev pub named_resource : CommandData → Option Text
+named_resource (check_resource resource) = Some resource
+named_resource (resource_versions resource) = Some resource
+named_resource (pin_resource resource pin) = Some resource
+named_resource (unpin_resource resource) = Some resource
+named_resource c = None
+
+-- the job that a command names
+abbrev pub named_job : CommandData → Option Text
+named_job (resolve job) = Some job
+named_job (command.problem job) = Some job
+named_job (trigger_job job) = Some job
+named_job c = None
+
+-- the whole pipeline is too long
+abbrev pub IsTooLong : ReadFault → Type 0
+IsTooLong (TooLong path) = string_bytes path ≡ codes "pipeline"
+IsTooLong f = ⊥
+
+-- a pipeline's text is refused with this fault: the file is too long, or its bytes are refused
+abbrev pub IsReadFault : ReadFault → Type 0
+IsReadFault f =
+    IsTooLong f
+    ⊎ ((bytes : List ℕ) × IsSome (fault_of f) × Refuses (codes "pipeline") pipeline_faults bytes (fault_of f))
+
+-- a command is refused so, with the shelf's count of failures before and after: no pipeline comes first, then an
+-- unknown name, then a bad pin, and then what keeps the event away
+abbrev pub IsRefused : CommandData → ServeFault → State → ℕ → ℕ → Type 0
+IsRefused c (Core NoPipeline) s before after = NeedsPipeline c × (s.pipeline ≡ None)
+IsRefused c (Core NoResource) s before after =
+    (name : Text) × (named_resource c ≡ Some name) × IsSome s.pipeline × (resource_of name (resources_of s) ≡ None)
+IsRefused c (Core NoJob) s before after =
+    (name : Text) × (named_job c ≡ Some name) × IsSome s.pipeline × (job_of name (jobs_of s) ≡ None)
+IsRefused (set_pipeline file) (Core BuildsOpen) s before after = s.running ≢ []
+IsRefused (trigger_job job) (Core TooManyOpen) s before after = IsFirstFault s (event.trigger job) TooManyOpen
+IsRefused (trigger_job job) (Core TableFull) s before after = IsFirstFault s (event.trigger job) TableFull
+IsRefused (set_pipeline file) (Read f) s before after = IsReadFault f
+IsRefused (set_pipeline file) File s before after = Rose before after
+IsRefused (pin_resource resource pin) BadPin s before after = HasResource s resource × (pin_in pin ≡ None)
+IsRefused c f s before after = ⊥
+
+-- a command was refused with this fault: nothing was done
+pub record WasRefused (places : PlacesData) (c : CommandData) (f : ServeFault) (old new : View) : Type 0 where
+  pub why : (s : State) → Stands old.core s → IsRefused c f s old.failures new.failures
+  pub back : Calls (Items (Serves places) []) old false new
+  pub pairs : new.pairs ≡ old.pairs
+  pub lines : new.lines ≡ old.lines
+
+-- WHAT CAME OF A COMMAND: it is done with a status; it was cut short; a build still ran after all its turns; or it was
+-- refused
+abbrev pub CameOf : PlacesData → CommandData → Result ℕ ServeFault → View → View → Type 0
+CameOf places c (Ok status) old new = Calls (Commanded places c status) old true new
+CameOf places c (Err NoMemory) old new = Calls (Commanded places c 0) old false new
+CameOf places c (Err (Store f)) old new = Calls (Commanded places c 0) old false new
+CameOf places c (Err TurnsUsedUp) old new = Calls (Unended places c) old true new
+CameOf places c (Err f) old new = WasRefused places c f old new

@@ -1,0 +1,66 @@
+//! How a server begins.
+ghost use Rattle.std.specs.Prelude.{◌≡◌, ◌≤◌, [], false, IfOk, IfErr};
+ghost use Rattle.std.specs.Option.{IfSome};
+ghost use Rattle.ccr_proof.specs.declared.proof.TheConstants.{MOST_NODES};
+ghost use Rattle.ccr_core.specs.Cores.{core_data};
+ghost use Rattle.ccr_core.specs.Resumed.{IsReadable, IsResumed};
+ghost use Rattle.ccr_serve.specs.Views.{view_of, IsReady};
+ghost use Rattle.ccr_serve.specs.Commanding.{KeepsFromOpening};
+
+use crate::fault::ServeFault;
+use crate::server::Server;
+use ccr_core::Core;
+use ccr_history::History;
+use ccr_process::Runner;
+use ccr_storage::Storage;
+use ccr_task::{Places, Shelf};
+use std::alloc::Global;
+
+impl<R: Runner + Drop, S: Shelf + Drop, T: Storage + Drop> Server<R, S, T> {
+    /// A server that begins with the history that the storage holds. Each build that runs in it is errored, with
+    /// nothing moved, and this is stored; no folder is touched and no program started.
+    ///
+    /// The caller gives a history whose text `ccr_pipeline::read` accepts, and a budget from 1 to 1,000,000.
+    /// `NoMemory` where a growth was refused, and `Store` where the storage failed; nothing else.
+    pub fn open(
+        alloc: Global,
+        runner: R,
+        shelf: S,
+        mut storage: T,
+        history: History,
+        places: Places,
+        budget: u32,
+    ) -> Result<Server<R, S, T>, ServeFault>
+        requires holds { T.holds storage history }
+        requires knows { T.knows storage history }
+        requires readable { IfSome history.text IsReadable }
+        requires least { 1 ≤ budget }
+        requires most { budget ≤ MOST_NODES }
+        ensures ready { let view = view_of R.pairs S.failures T.holds T.knows in
+            IfOk result (λ server. IsReady (view server [])) }
+        ensures resumed { IfOk result (λ server. IsResumed history budget (core_data server.core)) }
+        ensures nobody { IfOk result (λ server. server.last ≡ 0) }
+        ensures pairs { IfOk result (λ server. R.pairs server.runner ≡ R.pairs runner) }
+        ensures failures { IfOk result (λ server. S.failures server.shelf ≡ S.failures shelf) }
+        ensures places { IfOk result (λ server. server.places ≡ places) }
+        ensures only { IfErr result KeepsFromOpening }
+    {
+        let (core, change) = match Core::resume(alloc, history, budget) {
+            Ok(begun) => begun,
+            Err(_) => return Err(ServeFault::NoMemory),
+        };
+        match storage.commit(alloc, &change) {
+            Ok(()) => Ok(Server {
+                alloc,
+                core,
+                runner,
+                shelf,
+                storage,
+                places,
+                last: 0,
+                closed: false,
+            }),
+            Err(fault) => Err(ServeFault::Store(fault)),
+        }
+    }
+}

@@ -1,0 +1,21 @@
+//! The server.
+
+use ccr_core::Core;
+use ccr_task::Places;
+use std::alloc::Global;
+
+/// A server over a runner of programs, a shelf of folders and a storage of its history.
+///
+/// Once its storage fails it answers `Closed` to every call, and another one is made of the database.
+#[derive(Drop)]
+pub struct Server<R, S, T> {
+    pub(crate) alloc: Global,
+    pub(crate) core: Core,
+    pub(crate) runner: R,
+    pub(crate) shelf: S,
+    pub(crate) storage: T,
+    pub(crate) places: Places,
+    // The rank in order of making, from 1, of the build that was served last; 0 where none was.
+    pub(crate) last: u64,
+    pub(crate) closed: bool,
+}
