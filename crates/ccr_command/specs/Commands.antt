@@ -1,37 +1,10 @@
 -- The command that a command line names.
-use Rattle.std.specs.Prelude.{ℕ, List, Option, Some, None, option_map, option_and_then, codes, string_bytes, if◌then◌else◌}
+use Rattle.std.specs.Prelude.{List, Option, Some, None, option_map, option_and_then, codes, if◌then◌else◌}
 use Rattle.std.specs.Str.{bytes_eq}
 use Rattle.clap.specs.declared.parser.matches.ArgMatches.{ArgMatches}
 use Rattle.clap.specs.Words.{Row, Text, first_of, subcommand_rows_of}
-use Rattle.ccr_serve.specs.declared.command.Command.{Command}
-use Rattle.ccr_serve.specs.declared.command.Command.TheVariants as command
+use Rattle.ccr_serve.specs.Commands.{CommandData, set_pipeline, check_resource, resource_versions, pin_resource, unpin_resource, resolve, problem, trigger_job, builds, run}
 use Rattle.ccr_command.specs.Numbers.{number_of}
-
--- a command with its arguments
-pub data CommandData : Type 0 where
-  set_pipeline : (file : Text) → CommandData
-  check_resource : (resource : Text) → CommandData
-  resource_versions : (resource : Text) → CommandData
-  pin_resource : (resource pin : Text) → CommandData
-  unpin_resource : (resource : Text) → CommandData
-  resolve : (job : Text) → CommandData
-  problem : (job : Text) → CommandData
-  trigger_job : (job : Text) → CommandData
-  builds : CommandData
-  run : (rounds : ℕ) → CommandData
-
--- what a value of the program's type stands for
-abbrev pub command_data : Command → CommandData
-command_data (command.SetPipeline path) = set_pipeline (string_bytes path)
-command_data (command.CheckResource resource) = check_resource (string_bytes resource)
-command_data (command.ResourceVersions resource) = resource_versions (string_bytes resource)
-command_data (command.PinResource resource pin) = pin_resource (string_bytes resource) (string_bytes pin)
-command_data (command.UnpinResource resource) = unpin_resource (string_bytes resource)
-command_data (command.Resolve job) = resolve (string_bytes job)
-command_data (command.Problem job) = problem (string_bytes job)
-command_data (command.TriggerJob job) = trigger_job (string_bytes job)
-command_data command.Builds = builds
-command_data (command.Run rounds) = run rounds
 
 -- a pin of a resource, where both its arguments have a value
 abbrev pub pin_named : Option Text → Option Text → Option CommandData
