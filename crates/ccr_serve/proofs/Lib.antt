@@ -5,3 +5,4 @@ mod Loops
 mod RoundParts
 mod Ending
 mod Staying
+mod Steps

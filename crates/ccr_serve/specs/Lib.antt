@@ -8,3 +8,4 @@ pub mod Runs
 pub mod Views
 pub mod Commands
 pub mod Commanding
+pub mod Taken

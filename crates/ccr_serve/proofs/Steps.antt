@@ -1,0 +1,311 @@
+-- Items that were done, and items that were cut short.
+use Rattle.std.proofs.Common.{◌≡◌, ◌≤◌, ◌++◌, ◌⊎◌, ◌&&◌, ℕ, List, [], ◌∷◌, length, Bool, true, false, is_ok, Option, Some, None, option_to_list, unwrap_or, Ok, Err, refl, sym, ◌∙◌, ap, subst, append-nil, arith, inl, inr}
+use Rattle.std.proofs.lemmas.Bool.{false≢true}
+use Rattle.std.specs.Option.{option_map_or}
+use Rattle.ccr_history.specs.Text.{Text}
+use Rattle.ccr_history.specs.TextMap.{TextMap}
+use Rattle.ccr_pipeline.specs.JobData.{ResourceData}
+use Rattle.ccr_problem.specs.ProblemOf.{resource_of}
+use Rattle.ccr_process.specs.Runs.{Pair}
+use Rattle.ccr_task.specs.Places.{PlacesData}
+use Rattle.ccr_core.specs.Events.{EventData, checked}
+use Rattle.ccr_core.specs.Events as event
+use Rattle.ccr_core.specs.Holding.{CoreData, Stands}
+use Rattle.ccr_core.specs.Replies.{Replied}
+use Rattle.ccr_core.specs.State.{State, no_pipeline, resources_of}
+use Rattle.ccr_core.specs.Steps.{Step}
+use Rattle.ccr_lines.specs.Lines.{lines_of, refused_line, cause_words}
+use Rattle.ccr_lines.specs.declared.cause.Cause.{Cause}
+use Rattle.ccr_serve.specs.Found.{found, newest, Finds}
+use Rattle.ccr_serve.specs.Found as what_is
+use Rattle.ccr_serve.specs.Items.{World, Item, Done, Serve, Part, Items, Noting}
+use Rattle.ccr_serve.specs.Items as item
+use Rattle.ccr_serve.specs.Pairs.{AddsAtMostOne}
+use Rattle.ccr_serve.specs.Serving.{Tells, Serves}
+use Rattle.ccr_serve.specs.Taken.{all_taken}
+use Rattle.ccr_serve.specs.Views.{View, world_of, resources_held, IsReady, StandsAt, Calls, StopsItem, IsBack, Made, Unmade}
+use Rattle.ccr_serve.specs.declared.fault.ServeFault.{ServeFault}
+use Rattle.ccr_serve.specs.declared.fault.ServeFault.TheVariants as fault
+
+-- ---- views
+-- a view after launches: the shelf's count, the pairs and what is printed may be others
+abbrev pub after : View → ℕ → List Pair → Text → View
+after v f p l = record {
+  core = v.core;
+  last = v.last;
+  failures = f;
+  pairs = p;
+  holds = v.holds;
+  knows = v.knows;
+  lines = l;
+  closed = v.closed;
+}
+
+-- a view that has printed these lines
+abbrev pub printed : View → Text → View
+printed v l = after v v.failures v.pairs l
+
+pub ready_after : (v : View) (f : ℕ) (p : List Pair) (l : Text) → IsReady v → IsReady (after v f p l)
+ready_after v f p l ready = record { is_open = ready.is_open; holds = ready.holds; knows = ready.knows }
+
+-- ---- parts of which one item was done, or nothing
+-- what one item did from a state
+pub record Did (P : Part) (old : View) (s : State) (new : View) : Type 0 where
+  pub did : Done
+  pub state : State
+  pub stands : Stands new.core state
+  pub does : P (world_of old s) (did ∷ []) true (world_of new state)
+  pub pairs : new.pairs ≡ old.pairs ++ option_to_list did.pair
+  pub lines : new.lines ≡ old.lines ++ did.lines
+
+pub calls_did : (P : Part) (old new : View) → IsReady new → ((s : State) → Stands old.core s → Did P old s new)
+    → Calls P old true new
+calls_did P old new ready each s is = let one = each s is in record {
+  dones = one.did ∷ [];
+  now = world_of new one.state;
+  does = one.does;
+  lost = [];
+  pairs = one.pairs
+      ∙ ap (λ ps. old.pairs ++ ps)
+      (sym (append-nil (option_to_list one.did.pair ++ []) ∙ append-nil (option_to_list one.did.pair)));
+  few = refl;
+  lines = one.lines ∙ ap (λ ls. old.lines ++ ls) (sym (append-nil one.did.lines));
+  holds = subst new.holds one.stands.0 ready.holds;
+  stands = (ready.is_open, one.stands, refl, refl);
+}
+
+-- a part of which nothing may be done
+abbrev pub MayStop : Part → Type 0
+MayStop P = (w : World) → P w [] false w
+
+pub calls_stop : (P : Part) (old new : View) (lost : List Pair) → MayStop P
+    → new.pairs ≡ old.pairs ++ lost → length lost ≤ 1 → new.lines ≡ old.lines → new.holds old.core.history
+    → ((s : State) → Stands old.core s → StandsAt false new.closed (world_of old s) new) → Calls P old false new
+calls_stop P old new lost may pairs few lines holds stands s is = record {
+  dones = [];
+  now = world_of old s;
+  does = may (world_of old s);
+  lost = lost;
+  pairs = pairs;
+  few = few;
+  lines = lines ∙ sym (append-nil old.lines);
+  holds = subst new.holds is.0 holds;
+  stands = stands s is;
+}
+
+-- of items nothing may be done, whatever is noted once they are whole
+pub items_stop : (S : Serve) (is : List Item) → MayStop (Items S is)
+items_stop S is w = ([], is, refl, refl)
+
+pub noting_stop : (S : Serve) (is : List Item) (Note : List Done → Type 0) → MayStop (Noting (Items S is) Note)
+noting_stop S is Note w = ([], is, refl, refl)
+
+-- ---- stopped by want of memory, or by a failure of the storage
+stands_back : (closed : Bool) (v new : View) (s : State) → Stands new.core s → new.last ≡ v.last
+    → v.failures ≤ new.failures → StandsAt false closed (world_of v s) new
+stands_back true v new s is last grows = tt
+stands_back false v new s is last grows = (is, last, grows)
+
+-- memory was wanted before the event
+pub cut_by_memory : (P : Part) (v : View) (f : ℕ) (p : List Pair) (l : Text) → MayStop P
+    → IsReady v → v.failures ≤ f → AddsAtMostOne v.pairs p → l ≡ v.lines → Calls P v false (after v f p l)
+cut_by_memory P v f p l may ready grows adds lines =
+    calls_stop P v (after v f p l) adds.0 may adds.1 adds.2 lines ready.holds
+    (λ s is. stands_back v.closed v (after v f p l) s is refl grows)
+
+pub none_added : (p : List Pair) → AddsAtMostOne p p
+none_added p = ([], sym (append-nil p), omega arith)
+
+pub one_added : (o : Option Pair) (old new : List Pair) → new ≡ old ++ option_to_list o → AddsAtMostOne old new
+one_added None old new e = ([], e, omega arith)
+one_added (Some x) old new e = (x ∷ [], e, omega arith)
+
+-- an event that wasn't made: the core is as it was, or the server has closed
+unmade_back : (f : ServeFault) (old new : View) → Unmade f old new
+    → ((new.core ≡ old.core) × IsReady new) ⊎ (new.closed ≡ true)
+unmade_back (fault.Core e) old new un = absurd un.back
+unmade_back (fault.Store e) old new un = inr un.back
+unmade_back (fault.Read e) old new un = absurd un.back
+unmade_back fault.File old new un = absurd un.back
+unmade_back fault.BadPin old new un = absurd un.back
+unmade_back fault.NoMemory old new un = inl un.back
+unmade_back fault.Closed old new un = absurd un.back
+unmade_back fault.TurnsUsedUp old new un = absurd un.back
+
+stands_closed : (closed : Bool) (v new : View) (s : State) → closed ≡ true → StandsAt false closed (world_of v s) new
+stands_closed true v new s is = tt
+stands_closed false v new s is = absurd (false≢true is)
+
+pub calls_unmade : (P : Part) (v : View) (f : ℕ) (p : List Pair) (l : Text) (new : View) (stop : ServeFault)
+    → MayStop P → v.failures ≤ f → AddsAtMostOne v.pairs p → l ≡ v.lines
+    → Unmade stop (after v f p l) new → Calls P v false new
+calls_unmade P v f p l new stop may grows adds lines un =
+    calls_stop P v new adds.0 may (un.rest.pairs ∙ adds.1) adds.2 (un.rest.lines ∙ lines) un.holds
+    (λ s is. elim (unmade_back stop (after v f p l) new un) as (λ _. StandsAt false new.closed (world_of v s) new) [
+      | inl back ↦ stands_back new.closed v new s (subst (λ c. Stands c s) (sym back.0) is) un.rest.last
+          (subst (λ n. v.failures ≤ n) (sym un.rest.failures) grows)
+      | inr closed ↦ stands_closed new.closed v new s closed
+    ])
+
+pub stops_item : (f : ServeFault) (old new : View) → Unmade f old new → StopsItem f new
+stops_item (fault.Core e) old new un = absurd un.back
+stops_item (fault.Store e) old new un = un.back
+stops_item (fault.Read e) old new un = absurd un.back
+stops_item fault.File old new un = absurd un.back
+stops_item fault.BadPin old new un = absurd un.back
+stops_item fault.NoMemory old new un = un.back.1
+stops_item fault.Closed old new un = absurd un.back
+stops_item fault.TurnsUsedUp old new un = absurd un.back
+
+-- the lines are others, before and after an event that wasn't made
+pub unmade_printed : (f : ServeFault) (old new : View) (l m : Text) → m ≡ l → Unmade f old new
+    → Unmade f (printed old l) (printed new m)
+unmade_printed f old new l m same un = record {
+  back = back f un.back;
+  holds = un.holds;
+  rest = record { last = un.rest.last; failures = un.rest.failures; pairs = un.rest.pairs; lines = same };
+} where
+  back : (f : ServeFault) → IsBack f old new → IsBack f (printed old l) (printed new m)
+  back (fault.Core e) b = b
+  back (fault.Store e) b = b
+  back (fault.Read e) b = b
+  back fault.File b = b
+  back fault.BadPin b = b
+  back fault.NoMemory b = (b.0, ready_after new new.failures new.pairs m b.1)
+  back fault.Closed b = b
+  back fault.TurnsUsedUp b = b
+
+-- ---- events that were made
+-- the event leads to a state that the core stands for, with its lines
+pub made_did : (P : Part) (e : EventData) (r : Replied) (v n : View) (m : Text) (s : State)
+    → Made e r (printed v []) n
+    → ((s a : State) → Step s e r a → Stands n.core a → m ≡ v.lines ++ lines_of e r a.history)
+    → ((w u : World) (d : Done) → Tells e w d u → d.event ≡ Some (e, r) → P w (d ∷ []) true u)
+    → Stands v.core s → Did P v s (printed n m)
+made_did P e r v n m s made lines can is = let t = made.takes s is in
+    let d : Done = record { pair = None; event = Some (e, r); lines = lines_of e r t.0.history } in record {
+      did = d;
+      state = t.0;
+      stands = t.2;
+      does = can (world_of v s) (world_of (printed n m) t.0) d (record {
+        makes = record { reply = r; step = t.1; found_memory = made.found_memory; event = refl; lines = refl };
+        pair = refl;
+        last = made.rest.last;
+        failures = made.rest.failures;
+      }) refl;
+      pairs = made.rest.pairs ∙ sym (append-nil v.pairs);
+      lines = lines s t.0 t.1 t.2;
+    }
+
+pub calls_made : (P : Part) (e : EventData) (r : Replied) (v n : View) (m : Text)
+    → Made e r (printed v []) n
+    → ((s a : State) → Step s e r a → Stands n.core a → m ≡ v.lines ++ lines_of e r a.history)
+    → ((w u : World) (d : Done) → Tells e w d u → d.event ≡ Some (e, r) → P w (d ∷ []) true u)
+    → Calls P v true (printed n m)
+calls_made P e r v n m made lines can =
+    calls_did P v (printed n m) (ready_after n n.failures n.pairs m made.ready)
+    (λ s is. made_did P e r v n m s made lines can is)
+
+-- the lines of an event, with the history of a state that the core stands for
+pub lines_at : (e : EventData) (r : Replied) (c : CoreData) (a : State) (old mid new : Text) → Stands c a → mid ≡ old
+    → new ≡ mid ++ lines_of e r c.history → new ≡ old ++ lines_of e r a.history
+lines_at e r c a old mid new is same told =
+    told ∙ (ap (λ ls. ls ++ lines_of e r c.history) same ∙ ap (λ h. old ++ lines_of e r h) is.0)
+
+-- ---- checks
+resources_at : (c : CoreData) (s : State) → Stands c s → resources_held c ≡ resources_of s
+resources_at c s is = ap (λ p. (unwrap_or p no_pipeline).resources) is.1
+
+-- what a check notes of the one event that it made
+taken_one : (r : Replied) (d : Done) (e : EventData) → d.event ≡ Some (e, r) → is_ok r ≡ all_taken (d ∷ [])
+taken_one (Ok x) d e made = sym (ap (λ o. option_map_or (λ made. is_ok made.1) o false && true) made)
+taken_one (Err x) d e made = sym (ap (λ o. option_map_or (λ made. is_ok made.1) o false && true) made)
+
+-- the versions that a check found were an event
+pub check_made : (places : PlacesData) (name named : Text) (one : ResourceData) (v : View) (f : ℕ) (p : List Pair)
+    (l : Text) (n : View) (m : Text) (pair : Option Pair) (vs : List TextMap) (r : Replied) (good : Bool)
+    → named ≡ name → resource_of name (resources_held v.core) ≡ Some one → l ≡ v.lines
+    → p ≡ v.pairs ++ option_to_list pair → Finds places one (newest one v.core.history) v.failures f pair (found vs)
+    → Made (checked named vs) r (after v f p []) n → m ≡ l ++ lines_of (checked name vs) r n.core.history
+    → good ≡ is_ok r
+    → Calls (Noting (Items (Serves places) (item.check name ∷ [])) (λ ds. good ≡ all_taken ds)) v true (printed n m)
+check_made places name named one v f p l n m pair vs r good copied there lines pairs finds made_named told is_good =
+    calls_did (Noting (Items (Serves places) (item.check name ∷ [])) (λ ds. good ≡ all_taken ds)) v (printed n m)
+    (ready_after n n.failures n.pairs m made_named.ready) (λ s is.
+    let made : Made (checked name vs) r (after v f p []) n =
+    subst (λ t. Made (checked t vs) r (after v f p []) n) copied made_named in
+    let t = made.takes s is in
+    let d : Done = record {
+      pair = pair;
+      event = Some (checked name vs, r);
+      lines = lines_of (checked name vs) r t.0.history;
+    } in
+    record {
+      did = d;
+      state = t.0;
+      stands = t.2;
+      does = (
+        (
+          world_of (printed n m) t.0,
+          record {
+            one = one;
+            named = ap (λ rs. resource_of name rs) (sym (resources_at v.core s is)) ∙ there;
+            what = found vs;
+            finds = subst (λ h. Finds places one (newest one h) v.failures n.failures pair (found vs)) is.0
+                (subst (λ k. Finds places one (newest one v.core.history) v.failures k pair (found vs))
+                (sym made.rest.failures) finds);
+            reports = record { reply = r; step = t.1; found_memory = made.found_memory; event = refl; lines = refl };
+            last = made.rest.last;
+          },
+          refl,
+        ),
+        is_good ∙ taken_one r d (checked name vs) refl,
+      );
+      pairs = made.rest.pairs ∙ pairs;
+      lines = lines_at (checked name vs) r n.core t.0 v.lines l m t.2 lines told;
+    })
+
+-- a check found nothing, and its line says why
+pub check_found_nothing : (places : PlacesData) (name : Text) (one : ResourceData) (v : View) (f : ℕ) (p : List Pair)
+    (l m : Text) (pair : Option Pair) (cause : Cause)
+    → IsReady v → resource_of name (resources_held v.core) ≡ Some one → l ≡ v.lines
+    → p ≡ v.pairs ++ option_to_list pair
+    → Finds places one (newest one v.core.history) v.failures f pair (what_is.nothing cause)
+    → m ≡ l ++ refused_line name (cause_words cause)
+    → Calls (Noting (Items (Serves places) (item.check name ∷ [])) (λ ds. false ≡ all_taken ds)) v true (after v f p m)
+check_found_nothing places name one v f p l m pair cause ready there lines pairs finds told =
+    calls_did (Noting (Items (Serves places) (item.check name ∷ [])) (λ ds. false ≡ all_taken ds)) v (after v f p m)
+    (ready_after v f p m ready) (λ s is. record {
+      did = record { pair = pair; event = None; lines = refused_line name (cause_words cause) };
+      state = s;
+      stands = is;
+      does = (
+        (
+          world_of (after v f p m) s,
+          record {
+            one = one;
+            named = ap (λ rs. resource_of name rs) (sym (resources_at v.core s is)) ∙ there;
+            what = what_is.nothing cause;
+            finds = subst (λ h. Finds places one (newest one h) v.failures f pair (what_is.nothing cause)) is.0 finds;
+            reports = (refl, refl, refl);
+            last = refl;
+          },
+          refl,
+        ),
+        refl,
+      );
+      pairs = pairs;
+      lines = told ∙ ap (λ ls. ls ++ refused_line name (cause_words cause)) lines;
+    })
+
+-- ---- schedules
+-- the schedule of a job was an event
+pub schedule_made : (places : PlacesData) (job named : Text) (r : Replied) (v n : View) (l m : Text)
+    → named ≡ job → l ≡ v.lines → Made (event.schedule named) r (printed v []) n
+    → m ≡ l ++ lines_of (event.schedule job) r n.core.history
+    → Calls (Items (Serves places) (item.schedule job ∷ [])) v true (printed n m)
+schedule_made places job named r v n l m copied lines made_named told =
+    calls_made (Items (Serves places) (item.schedule job ∷ [])) (event.schedule job) r v n m
+    (subst (λ t. Made (event.schedule t) r (printed v []) n) copied made_named)
+    (λ s a step is. lines_at (event.schedule job) r n.core a v.lines l m is lines told)
+    (λ w u d tells made. (u, tells, refl))

@@ -1,0 +1,217 @@
+//! The items of a round that make events: checks and schedules.
+ghost use Rattle.std.specs.Prelude.{◌≡◌, ◌+◌, ◌*◌, ◌≤◌, ◌++◌, [], ◌∷◌, List, length, string_bytes, is_ok, IfOk, IfErr, OnOk, OnErr, IfSome, IsSome, IsSomeAnd, Some, Option};
+ghost use Rattle.ccr_history.specs.TextMap.{TextMap};
+ghost use Rattle.ccr_history.specs.History.{HistoryData};
+ghost use Rattle.ccr_pipeline.specs.JobData.{ResourceData};
+ghost use Rattle.ccr_problem.specs.ProblemOf.{resource_of};
+ghost use Rattle.ccr_process.specs.Runs.{Pair};
+ghost use Rattle.ccr_task.specs.Places.{places_data};
+ghost use Rattle.ccr_core.specs.Cores.{core_data};
+ghost use Rattle.ccr_core.specs.Events as event;
+ghost use Rattle.ccr_lines.specs.Lines.{lines_of};
+ghost use Rattle.ccr_serve.specs.Found.{found_data, newest, Finds};
+ghost use Rattle.ccr_serve.specs.Items.{Items, Noting};
+ghost use Rattle.ccr_serve.specs.Items as item;
+ghost use Rattle.ccr_serve.specs.Pairs.{Adds, AddsAtMostOne};
+ghost use Rattle.ccr_serve.specs.Serving.{Serves};
+ghost use Rattle.ccr_serve.specs.Taken.{all_taken};
+ghost use Rattle.ccr_serve.specs.Views.{view_of, resources_held, Calls, IsReady, StopsItem};
+
+use crate::fault::ServeFault;
+use crate::found::{Found, find};
+use crate::named::resource_named;
+use crate::server::Server;
+use ccr_core::{Core, CoreFault, Event, Reply};
+use ccr_history::History;
+use ccr_lines::{Lines, tell_cause, tell_full, tell_job, tell_new, tell_refused_job};
+use ccr_process::Runner;
+use ccr_storage::Storage;
+use ccr_task::{Places, Shelf};
+use std::alloc::{AllocError, Global};
+
+/// Makes room for so many bytes of lines, and copies the name that an event takes with it. There is no room where no
+/// number tells it.
+pub(crate) fn begin<O: Lines>(
+    alloc: Global,
+    name: &str,
+    room: Option<usize>,
+    out: &mut O,
+) -> Result<String, AllocError>
+    ensures copied { IfOk result (λ copy. string_bytes copy ≡ name.now) }
+    ensures room { OnOk result (IsSomeAnd room (λ bytes. bytes ≤ O.room out.new)) }
+    ensures same { O.written out.new ≡ O.written out.old }
+{
+    let Some(bytes) = room else {
+        return Err(AllocError);
+    };
+    out.make_room(bytes)?;
+    String::from_str(alloc, name)
+}
+
+/// For how many bytes the line of a name needs room; None where no number tells it.
+pub(crate) fn line_room(name: &str) -> Option<usize>
+    ensures { IfSome result (λ room. room ≡ length name.now + 64) }
+{
+    name.len().checked_add(64)
+}
+
+/// For how many bytes the lines of a job need room; None where no number tells it.
+pub(crate) fn job_room(job: &str) -> Option<usize>
+    ensures { IfSome result (λ room. room ≡ 2 * length job.now + 64) }
+{
+    job.len().checked_mul(2)?.checked_add(64)
+}
+
+/// Finds the versions of a resource that the core's pipeline has under a name.
+fn find_named<R: Runner, S: Shelf>(
+    alloc: Global,
+    runner: &mut R,
+    shelf: &mut S,
+    places: &Places,
+    core: &Core,
+    name: &str,
+) -> Result<Found, AllocError>
+    requires { IsSome (resource_of name.now (resources_held (core_data core.now))) }
+    ensures ok { IfOk result (λ f. (one : ResourceData) × (pair : Option Pair)
+        × (resource_of name.now (resources_held (core_data core.now)) ≡ Some one) × Adds (R.pairs runner.old) pair (R.pairs runner.new)
+        × Finds (places_data places.now) one (newest one (core_data core.now).history)
+        (S.failures shelf.old) (S.failures shelf.new) pair (found_data f)) }
+    ensures err { OnErr result (AddsAtMostOne (R.pairs runner.old) (R.pairs runner.new)) }
+    ensures grows { S.failures shelf.old ≤ S.failures shelf.new }
+{
+    let pipeline = core.pipeline().unwrap();
+    let resource = resource_named(pipeline.resources(), name).unwrap();
+    find(alloc, runner, shelf, places, resource, core.history())
+}
+
+/// Writes the lines of a check's event.
+fn tell_checked<O: Lines>(out: &mut O, resource: &str, replied: &Result<Reply, CoreFault>)
+    requires { length resource.now + 64 ≤ O.room out.old }
+    ensures { (vs : List TextMap) (h : HistoryData)
+        → O.written out.new ≡ O.written out.old ++ lines_of (event.checked resource.now vs) replied.now h }
+{
+    match replied {
+        Ok(Reply::New(new)) => tell_new(out, resource, *new),
+        Err(CoreFault::TableFull) => tell_full(out, resource),
+        Ok(
+            Reply::Set
+            | Reply::Made(_)
+            | Reply::NoneSatisfies
+            | Reply::OverBudget(_)
+            | Reply::NotNew
+            | Reply::Busy
+            | Reply::Goes
+            | Reply::Ends(_)
+            | Reply::Pinned
+            | Reply::Unpinned
+            | Reply::Restarted,
+        )
+        | Err(
+            CoreFault::NoPipeline
+            | CoreFault::NoJob
+            | CoreFault::NoResource
+            | CoreFault::NoBuild
+            | CoreFault::BuildsOpen
+            | CoreFault::NotWanted
+            | CoreFault::TooManyOpen
+            | CoreFault::NoMemory,
+        ) => {}
+    }
+    out.hand_out();
+}
+
+/// Writes the lines of a schedule's event.
+fn tell_scheduled<O: Lines>(
+    out: &mut O,
+    job: &str,
+    replied: Result<Reply, CoreFault>,
+    history: &History,
+)
+    requires { 2 * length job.now + 64 ≤ O.room out.old }
+    ensures { O.written out.new ≡ O.written out.old ++ lines_of (event.schedule job.now) replied history.now }
+{
+    match replied {
+        Ok(reply) => tell_job(out, job, reply, history),
+        Err(fault) => tell_refused_job(out, job, fault),
+    }
+    out.hand_out();
+}
+
+impl<R: Runner, S: Shelf, T: Storage> Server<R, S, T> {
+    /// Checks a resource of the pipeline: whether its program listed versions that the core took. Its line is printed
+    /// once that is stored.
+    ///
+    /// - `NoMemory` where a growth was refused; the program may have run by then.
+    /// - `Store` where the storage failed; then the server has closed.
+    pub(crate) fn check<O: Lines>(&mut self, name: &str, out: &mut O) -> Result<bool, ServeFault>
+        requires ready { let view = view_of R.pairs S.failures T.holds T.knows in
+            IsReady (view self.old (O.written out.old)) }
+        requires there { IsSome (resource_of name.now (resources_held (core_data self.old.core))) }
+        ensures served { let view = view_of R.pairs S.failures T.holds T.knows in
+            Calls (Noting (Items (Serves (places_data self.old.places)) (item.check name.now ∷ []))
+            (λ ds. IfOk result (λ good. good ≡ all_taken ds)))
+            (view self.old (O.written out.old)) (is_ok result) (view self.new (O.written out.new)) }
+        ensures kept { let view = view_of R.pairs S.failures T.holds T.knows in
+            OnOk result (IsReady (view self.new (O.written out.new))) }
+        ensures stops { let view = view_of R.pairs S.failures T.holds T.knows in
+            IfErr result (λ fault. StopsItem fault (view self.new (O.written out.new))) }
+        ensures places { self.new.places ≡ self.old.places }
+    {
+        let Ok(copy) = begin(self.alloc, name, line_room(name), out) else {
+            return Err(ServeFault::NoMemory);
+        };
+        let Ok(found) = find_named(
+            self.alloc,
+            &mut self.runner,
+            &mut self.shelf,
+            &self.places,
+            &self.core,
+            name,
+        ) else {
+            return Err(ServeFault::NoMemory);
+        };
+        match found {
+            Found::Versions(versions) => match self.make(Event::Checked(copy, versions)) {
+                Ok(replied) => {
+                    tell_checked(out, name, &replied);
+                    Ok(replied.is_ok())
+                }
+                Err(fault) => Err(fault),
+            },
+            Found::Nothing(cause) => {
+                tell_cause(out, name, cause);
+                out.hand_out();
+                Ok(false)
+            }
+        }
+    }
+
+    /// Gives a job its chance of a build: one is made if there is something new for it. Its lines are printed once that
+    /// is stored; a job that the core refuses to schedule is no error.
+    ///
+    /// - `NoMemory` where a growth was refused; then nothing has changed.
+    /// - `Store` where the storage failed; then the server has closed.
+    pub(crate) fn schedule<O: Lines>(&mut self, name: &str, out: &mut O) -> Result<(), ServeFault>
+        requires ready { let view = view_of R.pairs S.failures T.holds T.knows in
+            IsReady (view self.old (O.written out.old)) }
+        ensures served { let view = view_of R.pairs S.failures T.holds T.knows in
+            Calls (Items (Serves (places_data self.old.places)) (item.schedule name.now ∷ []))
+            (view self.old (O.written out.old)) (is_ok result) (view self.new (O.written out.new)) }
+        ensures kept { let view = view_of R.pairs S.failures T.holds T.knows in
+            OnOk result (IsReady (view self.new (O.written out.new))) }
+        ensures stops { let view = view_of R.pairs S.failures T.holds T.knows in
+            IfErr result (λ fault. StopsItem fault (view self.new (O.written out.new))) }
+        ensures places { self.new.places ≡ self.old.places }
+    {
+        let Ok(copy) = begin(self.alloc, name, job_room(name), out) else {
+            return Err(ServeFault::NoMemory);
+        };
+        match self.make(Event::Schedule(copy)) {
+            Ok(replied) => {
+                tell_scheduled(out, name, replied, self.core.history());
+                Ok(())
+            }
+            Err(fault) => Err(fault),
+        }
+    }
+}

@@ -1,0 +1,38 @@
+//! Events of the core, and what they change in the storage.
+ghost use Rattle.std.specs.Prelude.{◌≡◌, [], IfOk, IfErr};
+ghost use Rattle.ccr_core.specs.Events.{event_data};
+ghost use Rattle.ccr_serve.specs.Views.{view_of, IsReady, Made, Unmade};
+
+use crate::fault::ServeFault;
+use crate::server::Server;
+use ccr_core::{CoreFault, Event, Reply};
+use ccr_process::Runner;
+use ccr_storage::Storage;
+use ccr_task::Shelf;
+
+impl<R: Runner, S: Shelf, T: Storage> Server<R, S, T> {
+    /// Makes an event, and stores what it changes: the core's reply, or its refusal, which is never for want of memory.
+    ///
+    /// - `NoMemory` where a growth was refused; then nothing has changed.
+    /// - `Store` where the storage failed; then the server has closed.
+    pub(crate) fn make(&mut self, event: Event) -> Result<Result<Reply, CoreFault>, ServeFault>
+        requires ready { let view = view_of R.pairs S.failures T.holds T.knows in IsReady (view self.old []) }
+        ensures made { let view = view_of R.pairs S.failures T.holds T.knows in
+            IfOk result (λ r. Made (event_data event) r (view self.old []) (view self.new [])) }
+        ensures unmade { let view = view_of R.pairs S.failures T.holds T.knows in
+            IfErr result (λ fault. Unmade fault (view self.old []) (view self.new [])) }
+        ensures places { self.new.places ≡ self.old.places }
+    {
+        match self.core.step(self.alloc, event) {
+            Ok((reply, change)) => match self.storage.commit(self.alloc, &change) {
+                Ok(()) => Ok(Ok(reply)),
+                Err(fault) => {
+                    self.closed = true;
+                    Err(ServeFault::Store(fault))
+                }
+            },
+            Err(CoreFault::NoMemory) => Err(ServeFault::NoMemory),
+            Err(fault) => Ok(Err(fault)),
+        }
+    }
+}
