@@ -9,3 +9,5 @@ pub mod MirrorLemmas
 pub mod EndLemmas
 pub mod StoreLemmas
 pub mod ListedRows
+pub mod OneMap
+pub mod OneHistory

@@ -99,7 +99,7 @@ parted rows first rest second more a b n m p q r s one two =
     ∙ sym (append_assoc a b more)
 
 -- ---- the same rows in another order
-pairs_listed : (id : ℕ) (bs : List BuildData) → IsPermutation (pair_rows id bs) (listed_pairs id bs)
+pub pairs_listed : (id : ℕ) (bs : List BuildData) → IsPermutation (pair_rows id bs) (listed_pairs id bs)
 pairs_listed id [] = IsPermutation-refl []
 pairs_listed id (b ∷ bs) =
     IsPermutation-append (map (used_row id) b.used ++ map (moved_row id) b.moved) (map (moved_row id) b.moved ++ map (used_row id) b.used) (pair_rows (id + 1) bs) (listed_pairs (id + 1) bs)

@@ -60,3 +60,11 @@ pub fn outlines_number_rows()
     ensures kept_all { (es : List EditData) (h outline : HistoryData) → IsOutline h outline
         → IsOutline (changed es h) (all_outlined es outline) }
 {}
+
+/// The rows of a history say which history it is.
+///
+/// It is a law over the definitions alone; nothing runs.
+pub fn rows_tell_the_history()
+    ensures { (h other : HistoryData) → IsHistory h → IsHistory other → HasSameRows (rows_of h) (rows_of other)
+        → h ≡ other }
+{}

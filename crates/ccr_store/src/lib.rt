@@ -20,6 +20,6 @@ mod store;
 
 pub use ccr_storage::StoreFault;
 pub use fault::open_fault_of;
-pub use law::{changes_write_their_rows, outlines_number_rows};
+pub use law::{changes_write_their_rows, outlines_number_rows, rows_tell_the_history};
 pub use mirror::Mirror;
 pub use store::Store;

@@ -3,7 +3,7 @@ ghost use Rattle.std.specs.Prelude.{◌≡◌, ◌≢◌, false, IsTrue, IfOk, I
 ghost use Rattle.sqlite.specs.State.{HasCleanDisk, IsUnchanged, Survives};
 ghost use Rattle.sqlite.specs.Held.{state};
 ghost use Rattle.sqlite.specs.Steps.{over_memory};
-ghost use Rattle.ccr_history.specs.History.{HistoryData, no_history};
+ghost use Rattle.ccr_history.specs.History.{HistoryData, IsHistory, no_history};
 ghost use Rattle.ccr_history.specs.Edits.{change_data};
 ghost use Rattle.ccr_history.specs.Changes.{changed, TakesAll};
 ghost use Rattle.ccr_tables.specs.Contents.{Contents, Holds, Keeps, new_contents};
@@ -162,6 +162,8 @@ impl<S: Alter> Store<S> {
             let new = state S.Store self.new.conn in
             HasCleanDisk new → IfOk result (λ history. (these : Contents) → Holds these old.now
             → HasSameRows (rows_of history) these × IsStored history new.now self.new.outline) }
+        ensures only { HasCleanDisk (state S.Store self.new.conn) → IfOk result (λ history. (h : HistoryData)
+            → IsHistory h → Holds (rows_of h) (state S.Store self.old.conn).now → h ≡ history) }
         ensures kept { IfOk result (λ history. (these : Contents) → Holds these (state S.Store self.old.conn).now
             → IsKept S.Store self.new history) }
         ensures same { let old = state S.Store self.old.conn in

@@ -1,5 +1,5 @@
-use Rattle.std.proofs.Common.{◌≡◌, ℕ, ◌+◌, sym, ap, ◌∙◌, arith, refl}
-use Rattle.ccr_history.specs.Tables.{ScopeData, TableData}
+use Rattle.std.proofs.Common.{ℕ, ◌+◌, sym, ap, ◌∙◌, arith, refl}
+use Rattle.ccr_history.specs.Tables.{TableData}
 use Rattle.ccr_store.specs.Rows.{scope_row, scope_rows}
 use Rattle.ccr_store.proofs.ListedRows.{rows_step, scope_there}
 use Rattle.ccr_store.proofs.matching.are_scopes.Goals as goal
