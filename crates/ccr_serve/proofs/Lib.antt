@@ -6,3 +6,16 @@ mod RoundParts
 mod Ending
 mod Staying
 mod Steps
+mod Ends
+mod Rounds
+mod RunParts
+mod Triggering
+mod Standing
+mod Refusing
+mod Told
+mod Checked
+mod Shows
+mod Ranks
+mod Nexts
+mod Wants
+mod Turning

@@ -213,7 +213,7 @@ lines_at e r c a old mid new is same told =
     told ∙ (ap (λ ls. ls ++ lines_of e r c.history) same ∙ ap (λ h. old ++ lines_of e r h) is.0)
 
 -- ---- checks
-resources_at : (c : CoreData) (s : State) → Stands c s → resources_held c ≡ resources_of s
+pub resources_at : (c : CoreData) (s : State) → Stands c s → resources_held c ≡ resources_of s
 resources_at c s is = ap (λ p. (unwrap_or p no_pipeline).resources) is.1
 
 -- what a check notes of the one event that it made

@@ -6,6 +6,9 @@ pub mod Turns
 pub mod Serving
 pub mod Runs
 pub mod Views
+pub mod Due
 pub mod Commands
 pub mod Commanding
 pub mod Taken
+pub mod Lacking
+pub mod Reads

@@ -1,5 +1,5 @@
 -- What a call of the server shows.
-use Rattle.std.specs.Prelude.{◌≡◌, ◌≢◌, ◌≤◌, ℕ, List, [], ◌++◌, length, Bool, true, false, Err, unwrap_or, ⊤}
+use Rattle.std.specs.Prelude.{◌≡◌, ◌≢◌, ◌≤◌, ℕ, List, [], ◌++◌, length, nat_lt, Bool, true, false, Result, Ok, Err, unwrap_or, ⊤}
 use Rattle.ccr_history.specs.Text.{Text}
 use Rattle.ccr_history.specs.History.{HistoryData}
 use Rattle.ccr_pipeline.specs.JobData.{ResourceData, JobData}
@@ -11,7 +11,7 @@ use Rattle.ccr_core.specs.Holding.{CoreData, Stands, Takes}
 use Rattle.ccr_core.specs.Replies.{Replied}
 use Rattle.ccr_core.specs.State.{State, no_pipeline}
 use Rattle.ccr_serve.specs.declared.fault.ServeFault.{ServeFault}
-use Rattle.ccr_serve.specs.declared.fault.ServeFault.TheVariants.{Store, NoMemory}
+use Rattle.ccr_serve.specs.declared.fault.ServeFault.TheVariants.{Store, NoMemory, Closed}
 use Rattle.ccr_serve.specs.declared.server.Server.{Server}
 use Rattle.ccr_serve.specs.Items.{World, Done, Part, pairs_of, lines_of_all}
 
@@ -102,6 +102,29 @@ StopsItem f v = ⊥
 abbrev pub Stops : ServeFault → View → Type 0
 Stops (Store f) v = v.closed ≡ true
 Stops f v = IsReady v
+
+-- between calls a server goes on, or it has closed
+abbrev pub IsKept : View → Type 0
+IsKept v = v.closed ≡ false → IsReady v
+
+-- how a server stands after a command: it has closed if its storage failed, now or before, and else it goes on
+abbrev pub Ends : Result ℕ ServeFault → View → Type 0
+Ends (Err (Store f)) v = v.closed ≡ true
+Ends (Err Closed) v = v.closed ≡ true
+Ends r v = IsReady v
+
+-- how a server stands after a round or a turn: nothing else than memory, its storage and its having closed ends one
+-- early
+abbrev pub EndsItems : {A : Type 0} → Result A ServeFault → View → Type 0
+EndsItems (Ok a) v = IsReady v
+EndsItems (Err NoMemory) v = IsReady v
+EndsItems (Err (Store f)) v = v.closed ≡ true
+EndsItems (Err Closed) v = v.closed ≡ true
+EndsItems (Err f) v = ⊥
+
+-- whether a build runs
+abbrev pub is_running : CoreData → Bool
+is_running c = nat_lt 0 (length c.names)
 
 -- ---- events
 -- nothing but the core and the storage has changed

@@ -10,15 +10,28 @@
 #![tactic(auto)]
 
 mod answer;
+mod called;
+mod checking;
 mod command;
+mod due;
+mod end;
 mod fault;
 mod found;
+mod held;
 mod items;
 mod law;
 mod make;
 mod named;
+mod names;
 mod open;
+mod pinning;
+mod round;
+mod running;
 mod server;
+mod setting;
+mod showing;
+mod turn;
+mod wanted;
 
 pub use command::Command;
 pub use fault::ServeFault;

@@ -1,5 +1,6 @@
 //! Events of the core, and what they change in the storage.
-ghost use Rattle.std.specs.Prelude.{◌≡◌, [], IfOk, IfErr};
+ghost use Rattle.std.specs.Prelude.{◌≡◌, [], IfOk, IfErr, OnErr};
+ghost use Rattle.ccr_core.specs.Cores.{core_data};
 ghost use Rattle.ccr_core.specs.Events.{event_data};
 ghost use Rattle.ccr_serve.specs.Views.{view_of, IsReady, Made, Unmade};
 
@@ -19,6 +20,7 @@ impl<R: Runner, S: Shelf, T: Storage> Server<R, S, T> {
         requires ready { let view = view_of R.pairs S.failures T.holds T.knows in IsReady (view self.old []) }
         ensures made { let view = view_of R.pairs S.failures T.holds T.knows in
             IfOk result (λ r. Made (event_data event) r (view self.old []) (view self.new [])) }
+        ensures refused { IfOk result (λ r. OnErr r (core_data self.new.core ≡ core_data self.old.core)) }
         ensures unmade { let view = view_of R.pairs S.failures T.holds T.knows in
             IfErr result (λ fault. Unmade fault (view self.old []) (view self.new [])) }
         ensures places { self.new.places ≡ self.old.places }

@@ -1,0 +1,154 @@
+-- Commands that are refused, or that are kept from beginning.
+use Rattle.std.proofs.Common.{◌≡◌, ◌≤◌, ◌⊎◌, ℕ, List, [], length, false, Option, None, Some, IsSome, unwrap_or, Err, refl, sym, ◌∙◌, ap, subst, append-nil, arith, inl, inr}
+use Rattle.ccr_history.specs.Text.{Text}
+use Rattle.ccr_process.specs.Runs.{Pair}
+use Rattle.ccr_problem.specs.ProblemOf.{resource_of, job_of}
+use Rattle.ccr_task.specs.Places.{PlacesData}
+use Rattle.ccr_core.specs.declared.fault.CoreFault.{CoreFault}
+use Rattle.ccr_core.specs.declared.fault.CoreFault.TheVariants as core_fault
+use Rattle.ccr_core.specs.Events.{EventData}
+use Rattle.ccr_core.specs.Faults.{MayRefuse, IsFirstFault}
+use Rattle.ccr_core.specs.Holding.{Stands}
+use Rattle.ccr_core.specs.State.{State, no_pipeline}
+use Rattle.ccr_serve.specs.Commanding.{NeedsPipeline, named_resource, named_job, Commanded, IsRefused, WasRefused, CameOf}
+use Rattle.ccr_serve.specs.Commands.{CommandData}
+use Rattle.ccr_serve.specs.Items.{Items}
+use Rattle.ccr_serve.specs.Lacking.{LacksResource, LacksJob}
+use Rattle.ccr_serve.specs.Serving.{Serves}
+use Rattle.ccr_serve.specs.Views.{View, world_of, IsReady, Calls, StandsAt, Made, Unmade, Stops, StopsItem}
+use Rattle.ccr_serve.specs.declared.fault.ServeFault.{ServeFault}
+use Rattle.ccr_serve.specs.declared.fault.ServeFault.TheVariants as fault
+use Rattle.ccr_serve.proofs.Composing.{calls_back}
+use Rattle.ccr_serve.proofs.Steps.{after, printed, items_stop, calls_stop, cut_by_memory, none_added}
+
+-- ---- nothing was done
+-- a server that has done nothing refuses
+pub refused_at_once : (places : PlacesData) (c : CommandData) (f : ServeFault) (v : View) → IsReady v
+    → ((s : State) → Stands v.core s → IsRefused c f s v.failures v.failures) → WasRefused places c f v v
+refused_at_once places c f v ready why = record {
+  why = why;
+  back = calls_back (Serves places) [] v ready;
+  pairs = refl;
+  lines = refl;
+}
+
+-- a server refuses whose shelf may have failed
+pub refused_after : (places : PlacesData) (c : CommandData) (f : ServeFault) (v : View) (k : ℕ) → IsReady v
+    → v.failures ≤ k → ((s : State) → Stands v.core s → IsRefused c f s v.failures k)
+    → WasRefused places c f v (after v k v.pairs v.lines)
+refused_after places c f v k ready grows why = record {
+  why = why;
+  back = cut_by_memory (Items (Serves places) []) v k v.pairs v.lines (items_stop (Serves places) []) ready grows
+      (none_added v.pairs) refl;
+  pairs = refl;
+  lines = refl;
+}
+
+-- ---- what is lacking
+-- no resource has the name that a command names
+pub lacks_resource : (places : PlacesData) (c : CommandData) (name : Text) (f : CoreFault) (v : View)
+    → named_resource c ≡ Some name → NeedsPipeline c → IsReady v → LacksResource v.core.pipeline name f
+    → CameOf places c (Err (fault.Core f)) v v
+lacks_resource places c name core_fault.NoPipeline v named needs ready lacks =
+    refused_at_once places c (fault.Core core_fault.NoPipeline) v ready (λ s is. (needs, sym is.1 ∙ lacks))
+lacks_resource places c name core_fault.NoResource v named needs ready lacks =
+    refused_at_once places c (fault.Core core_fault.NoResource) v ready (λ s is. (
+      name,
+      named,
+      subst (λ p. IsSome p) is.1 lacks.0,
+      ap (λ p. resource_of name (unwrap_or p no_pipeline).resources) (sym is.1) ∙ lacks.1,
+    ))
+lacks_resource places c name core_fault.NoJob v named needs ready lacks = absurd lacks
+lacks_resource places c name core_fault.NoBuild v named needs ready lacks = absurd lacks
+lacks_resource places c name core_fault.BuildsOpen v named needs ready lacks = absurd lacks
+lacks_resource places c name core_fault.NotWanted v named needs ready lacks = absurd lacks
+lacks_resource places c name core_fault.TooManyOpen v named needs ready lacks = absurd lacks
+lacks_resource places c name core_fault.TableFull v named needs ready lacks = absurd lacks
+lacks_resource places c name core_fault.NoMemory v named needs ready lacks = absurd lacks
+
+-- no job has the name that a command names
+pub lacks_job : (places : PlacesData) (c : CommandData) (name : Text) (f : CoreFault) (v : View)
+    → named_job c ≡ Some name → NeedsPipeline c → IsReady v → LacksJob v.core.pipeline name f
+    → CameOf places c (Err (fault.Core f)) v v
+lacks_job places c name core_fault.NoPipeline v named needs ready lacks =
+    refused_at_once places c (fault.Core core_fault.NoPipeline) v ready (λ s is. (needs, sym is.1 ∙ lacks))
+lacks_job places c name core_fault.NoJob v named needs ready lacks =
+    refused_at_once places c (fault.Core core_fault.NoJob) v ready (λ s is. (
+      name,
+      named,
+      subst (λ p. IsSome p) is.1 lacks.0,
+      ap (λ p. job_of name (unwrap_or p no_pipeline).jobs) (sym is.1) ∙ lacks.1,
+    ))
+lacks_job places c name core_fault.NoResource v named needs ready lacks = absurd lacks
+lacks_job places c name core_fault.NoBuild v named needs ready lacks = absurd lacks
+lacks_job places c name core_fault.BuildsOpen v named needs ready lacks = absurd lacks
+lacks_job places c name core_fault.NotWanted v named needs ready lacks = absurd lacks
+lacks_job places c name core_fault.TooManyOpen v named needs ready lacks = absurd lacks
+lacks_job places c name core_fault.TableFull v named needs ready lacks = absurd lacks
+lacks_job places c name core_fault.NoMemory v named needs ready lacks = absurd lacks
+
+-- ---- what the core refused
+pub some_if : {A : Type 0} (o : Option A) → (o ≡ None → ⊥) → IsSome o
+some_if None other = absurd (other refl)
+some_if (Some x) other = refl
+
+first_fault : (s : State) (e : EventData) (f : CoreFault) → (f ≡ core_fault.NoMemory → ⊥) → MayRefuse s e f
+    → IsFirstFault s e f
+first_fault s e f other (inl is) = absurd (other is)
+first_fault s e f other (inr first) = first
+
+none_few : length {A = Pair} [] ≤ 1
+none_few = omega arith
+
+module _ (places : PlacesData) (c : CommandData) (e : EventData) (f : CoreFault) (v n : View) (l : Text)
+    (lines : l ≡ v.lines) (made : Made e (Err f) (printed v []) n) where
+  -- nothing has changed
+  stands_still : (s : State) → Stands v.core s → Stands n.core s
+  stands_still s h = let t = made.takes s h in subst (λ u. Stands n.core u) t.1.1 t.2
+
+  nothing_done : Calls (Items (Serves places) []) v false (printed n l)
+  nothing_done s h = let le : v.failures ≤ v.failures = omega arith in record {
+    dones = [];
+    now = world_of v s;
+    does = ([], [], refl, refl);
+    lost = [];
+    pairs = made.rest.pairs ∙ sym (append-nil v.pairs);
+    few = none_few;
+    lines = lines ∙ sym (append-nil v.lines);
+    holds = subst n.holds (stands_still s h).0 made.ready.holds;
+    stands = subst (λ b. StandsAt false b (world_of v s) (printed n l)) (sym made.ready.is_open)
+        (stands_still s h, made.rest.last, subst (λ k. v.failures ≤ k) (sym made.rest.failures) le);
+  }
+
+  -- the event's first fault is the command's
+  pub refused_by_core : ((s : State) → IsFirstFault s e f → IsRefused c (fault.Core f) s v.failures n.failures)
+      → CameOf places c (Err (fault.Core f)) v (printed n l)
+  refused_by_core why = record {
+    why = λ s h. why s
+        (first_fault s e f (λ is. made.found_memory (ap (λ g. Err g) is)) (made.takes s h).1.0);
+    back = nothing_done;
+    pairs = made.rest.pairs;
+    lines = lines;
+  }
+
+-- ---- commands that are cut short
+pub came_stopped : (places : PlacesData) (c : CommandData) (f : ServeFault) (v n w : View) → StopsItem f w
+    → Calls (Commanded places c 0) v false n → CameOf places c (Err f) v n
+came_stopped places c fault.NoMemory v n w stops cut = cut
+came_stopped places c (fault.Store e) v n w stops cut = cut
+came_stopped places c (fault.Core e) v n w stops cut = absurd stops
+came_stopped places c (fault.Read e) v n w stops cut = absurd stops
+came_stopped places c fault.File v n w stops cut = absurd stops
+came_stopped places c fault.BadPin v n w stops cut = absurd stops
+came_stopped places c fault.Closed v n w stops cut = absurd stops
+came_stopped places c fault.TurnsUsedUp v n w stops cut = absurd stops
+
+pub stops_so : (f : ServeFault) (v : View) → StopsItem f v → Stops f v
+stops_so fault.NoMemory v stops = stops
+stops_so (fault.Store e) v stops = stops
+stops_so (fault.Core e) v stops = absurd stops
+stops_so (fault.Read e) v stops = absurd stops
+stops_so fault.File v stops = absurd stops
+stops_so fault.BadPin v stops = absurd stops
+stops_so fault.Closed v stops = absurd stops
+stops_so fault.TurnsUsedUp v stops = absurd stops

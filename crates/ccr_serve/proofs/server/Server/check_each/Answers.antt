@@ -1,0 +1,64 @@
+use Rattle.std.proofs.Common.{◌≡◌, ◌∙◌, true, false, length, ap, refl, arith}
+use Rattle.ccr_core.specs.Cores.{core_data}
+use Rattle.ccr_task.specs.Places.{places_data}
+use Rattle.ccr_serve.specs.Items.{check}
+use Rattle.ccr_serve.specs.Serving.{Serves}
+use Rattle.ccr_serve.specs.Views.{view_of}
+use Rattle.ccr_serve.proofs.Composing.{calls_none}
+use Rattle.ccr_serve.proofs.Rounds.{unnoted, names_done, name_more, name_stop, name_there}
+use Rattle.ccr_serve.proofs.Staying.{check_keeps_pipeline}
+use Rattle.ccr_serve.proofs.server.Server.check_each.Goals as goal
+
+pub loop-name-init : goal.loop-name-init
+loop-name-init g c =
+    let view = view_of g.R.Runner.pairs g.S.Shelf.failures g.T.Storage.holds g.T.Storage.knows in
+    record {
+      served = calls_none (Serves (places_data c.args.self.now.places))
+          (view c.args.self.now (g.O.Lines.written c.args.out.now)) c.requires.ready;
+      ready = c.requires.ready;
+      pipeline = refl;
+      places = refl;
+    }
+
+pub check-requires-clause-there : goal.check-requires-clause-there
+check-requires-clause-there g c =
+    name_there (core_data c.args.self.now.core).pipeline (core_data c.loop-name.self.core).pipeline c.args.names.now
+    c.loop-name.name-index c.name-item.result c.as_str.result.now c.loop-name.invariant.pipeline (omega arith)
+    c.name-item.is c.as_str.ensures.value c.requires.there
+
+pub loop-name-preserved : goal.loop-name-preserved
+loop-name-preserved g c =
+    let view = view_of g.R.Runner.pairs g.S.Shelf.failures g.T.Storage.holds g.T.Storage.knows in
+    record {
+      served = name_more (places_data c.loop-name.self.places) (places_data c.args.self.now.places) check c.args.names.now
+          c.loop-name.name-index c.name-item.result c.as_str.result.now (omega arith) c.name-item.is c.as_str.ensures.value
+          (ap places_data c.loop-name.invariant.places) (view c.args.self.now (g.O.Lines.written c.args.out.now))
+          (view c.loop-name.self (g.O.Lines.written c.loop-name.out)) (view c.check.new.self (g.O.Lines.written c.check.new.out))
+          c.loop-name.invariant.served
+          (unnoted _ _ (view c.loop-name.self (g.O.Lines.written c.loop-name.out))
+          (view c.check.new.self (g.O.Lines.written c.check.new.out)) true c.in-Ok.ensures.served);
+      ready = c.in-Ok.ensures.kept;
+      pipeline = check_keeps_pipeline (places_data c.loop-name.self.places) c.as_str.result.now
+          (view c.loop-name.self (g.O.Lines.written c.loop-name.out)) (view c.check.new.self (g.O.Lines.written c.check.new.out)) c.rules.ensures.reached
+          (unnoted _ _ (view c.loop-name.self (g.O.Lines.written c.loop-name.out))
+          (view c.check.new.self (g.O.Lines.written c.check.new.out)) true c.in-Ok.ensures.served) ∙ c.loop-name.invariant.pipeline;
+      places = c.in-Ok.ensures.places ∙ c.loop-name.invariant.places;
+    }
+
+pub returns-in-Err-clause-served : goal.returns-in-Err-clause-served
+returns-in-Err-clause-served g c =
+    let view = view_of g.R.Runner.pairs g.S.Shelf.failures g.T.Storage.holds g.T.Storage.knows in
+    name_stop (places_data c.loop-name.self.places) (places_data c.args.self.now.places) check c.args.names.now
+    c.loop-name.name-index c.name-item.result c.as_str.result.now (omega arith) c.name-item.is c.as_str.ensures.value
+    (ap places_data c.loop-name.invariant.places) (view c.args.self.now (g.O.Lines.written c.args.out.now))
+    (view c.loop-name.self (g.O.Lines.written c.loop-name.out)) (view c.check.new.self (g.O.Lines.written c.check.new.out))
+    c.loop-name.invariant.served
+    (unnoted _ _ (view c.loop-name.self (g.O.Lines.written c.loop-name.out))
+    (view c.check.new.self (g.O.Lines.written c.check.new.out)) false c.in-Err.ensures.served)
+
+pub returns-clause-served : goal.returns-clause-served
+returns-clause-served g c =
+    let view = view_of g.R.Runner.pairs g.S.Shelf.failures g.T.Storage.holds g.T.Storage.knows in
+    let all : length c.args.names.now ≡ c.loop-name.name-index = omega arith in
+    names_done (Serves (places_data c.args.self.now.places)) check c.args.names.now c.loop-name.name-index
+    (view c.args.self.now (g.O.Lines.written c.args.out.now)) (view c.loop-name.self (g.O.Lines.written c.loop-name.out)) all c.loop-name.invariant.served

@@ -1,0 +1,76 @@
+use Rattle.std.proofs.Common.{◌∙◌, sym, [], arith, refl, string_bytes}
+use Rattle.ccr_task.specs.Places.{places_data}
+use Rattle.ccr_serve.specs.Commanding.{Commanded}
+use Rattle.ccr_serve.specs.Commands.{pin_resource}
+use Rattle.ccr_serve.specs.Views.{view_of}
+use Rattle.ccr_serve.proofs.Refusing.{lacks_resource, came_stopped}
+use Rattle.ccr_serve.proofs.Steps.{cut_by_memory, none_added, calls_unmade, stops_item, unmade_printed}
+use Rattle.ccr_serve.proofs.Told.{pin_stop, bad_pin, pin_made, pin_refused}
+use Rattle.ccr_serve.proofs.server.Server.pin_resource.Goals as goal
+
+pub returns-in-Err-clause-came : goal.returns-in-Err-clause-came
+returns-in-Err-clause-came g c =
+    let view = view_of g.R.Runner.pairs g.S.Shelf.failures g.T.Storage.holds g.T.Storage.knows in
+    lacks_resource (places_data c.args.self.now.places) (pin_resource c.args.name.now c.args.text.now) c.args.name.now
+    c.in-Err.fault (view c.args.self.now (g.O.Lines.written c.args.out.now)) refl tt c.requires.ready
+    c.in-Err.ensures.lacks
+
+pub returns-in-Ok-None-clause-came : goal.returns-in-Ok-None-clause-came
+returns-in-Ok-None-clause-came g c =
+    let view = view_of g.R.Runner.pairs g.S.Shelf.failures g.T.Storage.holds g.T.Storage.knows in
+    bad_pin (places_data c.args.self.now.places) c.args.name.now c.args.text.now _
+    (view c.args.self.now (g.O.Lines.written c.args.out.now)) c.requires.ready c.in-Ok.ensures.held
+    (sym c.in-Ok-None.field-0-is ∙ c.in-Ok-None.ensures)
+
+pub returns-in-Err-pin_of-clause-came : goal.returns-in-Err-pin_of-clause-came
+returns-in-Err-pin_of-clause-came g c =
+    let view = view_of g.R.Runner.pairs g.S.Shelf.failures g.T.Storage.holds g.T.Storage.knows in
+    cut_by_memory (Commanded (places_data c.args.self.now.places) (pin_resource c.args.name.now c.args.text.now) 0)
+    (view c.args.self.now (g.O.Lines.written c.args.out.now)) (g.S.Shelf.failures c.args.self.now.shelf)
+    (g.R.Runner.pairs c.args.self.now.runner) (g.O.Lines.written c.args.out.now)
+    (pin_stop (places_data c.args.self.now.places) c.args.name.now c.args.text.now) c.requires.ready (omega arith)
+    (none_added _) refl
+
+pub returns-in_default-clause-came : goal.returns-in_default-clause-came
+returns-in_default-clause-came g c =
+    let view = view_of g.R.Runner.pairs g.S.Shelf.failures g.T.Storage.holds g.T.Storage.knows in
+    cut_by_memory (Commanded (places_data c.args.self.now.places) (pin_resource c.args.name.now c.args.text.now) 0)
+    (view c.args.self.now (g.O.Lines.written c.args.out.now)) (g.S.Shelf.failures c.args.self.now.shelf)
+    (g.R.Runner.pairs c.args.self.now.runner) (g.O.Lines.written c.begin.new.out)
+    (pin_stop (places_data c.args.self.now.places) c.args.name.now c.args.text.now) c.requires.ready (omega arith)
+    (none_added _) c.begin.ensures.same
+
+pub returns-in-Ok-Ok-clause-came : goal.returns-in-Ok-Ok-clause-came
+returns-in-Ok-Ok-clause-came g c =
+    let view = view_of g.R.Runner.pairs g.S.Shelf.failures g.T.Storage.holds g.T.Storage.knows in
+    pin_made (places_data c.args.self.now.places) c.args.name.now (string_bytes c.in-Ok-begin.copy) c.args.text.now
+    c.in-Ok-Some.pin c.in-Ok-Ok.field-0 c.in-Ok-Ok.field-0-0
+    (view c.args.self.now (g.O.Lines.written c.args.out.now)) (view c.make.new.self [])
+    (g.O.Lines.written c.begin.new.out) (g.O.Lines.written c.hand_out.new.self) c.in-Ok-begin.ensures.copied
+    (sym c.in-Ok-Some.field-0-is ∙ c.in-Ok-Some.ensures) c.in-Ok-Ok.field-0-is c.begin.ensures.same
+    c.in-Ok-Ok.ensures.made (c.hand_out.ensures ∙ c.tell_pinned.ensures)
+
+pub returns-in-Ok-Err-clause-came : goal.returns-in-Ok-Err-clause-came
+returns-in-Ok-Err-clause-came g c =
+    let view = view_of g.R.Runner.pairs g.S.Shelf.failures g.T.Storage.holds g.T.Storage.knows in
+    pin_refused (places_data c.args.self.now.places) c.args.name.now (string_bytes c.in-Ok-begin.copy) c.args.text.now
+    c.in-Ok-Some.pin c.in-Ok-Err.field-0 c.in-Ok-Err.fault
+    (view c.args.self.now (g.O.Lines.written c.args.out.now)) (view c.make.new.self [])
+    (g.O.Lines.written c.begin.new.out) c.in-Ok-begin.ensures.copied c.in-Ok-Err.field-0-is c.begin.ensures.same
+    c.in-Ok-Err.ensures.made
+
+pub returns-in-Err-make-clause-came : goal.returns-in-Err-make-clause-came
+returns-in-Err-make-clause-came g c =
+    let view = view_of g.R.Runner.pairs g.S.Shelf.failures g.T.Storage.holds g.T.Storage.knows in
+    let v = view c.args.self.now (g.O.Lines.written c.args.out.now) in
+    let n = view c.make.new.self (g.O.Lines.written c.begin.new.out) in
+    came_stopped (places_data c.args.self.now.places) (pin_resource c.args.name.now c.args.text.now)
+    c.in-Err-make.fault v n (view c.make.new.self [])
+    (stops_item c.in-Err-make.fault (view c.args.self.now []) (view c.make.new.self []) c.in-Err-make.ensures.unmade)
+    (calls_unmade (Commanded (places_data c.args.self.now.places) (pin_resource c.args.name.now c.args.text.now) 0) v
+    (g.S.Shelf.failures c.args.self.now.shelf) (g.R.Runner.pairs c.args.self.now.runner)
+    (g.O.Lines.written c.begin.new.out) n c.in-Err-make.fault
+    (pin_stop (places_data c.args.self.now.places) c.args.name.now c.args.text.now) (omega arith) (none_added _)
+    c.begin.ensures.same
+    (unmade_printed c.in-Err-make.fault (view c.args.self.now []) (view c.make.new.self [])
+    (g.O.Lines.written c.begin.new.out) (g.O.Lines.written c.begin.new.out) refl c.in-Err-make.ensures.unmade))

@@ -1,0 +1,51 @@
+use Rattle.std.proofs.Common.{◌≡◌, ◌∙◌, true, false, length, ap, refl, arith}
+use Rattle.ccr_core.specs.Cores.{core_data}
+use Rattle.ccr_task.specs.Places.{places_data}
+use Rattle.ccr_serve.specs.Items.{schedule}
+use Rattle.ccr_serve.specs.Serving.{Serves}
+use Rattle.ccr_serve.specs.Views.{view_of}
+use Rattle.ccr_serve.proofs.Composing.{calls_none}
+use Rattle.ccr_serve.proofs.Rounds.{unnoted, names_done, name_more, name_stop, name_there}
+use Rattle.ccr_serve.proofs.Staying.{check_keeps_pipeline}
+use Rattle.ccr_serve.proofs.server.Server.schedule_each.Goals as goal
+
+pub loop-name-init : goal.loop-name-init
+loop-name-init g c =
+    let view = view_of g.R.Runner.pairs g.S.Shelf.failures g.T.Storage.holds g.T.Storage.knows in
+    record {
+      served = calls_none (Serves (places_data c.args.self.now.places))
+          (view c.args.self.now (g.O.Lines.written c.args.out.now)) c.requires.ready;
+      ready = c.requires.ready;
+      places = refl;
+    }
+
+pub loop-name-preserved : goal.loop-name-preserved
+loop-name-preserved g c =
+    let view = view_of g.R.Runner.pairs g.S.Shelf.failures g.T.Storage.holds g.T.Storage.knows in
+    record {
+      served = name_more (places_data c.loop-name.self.places) (places_data c.args.self.now.places) schedule c.args.names.now
+          c.loop-name.name-index c.name-item.result c.as_str.result.now (omega arith) c.name-item.is c.as_str.ensures.value
+          (ap places_data c.loop-name.invariant.places) (view c.args.self.now (g.O.Lines.written c.args.out.now))
+          (view c.loop-name.self (g.O.Lines.written c.loop-name.out)) (view c.schedule.new.self (g.O.Lines.written c.schedule.new.out))
+          c.loop-name.invariant.served
+          c.in-Ok.ensures.served;
+      ready = c.in-Ok.ensures.kept;
+      places = c.in-Ok.ensures.places ∙ c.loop-name.invariant.places;
+    }
+
+pub returns-in-Err-clause-served : goal.returns-in-Err-clause-served
+returns-in-Err-clause-served g c =
+    let view = view_of g.R.Runner.pairs g.S.Shelf.failures g.T.Storage.holds g.T.Storage.knows in
+    name_stop (places_data c.loop-name.self.places) (places_data c.args.self.now.places) schedule c.args.names.now
+    c.loop-name.name-index c.name-item.result c.as_str.result.now (omega arith) c.name-item.is c.as_str.ensures.value
+    (ap places_data c.loop-name.invariant.places) (view c.args.self.now (g.O.Lines.written c.args.out.now))
+    (view c.loop-name.self (g.O.Lines.written c.loop-name.out)) (view c.schedule.new.self (g.O.Lines.written c.schedule.new.out))
+    c.loop-name.invariant.served
+    c.in-Err.ensures.served
+
+pub returns-clause-served : goal.returns-clause-served
+returns-clause-served g c =
+    let view = view_of g.R.Runner.pairs g.S.Shelf.failures g.T.Storage.holds g.T.Storage.knows in
+    let all : length c.args.names.now ≡ c.loop-name.name-index = omega arith in
+    names_done (Serves (places_data c.args.self.now.places)) schedule c.args.names.now c.loop-name.name-index
+    (view c.args.self.now (g.O.Lines.written c.args.out.now)) (view c.loop-name.self (g.O.Lines.written c.loop-name.out)) all c.loop-name.invariant.served

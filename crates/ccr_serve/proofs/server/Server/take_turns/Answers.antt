@@ -1,0 +1,49 @@
+use Rattle.std.proofs.Common.{◌≡◌, ◌∙◌, [], ◌∷◌, true, false, replicate, ap, refl, subst, arith}
+use Rattle.ccr_task.specs.Places.{places_data}
+use Rattle.ccr_serve.specs.Items.{Items, turn}
+use Rattle.ccr_serve.specs.Runs.{Round, Rounds}
+use Rattle.ccr_serve.specs.Serving.{Serves}
+use Rattle.ccr_serve.specs.Views.{view_of, Calls}
+use Rattle.ccr_serve.proofs.Composing.{calls_none}
+use Rattle.ccr_serve.proofs.Loops.{turns_more, turns_stop}
+use Rattle.ccr_serve.proofs.Rounds.{at_places}
+use Rattle.ccr_serve.proofs.server.Server.take_turns.Goals as goal
+
+pub loop-turn-init : goal.loop-turn-init
+loop-turn-init g c =
+    let view = view_of g.R.Runner.pairs g.S.Shelf.failures g.T.Storage.holds g.T.Storage.knows in
+    record {
+      served = calls_none (Serves (places_data c.args.self.now.places))
+          (view c.args.self.now (g.O.Lines.written c.args.out.now)) c.requires.ready;
+      ready = c.requires.ready;
+      places = refl;
+    }
+
+pub loop-turn-preserved : goal.loop-turn-preserved
+loop-turn-preserved g c =
+    let view = view_of g.R.Runner.pairs g.S.Shelf.failures g.T.Storage.holds g.T.Storage.knows in
+    record {
+      served = turns_more (Serves (places_data c.args.self.now.places)) turn c.loop-turn._turn (view c.args.self.now (g.O.Lines.written c.args.out.now))
+          (view c.loop-turn.self (g.O.Lines.written c.loop-turn.out)) (view c.take_turn.new.self (g.O.Lines.written c.take_turn.new.out))
+          c.loop-turn.invariant.served (at_places (places_data c.loop-turn.self.places) (places_data c.args.self.now.places) (turn ∷ []) (view c.loop-turn.self (g.O.Lines.written c.loop-turn.out))
+          (view c.take_turn.new.self (g.O.Lines.written c.take_turn.new.out)) true
+          (ap places_data c.loop-turn.invariant.places) c.in-Ok.ensures.served);
+      ready = c.in-Ok.ensures.kept;
+      places = c.in-Ok.ensures.places ∙ c.loop-turn.invariant.places;
+    }
+
+pub returns-in-Err-clause-served : goal.returns-in-Err-clause-served
+returns-in-Err-clause-served g c =
+    let view = view_of g.R.Runner.pairs g.S.Shelf.failures g.T.Storage.holds g.T.Storage.knows in
+    turns_stop (Serves (places_data c.args.self.now.places)) turn c.loop-turn._turn c.args.count (view c.args.self.now (g.O.Lines.written c.args.out.now))
+    (view c.loop-turn.self (g.O.Lines.written c.loop-turn.out)) (view c.take_turn.new.self (g.O.Lines.written c.take_turn.new.out)) (omega arith)
+    c.loop-turn.invariant.served (at_places (places_data c.loop-turn.self.places) (places_data c.args.self.now.places) (turn ∷ []) (view c.loop-turn.self (g.O.Lines.written c.loop-turn.out))
+    (view c.take_turn.new.self (g.O.Lines.written c.take_turn.new.out)) false
+    (ap places_data c.loop-turn.invariant.places) c.in-Err.ensures.served)
+
+pub returns-clause-served : goal.returns-clause-served
+returns-clause-served g c =
+    let view = view_of g.R.Runner.pairs g.S.Shelf.failures g.T.Storage.holds g.T.Storage.knows in
+    let all : c.loop-turn._turn ≡ c.args.count = omega arith in
+    subst (λ n. Calls (Items (Serves (places_data c.args.self.now.places)) (replicate n turn))
+    (view c.args.self.now (g.O.Lines.written c.args.out.now)) true (view c.loop-turn.self (g.O.Lines.written c.loop-turn.out))) all c.loop-turn.invariant.served

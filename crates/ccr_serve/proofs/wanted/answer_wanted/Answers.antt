@@ -1,0 +1,40 @@
+use Rattle.std.proofs.Common.{◌∙◌, ap, option_map, subst, sym, unwrap_or}
+use Rattle.std.specs.Option.{IfSome, option_copied}
+use Rattle.ccr_pipeline.specs.Pipelines.{pipeline_data}
+use Rattle.ccr_steps.specs.Asks.{ask_data, answer_data}
+use Rattle.ccr_task.specs.Places.{places_data, build_folder}
+use Rattle.ccr_core.specs.Cores.{core_data}
+use Rattle.ccr_core.specs.Holding.{NamesResource, Wants}
+use Rattle.ccr_core.specs.State.{no_pipeline}
+use Rattle.ccr_serve.specs.Asked.{Answers}
+use Rattle.ccr_serve.proofs.Wants.{some_mapped, has_pipeline, launches}
+use Rattle.ccr_serve.proofs.wanted.answer_wanted.Goals as goal
+
+pub unwrap-pipeline-requires : goal.unwrap-pipeline-requires
+unwrap-pipeline-requires g c =
+    let held = core_data c.args.core.now in
+    some_mapped pipeline_data c.pipeline.result held.pipeline c.pipeline.ensures
+    (has_pipeline held c.args.job.now c.args.number c.rules.ensures c.requires)
+
+pub answer_to-requires : goal.answer_to-requires
+answer_to-requires g c =
+    launches (core_data c.args.core.now) (ask_data c.unwrap-turn.result.1) (pipeline_data c.unwrap-pipeline.result.now)
+    c.rules.ensures
+    (sym c.pipeline.ensures ∙ ap (λ o. option_map pipeline_data (option_copied o)) c.unwrap-pipeline.ensures)
+    (λ s is. subst (λ o. IfSome o (λ w. NamesResource s (ask_data w.1))) c.unwrap-turn.ensures (c.wants.ensures.named s is))
+
+pub returns-in-Ok-clause-ok : goal.returns-in-Ok-clause-ok
+returns-in-Ok-clause-ok g c =
+    let held = core_data c.args.core.now in
+    let o = c.in-Ok.ensures.ok in
+    record {
+      ask = c.unwrap-turn.result.1;
+      wants = subst (λ w. Wants held c.args.job.now c.args.number w) c.unwrap-turn.ensures c.wants.ensures.asked;
+      pair = o.0;
+      adds = o.1;
+      answers = subst
+          (λ p. Answers (places_data c.args.places.now) (unwrap_or p no_pipeline).resources
+          (build_folder (places_data c.args.places.now) c.args.job.now c.args.number) (ask_data c.unwrap-turn.result.1)
+          (g.S.Shelf.failures c.args.shelf.now) (g.S.Shelf.failures c.answer_to.new.shelf) o.0 (answer_data c.in-Ok.answered))
+          (ap (λ q. option_map pipeline_data (option_copied q)) (sym c.unwrap-pipeline.ensures) ∙ c.pipeline.ensures) o.2;
+    }

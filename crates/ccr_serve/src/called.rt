@@ -1,0 +1,107 @@
+//! What a server is called for: a command, a round, a turn.
+ghost use Rattle.std.specs.Prelude.{◌≡◌, [], ◌∷◌, true, false, is_ok, IfOk, Err};
+ghost use Rattle.ccr_task.specs.Places.{places_data};
+ghost use Rattle.ccr_core.specs.Cores.{core_data};
+ghost use Rattle.ccr_serve.specs.Commanding.{CameOf};
+ghost use Rattle.ccr_serve.specs.Commands.{command_data};
+ghost use Rattle.ccr_serve.specs.Items.{Items};
+ghost use Rattle.ccr_serve.specs.Items as item;
+ghost use Rattle.ccr_serve.specs.Runs.{Round};
+ghost use Rattle.ccr_serve.specs.Serving.{Serves};
+ghost use Rattle.ccr_serve.specs.Views.{view_of, is_running, Calls, Ends, EndsItems, IsKept};
+ghost use Rattle.ccr_serve.specs.declared.fault.ServeFault.TheVariants.{Closed};
+
+use crate::command::Command;
+use crate::fault::ServeFault;
+use crate::server::Server;
+use ccr_lines::Lines;
+use ccr_process::Runner;
+use ccr_storage::Storage;
+use ccr_task::Shelf;
+
+impl<R: Runner, S: Shelf, T: Storage> Server<R, S, T> {
+    /// Does what is commanded: the exit status. Its lines are printed as what they tell of is stored.
+    ///
+    /// The statuses are 0, 1 for what came to nothing (a check without versions, a build that didn't succeed), and 3
+    /// where a search would go over the budget. A command that is refused does nothing: `Core` where there is no
+    /// pipeline, no such resource or job, or where the core refuses its event; `Read`, `File`, `BadPin`. `TurnsUsedUp`
+    /// where a build still runs after 10,000,000 turns beside those of the rounds.
+    ///
+    /// Early ends: `NoMemory` where a growth was refused, and the server goes on; `Store` where the storage failed, and
+    /// the server has closed; `Closed` where it had closed before, and nothing is done.
+    pub fn command<O: Lines>(&mut self, command: &Command, out: &mut O) -> Result<u8, ServeFault>
+        requires kept { let view = view_of R.pairs S.failures T.holds T.knows in
+            IsKept (view self.old (O.written out.old)) }
+        ensures came { let view = view_of R.pairs S.failures T.holds T.knows in self.old.closed ≡ false
+            → CameOf (places_data self.old.places) (command_data command.now) result
+            (view self.old (O.written out.old)) (view self.new (O.written out.new)) }
+        ensures closed { self.old.closed ≡ true
+            → (result ≡ Err Closed) × (self.new ≡ self.old) × (out.new ≡ out.old) }
+        ensures kept { let view = view_of R.pairs S.failures T.holds T.knows in
+            Ends result (view self.new (O.written out.new)) }
+        ensures places { self.new.places ≡ self.old.places }
+    {
+        if self.closed {
+            return Err(ServeFault::Closed);
+        }
+        // What a core keeps says that it stands for a state, of which a refusal tells.
+        self.core.rules();
+        match command {
+            Command::SetPipeline(path) => self.set_pipeline(path.as_str(), out),
+            Command::CheckResource(resource) => self.check_resource(resource.as_str(), out),
+            Command::ResourceVersions(resource) => self.resource_versions(resource.as_str(), out),
+            Command::PinResource(resource, pin) => {
+                self.pin_resource(resource.as_str(), pin.as_str(), out)
+            }
+            Command::UnpinResource(resource) => self.unpin_resource(resource.as_str(), out),
+            Command::Resolve(job) => self.resolve(job.as_str(), out),
+            Command::Problem(job) => self.problem(job.as_str(), out),
+            Command::TriggerJob(job) => self.trigger_job(job.as_str(), out),
+            Command::Builds => self.builds(out),
+            Command::Run(rounds) => self.run(*rounds, out),
+        }
+    }
+
+    /// A round: a check of each resource, a schedule of each job, and then as many turns as builds run.
+    ///
+    /// Early ends: `NoMemory`, `Store` and `Closed` as at a command, and no other.
+    pub fn round<O: Lines>(&mut self, out: &mut O) -> Result<(), ServeFault>
+        requires kept { let view = view_of R.pairs S.failures T.holds T.knows in
+            IsKept (view self.old (O.written out.old)) }
+        ensures served { let view = view_of R.pairs S.failures T.holds T.knows in self.old.closed ≡ false
+            → Calls (Round (places_data self.old.places))
+            (view self.old (O.written out.old)) (is_ok result) (view self.new (O.written out.new)) }
+        ensures closed { self.old.closed ≡ true
+            → (result ≡ Err Closed) × (self.new ≡ self.old) × (out.new ≡ out.old) }
+        ensures kept { let view = view_of R.pairs S.failures T.holds T.knows in
+            EndsItems result (view self.new (O.written out.new)) }
+        ensures places { self.new.places ≡ self.old.places }
+    {
+        if self.closed {
+            return Err(ServeFault::Closed);
+        }
+        self.go_round(out)
+    }
+
+    /// A turn: what the build asks whose turn it is, is answered. False where no build runs; then nothing is done.
+    ///
+    /// Early ends: `NoMemory`, `Store` and `Closed` as at a command, and no other.
+    pub fn turn<O: Lines>(&mut self, out: &mut O) -> Result<bool, ServeFault>
+        requires kept { let view = view_of R.pairs S.failures T.holds T.knows in
+            IsKept (view self.old (O.written out.old)) }
+        ensures served { let view = view_of R.pairs S.failures T.holds T.knows in self.old.closed ≡ false
+            → Calls (Items (Serves (places_data self.old.places)) (item.turn ∷ []))
+            (view self.old (O.written out.old)) (is_ok result) (view self.new (O.written out.new)) }
+        ensures some { IfOk result (λ served. served ≡ is_running (core_data self.old.core)) }
+        ensures closed { self.old.closed ≡ true
+            → (result ≡ Err Closed) × (self.new ≡ self.old) × (out.new ≡ out.old) }
+        ensures kept { let view = view_of R.pairs S.failures T.holds T.knows in
+            EndsItems result (view self.new (O.written out.new)) }
+        ensures places { self.new.places ≡ self.old.places }
+    {
+        if self.closed {
+            return Err(ServeFault::Closed);
+        }
+        self.take_turn(out)
+    }
+}

@@ -1,0 +1,143 @@
+//! Rounds: checks, schedules, and turns.
+ghost use Rattle.std.specs.Prelude.{◌≡◌, map, replicate, string_bytes, is_ok, IfErr, OnOk};
+ghost use Rattle.ccr_task.specs.Places.{places_data};
+ghost use Rattle.ccr_core.specs.Cores.{core_data};
+ghost use Rattle.ccr_serve.specs.Items.{Items};
+ghost use Rattle.ccr_serve.specs.Items as item;
+ghost use Rattle.ccr_serve.specs.Runs.{AreThere, Round, Rounds};
+ghost use Rattle.ccr_serve.specs.Serving.{Serves};
+ghost use Rattle.ccr_serve.specs.Views.{view_of, resources_held, Calls, IsReady, StopsItem};
+
+use crate::fault::ServeFault;
+use crate::names::names_held;
+use crate::server::Server;
+use ccr_lines::Lines;
+use ccr_process::Runner;
+use ccr_storage::Storage;
+use ccr_task::Shelf;
+
+impl<R: Runner, S: Shelf, T: Storage> Server<R, S, T> {
+    /// Checks the resources of these names, in order; faults as at a check.
+    fn check_each<O: Lines>(&mut self, names: &[String], out: &mut O) -> Result<(), ServeFault>
+        requires ready { let view = view_of R.pairs S.failures T.holds T.knows in
+            IsReady (view self.old (O.written out.old)) }
+        requires there { AreThere (map string_bytes names.now) (resources_held (core_data self.old.core)) }
+        ensures served { let view = view_of R.pairs S.failures T.holds T.knows in
+            Calls (Items (Serves (places_data self.old.places)) (map (λ name. item.check (string_bytes name)) names.now))
+            (view self.old (O.written out.old)) (is_ok result) (view self.new (O.written out.new)) }
+        ensures kept { let view = view_of R.pairs S.failures T.holds T.knows in
+            OnOk result (IsReady (view self.new (O.written out.new))) }
+        ensures stops { let view = view_of R.pairs S.failures T.holds T.knows in
+            IfErr result (λ fault. StopsItem fault (view self.new (O.written out.new))) }
+        ensures places { self.new.places ≡ self.old.places }
+    {
+        for name in names {
+            // What a core keeps says that a check leaves its pipeline.
+            self.core.rules();
+            match self.check(name.as_str(), out) {
+                Ok(_) => {}
+                Err(fault) => return Err(fault),
+            }
+        }
+        Ok(())
+    }
+
+    /// Gives the jobs of these names their chance of a build, in order; faults as at a schedule.
+    fn schedule_each<O: Lines>(&mut self, names: &[String], out: &mut O) -> Result<(), ServeFault>
+        requires ready { let view = view_of R.pairs S.failures T.holds T.knows in
+            IsReady (view self.old (O.written out.old)) }
+        ensures served { let view = view_of R.pairs S.failures T.holds T.knows in
+            Calls (Items (Serves (places_data self.old.places))
+            (map (λ name. item.schedule (string_bytes name)) names.now))
+            (view self.old (O.written out.old)) (is_ok result) (view self.new (O.written out.new)) }
+        ensures kept { let view = view_of R.pairs S.failures T.holds T.knows in
+            OnOk result (IsReady (view self.new (O.written out.new))) }
+        ensures stops { let view = view_of R.pairs S.failures T.holds T.knows in
+            IfErr result (λ fault. StopsItem fault (view self.new (O.written out.new))) }
+        ensures places { self.new.places ≡ self.old.places }
+    {
+        for name in names {
+            match self.schedule(name.as_str(), out) {
+                Ok(()) => {}
+                Err(fault) => return Err(fault),
+            }
+        }
+        Ok(())
+    }
+
+    /// Takes so many turns; faults as at a turn.
+    fn take_turns<O: Lines>(&mut self, count: usize, out: &mut O) -> Result<(), ServeFault>
+        requires ready { let view = view_of R.pairs S.failures T.holds T.knows in
+            IsReady (view self.old (O.written out.old)) }
+        ensures served { let view = view_of R.pairs S.failures T.holds T.knows in
+            Calls (Items (Serves (places_data self.old.places)) (replicate count item.turn))
+            (view self.old (O.written out.old)) (is_ok result) (view self.new (O.written out.new)) }
+        ensures kept { let view = view_of R.pairs S.failures T.holds T.knows in
+            OnOk result (IsReady (view self.new (O.written out.new))) }
+        ensures stops { let view = view_of R.pairs S.failures T.holds T.knows in
+            IfErr result (λ fault. StopsItem fault (view self.new (O.written out.new))) }
+        ensures places { self.new.places ≡ self.old.places }
+    {
+        for _turn in 0..count {
+            match self.take_turn(out) {
+                Ok(_) => {}
+                Err(fault) => return Err(fault),
+            }
+        }
+        Ok(())
+    }
+
+    /// A round: a check of each resource, a schedule of each job, and then as many turns as builds run. Each item before
+    /// a fault stays done, with its lines.
+    ///
+    /// - `NoMemory` where a growth was refused.
+    /// - `Store` where the storage failed; then the server has closed.
+    pub(crate) fn go_round<O: Lines>(&mut self, out: &mut O) -> Result<(), ServeFault>
+        requires ready { let view = view_of R.pairs S.failures T.holds T.knows in
+            IsReady (view self.old (O.written out.old)) }
+        ensures served { let view = view_of R.pairs S.failures T.holds T.knows in
+            Calls (Round (places_data self.old.places))
+            (view self.old (O.written out.old)) (is_ok result) (view self.new (O.written out.new)) }
+        ensures kept { let view = view_of R.pairs S.failures T.holds T.knows in
+            OnOk result (IsReady (view self.new (O.written out.new))) }
+        ensures stops { let view = view_of R.pairs S.failures T.holds T.knows in
+            IfErr result (λ fault. StopsItem fault (view self.new (O.written out.new))) }
+        ensures places { self.new.places ≡ self.old.places }
+    {
+        let Ok(names) = names_held(self.alloc, &self.core) else {
+            return Err(ServeFault::NoMemory);
+        };
+        match self.check_each(&names.0, out) {
+            Ok(()) => {}
+            Err(fault) => return Err(fault),
+        }
+        match self.schedule_each(&names.1, out) {
+            Ok(()) => {}
+            Err(fault) => return Err(fault),
+        }
+        let count = self.core.running().len();
+        self.take_turns(count, out)
+    }
+
+    /// So many rounds, one after another; faults as at a round.
+    pub(crate) fn go_rounds<O: Lines>(&mut self, count: u32, out: &mut O) -> Result<(), ServeFault>
+        requires ready { let view = view_of R.pairs S.failures T.holds T.knows in
+            IsReady (view self.old (O.written out.old)) }
+        ensures served { let view = view_of R.pairs S.failures T.holds T.knows in
+            Calls (Rounds (places_data self.old.places) count)
+            (view self.old (O.written out.old)) (is_ok result) (view self.new (O.written out.new)) }
+        ensures kept { let view = view_of R.pairs S.failures T.holds T.knows in
+            OnOk result (IsReady (view self.new (O.written out.new))) }
+        ensures stops { let view = view_of R.pairs S.failures T.holds T.knows in
+            IfErr result (λ fault. StopsItem fault (view self.new (O.written out.new))) }
+        ensures places { self.new.places ≡ self.old.places }
+    {
+        for _round in 0..count {
+            match self.go_round(out) {
+                Ok(()) => {}
+                Err(fault) => return Err(fault),
+            }
+        }
+        Ok(())
+    }
+}

@@ -1,0 +1,151 @@
+//! Builds that run to their ends.
+ghost use Rattle.std.specs.Prelude.{◌≡◌, ◌∷◌, [], true, Some, Err, IfOk, IfErr, OnOk};
+ghost use Rattle.ccr_task.specs.Places.{places_data};
+ghost use Rattle.ccr_core.specs.Events as event;
+ghost use Rattle.ccr_serve.specs.Commanding.{build_status, trigger_status, CameOf, HasJob, IsFirstReply, Such};
+ghost use Rattle.ccr_serve.specs.Commands.{run, trigger_job};
+ghost use Rattle.ccr_serve.specs.Items.{Items};
+ghost use Rattle.ccr_serve.specs.Items as item;
+ghost use Rattle.ccr_serve.specs.Serving.{Serves};
+ghost use Rattle.ccr_serve.specs.Views.{view_of, Calls, IsReady, Stops};
+
+use crate::fault::ServeFault;
+use crate::items::{begin, job_room};
+use crate::server::Server;
+use ccr_core::{CoreFault, Event, Reply};
+use ccr_history::{BuildRef, History, Status};
+use ccr_lines::{Lines, tell_job};
+use ccr_process::Runner;
+use ccr_storage::Storage;
+use ccr_task::Shelf;
+
+/// The status of a command that made this build: 0 where it has succeeded.
+fn status_of_build(build: &BuildRef<'_>) -> u8
+    ensures { result ≡ build_status (Some build.now) }
+{
+    match build.status() {
+        Status::Succeeded => 0,
+        Status::Running | Status::Failed | Status::Errored | Status::Aborted => 1,
+    }
+}
+
+/// The status of a command that triggered a job, which the core replied so.
+fn status_of_reply(job: &str, reply: Reply, history: &History) -> u8
+    ensures { result ≡ trigger_status job.now reply history.now }
+{
+    match reply {
+        Reply::Made(number) => match history.build(job, number) {
+            Some(build) => status_of_build(&build),
+            None => 1,
+        },
+        Reply::OverBudget(_) => 3,
+        Reply::Set
+        | Reply::New(_)
+        | Reply::NoneSatisfies
+        | Reply::NotNew
+        | Reply::Busy
+        | Reply::Goes
+        | Reply::Ends(_)
+        | Reply::Pinned
+        | Reply::Unpinned
+        | Reply::Restarted => 1,
+    }
+}
+
+impl<R: Runner, S: Shelf, T: Storage> Server<R, S, T> {
+    /// Triggers the job of this name: the core's reply. Its lines are printed once that is stored.
+    ///
+    /// - `Core` where the core refuses it, and `NoMemory` where a growth was refused; then nothing has changed.
+    /// - `Store` where the storage failed; then the server has closed.
+    fn trigger<O: Lines>(&mut self, job: &str, out: &mut O) -> Result<Reply, ServeFault>
+        requires ready { let view = view_of R.pairs S.failures T.holds T.knows in
+            IsReady (view self.old (O.written out.old)) }
+        ensures replied { let view = view_of R.pairs S.failures T.holds T.knows in
+            IfOk result (λ reply. Calls (Such (λ old ds new. HasJob old.core job.now × IsFirstReply ds reply)
+            (Items (Serves (places_data self.old.places)) (item.tell (event.trigger job.now) ∷ [])))
+            (view self.old (O.written out.old)) true (view self.new (O.written out.new))) }
+        ensures came { let view = view_of R.pairs S.failures T.holds T.knows in
+            IfErr result (λ fault. CameOf (places_data self.old.places) (trigger_job job.now) (Err fault)
+            (view self.old (O.written out.old)) (view self.new (O.written out.new))) }
+        ensures kept { let view = view_of R.pairs S.failures T.holds T.knows in
+            OnOk result (IsReady (view self.new (O.written out.new))) }
+        ensures stops { let view = view_of R.pairs S.failures T.holds T.knows in
+            IfErr result (λ fault. Stops fault (view self.new (O.written out.new))) }
+        ensures places { self.new.places ≡ self.old.places }
+    {
+        let Ok(copy) = begin(self.alloc, job, job_room(job), out) else {
+            return Err(ServeFault::NoMemory);
+        };
+        match self.make(Event::Trigger(copy)) {
+            Ok(replied) => match replied {
+                Ok(reply) => {
+                    tell_job(out, job, reply, self.core.history());
+                    out.hand_out();
+                    Ok(reply)
+                }
+                Err(fault) => Err(ServeFault::Core(fault)),
+            },
+            Err(fault) => Err(fault),
+        }
+    }
+
+    /// Makes a build of the job of this name, and takes turns until no build runs: status 0 where it succeeded.
+    pub(crate) fn trigger_job<O: Lines>(&mut self, job: &str, out: &mut O) -> Result<u8, ServeFault>
+        requires ready { let view = view_of R.pairs S.failures T.holds T.knows in
+            IsReady (view self.old (O.written out.old)) }
+        ensures came { let view = view_of R.pairs S.failures T.holds T.knows in
+            CameOf (places_data self.old.places) (trigger_job job.now) result
+            (view self.old (O.written out.old)) (view self.new (O.written out.new)) }
+        ensures kept { let view = view_of R.pairs S.failures T.holds T.knows in
+            OnOk result (IsReady (view self.new (O.written out.new))) }
+        ensures stops { let view = view_of R.pairs S.failures T.holds T.knows in
+            IfErr result (λ fault. Stops fault (view self.new (O.written out.new))) }
+        ensures places { self.new.places ≡ self.old.places }
+    {
+        let reply = match self.trigger(job, out) {
+            Ok(reply) => reply,
+            Err(fault) => return Err(fault),
+        };
+        let ended = match self.go_to_the_end(out) {
+            Ok(ended) => ended,
+            Err(fault) => return Err(fault),
+        };
+        if ended {
+            Ok(status_of_reply(job, reply, self.core.history()))
+        } else {
+            Err(ServeFault::TurnsUsedUp)
+        }
+    }
+
+    /// Runs so many rounds, and then takes turns until no build runs.
+    pub(crate) fn run<O: Lines>(&mut self, rounds: u32, out: &mut O) -> Result<u8, ServeFault>
+        requires ready { let view = view_of R.pairs S.failures T.holds T.knows in
+            IsReady (view self.old (O.written out.old)) }
+        ensures came { let view = view_of R.pairs S.failures T.holds T.knows in
+            CameOf (places_data self.old.places) (run rounds) result
+            (view self.old (O.written out.old)) (view self.new (O.written out.new)) }
+        ensures kept { let view = view_of R.pairs S.failures T.holds T.knows in
+            OnOk result (IsReady (view self.new (O.written out.new))) }
+        ensures stops { let view = view_of R.pairs S.failures T.holds T.knows in
+            IfErr result (λ fault. Stops fault (view self.new (O.written out.new))) }
+        ensures places { self.new.places ≡ self.old.places }
+    {
+        match self.core.pipeline() {
+            Some(_) => {}
+            None => return Err(ServeFault::Core(CoreFault::NoPipeline)),
+        }
+        match self.go_rounds(rounds, out) {
+            Ok(()) => {}
+            Err(fault) => return Err(fault),
+        }
+        let ended = match self.go_to_the_end(out) {
+            Ok(ended) => ended,
+            Err(fault) => return Err(fault),
+        };
+        if ended {
+            Ok(0)
+        } else {
+            Err(ServeFault::TurnsUsedUp)
+        }
+    }
+}

@@ -1,0 +1,43 @@
+//! What a build wants, and its answer.
+ghost use Rattle.std.specs.Prelude.{◌≡◌, ◌≤◌, IfOk, OnErr, IsSome};
+ghost use Rattle.ccr_steps.specs.Asks.{answer_data};
+ghost use Rattle.ccr_task.specs.Places.{places_data};
+ghost use Rattle.ccr_core.specs.Cores.{core_data};
+ghost use Rattle.ccr_core.specs.Holding.{Stands};
+ghost use Rattle.ccr_core.specs.State.{State, running_at};
+ghost use Rattle.ccr_serve.specs.Due.{AnswersWant};
+ghost use Rattle.ccr_serve.specs.Pairs.{AddsAtMostOne};
+
+use crate::answer::answer_to;
+use ccr_core::Core;
+use ccr_process::Runner;
+use ccr_steps::Answered;
+use ccr_task::{Places, Shelf};
+use std::alloc::{AllocError, Global};
+
+/// Answers what a job's build of this number wants, which runs. Gives the turn of the answer with it.
+///
+/// The only error is want of memory; at most one pair is then the runner's that answers nothing.
+pub(crate) fn answer_wanted<R: Runner, S: Shelf>(
+    alloc: Global,
+    runner: &mut R,
+    shelf: &mut S,
+    places: &Places,
+    core: &Core,
+    job: &str,
+    number: u32,
+) -> Result<(u64, Answered), AllocError>
+    requires { (s : State) → Stands (core_data core.now) s → IsSome (running_at job.now number s.running) }
+    ensures ok { IfOk result (λ r. AnswersWant (places_data places.now) (core_data core.now) job.now number r.0
+        (answer_data r.1) (R.pairs runner.old) (R.pairs runner.new) (S.failures shelf.old) (S.failures shelf.new)) }
+    ensures err { OnErr result (AddsAtMostOne (R.pairs runner.old) (R.pairs runner.new)) }
+    ensures grows { S.failures shelf.old ≤ S.failures shelf.new }
+{
+    core.rules();
+    let (turn, ask) = core.wants(job, number).unwrap();
+    let pipeline = core.pipeline().unwrap();
+    match answer_to(alloc, runner, shelf, places, pipeline, job, number, &ask) {
+        Ok(answered) => Ok((turn, answered)),
+        Err(error) => Err(error),
+    }
+}
