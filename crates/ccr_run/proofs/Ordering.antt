@@ -1,0 +1,67 @@
+-- What words order, and its budget.
+use Rattle.std.proofs.Common.{◌≡◌, ◌∙◌, ◌≤◌, ◌&&◌, ℕ, List, Bool, true, false, Option, Some, None, Result, Ok, Err, ap, sym, refl, subst, if◌then◌else◌, nat_le, option_map, option_and_then, codes}
+use Rattle.std.proofs.lemmas.Bool.{and_parts, leb-true}
+use Rattle.std.specs.Str.Parse.{digits_value, without_leading_plus}
+use Rattle.clap.specs.declared.parser.matches.Found.{Found}
+use Rattle.clap.specs.Words.{first_value}
+use Rattle.ccr_serve.specs.declared.command.Command.{Command}
+use Rattle.ccr_serve.specs.Commands.{CommandData, command_data}
+use Rattle.ccr_command.specs.declared.options.OptionFault.{OptionFault}
+use Rattle.ccr_command.specs.Numbers.{MOST, in_range, is_numeral, numeral_of, number_of}
+use Rattle.ccr_command.specs.Options.{OptionsData, given_or, from_the_top, options_in}
+
+-- the command that was named
+pub command_is : (field : Option Command) (command : Command) (named : Option CommandData)
+    → option_map command_data field ≡ named → field ≡ Some command → named ≡ Some (command_data command)
+command_is field command named made is = sym made ∙ ap (λ f. option_map command_data f) is
+
+abbrev some_or : Option ℕ → ℕ → ℕ
+some_or (Some k) d = k
+some_or None d = d
+
+-- a number that is read is in its range
+abbrev In : ℕ → Type 0
+In b = (1 ≤ b) × (b ≤ MOST)
+
+ranged : (n b : ℕ) → in_range n ≡ Some b → In b
+ranged n b h = by (nat_le 1 n && nat_le n MOST) refl h where
+  by : (t : Bool) → nat_le 1 n && nat_le n MOST ≡ t → (if t then Some n else None) ≡ Some b → In b
+  by true e h =
+      let parts = and_parts (nat_le 1 n) (nat_le n MOST) e in
+      let same : n ≡ b = ap (λ o. some_or o n) h in
+      subst In same (leb-true 1 n parts.0, leb-true n MOST parts.1)
+  by false e h = absurd (cc)
+
+numeral_ranged : (ds : List ℕ) (b : ℕ) → numeral_of ds ≡ Some b → In b
+numeral_ranged ds b h = by (is_numeral ds) h where
+  by : (t : Bool) → (if t then in_range (digits_value 10 ds) else None) ≡ Some b → In b
+  by true h = ranged (digits_value 10 ds) b h
+  by false h = absurd (cc)
+
+read_ranged : (text : Option (List ℕ)) (b : ℕ) → option_and_then number_of text ≡ Some b → In b
+read_ranged (Some text) b h = numeral_ranged (without_leading_plus text) b h
+read_ranged None b h = absurd (cc)
+
+-- what was made of a value that is there
+abbrev Given : {A : Type 0} → Option A → (A → Result OptionsData OptionFault) → OptionsData → Type 0
+Given {A} x make o = (a : A) × (x ≡ Some a) × (make a ≡ Ok o)
+
+given : {A : Type 0} (f : OptionFault) (x : Option A) (make : A → Result OptionsData OptionFault) (o : OptionsData)
+    → given_or f x make ≡ Ok o → Given x make o
+given f (Some a) make o h = (a, refl, h)
+given f None make o h = absurd (cc)
+
+abbrev ok_or : Result OptionsData OptionFault → OptionsData → OptionsData
+ok_or (Ok o) d = o
+ok_or (Err f) d = d
+
+-- the budget of options is in its range
+pub budget_ranged : (found : Found) (o : OptionsData) → options_in found ≡ Ok o
+    → (1 ≤ o.budget) × (o.budget ≤ MOST)
+budget_ranged found o h =
+    let database = given _ (first_value found (codes "db")) _ o h in
+    let types = given _ (option_and_then from_the_top (first_value found (codes "types"))) _ o database.2 in
+    let work = given _ (option_and_then from_the_top (first_value found (codes "work"))) _ o types.2 in
+    let budget = given _ (option_and_then number_of (first_value found (codes "budget"))) _ o work.2 in
+    subst (λ (b : ℕ). In b) (ap (λ r. (ok_or r o).budget) budget.2)
+    (read_ranged (first_value found (codes "budget")) budget.0 budget.1)

@@ -1,0 +1,24 @@
+use Rattle.std.proofs.Common.{map, string_bytes, subst}
+use Rattle.clap.specs.Words.{HasMatchesOf, found_of}
+use Rattle.ccr_command.specs.Commands.{command_in}
+use Rattle.ccr_command.specs.Options.{options_data}
+use Rattle.ccr_run.proofs.Ordering.{command_is, budget_ranged}
+use Rattle.ccr_run.proofs.order.order_of.Goals as goal
+
+pub returns-in-Some-clause-ordered : goal.returns-in-Some-clause-ordered
+returns-in-Some-clause-ordered c =
+    let matches =
+    subst (λ a. HasMatchesOf a (map string_bytes c.args.words.now) c.in-Ok.matches)
+    c.in_ok-line.ensures c.in-Ok.ensures.matches in
+    let command =
+    command_is c.in_ok-command.field-0 c.in-Some.command (command_in c.in-Ok.matches)
+    c.in_ok-command.ensures c.in-Some.is in
+    (c.in-Ok.matches, matches, c.in-Ok-options_of.ensures, command)
+
+pub returns-in-Some-clause-least : goal.returns-in-Some-clause-least
+returns-in-Some-clause-least c =
+    (budget_ranged (found_of c.in-Ok.matches) (options_data c.in-Ok-options_of.options) c.in-Ok-options_of.ensures).0
+
+pub returns-in-Some-clause-most : goal.returns-in-Some-clause-most
+returns-in-Some-clause-most c =
+    (budget_ranged (found_of c.in-Ok.matches) (options_data c.in-Ok-options_of.options) c.in-Ok-options_of.ensures).1

@@ -1,0 +1,5 @@
+pub mod Databases
+pub mod Hints
+pub mod Orders
+pub mod Refusals
+pub mod Statuses

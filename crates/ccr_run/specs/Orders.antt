@@ -1,0 +1,16 @@
+-- What the program's words order.
+use Rattle.std.specs.Prelude.{◌≡◌, ℕ, List, Some, Ok}
+use Rattle.clap.specs.declared.parser.matches.ArgMatches.{ArgMatches}
+use Rattle.clap.specs.Words.{HasMatchesOf, Text, found_of}
+use Rattle.ccr_serve.specs.Commands.{command_data}
+use Rattle.ccr_command.specs.Commands.{command_in}
+use Rattle.ccr_command.specs.Options.{options_data, options_in}
+use Rattle.ccr_command.specs.Usage.{line}
+use Rattle.ccr_run.specs.declared.order.Order.{Order}
+
+-- WHAT WORDS ORDER: the options and the command of their matches by the command line
+abbrev pub IsOrdered : List Text → Order → Type 0
+IsOrdered words order =
+    (m : ArgMatches) × HasMatchesOf line words m
+    × (options_in (found_of m) ≡ Ok (options_data order.options))
+    × (command_in m ≡ Some (command_data order.command))

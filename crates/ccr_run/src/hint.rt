@@ -1,0 +1,49 @@
+//! What to do about a refusal.
+ghost use Rattle.std.specs.Prelude.{◌≡◌, option_map};
+ghost use Rattle.ccr_run.specs.Hints as spec;
+
+use crate::failure::Failure;
+use ccr_core::CoreFault;
+use ccr_serve::ServeFault;
+use ccr_store::StoreFault;
+
+/// What to do about a fault of the server, where that helps.
+fn of_server(fault: &ServeFault) -> Option<&'static str>
+    ensures { option_map (λ hint. hint.now) result ≡ spec.of_server fault.now }
+{
+    match fault {
+        ServeFault::Core(CoreFault::NoPipeline) => Some(
+            "set one with: ccr_run --db FILE set-pipeline PIPELINE.json",
+        ),
+        ServeFault::Read(_) => Some("docs/FORMATS.md describes the format of a pipeline"),
+        ServeFault::BadPin => Some("a pin is a JSON object of texts, as {\"ref\":\"61cbef\"}"),
+        ServeFault::Store(StoreFault::NotOurs) => Some(
+            "the file isn't a database of ccr_run; name another one",
+        ),
+        _ => None,
+    }
+}
+
+/// What to do about a status of a command, where that helps.
+fn of_status(status: u8) -> Option<&'static str>
+    ensures { option_map (λ hint. hint.now) result ≡ spec.of_status status }
+{
+    if status == 3 {
+        Some("--budget N allows more, up to 1000000")
+    } else {
+        None
+    }
+}
+
+/// What to do about how a command ended, where that helps.
+pub fn hint_of(end: &Result<u8, Failure>) -> Option<&'static str>
+    ensures { option_map (λ hint. hint.now) result ≡ spec.hint_of end.now }
+{
+    match end {
+        Ok(status) => of_status(*status),
+        Err(Failure::Locked) => Some(
+            "another program has the database open; try again when it has ended",
+        ),
+        Err(Failure::Refused(fault)) => of_server(fault),
+    }
+}

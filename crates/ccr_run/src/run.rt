@@ -1,0 +1,86 @@
+//! A command is done.
+ghost use Rattle.std.specs.Prelude.{◌≡◌, ◌≤◌, ◌++◌, [], false};
+ghost use Rattle.ccr_proof.specs.declared.proof.TheConstants.{MOST_NODES};
+ghost use Rattle.ccr_task.specs.Places.{places_data};
+ghost use Rattle.ccr_serve.specs.Commanding.{CameOf};
+ghost use Rattle.ccr_serve.specs.Commands.{command_data};
+ghost use Rattle.ccr_serve.specs.Views.{view_of, IsReady};
+
+use crate::database::{Database, open};
+use crate::failure::Failure;
+use crate::order::Order;
+use ccr_command::Options;
+use ccr_lines::{Lines, Printed};
+use ccr_process::{Machine, Runner};
+use ccr_serve::{Command, ServeFault, Server};
+use ccr_storage::Storage;
+use ccr_task::{Folders, Places, Shelf};
+use std::alloc::{AllocError, Global};
+use std::io;
+use std::io::Write;
+
+/// What came of an order.
+#[derive(Debug, Drop)]
+pub struct Outcome {
+    /// The command's status, or why it has none.
+    pub end: Result<u8, Failure>,
+    /// Whether all lines went out.
+    pub is_printed: bool,
+}
+
+/// The server's two folders.
+fn places_of(alloc: Global, options: &Options<'_>) -> Result<Places, AllocError> {
+    Ok(Places {
+        types: String::from_str(alloc, options.types)?,
+        work: String::from_str(alloc, options.work)?,
+    })
+}
+
+/// Has a server do a command, and hands all its lines out.
+fn command<R: Runner, S: Shelf, T: Storage, W: Write>(
+    server: &mut Server<R, S, T>,
+    command: &Command,
+    out: &mut Printed<W>,
+) -> Result<u8, ServeFault>
+    requires ready { let view = view_of R.pairs S.failures T.holds T.knows in
+        IsReady (view server.old (out.old.shown ++ out.old.waiting)) }
+    ensures came { let view = view_of R.pairs S.failures T.holds T.knows in
+        CameOf (places_data server.old.places) (command_data command.now) result
+        (view server.old (out.old.shown ++ out.old.waiting)) (view server.new (out.new.shown ++ out.new.waiting)) }
+    ensures printed { out.new.failed ≡ false → out.new.waiting ≡ [] }
+{
+    let end = server.command(command, out);
+    out.hand_out();
+    end
+}
+
+/// Opens the database, and has a server over it do the command.
+fn serve<W: Write>(rt: &HostRuntime, order: &Order<'_>, out: &mut Printed<W>) -> Result<u8, Failure>
+    requires least { 1 ≤ order.now.options.budget }
+    requires most { order.now.options.budget ≤ MOST_NODES }
+{
+    let alloc = rt.alloc();
+    let Ok(places) = places_of(alloc, &order.options) else {
+        return Err(Failure::Refused(ServeFault::NoMemory));
+    };
+    let conn = open(rt, order.options.database)?;
+    let (database, history) = Database::load(alloc, conn)?;
+    let machine = Machine::new(rt, alloc);
+    let folders = Folders::new(rt, alloc);
+    let budget = order.options.budget;
+    let mut server = Server::open(alloc, machine, folders, database, history, places, budget)?;
+    Ok(command(&mut server, &order.command, out)?)
+}
+
+/// Does what is ordered. The lines go to standard output as they come.
+pub fn run(rt: &HostRuntime, order: &Order<'_>) -> Outcome
+    requires least { 1 ≤ order.now.options.budget }
+    requires most { order.now.options.budget ≤ MOST_NODES }
+{
+    let mut out = Printed::new(rt.alloc(), io::writer(rt));
+    let end = serve(rt, order, &mut out);
+    Outcome {
+        end,
+        is_printed: !out.has_failed(),
+    }
+}
