@@ -134,34 +134,6 @@ calls_none S v ready s h = record {
   stands = (ready.is_open, h, refl, refl);
 }
 
--- an item was done, which led to a state that the core stands for
-pub called_one : (S : Serve) (i : Item) (old new : View) (s after : State) (d : Done)
-    → S i (world_of old s) d (world_of new after) → Stands new.core after
-    → new.pairs ≡ old.pairs ++ option_to_list d.pair → new.lines ≡ old.lines ++ d.lines → IsReady new
-    → Called (Items S (i ∷ [])) old s true new
-called_one S i old new s after d serves stands pairs lines ready = record {
-  dones = d ∷ [];
-  now = world_of new after;
-  does = (world_of new after, serves, refl);
-  lost = [];
-  pairs = pairs
-      ∙ ap (λ ps. old.pairs ++ ps)
-      (sym (append-nil (option_to_list d.pair ++ []) ∙ append-nil (option_to_list d.pair)));
-  few = refl;
-  lines = lines ∙ ap (λ ls. old.lines ++ ls) (sym (append-nil d.lines));
-  holds = subst new.holds stands.0 ready.holds;
-  stands = (ready.is_open, stands, refl, refl);
-}
-
--- from each state an item was done, which led to a state that the core stands for
-pub calls_one : (S : Serve) (i : Item) (old new : View)
-    → ((s : State) → Stands old.core s → (after : State) × (d : Done)
-    × S i (world_of old s) d (world_of new after) × Stands new.core after
-    × (new.pairs ≡ old.pairs ++ option_to_list d.pair) × (new.lines ≡ old.lines ++ d.lines))
-    → IsReady new → Calls (Items S (i ∷ [])) old true new
-calls_one S i old new one ready s h = let o = one s h in
-    called_one S i old new s o.0 o.1 o.2 o.3 o.4 o.5 ready
-
 -- nothing was done of the items
 pub calls_cut : (S : Serve) (is : List Item) (old new : View) (lost : List Pair)
     → new.pairs ≡ old.pairs ++ lost → length lost ≤ 1 → new.lines ≡ old.lines → new.holds old.core.history

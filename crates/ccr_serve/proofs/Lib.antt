@@ -13,7 +13,6 @@ mod Triggering
 mod Standing
 mod Refusing
 mod Told
-mod Checked
 mod Shows
 mod Ranks
 mod Nexts
