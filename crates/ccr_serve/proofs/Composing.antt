@@ -3,7 +3,7 @@ use Rattle.std.proofs.Common.{◌≡◌, ◌≤◌, ◌++◌, ℕ, List, [], ◌
 use Rattle.ccr_process.specs.Runs.{Pair}
 use Rattle.ccr_core.specs.Holding.{Stands}
 use Rattle.ccr_core.specs.State.{State}
-use Rattle.ccr_serve.specs.Items.{World, Item, Done, Serve, Each, Part, Items, Both, Then, pairs_of, lines_of_all}
+use Rattle.ccr_serve.specs.Items.{World, Item, Done, Serve, Each, Part, Items, Then, pairs_of, lines_of_all}
 use Rattle.ccr_serve.specs.Views.{View, world_of, IsReady, StandsAt, Called, Calls}
 
 pub pairs_of-append : (ds es : List Done) → pairs_of (ds ++ es) ≡ pairs_of ds ++ pairs_of es

@@ -1,16 +1,15 @@
 -- Turns until no build runs.
-use Rattle.std.proofs.Common.{◌≡◌, ◌≢◌, ◌≤◌, ◌<◌, ◌+◌, ◌++◌, ℕ, zero, suc, List, [], ◌∷◌, length, replicate, Bool, true, false, IsSome, refl, sym, ◌∙◌, ap, subst, arith, append-nil, inl, inr}
+use Rattle.std.proofs.Common.{◌≡◌, ◌≢◌, ◌≤◌, ◌<◌, ◌+◌, ◌++◌, ℕ, List, [], ◌∷◌, replicate, Bool, true, false, IsSome, refl, sym, subst, arith, inl, inr}
 use Rattle.std.proofs.lemmas.List.{replicate-append-replicate}
-use Rattle.std.specs.List.{AllByRecursion}
 use Rattle.ccr_core.specs.Holding.{AreRuns}
-use Rattle.ccr_core.specs.State.{RunningData, State}
+use Rattle.ccr_core.specs.State.{RunningData}
 use Rattle.ccr_history.specs.Text.{Text}
 use Rattle.ccr_steps.specs.Runs.{RunData}
 use Rattle.ccr_task.specs.Places.{PlacesData}
-use Rattle.ccr_serve.specs.Items.{World, Item, turn, Done, Each, Part, Items, Then}
+use Rattle.ccr_serve.specs.Items.{World, turn, Done, Each, Part, Items, Then}
 use Rattle.ccr_serve.specs.Runs.{AllMade, TurnsMade, MOST_TURNS, ToTheEnd, UsedUp, TurnsTo}
 use Rattle.ccr_serve.specs.Serving.{Serves}
-use Rattle.ccr_serve.specs.Views.{View, world_of, IsReady, Called, Calls}
+use Rattle.ccr_serve.specs.Views.{View, world_of, IsReady, Calls}
 use Rattle.ccr_serve.proofs.Composing.{each-append, called_then, called_to, called_as, calls_as, calls_none}
 
 -- so many turns that each made an event

@@ -1,8 +1,8 @@
 -- Items of a list, one after another.
-use Rattle.std.proofs.Common.{◌≡◌, ◌≤◌, ◌<◌, ◌+◌, ◌-◌, ◌++◌, ℕ, zero, suc, List, [], ◌∷◌, length, take, drop, get_or, map, replicate, Bool, true, false, refl, sym, ◌∙◌, ap, subst, arith, append-nil, append_assoc, inl, inr, add-one}
+use Rattle.std.proofs.Common.{◌≡◌, ◌<◌, ◌+◌, ◌-◌, ◌++◌, ℕ, List, [], ◌∷◌, length, take, drop, get_or, map, replicate, Bool, true, false, refl, sym, ◌∙◌, ap, subst, arith, append_assoc, inl, inr}
 use Rattle.std.proofs.lemmas.List.{take_more, map-append, take-append-drop, replicate_more, replicate-append-replicate}
-use Rattle.ccr_serve.specs.Items.{World, Item, Done, Serve, Each, Part, Items, Then}
-use Rattle.ccr_serve.specs.Views.{View, IsReady, Calls}
+use Rattle.ccr_serve.specs.Items.{World, Item, Done, Serve, Each, Items, Then}
+use Rattle.ccr_serve.specs.Views.{View, Calls}
 use Rattle.ccr_serve.proofs.Composing.{each-append, calls_then, calls_as}
 
 take_all : {A : Type 0} (xs : List A) → take (length xs) xs ≡ xs

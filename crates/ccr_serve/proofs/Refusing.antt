@@ -1,5 +1,5 @@
 -- Commands that are refused, or that are kept from beginning.
-use Rattle.std.proofs.Common.{◌≡◌, ◌≤◌, ◌⊎◌, ℕ, List, [], length, false, Option, None, Some, IsSome, unwrap_or, Err, refl, sym, ◌∙◌, ap, subst, append-nil, arith, inl, inr}
+use Rattle.std.proofs.Common.{◌≡◌, ◌≤◌, ℕ, [], length, false, Option, None, Some, IsSome, unwrap_or, Err, refl, sym, ◌∙◌, ap, subst, append-nil, arith, inl, inr}
 use Rattle.ccr_history.specs.Text.{Text}
 use Rattle.ccr_process.specs.Runs.{Pair}
 use Rattle.ccr_problem.specs.ProblemOf.{resource_of, job_of}
@@ -15,11 +15,11 @@ use Rattle.ccr_serve.specs.Commands.{CommandData}
 use Rattle.ccr_serve.specs.Items.{Items}
 use Rattle.ccr_serve.specs.Lacking.{LacksResource, LacksJob}
 use Rattle.ccr_serve.specs.Serving.{Serves}
-use Rattle.ccr_serve.specs.Views.{View, world_of, IsReady, Calls, StandsAt, Made, Unmade, Stops, StopsItem}
+use Rattle.ccr_serve.specs.Views.{View, world_of, IsReady, Calls, StandsAt, Made, Stops, StopsItem}
 use Rattle.ccr_serve.specs.declared.fault.ServeFault.{ServeFault}
 use Rattle.ccr_serve.specs.declared.fault.ServeFault.TheVariants as fault
 use Rattle.ccr_serve.proofs.Composing.{calls_back}
-use Rattle.ccr_serve.proofs.Steps.{after, printed, items_stop, calls_stop, cut_by_memory, none_added}
+use Rattle.ccr_serve.proofs.Steps.{after, printed, items_stop, cut_by_memory, none_added}
 
 -- ---- nothing was done
 -- a server that has done nothing refuses

@@ -1,16 +1,16 @@
 -- The parts of a round, and rounds one after another.
 use Rattle.std.proofs.Common.{◌≡◌, ◌≤◌, ◌<◌, ◌+◌, ◌++◌, ℕ, zero, suc, List, [], ◌∷◌, length, map, replicate, Bool, true, false, Option, String, string_bytes, unwrap_or, refl, sym, ◌∙◌, ap, subst, arith, append-nil, append_assoc, inl, inr, add-one}
 use Rattle.std.specs.declared.alloc.Global.{Global}
-use Rattle.ccr_core.specs.Holding.{AreRuns, Stands}
-use Rattle.ccr_core.specs.State.{RunningData, State, no_pipeline}
+use Rattle.ccr_core.specs.Holding.{AreRuns}
+use Rattle.ccr_core.specs.State.{RunningData, no_pipeline}
 use Rattle.ccr_history.specs.Text.{Text}
 use Rattle.ccr_pipeline.specs.Pipelines.{PipelineData}
 use Rattle.ccr_task.specs.Places.{PlacesData}
-use Rattle.ccr_serve.specs.Items.{World, Item, check, schedule, turn, Done, Each, Part, Items, Both, Then}
+use Rattle.ccr_serve.specs.Items.{World, Item, check, schedule, turn, Done, Each, Items, Then}
 use Rattle.ccr_serve.specs.Runs.{checks_and_schedules, TurnOfEach, Round, Rounds}
 use Rattle.ccr_serve.specs.Serving.{Serves}
 use Rattle.ccr_serve.specs.Views.{View, world_of, Called, Calls}
-use Rattle.ccr_serve.proofs.Composing.{called_then, called_as, calls_then, calls_as, calls_first}
+use Rattle.ccr_serve.proofs.Composing.{called_then, called_as, calls_then, calls_as}
 use Rattle.ccr_serve.proofs.Loops.{calls_both, calls_cut_before}
 
 -- a job's build and its number

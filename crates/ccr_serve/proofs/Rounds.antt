@@ -1,5 +1,5 @@
 -- A round's checks and schedules: an item for each name of a list.
-use Rattle.std.proofs.Common.{◌≡◌, ◌<◌, ◌+◌, ℕ, zero, suc, List, [], ◌∷◌, length, take, get_or, map, Bool, true, false, cond, Option, Some, IsSome, String, string_bytes, bytes_eq, unwrap_or, refl, sym, ap, subst, arith}
+use Rattle.std.proofs.Common.{◌≡◌, ◌<◌, ◌+◌, ℕ, zero, suc, List, [], ◌∷◌, length, take, get_or, map, Bool, true, false, cond, Option, Some, IsSome, String, string_bytes, bytes_eq, unwrap_or, refl, sym, subst, arith}
 use Rattle.std.proofs.lemmas.Slice.Eq.{bytes_eq-Decides}
 use Rattle.std.specs.declared.alloc.Global.{Global}
 use Rattle.ccr_core.specs.State.{no_pipeline}

@@ -6,16 +6,16 @@ use Rattle.ccr_history.specs.TextMap.{TextMap}
 use Rattle.ccr_task.specs.Places.{PlacesData}
 use Rattle.ccr_core.specs.declared.reply.Reply.TheVariants.{New}
 use Rattle.ccr_core.specs.Events.{checked}
-use Rattle.ccr_core.specs.Holding.{Stands, IsReached}
+use Rattle.ccr_core.specs.Holding.{IsReached}
 use Rattle.ccr_core.specs.Replies.{Replied}
 use Rattle.ccr_core.specs.State.{RunningData, State}
 use Rattle.ccr_core.specs.Steps.{Step}
 use Rattle.ccr_serve.specs.Found.{FoundData, found}
 use Rattle.ccr_serve.specs.Found as what_is
-use Rattle.ccr_serve.specs.Items.{World, check, turn, Done, Each, Items}
+use Rattle.ccr_serve.specs.Items.{World, check, Done, Each, Items}
 use Rattle.ccr_serve.specs.Serving.{Reports, TakesTurn, Serves}
 use Rattle.ccr_serve.specs.Turns.{rank_in, next_after}
-use Rattle.ccr_serve.specs.Views.{View, world_of, Called, Calls}
+use Rattle.ccr_serve.specs.Views.{View, world_of, Calls}
 use Rattle.ccr_serve.proofs.Ending.{MakesEvents}
 
 -- ---- turns

@@ -1,5 +1,5 @@
 -- Commands of one event: pins, and pipelines.
-use Rattle.std.proofs.Common.{◌≡◌, ◌≢◌, ◌≤◌, ◌++◌, ◌⊎◌, ℕ, List, [], ◌∷◌, true, false, Option, None, Some, IsSome, unwrap_or, codes, Ok, Err, refl, sym, ◌∙◌, ap, subst, arith, inl, inr}
+use Rattle.std.proofs.Common.{◌≡◌, ◌≤◌, ◌++◌, ℕ, List, [], ◌∷◌, true, Option, None, Some, IsSome, unwrap_or, codes, Ok, Err, refl, sym, ◌∙◌, ap, subst, arith, inl, inr}
 use Rattle.std.specs.Option.{option_map_or}
 use Rattle.ccr_history.specs.Text.{Text}
 use Rattle.ccr_history.specs.TextMap.{TextMap}
@@ -22,11 +22,11 @@ use Rattle.ccr_core.specs.State.{State, no_pipeline, resources_of}
 use Rattle.ccr_core.specs.Steps.{Step}
 use Rattle.ccr_lines.specs.Lines.{line, lines_of, pipeline_lines}
 use Rattle.ccr_serve.specs.Commanding.{pin_in, HasResource, Commanded, IsRefused, CameOf}
-use Rattle.ccr_serve.specs.Commands.{CommandData, set_pipeline, pin_resource, unpin_resource}
-use Rattle.ccr_serve.specs.Items.{World, Done, Part}
+use Rattle.ccr_serve.specs.Commands.{set_pipeline, pin_resource, unpin_resource}
+use Rattle.ccr_serve.specs.Items.{World, Done}
 use Rattle.ccr_serve.specs.Reads.{KeepsFromReading}
-use Rattle.ccr_serve.specs.Serving.{Tells, Serves}
-use Rattle.ccr_serve.specs.Views.{View, world_of, resources_held, IsReady, Calls, Made}
+use Rattle.ccr_serve.specs.Serving.{Tells}
+use Rattle.ccr_serve.specs.Views.{View, resources_held, IsReady, Made}
 use Rattle.ccr_serve.specs.declared.fault.ServeFault.{ServeFault}
 use Rattle.ccr_serve.specs.declared.fault.ServeFault.TheVariants as fault
 use Rattle.ccr_serve.proofs.Refusing.{some_if, refused_at_once, refused_after, refused_by_core}

@@ -1,24 +1,22 @@
 -- The event that triggers a job: made, refused, or kept away.
-use Rattle.std.proofs.Common.{◌≡◌, ◌≢◌, ◌≤◌, ◌<◌, ◌++◌, ◌⊎◌, ℕ, List, [], ◌∷◌, length, true, false, Option, Some, None, IsSome, Ok, Err, refl, sym, ap, subst, ◌∙◌, append-nil, arith, inl, inr}
+use Rattle.std.proofs.Common.{◌≡◌, ◌<◌, ◌++◌, ℕ, [], ◌∷◌, true, Option, Some, IsSome, Ok, Err, refl, sym, ap, subst, ◌∙◌, arith, inl}
 use Rattle.ccr_core.specs.declared.fault.CoreFault.{CoreFault}
 use Rattle.ccr_core.specs.declared.fault.CoreFault.TheVariants as core_fault
 use Rattle.ccr_core.specs.declared.reply.Reply.{Reply}
 use Rattle.ccr_core.specs.Events.{EventData}
 use Rattle.ccr_core.specs.Events as event
-use Rattle.ccr_core.specs.Faults.{MayRefuse, IsFirstFault}
-use Rattle.ccr_core.specs.Holding.{Stands}
+use Rattle.ccr_core.specs.Faults.{IsFirstFault}
 use Rattle.ccr_core.specs.Replies.{Replied}
 use Rattle.ccr_core.specs.State.{State}
 use Rattle.ccr_core.specs.Steps.{Step}
 use Rattle.ccr_history.specs.Text.{Text}
 use Rattle.ccr_lines.specs.Lines.{lines_of}
-use Rattle.ccr_process.specs.Runs.{Pair}
 use Rattle.ccr_task.specs.Places.{PlacesData}
-use Rattle.ccr_serve.specs.Commanding.{HasJob, IsFirstReply, IsRefused, Commanded, CameOf}
+use Rattle.ccr_serve.specs.Commanding.{HasJob, IsRefused, Commanded, CameOf}
 use Rattle.ccr_serve.specs.Commands.{trigger_job}
-use Rattle.ccr_serve.specs.Items.{World, Done, tell, Items}
-use Rattle.ccr_serve.specs.Serving.{Tells, Serves}
-use Rattle.ccr_serve.specs.Views.{View, world_of, IsReady, StandsAt, Called, Calls, Made}
+use Rattle.ccr_serve.specs.Items.{World, Done, tell}
+use Rattle.ccr_serve.specs.Serving.{Tells}
+use Rattle.ccr_serve.specs.Views.{View, Calls, Made}
 use Rattle.ccr_serve.specs.declared.fault.ServeFault.TheVariants as fault
 use Rattle.ccr_serve.proofs.Refusing.{some_if, refused_by_core}
 use Rattle.ccr_serve.proofs.RunParts.{Triggered}

@@ -1,5 +1,5 @@
 -- What commands do, and how they are refused.
-use Rattle.std.specs.Prelude.{◌≡◌, ◌≢◌, ◌⊎◌, ℕ, List, [], ◌∷◌, Bool, true, false, Option, Some, None, IsSome, option_and_then, codes, string_bytes, Result, Ok, Err, if◌then◌else◌, ⊤}
+use Rattle.std.specs.Prelude.{◌≡◌, ◌≢◌, ◌⊎◌, ℕ, List, [], ◌∷◌, true, false, Option, Some, None, IsSome, option_and_then, codes, string_bytes, Result, Ok, Err, ⊤}
 use Rattle.serde_json.specs.Read.{read as json}
 use Rattle.ccr_history.specs.Text.{Text}
 use Rattle.ccr_history.specs.TextMap.{TextMap, text_map_of}
@@ -15,7 +15,6 @@ use Rattle.ccr_pipeline.specs.declared.fault.ReadFault.TheVariants.{TooLong}
 use Rattle.ccr_problem.specs.ProblemOf.{resource_of, job_of}
 use Rattle.ccr_task.specs.Places.{PlacesData}
 use Rattle.ccr_task.specs.Shelves.{Rose}
-use Rattle.ccr_core.specs.declared.fault.CoreFault.{CoreFault}
 use Rattle.ccr_core.specs.declared.fault.CoreFault.TheVariants.{NoPipeline, NoJob, NoResource, BuildsOpen, TooManyOpen, TableFull}
 use Rattle.ccr_core.specs.declared.reply.Reply.{Reply}
 use Rattle.ccr_core.specs.declared.reply.Reply.TheVariants.{New, Made, OverBudget}
@@ -29,8 +28,8 @@ use Rattle.ccr_serve.specs.declared.fault.ServeFault.{ServeFault}
 use Rattle.ccr_serve.specs.declared.fault.ServeFault.TheVariants.{Core, Store, Read, File, BadPin, NoMemory, TurnsUsedUp}
 use Rattle.ccr_serve.specs.Commands.{CommandData, set_pipeline, check_resource, resource_versions, pin_resource, unpin_resource, resolve, trigger_job, builds, run}
 use Rattle.ccr_serve.specs.Commands as command
-use Rattle.ccr_serve.specs.Items.{World, Item, check, tell, show, Done, Each, Part, Items, Then}
-use Rattle.ccr_serve.specs.Runs.{Rounds, ToTheEnd, UsedUp, Run, TriggerAndRun}
+use Rattle.ccr_serve.specs.Items.{World, check, tell, show, Done, Each, Part, Items, Then}
+use Rattle.ccr_serve.specs.Runs.{Rounds, UsedUp, Run, TriggerAndRun}
 use Rattle.ccr_serve.specs.Serving.{Serves}
 use Rattle.ccr_serve.specs.Views.{View, Calls}
 

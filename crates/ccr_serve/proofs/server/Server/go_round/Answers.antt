@@ -1,4 +1,4 @@
-use Rattle.std.proofs.Common.{◌≡◌, ◌∙◌, true, false, map, length, replicate, string_bytes, is_ok, sym, ap}
+use Rattle.std.proofs.Common.{◌∙◌, true, false, map, length, replicate, string_bytes, is_ok, sym, ap}
 use Rattle.std.proofs.lemmas.List.{length-map}
 use Rattle.ccr_core.specs.Cores.{core_data}
 use Rattle.ccr_core.specs.Holding.{name_data}

@@ -1,12 +1,10 @@
-use Rattle.std.proofs.Common.{◌≡◌, ◌∙◌, [], ◌∷◌, true, false, replicate, ap, refl, subst, arith}
+use Rattle.std.proofs.Common.{◌≡◌, ◌∙◌, true, false, ap, refl, subst, arith}
 use Rattle.ccr_task.specs.Places.{places_data}
-use Rattle.ccr_serve.specs.Items.{Items, turn}
 use Rattle.ccr_serve.specs.Runs.{Round, Rounds}
 use Rattle.ccr_serve.specs.Serving.{Serves}
 use Rattle.ccr_serve.specs.Views.{view_of, Calls}
 use Rattle.ccr_serve.proofs.Composing.{calls_none}
 use Rattle.ccr_serve.proofs.RoundParts.{rounds_more, rounds_stop}
-use Rattle.ccr_serve.proofs.Rounds.{at_places}
 use Rattle.ccr_serve.proofs.server.Server.go_rounds.Goals as goal
 
 pub loop-round-init : goal.loop-round-init

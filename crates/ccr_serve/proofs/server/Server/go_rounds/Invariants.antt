@@ -1,8 +1,6 @@
-use Rattle.std.proofs.Common.{◌≡◌, true, replicate}
+use Rattle.std.proofs.Common.{◌≡◌, true}
 use Rattle.ccr_task.specs.Places.{places_data}
-use Rattle.ccr_serve.specs.Items.{Items, turn}
 use Rattle.ccr_serve.specs.Runs.{Rounds}
-use Rattle.ccr_serve.specs.Serving.{Serves}
 use Rattle.ccr_serve.specs.Views.{view_of, Calls, IsReady}
 use Rattle.ccr_serve.proofs.server.Server.go_rounds.Given as goal
 

@@ -1,12 +1,10 @@
-use Rattle.std.proofs.Common.{◌≡◌, ◌∙◌, true, false, length, ap, refl, arith}
-use Rattle.ccr_core.specs.Cores.{core_data}
+use Rattle.std.proofs.Common.{◌≡◌, ◌∙◌, length, ap, refl, arith}
 use Rattle.ccr_task.specs.Places.{places_data}
 use Rattle.ccr_serve.specs.Items.{schedule}
 use Rattle.ccr_serve.specs.Serving.{Serves}
 use Rattle.ccr_serve.specs.Views.{view_of}
 use Rattle.ccr_serve.proofs.Composing.{calls_none}
-use Rattle.ccr_serve.proofs.Rounds.{unnoted, names_done, name_more, name_stop, name_there}
-use Rattle.ccr_serve.proofs.Staying.{check_keeps_pipeline}
+use Rattle.ccr_serve.proofs.Rounds.{names_done, name_more, name_stop}
 use Rattle.ccr_serve.proofs.server.Server.schedule_each.Goals as goal
 
 pub loop-name-init : goal.loop-name-init

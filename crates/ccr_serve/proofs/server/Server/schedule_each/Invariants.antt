@@ -1,5 +1,4 @@
 use Rattle.std.proofs.Common.{◌≡◌, true, map, take, string_bytes}
-use Rattle.ccr_core.specs.Cores.{core_data}
 use Rattle.ccr_task.specs.Places.{places_data}
 use Rattle.ccr_serve.specs.Items.{Items, schedule}
 use Rattle.ccr_serve.specs.Serving.{Serves}

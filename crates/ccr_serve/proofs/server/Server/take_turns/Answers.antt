@@ -1,7 +1,6 @@
 use Rattle.std.proofs.Common.{◌≡◌, ◌∙◌, [], ◌∷◌, true, false, replicate, ap, refl, subst, arith}
 use Rattle.ccr_task.specs.Places.{places_data}
 use Rattle.ccr_serve.specs.Items.{Items, turn}
-use Rattle.ccr_serve.specs.Runs.{Round, Rounds}
 use Rattle.ccr_serve.specs.Serving.{Serves}
 use Rattle.ccr_serve.specs.Views.{view_of, Calls}
 use Rattle.ccr_serve.proofs.Composing.{calls_none}
