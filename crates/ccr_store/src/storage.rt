@@ -18,7 +18,11 @@ impl<S: Alter> Storage for Store<S> {
 
     ghost knows = { λ store h. IsOutline h store.outline };
 
+    // A change of nothing needs no transaction, which would wait for the disk.
     fn commit(&mut self, alloc: Global, change: &[Edit]) -> Result<(), StoreFault> {
+        if change.is_empty() {
+            return Ok(());
+        }
         Store::commit(self, alloc, change)
     }
 }
