@@ -6,6 +6,7 @@ use Rattle.std.proofs.lemmas.List.{get_or_default, get_or-drop, length-drop}
 use Rattle.std.proofs.lemmas.List.Elements.{All-append, All-cons, All-nil, Contains-append_left, Contains-append_right}
 use Rattle.std.proofs.lemmas.Option.{get_or_from_slice_get}
 use Rattle.ccr_choice.specs.Problem.{ProblemValue, BuildValue, is_problem, input_at, builds_at}
+use Rattle.ccr_choice.specs.Satisfies.{Satisfies}
 use Rattle.ccr_choice.specs.Preference.{plain, order_of, IsBetter}
 use Rattle.ccr_choice.specs.Assignment.{Assignment, Agrees, with_build}
 use Rattle.ccr_choice.specs.Possible.{CanHavePassed, IsPossible, IsBestPossible, IsBestPlace}
@@ -17,7 +18,7 @@ use Rattle.ccr_proof.proofs.Sound.{AreKnown, place_possible}
 use Rattle.ccr_index.specs.Rows.{no_build, last_with}
 use Rattle.ccr_index.proofs.RowLaws.{last_within, last_has, none_newer}
 use Rattle.ccr_resolve.specs.Search.{AreUpper}
-use Rattle.ccr_resolve.specs.Sought.{IsRuledOut, HasAll, AreWanted, IsSplit}
+use Rattle.ccr_resolve.specs.Sought.{IsRuledOut, HasAll, HasAllOf, AreWanted, AreSources, IsSplit}
 use Rattle.ccr_resolve.proofs.Path.{known_of}
 
 -- ---- from a build with a pair to the next older one
@@ -179,10 +180,8 @@ agrees_less a j b builds free agrees k c e =
       | inr other ↦ agrees k c (cond-false (k == j) (Some b) (a k) other ∙ e)
     ]
 
-module _ (p : ProblemValue) (rules : is_problem p ≡ true) (table upper best : List ℕ) (i j : ℕ) (list : List ℕ)
-    (uppers : AreUpper p (assigned p table) upper) (inside : i < length p.inputs) (named : Contains (input_at p i).jobs j) (free : slice_index table j ≡ 0) (wide : j < length table)
-    (same : (y : ℕ) → y < i → slice_index upper y ≡ slice_index best y)
-    (wanted : AreWanted (builds_at p j) (input_at p i).scope (slice_index best i) (slice_index upper i) list) where
+module _ (p : ProblemValue) (rules : is_problem p ≡ true) (table : List ℕ) (i j : ℕ)
+    (inside : i < length p.inputs) (named : Contains (input_at p i).jobs j) (free : slice_index table j ≡ 0) (wide : j < length table) where
   known_with : (k : ℕ) (b : BuildValue) → slice_get (builds_at p j) k ≡ Some b → AreKnown (order_of p) (is_order p) p rules (with_build (assigned p table) j b)
   known_with k b got =
       let P : Assignment → Type 0 = λ a. AreKnown (order_of p) (is_order p) p rules a in
@@ -197,17 +196,69 @@ module _ (p : ProblemValue) (rules : is_problem p ≡ true) (table upper best : 
       let Q : Option BuildValue → Type 0 = λ o. MatchOption o (Any (λ x. Contains x.pairs pair) (builds_at p j)) (λ x. Contains x.pairs pair) in
       subst Q (cond-true (j == j) (Some b) (assigned p table j) (eq-eqb j j refl)) (subst P is (h.passed named.0 named.1))
 
-  pub wanted_out : (k : ℕ) (b : BuildValue) → k < length (builds_at p j) → slice_get (builds_at p j) k ≡ Some b → (Contains list k → ⊥) → IsRuledOut (order_of p) p (Some best) (with_build (assigned p table) j b)
-  wanted_out k b within got out = λ places builds sat agrees better.
-      let a = assigned p table in
-      let without : Agrees a builds = agrees_less a j b builds (free_none p table j free) agrees in
-      let low : (y : ℕ) → y ≤ i → slice_index places y ≤ slice_index upper y = λ y le.
-      no_better p a y (slice_index places y) (slice_index upper y) (uppers y (omega (arith, le, inside)))
-      (place_possible (order_of p) (is_order p) p rules a places builds (known_of (order_of p) (is_order p) p rules table) without sat y (omega (arith, le, inside))) in
-      let from = reaches places best upper i better same low in
-      let possible = place_possible (order_of p) (is_order p) p rules (with_build a j b) places builds (known_with k b got) agrees sat i inside in
-      let P : BuildValue → Type 0 = λ x. Contains x.pairs ((input_at p i).scope, slice_index places i) in
-      out (wanted.all (slice_index places i) from (low i (omega arith)) k within (subst P (sym (get_or_from_slice_get (builds_at p j) k b no_build got)) (has_pair b (slice_index places i) possible)))
+  -- what agrees with a build of the free job agrees without it, and then each of its places is possible
+  without : (b : BuildValue) (builds : List ℕ) → Agrees (with_build (assigned p table) j b) builds → Agrees (assigned p table) builds
+  without b builds agrees = agrees_less (assigned p table) j b builds (free_none p table j free) agrees
 
-  pub wanted_split : j < length p.jobs → IsSplit p table (Some best) j list
-  wanted_split within = record { inside = within; free = free; few = wanted.few; within = wanted.within; left_out = wanted_out }
+  possible : (b : BuildValue) (places builds : List ℕ) → Satisfies p places builds → Agrees (with_build (assigned p table) j b) builds → (y : ℕ) → y < length p.inputs
+      → IsPossible p (assigned p table) y (slice_index places y)
+  possible b places builds sat agrees y within =
+      place_possible (order_of p) (is_order p) p rules (assigned p table) places builds (known_of (order_of p) (is_order p) p rules table) (without b builds agrees) sat y within
+
+  -- the build is in each list that has all builds with the choice's place of the input
+  in_list : (k : ℕ) (b : BuildValue) → k < length (builds_at p j) → slice_get (builds_at p j) k ≡ Some b → (places builds list : List ℕ) → Satisfies p places builds
+      → Agrees (with_build (assigned p table) j b) builds → HasAll (builds_at p j) ((input_at p i).scope, slice_index places i) list → Contains list k
+  in_list k b within got places builds list sat agrees all =
+      let can = place_possible (order_of p) (is_order p) p rules (with_build (assigned p table) j b) places builds (known_with k b got) agrees sat i inside in
+      let P : BuildValue → Type 0 = λ x. Contains x.pairs ((input_at p i).scope, slice_index places i) in
+      all k within (subst P (sym (get_or_from_slice_get (builds_at p j) k b no_build got)) (has_pair b (slice_index places i) can))
+
+  -- few builds have a place from the one found to the best
+  module _ (upper best list : List ℕ) (uppers : AreUpper p (assigned p table) upper) (same : (y : ℕ) → y < i → slice_index upper y ≡ slice_index best y)
+      (wanted : AreWanted (builds_at p j) (input_at p i).scope (slice_index best i) (slice_index upper i) list) where
+    wanted_out : (k : ℕ) (b : BuildValue) → k < length (builds_at p j) → slice_get (builds_at p j) k ≡ Some b → (Contains list k → ⊥) → IsRuledOut (order_of p) p (Some best) (with_build (assigned p table) j b)
+    wanted_out k b within got out = λ places builds sat agrees better.
+        let low : (y : ℕ) → y ≤ i → slice_index places y ≤ slice_index upper y = λ y le.
+        no_better p (assigned p table) y (slice_index places y) (slice_index upper y) (uppers y (omega (arith, le, inside))) (possible b places builds sat agrees y (omega (arith, le, inside))) in
+        out (in_list k b within got places builds list sat agrees (wanted.all (slice_index places i) (reaches places best upper i better same low) (low i (omega arith))))
+
+    pub wanted_split : j < length p.jobs → IsSplit p table (Some best) j list
+    wanted_split within = record { inside = within; free = free; few = wanted.few; within = wanted.within; left_out = wanted_out }
+
+  -- few builds have a place that a fixed build left to the input
+  module _ (pairs : List (ℕ × ℕ)) (list : List ℕ) (sources : AreSources p (assigned p table) i pairs) (all : HasAllOf (builds_at p j) (input_at p i).scope pairs list) where
+    source_in : (k : ℕ) (b : BuildValue) → k < length (builds_at p j) → slice_get (builds_at p j) k ≡ Some b → (places builds : List ℕ) → Satisfies p places builds
+        → Agrees (with_build (assigned p table) j b) builds → Contains list k
+    source_in k b within got places builds sat agrees =
+        in_list k b within got places builds list sat agrees (all (slice_index places i) (sources (slice_index places i) (possible b places builds sat agrees i inside)))
+
+    source_out : (best : Option (List ℕ)) (k : ℕ) (b : BuildValue) → k < length (builds_at p j) → slice_get (builds_at p j) k ≡ Some b → (Contains list k → ⊥) → IsRuledOut (order_of p) p best (with_build (assigned p table) j b)
+    source_out None k b within got out = λ places builds sat agrees. out (source_in k b within got places builds sat agrees)
+    source_out (Some found) k b within got out = λ places builds sat agrees better. out (source_in k b within got places builds sat agrees)
+
+    pub source_split : (best : Option (List ℕ)) → j < length p.jobs → length list ≤ length (builds_at p j) → All (λ k. k < length (builds_at p j)) list → IsSplit p table best j list
+    source_split best within few inside = record { inside = within; free = free; few = few; within = inside; left_out = source_out best }
+
+-- ---- the builds with one of some pairs
+-- the builds with one of the pairs from the k-th on are in the list
+pub record ArePairsWalked (bs : List BuildValue) (scope : ℕ) (pairs : List (ℕ × ℕ)) (most k : ℕ) (list : List ℕ) : Type 0 where
+  pub within : All (λ n. n < length bs) list
+  pub few : length list ≤ most
+  pub done : (place m : ℕ) → k ≤ m → m < length pairs → slice_index_or pairs m (0, 0) ≡ (scope, place) → HasAll bs (scope, place) list
+
+pub pairs_next : (bs : List BuildValue) (scope : ℕ) (pairs : List (ℕ × ℕ)) (most k : ℕ) (list list' : List ℕ) → ArePairsWalked bs scope pairs most k list
+    → All (λ n. n < length bs) list' → length list' ≤ most → ((n : ℕ) → Contains list n → Contains list' n)
+    → ((place : ℕ) → slice_index_or pairs (k - 1) (0, 0) ≡ (scope, place) → HasAll bs (scope, place) list') → ArePairsWalked bs scope pairs most (k - 1) list'
+pairs_next bs scope pairs most k list list' so within few kept new = record {
+  within = within;
+  few = few;
+  done = λ place m low inside is.
+      elim (cases_lt m k) [
+        | inl now ↦ (let at : m ≡ k - 1 = omega (arith, now, low) in
+            let P : ℕ → Type 0 = λ n. slice_index_or pairs n (0, 0) ≡ (scope, place) in new place (subst P at is))
+        | inr before ↦ (λ n within h. kept n (so.done place m before inside is n within h))
+      ];
+}
+
+pub pairs_end : (bs : List BuildValue) (scope : ℕ) (pairs : List (ℕ × ℕ)) (most k : ℕ) (list : List ℕ) → ArePairsWalked bs scope pairs most k list → k ≡ 0 → HasAllOf bs scope pairs list
+pairs_end bs scope pairs most k list so e place h = so.done place h.0 (omega (arith, e)) h.1 (get_or_default pairs h.0 (0, 0) (scope, place) h.1 ∙ h.2)

@@ -1,9 +1,10 @@
 -- What the search without a proof gives. No public contract names these.
 use Rattle.std.specs.Prelude.{◌≡◌, ℕ, ◌+◌, ◌<◌, ◌≤◌, List, length, Bool, true, false, Option, Some, None, slice_index, slice_index_or, slice_get, All, Contains}
-use Rattle.ccr_choice.specs.Problem.{ProblemValue, BuildValue, ChoiceValue, builds_at}
+use Rattle.ccr_choice.specs.Problem.{ProblemValue, BuildValue, ChoiceValue, input_at, builds_at}
 use Rattle.ccr_choice.specs.Satisfies.{Satisfies}
 use Rattle.ccr_choice.specs.Preference.{Preference, order_of, IsBetter}
 use Rattle.ccr_choice.specs.Assignment.{Assignment, Agrees, with_build}
+use Rattle.ccr_choice.specs.Possible.{IsPossible}
 use Rattle.ccr_choice.specs.Table.{assigned}
 use Rattle.ccr_index.specs.Rows.{no_build}
 use Rattle.ccr_resolve.specs.Search.{places_of, FoundSatisfies, free_product, IsNoWorse}
@@ -35,6 +36,14 @@ Sought prefers p table before after room left false = IsSought prefers p table b
 abbrev pub HasAll : List BuildValue → ℕ × ℕ → List ℕ → Type 0
 HasAll builds pair list =
     (k : ℕ) → k < length builds → Contains (slice_index_or builds k no_build).pairs pair → Contains list k
+
+-- The list has each position of a build with one of these pairs in this scope.
+abbrev pub HasAllOf : List BuildValue → ℕ → List (ℕ × ℕ) → List ℕ → Type 0
+HasAllOf builds scope pairs list = (place : ℕ) → Contains pairs (scope, place) → HasAll builds (scope, place) list
+
+-- Each place that input i can have is, with its scope, among these pairs.
+abbrev pub AreSources : ProblemValue → Assignment → ℕ → List (ℕ × ℕ) → Type 0
+AreSources p a i pairs = (place : ℕ) → IsPossible p a i place → Contains pairs ((input_at p i).scope, place)
 
 -- Positions of builds, with all that have one of these places of a scope.
 pub record AreWanted (builds : List BuildValue) (scope from to : ℕ) (list : List ℕ) : Type 0 where

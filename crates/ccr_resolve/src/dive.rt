@@ -1,6 +1,6 @@
 //! A good choice to begin with: the best builds of each job first, and no proof.
 
-ghost use Rattle.std.specs.Prelude.{◌<◌, ℕ, length, IfOk, All};
+ghost use Rattle.std.specs.Prelude.{◌<◌, ◌≤◌, ℕ, length, IfOk, IfSome, All};
 ghost use Rattle.ccr_choice.specs.Problem.{builds_at};
 ghost use Rattle.ccr_choice.specs.Assignment.{nothing_fixed};
 ghost use Rattle.ccr_choice.specs.Table.{assigned};
@@ -8,16 +8,19 @@ ghost use Rattle.ccr_resolve.specs.Search.{AreUpper, FixesKnown, FoundSatisfies}
 
 use crate::choice::full_choice;
 use crate::pick::first_free;
-use crate::upper::{BestPlaces, first_empty, is_closed, lowered};
+use crate::upper::{BestPlaces, first_empty, is_closed, lowered, names};
+use crate::wanted::{add_builds_with, add_builds_with_any, fixed_pairs};
 use ccr_choice::possible::Fixed;
 use ccr_choice::{Choice, MOST_JOBS, later};
-use ccr_index::Index;
+use ccr_index::{Index, JobRows};
 use std::alloc::{AllocError, Global};
 
 /// How many boxes are looked at in all, at the most.
 const MOST_BOXES: u32 = 2_000;
-/// How many of a job's builds, the newest ones, are looked at in a box.
-const LOOKED_AT: usize = 1_000;
+/// How many of a job's builds are looked at in a box.
+const LOOKED_AT: usize = 32;
+/// How many places, from the best one down, are tried for them.
+const PLACES: u32 = 256;
 /// How many of them are gone into.
 const GONE_INTO: usize = 16;
 
@@ -50,6 +53,62 @@ pub(crate) fn good_choice(
     Ok(best)
 }
 
+/// The first input that names a job.
+fn first_input(index: &Index, job: usize) -> Option<usize>
+    ensures { IfSome result (λ i. i < length index.now.problem.inputs) }
+{
+    for i in 0..index.input_count() {
+        if names(index, i, job) {
+            return Some(i);
+        }
+    }
+    None
+}
+
+/// Adds the positions of builds with the best places of a scope, from this one down.
+fn add_builds_from(
+    builds: &mut Vec<usize>,
+    rows: &JobRows,
+    scope: u32,
+    top: u32,
+) -> Result<(), AllocError>
+    requires within { All (λ k. k < length rows.now.builds) builds.old.items }
+    requires few { length builds.old.items ≤ LOOKED_AT }
+    ensures { All (λ k. k < length rows.now.builds) builds.new.items }
+{
+    for step in 0..top.min(PLACES) {
+        if add_builds_with(builds, rows, scope, top - step, LOOKED_AT)? {
+            return Ok(());
+        }
+    }
+    Ok(())
+}
+
+/// The builds of a job to look at: those with the best places of the first input that names it.
+fn looked_at(
+    alloc: Global,
+    index: &Index,
+    fixed: &Fixed,
+    upper: &BestPlaces,
+    job: usize,
+    rows: &JobRows,
+) -> Result<Vec<usize>, AllocError>
+    ensures { IfOk result (λ builds. All (λ k. k < length rows.now.builds) builds.items) }
+{
+    let mut builds = Vec::new(alloc);
+    let Some(input) = first_input(index, job) else {
+        return Ok(builds);
+    };
+    let scope = index.input(input).scope();
+    match fixed_pairs(index, fixed, input) {
+        Some(pairs) => {
+            add_builds_with_any(&mut builds, rows, scope, pairs, LOOKED_AT)?;
+        }
+        None => add_builds_from(&mut builds, rows, scope, upper[input])?,
+    }
+    Ok(builds)
+}
+
 /// The best builds of a job to fix next, the best first.
 fn steps(
     alloc: Global,
@@ -63,8 +122,10 @@ fn steps(
     ensures { IfOk result (λ steps. All (λ s. s.build < length (builds_at index.now.problem job)) steps.items) }
 {
     let mut steps = Vec::new(alloc);
-    let builds = index.rows(job).len().min(LOOKED_AT);
-    for build in 0..builds {
+    let rows = index.rows(job);
+    let builds = looked_at(alloc, index, fixed, upper, job, rows)?;
+    for k in 0..builds.len() {
+        let build = builds[k];
         let mut inner = *fixed;
         inner[job] = build + 1;
         let places = lowered(index, upper, &inner, job);
@@ -81,7 +142,8 @@ fn steps(
     Ok(steps)
 }
 
-/// Adds a step behind those that are no worse, and drops the last of too many.
+/// Adds a step behind those that are no worse, and drops the last of too many. Of steps that leave the same best places the first
+/// is enough.
 fn add_step(steps: &mut Vec<Step>, step: Step) -> Result<(), AllocError>
     ensures { (n : ℕ) → step.build < n → All (λ s. s.build < n) steps.old.items
         → All (λ s. s.build < n) steps.new.items }
@@ -90,6 +152,9 @@ fn add_step(steps: &mut Vec<Step>, step: Step) -> Result<(), AllocError>
         .iter()
         .position(|other| later(&step.upper, &other.upper))
         .unwrap_or(steps.len());
+    if at > 0 && !later(&steps[at - 1].upper, &step.upper) {
+        return Ok(());
+    }
     if at < GONE_INTO {
         steps.insert(at, step)?;
         steps.truncate(GONE_INTO);

@@ -48,6 +48,16 @@ fn fewest_of_others(index: &Index, fixed: &Fixed, job: usize) -> u64 {
     fewest.unwrap_or(0)
 }
 
+/// Whether no other job is free.
+fn is_last_free(index: &Index, fixed: &Fixed, job: usize) -> bool {
+    for j in 0..index.job_count() {
+        if j != job && fixed[j] == 0 {
+            return false;
+        }
+    }
+    true
+}
+
 /// How many nodes a split of this job needs at the least: with nothing found the number of its builds that leave each
 /// input a place; else its builds, and for each that has to be gone into one more than the builds of a further job.
 /// It isn't counted above `most`.
@@ -93,6 +103,9 @@ pub(crate) fn cheapest_job(
         (λ j. (j < length index.now.problem.jobs) × (slice_index fixed.now j ≡ 0)) }
 {
     let mut cheapest = first_free(index.job_count(), fixed)?;
+    if is_last_free(index, fixed, cheapest) {
+        return Some(cheapest);
+    }
     let mut least = u64::MAX;
     for j in cheapest..index.job_count() {
         if fixed[j] == 0 {

@@ -28,7 +28,7 @@ pub(crate) fn tops(index: &Index) -> BestPlaces
 }
 
 /// Whether input `input` names job `job`.
-fn names(index: &Index, input: usize, job: usize) -> bool
+pub(crate) fn names(index: &Index, input: usize, job: usize) -> bool
     requires { input < length index.now.problem.inputs }
     ensures { IsTrue result ↔ Contains (input_at index.now.problem input).jobs job }
 {

@@ -1,11 +1,11 @@
 //! The builds that can still be part of a better choice. They are found by their pairs, so that the work doesn't grow with those that
 //! can't.
 
-ghost use Rattle.std.specs.Prelude.{◌≡◌, ◌≢◌, ◌<◌, ◌≤◌, ℕ, length, slice_index, IfOk, IfSome, MatchOption, IsTrue, not, All, Contains, Some};
+ghost use Rattle.std.specs.Prelude.{◌≡◌, ◌≢◌, ◌<◌, ◌≤◌, ℕ, List, length, slice_index, IfOk, IfSome, MatchOption, IsTrue, not, All, Contains, Option, Some};
 ghost use Rattle.ccr_choice.specs.Problem.{input_at, builds_at};
 ghost use Rattle.ccr_choice.specs.Table.{assigned};
 ghost use Rattle.ccr_resolve.specs.Search.{AreUpper, places_of};
-ghost use Rattle.ccr_resolve.specs.Sought.{HasAll, AreWanted, IsSplit};
+ghost use Rattle.ccr_resolve.specs.Sought.{HasAll, HasAllOf, AreWanted, AreSources, IsSplit};
 
 use crate::pick::cheapest_job;
 use crate::upper::BestPlaces;
@@ -27,7 +27,7 @@ pub(crate) struct Split {
 }
 
 /// Adds the positions of those builds that have a pair, newest first; true where there would be more than `most` in all.
-fn add_builds_with(
+pub(crate) fn add_builds_with(
     builds: &mut Vec<usize>,
     rows: &JobRows,
     scope: u32,
@@ -49,6 +49,30 @@ fn add_builds_with(
         let build = rows.len() - last;
         builds.push(build)?;
         last = rows.last_before(build, scope, place);
+    }
+    Ok(false)
+}
+
+/// Adds the positions of those builds that have one of these pairs in a scope, those with the last pair first; true where there
+/// would be more than `most` in all.
+pub(crate) fn add_builds_with_any(
+    builds: &mut Vec<usize>,
+    rows: &JobRows,
+    scope: u32,
+    pairs: &[(u32, u32)],
+    most: usize,
+) -> Result<bool, AllocError>
+    requires within { All (λ k. k < length rows.now.builds) builds.old.items }
+    requires few { length builds.old.items ≤ most }
+    ensures within { All (λ k. k < length rows.now.builds) builds.new.items }
+    ensures few { length builds.new.items ≤ most }
+    ensures all { IfOk result (λ is_over. IsTrue (not is_over) → HasAllOf rows.now.builds scope pairs.now builds.new.items) }
+{
+    for k in (0..pairs.len()).rev() {
+        let (at, place) = pairs[k];
+        if at == scope && add_builds_with(builds, rows, scope, place, most)? {
+            return Ok(true);
+        }
     }
     Ok(false)
 }
@@ -118,6 +142,106 @@ fn best_split(
     Ok(None)
 }
 
+/// The pairs of the first fixed build among those of the jobs that input `input` names. The input can have no other place.
+pub(crate) fn fixed_pairs<'a>(
+    index: &'a Index,
+    fixed: &Fixed,
+    input: usize,
+) -> Option<&'a [(u32, u32)]>
+    requires { input < length index.now.problem.inputs }
+    ensures { let p = index.now.problem in IfSome result (λ pairs. AreSources p (assigned p fixed.now) input pairs.now) }
+{
+    for name in index.input(input).jobs() {
+        let job = *name as usize;
+        let rows = index.rows(job);
+        if let Some(build) = fixed[job].checked_sub(1) {
+            if build < rows.len() {
+                return Some(rows.pairs(build));
+            }
+        }
+    }
+    None
+}
+
+/// A free job among those that input `input` names, and at most `most` builds of it: those that have one of these pairs, of which
+/// the input's place is one.
+fn split_by_pairs(
+    alloc: Global,
+    index: &Index,
+    fixed: &Fixed,
+    input: usize,
+    pairs: &[(u32, u32)],
+    most: usize,
+) -> Result<Option<Split>, AllocError>
+    requires input { input < length index.now.problem.inputs }
+    requires sources { let p = index.now.problem in AreSources p (assigned p fixed.now) input pairs.now }
+    ensures { IfOk result (λ found. IfSome found (λ split. (best : Option (List ℕ)) →
+        IsSplit index.now.problem fixed.now best split.job split.builds.items)) }
+{
+    let scope = index.input(input).scope();
+    for name in index.input(input).jobs() {
+        let job = *name as usize;
+        let rows = index.rows(job);
+        if fixed[job] == 0 {
+            let mut builds = Vec::new(alloc);
+            let is_over = add_builds_with_any(
+                &mut builds,
+                rows,
+                scope,
+                pairs,
+                most.min(rows.len()),
+            )?;
+            if !is_over {
+                return Ok(Some(Split { job, builds }));
+            }
+        }
+    }
+    Ok(None)
+}
+
+/// A free job with at most `most` builds that have a place which a fixed build left to an input that names both jobs.
+fn passed_split(
+    alloc: Global,
+    index: &Index,
+    fixed: &Fixed,
+    most: usize,
+) -> Result<Option<Split>, AllocError>
+    ensures { IfOk result (λ found. IfSome found (λ split. (best : Option (List ℕ)) →
+        IsSplit index.now.problem fixed.now best split.job split.builds.items)) }
+{
+    for i in 0..index.input_count() {
+        if let Some(pairs) = fixed_pairs(index, fixed, i) {
+            let found = split_by_pairs(alloc, index, fixed, i, pairs, most)?;
+            if found.is_some() {
+                return Ok(found);
+            }
+        }
+    }
+    Ok(None)
+}
+
+/// A free job with at most `most` builds that can be part of a better choice.
+fn few_split(
+    alloc: Global,
+    index: &Index,
+    fixed: &Fixed,
+    upper: &BestPlaces,
+    best: &Option<Choice>,
+    most: usize,
+) -> Result<Option<Split>, AllocError>
+    requires { AreUpper index.now.problem (assigned index.now.problem fixed.now) upper.now }
+    ensures { IfOk result (λ found. IfSome found (λ split.
+        IsSplit index.now.problem fixed.now (places_of best.now) split.job split.builds.items)) }
+{
+    if let Some(found) = passed_split(alloc, index, fixed, most)? {
+        return Ok(Some(found));
+    }
+    match best {
+        Some(choice) => best_split(alloc, index, fixed, upper, choice, most),
+        None => Ok(None),
+    }
+}
+
 /// The positions below this one.
 fn all_below(alloc: Global, count: usize) -> Result<Vec<usize>, AllocError>
     ensures { IfOk result (λ all. (length all.items ≡ count)
@@ -144,13 +268,11 @@ pub(crate) fn next_split(
         ((j : ℕ) → j < length index.now.problem.jobs → slice_index fixed.now j ≢ 0)
         (λ split. IsSplit index.now.problem fixed.now (places_of best.now) split.job split.builds.items)) }
 {
-    if let Some(choice) = best {
-        if let Some(found) = best_split(alloc, index, fixed, upper, choice, FEW)? {
-            return Ok(Some(found));
-        }
-        if let Some(found) = best_split(alloc, index, fixed, upper, choice, MANY)? {
-            return Ok(Some(found));
-        }
+    if let Some(found) = few_split(alloc, index, fixed, upper, best, FEW)? {
+        return Ok(Some(found));
+    }
+    if let Some(found) = few_split(alloc, index, fixed, upper, best, MANY)? {
+        return Ok(Some(found));
     }
     let Some(job) = cheapest_job(index, fixed, upper, best) else {
         return Ok(None);

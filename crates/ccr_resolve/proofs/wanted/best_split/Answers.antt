@@ -43,5 +43,5 @@ returns-in-Some-2 c =
     let P : Option (Vec ℕ Global) → Type 0 = λ o. IfSome o (λ b. AreWanted (builds_at p j) (input_at p i).scope c.in-Some.from.now (slice_index upper i) b.items) in
     let Q : ℕ → Type 0 = λ n. AreWanted (builds_at p j) (input_at p i).scope n (slice_index upper i) c.in-Some-2.builds.items in
     let wanted : Q (slice_index best i) = subst Q from_is (subst P c.in-Some-2.is c.in_ok-builds.ensures) in
-    wanted_split p c.input.ensures.kept table upper best i j c.in-Some-2.builds.items c.requires (omega (arith, c.loop-i-test.true, c.input_count-i-end.ensures.value)) named c.if-fixed-job-eq0.true
-    (omega (arith, low, few, c.told-fixed)) c.loop-i.invariant wanted low
+    wanted_split p c.input.ensures.kept table i j (omega (arith, c.loop-i-test.true, c.input_count-i-end.ensures.value)) named c.if-fixed-job-eq0.true (omega (arith, low, few, c.told-fixed)) upper best
+    c.in-Some-2.builds.items c.requires c.loop-i.invariant wanted low
