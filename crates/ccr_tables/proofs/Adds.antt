@@ -1,5 +1,5 @@
 -- What the INSERTs of four tables do.
-use Rattle.std.proofs.Common.{◌≡◌, ℕ, pos, List, [], ◌∷◌, map, Ok, refl, IsPermutation}
+use Rattle.std.proofs.Common.{ℕ, pos, List, [], ◌∷◌, Ok, refl}
 use Rattle.sqlite.specs.declared.types.Value.TheVariants.{Null, Int, Text}
 use Rattle.sqlite.specs.Order.{Row}
 use Rattle.sqlite.specs.Term.{lit, col}

@@ -1,29 +1,26 @@
 -- What the statements do that change or remove rows.
-use Rattle.std.proofs.Common.{◌≡◌, ◌≢◌, ◌⊎◌, inl, inr, ℕ, ℤ, pos, List, [], ◌∷◌, ◌++◌, map, filter, drop, Bool, true, false, not, ◌&&◌, ◌||◌, cond, Option, Some, None, Ok, refl, sym, ap, ap₂, subst, ◌∙◌, arith, is_eq, Ordering, Less, Equal, Greater, true≢false, IsTrue, bytes_eq, IsPermutation}
+use Rattle.std.proofs.Common.{◌≡◌, ◌≢◌, inl, ℕ, ℤ, pos, List, [], ◌∷◌, ◌++◌, map, filter, Bool, true, false, not, ◌&&◌, ◌||◌, cond, Some, Ok, refl, sym, ap, subst, ◌∙◌, arith, is_eq, Ordering, Less, Equal, Greater, true≢false, IsTrue, bytes_eq, IsPermutation}
 use Rattle.std.specs.List.{AllByRecursion, list_any, list_all}
 use Rattle.std.specs.Ordering.{int_cmp}
 use Rattle.std.proofs.lemmas.Cmp.{int_ranked}
-use Rattle.std.proofs.lemmas.Bool.{and_parts, or_parts, false_from_ne_true}
+use Rattle.std.proofs.lemmas.Bool.{false_from_ne_true}
 use Rattle.std.proofs.lemmas.Map.Text.{is_eq-slice_cmp}
 use Rattle.std.proofs.lemmas.Slice.Eq.{bytes_eq-Decides}
 use Rattle.std.proofs.lemmas.List.Sorted.{IsPermutation-refl, IsPermutation-sym, IsPermutation-trans, IsPermutation-map, list_any-IsPermutation}
 use Rattle.sqlite.specs.declared.types.Value.{Value}
 use Rattle.sqlite.specs.declared.types.Value.TheVariants.{Null, Int, Real, Text, Blob}
 use Rattle.sqlite.specs.Order.{Row, column, value_cmp}
-use Rattle.sqlite_value.specs.Order.{class}
-use Rattle.sqlite_value.specs.Keys.{plain, first_key}
+use Rattle.sqlite_value.specs.Keys.{first_key}
 use Rattle.sqlite_value.proofs.OrderLemmas.{value_cmp-Null, value_cmp-Int, value_cmp-Text}
 use Rattle.sqlite_value.proofs.KeyLemmas.{class_tied}
 use Rattle.sqlite.specs.Collation.TheVariants.{Binary}
 use Rattle.sqlite_sql.specs.declared.ops.BinaryOp.TheVariants.{Compare}
-use Rattle.sqlite_sql.specs.declared.ops.CompareOp.TheVariants.{Eq, Ne}
+use Rattle.sqlite_sql.specs.declared.ops.CompareOp.TheVariants.{Eq}
 use Rattle.sqlite_sql.specs.Ops.{binary, is_true, from_truth}
-use Rattle.sqlite_sql.specs.Term.{holds, eval_all}
+use Rattle.sqlite_sql.specs.Term.{holds}
 use Rattle.sqlite_schema.specs.Rules.{equal, differ, clashes}
 use Rattle.sqlite_schema.specs.declared.schema.Constraint.TheVariants.{Unique}
-use Rattle.sqlite_schema.specs.declared.schema.Keys.TheVariants.{Enforced}
 use Rattle.sqlite_rules.specs.Keys.{AreConflicts, conflicts}
-use Rattle.sqlite_rules.specs.Lists.{Has}
 use Rattle.sqlite_rules.specs.Edit.{id_in}
 use Rattle.sqlite_rules.proofs.TableLemmas.{int_is}
 use Rattle.sqlite.specs.Rowids.TheVariants.{Given, Chosen}
@@ -33,18 +30,17 @@ use Rattle.sqlite.specs.Tree.{Trees, rowid, has_rowid}
 use Rattle.sqlite.specs.Term.{Term, lit, col, op2}
 use Rattle.sqlite.specs.Cast.{cast_row}
 use Rattle.sqlite.specs.Edit.{edit_of, with_rowid, Applies}
-use Rattle.sqlite.specs.Effect.{Database}
 use Rattle.sqlite.specs.Program.{overlay}
 use Rattle.sqlite.specs.State.{State, Executes}
 use Rattle.sqlite_keyed.proofs.ListLemmas.{map-map, map_same, filter_same, filter_all, filter-map, all_map, all_kept, all-filter, none_from_any, IsPermutation-filter}
 use Rattle.ccr_tables.specs.Schema.{our_schema, meta, builds, pins}
 use Rattle.ccr_tables.specs.Contents.{Contents, Holds, IsBuild, meta_row, build_row, pin_row}
 use Rattle.ccr_tables.specs.Written.{begins_with, without, restated, with_meta, with_status, with_pin, without_pin}
-use Rattle.ccr_tables.proofs.Edits.{all_both, all_from_has, all_permuted, all_at, filter_agree, map_some, put_all_free, put_all_shaped, one_only, own_number, every}
+use Rattle.ccr_tables.proofs.Edits.{all_both, all_from_has, all_permuted, all_at, filter_agree, map_some, put_all_free, put_all_shaped, one_only}
 use Rattle.ccr_tables.proofs.Inserts.{Becomes, uncounted, cast_null, cast_int}
 use Rattle.ccr_tables.proofs.Selects.{answered}
 use Rattle.ccr_tables.proofs.Turns.{row_in, turn_meta, turn_builds, turn_pins}
-use Rattle.ccr_tables.proofs.Updates.{Replaces, PutsOr, updates, deletes, upserts, put_back, taken_out}
+use Rattle.ccr_tables.proofs.Updates.{PutsOr, updates, deletes, upserts, put_back, taken_out}
 use Rattle.ccr_tables.proofs.Texts as texts
 
 -- ---- tests

@@ -1,5 +1,5 @@
 -- What the CREATE TABLEs do.
-use Rattle.std.proofs.Common.{◌≡◌, ℕ, List, [], codes, IfOk, true, false, Some, None, Ok, Err, Result, inl, inr, refl, sym, ap, subst, ◌∙◌}
+use Rattle.std.proofs.Common.{◌≡◌, ℕ, List, [], codes, IfOk, false, None, Ok, Err, Result, inl, inr, refl, sym, ap, subst, ◌∙◌}
 use Rattle.std.specs.List.{AllByRecursion}
 use Rattle.sqlite.specs.Table.{Table}
 use Rattle.sqlite.specs.Schema.{Schema}
@@ -11,7 +11,7 @@ use Rattle.sqlite_tied.specs.Compute.{everything}
 use Rattle.sqlite.specs.Listing.{understood}
 use Rattle.sqlite.specs.declared.error.Error.{Error}
 use Rattle.sqlite.specs.Effect.{Database}
-use Rattle.sqlite.specs.State.{State, Writes, Executes, ExecutesIn, ExecutesInside, KeepsCommit}
+use Rattle.sqlite.specs.State.{State, Writes, Executes, ExecutesIn, ExecutesInside}
 use Rattle.sqlite.proofs.Callers.{IsPlain, command_of, statement_of, runs_as}
 use Rattle.ccr_tables.specs.Schema.{no_schema, meta_schema, scopes_schema, versions_schema, builds_schema, pairs_schema, our_schema, meta, scopes, versions, builds, pairs, pins}
 use Rattle.ccr_tables.specs.Step.{IsBare, Creates}

@@ -1,8 +1,8 @@
 -- What an edit leaves of a table, as rows in any order.
-use Rattle.std.proofs.Common.{◌≡◌, ◌⊎◌, inl, inr, ℕ, ℤ, List, [], ◌∷◌, ◌++◌, map, filter, drop, Bool, true, false, not, ◌&&◌, ◌||◌, cond, Ordering, Less, Equal, Greater, is_eq, true≢false, refl, sym, ap, ap₂, subst, ◌∙◌, IsTrue, IsPermutation}
+use Rattle.std.proofs.Common.{◌≡◌, inl, inr, ℤ, List, [], ◌∷◌, ◌++◌, map, filter, Bool, true, false, not, ◌||◌, cond, Ordering, Less, Equal, Greater, is_eq, true≢false, refl, sym, ap, ap₂, subst, ◌∙◌, IsTrue, IsPermutation}
 use Rattle.std.specs.List.{AllByRecursion, list_any}
 use Rattle.std.specs.Ordering.{match_ordering, ordering_reverse}
-use Rattle.std.proofs.lemmas.Bool.{and_parts, or_parts}
+use Rattle.std.proofs.lemmas.Bool.{and_parts}
 use Rattle.std.proofs.lemmas.Cmp.{tied_itself}
 use Rattle.std.proofs.lemmas.List.Sorted.{IsPermutation-refl, IsPermutation-sym, IsPermutation-cons, IsPermutation-trans, IsPermutation-middle, IsPermutation-append, IsPermutation-map, list_any-IsPermutation, All-permutation}
 use Rattle.std.proofs.lemmas.List.Elements.{All-from_recursion, recursion_from_All}
@@ -14,7 +14,7 @@ use Rattle.sqlite_trees.specs.Tree.{rowid, has_rowid, put_row, without_rowid}
 use Rattle.sqlite_trees.specs.View.{is_int, IsShaped}
 use Rattle.sqlite_trees.proofs.TreeLemmas.{IsShaped-filter, IsShaped-put_row, all-put_row}
 use Rattle.sqlite_keyed.proofs.ListLemmas.{all_weaker, all-filter, filter_all, map-map, map_same, filter_same}
-use Rattle.sqlite_rules.specs.Edit.{id_in, with_rowid, numbered, without_all, put_all, is_taken, are_fresh, have_rowids}
+use Rattle.sqlite_rules.specs.Edit.{id_in, numbered, without_all, put_all, is_taken, are_fresh, have_rowids}
 use Rattle.sqlite_rules.specs.declared.error.Rowids.TheVariants.{Given}
 use Rattle.sqlite_rules.specs.Calls.{ids_of}
 use Rattle.sqlite_rules.specs.Lists.{Has}

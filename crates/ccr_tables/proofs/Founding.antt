@@ -1,5 +1,5 @@
 -- From no tables to six, and the row of the format.
-use Rattle.std.proofs.Common.{◌≡◌, ◌≢◌, IfOk, true, List, [], ◌∷◌, map, Ok, Err, Result, refl, sym, subst, IsPermutation}
+use Rattle.std.proofs.Common.{◌≡◌, ◌≢◌, IfOk, List, [], ◌∷◌, map, Ok, Err, Result, sym, subst, IsPermutation}
 use Rattle.std.specs.List.{AllByRecursion}
 use Rattle.std.proofs.lemmas.List.Sorted.{IsPermutation-refl}
 use Rattle.sqlite.specs.Order.{Row}
@@ -10,7 +10,7 @@ use Rattle.sqlite.specs.State.{State}
 use Rattle.sqlite_trees.specs.declared.store.Shape.TheVariants.{Table as Shaped}
 use Rattle.sqlite_trees.specs.View.{IsShaped}
 use Rattle.ccr_tables.specs.Schema.{our_schema}
-use Rattle.ccr_tables.specs.Contents.{Contents, Holds, IsBuild, no_contents, new_contents, meta_row, scope_row, version_row, build_row, pair_row, pin_row}
+use Rattle.ccr_tables.specs.Contents.{Holds, IsBuild, no_contents, meta_row, scope_row, version_row, build_row, pair_row, pin_row}
 use Rattle.ccr_tables.specs.Step.{Alters, IsBare, Creates, Founds}
 use Rattle.ccr_tables.specs.Written.{with_meta}
 use Rattle.ccr_tables.specs.declared.creation.Creation.{Creation}

@@ -10,3 +10,4 @@ pub mod Changes
 pub mod Creations
 pub mod InTurn
 pub mod Founding
+pub mod Refusals

@@ -1,8 +1,8 @@
 -- What the SELECT of each table gives.
-use Rattle.std.proofs.Common.{◌≡◌, ℕ, List, [], ◌∷◌, map, refl, Vec, Global, Result, IfOk, OnOk, IsPermutation, IsTrue}
+use Rattle.std.proofs.Common.{◌≡◌, [], ◌∷◌, refl, Vec, Global, Result, IfOk, OnOk, IsTrue}
 use Rattle.sqlite.specs.declared.error.Error.{Error}
 use Rattle.sqlite.specs.Order.{Row}
-use Rattle.sqlite.specs.Term.{Term, col}
+use Rattle.sqlite.specs.Term.{col}
 use Rattle.sqlite.specs.State.{State, Shown, IsUnchanged, Survives, CommitsShowing}
 use Rattle.ccr_tables.specs.Schema.{our_schema}
 use Rattle.ccr_tables.specs.Contents.{Contents, Holds, meta_row, scope_row, version_row, build_row, pair_row, pin_row}

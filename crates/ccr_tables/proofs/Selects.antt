@@ -1,7 +1,6 @@
 -- What a SELECT shows.
 use Rattle.std.proofs.Common.{◌≡◌, ◌<◌, ◌+◌, ℕ, List, [], ◌∷◌, map, filter, flat_map, Bool, true, false, cond, ◌&&◌, get_or, length, arith, refl, sym, ap, ap₂, subst, ◌∙◌, IsPermutation, IsSorted, IsTrue, Vec, Global, Ok, Err, Result, IfOk, OnOk, Ordering, is_lt, Option, Some, None}
-use Rattle.std.specs.List.{AllByRecursion, list_all}
-use Rattle.std.specs.Ordering.{on}
+use Rattle.std.specs.List.{AllByRecursion}
 use Rattle.std.proofs.lemmas.List.Concat.{flat_map_single}
 use Rattle.std.proofs.lemmas.List.Sorted.{IsPermutation-trans, IsPermutation-map, All-permutation}
 use Rattle.std.proofs.lemmas.List.Elements.{All-from_recursion}
@@ -23,9 +22,7 @@ use Rattle.sqlite.proofs.StateLemmas.{survives_weaker}
 use Rattle.sqlite_keyed.proofs.ListLemmas.{map-map}
 use Rattle.sqlite_exec.proofs.RowsLemmas.{IsSorted-map}
 use Rattle.ccr_tables.specs.Schema.{our_schema}
-use Rattle.ccr_tables.specs.Contents.{Contents, Holds}
 use Rattle.ccr_tables.specs.Listing.{columns_cmp, IsListed}
-use Rattle.ccr_tables.proofs.Edits.{every}
 use Rattle.ccr_tables.proofs.Texts.{query}
 
 -- the rows that pass the test, each as the list shows it

@@ -1,8 +1,8 @@
 -- What the statement texts mean, over the six tables.
-use Rattle.std.proofs.Common.{◌≡◌, ℕ, List, codes, Ok, refl, [], ◌∷◌, None, Some, false, pos, negsuc, map}
+use Rattle.std.proofs.Common.{◌≡◌, ℕ, List, codes, refl, [], ◌∷◌, None, Some, false, pos, negsuc, map}
 use Rattle.sqlite_tied.specs.Compute.{everything}
 use Rattle.sqlite.specs.Listing.{understood, reads_listing}
-use Rattle.sqlite.specs.declared.types.Value.TheVariants.{Null, Int, Text}
+use Rattle.sqlite.specs.declared.types.Value.TheVariants.{Null, Int}
 use Rattle.sqlite.specs.Term.{Term, lit, col, op2}
 use Rattle.sqlite.specs.Query.{Query, inner, end}
 use Rattle.sqlite.specs.Collation.TheVariants.{Binary}
@@ -12,7 +12,7 @@ use Rattle.sqlite_sql.specs.declared.ops.CompareOp.TheVariants.{Eq}
 use Rattle.sqlite_schema.specs.declared.command.Conflict.TheVariants.{Abort}
 use Rattle.sqlite.specs.Source.TheVariants.{Values}
 use Rattle.sqlite.specs.Command.TheVariants.{Insert, InsertOr, Select, Update, Delete}
-use Rattle.sqlite.proofs.Callers.{IsPlain, command_of, statement_of}
+use Rattle.sqlite.proofs.Callers.{IsPlain, command_of}
 use Rattle.ccr_tables.specs.Schema.{our_schema}
 
 -- SELECT project FROM the table in this tree WHERE tests ORDER BY keys

@@ -1,12 +1,12 @@
 -- From one changed table to the contents of all six.
-use Rattle.std.proofs.Common.{◌≡◌, ℕ, List, [], ◌∷◌, map, refl, sym, ap, subst, ◌∙◌, arith, IsPermutation}
+use Rattle.std.proofs.Common.{◌≡◌, List, ◌∷◌, map, sym, subst, arith, IsPermutation}
 use Rattle.std.specs.List.{AllByRecursion}
 use Rattle.std.proofs.lemmas.List.Sorted.{IsPermutation-cons, IsPermutation-trans, IsPermutation-map}
 use Rattle.sqlite.specs.Order.{Row}
 use Rattle.sqlite.specs.Effect.{Database}
 use Rattle.sqlite_trees.specs.declared.store.Shape.TheVariants.{Table as Shaped}
 use Rattle.sqlite_trees.specs.View.{IsShaped}
-use Rattle.ccr_tables.specs.Contents.{Contents, Keeps, Holds, IsBuild, meta_row, scope_row, version_row, build_row, pair_row, pin_row}
+use Rattle.ccr_tables.specs.Contents.{Contents, Holds, IsBuild, meta_row, scope_row, version_row, build_row, pair_row, pin_row}
 use Rattle.ccr_tables.proofs.Inserts.{Becomes}
 
 -- a new row is shown beside the others

@@ -1,7 +1,7 @@
 -- What an UPDATE, an upsert and a DELETE do.
-use Rattle.std.proofs.Common.{◌≡◌, ◌≢◌, ◌⊎◌, inl, inr, ℕ, ◌/◌, ℤ, List, [], ◌∷◌, ◌++◌, length, map, filter, drop, slice_get, Bool, true, false, not, cond, Option, Some, None, Ok, Err, Result, refl, sym, ap, subst, ◌∙◌, IsPermutation}
+use Rattle.std.proofs.Common.{◌≡◌, inl, inr, ℕ, ◌/◌, ℤ, List, [], ◌∷◌, ◌++◌, length, map, filter, drop, slice_get, Bool, not, Option, Some, None, Ok, refl, sym, ap, subst, ◌∙◌, IsPermutation}
 use Rattle.std.specs.List.{AllByRecursion}
-use Rattle.std.proofs.lemmas.List.Sorted.{IsPermutation-refl, IsPermutation-sym, IsPermutation-trans, IsPermutation-append, IsPermutation-map}
+use Rattle.std.proofs.lemmas.List.Sorted.{IsPermutation-refl, IsPermutation-trans, IsPermutation-append, IsPermutation-map}
 use Rattle.sqlite.specs.declared.types.Value.TheVariants.{Null}
 use Rattle.sqlite.specs.Order.{Row}
 use Rattle.sqlite.specs.Query.{Query, IsAnswer}
@@ -19,15 +19,14 @@ use Rattle.sqlite_rules.specs.Keys.{AreConflicts}
 use Rattle.sqlite_rules.specs.declared.error.Refusal.{Refusal}
 use Rattle.sqlite_schema.specs.declared.schema.Keys.TheVariants.{Enforced}
 use Rattle.sqlite_trees.specs.declared.store.Shape.TheVariants.{Table as Shaped}
-use Rattle.sqlite_trees.specs.View.{is_int, IsShaped}
+use Rattle.sqlite_trees.specs.View.{IsShaped}
 use Rattle.sqlite.specs.Does.{Tally, Does}
 use Rattle.sqlite.specs.Rows.{Written, Task, stamped, shown, Updates, Upserts, Judged, Meets, Puts, TriesEach, count_of, nothing}
-use Rattle.sqlite.specs.declared.error.Error.{Error}
 use Rattle.sqlite.specs.Listing.{understood}
 use Rattle.sqlite.specs.Effect.{Database, value_rows}
 use Rattle.sqlite.specs.State.{State, mode_of, Executes}
 use Rattle.sqlite.proofs.Callers.{IsPlain, command_of, statement_of, runs_as, one_step}
-use Rattle.sqlite_keyed.proofs.ListLemmas.{map-map, all-filter, all_weaker}
+use Rattle.sqlite_keyed.proofs.ListLemmas.{map-map}
 use Rattle.ccr_tables.specs.Schema.{our_schema}
 use Rattle.ccr_tables.proofs.Inserts.{went, same_value, uncounted}
 use Rattle.ccr_tables.proofs.Edits.{map_agree, put_all_free, put_all_shaped, without_all_shaped, numbered_given, left_answered}

@@ -1,14 +1,16 @@
 //! The table `pins`: the pin of each resource that has one.
 
-ghost use Rattle.std.specs.Prelude.{◌≡◌, pos, false, IsTrue, IfOk, OnOk};
+ghost use Rattle.std.specs.Prelude.{◌≡◌, pos, false, IsTrue, IfOk, OnOk, ◌≢◌, IfErr};
 ghost use Rattle.sqlite.specs.State.{HasCleanDisk, IsUnchanged, Survives};
 ghost use Rattle.sqlite.specs.Held.{state};
 ghost use Rattle.ccr_tables.specs.Schema.{our_schema, pairs_schema};
+ghost use Rattle.ccr_tables.specs.Cause.{cause_of};
 ghost use Rattle.ccr_tables.specs.Contents.{Holds};
 ghost use Rattle.ccr_tables.specs.Listing.{IsListed};
 ghost use Rattle.ccr_tables.specs.Step.{Alters, Creates};
 ghost use Rattle.ccr_tables.specs.Written.{with_pin, without_pin};
 
+use crate::cause::Cause;
 use sqlite::{Alter, Connection, Error, Row, Transaction, params};
 
 /// Makes the table.
@@ -63,6 +65,8 @@ pub fn select<S: Alter>(conn: &mut Connection<S>) -> Result<Vec<Row>, Error>
         let new = state S.Store conn.new in
         HasCleanDisk new → old.now.schema ≡ our_schema → OnOk result (IsUnchanged old new) }
     ensures clean { HasCleanDisk (state S.Store conn.new) → HasCleanDisk (state S.Store conn.old) }
+    ensures unrefused { HasCleanDisk (state S.Store conn.new) → (state S.Store conn.old).now.schema ≡ our_schema
+        → IfErr result (λ e. cause_of e ≢ Cause.Refused) }
     ensures mode { conn.old.in_transaction ≡ false → conn.new.in_transaction ≡ false }
     ensures survives { let old = state S.Store conn.old in
         old.now.schema ≡ our_schema → Survives old (state S.Store conn.new) (λ _. ⊥) }

@@ -1,14 +1,16 @@
 //! The table `scopes`: whose version tables there are.
 
-ghost use Rattle.std.specs.Prelude.{◌≡◌, pos, false, IsTrue, IfOk, OnOk};
+ghost use Rattle.std.specs.Prelude.{◌≡◌, pos, false, IsTrue, IfOk, OnOk, ◌≢◌, IfErr};
 ghost use Rattle.sqlite.specs.State.{HasCleanDisk, IsUnchanged, Survives};
 ghost use Rattle.sqlite.specs.Held.{state};
 ghost use Rattle.ccr_tables.specs.Schema.{meta_schema, our_schema, scopes_schema};
+ghost use Rattle.ccr_tables.specs.Cause.{cause_of};
 ghost use Rattle.ccr_tables.specs.Contents.{Holds};
 ghost use Rattle.ccr_tables.specs.Listing.{IsListed};
 ghost use Rattle.ccr_tables.specs.Step.{Alters, Creates};
 ghost use Rattle.ccr_tables.specs.Written.{with_scope};
 
+use crate::cause::Cause;
 use sqlite::{Alter, Connection, Error, Row, Transaction, params};
 
 /// Makes the table.
@@ -54,6 +56,8 @@ pub fn select<S: Alter>(conn: &mut Connection<S>) -> Result<Vec<Row>, Error>
         let new = state S.Store conn.new in
         HasCleanDisk new → old.now.schema ≡ our_schema → OnOk result (IsUnchanged old new) }
     ensures clean { HasCleanDisk (state S.Store conn.new) → HasCleanDisk (state S.Store conn.old) }
+    ensures unrefused { HasCleanDisk (state S.Store conn.new) → (state S.Store conn.old).now.schema ≡ our_schema
+        → IfErr result (λ e. cause_of e ≢ Cause.Refused) }
     ensures mode { conn.old.in_transaction ≡ false → conn.new.in_transaction ≡ false }
     ensures survives { let old = state S.Store conn.old in
         old.now.schema ≡ our_schema → Survives old (state S.Store conn.new) (λ _. ⊥) }

@@ -1,7 +1,7 @@
-use Rattle.std.proofs.Common.{IfOk}
 use Rattle.sqlite.specs.Held.{state}
 use Rattle.ccr_tables.specs.Listing.{IsListed}
 use Rattle.ccr_tables.proofs.Lists.{list_meta, open_meta, same_meta, survive_meta, each}
+use Rattle.ccr_tables.proofs.Refusals.{unrefused_meta}
 use Rattle.ccr_tables.proofs.meta.select.Goals as goal
 
 pub returns-clause-rows : goal.returns-clause-rows
@@ -20,3 +20,7 @@ returns-clause-survives g c has = survive_meta (state g.S.Store c.args.conn.now)
 pub returns-clause-open : goal.returns-clause-open
 returns-clause-open g c clean =
     open_meta (state g.S.Store c.args.conn.now) (state g.S.Store c.query_all.new.self) c.query_all.result (c.query_all.ensures.ok clean)
+
+pub returns-clause-unrefused : goal.returns-clause-unrefused
+returns-clause-unrefused g c clean has =
+    unrefused_meta (state g.S.Store c.args.conn.now) (state g.S.Store c.query_all.new.self) c.query_all.result has (c.query_all.ensures.err clean)

@@ -1,5 +1,5 @@
-use Rattle.std.proofs.Common.{pos, [], ◌∷◌}
-use Rattle.sqlite.specs.declared.types.Value.TheVariants.{Int, Text, Blob}
+use Rattle.std.proofs.Common.{[], ◌∷◌}
+use Rattle.sqlite.specs.declared.types.Value.TheVariants.{Text}
 use Rattle.sqlite.specs.Held.{state}
 use Rattle.ccr_tables.specs.Written.{with_pin}
 use Rattle.ccr_tables.proofs.Texts.{put_pin_text}

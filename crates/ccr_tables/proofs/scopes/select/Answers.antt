@@ -1,7 +1,7 @@
-use Rattle.std.proofs.Common.{IfOk}
 use Rattle.sqlite.specs.Held.{state}
 use Rattle.ccr_tables.specs.Listing.{IsListed}
 use Rattle.ccr_tables.proofs.Lists.{list_scopes, same_scopes, survive_scopes, each}
+use Rattle.ccr_tables.proofs.Refusals.{unrefused_scopes}
 use Rattle.ccr_tables.proofs.scopes.select.Goals as goal
 
 pub returns-clause-rows : goal.returns-clause-rows
@@ -16,3 +16,7 @@ returns-clause-same g c clean has =
 
 pub returns-clause-survives : goal.returns-clause-survives
 returns-clause-survives g c has = survive_scopes (state g.S.Store c.args.conn.now) (state g.S.Store c.query_all.new.self) has c.query_all.ensures.survives
+
+pub returns-clause-unrefused : goal.returns-clause-unrefused
+returns-clause-unrefused g c clean has =
+    unrefused_scopes (state g.S.Store c.args.conn.now) (state g.S.Store c.query_all.new.self) c.query_all.result has (c.query_all.ensures.err clean)

@@ -1,6 +1,6 @@
 use Rattle.std.proofs.Common.{rules, true, sym, subst, IsTrue, refl}
 use Rattle.sqlite.specs.State.{HasCleanDisk, Survives}
-use Rattle.sqlite.specs.Held.{Held, state}
+use Rattle.sqlite.specs.Held.{state}
 use Rattle.sqlite.proofs.Callers.{survives_begin}
 use Rattle.ccr_tables.specs.Step.{Turns}
 use Rattle.ccr_tables.specs.Written.{all_written}
