@@ -11,3 +11,8 @@ pub mod StoreLemmas
 pub mod ListedRows
 pub mod OneMap
 pub mod OneHistory
+pub mod FrontRows
+pub mod ReadRows
+pub mod ReadTables
+pub mod ReadBuilds
+pub mod ShownRows

@@ -73,7 +73,7 @@ some_at (x ∷ xs) zero within = (x, refl)
 some_at (x ∷ xs) (suc i) within = some_at xs i (omega arith)
 
 -- what stands at a place, the first at 1
-at_next : {X : Type 0} → (xs : List X) (i : ℕ) → at_place (i + 1) xs ≡ slice_get xs i
+pub at_next : {X : Type 0} → (xs : List X) (i : ℕ) → at_place (i + 1) xs ≡ slice_get xs i
 at_next xs i =
     let back : i + 1 - 1 ≡ i = omega arith in
     rw (ne_eqb (i + 1) 0 (λ e. omega (arith, e)), back) refl

@@ -34,7 +34,7 @@ use Rattle.sqlite_keyed.proofs.ListLemmas.{map_back}
 use Rattle.ccr_store.proofs.OneMap.{one_map}
 
 -- ---- rows in order
-abbrev Below : Row → Row → Type 0
+abbrev pub Below : Row → Row → Type 0
 Below r s = row_cmp r s ≡ Less
 
 not_below : (r s : Row) → Below r s → is_lt (row_cmp s r) ≡ false
@@ -48,21 +48,21 @@ one_order xs ys up rises same =
 int_less : (a b : ℕ) → a < b → int_cmp (pos a) (pos b) ≡ Less
 int_less a b less = grind (arith, nat_tests)
 
-number_below : (a b : ℕ) (r s : Row) → a < b → Below (Int (pos a) ∷ r) (Int (pos b) ∷ s)
+pub number_below : (a b : ℕ) (r s : Row) → a < b → Below (Int (pos a) ∷ r) (Int (pos b) ∷ s)
 number_below a b r s less = ap (λ o. ordering_then o (row_cmp r s)) (value_cmp-Int (pos a) (pos b) ∙ int_less a b less)
 
-then_below : (v : Value) (r s : Row) → Below r s → Below (v ∷ r) (v ∷ s)
+pub then_below : (v : Value) (r s : Row) → Below r s → Below (v ∷ r) (v ∷ s)
 then_below v r s less = ap (λ o. ordering_then o (row_cmp r s)) (tied_itself value_cmp_total v) ∙ less
 
-text_below : (s t : List ℕ) (r q : Row) → slice_cmp nat_cmp s t ≡ Less → Below (Words s ∷ r) (Words t ∷ q)
+pub text_below : (s t : List ℕ) (r q : Row) → slice_cmp nat_cmp s t ≡ Less → Below (Words s ∷ r) (Words t ∷ q)
 text_below s t r q less = ap (λ o. ordering_then o (row_cmp r q)) (value_cmp-Text s t ∙ less)
 
 -- ---- rows by their first number
 -- the row begins with this number; with it, or a greater one
-abbrev At : ℕ → Row → Type 0
+abbrev pub At : ℕ → Row → Type 0
 At id r = (q : Row) × (r ≡ Int (pos id) ∷ q)
 
-abbrev From : ℕ → Row → Type 0
+abbrev pub From : ℕ → Row → Type 0
 From id r = (k : ℕ) × (id ≤ k) × At k r
 
 at_below : (id k : ℕ) (r s : Row) → id < k → At id r → From k s → Below r s
@@ -106,7 +106,7 @@ split_by P Q never (x ∷ xs) (y ∷ ys) more rest_of h k p q e =
     (ap₂ (λ (r : Row) (rs : List Row). r ∷ rs) (ap (λ rs. get_or rs 0 x) e) rest.0, rest.1)
 
 -- ---- scopes
-scopes_from : (id : ℕ) (ts : List TableData) → AllByRecursion (From id) (scope_rows id ts)
+pub scopes_from : (id : ℕ) (ts : List TableData) → AllByRecursion (From id) (scope_rows id ts)
 scopes_from id [] = tt
 scopes_from id (t ∷ ts) = ((id, omega arith, (_, refl)), all_later id (scope_rows (id + 1) ts) (scopes_from (id + 1) ts))
 
@@ -115,11 +115,11 @@ scopes_up id [] = tt
 scopes_up id (t ∷ ts) = (below_all id (scope_row id t.scope) (scope_rows (id + 1) ts) (_, refl) (scopes_from (id + 1) ts), scopes_up (id + 1) ts)
 
 -- ---- versions
-versions_at : (id place : ℕ) (vs : List TextMap) → AllByRecursion (At id) (version_rows id place vs)
+pub versions_at : (id place : ℕ) (vs : List TextMap) → AllByRecursion (At id) (version_rows id place vs)
 versions_at id place [] = tt
 versions_at id place (v ∷ vs) = ((_, refl), versions_at id (place + 1) vs)
 
-places_from : (id place : ℕ) (vs : List TextMap) → AllByRecursion (λ r. (k : ℕ) × (q : Row) × (place ≤ k) × (r ≡ Int (pos id) ∷ Int (pos k) ∷ q)) (version_rows id place vs)
+pub places_from : (id place : ℕ) (vs : List TextMap) → AllByRecursion (λ r. (k : ℕ) × (q : Row) × (place ≤ k) × (r ≡ Int (pos id) ∷ Int (pos k) ∷ q)) (version_rows id place vs)
 places_from id place [] = tt
 places_from id place (v ∷ vs) =
     ((place, _, omega arith, refl), all_weaker (λ r. (k : ℕ) × (q : Row) × (place + 1 ≤ k) × (r ≡ Int (pos id) ∷ Int (pos k) ∷ q)) (λ r. (k : ℕ) × (q : Row) × (place ≤ k) × (r ≡ Int (pos id) ∷ Int (pos k) ∷ q)) (λ r it. (it.0, it.1, omega (arith, it.2), it.3)) (version_rows id (place + 1) vs) (places_from id (place + 1) vs))
@@ -135,7 +135,7 @@ versions_up id place (v ∷ vs) = (
   versions_up id (place + 1) vs,
 )
 
-tables_from : (id : ℕ) (ts : List TableData) → AllByRecursion (From id) (table_rows id ts)
+pub tables_from : (id : ℕ) (ts : List TableData) → AllByRecursion (From id) (table_rows id ts)
 tables_from id [] = tt
 tables_from id (t ∷ ts) =
     all-append (From id) (version_rows id 1 t.versions) (table_rows (id + 1) ts) (all_from id (version_rows id 1 t.versions) (versions_at id 1 t.versions)) (all_later id (table_rows (id + 1) ts) (tables_from (id + 1) ts))
@@ -173,7 +173,7 @@ one_tables id (t ∷ ts) (u ∷ us) e d =
     ap₂ (λ (w : TableData) (ws : List TableData). w ∷ ws) here (one_tables (id + 1) ts us (ap (drop 1) e) parts.1)
 
 -- ---- builds
-builds_from : (id : ℕ) (bs : List BuildData) → AllByRecursion (From id) (build_rows id bs)
+pub builds_from : (id : ℕ) (bs : List BuildData) → AllByRecursion (From id) (build_rows id bs)
 builds_from id [] = tt
 builds_from id (b ∷ bs) = ((id, omega arith, (_, refl)), all_later id (build_rows (id + 1) bs) (builds_from (id + 1) bs))
 
@@ -186,7 +186,7 @@ from_pairs : {X : Type 0} (R : X → X → Type 0) (xs : List X) → AllPairs R 
 from_pairs R [] h = tt
 from_pairs R (x ∷ xs) h = (recursion_from_All (R x) xs (pairs_head R x xs h), from_pairs R xs (pairs_tail R x xs h))
 
-from_names : {X : Type 0} (name : X → List ℕ) (xs : List X) → IsStrictlySortedBy (slice_cmp nat_cmp) (map name xs) → IsAscending (λ x y. slice_cmp nat_cmp (name x) (name y) ≡ Less) xs
+pub from_names : {X : Type 0} (name : X → List ℕ) (xs : List X) → IsStrictlySortedBy (slice_cmp nat_cmp) (map name xs) → IsAscending (λ x y. slice_cmp nat_cmp (name x) (name y) ≡ Less) xs
 unfolding IsStrictlySortedBy
 from_names name [] h = tt
 from_names name (x ∷ xs) h = (all_from_map (λ k. slice_cmp nat_cmp (name x) k ≡ Less) name xs h.0, from_names name xs h.1)
@@ -223,10 +223,10 @@ between id p u some =
     then_below (Int (pos id)) (Words [] ∷ Int (pos p.0) ∷ Int (pos p.1) ∷ []) (Words u.input ∷ Int (pos u.scope) ∷ Int (pos u.place) ∷ [])
     (text_below [] u.input (Int (pos p.0) ∷ Int (pos p.1) ∷ []) (Int (pos u.scope) ∷ Int (pos u.place) ∷ []) (empty_below u.input some))
 
-abbrev own : ℕ → BuildData → List Row
+abbrev pub own : ℕ → BuildData → List Row
 own id b = map (moved_row id) b.moved ++ map (used_row id) b.used
 
-own_at : (id : ℕ) (b : BuildData) → AllByRecursion (At id) (own id b)
+pub own_at : (id : ℕ) (b : BuildData) → AllByRecursion (At id) (own id b)
 own_at id b =
     all-append (At id) (map (moved_row id) b.moved) (map (used_row id) b.used)
     (all-map (At id) (moved_row id) b.moved (all_of (λ p. At id (moved_row id p)) (λ p. (_, refl)) b.moved))
@@ -241,11 +241,11 @@ own_up id tables b rules =
     (all_of (λ p. AllByRecursion (Below (moved_row id p)) (map (used_row id) b.used)) (λ p.
     all-map (Below (moved_row id p)) (used_row id) b.used (all_weaker (IsUsed tables) (λ u. Below (moved_row id p) (used_row id u)) (λ u it. between id p u it.0) b.used rules.1)) b.moved))
 
-pairs_from : (id : ℕ) (bs : List BuildData) → AllByRecursion (From id) (listed_pairs id bs)
+pub pairs_from : (id : ℕ) (bs : List BuildData) → AllByRecursion (From id) (listed_pairs id bs)
 pairs_from id [] = tt
 pairs_from id (b ∷ bs) = all-append (From id) (own id b) (listed_pairs (id + 1) bs) (all_from id (own id b) (own_at id b)) (all_later id (listed_pairs (id + 1) bs) (pairs_from (id + 1) bs))
 
-pairs_up : (id : ℕ) (tables : List TableData) (bs : List BuildData) → AllByRecursion (IsBuild tables) bs → IsAscending Below (listed_pairs id bs)
+pub pairs_up : (id : ℕ) (tables : List TableData) (bs : List BuildData) → AllByRecursion (IsBuild tables) bs → IsAscending Below (listed_pairs id bs)
 pairs_up id tables [] h = tt
 pairs_up id tables (b ∷ bs) h =
     ascending-append Below (own id b) (listed_pairs (id + 1) bs) (own_up id tables b h.0) (pairs_up (id + 1) tables bs h.1)

@@ -1,5 +1,6 @@
 -- What a commit leaves, over what a store is.
-use Rattle.std.proofs.Common.{◌≡◌, Ok, Err, OnOk, Result, List, map, sym, ap, ◌∙◌, subst, IsTrue}
+use Rattle.std.proofs.Common.{◌≡◌, Ok, Err, OnOk, IfErr, Result, List, map, sym, ap, ◌∙◌, subst, IsTrue}
+use Rattle.std.specs.Prelude.{IfSome, IsErrAnd}
 use Rattle.sqlite_trees.specs.declared.store.Store.{Ghosts}
 use Rattle.sqlite.specs.declared.error.Error.{Error}
 use Rattle.sqlite.specs.Tree.{Trees}
@@ -20,8 +21,11 @@ use Rattle.ccr_tables.specs.declared.write.Write.{Write}
 use Rattle.ccr_store.specs.Outline.{IsOutline, name_of, all_outlined, outline_writes}
 use Rattle.ccr_store.specs.Reordered.{HasSameRows}
 use Rattle.ccr_storage.specs.declared.fault.StoreFault.{StoreFault}
+use Rattle.ccr_storage.specs.declared.fault.StoreFault.TheVariants.{NoMemory, NotOurs}
+use Rattle.ccr_store.specs.Readable.{IsReadable}
 use Rattle.ccr_store.specs.Rows.{HasFormat, rows_of}
 use Rattle.ccr_store.specs.StoreData.{StoreData, IsStored, IsKept}
+use Rattle.ccr_store.specs.Texts.{HasTexts}
 use Rattle.ccr_store.specs.WriteData.{WriteData, write_data, all_made}
 use Rattle.ccr_store.proofs.ChangeRows.{changes_kept}
 use Rattle.ccr_store.proofs.OutlineLaws.{all_kept, all_writes_same}
@@ -77,6 +81,24 @@ stored_loaded g s t new h o these same is rules rows unchanged holds =
 pub same_loaded : {S : Type 0} (g : Ghosts S) (s t : StoreData S) (new : State) → s ≡ t → ((state g s.conn).now.schema ≡ our_schema → IsUnchanged (state g s.conn) new) → (state g t.conn).now.schema ≡ our_schema → IsUnchanged (state g t.conn) new
 same_loaded g s t new same unchanged has =
     subst (λ (k : StoreData _). IsUnchanged (state g k.conn) new) same (unchanged (subst (λ (k : StoreData _). (state g k.conn).now.schema ≡ our_schema) (sym same) has))
+
+-- ---- no history has the rows
+-- each history of the database has texts, a pipeline that can be read, and isn't there
+abbrev HasNone : Database → Type 0
+HasNone db = (h : HistoryData) → IsHistory h → HasTexts h → IfSome h.text IsReadable → ¬ Holds (rows_of h) db
+
+pub out_of_memory : {X : Type 0} (r : Result X StoreFault) (fault : StoreFault) → IsErrAnd r (λ e. e ≡ fault) → fault ≡ NoMemory → IfErr r (λ e. e ≡ NoMemory)
+out_of_memory (Ok x) fault h is = tt
+out_of_memory (Err e) fault h is = h ∙ is
+
+-- where a history that the database holds leaves no fault but memory, `NotOurs` says that there is none
+pub not_ours_read : {X : Type 0} (r : Result X StoreFault) (db : Database) → ((h : HistoryData) → IsHistory h → HasTexts h → IfSome h.text IsReadable → Holds (rows_of h) db → IfErr r (λ fault. fault ≡ NoMemory)) → IfErr r (λ fault. fault ≡ NotOurs → HasNone db)
+not_ours_read (Ok x) db h = tt
+not_ours_read (Err fault) db h = λ ours k rules texts readable holds. absurd (let both = sym ours ∙ h k rules texts readable holds in cc)
+
+pub not_ours_loaded : {X S : Type 0} (g : Ghosts S) (s t : StoreData S) (r : Result X StoreFault) (fault : StoreFault) → s ≡ t → IsErrAnd r (λ e. e ≡ fault) → (fault ≡ NotOurs → HasNone (state g s.conn).now) → IfErr r (λ e. e ≡ NotOurs → HasNone (state g t.conn).now)
+not_ours_loaded g s t (Ok x) fault same is h = tt
+not_ours_loaded g s t (Err e) fault same is h = λ ours. subst (λ (k : StoreData _). HasNone (state g k.conn).now) same (h (sym is ∙ ours))
 
 -- ---- a store over a database
 pub found_not_made : (r : Result Creation Error) (it : Creation) → r ≡ Ok it → it ≡ Found → r ≡ Ok Made → ⊥

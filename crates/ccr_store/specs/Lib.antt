@@ -7,3 +7,4 @@ pub mod StoreData
 pub mod Faults
 pub mod Listed
 pub mod Readable
+pub mod Texts

@@ -1,5 +1,6 @@
 //! Columns of a row.
-ghost use Rattle.std.specs.Prelude.{◌≡◌, pos, IsTrue};
+ghost use Rattle.std.specs.Prelude.{◌≡◌, ◌<◌, pos, length, IsTrue, IfOk, IfErr};
+ghost use Rattle.ccr_storage.specs.declared.fault.StoreFault.TheVariants.{NoMemory};
 ghost use Rattle.sqlite.specs.declared.types.Value.TheVariants.{Int, Text, Blob};
 ghost use Rattle.sqlite.specs.Order.{column};
 
@@ -9,7 +10,11 @@ use sqlite::Row;
 use sqlite::types::{FromSql, ValueRef};
 
 /// What a history's row has in a column: `NotOurs` where it has another kind of value there, and `NoMemory` if out of memory.
-pub(crate) fn read_column<T: FromSql>(row: &Row, at: usize) -> Result<T, StoreFault> {
+pub(crate) fn read_column<T: FromSql>(row: &Row, at: usize) -> Result<T, StoreFault>
+    ensures value { IfOk result (λ x. T.FromSql.reads_as (column row.now at) x) }
+    ensures kind { IfErr result (λ fault. at < length row.now
+        → T.FromSql.is_readable (column row.now at) → fault ≡ NoMemory) }
+{
     match row.get::<T>(at) {
         Ok(value) => Ok(value),
         Err(error) if Cause::of(&error) == Cause::NoMemory => Err(StoreFault::NoMemory),
@@ -19,7 +24,8 @@ pub(crate) fn read_column<T: FromSql>(row: &Row, at: usize) -> Result<T, StoreFa
 
 /// Whether the column has this number.
 pub(crate) fn is_number(row: &Row, at: usize, number: u32) -> bool
-    ensures { IsTrue result → column row.now at ≡ Int (pos number) }
+    ensures is { IsTrue result → column row.now at ≡ Int (pos number) }
+    ensures only { column row.now at ≡ Int (pos number) → IsTrue result }
 {
     match row.get_ref(at) {
         Ok(ValueRef::Int(found)) => found == i64::from(number),
@@ -29,7 +35,8 @@ pub(crate) fn is_number(row: &Row, at: usize, number: u32) -> bool
 
 /// Whether the column has this text.
 pub(crate) fn is_text(row: &Row, at: usize, text: &str) -> bool
-    ensures { IsTrue result → column row.now at ≡ Text text.now }
+    ensures is { IsTrue result → column row.now at ≡ Text text.now }
+    ensures only { column row.now at ≡ Text text.now → IsTrue result }
 {
     match row.get_ref(at) {
         Ok(ValueRef::Text(found)) => found == text.as_bytes(),
@@ -39,7 +46,8 @@ pub(crate) fn is_text(row: &Row, at: usize, text: &str) -> bool
 
 /// Whether the column has these bytes.
 pub(crate) fn is_blob(row: &Row, at: usize, bytes: &[u8]) -> bool
-    ensures { IsTrue result → column row.now at ≡ Blob bytes.now }
+    ensures is { IsTrue result → column row.now at ≡ Blob bytes.now }
+    ensures only { column row.now at ≡ Blob bytes.now → IsTrue result }
 {
     match row.get_ref(at) {
         Ok(ValueRef::Blob(found)) => found == bytes,

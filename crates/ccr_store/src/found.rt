@@ -1,12 +1,13 @@
 //! The rows that the six tables have.
-ghost use Rattle.std.specs.Prelude.{◌≡◌, false, IsTrue, IfOk, OnOk};
+ghost use Rattle.std.specs.Prelude.{◌≡◌, ◌≢◌, false, IsTrue, IfOk, IfErr, OnOk};
+ghost use Rattle.ccr_tables.specs.Cause.{cause_of};
 ghost use Rattle.sqlite.specs.State.{HasCleanDisk, IsUnchanged};
 ghost use Rattle.sqlite.specs.Held.{state};
 ghost use Rattle.ccr_tables.specs.Contents.{Holds};
 ghost use Rattle.ccr_tables.specs.Schema.{our_schema};
 ghost use Rattle.ccr_store.specs.Listed.{AreSeen, AreBuilt};
 
-use ccr_tables::{builds, meta, pairs, pins, scopes, versions};
+use ccr_tables::{Cause, builds, meta, pairs, pins, scopes, versions};
 use sqlite::{Alter, Connection, Error as SqlError, Row};
 
 /// The rows of what was set and seen, each table in the order of its key.
@@ -32,6 +33,8 @@ pub(crate) fn read_seen<S: Alter>(conn: &mut Connection<S>) -> Result<Seen, SqlE
     ensures same { let old = state S.Store conn.old in
         let new = state S.Store conn.new in
         HasCleanDisk new → old.now.schema ≡ our_schema → OnOk result (IsUnchanged old new) }
+    ensures unrefused { HasCleanDisk (state S.Store conn.new) → (state S.Store conn.old).now.schema ≡ our_schema
+        → IfErr result (λ e. cause_of e ≢ Cause.Refused) }
     ensures clean { HasCleanDisk (state S.Store conn.new) → HasCleanDisk (state S.Store conn.old) }
     ensures open { HasCleanDisk (state S.Store conn.new) → IfOk result (λ _. IsTrue (state S.Store conn.old).is_open) }
     ensures mode { conn.old.in_transaction ≡ false → conn.new.in_transaction ≡ false }
@@ -53,6 +56,8 @@ pub(crate) fn read_built<S: Alter>(conn: &mut Connection<S>) -> Result<Built, Sq
     ensures same { let old = state S.Store conn.old in
         let new = state S.Store conn.new in
         HasCleanDisk new → old.now.schema ≡ our_schema → OnOk result (IsUnchanged old new) }
+    ensures unrefused { HasCleanDisk (state S.Store conn.new) → (state S.Store conn.old).now.schema ≡ our_schema
+        → IfErr result (λ e. cause_of e ≢ Cause.Refused) }
     ensures clean { HasCleanDisk (state S.Store conn.new) → HasCleanDisk (state S.Store conn.old) }
     ensures mode { conn.old.in_transaction ≡ false → conn.new.in_transaction ≡ false }
 {

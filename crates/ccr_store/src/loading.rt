@@ -1,14 +1,17 @@
 //! The history whose rows the tables have.
-ghost use Rattle.std.specs.Prelude.{◌≡◌, false, IsTrue, IfOk, IfSome, OnOk};
+ghost use Rattle.std.specs.Prelude.{◌≡◌, false, IsTrue, IfOk, IfErr, IfSome, OnOk};
 ghost use Rattle.sqlite.specs.State.{HasCleanDisk, IsUnchanged};
 ghost use Rattle.sqlite.specs.Held.{state};
-ghost use Rattle.ccr_history.specs.History.{IsHistory};
+ghost use Rattle.ccr_history.specs.History.{HistoryData, IsHistory};
+ghost use Rattle.ccr_storage.specs.declared.fault.StoreFault.TheVariants.{NoMemory, NotOurs};
+ghost use Rattle.ccr_tables.specs.Cause.{cause_of};
 ghost use Rattle.ccr_tables.specs.Contents.{Contents, Holds};
 ghost use Rattle.ccr_tables.specs.Schema.{our_schema};
 ghost use Rattle.ccr_store.specs.Listed.{listed, contents_of};
 ghost use Rattle.ccr_store.specs.Readable.{IsReadable};
 ghost use Rattle.ccr_store.specs.Reordered.{HasSameRows};
 ghost use Rattle.ccr_store.specs.Rows.{HasFormat, rows_of};
+ghost use Rattle.ccr_store.specs.Texts.{HasTexts};
 
 use crate::fault::fault_of;
 use crate::found::{Built, Seen, read_built, read_seen};
@@ -18,12 +21,14 @@ use crate::matching::{
 use crate::reading::{check_text, read_rows};
 use ccr_history::History;
 use ccr_storage::StoreFault;
-use ccr_tables::meta;
+use ccr_tables::{Cause, meta};
 use sqlite::{Alter, Connection, Error as SqlError};
 use std::alloc::{AllocError, Global};
 
 /// The fault of a failed read; a read that is refused finds other tables.
-fn read_fault_of(error: &SqlError) -> StoreFault {
+fn read_fault_of(error: &SqlError) -> StoreFault
+    ensures { result ≡ NotOurs → cause_of error.now ≡ Cause.Refused }
+{
     match fault_of(error) {
         StoreFault::Refused => StoreFault::NotOurs,
         fault => fault,
@@ -59,6 +64,9 @@ fn are_rows_of(
     ensures rows { IfOk result (λ same. IsTrue same → listed history.now ≡ contents_of
         seen.now.meta.items seen.now.scopes.items seen.now.versions.items
         built.now.builds.items built.now.pairs.items built.now.pins.items) }
+    ensures only { listed history.now ≡ contents_of
+        seen.now.meta.items seen.now.scopes.items seen.now.versions.items
+        built.now.builds.items built.now.pairs.items built.now.pins.items → IfOk result IsTrue }
 {
     let has_versions = are_versions(alloc, &seen.versions, history)?;
     let has_pins = are_pins(alloc, &built.pins, history.pins())?;
@@ -79,6 +87,9 @@ fn history_of(alloc: Global, seen: &Seen, built: &Built) -> Result<History, Stor
         built.now.builds.items built.now.pairs.items built.now.pins.items) }
     ensures rules { IfOk result IsHistory }
     ensures readable { IfOk result (λ history. IfSome history.text IsReadable) }
+    ensures only { (h : HistoryData) → IsHistory h → HasTexts h → IfSome h.text IsReadable → listed h ≡ contents_of
+        seen.now.meta.items seen.now.scopes.items seen.now.versions.items
+        built.now.builds.items built.now.pairs.items built.now.pins.items → IfErr result (λ fault. fault ≡ NoMemory) }
 {
     let history = read_rows(alloc, seen, built)?;
     history.rules();
@@ -101,6 +112,9 @@ pub(crate) fn load<S: Alter>(alloc: Global, conn: &mut Connection<S>) -> Result<
     ensures clean { HasCleanDisk (state S.Store conn.new) → HasCleanDisk (state S.Store conn.old) }
     ensures rules { IfOk result IsHistory }
     ensures readable { IfOk result (λ history. IfSome history.text IsReadable) }
+    ensures not_ours { HasCleanDisk (state S.Store conn.new) → IfErr result (λ fault. fault ≡ NotOurs
+        → (h : HistoryData) → IsHistory h → HasTexts h → IfSome h.text IsReadable
+        → ¬ Holds (rows_of h) (state S.Store conn.old).now) }
     ensures open { HasCleanDisk (state S.Store conn.new) → IfOk result (λ _. IsTrue (state S.Store conn.old).is_open) }
     ensures mode { conn.old.in_transaction ≡ false → conn.new.in_transaction ≡ false }
 {

@@ -1,5 +1,5 @@
 //! Whether rows are those of a history.
-ghost use Rattle.std.specs.Prelude.{◌≡◌, ◌≤◌, ◌++◌, List, [], ◌∷◌, pos, length, map, IsTrue, IfOk, IfSome, option_copied};
+ghost use Rattle.std.specs.Prelude.{◌≡◌, ◌≤◌, ◌++◌, List, [], ◌∷◌, pos, length, map, IsTrue, IfOk, IfSome, IsSomeAnd, option_copied};
 ghost use Rattle.sqlite.specs.declared.types.Value.TheVariants.{Int, Text, Blob};
 ghost use Rattle.sqlite.specs.Order.{Row as RowData};
 ghost use Rattle.ccr_history.specs.declared.table.TheConstants.{MOST_VERSIONS};
@@ -15,7 +15,8 @@ use std::alloc::{AllocError, Global};
 // ---- what was set
 #[tactic(auto, using(crate::proofs::ListedRows::two))]
 fn is_meta(row: &Row, key: u32, bytes: &[u8]) -> bool
-    ensures { IsTrue result → row.now ≡ Int (pos key) ∷ Blob bytes.now ∷ [] }
+    ensures is { IsTrue result → row.now ≡ Int (pos key) ∷ Blob bytes.now ∷ [] }
+    ensures only { row.now ≡ Int (pos key) ∷ Blob bytes.now ∷ [] → IsTrue result }
 {
     row.column_count() == 2 && is_number(row, 0, key) && is_blob(row, 1, bytes)
 }
@@ -32,7 +33,8 @@ pub(crate) fn has_format(rows: &[Row]) -> bool
 
 /// Whether the rows are those of the format and of this text.
 pub(crate) fn are_meta(rows: &[Row], text: Option<&[u8]>) -> bool
-    ensures { IsTrue result → rows.now ≡ meta_rows (option_copied text.entry) }
+    ensures is { IsTrue result → rows.now ≡ meta_rows (option_copied text.entry) }
+    ensures only { rows.now ≡ meta_rows (option_copied text.entry) → IsTrue result }
 {
     let [format, more @ ..] = rows else {
         return false;
@@ -52,7 +54,8 @@ pub(crate) fn are_meta(rows: &[Row], text: Option<&[u8]>) -> bool
 // ---- what was seen
 #[tactic(auto, using(crate::proofs::ListedRows::four))]
 fn is_scope(row: &Row, id: u32, scope: &Scope) -> bool
-    ensures { IsTrue result → row.now ≡ scope_row id scope.now }
+    ensures is { IsTrue result → row.now ≡ scope_row id scope.now }
+    ensures only { row.now ≡ scope_row id scope.now → IsTrue result }
 {
     row.column_count() == 4
         && is_number(row, 0, id)
@@ -63,7 +66,8 @@ fn is_scope(row: &Row, id: u32, scope: &Scope) -> bool
 
 /// Whether the rows are those of the scopes.
 pub(crate) fn are_scopes(rows: &[Row], history: &History) -> bool
-    ensures { IsTrue result → rows.now ≡ scope_rows 1 history.now.tables }
+    ensures is { IsTrue result → rows.now ≡ scope_rows 1 history.now.tables }
+    ensures only { rows.now ≡ scope_rows 1 history.now.tables → IsTrue result }
 {
     if rows.len() != history.scope_count() as usize {
         return false;
@@ -83,7 +87,8 @@ pub(crate) fn are_scopes(rows: &[Row], history: &History) -> bool
 
 #[tactic(auto, using(crate::proofs::ListedRows::three))]
 fn is_version(row: &Row, scope: u32, place: u32, key: &str) -> bool
-    ensures { IsTrue result → row.now ≡ Int (pos scope) ∷ Int (pos place) ∷ Text key.now ∷ [] }
+    ensures is { IsTrue result → row.now ≡ Int (pos scope) ∷ Int (pos place) ∷ Text key.now ∷ [] }
+    ensures only { row.now ≡ Int (pos scope) ∷ Int (pos place) ∷ Text key.now ∷ [] → IsTrue result }
 {
     row.column_count() == 3
         && is_number(row, 0, scope)
@@ -99,7 +104,8 @@ fn are_bodies(
     versions: &[Version],
 ) -> Result<bool, AllocError>
     requires { length versions.now ≤ MOST_VERSIONS }
-    ensures { IfOk result (λ same. IsTrue same → rows.now ≡ version_rows scope 1 versions.now) }
+    ensures is { IfOk result (λ same. IsTrue same → rows.now ≡ version_rows scope 1 versions.now) }
+    ensures only { rows.now ≡ version_rows scope 1 versions.now → IfOk result IsTrue }
 {
     if rows.len() != versions.len() {
         return Ok(false);
@@ -121,7 +127,8 @@ pub(crate) fn are_versions(
     rows: &[Row],
     history: &History,
 ) -> Result<bool, AllocError>
-    ensures { IfOk result (λ same. IsTrue same → rows.now ≡ table_rows 1 history.now.tables) }
+    ensures is { IfOk result (λ same. IsTrue same → rows.now ≡ table_rows 1 history.now.tables) }
+    ensures only { rows.now ≡ table_rows 1 history.now.tables → IfOk result IsTrue }
 {
     let mut rest = rows;
     for index in 0..history.scope_count() {
@@ -141,7 +148,8 @@ pub(crate) fn are_versions(
 // ---- what was built
 #[tactic(auto, using(crate::proofs::ListedRows::four))]
 fn is_build(row: &Row, id: u32, build: &BuildRef<'_>) -> bool
-    ensures { IsTrue result → row.now ≡ build_row id build.now }
+    ensures is { IsTrue result → row.now ≡ build_row id build.now }
+    ensures only { row.now ≡ build_row id build.now → IsTrue result }
 {
     row.column_count() == 4
         && is_number(row, 0, id)
@@ -152,7 +160,8 @@ fn is_build(row: &Row, id: u32, build: &BuildRef<'_>) -> bool
 
 /// Whether the rows are those of the builds.
 pub(crate) fn are_builds(rows: &[Row], history: &History) -> bool
-    ensures { IsTrue result → rows.now ≡ build_rows 1 history.now.builds }
+    ensures is { IsTrue result → rows.now ≡ build_rows 1 history.now.builds }
+    ensures only { rows.now ≡ build_rows 1 history.now.builds → IsTrue result }
 {
     if rows.len() != history.build_count() {
         return false;
@@ -172,8 +181,9 @@ pub(crate) fn are_builds(rows: &[Row], history: &History) -> bool
 
 #[tactic(auto, using(crate::proofs::ListedRows::four))]
 fn is_pair(row: &Row, id: u32, input: &str, scope: u32, place: u32) -> bool
-    ensures { IsTrue result
+    ensures is { IsTrue result
         → row.now ≡ Int (pos id) ∷ Text input.now ∷ Int (pos scope) ∷ Int (pos place) ∷ [] }
+    ensures only { row.now ≡ Int (pos id) ∷ Text input.now ∷ Int (pos scope) ∷ Int (pos place) ∷ [] → IsTrue result }
 {
     row.column_count() == 4
         && is_number(row, 0, id)
@@ -184,7 +194,8 @@ fn is_pair(row: &Row, id: u32, input: &str, scope: u32, place: u32) -> bool
 
 /// Whether the rows are those of what a build moved.
 fn are_moved(rows: &[Row], id: u32, moved: &[(u32, u32)]) -> bool
-    ensures { IsTrue result → rows.now ≡ map (moved_row id) moved.now }
+    ensures is { IsTrue result → rows.now ≡ map (moved_row id) moved.now }
+    ensures only { rows.now ≡ map (moved_row id) moved.now → IsTrue result }
 {
     if rows.len() != moved.len() {
         return false;
@@ -200,7 +211,8 @@ fn are_moved(rows: &[Row], id: u32, moved: &[(u32, u32)]) -> bool
 
 /// Whether the rows are those of what a build used.
 fn are_used(rows: &[Row], id: u32, build: &BuildRef<'_>) -> bool
-    ensures { IsTrue result → rows.now ≡ map (used_row id) build.now.used }
+    ensures is { IsTrue result → rows.now ≡ map (used_row id) build.now.used }
+    ensures only { rows.now ≡ map (used_row id) build.now.used → IsTrue result }
 {
     if rows.len() != build.used_count() {
         return false;
@@ -219,8 +231,11 @@ fn are_used(rows: &[Row], id: u32, build: &BuildRef<'_>) -> bool
 /// What is left of the rows behind those of what a build moved and used, if they begin with these.
 #[tactic(auto, using(crate::proofs::ListedRows::parted))]
 fn after_build<'a>(rows: &'a [Row], id: u32, build: &BuildRef<'_>) -> Option<&'a [Row]>
-    ensures { IfSome result (λ more. rows.now
+    ensures is { IfSome result (λ more. rows.now
         ≡ (map (moved_row id) build.now.moved ++ map (used_row id) build.now.used) ++ more.now) }
+    ensures only { (more : List RowData)
+        → rows.now ≡ (map (moved_row id) build.now.moved ++ map (used_row id) build.now.used) ++ more
+        → IsSomeAnd result (λ left. left.now ≡ more) }
 {
     let moved = build.moved();
     if rows.len() < moved.len() {
@@ -231,16 +246,19 @@ fn after_build<'a>(rows: &'a [Row], id: u32, build: &BuildRef<'_>) -> Option<&'a
         return None;
     }
     let (second, more) = rest.split_at(build.used_count());
-    if are_moved(first, id, moved) && are_used(second, id, build) {
-        Some(more)
-    } else {
-        None
+    if !are_moved(first, id, moved) {
+        return None;
     }
+    if !are_used(second, id, build) {
+        return None;
+    }
+    Some(more)
 }
 
 /// Whether the rows are those of what the builds moved and used.
 pub(crate) fn are_pairs(rows: &[Row], history: &History) -> bool
-    ensures { IsTrue result → rows.now ≡ listed_pairs 1 history.now.builds }
+    ensures is { IsTrue result → rows.now ≡ listed_pairs 1 history.now.builds }
+    ensures only { rows.now ≡ listed_pairs 1 history.now.builds → IsTrue result }
 {
     let mut rest = rows;
     for index in 0..history.build_count() {
@@ -258,14 +276,16 @@ pub(crate) fn are_pairs(rows: &[Row], history: &History) -> bool
 // ---- what is pinned
 #[tactic(auto, using(crate::proofs::ListedRows::two))]
 fn is_pin(row: &Row, resource: &str, text: &str) -> bool
-    ensures { IsTrue result → row.now ≡ Text resource.now ∷ Text text.now ∷ [] }
+    ensures is { IsTrue result → row.now ≡ Text resource.now ∷ Text text.now ∷ [] }
+    ensures only { row.now ≡ Text resource.now ∷ Text text.now ∷ [] → IsTrue result }
 {
     row.column_count() == 2 && is_text(row, 0, resource) && is_text(row, 1, text)
 }
 
 /// Whether the rows are those of the pins.
 pub(crate) fn are_pins(alloc: Global, rows: &[Row], pins: &Pins) -> Result<bool, AllocError>
-    ensures { IfOk result (λ same. IsTrue same → rows.now ≡ map pin_row pins.now) }
+    ensures is { IfOk result (λ same. IsTrue same → rows.now ≡ map pin_row pins.now) }
+    ensures only { rows.now ≡ map pin_row pins.now → IfOk result IsTrue }
 {
     let mut rest = rows;
     for (resource, pin) in pins.as_map().iter() {

@@ -14,6 +14,7 @@ ghost use Rattle.ccr_store.specs.Readable.{IsReadable};
 ghost use Rattle.ccr_store.specs.Reordered.{HasSameRows};
 ghost use Rattle.ccr_store.specs.Rows.{HasFormat, rows_of};
 ghost use Rattle.ccr_store.specs.StoreData.{IsStored, IsKept};
+ghost use Rattle.ccr_store.specs.Texts.{HasTexts};
 
 use crate::fault::fault_of;
 use crate::loading;
@@ -152,7 +153,7 @@ impl<S: Alter> Store<S> {
 
     /// The history whose rows the tables have. Each table is read once.
     ///
-    /// - `NotOurs` where the tables aren't those of a history, or no history has their rows.
+    /// - `NotOurs` where the tables aren't those of a history, or no history of a readable pipeline has their rows.
     /// - `Disk` or `Interrupted` where `sqlite` failed so.
     /// - `NoMemory` if out of memory.
     pub fn load(&mut self, alloc: Global) -> Result<History, StoreFault>
@@ -164,6 +165,9 @@ impl<S: Alter> Store<S> {
             → HasSameRows (rows_of history) these × IsStored history new.now self.new.outline) }
         ensures only { HasCleanDisk (state S.Store self.new.conn) → IfOk result (λ history. (h : HistoryData)
             → IsHistory h → Holds (rows_of h) (state S.Store self.old.conn).now → h ≡ history) }
+        ensures not_ours { HasCleanDisk (state S.Store self.new.conn) → IfErr result (λ fault. fault ≡ NotOurs
+            → (h : HistoryData) → IsHistory h → HasTexts h → IfSome h.text IsReadable
+            → ¬ Holds (rows_of h) (state S.Store self.old.conn).now) }
         ensures kept { IfOk result (λ history. (these : Contents) → Holds these (state S.Store self.old.conn).now
             → IsKept S.Store self.new history) }
         ensures same { let old = state S.Store self.old.conn in

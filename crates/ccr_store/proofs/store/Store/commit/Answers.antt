@@ -1,4 +1,3 @@
-use Rattle.std.proofs.Common.{◌≡◌}
 use Rattle.sqlite.specs.Held.{state}
 use Rattle.ccr_history.specs.Edits.{change_data}
 use Rattle.ccr_store.proofs.StoreLemmas.{outlined_now, stored_now, crash_now}

@@ -1,6 +1,6 @@
 use Rattle.std.proofs.Common.{◌≡◌, ◌∙◌, not, false, sym, ap}
 use Rattle.sqlite.specs.Held.{state}
-use Rattle.ccr_store.proofs.StoreLemmas.{stored_loaded, same_loaded}
+use Rattle.ccr_store.proofs.StoreLemmas.{stored_loaded, same_loaded, not_ours_loaded}
 use Rattle.ccr_store.specs.Rows.{rows_of}
 use Rattle.ccr_store.proofs.OneHistory.{one_history}
 use Rattle.ccr_store.proofs.store.Store.load.Goals as goal
@@ -28,3 +28,7 @@ returns-in-Ok-clause-kept g c these holds clean up =
     (c.of.ensures ∙ c.in-Ok.ensures) c.in_ok-history.ensures.rules (c.in_ok-history.ensures.rows clean these) (c.in_ok-history.ensures.same clean) holds in
     let ended : c.load.new.conn.in_transaction ≡ false = c.in_ok-history.ensures.mode c.self.invariant in
     (c.is_autocommit.ensures.settled (c.is_autocommit.ensures.value ∙ ap not ended) up, both.1.rules, both.1.rows)
+
+pub returns-in_err-history-clause-not_ours : goal.returns-in_err-history-clause-not_ours
+returns-in_err-history-clause-not_ours g c clean =
+    not_ours_loaded g.S.Store (record { conn = c.self.inside.conn; outline = c.self.inside.mirror }) c.args.self.now c.from_residual.result _ c.self.view_is c.from_residual.ensures.1 (c.in_err-history.ensures.not_ours clean)
