@@ -1,11 +1,12 @@
 //! What is printed for a text.
 ghost use Rattle.std.specs.Prelude.{◌≤◌};
+ghost use Rattle.ccr_proof.specs.Claim.{IsClaim};
 
 use ccr_choice::{ProblemFault, read_problem};
 use ccr_index::build_index;
 use ccr_pipeline::{ReadFault, read, read_task};
-use ccr_proof::write_proof;
-use ccr_resolve::{Answer as Resolved, resolve};
+use ccr_proof::{Claim, write_claim, write_proof};
+use ccr_resolve::{Answer as Resolved, Chosen, choose, resolve};
 use std::alloc::{AllocError, Global};
 
 /// The status where a node budget is over; its line goes to standard error.
@@ -84,6 +85,32 @@ pub(crate) fn answer_resolve(alloc: Global, text: &[u8], budget: u32) -> Result<
         }),
         Resolved::OverBudget(n) => over_budget(alloc, n),
     }
+}
+
+/// The line that claims a problem's best choice, or that none satisfies, or that the budget is over.
+pub(crate) fn answer_choose(alloc: Global, text: &[u8], budget: u32) -> Result<Answer, AllocError>
+    requires least { 1 ≤ budget }
+    requires most { budget ≤ 1000000 }
+{
+    let problem = match read_problem(alloc, text) {
+        Ok(problem) => problem,
+        Err(fault) => return bad_problem(alloc, fault),
+    };
+    let index = build_index(alloc, &problem)?;
+    match choose(alloc, &index, budget)? {
+        Chosen::Best(choice) => claimed(alloc, &Claim::Best(choice)),
+        Chosen::Nothing => claimed(alloc, &Claim::Nothing),
+        Chosen::OverBudget(n) => over_budget(alloc, n),
+    }
+}
+
+fn claimed(alloc: Global, claim: &Claim) -> Result<Answer, AllocError>
+    requires { IsClaim claim.now }
+{
+    Ok(Answer {
+        lines: write_claim(alloc, claim)?,
+        status: 0,
+    })
 }
 
 fn over_budget(alloc: Global, budget: u32) -> Result<Answer, AllocError> {

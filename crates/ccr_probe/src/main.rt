@@ -1,7 +1,8 @@
 //! Reads a text on standard input by one call of a library, and prints the result.
 //!
 //! `ccr_probe pipeline` reads a pipeline, `ccr_probe task` a task file; `ccr_probe resolve BUDGET` reads a problem and prints the
-//! proof of its best choice, or that none satisfies, of at most BUDGET nodes. `ccr_probe launch` starts `sh -c true`.
+//! proof of its best choice, or that none satisfies, of at most BUDGET nodes; `ccr_probe choose BUDGET` prints the line of the same
+//! claim alone, and BUDGET is of the boxes looked at. `ccr_probe launch` starts `sh -c true`.
 //! `ccr_probe launches COUNT` starts so many programs by one runner, each of which writes 64 KiB.
 //! `ccr_probe type PROGRAMS FOLDER` reads `{"source":..,"params":..}` and tries a resource type: it starts PROGRAMS/check,
 //! PROGRAMS/in for the last version and PROGRAMS/out in FOLDER, with FOLDER/in as the artifact's folder, and prints each version.
@@ -10,6 +11,8 @@
 //! `ccr_probe builds JOB COUNT` reads the same first two lines, and starts so many builds of the job, which it holds all at once.
 //! `ccr_probe events BUDGET` reads a pipeline in one line and events, one a line, and prints what a core answers to each.
 //! `ccr_probe versions N` makes N versions of two short fields and holds them at once.
+//! `ccr_probe grow BUILDS` grows an index event by event until each of five jobs has so many builds, and prints how long the calls of
+//! the next thousand events take (`grow.rt`).
 //! With `--repeat N` behind these the call is made N times, and the whole time is printed on standard error. Statuses: 0 read,
 //! resolved or ended, 1 refused, 2 usage, 3 over budget, 4 out of memory or unreadable.
 #![tactic(auto)]
@@ -18,12 +21,14 @@ ghost use Rattle.std.specs.Prelude.{◌≤◌};
 
 mod answer;
 mod events;
+mod grow;
 mod programs;
 mod steps;
 mod versions;
 
-use answer::{Answer, OVER_BUDGET, answer_pipeline, answer_resolve, answer_task};
+use answer::{Answer, OVER_BUDGET, answer_choose, answer_pipeline, answer_resolve, answer_task};
 use events::answer_events;
+use grow::answer_grow;
 use programs::{Trial, answer_launch, answer_launches, answer_type};
 use std::alloc::AllocError;
 use std::io::Read;
@@ -47,12 +52,14 @@ enum Call<'a> {
     Pipeline,
     Task,
     Resolve(Budget),
+    Choose(Budget),
     Events(Budget),
     Launch,
     Launches(u32),
     Type(Trial<'a>),
     Steps(&'a str, Playing),
     Versions(u32),
+    Grow(u32),
 }
 
 /// What the words ask for: a call, and how often it is made.
@@ -62,8 +69,7 @@ struct Order<'a> {
     times: u32,
 }
 
-fn budget_of(word: &str) -> Option<Budget> {
-    let nodes = word.parse::<u32>().ok()?;
+fn budget_of(nodes: u32) -> Option<Budget> {
     if 1 <= nodes && nodes <= 1_000_000 {
         Some(Budget { nodes })
     } else {
@@ -80,16 +86,28 @@ fn times_of(words: &[String]) -> Option<u32> {
     }
 }
 
+/// The call of a word with one number behind it, and the words behind that.
+fn counted_call<'a>(word: &str, words: &'a [String]) -> Option<(Call<'a>, &'a [String])> {
+    let (number, rest) = words.split_first()?;
+    let number = number.as_str().parse::<u32>().ok()?;
+    let call = match word {
+        "launches" => Call::Launches(number),
+        "versions" => Call::Versions(number),
+        "grow" => Call::Grow(number),
+        "resolve" => Call::Resolve(budget_of(number)?),
+        "choose" => Call::Choose(budget_of(number)?),
+        "events" => Call::Events(budget_of(number)?),
+        _ => return None,
+    };
+    Some((call, rest))
+}
+
 fn order_of(words: &[String]) -> Option<Order<'_>> {
     let (first, rest) = words.split_first()?;
     let (call, rest) = match first.as_str() {
         "pipeline" => (Call::Pipeline, rest),
         "task" => (Call::Task, rest),
         "launch" => (Call::Launch, rest),
-        "launches" => {
-            let (count, rest) = rest.split_first()?;
-            (Call::Launches(count.as_str().parse::<u32>().ok()?), rest)
-        }
         "type" => {
             let (programs, rest) = rest.split_first()?;
             let (folder, rest) = rest.split_first()?;
@@ -109,19 +127,7 @@ fn order_of(words: &[String]) -> Option<Order<'_>> {
             let count = count.as_str().parse::<u32>().ok()?;
             (Call::Steps(job.as_str(), Playing::Held(count)), rest)
         }
-        "versions" => {
-            let (count, rest) = rest.split_first()?;
-            (Call::Versions(count.as_str().parse::<u32>().ok()?), rest)
-        }
-        "resolve" => {
-            let (budget, rest) = rest.split_first()?;
-            (Call::Resolve(budget_of(budget.as_str())?), rest)
-        }
-        "events" => {
-            let (budget, rest) = rest.split_first()?;
-            (Call::Events(budget_of(budget.as_str())?), rest)
-        }
-        _ => return None,
+        word => counted_call(word, rest)?,
     };
     let times = times_of(rest)?;
     Some(Order { call, times })
@@ -133,12 +139,14 @@ fn answer_of(rt: &HostRuntime, call: Call, text: &[u8]) -> Result<Answer, AllocE
         Call::Pipeline => answer_pipeline(alloc, text),
         Call::Task => answer_task(alloc, text),
         Call::Resolve(budget) => answer_resolve(alloc, text, budget.nodes),
+        Call::Choose(budget) => answer_choose(alloc, text, budget.nodes),
         Call::Events(budget) => answer_events(alloc, text, budget.nodes),
         Call::Launch => answer_launch(rt, alloc),
         Call::Launches(count) => answer_launches(rt, alloc, count),
         Call::Type(trial) => answer_type(rt, alloc, text, &trial),
         Call::Steps(job, what) => answer_steps(alloc, text, job, what),
         Call::Versions(count) => answer_versions(alloc, count),
+        Call::Grow(builds) => answer_grow(rt, alloc, builds),
     }
 }
 
@@ -174,7 +182,7 @@ fn main(rt: HostRuntime) -> io::Result<ExitCode> {
     };
     let Some(order) = order_of(&words) else {
         eprintln!(rt;
-            "usage: ccr_probe pipeline|task|resolve BUDGET|events BUDGET|launch|launches COUNT|type PROGRAMS FOLDER|steps JOB|builds JOB COUNT|versions N [--repeat N]"
+            "usage: ccr_probe pipeline|task|resolve BUDGET|choose BUDGET|events BUDGET|launch|launches COUNT|type PROGRAMS FOLDER|steps JOB|builds JOB COUNT|versions N|grow BUILDS [--repeat N]"
         )?;
         return Ok(ExitCode::from(2));
     };

@@ -1,4 +1,4 @@
-//! Trials of the resolver: beside a plain one, and over an index that grows.
+//! Trials of the resolver, beside a plain one.
 //!
 //! The plain resolver looks through all builds, fixes the named jobs in their order, and closes no box before all its children are
 //! done. It is there to compare the resolver over an index with, in what it answers and in what it needs.
@@ -6,20 +6,17 @@
 //! `ccr_trials plain BUDGET` reads a problem and prints the line of the plain resolver's claim and how many nodes its tree has, of
 //! BUDGET at the most. `ccr_trials compare COUNT` makes so many small problems from a seed and compares what the plain resolver, the
 //! resolver over an index and the choice without a proof answer; and an index that is made row by row, in an order of chance, with
-//! the one that is made at once. It prints each problem where they differ. The gate runs it. `ccr_trials grow BUILDS` grows an index
-//! event by event until each of five jobs has so many builds, and prints how long its calls take (`grow.rt`).
+//! the one that is made at once. It prints each problem where they differ. The gate runs it.
 //! Statuses: 0 done, 1 refused or different, 2 usage, 3 over budget, 4 out of memory or unreadable.
 #![tactic(auto)]
 
 mod compare;
-mod grow;
 mod grown;
 mod search;
 mod small;
 
 use ccr_choice::{Choice, ProblemFault, read_problem};
 use compare::compared;
-use grow::grow;
 use search::{PlainAnswer, plain};
 use std::alloc::{AllocError, Global};
 use std::io::Read;
@@ -71,7 +68,6 @@ fn answered(rt: &HostRuntime, words: &[String], text: &[u8]) -> io::Result<Optio
     match first.as_str() {
         "plain" => Ok(Some(resolved(rt.alloc(), text, number)?)),
         "compare" => Ok(Some(compared(rt.alloc(), number)?)),
-        "grow" => Ok(Some((grow(rt, rt.alloc(), number)?, 0))),
         _ => Ok(None),
     }
 }
@@ -94,7 +90,7 @@ fn main(rt: HostRuntime) -> io::Result<ExitCode> {
             Ok(ExitCode::from(status))
         }
         Ok(None) => {
-            eprintln!(rt; "usage: ccr_trials plain BUDGET|compare COUNT|grow BUILDS")?;
+            eprintln!(rt; "usage: ccr_trials plain BUDGET|compare COUNT")?;
             Ok(ExitCode::from(2))
         }
         Err(_) => {

@@ -7,6 +7,7 @@
 
 ghost use Rattle.std.specs.Prelude.{◌<◌};
 
+use crate::answer::Answer;
 use ccr_choice::read_problem;
 use ccr_index::{Index, build_index};
 use ccr_resolve::{Answer as Resolved, Chosen, choose, resolve_indexed};
@@ -308,7 +309,7 @@ fn grown(rt: &HostRuntime, index: &mut Index, world: &mut World, builds: u32) ->
 
 /// Grows an index until each job has so many successful builds, and measures the events that come next; then gives each job a build
 /// of the newest versions and measures the two questions again.
-pub(crate) fn grow(rt: &HostRuntime, alloc: Global, builds: u32) -> io::Result<String> {
+fn lines_of(rt: &HostRuntime, alloc: Global, builds: u32) -> io::Result<String> {
     let Ok(problem) = read_problem(alloc, START) else {
         return Err(AllocError.into());
     };
@@ -328,4 +329,16 @@ pub(crate) fn grow(rt: &HostRuntime, alloc: Global, builds: u32) -> io::Result<S
     }
     lines.push_str(told(alloc, "once the newest builds agree", &times)?.as_str())?;
     Ok(lines)
+}
+
+/// Grows an index until each job has so many successful builds, and prints how long its calls take then.
+pub(crate) fn answer_grow(
+    rt: &HostRuntime,
+    alloc: Global,
+    builds: u32,
+) -> Result<Answer, AllocError> {
+    match lines_of(rt, alloc, builds) {
+        Ok(lines) => Ok(Answer { lines, status: 0 }),
+        Err(_) => Err(AllocError),
+    }
 }
