@@ -1,19 +1,41 @@
 -- What words order, and its budget.
-use Rattle.std.proofs.Common.{◌≡◌, ◌∙◌, ◌≤◌, ◌&&◌, ℕ, List, Bool, true, false, Option, Some, None, Result, Ok, Err, ap, sym, refl, subst, if◌then◌else◌, nat_le, option_map, option_and_then, codes}
+use Rattle.std.proofs.Common.{◌≡◌, ◌≢◌, ◌⊎◌, inl, inr, ◌∙◌, ◌≤◌, ◌&&◌, ℕ, List, Bool, true, false, Option, Some, None, Result, Ok, Err, ap, sym, refl, subst, if◌then◌else◌, nat_le, option_map, option_and_then, codes}
 use Rattle.std.proofs.lemmas.Bool.{and_parts, leb-true}
 use Rattle.std.specs.Str.Parse.{digits_value, without_leading_plus}
 use Rattle.clap.specs.declared.parser.matches.Found.{Found}
-use Rattle.clap.specs.Words.{first_value}
+use Rattle.clap.specs.declared.error.Error.{Error as LineError}
+use Rattle.clap.specs.declared.error.kind.ErrorKind.TheVariants.{OutOfMemory}
+use Rattle.clap.specs.Values.{kind_of}
+use Rattle.clap.specs.Words.{App, Text, first_value, takes}
 use Rattle.ccr_serve.specs.declared.command.Command.{Command}
 use Rattle.ccr_serve.specs.Commands.{CommandData, command_data}
 use Rattle.ccr_command.specs.declared.options.OptionFault.{OptionFault}
 use Rattle.ccr_command.specs.Numbers.{MOST, in_range, is_numeral, numeral_of, number_of}
 use Rattle.ccr_command.specs.Options.{OptionsData, given_or, from_the_top, options_in}
+use Rattle.ccr_command.specs.Usage.{line}
+use Rattle.ccr_run.specs.declared.order.Misuse.{Misuse}
+use Rattle.ccr_run.specs.declared.order.Misuse.TheVariants.{Line, NoMemory}
+use Rattle.ccr_run.specs.Orders.{IsMisused}
 
 -- the command that was named
 pub command_is : (field : Option Command) (command : Command) (named : Option CommandData)
     → option_map command_data field ≡ named → field ≡ Some command → named ≡ Some (command_data command)
 command_is field command named made is = sym made ∙ ap (λ f. option_map command_data f) is
+
+-- no command was named
+pub no_command : (field : Option Command) (named : Option CommandData)
+    → option_map command_data field ≡ named → field ≡ None → named ≡ None
+no_command field named made is = sym made ∙ ap (λ f. option_map command_data f) is
+
+-- the command line doesn't take the words, unless memory was refused
+pub misused_line : (words : List Text) (a : App) (error : LineError) (m : Misuse) → a ≡ line
+    → (takes a words ≡ true → kind_of error ≡ OutOfMemory)
+    → ((kind_of error ≡ OutOfMemory) × (m ≡ NoMemory)) ⊎ ((kind_of error ≢ OutOfMemory) × (m ≡ Line error))
+    → IsMisused words m
+misused_line words a error m same passes (inl refused) = subst (λ (k : Misuse). IsMisused words k) (sym refused.1) tt
+misused_line words a error m same passes (inr other) =
+    subst (λ (k : Misuse). IsMisused words k) (sym other.1)
+    (λ taken. other.0 (passes (subst (λ (b : App). takes b words ≡ true) (sym same) taken)))
 
 abbrev some_or : Option ℕ → ℕ → ℕ
 some_or (Some k) d = k

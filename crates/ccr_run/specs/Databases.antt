@@ -6,6 +6,7 @@ use Rattle.sqlite.specs.Held.{state}
 use Rattle.ccr_history.specs.History.{HistoryData}
 use Rattle.ccr_tables.specs.Contents.{Contents, Holds}
 use Rattle.ccr_tables.specs.Schema.{no_schema}
+use Rattle.ccr_store.specs.Outline.{IsOutline}
 use Rattle.ccr_store.specs.StoreData.{IsKept}
 use Rattle.ccr_run.specs.declared.database.Database.{Database}
 
@@ -18,3 +19,7 @@ IsOurs db =
 -- WHAT THE STORAGE HOLDS: where the database was ours when it was found, the store keeps the history
 abbrev pub holds : {S : Type 0} → Ghosts S → Database S → HistoryData → Type 0
 holds g database h = IsOurs (state g database.found.value) → IsKept g database.store h
+
+-- WHICH HISTORY THE STORAGE KNOWS: one that its outline is of
+abbrev pub knows : {S : Type 0} → Database S → HistoryData → Type 0
+knows database h = IsOutline h database.store.outline

@@ -1,10 +1,11 @@
 //! The database's file.
-ghost use Rattle.std.specs.Prelude.{◌≡◌, false, IfOk, IfSome};
-ghost use Rattle.sqlite.specs.Files.{file_state};
+ghost use Rattle.std.specs.Prelude.{◌≡◌, false, IfOk, IfErr, IfSome};
+ghost use Rattle.sqlite.specs.Files.{file_state, IsOpened};
 ghost use Rattle.sqlite.specs.Held.{state};
+ghost use Rattle.sqlite.specs.State.{HasCleanDisk};
 ghost use Rattle.ccr_core.specs.Resumed.{IsReadable};
-ghost use Rattle.ccr_store.specs.Outline.{IsOutline};
-ghost use Rattle.ccr_run.specs.Databases.{holds};
+ghost use Rattle.ccr_run.specs.Databases.{holds, knows};
+ghost use Rattle.ccr_run.specs.Served.{KeepsFromServing};
 
 use crate::failure::Failure;
 use ccr_history::{Edit, History};
@@ -26,7 +27,9 @@ pub struct Database<S: Alter> {
 }
 
 /// The failure of an open.
-fn failure_of(error: &Error) -> Failure {
+fn failure_of(error: &Error) -> Failure
+    ensures { KeepsFromServing result }
+{
     match error {
         Error::SqliteFailure(ErrorCode::DatabaseBusy) => Failure::Locked,
         _ => Failure::Refused(ServeFault::Store(open_fault_of(error))),
@@ -36,7 +39,9 @@ fn failure_of(error: &Error) -> Failure {
 /// The database in the file at this path. It is made where there is none, and no other program can open it until this
 /// one ends.
 pub fn open(rt: &HostRuntime, path: &str) -> Result<Connection<FileStore<File>>, Failure>
-    ensures { IfOk result (λ conn. (file_state conn).in_transaction ≡ false) }
+    ensures idle { IfOk result (λ conn. (file_state conn).in_transaction ≡ false) }
+    ensures opened { IfOk result (λ conn. HasCleanDisk (file_state conn) → IsOpened conn) }
+    ensures refused { IfErr result KeepsFromServing }
 {
     match Connection::open(rt, path) {
         Ok(conn) => Ok(conn),
@@ -51,7 +56,8 @@ impl<S: Alter + Drop> Database<S> {
     pub fn load(alloc: Global, conn: Connection<S>) -> Result<(Database<S>, History), StoreFault>
         requires { (state S.Store conn).in_transaction ≡ false }
         ensures holds { IfOk result (λ loaded. holds S.Store loaded.0 loaded.1) }
-        ensures knows { IfOk result (λ loaded. IsOutline loaded.1 loaded.0.store.outline) }
+        ensures knows { IfOk result (λ loaded. knows loaded.0 loaded.1) }
+        ensures found { IfOk result (λ loaded. loaded.0.found.value ≡ conn) }
         ensures readable { IfOk result (λ loaded. IfSome loaded.1.text IsReadable) }
     {
         let found = Snapshot::of(&conn);
@@ -62,12 +68,11 @@ impl<S: Alter + Drop> Database<S> {
 }
 
 impl<S: Alter> Storage for Database<S> {
-    ghost use Rattle.ccr_store.specs.Outline.{IsOutline};
-    ghost use Rattle.ccr_run.specs.Databases.{holds};
+    ghost use Rattle.ccr_run.specs.Databases.{holds, knows};
 
     ghost holds = { λ database h. holds S.Store database h };
 
-    ghost knows = { λ database h. IsOutline h database.store.outline };
+    ghost knows = { knows };
 
     fn commit(&mut self, alloc: Global, change: &[Edit]) -> Result<(), StoreFault> {
         Storage::commit(&mut self.store, alloc, change)

@@ -13,8 +13,18 @@ mod refusal;
 mod run;
 mod tell;
 
+ghost use Rattle.std.specs.Prelude.{map, string_bytes};
+ghost use Rattle.std.specs.Process.{exit_status};
+ghost use Rattle.ccr_run.specs.Obeyed.{Obeyed};
+
+use ccr_lines::Printed;
+use ccr_process::{Machine, Runner};
+use ccr_storage::Storage;
+use ccr_task::{Folders, Shelf};
+use database::Database;
 use order::{Misuse, order_of};
 use run::run;
+use sqlite::{File, FileStore};
 use std::io::ErrorKind;
 use std::process::ExitCode;
 use std::{env, io};
@@ -37,20 +47,25 @@ fn words(rt: &HostRuntime) -> Result<Vec<String>, Misuse> {
     }
 }
 
-/// Does what the words order, and tells what came of it.
-fn obey(rt: &HostRuntime, words: &[String]) -> Result<ExitCode, Misuse> {
-    let order = order_of(rt.alloc(), words)?;
-    let outcome = run(rt, &order);
-    Ok(tell(rt, &order, &outcome))
+/// Does what the words order, and tells what came of it: the exit status.
+fn obey<'a>(rt: &'a HostRuntime, words: &[String]) -> ExitCode
+    ensures { Obeyed ⟦<Machine<&'a HostRuntime> as Runner>⟧.pairs ⟦<Folders<&'a HostRuntime> as Shelf>⟧.failures
+        ⟦<Database<FileStore<File>> as Storage>⟧.holds ⟦<Database<FileStore<File>> as Storage>⟧.knows
+        (map string_bytes words.now) (exit_status result) }
+{
+    match order_of(rt.alloc(), words) {
+        Ok(order) => {
+            let mut out = Printed::new(rt.alloc(), io::writer(rt));
+            let outcome = run(rt, &order, &mut out);
+            tell(rt, &order, &outcome)
+        }
+        Err(misuse) => tell_misuse(rt, &misuse),
+    }
 }
 
 fn main(rt: HostRuntime) -> ExitCode {
-    let ended = match words(&rt) {
+    match words(&rt) {
         Ok(words) => obey(&rt, &words),
-        Err(misuse) => Err(misuse),
-    };
-    match ended {
-        Ok(code) => code,
         Err(misuse) => tell_misuse(&rt, &misuse),
     }
 }

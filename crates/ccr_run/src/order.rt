@@ -1,8 +1,10 @@
 //! What the program's words order.
-ghost use Rattle.std.specs.Prelude.{◌≡◌, ◌≤◌, IfOk, map, string_bytes};
+ghost use Rattle.std.specs.Prelude.{◌≡◌, ◌≢◌, ◌⊎◌, ◌≤◌, IfOk, IfErr, map, string_bytes};
+ghost use Rattle.clap.specs.Values.{kind_of};
+ghost use Rattle.clap.specs.declared.error.kind.ErrorKind.TheVariants.{OutOfMemory};
 ghost use Rattle.ccr_proof.specs.declared.proof.TheConstants.{MOST_NODES};
-ghost use Rattle.ccr_run.specs.Orders.{IsOrdered};
-ghost use Rattle.ccr_run.specs.declared.order.Misuse.TheVariants.{NoMemory};
+ghost use Rattle.ccr_run.specs.Orders.{IsMisused, IsOrdered};
+ghost use Rattle.ccr_run.specs.declared.order.Misuse.TheVariants.{Line, NoMemory};
 
 use ccr_command::{OptionFault, Options, command_line, command_of, options_of};
 use ccr_serve::Command;
@@ -51,7 +53,10 @@ impl<T: Drop> From<AllocFailed<T>> for Misuse {
 }
 
 /// What an answer of `clap` without matches comes to.
-fn misuse_of(error: LineError) -> Misuse {
+fn misuse_of(error: LineError) -> Misuse
+    ensures { ((kind_of error ≡ OutOfMemory) × (result ≡ NoMemory))
+        ⊎ ((kind_of error ≢ OutOfMemory) × (result ≡ Line error)) }
+{
     if error.kind() == ErrorKind::OutOfMemory {
         Misuse::NoMemory
     } else {
@@ -62,6 +67,7 @@ fn misuse_of(error: LineError) -> Misuse {
 /// What the words order, of which the first is the program's name.
 pub fn order_of<'a>(alloc: Global, words: &'a [String]) -> Result<Order<'a>, Misuse>
     ensures ordered { IfOk result (IsOrdered (map string_bytes words.now)) }
+    ensures misused { IfErr result (IsMisused (map string_bytes words.now)) }
     ensures least { IfOk result (λ order. 1 ≤ order.options.budget) }
     ensures most { IfOk result (λ order. order.options.budget ≤ MOST_NODES) }
 {

@@ -1,10 +1,11 @@
 //! A command is done.
-ghost use Rattle.std.specs.Prelude.{◌≡◌, ◌≤◌, ◌++◌, [], false};
+ghost use Rattle.std.specs.Prelude.{◌≡◌, ◌≤◌, ◌++◌, [], false, not, IfOk, string_bytes};
 ghost use Rattle.ccr_proof.specs.declared.proof.TheConstants.{MOST_NODES};
 ghost use Rattle.ccr_task.specs.Places.{places_data};
 ghost use Rattle.ccr_serve.specs.Commanding.{CameOf};
 ghost use Rattle.ccr_serve.specs.Commands.{command_data};
 ghost use Rattle.ccr_serve.specs.Views.{view_of, IsReady};
+ghost use Rattle.ccr_run.specs.Served.{Served};
 
 use crate::database::{Database, open};
 use crate::failure::Failure;
@@ -15,8 +16,8 @@ use ccr_process::{Machine, Runner};
 use ccr_serve::{Command, ServeFault, Server};
 use ccr_storage::Storage;
 use ccr_task::{Folders, Places, Shelf};
+use sqlite::{File, FileStore};
 use std::alloc::{AllocError, Global};
-use std::io;
 use std::io::Write;
 
 /// What came of an order.
@@ -29,7 +30,10 @@ pub struct Outcome {
 }
 
 /// The server's two folders.
-fn places_of(alloc: Global, options: &Options<'_>) -> Result<Places, AllocError> {
+fn places_of(alloc: Global, options: &Options<'_>) -> Result<Places, AllocError>
+    ensures types { IfOk result (λ places. string_bytes places.types ≡ options.now.types.now) }
+    ensures work { IfOk result (λ places. string_bytes places.work ≡ options.now.work.now) }
+{
     Ok(Places {
         types: String::from_str(alloc, options.types)?,
         work: String::from_str(alloc, options.work)?,
@@ -55,9 +59,17 @@ fn command<R: Runner, S: Shelf, T: Storage, W: Write>(
 }
 
 /// Opens the database, and has a server over it do the command.
-fn serve<W: Write>(rt: &HostRuntime, order: &Order<'_>, out: &mut Printed<W>) -> Result<u8, Failure>
+fn serve<'a, W: Write>(
+    rt: &'a HostRuntime,
+    order: &Order<'_>,
+    out: &mut Printed<W>,
+) -> Result<u8, Failure>
     requires least { 1 ≤ order.now.options.budget }
     requires most { order.now.options.budget ≤ MOST_NODES }
+    ensures served { Served ⟦<Machine<&'a HostRuntime> as Runner>⟧.pairs ⟦<Folders<&'a HostRuntime> as Shelf>⟧.failures
+        ⟦<Database<FileStore<File>> as Storage>⟧.holds ⟦<Database<FileStore<File>> as Storage>⟧.knows
+        order.now result (out.old.shown ++ out.old.waiting) (out.new.shown ++ out.new.waiting) }
+    ensures printed { out.old.waiting ≡ [] → out.new.failed ≡ false → out.new.waiting ≡ [] }
 {
     let alloc = rt.alloc();
     let Ok(places) = places_of(alloc, &order.options) else {
@@ -72,13 +84,17 @@ fn serve<W: Write>(rt: &HostRuntime, order: &Order<'_>, out: &mut Printed<W>) ->
     Ok(command(&mut server, &order.command, out)?)
 }
 
-/// Does what is ordered. The lines go to standard output as they come.
-pub fn run(rt: &HostRuntime, order: &Order<'_>) -> Outcome
+/// Does what is ordered. The lines go out as they come.
+pub fn run<'a, W: Write>(rt: &'a HostRuntime, order: &Order<'_>, out: &mut Printed<W>) -> Outcome
     requires least { 1 ≤ order.now.options.budget }
     requires most { order.now.options.budget ≤ MOST_NODES }
+    ensures served { Served ⟦<Machine<&'a HostRuntime> as Runner>⟧.pairs ⟦<Folders<&'a HostRuntime> as Shelf>⟧.failures
+        ⟦<Database<FileStore<File>> as Storage>⟧.holds ⟦<Database<FileStore<File>> as Storage>⟧.knows
+        order.now result.end (out.old.shown ++ out.old.waiting) (out.new.shown ++ out.new.waiting) }
+    ensures printed { result.is_printed ≡ not out.new.failed }
+    ensures whole { out.old.waiting ≡ [] → out.new.failed ≡ false → out.new.waiting ≡ [] }
 {
-    let mut out = Printed::new(rt.alloc(), io::writer(rt));
-    let end = serve(rt, order, &mut out);
+    let end = serve(rt, order, out);
     Outcome {
         end,
         is_printed: !out.has_failed(),

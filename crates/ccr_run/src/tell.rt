@@ -1,6 +1,7 @@
 //! What goes to standard error, and the status that the program ends with.
-ghost use Rattle.std.specs.Prelude.{◌≡◌, ◌⊎◌};
+ghost use Rattle.std.specs.Prelude.{◌≡◌};
 ghost use Rattle.std.specs.Process.{exit_status};
+ghost use Rattle.ccr_run.specs.Obeyed.{IsTold};
 ghost use Rattle.ccr_run.specs.Statuses as spec;
 
 use crate::failure::Failure;
@@ -83,7 +84,7 @@ fn misuse_status(misuse: &Misuse) -> u8
 /// Tells why words order nothing, or gives the help that they ask for. The exit status is 0 for help, 4 out of memory
 /// or where it isn't printed, and else 2.
 pub fn tell_misuse<R: Print + Eprint>(rt: &R, misuse: &Misuse) -> ExitCode
-    ensures { (exit_status result ≡ spec.misuse_status misuse.now) ⊎ (exit_status result ≡ 4) }
+    ensures { IsTold misuse.now (exit_status result) }
 {
     match print_misuse(rt, misuse) {
         Ok(()) => ExitCode::from(misuse_status(misuse)),

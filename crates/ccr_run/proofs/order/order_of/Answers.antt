@@ -2,7 +2,7 @@ use Rattle.std.proofs.Common.{map, string_bytes, subst}
 use Rattle.clap.specs.Words.{HasMatchesOf, found_of}
 use Rattle.ccr_command.specs.Commands.{command_in}
 use Rattle.ccr_command.specs.Options.{options_data}
-use Rattle.ccr_run.proofs.Ordering.{command_is, budget_ranged}
+use Rattle.ccr_run.proofs.Ordering.{command_is, no_command, misused_line, budget_ranged}
 use Rattle.ccr_run.proofs.order.order_of.Goals as goal
 
 pub returns-in-Some-clause-ordered : goal.returns-in-Some-clause-ordered
@@ -22,3 +22,24 @@ returns-in-Some-clause-least c =
 pub returns-in-Some-clause-most : goal.returns-in-Some-clause-most
 returns-in-Some-clause-most c =
     (budget_ranged (found_of c.in-Ok.matches) (options_data c.in-Ok-options_of.options) c.in-Ok-options_of.ensures).1
+
+pub returns-in-Err-clause-misused : goal.returns-in-Err-clause-misused
+returns-in-Err-clause-misused c =
+    misused_line (map string_bytes c.args.words.now) _ c.in-Err.error c.misuse_of.result c.in_ok-line.ensures
+    c.in-Err.ensures.passes c.misuse_of.ensures
+
+pub returns-in-Err-options_of-clause-misused : goal.returns-in-Err-options_of-clause-misused
+returns-in-Err-options_of-clause-misused c =
+    let matches =
+    subst (λ a. HasMatchesOf a (map string_bytes c.args.words.now) c.in-Ok.matches)
+    c.in_ok-line.ensures c.in-Ok.ensures.matches in
+    (c.in-Ok.matches, matches, c.in-Err-options_of.ensures)
+
+pub returns-clause-misused : goal.returns-clause-misused
+returns-clause-misused c =
+    let matches =
+    subst (λ a. HasMatchesOf a (map string_bytes c.args.words.now) c.in-Ok.matches)
+    c.in_ok-line.ensures c.in-Ok.ensures.matches in
+    let none =
+    no_command c.in_ok-command.field-0 (command_in c.in-Ok.matches) c.in_ok-command.ensures c.in-None.is in
+    (c.in-Ok.matches, matches, none)

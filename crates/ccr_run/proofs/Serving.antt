@@ -1,0 +1,88 @@
+-- What came of an order, from what its parts say.
+use Rattle.std.proofs.Common.{◌≡◌, ◌∙◌, ◌⊎◌, inl, inr, ℕ, List, [], Result, Ok, Err, ap, sym, subst, string_bytes}
+use Rattle.std.specs.Prelude.{IsErrAnd}
+use Rattle.ccr_history.specs.Text.{Text}
+use Rattle.ccr_history.specs.History.{HistoryData}
+use Rattle.ccr_process.specs.Runs.{Pair}
+use Rattle.ccr_task.specs.declared.places.Places.{Places}
+use Rattle.ccr_task.specs.Places.{PlacesData, places_data}
+use Rattle.ccr_core.specs.Cores.{core_data}
+use Rattle.ccr_core.specs.Resumed.{IsResumed}
+use Rattle.ccr_serve.specs.declared.fault.ServeFault.{ServeFault}
+use Rattle.ccr_serve.specs.declared.server.Server.{Server}
+use Rattle.ccr_serve.specs.Commanding.{CameOf}
+use Rattle.ccr_serve.specs.Commands.{command_data}
+use Rattle.ccr_serve.specs.Views.{view_of, IsReady}
+use Rattle.ccr_run.specs.declared.failure.Failure.{Failure}
+use Rattle.ccr_run.specs.declared.failure.Failure.TheVariants.{Refused}
+use Rattle.ccr_run.specs.declared.order.Order.{Order}
+use Rattle.ccr_run.specs.declared.run.Outcome.{Outcome}
+use Rattle.ccr_run.specs.Obeyed.{Obeyed}
+use Rattle.ccr_run.specs.Orders.{IsOrdered}
+use Rattle.ccr_run.specs.Served.{Served, handed_on, places_in}
+use Rattle.ccr_run.specs.Statuses.{exit_status_of}
+
+-- a status is handed on
+pub ok_handed : (a : Result ℕ ServeFault) (status : ℕ) → a ≡ Ok status → Ok status ≡ handed_on a
+ok_handed a status is = ap (λ r. handed_on r) (sym is)
+
+-- a fault is handed on
+pub err_handed : (r : Result ℕ Failure) (a : Result ℕ ServeFault) (fault : ServeFault) → a ≡ Err fault
+    → IsErrAnd r (λ failure. failure ≡ Refused fault) → r ≡ handed_on a
+err_handed (Ok status) a fault is h = absurd h
+err_handed (Err failure) a fault is h = ap (λ f. Err f) h ∙ ap (λ r. handed_on r) (sym is)
+
+abbrev folders : Text → Text → PlacesData
+folders types work = record { types = types; work = work }
+
+-- the folders that were made are those of the options
+pub same_places : (order : Order) (p : Places) → string_bytes p.types ≡ order.options.types.now
+    → string_bytes p.work ≡ order.options.work.now → places_data p ≡ places_in order
+same_places order p types work =
+    ap (λ (t : Text). folders t (string_bytes p.work)) types
+    ∙ ap (λ (w : Text). folders order.options.types.now w) work
+
+-- a server did the command
+pub did : {R S T : Type 0} (pairs : R → List Pair) (failures : S → ℕ) (holds knows : T → HistoryData → Type 0)
+    (order : Order) (p : Places) (h : HistoryData) (opened left : Server R S T) (answer : Result ℕ ServeFault)
+    (end : Result ℕ Failure) (old new : Text)
+    → opened.places ≡ p → places_data p ≡ places_in order
+    → IsReady (view_of pairs failures holds knows opened [])
+    → IsResumed h order.options.budget (core_data opened.core) → opened.last ≡ 0
+    → pairs opened.runner ≡ [] → failures opened.shelf ≡ 0
+    → CameOf (places_data opened.places) (command_data order.command) answer
+    (view_of pairs failures holds knows opened old) (view_of pairs failures holds knows left new)
+    → end ≡ handed_on answer → Served pairs failures holds knows order end old new
+did pairs failures holds knows order p h opened left answer end old new at same ready resumed last none count came is =
+    inl (record {
+      history = h;
+      opened = opened;
+      left = left;
+      answer = answer;
+      begins = record {
+        ready = record { is_open = ready.is_open; holds = ready.holds; knows = ready.knows };
+        resumed = resumed;
+        last = last;
+        pairs = none;
+        failures = count;
+      };
+      came = subst (λ (q : PlacesData). CameOf q (command_data order.command) answer
+          (view_of pairs failures holds knows opened old) (view_of pairs failures holds knows left new))
+          (ap (λ (q : Places). places_data q) at ∙ same) came;
+      end_is = is;
+    })
+
+-- what was ordered is done, from where no line was printed
+pub done : {R S T : Type 0} (pairs : R → List Pair) (failures : S → ℕ) (holds knows : T → HistoryData → Type 0)
+    (words : List Text) (status : ℕ) (order : Order) (outcome : Outcome) (old lines : Text)
+    → IsOrdered words order → old ≡ [] → Served pairs failures holds knows order outcome.end old lines
+    → status ≡ exit_status_of outcome → Obeyed pairs failures holds knows words status
+done pairs failures holds knows words status order outcome old lines ordered none served is =
+    inl (record {
+      order = order;
+      ordered = ordered;
+      outcome = outcome;
+      lines = lines;
+      served = subst (λ (o : Text). Served pairs failures holds knows order outcome.end o lines) none served;
+      status_is = is;
+    })

@@ -1,0 +1,62 @@
+-- What came of an order.
+use Rattle.std.specs.Prelude.{◌≡◌, ◌⊎◌, ℕ, List, [], Result, Ok, Err, ⊤}
+use Rattle.ccr_history.specs.Text.{Text}
+use Rattle.ccr_history.specs.History.{HistoryData}
+use Rattle.ccr_process.specs.Runs.{Pair}
+use Rattle.ccr_task.specs.Places.{PlacesData}
+use Rattle.ccr_core.specs.Resumed.{IsResumed}
+use Rattle.ccr_serve.specs.declared.fault.ServeFault.{ServeFault}
+use Rattle.ccr_serve.specs.declared.server.Server.{Server}
+use Rattle.ccr_serve.specs.Commanding.{CameOf, KeepsFromOpening}
+use Rattle.ccr_serve.specs.Commands.{command_data}
+use Rattle.ccr_serve.specs.Views.{View, view_of, IsReady}
+use Rattle.ccr_run.specs.declared.failure.Failure.{Failure}
+use Rattle.ccr_run.specs.declared.failure.Failure.TheVariants.{Locked, Refused}
+use Rattle.ccr_run.specs.declared.order.Order.{Order}
+
+-- the server's folders are those of the options
+abbrev pub places_in : Order → PlacesData
+places_in order = record { types = order.options.types.now; work = order.options.work.now }
+
+-- no server is made: another program has the database open, memory is refused, or the storage failed
+abbrev pub KeepsFromServing : Failure → Type 0
+KeepsFromServing Locked = ⊤
+KeepsFromServing (Refused fault) = KeepsFromOpening fault
+
+abbrev pub IsUnserved : Result ℕ Failure → Type 0
+IsUnserved (Ok status) = ⊥
+IsUnserved (Err failure) = KeepsFromServing failure
+
+-- how a command ended, as the program hands it on: its status, or its refusal
+abbrev pub handed_on : Result ℕ ServeFault → Result ℕ Failure
+handed_on (Ok status) = Ok status
+handed_on (Err fault) = Err (Refused fault)
+
+-- a server begins with a history, in which what still ran is cut short: it goes on, and neither ran a program nor had a
+-- folder fail
+pub record Begins (h : HistoryData) (budget : ℕ) (v : View) : Type 0 where
+  pub ready : IsReady v
+  pub resumed : IsResumed h budget v.core
+  pub last : v.last ≡ 0
+  pub pairs : v.pairs ≡ []
+  pub failures : v.failures ≡ 0
+
+-- a server was made over a history, and did the command: from one value of it to another, with these lines before and
+-- after
+pub record DidCommand {R S T : Type 0} (pairs : R → List Pair) (failures : S → ℕ)
+    (holds knows : T → HistoryData → Type 0) (order : Order) (end : Result ℕ Failure) (old new : Text) : Type 0 where
+  pub history : HistoryData
+  pub opened : Server R S T
+  pub left : Server R S T
+  pub answer : Result ℕ ServeFault
+  pub begins : Begins history order.options.budget (view_of pairs failures holds knows opened old)
+  pub came : CameOf (places_in order) (command_data order.command) answer
+      (view_of pairs failures holds knows opened old) (view_of pairs failures holds knows left new)
+  pub end_is : end ≡ handed_on answer
+
+-- WHAT CAME OF AN ORDER: a server did the command, or none was made and nothing is printed
+abbrev pub Served : {R S T : Type 0} → (R → List Pair) → (S → ℕ) → (T → HistoryData → Type 0)
+    → (T → HistoryData → Type 0) → Order → Result ℕ Failure → Text → Text → Type 0
+Served pairs failures holds knows order end old new =
+    DidCommand pairs failures holds knows order end old new
+    ⊎ (IsUnserved end × (new ≡ old))
