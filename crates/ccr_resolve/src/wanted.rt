@@ -78,7 +78,7 @@ pub(crate) fn add_builds_with_any(
 }
 
 /// The positions of those builds of a job that have a place from `from` to `to` in the scope of an input, if they are at most
-/// `most`.
+/// `most` and at most half of the job's: else little is left out.
 fn wanted_builds(
     alloc: Global,
     index: &Index,
@@ -94,7 +94,7 @@ fn wanted_builds(
         AreWanted (builds_at index.now.problem job) (input_at index.now.problem input).scope from to builds.items)) }
 {
     let rows = index.rows(job);
-    let most = most.min(rows.len());
+    let most = most.min(rows.len() / 2);
     if to < from || (to - from) as usize >= most {
         return Ok(None);
     }
@@ -163,8 +163,8 @@ pub(crate) fn fixed_pairs<'a>(
     None
 }
 
-/// A free job among those that input `input` names, and at most `most` builds of it: those that have one of these pairs, of which
-/// the input's place is one.
+/// A free job among those that input `input` names, and at most `most` of its builds, and at most half: those that have one of these
+/// pairs, of which the input's place is one.
 fn split_by_pairs(
     alloc: Global,
     index: &Index,
@@ -189,7 +189,7 @@ fn split_by_pairs(
                 rows,
                 scope,
                 pairs,
-                most.min(rows.len()),
+                most.min(rows.len() / 2),
             )?;
             if !is_over {
                 return Ok(Some(Split { job, builds }));
