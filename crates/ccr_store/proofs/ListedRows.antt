@@ -1,5 +1,5 @@
 -- Rows in the order of their keys, compared with a history from the first to the last.
-use Rattle.std.proofs.Common.{◌≡◌, ℕ, zero, suc, ◌+◌, ◌-◌, ◌<◌, List, [], ◌∷◌, ◌++◌, map, length, take, drop, get_or, Option, Some, None, option_map, unwrap_or, refl, sym, ap, ap₂, ◌∙◌, arith, IsPermutation}
+use Rattle.std.proofs.Common.{◌≡◌, ℕ, zero, suc, ◌+◌, ◌-◌, ◌<◌, List, [], ◌∷◌, ◌++◌, map, length, take, drop, get_or, Option, Some, None, Vec, Global, subst, option_map, unwrap_or, refl, sym, ap, ap₂, ◌∙◌, arith, IsPermutation}
 use Rattle.std.proofs.lemmas.Bool.{ne_eqb}
 use Rattle.std.proofs.lemmas.List.{append_assoc, take-append-drop}
 use Rattle.std.proofs.lemmas.List.Sorted.{IsPermutation-refl, IsPermutation-sym, IsPermutation-trans, IsPermutation-append, IsPermutation-append_comm}
@@ -13,9 +13,10 @@ use Rattle.ccr_history.specs.Builds.{BuildData}
 use Rattle.ccr_history.specs.History.{HistoryData}
 use Rattle.ccr_tables.specs.Contents.{Contents}
 use Rattle.ccr_tables.specs.Listing.{IsListed}
-use Rattle.ccr_store.specs.Listed.{AreSeen, AreBuilt, listed_pairs, listed, contents_of}
+use Rattle.ccr_tables.specs.Pairs.{AreFound}
+use Rattle.ccr_store.specs.Listed.{AreSeen, AreBuilt, HasOther, listed_pairs, ListsSeen, ListsBuilt, KeepsSeen}
 use Rattle.ccr_store.specs.Reordered.{HasSameRows}
-use Rattle.ccr_store.specs.Rows.{version_rows, table_rows, used_row, moved_row, pair_rows, rows_of}
+use Rattle.ccr_store.specs.Rows.{meta_rows, scope_rows, version_rows, table_rows, used_row, moved_row, pair_rows, rows_of}
 
 -- ---- the columns of a row
 pub two : (r : Row) (a b : Value) → length r ≡ 2 → column r 0 ≡ a → column r 1 ≡ b → r ≡ a ∷ b ∷ []
@@ -109,18 +110,23 @@ pairs_listed id (b ∷ bs) =
 found : (xs these rows : List Row) (width : ℕ) → xs ≡ rows → IsListed width these rows → IsPermutation xs these
 found xs these rows width same shown = IsPermutation-trans xs rows these (IsPermutation-same xs rows same) (IsPermutation-sym these rows shown.same)
 
-pub loaded : (h : HistoryData) (these : Contents) (meta scopes versions builds pairs pins : List Row) → listed h ≡ contents_of meta scopes versions builds pairs pins
+pub loaded : (old h : HistoryData) (these : Contents) (meta scopes versions builds pairs pins : List Row) → KeepsSeen old h → ListsSeen old meta scopes versions → ListsBuilt h builds pairs pins
     → AreSeen these meta scopes versions → AreBuilt these builds pairs pins → HasSameRows (rows_of h) these
-loaded h these meta scopes versions builds pairs pins is seen built = record {
-  meta = found (rows_of h).meta these.meta meta 1 (ap (λ (c : Contents). c.meta) is) seen.set;
-  scopes = found (rows_of h).scopes these.scopes scopes 1 (ap (λ (c : Contents). c.scopes) is) seen.named;
-  versions = found (rows_of h).versions these.versions versions 2 (ap (λ (c : Contents). c.versions) is) seen.reported;
-  builds = found (rows_of h).builds these.builds builds 1 (ap (λ (c : Contents). c.builds) is) built.made;
-  pairs = IsPermutation-trans (rows_of h).pairs (listed h).pairs these.pairs (pairs_listed 1 h.builds) (found (listed h).pairs these.pairs pairs 4 (ap (λ (c : Contents). c.pairs) is) built.given);
-  pins = found (rows_of h).pins these.pins pins 1 (ap (λ (c : Contents). c.pins) is) built.held;
+loaded old h these meta scopes versions builds pairs pins kept first second seen built = record {
+  meta = found (rows_of h).meta these.meta meta 1 (ap meta_rows kept.1 ∙ sym first.set) seen.set;
+  scopes = found (rows_of h).scopes these.scopes scopes 1 (ap (scope_rows 1) kept.0 ∙ sym first.named) seen.named;
+  versions = found (rows_of h).versions these.versions versions 2 (ap (table_rows 1) kept.0 ∙ sym first.reported) seen.reported;
+  builds = found (rows_of h).builds these.builds builds 1 (sym second.made) built.made;
+  pairs = IsPermutation-trans (rows_of h).pairs (listed_pairs 1 h.builds) these.pairs (pairs_listed 1 h.builds) (found (listed_pairs 1 h.builds) these.pairs pairs 4 (sym second.given) built.given);
+  pins = found (rows_of h).pins these.pins pins 1 (sym second.held) built.held;
 }
 
--- six tables with a history's rows are what the history lists
-pub listed_are : (h : HistoryData) (meta scopes versions builds pairs pins : List Row) → meta ≡ (listed h).meta → scopes ≡ (listed h).scopes → versions ≡ (listed h).versions → builds ≡ (listed h).builds → pairs ≡ (listed h).pairs → pins ≡ (listed h).pins
-    → listed h ≡ contents_of meta scopes versions builds pairs pins
-listed_are h meta scopes versions builds pairs pins a b c d e f = rw (a, b, c, d, e, f) refl
+-- the pairs that are found are the rows of the table in the order of their key
+pub found_listed : (these : List Row) (found : Option (Vec Row Global)) (pairs : Vec Row Global) → found ≡ Some pairs → AreFound these found → IsListed 4 these pairs.items
+found_listed these found pairs is are =
+    let it = subst (AreFound these) is are in
+    subst (IsListed 4 these) (sym it.2) it.1
+
+pub found_other : (these : List Row) (found : Option (Vec Row Global)) → ((pairs : Vec Row Global) → found ≡ Some pairs → ⊥) → AreFound these found → HasOther these
+found_other these None none are = are
+found_other these (Some pairs) none are = absurd (none pairs refl)

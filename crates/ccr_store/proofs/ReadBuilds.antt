@@ -1,6 +1,7 @@
 -- The builds of a history, read from its rows.
 use Rattle.std.proofs.Common.{◌≡◌, ◌≢◌, ℕ, ◌+◌, ◌-◌, ◌<◌, ◌≤◌, ◌^◌, inr, List, [], ◌∷◌, ◌++◌, length, take, drop, get_or, map, Some, None, Bool, true, false, cond, ◌==◌, IsTrue, Less, is_eq, refl, sym, ap, ap₂, ◌∙◌, subst, arith, AllPairs, nat_cmp}
-use Rattle.std.specs.Prelude.{nat_lt, nat_le}
+use Rattle.std.proofs.Common.{rules}
+use Rattle.std.specs.Prelude.{nat_lt, nat_le, IsUtf8}
 use Rattle.std.specs.List.{AllByRecursion}
 use Rattle.std.specs.List.Sorted.{IsStrictlySortedBy}
 use Rattle.std.specs.Ordering.{match_ordering}
@@ -14,6 +15,9 @@ use Rattle.std.proofs.lemmas.List.Kept.{AllPairs-cons}
 use Rattle.std.proofs.lemmas.Map.Text.{is_eq-slice_cmp}
 use Rattle.std.proofs.lemmas.Slice.Eq.{bytes_eq-Decides}
 use Rattle.sqlite_trees.specs.Tree.{IsAscending}
+use Rattle.sqlite_trees.proofs.ListLemmas.{all-append}
+use Rattle.ccr_tables.specs.Pairs.{IsPair}
+use Rattle.ccr_store.specs.Listed.{listed_pairs}
 use Rattle.sqlite.specs.declared.types.Value.TheVariants.{Text as Words}
 use Rattle.sqlite.specs.Order.{Row, column}
 use Rattle.ccr_history.specs.declared.table.TheConstants.{MOST_VERSIONS}
@@ -53,10 +57,10 @@ few ts scope place rules has =
     let bound = places_few ts scope rules.2 (omega (arith, some, within)) in
     (omega (arith, bound.0, rules.0), omega (arith, bound.1, within))
 
-pub used_few : (ts : List TableData) (b : BuildData) → AreTables ts → IsBuild ts b → AllByRecursion (λ u. (u.scope < 2 ^ 32) × (u.place < 2 ^ 32)) b.used
+used_few : (ts : List TableData) (b : BuildData) → AreTables ts → IsBuild ts b → AllByRecursion (λ u. (u.scope < 2 ^ 32) × (u.place < 2 ^ 32)) b.used
 used_few ts b tables rules = each_weaker (IsUsed ts) (λ (u : UsedData). (u.scope < 2 ^ 32) × (u.place < 2 ^ 32)) (λ u it. few ts u.scope u.place tables it.1) b.used rules.1
 
-pub moved_few : (ts : List TableData) (b : BuildData) → AreTables ts → IsBuild ts b → AllByRecursion (λ p. (p.0 < 2 ^ 32) × (p.1 < 2 ^ 32)) b.moved
+moved_few : (ts : List TableData) (b : BuildData) → AreTables ts → IsBuild ts b → AllByRecursion (λ p. (p.0 < 2 ^ 32) × (p.1 < 2 ^ 32)) b.moved
 moved_few ts b tables rules = each_weaker (λ (p : ℕ × ℕ). IsTrue (has_place ts p.0 p.1)) (λ p. (p.0 < 2 ^ 32) × (p.1 < 2 ^ 32)) (λ p it. few ts p.0 p.1 tables it) b.moved rules.3
 
 -- ---- what is in order stays so
@@ -197,3 +201,21 @@ moved_empty id (p ∷ ps) = (refl, moved_empty id ps)
 pub used_named : (ts : List TableData) (id : ℕ) (us : List UsedData) → AllByRecursion (IsUsed ts) us → AllByRecursion (λ r. column r 1 ≢ Words []) (map (used_row id) us)
 used_named ts id [] rules = tt
 used_named ts id (u ∷ us) rules = (λ none. rules.0.0 (same_words u.input [] none), used_named ts id us rules.1)
+
+-- ---- a history's pairs are pairs
+used_pairs : (id : ℕ) (us : List UsedData) → id < 2 ^ 32 → AllByRecursion (λ (u : UsedData). IsUtf8 u.input) us → AllByRecursion (λ (u : UsedData). (u.scope < 2 ^ 32) × (u.place < 2 ^ 32)) us → AllByRecursion IsPair (map (used_row id) us)
+used_pairs id [] low texts small = tt
+used_pairs id (u ∷ us) low texts small = ((id, u.input, u.scope, u.place, low, texts.0, small.0.0, small.0.1, refl), used_pairs id us low texts.1 small.1)
+
+moved_pairs : (id : ℕ) (ps : List (ℕ × ℕ)) → id < 2 ^ 32 → AllByRecursion (λ (p : ℕ × ℕ). (p.0 < 2 ^ 32) × (p.1 < 2 ^ 32)) ps → AllByRecursion IsPair (map (moved_row id) ps)
+moved_pairs id [] low small = tt
+moved_pairs id (p ∷ ps) low small = ((id, [], p.0, p.1, low, search rules, small.0.0, small.0.1, refl), moved_pairs id ps low small.1)
+
+pub listed_pairs_are : (ts : List TableData) (id : ℕ) (bs : List BuildData) → id + length bs ≤ 2 ^ 32 → AreTables ts → AllByRecursion (IsBuild ts) bs → AllByRecursion IsTextBuild bs → AllByRecursion IsPair (listed_pairs id bs)
+listed_pairs_are ts id [] room tables rules texts = tt
+listed_pairs_are ts id (b ∷ bs) room tables rules texts =
+    let low : id < 2 ^ 32 = omega (arith, room) in
+    let more : id + 1 + length bs ≤ 2 ^ 32 = omega (arith, room) in
+    all-append IsPair (map (moved_row id) b.moved ++ map (used_row id) b.used) (listed_pairs (id + 1) bs)
+    (all-append IsPair (map (moved_row id) b.moved) (map (used_row id) b.used) (moved_pairs id b.moved low (moved_few ts b tables rules.0)) (used_pairs id b.used low texts.0.1 (used_few ts b tables rules.0)))
+    (listed_pairs_are ts (id + 1) bs more tables rules.1 texts.1)

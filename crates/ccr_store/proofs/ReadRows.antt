@@ -15,6 +15,7 @@ use Rattle.ccr_history.proofs.Links.{all-at}
 use Rattle.ccr_history.proofs.PinMaps.{with_pin-last}
 use Rattle.ccr_storage.specs.declared.fault.StoreFault.{StoreFault}
 use Rattle.ccr_storage.specs.declared.fault.StoreFault.TheVariants.{NoMemory}
+use Rattle.ccr_tables.specs.Pairs.{pair}
 use Rattle.ccr_store.specs.Rows.{version_row, version_rows, used_row, moved_row, pin_row}
 use Rattle.ccr_store.specs.Texts.{IsSpelled, IsTextPin, OrNoMemory}
 use Rattle.ccr_store.proofs.FrontRows.{rows_length, row_there, next_item}
@@ -70,42 +71,30 @@ same_words s t e = ap words_of e
 pub same_number : (m n : ℕ) → Int (pos m) ≡ Int (pos n) → m ≡ n
 same_number m n e = ap number_of e
 
-pub used_is : (id : ℕ) (u : UsedData) (r : Row) (input : List ℕ) (scope place : ℕ) → r ≡ used_row id u → column r 1 ≡ Words input → column r 2 ≡ Int (pos scope) → column r 3 ≡ Int (pos place)
-    → record { input = input; scope = scope; place = place } ≡ u
-used_is id u r input scope place is a b c =
-    let one : input ≡ u.input = same_words input u.input (sym a ∙ ap (λ (s : Row). column s 1) is) in
-    let two : scope ≡ u.scope = same_number scope u.scope (sym b ∙ ap (λ (s : Row). column s 2) is) in
-    let three : place ≡ u.place = same_number place u.place (sym c ∙ ap (λ (s : Row). column s 3) is) in
+pub used_is : (id : ℕ) (u : UsedData) (r : Row) (build : ℕ) (input : List ℕ) (scope place : ℕ) → r ≡ used_row id u → r ≡ pair build input scope place → record { input = input; scope = scope; place = place } ≡ u
+used_is id u r build input scope place is known =
+    let both : pair build input scope place ≡ used_row id u = sym known ∙ is in
+    let one : input ≡ u.input = same_words input u.input (ap (λ (s : Row). column s 1) both) in
+    let two : scope ≡ u.scope = same_number scope u.scope (ap (λ (s : Row). column s 2) both) in
+    let three : place ≡ u.place = same_number place u.place (ap (λ (s : Row). column s 3) both) in
     rw (one, two, three) refl
 
-pub used_read : (id : ℕ) (us : List UsedData) (rows : List Row) (i : ℕ) (r : Row) → AllByRecursion (λ u. IsUtf8 u.input) us → AllByRecursion (λ u. (u.scope < 2 ^ 32) × (u.place < 2 ^ 32)) us → rows ≡ map (used_row id) us → i < length rows → r ≡ get_or rows i r
-    → (u : UsedData) × IsUtf8 u.input × ((u.scope < 2 ^ 32) × (u.place < 2 ^ 32)) × (length r ≡ 4) × (r ≡ used_row id u) × (take (i + 1) us ≡ take i us ++ u ∷ [])
-used_read id us rows i r texts small same within is =
-    let it = row_there (λ k (xs : List UsedData). map (used_row id) xs) (λ k. used_row id) (λ k. refl) (λ k x xs. refl) 1 us rows i r same within is in (
-      it.0,
-      all-at (λ (u : UsedData). IsUtf8 u.input) us i it.0 texts it.1,
-      all-at (λ (u : UsedData). (u.scope < 2 ^ 32) × (u.place < 2 ^ 32)) us i it.0 small it.1,
-      ap (λ (s : Row). length s) it.2,
-      it.2,
-      next_item us i it.0 it.1,
-    )
+pub used_read : (id : ℕ) (us : List UsedData) (rows : List Row) (i : ℕ) (r : Row) → rows ≡ map (used_row id) us → i < length rows → r ≡ get_or rows i r → (u : UsedData) × (r ≡ used_row id u) × (take (i + 1) us ≡ take i us ++ u ∷ [])
+used_read id us rows i r same within is =
+    let it = row_there (λ k (xs : List UsedData). map (used_row id) xs) (λ k. used_row id) (λ k. refl) (λ k x xs. refl) 1 us rows i r same within is in
+    (it.0, it.2, next_item us i it.0 it.1)
 
-pub moved_is : (id : ℕ) (p : ℕ × ℕ) (r : Row) (scope place : ℕ) → r ≡ moved_row id p → column r 2 ≡ Int (pos scope) → column r 3 ≡ Int (pos place) → (scope, place) ≡ p
-moved_is id p r scope place is b c =
-    let two : scope ≡ p.0 = same_number scope p.0 (sym b ∙ ap (λ (s : Row). column s 2) is) in
-    let three : place ≡ p.1 = same_number place p.1 (sym c ∙ ap (λ (s : Row). column s 3) is) in
+pub moved_is : (id : ℕ) (p : ℕ × ℕ) (r : Row) (build : ℕ) (input : List ℕ) (scope place : ℕ) → r ≡ moved_row id p → r ≡ pair build input scope place → (scope, place) ≡ p
+moved_is id p r build input scope place is known =
+    let both : pair build input scope place ≡ moved_row id p = sym known ∙ is in
+    let two : scope ≡ p.0 = same_number scope p.0 (ap (λ (s : Row). column s 2) both) in
+    let three : place ≡ p.1 = same_number place p.1 (ap (λ (s : Row). column s 3) both) in
     ap₂ (λ (m n : ℕ). (m, n)) two three
 
-pub moved_read : (id : ℕ) (ps : List (ℕ × ℕ)) (rows : List Row) (i : ℕ) (r : Row) → AllByRecursion (λ p. (p.0 < 2 ^ 32) × (p.1 < 2 ^ 32)) ps → rows ≡ map (moved_row id) ps → i < length rows → r ≡ get_or rows i r
-    → (p : ℕ × ℕ) × ((p.0 < 2 ^ 32) × (p.1 < 2 ^ 32)) × (length r ≡ 4) × (r ≡ moved_row id p) × (take (i + 1) ps ≡ take i ps ++ p ∷ [])
-moved_read id ps rows i r small same within is =
-    let it = row_there (λ k (xs : List (ℕ × ℕ)). map (moved_row id) xs) (λ k. moved_row id) (λ k. refl) (λ k x xs. refl) 1 ps rows i r same within is in (
-      it.0,
-      all-at (λ (p : ℕ × ℕ). (p.0 < 2 ^ 32) × (p.1 < 2 ^ 32)) ps i it.0 small it.1,
-      ap (λ (s : Row). length s) it.2,
-      it.2,
-      next_item ps i it.0 it.1,
-    )
+pub moved_read : (id : ℕ) (ps : List (ℕ × ℕ)) (rows : List Row) (i : ℕ) (r : Row) → rows ≡ map (moved_row id) ps → i < length rows → r ≡ get_or rows i r → (p : ℕ × ℕ) × (r ≡ moved_row id p) × (take (i + 1) ps ≡ take i ps ++ p ∷ [])
+moved_read id ps rows i r same within is =
+    let it = row_there (λ k (xs : List (ℕ × ℕ)). map (moved_row id) xs) (λ k. moved_row id) (λ k. refl) (λ k x xs. refl) 1 ps rows i r same within is in
+    (it.0, it.2, next_item ps i it.0 it.1)
 
 -- ---- pins
 pub pin_read : (ps : List (List ℕ × TextMap)) (rows : List Row) (i : ℕ) (r : Row) → ArePins ps → AllByRecursion IsTextPin ps → rows ≡ map pin_row ps → i < length rows → r ≡ get_or rows i r

@@ -1,5 +1,5 @@
 -- The rows of a history, as the SELECTs show them.
-use Rattle.std.proofs.Common.{◌≡◌, ℕ, suc, pos, ◌+◌, ◌<◌, ◌≤◌, List, [], ◌∷◌, ◌++◌, map, take, Option, Some, None, Less, nat_cmp, refl, ap₂, ◌∙◌, arith}
+use Rattle.std.proofs.Common.{◌≡◌, ℕ, suc, pos, ◌+◌, ◌<◌, ◌≤◌, ◌^◌, List, [], ◌∷◌, ◌++◌, length, map, take, Option, Some, None, Less, nat_cmp, refl, sym, subst, ap₂, ◌∙◌, arith}
 use Rattle.std.specs.List.{AllByRecursion}
 use Rattle.std.specs.List.Sorted.{IsStrictlySortedBy}
 use Rattle.std.specs.Cmp.Lexicographic.{slice_cmp}
@@ -18,9 +18,12 @@ use Rattle.ccr_history.specs.Tables.{TableData}
 use Rattle.ccr_history.specs.Builds.{BuildData}
 use Rattle.ccr_history.specs.History.{HistoryData, IsHistory}
 use Rattle.ccr_tables.specs.Listing.{columns_cmp, IsListed}
-use Rattle.ccr_store.specs.Listed.{AreSeen, AreBuilt, listed_pairs, listed, contents_of}
+use Rattle.ccr_store.specs.Listed.{AreSeen, AreBuilt, HasOther, listed_pairs, ListsSeen, ListsBuilt}
 use Rattle.ccr_store.specs.Rows.{scope_row, scope_rows, version_row, version_rows, table_rows, build_row, build_rows, used_row, moved_row, pair_rows, pin_row, meta_rows, rows_of}
-use Rattle.ccr_store.proofs.ListedRows.{pairs_listed, listed_are}
+use Rattle.ccr_tables.specs.Pairs.{IsPair}
+use Rattle.ccr_store.specs.Texts.{HasTexts}
+use Rattle.ccr_store.proofs.ReadBuilds.{listed_pairs_are}
+use Rattle.ccr_store.proofs.ListedRows.{pairs_listed}
 use Rattle.ccr_store.proofs.OneHistory.{Below, At, From, number_below, then_below, text_below, scopes_from, versions_at, places_from, tables_from, builds_from, pairs_up, from_names}
 
 -- by so many of the first columns, the first row comes before the second
@@ -96,9 +99,28 @@ pins_key : (ps : List (Text × TextMap)) → IsStrictlySortedBy (slice_cmp nat_c
 pins_key ps h =
     ascending-map (Key 1) pin_row ps (ascending_weaker (λ (p q : Text × TextMap). slice_cmp nat_cmp p.0 q.0 ≡ Less) (λ p q. Key 1 (pin_row p) (pin_row q)) (λ p q less. text_below p.0 q.0 [] [] less) ps (from_names (λ (p : Text × TextMap). p.0) ps h))
 
--- what the six SELECTs show of a history's rows is what it lists
-pub shown_listed : (h : HistoryData) (meta scopes versions builds pairs pins : List Row) → IsHistory h → AreSeen (rows_of h) meta scopes versions → AreBuilt (rows_of h) builds pairs pins → listed h ≡ contents_of meta scopes versions builds pairs pins
-shown_listed h meta scopes versions builds pairs pins rules seen built =
-    let given : IsListed 4 (listed_pairs 1 h.builds) pairs = record { same = IsPermutation-trans (listed_pairs 1 h.builds) (pair_rows 1 h.builds) pairs (IsPermutation-sym (pair_rows 1 h.builds) (listed_pairs 1 h.builds) (pairs_listed 1 h.builds)) built.given.same; ordered = built.given.ordered } in
-    listed_are h meta scopes versions builds pairs pins (shown 1 (meta_rows h.text) meta (meta_key h.text) seen.set) (shown 1 (scope_rows 1 h.tables) scopes (scopes_key 1 h.tables) seen.named) (shown 2 (table_rows 1 h.tables) versions (tables_key 1 h.tables) seen.reported)
-    (shown 1 (build_rows 1 h.builds) builds (builds_key 1 h.builds) built.made) (shown 4 (listed_pairs 1 h.builds) pairs (pairs_key (listed_pairs 1 h.builds) (four_columns 1 h.builds) (pairs_up 1 h.tables h.builds rules.1.2)) given) (shown 1 (map pin_row h.pins) pins (pins_key h.pins rules.2.0) built.held)
+shown_pairs : (h : HistoryData) (pairs : List Row) → IsHistory h → IsListed 4 (pair_rows 1 h.builds) pairs → pairs ≡ listed_pairs 1 h.builds
+shown_pairs h pairs rules is =
+    let given : IsListed 4 (listed_pairs 1 h.builds) pairs = record { same = IsPermutation-trans (listed_pairs 1 h.builds) (pair_rows 1 h.builds) pairs (IsPermutation-sym (pair_rows 1 h.builds) (listed_pairs 1 h.builds) (pairs_listed 1 h.builds)) is.same; ordered = is.ordered } in
+    shown 4 (listed_pairs 1 h.builds) pairs (pairs_key (listed_pairs 1 h.builds) (four_columns 1 h.builds) (pairs_up 1 h.tables h.builds rules.1.2)) given
+
+-- what the SELECTs show of a history's rows is what it lists
+pub shown_seen : (h : HistoryData) (meta scopes versions : List Row) → AreSeen (rows_of h) meta scopes versions → ListsSeen h meta scopes versions
+shown_seen h meta scopes versions seen = record {
+  set = shown 1 (meta_rows h.text) meta (meta_key h.text) seen.set;
+  named = shown 1 (scope_rows 1 h.tables) scopes (scopes_key 1 h.tables) seen.named;
+  reported = shown 2 (table_rows 1 h.tables) versions (tables_key 1 h.tables) seen.reported;
+}
+
+pub shown_built : (h : HistoryData) (builds pairs pins : List Row) → IsHistory h → AreBuilt (rows_of h) builds pairs pins → ListsBuilt h builds pairs pins
+shown_built h builds pairs pins rules built = record {
+  made = shown 1 (build_rows 1 h.builds) builds (builds_key 1 h.builds) built.made;
+  given = shown_pairs h pairs rules built.given;
+  held = shown 1 (map pin_row h.pins) pins (pins_key h.pins rules.2.0) built.held;
+}
+
+-- each row of a history's pairs is a pair
+pub no_other : (h : HistoryData) → IsHistory h → HasTexts h → HasOther (rows_of h).pairs → ⊥
+no_other h rules texts other =
+    let few : 1 + length h.builds ≤ 2 ^ 32 = omega (arith, rules.1.0) in
+    other.2 (subst (AllByRecursion IsPair) (sym (shown_pairs h other.0 rules other.1)) (listed_pairs_are h.tables 1 h.builds few rules.0 rules.1.2 texts.builds))

@@ -1,5 +1,5 @@
 -- What a commit leaves, over what a store is.
-use Rattle.std.proofs.Common.{◌≡◌, Ok, Err, OnOk, IfErr, Result, List, map, sym, ap, ◌∙◌, subst, IsTrue}
+use Rattle.std.proofs.Common.{◌≡◌, ◌≢◌, Ok, Err, OnOk, IfOk, IfErr, Option, Result, List, map, sym, ap, ◌∙◌, subst, IsTrue}
 use Rattle.std.specs.Prelude.{IfSome, IsErrAnd}
 use Rattle.sqlite_trees.specs.declared.store.Store.{Ghosts}
 use Rattle.sqlite.specs.declared.error.Error.{Error}
@@ -25,7 +25,11 @@ use Rattle.ccr_storage.specs.declared.fault.StoreFault.TheVariants.{NoMemory, No
 use Rattle.ccr_store.specs.Readable.{IsReadable}
 use Rattle.ccr_store.specs.Rows.{HasFormat, rows_of}
 use Rattle.ccr_store.specs.StoreData.{StoreData, IsStored, IsKept}
-use Rattle.ccr_store.specs.Texts.{HasTexts}
+use Rattle.ccr_store.specs.Texts.{HasTexts, OrNoMemory, OrFault}
+use Rattle.ccr_store.specs.Listed.{AreSeen, AreBuilt, ListsSeen, ListsBuilt, KeepsSeen, seen_of}
+use Rattle.ccr_store.proofs.ListedRows.{loaded}
+use Rattle.sqlite.specs.Order.{Row}
+use Rattle.ccr_history.specs.Text.{Text}
 use Rattle.ccr_store.specs.WriteData.{WriteData, write_data, all_made}
 use Rattle.ccr_store.proofs.ChangeRows.{changes_kept}
 use Rattle.ccr_store.proofs.OutlineLaws.{all_kept, all_writes_same}
@@ -91,10 +95,43 @@ pub out_of_memory : {X : Type 0} (r : Result X StoreFault) (fault : StoreFault) 
 out_of_memory (Ok x) fault h is = tt
 out_of_memory (Err e) fault h is = h ∙ is
 
--- where a history that the database holds leaves no fault but memory, `NotOurs` says that there is none
-pub not_ours_read : {X : Type 0} (r : Result X StoreFault) (db : Database) → ((h : HistoryData) → IsHistory h → HasTexts h → IfSome h.text IsReadable → Holds (rows_of h) db → IfErr r (λ fault. fault ≡ NoMemory)) → IfErr r (λ fault. fault ≡ NotOurs → HasNone db)
+-- where a history that the database holds leaves no fault that blames the tables, `NotOurs` says that there is none
+pub not_ours_read : {X : Type 0} (r : Result X StoreFault) (db : Database) → ((h : HistoryData) → IsHistory h → HasTexts h → IfSome h.text IsReadable → Holds (rows_of h) db → IfErr r (λ fault. fault ≢ NotOurs)) → IfErr r (λ fault. fault ≡ NotOurs → HasNone db)
 not_ours_read (Ok x) db h = tt
-not_ours_read (Err fault) db h = λ ours k rules texts readable holds. absurd (let both = sym ours ∙ h k rules texts readable holds in cc)
+not_ours_read (Err fault) db h = λ ours k rules texts readable holds. h k rules texts readable holds ours
+
+no_blame : (fault : StoreFault) → fault ≡ NoMemory → fault ≢ NotOurs
+no_blame fault is ours = absurd (let both = sym is ∙ ours in cc)
+
+pub or_fault : {X : Type 0} (P : X → Type 0) (r : Result X StoreFault) → OrNoMemory P r → OrFault P r
+or_fault P (Ok x) h = h
+or_fault P (Err fault) h = no_blame fault h
+
+pub if_fault : {X : Type 0} (r : Result X StoreFault) → IfErr r (λ fault. fault ≡ NoMemory) → IfErr r (λ fault. fault ≢ NotOurs)
+if_fault (Ok x) h = tt
+if_fault (Err fault) h = no_blame fault h
+
+pub fault_on : {X : Type 0} (r : Result X StoreFault) (fault : StoreFault) → IsErrAnd r (λ e. e ≡ fault) → fault ≢ NotOurs → IfErr r (λ e. e ≢ NotOurs)
+fault_on (Ok x) fault is h = tt
+fault_on (Err e) fault is h = λ ours. h (sym is ∙ ours)
+
+-- ---- a history in two parts
+pub seen_lists : (h history : HistoryData) (meta scopes versions : List Row) → history ≡ seen_of h → ListsSeen h meta scopes versions → ListsSeen history meta scopes versions
+seen_lists h history meta scopes versions is lists = subst (λ (k : HistoryData). ListsSeen k meta scopes versions) (sym is) (record { set = lists.set; named = lists.named; reported = lists.reported })
+
+pub rows_loaded : (r : Result HistoryData StoreFault) (old : HistoryData) (db mid : Database) → (db.schema ≡ our_schema → mid ≡ db)
+    → ((these : Contents) → Holds these db → (meta scopes versions : List Row) × AreSeen these meta scopes versions × ListsSeen old meta scopes versions) → IfOk r (KeepsSeen old)
+    → IfOk r (λ it. (these : Contents) → Holds these mid → (builds pairs pins : List Row) × AreBuilt these builds pairs pins × ListsBuilt it builds pairs pins)
+    → IfOk r (λ it. (these : Contents) → Holds these db → HasSameRows (rows_of it) these)
+rows_loaded (Err e) old db mid same seen kept built = tt
+rows_loaded (Ok it) old db mid same seen kept built = λ these holds.
+    let first = seen these holds in
+    let second = built these (subst (Holds these) (sym (same holds.schema)) holds) in
+    loaded old it these first.0 first.1 first.2 second.0 second.1 second.2 kept first.4 second.4 first.3 second.3
+
+pub readable_on : (r : Result HistoryData StoreFault) (old : HistoryData) → IfSome old.text IsReadable → IfOk r (KeepsSeen old) → IfOk r (λ it. IfSome it.text IsReadable)
+readable_on (Err e) old readable kept = tt
+readable_on (Ok it) old readable kept = subst (λ (t : Option Text). IfSome t IsReadable) (sym kept.1) readable
 
 pub not_ours_loaded : {X S : Type 0} (g : Ghosts S) (s t : StoreData S) (r : Result X StoreFault) (fault : StoreFault) → s ≡ t → IsErrAnd r (λ e. e ≡ fault) → (fault ≡ NotOurs → HasNone (state g s.conn).now) → IfErr r (λ e. e ≡ NotOurs → HasNone (state g t.conn).now)
 not_ours_loaded g s t (Ok x) fault same is h = tt

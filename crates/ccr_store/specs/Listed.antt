@@ -1,10 +1,12 @@
 -- Rows in the order of their tables' keys.
-use Rattle.std.specs.Prelude.{ℕ, ◌+◌, [], List, ◌∷◌, ◌++◌, map}
+use Rattle.std.specs.Prelude.{◌≡◌, ℕ, ◌+◌, [], List, ◌∷◌, ◌++◌, map}
+use Rattle.std.specs.List.{AllByRecursion}
 use Rattle.sqlite.specs.Order.{Row}
 use Rattle.ccr_history.specs.Builds.{BuildData}
-use Rattle.ccr_history.specs.History.{HistoryData}
+use Rattle.ccr_history.specs.History.{HistoryData, no_history}
 use Rattle.ccr_tables.specs.Contents.{Contents}
 use Rattle.ccr_tables.specs.Listing.{IsListed}
+use Rattle.ccr_tables.specs.Pairs.{IsPair}
 use Rattle.ccr_store.specs.Rows.{meta_rows, scope_rows, table_rows, build_rows, used_row, moved_row, pin_row}
 
 -- ---- what the six SELECTs show
@@ -20,10 +22,9 @@ pub record AreBuilt (these : Contents) (builds pairs pins : List Row) : Type 0 w
   pub given : IsListed 4 these.pairs pairs
   pub held : IsListed 1 these.pins pins
 
--- six lists of rows, as contents
-abbrev pub contents_of : (meta scopes versions builds pairs pins : List Row) → Contents
-contents_of meta scopes versions builds pairs pins =
-    record { meta = meta; scopes = scopes; versions = versions; builds = builds; pairs = pairs; pins = pins }
+-- one of the rows of `pairs` is no history's
+abbrev pub HasOther : List Row → Type 0
+HasOther these = (rows : List Row) × IsListed 4 these rows × ¬ AllByRecursion IsPair rows
 
 -- ---- what a history's rows are in that order
 -- the pairs of builds with ids from this one up: moved ones first, since the empty input comes before each other
@@ -31,13 +32,23 @@ abbrev pub listed_pairs : ℕ → List BuildData → List Row
 listed_pairs id [] = []
 listed_pairs id (b ∷ bs) = (map (moved_row id) b.moved ++ map (used_row id) b.used) ++ listed_pairs (id + 1) bs
 
--- the rows of a history, each table in the order of its key
-abbrev pub listed : HistoryData → Contents
-listed h = record {
-  meta = meta_rows h.text;
-  scopes = scope_rows 1 h.tables;
-  versions = table_rows 1 h.tables;
-  builds = build_rows 1 h.builds;
-  pairs = listed_pairs 1 h.builds;
-  pins = map pin_row h.pins;
-}
+-- the rows are those of a history's text and of its tables
+pub record ListsSeen (h : HistoryData) (meta scopes versions : List Row) : Type 0 where
+  pub set : meta ≡ meta_rows h.text
+  pub named : scopes ≡ scope_rows 1 h.tables
+  pub reported : versions ≡ table_rows 1 h.tables
+
+-- the rows are those of a history's builds and pins
+pub record ListsBuilt (h : HistoryData) (builds pairs pins : List Row) : Type 0 where
+  pub made : builds ≡ build_rows 1 h.builds
+  pub given : pairs ≡ listed_pairs 1 h.builds
+  pub held : pins ≡ map pin_row h.pins
+
+-- ---- a history in two parts
+-- a history without its builds and pins
+abbrev pub seen_of : HistoryData → HistoryData
+seen_of h = record no_history { tables = h.tables; text = h.text }
+
+-- the tables and the text are what they were
+abbrev pub KeepsSeen : HistoryData → HistoryData → Type 0
+KeepsSeen old new = (new.tables ≡ old.tables) × (new.text ≡ old.text)

@@ -1,5 +1,5 @@
 -- Histories of texts, as a `History` holds them.
-use Rattle.std.specs.Prelude.{◌≡◌, Some, Ok, Err, Result, IsUtf8}
+use Rattle.std.specs.Prelude.{◌≡◌, ◌≢◌, Some, Ok, Err, Result, IsUtf8}
 use Rattle.std.specs.List.{AllByRecursion}
 use Rattle.serde_json.specs.Data.{object}
 use Rattle.serde_json.specs.Read.{read}
@@ -9,7 +9,7 @@ use Rattle.ccr_history.specs.Tables.{TableData}
 use Rattle.ccr_history.specs.Builds.{BuildData}
 use Rattle.ccr_history.specs.History.{HistoryData}
 use Rattle.ccr_storage.specs.declared.fault.StoreFault.{StoreFault}
-use Rattle.ccr_storage.specs.declared.fault.StoreFault.TheVariants.{NoMemory}
+use Rattle.ccr_storage.specs.declared.fault.StoreFault.TheVariants.{NoMemory, NotOurs}
 
 -- the key of a version, or the text of a pin, is UTF-8, and JSON reads it as that map
 abbrev pub IsSpelled : TextMap → Type 0
@@ -38,3 +38,8 @@ pub record HasTexts (h : HistoryData) : Type 0 where
 abbrev pub OrNoMemory : {X : Type 0} → (X → Type 0) → Result X StoreFault → Type 0
 OrNoMemory P (Ok x) = P x
 OrNoMemory P (Err fault) = fault ≡ NoMemory
+
+-- the call gives such a value, or a fault that doesn't blame the tables
+abbrev pub OrFault : {X : Type 0} → (X → Type 0) → Result X StoreFault → Type 0
+OrFault P (Ok x) = P x
+OrFault P (Err fault) = fault ≢ NotOurs

@@ -1,11 +1,12 @@
 //! Columns of a row.
-ghost use Rattle.std.specs.Prelude.{◌≡◌, ◌<◌, pos, length, IsTrue, IfOk, IfErr};
+ghost use Rattle.std.specs.Prelude.{◌≡◌, ◌<◌, [], pos, length, IsTrue, IfOk, IfErr};
 ghost use Rattle.ccr_storage.specs.declared.fault.StoreFault.TheVariants.{NoMemory};
 ghost use Rattle.sqlite.specs.declared.types.Value.TheVariants.{Int, Text, Blob};
 ghost use Rattle.sqlite.specs.Order.{column};
 
 use ccr_storage::StoreFault;
 use ccr_tables::Cause;
+use ccr_tables::pairs::Pair;
 use sqlite::Row;
 use sqlite::types::{FromSql, ValueRef};
 
@@ -53,4 +54,22 @@ pub(crate) fn is_blob(row: &Row, at: usize, bytes: &[u8]) -> bool
         Ok(ValueRef::Blob(found)) => found == bytes,
         _ => false,
     }
+}
+
+/// Whether the pair is one of this build.
+pub(crate) fn is_of(pair: &Pair, build: u32) -> bool
+    ensures is { IsTrue result → column pair.now 0 ≡ Int (pos build) }
+    ensures only { column pair.now 0 ≡ Int (pos build) → IsTrue result }
+{
+    let (found, _, _, _) = pair.columns();
+    found == build
+}
+
+/// Whether the pair has no input.
+pub(crate) fn has_no_input(pair: &Pair) -> bool
+    ensures is { IsTrue result → column pair.now 1 ≡ Text [] }
+    ensures only { column pair.now 1 ≡ Text [] → IsTrue result }
+{
+    let (_, input, _, _) = pair.columns();
+    input.is_empty()
 }

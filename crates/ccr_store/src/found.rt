@@ -1,14 +1,16 @@
 //! The rows that the six tables have.
-ghost use Rattle.std.specs.Prelude.{◌≡◌, ◌≢◌, false, IsTrue, IfOk, IfErr, OnOk};
+ghost use Rattle.std.specs.Prelude.{◌≡◌, ◌≢◌, false, IsTrue, IfOk, IfErr, IfSome, IfNone, OnOk};
 ghost use Rattle.ccr_tables.specs.Cause.{cause_of};
 ghost use Rattle.sqlite.specs.State.{HasCleanDisk, IsUnchanged};
 ghost use Rattle.sqlite.specs.Held.{state};
 ghost use Rattle.ccr_tables.specs.Contents.{Holds};
 ghost use Rattle.ccr_tables.specs.Schema.{our_schema};
-ghost use Rattle.ccr_store.specs.Listed.{AreSeen, AreBuilt};
+ghost use Rattle.ccr_store.specs.Listed.{AreSeen, AreBuilt, HasOther};
 
+use ccr_tables::pairs::Pair;
 use ccr_tables::{Cause, builds, meta, pairs, pins, scopes, versions};
 use sqlite::{Alter, Connection, Error as SqlError, Row};
+use std::alloc::Global;
 
 /// The rows of what was set and seen, each table in the order of its key.
 #[derive(Drop)]
@@ -22,7 +24,7 @@ pub(crate) struct Seen {
 #[derive(Drop)]
 pub(crate) struct Built {
     pub(crate) builds: Vec<Row>,
-    pub(crate) pairs: Vec<Row>,
+    pub(crate) pairs: Vec<Pair>,
     pub(crate) pins: Vec<Row>,
 }
 
@@ -49,10 +51,16 @@ pub(crate) fn read_seen<S: Alter>(conn: &mut Connection<S>) -> Result<Seen, SqlE
     })
 }
 
-/// Reads what was built and pinned.
-pub(crate) fn read_built<S: Alter>(conn: &mut Connection<S>) -> Result<Built, SqlError>
-    ensures rows { HasCleanDisk (state S.Store conn.new) → IfOk result (λ built. (these : _)
-        → Holds these (state S.Store conn.old).now → AreBuilt these built.builds.items built.pairs.items built.pins.items) }
+/// Reads what was built and pinned; `None` where a row of `pairs` is no history's.
+pub(crate) fn read_built<S: Alter>(
+    alloc: Global,
+    conn: &mut Connection<S>,
+) -> Result<Option<Built>, SqlError>
+    ensures rows { HasCleanDisk (state S.Store conn.new) → IfOk result (λ found. IfSome found (λ built. (these : _)
+        → Holds these (state S.Store conn.old).now
+        → AreBuilt these built.builds.items built.pairs.items built.pins.items)) }
+    ensures none { HasCleanDisk (state S.Store conn.new) → IfOk result (λ found. IfNone found ((these : _)
+        → Holds these (state S.Store conn.old).now → HasOther these.pairs)) }
     ensures same { let old = state S.Store conn.old in
         let new = state S.Store conn.new in
         HasCleanDisk new → old.now.schema ≡ our_schema → OnOk result (IsUnchanged old new) }
@@ -62,11 +70,13 @@ pub(crate) fn read_built<S: Alter>(conn: &mut Connection<S>) -> Result<Built, Sq
     ensures mode { conn.old.in_transaction ≡ false → conn.new.in_transaction ≡ false }
 {
     let builds = builds::select(conn)?;
-    let pairs = pairs::select(conn)?;
+    let Some(pairs) = pairs::select(alloc, conn)? else {
+        return Ok(None);
+    };
     let pins = pins::select(conn)?;
-    Ok(Built {
+    Ok(Some(Built {
         builds,
         pairs,
         pins,
-    })
+    }))
 }

@@ -1,5 +1,6 @@
 //! The history whose rows the tables have.
-ghost use Rattle.std.specs.Prelude.{◌≡◌, false, IsTrue, IfOk, IfErr, IfSome, OnOk};
+ghost use Rattle.std.specs.Prelude.{◌≡◌, ◌≢◌, List, false, IsTrue, IfOk, IfErr, IfSome, OnOk};
+ghost use Rattle.sqlite.specs.Order.{Row};
 ghost use Rattle.sqlite.specs.State.{HasCleanDisk, IsUnchanged};
 ghost use Rattle.sqlite.specs.Held.{state};
 ghost use Rattle.ccr_history.specs.History.{HistoryData, IsHistory};
@@ -7,18 +8,18 @@ ghost use Rattle.ccr_storage.specs.declared.fault.StoreFault.TheVariants.{NoMemo
 ghost use Rattle.ccr_tables.specs.Cause.{cause_of};
 ghost use Rattle.ccr_tables.specs.Contents.{Contents, Holds};
 ghost use Rattle.ccr_tables.specs.Schema.{our_schema};
-ghost use Rattle.ccr_store.specs.Listed.{listed, contents_of};
+ghost use Rattle.ccr_store.specs.Listed.{AreSeen, AreBuilt, ListsSeen, ListsBuilt, KeepsSeen, seen_of};
 ghost use Rattle.ccr_store.specs.Readable.{IsReadable};
 ghost use Rattle.ccr_store.specs.Reordered.{HasSameRows};
 ghost use Rattle.ccr_store.specs.Rows.{HasFormat, rows_of};
-ghost use Rattle.ccr_store.specs.Texts.{HasTexts};
+ghost use Rattle.ccr_store.specs.Texts.{HasTexts, OrNoMemory, OrFault};
 
 use crate::fault::fault_of;
 use crate::found::{Built, Seen, read_built, read_seen};
 use crate::matching::{
     are_builds, are_meta, are_pairs, are_pins, are_scopes, are_versions, has_format,
 };
-use crate::reading::{check_text, read_rows};
+use crate::reading::{check_text, read_builds, read_tables};
 use ccr_history::History;
 use ccr_storage::StoreFault;
 use ccr_tables::{Cause, meta};
@@ -53,54 +54,120 @@ pub(crate) fn check_format<S: Alter>(conn: &mut Connection<S>) -> Result<(), Sto
     }
 }
 
-/// Whether the rows are those of a history.
-#[tactic(auto, using(crate::proofs::ListedRows::listed_are))]
-fn are_rows_of(
-    alloc: Global,
-    seen: &Seen,
-    built: &Built,
-    history: &History,
-) -> Result<bool, AllocError>
-    ensures rows { IfOk result (λ same. IsTrue same → listed history.now ≡ contents_of
-        seen.now.meta.items seen.now.scopes.items seen.now.versions.items
-        built.now.builds.items built.now.pairs.items built.now.pins.items) }
-    ensures only { listed history.now ≡ contents_of
-        seen.now.meta.items seen.now.scopes.items seen.now.versions.items
-        built.now.builds.items built.now.pairs.items built.now.pins.items → IfOk result IsTrue }
+// ---- what was set and seen
+/// Whether the rows are those of the history's text and tables.
+fn are_seen(alloc: Global, seen: &Seen, history: &History) -> Result<bool, AllocError>
+    ensures rows { IfOk result (λ same. IsTrue same
+        → ListsSeen history.now seen.now.meta.items seen.now.scopes.items seen.now.versions.items) }
+    ensures only { ListsSeen history.now seen.now.meta.items seen.now.scopes.items seen.now.versions.items
+        → IfOk result IsTrue }
 {
     let has_versions = are_versions(alloc, &seen.versions, history)?;
-    let has_pins = are_pins(alloc, &built.pins, history.pins())?;
-    Ok(
-        has_versions
-            && has_pins
-            && are_meta(&seen.meta, history.text())
-            && are_scopes(&seen.scopes, history)
-            && are_builds(&built.builds, history)
-            && are_pairs(&built.pairs, history),
-    )
+    Ok(has_versions && are_meta(&seen.meta, history.text()) && are_scopes(&seen.scopes, history))
 }
 
-/// The history that has these rows.
-fn history_of(alloc: Global, seen: &Seen, built: &Built) -> Result<History, StoreFault>
-    ensures rows { IfOk result (λ history. listed history ≡ contents_of
-        seen.now.meta.items seen.now.scopes.items seen.now.versions.items
-        built.now.builds.items built.now.pairs.items built.now.pins.items) }
-    ensures rules { IfOk result IsHistory }
+/// What was set and seen of the history that has these rows.
+fn tables_of(alloc: Global, seen: &Seen) -> Result<History, StoreFault>
+    ensures rows { IfOk result (λ history.
+        ListsSeen history seen.now.meta.items seen.now.scopes.items seen.now.versions.items) }
     ensures readable { IfOk result (λ history. IfSome history.text IsReadable) }
-    ensures only { (h : HistoryData) → IsHistory h → HasTexts h → IfSome h.text IsReadable → listed h ≡ contents_of
-        seen.now.meta.items seen.now.scopes.items seen.now.versions.items
-        built.now.builds.items built.now.pairs.items built.now.pins.items → IfErr result (λ fault. fault ≡ NoMemory) }
+    ensures only { (h : HistoryData) → IsHistory h → HasTexts h → IfSome h.text IsReadable
+        → ListsSeen h seen.now.meta.items seen.now.scopes.items seen.now.versions.items
+        → OrNoMemory (λ history. history ≡ seen_of h) result }
 {
-    let history = read_rows(alloc, seen, built)?;
-    history.rules();
+    let history = read_tables(alloc, seen)?;
     check_text(alloc, history.text())?;
-    if are_rows_of(alloc, seen, built, &history)? {
+    if are_seen(alloc, seen, &history)? {
         Ok(history)
     } else {
         Err(StoreFault::NotOurs)
     }
 }
 
+/// Reads what was set and seen, and gives the history of it. Its rows are let go before others are read.
+fn load_seen<S: Alter>(alloc: Global, conn: &mut Connection<S>) -> Result<History, StoreFault>
+    ensures rows { HasCleanDisk (state S.Store conn.new) → IfOk result (λ history. (these : Contents)
+        → Holds these (state S.Store conn.old).now → (meta scopes versions : List Row)
+        × AreSeen these meta scopes versions × ListsSeen history meta scopes versions) }
+    ensures readable { IfOk result (λ history. IfSome history.text IsReadable) }
+    ensures only { HasCleanDisk (state S.Store conn.new) → (h : HistoryData) → IsHistory h → HasTexts h
+        → IfSome h.text IsReadable → Holds (rows_of h) (state S.Store conn.old).now
+        → OrFault (λ history. history ≡ seen_of h) result }
+    ensures same { let old = state S.Store conn.old in
+        let new = state S.Store conn.new in
+        HasCleanDisk new → old.now.schema ≡ our_schema → OnOk result (IsUnchanged old new) }
+    ensures clean { HasCleanDisk (state S.Store conn.new) → HasCleanDisk (state S.Store conn.old) }
+    ensures open { HasCleanDisk (state S.Store conn.new) → IfOk result (λ _. IsTrue (state S.Store conn.old).is_open) }
+    ensures mode { conn.old.in_transaction ≡ false → conn.new.in_transaction ≡ false }
+{
+    match read_seen(conn) {
+        Ok(seen) => tables_of(alloc, &seen),
+        Err(error) => Err(read_fault_of(&error)),
+    }
+}
+
+// ---- what was built and pinned
+/// Whether the rows are those of the history's builds and pins.
+fn are_built(alloc: Global, built: &Built, history: &History) -> Result<bool, AllocError>
+    ensures rows { IfOk result (λ same. IsTrue same
+        → ListsBuilt history.now built.now.builds.items built.now.pairs.items built.now.pins.items) }
+    ensures only { ListsBuilt history.now built.now.builds.items built.now.pairs.items built.now.pins.items
+        → IfOk result IsTrue }
+{
+    let has_pins = are_pins(alloc, &built.pins, history.pins())?;
+    Ok(has_pins && are_builds(&built.builds, history) && are_pairs(&built.pairs, history))
+}
+
+/// The history with the builds and pins of these rows.
+fn history_of(alloc: Global, history: History, built: &Built) -> Result<History, StoreFault>
+    ensures rows { IfOk result (λ it. ListsBuilt it built.now.builds.items built.now.pairs.items built.now.pins.items) }
+    ensures kept { IfOk result (KeepsSeen history) }
+    ensures rules { IfOk result IsHistory }
+    ensures only { (h : HistoryData) → IsHistory h → HasTexts h → history ≡ seen_of h
+        → ListsBuilt h built.now.builds.items built.now.pairs.items built.now.pins.items
+        → IfErr result (λ fault. fault ≡ NoMemory) }
+{
+    let mut history = history;
+    read_builds(alloc, &mut history, built)?;
+    history.rules();
+    if are_built(alloc, built, &history)? {
+        Ok(history)
+    } else {
+        Err(StoreFault::NotOurs)
+    }
+}
+
+/// Reads what was built and pinned, and adds it to the history of what was set and seen.
+fn load_built<S: Alter>(
+    alloc: Global,
+    conn: &mut Connection<S>,
+    history: History,
+) -> Result<History, StoreFault>
+    ensures rows { HasCleanDisk (state S.Store conn.new) → IfOk result (λ it. (these : Contents)
+        → Holds these (state S.Store conn.old).now → (builds pairs pins : List Row)
+        × AreBuilt these builds pairs pins × ListsBuilt it builds pairs pins) }
+    ensures kept { IfOk result (KeepsSeen history) }
+    ensures rules { IfOk result IsHistory }
+    ensures only { HasCleanDisk (state S.Store conn.new) → (h : HistoryData) → IsHistory h → HasTexts h
+        → history ≡ seen_of h → Holds (rows_of h) (state S.Store conn.old).now
+        → IfErr result (λ fault. fault ≢ NotOurs) }
+    ensures same { let old = state S.Store conn.old in
+        let new = state S.Store conn.new in
+        HasCleanDisk new → old.now.schema ≡ our_schema → OnOk result (IsUnchanged old new) }
+    ensures clean { HasCleanDisk (state S.Store conn.new) → HasCleanDisk (state S.Store conn.old) }
+    ensures mode { conn.old.in_transaction ≡ false → conn.new.in_transaction ≡ false }
+{
+    let found = match read_built(alloc, conn) {
+        Ok(found) => found,
+        Err(error) => return Err(read_fault_of(&error)),
+    };
+    match found {
+        Some(built) => history_of(alloc, history, &built),
+        None => Err(StoreFault::NotOurs),
+    }
+}
+
+// ---- all of it
 /// Reads each table once, and gives the history whose rows they have: `NotOurs` where a read is refused, or where no history
 /// has the rows.
 pub(crate) fn load<S: Alter>(alloc: Global, conn: &mut Connection<S>) -> Result<History, StoreFault>
@@ -118,12 +185,6 @@ pub(crate) fn load<S: Alter>(alloc: Global, conn: &mut Connection<S>) -> Result<
     ensures open { HasCleanDisk (state S.Store conn.new) → IfOk result (λ _. IsTrue (state S.Store conn.old).is_open) }
     ensures mode { conn.old.in_transaction ≡ false → conn.new.in_transaction ≡ false }
 {
-    let seen = match read_seen(conn) {
-        Ok(seen) => seen,
-        Err(error) => return Err(read_fault_of(&error)),
-    };
-    match read_built(conn) {
-        Ok(built) => history_of(alloc, &seen, &built),
-        Err(error) => Err(read_fault_of(&error)),
-    }
+    let history = load_seen(alloc, conn)?;
+    load_built(alloc, conn, history)
 }

@@ -9,6 +9,7 @@ ghost use Rattle.ccr_store.specs.Rows.{format_row, meta_rows, scope_row, scope_r
 use crate::columns::{is_blob, is_number, is_text};
 use crate::mirror::number_of;
 use ccr_history::{BuildRef, History, Pins, Scope, Version};
+use ccr_tables::pairs::Pair;
 use sqlite::Row;
 use std::alloc::{AllocError, Global};
 
@@ -179,21 +180,17 @@ pub(crate) fn are_builds(rows: &[Row], history: &History) -> bool
     true
 }
 
-#[tactic(auto, using(crate::proofs::ListedRows::four))]
-fn is_pair(row: &Row, id: u32, input: &str, scope: u32, place: u32) -> bool
+fn is_pair(pair: &Pair, id: u32, input: &str, scope: u32, place: u32) -> bool
     ensures is { IsTrue result
-        → row.now ≡ Int (pos id) ∷ Text input.now ∷ Int (pos scope) ∷ Int (pos place) ∷ [] }
-    ensures only { row.now ≡ Int (pos id) ∷ Text input.now ∷ Int (pos scope) ∷ Int (pos place) ∷ [] → IsTrue result }
+        → pair.now ≡ Int (pos id) ∷ Text input.now ∷ Int (pos scope) ∷ Int (pos place) ∷ [] }
+    ensures only { pair.now ≡ Int (pos id) ∷ Text input.now ∷ Int (pos scope) ∷ Int (pos place) ∷ [] → IsTrue result }
 {
-    row.column_count() == 4
-        && is_number(row, 0, id)
-        && is_text(row, 1, input)
-        && is_number(row, 2, scope)
-        && is_number(row, 3, place)
+    let (build, name, of, at) = pair.columns();
+    build == id && name == input && of == scope && at == place
 }
 
 /// Whether the rows are those of what a build moved.
-fn are_moved(rows: &[Row], id: u32, moved: &[(u32, u32)]) -> bool
+fn are_moved(rows: &[Pair], id: u32, moved: &[(u32, u32)]) -> bool
     ensures is { IsTrue result → rows.now ≡ map (moved_row id) moved.now }
     ensures only { rows.now ≡ map (moved_row id) moved.now → IsTrue result }
 {
@@ -210,7 +207,7 @@ fn are_moved(rows: &[Row], id: u32, moved: &[(u32, u32)]) -> bool
 }
 
 /// Whether the rows are those of what a build used.
-fn are_used(rows: &[Row], id: u32, build: &BuildRef<'_>) -> bool
+fn are_used(rows: &[Pair], id: u32, build: &BuildRef<'_>) -> bool
     ensures is { IsTrue result → rows.now ≡ map (used_row id) build.now.used }
     ensures only { rows.now ≡ map (used_row id) build.now.used → IsTrue result }
 {
@@ -230,7 +227,7 @@ fn are_used(rows: &[Row], id: u32, build: &BuildRef<'_>) -> bool
 
 /// What is left of the rows behind those of what a build moved and used, if they begin with these.
 #[tactic(auto, using(crate::proofs::ListedRows::parted))]
-fn after_build<'a>(rows: &'a [Row], id: u32, build: &BuildRef<'_>) -> Option<&'a [Row]>
+fn after_build<'a>(rows: &'a [Pair], id: u32, build: &BuildRef<'_>) -> Option<&'a [Pair]>
     ensures is { IfSome result (λ more. rows.now
         ≡ (map (moved_row id) build.now.moved ++ map (used_row id) build.now.used) ++ more.now) }
     ensures only { (more : List RowData)
@@ -256,7 +253,7 @@ fn after_build<'a>(rows: &'a [Row], id: u32, build: &BuildRef<'_>) -> Option<&'a
 }
 
 /// Whether the rows are those of what the builds moved and used.
-pub(crate) fn are_pairs(rows: &[Row], history: &History) -> bool
+pub(crate) fn are_pairs(rows: &[Pair], history: &History) -> bool
     ensures is { IsTrue result → rows.now ≡ listed_pairs 1 history.now.builds }
     ensures only { rows.now ≡ listed_pairs 1 history.now.builds → IsTrue result }
 {

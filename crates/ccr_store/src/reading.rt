@@ -15,16 +15,17 @@ ghost use Rattle.ccr_history.specs.declared.build.Status.TheVariants.{Running};
 ghost use Rattle.ccr_history.specs.declared.table.TheConstants.{MOST_SCOPES};
 ghost use Rattle.ccr_history.specs.declared.builds.TheConstants.{MOST_BUILDS};
 ghost use Rattle.ccr_storage.specs.declared.fault.StoreFault.TheVariants.{NoMemory, NotOurs};
-ghost use Rattle.ccr_store.specs.Listed.{listed, listed_pairs, contents_of};
+ghost use Rattle.ccr_store.specs.Listed.{listed_pairs, ListsSeen, ListsBuilt, KeepsSeen, seen_of};
 ghost use Rattle.ccr_store.specs.Readable.{IsReadable};
 ghost use Rattle.ccr_store.specs.Rows.{meta_rows, text_row, scope_row, scope_rows, version_rows, table_rows, status_number, build_row, build_rows, used_row, moved_row, pin_row};
 ghost use Rattle.ccr_store.specs.Texts.{IsSpelled, IsTextTable, IsTextBuild, IsTextPin, HasTexts, OrNoMemory};
 
-use crate::columns::{is_number, is_text, read_column};
+use crate::columns::{has_no_input, is_number, is_of, read_column};
 use crate::found::{Built, Seen};
 use ccr_history::{History, HistoryFault, Pin, Scope, Status, Used, Version};
 use ccr_pipeline::{ReadFault, read};
 use ccr_storage::StoreFault;
+use ccr_tables::pairs::Pair;
 use serde_json::Value;
 use sqlite::Row;
 use std::alloc::Global;
@@ -69,16 +70,33 @@ fn id_count(rows: &[Row], id: u32) -> usize
     count
 }
 
-/// How many of the first rows have no input.
-fn moved_count(rows: &[Row]) -> usize
-    ensures within { result ≤ length rows.now }
-    ensures is { (here more : List RowData) → rows.now ≡ here ++ more
+/// How many of the first pairs are of this build.
+fn pair_count(pairs: &[Pair], build: u32) -> usize
+    ensures within { result ≤ length pairs.now }
+    ensures is { (here more : List RowData) → pairs.now ≡ here ++ more
+        → AllByRecursion (λ r. column r 0 ≡ Int (pos build)) here
+        → AllByRecursion (λ r. column r 0 ≢ Int (pos build)) more → result ≡ length here }
+{
+    let mut count = 0;
+    for pair in pairs {
+        if !is_of(pair, build) {
+            return count;
+        }
+        count += 1;
+    }
+    count
+}
+
+/// How many of the first pairs have no input.
+fn moved_count(pairs: &[Pair]) -> usize
+    ensures within { result ≤ length pairs.now }
+    ensures is { (here more : List RowData) → pairs.now ≡ here ++ more
         → AllByRecursion (λ r. column r 1 ≡ Text []) here
         → AllByRecursion (λ r. column r 1 ≢ Text []) more → result ≡ length here }
 {
     let mut count = 0;
-    for row in rows {
-        if !is_text(row, 1, "") {
+    for pair in pairs {
+        if !has_no_input(pair) {
             return count;
         }
         count += 1;
@@ -176,29 +194,30 @@ fn add_tables(
 }
 
 // ---- what was built
-fn read_used(alloc: Global, pairs: &[Row]) -> Result<Vec<Used>, StoreFault>
-    ensures { (id : ℕ) (us : List UsedData) → AllByRecursion (λ u. IsUtf8 u.input) us
-        → AllByRecursion (λ u. (u.scope < 2 ^ 32) × (u.place < 2 ^ 32)) us → pairs.now ≡ map (used_row id) us
+fn read_used(alloc: Global, pairs: &[Pair]) -> Result<Vec<Used>, StoreFault>
+    ensures { (id : ℕ) (us : List UsedData) → pairs.now ≡ map (used_row id) us
         → OrNoMemory (λ used. used.items ≡ us) result }
 {
     let mut used = Vec::new(alloc);
-    for row in pairs {
+    for pair in pairs {
+        let (_, input, scope, place) = pair.columns();
         used.push(Used {
-            input: read_column(row, 1)?,
-            scope: read_column(row, 2)?,
-            place: read_column(row, 3)?,
+            input: String::from_str(alloc, input)?,
+            scope,
+            place,
         })?;
     }
     Ok(used)
 }
 
-fn read_moved(alloc: Global, pairs: &[Row]) -> Result<Vec<(u32, u32)>, StoreFault>
-    ensures { (id : ℕ) (ps : List (ℕ × ℕ)) → AllByRecursion (λ p. (p.0 < 2 ^ 32) × (p.1 < 2 ^ 32)) ps
-        → pairs.now ≡ map (moved_row id) ps → OrNoMemory (λ moved. moved.items ≡ ps) result }
+fn read_moved(alloc: Global, pairs: &[Pair]) -> Result<Vec<(u32, u32)>, StoreFault>
+    ensures { (id : ℕ) (ps : List (ℕ × ℕ)) → pairs.now ≡ map (moved_row id) ps
+        → OrNoMemory (λ moved. moved.items ≡ ps) result }
 {
     let mut moved = Vec::new(alloc);
-    for row in pairs {
-        moved.push((read_column(row, 2)?, read_column(row, 3)?))?;
+    for pair in pairs {
+        let (_, _, scope, place) = pair.columns();
+        moved.push((scope, place))?;
     }
     Ok(moved)
 }
@@ -227,8 +246,9 @@ fn end(
     moved: &[(u32, u32)],
 ) -> Result<(), StoreFault>
     requires { status ≢ Running }
-    ensures { AreMoved history.old.tables moved.now → IsRunning job.now number history.old.builds
+    ensures read { AreMoved history.old.tables moved.now → IsRunning job.now number history.old.builds
         → OrNoMemory (λ _. history.new ≡ edited (ended job.now number status moved.now) history.old) result }
+    ensures kept { OnOk result (KeepsSeen history.old history.new) }
 {
     if !history.can_move(moved) {
         return Err(StoreFault::NotOurs);
@@ -246,13 +266,14 @@ fn end_build(
     row: &Row,
     job: &str,
     number: u32,
-    pairs: &[Row],
+    pairs: &[Pair],
 ) -> Result<(), StoreFault>
-    ensures { (id : ℕ) (b : BuildData) (before : List BuildData) → AreTables history.old.tables
+    ensures read { (id : ℕ) (b : BuildData) (before : List BuildData) → AreTables history.old.tables
         → IsBuild history.old.tables b → row.now ≡ build_row id b → pairs.now ≡ map (moved_row id) b.moved
         → job.now ≡ b.job → number ≡ b.number → build_of b.job b.number before ≡ None
         → history.old.builds ≡ before ++ new_build b.job b.number b.used ∷ []
         → OrNoMemory (λ _. history.new ≡ record history.old { builds = before ++ b ∷ [] }) result }
+    ensures kept { OnOk result (KeepsSeen history.old history.new) }
 {
     let how = read_column(row, 3)?;
     if how == 0 {
@@ -267,9 +288,10 @@ fn end_build(
 
 /// Makes a build of a job that may use these places.
 fn begin(alloc: Global, history: &mut History, job: &str, used: &[Used]) -> Result<u32, StoreFault>
-    ensures { AreUsed history.old.tables used.now → length history.old.builds < MOST_BUILDS
+    ensures read { AreUsed history.old.tables used.now → length history.old.builds < MOST_BUILDS
         → OrNoMemory (λ number. (number ≡ count_of job.now history.old.builds + 1)
         × (history.new ≡ edited (build job.now used.now) history.old)) result }
+    ensures kept { OnOk result (KeepsSeen history.old history.new) }
 {
     if !history.can_use(used) {
         return Err(StoreFault::NotOurs);
@@ -285,12 +307,13 @@ fn begin_build(
     alloc: Global,
     history: &mut History,
     job: &str,
-    pairs: &[Row],
+    pairs: &[Pair],
 ) -> Result<u32, StoreFault>
-    ensures { (id : ℕ) (b : BuildData) → AreTables history.old.tables → IsBuild history.old.tables b
+    ensures read { (id : ℕ) (b : BuildData) → AreTables history.old.tables → IsBuild history.old.tables b
         → IsTextBuild b → pairs.now ≡ map (used_row id) b.used → length history.old.builds < MOST_BUILDS
         → OrNoMemory (λ number. (number ≡ count_of job.now history.old.builds + 1)
         × (history.new ≡ edited (build job.now b.used) history.old)) result }
+    ensures kept { OnOk result (KeepsSeen history.old history.new) }
 {
     let used = read_used(alloc, pairs)?;
     begin(alloc, history, job, &used)
@@ -301,18 +324,19 @@ fn add_build<'a>(
     alloc: Global,
     history: &mut History,
     row: &Row,
-    rest: &'a [Row],
-) -> Result<&'a [Row], StoreFault>
-    ensures { (id : ℕ) (b : BuildData) (bs : List BuildData) → id < 2 ^ 32
+    rest: &'a [Pair],
+) -> Result<&'a [Pair], StoreFault>
+    ensures read { (id : ℕ) (b : BuildData) (bs : List BuildData) → id < 2 ^ 32
         → IsBuild history.old.tables b → IsTextBuild b → row.now ≡ build_row id b
         → rest.now ≡ listed_pairs id (b ∷ bs) → b.number ≡ count_of b.job history.old.builds + 1
         → length history.old.builds < MOST_BUILDS
         → OrNoMemory (λ more. (more.now ≡ listed_pairs (id + 1) bs)
         × (history.new ≡ record history.old { builds = history.old.builds ++ b ∷ [] })) result }
+    ensures kept { OnOk result (KeepsSeen history.old history.new) }
 {
     history.rules();
     let id = read_column(row, 0)?;
-    let (here, more) = rest.split_at(id_count(rest, id));
+    let (here, more) = rest.split_at(pair_count(rest, id));
     let (moved, used) = here.split_at(moved_count(here));
     let job: String = read_column(row, 1)?;
     let number = begin_build(alloc, history, job.as_str(), used)?;
@@ -324,12 +348,13 @@ fn add_builds(
     alloc: Global,
     history: &mut History,
     builds: &[Row],
-    pairs: &[Row],
+    pairs: &[Pair],
 ) -> Result<(), StoreFault>
-    ensures { (bs : List BuildData) → AreBuilds history.old.tables bs
+    ensures read { (bs : List BuildData) → AreBuilds history.old.tables bs
         → AllByRecursion IsTextBuild bs → history.old.builds ≡ [] → builds.now ≡ build_rows 1 bs
         → pairs.now ≡ listed_pairs 1 bs
         → OrNoMemory (λ _. history.new ≡ record history.old { builds = bs }) result }
+    ensures kept { OnOk result (KeepsSeen history.old history.new) }
 {
     let mut rest = pairs;
     for row in builds {
@@ -352,8 +377,9 @@ fn read_pin(alloc: Global, row: &Row) -> Result<Pin, StoreFault>
 }
 
 fn add_pin(alloc: Global, history: &mut History, row: &Row) -> Result<(), StoreFault>
-    ensures { (p : List ℕ × TextMap) → IsTextPin p → row.now ≡ pin_row p
+    ensures read { (p : List ℕ × TextMap) → IsTextPin p → row.now ≡ pin_row p
         → OrNoMemory (λ _. history.new ≡ edited (pin_set p.0 p.1) history.old) result }
+    ensures kept { OnOk result (KeepsSeen history.old history.new) }
 {
     let resource: String = read_column(row, 0)?;
     let pin = read_pin(alloc, row)?;
@@ -364,8 +390,9 @@ fn add_pin(alloc: Global, history: &mut History, row: &Row) -> Result<(), StoreF
 }
 
 fn add_pins(alloc: Global, history: &mut History, pins: &[Row]) -> Result<(), StoreFault>
-    ensures { (ps : List (List ℕ × TextMap)) → ArePins ps → AllByRecursion IsTextPin ps → history.old.pins ≡ []
+    ensures read { (ps : List (List ℕ × TextMap)) → ArePins ps → AllByRecursion IsTextPin ps → history.old.pins ≡ []
         → pins.now ≡ map pin_row ps → OrNoMemory (λ _. history.new ≡ record history.old { pins = ps }) result }
+    ensures kept { OnOk result (KeepsSeen history.old history.new) }
 {
     for row in pins {
         add_pin(alloc, history, row)?;
@@ -406,17 +433,30 @@ pub(crate) fn check_text(alloc: Global, text: Option<&[u8]>) -> Result<(), Store
     }
 }
 
-/// The history that has these rows, if there is one. Whether it has them is for the caller to see.
-pub(crate) fn read_rows(alloc: Global, seen: &Seen, built: &Built) -> Result<History, StoreFault>
-    ensures { (h : HistoryData) → IsHistory h → HasTexts h → listed h ≡ contents_of
-        seen.now.meta.items seen.now.scopes.items seen.now.versions.items
-        built.now.builds.items built.now.pairs.items built.now.pins.items
-        → OrNoMemory (λ history. history ≡ h) result }
+/// What was set and seen of the history that has these rows, if there is one. Whether it has them is for the caller to see.
+pub(crate) fn read_tables(alloc: Global, seen: &Seen) -> Result<History, StoreFault>
+    ensures { (h : HistoryData) → IsHistory h → HasTexts h
+        → ListsSeen h seen.now.meta.items seen.now.scopes.items seen.now.versions.items
+        → OrNoMemory (λ history. history ≡ seen_of h) result }
 {
     let mut history = History::new(alloc);
     read_text(&mut history, &seen.meta)?;
     add_tables(alloc, &mut history, &seen.scopes, &seen.versions)?;
-    add_builds(alloc, &mut history, &built.builds, &built.pairs)?;
-    add_pins(alloc, &mut history, &built.pins)?;
     Ok(history)
+}
+
+/// Adds the builds and pins of the history that has these rows, if there is one. Whether it has them is for the caller to
+/// see.
+pub(crate) fn read_builds(
+    alloc: Global,
+    history: &mut History,
+    built: &Built,
+) -> Result<(), StoreFault>
+    ensures read { (h : HistoryData) → IsHistory h → HasTexts h → history.old ≡ seen_of h
+        → ListsBuilt h built.now.builds.items built.now.pairs.items built.now.pins.items
+        → OrNoMemory (λ _. history.new ≡ h) result }
+    ensures kept { OnOk result (KeepsSeen history.old history.new) }
+{
+    add_builds(alloc, history, &built.builds, &built.pairs)?;
+    add_pins(alloc, history, &built.pins)
 }

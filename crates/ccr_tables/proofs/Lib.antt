@@ -11,3 +11,4 @@ pub mod Creations
 pub mod InTurn
 pub mod Founding
 pub mod Refusals
+pub mod PairRows

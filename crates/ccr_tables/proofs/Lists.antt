@@ -1,5 +1,5 @@
 -- What the SELECT of each table gives.
-use Rattle.std.proofs.Common.{◌≡◌, [], ◌∷◌, refl, Vec, Global, Result, IfOk, OnOk, IsTrue}
+use Rattle.std.proofs.Common.{◌≡◌, List, [], ◌∷◌, refl, Vec, Global, Result, IfOk, OnOk, IsTrue}
 use Rattle.sqlite.specs.declared.error.Error.{Error}
 use Rattle.sqlite.specs.Order.{Row}
 use Rattle.sqlite.specs.Term.{col}
@@ -60,12 +60,8 @@ same_builds = select.same 6 (col 1 0 ∷ []) (col 1 0 ∷ col 1 2 ∷ col 1 3 �
 pub survive_builds : (old new : State) → old.now.schema ≡ our_schema → Survives old new (CommitsShowing texts.builds_text [] old) → Survives old new (λ _. ⊥)
 survive_builds = select.survives 6 (col 1 0 ∷ []) (col 1 0 ∷ col 1 2 ∷ col 1 3 ∷ col 1 4 ∷ []) build_row 1 (λ r. refl) (λ a b. refl) texts.builds_text texts.builds_names texts.builds_command texts.builds_plain texts.builds_unlisted (λ db. refl)
 
-pub list_pairs : (these : Contents) (old new : State) (r : Result (Vec Row Global) Error) → Holds these old.now → IfOk r (λ rows. Shown texts.pairs_text [] old new rows.items)
-    → IfOk r (λ rows. IsListed 4 these.pairs rows.items)
-list_pairs these old new r holds = select.lists 8 (col 1 1 ∷ col 1 2 ∷ col 1 3 ∷ col 1 4 ∷ []) (col 1 1 ∷ col 1 2 ∷ col 1 3 ∷ col 1 4 ∷ []) pair_row 4 (λ r. refl) (λ a b. refl) texts.pairs_text texts.pairs_names texts.pairs_command texts.pairs_plain texts.pairs_unlisted (λ db. refl) these.pairs old new r holds.schema holds.rows.pairs
-
-pub same_pairs : (old new : State) (r : Result (Vec Row Global) Error) → old.now.schema ≡ our_schema → IfOk r (λ rows. Shown texts.pairs_text [] old new rows.items) → OnOk r (IsUnchanged old new)
-same_pairs = select.same 8 (col 1 1 ∷ col 1 2 ∷ col 1 3 ∷ col 1 4 ∷ []) (col 1 1 ∷ col 1 2 ∷ col 1 3 ∷ col 1 4 ∷ []) pair_row 4 (λ r. refl) (λ a b. refl) texts.pairs_text texts.pairs_names texts.pairs_command texts.pairs_plain texts.pairs_unlisted (λ db. refl)
+pub list_pairs : (these : Contents) (old new : State) (rows : List Row) → Holds these old.now → Shown texts.pairs_text [] old new rows → IsListed 4 these.pairs rows
+list_pairs these old new rows holds = select.lists_rows 8 (col 1 1 ∷ col 1 2 ∷ col 1 3 ∷ col 1 4 ∷ []) (col 1 1 ∷ col 1 2 ∷ col 1 3 ∷ col 1 4 ∷ []) pair_row 4 (λ r. refl) (λ a b. refl) texts.pairs_text texts.pairs_names texts.pairs_command texts.pairs_plain texts.pairs_unlisted (λ db. refl) these.pairs old new rows holds.schema holds.rows.pairs
 
 pub survive_pairs : (old new : State) → old.now.schema ≡ our_schema → Survives old new (CommitsShowing texts.pairs_text [] old) → Survives old new (λ _. ⊥)
 survive_pairs = select.survives 8 (col 1 1 ∷ col 1 2 ∷ col 1 3 ∷ col 1 4 ∷ []) (col 1 1 ∷ col 1 2 ∷ col 1 3 ∷ col 1 4 ∷ []) pair_row 4 (λ r. refl) (λ a b. refl) texts.pairs_text texts.pairs_names texts.pairs_command texts.pairs_plain texts.pairs_unlisted (λ db. refl)

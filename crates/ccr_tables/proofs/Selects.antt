@@ -85,12 +85,15 @@ module _ (tree : ℕ) (keys project : List Term) (shown : Row → Row) (width : 
 
   module _ (text : List ℕ) (names : List (List ℕ)) (is : command_of (understood our_schema text) ≡ Select (record { lets = []; body = q }) names) (plain : IsPlain (understood our_schema text))
       (unlisted : reads_listing our_schema text ≡ false) (bare : (db : Trees) → overlay db [] tree ≡ db tree) where
+    pub lists_rows : (these : List Row) (old new : State) (rows : List Row) → old.now.schema ≡ our_schema → IsPermutation these (map shown (old.now.trees tree)) → Shown text [] old new rows → IsListed width these rows
+    lists_rows these old new rows has same h =
+        let read = reads_as text [] old new our_schema has (Select (record { lets = []; body = q }) names) is plain unlisted rows h in
+        listed these (overlay old.now.trees []) rows (subst (λ l. IsPermutation these (map shown l)) (sym (bare old.now.trees)) same) (read.answer Null)
+
     pub lists : (these : List Row) (old new : State) (r : Result (Vec Row Global) Error) → old.now.schema ≡ our_schema → IsPermutation these (map shown (old.now.trees tree))
         → IfOk r (λ rows. Shown text [] old new rows.items) → IfOk r (λ rows. IsListed width these rows.items)
     lists these old new (Err e) has same h = tt
-    lists these old new (Ok rows) has same h =
-        let read = reads_as text [] old new our_schema has (Select (record { lets = []; body = q }) names) is plain unlisted rows.items h in
-        listed these (overlay old.now.trees []) rows.items (subst (λ l. IsPermutation these (map shown l)) (sym (bare old.now.trees)) same) (read.answer Null)
+    lists these old new (Ok rows) has same h = lists_rows these old new rows.items has same h
 
     -- a query changes nothing
     pub same : (old new : State) (r : Result (Vec Row Global) Error) → old.now.schema ≡ our_schema → IfOk r (λ rows. Shown text [] old new rows.items) → OnOk r (IsUnchanged old new)

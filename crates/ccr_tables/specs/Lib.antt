@@ -4,3 +4,4 @@ pub mod Written
 pub mod Step
 pub mod Listing
 pub mod Cause
+pub mod Pairs

@@ -1,17 +1,111 @@
 //! The table `pairs`: the used places of each build under their inputs, its moved pairs under the empty input.
 
-ghost use Rattle.std.specs.Prelude.{◌≡◌, pos, false, IsTrue, IfOk, OnOk, ◌≢◌, IfErr};
+ghost use Rattle.std.specs.Prelude.{◌≡◌, ◌≢◌, ◌<◌, ◌++◌, [], ◌∷◌, pos, length, List, false, IsTrue, IfOk, IfErr, OnOk, IfSome, IfNone};
+ghost use Rattle.sqlite.specs.Order.{Row as RowData, column};
 ghost use Rattle.sqlite.specs.State.{HasCleanDisk, IsUnchanged, Survives};
 ghost use Rattle.sqlite.specs.Held.{state};
 ghost use Rattle.ccr_tables.specs.Schema.{builds_schema, our_schema, pairs_schema};
 ghost use Rattle.ccr_tables.specs.Cause.{cause_of};
 ghost use Rattle.ccr_tables.specs.Contents.{Holds};
-ghost use Rattle.ccr_tables.specs.Listing.{IsListed};
+ghost use Rattle.ccr_tables.specs.Pairs.{pair, IsPair, Are, AreFound};
 ghost use Rattle.ccr_tables.specs.Step.{Alters, Creates};
 ghost use Rattle.ccr_tables.specs.Written.{with_pair};
 
 use crate::cause::Cause;
-use sqlite::{Alter, Connection, Error, Row, Transaction, params};
+use sqlite::types::FromSql;
+use sqlite::{Alter, Connection, Error, ErrorCode, Row, Transaction, params};
+use std::alloc::Global;
+use std::marker::Model;
+
+/// A row of `pairs` as a history has it, in less memory than a row of any values. Contracts see the row.
+#[derive(Drop)]
+pub struct Pair {
+    build: u32,
+    input: String,
+    scope: u32,
+    place: u32,
+}
+
+impl Model for Pair {
+    ghost use Rattle.std.specs.Prelude.{List, [], ◌∷◌, pos, string_bytes};
+    ghost use Rattle.std.specs.Coded.{coded_list};
+    ghost use Rattle.sqlite_value.specs.declared.value.Value.{Value as SqlValue};
+    ghost use Rattle.sqlite_value.specs.contracts.value.Value.{the_row};
+    ghost use Rattle.ccr_tables.specs.Pairs.{pair};
+
+    ghost Value = { List SqlValue };
+
+    ghost coded = { coded_list the_row.coded };
+
+    ghost view = { λ p. pair p.build (string_bytes p.input) p.scope p.place };
+}
+
+impl Pair {
+    /// Its build, input, scope and place.
+    pub fn columns(&self) -> (u32, &str, u32, u32)
+        ensures { self.now ≡ pair result.0 result.1.now result.2 result.3 }
+    {
+        (self.build, self.input.as_str(), self.scope, self.place)
+    }
+}
+
+/// What a row has in a column; `None` where it has another kind of value there.
+fn read_column<T: FromSql>(row: &Row, at: usize) -> Result<Option<T>, Error>
+    ensures value { IfOk result (λ found. IfSome found (λ x. T.FromSql.reads_as (column row.now at) x)) }
+    ensures none { IfOk result (λ found. IfNone found
+        (at < length row.now → ¬ T.FromSql.is_readable (column row.now at))) }
+    ensures unrefused { IfErr result (λ e. cause_of e ≢ Cause.Refused) }
+{
+    match row.get::<T>(at) {
+        Ok(value) => Ok(Some(value)),
+        Err(error) if Cause::of(&error) == Cause::NoMemory => Err(error),
+        Err(_) => Ok(None),
+    }
+}
+
+/// The row as a pair; `None` where it is none.
+fn read_pair(row: &Row) -> Result<Option<Pair>, Error>
+    ensures is { IfOk result (λ found. IfSome found (λ it. it ≡ row.now)) }
+    ensures none { IfOk result (λ found. IfNone found (¬ IsPair row.now)) }
+    ensures unrefused { IfErr result (λ e. cause_of e ≢ Cause.Refused) }
+{
+    if row.column_count() != 4 {
+        return Ok(None);
+    }
+    let Some(build) = read_column(row, 0)? else {
+        return Ok(None);
+    };
+    let Some(input) = read_column(row, 1)? else {
+        return Ok(None);
+    };
+    let Some(scope) = read_column(row, 2)? else {
+        return Ok(None);
+    };
+    let Some(place) = read_column(row, 3)? else {
+        return Ok(None);
+    };
+    Ok(Some(Pair {
+        build,
+        input,
+        scope,
+        place,
+    }))
+}
+
+/// The pairs so far, and one more; `None` where one of them is no pair.
+fn with_row(found: Option<Vec<Pair>>, row: &Row) -> Result<Option<Vec<Pair>>, Error>
+    ensures are { IfOk result (λ more. (rows : List RowData) → Are rows found → Are (rows ++ row.now ∷ []) more) }
+    ensures unrefused { IfErr result (λ e. cause_of e ≢ Cause.Refused) }
+{
+    let Some(mut pairs) = found else {
+        return Ok(None);
+    };
+    let Some(pair) = read_pair(row)? else {
+        return Ok(None);
+    };
+    pairs.push(pair)?;
+    Ok(Some(pairs))
+}
 
 /// Makes the table.
 pub(crate) fn create<S: Alter>(tx: &mut Transaction<'_, S>) -> Result<usize, Error>
@@ -47,11 +141,12 @@ pub(crate) fn insert<S: Alter>(
     )
 }
 
-/// All rows of `pairs`: build, input, scope, place, by build, input, scope, place. A failure of `sqlite` is answered.
-pub fn select<S: Alter>(conn: &mut Connection<S>) -> Result<Vec<Row>, Error>
+/// All rows of `pairs`: build, input, scope, place, by build, input, scope, place; `None` where one of them is no [`Pair`].
+/// A failure of `sqlite` is answered.
+pub fn select<S: Alter>(alloc: Global, conn: &mut Connection<S>) -> Result<Option<Vec<Pair>>, Error>
     ensures rows { let old = state S.Store conn.old in
         HasCleanDisk (state S.Store conn.new)
-        → IfOk result (λ rows. (these : _) → Holds these old.now → IsListed 4 these.pairs rows.items) }
+        → IfOk result (λ found. (these : _) → Holds these old.now → AreFound these.pairs found) }
     ensures same { let old = state S.Store conn.old in
         let new = state S.Store conn.new in
         HasCleanDisk new → old.now.schema ≡ our_schema → OnOk result (IsUnchanged old new) }
@@ -62,8 +157,16 @@ pub fn select<S: Alter>(conn: &mut Connection<S>) -> Result<Vec<Row>, Error>
     ensures survives { let old = state S.Store conn.old in
         old.now.schema ≡ our_schema → Survives old (state S.Store conn.new) (λ _. ⊥) }
 {
-    conn.query_all(
+    let mut found = Some(Vec::new(alloc));
+    let mut rows = conn.query(
         "SELECT build, input, scope, place FROM pairs ORDER BY build, input, scope, place",
         &[],
-    )
+    )?;
+    'rows: for _ in 0..u64::MAX {
+        let Some(row) = rows.next()? else {
+            return Ok(found);
+        };
+        found = with_row(found, row)?;
+    }
+    Err(Error::SqliteFailure(ErrorCode::OutOfMemory))
 }

@@ -1,17 +1,7 @@
-use Rattle.std.proofs.Common.{Option, refl, sym, ap, ◌∙◌, subst}
-use Rattle.std.specs.Prelude.{IfSome}
-use Rattle.ccr_history.specs.Text.{Text}
-use Rattle.ccr_history.specs.History.{HistoryData}
-use Rattle.ccr_store.specs.Readable.{IsReadable}
+use Rattle.std.proofs.Common.{refl}
 use Rattle.ccr_storage.specs.declared.fault.StoreFault.TheVariants.{NoMemory}
 use Rattle.ccr_store.proofs.StoreLemmas.{out_of_memory}
 use Rattle.ccr_store.proofs.loading.history_of.Goals as goal
 
-pub returns-in_err-check_text-clause-only : goal.returns-in_err-check_text-clause-only
-returns-in_err-check_text-clause-only c h rules texts readable same =
-    let is = c.in_ok-history.ensures h rules texts same in
-    let text = c.text.ensures.is ∙ ap (λ (k : HistoryData). k.text) is in
-    out_of_memory c.from_residual-in_err-check_text.result _ c.from_residual-in_err-check_text.ensures.1 (c.in_err-check_text.ensures.only (subst (λ (t : Option Text). IfSome t IsReadable) (sym text) readable))
-
-pub returns-in_err-are_rows_of-clause-only : goal.returns-in_err-are_rows_of-clause-only
-returns-in_err-are_rows_of-clause-only c h rules texts readable same = out_of_memory c.from_residual-in_err-are_rows_of.result NoMemory c.from_residual-in_err-are_rows_of.ensures.1 refl
+pub returns-in_err-are_built-clause-only : goal.returns-in_err-are_built-clause-only
+returns-in_err-are_built-clause-only c h rules texts was same = out_of_memory c.from_residual-in_err-are_built.result NoMemory c.from_residual-in_err-are_built.ensures.1 refl

@@ -1,35 +1,44 @@
-use Rattle.std.proofs.Common.{sym, subst}
-use Rattle.std.proofs.lemmas.Result.{IfOk-weaker}
+use Rattle.std.proofs.Common.{◌≡◌, sym, ap, ◌∙◌, subst}
+use Rattle.std.proofs.lemmas.Result.{on_ok_weaker}
+use Rattle.sqlite.specs.Effect.{Database}
 use Rattle.sqlite.specs.State.{HasCleanDisk}
 use Rattle.sqlite.specs.Held.{state}
-use Rattle.ccr_store.specs.Rows.{rows_of}
-use Rattle.ccr_store.proofs.ShownRows.{shown_listed}
-use Rattle.ccr_store.proofs.StoreLemmas.{not_ours_read}
+use Rattle.sqlite.proofs.Callers.{unchanged_then}
 use Rattle.ccr_tables.specs.Contents.{Holds}
-use Rattle.ccr_store.proofs.ListedRows.{loaded}
+use Rattle.ccr_tables.specs.Schema.{our_schema}
+use Rattle.ccr_store.specs.Rows.{rows_of}
+use Rattle.ccr_store.proofs.StoreLemmas.{not_ours_read, fault_on, rows_loaded, readable_on}
 use Rattle.ccr_store.proofs.loading.load.Goals as goal
 
-pub returns-in-Ok-read_built-clause-rows : goal.returns-in-Ok-read_built-clause-rows
-returns-in-Ok-read_built-clause-rows g c clean =
-    let mid = state g.S.Store c.read_seen.new.conn in
-    let clean_mid : HasCleanDisk mid = c.in-Ok-read_built.ensures.clean clean in
-    IfOk-weaker c.history_of.result _ _
-    (λ h is these holds.
-    let holds_mid : Holds these mid.now = subst (Holds these) (sym (c.in-Ok.ensures.same clean_mid holds.schema).0.now_is) holds in
-    loaded h these c.in-Ok.seen.meta.items c.in-Ok.seen.scopes.items c.in-Ok.seen.versions.items c.in-Ok-read_built.built.builds.items c.in-Ok-read_built.built.pairs.items c.in-Ok-read_built.built.pins.items is
-    (c.in-Ok.ensures.rows clean_mid these holds) (c.in-Ok-read_built.ensures.rows clean these holds_mid))
-    c.history_of.ensures.rows
+pub returns-in_err-history-clause-not_ours : goal.returns-in_err-history-clause-not_ours
+returns-in_err-history-clause-not_ours g c clean =
+    not_ours_read c.from_residual.result (state g.S.Store c.args.conn.now).now
+    (λ h rules texts readable holds. fault_on c.from_residual.result _ c.from_residual.ensures.1 (c.in_err-history.ensures.only clean h rules texts readable holds))
 
-pub returns-in-Ok-read_built-clause-not_ours : goal.returns-in-Ok-read_built-clause-not_ours
-returns-in-Ok-read_built-clause-not_ours g c clean =
-    let mid = state g.S.Store c.read_seen.new.conn in
-    let clean_mid : HasCleanDisk mid = c.in-Ok-read_built.ensures.clean clean in
-    not_ours_read c.history_of.result (state g.S.Store c.args.conn.now).now
+pub returns-clause-rows : goal.returns-clause-rows
+returns-clause-rows g c clean =
+    let old = state g.S.Store c.args.conn.now in
+    let mid = state g.S.Store c.load_seen.new.conn in
+    let clean_mid : HasCleanDisk mid = c.load_built.ensures.clean clean in
+    rows_loaded c.load_built.result c.in_ok-history.history old.now mid.now (λ has. (c.in_ok-history.ensures.same clean_mid has).0.now_is) (c.in_ok-history.ensures.rows clean_mid) c.load_built.ensures.kept (c.load_built.ensures.rows clean)
+
+pub returns-clause-same : goal.returns-clause-same
+returns-clause-same g c clean has =
+    let old = state g.S.Store c.args.conn.now in
+    let mid = state g.S.Store c.load_seen.new.conn in
+    let new = state g.S.Store c.load_built.new.conn in
+    let clean_mid : HasCleanDisk mid = c.load_built.ensures.clean clean in
+    let one = c.in_ok-history.ensures.same clean_mid has in
+    on_ok_weaker c.load_built.result (λ two. unchanged_then old mid new one two) (c.load_built.ensures.same clean (ap (λ (d : Database). d.schema) one.0.now_is ∙ has))
+
+pub returns-clause-readable : goal.returns-clause-readable
+returns-clause-readable g c = readable_on c.load_built.result c.in_ok-history.history c.in_ok-history.ensures.readable c.load_built.ensures.kept
+
+pub returns-clause-not_ours : goal.returns-clause-not_ours
+returns-clause-not_ours g c clean =
+    let mid = state g.S.Store c.load_seen.new.conn in
+    let clean_mid : HasCleanDisk mid = c.load_built.ensures.clean clean in
+    not_ours_read c.load_built.result (state g.S.Store c.args.conn.now).now
     (λ h rules texts readable holds.
-    let holds_mid : Holds (rows_of h) mid.now = subst (Holds (rows_of h)) (sym (c.in-Ok.ensures.same clean_mid holds.schema).0.now_is) holds in
-    c.history_of.ensures.only h rules texts readable
-    (shown_listed h c.in-Ok.seen.meta.items c.in-Ok.seen.scopes.items c.in-Ok.seen.versions.items c.in-Ok-read_built.built.builds.items c.in-Ok-read_built.built.pairs.items c.in-Ok-read_built.built.pins.items rules
-    (c.in-Ok.ensures.rows clean_mid (rows_of h) holds) (c.in-Ok-read_built.ensures.rows clean (rows_of h) holds_mid)))
-
-pub returns-in-Err-clause-not_ours : goal.returns-in-Err-clause-not_ours
-returns-in-Err-clause-not_ours g c clean ours h rules texts readable holds = c.in-Err.ensures.unrefused clean holds.schema (c.read_fault_of.ensures ours)
+    let holds_mid : Holds (rows_of h) mid.now = subst (Holds (rows_of h)) (sym (c.in_ok-history.ensures.same clean_mid holds.schema).0.now_is) holds in
+    c.load_built.ensures.only clean h rules texts (c.in_ok-history.ensures.only clean_mid h rules texts readable holds) holds_mid)

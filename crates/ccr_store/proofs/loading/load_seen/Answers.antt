@@ -1,0 +1,20 @@
+use Rattle.std.proofs.lemmas.Result.{IfOk-weaker}
+use Rattle.ccr_history.specs.History.{HistoryData}
+use Rattle.ccr_store.specs.Listed.{seen_of}
+use Rattle.ccr_store.specs.Rows.{rows_of}
+use Rattle.ccr_store.proofs.ShownRows.{shown_seen}
+use Rattle.ccr_store.proofs.StoreLemmas.{or_fault}
+use Rattle.std.proofs.Common.{◌≡◌}
+use Rattle.ccr_store.proofs.loading.load_seen.Goals as goal
+
+pub returns-in-Ok-clause-rows : goal.returns-in-Ok-clause-rows
+returns-in-Ok-clause-rows g c clean =
+    IfOk-weaker c.tables_of.result _ _ (λ h lists these holds. (c.in-Ok.seen.meta.items, c.in-Ok.seen.scopes.items, c.in-Ok.seen.versions.items, c.in-Ok.ensures.rows clean these holds, lists)) c.tables_of.ensures.rows
+
+pub returns-in-Ok-clause-only : goal.returns-in-Ok-clause-only
+returns-in-Ok-clause-only g c clean h rules texts readable holds =
+    or_fault (λ (history : HistoryData). history ≡ seen_of h) c.tables_of.result
+    (c.tables_of.ensures.only h rules texts readable (shown_seen h c.in-Ok.seen.meta.items c.in-Ok.seen.scopes.items c.in-Ok.seen.versions.items (c.in-Ok.ensures.rows clean (rows_of h) holds)))
+
+pub returns-in-Err-clause-only : goal.returns-in-Err-clause-only
+returns-in-Err-clause-only g c clean h rules texts readable holds = λ ours. c.in-Err.ensures.unrefused clean holds.schema (c.read_fault_of.ensures ours)

@@ -1,0 +1,57 @@
+-- Rows that are pairs.
+use Rattle.std.proofs.Common.{◌≡◌, ◌≢◌, List, [], ◌∷◌, ◌++◌, Option, Some, None, Result, Ok, Err, IfErr, Vec, Global, refl, sym, subst}
+use Rattle.std.specs.Prelude.{IfNone, IsErrAnd, OnErr}
+use Rattle.std.specs.List.{AllByRecursion}
+use Rattle.sqlite.specs.Order.{Row}
+use Rattle.sqlite.specs.declared.error.Error.{Error}
+use Rattle.sqlite_trees.specs.declared.store.Store.{Ghosts}
+use Rattle.sqlite.specs.State.{State, Survives, CommitsShowing, FailsToQuery}
+use Rattle.sqlite.specs.Held.{Held, state}
+use Rattle.sqlite.specs.Given.{HasGiven, FailsToAdvance, IsRefused}
+use Rattle.sqlite.proofs.StateLemmas.{survives_then}
+use Rattle.ccr_tables.specs.Cause.{cause_of}
+use Rattle.ccr_tables.specs.declared.cause.Cause.TheVariants.{Refused}
+use Rattle.ccr_tables.specs.Pairs.{IsPair, Are}
+use Rattle.ccr_tables.specs.Schema.{our_schema}
+use Rattle.ccr_tables.proofs.Lists.{survive_pairs}
+use Rattle.ccr_tables.proofs.Texts.{pairs_text}
+
+all_before : (rows : List Row) (r : Row) → AllByRecursion IsPair (rows ++ r ∷ []) → AllByRecursion IsPair rows
+all_before [] r all = tt
+all_before (s ∷ rows) r all = (all.0, all_before rows r all.1)
+
+last_one : (rows : List Row) (r : Row) → AllByRecursion IsPair (rows ++ r ∷ []) → IsPair r
+last_one [] r all = all.0
+last_one (s ∷ rows) r all = last_one rows r all.1
+
+-- where one is no pair, one more row changes nothing
+pub still_none : (found : Option (Vec Row Global)) (rows : List Row) (r : Row) → ((pairs : Vec Row Global) → found ≡ Some pairs → ⊥) → Are rows found → ¬ AllByRecursion IsPair (rows ++ r ∷ [])
+still_none None rows r none are all = are (all_before rows r all)
+still_none (Some pairs) rows r none are all = absurd (none pairs refl)
+
+-- the last one is no pair
+pub none_now : {X : Type 0} (read : Option X) (rows : List Row) (r : Row) → ((pair : X) → read ≡ Some pair → ⊥) → IfNone read (¬ IsPair r) → ¬ AllByRecursion IsPair (rows ++ r ∷ [])
+none_now None rows r none bad all = bad (last_one rows r all)
+none_now (Some pair) rows r none bad all = absurd (none pair refl)
+
+-- ---- rows as a query gives them
+-- a query that fails on its way fails
+pub fails_given : {S X : Type 0} (g : Ghosts S) (old new : Held S) (r : Result X Error) (given : List Row) → HasGiven g pairs_text [] old given → IfErr r (FailsToAdvance g old new) → IfErr r (FailsToQuery pairs_text [] (state g old) (state g new))
+fails_given g old new (Ok x) given h fails = tt
+fails_given g old new (Err e) given h fails = fails pairs_text [] given h
+
+-- what is handed on is no refusal
+pub refused_on : {X Y : Type 0} (r : Result X Error) (s : Result Y Error) (e : Error) → r ≡ Err e → IsErrAnd s (λ x. x ≡ e) → IfErr r (λ x. cause_of x ≢ Refused) → IfErr s (λ x. cause_of x ≢ Refused)
+refused_on r (Ok y) e was same h = tt
+refused_on r (Err x) e was same h = subst (λ y. cause_of y ≢ Refused) (sym same) (subst (λ q. IfErr q (λ y. cause_of y ≢ Refused)) was h)
+
+pub survives_on : (a b c : State) → a.now.schema ≡ our_schema → Survives a b (CommitsShowing pairs_text [] a) → Survives b c (λ _. ⊥) → Survives a c (λ _. ⊥)
+survives_on a b c has one two = survives_then a b c (λ _. ⊥) (λ _. ⊥) (λ _. ⊥) (λ _ db none. none) (λ _ db none. none) (survive_pairs a b has one) two
+
+pub shows_on : (a b c : State) → Survives a b (CommitsShowing pairs_text [] a) → Survives b c (λ _. ⊥) → Survives a c (CommitsShowing pairs_text [] a)
+shows_on a b c one two = survives_then a b c (CommitsShowing pairs_text [] a) (λ _. ⊥) (CommitsShowing pairs_text [] a) (λ _ db h. h) (λ _ db none. absurd none) one two
+
+-- a query that doesn't begin is refused
+pub refused_now : {S X : Type 0} (g : Ghosts S) (old new : Held S) (r : Result X Error) (e : Error) → r ≡ Err e → OnErr r (IsRefused g pairs_text [] old r new) → IsRefused g pairs_text [] old r new
+refused_now g old new (Ok x) e was h = absurd (cc)
+refused_now g old new (Err x) e was h = h

@@ -1,0 +1,8 @@
+use Rattle.ccr_tables.proofs.PairRows.{still_none, none_now}
+use Rattle.ccr_tables.proofs.pairs.with_row.Goals as goal
+
+pub returns-in_default-clause-are : goal.returns-in_default-clause-are
+returns-in_default-clause-are c rows are = still_none c.args.found rows c.args.row.now c.in_default.not-Some are
+
+pub returns-in_default-2-clause-are : goal.returns-in_default-2-clause-are
+returns-in_default-2-clause-are c rows are = none_now c.in_ok-pair.field-0 rows c.args.row.now c.in_default-2.not-Some c.in_ok-pair.ensures.none
