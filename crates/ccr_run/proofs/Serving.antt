@@ -8,6 +8,7 @@ use Rattle.ccr_task.specs.declared.places.Places.{Places}
 use Rattle.ccr_task.specs.Places.{PlacesData, places_data}
 use Rattle.ccr_core.specs.Cores.{core_data}
 use Rattle.ccr_core.specs.Resumed.{IsResumed}
+use Rattle.ccr_storage.specs.declared.tally.Tally.{Tally}
 use Rattle.ccr_serve.specs.declared.fault.ServeFault.{ServeFault}
 use Rattle.ccr_serve.specs.declared.server.Server.{Server}
 use Rattle.ccr_serve.specs.Commanding.{CameOf}
@@ -44,45 +45,50 @@ same_places order p types work =
 
 -- a server did the command
 pub did : {R S T : Type 0} (pairs : R → List Pair) (failures : S → ℕ) (holds knows : T → HistoryData → Type 0)
-    (order : Order) (p : Places) (h : HistoryData) (opened left : Server R S T) (answer : Result ℕ ServeFault)
+    (tally : T → Tally) (order : Order) (p : Places) (h : HistoryData) (opened left : Server R S T) (answer : Result ℕ ServeFault)
     (end : Result ℕ Failure) (old new : Text)
     → opened.places ≡ p → places_data p ≡ places_in order
-    → IsReady (view_of pairs failures holds knows opened [])
+    → IsReady (view_of pairs failures holds knows tally opened [])
     → IsResumed h order.options.budget (core_data opened.core) → opened.last ≡ 0
     → pairs opened.runner ≡ [] → failures opened.shelf ≡ 0
     → CameOf (places_data opened.places) (command_data order.command) answer
-    (view_of pairs failures holds knows opened old) (view_of pairs failures holds knows left new)
-    → end ≡ handed_on answer → Served pairs failures holds knows order end old new
-did pairs failures holds knows order p h opened left answer end old new at same ready resumed last none count came is =
+    (view_of pairs failures holds knows tally opened old) (view_of pairs failures holds knows tally left new)
+    → end ≡ handed_on answer → Served pairs failures holds knows tally order end old new
+did pairs failures holds knows tally order p h opened left answer end old new at same ready resumed last none count came is =
     inl (record {
       history = h;
       opened = opened;
       left = left;
       answer = answer;
       begins = record {
-        ready = record { is_open = ready.is_open; holds = ready.holds; knows = ready.knows };
+        ready = record {
+          is_open = ready.is_open;
+          unfailed = ready.unfailed;
+          holds = ready.holds;
+          knows = ready.knows;
+        };
         resumed = resumed;
         last = last;
         pairs = none;
         failures = count;
       };
       came = subst (λ (q : PlacesData). CameOf q (command_data order.command) answer
-          (view_of pairs failures holds knows opened old) (view_of pairs failures holds knows left new))
+          (view_of pairs failures holds knows tally opened old) (view_of pairs failures holds knows tally left new))
           (ap (λ (q : Places). places_data q) at ∙ same) came;
       end_is = is;
     })
 
 -- what was ordered is done, from where no line was printed
 pub done : {R S T : Type 0} (pairs : R → List Pair) (failures : S → ℕ) (holds knows : T → HistoryData → Type 0)
-    (words : List Text) (status : ℕ) (order : Order) (outcome : Outcome) (old lines : Text)
-    → IsOrdered words order → old ≡ [] → Served pairs failures holds knows order outcome.end old lines
-    → status ≡ exit_status_of outcome → Obeyed pairs failures holds knows words status
-done pairs failures holds knows words status order outcome old lines ordered none served is =
+    (tally : T → Tally) (words : List Text) (status : ℕ) (order : Order) (outcome : Outcome) (old lines : Text)
+    → IsOrdered words order → old ≡ [] → Served pairs failures holds knows tally order outcome.end old lines
+    → status ≡ exit_status_of outcome → Obeyed pairs failures holds knows tally words status
+done pairs failures holds knows tally words status order outcome old lines ordered none served is =
     inl (record {
       order = order;
       ordered = ordered;
       outcome = outcome;
       lines = lines;
-      served = subst (λ (o : Text). Served pairs failures holds knows order outcome.end o lines) none served;
+      served = subst (λ (o : Text). Served pairs failures holds knows tally order outcome.end o lines) none served;
       status_is = is;
     })

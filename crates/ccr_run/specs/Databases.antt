@@ -6,6 +6,7 @@ use Rattle.sqlite.specs.Held.{state}
 use Rattle.ccr_history.specs.History.{HistoryData}
 use Rattle.ccr_tables.specs.Contents.{Contents, Holds}
 use Rattle.ccr_tables.specs.Schema.{no_schema}
+use Rattle.ccr_storage.specs.declared.tally.Tally.{Tally}
 use Rattle.ccr_store.specs.Outline.{IsOutline}
 use Rattle.ccr_store.specs.StoreData.{IsKept}
 use Rattle.ccr_run.specs.declared.database.Database.{Database}
@@ -23,3 +24,7 @@ holds g database h = IsOurs (state g database.found.value) → IsKept g database
 -- WHICH HISTORY THE STORAGE KNOWS: one that its outline is of
 abbrev pub knows : {S : Type 0} → Database S → HistoryData → Type 0
 knows database h = IsOutline h database.store.outline
+
+-- WHAT THE STORAGE TELLS OF ITS COMMITS: what the store does
+abbrev pub tally : {S : Type 0} → Database S → Tally
+tally database = database.store.tally

@@ -68,11 +68,13 @@ impl<S: Alter + Drop> Database<S> {
 }
 
 impl<S: Alter> Storage for Database<S> {
-    ghost use Rattle.ccr_run.specs.Databases.{holds, knows};
+    ghost use Rattle.ccr_run.specs.Databases.{holds, knows, tally};
 
     ghost holds = { λ database h. holds S.Store database h };
 
     ghost knows = { knows };
+
+    ghost tally = { tally };
 
     fn commit(&mut self, alloc: Global, change: &[Edit]) -> Result<(), StoreFault> {
         Storage::commit(&mut self.store, alloc, change)

@@ -51,6 +51,7 @@ fn words(rt: &HostRuntime) -> Result<Vec<String>, Misuse> {
 fn obey<'a>(rt: &'a HostRuntime, words: &[String]) -> ExitCode
     ensures { Obeyed ⟦<Machine<&'a HostRuntime> as Runner>⟧.pairs ⟦<Folders<&'a HostRuntime> as Shelf>⟧.failures
         ⟦<Database<FileStore<File>> as Storage>⟧.holds ⟦<Database<FileStore<File>> as Storage>⟧.knows
+        ⟦<Database<FileStore<File>> as Storage>⟧.tally
         (map string_bytes words.now) (exit_status result) }
 {
     match order_of(rt.alloc(), words) {

@@ -46,9 +46,9 @@ fn command<R: Runner, S: Shelf, T: Storage, W: Write>(
     command: &Command,
     out: &mut Printed<W>,
 ) -> Result<u8, ServeFault>
-    requires ready { let view = view_of R.pairs S.failures T.holds T.knows in
+    requires ready { let view = view_of R.pairs S.failures T.holds T.knows T.tally in
         IsReady (view server.old (out.old.shown ++ out.old.waiting)) }
-    ensures came { let view = view_of R.pairs S.failures T.holds T.knows in
+    ensures came { let view = view_of R.pairs S.failures T.holds T.knows T.tally in
         CameOf (places_data server.old.places) (command_data command.now) result
         (view server.old (out.old.shown ++ out.old.waiting)) (view server.new (out.new.shown ++ out.new.waiting)) }
     ensures printed { out.new.failed ≡ false → out.new.waiting ≡ [] }
@@ -68,6 +68,7 @@ fn serve<'a, W: Write>(
     requires most { order.now.options.budget ≤ MOST_NODES }
     ensures served { Served ⟦<Machine<&'a HostRuntime> as Runner>⟧.pairs ⟦<Folders<&'a HostRuntime> as Shelf>⟧.failures
         ⟦<Database<FileStore<File>> as Storage>⟧.holds ⟦<Database<FileStore<File>> as Storage>⟧.knows
+        ⟦<Database<FileStore<File>> as Storage>⟧.tally
         order.now result (out.old.shown ++ out.old.waiting) (out.new.shown ++ out.new.waiting) }
     ensures printed { out.old.waiting ≡ [] → out.new.failed ≡ false → out.new.waiting ≡ [] }
 {
@@ -90,6 +91,7 @@ pub fn run<'a, W: Write>(rt: &'a HostRuntime, order: &Order<'_>, out: &mut Print
     requires most { order.now.options.budget ≤ MOST_NODES }
     ensures served { Served ⟦<Machine<&'a HostRuntime> as Runner>⟧.pairs ⟦<Folders<&'a HostRuntime> as Shelf>⟧.failures
         ⟦<Database<FileStore<File>> as Storage>⟧.holds ⟦<Database<FileStore<File>> as Storage>⟧.knows
+        ⟦<Database<FileStore<File>> as Storage>⟧.tally
         order.now result.end (out.old.shown ++ out.old.waiting) (out.new.shown ++ out.new.waiting) }
     ensures printed { result.is_printed ≡ not out.new.failed }
     ensures whole { out.old.waiting ≡ [] → out.new.failed ≡ false → out.new.waiting ≡ [] }

@@ -4,7 +4,9 @@ use Rattle.ccr_process.specs.Runs.{Pair}
 use Rattle.ccr_core.specs.Holding.{Stands}
 use Rattle.ccr_core.specs.State.{State}
 use Rattle.ccr_serve.specs.Items.{World, Item, Done, Serve, Each, Part, Items, Then, pairs_of, lines_of_all}
-use Rattle.ccr_serve.specs.Views.{View, world_of, IsReady, StandsAt, Called, Calls}
+use Rattle.ccr_serve.specs.Taken.{taken_in}
+use Rattle.ccr_serve.specs.Views.{View, world_of, IsReady, HasAsked, StandsAt, Called, Calls}
+use Rattle.ccr_serve.proofs.Commits.{taken_in-append, rose_none, asked_none, asked_then}
 
 pub pairs_of-append : (ds es : List Done) → pairs_of (ds ++ es) ≡ pairs_of ds ++ pairs_of es
 pairs_of-append [] es = refl
@@ -45,6 +47,10 @@ module _ (A B : Part) (v0 v1 v2 : View) (s : State) (whole : Bool) where
     lost = b.lost;
     pairs = pairs;
     few = b.few;
+    commits = subst (λ n. HasAsked whole v0.tally.commits n v2.tally.commits)
+        (sym (taken_in-append a.dones b.dones))
+        (asked_then whole v0.tally.commits (taken_in a.dones) v1.tally.commits (taken_in b.dones) v2.tally.commits
+        a.commits b.commits);
     lines = b.lines
         ∙ (ap (λ ls. ls ++ lines_of_all b.dones) a.lines
         ∙ (append_assoc v0.lines (lines_of_all a.dones) (lines_of_all b.dones)
@@ -99,6 +105,7 @@ called_to A B v0 v1 s whole c does = record {
   lost = c.lost;
   pairs = c.pairs;
   few = c.few;
+  commits = c.commits;
   lines = c.lines;
   holds = c.holds;
   stands = c.stands;
@@ -129,6 +136,7 @@ calls_none S v ready s h = record {
   lost = [];
   pairs = sym (append-nil v.pairs);
   few = refl;
+  commits = rose_none v.tally.commits;
   lines = sym (append-nil v.lines);
   holds = subst v.holds h.0 ready.holds;
   stands = (ready.is_open, h, refl, refl);
@@ -136,16 +144,18 @@ calls_none S v ready s h = record {
 
 -- nothing was done of the items
 pub calls_cut : (S : Serve) (is : List Item) (old new : View) (lost : List Pair)
-    → new.pairs ≡ old.pairs ++ lost → length lost ≤ 1 → new.lines ≡ old.lines → new.holds old.core.history
+    → new.pairs ≡ old.pairs ++ lost → length lost ≤ 1 → HasAsked false old.tally.commits 0 new.tally.commits
+    → new.lines ≡ old.lines → new.holds old.core.history
     → ((s : State) → Stands old.core s → StandsAt false new.closed (world_of old s) new)
     → Calls (Items S is) old false new
-calls_cut S is old new lost pairs few lines holds stands s h = record {
+calls_cut S is old new lost pairs few commits lines holds stands s h = record {
   dones = [];
   now = world_of old s;
   does = ([], is, refl, refl);
   lost = lost;
   pairs = pairs;
   few = few;
+  commits = commits;
   lines = lines ∙ sym (append-nil old.lines);
   holds = subst new.holds h.0 holds;
   stands = stands s h;
@@ -161,7 +171,7 @@ stands_back old new core last failures is_open s h =
 -- nothing was done, and nothing has changed
 pub calls_back : (S : Serve) (is : List Item) (v : View) → IsReady v → Calls (Items S is) v false v
 calls_back S is v ready =
-    calls_cut S is v v [] (sym (append-nil v.pairs)) nil_few refl ready.holds
+    calls_cut S is v v [] (sym (append-nil v.pairs)) nil_few (asked_none v.tally.commits) refl ready.holds
     (stands_back v v refl refl same ready.is_open) where
       nil_few : length {A = Pair} [] ≤ 1
       nil_few = omega arith

@@ -1,3 +1,4 @@
+mod Commits
 mod Launching
 mod GoingRound
 mod Composing
@@ -13,8 +14,10 @@ mod Triggering
 mod Standing
 mod Refusing
 mod Told
+mod CheckStatus
 mod Shows
 mod Ranks
 mod Nexts
 mod Wants
 mod Turning
+mod Again

@@ -18,6 +18,7 @@ use Rattle.ccr_serve.specs.Serving.{Serves}
 use Rattle.ccr_serve.specs.Views.{View, world_of, IsReady, Calls, StandsAt, Made, Stops, StopsItem}
 use Rattle.ccr_serve.specs.declared.fault.ServeFault.{ServeFault}
 use Rattle.ccr_serve.specs.declared.fault.ServeFault.TheVariants as fault
+use Rattle.ccr_serve.proofs.Commits.{rose_none, asked_these}
 use Rattle.ccr_serve.proofs.Composing.{calls_back}
 use Rattle.ccr_serve.proofs.Steps.{after, printed, items_stop, cut_by_memory, none_added}
 
@@ -29,6 +30,7 @@ refused_at_once places c f v ready why = record {
   why = why;
   back = calls_back (Serves places) [] v ready;
   pairs = refl;
+  commits = rose_none v.tally.commits;
   lines = refl;
 }
 
@@ -41,6 +43,7 @@ refused_after places c f v k ready grows why = record {
   back = cut_by_memory (Items (Serves places) []) v k v.pairs v.lines (items_stop (Serves places) []) ready grows
       (none_added v.pairs) refl;
   pairs = refl;
+  commits = rose_none v.tally.commits;
   lines = refl;
 }
 
@@ -114,6 +117,7 @@ module _ (places : PlacesData) (c : CommandData) (e : EventData) (f : CoreFault)
     lost = [];
     pairs = made.rest.pairs ∙ sym (append-nil v.pairs);
     few = none_few;
+    commits = asked_these v.tally.commits 0 n.tally.commits made.commits;
     lines = lines ∙ sym (append-nil v.lines);
     holds = subst n.holds (stands_still s h).0 made.ready.holds;
     stands = subst (λ b. StandsAt false b (world_of v s) (printed n l)) (sym made.ready.is_open)
@@ -128,6 +132,7 @@ module _ (places : PlacesData) (c : CommandData) (e : EventData) (f : CoreFault)
         (first_fault s e f (λ is. made.found_memory (ap (λ g. Err g) is)) (made.takes s h).1.0);
     back = nothing_done;
     pairs = made.rest.pairs;
+    commits = made.commits;
     lines = lines;
   }
 

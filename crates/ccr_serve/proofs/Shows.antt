@@ -18,6 +18,7 @@ use Rattle.ccr_serve.specs.Commands as command
 use Rattle.ccr_serve.specs.Items.{Done, Part}
 use Rattle.ccr_serve.specs.Serving.{Shows}
 use Rattle.ccr_serve.specs.Views.{View, world_of, resources_held, IsReady, Calls}
+use Rattle.ccr_serve.proofs.Commits.{rose_none}
 use Rattle.ccr_serve.proofs.Steps.{printed, ready_after, calls_did, MayStop, cut_by_memory, none_added}
 
 -- ---- a core, and the states that it stands for
@@ -73,6 +74,7 @@ shown_one P what v l lines ready shows told can =
         same = refl;
       });
       pairs = sym (append-nil v.pairs);
+      commits = rose_none v.tally.commits;
       lines = told;
     }) where
       did : Done
@@ -88,6 +90,7 @@ shown_none P v l ready same can s is = record {
   lost = [];
   pairs = sym (append-nil v.pairs);
   few = refl;
+  commits = rose_none v.tally.commits;
   lines = same ∙ sym (append-nil v.lines);
   holds = subst v.holds is.0 ready.holds;
   stands = (ready.is_open, is, refl, refl);

@@ -22,10 +22,12 @@ use Rattle.ccr_serve.specs.Items.{World, Item, Done, Serve, Part, Items, Noting}
 use Rattle.ccr_serve.specs.Items as item
 use Rattle.ccr_serve.specs.Pairs.{AddsAtMostOne}
 use Rattle.ccr_serve.specs.Serving.{Tells, Serves}
-use Rattle.ccr_serve.specs.Taken.{all_taken}
-use Rattle.ccr_serve.specs.Views.{View, world_of, resources_held, IsReady, StandsAt, Calls, StopsItem, IsBack, Made, Unmade}
+use Rattle.ccr_serve.specs.Taken.{all_taken, taken_of}
+use Rattle.ccr_storage.specs.Counts.{RoseBy}
+use Rattle.ccr_serve.specs.Views.{View, world_of, resources_held, IsReady, HasAsked, StandsAt, Calls, StopsItem, IsBack, Made, Unmade}
 use Rattle.ccr_serve.specs.declared.fault.ServeFault.{ServeFault}
 use Rattle.ccr_serve.specs.declared.fault.ServeFault.TheVariants as fault
+use Rattle.ccr_serve.proofs.Commits.{add_none, rose_none, asked_none}
 
 -- ---- views
 -- a view after launches: the shelf's count, the pairs and what is printed may be others
@@ -37,6 +39,7 @@ after v f p l = record {
   pairs = p;
   holds = v.holds;
   knows = v.knows;
+  tally = v.tally;
   lines = l;
   closed = v.closed;
 }
@@ -46,7 +49,12 @@ abbrev pub printed : View → Text → View
 printed v l = after v v.failures v.pairs l
 
 pub ready_after : (v : View) (f : ℕ) (p : List Pair) (l : Text) → IsReady v → IsReady (after v f p l)
-ready_after v f p l ready = record { is_open = ready.is_open; holds = ready.holds; knows = ready.knows }
+ready_after v f p l ready = record {
+  is_open = ready.is_open;
+  unfailed = ready.unfailed;
+  holds = ready.holds;
+  knows = ready.knows;
+}
 
 -- ---- parts of which one item was done, or nothing
 -- what one item did from a state
@@ -56,6 +64,7 @@ pub record Did (P : Part) (old : View) (s : State) (new : View) : Type 0 where
   pub stands : Stands new.core state
   pub does : P (world_of old s) (did ∷ []) true (world_of new state)
   pub pairs : new.pairs ≡ old.pairs ++ option_to_list did.pair
+  pub commits : RoseBy old.tally.commits (taken_of did.event) new.tally.commits
   pub lines : new.lines ≡ old.lines ++ did.lines
 
 pub calls_did : (P : Part) (old new : View) → IsReady new → ((s : State) → Stands old.core s → Did P old s new)
@@ -69,6 +78,8 @@ calls_did P old new ready each s is = let one = each s is in record {
       ∙ ap (λ ps. old.pairs ++ ps)
       (sym (append-nil (option_to_list one.did.pair ++ []) ∙ append-nil (option_to_list one.did.pair)));
   few = refl;
+  commits = subst (λ n. RoseBy old.tally.commits n new.tally.commits) (sym (add_none (taken_of one.did.event)))
+      one.commits;
   lines = one.lines ∙ ap (λ ls. old.lines ++ ls) (sym (append-nil one.did.lines));
   holds = subst new.holds one.stands.0 ready.holds;
   stands = (ready.is_open, one.stands, refl, refl);
@@ -79,15 +90,17 @@ abbrev pub MayStop : Part → Type 0
 MayStop P = (w : World) → P w [] false w
 
 pub calls_stop : (P : Part) (old new : View) (lost : List Pair) → MayStop P
-    → new.pairs ≡ old.pairs ++ lost → length lost ≤ 1 → new.lines ≡ old.lines → new.holds old.core.history
+    → new.pairs ≡ old.pairs ++ lost → length lost ≤ 1 → HasAsked false old.tally.commits 0 new.tally.commits
+    → new.lines ≡ old.lines → new.holds old.core.history
     → ((s : State) → Stands old.core s → StandsAt false new.closed (world_of old s) new) → Calls P old false new
-calls_stop P old new lost may pairs few lines holds stands s is = record {
+calls_stop P old new lost may pairs few commits lines holds stands s is = record {
   dones = [];
   now = world_of old s;
   does = may (world_of old s);
   lost = lost;
   pairs = pairs;
   few = few;
+  commits = commits;
   lines = lines ∙ sym (append-nil old.lines);
   holds = subst new.holds is.0 holds;
   stands = stands s is;
@@ -110,7 +123,7 @@ stands_back false v new s is last grows = (is, last, grows)
 pub cut_by_memory : (P : Part) (v : View) (f : ℕ) (p : List Pair) (l : Text) → MayStop P
     → IsReady v → v.failures ≤ f → AddsAtMostOne v.pairs p → l ≡ v.lines → Calls P v false (after v f p l)
 cut_by_memory P v f p l may ready grows adds lines =
-    calls_stop P v (after v f p l) adds.0 may adds.1 adds.2 lines ready.holds
+    calls_stop P v (after v f p l) adds.0 may adds.1 adds.2 (asked_none v.tally.commits) lines ready.holds
     (λ s is. stands_back v.closed v (after v f p l) s is refl grows)
 
 pub none_added : (p : List Pair) → AddsAtMostOne p p
@@ -124,7 +137,7 @@ one_added (Some x) old new e = (x ∷ [], e, omega arith)
 unmade_back : (f : ServeFault) (old new : View) → Unmade f old new
     → ((new.core ≡ old.core) × IsReady new) ⊎ (new.closed ≡ true)
 unmade_back (fault.Core e) old new un = absurd un.back
-unmade_back (fault.Store e) old new un = inr un.back
+unmade_back (fault.Store e) old new un = inr un.back.0
 unmade_back (fault.Read e) old new un = absurd un.back
 unmade_back fault.File old new un = absurd un.back
 unmade_back fault.BadPin old new un = absurd un.back
@@ -140,7 +153,7 @@ pub calls_unmade : (P : Part) (v : View) (f : ℕ) (p : List Pair) (l : Text) (n
     → MayStop P → v.failures ≤ f → AddsAtMostOne v.pairs p → l ≡ v.lines
     → Unmade stop (after v f p l) new → Calls P v false new
 calls_unmade P v f p l new stop may grows adds lines un =
-    calls_stop P v new adds.0 may (un.rest.pairs ∙ adds.1) adds.2 (un.rest.lines ∙ lines) un.holds
+    calls_stop P v new adds.0 may (un.rest.pairs ∙ adds.1) adds.2 un.commits (un.rest.lines ∙ lines) un.holds
     (λ s is. elim (unmade_back stop (after v f p l) new un) as (λ _. StandsAt false new.closed (world_of v s) new) [
       | inl back ↦ stands_back new.closed v new s (subst (λ c. Stands c s) (sym back.0) is) un.rest.last
           (subst (λ n. v.failures ≤ n) (sym un.rest.failures) grows)
@@ -163,6 +176,7 @@ pub unmade_printed : (f : ServeFault) (old new : View) (l m : Text) → m ≡ l 
 unmade_printed f old new l m same un = record {
   back = back f un.back;
   holds = un.holds;
+  commits = un.commits;
   rest = record { last = un.rest.last; failures = un.rest.failures; pairs = un.rest.pairs; lines = same };
 } where
   back : (f : ServeFault) → IsBack f old new → IsBack f (printed old l) (printed new m)
@@ -194,6 +208,7 @@ made_did P e r v n m s made lines can is = let t = made.takes s is in
         failures = made.rest.failures;
       }) refl;
       pairs = made.rest.pairs ∙ sym (append-nil v.pairs);
+      commits = made.commits;
       lines = lines s t.0 t.1 t.2;
     }
 
@@ -217,7 +232,7 @@ pub resources_at : (c : CoreData) (s : State) → Stands c s → resources_held 
 resources_at c s is = ap (λ p. (unwrap_or p no_pipeline).resources) is.1
 
 -- what a check notes of the one event that it made
-taken_one : (r : Replied) (d : Done) (e : EventData) → d.event ≡ Some (e, r) → is_ok r ≡ all_taken (d ∷ [])
+pub taken_one : (r : Replied) (d : Done) (e : EventData) → d.event ≡ Some (e, r) → is_ok r ≡ all_taken (d ∷ [])
 taken_one (Ok x) d e made = sym (ap (λ o. option_map_or (λ made. is_ok made.1) o false && true) made)
 taken_one (Err x) d e made = sym (ap (λ o. option_map_or (λ made. is_ok made.1) o false && true) made)
 
@@ -262,6 +277,7 @@ check_made places name named one v f p l n m pair vs r good copied there lines p
         is_good ∙ taken_one r d (checked name vs) refl,
       );
       pairs = made.rest.pairs ∙ pairs;
+      commits = made.commits;
       lines = lines_at (checked name vs) r n.core t.0 v.lines l m t.2 lines told;
     })
 
@@ -295,6 +311,7 @@ check_found_nothing places name one v f p l m pair cause ready there lines pairs
         refl,
       );
       pairs = pairs;
+      commits = rose_none v.tally.commits;
       lines = told ∙ ap (λ ls. ls ++ refused_line name (cause_words cause)) lines;
     })
 

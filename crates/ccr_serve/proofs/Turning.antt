@@ -22,6 +22,7 @@ use Rattle.ccr_serve.specs.Items as item
 use Rattle.ccr_serve.specs.Serving.{Removes, ServesBuild, TakesTurn, Serves}
 use Rattle.ccr_serve.specs.Turns.{rank_in, next_after}
 use Rattle.ccr_serve.specs.Views.{View, world_of, IsReady, Calls}
+use Rattle.ccr_serve.proofs.Commits.{rose_none}
 use Rattle.ccr_serve.proofs.Steps.{after, calls_did}
 
 -- ---- no build runs
@@ -45,6 +46,7 @@ turn_of_nobody places v ready none =
         refl,
       );
       pairs = sym (append-nil v.pairs);
+      commits = rose_none v.tally.commits;
       lines = sym (append-nil v.lines);
     })
 
@@ -57,6 +59,7 @@ served n rank failures lines = record {
   pairs = n.pairs;
   holds = n.holds;
   knows = n.knows;
+  tally = n.tally;
   lines = lines;
   closed = n.closed;
 }
@@ -120,7 +123,12 @@ module _ (places : PlacesData) (v : View) (job : Text) (number rank turn : ℕ) 
       → Calls (Items (Serves places) (item.turn ∷ [])) v true (served n rank f2 m)
   turn_served due lines told =
       calls_did (Items (Serves places) (item.turn ∷ [])) v (served n rank f2 m)
-      (record { is_open = gives.ready.is_open; holds = gives.ready.holds; knows = gives.ready.knows }) (λ s is.
+      (record {
+        is_open = gives.ready.is_open;
+        unfailed = gives.ready.unfailed;
+        holds = gives.ready.holds;
+        knows = gives.ready.knows;
+      }) (λ s is.
       let g = gives.takes s is in
       record {
         did = did s is (due s is) g;
@@ -128,6 +136,7 @@ module _ (places : PlacesData) (v : View) (job : Text) (number rank turn : ℕ) 
         stands = g.stands;
         does = (world_of (served n rank f2 m) g.after, takes s is (due s is) g, refl);
         pairs = gives.rest.pairs ∙ wanted.adds;
+        commits = gives.commits;
         lines = told turn g.given g.after.history
             ∙ ap (λ ls. ls ++ lines_of (answer job number turn g.given) (Ok reply) g.after.history) lines;
       })

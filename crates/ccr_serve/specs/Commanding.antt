@@ -31,6 +31,7 @@ use Rattle.ccr_serve.specs.Commands as command
 use Rattle.ccr_serve.specs.Items.{World, check, tell, show, Done, Each, Part, Items, Then}
 use Rattle.ccr_serve.specs.Runs.{Rounds, UsedUp, Run, TriggerAndRun}
 use Rattle.ccr_serve.specs.Serving.{Serves}
+use Rattle.ccr_storage.specs.Counts.{RoseBy}
 use Rattle.ccr_serve.specs.Views.{View, Calls}
 
 -- a server isn't opened for want of memory, or because its storage failed
@@ -202,11 +203,12 @@ IsRefused (set_pipeline file) File s before after = Rose before after
 IsRefused (pin_resource resource pin) BadPin s before after = HasResource s resource × (pin_in pin ≡ None)
 IsRefused c f s before after = ⊥
 
--- a command was refused with this fault: nothing was done
+-- a command was refused with this fault: nothing was done, and no commit was asked for
 pub record WasRefused (places : PlacesData) (c : CommandData) (f : ServeFault) (old new : View) : Type 0 where
   pub why : (s : State) → Stands old.core s → IsRefused c f s old.failures new.failures
   pub back : Calls (Items (Serves places) []) old false new
   pub pairs : new.pairs ≡ old.pairs
+  pub commits : RoseBy old.tally.commits 0 new.tally.commits
   pub lines : new.lines ≡ old.lines
 
 -- WHAT CAME OF A COMMAND: it is done with a status; it was cut short; a build still ran after all its turns; or it was

@@ -13,6 +13,7 @@ use Rattle.ccr_core.specs.Events.{answer}
 use Rattle.ccr_core.specs.Holding.{CoreData, Stands, Wants}
 use Rattle.ccr_core.specs.State.{RunningData, State, running_at}
 use Rattle.ccr_core.specs.Steps.{Step}
+use Rattle.ccr_storage.specs.Counts.{RoseBy}
 use Rattle.ccr_serve.specs.Asked.{Answers}
 use Rattle.ccr_serve.specs.Pairs.{Adds}
 use Rattle.ccr_serve.specs.Turns.{rank_of, rank_in, next_after}
@@ -58,8 +59,9 @@ pub record GivesFrom (job : Text) (number turn : ℕ) (x : AnswerData) (reply : 
   pub step : Step s (answer job number turn given) (Ok reply) after
   pub stands : Stands new after
 
--- an answer was given to the job's build of this number, or errored in its place, and what it changed is stored
+-- an answer was given to the job's build of this number, or errored in its place, and one commit stored what it changed
 pub record Gives (job : Text) (number turn : ℕ) (x : AnswerData) (reply : Reply) (old new : View) : Type 0 where
   pub takes : (s : State) → Stands old.core s → GivesFrom job number turn x reply s new.core
   pub ready : IsReady new
+  pub commits : RoseBy old.tally.commits 1 new.tally.commits
   pub rest : IsElse old new

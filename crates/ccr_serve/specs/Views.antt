@@ -1,5 +1,5 @@
 -- What a call of the server shows.
-use Rattle.std.specs.Prelude.{◌≡◌, ◌≢◌, ◌≤◌, ℕ, List, [], ◌++◌, length, nat_lt, Bool, true, false, Result, Ok, Err, unwrap_or, ⊤}
+use Rattle.std.specs.Prelude.{◌≡◌, ◌≢◌, ◌≤◌, ◌+◌, ℕ, List, [], ◌++◌, length, nat_lt, Bool, true, false, None, Some, Result, Ok, Err, unwrap_or, ⊤}
 use Rattle.ccr_history.specs.Text.{Text}
 use Rattle.ccr_history.specs.History.{HistoryData}
 use Rattle.ccr_pipeline.specs.JobData.{ResourceData, JobData}
@@ -10,13 +10,18 @@ use Rattle.ccr_core.specs.Events.{EventData}
 use Rattle.ccr_core.specs.Holding.{CoreData, Stands, Takes}
 use Rattle.ccr_core.specs.Replies.{Replied}
 use Rattle.ccr_core.specs.State.{State, no_pipeline}
+use Rattle.ccr_storage.specs.Counts.{RoseBy}
+use Rattle.ccr_storage.specs.declared.fault.StoreFault.{StoreFault}
+use Rattle.ccr_storage.specs.declared.tally.Tally.{Tally}
 use Rattle.ccr_serve.specs.declared.fault.ServeFault.{ServeFault}
 use Rattle.ccr_serve.specs.declared.fault.ServeFault.TheVariants.{Store, NoMemory, Closed}
 use Rattle.ccr_serve.specs.declared.server.Server.{Server}
 use Rattle.ccr_serve.specs.Items.{World, Done, Part, pairs_of, lines_of_all}
+use Rattle.ccr_serve.specs.Taken.{taken_in, commits_for}
 
 -- what a server holds: its core, the rank of the build served last, how often its shelf failed, what its runner ran,
--- which history its storage holds and which one it knows, what it has printed, and whether its storage failed
+-- which history its storage holds and which one it knows, the tally of its storage's commits, what it has printed, and
+-- whether its storage failed
 pub record View : Type 1 where
   pub core : CoreData
   pub last : ℕ
@@ -24,19 +29,21 @@ pub record View : Type 1 where
   pub pairs : List Pair
   pub holds : HistoryData → Type 0
   pub knows : HistoryData → Type 0
+  pub tally : Tally
   pub lines : Text
   pub closed : Bool
 
 -- what a server holds that has printed these lines
 abbrev pub view_of : {R S T : Type 0} → (R → List Pair) → (S → ℕ) → (T → HistoryData → Type 0)
-    → (T → HistoryData → Type 0) → Server R S T → Text → View
-view_of pairs failures holds knows server lines = record {
+    → (T → HistoryData → Type 0) → (T → Tally) → Server R S T → Text → View
+view_of pairs failures holds knows tally server lines = record {
   core = core_data server.core;
   last = server.last;
   failures = failures server.shelf;
   pairs = pairs server.runner;
   holds = holds server.storage;
   knows = knows server.storage;
+  tally = tally server.storage;
   lines = lines;
   closed = server.closed;
 }
@@ -53,9 +60,10 @@ jobs_held c = (unwrap_or c.pipeline no_pipeline).jobs
 abbrev pub world_of : View → State → World
 world_of v s = record { core = s; last = v.last; failures = v.failures }
 
--- the server goes on: its storage hasn't failed, holds the core's history, and knows it
+-- the server goes on: its storage hasn't failed, and no commit of it, and it holds the core's history and knows it
 pub record IsReady (v : View) : Type 0 where
   pub is_open : v.closed ≡ false
+  pub unfailed : v.tally.fault ≡ None
   pub holds : v.holds v.core.history
   pub knows : v.knows v.core.history
 
@@ -64,6 +72,11 @@ pub record IsReady (v : View) : Type 0 where
 abbrev pub MayBeLost : Bool → List Pair → Type 0
 MayBeLost true lost = lost ≡ []
 MayBeLost false lost = length lost ≤ 1
+
+-- how many commits were asked for, from one tally to another, beside so many: none in a whole call, else at most one
+abbrev pub HasAsked : Bool → ℕ → ℕ → ℕ → Type 0
+HasAsked true before n after = RoseBy before n after
+HasAsked false before n after = (more : ℕ) × (more ≤ 1) × RoseBy before (n + more) after
 
 -- where a server is after the items that were done: there, if the call is whole; cut short, it has closed, or is there
 -- with the shelf's count gone up
@@ -74,8 +87,9 @@ StandsAt false true now new = ⊤
 StandsAt false false now new = Stands new.core now.core × (new.last ≡ now.last) × (now.failures ≤ new.failures)
 
 -- what a call did from a state: a part, whole or cut short. Its new pairs are those of its items, in order, with none
--- left over, but for at most one where it was cut short; the lines of its items are printed; and the storage holds the
--- history after them
+-- left over, but for at most one where it was cut short; the storage was asked for a commit of each event that the core
+-- took, and for no other, but for at most one where it was cut short; the lines of its items are printed; and the
+-- storage holds the history after them
 pub record Called (part : Part) (old : View) (s : State) (whole : Bool) (new : View) : Type 0 where
   pub dones : List Done
   pub now : World
@@ -83,6 +97,7 @@ pub record Called (part : Part) (old : View) (s : State) (whole : Bool) (new : V
   pub lost : List Pair
   pub pairs : new.pairs ≡ old.pairs ++ (pairs_of dones ++ lost)
   pub few : MayBeLost whole lost
+  pub commits : HasAsked whole old.tally.commits (taken_in dones) new.tally.commits
   pub lines : new.lines ≡ old.lines ++ lines_of_all dones
   pub holds : new.holds now.core.history
   pub stands : StandsAt whole new.closed now new
@@ -91,16 +106,20 @@ pub record Called (part : Part) (old : View) (s : State) (whole : Bool) (new : V
 abbrev pub Calls : Part → View → Bool → View → Type 0
 Calls part old whole new = (s : State) → Stands old.core s → Called part old s whole new
 
--- why a call of items ends early: a growth of memory was refused, and the server goes on; or its storage failed, and it
--- has closed
+-- the storage failed so: its last commit did, and the server has closed
+abbrev pub IsFailed : StoreFault → View → Type 0
+IsFailed f v = (v.closed ≡ true) × (v.tally.fault ≡ Some f)
+
+-- why a call of items ends early: a growth of memory was refused, and the server goes on; or its storage failed so, and
+-- it has closed
 abbrev pub StopsItem : ServeFault → View → Type 0
 StopsItem NoMemory v = IsReady v
-StopsItem (Store f) v = v.closed ≡ true
+StopsItem (Store f) v = IsFailed f v
 StopsItem f v = ⊥
 
--- a server goes on after every fault but one of its storage, and then it has closed
+-- a server goes on after every fault but one of its storage, which failed so then, and it has closed
 abbrev pub Stops : ServeFault → View → Type 0
-Stops (Store f) v = v.closed ≡ true
+Stops (Store f) v = IsFailed f v
 Stops f v = IsReady v
 
 -- between calls a server goes on, or it has closed
@@ -109,7 +128,7 @@ IsKept v = v.closed ≡ false → IsReady v
 
 -- how a server stands after a command: it has closed if its storage failed, now or before, and else it goes on
 abbrev pub Ends : Result ℕ ServeFault → View → Type 0
-Ends (Err (Store f)) v = v.closed ≡ true
+Ends (Err (Store f)) v = IsFailed f v
 Ends (Err Closed) v = v.closed ≡ true
 Ends r v = IsReady v
 
@@ -118,9 +137,15 @@ Ends r v = IsReady v
 abbrev pub EndsItems : {A : Type 0} → Result A ServeFault → View → Type 0
 EndsItems (Ok a) v = IsReady v
 EndsItems (Err NoMemory) v = IsReady v
-EndsItems (Err (Store f)) v = v.closed ≡ true
+EndsItems (Err (Store f)) v = IsFailed f v
 EndsItems (Err Closed) v = v.closed ≡ true
 EndsItems (Err f) v = ⊥
+
+-- the commits of a turn: one where a build runs, and none where none does; at most one where it ends early
+abbrev pub CommitsOnce : Result Bool ServeFault → View → View → Type 0
+CommitsOnce (Ok true) old new = RoseBy old.tally.commits 1 new.tally.commits
+CommitsOnce (Ok false) old new = RoseBy old.tally.commits 0 new.tally.commits
+CommitsOnce (Err f) old new = HasAsked false old.tally.commits 0 new.tally.commits
 
 -- whether a build runs
 abbrev pub is_running : CoreData → Bool
@@ -134,21 +159,24 @@ pub record IsElse (old new : View) : Type 0 where
   pub pairs : new.pairs ≡ old.pairs
   pub lines : new.lines ≡ old.lines
 
--- an event was made: the core took it or refused it, for another cause than memory, and what it changed is stored
+-- an event was made: the core took it, and a commit stored what it changed; or it refused it, for another cause than
+-- memory, and there was no commit
 pub record Made (e : EventData) (r : Replied) (old new : View) : Type 0 where
   pub takes : Takes old.core new.core e r
   pub found_memory : r ≢ Err core_fault.NoMemory
   pub ready : IsReady new
+  pub commits : RoseBy old.tally.commits (commits_for r) new.tally.commits
   pub rest : IsElse old new
 
 -- an event was kept away: the core is as it was, or the storage failed
 abbrev pub IsBack : ServeFault → View → View → Type 0
 IsBack NoMemory old new = (new.core ≡ old.core) × IsReady new
-IsBack (Store f) old new = new.closed ≡ true
+IsBack (Store f) old new = IsFailed f new
 IsBack f old new = ⊥
 
--- no event was made, for this fault; the storage holds what it held
+-- no event was made, for this fault, and at most one commit was asked for; the storage holds what it held
 pub record Unmade (f : ServeFault) (old new : View) : Type 0 where
   pub back : IsBack f old new
   pub holds : new.holds old.core.history
+  pub commits : HasAsked false old.tally.commits 0 new.tally.commits
   pub rest : IsElse old new

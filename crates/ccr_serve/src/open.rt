@@ -36,7 +36,7 @@ impl<R: Runner + Drop, S: Shelf + Drop, T: Storage + Drop> Server<R, S, T> {
         requires readable { IfSome history.text IsReadable }
         requires least { 1 ≤ budget }
         requires most { budget ≤ MOST_NODES }
-        ensures ready { let view = view_of R.pairs S.failures T.holds T.knows in
+        ensures ready { let view = view_of R.pairs S.failures T.holds T.knows T.tally in
             IfOk result (λ server. IsReady (view server [])) }
         ensures resumed { IfOk result (λ server. IsResumed history budget (core_data server.core)) }
         ensures nobody { IfOk result (λ server. server.last ≡ 0) }

@@ -1,13 +1,14 @@
 //! Plays a server whose programs and folders are a script, a line each, and prints each line with what comes of it.
 //!
-//! What a server prints stands as it is printed; between its lines, two blanks in, stands each launch as it happens, and at
-//! last how the line ended, unless with status 0. A line that begins with `#`, and an empty one, is printed as it stands. The
-//! gate compares the output with the file `stdout` beside this crate, which was worked out by hand.
+//! What a server prints stands as it is printed; between its lines, two blanks in, stands each launch as it happens,
+//! and at last how the line ended, unless with status 0. A line that begins with `#`, and an empty one, is printed as
+//! it stands. The gate compares the output with the file `stdout` beside this crate, which was worked out by hand.
 //!
-//! The script of the next server: `ends WORD ..` (`STATUS`, `STATUS:OUTPUT`, `killed`, `too-long`, `not-started`: how programs
-//! end, in turn), `folders N` and `no-folders N` (N calls for folders are done, or fail), `file TEXT` (a file that is read),
-//! `commits N` (the storage fails after N commits). `open` makes a server over it, with an empty history, types in `/t` and
-//! builds in `/w`. Then `round`, `turn`, and the commands of `ccr_run`, of which `set-pipeline` and tasks read the script's files.
+//! The script of the next server: `ends WORD ..` (`STATUS`, `STATUS:OUTPUT`, `killed`, `too-long`, `not-started`: how
+//! programs end, in turn), `folders N` and `no-folders N` (N calls for folders are done, or fail), `file TEXT` (a
+//! file that is read), `commits N` (the storage fails after N commits). `open` makes a server over it, with an empty
+//! history, types in `/t` and builds in `/w`. Then `round`, `turn`, and the commands of `ccr_run`, of which
+//! `set-pipeline` and tasks read the script's files.
 #![tactic(auto)]
 
 mod play;

@@ -11,6 +11,7 @@ use ccr_history::History;
 use ccr_lines::Printed;
 use ccr_process::Scripted;
 use ccr_serve::{Command, ServeFault, Server};
+use ccr_storage::Tally;
 use ccr_task::{Places, ShelfScript};
 use std::alloc::{AllocError, Global};
 use std::io::Write;
@@ -36,7 +37,7 @@ impl<W: Write> Model for Serving<W> {
     ghost view = { λ _. tt };
 
     ghost invariant = { λ s. IsKept (view_of (λ told. script_pairs told.script) script_failures
-        (λ _ _. ⊤) (λ _ _. ⊤) s.server []) };
+        (λ _ _. ⊤) (λ _ _. ⊤) (λ unkept. unkept.tally) s.server []) };
 }
 
 /// Types in `/t`, builds in `/w`.
@@ -61,6 +62,7 @@ impl<W: Write + Drop> Serving<W> {
         let shelf = ShelfScript::new(script.answers);
         let storage = Unkept {
             commits: script.commits,
+            tally: Tally::new(),
         };
         let history = History::new(alloc);
         let server = Server::open(alloc, runner, shelf, storage, history, places, BUDGET)?;

@@ -2,13 +2,14 @@
 ghost use Rattle.std.specs.Prelude.{⊤};
 
 use ccr_history::Edit;
-use ccr_storage::{Storage, StoreFault};
+use ccr_storage::{Storage, StoreFault, Tally};
 use std::alloc::Global;
 
 /// Takes so many commits, and fails as a disk at each later one. It keeps nothing of what it is given.
 #[derive(Drop)]
 pub(crate) struct Unkept {
     pub(crate) commits: u32,
+    pub(crate) tally: Tally,
 }
 
 impl Storage for Unkept {
@@ -16,11 +17,16 @@ impl Storage for Unkept {
 
     ghost knows = { λ _ _. ⊤ };
 
+    ghost tally = { λ storage. storage.tally };
+
     fn commit(&mut self, _alloc: Global, _change: &[Edit]) -> Result<(), StoreFault> {
-        if self.commits == 0 {
-            return Err(StoreFault::Disk);
-        }
-        self.commits -= 1;
-        Ok(())
+        let answer = if self.commits == 0 {
+            Err(StoreFault::Disk)
+        } else {
+            self.commits -= 1;
+            Ok(())
+        };
+        self.tally.note(&answer);
+        answer
     }
 }

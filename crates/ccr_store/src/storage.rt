@@ -1,14 +1,35 @@
 //! The store as a server's storage.
-ghost use Rattle.std.specs.Prelude.{OnOk, OnErr};
+ghost use Rattle.std.specs.Prelude.{◌≡◌, OnOk, OnErr};
 ghost use Rattle.ccr_history.specs.History.{HistoryData};
 ghost use Rattle.ccr_history.specs.Edits.{change_data};
 ghost use Rattle.ccr_history.specs.Changes.{changed, TakesAll};
+ghost use Rattle.ccr_store.specs.Outline.{IsOutline};
+ghost use Rattle.ccr_store.specs.StoreData.{IsKept};
 
 use crate::store::Store;
 use ccr_history::Edit;
 use ccr_storage::{Storage, StoreFault};
 use sqlite::Alter;
 use std::alloc::Global;
+
+impl<S: Alter> Store<S> {
+    /// Writes what a change of the history changes. One of nothing needs no transaction, which would wait for the disk.
+    fn write(&mut self, alloc: Global, change: &[Edit]) -> Result<(), StoreFault>
+        requires { (h : HistoryData) × IsOutline h self.old.outline × TakesAll h (change_data change.now) }
+        ensures knows { (h : HistoryData) → IsOutline h self.old.outline → TakesAll h (change_data change.now)
+            → OnOk result (IsOutline (changed (change_data change.now) h) self.new.outline) }
+        ensures done { (h : HistoryData) → IsOutline h self.old.outline → IsKept S.Store self.old h
+            → TakesAll h (change_data change.now)
+            → OnOk result (IsKept S.Store self.new (changed (change_data change.now) h)) }
+        ensures refused { (h : HistoryData) → IsKept S.Store self.old h → OnErr result (IsKept S.Store self.new h) }
+        ensures tally { self.new.tally ≡ self.old.tally }
+    {
+        if change.is_empty() {
+            return Ok(());
+        }
+        self.commit(alloc, change)
+    }
+}
 
 impl<S: Alter> Storage for Store<S> {
     ghost use Rattle.ccr_store.specs.Outline.{IsOutline};
@@ -18,11 +39,11 @@ impl<S: Alter> Storage for Store<S> {
 
     ghost knows = { λ store h. IsOutline h store.outline };
 
-    // A change of nothing needs no transaction, which would wait for the disk.
+    ghost tally = { λ store. store.tally };
+
     fn commit(&mut self, alloc: Global, change: &[Edit]) -> Result<(), StoreFault> {
-        if change.is_empty() {
-            return Ok(());
-        }
-        Store::commit(self, alloc, change)
+        let answer = self.write(alloc, change);
+        self.tally.note(&answer);
+        answer
     }
 }

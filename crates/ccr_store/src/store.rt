@@ -20,7 +20,7 @@ use crate::fault::fault_of;
 use crate::loading;
 use crate::mirror::Mirror;
 use ccr_history::{Edit, History};
-use ccr_storage::StoreFault;
+use ccr_storage::{StoreFault, Tally};
 use ccr_tables::{Creation, commit, create};
 use sqlite::{Alter, Connection, MemStore};
 use std::alloc::Global;
@@ -31,6 +31,7 @@ use std::marker::Model;
 pub struct Store<S: Alter> {
     conn: Connection<S>,
     mirror: Mirror,
+    pub(crate) tally: Tally,
 }
 
 /// Makes the six tables in a database without tables. Where the first of them is there already, the number of the format
@@ -63,7 +64,7 @@ impl<S: Alter> Model for Store<S> {
 
     ghost coded = { store_code S.code };
 
-    ghost view = { λ s. record { conn = s.conn; outline = s.mirror } };
+    ghost view = { λ s. record { conn = s.conn; outline = s.mirror; tally = s.tally } };
 
     ghost invariant = { λ s. s.conn.in_transaction ≡ false };
 }
@@ -108,6 +109,7 @@ impl<S: Alter + Drop> Store<S> {
         Ok(Store {
             conn,
             mirror: Mirror::new(alloc),
+            tally: Tally::new(),
         })
     }
 }
@@ -143,6 +145,7 @@ impl<S: Alter> Store<S> {
             let new = state S.Store self.new.conn in
             HasCleanDisk new → IsTrue new.is_open → HasCleanDisk old × IsTrue old.is_open }
         ensures only { IfErr result (λ fault. fault ≢ NotOurs) }
+        ensures tally { self.new.tally ≡ self.old.tally }
     {
         let writes = self.mirror.writes(alloc, change)?;
         match commit(&mut self.conn, &writes) {

@@ -2,18 +2,20 @@ use Rattle.std.proofs.Common.{◌∙◌, ◌++◌, Ok}
 use Rattle.sqlite.specs.Files.{over_files}
 use Rattle.ccr_process.specs.Runs.{machine_pairs}
 use Rattle.ccr_task.specs.Shelves.{folders_failures}
-use Rattle.ccr_run.specs.Databases.{holds, knows}
+use Rattle.ccr_run.specs.Databases.{holds, knows, tally}
 use Rattle.ccr_run.proofs.Serving.{did, err_handed, ok_handed, same_places}
 use Rattle.ccr_run.proofs.run.serve.Goals as goal
 
 pub command-requires : goal.command-requires
 command-requires g c =
     let ready = c.in_ok-server.ensures.ready in
-    record { ready = record { is_open = ready.is_open; holds = ready.holds; knows = ready.knows } }
+    record {
+      ready = record { is_open = ready.is_open; unfailed = ready.unfailed; holds = ready.holds; knows = ready.knows };
+    }
 
 pub returns-in_err-command-clause-served : goal.returns-in_err-command-clause-served
 returns-in_err-command-clause-served g c =
-    did machine_pairs folders_failures (holds over_files) knows c.args.order.now c.in-Ok.places c.in_ok-database.history c.in_ok-server.server
+    did machine_pairs folders_failures (holds over_files) knows tally c.args.order.now c.in-Ok.places c.in_ok-database.history c.in_ok-server.server
     c.command.new.server
     c.command.result c.from_residual-in_err-command.result (c.args.out.now.shown ++ c.args.out.now.waiting)
     (c.command.new.out.shown ++ c.command.new.out.waiting) c.in_ok-server.ensures.places
@@ -26,7 +28,7 @@ returns-in_err-command-clause-served g c =
 
 pub returns-clause-served : goal.returns-clause-served
 returns-clause-served g c =
-    did machine_pairs folders_failures (holds over_files) knows c.args.order.now c.in-Ok.places c.in_ok-database.history c.in_ok-server.server
+    did machine_pairs folders_failures (holds over_files) knows tally c.args.order.now c.in-Ok.places c.in_ok-database.history c.in_ok-server.server
     c.command.new.server
     c.command.result (Ok c.in_ok-command.field-0) (c.args.out.now.shown ++ c.args.out.now.waiting)
     (c.command.new.out.shown ++ c.command.new.out.waiting) c.in_ok-server.ensures.places

@@ -1,12 +1,28 @@
-use Rattle.std.proofs.Common.{refl}
+use Rattle.std.proofs.Common.{◌≡◌, [], ◌∷◌, Bool, true, refl, subst}
+use Rattle.ccr_pipeline.specs.JobData.{resource_data}
 use Rattle.ccr_task.specs.Places.{places_data}
 use Rattle.ccr_serve.specs.Commands.{check_resource}
-use Rattle.ccr_serve.specs.Views.{view_of}
+use Rattle.ccr_serve.specs.Items.{Items, Noting}
+use Rattle.ccr_serve.specs.Items as item
+use Rattle.ccr_serve.specs.Serving.{Serves}
+use Rattle.ccr_serve.specs.Taken.{all_taken}
+use Rattle.ccr_serve.specs.Views.{view_of, Calls}
+use Rattle.ccr_serve.proofs.CheckStatus.{check_came}
 use Rattle.ccr_serve.proofs.Refusing.{lacks_resource}
 use Rattle.ccr_serve.proofs.server.Server.check_resource.Goals as goal
 
 pub returns-in-Err-clause-came : goal.returns-in-Err-clause-came
 returns-in-Err-clause-came g c =
-    let view = view_of g.R.Runner.pairs g.S.Shelf.failures g.T.Storage.holds g.T.Storage.knows in
+    let view = view_of g.R.Runner.pairs g.S.Shelf.failures g.T.Storage.holds g.T.Storage.knows g.T.Storage.tally in
     lacks_resource (places_data c.args.self.now.places) (check_resource c.args.name.now) c.args.name.now c.in-Err.fault
     (view c.args.self.now (g.O.Lines.written c.args.out.now)) refl tt c.requires.ready c.in-Err.ensures.lacks
+
+pub returns-in-Ok-true-clause-came : goal.returns-in-Ok-true-clause-came
+returns-in-Ok-true-clause-came g c =
+    let view = view_of g.R.Runner.pairs g.S.Shelf.failures g.T.Storage.holds g.T.Storage.knows g.T.Storage.tally in
+    let places = places_data c.args.self.now.places in
+    let old = view c.args.self.now (g.O.Lines.written c.args.out.now) in
+    let new = view c.check.new.self (g.O.Lines.written c.check.new.out) in
+    check_came places c.args.name.now (resource_data c.in-Ok.field-0.now) old new c.in-Ok.ensures.held
+    (subst (λ (b : Bool). Calls (Noting (Items (Serves places) (item.check c.args.name.now ∷ [])) (λ ds. b ≡ all_taken ds))
+    old true new) c.in-Ok-true.field-0-test c.in-Ok-true.ensures.served)
