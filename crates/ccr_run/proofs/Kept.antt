@@ -1,5 +1,5 @@
 -- A database that was ours is kept.
-use Rattle.std.proofs.Common.{◌≡◌, ◌⊎◌, inl, inr, Result, Ok, Err, IsTrue, OnOk, OnErr}
+use Rattle.std.proofs.Common.{◌≡◌, inl, inr, Result, Ok, Err, IsTrue, OnOk, OnErr}
 use Rattle.sqlite_trees.specs.declared.store.Store.{Ghosts}
 use Rattle.sqlite.specs.State.{HasCleanDisk}
 use Rattle.sqlite.specs.Held.{Held, state}

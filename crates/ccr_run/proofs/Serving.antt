@@ -1,5 +1,5 @@
 -- What came of an order, from what its parts say.
-use Rattle.std.proofs.Common.{◌≡◌, ◌∙◌, ◌⊎◌, inl, inr, ℕ, List, [], Result, Ok, Err, ap, sym, subst, string_bytes}
+use Rattle.std.proofs.Common.{◌≡◌, ◌∙◌, inl, ℕ, List, [], Result, Ok, Err, ap, sym, subst, string_bytes}
 use Rattle.std.specs.Prelude.{IsErrAnd}
 use Rattle.ccr_history.specs.Text.{Text}
 use Rattle.ccr_history.specs.History.{HistoryData}
