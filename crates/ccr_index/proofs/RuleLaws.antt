@@ -1,10 +1,10 @@
 -- A problem that keeps the rules keeps them with one more row, if the row does.
-use Rattle.std.proofs.Common.{◌≡◌, ℕ, zero, suc, ◌+◌, ◌<◌, ◌≤◌, List, [], ◌∷◌, ◌++◌, length, drop, get_or, slice_index_or, slice_set, true, ◌&&◌, ◌==◌, nat_lt, nat_le, refl, ap, ◌∙◌, arith}
+use Rattle.std.proofs.Common.{◌≡◌, ℕ, zero, suc, ◌+◌, ◌<◌, ◌≤◌, List, [], ◌∷◌, ◌++◌, length, drop, get_or, slice_index_or, slice_set, true, ◌&&◌, ◌==◌, nat_lt, nat_le, refl, ap, ◌∙◌, sym, arith}
 use Rattle.std.specs.List.{list_all}
-use Rattle.std.proofs.lemmas.Bool.{and_parts, and_from, lt-ltb, le-leb}
+use Rattle.std.proofs.lemmas.Bool.{and_parts, and_from, lt-ltb, le-leb, ltb-true, leb-true}
 use Rattle.std.proofs.lemmas.List.{length-set}
 use Rattle.ccr_choice.specs.Problem.{ProblemValue, InputValue, BuildValue, no_input, is_problem, is_input, is_build, are_inputs, are_distinct, are_numbered, are_places_after, are_builds, are_builds_below, are_pairs_after, next_used, used_after, scopes_after, jobs_after, input_at, builds_at}
-use Rattle.ccr_choice.proofs.Bounds.{builds_kept}
+use Rattle.ccr_choice.proofs.Bounds.{rules_of, builds_kept}
 use Rattle.ccr_index.specs.Rows.{no_build, with_place, last_after}
 use Rattle.ccr_index.specs.Index.{with_version, with_new_build}
 
@@ -62,6 +62,32 @@ version_kept p i place h within less most =
     (and_from (length p.jobs == jobs_after 0 is) _ (ap (λ n. length p.jobs == n) (jobs_same p.inputs i place 0 within) ∙ c.0)
     (ap (λ n. list_all (are_builds n) p.jobs) (scopes_same p.inputs i place 0 within) ∙ c.1)))
 
+places_less : (low : ℕ) (xs : List ℕ) (n : ℕ) → are_places_after low (xs ++ n ∷ []) ≡ true → (last_after low xs < n) × (n ≤ 100000)
+places_less low [] n h =
+    let a = and_parts (nat_lt low n) (nat_le n 100000 && true) h in
+    (ltb-true _ _ a.0, leb-true _ _ (and_parts (nat_le n 100000) true a.1).0)
+places_less low (x ∷ xs) n h =
+    let a = and_parts (nat_lt low x) (nat_le x 100000 && are_places_after x (xs ++ n ∷ [])) h in
+    places_less x xs n (and_parts (nat_le x 100000) (are_places_after x (xs ++ n ∷ [])) a.1).1
+
+inputs_less : (is : List InputValue) (i place s j : ℕ) → i < length is → are_inputs s j (slice_set is i (with_place (slice_index_or is i no_input) place)) ≡ true
+    → (last_after 0 (slice_index_or is i no_input).places < place) × (place ≤ 100000)
+inputs_less [] i place s j within h = absurd (omega (arith, within))
+inputs_less (y ∷ ys) zero place s j within h =
+    let z = with_place y place in
+    let a = and_parts (is_input s j z) (are_inputs (next_used s y.scope) (used_after j y.jobs) ys) h in
+    let b = and_parts (nat_le y.scope s) (are_distinct y.jobs && (are_numbered j y.jobs && are_places_after 0 z.places)) a.0 in
+    let c = and_parts (are_distinct y.jobs) (are_numbered j y.jobs && are_places_after 0 z.places) b.1 in
+    places_less 0 y.places place (and_parts (are_numbered j y.jobs) (are_places_after 0 z.places) c.1).1
+inputs_less (y ∷ ys) (suc i) place s j within h =
+    let rest = slice_set ys i (with_place (slice_index_or ys i no_input) place) in
+    inputs_less ys i place (next_used s y.scope) (used_after j y.jobs) (omega (arith, within))
+    (and_parts (is_input s j y) (are_inputs (next_used s y.scope) (used_after j y.jobs) rest) h).1
+
+pub version_asks : (p : ProblemValue) (i place : ℕ) → i < length p.inputs → is_problem (with_version p i place) ≡ true
+    → (last_after 0 (input_at p i).places < place) × (place ≤ 100000)
+version_asks p i place within h = inputs_less p.inputs i place 0 0 within (rules_of (with_version p i place) h).inputs
+
 -- ---- one more build
 all_set : (n : ℕ) (js : List (List BuildValue)) (j : ℕ) (x : List BuildValue) → list_all (are_builds n) js ≡ true → are_builds n x ≡ true → list_all (are_builds n) (slice_set js j x) ≡ true
 all_set n [] j x h new = refl
@@ -96,6 +122,45 @@ build_kept p j b h within newer most room pairs =
     and_from few _ a.0 (and_from (are_inputs 0 0 p.inputs) _ c.0
     (and_from (length (slice_set p.jobs j (b ∷ bs)) == jobs_after 0 p.inputs) _ (ap (λ m. m == jobs_after 0 p.inputs) (length-set p.jobs j (b ∷ bs)) ∙ d.0)
     (all_set n p.jobs j (b ∷ bs) d.1 new)))
+
+-- what a problem asks of the newest build of a job
+pub record Asked (p : ProblemValue) (j : ℕ) (b : BuildValue) : Type 0 where
+  pub newer : (slice_index_or (builds_at p j) 0 no_build).number < b.number
+  pub most : b.number ≤ 1000000
+  pub room : length (builds_at p j) < 1000000
+  pub pairs : are_pairs_after (scopes_after 0 p.inputs) 0 0 b.pairs ≡ true
+
+set_at : (js : List (List BuildValue)) (j : ℕ) (x : List BuildValue) → j < length js → slice_index_or (slice_set js j x) j [] ≡ x
+set_at [] j x within = absurd (omega (arith, within))
+set_at (y ∷ ys) zero x within = refl
+set_at (y ∷ ys) (suc j) x within = set_at ys j x (omega (arith, within))
+
+first_less : (n high : ℕ) (bs : List BuildValue) → 0 < high → are_builds_below n high bs ≡ true → (slice_index_or bs 0 no_build).number < high
+first_less n high [] some h = some
+first_less n high (b ∷ bs) some h =
+    let a = and_parts (is_build n high b) (are_builds_below n b.number bs) h in
+    let c = and_parts (nat_lt 0 b.number) (nat_lt b.number high && are_pairs_after n 0 0 b.pairs) a.0 in
+    ltb-true _ _ (and_parts (nat_lt b.number high) (are_pairs_after n 0 0 b.pairs) c.1).0
+
+pub build_asks : (p : ProblemValue) (j : ℕ) (b : BuildValue) → j < length p.jobs → is_problem (with_new_build p j b) ≡ true → Asked p j b
+build_asks p j b within h =
+    let n = scopes_after 0 p.inputs in
+    let bs = builds_at p j in
+    let q = with_new_build p j b in
+    let same_length = length-set p.jobs j (b ∷ bs) in
+    let all : are_builds n (b ∷ bs) ≡ true = builds_kept q j (b ∷ bs) h (omega (arith, within, same_length)) (sym (set_at p.jobs j (b ∷ bs) within)) in
+    let a = and_parts (nat_le (length (b ∷ bs)) 1000000) (are_builds_below n 1000001 (b ∷ bs)) all in
+    let c = and_parts (is_build n 1000001 b) (are_builds_below n b.number bs) a.1 in
+    let d = and_parts (nat_lt 0 b.number) (nat_lt b.number 1000001 && are_pairs_after n 0 0 b.pairs) c.0 in
+    let e = and_parts (nat_lt b.number 1000001) (are_pairs_after n 0 0 b.pairs) d.1 in
+    let few = leb-true _ _ a.0 in
+    let most = ltb-true _ _ e.0 in
+    record {
+      newer = first_less n b.number bs (ltb-true _ _ d.0) c.1;
+      most = omega (arith, most);
+      room = omega (arith, few);
+      pairs = e.1;
+    }
 
 -- ---- the scopes, input by input
 scopes_next : (is : List InputValue) (i s : ℕ) (d : InputValue) → i < length is → scopes_after s (drop i is) ≡ scopes_after (next_used s (get_or is i d).scope) (drop (suc i) is)

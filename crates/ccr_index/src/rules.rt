@@ -1,6 +1,6 @@
 //! Whether a row may be added to an index.
 
-ghost use Rattle.std.specs.Prelude.{◌≡◌, ◌<◌, ◌≤◌, length, IsTrue};
+ghost use Rattle.std.specs.Prelude.{◌≡◌, ◌<◌, ◌↔◌, length, IsTrue};
 ghost use Rattle.ccr_choice.specs.Problem.{IsProblem, scopes_after, are_pairs_after};
 ghost use Rattle.ccr_index.specs.Index.{with_version, with_new_build};
 ghost use Rattle.ccr_index.specs.Rows.{last_after};
@@ -12,7 +12,7 @@ impl Index {
     /// Whether [`Index::add_version`] may be called so: there is such an input, and the place is greater than all its allowed
     /// places and within the limit.
     pub fn can_add_version(&self, input: usize, place: u32) -> bool
-        ensures { IsTrue result → (input < length self.now.problem.inputs)
+        ensures { IsTrue result ↔ (input < length self.now.problem.inputs)
             × IsProblem (with_version self.now.problem input place) }
     {
         if input >= self.input_count() {
@@ -25,7 +25,7 @@ impl Index {
     /// Whether [`Index::add_build`] may be called so: there is such a job, the number is greater than those of all its builds and
     /// within the limit, and the pairs ascend and lie in the inputs' scopes.
     pub fn can_add_build(&self, job: usize, number: u32, pairs: &[(u32, u32)]) -> bool
-        ensures { IsTrue result → (job < length self.now.problem.jobs)
+        ensures { IsTrue result ↔ (job < length self.now.problem.jobs)
             × IsProblem (with_new_build self.now.problem job (record { number = number; pairs = pairs.now })) }
     {
         if job >= self.job_count() {

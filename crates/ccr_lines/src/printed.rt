@@ -44,6 +44,7 @@ impl<W: Write> Printed<W> {
     pub fn new(alloc: Global, writer: W) -> Printed<W>
         ensures nothing { result.shown ++ result.waiting ≡ [] }
         ensures before { result.before ≡ W.contents writer }
+        ensures unfailed { result.failed ≡ false }
     {
         Printed {
             start: Snapshot::of(&writer),
