@@ -21,17 +21,27 @@ use play::Play;
 use std::io;
 use std::io::Read;
 
-/// Plays each line of a text; those without words, and those that begin with `#`, are printed as they stand.
-fn played(rt: &HostRuntime, text: &str) -> io::Result<()> {
-    let mut play = Play::new(rt);
+/// Plays a line; one without words, and one that begins with `#`, is printed as it stands.
+fn play_line(rt: &HostRuntime, play: &mut Play, line: &str) -> io::Result<()> {
+    if line.is_empty() || line.starts_with("#") {
+        return println!(rt; "{line}");
+    }
+    play.play(line)
+}
+
+/// Plays each line of a text.
+fn play_lines(rt: &HostRuntime, play: &mut Play, text: &str) -> io::Result<()> {
     for line in text.lines() {
-        if line.is_empty() || line.starts_with("#") {
-            println!(rt; "{line}")?;
-        } else {
-            play.play(line)?;
-        }
+        play_line(rt, play, line)?;
     }
     Ok(())
+}
+
+/// Plays a text from the beginning. The proof is dear where a function that can drop a player also loops or returns early, so
+/// this one does neither.
+fn played(rt: &HostRuntime, text: &str) -> io::Result<()> {
+    let mut play = Play::new(rt);
+    play_lines(rt, &mut play, text)
 }
 
 fn main(rt: HostRuntime) -> io::Result<()> {
