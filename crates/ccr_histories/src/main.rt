@@ -67,17 +67,27 @@ fn told(rt: &HostRuntime, play: &mut Play, line: &str, is_timed: bool) -> io::Re
     }
 }
 
-/// Plays each line of a text; those without words, and those that begin with `#`, are printed as they stand.
-fn played(rt: &HostRuntime, text: &str, is_timed: bool) -> io::Result<()> {
-    let mut play = Play::new(rt.alloc());
+/// Plays a line; one without words, and one that begins with `#`, is printed as it stands.
+fn play_line(rt: &HostRuntime, play: &mut Play, line: &str, is_timed: bool) -> io::Result<()> {
+    if line.is_empty() || line.starts_with("#") {
+        return println!(rt; "{line}");
+    }
+    told(rt, play, line, is_timed)
+}
+
+/// Plays each line of a text.
+fn play_lines(rt: &HostRuntime, play: &mut Play, text: &str, is_timed: bool) -> io::Result<()> {
     for line in text.lines() {
-        if line.is_empty() || line.starts_with("#") {
-            println!(rt; "{line}")?;
-        } else {
-            told(rt, &mut play, line, is_timed)?;
-        }
+        play_line(rt, play, line, is_timed)?;
     }
     Ok(())
+}
+
+/// Plays a text from the beginning. The proof is dear where a function that can drop a player also loops or returns early, so
+/// this one does neither.
+fn played(rt: &HostRuntime, text: &str, is_timed: bool) -> io::Result<()> {
+    let mut play = Play::new(rt.alloc());
+    play_lines(rt, &mut play, text, is_timed)
 }
 
 fn main(rt: HostRuntime) -> io::Result<ExitCode> {

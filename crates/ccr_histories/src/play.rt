@@ -69,43 +69,38 @@ impl Play {
         }
     }
 
+    /// Each line is played by a function of its own: the proof of a long body with early returns is dear.
     fn played(&mut self, alloc: Global, line: &str) -> Result<String> {
         let (kind, given) = line.split_once(" ").unwrap_or((line, ""));
         let (first, rest) = given.split_once(" ").unwrap_or((given, ""));
         match kind {
-            "pipeline" => {
-                self.history = History::new(alloc);
-                self.set(alloc, given)
-            }
+            "pipeline" => self.set_anew(alloc, given),
             "again" => self.set(alloc, given),
-            "versions" => {
-                let versions = versions_of(alloc, rest)?;
-                self.reported(alloc, first, &versions)
-            }
-            "fill" => {
-                let versions = numbered(alloc, number_of(rest)?)?;
-                self.reported(alloc, first, &versions)
-            }
+            "versions" => self.reported(alloc, first, rest),
+            "fill" => self.filled(alloc, first, rest),
             "tried" => self.tried(alloc, first, rest),
             "place" => self.place(alloc, first, rest),
             "build" => self.made(alloc, first, rest),
-            "failed" => self.failed(alloc, first, number_of(rest)?),
+            "failed" => self.failed(alloc, first, rest),
             "end" => self.ended(alloc, first, rest),
             "used" => self.used(alloc, first, rest),
             "pin" => self.pinned(alloc, first, rest),
             "unpin" => self.unpinned(alloc, first),
             "problem" => self.problem(alloc, first),
-            "resolve" => self.resolved(alloc, first, number_of(rest)?),
+            "resolve" => self.resolved(alloc, first, rest),
             "grow" | "more" | "extend" => self.grown(alloc, kind, first, rest),
-            "copy" => {
-                self.history = self.history.copy(alloc)?;
-                Ok(String::from_str(alloc, "copied")?)
-            }
+            "copy" => self.copied(alloc),
             "history" => history_text(alloc, &self.history),
-            "core" => self.began(alloc, number_of(given)?),
+            "core" => self.began(alloc, given),
             "event" => self.event(alloc, given),
             _ => bail!("no line begins with {kind}"),
         }
+    }
+
+    /// Begins a new history with this pipeline.
+    fn set_anew(&mut self, alloc: Global, text: &str) -> Result<String> {
+        self.history = History::new(alloc);
+        self.set(alloc, text)
     }
 
     fn set(&mut self, alloc: Global, text: &str) -> Result<String> {
@@ -119,7 +114,8 @@ impl Play {
     }
 
     /// Begins a core, with nothing seen and no pipeline.
-    fn began(&mut self, alloc: Global, budget: u32) -> Result<String> {
+    fn began(&mut self, alloc: Global, text: &str) -> Result<String> {
+        let budget = number_of(text)?;
         if budget < 1 || budget > 1_000_000 {
             bail!("no such budget")
         }
@@ -146,7 +142,17 @@ impl Play {
         bail!("no resource is called {name}")
     }
 
-    fn reported(&mut self, alloc: Global, name: &str, versions: &[Version]) -> Result<String> {
+    fn reported(&mut self, alloc: Global, name: &str, text: &str) -> Result<String> {
+        let versions = versions_of(alloc, text)?;
+        self.append(alloc, name, &versions)
+    }
+
+    fn filled(&mut self, alloc: Global, name: &str, text: &str) -> Result<String> {
+        let versions = numbered(alloc, number_of(text)?)?;
+        self.append(alloc, name, &versions)
+    }
+
+    fn append(&mut self, alloc: Global, name: &str, versions: &[Version]) -> Result<String> {
         let scope = self.scope(alloc, name)?;
         let mut text = room(alloc)?;
         let new = self.history.append_versions(alloc, &scope, versions)?;
@@ -194,6 +200,11 @@ impl Play {
         Ok(format!(in alloc; "{builds} builds")?)
     }
 
+    fn copied(&mut self, alloc: Global) -> Result<String> {
+        self.history = self.history.copy(alloc)?;
+        Ok(String::from_str(alloc, "copied")?)
+    }
+
     fn place(&self, alloc: Global, name: &str, text: &str) -> Result<String> {
         let scope = self.scope(alloc, name)?;
         let version = version_of(alloc, text)?;
@@ -232,7 +243,8 @@ impl Play {
     }
 
     /// The builds are made in a copy, so that either all of them are there or none.
-    fn failed(&mut self, alloc: Global, job: &str, count: u32) -> Result<String> {
+    fn failed(&mut self, alloc: Global, job: &str, text: &str) -> Result<String> {
+        let count = number_of(text)?;
         let mut text = room(alloc)?;
         let mut history = self.history.copy(alloc)?;
         let last = fail(alloc, &mut history, job, count)?;
@@ -267,7 +279,8 @@ impl Play {
         Ok(write_problem(alloc, &problem)?)
     }
 
-    fn resolved(&self, alloc: Global, job: &str, budget: u32) -> Result<String> {
+    fn resolved(&self, alloc: Global, job: &str, text: &str) -> Result<String> {
+        let budget = number_of(text)?;
         if budget < 1 || budget > 1_000_000 {
             bail!("no such budget")
         }
