@@ -199,19 +199,29 @@ fn parts_of(given: &str) -> Result<(&str, &str, &str)> {
     Ok((job, versions, answers))
 }
 
+/// Feeds a build an answer for each word, and adds what is seen of it.
+fn push_played(alloc: Global, seen: &mut String, run: &mut BuildRun, answers: &str) -> Result<()> {
+    let mut last = None;
+    push_state(alloc, seen, run)?;
+    for word in answers.split_whitespace() {
+        push_fed(alloc, seen, run, &mut last, word)?;
+        push_state(alloc, seen, run)?;
+    }
+    push_turn(seen, run)
+}
+
+fn seen_of(alloc: Global, run: &mut BuildRun, answers: &str) -> Result<String> {
+    let mut seen = String::new(alloc);
+    push_played(alloc, &mut seen, run, answers)?;
+    Ok(seen)
+}
+
 /// What is seen of a build: each ask, its outcome with the versions that it moved, and the number of answers that it took.
+/// The proof is dear where a function that can drop a build also loops or returns early behind that, so this one doesn't.
 fn played(alloc: Global, given: &str) -> Result<String> {
     let (job, versions, answers) = parts_of(given)?;
     let mut run = build_of(alloc, job, versions)?;
-    let mut seen = String::new(alloc);
-    let mut last = None;
-    push_state(alloc, &mut seen, &run)?;
-    for word in answers.split_whitespace() {
-        push_fed(alloc, &mut seen, &mut run, &mut last, word)?;
-        push_state(alloc, &mut seen, &run)?;
-    }
-    push_turn(&mut seen, &run)?;
-    Ok(seen)
+    seen_of(alloc, &mut run, answers)
 }
 
 /// An ask that came so often in a row.
@@ -222,11 +232,8 @@ fn push_times(text: &mut String, times: u64, ask: &str) -> Result<()> {
     Ok(())
 }
 
-/// What is seen of a build whose asks all have one answer: how often each was asked in a row, and then as of any build.
-fn repeated(alloc: Global, given: &str) -> Result<String> {
-    let (job, versions, word) = parts_of(given)?;
-    let mut run = build_of(alloc, job, versions)?;
-    let mut seen = String::new(alloc);
+/// Gives each ask of a build the same answer, and adds how often each was asked in a row.
+fn push_repeated(alloc: Global, seen: &mut String, run: &mut BuildRun, word: &str) -> Result<()> {
     let mut last = String::new(alloc);
     let mut times = 0u64;
     for _ in 0..100_000u32 {
@@ -236,15 +243,27 @@ fn repeated(alloc: Global, given: &str) -> Result<String> {
         let mut now = String::new(alloc);
         push_ask(alloc, &mut now, &ask)?;
         if now.as_str() != last.as_str() {
-            push_times(&mut seen, times, last.as_str())?;
+            push_times(seen, times, last.as_str())?;
             last = now;
             times = 0;
         }
         times = times.saturating_add(1);
         run.feed(answer_of(alloc, word)?)?;
     }
-    push_times(&mut seen, times, last.as_str())?;
-    push_state(alloc, &mut seen, &run)?;
-    push_turn(&mut seen, &run)?;
+    push_times(seen, times, last.as_str())?;
+    push_state(alloc, seen, run)?;
+    push_turn(seen, run)
+}
+
+fn repeats_of(alloc: Global, run: &mut BuildRun, word: &str) -> Result<String> {
+    let mut seen = String::new(alloc);
+    push_repeated(alloc, &mut seen, run, word)?;
     Ok(seen)
+}
+
+/// What is seen of a build whose asks all have one answer: how often each was asked in a row, and then as of any build.
+fn repeated(alloc: Global, given: &str) -> Result<String> {
+    let (job, versions, word) = parts_of(given)?;
+    let mut run = build_of(alloc, job, versions)?;
+    repeats_of(alloc, &mut run, word)
 }

@@ -17,6 +17,48 @@ fn push_played(
     push_line(lines, answer.as_str())
 }
 
+/// Sets the pipeline, and adds the answer.
+fn push_first(
+    alloc: Global,
+    lines: &mut String,
+    player: &mut Player,
+    pipeline: &str,
+) -> Result<(), AllocError> {
+    let first = format!(in alloc; "pipeline {pipeline}")?;
+    push_played(alloc, lines, player, first.as_str())
+}
+
+/// Plays a pipeline and a line for each event, and adds the answers.
+fn push_each(
+    alloc: Global,
+    lines: &mut String,
+    player: &mut Player,
+    text: &str,
+) -> Result<(), AllocError> {
+    let (pipeline, events) = text.split_once("\n").unwrap_or((text, ""));
+    push_first(alloc, lines, player, pipeline)?;
+    for line in events.lines() {
+        push_played(alloc, lines, player, line)?;
+    }
+    Ok(())
+}
+
+fn lines_of(alloc: Global, player: &mut Player, text: &str) -> Result<String, AllocError> {
+    let mut lines = String::new(alloc);
+    push_each(alloc, &mut lines, player, text)?;
+    Ok(lines)
+}
+
+/// The answers of a new core. The proof is dear where a function that can drop a core also loops or returns early behind that,
+/// so this one doesn't.
+fn played(alloc: Global, text: &str, budget: u32) -> Result<String, AllocError>
+    requires least { 1 ≤ budget }
+    requires most { budget ≤ 1000000 }
+{
+    let mut player = Player::new(alloc, budget)?;
+    lines_of(alloc, &mut player, text)
+}
+
 /// What each event of a text is answered, a line each, by a core whose searches take at most so many nodes. The first line
 /// is the pipeline, each other one a line that `ccr_events` plays.
 pub(crate) fn answer_events(alloc: Global, text: &[u8], budget: u32) -> Result<Answer, AllocError>
@@ -26,13 +68,6 @@ pub(crate) fn answer_events(alloc: Global, text: &[u8], budget: u32) -> Result<A
     let Ok(text) = std::str::from_utf8(text) else {
         return refused_as(alloc, "not text");
     };
-    let (pipeline, events) = text.split_once("\n").unwrap_or((text, ""));
-    let mut player = Player::new(alloc, budget)?;
-    let mut lines = String::new(alloc);
-    let first = format!(in alloc; "pipeline {pipeline}")?;
-    push_played(alloc, &mut lines, &mut player, first.as_str())?;
-    for line in events.lines() {
-        push_played(alloc, &mut lines, &mut player, line)?;
-    }
+    let lines = played(alloc, text, budget)?;
     Ok(Answer { lines, status: 0 })
 }
