@@ -1,6 +1,5 @@
 -- What came of an order, from what its parts say.
-use Rattle.std.proofs.Common.{◌≡◌, ◌∙◌, inl, ℕ, List, [], Result, Ok, Err, ap, sym, subst, string_bytes}
-use Rattle.std.specs.Prelude.{IsErrAnd}
+use Rattle.std.proofs.Common.{◌≡◌, ◌∙◌, inl, ℕ, List, [], Result, ap, subst, string_bytes}
 use Rattle.ccr_history.specs.Text.{Text}
 use Rattle.ccr_history.specs.History.{HistoryData}
 use Rattle.ccr_process.specs.Runs.{Pair}
@@ -15,23 +14,12 @@ use Rattle.ccr_serve.specs.Commanding.{CameOf}
 use Rattle.ccr_serve.specs.Commands.{command_data}
 use Rattle.ccr_serve.specs.Views.{view_of, IsReady}
 use Rattle.ccr_run.specs.declared.failure.Failure.{Failure}
-use Rattle.ccr_run.specs.declared.failure.Failure.TheVariants.{Refused}
 use Rattle.ccr_run.specs.declared.order.Order.{Order}
 use Rattle.ccr_run.specs.declared.run.Outcome.{Outcome}
 use Rattle.ccr_run.specs.Obeyed.{Obeyed}
 use Rattle.ccr_run.specs.Orders.{IsOrdered}
 use Rattle.ccr_run.specs.Served.{Served, handed_on, places_in}
 use Rattle.ccr_run.specs.Statuses.{exit_status_of}
-
--- a status is handed on
-pub ok_handed : (a : Result ℕ ServeFault) (status : ℕ) → a ≡ Ok status → Ok status ≡ handed_on a
-ok_handed a status is = ap (λ r. handed_on r) (sym is)
-
--- a fault is handed on
-pub err_handed : (r : Result ℕ Failure) (a : Result ℕ ServeFault) (fault : ServeFault) → a ≡ Err fault
-    → IsErrAnd r (λ failure. failure ≡ Refused fault) → r ≡ handed_on a
-err_handed (Ok status) a fault is h = absurd h
-err_handed (Err failure) a fault is h = ap (λ f. Err f) h ∙ ap (λ r. handed_on r) (sym is)
 
 abbrev folders : Text → Text → PlacesData
 folders types work = record { types = types; work = work }

@@ -1,11 +1,11 @@
 //! A command is done.
-ghost use Rattle.std.specs.Prelude.{◌≡◌, ◌≤◌, ◌++◌, [], false, not, IfOk, string_bytes};
+ghost use Rattle.std.specs.Prelude.{◌≡◌, ◌≤◌, ◌++◌, ℕ, [], Result, false, not, IfOk, string_bytes};
 ghost use Rattle.ccr_proof.specs.declared.proof.TheConstants.{MOST_NODES};
 ghost use Rattle.ccr_task.specs.Places.{places_data};
 ghost use Rattle.ccr_serve.specs.Commanding.{CameOf};
 ghost use Rattle.ccr_serve.specs.Commands.{command_data};
 ghost use Rattle.ccr_serve.specs.Views.{view_of, IsReady};
-ghost use Rattle.ccr_run.specs.Served.{Served};
+ghost use Rattle.ccr_run.specs.Served.{Served, handed_on};
 
 use crate::database::{Database, open};
 use crate::failure::Failure;
@@ -45,17 +45,18 @@ fn command<R: Runner, S: Shelf, T: Storage, W: Write>(
     server: &mut Server<R, S, T>,
     command: &Command,
     out: &mut Printed<W>,
-) -> Result<u8, ServeFault>
+) -> Result<u8, Failure>
     requires ready { let view = view_of R.pairs S.failures T.holds T.knows T.tally in
         IsReady (view server.old (out.old.shown ++ out.old.waiting)) }
     ensures came { let view = view_of R.pairs S.failures T.holds T.knows T.tally in
-        CameOf (places_data server.old.places) (command_data command.now) result
+        (answer : Result ℕ ServeFault) × (result ≡ handed_on answer)
+        × CameOf (places_data server.old.places) (command_data command.now) answer
         (view server.old (out.old.shown ++ out.old.waiting)) (view server.new (out.new.shown ++ out.new.waiting)) }
     ensures printed { out.new.failed ≡ false → out.new.waiting ≡ [] }
 {
     let end = server.command(command, out);
     out.hand_out();
-    end
+    Ok(end?)
 }
 
 /// Opens the database, and has a server over it do the command.
@@ -82,7 +83,7 @@ fn serve<'a, W: Write>(
     let folders = Folders::new(rt, alloc);
     let budget = order.options.budget;
     let mut server = Server::open(alloc, machine, folders, database, history, places, budget)?;
-    Ok(command(&mut server, &order.command, out)?)
+    command(&mut server, &order.command, out)
 }
 
 /// Does what is ordered. The lines go out as they come.

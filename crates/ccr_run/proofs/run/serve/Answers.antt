@@ -1,9 +1,9 @@
-use Rattle.std.proofs.Common.{◌∙◌, ◌++◌, Ok}
+use Rattle.std.proofs.Common.{◌∙◌, ◌++◌}
 use Rattle.sqlite.specs.Files.{over_files}
 use Rattle.ccr_process.specs.Runs.{machine_pairs}
 use Rattle.ccr_task.specs.Shelves.{folders_failures}
 use Rattle.ccr_run.specs.Databases.{holds, knows, tally}
-use Rattle.ccr_run.proofs.Serving.{did, err_handed, ok_handed, same_places}
+use Rattle.ccr_run.proofs.Serving.{did, same_places}
 use Rattle.ccr_run.proofs.run.serve.Goals as goal
 
 pub command-requires : goal.command-requires
@@ -13,27 +13,14 @@ command-requires g c =
       ready = record { is_open = ready.is_open; unfailed = ready.unfailed; holds = ready.holds; knows = ready.knows };
     }
 
-pub returns-in_err-command-clause-served : goal.returns-in_err-command-clause-served
-returns-in_err-command-clause-served g c =
-    did machine_pairs folders_failures (holds over_files) knows tally c.args.order.now c.in-Ok.places c.in_ok-database.history c.in_ok-server.server
-    c.command.new.server
-    c.command.result c.from_residual-in_err-command.result (c.args.out.now.shown ++ c.args.out.now.waiting)
-    (c.command.new.out.shown ++ c.command.new.out.waiting) c.in_ok-server.ensures.places
-    (same_places c.args.order.now c.in-Ok.places c.in-Ok.ensures.types c.in-Ok.ensures.work)
-    c.in_ok-server.ensures.ready c.in_ok-server.ensures.resumed c.in_ok-server.ensures.nobody
-    (c.in_ok-server.ensures.pairs ∙ c.new-machine.ensures) (c.in_ok-server.ensures.failures ∙ c.new-folders.ensures)
-    c.command.ensures.came
-    (err_handed c.from_residual-in_err-command.result c.command.result c.in_err-command.field-0.0 c.in_err-command.was
-    c.from_residual-in_err-command.ensures.1)
-
 pub returns-clause-served : goal.returns-clause-served
 returns-clause-served g c =
+    let came = c.command.ensures.came in
     did machine_pairs folders_failures (holds over_files) knows tally c.args.order.now c.in-Ok.places c.in_ok-database.history c.in_ok-server.server
     c.command.new.server
-    c.command.result (Ok c.in_ok-command.field-0) (c.args.out.now.shown ++ c.args.out.now.waiting)
+    came.0 c.command.result (c.args.out.now.shown ++ c.args.out.now.waiting)
     (c.command.new.out.shown ++ c.command.new.out.waiting) c.in_ok-server.ensures.places
     (same_places c.args.order.now c.in-Ok.places c.in-Ok.ensures.types c.in-Ok.ensures.work)
     c.in_ok-server.ensures.ready c.in_ok-server.ensures.resumed c.in_ok-server.ensures.nobody
     (c.in_ok-server.ensures.pairs ∙ c.new-machine.ensures) (c.in_ok-server.ensures.failures ∙ c.new-folders.ensures)
-    c.command.ensures.came
-    (ok_handed c.command.result c.in_ok-command.field-0 c.in_ok-command.was)
+    came.2 came.1
