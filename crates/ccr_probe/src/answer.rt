@@ -58,7 +58,8 @@ pub(crate) fn answer_task(alloc: Global, text: &[u8]) -> Result<Answer, AllocErr
     }
 }
 
-fn bad_problem(alloc: Global, fault: ProblemFault) -> Result<Answer, AllocError> {
+/// The line that tells why a problem is refused.
+pub(crate) fn bad_problem(alloc: Global, fault: ProblemFault) -> Result<Answer, AllocError> {
     if let ProblemFault::NoMemory = fault {
         return Err(AllocError);
     }

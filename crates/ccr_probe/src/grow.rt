@@ -8,9 +8,9 @@
 ghost use Rattle.std.specs.Prelude.{◌<◌};
 
 use crate::answer::Answer;
+use crate::times::{Times, ask, no_times, told};
 use ccr_choice::read_problem;
 use ccr_index::{Index, build_index};
-use ccr_resolve::{Answer as Resolved, Chosen, choose, resolve_indexed};
 use std::alloc::{AllocError, Global};
 use std::io;
 use std::time::Instant;
@@ -164,50 +164,6 @@ impl World {
     }
 }
 
-/// How often a call was made, and how long it took in all.
-#[derive(Clone, Copy)]
-struct Time {
-    calls: u64,
-    nanos: u128,
-}
-
-impl Time {
-    fn add(&mut self, nanos: u128) {
-        self.calls = self.calls.saturating_add(1);
-        self.nanos = self.nanos.saturating_add(nanos);
-    }
-
-    fn mean(&self) -> u128 {
-        if self.calls == 0 {
-            return 0;
-        }
-        self.nanos / u128::from(self.calls)
-    }
-}
-
-/// What is measured.
-#[derive(Drop)]
-struct Times {
-    version: Time,
-    build: Time,
-    choice: Time,
-    proof: Time,
-    choices_over: u32,
-    proofs_over: u32,
-}
-
-fn no_times() -> Times {
-    let none = Time { calls: 0, nanos: 0 };
-    Times {
-        version: none,
-        build: none,
-        choice: none,
-        proof: none,
-        choices_over: 0,
-        proofs_over: 0,
-    }
-}
-
 /// Adds an event to the index, where it may be added.
 fn apply(index: &mut Index, event: &Event) -> Result<(), AllocError> {
     match event {
@@ -242,46 +198,6 @@ fn measure(
     Ok(())
 }
 
-/// The lines that tell the times of what was measured.
-fn told(alloc: Global, what: &str, times: &Times) -> Result<String, AllocError> {
-    let mut lines = format!(in alloc; "{what}:\n")?;
-    for (name, time) in [
-        ("add_version", times.version),
-        ("add_build", times.build),
-        ("choose", times.choice),
-        ("resolve", times.proof),
-    ] {
-        let (calls, nanos) = (time.calls, time.mean());
-        if calls == 0 {
-            continue;
-        }
-        write!(lines, "{name} {calls} times, {nanos} nanoseconds each\n")?;
-    }
-    let (choices, proofs) = (times.choices_over, times.proofs_over);
-    write!(
-        lines,
-        "over budget {BUDGET}: choose {choices} times, resolve {proofs} times\n"
-    )?;
-    Ok(lines)
-}
-
-/// Asks for the choice and for the proof, each of them timed.
-fn ask(rt: &HostRuntime, index: &Index, times: &mut Times) -> io::Result<()> {
-    let start = Instant::now(rt)?;
-    let chosen = choose(rt.alloc(), index, BUDGET)?;
-    times.choice.add(start.elapsed(rt)?.as_nanos());
-    if let Chosen::OverBudget(_) = chosen {
-        times.choices_over = times.choices_over.saturating_add(1);
-    }
-    let start = Instant::now(rt)?;
-    let resolved = resolve_indexed(rt.alloc(), index, BUDGET)?;
-    times.proof.add(start.elapsed(rt)?.as_nanos());
-    if let Resolved::OverBudget(_) = resolved {
-        times.proofs_over = times.proofs_over.saturating_add(1);
-    }
-    Ok(())
-}
-
 /// Grows the index until each job has so many successful builds, and measures the events that come next.
 fn grown(rt: &HostRuntime, index: &mut Index, world: &mut World, builds: u32) -> io::Result<Times> {
     let mut times = no_times();
@@ -297,7 +213,7 @@ fn grown(rt: &HostRuntime, index: &mut Index, world: &mut World, builds: u32) ->
             };
             if is_measured {
                 measure(rt, index, &event, &mut times)?;
-                ask(rt, index, &mut times)?;
+                ask(rt, index, BUDGET, &mut times)?;
                 measured = measured.saturating_add(1);
             } else {
                 apply(index, &event)?;
@@ -317,7 +233,7 @@ fn lines_of(rt: &HostRuntime, alloc: Global, builds: u32) -> io::Result<String> 
     let mut world = World::new();
     let times = grown(rt, &mut index, &mut world, builds)?;
     let what = format!(in alloc; "{builds} builds of each job, the next {MEASURED} events")?;
-    let mut lines = told(alloc, what.as_str(), &times)?;
+    let mut lines = told(alloc, what.as_str(), BUDGET, &times)?;
     for job in 0..JOBS {
         if let Some(event) = world.newest_build(job) {
             apply(&mut index, &event)?;
@@ -325,9 +241,9 @@ fn lines_of(rt: &HostRuntime, alloc: Global, builds: u32) -> io::Result<String> 
     }
     let mut times = no_times();
     for _ in 0..MEASURED {
-        ask(rt, &index, &mut times)?;
+        ask(rt, &index, BUDGET, &mut times)?;
     }
-    lines.push_str(told(alloc, "once the newest builds agree", &times)?.as_str())?;
+    lines.push_str(told(alloc, "once the newest builds agree", BUDGET, &times)?.as_str())?;
     Ok(lines)
 }
 

@@ -2,7 +2,8 @@
 //!
 //! `ccr_probe pipeline` reads a pipeline, `ccr_probe task` a task file; `ccr_probe resolve BUDGET` reads a problem and prints the
 //! proof of its best choice, or that none satisfies, of at most BUDGET nodes; `ccr_probe choose BUDGET` prints the line of the same
-//! claim alone, and BUDGET is of the boxes looked at. `ccr_probe launch` starts `sh -c true`.
+//! claim alone, and BUDGET is of the boxes looked at; `ccr_probe times BUDGET` reads a problem and prints how long the calls of the
+//! index and the resolver take on it. `ccr_probe launch` starts `sh -c true`.
 //! `ccr_probe launches COUNT` starts so many programs by one runner, each of which writes 64 KiB.
 //! `ccr_probe type PROGRAMS FOLDER` reads `{"source":..,"params":..}` and tries a resource type: it starts PROGRAMS/check,
 //! PROGRAMS/in for the last version and PROGRAMS/out in FOLDER, with FOLDER/in as the artifact's folder, and prints each version.
@@ -24,6 +25,7 @@ mod events;
 mod grow;
 mod programs;
 mod steps;
+mod times;
 mod versions;
 
 use answer::{Answer, OVER_BUDGET, answer_choose, answer_pipeline, answer_resolve, answer_task};
@@ -36,6 +38,7 @@ use std::process::ExitCode;
 use std::time::Instant;
 use std::{env, io};
 use steps::{Playing, answer_steps};
+use times::answer_times;
 use versions::answer_versions;
 
 /// A node budget, from 1 to 1,000,000.
@@ -53,6 +56,7 @@ enum Call<'a> {
     Task,
     Resolve(Budget),
     Choose(Budget),
+    Times(Budget),
     Events(Budget),
     Launch,
     Launches(u32),
@@ -96,6 +100,7 @@ fn counted_call<'a>(word: &str, words: &'a [String]) -> Option<(Call<'a>, &'a [S
         "grow" => Call::Grow(number),
         "resolve" => Call::Resolve(budget_of(number)?),
         "choose" => Call::Choose(budget_of(number)?),
+        "times" => Call::Times(budget_of(number)?),
         "events" => Call::Events(budget_of(number)?),
         _ => return None,
     };
@@ -140,6 +145,7 @@ fn answer_of(rt: &HostRuntime, call: Call, text: &[u8]) -> Result<Answer, AllocE
         Call::Task => answer_task(alloc, text),
         Call::Resolve(budget) => answer_resolve(alloc, text, budget.nodes),
         Call::Choose(budget) => answer_choose(alloc, text, budget.nodes),
+        Call::Times(budget) => answer_times(rt, alloc, text, budget.nodes),
         Call::Events(budget) => answer_events(alloc, text, budget.nodes),
         Call::Launch => answer_launch(rt, alloc),
         Call::Launches(count) => answer_launches(rt, alloc, count),
@@ -182,7 +188,7 @@ fn main(rt: HostRuntime) -> io::Result<ExitCode> {
     };
     let Some(order) = order_of(&words) else {
         eprintln!(rt;
-            "usage: ccr_probe pipeline|task|resolve BUDGET|choose BUDGET|events BUDGET|launch|launches COUNT|type PROGRAMS FOLDER|steps JOB|builds JOB COUNT|versions N|grow BUILDS [--repeat N]"
+            "usage: ccr_probe pipeline|task|resolve BUDGET|choose BUDGET|times BUDGET|events BUDGET|launch|launches COUNT|type PROGRAMS FOLDER|steps JOB|builds JOB COUNT|versions N|grow BUILDS [--repeat N]"
         )?;
         return Ok(ExitCode::from(2));
     };
