@@ -8,7 +8,7 @@ use thiserror::Error;
 
 /// Why a line isn't played.
 #[derive(Debug, Drop, Error)]
-pub(crate) enum LineFault {
+pub enum LineFault {
     /// No line begins so.
     #[error("no such line")]
     NoSuchLine,
@@ -18,6 +18,12 @@ pub(crate) enum LineFault {
     /// The text isn't a version, or isn't a list of versions where there is to be one.
     #[error("not a version")]
     NotAVersion,
+    /// The word isn't a pair of a scope and a place.
+    #[error("not a pair")]
+    NotAPair,
+    /// No build ends with a status of this name.
+    #[error("not a status")]
+    NotAStatus,
     /// The text isn't a pin.
     #[error("not a pin")]
     NotAPin,

@@ -2,21 +2,11 @@
 
 use crate::ask::ask_value;
 use crate::json::{put, put_text, value_of, version_of};
+use crate::words::status_name;
 use ccr_core::Core;
 use ccr_history::{BuildRef, History, Scope, Status, Version};
 use serde_json::{Map, Value};
 use std::alloc::{AllocError, Global};
-
-/// The name of a status.
-fn status_name(status: Status) -> &'static str {
-    match status {
-        Status::Running => "running",
-        Status::Succeeded => "succeeded",
-        Status::Failed => "failed",
-        Status::Errored => "errored",
-        Status::Aborted => "aborted",
-    }
-}
 
 fn used_of(alloc: Global, build: &BuildRef<'_>) -> Result<Value, AllocError> {
     let mut items = Vec::new(alloc);

@@ -1,7 +1,9 @@
 //! What the words of a line stand for.
+ghost use Rattle.std.specs.Prelude.{◌≢◌, IfOk};
+ghost use Rattle.ccr_history.specs.declared.build.Status.TheVariants.{Running};
 
 use crate::fault::LineFault;
-use ccr_history::{HistoryFault, Pin, Version};
+use ccr_history::{HistoryFault, Pin, Status, Used, Version};
 use serde_json::Value;
 use std::alloc::{AllocError, Global};
 
@@ -10,8 +12,8 @@ pub(crate) fn split(text: &str) -> (&str, &str) {
     text.split_once(" ").unwrap_or((text, ""))
 }
 
-/// The number that a word spells.
-pub(crate) fn number_of(word: &str) -> Result<u32, LineFault> {
+/// The whole number that a word spells.
+pub fn number_of(word: &str) -> Result<u32, LineFault> {
     word.parse::<u32>().ok().ok_or(LineFault::NotANumber)
 }
 
@@ -38,7 +40,7 @@ fn version_in(alloc: Global, value: &Value) -> Result<Version, LineFault> {
 }
 
 /// The version of a JSON text.
-pub(crate) fn version_of(alloc: Global, text: &str) -> Result<Version, LineFault> {
+pub fn version_of(alloc: Global, text: &str) -> Result<Version, LineFault> {
     match value_of(alloc, text)? {
         Some(value) => version_in(alloc, &value),
         None => Err(LineFault::NotAVersion),
@@ -51,7 +53,7 @@ fn add(versions: &mut Vec<Version>, version: Version) -> Result<(), AllocError> 
 }
 
 /// The versions of a JSON list.
-pub(crate) fn versions_of(alloc: Global, text: &str) -> Result<Vec<Version>, LineFault> {
+pub fn versions_of(alloc: Global, text: &str) -> Result<Vec<Version>, LineFault> {
     let Some(value) = value_of(alloc, text)? else {
         return Err(LineFault::NotAVersion);
     };
@@ -63,7 +65,7 @@ pub(crate) fn versions_of(alloc: Global, text: &str) -> Result<Vec<Version>, Lin
 }
 
 /// The versions `{"n":"1"}` to `{"n":"COUNT"}`.
-pub(crate) fn numbered(alloc: Global, count: u32) -> Result<Vec<Version>, LineFault> {
+pub fn numbered(alloc: Global, count: u32) -> Result<Vec<Version>, LineFault> {
     let mut versions = Vec::new(alloc);
     for before in 0..count {
         let number = u64::from(before) + 1;
@@ -74,7 +76,7 @@ pub(crate) fn numbered(alloc: Global, count: u32) -> Result<Vec<Version>, LineFa
 }
 
 /// The pin of a JSON text.
-pub(crate) fn pin_of(alloc: Global, text: &str) -> Result<Pin, LineFault> {
+pub fn pin_of(alloc: Global, text: &str) -> Result<Pin, LineFault> {
     let Some(value) = value_of(alloc, text)? else {
         return Err(LineFault::NotAPin);
     };
@@ -82,5 +84,46 @@ pub(crate) fn pin_of(alloc: Global, text: &str) -> Result<Pin, LineFault> {
         Ok(pin) => Ok(pin),
         Err(HistoryFault::NoMemory) => Err(LineFault::NoMemory),
         Err(_) => Err(LineFault::NotAPin),
+    }
+}
+
+/// The pair that `SCOPE.PLACE` spells.
+pub fn pair_of(word: &str) -> Result<(u32, u32), LineFault> {
+    let (scope, place) = word.split_once(".").ok_or(LineFault::NotAPair)?;
+    Ok((number_of(scope)?, number_of(place)?))
+}
+
+/// The used place that `INPUT=SCOPE.PLACE` spells.
+pub fn used_of(alloc: Global, word: &str) -> Result<Used, LineFault> {
+    let (input, pair) = word.split_once("=").ok_or(LineFault::NotAPair)?;
+    let (scope, place) = pair_of(pair)?;
+    Ok(Used {
+        input: String::from_str(alloc, input)?,
+        scope,
+        place,
+    })
+}
+
+/// The status of this name, with which a build can end.
+pub fn status_of(word: &str) -> Result<Status, LineFault>
+    ensures { IfOk result (λ status. status ≢ Running) }
+{
+    match word {
+        "succeeded" => Ok(Status::Succeeded),
+        "failed" => Ok(Status::Failed),
+        "errored" => Ok(Status::Errored),
+        "aborted" => Ok(Status::Aborted),
+        _ => Err(LineFault::NotAStatus),
+    }
+}
+
+/// The name of a status.
+pub fn status_name(status: Status) -> &'static str {
+    match status {
+        Status::Running => "running",
+        Status::Succeeded => "succeeded",
+        Status::Failed => "failed",
+        Status::Errored => "errored",
+        Status::Aborted => "aborted",
     }
 }

@@ -1,7 +1,7 @@
 //! Large histories, for benchmarks.
 
-use crate::words::version_of;
 use anyhow::{Result, bail};
+use ccr_events::version_of;
 use ccr_history::{History, Scope, Status, Used};
 use std::alloc::Global;
 

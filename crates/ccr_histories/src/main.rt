@@ -18,8 +18,6 @@
 
 mod grow;
 mod play;
-mod show;
-mod words;
 
 use play::Play;
 use std::alloc::{AllocError, Global};

@@ -1,18 +1,18 @@
 //! A history that is played, with its pipeline.
 
 use crate::grow::{extend, grow, one_more};
-use crate::show::history_text;
-use crate::words::{number_of, numbered, pair_of, status_of, used_of, version_of, versions_of};
 use anyhow::{Result, anyhow, bail};
 use ccr_choice::write_problem;
-use ccr_events::Player;
-use ccr_history::{History, HistoryFault, Pin, Scope, Status, Version};
+use ccr_events::{
+    Player, history_text, number_of, numbered, pair_of, pin_of, status_of, used_of, version_of,
+    versions_of,
+};
+use ccr_history::{History, HistoryFault, Scope, Status, Version};
 use ccr_index::build_index;
 use ccr_pipeline::{Pipeline, read};
 use ccr_problem::{problem_of, scope_of};
 use ccr_proof::write_proof;
 use ccr_resolve::{Answer, resolve};
-use serde_json::Value;
 use std::alloc::{AllocError, Global};
 
 /// The history, and the pipeline that was set last; the core that was begun last, if one was.
@@ -90,7 +90,7 @@ impl Play {
             "resolve" => self.resolved(alloc, first, rest),
             "grow" | "more" | "extend" => self.grown(alloc, kind, first, rest),
             "copy" => self.copied(alloc),
-            "history" => history_text(alloc, &self.history),
+            "history" => Ok(history_text(alloc, &self.history)?),
             "core" => self.began(alloc, given),
             "event" => self.event(alloc, given),
             _ => bail!("no line begins with {kind}"),
@@ -261,8 +261,7 @@ impl Play {
     }
 
     fn pinned(&mut self, alloc: Global, name: &str, text: &str) -> Result<String> {
-        let value = Value::from_str(alloc, text)?;
-        let pin = Pin::from_value(alloc, &value)?;
+        let pin = pin_of(alloc, text)?;
         self.history.set_pin(alloc, name, pin)?;
         Ok(String::from_str(alloc, "pinned")?)
     }

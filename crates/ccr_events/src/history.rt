@@ -1,11 +1,10 @@
 //! A history as text.
 
-use crate::words::name_of;
-use anyhow::Result;
+use crate::words::status_name;
 use ccr_history::{BuildRef, History, Version};
-use std::alloc::Global;
+use std::alloc::{AllocError, Global};
 
-fn push_versions(alloc: Global, text: &mut String, versions: &[Version]) -> Result<()> {
+fn push_versions(alloc: Global, text: &mut String, versions: &[Version]) -> Result<(), AllocError> {
     for (i, version) in versions.iter().enumerate() {
         let place = i.saturating_add(1);
         let key = version.key(alloc)?;
@@ -15,7 +14,7 @@ fn push_versions(alloc: Global, text: &mut String, versions: &[Version]) -> Resu
     Ok(())
 }
 
-fn push_tables(alloc: Global, text: &mut String, history: &History) -> Result<()> {
+fn push_tables(alloc: Global, text: &mut String, history: &History) -> Result<(), AllocError> {
     for i in 0..history.scope_count() {
         let number = i.saturating_add(1);
         let Some(scope) = history.scope_at(number) else {
@@ -30,10 +29,10 @@ fn push_tables(alloc: Global, text: &mut String, history: &History) -> Result<()
     Ok(())
 }
 
-fn push_build(text: &mut String, build: &BuildRef<'_>) -> Result<()> {
+fn push_build(text: &mut String, build: &BuildRef<'_>) -> Result<(), AllocError> {
     let job = build.job();
     let number = build.number();
-    let status = name_of(build.status());
+    let status = status_name(build.status());
     write!(text, "{job} {number} {status}: used")?;
     for k in 0..build.used_count() {
         if let Some((input, scope, place)) = build.used(k) {
@@ -49,7 +48,7 @@ fn push_build(text: &mut String, build: &BuildRef<'_>) -> Result<()> {
     Ok(())
 }
 
-fn push_pins(alloc: Global, text: &mut String, history: &History) -> Result<()> {
+fn push_pins(alloc: Global, text: &mut String, history: &History) -> Result<(), AllocError> {
     for (resource, pin) in history.pins().as_map().iter() {
         let resource = resource.as_str();
         let pin = pin.text(alloc)?;
@@ -60,7 +59,7 @@ fn push_pins(alloc: Global, text: &mut String, history: &History) -> Result<()> 
 }
 
 /// The scopes with their versions, the builds, the pins and the length of the pipeline's text.
-pub(crate) fn history_text(alloc: Global, history: &History) -> Result<String> {
+pub fn history_text(alloc: Global, history: &History) -> Result<String, AllocError> {
     let mut text = String::new(alloc);
     push_tables(alloc, &mut text, history)?;
     for i in 0..history.build_count() {
