@@ -105,18 +105,31 @@ fn agrees(answer: &Answer, places: &Option<Vec<u32>>) -> bool {
     }
 }
 
+/// What the resolver answers to a problem.
+fn answer_to(alloc: Global, problem: &Problem) -> Result<Answer, Fail> {
+    let index = build_index(alloc, problem)?;
+    Ok(resolve(alloc, problem, &index, 1000)?)
+}
+
+/// Whether the resolver and brute force agree on a problem, and whether a choice satisfies.
+fn compared(alloc: Global, text: &str) -> Result<(bool, bool), Fail> {
+    let problem = read_problem(alloc, text.as_bytes())?;
+    let places = latest(alloc, &problem)?;
+    Ok((
+        agrees(&answer_to(alloc, &problem)?, &places),
+        places.is_some(),
+    ))
+}
+
 #[test]
 fn the_resolver_finds_what_brute_force_finds(rt: HostRuntime) -> Result<(), Fail> {
     let mut seeded = Seeded(20_261_122);
     let mut found = 0u32;
     for round in 0..120u32 {
         let text = some_problem(rt.alloc(), &mut seeded)?;
-        let problem = read_problem(rt.alloc(), text.as_bytes())?;
-        let places = latest(rt.alloc(), &problem)?;
-        let index = build_index(rt.alloc(), &problem)?;
-        let answer = resolve(rt.alloc(), &problem, &index, 1000)?;
-        assert!(rt; agrees(&answer, &places), "{round}: {text}");
-        found = found.saturating_add(u32::from(places.is_some()));
+        let (agrees, satisfied) = compared(rt.alloc(), text.as_str())?;
+        assert!(rt; agrees, "{round}: {text}");
+        found = found.saturating_add(u32::from(satisfied));
     }
     assert!(rt; 20 < found && found < 100, "both answers are met: {found}");
     Ok(())

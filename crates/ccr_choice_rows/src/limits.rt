@@ -1,7 +1,7 @@
 //! Texts at the limits of their formats, and one step beyond.
 
 use ccr_check::judge;
-use ccr_choice::{read_problem, write_problem};
+use ccr_choice::{Problem, read_problem, write_problem};
 use ccr_proof::{ClaimFault, read_claim, write_claim};
 use std::alloc::{AllocError, Global};
 use std::test::Fail;
@@ -20,14 +20,23 @@ fn claim_of(alloc: Global, count: u32) -> Result<String, AllocError> {
     Ok(text)
 }
 
+/// Whether a claim of so many numbers in each list is read, and written back.
+fn goes_round(alloc: Global, count: u32) -> Result<bool, Fail> {
+    let text = claim_of(alloc, count)?;
+    let claim = read_claim(alloc, text.as_bytes())?;
+    Ok(write_claim(alloc, &claim)?.as_str() == text.as_str())
+}
+
+/// Whether a claim of so many numbers in each list is refused.
+fn is_refused(alloc: Global, count: u32) -> Result<bool, AllocError> {
+    let text = claim_of(alloc, count)?;
+    Ok(read_claim(alloc, text.as_bytes()).err() == Some(ClaimFault::BadLine(1)))
+}
+
 #[test]
 fn a_list_of_a_claim_has_at_most_32_numbers(rt: HostRuntime) -> Result<(), Fail> {
-    let most = claim_of(rt.alloc(), 32)?;
-    let claim = read_claim(rt.alloc(), most.as_bytes())?;
-    assert_eq!(rt; write_claim(rt.alloc(), &claim)?.as_str(), most.as_str());
-    let more = claim_of(rt.alloc(), 33)?;
-    let fault = read_claim(rt.alloc(), more.as_bytes()).err();
-    assert_eq!(rt; fault, Some(ClaimFault::BadLine(1)));
+    assert!(rt; goes_round(rt.alloc(), 32)?);
+    assert!(rt; is_refused(rt.alloc(), 33)?);
     Ok(())
 }
 
@@ -49,43 +58,77 @@ fn large_problem(alloc: Global) -> Result<String, AllocError> {
     Ok(text)
 }
 
+/// Whether the problem has 32 jobs, of which the first has one build of 100,000 pairs.
+fn is_large(problem: &Problem) -> bool {
+    match problem.jobs() {
+        [first, ..] => match first.builds() {
+            [build] => build.pairs().len() == 100_000 && problem.jobs().len() == 32,
+            _ => false,
+        },
+        [] => false,
+    }
+}
+
+/// Whether the large problem is read, and written back.
+fn is_read(alloc: Global) -> Result<bool, Fail> {
+    let text = large_problem(alloc)?;
+    let problem = read_problem(alloc, text.as_bytes())?;
+    Ok(is_large(&problem) && write_problem(alloc, &problem)?.as_str() == text.as_str())
+}
+
 #[test]
 fn a_problem_has_at_most_32_jobs_and_100_000_places_of_a_scope(
     rt: HostRuntime,
 ) -> Result<(), Fail> {
-    let most = large_problem(rt.alloc())?;
-    let problem = read_problem(rt.alloc(), most.as_bytes())?;
-    assert_eq!(rt; problem.jobs().len(), 32);
-    assert_eq!(rt; problem.builds(0).len(), 1);
-    assert_eq!(rt; problem.builds(0)[0].pairs().len(), 100_000);
-    let again = write_problem(rt.alloc(), &problem)?;
-    assert!(rt; again.as_str() == most.as_str());
+    assert!(rt; is_read(rt.alloc())?);
     Ok(())
+}
+
+/// A problem of one input and one job without builds, and a proof of a node and so many others.
+fn tree_of(alloc: Global, root: &str, node: &str, count: u32) -> Result<String, AllocError> {
+    let mut text = String::from_str(
+        alloc,
+        "problem 1\ninputs 1\n0 jobs 0 places 1\njobs 1\nbuilds 0\nproof 1\nnone\n",
+    )?;
+    text.push_str(root)?;
+    for _ in 0..count {
+        text.push_str(node)?;
+    }
+    Ok(text)
+}
+
+/// Whether this line is told of such a tree, with status 1.
+fn is_told(
+    alloc: Global,
+    root: &str,
+    node: &str,
+    count: u32,
+    line: &str,
+) -> Result<bool, AllocError> {
+    let text = tree_of(alloc, root, node, count)?;
+    let (said, status) = judge(alloc, text.as_bytes())?;
+    Ok(said.as_str() == line && status == 1)
 }
 
 #[test]
 fn a_tree_has_at_most_a_million_nodes_and_32_levels(rt: HostRuntime) -> Result<(), Fail> {
-    let problem = "problem 1\ninputs 1\n0 jobs 0 places 1\njobs 1\nbuilds 0\n";
-    let mut deep = format!(in rt.alloc(); "{problem}proof 1\nnone\n")?;
-    for _ in 0..33u32 {
-        deep.push_str("job 0 1\n")?;
-    }
-    let (said, _) = judge(rt.alloc(), deep.as_bytes())?;
-    assert_eq!(rt; said.as_str(), "refused: proof line 35");
     let cases = [
-        ("job 0 999999\n", "", "refused: node 0: wrong children"),
-        ("job 0 1000000\n", "bounded\n", "refused: too many nodes"),
+        ("", "job 0 1\n", 33, "refused: proof line 35"),
+        (
+            "job 0 999999\n",
+            "bounded\n",
+            999_999,
+            "refused: node 0: wrong children",
+        ),
+        (
+            "job 0 1000000\n",
+            "bounded\n",
+            1_000_000,
+            "refused: too many nodes",
+        ),
     ];
-    let mut leaves = String::new(rt.alloc());
-    for _ in 0..999_999u32 {
-        leaves.push_str("bounded\n")?;
-    }
-    let leaves = leaves.as_str();
-    for (root, more, line) in cases {
-        let text = format!(in rt.alloc(); "{problem}proof 1\nnone\n{root}{leaves}{more}")?;
-        let (said, status) = judge(rt.alloc(), text.as_bytes())?;
-        assert_eq!(rt; said.as_str(), line);
-        assert_eq!(rt; status, 1);
+    for (root, node, count, line) in cases {
+        assert!(rt; is_told(rt.alloc(), root, node, count, line)?, "{line}");
     }
     Ok(())
 }
