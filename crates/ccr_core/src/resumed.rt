@@ -78,6 +78,35 @@ fn cuts_in(alloc: Global, history: &History) -> Result<(Vec<(String, u32)>, Chan
     Ok((names, change))
 }
 
+/// Cuts the builds short that run in a history, and gives the change that this is. Where it is refused, nothing changes.
+fn cut_running(alloc: Global, history: &mut History) -> Result<Change, AllocError>
+    ensures is { IfOk result (λ change. map edit_data change.items ≡ resumed history.old) }
+    ensures change { IfOk result (λ change. Changes (map edit_data change.items) history.old history.new) }
+{
+    let (names, change) = cuts_in(alloc, history)?;
+    history.rules();
+    cut_all(alloc, history, &names);
+    Ok(change)
+}
+
+/// Cuts the builds short that run in a history, and gives the pipeline of its text, with the change.
+fn pipeline_and_change(
+    alloc: Global,
+    history: &mut History,
+) -> Result<(Option<Pipeline>, Change), CoreFault>
+    requires { IfSome history.old.text IsReadable }
+    ensures pipeline { IfOk result (λ r. IsPipelineIn history.old.text (option_map pipeline_data r.0)) }
+    ensures is { IfOk result (λ r. map edit_data r.1.items ≡ resumed history.old) }
+    ensures change { IfOk result (λ r. Changes (map edit_data r.1.items) history.old history.new) }
+    ensures only { IfErr result (λ fault. fault ≡ NoMemory) }
+{
+    let pipeline = pipeline_in(alloc, history)?;
+    match cut_running(alloc, history) {
+        Ok(change) => Ok((pipeline, change)),
+        Err(_) => Err(CoreFault::NoMemory),
+    }
+}
+
 /// The parts of a core that begins with a history, and what changed of the history.
 pub(crate) fn begin(
     alloc: Global,
@@ -93,15 +122,12 @@ pub(crate) fn begin(
     ensures change { IfOk result (λ r. Changes (map edit_data r.1.items) history r.0.history) }
     ensures only { IfErr result (λ fault. fault ≡ NoMemory) }
 {
-    let mut after = history;
-    let pipeline = pipeline_in(alloc, &after)?;
-    match cuts_in(alloc, &after) {
-        Ok((names, change)) => {
-            after.rules();
-            cut_all(alloc, &mut after, &names);
-            after.rules();
+    let mut history = history;
+    match pipeline_and_change(alloc, &mut history) {
+        Ok((pipeline, change)) => {
+            history.rules();
             let parts = Parts {
-                history: after,
+                history,
                 pipeline,
                 budget,
                 names: Vec::new(alloc),
@@ -109,6 +135,6 @@ pub(crate) fn begin(
             };
             Ok((parts, change))
         }
-        Err(_) => Err(CoreFault::NoMemory),
+        Err(fault) => Err(fault),
     }
 }

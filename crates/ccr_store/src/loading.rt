@@ -66,6 +66,23 @@ fn are_seen(alloc: Global, seen: &Seen, history: &History) -> Result<bool, Alloc
     Ok(has_versions && are_meta(&seen.meta, history.text()) && are_scopes(&seen.scopes, history))
 }
 
+/// `NotOurs` where the rows aren't those of the history's text and tables, or no pipeline can be read from its text.
+fn check_seen(alloc: Global, seen: &Seen, history: &History) -> Result<(), StoreFault>
+    ensures rows { OnOk result
+        (ListsSeen history.now seen.now.meta.items seen.now.scopes.items seen.now.versions.items) }
+    ensures readable { OnOk result (IfSome history.now.text IsReadable) }
+    ensures only { IfSome history.now.text IsReadable
+        → ListsSeen history.now seen.now.meta.items seen.now.scopes.items seen.now.versions.items
+        → IfErr result (λ fault. fault ≡ NoMemory) }
+{
+    check_text(alloc, history.text())?;
+    if are_seen(alloc, seen, history)? {
+        Ok(())
+    } else {
+        Err(StoreFault::NotOurs)
+    }
+}
+
 /// What was set and seen of the history that has these rows.
 fn tables_of(alloc: Global, seen: &Seen) -> Result<History, StoreFault>
     ensures rows { IfOk result (λ history.
@@ -76,11 +93,9 @@ fn tables_of(alloc: Global, seen: &Seen) -> Result<History, StoreFault>
         → OrNoMemory (λ history. history ≡ seen_of h) result }
 {
     let history = read_tables(alloc, seen)?;
-    check_text(alloc, history.text())?;
-    if are_seen(alloc, seen, &history)? {
-        Ok(history)
-    } else {
-        Err(StoreFault::NotOurs)
+    match check_seen(alloc, seen, &history) {
+        Ok(()) => Ok(history),
+        Err(fault) => Err(fault),
     }
 }
 
@@ -118,6 +133,25 @@ fn are_built(alloc: Global, built: &Built, history: &History) -> Result<bool, Al
     Ok(has_pins && are_builds(&built.builds, history) && are_pairs(&built.pairs, history))
 }
 
+/// Adds the builds and pins of these rows: `NotOurs` where they aren't those of the history after that.
+fn add_built(alloc: Global, history: &mut History, built: &Built) -> Result<(), StoreFault>
+    ensures rows { OnOk result
+        (ListsBuilt history.new built.now.builds.items built.now.pairs.items built.now.pins.items) }
+    ensures kept { OnOk result (KeepsSeen history.old history.new) }
+    ensures rules { OnOk result (IsHistory history.new) }
+    ensures only { (h : HistoryData) → IsHistory h → HasTexts h → history.old ≡ seen_of h
+        → ListsBuilt h built.now.builds.items built.now.pairs.items built.now.pins.items
+        → IfErr result (λ fault. fault ≡ NoMemory) }
+{
+    read_builds(alloc, history, built)?;
+    history.rules();
+    if are_built(alloc, built, history)? {
+        Ok(())
+    } else {
+        Err(StoreFault::NotOurs)
+    }
+}
+
 /// The history with the builds and pins of these rows.
 fn history_of(alloc: Global, history: History, built: &Built) -> Result<History, StoreFault>
     ensures rows { IfOk result (λ it. ListsBuilt it built.now.builds.items built.now.pairs.items built.now.pins.items) }
@@ -128,12 +162,31 @@ fn history_of(alloc: Global, history: History, built: &Built) -> Result<History,
         → IfErr result (λ fault. fault ≡ NoMemory) }
 {
     let mut history = history;
-    read_builds(alloc, &mut history, built)?;
-    history.rules();
-    if are_built(alloc, built, &history)? {
-        Ok(history)
-    } else {
-        Err(StoreFault::NotOurs)
+    match add_built(alloc, &mut history, built) {
+        Ok(()) => Ok(history),
+        Err(fault) => Err(fault),
+    }
+}
+
+/// Reads what was built and pinned: `NotOurs` where a read is refused, or a row of `pairs` is no history's.
+fn found_in<S: Alter>(alloc: Global, conn: &mut Connection<S>) -> Result<Built, StoreFault>
+    ensures rows { HasCleanDisk (state S.Store conn.new) → IfOk result (λ built. (these : Contents)
+        → Holds these (state S.Store conn.old).now
+        → AreBuilt these built.builds.items built.pairs.items built.pins.items) }
+    ensures only { HasCleanDisk (state S.Store conn.new) → (h : HistoryData) → IsHistory h → HasTexts h
+        → Holds (rows_of h) (state S.Store conn.old).now → IfErr result (λ fault. fault ≢ NotOurs) }
+    ensures same { let old = state S.Store conn.old in
+        let new = state S.Store conn.new in
+        HasCleanDisk new → old.now.schema ≡ our_schema → OnOk result (IsUnchanged old new) }
+    ensures clean { HasCleanDisk (state S.Store conn.new) → HasCleanDisk (state S.Store conn.old) }
+    ensures mode { conn.old.in_transaction ≡ false → conn.new.in_transaction ≡ false }
+{
+    match read_built(alloc, conn) {
+        Ok(found) => match found {
+            Some(built) => Ok(built),
+            None => Err(StoreFault::NotOurs),
+        },
+        Err(error) => Err(read_fault_of(&error)),
     }
 }
 
@@ -157,13 +210,9 @@ fn load_built<S: Alter>(
     ensures clean { HasCleanDisk (state S.Store conn.new) → HasCleanDisk (state S.Store conn.old) }
     ensures mode { conn.old.in_transaction ≡ false → conn.new.in_transaction ≡ false }
 {
-    let found = match read_built(alloc, conn) {
-        Ok(found) => found,
-        Err(error) => return Err(read_fault_of(&error)),
-    };
-    match found {
-        Some(built) => history_of(alloc, history, &built),
-        None => Err(StoreFault::NotOurs),
+    match found_in(alloc, conn) {
+        Ok(built) => history_of(alloc, history, &built),
+        Err(fault) => Err(fault),
     }
 }
 

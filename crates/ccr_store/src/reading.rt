@@ -8,7 +8,7 @@ ghost use Rattle.serde_json.specs.View.{view};
 ghost use Rattle.ccr_history.specs.TextMap.{TextMap, members_of, key_text};
 ghost use Rattle.ccr_history.specs.Tables.{ScopeData, TableData, is_scope, is_table_full};
 ghost use Rattle.ccr_history.specs.Builds.{UsedData, BuildData, new_build, build_of, count_of};
-ghost use Rattle.ccr_history.specs.History.{HistoryData, IsHistory, IsTable, IsBuild, AreTables, AreBuilds, ArePins};
+ghost use Rattle.ccr_history.specs.History.{HistoryData, IsHistory, IsTable, IsBuild, AreTables, AreBuilds, ArePins, no_history};
 ghost use Rattle.ccr_history.specs.Changes.{versions, build, ended, pin_set, text, edited, AreUsed, AreMoved, IsRunning};
 ghost use Rattle.ccr_history.specs.declared.build.Status.{Status as StatusData};
 ghost use Rattle.ccr_history.specs.declared.build.Status.TheVariants.{Running};
@@ -433,6 +433,16 @@ pub(crate) fn check_text(alloc: Global, text: Option<&[u8]>) -> Result<(), Store
     }
 }
 
+/// Sets the text and adds the tables of the history that has these rows, if there is one.
+fn add_seen(alloc: Global, history: &mut History, seen: &Seen) -> Result<(), StoreFault>
+    ensures { history.old ≡ no_history → (h : HistoryData) → IsHistory h → HasTexts h
+        → ListsSeen h seen.now.meta.items seen.now.scopes.items seen.now.versions.items
+        → OrNoMemory (λ _. history.new ≡ seen_of h) result }
+{
+    read_text(history, &seen.meta)?;
+    add_tables(alloc, history, &seen.scopes, &seen.versions)
+}
+
 /// What was set and seen of the history that has these rows, if there is one. Whether it has them is for the caller to see.
 pub(crate) fn read_tables(alloc: Global, seen: &Seen) -> Result<History, StoreFault>
     ensures { (h : HistoryData) → IsHistory h → HasTexts h
@@ -440,9 +450,10 @@ pub(crate) fn read_tables(alloc: Global, seen: &Seen) -> Result<History, StoreFa
         → OrNoMemory (λ history. history ≡ seen_of h) result }
 {
     let mut history = History::new(alloc);
-    read_text(&mut history, &seen.meta)?;
-    add_tables(alloc, &mut history, &seen.scopes, &seen.versions)?;
-    Ok(history)
+    match add_seen(alloc, &mut history, seen) {
+        Ok(()) => Ok(history),
+        Err(fault) => Err(fault),
+    }
 }
 
 /// Adds the builds and pins of the history that has these rows, if there is one. Whether it has them is for the caller to
