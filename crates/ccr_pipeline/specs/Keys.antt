@@ -1,7 +1,7 @@
 -- Keys of JSON objects, and paths.
 use Rattle.std.specs.Prelude.{ℕ, List, [], ◌∷◌, ◌++◌, Option, Some, None, option_and_then, is_some, if◌then◌else◌, decimal}
-use Rattle.serde_json.specs.Data.{Data}
-use Rattle.serde_json.specs.Find.{as_null, get}
+use Rattle.serde_json.specs.Data.{Data, Items, no_items}
+use Rattle.serde_json.specs.Find.{as_null, as_array, get}
 use Rattle.ccr_pipeline.specs.Faults.{Path}
 
 -- the value, unless it is null
@@ -16,6 +16,10 @@ at_key k d = option_and_then unless_null (get k d)
 abbrev pub or_else : {A B : Type 0} → Option A → B → (A → B) → B
 or_else None b f = b
 or_else (Some a) b f = f a
+
+-- the members of the list at a key; there are none where no list is
+abbrev pub list_at : List ℕ → Data → Items
+list_at k d = or_else (at_key k d) no_items (λ found. or_else (as_array found) no_items (λ ds. ds))
 
 -- the path of a key of the object at a path: joined by a point, at the whole pipeline the key alone
 abbrev pub path_below : Path → List ℕ → Path

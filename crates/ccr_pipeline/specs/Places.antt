@@ -8,7 +8,7 @@ use Rattle.ccr_pipeline.specs.declared.place.Part.TheVariants.{Opening, Closing}
 use Rattle.ccr_pipeline.specs.declared.place.Place.{Place}
 use Rattle.ccr_pipeline.specs.declared.place.TheConstants.{LEVELS, MOST_ATTEMPTS, MOST_TRIES}
 use Rattle.ccr_pipeline.specs.Faults.{Path}
-use Rattle.ccr_pipeline.specs.Keys.{at_key, or_else, path_below, path_at}
+use Rattle.ccr_pipeline.specs.Keys.{at_key, or_else, list_at, path_below, path_at}
 use Rattle.ccr_pipeline.specs.Names.{names_at}
 
 -- a visit of a step: its path, how many levels are left, the product of the attempts above it, and its text
@@ -93,3 +93,13 @@ plan_steps p d = steps_in (steps_from LEVELS) 1 p (codes "plan") d
 -- those of its hooks
 abbrev pub job_hooks : Path → Data → List Spot
 job_hooks p d = hook_steps (steps_from LEVELS) 1 p d
+
+-- the steps of jobs from position i on: those of a job's plan, and then those of its hooks
+abbrev pub job_steps : ℕ → Items → List Spot
+job_steps i no_items = []
+job_steps i (item d ds) =
+    (plan_steps (path_at (codes "jobs") i) d ++ job_hooks (path_at (codes "jobs") i) d) ++ job_steps (i + 1) ds
+
+-- the steps of all jobs of a pipeline
+abbrev pub all_steps : Data → List Spot
+all_steps d = job_steps 0 (list_at (codes "jobs") d)

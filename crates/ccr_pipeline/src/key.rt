@@ -1,8 +1,8 @@
 //! Keys of JSON objects, and the paths of what stands at them.
 ghost use Rattle.std.specs.Prelude.{◌≡◌, Option, option_map, string_bytes, IfOk, OnOk};
-ghost use Rattle.serde_json.specs.View.{view};
+ghost use Rattle.serde_json.specs.View.{view, items_view};
 ghost use Rattle.ccr_pipeline.specs.Faults.{unless, Checks, StartsWith, IsFirst, fault_of};
-ghost use Rattle.ccr_pipeline.specs.Keys.{at_key, path_below, path_at};
+ghost use Rattle.ccr_pipeline.specs.Keys.{at_key, or_else, list_at, path_below, path_at};
 
 use crate::fault::{ReadFault, Rule};
 use serde_json::Value;
@@ -15,6 +15,19 @@ pub(crate) fn at_key<'v>(value: &'v Value, key: &str) -> Option<&'v Value>
     match value.get(key) {
         Some(found) if !found.is_null() => Some(found),
         _ => None,
+    }
+}
+
+/// The list at a key, or an empty one.
+pub(crate) fn list_at<'v>(value: &'v Value, key: &str) -> &'v [Value]
+    ensures { items_view result.now ≡ list_at key.now (view value.now) }
+{
+    match at_key(value, key) {
+        Some(found) => match found.as_array() {
+            Some(list) => list,
+            None => &[],
+        },
+        None => &[],
     }
 }
 

@@ -31,6 +31,7 @@ mod pipeline;
 mod place;
 mod reader;
 mod resource;
+mod schema;
 mod step;
 mod task;
 mod unknown;

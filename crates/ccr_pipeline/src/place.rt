@@ -1,11 +1,11 @@
 //! Where the steps of a job stand in its text.
-ghost use Rattle.std.specs.Prelude.{◌≡◌, [], ◌∷◌, ◌++◌, length, drop, OnOk, string_bytes};
+ghost use Rattle.std.specs.Prelude.{◌≡◌, [], ◌∷◌, ◌++◌, length, drop, codes, OnOk, IfOk, string_bytes};
 ghost use Rattle.serde_json.specs.View.{view, items_view};
-ghost use Rattle.ccr_pipeline.specs.Keys.{at_key, or_else, path_below, path_at};
+ghost use Rattle.ccr_pipeline.specs.Keys.{at_key, or_else, list_at, path_below, path_at};
 ghost use Rattle.ccr_pipeline.specs.Places.{spots, spot_of, counted, tries_below, steps_from, steps_in, step_at};
-ghost use Rattle.ccr_pipeline.specs.Places.{own_steps, hook_steps};
+ghost use Rattle.ccr_pipeline.specs.Places.{own_steps, hook_steps, plan_steps, job_hooks, job_steps, all_steps};
 
-use crate::key::{at_key, path_at, path_below};
+use crate::key::{at_key, list_at, path_at, path_below};
 use serde_json::Value;
 use std::alloc::{AllocError, Global};
 
@@ -196,4 +196,22 @@ fn push_steps<'v>(
     push_own(alloc, out, step, path, left - 1, below)?;
     push(alloc, out, Part::Closing, step, path, left, tries)?;
     push_hooks(alloc, out, step, path, left - 1, below)
+}
+
+/// The places of the steps of all jobs of a pipeline, those of a job's plan before those of its hooks.
+#[tactic(auto, using(std::proofs::Common::append_assoc))]
+pub(crate) fn places_of<'v>(
+    alloc: Global,
+    pipeline: &'v Value,
+) -> Result<Vec<Place<'v>>, AllocError>
+    ensures { IfOk result (λ v. spots v.items ≡ all_steps (view pipeline.now)) }
+{
+    let mut places = Vec::new(alloc);
+    let jobs = list_at(pipeline, "jobs");
+    for (i, job) in jobs.iter().enumerate() {
+        let path = path_at(alloc, "jobs", i)?;
+        push_list(alloc, &mut places, job, path.as_str(), "plan", LEVELS, 1)?;
+        push_hooks(alloc, &mut places, job, path.as_str(), LEVELS, 1)?;
+    }
+    Ok(places)
 }
