@@ -1,5 +1,5 @@
 -- Where no fault is present in a plan, no two of its gets have one name.
-use Rattle.std.proofs.Common.{◌≡◌, ℕ, zero, suc, ◌+◌, List, [], ◌∷◌, ◌++◌, map, Bool, true, false, not, refl, Option, Some, None, append_assoc, subst, option_and_then, unwrap_or, is_some, codes, if◌then◌else◌}
+use Rattle.std.proofs.Common.{◌≡◌, ℕ, zero, suc, ◌+◌, List, [], ◌∷◌, ◌++◌, map, Bool, true, false, refl, Option, Some, None, append_assoc, subst, option_and_then, is_some, codes, if◌then◌else◌}
 use Rattle.std.proofs.lemmas.Grind.{flat_map-append}
 use Rattle.std.proofs.lemmas.List.{append-nil, map-append}
 use Rattle.std.specs.List.{IsDistinct, flat_map}
@@ -7,69 +7,40 @@ use Rattle.std.specs.Option.{IfSome}
 use Rattle.std.specs.Str.{bytes_eq}
 use Rattle.serde_json.specs.Data.{Data, Items, no_items, item}
 use Rattle.serde_json.specs.Find.{as_array, as_number, as_str, as_u64}
-use Rattle.ccr_pipeline.specs.declared.fault.Rule.TheVariants as rule
-use Rattle.ccr_pipeline.specs.declared.kind.Kind.TheVariants as kind
 use Rattle.ccr_pipeline.specs.declared.place.Part.{Part}
 use Rattle.ccr_pipeline.specs.declared.place.Part.TheVariants.{Opening, Closing}
+use Rattle.ccr_pipeline.specs.declared.schema.Schema.TheVariants as schema
 use Rattle.ccr_pipeline.specs.declared.step.When.{When}
 use Rattle.ccr_pipeline.specs.declared.step.When.TheVariants.{OnSuccess, OnFailure, OnError, OnAbort, Ensure}
-use Rattle.ccr_pipeline.specs.Faults.{Path, unless}
+use Rattle.ccr_pipeline.specs.Faults.{Path}
 use Rattle.ccr_pipeline.specs.Inputs.{inputs, inputs_in}
-use Rattle.ccr_pipeline.specs.JobRules.{job_rest, after_plan, job_keys}
+use Rattle.ccr_pipeline.specs.JobRules.{job_rest, after_plan}
 use Rattle.ccr_pipeline.specs.Keys.{at_key, or_else, path_below, path_at}
-use Rattle.ccr_pipeline.specs.Kinds.{is_name, broken, required, optional_keys}
 use Rattle.ccr_pipeline.specs.Limits.{input_names, HasDistinctInputs}
-use Rattle.ccr_pipeline.specs.Meaning.{text_or, truth_from}
-use Rattle.ccr_pipeline.specs.Names.{has_name, text_at, names_at, new_name}
+use Rattle.ccr_pipeline.specs.Meaning.{truth_from}
+use Rattle.ccr_pipeline.specs.Names.{has_name, text_at, names_at}
+use Rattle.ccr_pipeline.specs.Objects.{key_faults, value_faults}
 use Rattle.ccr_pipeline.specs.Pipelines.{EachItem}
 use Rattle.ccr_pipeline.specs.Places.{Spot, gets_by, gets_at, each_step, steps_in, step_at, own_steps, hook_steps, steps_from, plan_steps, job_hooks, tries_below}
 use Rattle.ccr_pipeline.specs.Plans.{plan_from}
-use Rattle.ccr_pipeline.specs.StepRules.{visit_by, visits, own_keys, get_faults}
+use Rattle.ccr_pipeline.specs.Schema.{closing}
+use Rattle.ccr_pipeline.specs.StepRules.{visit_by, visits, own_keys}
 use Rattle.ccr_pipeline.specs.Steps.{step_tree, with_hook, with_hooks, each_tree, trees_in, parallel_trees, holder, action}
 use Rattle.ccr_pipeline.specs.Tree.{Text, Tree, get, put, task, in_order, in_parallel, tried, attempts, hook, no_trees, trees_of}
 use Rattle.ccr_pipeline.proofs.Inside.{EachAt, OwnSteps, Hooks}
 use Rattle.ccr_pipeline.proofs.Kept.{action-kept}
-use Rattle.ccr_pipeline.proofs.Named.{opened_own}
+use Rattle.ccr_pipeline.proofs.Named.{opened_own, get_named}
 use Rattle.ccr_pipeline.proofs.Subsequence.{Sub, none, keep, sub_none, sub_append, sub_left, sub_right, distinct_sub, NoRepeat, distinct}
-use Rattle.ccr_pipeline.proofs.Unfaulted.{nil_left, nil_right, visits-append, Unfaulted, Opened, opened, planned}
-
--- what a get's visit says of its name
-
-is_new : (p : Path) (b : Bool) → unless (not b) rule.Once p ≡ [] → b ≡ false
-is_new p true e = absurd (cc (e))
-is_new p false e = refl
-
-pub once : (names : List Text) (p : Path) (o : Option Text) → or_else o [] (λ name. unless (not (has_name names name)) rule.Once p) ≡ [] → IfSome o (λ s. has_name names s ≡ false)
-once names p None e = tt
-once names p (Some s) e = is_new p (has_name names s) e
+use Rattle.ccr_pipeline.proofs.Rows.{nil_left, nil_right}
+use Rattle.ccr_pipeline.proofs.Unfaulted.{visits-append, Unfaulted, Opened, opened, planned}
 
 if_there : (P : Text → Type 0) (o : Option Data) → (is_some o ≡ true → IfSome (option_and_then as_str o) P) → IfSome (option_and_then as_str o) P
 if_there P None h = tt
 if_there P (Some d) h = h refl
 
-new_get : (names : List Text) (p : Path) (d : Data) → own_keys names p d ≡ [] → is_some (at_key (codes "get") d) ≡ true → new_name names p (codes "get") d ≡ []
-unfolding own_keys get_faults
-new_get names p d e a =
-    let own : get_faults names p d ≡ [] = rw a at e in
-    nil_left (new_name names p (codes "get") d) _ own
-
+-- what a get's visit says of its name
 get_once : (names : List Text) (p : Path) (d : Data) → own_keys names p d ≡ [] → IfSome (text_at (codes "get") d) (λ s. has_name names s ≡ false)
-unfolding new_name
-get_once names p d e =
-    if_there (λ s. has_name names s ≡ false) (at_key (codes "get") d) (λ a. once names (path_below p (codes "get")) (text_at (codes "get") d) (nil_right (required kind.Name p (codes "get") d) _ (new_get names p d e a)))
-
-is_text : (p : Path) (o : Option Text) → or_else o (unless false rule.Kind p) (λ s. unless (is_name s) rule.Name p) ≡ [] → or_else o [] (λ s. s ∷ []) ≡ unwrap_or o [] ∷ []
-is_text p None e = absurd (cc (e))
-is_text p (Some s) e = refl
-
-pub is_there : (p : Path) (o : Option Data) → or_else o (unless false rule.Presence p) (broken kind.Name p) ≡ [] → or_else (option_and_then as_str o) [] (λ s. s ∷ []) ≡ unwrap_or (option_and_then as_str o) [] ∷ []
-unfolding broken
-is_there p None e = absurd (cc (e))
-is_there p (Some d) e = is_text p (as_str d) e
-
-one_name : (names : List Text) (p : Path) (d : Data) → own_keys names p d ≡ [] → is_some (at_key (codes "get") d) ≡ true → names_at (codes "get") d ≡ text_or [] (codes "get") d ∷ []
-unfolding new_name
-one_name names p d e a = is_there (path_below p (codes "get")) (at_key (codes "get") d) (nil_left (required kind.Name p (codes "get") d) _ (new_get names p d e a))
+get_once names p d e = if_there (λ s. has_name names s ≡ false) (at_key (codes "get") d) (λ a. (get_named names p d e a).new)
 
 -- the names of gets don't repeat in visits without a fault
 
@@ -222,7 +193,7 @@ module _ (n u : ℕ) (down : (d : Data) → Unfaulted n u d → Shown n d) (t : 
   in_action : (names : List Text) (p q : Path) (d : Data) → own_keys names q d ≡ [] → OwnSteps (Unfaulted n u) d → Sub (input_names (action (step_tree n) d)) (names_at (codes "get") d ++ flat_map gets_at (own_steps (steps_from n) t p d))
   unfolding action
   in_action names p q d e own =
-      of_kind (is_some (at_key (codes "get") d)) _ _ _ (λ a. rw (one_name names q d e a) (keep _ (sub_none _)))
+      of_kind (is_some (at_key (codes "get") d)) _ _ _ (λ a. rw (get_named names q d e a).one (keep _ (sub_none _)))
       (of_kind (is_some (at_key (codes "put") d)) _ _ _ (λ a. sub_none _)
       (of_kind (is_some (at_key (codes "task") d)) _ _ _ (λ a. sub_none _) (sub_right _ (in_holder p d own))))
 
@@ -275,7 +246,7 @@ distinct_inputs p d e =
     let plan = planned p d e in
     let steps = in_steps 30 1 (shown 30 1) 1 (path_below p (codes "plan")) (at_key (codes "plan") d) plan.steps in
     let all = with_all 30 1 (shown 30 1) 1 p d (in_order (trees_of (or_else (at_key (codes "plan") d) [] (trees_in (step_tree 30))))) _ tt steps plan.hooks in
-    let visited = nil_left (visits _ (job_hooks p d)) _ (nil_right (optional_keys job_keys p d) _ (nil_right (visits [] (plan_steps p d)) _ e)) in
+    let visited = nil_left (visits _ (job_hooks p d)) _ (nil_right (key_faults (value_faults 3) [] (closing schema.Job) p d) _ (nil_right (visits [] (plan_steps p d)) _ e)) in
     let first = nil_left (visits [] (plan_steps p d)) _ e in
     let whole : visits [] (plan_steps p d ++ job_hooks p d) ≡ [] = rw (visits-append [] (plan_steps p d) (job_hooks p d), first, visited) refl in
     let both : flat_map gets_at (plan_steps p d ++ job_hooks p d) ≡ flat_map gets_at (plan_steps p d) ++ flat_map gets_at (job_hooks p d) = flat_map-append gets_at (plan_steps p d) (job_hooks p d) in

@@ -7,6 +7,9 @@ pub mod Visits
 pub mod StepLemmas
 pub mod UnknownLemmas
 pub mod UsedKeys
+pub mod TableNames
+pub mod ObjectLemmas
+pub mod Rows
 pub mod Inside
 pub mod Unfaulted
 pub mod Kept

@@ -5,64 +5,49 @@ use Rattle.std.specs.List.{AllByRecursion, AllPass}
 use Rattle.serde_json.specs.Data.{Data, Items, no_items, item}
 use Rattle.serde_json.specs.Find.{as_array, as_number, as_str, as_u64}
 use Rattle.ccr_pipeline.specs.declared.fault.Rule.TheVariants as rule
-use Rattle.ccr_pipeline.specs.declared.kind.Kind.{Kind}
-use Rattle.ccr_pipeline.specs.declared.kind.Kind.TheVariants as kind
 use Rattle.ccr_pipeline.specs.declared.place.Part.TheVariants.{Opening}
+use Rattle.ccr_pipeline.specs.declared.schema.Kind.TheVariants as kind
+use Rattle.ccr_pipeline.specs.declared.schema.Need.TheVariants.{New, Must}
+use Rattle.ccr_pipeline.specs.declared.schema.Schema.TheVariants as schema
 use Rattle.ccr_pipeline.specs.declared.step.When.{When}
 use Rattle.ccr_pipeline.specs.Faults.{Path, Faults, unless}
 use Rattle.ccr_pipeline.specs.JobRules.{job_rest}
 use Rattle.ccr_pipeline.specs.Keys.{at_key, or_else, path_below, path_at}
-use Rattle.ccr_pipeline.specs.Kinds.{is_name, broken, required, optional, optional_keys}
 use Rattle.ccr_pipeline.specs.Links.{used_resources, used_resources_in, passed_jobs, passed_jobs_in, IsLinked}
 use Rattle.ccr_pipeline.specs.Meaning.{text_or, texts_from}
-use Rattle.ccr_pipeline.specs.Names.{has_name, text_at, texts_in, new_name}
+use Rattle.ccr_pipeline.specs.Names.{has_name, text_at, texts_in}
+use Rattle.ccr_pipeline.specs.Objects.{row_faults, key_faults, value_faults}
 use Rattle.ccr_pipeline.specs.Places.{Spot, spot_of, plan_steps, tries_below}
 use Rattle.ccr_pipeline.specs.Plans.{plan_from}
-use Rattle.ccr_pipeline.specs.StepRules.{own_keys, get_faults, get_keys, put_keys, opening_faults}
+use Rattle.ccr_pipeline.specs.Schema.{opening}
+use Rattle.ccr_pipeline.specs.StepRules.{own_keys, opening_faults}
 use Rattle.ccr_pipeline.specs.Steps.{step_tree, action}
 use Rattle.ccr_pipeline.specs.Tree.{Text, Tree, trees_of, hook, attempts}
 use Rattle.ccr_pipeline.specs.Unknown.{name_key, unknown_resource, unknown_texts, unknown_passed, unknown_names, unknown_spots, unknown_job}
 use Rattle.ccr_pipeline.proofs.Inside.{Inside, Opened, opened, Planned, planned}
 use Rattle.ccr_pipeline.proofs.Kept.{Holds, Leaves, action-kept, hooks-kept, plan-kept}
 use Rattle.ccr_pipeline.proofs.Named.{opened_own}
-use Rattle.ccr_pipeline.proofs.Unfaulted.{nil_left, nil_right, passes, IsUnfaulted, unfaulted_parts, unfaulted_plan, unfaulted_hooks}
+use Rattle.ccr_pipeline.proofs.Rows.{nil_left, nil_right, passes, new_name, must_text, may_text}
+use Rattle.ccr_pipeline.proofs.Unfaulted.{IsUnfaulted, unfaulted_parts, unfaulted_plan, unfaulted_hooks}
 
 -- a text that is there is known, where no fault says otherwise
 
-text_known : (known : List Text) (p q : Path) (absent : Text) (o : Option Text) → unless (is_some o) rule.Kind q ≡ [] → or_else o [] (λ name. unless (has_name known name) rule.KnownResource p) ≡ [] → has_name known (unwrap_or o absent) ≡ true
-text_known known p q absent None e f = absurd (cc (e))
-text_known known p q absent (Some s) e f = passes (has_name known s) rule.KnownResource p f
-
-resource_known : (known : List Text) (p q : Path) (absent : Text) (o : Option Data) → is_some o ≡ true → or_else o [] (broken kind.Text q) ≡ [] → or_else (option_and_then as_str o) [] (λ name. unless (has_name known name) rule.KnownResource p) ≡ [] → has_name known (unwrap_or (option_and_then as_str o) absent) ≡ true
-unfolding broken
-resource_known known p q absent None there e f = absurd (cc (there))
-resource_known known p q absent (Some d) there e f = text_known known p q absent (as_str d) e f
-
-named_text : (q : Path) (o : Option Text) → or_else o (unless false rule.Kind q) (λ s. unless (is_name s) rule.Name q) ≡ [] → unless (is_some o) rule.Kind q ≡ []
-named_text q None e = e
-named_text q (Some s) e = refl
-
-name_known : (known : List Text) (p q : Path) (o : Option Data) → is_some o ≡ true → or_else o [] (broken kind.Name q) ≡ [] → or_else (option_and_then as_str o) [] (λ name. unless (has_name known name) rule.KnownResource p) ≡ [] → has_name known (unwrap_or (option_and_then as_str o) []) ≡ true
-unfolding broken
-name_known known p q None there e f = absurd (cc (there))
-name_known known p q (Some d) there e f = text_known known p q [] (as_str d) (named_text q (as_str d) e) f
+text_known : (known : List Text) (p : Path) (absent : Text) (o : Option Text) → is_some o ≡ true → or_else o [] (λ name. unless (has_name known name) rule.KnownResource p) ≡ [] → has_name known (unwrap_or o absent) ≡ true
+text_known known p absent None there f = absurd (cc (there))
+text_known known p absent (Some s) there f = passes (has_name known s) rule.KnownResource p f
 
 no_text : (absent : Text) (o : Option Data) → is_some o ≡ false → unwrap_or (option_and_then as_str o) absent ≡ absent
 no_text absent None e = refl
 no_text absent (Some d) e = absurd (cc (e))
 
-at_least : (k : Kind) (q : Path) (o : Option Data) → or_else o (unless false rule.Presence q) (broken k q) ≡ [] → or_else o [] (broken k q) ≡ []
-at_least k q None e = refl
-at_least k q (Some d) e = e
-
 -- a get or put whose own name stands at a key means a resource that is known
 module _ (known : List Text) (p : Path) (d : Data) where
-  meant : (k : List ℕ) → (b : Bool) → is_some (at_key (codes "resource") d) ≡ b → (b ≡ false → name_key d ≡ k) → is_some (at_key k d) ≡ true → or_else (at_key k d) [] (broken kind.Name (path_below p k)) ≡ [] → optional kind.Text p (codes "resource") d ≡ [] → or_else (text_at (name_key d) d) [] (λ name. unless (has_name known name) rule.KnownResource (path_below p (name_key d))) ≡ [] → has_name known (text_or (text_or [] k d) (codes "resource") d) ≡ true
-  meant k true is from there named text e =
+  meant : (k : List ℕ) → (b : Bool) → is_some (at_key (codes "resource") d) ≡ b → (b ≡ false → name_key d ≡ k) → is_some (text_at k d) ≡ true → (is_some (at_key (codes "resource") d) ≡ true → is_some (text_at (codes "resource") d) ≡ true) → or_else (text_at (name_key d) d) [] (λ name. unless (has_name known name) rule.KnownResource (path_below p (name_key d))) ≡ [] → has_name known (text_or (text_or [] k d) (codes "resource") d) ≡ true
+  meant k true is from there text e =
       let by : name_key d ≡ codes "resource" = rw is refl in
-      resource_known known (path_below p (codes "resource")) (path_below p (codes "resource")) (text_or [] k d) (at_key (codes "resource") d) is text (rw by at e)
-  meant k false is from there named text e =
-      let own : has_name known (text_or [] k d) ≡ true = name_known known (path_below p k) (path_below p k) (at_key k d) there named (rw (from refl) at e) in
+      text_known known (path_below p (codes "resource")) (text_or [] k d) (text_at (codes "resource") d) (text is) (rw by at e)
+  meant k false is from there text e =
+      let own : has_name known (text_or [] k d) ≡ true = text_known known (path_below p k) [] (text_at k d) there (rw (from refl) at e) in
       rw (no_text (text_or [] k d) (at_key (codes "resource") d) is) own
 
 -- what a list names is known
@@ -102,13 +87,13 @@ when false xs is e = absurd (cc (is))
 
 module _ (resources jobs : List Text) (names : List Text) (p : Path) (d : Data) (own : own_keys names p d ≡ []) (known : unknown_names resources jobs p d ≡ []) where
   get_resource : is_some (at_key (codes "get") d) ≡ true → has_name resources (text_or (text_or [] (codes "get") d) (codes "resource") d) ≡ true
-  unfolding own_keys get_faults unknown_names unknown_resource new_name
+  unfolding own_keys unknown_names unknown_resource
   get_resource a =
-      let keys : get_faults names p d ≡ [] = rw a at own in
-      let named = at_least kind.Name (path_below p (codes "get")) (at_key (codes "get") d) (nil_left (required kind.Name p (codes "get") d) _ (nil_left (new_name names p (codes "get") d) _ keys)) in
-      let text = nil_left (optional kind.Text p (codes "resource") d) _ (nil_right (new_name names p (codes "get") d) (optional_keys get_keys p d) keys) in
+      let keys : key_faults (value_faults 3) names (opening schema.Get) p d ≡ [] = rw a at own in
+      let named = new_name 2 names p (codes "get") d (nil_left _ _ keys) in
+      let text = may_text 2 [] p (codes "resource") d (nil_left _ _ (nil_right (row_faults (value_faults 3) names (New, kind.Name, codes "get") p d) _ keys)) in
       let there : unknown_resource resources p d ≡ [] = nil_left _ _ known in
-      meant resources p d (codes "get") (is_some (at_key (codes "resource") d)) refl (λ is. rw (is, a) refl) a named text (when _ _ (rw a refl) there)
+      meant resources p d (codes "get") (is_some (at_key (codes "resource") d)) refl (λ is. rw (is, a) refl) named.there text (when _ _ (rw a refl) there)
 
   get_passed : is_some (at_key (codes "get") d) ≡ true → AllPass (has_name jobs) (texts_from (codes "passed") d)
   unfolding unknown_names unknown_passed
@@ -119,11 +104,11 @@ module _ (resources jobs : List Text) (names : List Text) (p : Path) (d : Data) 
   put_resource : is_some (at_key (codes "get") d) ≡ false → is_some (at_key (codes "put") d) ≡ true → has_name resources (text_or (text_or [] (codes "put") d) (codes "resource") d) ≡ true
   unfolding own_keys unknown_names unknown_resource
   put_resource a b =
-      let keys : optional_keys put_keys p d ≡ [] = rw (a, b) at own in
-      let named = nil_left (optional kind.Name p (codes "put") d) _ keys in
-      let text = nil_left (optional kind.Text p (codes "resource") d) _ (nil_right (optional kind.Name p (codes "put") d) _ keys) in
+      let keys : key_faults (value_faults 3) names (opening schema.Put) p d ≡ [] = rw (a, b) at own in
+      let named = must_text 2 names p (codes "put") d (nil_left _ _ keys) in
+      let text = may_text 2 [] p (codes "resource") d (nil_left _ _ (nil_right (row_faults (value_faults 3) names (Must, kind.Name, codes "put") p d) _ keys)) in
       let there : unknown_resource resources p d ≡ [] = nil_left _ _ known in
-      meant resources p d (codes "put") (is_some (at_key (codes "resource") d)) refl (λ is. rw (is, a) refl) b named text (when _ _ (rw (a, b) refl) there)
+      meant resources p d (codes "put") (is_some (at_key (codes "resource") d)) refl (λ is. rw (is, a) refl) named text (when _ _ (rw (a, b) refl) there)
 
 -- the plans of a pipeline with these resources and jobs
 module _ (resources jobs : List Text) where

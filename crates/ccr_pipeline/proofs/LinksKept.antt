@@ -8,39 +8,38 @@ use Rattle.serde_json.specs.Data.{Data, Items, no_items, item}
 use Rattle.serde_json.specs.Events.{items_len}
 use Rattle.serde_json.specs.Find.{as_array, as_object}
 use Rattle.ccr_pipeline.specs.declared.fault.Rule.TheVariants as rule
-use Rattle.ccr_pipeline.specs.declared.kind.Kind.TheVariants as kind
 use Rattle.ccr_pipeline.specs.declared.check_job.Member.{Member}
 use Rattle.ccr_pipeline.specs.declared.check_job.Member.TheVariants.{Resource, Job}
 use Rattle.ccr_pipeline.specs.declared.check_job.TheConstants.{MOST_MEMBERS}
+use Rattle.ccr_pipeline.specs.declared.schema.Schema.TheVariants as schema
 use Rattle.ccr_pipeline.specs.Faults.{Path, unless}
-use Rattle.ccr_pipeline.specs.JobRules.{resource_faults, job_opening, job_rest, job_faults, member_faults, members, member_items, member_list, names_in, list_names}
-use Rattle.ccr_pipeline.specs.Keys.{at_key, or_else, path_below, path_at}
-use Rattle.ccr_pipeline.specs.Kinds.{required}
+use Rattle.ccr_pipeline.specs.JobRules.{job_rest, member_faults, members, member_items, member_list, names_in, list_names}
+use Rattle.ccr_pipeline.specs.Keys.{at_key, or_else, path_at}
 use Rattle.ccr_pipeline.specs.Links.{HasFewMembers, resource_names, job_names, HasDistinctResources, HasDistinctJobs, IsLinked, AreLinked}
 use Rattle.ccr_pipeline.specs.Meaning.{text_or}
-use Rattle.ccr_pipeline.specs.Names.{text_at, names_at, new_name}
+use Rattle.ccr_pipeline.specs.Names.{text_at, names_at}
+use Rattle.ccr_pipeline.specs.Objects.{object_faults, value_faults}
 use Rattle.ccr_pipeline.specs.Pipelines.{resource_items, job_items, job_from, resources_in, resources_from, jobs_in, jobs_from}
 use Rattle.ccr_pipeline.specs.Reading.{list_faults, pipeline_faults}
 use Rattle.ccr_pipeline.specs.Tree.{Text}
 use Rattle.ccr_pipeline.specs.Unknown.{unknown_job, unknown_jobs, unknown_in}
-use Rattle.ccr_pipeline.proofs.Distinct.{once, is_there, with_text}
+use Rattle.ccr_pipeline.proofs.Distinct.{with_text}
 use Rattle.ccr_pipeline.proofs.Linked.{linked_plan}
 use Rattle.ccr_pipeline.proofs.PlansKept.{resource_members, job_members}
 use Rattle.ccr_pipeline.proofs.Subsequence.{NoRepeat, distinct}
-use Rattle.ccr_pipeline.proofs.Unfaulted.{nil_left, nil_right, passes}
+use Rattle.ccr_pipeline.proofs.Rows.{nil_left, nil_right, passes, IsNamed, new_name}
 
-member_new : (m : Member) (names : List Text) (p : Path) (d : Data) → member_faults m names p d ≡ [] → new_name names p (codes "name") d ≡ []
-unfolding resource_faults job_faults job_opening
-member_new Resource names p d e = nil_left (new_name names p (codes "name") d) _ (nil_right (unless (is_some (as_object d)) rule.Kind p) _ e)
-member_new Job names p d e = nil_left (new_name names p (codes "name") d) _ (nil_right (unless (is_some (as_object d)) rule.Kind p) _ (nil_left (job_opening names p d) _ e))
+member_named : (m : Member) (names : List Text) (p : Path) (d : Data) → member_faults m names p d ≡ [] → IsNamed names (codes "name") d
+unfolding object_faults
+member_named Resource names p d e = new_name 2 names p (codes "name") d (nil_left _ _ (nil_right (unless (is_some (as_object d)) rule.Kind p) _ e))
+member_named Job names p d e =
+    new_name 2 names p (codes "name") d (nil_left _ _ (nil_right (unless (is_some (as_object d)) rule.Kind p) _ (nil_left (object_faults (value_faults 3) names schema.Job p d) _ e)))
 
 -- no two members of a list have one name
 no_repeat : (m : Member) (names : List Text) (p : Path) (i : ℕ) (ds : Items) → members m names p i ds ≡ [] → NoRepeat names (names_in ds)
-unfolding new_name
 no_repeat m names p i no_items e = tt
 no_repeat m names p i (item d ds) e =
-    let new = member_new m names (path_at p i) d (nil_left (member_faults m names (path_at p i) d) _ e) in
-    with_text names (names_in ds) (text_at (codes "name") d) (once names (path_below (path_at p i) (codes "name")) (text_at (codes "name") d) (nil_right (required kind.Name (path_at p i) (codes "name") d) _ new))
+    with_text names (names_in ds) (text_at (codes "name") d) (member_named m names (path_at p i) d (nil_left (member_faults m names (path_at p i) d) _ e)).new
     (no_repeat m (names ++ names_at (codes "name") d) p (i + 1) ds (nil_right (member_faults m names (path_at p i) d) _ e))
 
 -- the members of a list have names, by which they are called
@@ -49,11 +48,9 @@ called no_items = []
 called (item d ds) = text_or [] (codes "name") d ∷ called ds
 
 each_called : (m : Member) (names : List Text) (p : Path) (i : ℕ) (ds : Items) → members m names p i ds ≡ [] → names_in ds ≡ called ds
-unfolding new_name
 each_called m names p i no_items e = refl
 each_called m names p i (item d ds) e =
-    let new = member_new m names (path_at p i) d (nil_left (member_faults m names (path_at p i) d) _ e) in
-    let one : names_at (codes "name") d ≡ text_or [] (codes "name") d ∷ [] = is_there (path_below (path_at p i) (codes "name")) (at_key (codes "name") d) (nil_left (required kind.Name (path_at p i) (codes "name") d) _ new) in
+    let one = (member_named m names (path_at p i) d (nil_left (member_faults m names (path_at p i) d) _ e)).one in
     let rest = each_called m (names ++ names_at (codes "name") d) p (i + 1) ds (nil_right (member_faults m names (path_at p i) d) _ e) in
     rw (one, rest) refl
 
@@ -65,14 +62,6 @@ jobs_called : (ds : Items) → called ds ≡ job_names (jobs_in ds)
 unfolding job_from
 jobs_called no_items = refl
 jobs_called (item d ds) = ap (λ names. text_or [] (codes "name") d ∷ names) (jobs_called ds)
-
-in_list : (o : Option Items) → or_else o [] names_in ≡ names_in (or_else o no_items (λ ds. ds))
-in_list None = refl
-in_list (Some ds) = refl
-
-at_list : (o : Option Data) → or_else o [] (λ found. or_else (as_array found) [] names_in) ≡ names_in (or_else o no_items (λ found. or_else (as_array found) no_items (λ ds. ds)))
-at_list None = refl
-at_list (Some found) = in_list (as_array found)
 
 module _ (d : Data) (none : pipeline_faults d ≡ []) where
   resources_named : names_in (resource_items d) ≡ resource_names (resources_from d)
@@ -90,14 +79,14 @@ module _ (d : Data) (none : pipeline_faults d ≡ []) where
 -- the plans of a list of jobs
 module _ (resources jobs : List Text) where
   each_linked : (names : List Text) (i : ℕ) (ds : Items) → members Job names (codes "jobs") i ds ≡ [] → unknown_jobs resources jobs i ds ≡ [] → AllByRecursion (λ j. IsLinked resources jobs j.plan) (jobs_in ds)
-  unfolding job_faults job_from
+  unfolding job_from
   each_linked names i no_items e u = tt
   each_linked names i (item d ds) e u =
       let p = path_at (codes "jobs") i in
-      let one : job_faults names p d ≡ [] = nil_left (job_faults names p d) _ e in
-      let rest : job_rest p d ≡ [] = nil_right (job_opening names p d) _ one in (
+      let one : member_faults Job names p d ≡ [] = nil_left (member_faults Job names p d) _ e in
+      let rest : job_rest p d ≡ [] = nil_right (object_faults (value_faults 3) names schema.Job p d) _ one in (
         linked_plan resources jobs p d rest (nil_left (unknown_job resources jobs p d) _ u),
-        each_linked (names ++ names_at (codes "name") d) (i + 1) ds (nil_right (job_faults names p d) _ e) (nil_right (unknown_job resources jobs p d) _ u),
+        each_linked (names ++ names_at (codes "name") d) (i + 1) ds (nil_right (member_faults Job names p d) _ e) (nil_right (unknown_job resources jobs p d) _ u),
       )
 
   unknown_list : (o : Option Items) → or_else o [] (unknown_jobs resources jobs 0) ≡ [] → unknown_jobs resources jobs 0 (or_else o no_items (λ ds. ds)) ≡ []
@@ -145,7 +134,7 @@ pub are_linked : (d : Data) → pipeline_faults d ≡ [] → AreLinked (resource
 unfolding pipeline_faults list_faults
 are_linked d none =
     let known : unknown_in (list_names (codes "resources") d) (list_names (codes "jobs") d) d ≡ [] = nil_right (member_list Job (codes "jobs") d) _ (nil_right (member_list Resource (codes "resources") d) _ (nil_right _ (list_faults d) none)) in
-    let rs : list_names (codes "resources") d ≡ resource_names (resources_from d) = at_list (at_key (codes "resources") d) ∙ resources_named d none in
-    let js : list_names (codes "jobs") d ≡ job_names (jobs_from d) = at_list (at_key (codes "jobs") d) ∙ jobs_named d none in
+    let rs : list_names (codes "resources") d ≡ resource_names (resources_from d) = resources_named d none in
+    let js : list_names (codes "jobs") d ≡ job_names (jobs_from d) = jobs_named d none in
     All-from_recursion (λ j. IsLinked (resource_names (resources_from d)) (job_names (jobs_from d)) j.plan) (jobs_from d)
     (all_linked (resource_names (resources_from d)) (job_names (jobs_from d)) d none (rw (rs, js) at known))

@@ -1,28 +1,29 @@
 -- Where no fault is present in a plan, what it names has names.
-use Rattle.std.proofs.Common.{◌≡◌, ℕ, zero, suc, ◌+◌, List, [], ◌∷◌, ◌++◌, map, true, false, Option, Some, None, option_and_then, unwrap_or, is_some, codes}
+use Rattle.std.proofs.Common.{◌≡◌, ℕ, zero, suc, ◌+◌, List, [], ◌∷◌, ◌++◌, map, Bool, true, false, not, ◌&&◌, refl, Option, Some, None, option_and_then, is_some, codes, if◌then◌else◌}
 use Rattle.std.proofs.lemmas.List.Elements.{All-nil, All-cons, All-append}
 use Rattle.std.specs.List.{AllByRecursion, AllPass}
 use Rattle.serde_json.specs.Data.{Data, Items, no_items, item}
-use Rattle.serde_json.specs.Find.{as_array, as_number, as_object, as_str, as_u64}
-use Rattle.ccr_pipeline.specs.declared.check_task.Artifact.{Artifact}
-use Rattle.ccr_pipeline.specs.declared.check_task.Artifact.TheVariants.{Input, Output}
+use Rattle.serde_json.specs.Find.{as_array, as_number, as_object, as_u64}
 use Rattle.ccr_pipeline.specs.declared.fault.Rule.TheVariants as rule
-use Rattle.ccr_pipeline.specs.declared.kind.Kind.TheVariants as kind
+use Rattle.ccr_pipeline.specs.declared.schema.Kind.TheVariants as kind
+use Rattle.ccr_pipeline.specs.declared.schema.Need.TheVariants.{Must, May}
+use Rattle.ccr_pipeline.specs.declared.schema.Schema.TheVariants as schema
 use Rattle.ccr_pipeline.specs.declared.step.When.{When}
-use Rattle.ccr_pipeline.specs.Faults.{Path, Faults, unless}
+use Rattle.ccr_pipeline.specs.Faults.{Path, unless}
 use Rattle.ccr_pipeline.specs.Keys.{at_key, or_else, path_below, path_at}
-use Rattle.ccr_pipeline.specs.Kinds.{is_name, broken, required, optional, optional_keys}
+use Rattle.ccr_pipeline.specs.Kinds.{is_name}
 use Rattle.ccr_pipeline.specs.Limits.{artifact_names, names, names_in}
 use Rattle.ccr_pipeline.specs.Meaning.{text_or, source_from, config_from, inputs_in, outputs_in}
-use Rattle.ccr_pipeline.specs.Names.{names_at, new_name}
+use Rattle.ccr_pipeline.specs.Objects.{absent, broken, new_names, row_faults, key_faults, object_faults, each_object, value_faults}
 use Rattle.ccr_pipeline.specs.Places.{tries_below}
 use Rattle.ccr_pipeline.specs.Plans.{plan_from}
+use Rattle.ccr_pipeline.specs.Schema.{opening}
 use Rattle.ccr_pipeline.specs.Steps.{step_tree, action}
-use Rattle.ccr_pipeline.specs.StepRules.{shape_faults, kind_faults, own_keys, get_faults, put_keys, opening_faults}
-use Rattle.ccr_pipeline.specs.TaskRules.{artifact_faults, artifacts, artifact_list, run_at, config_rest, config_faults, task_source, task_faults}
+use Rattle.ccr_pipeline.specs.StepRules.{shape_faults, kind_faults, own_keys, opening_faults}
 use Rattle.ccr_pipeline.specs.Tree.{Tree, trees_of, hook, attempts, config, file}
 use Rattle.ccr_pipeline.proofs.Kept.{Holds, Leaves, action-kept, hooks-kept, plan-kept}
-use Rattle.ccr_pipeline.proofs.Unfaulted.{nil_left, nil_right, passes, Unfaulted, Opened, opened, Planned}
+use Rattle.ccr_pipeline.proofs.Rows.{nil_left, nil_right, IsNamed, new_name, must_name}
+use Rattle.ccr_pipeline.proofs.Unfaulted.{Unfaulted, Opened, opened, Planned}
 
 -- what is named has names
 abbrev Named : List (List ℕ) → Type 0
@@ -40,95 +41,98 @@ more s ss h hs = All-cons (λ s. is_name s ≡ true) s ss h hs
 and : (ss ts : List (List ℕ)) → Named ss → Named ts → Named (ss ++ ts)
 and ss ts h g = All-append (λ s. is_name s ≡ true) ss ts h g
 
-text_named : (p : Path) (o : Option (List ℕ)) → or_else o (unless false rule.Kind p) (λ s. unless (is_name s) rule.Name p) ≡ [] → is_name (unwrap_or o []) ≡ true
-text_named p None e = absurd (cc (e))
-text_named p (Some s) e = passes (is_name s) rule.Name p e
+-- the inputs and the outputs of a task
+input_named : (before : List (List ℕ)) (p : Path) (d : Data) → object_faults (value_faults 1) before schema.Input p d ≡ [] → is_name (text_or [] (codes "name") d) ≡ true
+unfolding object_faults
+input_named before p d e = (new_name 0 before p (codes "name") d (nil_left _ _ (nil_right (unless (is_some (as_object d)) rule.Kind p) _ e))).name
 
-pub required_at : (p : Path) (o : Option Data) → or_else o (unless false rule.Presence p) (broken kind.Name p) ≡ [] → is_name (unwrap_or (option_and_then as_str o) []) ≡ true
-unfolding broken
-required_at p None e = absurd (cc (e))
-required_at p (Some d) e = text_named p (as_str d) e
+output_named : (before : List (List ℕ)) (p : Path) (d : Data) → object_faults (value_faults 1) before schema.Output p d ≡ [] → is_name (text_or [] (codes "name") d) ≡ true
+unfolding object_faults
+output_named before p d e = (new_name 0 before p (codes "name") d (nil_left _ _ (nil_right (unless (is_some (as_object d)) rule.Kind p) _ e))).name
 
-optional_at : (p : Path) (o : Option Data) → is_some o ≡ true → or_else o [] (broken kind.Name p) ≡ [] → is_name (unwrap_or (option_and_then as_str o) []) ≡ true
-unfolding broken
-optional_at p None there e = absurd (cc (there))
-optional_at p (Some d) there e = text_named p (as_str d) e
-
-pub new_named : (before : List (List ℕ)) (p : Path) (k : List ℕ) (d : Data) → new_name before p k d ≡ [] → is_name (text_or [] k d) ≡ true
-unfolding new_name
-new_named before p k d e = required_at (path_below p k) (at_key k d) (nil_left (required kind.Name p k d) _ e)
-
-artifact_named : (a : Artifact) (before : List (List ℕ)) (p : Path) (d : Data) → artifact_faults a before p d ≡ [] → is_name (text_or [] (codes "name") d) ≡ true
-unfolding artifact_faults
-artifact_named a before p d e =
-    new_named before p (codes "name") d (nil_left (new_name before p (codes "name") d) _ (nil_right (unless (is_some (as_object d)) rule.Kind p) _ e))
-
-inputs_named : (before : List (List ℕ)) (p : Path) (i : ℕ) (ds : Items) → artifacts Input before p i ds ≡ [] → Named (map (λ x. x.0) (inputs_in ds))
+inputs_named : (before : List (List ℕ)) (p : Path) (i : ℕ) (ds : Items) → each_object (value_faults 1) before schema.Input p i ds ≡ [] → Named (map (λ x. x.0) (inputs_in ds))
 inputs_named before p i no_items e = none
 inputs_named before p i (item d ds) e =
-    more _ _ (artifact_named Input before (path_at p i) d (nil_left (artifact_faults Input before (path_at p i) d) _ e))
-    (inputs_named (before ++ names_at (codes "name") d) p (i + 1) ds (nil_right (artifact_faults Input before (path_at p i) d) _ e))
+    more _ _ (input_named before (path_at p i) d (nil_left (object_faults (value_faults 1) before schema.Input (path_at p i) d) _ e))
+    (inputs_named (before ++ new_names (opening schema.Input) d) p (i + 1) ds (nil_right (object_faults (value_faults 1) before schema.Input (path_at p i) d) _ e))
 
-outputs_named : (before : List (List ℕ)) (p : Path) (i : ℕ) (ds : Items) → artifacts Output before p i ds ≡ [] → Named (outputs_in ds)
+outputs_named : (before : List (List ℕ)) (p : Path) (i : ℕ) (ds : Items) → each_object (value_faults 1) before schema.Output p i ds ≡ [] → Named (outputs_in ds)
 outputs_named before p i no_items e = none
 outputs_named before p i (item d ds) e =
-    more _ _ (artifact_named Output before (path_at p i) d (nil_left (artifact_faults Output before (path_at p i) d) _ e))
-    (outputs_named (before ++ names_at (codes "name") d) p (i + 1) ds (nil_right (artifact_faults Output before (path_at p i) d) _ e))
+    more _ _ (output_named before (path_at p i) d (nil_left (object_faults (value_faults 1) before schema.Output (path_at p i) d) _ e))
+    (outputs_named (before ++ new_names (opening schema.Output) d) p (i + 1) ds (nil_right (object_faults (value_faults 1) before schema.Output (path_at p i) d) _ e))
 
-in_inputs : (p : Path) (o : Option Items) → or_else o (unless false rule.Kind p) (artifacts Input [] p 0) ≡ [] → Named (map (λ x. x.0) (or_else o [] inputs_in))
+in_inputs : (p : Path) (o : Option Items) → or_else o [] (each_object (value_faults 1) [] schema.Input p 0) ≡ [] → Named (map (λ x. x.0) (or_else o [] inputs_in))
 in_inputs p None e = none
 in_inputs p (Some ds) e = inputs_named [] p 0 ds e
 
-in_outputs : (p : Path) (o : Option Items) → or_else o (unless false rule.Kind p) (artifacts Output [] p 0) ≡ [] → Named (or_else o [] outputs_in)
+in_outputs : (p : Path) (o : Option Items) → or_else o [] (each_object (value_faults 1) [] schema.Output p 0) ≡ [] → Named (or_else o [] outputs_in)
 in_outputs p None e = none
 in_outputs p (Some ds) e = outputs_named [] p 0 ds e
 
-at_inputs : (p : Path) (o : Option Data) → or_else o [] (λ found. or_else (as_array found) (unless false rule.Kind p) (artifacts Input [] p 0)) ≡ [] → Named (map (λ x. x.0) (or_else o [] (λ found. or_else (as_array found) [] inputs_in)))
-at_inputs p None e = none
-at_inputs p (Some found) e = in_inputs p (as_array found) e
+at_inputs : (p : Path) (whole : Data) (o : Option Data) → or_else o [] (λ found. value_faults 2 (kind.Objects schema.Input) p whole found ++ []) ≡ [] → Named (map (λ x. x.0) (or_else o [] (λ found. or_else (as_array found) [] inputs_in)))
+unfolding value_faults
+at_inputs p whole None e = none
+at_inputs p whole (Some found) e =
+    in_inputs p (as_array found) (nil_right (broken (kind.Objects schema.Input) p found) _ (nil_left (value_faults 2 (kind.Objects schema.Input) p whole found) [] e))
 
-at_outputs : (p : Path) (o : Option Data) → or_else o [] (λ found. or_else (as_array found) (unless false rule.Kind p) (artifacts Output [] p 0)) ≡ [] → Named (or_else o [] (λ found. or_else (as_array found) [] outputs_in))
-at_outputs p None e = none
-at_outputs p (Some found) e = in_outputs p (as_array found) e
+at_outputs : (p : Path) (whole : Data) (o : Option Data) → or_else o [] (λ found. value_faults 2 (kind.Objects schema.Output) p whole found ++ []) ≡ [] → Named (or_else o [] (λ found. or_else (as_array found) [] outputs_in))
+unfolding value_faults
+at_outputs p whole None e = none
+at_outputs p whole (Some found) e =
+    in_outputs p (as_array found) (nil_right (broken (kind.Objects schema.Output) p found) _ (nil_left (value_faults 2 (kind.Objects schema.Output) p whole found) [] e))
 
-config_named : (p : Path) (d : Data) → config_faults p d ≡ [] → Named (artifact_names (config (config_from d)))
-unfolding config_faults config_rest artifact_list
+config_named : (p : Path) (d : Data) → object_faults (value_faults 2) [] schema.Config p d ≡ [] → Named (artifact_names (config (config_from d)))
+unfolding object_faults
 config_named p d e =
-    let rest = nil_right (run_at p d) _ (nil_right (required kind.Object p (codes "run") d) _ (nil_right (unless (is_some (as_object d)) rule.Kind p) _ e)) in
-    let outputs = nil_left (artifact_list Output p (codes "outputs") d) _ (nil_right (artifact_list Input p (codes "inputs") d) _ rest) in
-    and _ _ (at_inputs (path_below p (codes "inputs")) (at_key (codes "inputs") d) (nil_left (artifact_list Input p (codes "inputs") d) _ rest))
-    (at_outputs (path_below p (codes "outputs")) (at_key (codes "outputs") d) outputs)
+    let keys = nil_right (unless (is_some (as_object d)) rule.Kind p) _ e in
+    let rest = nil_right (row_faults (value_faults 2) [] (Must, kind.Object schema.Run, codes "run") p d) _ keys in
+    let inputs = nil_left _ _ rest in
+    let outputs = nil_left _ _ (nil_right (row_faults (value_faults 2) [] (May, kind.Objects schema.Input, codes "inputs") p d) _ rest) in
+    and _ _ (at_inputs (path_below p (codes "inputs")) d (at_key (codes "inputs") d) inputs)
+    (at_outputs (path_below p (codes "outputs")) d (at_key (codes "outputs") d) outputs)
 
-at_config : (p : Path) (path : List ℕ) (other : Faults) (o : Option Data) → or_else o other (config_faults p) ≡ [] → Named (artifact_names (or_else o (file path) (λ found. config (config_from found))))
-at_config p path other None e = none
-at_config p path other (Some found) e = config_named p found e
+at_config : (p : Path) (whole : Data) (path : List ℕ) (o : Option Data) → or_else o (absent Must p) (λ found. value_faults 3 (kind.Object schema.Config) p whole found ++ []) ≡ [] → Named (artifact_names (or_else o (file path) (λ found. config (config_from found))))
+unfolding value_faults
+at_config p whole path None e = none
+at_config p whole path (Some found) e =
+    config_named p found (nil_right (broken (kind.Object schema.Config) p found) _ (nil_left (value_faults 3 (kind.Object schema.Config) p whole found) [] e))
 
-task_named : (p : Path) (d : Data) → task_faults p d ≡ [] → Named (artifact_names (source_from d))
-unfolding task_faults task_source
-task_named p d e =
-    at_config (path_below p (codes "config")) _ _ (at_key (codes "config") d) (nil_left (task_source p d) _ (nil_right (optional kind.Text p (codes "task") d) _ e))
+task_named : (before : List (List ℕ)) (p : Path) (d : Data) → key_faults (value_faults 3) before (opening schema.Task) p d ≡ [] → Named (artifact_names (source_from d))
+task_named before p d e =
+    let rest = nil_right (row_faults (value_faults 3) before (Must, kind.Text, codes "task") p d) _ e in
+    at_config (path_below p (codes "config")) d _ (at_key (codes "config") d) (nil_left _ _ rest)
+
+no_config : (path : List ℕ) (o : Option Data) → is_some o ≡ false → Named (artifact_names (or_else o (file path) (λ found. config (config_from found))))
+no_config path None e = none
+no_config path (Some found) e = absurd (cc (e))
 
 pub opened_own : (before : List (List ℕ)) (p : Path) (n : ℕ) (d : Data) → opening_faults before p n d ≡ [] → own_keys before p d ≡ []
 unfolding opening_faults
 opened_own before p n d e = nil_right (kind_faults p d) _ (nil_right (shape_faults p n d) _ e)
 
-get_named : (before : List (List ℕ)) (p : Path) (d : Data) → own_keys before p d ≡ [] → is_some (at_key (codes "get") d) ≡ true → is_name (text_or [] (codes "get") d) ≡ true
-unfolding own_keys get_faults
+pub get_named : (before : List (List ℕ)) (p : Path) (d : Data) → own_keys before p d ≡ [] → is_some (at_key (codes "get") d) ≡ true → IsNamed before (codes "get") d
+unfolding own_keys
 get_named before p d e a =
-    let own : get_faults before p d ≡ [] = rw a at e in
-    new_named before p (codes "get") d (nil_left (new_name before p (codes "get") d) _ own)
+    let own : key_faults (value_faults 3) before (opening schema.Get) p d ≡ [] = rw a at e in
+    new_name 2 before p (codes "get") d (nil_left _ _ own)
 
 put_named : (before : List (List ℕ)) (p : Path) (d : Data) → own_keys before p d ≡ [] → is_some (at_key (codes "get") d) ≡ false → is_some (at_key (codes "put") d) ≡ true → is_name (text_or [] (codes "put") d) ≡ true
 unfolding own_keys
 put_named before p d e a b =
-    let own : optional_keys put_keys p d ≡ [] = rw (a, b) at e in
-    optional_at (path_below p (codes "put")) (at_key (codes "put") d) b (nil_left (optional kind.Name p (codes "put") d) _ own)
+    let own : key_faults (value_faults 3) before (opening schema.Put) p d ≡ [] = rw (a, b) at e in
+    must_name 2 before p (codes "put") d (nil_left _ _ own)
+
+-- a task has its config, or a file that says it
+of_task : (before : List (List ℕ)) (p : Path) (d : Data) (b c : Bool) → is_some (at_key (codes "config") d) ≡ b → is_some (at_key (codes "file") d) ≡ c → key_faults (value_faults 3) before (opening (if not b && c then schema.FileTask else schema.Task)) p d ≡ [] → Named (artifact_names (source_from d))
+of_task before p d true c is there e = task_named before p d e
+of_task before p d false true is there e = no_config _ (at_key (codes "config") d) is
+of_task before p d false false is there e = task_named before p d e
 
 done_named : (before : List (List ℕ)) (p : Path) (d : Data) → own_keys before p d ≡ [] → is_some (at_key (codes "get") d) ≡ false → is_some (at_key (codes "put") d) ≡ false → is_some (at_key (codes "task") d) ≡ true → Named (artifact_names (source_from d))
 unfolding own_keys
 done_named before p d e a b c =
-    let own : task_faults p d ≡ [] = rw (a, b, c) at e in
-    task_named p d own
+    of_task before p d (is_some (at_key (codes "config") d)) (is_some (at_key (codes "file") d)) refl refl (rw (a, b, c) at e)
 
 -- a step whose names are names
 abbrev InStep : Tree → Type 0
@@ -136,7 +140,7 @@ InStep t = Named (names t)
 
 leaves : (before : List (List ℕ)) (p : Path) (d : Data) → own_keys before p d ≡ [] → Leaves InStep d
 leaves before p d e = record {
-  getting = λ a. one _ (get_named before p d e a);
+  getting = λ a. one _ (get_named before p d e a).name;
   putting = λ a b. one _ (put_named before p d e a b);
   doing = λ a b c. done_named before p d e a b c;
 }

@@ -5,38 +5,41 @@ use Rattle.serde_json.specs.Data.{Data, Items, no_items, item}
 use Rattle.serde_json.specs.Find.{as_array, as_object}
 use Rattle.ccr_pipeline.specs.declared.fault.Rule.{Rule}
 use Rattle.ccr_pipeline.specs.declared.fault.Rule.TheVariants as rule
-use Rattle.ccr_pipeline.specs.declared.kind.Kind.TheVariants as kind
+use Rattle.ccr_pipeline.specs.declared.schema.Kind.TheVariants as kind
+use Rattle.ccr_pipeline.specs.declared.schema.Need.TheVariants.{New}
+use Rattle.ccr_pipeline.specs.declared.schema.Schema.TheVariants as schema
 use Rattle.ccr_pipeline.specs.declared.check_job.Member.{Member}
 use Rattle.ccr_pipeline.specs.declared.check_job.Member.TheVariants.{Resource, Job}
 use Rattle.ccr_pipeline.specs.Faults.{Path, unless}
-use Rattle.ccr_pipeline.specs.Keys.{at_key, or_else, path_at, path_below}
-use Rattle.ccr_pipeline.specs.Kinds.{is_name, required, optional_keys}
-use Rattle.ccr_pipeline.specs.Meaning.{text_or}
-use Rattle.ccr_pipeline.specs.Names.{names_at, new_name}
+use Rattle.ccr_pipeline.specs.Keys.{at_key, or_else, path_at}
+use Rattle.ccr_pipeline.specs.Names.{names_at}
+use Rattle.ccr_pipeline.specs.Objects.{row_faults, key_faults, object_faults, value_faults}
 use Rattle.ccr_pipeline.specs.Places.{plan_steps, job_hooks}
+use Rattle.ccr_pipeline.specs.Schema.{closing}
 use Rattle.ccr_pipeline.specs.StepRules.{visits}
-use Rattle.ccr_pipeline.specs.JobRules.{resource_faults, resource_keys, member_faults, job_opening, job_rest, after_plan, too_many, job_faults, job_keys, members, member_items, member_list}
+use Rattle.ccr_pipeline.specs.JobRules.{member_faults, job_rest, after_plan, too_many, members, member_items, member_list}
 use Rattle.ccr_pipeline.specs.Pipelines.{resource_items, job_items, IsResource, IsJob, EachItem}
 use Rattle.ccr_pipeline.specs.Reading.{list_faults, pipeline_faults}
 use Rattle.ccr_pipeline.proofs.Shallow.{shallow}
 use Rattle.ccr_pipeline.proofs.Distinct.{distinct_inputs}
 use Rattle.ccr_pipeline.proofs.Tries.{few_tries}
-use Rattle.ccr_pipeline.proofs.Named.{new_named, required_at, well_named}
-use Rattle.ccr_pipeline.proofs.Unfaulted.{nil_left, nil_right, Planned, planned}
+use Rattle.ccr_pipeline.proofs.Named.{well_named}
+use Rattle.ccr_pipeline.proofs.Rows.{nil_left, nil_right, new_name, must_name}
+use Rattle.ccr_pipeline.proofs.Unfaulted.{Planned, planned}
 
 holds : (b : Bool) (r : Rule) (p : Path) → unless b r p ≡ [] → IsTrue b
 holds true r p e = refl
 holds false r p e = cc
 
-kept_job : (names : List (List ℕ)) (p : Path) (d : Data) → job_faults names p d ≡ [] → IsJob d
-unfolding job_faults job_opening job_rest after_plan too_many
+kept_job : (names : List (List ℕ)) (p : Path) (d : Data) → member_faults Job names p d ≡ [] → IsJob d
+unfolding object_faults job_rest after_plan too_many
 kept_job names p d e =
-    let opening = nil_left (job_opening names p d) _ e in
-    let rest : job_rest p d ≡ [] = nil_right (job_opening names p d) _ e in
+    let keys = nil_right (unless (is_some (as_object d)) rule.Kind p) _ (nil_left (object_faults (value_faults 3) names schema.Job p d) _ e) in
+    let rest : job_rest p d ≡ [] = nil_right (object_faults (value_faults 3) names schema.Job p d) _ e in
     let plan : Planned d = planned p d rest in (
-      new_named names p (codes "name") d (nil_left (new_name names p (codes "name") d) _ (nil_right _ (new_name names p (codes "name") d ++ _) opening)),
+      (new_name 2 names p (codes "name") d (nil_left _ _ keys)).name,
       record {
-        few = holds _ _ _ (nil_right (visits _ (job_hooks p d)) _ (nil_right (optional_keys job_keys p d) _ (nil_right (visits [] (plan_steps p d)) _ rest)));
+        few = holds _ _ _ (nil_right (visits _ (job_hooks p d)) _ (nil_right (key_faults (value_faults 3) [] (closing schema.Job) p d) _ (nil_right (visits [] (plan_steps p d)) _ rest)));
         distinct = distinct_inputs p d rest;
         shallow = shallow d plan;
         few_tries = few_tries d plan;
@@ -44,13 +47,12 @@ kept_job names p d e =
       },
     )
 
-kept_resource : (names : List (List ℕ)) (p : Path) (d : Data) → resource_faults names p d ≡ [] → IsResource d
-unfolding resource_faults resource_keys
+kept_resource : (names : List (List ℕ)) (p : Path) (d : Data) → member_faults Resource names p d ≡ [] → IsResource d
+unfolding object_faults
 kept_resource names p d e =
     let keys = nil_right (unless (is_some (as_object d)) rule.Kind p) _ e in
-    let name : is_name (text_or [] (codes "name") d) ≡ true = new_named names p (codes "name") d (nil_left (new_name names p (codes "name") d) _ keys) in
-    let kind : is_name (text_or [] (codes "type") d) ≡ true = required_at (path_below p (codes "type")) (at_key (codes "type") d) (nil_left (required kind.Name p (codes "type") d) _ (nil_right (new_name names p (codes "name") d) _ keys)) in
-    and_from _ _ name kind
+    let rest = nil_right (row_faults (value_faults 3) names (New, kind.Name, codes "name") p d) _ keys in
+    and_from _ _ (new_name 2 names p (codes "name") d (nil_left _ _ keys)).name (must_name 2 [] p (codes "type") d (nil_left _ _ rest))
 
 -- where no fault is present in a list of resources or of jobs, none is in its members
 module _ (m : Member) (k : Path) where

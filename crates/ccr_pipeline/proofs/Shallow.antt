@@ -14,7 +14,8 @@ use Rattle.ccr_pipeline.specs.StepRules.{shape_faults, opening_faults}
 use Rattle.ccr_pipeline.specs.Places.{steps_from, tries_below}
 use Rattle.ccr_pipeline.specs.Tree.{Tree, trees_of, hook, attempts}
 use Rattle.ccr_pipeline.proofs.Kept.{Holds, Leaves, action-kept, hooks-kept, plan-kept}
-use Rattle.ccr_pipeline.proofs.Unfaulted.{nil_left, nil_right, Unfaulted, Opened, opened, Planned}
+use Rattle.ccr_pipeline.proofs.Rows.{nil_left, nil_right}
+use Rattle.ccr_pipeline.proofs.Unfaulted.{Unfaulted, Opened, opened, Planned}
 
 -- at most so many levels
 abbrev pub Within : ℕ → Tree → Type 0

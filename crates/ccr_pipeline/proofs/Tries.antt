@@ -14,10 +14,11 @@ use Rattle.ccr_pipeline.specs.Limits.{tries, TriesFit, AllTriesFit}
 use Rattle.ccr_pipeline.specs.Places.{tries_below}
 use Rattle.ccr_pipeline.specs.Plans.{plan_from}
 use Rattle.ccr_pipeline.specs.Steps.{step_tree, with_attempts, action}
-use Rattle.ccr_pipeline.specs.StepRules.{closing_faults, no_count, fail_fast_faults}
+use Rattle.ccr_pipeline.specs.StepRules.{closing_faults, no_count, parallel_rest}
 use Rattle.ccr_pipeline.specs.Tree.{Tree, trees_of, attempts, hook}
 use Rattle.ccr_pipeline.proofs.Kept.{Holds, Leaves, action-kept, hooks-kept, plan-kept}
-use Rattle.ccr_pipeline.proofs.Unfaulted.{nil_right, passes, Unfaulted, Opened, opened, Planned}
+use Rattle.ccr_pipeline.proofs.Rows.{nil_right, passes}
+use Rattle.ccr_pipeline.proofs.Unfaulted.{Unfaulted, Opened, opened, Planned}
 
 and_left : (a b : Bool) → (a && b) ≡ true → a ≡ true
 and_left true b e = refl
@@ -86,7 +87,7 @@ tried_hook t o w s h a b = ((a.0, rw a.1 b), a.1)
 
 closed_few : (p : Path) (t : ℕ) (d : Data) → closing_faults p t d ≡ [] → IfSome (option_and_then as_u64 (option_and_then as_number (at_key (codes "attempts") d))) (Few t)
 unfolding closing_faults
-closed_few p t d e = few_attempts t (path_below p (codes "attempts")) (at_key (codes "attempts") d) (nil_right (fail_fast_faults p d) _ e)
+closed_few p t d e = few_attempts t (path_below p (codes "attempts")) (at_key (codes "attempts") d) (nil_right (parallel_rest p d) _ e)
 
 fit : (n t : ℕ) (d : Data) → t ≤ 10000 → Unfaulted n t d → TriesFit t (step_tree n d)
 unfolding step_tree

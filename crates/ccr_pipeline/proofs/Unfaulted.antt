@@ -1,27 +1,17 @@
 -- Where no fault is present in a step's visits, none is in those of the steps in it.
-use Rattle.std.proofs.Common.{◌≡◌, ℕ, suc, List, [], ◌∷◌, ◌++◌, Bool, true, false, refl, append_assoc}
+use Rattle.std.proofs.Common.{◌≡◌, ℕ, suc, List, [], ◌∷◌, ◌++◌, refl, append_assoc}
 use Rattle.std.proofs.lemmas.List.{append-nil}
 use Rattle.std.specs.List.{flat_map}
 use Rattle.serde_json.specs.Data.{Data}
-use Rattle.ccr_pipeline.specs.declared.fault.Rule.{Rule}
-use Rattle.ccr_pipeline.specs.Faults.{Path, Faults, unless}
-use Rattle.ccr_pipeline.specs.JobRules.{job_rest, after_plan, job_keys}
-use Rattle.ccr_pipeline.specs.Kinds.{optional_keys}
+use Rattle.ccr_pipeline.specs.declared.schema.Schema.TheVariants as schema
+use Rattle.ccr_pipeline.specs.Faults.{Path}
+use Rattle.ccr_pipeline.specs.JobRules.{job_rest, after_plan}
+use Rattle.ccr_pipeline.specs.Objects.{key_faults, value_faults}
 use Rattle.ccr_pipeline.specs.Places.{Spot, gets_at, plan_steps, job_hooks, tries_below}
+use Rattle.ccr_pipeline.specs.Schema.{closing}
 use Rattle.ccr_pipeline.specs.StepRules.{visits, opening_faults, closing_faults}
 use Rattle.ccr_pipeline.proofs.Inside.{OwnSteps, Hooks, Inside, Opened as OpenedBy, opened as opened_by, Planned as PlannedBy, planned as planned_by}
-
-pub nil_left : (xs ys : Faults) → xs ++ ys ≡ [] → xs ≡ []
-nil_left [] ys e = refl
-nil_left (x ∷ xs) ys e = cc
-
-pub nil_right : (xs ys : Faults) → xs ++ ys ≡ [] → ys ≡ []
-nil_right [] ys e = e
-nil_right (x ∷ xs) ys e = cc
-
-pub passes : (b : Bool) (r : Rule) (p : Path) → unless b r p ≡ [] → b ≡ true
-passes true r p e = refl
-passes false r p e = cc
+use Rattle.ccr_pipeline.proofs.Rows.{nil_left, nil_right}
 
 pub visits-append : (names : List (List ℕ)) (xs ys : List Spot) → visits names (xs ++ ys) ≡ visits names xs ++ visits (names ++ flat_map gets_at xs) ys
 visits-append names [] ys = rw append-nil refl
@@ -72,7 +62,7 @@ unfaulted_plan p d e = ([], nil_left (visits [] (plan_steps p d)) _ e)
 pub unfaulted_hooks : (p : Path) (d : Data) → job_rest p d ≡ [] → IsUnfaulted (job_hooks p d)
 unfolding job_rest after_plan
 unfaulted_hooks p d e =
-    (_, nil_left (visits _ (job_hooks p d)) _ (nil_right (optional_keys job_keys p d) _ (nil_right (visits [] (plan_steps p d)) _ e)))
+    (_, nil_left (visits _ (job_hooks p d)) _ (nil_right (key_faults (value_faults 3) [] (closing schema.Job) p d) _ (nil_right (visits [] (plan_steps p d)) _ e)))
 
 pub planned : (p : Path) (d : Data) → job_rest p d ≡ [] → Planned d
 planned p d e = planned_by IsUnfaulted unfaulted_parts p d (unfaulted_plan p d e) (unfaulted_hooks p d e)

@@ -1,45 +1,25 @@
 -- What is broken in resources and jobs.
-use Rattle.std.specs.Prelude.{ℕ, ◌+◌, List, [], ◌∷◌, ◌++◌, false, nat_le, is_some, codes}
+use Rattle.std.specs.Prelude.{ℕ, ◌+◌, List, [], ◌∷◌, ◌++◌, false, nat_le, codes}
 use Rattle.std.specs.List.{flat_map}
 use Rattle.serde_json.specs.Data.{Data, Items, no_items, item}
 use Rattle.serde_json.specs.Events.{items_len}
-use Rattle.serde_json.specs.Find.{as_object, as_array}
+use Rattle.serde_json.specs.Find.{as_array}
 use Rattle.ccr_pipeline.specs.declared.fault.Rule.TheVariants as rule
-use Rattle.ccr_pipeline.specs.declared.kind.Kind.{Kind}
-use Rattle.ccr_pipeline.specs.declared.kind.Kind.TheVariants as kind
 use Rattle.ccr_pipeline.specs.declared.check_job.Member.{Member}
 use Rattle.ccr_pipeline.specs.declared.check_job.Member.TheVariants.{Resource, Job}
 use Rattle.ccr_pipeline.specs.declared.check_job.TheConstants.{MOST_MEMBERS}
+use Rattle.ccr_pipeline.specs.declared.schema.Schema.{Schema}
+use Rattle.ccr_pipeline.specs.declared.schema.Schema.TheVariants as schema
+use Rattle.ccr_pipeline.specs.declared.schema.TheConstants.{NESTED}
 use Rattle.ccr_pipeline.specs.Faults.{Path, Faults, unless}
 use Rattle.ccr_pipeline.specs.Inputs.{inputs, are_few}
 use Rattle.ccr_pipeline.specs.Plans.{plan_from}
-use Rattle.ccr_pipeline.specs.Keys.{at_key, or_else, path_below, path_at}
-use Rattle.ccr_pipeline.specs.Kinds.{required, optional_keys}
-use Rattle.ccr_pipeline.specs.Names.{names_at, new_name}
+use Rattle.ccr_pipeline.specs.Keys.{at_key, or_else, list_at, path_below, path_at}
+use Rattle.ccr_pipeline.specs.Names.{names_at}
+use Rattle.ccr_pipeline.specs.Objects.{key_faults, object_faults, value_faults}
 use Rattle.ccr_pipeline.specs.Places.{plan_steps, job_hooks, gets_at}
+use Rattle.ccr_pipeline.specs.Schema.{closing}
 use Rattle.ccr_pipeline.specs.StepRules.{visits}
-
--- the keys of a resource after its name
-unfoldable pub resource_keys : Path → Data → Faults
-resource_keys p d =
-    required kind.Name p (codes "type") d
-    ++ optional_keys ((kind.Params, codes "source") ∷ (kind.Fields, codes "version") ∷ []) p d
-
--- a resource, after those of these names
-unfoldable pub resource_faults : List (List ℕ) → Path → Data → Faults
-resource_faults names p d =
-    unless (is_some (as_object d)) rule.Kind p ++ (new_name names p (codes "name") d ++ resource_keys p d)
-
--- the keys of a job between its plan and its hooks
-abbrev pub job_keys : List (Kind × List ℕ)
-job_keys = (kind.Truth, codes "serial") ∷ (kind.Texts, codes "serial_groups") ∷ (kind.Whole, codes "max_in_flight") ∷ []
-
--- a job has a new name and a plan
-unfoldable pub job_opening : List (List ℕ) → Path → Data → Faults
-job_opening names p d =
-    unless (is_some (as_object d)) rule.Kind p
-    ++ (new_name names p (codes "name") d
-    ++ required kind.List p (codes "plan") d)
 
 -- at most 32 inputs, which name at most 32 jobs
 unfoldable pub too_many : Path → Data → Faults
@@ -48,20 +28,17 @@ too_many p d = unless (are_few (inputs (plan_from d))) rule.Number (path_below p
 -- the job's keys after its plan, its hooks, and the number of its inputs and named jobs, where the plan's gets have
 -- these names
 unfoldable pub after_plan : List (List ℕ) → Path → Data → Faults
-after_plan gets p d = optional_keys job_keys p d ++ (visits gets (job_hooks p d) ++ too_many p d)
+after_plan gets p d =
+    key_faults (value_faults NESTED) [] (closing schema.Job) p d ++ (visits gets (job_hooks p d) ++ too_many p d)
 
 -- the steps of the plan, and what comes after it
 unfoldable pub job_rest : Path → Data → Faults
 job_rest p d = visits [] (plan_steps p d) ++ after_plan (flat_map gets_at (plan_steps p d)) p d
 
--- a job, after those of these names
-unfoldable pub job_faults : List (List ℕ) → Path → Data → Faults
-job_faults names p d = job_opening names p d ++ job_rest p d
-
 -- what is broken in a member of one list or the other, after those of these names
 abbrev pub member_faults : Member → List (List ℕ) → Path → Data → Faults
-member_faults Resource names p d = resource_faults names p d
-member_faults Job names p d = job_faults names p d
+member_faults Resource names p d = object_faults (value_faults NESTED) names schema.Resource p d
+member_faults Job names p d = object_faults (value_faults NESTED) names schema.Job p d ++ job_rest p d
 
 -- resources or jobs from position i on, after those of these names
 abbrev pub members : Member → List (List ℕ) → Path → ℕ → Items → Faults
@@ -85,4 +62,4 @@ names_in (item d ds) = names_at (codes "name") d ++ names_in ds
 
 -- the names of the members of the list at a key
 abbrev pub list_names : List ℕ → Data → List (List ℕ)
-list_names k d = or_else (at_key k d) [] (λ found. or_else (as_array found) [] names_in)
+list_names k d = names_in (list_at k d)

@@ -1,17 +1,13 @@
--- The kinds of value that a key may have.
-use Rattle.std.specs.Prelude.{ℕ, ◌+◌, List, [], ◌∷◌, ◌++◌, length, map, Bool, true, false, not, ◌&&◌, ◌||◌, ◌==◌, nat_le, nat_eq, is_some, option_and_then, codes}
-use Rattle.std.specs.Borrow.{Bor}
+-- Names, and values whose parts are texts.
+use Rattle.std.specs.Prelude.{ℕ, ◌+◌, List, [], ◌++◌, length, Bool, true, false, not, ◌&&◌, ◌==◌, nat_le, nat_eq, is_some, codes}
 use Rattle.std.specs.List.{list_all}
 use Rattle.std.specs.Str.{bytes_eq}
 use Rattle.serde_json.specs.Data.{Data, Items, no_items, item, Members, no_members, member}
-use Rattle.serde_json.specs.Find.{as_str, as_bool, as_number, as_u64, as_array, as_object}
-use Rattle.serde_json.specs.Written.{has_float}
+use Rattle.serde_json.specs.Find.{as_str, as_object}
 use Rattle.ccr_pipeline.specs.declared.fault.Rule.TheVariants as rule
-use Rattle.ccr_pipeline.specs.declared.kind.Kind.{Kind}
-use Rattle.ccr_pipeline.specs.declared.kind.Kind.TheVariants as kind
 use Rattle.ccr_pipeline.specs.declared.kind.TheConstants.{MOST_NAME_BYTES}
 use Rattle.ccr_pipeline.specs.Faults.{Path, Faults, unless}
-use Rattle.ccr_pipeline.specs.Keys.{at_key, or_else, path_below, path_at}
+use Rattle.ccr_pipeline.specs.Keys.{or_else, path_below, path_at}
 
 -- the value is a text
 abbrev pub is_text : Data → Bool
@@ -45,39 +41,3 @@ is_empty (member k d ms) = false
 -- an object whose fields are all texts
 abbrev pub broken_pin : Path → Data → Faults
 broken_pin p d = or_else (as_object d) (unless false rule.Kind p) (λ ms. broken_fields p ms)
-
--- what keeps the value at a path from being of a kind
-unfoldable pub broken : Kind → Path → Data → Faults
-broken kind.Text p d = unless (is_text d) rule.Kind p
-broken kind.Name p d = or_else (as_str d) (unless false rule.Kind p) (λ s. unless (is_name s) rule.Name p)
-broken kind.Texts p d = or_else (as_array d) (unless false rule.Kind p) (λ ds. broken_texts p 0 ds)
-broken kind.Truth p d = unless (is_some (as_bool d)) rule.Kind p
-broken kind.Whole p d = unless (is_some (option_and_then as_u64 (as_number d))) rule.Kind p
-broken kind.List p d = unless (is_some (as_array d)) rule.Kind p
-broken kind.Object p d = unless (is_some (as_object d)) rule.Kind p
-broken kind.Params p d =
-    or_else (as_object d) (unless false rule.Kind p) (λ ms. unless (not (has_float d)) rule.Whole p)
-broken kind.Fields p d = broken_pin p d
-broken kind.Nothing p d = or_else (as_object d) (unless false rule.Kind p) (λ ms. unless (is_empty ms) rule.Supported p)
-broken kind.Wanted p d =
-    or_else (as_str d) (broken_pin p d)
-    (λ s. unless (bytes_eq s (codes "latest") || bytes_eq s (codes "every")) rule.Kind p)
-broken kind.Undone p d = unless false rule.Supported p
-
--- a key that may be absent
-abbrev pub optional : Kind → Path → List ℕ → Data → Faults
-optional k p key d = or_else (at_key key d) [] (broken k (path_below p key))
-
--- a key that has to be there
-abbrev pub required : Kind → Path → List ℕ → Data → Faults
-required k p key d =
-    or_else (at_key key d) (unless false rule.Presence (path_below p key)) (broken k (path_below p key))
-
--- a table of keys with their kinds
-abbrev pub key_table : List (Kind × Bor (List ℕ)) → List (Kind × List ℕ)
-key_table keys = map (λ k. (k.0, k.1.now)) keys
-
--- keys that may be absent, in order
-abbrev pub optional_keys : List (Kind × List ℕ) → Path → Data → Faults
-optional_keys [] p d = []
-optional_keys (k ∷ ks) p d = optional k.0 p k.1 d ++ optional_keys ks p d

@@ -3,6 +3,7 @@ pub mod Keys
 pub mod Schema
 pub mod Kinds
 pub mod Names
+pub mod Objects
 pub mod Places
 pub mod TaskRules
 pub mod StepRules

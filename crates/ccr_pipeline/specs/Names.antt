@@ -1,15 +1,11 @@
 -- Names that may not be repeated.
-use Rattle.std.specs.Prelude.{ℕ, List, [], ◌∷◌, ◌++◌, map, Bool, not, Option, option_and_then, String, string_bytes, if◌then◌else◌}
+use Rattle.std.specs.Prelude.{ℕ, List, [], ◌∷◌, ◌++◌, map, Bool, Option, option_and_then, String, string_bytes, if◌then◌else◌}
 use Rattle.std.specs.List.{list_any}
 use Rattle.std.specs.Str.{bytes_eq}
 use Rattle.std.specs.declared.alloc.Global.{Global}
 use Rattle.serde_json.specs.Data.{Data, Items, no_items, item}
 use Rattle.serde_json.specs.Find.{as_str}
-use Rattle.ccr_pipeline.specs.declared.fault.Rule.TheVariants as rule
-use Rattle.ccr_pipeline.specs.declared.kind.Kind.TheVariants as kind
-use Rattle.ccr_pipeline.specs.Faults.{Path, Faults, unless}
-use Rattle.ccr_pipeline.specs.Keys.{at_key, or_else, path_below}
-use Rattle.ccr_pipeline.specs.Kinds.{required}
+use Rattle.ccr_pipeline.specs.Keys.{at_key, or_else}
 
 -- texts by their bytes
 abbrev pub names_of : List (String Global) → List (List ℕ)
@@ -30,12 +26,6 @@ text_at k d = option_and_then as_str (at_key k d)
 -- the name at a key, if a text is there
 abbrev pub names_at : List ℕ → Data → List (List ℕ)
 names_at k d = or_else (text_at k d) [] (λ name. name ∷ [])
-
--- what is broken where a name has to be there that isn't among the names before
-unfoldable pub new_name : List (List ℕ) → Path → List ℕ → Data → Faults
-new_name names p k d =
-    required kind.Name p k d
-    ++ or_else (text_at k d) [] (λ name. unless (not (has_name names name)) rule.Once (path_below p k))
 
 -- the names with those of a list that they lack, in its order
 abbrev pub with_names : List (List ℕ) → List (List ℕ) → List (List ℕ)

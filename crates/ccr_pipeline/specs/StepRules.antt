@@ -1,20 +1,19 @@
--- What is broken in a step's own keys.
+-- What is broken in a step.
 use Rattle.std.specs.Prelude.{ℕ, ◌*◌, List, [], ◌∷◌, ◌++◌, false, ◌&&◌, nat_le, nat_lt, count_by, is_some, option_and_then, codes, if◌then◌else◌}
 use Rattle.serde_json.specs.Data.{Data}
-use Rattle.serde_json.specs.Find.{as_object, as_array, as_number, as_u64, as_i64}
+use Rattle.serde_json.specs.Find.{as_object, as_number, as_u64, as_i64}
 use Rattle.ccr_pipeline.specs.declared.fault.Rule.{Rule}
 use Rattle.ccr_pipeline.specs.declared.fault.Rule.TheVariants as rule
-use Rattle.ccr_pipeline.specs.declared.kind.Kind.{Kind}
-use Rattle.ccr_pipeline.specs.declared.kind.Kind.TheVariants as kind
 use Rattle.ccr_pipeline.specs.declared.place.Part.{Part}
 use Rattle.ccr_pipeline.specs.declared.place.Part.TheVariants.{Opening, Closing}
 use Rattle.ccr_pipeline.specs.declared.place.TheConstants.{MOST_ATTEMPTS, MOST_TRIES}
+use Rattle.ccr_pipeline.specs.declared.schema.Schema.TheVariants as schema
+use Rattle.ccr_pipeline.specs.declared.schema.TheConstants.{NESTED}
 use Rattle.ccr_pipeline.specs.Faults.{Path, Faults, unless}
 use Rattle.ccr_pipeline.specs.Keys.{at_key, or_else, path_below}
-use Rattle.ccr_pipeline.specs.Kinds.{optional, required, optional_keys}
-use Rattle.ccr_pipeline.specs.Names.{new_name}
+use Rattle.ccr_pipeline.specs.Objects.{key_faults, value_faults}
 use Rattle.ccr_pipeline.specs.Places.{Spot, gets_at}
-use Rattle.ccr_pipeline.specs.TaskRules.{task_faults}
+use Rattle.ccr_pipeline.specs.Schema.{opening, closing, schema_of}
 
 -- the keys that say a step's kind
 abbrev pub kind_keys : List (List ℕ)
@@ -24,57 +23,16 @@ kind_keys = codes "get" ∷ codes "put" ∷ codes "task" ∷ codes "do" ∷ code
 abbrev pub kinds : Data → ℕ
 kinds d = count_by (λ k. is_some (at_key k d)) kind_keys
 
--- what isn't done here
-abbrev pub undone_keys : List (Kind × List ℕ)
-undone_keys =
-    (kind.Undone, codes "across") ∷ (kind.Undone, codes "set_pipeline") ∷ (kind.Undone, codes "load_var")
-    ∷ (kind.Undone, codes "aggregate") ∷ []
-
--- the own keys of a get after its name
-abbrev pub get_keys : List (Kind × List ℕ)
-get_keys =
-    (kind.Text, codes "resource") ∷ (kind.Texts, codes "passed") ∷ (kind.Truth, codes "trigger")
-    ∷ (kind.Params, codes "params") ∷ (kind.Wanted, codes "version") ∷ []
-
--- the own keys of a put
-abbrev pub put_keys : List (Kind × List ℕ)
-put_keys =
-    (kind.Name, codes "put") ∷ (kind.Text, codes "resource") ∷ (kind.Params, codes "params")
-    ∷ (kind.Params, codes "get_params") ∷ (kind.Truth, codes "no_get") ∷ []
-
--- the own keys of a get, after gets of these names
-unfoldable pub get_faults : List (List ℕ) → Path → Data → Faults
-get_faults names p d = new_name names p (codes "get") d ++ optional_keys get_keys p d
-
--- in_parallel has a list, or an object with a list of steps
-unfoldable pub parallel_object : Path → Data → Faults
-parallel_object p d = unless (is_some (as_object d)) rule.Kind p ++ required kind.List p (codes "steps") d
-
--- what is broken in the value of in_parallel
-unfoldable pub parallel_faults : Path → Data → Faults
-parallel_faults p d = if is_some (as_array d) then [] else parallel_object p d
-
--- what is broken at in_parallel, if it is there
-unfoldable pub parallel_at : Path → Data → Faults
-parallel_at p d = or_else (at_key (codes "in_parallel") d) [] (parallel_faults (path_below p (codes "in_parallel")))
-
--- the own keys of a step that holds steps
-unfoldable pub holder_keys : Path → Data → Faults
-holder_keys p d = optional kind.List p (codes "do") d ++ parallel_at p d
-
 -- the keys before the steps that they hold, by the step's kind
 unfoldable pub own_keys : List (List ℕ) → Path → Data → Faults
-own_keys names p d =
-    if is_some (at_key (codes "get") d) then get_faults names p d else
-    (if is_some (at_key (codes "put") d) then optional_keys put_keys p d else
-    (if is_some (at_key (codes "task") d) then task_faults p d else holder_keys p d))
+own_keys names p d = key_faults (value_faults NESTED) names (opening (schema_of d)) p d
 
 -- a step is an object, not too deep, without a key that isn't done here
 unfoldable pub shape_faults : Path → ℕ → Data → Faults
 shape_faults p left d =
     unless (is_some (as_object d)) rule.Kind p
     ++ (unless (nat_lt 0 left) rule.Depth p
-    ++ optional_keys undone_keys p d)
+    ++ key_faults (value_faults NESTED) [] (opening schema.Undone) p d)
 
 -- a step is of one kind
 unfoldable pub kind_faults : Path → Data → Faults
@@ -95,15 +53,15 @@ attempts_faults p tries d = or_else (at_key (codes "attempts") d) [] (λ found.
     (λ n. unless (nat_le 1 n && (nat_le n MOST_ATTEMPTS && nat_le (tries * n) MOST_TRIES)) rule.Attempts
     (path_below p (codes "attempts"))))
 
--- fail_fast is true or false
-abbrev pub fail_fast_faults : Path → Data → Faults
-fail_fast_faults p d =
+-- the keys of the object of an in_parallel after its steps
+abbrev pub parallel_rest : Path → Data → Faults
+parallel_rest p d =
     or_else (at_key (codes "in_parallel") d) []
-    (optional kind.Truth (path_below p (codes "in_parallel")) (codes "fail_fast"))
+    (key_faults (value_faults NESTED) [] (closing schema.Parallel) (path_below p (codes "in_parallel")))
 
 -- the keys after the steps of a step
 unfoldable pub closing_faults : Path → ℕ → Data → Faults
-closing_faults p tries d = fail_fast_faults p d ++ attempts_faults p tries d
+closing_faults p tries d = parallel_rest p d ++ attempts_faults p tries d
 
 -- what is broken at a visit
 abbrev pub visit_by : Part → List (List ℕ) → Path → ℕ → ℕ → Data → Faults

@@ -4,14 +4,16 @@ ghost use Rattle.std.specs.List.{flat_map};
 ghost use Rattle.serde_json.specs.Events.{items_len};
 ghost use Rattle.serde_json.specs.View.{view, items_view};
 ghost use Rattle.ccr_pipeline.specs.Faults.{unless, Checks, ChecksAs, StartsWith, IsFirst, fault_of};
-ghost use Rattle.ccr_pipeline.specs.Keys.{at_key, or_else, path_below, path_at};
-ghost use Rattle.ccr_pipeline.specs.Kinds.{optional, required, broken, optional_keys, key_table};
-ghost use Rattle.ccr_pipeline.specs.Names.{names_at, new_name, with_names};
+ghost use Rattle.ccr_pipeline.specs.Keys.{at_key, or_else, list_at, path_below, path_at};
+ghost use Rattle.ccr_pipeline.specs.Names.{names_at, with_names};
+ghost use Rattle.ccr_pipeline.specs.Objects.{key_faults, object_faults, value_faults, new_names};
+ghost use Rattle.ccr_pipeline.specs.Schema.{opening, closing};
+ghost use Rattle.ccr_pipeline.specs.declared.check_job.Member.TheVariants.{Job};
+ghost use Rattle.ccr_pipeline.specs.declared.schema.Schema.TheVariants as schema;
 ghost use Rattle.ccr_pipeline.specs.Places.{spots, plan_steps, job_hooks, gets_at};
 ghost use Rattle.ccr_pipeline.specs.StepRules.{visits};
 ghost use Rattle.ccr_pipeline.specs.Inputs.{are_few, input_data, named_jobs};
-ghost use Rattle.ccr_pipeline.specs.JobRules.{resource_faults, resource_keys, job_faults, job_opening, job_rest};
-ghost use Rattle.ccr_pipeline.specs.JobRules.{after_plan, job_keys, too_many, member_faults, members, member_items};
+ghost use Rattle.ccr_pipeline.specs.JobRules.{job_rest, after_plan, too_many, member_faults, members, member_items};
 ghost use Rattle.ccr_pipeline.specs.JobRules.{names_in, member_list, list_names};
 
 use crate::build_job::plan;
@@ -19,9 +21,10 @@ use crate::check_step::check_places;
 use crate::fault::{ReadFault, Rule};
 use crate::input::{Input, inputs_in};
 use crate::key::{at_key, path_at, require, require_at};
-use crate::kind::{Kind, check_keys, required};
-use crate::names::{Names, check_new_name};
+use crate::names::Names;
+use crate::object::{check_object, check_rows};
 use crate::place::{LEVELS, Place, push_hooks, push_list};
+use crate::schema::{NESTED, Schema, closing};
 use serde_json::Value;
 use std::alloc::{AllocError, Global};
 
@@ -62,36 +65,6 @@ pub(crate) fn hook_places<'v>(
     let mut places = Vec::new(alloc);
     push_hooks(alloc, &mut places, job, path, LEVELS, 1)?;
     Ok(places)
-}
-
-#[tactic(auto, using(crate::proofs::Faulted::first_append), unfolding(crate::specs::JobRules::resource_keys))]
-fn check_resource_keys(alloc: Global, resource: &Value, path: &str) -> Result<(), ReadFault>
-    ensures { Checks (resource_keys path.now (view resource.now)) result }
-{
-    required(alloc, Kind::Name, resource, path, "type")?;
-    check_keys(
-        alloc,
-        &[(Kind::Params, "source"), (Kind::Fields, "version")],
-        resource,
-        path,
-    )
-}
-
-/// Refuses a resource (Concourse: resources) that breaks a rule, and adds its name to those of the resources.
-#[tactic(auto, using(crate::proofs::Faulted::first_append), unfolding(crate::specs::JobRules::resource_faults))]
-fn check_resource(
-    alloc: Global,
-    names: &mut Names,
-    resource: &Value,
-    path: &str,
-) -> Result<(), ReadFault>
-    ensures checked { Checks (resource_faults names.old path.now (view resource.now)) result }
-    ensures added { OnOk result
-        (names.new ≡ names.old ++ names_at (codes "name") (view resource.now)) }
-{
-    require(alloc, resource.is_object(), Rule::Kind, path)?;
-    check_new_name(alloc, names, resource, path, "name")?;
-    check_resource_keys(alloc, resource, path)
 }
 
 /// Adds the jobs that the inputs name in `passed`.
@@ -144,7 +117,8 @@ fn check_after_plan(
 ) -> Result<(), ReadFault>
     ensures { Checks (after_plan gets.old path.now (view job.now)) result }
 {
-    check_job_keys(alloc, job, path)?;
+    let mut none = Names::new(alloc);
+    check_rows(alloc, NESTED, closing(Schema::Job), &mut none, job, path)?;
     let hooks = hook_places(alloc, job, path)?;
     check_places(alloc, gets, &hooks)?;
     check_number(alloc, job, path)
@@ -161,46 +135,18 @@ fn check_job_rest(alloc: Global, job: &Value, path: &str) -> Result<(), ReadFaul
     check_after_plan(alloc, &mut gets, job, path)
 }
 
-fn check_job_keys(alloc: Global, job: &Value, path: &str) -> Result<(), ReadFault>
-    ensures { Checks (optional_keys job_keys path.now (view job.now)) result }
-{
-    check_keys(
-        alloc,
-        &[
-            (Kind::Truth, "serial"),
-            (Kind::Texts, "serial_groups"),
-            (Kind::Whole, "max_in_flight"),
-        ],
-        job,
-        path,
-    )
-}
-
-#[tactic(auto, using(crate::proofs::Faulted::first_append), unfolding(crate::specs::JobRules::job_opening))]
-fn check_job_opening(
-    alloc: Global,
-    names: &mut Names,
-    job: &Value,
-    path: &str,
-) -> Result<(), ReadFault>
-    ensures checked { Checks (job_opening names.old path.now (view job.now)) result }
-    ensures added { OnOk result (names.new ≡ names.old ++ names_at (codes "name") (view job.now)) }
-{
-    require(alloc, job.is_object(), Rule::Kind, path)?;
-    check_new_name(alloc, names, job, path, "name")?;
-    required(alloc, Kind::List, job, path, "plan")
-}
-
 /// Refuses a job (Concourse: jobs) that breaks a rule, and adds its name to those of the jobs.
-#[tactic(auto, using(crate::proofs::Faulted::first_append), unfolding(crate::specs::JobRules::job_faults))]
+#[tactic(auto, using(crate::proofs::Faulted::first_append))]
 fn check_job(alloc: Global, names: &mut Names, job: &Value, path: &str) -> Result<(), ReadFault>
-    ensures checked { Checks (job_faults names.old path.now (view job.now)) result }
-    ensures added { OnOk result (names.new ≡ names.old ++ names_at (codes "name") (view job.now)) }
+    ensures checked { Checks (member_faults Job names.old path.now (view job.now)) result }
+    ensures added { OnOk result (names.new ≡ names.old ++ new_names (opening schema.Job) (view job.now)) }
 {
-    check_job_opening(alloc, names, job, path)?;
+    check_object(alloc, NESTED, Schema::Job, names, job, path)?;
     check_job_rest(alloc, job, path)
 }
 
+/// Refuses a resource or a job that breaks a rule, and adds its name.
+#[tactic(auto, using(crate::proofs::TableNames::resource_names_are, crate::proofs::TableNames::job_names_are))]
 fn check_member(
     alloc: Global,
     member: Member,
@@ -212,7 +158,7 @@ fn check_member(
     ensures added { OnOk result (names.new ≡ names.old ++ names_at (codes "name") (view value.now)) }
 {
     match member {
-        Member::Resource => check_resource(alloc, names, value, path),
+        Member::Resource => check_object(alloc, NESTED, Schema::Resource, names, value, path),
         Member::Job => check_job(alloc, names, value, path),
     }
 }

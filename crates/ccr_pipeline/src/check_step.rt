@@ -1,23 +1,22 @@
-//! The tests of a step's own keys.
+//! The tests of steps.
 ghost use Rattle.std.specs.Prelude.{◌≡◌, ◌++◌, [], drop, codes, is_some, count_by, OnOk};
 ghost use Rattle.std.specs.List.{flat_map};
 ghost use Rattle.serde_json.specs.View.{view};
 ghost use Rattle.ccr_pipeline.specs.Faults.{unless, Checks, StartsWith, IsFirst, fault_of};
-ghost use Rattle.ccr_pipeline.specs.Keys.{at_key, or_else, path_below, path_at};
-ghost use Rattle.ccr_pipeline.specs.Kinds.{optional, required, broken, optional_keys, key_table};
-ghost use Rattle.ccr_pipeline.specs.Names.{names_at, new_name};
+ghost use Rattle.ccr_pipeline.specs.Keys.{at_key, or_else, path_below};
+ghost use Rattle.ccr_pipeline.specs.Names.{names_at};
+ghost use Rattle.ccr_pipeline.specs.Objects.{key_faults, value_faults, new_names};
 ghost use Rattle.ccr_pipeline.specs.Places.{spot, spots, gets_at};
-ghost use Rattle.ccr_pipeline.specs.StepRules.{kinds, undone_keys, get_faults, put_keys, parallel_object};
-ghost use Rattle.ccr_pipeline.specs.StepRules.{parallel_faults, parallel_at, holder_keys, shape_faults, kind_faults};
-ghost use Rattle.ccr_pipeline.specs.StepRules.{fail_fast_faults, own_keys, opening_faults, closing_faults};
-ghost use Rattle.ccr_pipeline.specs.StepRules.{attempts_faults, visit_faults, visits};
+ghost use Rattle.ccr_pipeline.specs.Schema.{opening, closing, schema_of};
+ghost use Rattle.ccr_pipeline.specs.StepRules.{kinds, own_keys, shape_faults, kind_faults, opening_faults};
+ghost use Rattle.ccr_pipeline.specs.StepRules.{parallel_rest, closing_faults, attempts_faults, visit_faults, visits};
 
-use crate::check_task::check_task;
 use crate::fault::{ReadFault, Rule};
 use crate::key::{at_key, path_below, require, require_at};
-use crate::kind::{Kind, check_keys, optional, required};
-use crate::names::{Names, check_new_name};
+use crate::names::Names;
+use crate::object::check_rows;
 use crate::place::{MOST_ATTEMPTS, MOST_TRIES, Part, Place};
+use crate::schema::{NESTED, Schema, closing, opening, schema_of};
 use serde_json::Value;
 use std::alloc::Global;
 
@@ -37,103 +36,8 @@ fn kinds(step: &Value) -> usize
     count(step, &["get", "put", "task", "do", "in_parallel", "try"])
 }
 
-fn check_done_here(alloc: Global, step: &Value, path: &str) -> Result<(), ReadFault>
-    ensures { Checks (optional_keys undone_keys path.now (view step.now)) result }
-{
-    check_keys(
-        alloc,
-        &[
-            (Kind::Undone, "across"),
-            (Kind::Undone, "set_pipeline"),
-            (Kind::Undone, "load_var"),
-            (Kind::Undone, "aggregate"),
-        ],
-        step,
-        path,
-    )
-}
-
-/// Refuses a get step (Concourse: get step) that breaks a rule in its own keys, and adds its name to those of the job.
-#[tactic(auto, using(crate::proofs::Faulted::first_append), unfolding(crate::specs::StepRules::get_faults))]
-fn check_get(alloc: Global, names: &mut Names, step: &Value, path: &str) -> Result<(), ReadFault>
-    ensures checked { Checks (get_faults names.old path.now (view step.now)) result }
-    ensures added { OnOk result (names.new ≡ names.old ++ names_at (codes "get") (view step.now)) }
-{
-    check_new_name(alloc, names, step, path, "get")?;
-    check_keys(
-        alloc,
-        &[
-            (Kind::Text, "resource"),
-            (Kind::Texts, "passed"),
-            (Kind::Truth, "trigger"),
-            (Kind::Params, "params"),
-            (Kind::Wanted, "version"),
-        ],
-        step,
-        path,
-    )
-}
-
-/// Refuses a put step (Concourse: put step) that breaks a rule in its own keys.
-fn check_put(alloc: Global, step: &Value, path: &str) -> Result<(), ReadFault>
-    ensures { Checks (optional_keys put_keys path.now (view step.now)) result }
-{
-    check_keys(
-        alloc,
-        &[
-            (Kind::Name, "put"),
-            (Kind::Text, "resource"),
-            (Kind::Params, "params"),
-            (Kind::Params, "get_params"),
-            (Kind::Truth, "no_get"),
-        ],
-        step,
-        path,
-    )
-}
-
-#[tactic(auto, using(crate::proofs::Faulted::first_append), unfolding(crate::specs::StepRules::parallel_object))]
-fn check_parallel_object(alloc: Global, found: &Value, path: &str) -> Result<(), ReadFault>
-    ensures { Checks (parallel_object path.now (view found.now)) result }
-{
-    require(alloc, found.is_object(), Rule::Kind, path)?;
-    required(alloc, Kind::List, found, path, "steps")
-}
-
-/// Refuses what is neither a list nor an object with a list of `steps`.
-#[tactic(auto, unfolding(crate::specs::StepRules::parallel_faults))]
-fn check_parallel(alloc: Global, found: &Value, path: &str) -> Result<(), ReadFault>
-    ensures { Checks (parallel_faults path.now (view found.now)) result }
-{
-    if found.is_array() {
-        return Ok(());
-    }
-    check_parallel_object(alloc, found, path)
-}
-
-#[tactic(auto, unfolding(crate::specs::StepRules::parallel_at))]
-fn check_parallel_at(alloc: Global, step: &Value, path: &str) -> Result<(), ReadFault>
-    ensures { Checks (parallel_at path.now (view step.now)) result }
-{
-    match at_key(step, "in_parallel") {
-        Some(found) => {
-            let path = path_below(alloc, path, "in_parallel")?;
-            check_parallel(alloc, found, path.as_str())
-        }
-        None => Ok(()),
-    }
-}
-
-#[tactic(auto, using(crate::proofs::Faulted::first_append), unfolding(crate::specs::StepRules::holder_keys))]
-fn check_holder(alloc: Global, step: &Value, path: &str) -> Result<(), ReadFault>
-    ensures { Checks (holder_keys path.now (view step.now)) result }
-{
-    optional(alloc, Kind::List, step, path, "do")?;
-    check_parallel_at(alloc, step, path)
-}
-
 /// Refuses a step that breaks a rule in its own keys, as far as they come before the steps in it.
-#[tactic(auto, using(crate::proofs::Faulted::first_append), unfolding(crate::specs::StepRules::own_keys))]
+#[tactic(auto, using(crate::proofs::TableNames::step_names_are), unfolding(crate::specs::StepRules::own_keys))]
 fn check_own_keys(
     alloc: Global,
     names: &mut Names,
@@ -143,16 +47,7 @@ fn check_own_keys(
     ensures checked { Checks (own_keys names.old path.now (view step.now)) result }
     ensures added { OnOk result (names.new ≡ names.old ++ names_at (codes "get") (view step.now)) }
 {
-    if at_key(step, "get").is_some() {
-        return check_get(alloc, names, step, path);
-    }
-    if at_key(step, "put").is_some() {
-        return check_put(alloc, step, path);
-    }
-    if at_key(step, "task").is_some() {
-        return check_task(alloc, step, path);
-    }
-    check_holder(alloc, step, path)
+    check_rows(alloc, NESTED, opening(schema_of(step)), names, step, path)
 }
 
 #[tactic(auto, using(crate::proofs::Faulted::first_append), unfolding(crate::specs::StepRules::shape_faults))]
@@ -161,7 +56,15 @@ fn check_shape(alloc: Global, step: &Value, path: &str, left: u32) -> Result<(),
 {
     require(alloc, step.is_object(), Rule::Kind, path)?;
     require(alloc, 0 < left, Rule::Depth, path)?;
-    check_done_here(alloc, step, path)
+    let mut names = Names::new(alloc);
+    check_rows(
+        alloc,
+        NESTED,
+        opening(Schema::Undone),
+        &mut names,
+        step,
+        path,
+    )
 }
 
 #[tactic(auto, using(crate::proofs::Faulted::first_append), unfolding(crate::specs::StepRules::kind_faults))]
@@ -209,23 +112,29 @@ fn check_attempts(alloc: Global, step: &Value, path: &str, tries: u64) -> Result
     require_at(alloc, fits, Rule::Attempts, path, "attempts")
 }
 
-fn check_fail_fast(alloc: Global, step: &Value, path: &str) -> Result<(), ReadFault>
-    ensures { Checks (fail_fast_faults path.now (view step.now)) result }
+fn check_parallel_rest(alloc: Global, step: &Value, path: &str) -> Result<(), ReadFault>
+    ensures { Checks (parallel_rest path.now (view step.now)) result }
 {
-    match at_key(step, "in_parallel") {
-        Some(parallel) => {
-            let path = path_below(alloc, path, "in_parallel")?;
-            optional(alloc, Kind::Truth, parallel, path.as_str(), "fail_fast")
-        }
-        None => Ok(()),
-    }
+    let Some(parallel) = at_key(step, "in_parallel") else {
+        return Ok(());
+    };
+    let path = path_below(alloc, path, "in_parallel")?;
+    let mut names = Names::new(alloc);
+    check_rows(
+        alloc,
+        NESTED,
+        closing(Schema::Parallel),
+        &mut names,
+        parallel,
+        path.as_str(),
+    )
 }
 
 #[tactic(auto, using(crate::proofs::Faulted::first_append), unfolding(crate::specs::StepRules::closing_faults))]
 fn check_closing(alloc: Global, step: &Value, path: &str, tries: u64) -> Result<(), ReadFault>
     ensures { Checks (closing_faults path.now tries (view step.now)) result }
 {
-    check_fail_fast(alloc, step, path)?;
+    check_parallel_rest(alloc, step, path)?;
     check_attempts(alloc, step, path, tries)
 }
 

@@ -1,14 +1,15 @@
-//! The kinds of value that a key may have, and their tests.
+//! The tests of single values.
 ghost use Rattle.std.specs.Prelude.{◌≡◌, ◌++◌, [], length, drop, option_map, string_bytes};
 ghost use Rattle.std.specs.List.{list_all};
 ghost use Rattle.serde_json.specs.View.{view, items_view, members_view};
 ghost use Rattle.ccr_pipeline.specs.Faults.{unless, Checks, StartsWith, IsFirst, fault_of};
-ghost use Rattle.ccr_pipeline.specs.Keys.{at_key, or_else, path_below, path_at};
-ghost use Rattle.ccr_pipeline.specs.Kinds.{is_name, is_name_byte, is_text, broken, broken_texts, broken_fields};
-ghost use Rattle.ccr_pipeline.specs.Kinds.{broken_pin, is_empty, optional, required, optional_keys, key_table};
+ghost use Rattle.ccr_pipeline.specs.Keys.{or_else, path_below, path_at};
+ghost use Rattle.ccr_pipeline.specs.Kinds.{is_name, is_name_byte, is_text, broken_texts, broken_fields, broken_pin, is_empty};
+ghost use Rattle.ccr_pipeline.specs.Objects.{broken};
 
 use crate::fault::{ReadFault, Rule};
-use crate::key::{at_key, path_at, path_below, require, require_at};
+use crate::key::{path_at, path_below, require_at};
+use crate::schema::Kind;
 use ccr_history::has_float;
 use serde_json::Value;
 use std::alloc::Global;
@@ -16,30 +17,6 @@ use std::collections::BTreeMap;
 
 /// How many bytes a name may have.
 const MOST_NAME_BYTES: usize = 128;
-
-/// What a key's value has to be.
-#[derive(Clone, Copy)]
-pub(crate) enum Kind {
-    Text,
-    /// A text that a resource, type, job, step or artifact may have as its name.
-    Name,
-    Texts,
-    Truth,
-    /// A whole number that isn't negative.
-    Whole,
-    List,
-    Object,
-    /// An object whose numbers are all whole.
-    Params,
-    /// An object whose fields are all texts.
-    Fields,
-    /// An object without members, since what it says isn't done here.
-    Nothing,
-    /// `latest`, `every` or the fields of a pin.
-    Wanted,
-    /// No value: what the key says isn't done here.
-    Undone,
-}
 
 fn has_name_bytes(bytes: &[u8]) -> bool
     ensures { result ≡ list_all is_name_byte bytes.now }
@@ -117,8 +94,8 @@ fn check_pin(alloc: Global, found: &Value, path: &str, key: &str) -> Result<(), 
     }
 }
 
-/// Refuses a value that isn't of the kind, at the first place that breaks it.
-#[tactic(auto, unfolding(crate::specs::Kinds::broken))]
+/// Refuses a value that isn't of the kind, at the first place that breaks it. In the objects that it holds nothing is tested.
+#[tactic(auto, unfolding(crate::specs::Objects::broken))]
 pub(crate) fn check(
     alloc: Global,
     kind: Kind,
@@ -129,11 +106,16 @@ pub(crate) fn check(
     ensures { Checks (broken kind (path_below path.now key.now) (view found.now)) result }
 {
     match kind {
-        Kind::Text => require_at(alloc, found.is_string(), Rule::Kind, path, key),
+        Kind::Text | Kind::OwnName => require_at(alloc, found.is_string(), Rule::Kind, path, key),
+        Kind::Steps | Kind::Objects(_) => require_at(
+            alloc,
+            found.is_array(),
+            Rule::Kind,
+            path,
+            key,
+        ),
         Kind::Truth => require_at(alloc, found.is_boolean(), Rule::Kind, path, key),
         Kind::Whole => require_at(alloc, found.is_u64(), Rule::Kind, path, key),
-        Kind::List => require_at(alloc, found.is_array(), Rule::Kind, path, key),
-        Kind::Object => require_at(alloc, found.is_object(), Rule::Kind, path, key),
         Kind::Name => match found.as_str() {
             Some(text) => check_name(alloc, text, path, key),
             None => require_at(alloc, false, Rule::Kind, path, key),
@@ -159,53 +141,6 @@ pub(crate) fn check(
             None => check_pin(alloc, found, path, key),
         },
         Kind::Undone => require_at(alloc, false, Rule::Supported, path, key),
+        Kind::Object(_) | Kind::Parallel | Kind::Step | Kind::Attempts | Kind::Any => Ok(()),
     }
-}
-
-/// Refuses what stands at the key, if it isn't of the kind.
-pub(crate) fn optional(
-    alloc: Global,
-    kind: Kind,
-    value: &Value,
-    path: &str,
-    key: &str,
-) -> Result<(), ReadFault>
-    ensures { Checks (optional kind path.now key.now (view value.now)) result }
-{
-    match at_key(value, key) {
-        Some(found) => check(alloc, kind, found, path, key),
-        None => Ok(()),
-    }
-}
-
-/// Refuses an absent key, and what stands at the key, if it isn't of the kind.
-pub(crate) fn required(
-    alloc: Global,
-    kind: Kind,
-    value: &Value,
-    path: &str,
-    key: &str,
-) -> Result<(), ReadFault>
-    ensures { Checks (required kind path.now key.now (view value.now)) result }
-{
-    match at_key(value, key) {
-        Some(found) => check(alloc, kind, found, path, key),
-        None => require_at(alloc, false, Rule::Presence, path, key),
-    }
-}
-
-/// Refuses what stands at the keys of a table, if it isn't of their kinds, in the table's order.
-#[tactic(auto, using(crate::proofs::Faulted::first_append))]
-pub(crate) fn check_keys(
-    alloc: Global,
-    keys: &[(Kind, &str)],
-    value: &Value,
-    path: &str,
-) -> Result<(), ReadFault>
-    ensures { Checks (optional_keys (key_table keys.now) path.now (view value.now)) result }
-{
-    for (kind, key) in keys {
-        optional(alloc, *kind, value, path, *key)?;
-    }
-    Ok(())
 }

@@ -1,14 +1,10 @@
 //! Names that may not be repeated.
-ghost use Rattle.std.specs.Prelude.{◌≡◌, ◌++◌, [], not, length, take, option_map, IfOk, OnOk, OnErr};
+ghost use Rattle.std.specs.Prelude.{◌≡◌, [], not, length, take, option_map, IfOk, OnOk, OnErr};
 ghost use Rattle.serde_json.specs.View.{view};
-ghost use Rattle.ccr_pipeline.specs.Faults.{unless, Checks, StartsWith, IsFirst, fault_of};
-ghost use Rattle.ccr_pipeline.specs.Keys.{at_key, or_else, path_below};
-ghost use Rattle.ccr_pipeline.specs.Kinds.{broken, optional, required};
-ghost use Rattle.ccr_pipeline.specs.Names.{has_name, with_name, text_at, names_at, new_name};
+ghost use Rattle.ccr_pipeline.specs.Keys.{at_key};
+ghost use Rattle.ccr_pipeline.specs.Names.{has_name, with_name, text_at};
 
-use crate::fault::{ReadFault, Rule};
-use crate::key::{at_key, require_at};
-use crate::kind::{Kind, required};
+use crate::key::at_key;
 use indexmap::IndexSet;
 use serde_json::Value;
 use std::alloc::{AllocError, Global};
@@ -77,26 +73,4 @@ pub(crate) fn text_at<'v>(value: &'v Value, key: &str) -> Option<&'v str>
     ensures { option_map (λ text. text.now) result ≡ text_at key.now (view value.now) }
 {
     at_key(value, key)?.as_str()
-}
-
-/// Refuses a name that is absent, no name, or among the names so far, and adds it to them.
-#[tactic(auto, using(crate::proofs::Faulted::first_append), unfolding(crate::specs::Names::new_name))]
-pub(crate) fn check_new_name(
-    alloc: Global,
-    names: &mut Names,
-    value: &Value,
-    path: &str,
-    key: &str,
-) -> Result<(), ReadFault>
-    ensures checked { Checks (new_name names.old path.now key.now (view value.now)) result }
-    ensures added { OnOk result (names.new ≡ names.old ++ names_at key.now (view value.now)) }
-{
-    required(alloc, Kind::Name, value, path, key)?;
-    match text_at(value, key) {
-        Some(name) => {
-            let is_new = names.add(alloc, name)?;
-            require_at(alloc, is_new, Rule::Once, path, key)
-        }
-        None => Ok(()),
-    }
 }

@@ -4,6 +4,7 @@ ghost use Rattle.serde_json.specs.View.{view};
 ghost use Rattle.ccr_pipeline.specs.Faults.{unless, Checks, ChecksAs, StartsWith, IsFirst, fault_of};
 ghost use Rattle.ccr_pipeline.specs.JobRules.{member_list, list_names};
 ghost use Rattle.ccr_pipeline.specs.Meaning.{config_from};
+ghost use Rattle.ccr_pipeline.specs.Objects.{object_faults, value_faults};
 ghost use Rattle.ccr_pipeline.specs.Pipelines.{pipeline_data, IsPipelineOf};
 ghost use Rattle.ccr_pipeline.specs.TaskRules.{config_faults};
 ghost use Rattle.ccr_pipeline.specs.Tree.{config_data};
@@ -13,10 +14,12 @@ ghost use Rattle.ccr_pipeline.specs.Reading.{pipeline_faults, list_faults, IsTex
 use crate::build;
 use crate::build_job::{jobs, resources};
 use crate::check_job::{Member, check_member_list};
-use crate::check_task::check_config;
 use crate::fault::{ReadFault, Rule};
 use crate::key::require;
+use crate::names::Names;
+use crate::object::check_object;
 use crate::pipeline::Pipeline;
+use crate::schema::{NESTED, Schema};
 use crate::task::TaskConfig;
 use crate::unknown::check_known;
 use crate::unused::unused;
@@ -98,6 +101,7 @@ pub fn read_task(alloc: Global, text: &[u8]) -> Result<TaskConfig, ReadFault>
         (λ fault. Refuses (codes "task") (config_faults (codes "task")) text.now (fault_of fault)) }
 {
     let value = value_of(alloc, text, "task")?;
-    check_config(alloc, &value, "task")?;
+    let mut names = Names::new(alloc);
+    check_object(alloc, NESTED, Schema::Config, &mut names, &value, "task")?;
     Ok(build::config(alloc, &value)?)
 }

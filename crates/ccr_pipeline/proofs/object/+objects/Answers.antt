@@ -1,0 +1,13 @@
+use Rattle.std.proofs.Common.{◌≡◌, ◌<◌, arith}
+use Rattle.ccr_pipeline.proofs.Faulted.{checks_fault}
+use Rattle.ccr_pipeline.proofs.ObjectLemmas.{value_first, value_inside}
+use Rattle.ccr_pipeline.proofs.object.+objects.Goals as goal
+
+pub check_value-returns-in_err-check : goal.check_value-returns-in_err-check
+check_value-returns-in_err-check t c =
+    checks_fault _ _ _ c.from_residual.ensures.1 (value_first _ _ _ _ _ _ c.in_err-check.ensures)
+
+pub check_value-returns : goal.check_value-returns
+check_value-returns t c =
+    let some : 0 < c.args.left = omega arith in
+    rw (value_inside _ _ _ _ _ some, c.in_ok-check.ensures) c.check_inside.ensures

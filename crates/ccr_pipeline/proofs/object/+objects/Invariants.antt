@@ -1,0 +1,33 @@
+use Rattle.std.proofs.Common.{◌≡◌, ◌+◌, ◌*◌, ◌++◌, [], drop}
+use Rattle.serde_json.specs.View.{view, items_view}
+use Rattle.ccr_history.proofs.Items.{left}
+use Rattle.ccr_pipeline.specs.Objects.{key_faults, new_names, each_object, value_faults}
+use Rattle.ccr_pipeline.specs.Schema.{rows}
+use Rattle.ccr_pipeline.proofs.object.+objects.Given as goal
+
+abbrev pub decreases-check_value : goal.decreases-check_value
+decreases-check_value l = 6 * l.left
+
+abbrev pub decreases-check_row : goal.decreases-check_row
+decreases-check_row l = 6 * l.left + 1
+
+abbrev pub decreases-check_rows : goal.decreases-check_rows
+decreases-check_rows l = 6 * l.left + 2
+
+abbrev pub decreases-check_object : goal.decreases-check_object
+decreases-check_object l = 6 * l.left + 3
+
+abbrev pub decreases-check_objects : goal.decreases-check_objects
+decreases-check_objects l = 6 * l.left + 4
+
+abbrev pub decreases-check_inside : goal.decreases-check_inside
+decreases-check_inside l = 6 * l.left + 5
+
+abbrev pub invariant-check_rows-loop-need : goal.invariant-check_rows-loop-need
+invariant-check_rows-loop-need l = record {
+  checked : key_faults (value_faults l.left) l.initial.names (rows l.rows) l.path (view l.value) ≡ key_faults (value_faults l.left) l.names (rows (drop l.need-index l.rows)) l.path (view l.value);
+  added : l.names ++ new_names (rows (drop l.need-index l.rows)) (view l.value) ≡ l.initial.names ++ new_names (rows l.rows) (view l.value);
+}
+
+abbrev pub invariant-check_objects-loop-i : goal.invariant-check_objects-loop-i
+invariant-check_objects-loop-i l = each_object (value_faults l.left) [] l.schema l.path 0 (items_view l.list) ≡ each_object (value_faults l.left) l.names l.schema l.path l.i (left l.i l.list)
