@@ -15,7 +15,7 @@ use Rattle.ccr_pipeline.specs.declared.step.When.TheVariants.{OnSuccess, OnFailu
 use Rattle.ccr_pipeline.specs.Faults.{Path}
 use Rattle.ccr_pipeline.specs.Inputs.{inputs, inputs_in}
 use Rattle.ccr_pipeline.specs.JobRules.{job_rest, after_plan}
-use Rattle.ccr_pipeline.specs.Keys.{at_key, or_else, path_below, path_at}
+use Rattle.ccr_pipeline.specs.Keys.{at_key, or_else, items_in, list_at, path_below, path_at}
 use Rattle.ccr_pipeline.specs.Limits.{input_names, HasDistinctInputs}
 use Rattle.ccr_pipeline.specs.Meaning.{truth_from}
 use Rattle.ccr_pipeline.specs.Names.{has_name, text_at, names_at}
@@ -25,9 +25,9 @@ use Rattle.ccr_pipeline.specs.Places.{Spot, gets_by, gets_at, each_step, steps_i
 use Rattle.ccr_pipeline.specs.Plans.{plan_from}
 use Rattle.ccr_pipeline.specs.Schema.{closing}
 use Rattle.ccr_pipeline.specs.StepRules.{visit_by, visits, own_keys}
-use Rattle.ccr_pipeline.specs.Steps.{step_tree, with_hook, with_hooks, each_tree, trees_in, parallel_trees, holder, action}
+use Rattle.ccr_pipeline.specs.Steps.{step_tree, with_hook, with_hooks, each_tree, parallel_items, holder, action}
 use Rattle.ccr_pipeline.specs.Tree.{Text, Tree, get, put, task, in_order, in_parallel, tried, attempts, hook, no_trees, trees_of}
-use Rattle.ccr_pipeline.proofs.Inside.{EachAt, OwnSteps, Hooks}
+use Rattle.ccr_pipeline.proofs.Inside.{OwnSteps, Hooks}
 use Rattle.ccr_pipeline.proofs.Kept.{action-kept}
 use Rattle.ccr_pipeline.proofs.Named.{opened_own, get_named}
 use Rattle.ccr_pipeline.proofs.Subsequence.{Sub, none, keep, sub_none, sub_append, sub_left, sub_right, distinct_sub, NoRepeat, distinct}
@@ -149,14 +149,6 @@ module _ (n u : ℕ) (down : (d : Data) → Unfaulted n u d → Shown n d) (t : 
   each p i no_items h = none
   each p i (item d ds) h = rw (map-append, flat_map-append) (sub_append _ _ (down d h.0 t (path_at p i)) (each p (i + 1) ds h.1))
 
-  in_list : (p : Path) (o : Option Items) → IfSome o (EachItem (Unfaulted n u)) → Sub (map (λ i. i.name) (inputs_in (trees_of (or_else o [] (each_tree (step_tree n)))))) (flat_map gets_at (or_else o [] (each_step (steps_from n) t p 0)))
-  in_list p None h = none
-  in_list p (Some ds) h = each p 0 ds h
-
-  in_steps : (p : Path) (o : Option Data) → EachAt (Unfaulted n u) o → Sub (map (λ i. i.name) (inputs_in (trees_of (or_else o [] (trees_in (step_tree n)))))) (flat_map gets_at (or_else (option_and_then as_array o) [] (each_step (steps_from n) t p 0)))
-  in_steps p None h = none
-  in_steps p (Some found) h = in_list p (as_array found) h
-
   at_step : (p : Path) (o : Option Data) → IfSome o (Unfaulted n u) → At (step_tree n) o (flat_map gets_at (or_else o [] (steps_from n t p)))
   at_step p None h = tt
   at_step p (Some found) h = down found h t p
@@ -165,18 +157,18 @@ module _ (n u : ℕ) (down : (d : Data) → Unfaulted n u d → Shown n d) (t : 
   at_try p None h = none
   at_try p (Some found) h = down found h t p
 
-  in_case : (p q : Path) (b : Bool) (found : Data) (xs : List Text) → EachAt (Unfaulted n u) (Some found) → EachAt (Unfaulted n u) (at_key (codes "steps") found) → Sub (map (λ i. i.name) (inputs_in (trees_of (if b then trees_in (step_tree n) found else or_else (at_key (codes "steps") found) [] (trees_in (step_tree n)))))) (flat_map gets_at (or_else (as_array found) [] (each_step (steps_from n) t p 0)) ++ (flat_map gets_at (or_else (option_and_then as_array (at_key (codes "steps") found)) [] (each_step (steps_from n) t q 0)) ++ xs))
-  in_case p q true found xs h g = sub_left _ (in_list p (as_array found) h)
-  in_case p q false found xs h g = sub_right _ (sub_left xs (in_steps q (at_key (codes "steps") found) g))
+  in_case : (p q : Path) (b : Bool) (ds es : Items) (xs : List Text) → EachItem (Unfaulted n u) ds → EachItem (Unfaulted n u) es → Sub (map (λ i. i.name) (inputs_in (trees_of (each_tree (step_tree n) (if b then ds else es))))) (flat_map gets_at (each_step (steps_from n) t p 0 ds) ++ (flat_map gets_at (each_step (steps_from n) t q 0 es) ++ xs))
+  in_case p q true ds es xs h g = sub_left _ (each p 0 ds h)
+  in_case p q false ds es xs h g = sub_right _ (sub_left xs (each q 0 es g))
 
-  at_parallel : (p q : Path) (o : Option Data) (other : Tree) (xs : List Text) → EachAt (Unfaulted n u) o → IfSome o (λ found. EachAt (Unfaulted n u) (at_key (codes "steps") found)) → Sub (input_names other) xs → Sub (input_names (or_else o other (λ found. in_parallel (trees_of (parallel_trees (step_tree n) found)) (truth_from (codes "fail_fast") found)))) (flat_map gets_at (or_else (option_and_then as_array o) [] (each_step (steps_from n) t p 0)) ++ (flat_map gets_at (or_else o [] (steps_in (steps_from n) t q (codes "steps"))) ++ xs))
+  at_parallel : (p q : Path) (o : Option Data) (other : Tree) (xs : List Text) → EachItem (Unfaulted n u) (or_else o no_items items_in) → IfSome o (λ found. EachItem (Unfaulted n u) (list_at (codes "steps") found)) → Sub (input_names other) xs → Sub (input_names (or_else o other (λ found. in_parallel (trees_of (each_tree (step_tree n) (parallel_items found))) (truth_from (codes "fail_fast") found)))) (flat_map gets_at (each_step (steps_from n) t p 0 (or_else o no_items items_in)) ++ (flat_map gets_at (or_else o [] (steps_in (steps_from n) t q (codes "steps"))) ++ xs))
   unfolding steps_in
   at_parallel p q None other xs h g a = a
-  at_parallel p q (Some found) other xs h g a = in_case p (path_below q (codes "steps")) (is_some (as_array found)) found xs h g
+  at_parallel p q (Some found) other xs h g a = in_case p (path_below q (codes "steps")) (is_some (as_array found)) (items_in found) (list_at (codes "steps") found) xs h g
 
-  at_do : (p : Path) (o : Option Data) (other : Tree) (xs : List Text) → EachAt (Unfaulted n u) o → Sub (input_names other) xs → Sub (input_names (or_else o other (λ found. in_order (trees_of (trees_in (step_tree n) found))))) (flat_map gets_at (or_else (option_and_then as_array o) [] (each_step (steps_from n) t p 0)) ++ xs)
+  at_do : (p : Path) (o : Option Data) (other : Tree) (xs : List Text) → EachItem (Unfaulted n u) (or_else o no_items items_in) → Sub (input_names other) xs → Sub (input_names (or_else o other (λ found. in_order (trees_of (each_tree (step_tree n) (items_in found)))))) (flat_map gets_at (each_step (steps_from n) t p 0 (or_else o no_items items_in)) ++ xs)
   at_do p None other xs h a = a
-  at_do p (Some found) other xs h a = sub_left xs (in_list p (as_array found) h)
+  at_do p (Some found) other xs h a = sub_left xs (each p 0 (items_in found) h)
 
   in_holder : (p : Path) (d : Data) → OwnSteps (Unfaulted n u) d → Sub (input_names (holder (step_tree n) d)) (flat_map gets_at (own_steps (steps_from n) t p d))
   unfolding holder own_steps steps_in step_at
@@ -244,8 +236,8 @@ pub distinct_inputs : (p : Path) (d : Data) → job_rest p d ≡ [] → HasDisti
 unfolding job_rest after_plan plan_from steps_in
 distinct_inputs p d e =
     let plan = planned p d e in
-    let steps = in_steps 30 1 (shown 30 1) 1 (path_below p (codes "plan")) (at_key (codes "plan") d) plan.steps in
-    let all = with_all 30 1 (shown 30 1) 1 p d (in_order (trees_of (or_else (at_key (codes "plan") d) [] (trees_in (step_tree 30))))) _ tt steps plan.hooks in
+    let steps = each 30 1 (shown 30 1) 1 (path_below p (codes "plan")) 0 (list_at (codes "plan") d) plan.steps in
+    let all = with_all 30 1 (shown 30 1) 1 p d (in_order (trees_of (each_tree (step_tree 30) (list_at (codes "plan") d)))) _ tt steps plan.hooks in
     let visited = nil_left (visits _ (job_hooks p d)) _ (nil_right (key_faults (value_faults 3) [] (closing schema.Job) p d) _ (nil_right (visits [] (plan_steps p d)) _ e)) in
     let first = nil_left (visits [] (plan_steps p d)) _ e in
     let whole : visits [] (plan_steps p d ++ job_hooks p d) ≡ [] = rw (visits-append [] (plan_steps p d) (job_hooks p d), first, visited) refl in

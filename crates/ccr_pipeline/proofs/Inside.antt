@@ -1,23 +1,18 @@
 -- What is fine of the visits of a step is fine of those of the steps in it.
-use Rattle.std.proofs.Common.{ℕ, suc, ◌+◌, List, [], ◌∷◌, ◌++◌, Option, Some, None, codes, option_and_then}
+use Rattle.std.proofs.Common.{ℕ, suc, ◌+◌, List, [], ◌∷◌, ◌++◌, Option, Some, None, codes}
 use Rattle.std.specs.Option.{IfSome}
 use Rattle.serde_json.specs.Data.{Data, Items, no_items, item}
-use Rattle.serde_json.specs.Find.{as_array}
 use Rattle.ccr_pipeline.specs.declared.place.Part.TheVariants.{Opening, Closing}
 use Rattle.ccr_pipeline.specs.Faults.{Path}
-use Rattle.ccr_pipeline.specs.Keys.{at_key, or_else, path_below, path_at}
+use Rattle.ccr_pipeline.specs.Keys.{at_key, or_else, list_at, path_below, path_at}
 use Rattle.ccr_pipeline.specs.Pipelines.{EachItem}
 use Rattle.ccr_pipeline.specs.Places.{Spot, spot_of, each_step, steps_in, step_at, own_steps, hook_steps, steps_from, plan_steps, job_hooks, tries_below}
 
--- what holds of each value of the list at a key
-abbrev pub EachAt : (Data → Type 0) → Option Data → Type 0
-EachAt P o = IfSome (option_and_then as_array o) (EachItem P)
-
 -- what holds of each step that a step's own keys hold
 pub record OwnSteps (P : Data → Type 0) (d : Data) : Type 0 where
-  pub order : EachAt P (at_key (codes "do") d)
-  pub parallel : EachAt P (at_key (codes "in_parallel") d)
-  pub steps : IfSome (at_key (codes "in_parallel") d) (λ found. EachAt P (at_key (codes "steps") found))
+  pub order : EachItem P (list_at (codes "do") d)
+  pub parallel : EachItem P (list_at (codes "in_parallel") d)
+  pub steps : IfSome (at_key (codes "in_parallel") d) (λ found. EachItem P (list_at (codes "steps") found))
   pub trying : IfSome (at_key (codes "try") d) P
 
 -- what holds of each hook
@@ -42,7 +37,7 @@ pub record Opened (Fine : List Spot → Type 0) (n t : ℕ) (d : Data) : Type 0 
 
 -- the visits of the steps of a job's plan and of its hooks are fine
 pub record Planned (Fine : List Spot → Type 0) (d : Data) : Type 0 where
-  pub steps : EachAt (Inside Fine 30 1) (at_key (codes "plan") d)
+  pub steps : EachItem (Inside Fine 30 1) (list_at (codes "plan") d)
   pub hooks : Hooks (Inside Fine 30 1) d
 
 module _ (Fine : List Spot → Type 0) (parts : (xs ys : List Spot) → Fine (xs ++ ys) → Fine xs × Fine ys) where
@@ -53,13 +48,9 @@ module _ (Fine : List Spot → Type 0) (parts : (xs ys : List Spot) → Fine (xs
         let both = parts (steps_from n t (path_at p i) d) (each_step (steps_from n) t p (i + 1) ds) f in
         ((path_at p i, both.0), each p (i + 1) ds both.1)
 
-    in_list : (p : Path) (o : Option Items) → Fine (or_else o [] (each_step (steps_from n) t p 0)) → IfSome o (EachItem (Inside Fine n t))
-    in_list p None f = tt
-    in_list p (Some ds) f = each p 0 ds f
-
-    at_list : (p : Path) (k : List ℕ) (d : Data) → Fine (steps_in (steps_from n) t p k d) → EachAt (Inside Fine n t) (at_key k d)
+    at_list : (p : Path) (k : List ℕ) (d : Data) → Fine (steps_in (steps_from n) t p k d) → EachItem (Inside Fine n t) (list_at k d)
     unfolding steps_in
-    at_list p k d f = in_list (path_below p k) (option_and_then as_array (at_key k d)) f
+    at_list p k d f = each (path_below p k) 0 (list_at k d) f
 
     in_step : (p : Path) (o : Option Data) → Fine (or_else o [] (steps_from n t p)) → IfSome o (Inside Fine n t)
     in_step p None f = tt
@@ -69,7 +60,7 @@ module _ (Fine : List Spot → Type 0) (parts : (xs ys : List Spot) → Fine (xs
     unfolding step_at
     at_step p k d f = in_step (path_below p k) (at_key k d) f
 
-    in_parallel : (p : Path) (o : Option Data) → Fine (or_else o [] (steps_in (steps_from n) t p (codes "steps"))) → IfSome o (λ found. EachAt (Inside Fine n t) (at_key (codes "steps") found))
+    in_parallel : (p : Path) (o : Option Data) → Fine (or_else o [] (steps_in (steps_from n) t p (codes "steps"))) → IfSome o (λ found. EachItem (Inside Fine n t) (list_at (codes "steps") found))
     in_parallel p None f = tt
     in_parallel p (Some found) f = at_list p (codes "steps") found f
 

@@ -7,12 +7,12 @@ use Rattle.serde_json.specs.Find.{as_array}
 use Rattle.ccr_pipeline.specs.declared.step.When.{When}
 use Rattle.ccr_pipeline.specs.declared.step.When.TheVariants.{OnSuccess, OnFailure, OnError, OnAbort, Ensure}
 use Rattle.ccr_pipeline.specs.Hooks.{hook_key}
-use Rattle.ccr_pipeline.specs.Keys.{at_key, or_else}
+use Rattle.ccr_pipeline.specs.Keys.{at_key, or_else, items_in, list_at}
 use Rattle.ccr_pipeline.specs.Meaning.{truth_from, get_from, put_from, task_from}
 use Rattle.ccr_pipeline.specs.Pipelines.{EachItem}
-use Rattle.ccr_pipeline.specs.Steps.{with_hook, with_hooks, each_tree, trees_in, parallel_trees, holder, action}
+use Rattle.ccr_pipeline.specs.Steps.{with_hook, with_hooks, each_tree, parallel_items, holder, action}
 use Rattle.ccr_pipeline.specs.Tree.{Tree, get, put, task, in_order, in_parallel, tried, hook, no_trees, trees_of}
-use Rattle.ccr_pipeline.proofs.Inside.{EachAt, OwnSteps, Hooks}
+use Rattle.ccr_pipeline.proofs.Inside.{OwnSteps, Hooks}
 
 -- a step keeps Q, if the steps that it holds keep R
 pub record Holds (Q R : Tree → Type 0) : Type 0 where
@@ -31,30 +31,22 @@ module _ (P : Data → Type 0) (Q R : Tree → Type 0) (rec : Data → Tree) (do
   each no_items h = tt
   each (item d ds) h = (down d h.0, each ds h.1)
 
-  in_list : (o : Option Items) → IfSome o (EachItem P) → AllByRecursion R (or_else o [] (each_tree rec))
-  in_list None h = tt
-  in_list (Some ds) h = each ds h
-
-  in_steps : (o : Option Data) → EachAt P o → AllByRecursion R (or_else o [] (trees_in rec))
-  in_steps None h = tt
-  in_steps (Some found) h = in_list (as_array found) h
-
-  in_case : (b : Bool) (found : Data) → EachAt P (Some found) → EachAt P (at_key (codes "steps") found) → AllByRecursion R (if b then trees_in rec found else or_else (at_key (codes "steps") found) [] (trees_in rec))
-  in_case true found h g = in_list (as_array found) h
-  in_case false found h g = in_steps (at_key (codes "steps") found) g
+  in_case : (b : Bool) (xs ys : Items) → EachItem P xs → EachItem P ys → AllByRecursion R (each_tree rec (if b then xs else ys))
+  in_case true xs ys h g = each xs h
+  in_case false xs ys h g = each ys g
 
   module _ (holds : Holds Q R) where
     at_try : (o : Option Data) → IfSome o P → Q (or_else o (in_order no_trees) (λ found. tried (rec found)))
     at_try None h = holds.order [] tt
     at_try (Some found) h = holds.trying (rec found) (down found h)
 
-    at_parallel : (o : Option Data) (other : Tree) → EachAt P o → IfSome o (λ found. EachAt P (at_key (codes "steps") found)) → Q other → Q (or_else o other (λ found. in_parallel (trees_of (parallel_trees rec found)) (truth_from (codes "fail_fast") found)))
+    at_parallel : (o : Option Data) (other : Tree) → EachItem P (or_else o no_items items_in) → IfSome o (λ found. EachItem P (list_at (codes "steps") found)) → Q other → Q (or_else o other (λ found. in_parallel (trees_of (each_tree rec (parallel_items found))) (truth_from (codes "fail_fast") found)))
     at_parallel None other h g q = q
-    at_parallel (Some found) other h g q = holds.parallel _ _ (in_case (is_some (as_array found)) found h g)
+    at_parallel (Some found) other h g q = holds.parallel _ _ (in_case (is_some (as_array found)) (items_in found) (list_at (codes "steps") found) h g)
 
-    at_do : (o : Option Data) (other : Tree) → EachAt P o → Q other → Q (or_else o other (λ found. in_order (trees_of (trees_in rec found))))
+    at_do : (o : Option Data) (other : Tree) → EachItem P (or_else o no_items items_in) → Q other → Q (or_else o other (λ found. in_order (trees_of (each_tree rec (items_in found)))))
     at_do None other h q = q
-    at_do (Some found) other h q = holds.order _ (in_list (as_array found) h)
+    at_do (Some found) other h q = holds.order _ (each (items_in found) h)
 
     holder-kept : (d : Data) → OwnSteps P d → Q (holder rec d)
     unfolding holder
@@ -88,6 +80,6 @@ module _ (P : Data → Type 0) (Q R : Tree → Type 0) (rec : Data → Tree) (do
         in_hook Ensure d _ hooks.ensure (in_hook OnError d _ hooks.on_error (in_hook OnAbort d _ hooks.on_abort
         (in_hook OnFailure d _ hooks.on_failure (in_hook OnSuccess d t hooks.on_success q))))
 
-pub plan-kept : (P : Data → Type 0) (Q R : Tree → Type 0) (rec : Data → Tree) (down : (d : Data) → P d → R (rec d)) (holds : Holds Q R) (hooked : (w : When) (t h : Tree) → Q t → R h → Q (hook w t h)) (d : Data) → EachAt P (at_key (codes "plan") d) → Hooks P d → Q (with_hooks rec d (in_order (trees_of (or_else (at_key (codes "plan") d) [] (trees_in rec)))))
+pub plan-kept : (P : Data → Type 0) (Q R : Tree → Type 0) (rec : Data → Tree) (down : (d : Data) → P d → R (rec d)) (holds : Holds Q R) (hooked : (w : When) (t h : Tree) → Q t → R h → Q (hook w t h)) (d : Data) → EachItem P (list_at (codes "plan") d) → Hooks P d → Q (with_hooks rec d (in_order (trees_of (each_tree rec (list_at (codes "plan") d)))))
 plan-kept P Q R rec down holds hooked d steps hooks =
-    hooks-kept P Q R rec down hooked d _ hooks (holds.order _ (in_steps P Q R rec down (at_key (codes "plan") d) steps))
+    hooks-kept P Q R rec down hooked d _ hooks (holds.order _ (each P Q R rec down (list_at (codes "plan") d) steps))

@@ -3,7 +3,7 @@ use Rattle.std.proofs.Common.{◌≡◌, ℕ, zero, suc, ◌+◌, List, [], ◌�
 use Rattle.std.proofs.lemmas.List.Elements.{All-nil, All-cons, All-append}
 use Rattle.std.specs.List.{AllByRecursion, AllPass}
 use Rattle.serde_json.specs.Data.{Data, Items, no_items, item}
-use Rattle.serde_json.specs.Find.{as_array, as_number, as_str, as_u64}
+use Rattle.serde_json.specs.Find.{as_number, as_str, as_u64}
 use Rattle.ccr_pipeline.specs.declared.fault.Rule.TheVariants as rule
 use Rattle.ccr_pipeline.specs.declared.place.Part.TheVariants.{Opening}
 use Rattle.ccr_pipeline.specs.declared.schema.Kind.TheVariants as kind
@@ -12,18 +12,18 @@ use Rattle.ccr_pipeline.specs.declared.schema.Schema.TheVariants as schema
 use Rattle.ccr_pipeline.specs.declared.step.When.{When}
 use Rattle.ccr_pipeline.specs.Faults.{Path, Faults, unless}
 use Rattle.ccr_pipeline.specs.JobRules.{job_rest}
-use Rattle.ccr_pipeline.specs.Keys.{at_key, or_else, path_below, path_at}
+use Rattle.ccr_pipeline.specs.Keys.{at_key, or_else, list_at, path_below, path_at}
 use Rattle.ccr_pipeline.specs.Links.{used_resources, used_resources_in, passed_jobs, passed_jobs_in, IsLinked}
 use Rattle.ccr_pipeline.specs.Meaning.{text_or, texts_from}
 use Rattle.ccr_pipeline.specs.Names.{has_name, text_at, texts_in}
 use Rattle.ccr_pipeline.specs.Objects.{row_faults, key_faults, value_faults}
-use Rattle.ccr_pipeline.specs.Places.{Spot, spot_of, plan_steps, tries_below}
+use Rattle.ccr_pipeline.specs.Places.{Spot, spot_of, plan_steps, job_hooks, tries_below}
 use Rattle.ccr_pipeline.specs.Plans.{plan_from}
 use Rattle.ccr_pipeline.specs.Schema.{opening}
 use Rattle.ccr_pipeline.specs.StepRules.{own_keys, opening_faults}
 use Rattle.ccr_pipeline.specs.Steps.{step_tree, action}
 use Rattle.ccr_pipeline.specs.Tree.{Text, Tree, trees_of, hook, attempts}
-use Rattle.ccr_pipeline.specs.Unknown.{name_key, unknown_resource, unknown_texts, unknown_passed, unknown_names, unknown_spots, unknown_job}
+use Rattle.ccr_pipeline.specs.Unknown.{name_key, unknown_resource, unknown_texts, unknown_passed, unknown_spots}
 use Rattle.ccr_pipeline.proofs.Inside.{Inside, Opened, opened, Planned, planned}
 use Rattle.ccr_pipeline.proofs.Kept.{Holds, Leaves, action-kept, hooks-kept, plan-kept}
 use Rattle.ccr_pipeline.proofs.Named.{opened_own}
@@ -71,43 +71,35 @@ in_texts known p i (item d ds) e =
     and known _ _ (in_text known (path_at p i) (as_str d) (nil_left _ (unknown_texts known p (i + 1) ds) e))
     (in_texts known p (i + 1) ds (nil_right (or_else (as_str d) [] (λ name. unless (has_name known name) rule.KnownJob (path_at p i))) _ e))
 
-in_list : (known : List Text) (p : Path) (o : Option Items) → or_else o [] (unknown_texts known p 0) ≡ [] → AllPass (has_name known) (or_else o [] texts_in)
-in_list known p None e = AllKnown-nil known
-in_list known p (Some ds) e = in_texts known p 0 ds e
-
-at_list : (known : List Text) (p : Path) (o : Option Data) → or_else o [] (λ found. or_else (as_array found) [] (unknown_texts known p 0)) ≡ [] → AllPass (has_name known) (or_else o [] (λ found. or_else (as_array found) [] texts_in))
-at_list known p None e = AllKnown-nil known
-at_list known p (Some found) e = in_list known p (as_array found) e
-
 -- what no fault in a step's own keys and none among its names say of the step
 
 when : (b : Bool) (xs : Faults) → b ≡ true → (if b then xs else []) ≡ [] → xs ≡ []
 when true xs is e = e
 when false xs is e = absurd (cc (is))
 
-module _ (resources jobs : List Text) (names : List Text) (p : Path) (d : Data) (own : own_keys names p d ≡ []) (known : unknown_names resources jobs p d ≡ []) where
+module _ (resources jobs : List Text) (names : List Text) (p : Path) (d : Data) (own : own_keys names p d ≡ []) (known : unknown_resource resources p d ++ unknown_passed jobs p d ≡ []) where
   get_resource : is_some (at_key (codes "get") d) ≡ true → has_name resources (text_or (text_or [] (codes "get") d) (codes "resource") d) ≡ true
-  unfolding own_keys unknown_names unknown_resource
+  unfolding own_keys unknown_resource
   get_resource a =
       let keys : key_faults (value_faults 3) names (opening schema.Get) p d ≡ [] = rw a at own in
       let named = new_name 2 names p (codes "get") d (nil_left _ _ keys) in
       let text = may_text 2 [] p (codes "resource") d (nil_left _ _ (nil_right (row_faults (value_faults 3) names (New, kind.Name, codes "get") p d) _ keys)) in
-      let there : unknown_resource resources p d ≡ [] = nil_left _ _ known in
+      let there : unknown_resource resources p d ≡ [] = nil_left (unknown_resource resources p d) _ known in
       meant resources p d (codes "get") (is_some (at_key (codes "resource") d)) refl (λ is. rw (is, a) refl) named.there text (when _ _ (rw a refl) there)
 
   get_passed : is_some (at_key (codes "get") d) ≡ true → AllPass (has_name jobs) (texts_from (codes "passed") d)
-  unfolding unknown_names unknown_passed
+  unfolding unknown_passed
   get_passed a =
       let there : unknown_passed jobs p d ≡ [] = nil_right (unknown_resource resources p d) _ known in
-      at_list jobs (path_below p (codes "passed")) (at_key (codes "passed") d) (when _ _ a there)
+      in_texts jobs (path_below p (codes "passed")) 0 (list_at (codes "passed") d) (when _ _ a there)
 
   put_resource : is_some (at_key (codes "get") d) ≡ false → is_some (at_key (codes "put") d) ≡ true → has_name resources (text_or (text_or [] (codes "put") d) (codes "resource") d) ≡ true
-  unfolding own_keys unknown_names unknown_resource
+  unfolding own_keys unknown_resource
   put_resource a b =
       let keys : key_faults (value_faults 3) names (opening schema.Put) p d ≡ [] = rw (a, b) at own in
       let named = must_text 2 names p (codes "put") d (nil_left _ _ keys) in
       let text = may_text 2 [] p (codes "resource") d (nil_left _ _ (nil_right (row_faults (value_faults 3) names (Must, kind.Name, codes "put") p d) _ keys)) in
-      let there : unknown_resource resources p d ≡ [] = nil_left _ _ known in
+      let there : unknown_resource resources p d ≡ [] = nil_left (unknown_resource resources p d) _ known in
       meant resources p d (codes "put") (is_some (at_key (codes "resource") d)) refl (λ is. rw (is, a) refl) named text (when _ _ (rw (a, b) refl) there)
 
 -- the plans of a pipeline with these resources and jobs
@@ -116,7 +108,7 @@ module _ (resources jobs : List Text) where
   abbrev Fine : List Spot → Type 0
   Fine xs = IsUnfaulted xs × (unknown_spots resources jobs xs ≡ [])
 
-  unknown-append : (xs ys : List Spot) → unknown_spots resources jobs (xs ++ ys) ≡ unknown_spots resources jobs xs ++ unknown_spots resources jobs ys
+  pub unknown-append : (xs ys : List Spot) → unknown_spots resources jobs (xs ++ ys) ≡ unknown_spots resources jobs xs ++ unknown_spots resources jobs ys
   unknown-append [] ys = refl
   unknown-append (x ∷ xs) ys = rw (unknown-append xs ys, append_assoc) refl
 
@@ -136,7 +128,7 @@ module _ (resources jobs : List Text) where
   leaves n t d p f =
       let names = f.0.0 in
       let own = opened_own names p (suc n) d (nil_left (opening_faults names p (suc n) d) [] f.0.1) in
-      let known = nil_left (unknown_names resources jobs p d) [] f.1 in
+      let known : unknown_resource resources p d ++ unknown_passed jobs p d ≡ [] = nil_left _ [] f.1 in
       record {
         getting = λ a. (one resources _ (get_resource resources jobs names p d own known a), get_passed resources jobs names p d own known a);
         putting = λ a b. (one resources _ (put_resource resources jobs names p d own known a b), AllKnown-nil jobs);
@@ -167,8 +159,9 @@ module _ (resources jobs : List Text) where
       let acted = action-kept (Inside Fine n (tries_below t d)) InStep InStep (step_tree n) (in_step n (tries_below t d)) holds d (leaves n t d o.path o.opening) o.own in
       hooks-kept (Inside Fine n (tries_below t d)) InStep InStep (step_tree n) (in_step n (tries_below t d)) in_hook d _ o.hooks (in_attempts (option_and_then as_u64 (option_and_then as_number (at_key (codes "attempts") d))) (action (step_tree n) d) acted)
 
-  pub linked_plan : (p : Path) (d : Data) → job_rest p d ≡ [] → unknown_job resources jobs p d ≡ [] → IsLinked resources jobs (plan_from d)
-  unfolding plan_from unknown_job
+  pub linked_plan : (p : Path) (d : Data) → job_rest p d ≡ [] → unknown_spots resources jobs (plan_steps p d ++ job_hooks p d) ≡ [] → IsLinked resources jobs (plan_from d)
+  unfolding plan_from
   linked_plan p d e u =
-      let plan : Planned Fine d = planned Fine parts p d (unfaulted_plan p d e, nil_left _ _ u) (unfaulted_hooks p d e, nil_right (unknown_spots resources jobs (plan_steps p d)) _ u) in
+      let known : unknown_spots resources jobs (plan_steps p d) ++ unknown_spots resources jobs (job_hooks p d) ≡ [] = rw (unknown-append (plan_steps p d) (job_hooks p d)) at u in
+      let plan : Planned Fine d = planned Fine parts p d (unfaulted_plan p d e, nil_left _ _ known) (unfaulted_hooks p d e, nil_right (unknown_spots resources jobs (plan_steps p d)) _ known) in
       plan-kept (Inside Fine 30 1) InStep InStep (step_tree 30) (in_step 30 1) holds in_hook d plan.steps plan.hooks

@@ -14,17 +14,18 @@ use Rattle.ccr_pipeline.specs.declared.check_job.TheConstants.{MOST_MEMBERS}
 use Rattle.ccr_pipeline.specs.declared.schema.Schema.TheVariants as schema
 use Rattle.ccr_pipeline.specs.Faults.{Path, unless}
 use Rattle.ccr_pipeline.specs.JobRules.{job_rest, member_faults, members, member_items, member_list, names_in, list_names}
-use Rattle.ccr_pipeline.specs.Keys.{at_key, or_else, path_at}
+use Rattle.ccr_pipeline.specs.Keys.{at_key, or_else, list_at, items_in, path_at}
+use Rattle.ccr_pipeline.specs.Places.{Spot, plan_steps, job_hooks, job_steps}
 use Rattle.ccr_pipeline.specs.Links.{HasFewMembers, resource_names, job_names, HasDistinctResources, HasDistinctJobs, IsLinked, AreLinked}
 use Rattle.ccr_pipeline.specs.Meaning.{text_or}
 use Rattle.ccr_pipeline.specs.Names.{text_at, names_at}
 use Rattle.ccr_pipeline.specs.Objects.{object_faults, value_faults}
-use Rattle.ccr_pipeline.specs.Pipelines.{resource_items, job_items, job_from, resources_in, resources_from, jobs_in, jobs_from}
+use Rattle.ccr_pipeline.specs.Pipelines.{job_from, resources_in, resources_from, jobs_in, jobs_from}
 use Rattle.ccr_pipeline.specs.Reading.{list_faults, pipeline_faults}
 use Rattle.ccr_pipeline.specs.Tree.{Text}
-use Rattle.ccr_pipeline.specs.Unknown.{unknown_job, unknown_jobs, unknown_in}
+use Rattle.ccr_pipeline.specs.Unknown.{unknown_spots, unknown_in}
 use Rattle.ccr_pipeline.proofs.Distinct.{with_text}
-use Rattle.ccr_pipeline.proofs.Linked.{linked_plan}
+use Rattle.ccr_pipeline.proofs.Linked.{linked_plan, unknown-append}
 use Rattle.ccr_pipeline.proofs.PlansKept.{resource_members, job_members}
 use Rattle.ccr_pipeline.proofs.Subsequence.{NoRepeat, distinct}
 use Rattle.ccr_pipeline.proofs.Rows.{nil_left, nil_right, passes, IsNamed, new_name}
@@ -64,41 +65,35 @@ jobs_called no_items = refl
 jobs_called (item d ds) = ap (λ names. text_or [] (codes "name") d ∷ names) (jobs_called ds)
 
 module _ (d : Data) (none : pipeline_faults d ≡ []) where
-  resources_named : names_in (resource_items d) ≡ resource_names (resources_from d)
-  resources_named = each_called Resource [] (codes "resources") 0 (resource_items d) (resource_members d none) ∙ resources_called (resource_items d)
+  resources_named : names_in (list_at (codes "resources") d) ≡ resource_names (resources_from d)
+  resources_named = each_called Resource [] (codes "resources") 0 (list_at (codes "resources") d) (resource_members d none) ∙ resources_called (list_at (codes "resources") d)
 
-  jobs_named : names_in (job_items d) ≡ job_names (jobs_from d)
-  jobs_named = each_called Job [] (codes "jobs") 0 (job_items d) (job_members d none) ∙ jobs_called (job_items d)
+  jobs_named : names_in (list_at (codes "jobs") d) ≡ job_names (jobs_from d)
+  jobs_named = each_called Job [] (codes "jobs") 0 (list_at (codes "jobs") d) (job_members d none) ∙ jobs_called (list_at (codes "jobs") d)
 
   pub distinct_resources : HasDistinctResources (resources_from d)
-  distinct_resources = subst (IsDistinct bytes_eq) resources_named (distinct [] (names_in (resource_items d)) (no_repeat Resource [] (codes "resources") 0 (resource_items d) (resource_members d none)))
+  distinct_resources = subst (IsDistinct bytes_eq) resources_named (distinct [] (names_in (list_at (codes "resources") d)) (no_repeat Resource [] (codes "resources") 0 (list_at (codes "resources") d) (resource_members d none)))
 
   pub distinct_jobs : HasDistinctJobs (jobs_from d)
-  distinct_jobs = subst (IsDistinct bytes_eq) jobs_named (distinct [] (names_in (job_items d)) (no_repeat Job [] (codes "jobs") 0 (job_items d) (job_members d none)))
+  distinct_jobs = subst (IsDistinct bytes_eq) jobs_named (distinct [] (names_in (list_at (codes "jobs") d)) (no_repeat Job [] (codes "jobs") 0 (list_at (codes "jobs") d) (job_members d none)))
 
 -- the plans of a list of jobs
 module _ (resources jobs : List Text) where
-  each_linked : (names : List Text) (i : ℕ) (ds : Items) → members Job names (codes "jobs") i ds ≡ [] → unknown_jobs resources jobs i ds ≡ [] → AllByRecursion (λ j. IsLinked resources jobs j.plan) (jobs_in ds)
+  each_linked : (names : List Text) (i : ℕ) (ds : Items) → members Job names (codes "jobs") i ds ≡ [] → unknown_spots resources jobs (job_steps i ds) ≡ [] → AllByRecursion (λ j. IsLinked resources jobs j.plan) (jobs_in ds)
   unfolding job_from
   each_linked names i no_items e u = tt
   each_linked names i (item d ds) e u =
       let p = path_at (codes "jobs") i in
+      let own : List Spot = plan_steps p d ++ job_hooks p d in
+      let known : unknown_spots resources jobs own ++ unknown_spots resources jobs (job_steps (i + 1) ds) ≡ [] = rw (unknown-append resources jobs own (job_steps (i + 1) ds)) at u in
       let one : member_faults Job names p d ≡ [] = nil_left (member_faults Job names p d) _ e in
       let rest : job_rest p d ≡ [] = nil_right (object_faults (value_faults 3) names schema.Job p d) _ one in (
-        linked_plan resources jobs p d rest (nil_left (unknown_job resources jobs p d) _ u),
-        each_linked (names ++ names_at (codes "name") d) (i + 1) ds (nil_right (member_faults Job names p d) _ e) (nil_right (unknown_job resources jobs p d) _ u),
+        linked_plan resources jobs p d rest (nil_left _ _ known),
+        each_linked (names ++ names_at (codes "name") d) (i + 1) ds (nil_right (member_faults Job names p d) _ e) (nil_right (unknown_spots resources jobs own) _ known),
       )
 
-  unknown_list : (o : Option Items) → or_else o [] (unknown_jobs resources jobs 0) ≡ [] → unknown_jobs resources jobs 0 (or_else o no_items (λ ds. ds)) ≡ []
-  unknown_list None u = refl
-  unknown_list (Some ds) u = u
-
-  unknown_at : (o : Option Data) → or_else o [] (λ found. or_else (as_array found) [] (unknown_jobs resources jobs 0)) ≡ [] → unknown_jobs resources jobs 0 (or_else o no_items (λ found. or_else (as_array found) no_items (λ ds. ds))) ≡ []
-  unknown_at None u = refl
-  unknown_at (Some found) u = unknown_list (as_array found) u
-
   all_linked : (d : Data) → pipeline_faults d ≡ [] → unknown_in resources jobs d ≡ [] → AllByRecursion (λ j. IsLinked resources jobs j.plan) (jobs_from d)
-  all_linked d none u = each_linked [] 0 (job_items d) (job_members d none) (unknown_at (at_key (codes "jobs") d) u)
+  all_linked d none u = each_linked [] 0 (list_at (codes "jobs") d) (job_members d none) u
 
 -- a list of resources or jobs is short where no fault is present in it
 module _ (m : Member) (k : Path) where
@@ -107,7 +102,7 @@ module _ (m : Member) (k : Path) where
   few_list None e = refl
   few_list (Some ds) e = passes (nat_le (items_len ds) MOST_MEMBERS) rule.Number k (nil_left _ (members m [] k 0 ds) e)
 
-  few_at : (o : Option Data) → or_else o [] (λ found. or_else (as_array found) (unless false rule.Kind k) (member_items m [] k)) ≡ [] → nat_le (items_len (or_else o no_items (λ found. or_else (as_array found) no_items (λ ds. ds)))) MOST_MEMBERS ≡ true
+  few_at : (o : Option Data) → or_else o [] (λ found. or_else (as_array found) (unless false rule.Kind k) (member_items m [] k)) ≡ [] → nat_le (items_len (or_else o no_items items_in)) MOST_MEMBERS ≡ true
   few_at None e = refl
   few_at (Some found) e = few_list (as_array found) e
 
@@ -124,11 +119,11 @@ at_most n m few e = grind (arith, nat_tests)
 
 pub few_resources : (d : Data) → pipeline_faults d ≡ [] → HasFewMembers (resources_from d)
 unfolding pipeline_faults list_faults
-few_resources d none = at_most _ _ (few_at Resource (codes "resources") (at_key (codes "resources") d) (nil_left (member_list Resource (codes "resources") d) _ (nil_right _ (list_faults d) none))) (counted_resources (resource_items d))
+few_resources d none = at_most _ _ (few_at Resource (codes "resources") (at_key (codes "resources") d) (nil_left (member_list Resource (codes "resources") d) _ (nil_right _ (list_faults d) none))) (counted_resources (list_at (codes "resources") d))
 
 pub few_jobs : (d : Data) → pipeline_faults d ≡ [] → HasFewMembers (jobs_from d)
 unfolding pipeline_faults list_faults
-few_jobs d none = at_most _ _ (few_at Job (codes "jobs") (at_key (codes "jobs") d) (nil_left (member_list Job (codes "jobs") d) _ (nil_right (member_list Resource (codes "resources") d) _ (nil_right _ (list_faults d) none)))) (counted_jobs (job_items d))
+few_jobs d none = at_most _ _ (few_at Job (codes "jobs") (at_key (codes "jobs") d) (nil_left (member_list Job (codes "jobs") d) _ (nil_right (member_list Resource (codes "resources") d) _ (nil_right _ (list_faults d) none)))) (counted_jobs (list_at (codes "jobs") d))
 
 pub are_linked : (d : Data) → pipeline_faults d ≡ [] → AreLinked (resources_from d) (jobs_from d)
 unfolding pipeline_faults list_faults

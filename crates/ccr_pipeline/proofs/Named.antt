@@ -3,14 +3,14 @@ use Rattle.std.proofs.Common.{◌≡◌, ℕ, zero, suc, ◌+◌, List, [], ◌�
 use Rattle.std.proofs.lemmas.List.Elements.{All-nil, All-cons, All-append}
 use Rattle.std.specs.List.{AllByRecursion, AllPass}
 use Rattle.serde_json.specs.Data.{Data, Items, no_items, item}
-use Rattle.serde_json.specs.Find.{as_array, as_number, as_object, as_u64}
+use Rattle.serde_json.specs.Find.{as_number, as_object, as_u64}
 use Rattle.ccr_pipeline.specs.declared.fault.Rule.TheVariants as rule
 use Rattle.ccr_pipeline.specs.declared.schema.Kind.TheVariants as kind
 use Rattle.ccr_pipeline.specs.declared.schema.Need.TheVariants.{Must, May}
 use Rattle.ccr_pipeline.specs.declared.schema.Schema.TheVariants as schema
 use Rattle.ccr_pipeline.specs.declared.step.When.{When}
 use Rattle.ccr_pipeline.specs.Faults.{Path, unless}
-use Rattle.ccr_pipeline.specs.Keys.{at_key, or_else, path_below, path_at}
+use Rattle.ccr_pipeline.specs.Keys.{at_key, or_else, items_in, path_below, path_at}
 use Rattle.ccr_pipeline.specs.Kinds.{is_name}
 use Rattle.ccr_pipeline.specs.Limits.{artifact_names, names, names_in}
 use Rattle.ccr_pipeline.specs.Meaning.{text_or, source_from, config_from, inputs_in, outputs_in}
@@ -62,25 +62,17 @@ outputs_named before p i (item d ds) e =
     more _ _ (output_named before (path_at p i) d (nil_left (object_faults (value_faults 1) before schema.Output (path_at p i) d) _ e))
     (outputs_named (before ++ new_names (opening schema.Output) d) p (i + 1) ds (nil_right (object_faults (value_faults 1) before schema.Output (path_at p i) d) _ e))
 
-in_inputs : (p : Path) (o : Option Items) → or_else o [] (each_object (value_faults 1) [] schema.Input p 0) ≡ [] → Named (map (λ x. x.0) (or_else o [] inputs_in))
-in_inputs p None e = none
-in_inputs p (Some ds) e = inputs_named [] p 0 ds e
-
-in_outputs : (p : Path) (o : Option Items) → or_else o [] (each_object (value_faults 1) [] schema.Output p 0) ≡ [] → Named (or_else o [] outputs_in)
-in_outputs p None e = none
-in_outputs p (Some ds) e = outputs_named [] p 0 ds e
-
-at_inputs : (p : Path) (whole : Data) (o : Option Data) → or_else o [] (λ found. value_faults 2 (kind.Objects schema.Input) p whole found ++ []) ≡ [] → Named (map (λ x. x.0) (or_else o [] (λ found. or_else (as_array found) [] inputs_in)))
+at_inputs : (p : Path) (whole : Data) (o : Option Data) → or_else o [] (λ found. value_faults 2 (kind.Objects schema.Input) p whole found ++ []) ≡ [] → Named (map (λ x. x.0) (inputs_in (or_else o no_items items_in)))
 unfolding value_faults
 at_inputs p whole None e = none
 at_inputs p whole (Some found) e =
-    in_inputs p (as_array found) (nil_right (broken (kind.Objects schema.Input) p found) _ (nil_left (value_faults 2 (kind.Objects schema.Input) p whole found) [] e))
+    inputs_named [] p 0 (items_in found) (nil_right (broken (kind.Objects schema.Input) p found) _ (nil_left (value_faults 2 (kind.Objects schema.Input) p whole found) [] e))
 
-at_outputs : (p : Path) (whole : Data) (o : Option Data) → or_else o [] (λ found. value_faults 2 (kind.Objects schema.Output) p whole found ++ []) ≡ [] → Named (or_else o [] (λ found. or_else (as_array found) [] outputs_in))
+at_outputs : (p : Path) (whole : Data) (o : Option Data) → or_else o [] (λ found. value_faults 2 (kind.Objects schema.Output) p whole found ++ []) ≡ [] → Named (outputs_in (or_else o no_items items_in))
 unfolding value_faults
 at_outputs p whole None e = none
 at_outputs p whole (Some found) e =
-    in_outputs p (as_array found) (nil_right (broken (kind.Objects schema.Output) p found) _ (nil_left (value_faults 2 (kind.Objects schema.Output) p whole found) [] e))
+    outputs_named [] p 0 (items_in found) (nil_right (broken (kind.Objects schema.Output) p found) _ (nil_left (value_faults 2 (kind.Objects schema.Output) p whole found) [] e))
 
 config_named : (p : Path) (d : Data) → object_faults (value_faults 2) [] schema.Config p d ≡ [] → Named (artifact_names (config (config_from d)))
 unfolding object_faults

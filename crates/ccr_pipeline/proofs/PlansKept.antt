@@ -11,14 +11,14 @@ use Rattle.ccr_pipeline.specs.declared.schema.Schema.TheVariants as schema
 use Rattle.ccr_pipeline.specs.declared.check_job.Member.{Member}
 use Rattle.ccr_pipeline.specs.declared.check_job.Member.TheVariants.{Resource, Job}
 use Rattle.ccr_pipeline.specs.Faults.{Path, unless}
-use Rattle.ccr_pipeline.specs.Keys.{at_key, or_else, path_at}
+use Rattle.ccr_pipeline.specs.Keys.{at_key, or_else, list_at, items_in, path_at}
 use Rattle.ccr_pipeline.specs.Names.{names_at}
 use Rattle.ccr_pipeline.specs.Objects.{row_faults, key_faults, object_faults, value_faults}
 use Rattle.ccr_pipeline.specs.Places.{plan_steps, job_hooks}
 use Rattle.ccr_pipeline.specs.Schema.{closing}
 use Rattle.ccr_pipeline.specs.StepRules.{visits}
 use Rattle.ccr_pipeline.specs.JobRules.{member_faults, job_rest, after_plan, too_many, members, member_items, member_list}
-use Rattle.ccr_pipeline.specs.Pipelines.{resource_items, job_items, IsResource, IsJob, EachItem}
+use Rattle.ccr_pipeline.specs.Pipelines.{IsResource, IsJob, EachItem}
 use Rattle.ccr_pipeline.specs.Reading.{list_faults, pipeline_faults}
 use Rattle.ccr_pipeline.proofs.Shallow.{shallow}
 use Rattle.ccr_pipeline.proofs.Distinct.{distinct_inputs}
@@ -61,17 +61,17 @@ module _ (m : Member) (k : Path) where
   in_list None e = refl
   in_list (Some ds) e = nil_right _ (members m [] k 0 ds) e
 
-  at_list : (o : Option Data) → or_else o [] (λ found. or_else (as_array found) (unless false rule.Kind k) (member_items m [] k)) ≡ [] → members m [] k 0 (or_else o no_items (λ found. or_else (as_array found) no_items (λ ds. ds))) ≡ []
+  at_list : (o : Option Data) → or_else o [] (λ found. or_else (as_array found) (unless false rule.Kind k) (member_items m [] k)) ≡ [] → members m [] k 0 (or_else o no_items items_in) ≡ []
   at_list None e = refl
   at_list (Some found) e = in_list (as_array found) e
 
-pub resource_members : (d : Data) → pipeline_faults d ≡ [] → members Resource [] (codes "resources") 0 (resource_items d) ≡ []
+pub resource_members : (d : Data) → pipeline_faults d ≡ [] → members Resource [] (codes "resources") 0 (list_at (codes "resources") d) ≡ []
 unfolding pipeline_faults list_faults
 resource_members d e =
     at_list Resource (codes "resources") (at_key (codes "resources") d)
     (nil_left (member_list Resource (codes "resources") d) _ (nil_right _ (list_faults d) e))
 
-pub job_members : (d : Data) → pipeline_faults d ≡ [] → members Job [] (codes "jobs") 0 (job_items d) ≡ []
+pub job_members : (d : Data) → pipeline_faults d ≡ [] → members Job [] (codes "jobs") 0 (list_at (codes "jobs") d) ≡ []
 unfolding pipeline_faults list_faults
 job_members d e =
     at_list Job (codes "jobs") (at_key (codes "jobs") d)
@@ -84,8 +84,8 @@ module _ (m : Member) (Is : Data → Type 0) (one : (names : List (List ℕ)) (p
   each names p i (item d ds) e =
       (one names (path_at p i) d (nil_left (member_faults m names (path_at p i) d) _ e), each (names ++ names_at (codes "name") d) p (i + 1) ds (nil_right (member_faults m names (path_at p i) d) _ e))
 
-pub kept_jobs : (d : Data) → pipeline_faults d ≡ [] → EachItem IsJob (job_items d)
-kept_jobs d e = each Job IsJob kept_job [] (codes "jobs") 0 (job_items d) (job_members d e)
+pub kept_jobs : (d : Data) → pipeline_faults d ≡ [] → EachItem IsJob (list_at (codes "jobs") d)
+kept_jobs d e = each Job IsJob kept_job [] (codes "jobs") 0 (list_at (codes "jobs") d) (job_members d e)
 
-pub kept_resources : (d : Data) → pipeline_faults d ≡ [] → EachItem IsResource (resource_items d)
-kept_resources d e = each Resource IsResource kept_resource [] (codes "resources") 0 (resource_items d) (resource_members d e)
+pub kept_resources : (d : Data) → pipeline_faults d ≡ [] → EachItem IsResource (list_at (codes "resources") d)
+kept_resources d e = each Resource IsResource kept_resource [] (codes "resources") 0 (list_at (codes "resources") d) (resource_members d e)

@@ -17,9 +17,13 @@ abbrev pub or_else : {A B : Type 0} → Option A → B → (A → B) → B
 or_else None b f = b
 or_else (Some a) b f = f a
 
--- the members of the list at a key; there are none where no list is
+-- the members of a list; there are none where no list is
+abbrev pub items_in : Data → Items
+items_in d = or_else (as_array d) no_items (λ ds. ds)
+
+-- those of the list at a key
 abbrev pub list_at : List ℕ → Data → Items
-list_at k d = or_else (at_key k d) no_items (λ found. or_else (as_array found) no_items (λ ds. ds))
+list_at k d = or_else (at_key k d) no_items items_in
 
 -- the path of a key of the object at a path: joined by a point, at the whole pipeline the key alone
 abbrev pub path_below : Path → List ℕ → Path

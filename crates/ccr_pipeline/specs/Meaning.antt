@@ -2,11 +2,11 @@
 use Rattle.std.specs.Prelude.{ℕ, List, [], ◌∷◌, Bool, false, Option, is_some, option_and_then, unwrap_or, codes, if◌then◌else◌}
 use Rattle.std.specs.Str.{bytes_eq}
 use Rattle.serde_json.specs.Data.{Data, null, Items, no_items, item, Members, no_members, member}
-use Rattle.serde_json.specs.Find.{as_null, as_str, as_bool, as_number, as_u64, as_array, as_object}
+use Rattle.serde_json.specs.Find.{as_null, as_str, as_bool, as_number, as_u64, as_object}
 use Rattle.serde_json.specs.Written.{has_float, compact_text}
 use Rattle.ccr_history.specs.Objects.{object_of}
 use Rattle.ccr_history.specs.TextMap.{TextMap, text_map_of}
-use Rattle.ccr_pipeline.specs.Keys.{at_key, or_else}
+use Rattle.ccr_pipeline.specs.Keys.{at_key, or_else, list_at}
 use Rattle.ccr_pipeline.specs.Names.{text_at, texts_in}
 use Rattle.ccr_pipeline.specs.Tree.{Text, WantedData, latest, every, pinned, GetData, PutData, RunData, ConfigData, SourceData, config, file, TaskData}
 
@@ -16,7 +16,7 @@ text_or absent k d = unwrap_or (text_at k d) absent
 
 -- the texts of the list at a key
 abbrev pub texts_from : List ℕ → Data → List Text
-texts_from k d = or_else (at_key k d) [] (λ found. or_else (as_array found) [] texts_in)
+texts_from k d = texts_in (list_at k d)
 
 -- whether true stands at a key
 abbrev pub truth_from : List ℕ → Data → Bool
@@ -67,7 +67,7 @@ inputs_in (item d ds) = (text_or [] (codes "name") d, truth_from (codes "optiona
 
 -- a config's inputs
 abbrev pub inputs_from : Data → List (Text × Bool)
-inputs_from d = or_else (at_key (codes "inputs") d) [] (λ found. or_else (as_array found) [] inputs_in)
+inputs_from d = inputs_in (list_at (codes "inputs") d)
 
 -- the names of the members of a list
 abbrev pub outputs_in : Items → List Text
@@ -76,7 +76,7 @@ outputs_in (item d ds) = text_or [] (codes "name") d ∷ outputs_in ds
 
 -- a config's outputs
 abbrev pub outputs_from : Data → List Text
-outputs_from d = or_else (at_key (codes "outputs") d) [] (λ found. or_else (as_array found) [] outputs_in)
+outputs_from d = outputs_in (list_at (codes "outputs") d)
 
 -- a task config
 abbrev pub config_from : Data → ConfigData

@@ -12,7 +12,7 @@ use Rattle.ccr_pipeline.specs.declared.schema.Kind.TheVariants as kind
 use Rattle.ccr_pipeline.specs.declared.schema.Schema.{Schema}
 use Rattle.ccr_pipeline.specs.declared.schema.Schema.TheVariants as schema
 use Rattle.ccr_pipeline.specs.Faults.{Path, Faults, unless}
-use Rattle.ccr_pipeline.specs.Keys.{at_key, or_else, path_below, path_at}
+use Rattle.ccr_pipeline.specs.Keys.{at_key, or_else, items_in, path_below, path_at}
 use Rattle.ccr_pipeline.specs.Kinds.{is_text, is_name, broken_texts, broken_pin, is_empty}
 use Rattle.ccr_pipeline.specs.Names.{text_at, has_name}
 use Rattle.ccr_pipeline.specs.Schema.{Row, opening}
@@ -102,7 +102,7 @@ own_name p whole d =
 -- what is broken in the objects that the value at a path holds, and beside its object's name
 abbrev pub inside : Test → Test
 inside test (kind.Object s) p whole d = object_faults test [] s p d
-inside test (kind.Objects s) p whole d = or_else (as_array d) [] (each_object test [] s p 0)
+inside test (kind.Objects s) p whole d = each_object test [] s p 0 (items_in d)
 inside test kind.Parallel p whole d = if is_some (as_array d) then [] else object_faults test [] schema.Parallel p d
 inside test kind.OwnName p whole d = own_name p whole d
 inside test _ p whole d = []

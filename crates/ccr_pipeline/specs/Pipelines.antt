@@ -1,10 +1,9 @@
 -- What a pipeline is read as, where no fault is present in it.
 use Rattle.std.specs.Prelude.{◌≡◌, ℕ, List, [], ◌∷◌, map, string_bytes, codes, IsTrue, ◌&&◌, ⊤}
 use Rattle.serde_json.specs.Data.{Data, Items, no_items, item}
-use Rattle.serde_json.specs.Find.{as_array}
 use Rattle.ccr_pipeline.specs.declared.pipeline.Pipeline.{Pipeline}
 use Rattle.ccr_pipeline.specs.JobData.{ResourceData, resource_data, JobData, job_data}
-use Rattle.ccr_pipeline.specs.Keys.{at_key, or_else}
+use Rattle.ccr_pipeline.specs.Keys.{list_at}
 use Rattle.ccr_pipeline.specs.Meaning.{text_or, texts_from, truth_from, whole_from, object_at, pin_from}
 use Rattle.ccr_pipeline.specs.Kinds.{is_name}
 use Rattle.ccr_pipeline.specs.Limits.{IsPlan}
@@ -26,14 +25,9 @@ abbrev pub resources_in : Items → List ResourceData
 resources_in no_items = []
 resources_in (item d ds) = resource_from d ∷ resources_in ds
 
--- the texts of a pipeline's resources
-abbrev pub resource_items : Data → Items
-resource_items d =
-    or_else (at_key (codes "resources") d) no_items (λ found. or_else (as_array found) no_items (λ ds. ds))
-
 -- a pipeline's resources
 abbrev pub resources_from : Data → List ResourceData
-resources_from d = resources_in (resource_items d)
+resources_from d = resources_in (list_at (codes "resources") d)
 
 -- a job
 unfoldable pub job_from : Data → JobData
@@ -50,13 +44,9 @@ abbrev pub jobs_in : Items → List JobData
 jobs_in no_items = []
 jobs_in (item d ds) = job_from d ∷ jobs_in ds
 
--- the texts of a pipeline's jobs
-abbrev pub job_items : Data → Items
-job_items d = or_else (at_key (codes "jobs") d) no_items (λ found. or_else (as_array found) no_items (λ ds. ds))
-
 -- a pipeline's jobs
 abbrev pub jobs_from : Data → List JobData
-jobs_from d = jobs_in (job_items d)
+jobs_from d = jobs_in (list_at (codes "jobs") d)
 
 -- what a job is called may be a name, and its plan keeps the limits
 abbrev pub IsJob : Data → Type 0

@@ -1,7 +1,7 @@
 -- The steps of a job, each with its path, in the order of reading.
 use Rattle.std.specs.Prelude.{ℕ, zero, suc, ◌+◌, ◌*◌, min, List, [], ◌∷◌, ◌++◌, map, ◌&&◌, nat_le, option_and_then, string_bytes, codes, if◌then◌else◌}
 use Rattle.serde_json.specs.Data.{Data, Items, no_items, item}
-use Rattle.serde_json.specs.Find.{as_array, as_number, as_u64}
+use Rattle.serde_json.specs.Find.{as_number, as_u64}
 use Rattle.serde_json.specs.View.{view}
 use Rattle.ccr_pipeline.specs.declared.place.Part.{Part}
 use Rattle.ccr_pipeline.specs.declared.place.Part.TheVariants.{Opening, Closing}
@@ -48,7 +48,7 @@ each_step rec t p i (item d ds) = rec t (path_at p i) d ++ each_step rec t p (i 
 
 -- the steps of the list at a key
 unfoldable pub steps_in : (ℕ → Path → Data → List Spot) → ℕ → Path → List ℕ → Data → List Spot
-steps_in rec t p k d = or_else (option_and_then as_array (at_key k d)) [] (each_step rec t (path_below p k) 0)
+steps_in rec t p k d = each_step rec t (path_below p k) 0 (list_at k d)
 
 -- the step at a key
 unfoldable pub step_at : (ℕ → Path → Data → List Spot) → ℕ → Path → List ℕ → Data → List Spot

@@ -5,7 +5,7 @@ use Rattle.serde_json.specs.Find.{as_number, as_u64, as_array}
 use Rattle.ccr_pipeline.specs.declared.step.When.{When}
 use Rattle.ccr_pipeline.specs.declared.step.When.TheVariants.{OnSuccess, OnFailure, OnError, OnAbort, Ensure}
 use Rattle.ccr_pipeline.specs.Hooks.{hook_key}
-use Rattle.ccr_pipeline.specs.Keys.{at_key, or_else}
+use Rattle.ccr_pipeline.specs.Keys.{at_key, or_else, items_in, list_at}
 use Rattle.ccr_pipeline.specs.Meaning.{truth_from, get_from, put_from, task_from}
 use Rattle.ccr_pipeline.specs.Tree.{Tree, get, put, task, in_order, in_parallel, tried, attempts, hook, no_trees, trees_of}
 
@@ -29,14 +29,9 @@ abbrev pub each_tree : (Data → Tree) → Items → List Tree
 each_tree rec no_items = []
 each_tree rec (item d ds) = rec d ∷ each_tree rec ds
 
--- the steps of a list
-abbrev pub trees_in : (Data → Tree) → Data → List Tree
-trees_in rec d = or_else (as_array d) [] (each_tree rec)
-
--- the steps of an in_parallel: a list, or an object with a list of steps
-abbrev pub parallel_trees : (Data → Tree) → Data → List Tree
-parallel_trees rec d =
-    if is_some (as_array d) then trees_in rec d else or_else (at_key (codes "steps") d) [] (trees_in rec)
+-- the texts of the steps of an in_parallel: a list, or an object with a list of steps
+abbrev pub parallel_items : Data → Items
+parallel_items d = if is_some (as_array d) then items_in d else list_at (codes "steps") d
 
 -- a step that holds steps
 unfoldable pub holder : (Data → Tree) → Data → Tree
@@ -44,8 +39,8 @@ holder rec d =
     or_else (at_key (codes "do") d)
     (or_else (at_key (codes "in_parallel") d)
     (or_else (at_key (codes "try") d) (in_order no_trees) (λ found. tried (rec found)))
-    (λ found. in_parallel (trees_of (parallel_trees rec found)) (truth_from (codes "fail_fast") found)))
-    (λ found. in_order (trees_of (trees_in rec found)))
+    (λ found. in_parallel (trees_of (each_tree rec (parallel_items found))) (truth_from (codes "fail_fast") found)))
+    (λ found. in_order (trees_of (each_tree rec (items_in found))))
 
 -- the step without its modifiers
 unfoldable pub action : (Data → Tree) → Data → Tree

@@ -1,14 +1,14 @@
 -- Names of resources and jobs that the pipeline doesn't have.
 use Rattle.std.specs.Prelude.{ℕ, ◌+◌, List, [], ◌∷◌, ◌++◌, ◌||◌, is_some, codes, if◌then◌else◌}
 use Rattle.serde_json.specs.Data.{Data, Items, no_items, item}
-use Rattle.serde_json.specs.Find.{as_str, as_array}
+use Rattle.serde_json.specs.Find.{as_str}
 use Rattle.ccr_pipeline.specs.declared.fault.Rule.TheVariants as rule
 use Rattle.ccr_pipeline.specs.declared.place.Part.{Part}
 use Rattle.ccr_pipeline.specs.declared.place.Part.TheVariants.{Opening, Closing}
 use Rattle.ccr_pipeline.specs.Faults.{Path, Faults, unless}
-use Rattle.ccr_pipeline.specs.Keys.{at_key, or_else, path_below, path_at}
+use Rattle.ccr_pipeline.specs.Keys.{at_key, or_else, list_at, path_below, path_at}
 use Rattle.ccr_pipeline.specs.Names.{text_at, has_name}
-use Rattle.ccr_pipeline.specs.Places.{Spot, plan_steps, job_hooks}
+use Rattle.ccr_pipeline.specs.Places.{Spot, all_steps}
 
 -- the key that names the resource of a get or put
 abbrev pub name_key : Data → List ℕ
@@ -32,39 +32,19 @@ unknown_texts jobs p i (item d ds) =
 -- the jobs that a get names in passed and that aren't there
 unfoldable pub unknown_passed : List (List ℕ) → Path → Data → Faults
 unknown_passed jobs p d = if is_some (at_key (codes "get") d) then
-    or_else (at_key (codes "passed") d) []
-    (λ found. or_else (as_array found) [] (unknown_texts jobs (path_below p (codes "passed")) 0)) else []
+    unknown_texts jobs (path_below p (codes "passed")) 0 (list_at (codes "passed") d) else []
 
--- what a step names that isn't there
-unfoldable pub unknown_names : List (List ℕ) → List (List ℕ) → Path → Data → Faults
-unknown_names resources jobs p d = unknown_resource resources p d ++ unknown_passed jobs p d
-
--- the first of the two visits of a step tells what it names
+-- the first of the two visits of a step tells what it names that isn't there
 abbrev pub unknown_by : Part → List (List ℕ) → List (List ℕ) → Path → Data → Faults
-unknown_by Opening resources jobs p d = unknown_names resources jobs p d
+unknown_by Opening resources jobs p d = unknown_resource resources p d ++ unknown_passed jobs p d
 unknown_by Closing resources jobs p d = []
-
--- what the visited step names that isn't there
-abbrev pub unknown_at : List (List ℕ) → List (List ℕ) → Spot → Faults
-unknown_at resources jobs x = unknown_by x.part resources jobs x.path x.step
 
 -- what the visited steps name that isn't there, in the order of the visits
 abbrev pub unknown_spots : List (List ℕ) → List (List ℕ) → List Spot → Faults
 unknown_spots resources jobs [] = []
-unknown_spots resources jobs (x ∷ xs) = unknown_at resources jobs x ++ unknown_spots resources jobs xs
-
--- a job's plan, and then its hooks
-unfoldable pub unknown_job : List (List ℕ) → List (List ℕ) → Path → Data → Faults
-unknown_job resources jobs p d =
-    unknown_spots resources jobs (plan_steps p d) ++ unknown_spots resources jobs (job_hooks p d)
-
--- the jobs from position i on
-abbrev pub unknown_jobs : List (List ℕ) → List (List ℕ) → ℕ → Items → Faults
-unknown_jobs resources jobs i no_items = []
-unknown_jobs resources jobs i (item d ds) =
-    unknown_job resources jobs (path_at (codes "jobs") i) d ++ unknown_jobs resources jobs (i + 1) ds
+unknown_spots resources jobs (x ∷ xs) =
+    unknown_by x.part resources jobs x.path x.step ++ unknown_spots resources jobs xs
 
 -- all jobs of a pipeline
 abbrev pub unknown_in : List (List ℕ) → List (List ℕ) → Data → Faults
-unknown_in resources jobs d =
-    or_else (at_key (codes "jobs") d) [] (λ found. or_else (as_array found) [] (unknown_jobs resources jobs 0))
+unknown_in resources jobs d = unknown_spots resources jobs (all_steps d)

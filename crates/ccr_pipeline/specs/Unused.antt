@@ -5,7 +5,7 @@ use Rattle.std.specs.List.{flat_map, Contains}
 use Rattle.std.specs.List.Sorted.{IsStrictlySortedBy}
 use Rattle.std.specs.Ordering.{nat_cmp}
 use Rattle.serde_json.specs.Data.{Data, Items, no_items, item, Members, no_members, member}
-use Rattle.serde_json.specs.Find.{as_null, as_array, as_object}
+use Rattle.serde_json.specs.Find.{as_null, as_object}
 use Rattle.ccr_pipeline.specs.declared.place.Part.{Part}
 use Rattle.ccr_pipeline.specs.declared.place.Part.TheVariants.{Opening, Closing}
 use Rattle.ccr_pipeline.specs.declared.schema.Kind.{Kind}
@@ -14,7 +14,7 @@ use Rattle.ccr_pipeline.specs.declared.schema.Schema.{Schema}
 use Rattle.ccr_pipeline.specs.declared.schema.Schema.TheVariants as schema
 use Rattle.ccr_pipeline.specs.declared.schema.TheConstants.{NESTED}
 use Rattle.ccr_pipeline.specs.Faults.{Path}
-use Rattle.ccr_pipeline.specs.Keys.{at_key, or_else, path_below, path_at}
+use Rattle.ccr_pipeline.specs.Keys.{at_key, or_else, items_in, path_below, path_at}
 use Rattle.ccr_pipeline.specs.Places.{Spot, all_steps}
 use Rattle.ccr_pipeline.specs.Schema.{Row, opening, has_key, schema_of}
 
@@ -36,7 +36,7 @@ unused_items rec p i (item d ds) = rec (path_at p i) d ++ unused_items rec p (i 
 -- those of the objects that a value of a kind holds, each by rec
 abbrev pub unused_value : (Schema → Path → Data → List Path) → Kind → Path → Data → List Path
 unused_value rec (kind.Object s) p d = rec s p d
-unused_value rec (kind.Objects s) p d = or_else (as_array d) [] (unused_items (rec s) p 0)
+unused_value rec (kind.Objects s) p d = unused_items (rec s) p 0 (items_in d)
 unused_value rec kind.Parallel p d = rec schema.Parallel p d
 unused_value rec _ p d = []
 

@@ -5,7 +5,7 @@
 ghost use Rattle.std.specs.Prelude.{◌≡◌, ◌++◌, [], map, option_map, IfOk, OnOk, string_bytes, codes};
 ghost use Rattle.serde_json.specs.View.{view, items_view, members_view};
 ghost use Rattle.ccr_history.specs.ObjectData.{object_data};
-ghost use Rattle.ccr_pipeline.specs.Keys.{at_key, or_else};
+ghost use Rattle.ccr_pipeline.specs.Keys.{at_key, or_else, list_at};
 ghost use Rattle.ccr_pipeline.specs.Names.{text_at, texts_in};
 ghost use Rattle.ccr_pipeline.specs.Tree.{run_data, input_data, variable_data, config_data, source_data, task_data};
 ghost use Rattle.ccr_pipeline.specs.Tree.{wanted_data, get_data, put_data};
@@ -14,7 +14,7 @@ ghost use Rattle.ccr_pipeline.specs.Meaning.{variables_in, variables_from, run_f
 ghost use Rattle.ccr_pipeline.specs.Meaning.{outputs_in, outputs_from, config_from, source_from, task_from};
 ghost use Rattle.ccr_pipeline.specs.Meaning.{wanted_in, wanted_from, get_from, put_from, pin_from};
 
-use crate::key::at_key;
+use crate::key::{at_key, list_at};
 use crate::names::text_at;
 use crate::step::{Get, Put, Wanted};
 use crate::task::{Run, Task, TaskConfig, TaskInput, TaskSource, Variable};
@@ -45,29 +45,18 @@ fn optional_text(alloc: Global, value: &Value, key: &str) -> Result<Option<Strin
     }
 }
 
-fn texts_of(alloc: Global, list: &[Value]) -> Result<Vec<String>, AllocError>
-    ensures { IfOk result (λ v. map string_bytes v.items ≡ texts_in (items_view list.now)) }
+/// The texts of the list at a key.
+pub(crate) fn texts(alloc: Global, value: &Value, key: &str) -> Result<Vec<String>, AllocError>
+    ensures { IfOk result (λ v. map string_bytes v.items ≡ texts_from key.now (view value.now)) }
 {
     let mut texts = Vec::new(alloc);
+    let list = list_at(value, key);
     for member in list {
         if let Some(text) = member.as_str() {
             texts.push(String::from_str(alloc, text)?)?;
         }
     }
     Ok(texts)
-}
-
-/// The texts of the list at a key.
-pub(crate) fn texts(alloc: Global, value: &Value, key: &str) -> Result<Vec<String>, AllocError>
-    ensures { IfOk result (λ v. map string_bytes v.items ≡ texts_from key.now (view value.now)) }
-{
-    let Some(found) = at_key(value, key) else {
-        return Ok(Vec::new(alloc));
-    };
-    match found.as_array() {
-        Some(list) => texts_of(alloc, list),
-        None => Ok(Vec::new(alloc)),
-    }
 }
 
 /// Whether the key has true.
@@ -168,10 +157,11 @@ fn run(alloc: Global, config: &Value) -> Result<Run, AllocError>
     })
 }
 
-fn inputs_of(alloc: Global, list: &[Value]) -> Result<Vec<TaskInput>, AllocError>
-    ensures { IfOk result (λ v. map input_data v.items ≡ inputs_in (items_view list.now)) }
+fn inputs(alloc: Global, config: &Value) -> Result<Vec<TaskInput>, AllocError>
+    ensures { IfOk result (λ v. map input_data v.items ≡ inputs_from (view config.now)) }
 {
     let mut inputs = Vec::new(alloc);
+    let list = list_at(config, "inputs");
     for member in list {
         inputs.push(TaskInput {
             name: text(alloc, member, "name")?,
@@ -181,38 +171,15 @@ fn inputs_of(alloc: Global, list: &[Value]) -> Result<Vec<TaskInput>, AllocError
     Ok(inputs)
 }
 
-fn inputs(alloc: Global, config: &Value) -> Result<Vec<TaskInput>, AllocError>
-    ensures { IfOk result (λ v. map input_data v.items ≡ inputs_from (view config.now)) }
-{
-    let Some(found) = at_key(config, "inputs") else {
-        return Ok(Vec::new(alloc));
-    };
-    match found.as_array() {
-        Some(list) => inputs_of(alloc, list),
-        None => Ok(Vec::new(alloc)),
-    }
-}
-
-fn outputs_of(alloc: Global, list: &[Value]) -> Result<Vec<String>, AllocError>
-    ensures { IfOk result (λ v. map string_bytes v.items ≡ outputs_in (items_view list.now)) }
+fn outputs(alloc: Global, config: &Value) -> Result<Vec<String>, AllocError>
+    ensures { IfOk result (λ v. map string_bytes v.items ≡ outputs_from (view config.now)) }
 {
     let mut outputs = Vec::new(alloc);
+    let list = list_at(config, "outputs");
     for member in list {
         outputs.push(text(alloc, member, "name")?)?;
     }
     Ok(outputs)
-}
-
-fn outputs(alloc: Global, config: &Value) -> Result<Vec<String>, AllocError>
-    ensures { IfOk result (λ v. map string_bytes v.items ≡ outputs_from (view config.now)) }
-{
-    let Some(found) = at_key(config, "outputs") else {
-        return Ok(Vec::new(alloc));
-    };
-    match found.as_array() {
-        Some(list) => outputs_of(alloc, list),
-        None => Ok(Vec::new(alloc)),
-    }
 }
 
 /// The config that a tested text is.

@@ -2,17 +2,17 @@
 ghost use Rattle.std.specs.Prelude.{◌≡◌, ◌++◌, [], map, option_map, codes, IfOk};
 ghost use Rattle.serde_json.specs.Find.{get_member};
 ghost use Rattle.serde_json.specs.View.{view, items_view, members_view};
-ghost use Rattle.ccr_pipeline.specs.Keys.{at_key, or_else};
+ghost use Rattle.ccr_pipeline.specs.Keys.{at_key, or_else, items_in, list_at};
 ghost use Rattle.ccr_pipeline.specs.JobData.{resource_data, job_data};
 ghost use Rattle.ccr_pipeline.specs.Pipelines.{resource_from, resources_in, resources_from, job_from, jobs_in};
-ghost use Rattle.ccr_pipeline.specs.Pipelines.{job_items, jobs_from, resource_items, IsResource, IsJob, EachItem};
+ghost use Rattle.ccr_pipeline.specs.Pipelines.{jobs_from, IsResource, IsJob, EachItem};
 ghost use Rattle.ccr_pipeline.specs.Plans.{plan_from};
-ghost use Rattle.ccr_pipeline.specs.Steps.{trees_in, step_tree, with_hooks};
+ghost use Rattle.ccr_pipeline.specs.Steps.{each_tree, step_tree, with_hooks};
 ghost use Rattle.ccr_pipeline.specs.Tree.{tree_of, trees_of};
 
 use crate::build::{object, pin, text, texts, truth, whole};
 use crate::build_step::{add_hooks, steps_of};
-use crate::key::at_key;
+use crate::key::list_at;
 use crate::place::LEVELS;
 use crate::resource::{Job, Resource};
 use crate::step::Step;
@@ -33,29 +33,17 @@ fn resource(alloc: Global, value: &Value) -> Result<Resource, AllocError>
     })
 }
 
-fn resources_of(alloc: Global, list: &[Value]) -> Result<Vec<Resource>, AllocError>
-    requires { EachItem IsResource (items_view list.now) }
-    ensures { IfOk result (λ v. map resource_data v.items ≡ resources_in (items_view list.now)) }
+/// The resources of a tested pipeline.
+pub(crate) fn resources(alloc: Global, pipeline: &Value) -> Result<Vec<Resource>, AllocError>
+    requires { EachItem IsResource (list_at (codes "resources") (view pipeline.now)) }
+    ensures { IfOk result (λ v. map resource_data v.items ≡ resources_from (view pipeline.now)) }
 {
     let mut resources = Vec::new(alloc);
+    let list = list_at(pipeline, "resources");
     for member in list {
         resources.push(resource(alloc, member)?)?;
     }
     Ok(resources)
-}
-
-/// The resources of a tested pipeline.
-pub(crate) fn resources(alloc: Global, pipeline: &Value) -> Result<Vec<Resource>, AllocError>
-    requires { EachItem IsResource (resource_items (view pipeline.now)) }
-    ensures { IfOk result (λ v. map resource_data v.items ≡ resources_from (view pipeline.now)) }
-{
-    let Some(found) = at_key(pipeline, "resources") else {
-        return Ok(Vec::new(alloc));
-    };
-    match found.as_array() {
-        Some(list) => resources_of(alloc, list),
-        None => Ok(Vec::new(alloc)),
-    }
 }
 
 /// The plan as a `do`, in the job's hooks.
@@ -63,10 +51,7 @@ pub(crate) fn resources(alloc: Global, pipeline: &Value) -> Result<Vec<Resource>
 pub(crate) fn plan(alloc: Global, job: &Value) -> Result<Step, AllocError>
     ensures { IfOk result (λ s. tree_of s ≡ plan_from (view job.now)) }
 {
-    let steps = match at_key(job, "plan") {
-        Some(found) => steps_of(alloc, found, LEVELS)?,
-        None => Vec::new(alloc),
-    };
+    let steps = steps_of(alloc, list_at(job, "plan"), LEVELS)?;
     add_hooks(alloc, job, Step::Do(steps), LEVELS)
 }
 
@@ -94,7 +79,7 @@ fn member(members: BTreeMap<String, Value>, key: &str) -> Option<Value>
 
 /// The list of jobs of a pipeline, of which nothing else is kept.
 fn job_list(alloc: Global, pipeline: Value) -> Vec<Value>
-    ensures { items_view result.items ≡ job_items (view pipeline) }
+    ensures { items_view result.items ≡ list_at (codes "jobs") (view pipeline) }
 {
     let Value::Object(members) = pipeline else {
         return Vec::new(alloc);
@@ -119,7 +104,7 @@ fn jobs_of(alloc: Global, list: Vec<Value>) -> Result<Vec<Job>, AllocError>
 
 /// The jobs of a tested pipeline. They are as large as its text, so that the two are never held whole side by side.
 pub(crate) fn jobs(alloc: Global, pipeline: Value) -> Result<Vec<Job>, AllocError>
-    requires { EachItem IsJob (job_items (view pipeline)) }
+    requires { EachItem IsJob (list_at (codes "jobs") (view pipeline)) }
     ensures { IfOk result (λ v. map job_data v.items ≡ jobs_from (view pipeline)) }
 {
     jobs_of(alloc, job_list(alloc, pipeline))

@@ -1,15 +1,15 @@
 //! The steps that tested text is built into, in their modifiers.
 ghost use Rattle.std.specs.Prelude.{◌≡◌, ◌++◌, [], map, codes, IfOk};
 ghost use Rattle.serde_json.specs.View.{view, items_view};
-ghost use Rattle.ccr_pipeline.specs.Keys.{at_key, or_else};
+ghost use Rattle.ccr_pipeline.specs.Keys.{at_key, or_else, items_in, list_at};
 ghost use Rattle.ccr_pipeline.specs.Meaning.{truth_from};
-ghost use Rattle.ccr_pipeline.specs.Tree.{tree_of, trees_of};
-ghost use Rattle.ccr_pipeline.specs.Steps.{with_attempts, with_hook, with_hooks, each_tree, trees_in, parallel_trees};
+ghost use Rattle.ccr_pipeline.specs.Tree.{tree_of, trees_of, hook};
+ghost use Rattle.ccr_pipeline.specs.Steps.{with_attempts, with_hook, with_hooks, each_tree, parallel_items};
 ghost use Rattle.ccr_pipeline.specs.Steps.{holder, action, step_tree};
 ghost use Rattle.ccr_pipeline.specs.Hooks.{hook_key};
 
 use crate::build::{get, put, task, truth};
-use crate::key::at_key;
+use crate::key::{at_key, items_in, list_at};
 use crate::step::{Step, When};
 use serde_json::Value;
 use std::alloc::{AllocError, Global};
@@ -24,6 +24,13 @@ fn add_attempts(alloc: Global, value: &Value, step: Step) -> Result<Step, AllocE
         Some(n) => Ok(Step::Attempts(n, Box::new(alloc, step)?)),
         None => Ok(step),
     }
+}
+
+fn hooked(alloc: Global, when: When, step: Step, last: Step) -> Result<Step, AllocError>
+    ensures { IfOk result (λ s. tree_of s ≡ hook when (tree_of step) (tree_of last)) }
+{
+    let step = Box::new(alloc, step)?;
+    Ok(Step::Hook(when, step, Box::new(alloc, last)?))
 }
 
 #[cycle(build)]
@@ -41,7 +48,7 @@ fn add_hook(
     match at_key(value, when.key()) {
         Some(found) => {
             let hook = step_of(alloc, found, left)?;
-            Ok(Step::Hook(when, Box::new(alloc, step)?, Box::new(alloc, hook)?))
+            hooked(alloc, when, step, hook)
         }
         None => Ok(step),
     }
@@ -66,10 +73,10 @@ pub(crate) fn add_hooks(
     add_hook(alloc, When::Ensure, value, step, left)
 }
 
+/// The steps of a list.
 #[cycle(build)]
-fn list_of(alloc: Global, list: &[Value], left: u32) -> Result<Vec<Step>, AllocError>
-    ensures { IfOk result
-        (λ v. map tree_of v.items ≡ each_tree (step_tree left) (items_view list.now)) }
+pub(crate) fn steps_of(alloc: Global, list: &[Value], left: u32) -> Result<Vec<Step>, AllocError>
+    ensures { IfOk result (λ v. map tree_of v.items ≡ each_tree (step_tree left) (items_view list.now)) }
 {
     let mut steps = Vec::new(alloc);
     for member in list {
@@ -78,30 +85,14 @@ fn list_of(alloc: Global, list: &[Value], left: u32) -> Result<Vec<Step>, AllocE
     Ok(steps)
 }
 
-/// The steps of a list.
-#[cycle(build)]
-pub(crate) fn steps_of(alloc: Global, found: &Value, left: u32) -> Result<Vec<Step>, AllocError>
-    ensures { IfOk result (λ v. map tree_of v.items ≡ trees_in (step_tree left) (view found.now)) }
-{
-    match found.as_array() {
-        Some(list) => list_of(alloc, list, left),
-        None => Ok(Vec::new(alloc)),
-    }
-}
-
-/// The steps of an `in_parallel`: it is a list, or has one at `steps`.
-#[cycle(build)]
-fn parallel_of(alloc: Global, found: &Value, left: u32) -> Result<Vec<Step>, AllocError>
-    ensures { IfOk result
-        (λ v. map tree_of v.items ≡ parallel_trees (step_tree left) (view found.now)) }
+/// The texts of the steps of an `in_parallel`: it is a list, or has one at `steps`.
+fn parallel_items(found: &Value) -> &[Value]
+    ensures { items_view result.now ≡ parallel_items (view found.now) }
 {
     if found.is_array() {
-        return steps_of(alloc, found, left);
+        return items_in(found);
     }
-    match at_key(found, "steps") {
-        Some(steps) => steps_of(alloc, steps, left),
-        None => Ok(Vec::new(alloc)),
-    }
+    list_at(found, "steps")
 }
 
 /// The step of `do`, `in_parallel` or `try`.
@@ -111,10 +102,10 @@ fn holder_of(alloc: Global, step: &Value, left: u32) -> Result<Step, AllocError>
     ensures { IfOk result (λ s. tree_of s ≡ holder (step_tree left) (view step.now)) }
 {
     if let Some(found) = at_key(step, "do") {
-        return Ok(Step::Do(steps_of(alloc, found, left)?));
+        return Ok(Step::Do(steps_of(alloc, items_in(found), left)?));
     }
     if let Some(found) = at_key(step, "in_parallel") {
-        let steps = parallel_of(alloc, found, left)?;
+        let steps = steps_of(alloc, parallel_items(found), left)?;
         return Ok(Step::InParallel(steps, truth(found, "fail_fast")));
     }
     if let Some(found) = at_key(step, "try") {

@@ -12,7 +12,8 @@ ghost use Rattle.ccr_pipeline.specs.declared.check_job.Member.TheVariants.{Job};
 ghost use Rattle.ccr_pipeline.specs.declared.schema.Schema.TheVariants as schema;
 ghost use Rattle.ccr_pipeline.specs.Places.{spots, plan_steps, job_hooks, gets_at};
 ghost use Rattle.ccr_pipeline.specs.StepRules.{visits};
-ghost use Rattle.ccr_pipeline.specs.Inputs.{are_few, input_data, named_jobs};
+ghost use Rattle.ccr_pipeline.specs.Inputs.{are_few, input_data, inputs, named_jobs};
+ghost use Rattle.ccr_pipeline.specs.Plans.{plan_from};
 ghost use Rattle.ccr_pipeline.specs.JobRules.{job_rest, after_plan, too_many, member_faults, members, member_items};
 ghost use Rattle.ccr_pipeline.specs.JobRules.{names_in, member_list, list_names};
 
@@ -96,13 +97,19 @@ fn are_few_inputs(alloc: Global, inputs: &[Input]) -> Result<bool, AllocError>
     Ok(inputs.len() <= MOST_INPUTS && jobs.len() <= MOST_INPUTS)
 }
 
+fn plan_inputs(alloc: Global, job: &Value) -> Result<Vec<Input>, AllocError>
+    ensures { IfOk result (λ v. map input_data v.items ≡ inputs (plan_from (view job.now))) }
+{
+    let plan = plan(alloc, job)?;
+    inputs_in(alloc, &plan)
+}
+
 /// Refuses a plan with too many inputs or named jobs.
 #[tactic(auto, unfolding(crate::specs::JobRules::too_many))]
 fn check_number(alloc: Global, job: &Value, path: &str) -> Result<(), ReadFault>
     ensures { Checks (too_many path.now (view job.now)) result }
 {
-    let plan = plan(alloc, job)?;
-    let inputs = inputs_in(alloc, &plan)?;
+    let inputs = plan_inputs(alloc, job)?;
     let fit = are_few_inputs(alloc, &inputs)?;
     require_at(alloc, fit, Rule::Number, path, "plan")
 }

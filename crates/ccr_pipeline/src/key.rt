@@ -2,7 +2,7 @@
 ghost use Rattle.std.specs.Prelude.{◌≡◌, Option, option_map, string_bytes, IfOk, OnOk};
 ghost use Rattle.serde_json.specs.View.{view, items_view};
 ghost use Rattle.ccr_pipeline.specs.Faults.{unless, Checks, StartsWith, IsFirst, fault_of};
-ghost use Rattle.ccr_pipeline.specs.Keys.{at_key, or_else, list_at, path_below, path_at};
+ghost use Rattle.ccr_pipeline.specs.Keys.{at_key, or_else, items_in, list_at, path_below, path_at};
 
 use crate::fault::{ReadFault, Rule};
 use serde_json::Value;
@@ -18,15 +18,22 @@ pub(crate) fn at_key<'v>(value: &'v Value, key: &str) -> Option<&'v Value>
     }
 }
 
-/// The list at a key, or an empty one.
+/// The members of a list; there are none where no list is.
+pub(crate) fn items_in(value: &Value) -> &[Value]
+    ensures { items_view result.now ≡ items_in (view value.now) }
+{
+    match value.as_array() {
+        Some(list) => list,
+        None => &[],
+    }
+}
+
+/// The members of the list at a key.
 pub(crate) fn list_at<'v>(value: &'v Value, key: &str) -> &'v [Value]
     ensures { items_view result.now ≡ list_at key.now (view value.now) }
 {
     match at_key(value, key) {
-        Some(found) => match found.as_array() {
-            Some(list) => list,
-            None => &[],
-        },
+        Some(found) => items_in(found),
         None => &[],
     }
 }

@@ -2,14 +2,14 @@
 ghost use Rattle.std.specs.Prelude.{◌≡◌, ◌++◌, [], drop, codes, OnOk};
 ghost use Rattle.serde_json.specs.View.{view, items_view};
 ghost use Rattle.ccr_pipeline.specs.Faults.{unless, Checks, StartsWith, IsFirst, fault_of};
-ghost use Rattle.ccr_pipeline.specs.Keys.{at_key, or_else, path_below, path_at};
+ghost use Rattle.ccr_pipeline.specs.Keys.{at_key, or_else, items_in, path_below, path_at};
 ghost use Rattle.ccr_pipeline.specs.Names.{text_at};
 ghost use Rattle.ccr_pipeline.specs.Objects.{broken, absent, once, once_names, row_names, new_names, row_faults};
 ghost use Rattle.ccr_pipeline.specs.Objects.{key_faults, object_faults, each_object, own_name, inside, value_faults};
 ghost use Rattle.ccr_pipeline.specs.Schema.{opening, rows as row_list};
 
 use crate::fault::{ReadFault, Rule};
-use crate::key::{at_key, path_at, path_below, require, require_at};
+use crate::key::{at_key, items_in, path_at, path_below, require, require_at};
 use crate::kind::check;
 use crate::names::{Names, text_at};
 use crate::schema::{Kind, Need, Row, Schema, opening};
@@ -85,13 +85,10 @@ fn check_inside(
             let mut names = Names::new(alloc);
             check_object(alloc, left, schema, &mut names, found, path.as_str())
         }
-        Kind::Objects(schema) => match found.as_array() {
-            Some(list) => {
-                let path = path_below(alloc, path, key)?;
-                check_objects(alloc, left, schema, list, path.as_str())
-            }
-            None => Ok(()),
-        },
+        Kind::Objects(schema) => {
+            let path = path_below(alloc, path, key)?;
+            check_objects(alloc, left, schema, items_in(found), path.as_str())
+        }
         Kind::Parallel => {
             if found.is_array() {
                 return Ok(());

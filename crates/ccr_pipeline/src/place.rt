@@ -95,9 +95,7 @@ pub(crate) fn push_list<'v>(
     ensures { OnOk result (spots out.new.items
         ≡ spots out.old.items ++ steps_in (steps_from left) tries path.now key.now (view value.now)) }
 {
-    let Some(list) = at_key(value, key).and_then(Value::as_array) else {
-        return Ok(());
-    };
+    let list = list_at(value, key);
     let below = path_below(alloc, path, key)?;
     for (i, step) in list.iter().enumerate() {
         let path = path_at(alloc, below.as_str(), i)?;

@@ -1,20 +1,17 @@
 //! The second walk: names of resources and jobs that the pipeline doesn't have.
-ghost use Rattle.std.specs.Prelude.{◌≡◌, ◌++◌, [], drop, codes};
-ghost use Rattle.std.specs.List.{flat_map};
+ghost use Rattle.std.specs.Prelude.{◌≡◌, ◌++◌, [], drop, codes, string_bytes};
 ghost use Rattle.serde_json.specs.View.{view, items_view};
 ghost use Rattle.ccr_pipeline.specs.Faults.{unless, Checks, StartsWith, IsFirst, fault_of};
-ghost use Rattle.ccr_pipeline.specs.Keys.{at_key, or_else, path_below, path_at};
+ghost use Rattle.ccr_pipeline.specs.Keys.{at_key, or_else, list_at, path_below, path_at};
 ghost use Rattle.ccr_pipeline.specs.Names.{text_at, has_name};
-ghost use Rattle.ccr_pipeline.specs.Places.{spot, spots, plan_steps, job_hooks};
+ghost use Rattle.ccr_pipeline.specs.Places.{spots, all_steps};
 ghost use Rattle.ccr_pipeline.specs.Unknown.{name_key, unknown_resource, unknown_texts, unknown_passed};
-ghost use Rattle.ccr_pipeline.specs.Unknown.{unknown_names, unknown_by, unknown_at, unknown_spots, unknown_job};
-ghost use Rattle.ccr_pipeline.specs.Unknown.{unknown_jobs, unknown_in};
+ghost use Rattle.ccr_pipeline.specs.Unknown.{unknown_by, unknown_spots, unknown_in};
 
-use crate::check_job::{hook_places, plan_places};
 use crate::fault::{ReadFault, Rule};
-use crate::key::{at_key, path_at, path_below, require_at};
+use crate::key::{at_key, list_at, path_at, path_below, require_at};
 use crate::names::{Names, text_at};
-use crate::place::{Part, Place};
+use crate::place::{Part, Place, places_of};
 use serde_json::Value;
 use std::alloc::Global;
 
@@ -88,43 +85,26 @@ fn check_passed_known(
     if at_key(step, "get").is_none() {
         return Ok(());
     }
-    let Some(found) = at_key(step, "passed") else {
-        return Ok(());
-    };
-    match found.as_array() {
-        Some(list) => {
-            let path = path_below(alloc, path, "passed")?;
-            check_texts_known(alloc, jobs, list, path.as_str())
-        }
-        None => Ok(()),
-    }
+    let path = path_below(alloc, path, "passed")?;
+    check_texts_known(alloc, jobs, list_at(step, "passed"), path.as_str())
 }
 
-#[tactic(auto, using(crate::proofs::Faulted::first_append), unfolding(crate::specs::Unknown::unknown_names))]
-fn check_names_known(
-    alloc: Global,
-    resources: &Names,
-    jobs: &Names,
-    step: &Value,
-    path: &str,
-) -> Result<(), ReadFault>
-    ensures { Checks (unknown_names resources.now jobs.now path.now (view step.now)) result }
-{
-    check_resource_known(alloc, resources, step, path)?;
-    check_passed_known(alloc, jobs, step, path)
-}
-
+#[tactic(auto, using(crate::proofs::Faulted::first_append))]
 fn check_place_known(
     alloc: Global,
     resources: &Names,
     jobs: &Names,
     place: &Place,
 ) -> Result<(), ReadFault>
-    ensures { Checks (unknown_at resources.now jobs.now (spot place.now)) result }
+    ensures { Checks
+        (unknown_by place.now.part resources.now jobs.now (string_bytes place.now.path) (view place.now.step.now))
+        result }
 {
     match place.part {
         Part::Opening => {
-            check_names_known(alloc, resources, jobs, place.step, place.path.as_str())
+            let path = place.path.as_str();
+            check_resource_known(alloc, resources, place.step, path)?;
+            check_passed_known(alloc, jobs, place.step, path)
         }
         Part::Closing => Ok(()),
     }
@@ -145,38 +125,6 @@ fn check_places_known(
     Ok(())
 }
 
-#[tactic(auto, using(crate::proofs::Faulted::first_append), unfolding(crate::specs::Unknown::unknown_job))]
-fn check_job_known(
-    alloc: Global,
-    resources: &Names,
-    jobs: &Names,
-    job: &Value,
-    path: &str,
-) -> Result<(), ReadFault>
-    ensures { Checks (unknown_job resources.now jobs.now path.now (view job.now)) result }
-{
-    let plan = plan_places(alloc, job, path)?;
-    let hooks = hook_places(alloc, job, path)?;
-    check_places_known(alloc, resources, jobs, &plan)?;
-    check_places_known(alloc, resources, jobs, &hooks)
-}
-
-#[tactic(auto, using(crate::proofs::Faulted::first_append))]
-fn check_jobs_known(
-    alloc: Global,
-    resources: &Names,
-    jobs: &Names,
-    list: &[Value],
-) -> Result<(), ReadFault>
-    ensures { Checks (unknown_jobs resources.now jobs.now 0 (items_view list.now)) result }
-{
-    for (i, job) in list.iter().enumerate() {
-        let path = path_at(alloc, "jobs", i)?;
-        check_job_known(alloc, resources, jobs, job, path.as_str())?;
-    }
-    Ok(())
-}
-
 /// Refuses the first resource or job that a step names and the pipeline doesn't have.
 pub(crate) fn check_known(
     alloc: Global,
@@ -186,11 +134,6 @@ pub(crate) fn check_known(
 ) -> Result<(), ReadFault>
     ensures { Checks (unknown_in resources.now jobs.now (view pipeline.now)) result }
 {
-    let Some(found) = at_key(pipeline, "jobs") else {
-        return Ok(());
-    };
-    match found.as_array() {
-        Some(list) => check_jobs_known(alloc, resources, jobs, list),
-        None => Ok(()),
-    }
+    let places = places_of(alloc, pipeline)?;
+    check_places_known(alloc, resources, jobs, &places)
 }

@@ -2,14 +2,14 @@
 ghost use Rattle.std.specs.Prelude.{◌≡◌, ◌++◌, [], ◌∷◌, drop, map, OnOk, IfOk, string_bytes};
 ghost use Rattle.std.specs.List.{flat_map};
 ghost use Rattle.serde_json.specs.View.{view, items_view, members_view};
-ghost use Rattle.ccr_pipeline.specs.Keys.{at_key, or_else, path_below, path_at};
+ghost use Rattle.ccr_pipeline.specs.Keys.{at_key, or_else, items_in, path_below, path_at};
 ghost use Rattle.ccr_pipeline.specs.Names.{names_of as texts_of};
 ghost use Rattle.ccr_pipeline.specs.Places.{spot, spots, all_steps};
 ghost use Rattle.ccr_pipeline.specs.Schema.{opening, rows as row_list, has_key, schema_of};
 ghost use Rattle.ccr_pipeline.specs.Unused.{unused_members, unused_object, unused_value, unused_items, unused_rows};
 ghost use Rattle.ccr_pipeline.specs.Unused.{unused_own, unused_spot, unused_in, IsSortedOnce};
 
-use crate::key::{at_key, path_at, path_below};
+use crate::key::{at_key, items_in, path_at, path_below};
 use crate::place::{Part, Place, places_of};
 use crate::schema::{Kind, NESTED, Row, Schema, has_key, opening, schema_of};
 use serde_json::Value;
@@ -94,10 +94,7 @@ fn push_value(
     match kind {
         Kind::Object(schema) => push_object(alloc, out, left, schema, value, path),
         Kind::Parallel => push_object(alloc, out, left, Schema::Parallel, value, path),
-        Kind::Objects(schema) => match value.as_array() {
-            Some(list) => push_items(alloc, out, left, schema, list, path),
-            None => Ok(()),
-        },
+        Kind::Objects(schema) => push_items(alloc, out, left, schema, items_in(value), path),
         _ => Ok(()),
     }
 }

@@ -22,4 +22,4 @@ decreases-push_hooks l = 3 * l.left + 2
 
 abbrev pub invariant-push_list-loop-i : goal.invariant-push_list-loop-i
 invariant-push_list-loop-i l =
-    spots l.out.items ++ each_step (steps_from l.left) l.tries (path_below l.path l.key) l.i (left l.i l.step-items) ≡ spots l.initial.out.items ++ each_step (steps_from l.left) l.tries (path_below l.path l.key) 0 (items_view l.step-items)
+    spots l.out.items ++ each_step (steps_from l.left) l.tries (path_below l.path l.key) l.i (left l.i l.list) ≡ spots l.initial.out.items ++ each_step (steps_from l.left) l.tries (path_below l.path l.key) 0 (items_view l.list)

@@ -2,7 +2,7 @@ use Rattle.std.proofs.Common.{◌≡◌, ◌++◌, map, string_bytes}
 use Rattle.serde_json.specs.View.{items_view}
 use Rattle.ccr_pipeline.specs.Names.{texts_in}
 use Rattle.ccr_history.proofs.Items.{left}
-use Rattle.ccr_pipeline.proofs.build.texts_of.Given as goal
+use Rattle.ccr_pipeline.proofs.build.texts.Given as goal
 
 abbrev pub invariant-loop-member : goal.invariant-loop-member
 invariant-loop-member l = map string_bytes l.texts.items ++ texts_in (left l.member-index l.list) ≡ texts_in (items_view l.list)

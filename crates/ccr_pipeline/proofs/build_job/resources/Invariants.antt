@@ -3,7 +3,7 @@ use Rattle.serde_json.specs.View.{items_view}
 use Rattle.ccr_history.proofs.Items.{left}
 use Rattle.ccr_pipeline.specs.JobData.{resource_data}
 use Rattle.ccr_pipeline.specs.Pipelines.{resources_in, IsResource, EachItem}
-use Rattle.ccr_pipeline.proofs.build_job.resources_of.Given as goal
+use Rattle.ccr_pipeline.proofs.build_job.resources.Given as goal
 
 abbrev pub invariant-loop-member : goal.invariant-loop-member
 invariant-loop-member l = record {
