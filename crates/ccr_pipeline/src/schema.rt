@@ -87,87 +87,139 @@ pub(crate) const NESTED: u32 = 3;
 /// A key: whether it has to be there, what stands at it, and its text.
 pub(crate) type Row = (Need, Kind, &'static str);
 
+const PIPELINE: &[Row] = &[
+    (Need::May, Kind::Objects(Schema::Resource), "resources"),
+    (Need::May, Kind::Objects(Schema::Job), "jobs"),
+];
+
+const RESOURCE: &[Row] = &[
+    (Need::New, Kind::Name, "name"),
+    (Need::Must, Kind::Name, "type"),
+    (Need::May, Kind::Params, "source"),
+    (Need::May, Kind::Fields, "version"),
+];
+
+const JOB: &[Row] = &[
+    (Need::New, Kind::Name, "name"),
+    (Need::Must, Kind::Steps, "plan"),
+];
+
+const UNDONE: &[Row] = &[
+    (Need::May, Kind::Undone, "across"),
+    (Need::May, Kind::Undone, "set_pipeline"),
+    (Need::May, Kind::Undone, "load_var"),
+    (Need::May, Kind::Undone, "aggregate"),
+];
+
+const GET: &[Row] = &[
+    (Need::New, Kind::Name, "get"),
+    (Need::May, Kind::Text, "resource"),
+    (Need::May, Kind::Texts, "passed"),
+    (Need::May, Kind::Truth, "trigger"),
+    (Need::May, Kind::Params, "params"),
+    (Need::May, Kind::Wanted, "version"),
+];
+
+const PUT: &[Row] = &[
+    (Need::Must, Kind::Name, "put"),
+    (Need::May, Kind::Text, "resource"),
+    (Need::May, Kind::Params, "params"),
+    (Need::May, Kind::Params, "get_params"),
+    (Need::May, Kind::Truth, "no_get"),
+];
+
+const TASK: &[Row] = &[
+    (Need::Must, Kind::Text, "task"),
+    (Need::Must, Kind::Object(Schema::Config), "config"),
+    (Need::May, Kind::Params, "params"),
+    (Need::May, Kind::Nothing, "input_mapping"),
+    (Need::May, Kind::Nothing, "output_mapping"),
+];
+
+const FILE_TASK: &[Row] = &[
+    (Need::Must, Kind::Text, "task"),
+    (Need::Must, Kind::Text, "file"),
+    (Need::May, Kind::Params, "params"),
+    (Need::May, Kind::Nothing, "input_mapping"),
+    (Need::May, Kind::Nothing, "output_mapping"),
+];
+
+const HOLDER: &[Row] = &[
+    (Need::May, Kind::Steps, "do"),
+    (Need::May, Kind::Parallel, "in_parallel"),
+    (Need::May, Kind::Step, "try"),
+];
+
+const PARALLEL: &[Row] = &[(Need::Must, Kind::Steps, "steps")];
+
+const CONFIG: &[Row] = &[
+    (Need::Must, Kind::Object(Schema::Run), "run"),
+    (Need::May, Kind::Objects(Schema::Input), "inputs"),
+    (Need::May, Kind::Objects(Schema::Output), "outputs"),
+    (Need::May, Kind::Params, "params"),
+    (Need::May, Kind::Any, "platform"),
+];
+
+const RUN: &[Row] = &[
+    (Need::Must, Kind::Text, "path"),
+    (Need::May, Kind::Texts, "args"),
+    (Need::May, Kind::Text, "dir"),
+];
+
+const INPUT: &[Row] = &[
+    (Need::New, Kind::Name, "name"),
+    (Need::May, Kind::OwnName, "path"),
+    (Need::May, Kind::Truth, "optional"),
+];
+
+const OUTPUT: &[Row] = &[
+    (Need::New, Kind::Name, "name"),
+    (Need::May, Kind::OwnName, "path"),
+];
+
+// After the steps of a plan.
+const JOB_END: &[Row] = &[
+    (Need::May, Kind::Truth, "serial"),
+    (Need::May, Kind::Texts, "serial_groups"),
+    (Need::May, Kind::Whole, "max_in_flight"),
+    (Need::May, Kind::Step, "on_success"),
+    (Need::May, Kind::Step, "on_failure"),
+    (Need::May, Kind::Step, "on_error"),
+    (Need::May, Kind::Step, "on_abort"),
+    (Need::May, Kind::Step, "ensure"),
+];
+
+// After the steps of a step, whatever its kind.
+const STEP_END: &[Row] = &[
+    (Need::May, Kind::Attempts, "attempts"),
+    (Need::May, Kind::Step, "on_success"),
+    (Need::May, Kind::Step, "on_failure"),
+    (Need::May, Kind::Step, "on_error"),
+    (Need::May, Kind::Step, "on_abort"),
+    (Need::May, Kind::Step, "ensure"),
+];
+
+const PARALLEL_END: &[Row] = &[(Need::May, Kind::Truth, "fail_fast")];
+
 /// The keys of an object as far as they come before the steps that it holds.
 pub(crate) fn opening(schema: Schema) -> &'static [Row]
     ensures { row_list result.now ≡ opening schema }
 {
     match schema {
-        Schema::Pipeline => &[
-            (Need::May, Kind::Objects(Schema::Resource), "resources"),
-            (Need::May, Kind::Objects(Schema::Job), "jobs"),
-        ],
-        Schema::Resource => &[
-            (Need::New, Kind::Name, "name"),
-            (Need::Must, Kind::Name, "type"),
-            (Need::May, Kind::Params, "source"),
-            (Need::May, Kind::Fields, "version"),
-        ],
-        Schema::Job => &[
-            (Need::New, Kind::Name, "name"),
-            (Need::Must, Kind::Steps, "plan"),
-        ],
-        Schema::Undone => &[
-            (Need::May, Kind::Undone, "across"),
-            (Need::May, Kind::Undone, "set_pipeline"),
-            (Need::May, Kind::Undone, "load_var"),
-            (Need::May, Kind::Undone, "aggregate"),
-        ],
-        Schema::Get => &[
-            (Need::New, Kind::Name, "get"),
-            (Need::May, Kind::Text, "resource"),
-            (Need::May, Kind::Texts, "passed"),
-            (Need::May, Kind::Truth, "trigger"),
-            (Need::May, Kind::Params, "params"),
-            (Need::May, Kind::Wanted, "version"),
-        ],
-        Schema::Put => &[
-            (Need::Must, Kind::Name, "put"),
-            (Need::May, Kind::Text, "resource"),
-            (Need::May, Kind::Params, "params"),
-            (Need::May, Kind::Params, "get_params"),
-            (Need::May, Kind::Truth, "no_get"),
-        ],
-        Schema::Task => &[
-            (Need::Must, Kind::Text, "task"),
-            (Need::Must, Kind::Object(Schema::Config), "config"),
-            (Need::May, Kind::Params, "params"),
-            (Need::May, Kind::Nothing, "input_mapping"),
-            (Need::May, Kind::Nothing, "output_mapping"),
-        ],
-        Schema::FileTask => &[
-            (Need::Must, Kind::Text, "task"),
-            (Need::Must, Kind::Text, "file"),
-            (Need::May, Kind::Params, "params"),
-            (Need::May, Kind::Nothing, "input_mapping"),
-            (Need::May, Kind::Nothing, "output_mapping"),
-        ],
-        Schema::Holder => &[
-            (Need::May, Kind::Steps, "do"),
-            (Need::May, Kind::Parallel, "in_parallel"),
-            (Need::May, Kind::Step, "try"),
-        ],
-        Schema::Parallel => &[(Need::Must, Kind::Steps, "steps")],
-        Schema::Config => &[
-            (Need::Must, Kind::Object(Schema::Run), "run"),
-            (Need::May, Kind::Objects(Schema::Input), "inputs"),
-            (Need::May, Kind::Objects(Schema::Output), "outputs"),
-            (Need::May, Kind::Params, "params"),
-            (Need::May, Kind::Any, "platform"),
-        ],
-        Schema::Run => &[
-            (Need::Must, Kind::Text, "path"),
-            (Need::May, Kind::Texts, "args"),
-            (Need::May, Kind::Text, "dir"),
-        ],
-        Schema::Input => &[
-            (Need::New, Kind::Name, "name"),
-            (Need::May, Kind::OwnName, "path"),
-            (Need::May, Kind::Truth, "optional"),
-        ],
-        Schema::Output => &[
-            (Need::New, Kind::Name, "name"),
-            (Need::May, Kind::OwnName, "path"),
-        ],
+        Schema::Pipeline => PIPELINE,
+        Schema::Resource => RESOURCE,
+        Schema::Job => JOB,
+        Schema::Undone => UNDONE,
+        Schema::Get => GET,
+        Schema::Put => PUT,
+        Schema::Task => TASK,
+        Schema::FileTask => FILE_TASK,
+        Schema::Holder => HOLDER,
+        Schema::Parallel => PARALLEL,
+        Schema::Config => CONFIG,
+        Schema::Run => RUN,
+        Schema::Input => INPUT,
+        Schema::Output => OUTPUT,
     }
 }
 
@@ -176,25 +228,9 @@ pub(crate) fn closing(schema: Schema) -> &'static [Row]
     ensures { row_list result.now ≡ closing schema }
 {
     match schema {
-        Schema::Job => &[
-            (Need::May, Kind::Truth, "serial"),
-            (Need::May, Kind::Texts, "serial_groups"),
-            (Need::May, Kind::Whole, "max_in_flight"),
-            (Need::May, Kind::Step, "on_success"),
-            (Need::May, Kind::Step, "on_failure"),
-            (Need::May, Kind::Step, "on_error"),
-            (Need::May, Kind::Step, "on_abort"),
-            (Need::May, Kind::Step, "ensure"),
-        ],
-        Schema::Get | Schema::Put | Schema::Task | Schema::FileTask | Schema::Holder => &[
-            (Need::May, Kind::Attempts, "attempts"),
-            (Need::May, Kind::Step, "on_success"),
-            (Need::May, Kind::Step, "on_failure"),
-            (Need::May, Kind::Step, "on_error"),
-            (Need::May, Kind::Step, "on_abort"),
-            (Need::May, Kind::Step, "ensure"),
-        ],
-        Schema::Parallel => &[(Need::May, Kind::Truth, "fail_fast")],
+        Schema::Job => JOB_END,
+        Schema::Get | Schema::Put | Schema::Task | Schema::FileTask | Schema::Holder => STEP_END,
+        Schema::Parallel => PARALLEL_END,
         Schema::Pipeline
         | Schema::Resource
         | Schema::Undone
