@@ -6,7 +6,6 @@ pub mod PlaceLemmas
 pub mod Visits
 pub mod StepLemmas
 pub mod UnknownLemmas
-pub mod UsedKeys
 pub mod TableNames
 pub mod ObjectLemmas
 pub mod Rows

@@ -79,7 +79,7 @@ when false xs is e = absurd (cc (is))
 
 module _ (resources jobs : List Text) (names : List Text) (p : Path) (d : Data) (own : own_keys names p d ≡ []) (known : unknown_resource resources p d ++ unknown_passed jobs p d ≡ []) where
   get_resource : is_some (at_key (codes "get") d) ≡ true → has_name resources (text_or (text_or [] (codes "get") d) (codes "resource") d) ≡ true
-  unfolding own_keys unknown_resource
+  unfolding unknown_resource
   get_resource a =
       let keys : key_faults (value_faults 3) names (opening schema.Get) p d ≡ [] = rw a at own in
       let named = new_name 2 names p (codes "get") d (nil_left _ _ keys) in
@@ -94,7 +94,7 @@ module _ (resources jobs : List Text) (names : List Text) (p : Path) (d : Data) 
       in_texts jobs (path_below p (codes "passed")) 0 (list_at (codes "passed") d) (when _ _ a there)
 
   put_resource : is_some (at_key (codes "get") d) ≡ false → is_some (at_key (codes "put") d) ≡ true → has_name resources (text_or (text_or [] (codes "put") d) (codes "resource") d) ≡ true
-  unfolding own_keys unknown_resource
+  unfolding unknown_resource
   put_resource a b =
       let keys : key_faults (value_faults 3) names (opening schema.Put) p d ≡ [] = rw (a, b) at own in
       let named = must_text 2 names p (codes "put") d (nil_left _ _ keys) in

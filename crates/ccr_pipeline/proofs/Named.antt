@@ -104,13 +104,11 @@ unfolding opening_faults
 opened_own before p n d e = nil_right (kind_faults p d) _ (nil_right (shape_faults p n d) _ e)
 
 pub get_named : (before : List (List ℕ)) (p : Path) (d : Data) → own_keys before p d ≡ [] → is_some (at_key (codes "get") d) ≡ true → IsNamed before (codes "get") d
-unfolding own_keys
 get_named before p d e a =
     let own : key_faults (value_faults 3) before (opening schema.Get) p d ≡ [] = rw a at e in
     new_name 2 before p (codes "get") d (nil_left _ _ own)
 
 put_named : (before : List (List ℕ)) (p : Path) (d : Data) → own_keys before p d ≡ [] → is_some (at_key (codes "get") d) ≡ false → is_some (at_key (codes "put") d) ≡ true → is_name (text_or [] (codes "put") d) ≡ true
-unfolding own_keys
 put_named before p d e a b =
     let own : key_faults (value_faults 3) before (opening schema.Put) p d ≡ [] = rw (a, b) at e in
     must_name 2 before p (codes "put") d (nil_left _ _ own)
@@ -122,7 +120,6 @@ of_task before p d false true is there e = no_config _ (at_key (codes "config") 
 of_task before p d false false is there e = task_named before p d e
 
 done_named : (before : List (List ℕ)) (p : Path) (d : Data) → own_keys before p d ≡ [] → is_some (at_key (codes "get") d) ≡ false → is_some (at_key (codes "put") d) ≡ false → is_some (at_key (codes "task") d) ≡ true → Named (artifact_names (source_from d))
-unfolding own_keys
 done_named before p d e a b c =
     of_task before p d (is_some (at_key (codes "config") d)) (is_some (at_key (codes "file") d)) refl refl (rw (a, b, c) at e)
 

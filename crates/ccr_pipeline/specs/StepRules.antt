@@ -24,15 +24,21 @@ abbrev pub kinds : Data → ℕ
 kinds d = count_by (λ k. is_some (at_key k d)) kind_keys
 
 -- the keys before the steps that they hold, by the step's kind
-unfoldable pub own_keys : List (List ℕ) → Path → Data → Faults
+abbrev pub own_keys : List (List ℕ) → Path → Data → Faults
 own_keys names p d = key_faults (value_faults NESTED) names (opening (schema_of d)) p d
+
+-- a level is left for the step
+abbrev pub depth_faults : Path → ℕ → Faults
+depth_faults p left = unless (nat_lt 0 left) rule.Depth p
+
+-- a step has no key that isn't done here
+abbrev pub undone_faults : Path → Data → Faults
+undone_faults p d = key_faults (value_faults NESTED) [] (opening schema.Undone) p d
 
 -- a step is an object, not too deep, without a key that isn't done here
 unfoldable pub shape_faults : Path → ℕ → Data → Faults
 shape_faults p left d =
-    unless (is_some (as_object d)) rule.Kind p
-    ++ (unless (nat_lt 0 left) rule.Depth p
-    ++ key_faults (value_faults NESTED) [] (opening schema.Undone) p d)
+    unless (is_some (as_object d)) rule.Kind p ++ (depth_faults p left ++ undone_faults p d)
 
 -- a step is of one kind
 unfoldable pub kind_faults : Path → Data → Faults

@@ -23,8 +23,8 @@ use crate::fault::{ReadFault, Rule};
 use crate::input::{Input, inputs_in};
 use crate::key::{at_key, path_at, require, require_at};
 use crate::names::Names;
-use crate::object::{check_object, check_rows};
-use crate::place::{LEVELS, Place, push_hooks, push_list};
+use crate::object::{check_keys, check_object};
+use crate::place::{LEVELS, push_hooks, push_list};
 use crate::schema::{NESTED, Schema, closing};
 use serde_json::Value;
 use std::alloc::{AllocError, Global};
@@ -40,32 +40,6 @@ const MOST_INPUTS: usize = 32;
 pub(crate) enum Member {
     Resource,
     Job,
-}
-
-/// The steps of a job's plan, in the order of reading.
-pub(crate) fn plan_places<'v>(
-    alloc: Global,
-    job: &'v Value,
-    path: &str,
-) -> Result<Vec<Place<'v>>, AllocError>
-    ensures { IfOk result (λ v. spots v.items ≡ plan_steps path.now (view job.now)) }
-{
-    let mut places = Vec::new(alloc);
-    push_list(alloc, &mut places, job, path, "plan", LEVELS, 1)?;
-    Ok(places)
-}
-
-/// The steps of a job's hooks, in the order of reading.
-pub(crate) fn hook_places<'v>(
-    alloc: Global,
-    job: &'v Value,
-    path: &str,
-) -> Result<Vec<Place<'v>>, AllocError>
-    ensures { IfOk result (λ v. spots v.items ≡ job_hooks path.now (view job.now)) }
-{
-    let mut places = Vec::new(alloc);
-    push_hooks(alloc, &mut places, job, path, LEVELS, 1)?;
-    Ok(places)
 }
 
 /// Adds the jobs that the inputs name in `passed`.
@@ -124,9 +98,9 @@ fn check_after_plan(
 ) -> Result<(), ReadFault>
     ensures { Checks (after_plan gets.old path.now (view job.now)) result }
 {
-    let mut none = Names::new(alloc);
-    check_rows(alloc, NESTED, closing(Schema::Job), &mut none, job, path)?;
-    let hooks = hook_places(alloc, job, path)?;
+    check_keys(alloc, closing(Schema::Job), job, path)?;
+    let mut hooks = Vec::new(alloc);
+    push_hooks(alloc, &mut hooks, job, path, LEVELS, 1)?;
     check_places(alloc, gets, &hooks)?;
     check_number(alloc, job, path)
 }
@@ -136,7 +110,8 @@ fn check_after_plan(
 fn check_job_rest(alloc: Global, job: &Value, path: &str) -> Result<(), ReadFault>
     ensures { Checks (job_rest path.now (view job.now)) result }
 {
-    let plan = plan_places(alloc, job, path)?;
+    let mut plan = Vec::new(alloc);
+    push_list(alloc, &mut plan, job, path, "plan", LEVELS, 1)?;
     let mut gets = Names::new(alloc);
     check_places(alloc, &mut gets, &plan)?;
     check_after_plan(alloc, &mut gets, job, path)

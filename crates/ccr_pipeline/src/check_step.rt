@@ -14,7 +14,7 @@ ghost use Rattle.ccr_pipeline.specs.StepRules.{parallel_rest, closing_faults, at
 use crate::fault::{ReadFault, Rule};
 use crate::key::{at_key, path_below, require, require_at};
 use crate::names::Names;
-use crate::object::check_rows;
+use crate::object::{check_keys, check_rows};
 use crate::place::{MOST_ATTEMPTS, MOST_TRIES, Part, Place};
 use crate::schema::{NESTED, Schema, closing, opening, schema_of};
 use serde_json::Value;
@@ -36,35 +36,13 @@ fn kinds(step: &Value) -> usize
     count(step, &["get", "put", "task", "do", "in_parallel", "try"])
 }
 
-/// Refuses a step that breaks a rule in its own keys, as far as they come before the steps in it.
-#[tactic(auto, using(crate::proofs::TableNames::step_names_are), unfolding(crate::specs::StepRules::own_keys))]
-fn check_own_keys(
-    alloc: Global,
-    names: &mut Names,
-    step: &Value,
-    path: &str,
-) -> Result<(), ReadFault>
-    ensures checked { Checks (own_keys names.old path.now (view step.now)) result }
-    ensures added { OnOk result (names.new ≡ names.old ++ names_at (codes "get") (view step.now)) }
-{
-    check_rows(alloc, NESTED, opening(schema_of(step)), names, step, path)
-}
-
 #[tactic(auto, using(crate::proofs::Faulted::first_append), unfolding(crate::specs::StepRules::shape_faults))]
 fn check_shape(alloc: Global, step: &Value, path: &str, left: u32) -> Result<(), ReadFault>
     ensures { Checks (shape_faults path.now left (view step.now)) result }
 {
     require(alloc, step.is_object(), Rule::Kind, path)?;
     require(alloc, 0 < left, Rule::Depth, path)?;
-    let mut names = Names::new(alloc);
-    check_rows(
-        alloc,
-        NESTED,
-        opening(Schema::Undone),
-        &mut names,
-        step,
-        path,
-    )
+    check_keys(alloc, opening(Schema::Undone), step, path)
 }
 
 #[tactic(auto, using(crate::proofs::Faulted::first_append), unfolding(crate::specs::StepRules::kind_faults))]
@@ -77,7 +55,7 @@ fn check_one_kind(alloc: Global, step: &Value, path: &str) -> Result<(), ReadFau
 }
 
 /// Refuses a step that breaks a rule before the steps in it are read, and adds the name of a get to those of the job.
-#[tactic(auto, using(crate::proofs::Faulted::first_append), unfolding(crate::specs::StepRules::opening_faults))]
+#[tactic(auto, using(crate::proofs::Faulted::first_append, crate::proofs::TableNames::step_names_are), unfolding(crate::specs::StepRules::opening_faults))]
 fn check_opening(
     alloc: Global,
     names: &mut Names,
@@ -90,7 +68,7 @@ fn check_opening(
 {
     check_shape(alloc, step, path, left)?;
     check_one_kind(alloc, step, path)?;
-    check_own_keys(alloc, names, step, path)
+    check_rows(alloc, NESTED, opening(schema_of(step)), names, step, path)
 }
 
 /// Refuses attempts that aren't from 1 to 100, or that come to more than 10,000 with those of the steps around.
@@ -119,15 +97,7 @@ fn check_parallel_rest(alloc: Global, step: &Value, path: &str) -> Result<(), Re
         return Ok(());
     };
     let path = path_below(alloc, path, "in_parallel")?;
-    let mut names = Names::new(alloc);
-    check_rows(
-        alloc,
-        NESTED,
-        closing(Schema::Parallel),
-        &mut names,
-        parallel,
-        path.as_str(),
-    )
+    check_keys(alloc, closing(Schema::Parallel), parallel, path.as_str())
 }
 
 #[tactic(auto, using(crate::proofs::Faulted::first_append), unfolding(crate::specs::StepRules::closing_faults))]

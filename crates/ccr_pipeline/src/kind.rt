@@ -40,12 +40,6 @@ pub(crate) fn is_name(text: &str) -> bool
     has_name_bytes(text.as_bytes())
 }
 
-fn check_name(alloc: Global, text: &str, path: &str, key: &str) -> Result<(), ReadFault>
-    ensures { Checks (unless (is_name text.now) Rule.Name (path_below path.now key.now)) result }
-{
-    require_at(alloc, is_name(text), Rule::Name, path, key)
-}
-
 fn check_texts(alloc: Global, list: &[Value], path: &str, key: &str) -> Result<(), ReadFault>
     ensures { Checks (broken_texts (path_below path.now key.now) 0 (items_view list.now)) result }
 {
@@ -117,7 +111,7 @@ pub(crate) fn check(
         Kind::Truth => require_at(alloc, found.is_boolean(), Rule::Kind, path, key),
         Kind::Whole => require_at(alloc, found.is_u64(), Rule::Kind, path, key),
         Kind::Name => match found.as_str() {
-            Some(text) => check_name(alloc, text, path, key),
+            Some(text) => require_at(alloc, is_name(text), Rule::Name, path, key),
             None => require_at(alloc, false, Rule::Kind, path, key),
         },
         Kind::Texts => match found.as_array() {

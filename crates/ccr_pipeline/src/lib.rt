@@ -6,6 +6,9 @@
 //! flat list of a job's steps with their paths. What a value means is a record or a tree, and knows no fault. A text
 //! is read as what its value means exactly where no fault is present in it, memory aside; else the first is told.
 //!
+//! The keys of each object stand in one table, a row for each: whether it has to be there, what stands there, and its
+//! text. The tests and the search for keys without effect go over this table; a few rules that no row tells stand beside it.
+//!
 //! A step's modifiers wrap it, so whoever walks a plan from the outside meets `ensure`, `on_error`, `on_abort`,
 //! `on_failure`, `on_success`, the attempts and the step in this order, and no JSON. [`inputs_of`] gives the gets of a
 //! job in the order of its plan, which is another.

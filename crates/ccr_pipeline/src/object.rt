@@ -12,7 +12,7 @@ use crate::fault::{ReadFault, Rule};
 use crate::key::{at_key, items_in, path_at, path_below, require, require_at};
 use crate::kind::check;
 use crate::names::{Names, text_at};
-use crate::schema::{Kind, Need, Row, Schema, opening};
+use crate::schema::{Kind, NESTED, Need, Row, Schema, opening};
 use serde_json::Value;
 use std::alloc::Global;
 
@@ -212,4 +212,30 @@ fn check_objects(
         check_object(alloc, left, schema, &mut names, value, path.as_str())?;
     }
     Ok(())
+}
+
+/// Refuses what the keys of a table break, where no object came before.
+pub(crate) fn check_keys(
+    alloc: Global,
+    rows: &[Row],
+    value: &Value,
+    path: &str,
+) -> Result<(), ReadFault>
+    ensures { Checks (key_faults (value_faults NESTED) [] (row_list rows.now) path.now (view value.now)) result }
+{
+    let mut names = Names::new(alloc);
+    check_rows(alloc, NESTED, rows, &mut names, value, path)
+}
+
+/// Refuses what is no object of a schema, where none came before.
+pub(crate) fn check_alone(
+    alloc: Global,
+    schema: Schema,
+    value: &Value,
+    path: &str,
+) -> Result<(), ReadFault>
+    ensures { Checks (object_faults (value_faults NESTED) [] schema path.now (view value.now)) result }
+{
+    let mut names = Names::new(alloc);
+    check_object(alloc, NESTED, schema, &mut names, value, path)
 }

@@ -16,10 +16,9 @@ use crate::build_job::{jobs, resources};
 use crate::check_job::{Member, check_member_list};
 use crate::fault::{ReadFault, Rule};
 use crate::key::require;
-use crate::names::Names;
-use crate::object::check_object;
+use crate::object::check_alone;
 use crate::pipeline::Pipeline;
-use crate::schema::{NESTED, Schema};
+use crate::schema::Schema;
 use crate::task::TaskConfig;
 use crate::unknown::check_known;
 use crate::unused::unused;
@@ -101,7 +100,6 @@ pub fn read_task(alloc: Global, text: &[u8]) -> Result<TaskConfig, ReadFault>
         (λ fault. Refuses (codes "task") (config_faults (codes "task")) text.now (fault_of fault)) }
 {
     let value = value_of(alloc, text, "task")?;
-    let mut names = Names::new(alloc);
-    check_object(alloc, NESTED, Schema::Config, &mut names, &value, "task")?;
+    check_alone(alloc, Schema::Config, &value, "task")?;
     Ok(build::config(alloc, &value)?)
 }

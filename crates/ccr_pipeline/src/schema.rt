@@ -1,7 +1,5 @@
 //! The format of pipelines and task files: the keys of each object, in the order in which they are read.
 ghost use Rattle.std.specs.Prelude.{◌≡◌};
-ghost use Rattle.std.specs.List.{list_any};
-ghost use Rattle.std.specs.Str.{bytes_eq};
 ghost use Rattle.ccr_pipeline.specs.Schema.{opening, closing, rows as row_list, has_row, has_key, schema_of};
 ghost use Rattle.serde_json.specs.View.{view};
 
@@ -241,17 +239,16 @@ pub(crate) fn closing(schema: Schema) -> &'static [Row]
     }
 }
 
-fn is_among(rows: &[Row], key: &str) -> bool
-    ensures { result ≡ list_any (λ row. bytes_eq row.2.now key.now) rows.now }
-{
-    rows.iter().any(|row| row.2 == key)
-}
-
 /// Whether one of the rows has the key.
 fn has_row(rows: &[Row], key: &str) -> bool
     ensures { result ≡ has_row (row_list rows.now) key.now }
 {
-    is_among(rows, key)
+    for (_, _, known) in rows {
+        if *known == key {
+            return true;
+        }
+    }
+    false
 }
 
 /// Whether objects of the schema may have the key.
