@@ -1,5 +1,5 @@
 //! The resources and jobs that tested text is built into.
-ghost use Rattle.std.specs.Prelude.{◌≡◌, ◌++◌, [], map, option_map, codes, IfOk};
+ghost use Rattle.std.specs.Prelude.{◌≡◌, ◌++◌, ◌∷◌, [], map, option_map, codes, IfOk, OnOk};
 ghost use Rattle.serde_json.specs.Find.{get_member};
 ghost use Rattle.serde_json.specs.View.{view, items_view, members_view};
 ghost use Rattle.ccr_pipeline.specs.Keys.{at_key, or_else, items_in, list_at};
@@ -90,14 +90,22 @@ fn job_list(alloc: Global, pipeline: Value) -> Vec<Value>
     }
 }
 
-/// The jobs of the texts of a list. Each text is dropped once its job is built.
+/// Adds the job of a text, which is dropped once its job is built.
+fn push_job(alloc: Global, jobs: &mut Vec<Job>, text: Value) -> Result<(), AllocError>
+    requires { IsJob (view text) }
+    ensures { OnOk result (map job_data jobs.new.items ≡ map job_data jobs.old.items ++ job_from (view text) ∷ []) }
+{
+    jobs.push(job(alloc, &text)?)?;
+    Ok(())
+}
+
 fn jobs_of(alloc: Global, list: Vec<Value>) -> Result<Vec<Job>, AllocError>
     requires { EachItem IsJob (items_view list.items) }
     ensures { IfOk result (λ v. map job_data v.items ≡ jobs_in (items_view list.items)) }
 {
     let mut jobs = Vec::new(alloc);
-    for member in list {
-        jobs.push(job(alloc, &member)?)?;
+    for text in list {
+        push_job(alloc, &mut jobs, text)?;
     }
     Ok(jobs)
 }

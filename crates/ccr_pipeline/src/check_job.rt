@@ -88,6 +88,26 @@ fn check_number(alloc: Global, job: &Value, path: &str) -> Result<(), ReadFault>
     require_at(alloc, fit, Rule::Number, path, "plan")
 }
 
+/// Refuses the first rule that the steps of a job's plan break, and adds the names of their gets.
+fn check_plan(alloc: Global, gets: &mut Names, job: &Value, path: &str) -> Result<(), ReadFault>
+    ensures checked { Checks (visits gets.old (plan_steps path.now (view job.now))) result }
+    ensures added { OnOk result
+        (gets.new ≡ gets.old ++ flat_map gets_at (plan_steps path.now (view job.now))) }
+{
+    let mut places = Vec::new(alloc);
+    push_list(alloc, &mut places, job, path, "plan", LEVELS, 1)?;
+    check_places(alloc, gets, &places)
+}
+
+/// Refuses the first rule that the steps of a job's hooks break, after gets of these names.
+fn check_hooks(alloc: Global, gets: &mut Names, job: &Value, path: &str) -> Result<(), ReadFault>
+    ensures { Checks (visits gets.old (job_hooks path.now (view job.now))) result }
+{
+    let mut places = Vec::new(alloc);
+    push_hooks(alloc, &mut places, job, path, LEVELS, 1)?;
+    check_places(alloc, gets, &places)
+}
+
 /// Refuses what breaks a rule in a job after its plan, whose gets have these names.
 #[tactic(auto, using(crate::proofs::Faulted::first_append), unfolding(crate::specs::JobRules::after_plan))]
 fn check_after_plan(
@@ -99,9 +119,7 @@ fn check_after_plan(
     ensures { Checks (after_plan gets.old path.now (view job.now)) result }
 {
     check_keys(alloc, closing(Schema::Job), job, path)?;
-    let mut hooks = Vec::new(alloc);
-    push_hooks(alloc, &mut hooks, job, path, LEVELS, 1)?;
-    check_places(alloc, gets, &hooks)?;
+    check_hooks(alloc, gets, job, path)?;
     check_number(alloc, job, path)
 }
 
@@ -110,10 +128,8 @@ fn check_after_plan(
 fn check_job_rest(alloc: Global, job: &Value, path: &str) -> Result<(), ReadFault>
     ensures { Checks (job_rest path.now (view job.now)) result }
 {
-    let mut plan = Vec::new(alloc);
-    push_list(alloc, &mut plan, job, path, "plan", LEVELS, 1)?;
     let mut gets = Names::new(alloc);
-    check_places(alloc, &mut gets, &plan)?;
+    check_plan(alloc, &mut gets, job, path)?;
     check_after_plan(alloc, &mut gets, job, path)
 }
 

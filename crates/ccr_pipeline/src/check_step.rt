@@ -36,6 +36,20 @@ fn kinds(step: &Value) -> usize
     count(step, &["get", "put", "task", "do", "in_parallel", "try"])
 }
 
+/// Refuses a step that breaks a rule in its own keys, as far as they come before the steps in it.
+#[tactic(auto, using(crate::proofs::TableNames::step_names_are))]
+fn check_own_keys(
+    alloc: Global,
+    names: &mut Names,
+    step: &Value,
+    path: &str,
+) -> Result<(), ReadFault>
+    ensures checked { Checks (own_keys names.old path.now (view step.now)) result }
+    ensures added { OnOk result (names.new ≡ names.old ++ names_at (codes "get") (view step.now)) }
+{
+    check_rows(alloc, NESTED, opening(schema_of(step)), names, step, path)
+}
+
 #[tactic(auto, using(crate::proofs::Faulted::first_append), unfolding(crate::specs::StepRules::shape_faults))]
 fn check_shape(alloc: Global, step: &Value, path: &str, left: u32) -> Result<(), ReadFault>
     ensures { Checks (shape_faults path.now left (view step.now)) result }
@@ -55,7 +69,7 @@ fn check_one_kind(alloc: Global, step: &Value, path: &str) -> Result<(), ReadFau
 }
 
 /// Refuses a step that breaks a rule before the steps in it are read, and adds the name of a get to those of the job.
-#[tactic(auto, using(crate::proofs::Faulted::first_append, crate::proofs::TableNames::step_names_are), unfolding(crate::specs::StepRules::opening_faults))]
+#[tactic(auto, using(crate::proofs::Faulted::first_append), unfolding(crate::specs::StepRules::opening_faults))]
 fn check_opening(
     alloc: Global,
     names: &mut Names,
@@ -68,7 +82,7 @@ fn check_opening(
 {
     check_shape(alloc, step, path, left)?;
     check_one_kind(alloc, step, path)?;
-    check_rows(alloc, NESTED, opening(schema_of(step)), names, step, path)
+    check_own_keys(alloc, names, step, path)
 }
 
 /// Refuses attempts that aren't from 1 to 100, or that come to more than 10,000 with those of the steps around.

@@ -196,8 +196,23 @@ fn push_steps<'v>(
     push_hooks(alloc, out, step, path, left - 1, below)
 }
 
-/// The places of the steps of all jobs of a pipeline, those of a job's plan before those of its hooks.
 #[tactic(auto, using(std::proofs::Common::append_assoc))]
+fn push_jobs<'v>(
+    alloc: Global,
+    out: &mut Vec<Place<'v>>,
+    jobs: &'v [Value],
+) -> Result<(), AllocError>
+    ensures { OnOk result (spots out.new.items ≡ spots out.old.items ++ job_steps 0 (items_view jobs.now)) }
+{
+    for (i, job) in jobs.iter().enumerate() {
+        let path = path_at(alloc, "jobs", i)?;
+        push_list(alloc, out, job, path.as_str(), "plan", LEVELS, 1)?;
+        push_hooks(alloc, out, job, path.as_str(), LEVELS, 1)?;
+    }
+    Ok(())
+}
+
+/// The places of the steps of all jobs of a pipeline, those of a job's plan before those of its hooks.
 pub(crate) fn places_of<'v>(
     alloc: Global,
     pipeline: &'v Value,
@@ -205,11 +220,6 @@ pub(crate) fn places_of<'v>(
     ensures { IfOk result (λ v. spots v.items ≡ all_steps (view pipeline.now)) }
 {
     let mut places = Vec::new(alloc);
-    let jobs = list_at(pipeline, "jobs");
-    for (i, job) in jobs.iter().enumerate() {
-        let path = path_at(alloc, "jobs", i)?;
-        push_list(alloc, &mut places, job, path.as_str(), "plan", LEVELS, 1)?;
-        push_hooks(alloc, &mut places, job, path.as_str(), LEVELS, 1)?;
-    }
+    push_jobs(alloc, &mut places, list_at(pipeline, "jobs"))?;
     Ok(places)
 }

@@ -131,6 +131,17 @@ fn push_place(alloc: Global, out: &mut Vec<String>, place: &Place) -> Result<(),
     }
 }
 
+#[tactic(auto, using(std::proofs::Common::append_assoc))]
+fn push_places(alloc: Global, out: &mut Vec<String>, places: &[Place]) -> Result<(), AllocError>
+    ensures { OnOk result (texts_of out.new.items
+        ≡ texts_of out.old.items ++ flat_map unused_spot (spots places.now)) }
+{
+    for place in places {
+        push_place(alloc, out, place)?;
+    }
+    Ok(())
+}
+
 /// The paths of the keys of a pipeline that have no effect.
 #[tactic(auto, using(std::proofs::Common::append_assoc))]
 fn paths(alloc: Global, pipeline: &Value) -> Result<Vec<String>, AllocError>
@@ -139,9 +150,7 @@ fn paths(alloc: Global, pipeline: &Value) -> Result<Vec<String>, AllocError>
     let places = places_of(alloc, pipeline)?;
     let mut out = Vec::new(alloc);
     push_object(alloc, &mut out, NESTED, Schema::Pipeline, pipeline, "")?;
-    for place in &places {
-        push_place(alloc, &mut out, place)?;
-    }
+    push_places(alloc, &mut out, &places)?;
     Ok(out)
 }
 

@@ -5,9 +5,9 @@ use Rattle.ccr_pipeline.specs.JobData.{job_data}
 use Rattle.ccr_pipeline.specs.Pipelines.{jobs_in, IsJob, EachItem}
 use Rattle.ccr_pipeline.proofs.build_job.jobs_of.Given as goal
 
-abbrev pub invariant-loop-member : goal.invariant-loop-member
-invariant-loop-member l = record {
-  built : map job_data l.jobs.items ++ jobs_in (items_view (into_iter_items l.member-iterator)) ≡ jobs_in (items_view l.fn.list.items);
-  kept : EachItem IsJob (items_view (into_iter_items l.member-iterator));
-  counted : into_iter_len l.member-iterator ≡ length (into_iter_items l.member-iterator);
+abbrev pub invariant-loop-text : goal.invariant-loop-text
+invariant-loop-text l = record {
+  built : map job_data l.jobs.items ++ jobs_in (items_view (into_iter_items l.text-iterator)) ≡ jobs_in (items_view l.fn.list.items);
+  kept : EachItem IsJob (items_view (into_iter_items l.text-iterator));
+  counted : into_iter_len l.text-iterator ≡ length (into_iter_items l.text-iterator);
 }
