@@ -1,5 +1,5 @@
 -- What is broken in resources and jobs.
-use Rattle.std.specs.Prelude.{ℕ, ◌+◌, List, [], ◌∷◌, ◌++◌, false, nat_le, codes}
+use Rattle.std.specs.Prelude.{ℕ, ◌+◌, List, [], ◌++◌, false, nat_le, codes}
 use Rattle.std.specs.List.{flat_map}
 use Rattle.serde_json.specs.Data.{Data, Items, no_items, item}
 use Rattle.serde_json.specs.Events.{items_len}
@@ -8,7 +8,6 @@ use Rattle.ccr_pipeline.specs.declared.fault.Rule.TheVariants as rule
 use Rattle.ccr_pipeline.specs.declared.check_job.Member.{Member}
 use Rattle.ccr_pipeline.specs.declared.check_job.Member.TheVariants.{Resource, Job}
 use Rattle.ccr_pipeline.specs.declared.check_job.TheConstants.{MOST_MEMBERS}
-use Rattle.ccr_pipeline.specs.declared.schema.Schema.{Schema}
 use Rattle.ccr_pipeline.specs.declared.schema.Schema.TheVariants as schema
 use Rattle.ccr_pipeline.specs.declared.schema.TheConstants.{NESTED}
 use Rattle.ccr_pipeline.specs.Faults.{Path, Faults, unless}

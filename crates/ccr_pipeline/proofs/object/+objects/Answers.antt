@@ -1,4 +1,4 @@
-use Rattle.std.proofs.Common.{◌≡◌, ◌<◌, arith}
+use Rattle.std.proofs.Common.{◌<◌, arith}
 use Rattle.ccr_pipeline.proofs.Faulted.{checks_fault}
 use Rattle.ccr_pipeline.proofs.ObjectLemmas.{value_first, value_inside}
 use Rattle.ccr_pipeline.proofs.object.+objects.Goals as goal
