@@ -80,10 +80,11 @@ fn push_step(alloc: Global, out: &mut Vec<Input>, step: &Step) -> Result<(), All
                 push_step(alloc, out, errored)
             }
         },
-        Step::Hook(_, inner, hook) => {
-            push_step(alloc, out, inner)?;
-            push_step(alloc, out, hook)
-        }
+        Step::Hook(When::OnSuccess | When::OnFailure | When::OnAbort | When::Ensure, inner, hook) =>
+            {
+                push_step(alloc, out, inner)?;
+                push_step(alloc, out, hook)
+            }
     }
 }
 

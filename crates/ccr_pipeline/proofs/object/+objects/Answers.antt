@@ -1,6 +1,6 @@
 use Rattle.std.proofs.Common.{◌<◌, arith}
 use Rattle.ccr_pipeline.proofs.Faulted.{checks_fault}
-use Rattle.ccr_pipeline.proofs.ObjectLemmas.{value_first, value_inside}
+use Rattle.ccr_pipeline.proofs.ObjectLemmas.{value_first, value_inside, inside_none}
 use Rattle.ccr_pipeline.proofs.object.+objects.Goals as goal
 
 pub check_value-returns-in_err-check : goal.check_value-returns-in_err-check
@@ -11,3 +11,7 @@ pub check_value-returns : goal.check_value-returns
 check_value-returns t c =
     let some : 0 < c.args.left = omega arith in
     rw (value_inside _ _ _ _ _ some, c.in_ok-check.ensures) c.check_inside.ensures
+
+pub check_inside-returns-in_default : goal.check_inside-returns-in_default
+check_inside-returns-in_default t c =
+    inside_none _ _ _ _ _ c.in_default.not-Parallel c.in_default.not-Objects c.in_default.not-Object c.in_default.not-OwnName
