@@ -7,5 +7,5 @@ use Rattle.ccr_pipeline.specs.Faults.{Path, Faults}
 use Rattle.ccr_pipeline.specs.Objects.{object_faults, value_faults}
 
 -- a task file is a config
-abbrev pub config_faults : Path → Data → Faults
+unfoldable pub config_faults : Path → Data → Faults
 config_faults p d = object_faults (value_faults NESTED) [] schema.Config p d

@@ -61,7 +61,7 @@ abbrev pub unused_spot : Spot → List Path
 unused_spot x = unused_by x.part x.path x.step
 
 -- a pipeline with its resources and jobs, and the steps of the jobs
-abbrev pub unused_in : Data → List Path
+unfoldable pub unused_in : Data → List Path
 unused_in d = unused_object NESTED schema.Pipeline [] d ++ flat_map unused_spot (all_steps d)
 
 -- sorted has the texts of paths and no others, ascending by bytes, each once

@@ -90,6 +90,7 @@ pub fn read(alloc: Global, text: &[u8]) -> Result<Pipeline, ReadFault>
 ///
 /// `TooLong` above 1,048,576 bytes, `NotJson` where the bytes are no JSON value, both at `task`; else the first fault
 /// that is present in the value, at a path that begins with `task`. `NoMemory` where a growth was refused.
+#[tactic(auto, unfolding(crate::specs::TaskRules::config_faults))]
 pub fn read_task(alloc: Global, text: &[u8]) -> Result<TaskConfig, ReadFault>
     // The text is a JSON value in which no fault is present, and the config has its keys.
     ensures ok { IfOk result (λ c. IsReading (config_faults (codes "task")) text.now

@@ -143,7 +143,7 @@ fn push_places(alloc: Global, out: &mut Vec<String>, places: &[Place]) -> Result
 }
 
 /// The paths of the keys of a pipeline that have no effect.
-#[tactic(auto, using(std::proofs::Common::append_assoc))]
+#[tactic(auto, using(std::proofs::Common::append_assoc), unfolding(crate::specs::Unused::unused_in))]
 fn paths(alloc: Global, pipeline: &Value) -> Result<Vec<String>, AllocError>
     ensures { IfOk result (λ v. texts_of v.items ≡ unused_in (view pipeline.now)) }
 {
