@@ -1,8 +1,6 @@
 pub mod Faulted
-pub mod Loops
 pub mod Members
 pub mod NameLemmas
-pub mod PlaceLemmas
 pub mod Visits
 pub mod StepLemmas
 pub mod UnknownLemmas

@@ -58,7 +58,7 @@ fn check_pipeline(alloc: Global, pipeline: &Value) -> Result<(), ReadFault>
     check_lists(alloc, pipeline)
 }
 
-/// ChecksAs a pipeline from JSON, as `fly get-pipeline --json` prints it (Concourse: pipeline schema).
+/// Reads a pipeline from JSON, as `fly get-pipeline --json` prints it (Concourse: pipeline schema).
 ///
 /// `TooLong` above 1,048,576 bytes, `NotJson` where the bytes are no JSON value, both at `pipeline`; else the first
 /// fault that is present in the value: the first broken rule of the resources, then of the jobs, keys in the order of
@@ -86,7 +86,7 @@ pub fn read(alloc: Global, text: &[u8]) -> Result<Pipeline, ReadFault>
     })
 }
 
-/// ChecksAs a task file from JSON (Concourse: tasks).
+/// Reads a task file from JSON (Concourse: tasks).
 ///
 /// `TooLong` above 1,048,576 bytes, `NotJson` where the bytes are no JSON value, both at `task`; else the first fault
 /// that is present in the value, at a path that begins with `task`. `NoMemory` where a growth was refused.
