@@ -7,7 +7,7 @@ ghost use Rattle.ccr_history.specs.TextMap.{IsAscending};
 ghost use Rattle.ccr_history.specs.declared.build.Status.TheVariants.{Running};
 
 use anyhow::{Result, bail};
-use ccr_history::{Edit, History, Pin, Scope, Status, Used, Version};
+use ccr_history::{Edit, History, HistoryFault, Pin, Scope, Status, Used, Version};
 use ccr_storage::Storage;
 use std::alloc::Global;
 use std::snapshot::Snapshot;
@@ -51,14 +51,18 @@ impl<S: Storage + Drop> Kept<S> {
         self.commit(alloc, before, Edit::Text(Vec::from_slice(alloc, text)?))
     }
 
+    /// Reports versions, unless they have no place in the table.
     pub(crate) fn report(&mut self, alloc: Global, scope: Scope, seen: Vec<Version>) -> Result<()>
         requires { S.knows self.old.storage self.old.history }
         ensures { OnOk result (S.knows self.new.storage self.new.history) }
     {
         let before = Snapshot::of(&self.history);
         versions_ascend(&seen);
-        self.history.append_versions(alloc, &scope, &seen)?;
-        self.commit(alloc, before, Edit::Versions(scope, seen))
+        match self.history.append_versions(alloc, &scope, &seen) {
+            Ok(_) => self.commit(alloc, before, Edit::Versions(scope, seen)),
+            Err(HistoryFault::TableFull) => Ok(()),
+            Err(fault) => Err(fault.into()),
+        }
     }
 
     /// Makes a build, and gives its number.
