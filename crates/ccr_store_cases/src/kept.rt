@@ -42,6 +42,7 @@ impl<S: Storage + Drop> Kept<S> {
         Ok(())
     }
 
+    /// Sets the text of the pipeline.
     pub(crate) fn set_text(&mut self, alloc: Global, text: &[u8]) -> Result<()>
         requires { S.knows self.old.storage self.old.history }
         ensures { OnOk result (S.knows self.new.storage self.new.history) }
@@ -84,6 +85,7 @@ impl<S: Storage + Drop> Kept<S> {
         Ok(number)
     }
 
+    /// Ends a build that runs, with the pairs that it moved.
     pub(crate) fn end_build(
         &mut self,
         alloc: Global,
@@ -105,6 +107,7 @@ impl<S: Storage + Drop> Kept<S> {
         self.commit(alloc, before, Edit::Ended(job, number, status, given))
     }
 
+    /// Pins a resource by command.
     pub(crate) fn set_pin(&mut self, alloc: Global, resource: &str, pin: Pin) -> Result<()>
         requires { S.knows self.old.storage self.old.history }
         ensures { OnOk result (S.knows self.new.storage self.new.history) }
@@ -119,6 +122,7 @@ impl<S: Storage + Drop> Kept<S> {
         )
     }
 
+    /// Clears the pin by command of a resource.
     pub(crate) fn clear_pin(&mut self, alloc: Global, resource: &str) -> Result<()>
         requires { S.knows self.old.storage self.old.history }
         ensures { OnOk result (S.knows self.new.storage self.new.history) }
