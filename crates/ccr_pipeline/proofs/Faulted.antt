@@ -1,9 +1,9 @@
 -- How the faults of a whole follow from those of its parts.
-use Rattle.std.proofs.Common.{◌≡◌, [], ◌∷◌, ◌++◌, Bool, false, refl, Option, Some, None, Result, Ok, Err}
+use Rattle.std.proofs.Common.{◌≡◌, [], ◌∷◌, ◌++◌, Option, Some, None, Result, Ok, Err}
 use Rattle.std.specs.Result.{IsErrAnd}
 use Rattle.ccr_pipeline.specs.declared.fault.Rule.{Rule}
 use Rattle.ccr_pipeline.specs.declared.fault.ReadFault.{ReadFault}
-use Rattle.ccr_pipeline.specs.Faults.{Path, Faults, unless, StartsWith, IsFirst, fault_of, Checks}
+use Rattle.ccr_pipeline.specs.Faults.{Path, Faults, StartsWith, IsFirst, fault_of, Checks}
 
 starts_append : (fs gs : Faults) (o : Option (Rule × Path)) → StartsWith fs o → StartsWith (fs ++ gs) o
 starts_append fs gs None h = tt
@@ -13,10 +13,6 @@ starts_append (g ∷ fs) gs (Some f) h = h
 -- the first fault of a part is that of the whole, where no part before it has one
 pub first_append : (fs gs : Faults) (e : ReadFault) → IsFirst fs e → IsFirst (fs ++ gs) e
 first_append fs gs e h = starts_append fs gs (fault_of e) h
-
--- a fault told where a test failed
-pub first_unless : (b : Bool) (r : Rule) (p q : Path) (gs : Faults) (e : ReadFault) → b ≡ false → fault_of e ≡ Some (r, q) → q ≡ p → IsFirst (unless b r p ++ gs) e
-first_unless b r p q gs e not told at = rw (not, told, at) refl
 
 -- a fault that a call passed on is the whole's, where it is its first
 pub checks_fault : {T : Type 0} (fs : Faults) (x : Result T ReadFault) (e : ReadFault) → IsErrAnd x (λ f. f ≡ e) → IsFirst fs e → Checks fs x

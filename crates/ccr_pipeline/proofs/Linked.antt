@@ -1,5 +1,5 @@
 -- Where no fault is present in a plan, the resources and jobs that it names are there.
-use Rattle.std.proofs.Common.{◌≡◌, ℕ, zero, suc, ◌+◌, List, [], ◌∷◌, ◌++◌, Bool, true, false, Option, Some, None, refl, append_assoc, if◌then◌else◌, option_and_then, unwrap_or, is_some, codes}
+use Rattle.std.proofs.Common.{◌≡◌, ℕ, zero, suc, ◌+◌, List, [], ◌∷◌, ◌++◌, Bool, true, false, Option, Some, None, refl, if◌then◌else◌, option_and_then, unwrap_or, is_some, codes}
 use Rattle.std.proofs.lemmas.List.Elements.{All-nil, All-cons, All-append}
 use Rattle.std.specs.List.{AllByRecursion, AllPass}
 use Rattle.serde_json.specs.Data.{Data, Items, no_items, item}
@@ -28,6 +28,7 @@ use Rattle.ccr_pipeline.proofs.Inside.{Inside, Opened, opened, Planned, planned}
 use Rattle.ccr_pipeline.proofs.Kept.{Holds, Leaves, action-kept, hooks-kept, plan-kept}
 use Rattle.ccr_pipeline.proofs.Named.{opened_own}
 use Rattle.ccr_pipeline.proofs.Rows.{nil_left, nil_right, passes, new_name, must_text, may_text}
+use Rattle.ccr_pipeline.proofs.UnknownLemmas.{unknown_append}
 use Rattle.ccr_pipeline.proofs.Unfaulted.{IsUnfaulted, unfaulted_parts, unfaulted_plan, unfaulted_hooks}
 
 -- a text that is there is known, where no fault says otherwise
@@ -108,13 +109,9 @@ module _ (resources jobs : List Text) where
   abbrev Fine : List Spot → Type 0
   Fine xs = IsUnfaulted xs × (unknown_spots resources jobs xs ≡ [])
 
-  pub unknown-append : (xs ys : List Spot) → unknown_spots resources jobs (xs ++ ys) ≡ unknown_spots resources jobs xs ++ unknown_spots resources jobs ys
-  unknown-append [] ys = refl
-  unknown-append (x ∷ xs) ys = rw (unknown-append xs ys, append_assoc) refl
-
   parts : (xs ys : List Spot) → Fine (xs ++ ys) → Fine xs × Fine ys
   parts xs ys f =
-      let known : unknown_spots resources jobs xs ++ unknown_spots resources jobs ys ≡ [] = rw (unknown-append xs ys) at f.1 in
+      let known : unknown_spots resources jobs xs ++ unknown_spots resources jobs ys ≡ [] = rw (unknown_append resources jobs xs ys) at f.1 in
       let faults = unfaulted_parts xs ys f.0 in
       ((faults.0, nil_left _ _ known), (faults.1, nil_right _ _ known))
 
@@ -162,6 +159,6 @@ module _ (resources jobs : List Text) where
   pub linked_plan : (p : Path) (d : Data) → job_rest p d ≡ [] → unknown_spots resources jobs (plan_steps p d ++ job_hooks p d) ≡ [] → IsLinked resources jobs (plan_from d)
   unfolding plan_from
   linked_plan p d e u =
-      let known : unknown_spots resources jobs (plan_steps p d) ++ unknown_spots resources jobs (job_hooks p d) ≡ [] = rw (unknown-append (plan_steps p d) (job_hooks p d)) at u in
+      let known : unknown_spots resources jobs (plan_steps p d) ++ unknown_spots resources jobs (job_hooks p d) ≡ [] = rw (unknown_append resources jobs (plan_steps p d) (job_hooks p d)) at u in
       let plan : Planned Fine d = planned Fine parts p d (unfaulted_plan p d e, nil_left _ _ known) (unfaulted_hooks p d e, nil_right (unknown_spots resources jobs (plan_steps p d)) _ known) in
       plan-kept (Inside Fine 30 1) InStep InStep (step_tree 30) (in_step 30 1) holds in_hook d plan.steps plan.hooks

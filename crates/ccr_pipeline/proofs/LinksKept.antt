@@ -25,7 +25,8 @@ use Rattle.ccr_pipeline.specs.Reading.{list_faults, pipeline_faults}
 use Rattle.ccr_pipeline.specs.Tree.{Text}
 use Rattle.ccr_pipeline.specs.Unknown.{unknown_spots, unknown_in}
 use Rattle.ccr_pipeline.proofs.Distinct.{with_text}
-use Rattle.ccr_pipeline.proofs.Linked.{linked_plan, unknown-append}
+use Rattle.ccr_pipeline.proofs.Linked.{linked_plan}
+use Rattle.ccr_pipeline.proofs.UnknownLemmas.{unknown_append}
 use Rattle.ccr_pipeline.proofs.PlansKept.{resource_members, job_members}
 use Rattle.ccr_pipeline.proofs.Subsequence.{NoRepeat, distinct}
 use Rattle.ccr_pipeline.proofs.Rows.{nil_left, nil_right, passes, IsNamed, new_name}
@@ -85,7 +86,7 @@ module _ (resources jobs : List Text) where
   each_linked names i (item d ds) e u =
       let p = path_at (codes "jobs") i in
       let own : List Spot = plan_steps p d ++ job_hooks p d in
-      let known : unknown_spots resources jobs own ++ unknown_spots resources jobs (job_steps (i + 1) ds) ≡ [] = rw (unknown-append resources jobs own (job_steps (i + 1) ds)) at u in
+      let known : unknown_spots resources jobs own ++ unknown_spots resources jobs (job_steps (i + 1) ds) ≡ [] = rw (unknown_append resources jobs own (job_steps (i + 1) ds)) at u in
       let one : member_faults Job names p d ≡ [] = nil_left (member_faults Job names p d) _ e in
       let rest : job_rest p d ≡ [] = nil_right (object_faults (value_faults 3) names schema.Job p d) _ one in (
         linked_plan resources jobs p d rest (nil_left _ _ known),

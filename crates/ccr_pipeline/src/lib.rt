@@ -35,6 +35,7 @@ mod place;
 mod reader;
 mod resource;
 mod schema;
+mod second_walk;
 mod step;
 mod task;
 mod unknown;

@@ -3,7 +3,7 @@ ghost use Rattle.std.specs.Prelude.{◌≡◌, [], ◌∷◌, ◌++◌, length, 
 ghost use Rattle.serde_json.specs.View.{view, items_view};
 ghost use Rattle.ccr_pipeline.specs.Keys.{at_key, or_else, list_at, path_below, path_at};
 ghost use Rattle.ccr_pipeline.specs.Places.{spots, spot_of, counted, tries_below, steps_from, steps_in, step_at};
-ghost use Rattle.ccr_pipeline.specs.Places.{own_steps, hook_steps, plan_steps, job_hooks, job_steps, all_steps};
+ghost use Rattle.ccr_pipeline.specs.Places.{own_steps, hook_steps, plan_steps, job_hooks};
 
 use crate::key::{at_key, list_at, path_at, path_below};
 use serde_json::Value;
@@ -196,30 +196,17 @@ fn push_steps<'v>(
     push_hooks(alloc, out, step, path, left - 1, below)
 }
 
-#[tactic(auto, using(std::proofs::Common::append_assoc))]
-fn push_jobs<'v>(
+/// The places of the steps of a job: those of its plan, and then those of its hooks.
+pub(crate) fn places_in<'v>(
     alloc: Global,
-    out: &mut Vec<Place<'v>>,
-    jobs: &'v [Value],
-) -> Result<(), AllocError>
-    ensures { OnOk result (spots out.new.items ≡ spots out.old.items ++ job_steps 0 (items_view jobs.now)) }
-{
-    for (i, job) in jobs.iter().enumerate() {
-        let path = path_at(alloc, "jobs", i)?;
-        push_list(alloc, out, job, path.as_str(), "plan", LEVELS, 1)?;
-        push_hooks(alloc, out, job, path.as_str(), LEVELS, 1)?;
-    }
-    Ok(())
-}
-
-/// The places of the steps of all jobs of a pipeline, those of a job's plan before those of its hooks.
-pub(crate) fn places_of<'v>(
-    alloc: Global,
-    pipeline: &'v Value,
+    job: &'v Value,
+    path: &str,
 ) -> Result<Vec<Place<'v>>, AllocError>
-    ensures { IfOk result (λ v. spots v.items ≡ all_steps (view pipeline.now)) }
+    ensures { IfOk result
+        (λ v. spots v.items ≡ plan_steps path.now (view job.now) ++ job_hooks path.now (view job.now)) }
 {
     let mut places = Vec::new(alloc);
-    push_jobs(alloc, &mut places, list_at(pipeline, "jobs"))?;
+    push_list(alloc, &mut places, job, path, "plan", LEVELS, 1)?;
+    push_hooks(alloc, &mut places, job, path, LEVELS, 1)?;
     Ok(places)
 }

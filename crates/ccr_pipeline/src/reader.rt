@@ -8,7 +8,9 @@ ghost use Rattle.ccr_pipeline.specs.Objects.{object_faults, value_faults};
 ghost use Rattle.ccr_pipeline.specs.Pipelines.{pipeline_data, IsPipelineOf};
 ghost use Rattle.ccr_pipeline.specs.TaskRules.{config_faults};
 ghost use Rattle.ccr_pipeline.specs.Tree.{config_data};
+ghost use Rattle.ccr_pipeline.specs.Names.{names_of as texts_of};
 ghost use Rattle.ccr_pipeline.specs.Unknown.{unknown_in};
+ghost use Rattle.ccr_pipeline.specs.Unused.{unused_in, IsSortedOnce};
 ghost use Rattle.ccr_pipeline.specs.Reading.{pipeline_faults, list_faults, IsTextOf, IsNoValue, Refuses, IsReading};
 
 use crate::build;
@@ -19,9 +21,8 @@ use crate::key::require;
 use crate::object::check_alone;
 use crate::pipeline::Pipeline;
 use crate::schema::Schema;
+use crate::second_walk::walk_again;
 use crate::task::TaskConfig;
-use crate::unknown::check_known;
-use crate::unused::unused;
 use serde_json::Value;
 use std::alloc::Global;
 
@@ -41,18 +42,22 @@ fn value_of(alloc: Global, text: &[u8], path: &str) -> Result<Value, ReadFault>
     }
 }
 
+/// Refuses the first fault of the resources, the jobs and the names that these mention; else gives the keys without
+/// effect.
 #[tactic(auto, using(crate::proofs::Faulted::first_append), unfolding(crate::specs::Reading::list_faults))]
-fn check_lists(alloc: Global, pipeline: &Value) -> Result<(), ReadFault>
-    ensures { Checks (list_faults (view pipeline.now)) result }
+fn check_lists(alloc: Global, pipeline: &Value) -> Result<Vec<String>, ReadFault>
+    ensures checked { Checks (list_faults (view pipeline.now)) result }
+    ensures unused { IfOk result (λ v. IsSortedOnce (unused_in (view pipeline.now)) (texts_of v.items)) }
 {
     let resources = check_member_list(alloc, Member::Resource, pipeline, "resources")?;
     let jobs = check_member_list(alloc, Member::Job, pipeline, "jobs")?;
-    check_known(alloc, &resources, &jobs, pipeline)
+    walk_again(alloc, &resources, &jobs, pipeline)
 }
 
 #[tactic(auto, using(crate::proofs::Faulted::first_append), unfolding(crate::specs::Reading::pipeline_faults))]
-fn check_pipeline(alloc: Global, pipeline: &Value) -> Result<(), ReadFault>
-    ensures { Checks (pipeline_faults (view pipeline.now)) result }
+fn check_pipeline(alloc: Global, pipeline: &Value) -> Result<Vec<String>, ReadFault>
+    ensures checked { Checks (pipeline_faults (view pipeline.now)) result }
+    ensures unused { IfOk result (λ v. IsSortedOnce (unused_in (view pipeline.now)) (texts_of v.items)) }
 {
     require(alloc, pipeline.is_object(), Rule::Kind, "pipeline")?;
     check_lists(alloc, pipeline)
@@ -74,8 +79,7 @@ pub fn read(alloc: Global, text: &[u8]) -> Result<Pipeline, ReadFault>
         (λ fault. Refuses (codes "pipeline") pipeline_faults text.now (fault_of fault)) }
 {
     let value = value_of(alloc, text, "pipeline")?;
-    check_pipeline(alloc, &value)?;
-    let unused = unused(alloc, &value)?;
+    let unused = check_pipeline(alloc, &value)?;
     let resources = resources(alloc, &value)?;
     let jobs = jobs(alloc, value)?;
     Ok(Pipeline {

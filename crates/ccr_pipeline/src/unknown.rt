@@ -1,17 +1,17 @@
-//! The second walk: names of resources and jobs that the pipeline doesn't have.
+//! The tests of names that steps mention: of resources, and of jobs.
 ghost use Rattle.std.specs.Prelude.{◌≡◌, ◌++◌, [], drop, codes, string_bytes};
 ghost use Rattle.serde_json.specs.View.{view, items_view};
 ghost use Rattle.ccr_pipeline.specs.Faults.{unless, Checks, StartsWith, IsFirst, fault_of};
 ghost use Rattle.ccr_pipeline.specs.Keys.{at_key, or_else, list_at, path_below, path_at};
 ghost use Rattle.ccr_pipeline.specs.Names.{text_at, has_name};
-ghost use Rattle.ccr_pipeline.specs.Places.{spots, all_steps};
+ghost use Rattle.ccr_pipeline.specs.Places.{spots};
 ghost use Rattle.ccr_pipeline.specs.Unknown.{name_key, unknown_resource, unknown_texts, unknown_passed};
-ghost use Rattle.ccr_pipeline.specs.Unknown.{unknown_by, unknown_spots, unknown_in};
+ghost use Rattle.ccr_pipeline.specs.Unknown.{unknown_by, unknown_spots};
 
 use crate::fault::{ReadFault, Rule};
 use crate::key::{at_key, list_at, path_at, path_below, require_at};
 use crate::names::{Names, text_at};
-use crate::place::{Part, Place, places_of};
+use crate::place::{Part, Place};
 use serde_json::Value;
 use std::alloc::Global;
 
@@ -110,8 +110,9 @@ fn check_place_known(
     }
 }
 
+/// Refuses the first resource or job that the visited steps name and the pipeline doesn't have.
 #[tactic(auto, using(crate::proofs::Faulted::first_append))]
-fn check_places_known(
+pub(crate) fn check_places_known(
     alloc: Global,
     resources: &Names,
     jobs: &Names,
@@ -123,17 +124,4 @@ fn check_places_known(
         check_place_known(alloc, resources, jobs, place)?;
     }
     Ok(())
-}
-
-/// Refuses the first resource or job that a step names and the pipeline doesn't have.
-pub(crate) fn check_known(
-    alloc: Global,
-    resources: &Names,
-    jobs: &Names,
-    pipeline: &Value,
-) -> Result<(), ReadFault>
-    ensures { Checks (unknown_in resources.now jobs.now (view pipeline.now)) result }
-{
-    let places = places_of(alloc, pipeline)?;
-    check_places_known(alloc, resources, jobs, &places)
 }

@@ -4,13 +4,14 @@ ghost use Rattle.std.specs.List.{flat_map};
 ghost use Rattle.serde_json.specs.View.{view, items_view, members_view};
 ghost use Rattle.ccr_pipeline.specs.Keys.{at_key, or_else, items_in, path_below, path_at};
 ghost use Rattle.ccr_pipeline.specs.Names.{names_of as texts_of};
-ghost use Rattle.ccr_pipeline.specs.Places.{spot, spots, all_steps};
+ghost use Rattle.ccr_pipeline.specs.Places.{spot, spots};
 ghost use Rattle.ccr_pipeline.specs.Schema.{opening, rows as row_list, has_key, schema_of};
 ghost use Rattle.ccr_pipeline.specs.Unused.{unused_members, unused_object, unused_value, unused_items, unused_rows};
-ghost use Rattle.ccr_pipeline.specs.Unused.{unused_own, unused_spot, unused_in, IsSortedOnce};
+ghost use Rattle.ccr_pipeline.specs.Unused.{unused_own, unused_spot, IsSortedOnce};
+ghost use Rattle.ccr_pipeline.specs.declared.schema.Schema.TheVariants.{Pipeline};
 
 use crate::key::{at_key, items_in, path_at, path_below};
-use crate::place::{Part, Place, places_of};
+use crate::place::{Part, Place};
 use crate::schema::{Kind, NESTED, Row, Schema, has_key, opening, schema_of};
 use serde_json::Value;
 use std::alloc::{AllocError, Global};
@@ -72,8 +73,7 @@ fn push_rows(
 {
     for (_, kind, key) in rows {
         if let Some(found) = at_key(value, *key) {
-            let path = path_below(alloc, path, *key)?;
-            push_value(alloc, out, left, *kind, found, path.as_str())?;
+            push_value(alloc, out, left, *kind, found, path, *key)?;
         }
     }
     Ok(())
@@ -85,16 +85,26 @@ fn push_value(
     out: &mut Vec<String>,
     left: u32,
     kind: Kind,
-    value: &Value,
+    found: &Value,
     path: &str,
+    key: &str,
 ) -> Result<(), AllocError>
-    ensures { OnOk result (texts_of out.new.items
-        ≡ texts_of out.old.items ++ unused_value (unused_object left) kind path.now (view value.now)) }
+    ensures { OnOk result (texts_of out.new.items ≡ texts_of out.old.items
+        ++ unused_value (unused_object left) kind (path_below path.now key.now) (view found.now)) }
 {
     match kind {
-        Kind::Object(schema) => push_object(alloc, out, left, schema, value, path),
-        Kind::Parallel => push_object(alloc, out, left, Schema::Parallel, value, path),
-        Kind::Objects(schema) => push_items(alloc, out, left, schema, items_in(value), path),
+        Kind::Object(schema) => {
+            let path = path_below(alloc, path, key)?;
+            push_object(alloc, out, left, schema, found, path.as_str())
+        }
+        Kind::Parallel => {
+            let path = path_below(alloc, path, key)?;
+            push_object(alloc, out, left, Schema::Parallel, found, path.as_str())
+        }
+        Kind::Objects(schema) => {
+            let path = path_below(alloc, path, key)?;
+            push_items(alloc, out, left, schema, items_in(found), path.as_str())
+        }
         _ => Ok(()),
     }
 }
@@ -131,8 +141,13 @@ fn push_place(alloc: Global, out: &mut Vec<String>, place: &Place) -> Result<(),
     }
 }
 
+/// Adds the unused keys of the visited steps.
 #[tactic(auto, using(std::proofs::Common::append_assoc))]
-fn push_places(alloc: Global, out: &mut Vec<String>, places: &[Place]) -> Result<(), AllocError>
+pub(crate) fn push_places(
+    alloc: Global,
+    out: &mut Vec<String>,
+    places: &[Place],
+) -> Result<(), AllocError>
     ensures { OnOk result (texts_of out.new.items
         ≡ texts_of out.old.items ++ flat_map unused_spot (spots places.now)) }
 {
@@ -142,23 +157,23 @@ fn push_places(alloc: Global, out: &mut Vec<String>, places: &[Place]) -> Result
     Ok(())
 }
 
-/// The paths of the keys of a pipeline that have no effect.
-#[tactic(auto, using(std::proofs::Common::append_assoc), unfolding(crate::specs::Unused::unused_in))]
-fn paths(alloc: Global, pipeline: &Value) -> Result<Vec<String>, AllocError>
-    ensures { IfOk result (λ v. texts_of v.items ≡ unused_in (view pipeline.now)) }
+/// Adds the unused keys of a pipeline, but for those of the steps of its jobs.
+pub(crate) fn push_pipeline(
+    alloc: Global,
+    out: &mut Vec<String>,
+    pipeline: &Value,
+) -> Result<(), AllocError>
+    ensures { OnOk result (texts_of out.new.items
+        ≡ texts_of out.old.items ++ unused_object NESTED Pipeline [] (view pipeline.now)) }
 {
-    let places = places_of(alloc, pipeline)?;
-    let mut out = Vec::new(alloc);
-    push_object(alloc, &mut out, NESTED, Schema::Pipeline, pipeline, "")?;
-    push_places(alloc, &mut out, &places)?;
-    Ok(out)
+    push_object(alloc, out, NESTED, Schema::Pipeline, pipeline, "")
 }
 
-/// The paths of the keys of a pipeline that have no effect, ascending by bytes, each once.
-pub(crate) fn unused(alloc: Global, pipeline: &Value) -> Result<Vec<String>, AllocError>
-    ensures { IfOk result (λ v. IsSortedOnce (unused_in (view pipeline.now)) (texts_of v.items)) }
+/// The paths ascending by bytes, each once.
+pub(crate) fn sorted_once(paths: Vec<String>) -> Result<Vec<String>, AllocError>
+    ensures { IfOk result (λ v. IsSortedOnce (texts_of paths.items) (texts_of v.items)) }
 {
-    let mut paths = paths(alloc, pipeline)?;
+    let mut paths = paths;
     paths.sort()?;
     paths.dedup();
     Ok(paths)

@@ -7,9 +7,9 @@ use Rattle.ccr_pipeline.specs.Unknown.{unknown_in}
 use Rattle.ccr_pipeline.proofs.Faulted.{checks_fault, second_fault}
 use Rattle.ccr_pipeline.proofs.reader.check_lists.Goals as goal
 
-pub returns-in_err-jobs : goal.returns-in_err-jobs
+pub returns-in_err-jobs-clause-checked : goal.returns-in_err-jobs-clause-checked
 unfolding list_faults
-returns-in_err-jobs c =
+returns-in_err-jobs-clause-checked c =
     let d = view c.args.pipeline.now in
     checks_fault (list_faults d) _ _ c.from_residual-in_err-jobs.ensures.1
     (second_fault (member_list Resource (codes "resources") d) (member_list Job (codes "jobs") d) (unknown_in (list_names (codes "resources") d) (list_names (codes "jobs") d) d) _ c.in_ok-resources.ensures.0 c.in_err-jobs.ensures)

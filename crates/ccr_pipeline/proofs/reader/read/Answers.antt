@@ -8,15 +8,15 @@ use Rattle.ccr_pipeline.proofs.PlansKept.{kept_jobs, kept_resources}
 use Rattle.ccr_pipeline.proofs.reader.read.Goals as goal
 
 pub resources-requires : goal.resources-requires
-resources-requires c = kept_resources (view c.in_ok-value.value) c.in_ok-check_pipeline.ensures
+resources-requires c = kept_resources (view c.in_ok-value.value) c.in_ok-unused.ensures.checked
 
 pub jobs-requires : goal.jobs-requires
-jobs-requires c = kept_jobs (view c.in_ok-value.value) c.in_ok-check_pipeline.ensures
+jobs-requires c = kept_jobs (view c.in_ok-value.value) c.in_ok-unused.ensures.checked
 
 pub invariant_of-result : goal.invariant_of-result
 invariant_of-result c =
     let d = view c.in_ok-value.value in
-    let none = c.in_ok-check_pipeline.ensures in
+    let none = c.in_ok-unused.ensures.checked in
     let resources : resources_from d ≡ map resource_data c.in_ok-resources.resources.items = sym c.in_ok-resources.ensures in
     let jobs : jobs_from d ≡ map job_data c.in_ok-jobs.jobs.items = sym c.in_ok-jobs.ensures in
     record {
