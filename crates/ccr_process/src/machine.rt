@@ -71,8 +71,8 @@ fn attend<P: OpenProcess + Drop>(
 }
 
 /// Starts the command of a launch and sees it to its end.
-fn start<R: Processes>(rt: &R, alloc: Global, mut command: Command, launch: &Launch) -> Ended
-    requires { IsCommandOf (launch_data launch.now) command }
+fn start<R: Processes>(rt: &R, alloc: Global, command: &mut Command, launch: &Launch) -> Ended
+    requires { IsCommandOf (launch_data launch.now) command.old }
     ensures output { HasOutput launch.now.keep (end_data result) }
     ensures unstartable { can_start launch.now ≡ false → result ≡ NotStarted }
 {
@@ -109,13 +109,13 @@ impl<R: Processes> Runner for Machine<R> {
         ensures unstartable { can_start launch.now ≡ false
             → (result ≡ NotStarted) ⊎ (result ≡ NoMemory) }
     {
-        let Ok(command) = command_of(self.alloc, launch) else {
-            return Ended::NoMemory;
-        };
         if self.done.reserve(1).is_err() {
             return Ended::NoMemory;
         }
-        let end = start(&self.rt, self.alloc, command, launch);
+        let Ok(mut command) = command_of(self.alloc, launch) else {
+            return Ended::NoMemory;
+        };
+        let end = start(&self.rt, self.alloc, &mut command, launch);
         let pair = (Snapshot::of(launch), Snapshot::of(&end));
         self.done.push(pair).unwrap();
         end
