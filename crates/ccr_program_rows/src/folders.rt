@@ -8,6 +8,8 @@ use std::alloc::Global;
 use std::collections::VecDeque;
 use std::io::ErrorKind;
 use std::os::unix::fs::symlink;
+use std::process::Abort;
+use std::rt::Files;
 use std::test::Fail;
 use std::{env, fs, process};
 
@@ -23,6 +25,25 @@ fn length<S: Shelf>(shelf: &mut S, path: &str) -> Result<usize, ShelfFault> {
     Ok(shelf.read_file(path)?.len())
 }
 
+/// A folder of this path below the top is made with those above it, keeps a file, and goes with the top.
+fn is_made_and_removed<R: Files + Abort, S: Shelf>(
+    rt: &R,
+    shelf: &mut S,
+    top: &str,
+    deep: &str,
+    file: &str,
+) -> Result<(), Fail> {
+    assert_eq!(rt; shelf.make_folder(deep), Ok(()));
+    assert!(rt; fs::metadata(rt, deep)?.is_dir());
+    fs::write(rt, file, "hello")?;
+    assert_eq!(rt; shelf.make_folder(deep), Ok(()));
+    assert_eq!(rt; length(shelf, file), Ok(5));
+    assert_eq!(rt; shelf.remove_folder(top), Ok(()));
+    assert!(rt; fs::metadata(rt, top).is_err());
+    assert_eq!(rt; shelf.remove_folder(top), Ok(()));
+    Ok(())
+}
+
 #[test]
 fn a_folder_is_made_with_those_above_it_and_removed_with_all_in_it(
     rt: HostRuntime,
@@ -32,17 +53,41 @@ fn a_folder_is_made_with_those_above_it_and_removed_with_all_in_it(
     let deep = format!(in alloc; "{top}/a/b")?;
     let file = format!(in alloc; "{top}/a/f")?;
     let mut folders = Folders::new(&rt, alloc);
-    assert_eq!(rt; folders.make_folder(deep.as_str()), Ok(()));
-    assert!(rt; fs::metadata(&rt, deep.as_str())?.is_dir());
-    fs::write(&rt, file.as_str(), "hello")?;
-    assert_eq!(rt; folders.make_folder(deep.as_str()), Ok(()));
-    let read = folders.read_file(file.as_str())?;
-    assert_eq!(rt; read.as_slice(), b"hello".as_slice());
-    assert_eq!(rt; folders.remove_folder(top.as_str()), Ok(()));
-    assert!(rt; fs::metadata(&rt, top.as_str()).is_err());
-    assert_eq!(rt; folders.remove_folder(top.as_str()), Ok(()));
+    is_made_and_removed(
+        &rt,
+        &mut folders,
+        top.as_str(),
+        deep.as_str(),
+        file.as_str(),
+    )?;
     assert_eq!(rt; folders.failures(), 0);
     Ok(())
+}
+
+/// A file of so many bytes is read, or is too long.
+fn is_read<R: Files + Abort, S: Shelf>(
+    rt: &R,
+    alloc: Global,
+    shelf: &mut S,
+    file: &str,
+    size: usize,
+    told: Result<usize, ShelfFault>,
+) -> Result<(), Fail> {
+    fs::write(rt, file, vec![in alloc; b'A'; size]?)?;
+    assert_eq!(rt; length(shelf, file), told);
+    Ok(())
+}
+
+fn lengths_are_read<R: Files + Abort, S: Shelf>(
+    rt: &R,
+    alloc: Global,
+    shelf: &mut S,
+    file: &str,
+) -> Result<(), Fail> {
+    for size in [0, 1, 8192, 8193, 1_048_576] {
+        is_read(rt, alloc, shelf, file, size, Ok(size))?;
+    }
+    is_read(rt, alloc, shelf, file, 1_048_577, Err(ShelfFault::TooLong))
 }
 
 #[test]
@@ -52,17 +97,49 @@ fn a_file_is_read_up_to_its_greatest_length(rt: HostRuntime) -> Result<(), Fail>
     let file = format!(in alloc; "{top}/f")?;
     let mut folders = Folders::new(&rt, alloc);
     folders.make_folder(top.as_str())?;
-    for size in [0, 1, 8192, 8193, 1_048_576] {
-        fs::write(&rt, file.as_str(), vec![in alloc; b'A'; size]?)?;
-        assert_eq!(rt; length(&mut folders, file.as_str()), Ok(size));
-    }
-    fs::write(&rt, file.as_str(), vec![in alloc; b'A'; 1_048_577]?)?;
-    assert_eq!(rt;
-        length(&mut folders, file.as_str()),
-        Err(ShelfFault::TooLong)
-    );
+    lengths_are_read(&rt, alloc, &mut folders, file.as_str())?;
     assert_eq!(rt; folders.failures(), 0);
     folders.remove_folder(top.as_str())?;
+    Ok(())
+}
+
+/// No folder can be made at these paths, and none removed.
+fn are_no_folders<R: Abort, S: Shelf>(rt: &R, shelf: &mut S, paths: &[&str]) {
+    for path in paths {
+        assert_eq!(rt; shelf.make_folder(path), Err(ShelfFault::Failed), "{path}");
+        assert_eq!(rt;
+            shelf.remove_folder(path),
+            Err(ShelfFault::Failed),
+            "{path}"
+        );
+    }
+}
+
+/// No file can be read at these paths.
+fn are_no_files<R: Abort, S: Shelf>(rt: &R, shelf: &mut S, paths: &[&str]) {
+    for path in paths {
+        assert_eq!(rt; length(shelf, path), Err(ShelfFault::Failed), "{path}");
+    }
+}
+
+/// What lies below a file, and what isn't there, is no folder and no file.
+fn wrong_places_fail<R: Files + Abort + Drop>(
+    rt: &R,
+    alloc: Global,
+    top: &str,
+    file: &str,
+    below: &str,
+    absent: &str,
+) -> Result<(), Fail> {
+    let mut folders = Folders::new(rt, alloc);
+    folders.make_folder(top)?;
+    fs::write(rt, file, "hello")?;
+    are_no_folders(rt, &mut folders, &[file, below, "\0"]);
+    assert_eq!(rt; folders.failures(), 6);
+    are_no_files(rt, &mut folders, &[absent, below, top, "/dev/null", ""]);
+    assert_eq!(rt; folders.failures(), 11);
+    assert_eq!(rt; length(&mut folders, file), Ok(5));
+    folders.remove_folder(top)?;
     Ok(())
 }
 
@@ -75,38 +152,30 @@ fn a_file_for_a_folder_a_folder_for_a_file_and_an_absent_file_fail(
     let file = format!(in alloc; "{top}/f")?;
     let below = format!(in alloc; "{top}/f/x")?;
     let absent = format!(in alloc; "{top}/none")?;
-    let mut folders = Folders::new(&rt, alloc);
-    folders.make_folder(top.as_str())?;
-    fs::write(&rt, file.as_str(), "hello")?;
-    for path in [file.as_str(), below.as_str(), "\0"] {
-        assert_eq!(rt;
-            folders.make_folder(path),
-            Err(ShelfFault::Failed),
-            "{path}"
-        );
-        assert_eq!(rt;
-            folders.remove_folder(path),
-            Err(ShelfFault::Failed),
-            "{path}"
-        );
-    }
-    assert_eq!(rt; folders.failures(), 6);
-    for path in [
-        absent.as_str(),
-        below.as_str(),
+    wrong_places_fail(
+        &rt,
+        alloc,
         top.as_str(),
-        "/dev/null",
-        "",
-    ] {
-        assert_eq!(rt;
-            length(&mut folders, path),
-            Err(ShelfFault::Failed),
-            "{path}"
-        );
-    }
-    assert_eq!(rt; folders.failures(), 11);
-    assert_eq!(rt; length(&mut folders, file.as_str()), Ok(5));
-    folders.remove_folder(top.as_str())?;
+        file.as_str(),
+        below.as_str(),
+        absent.as_str(),
+    )
+}
+
+/// A link to the folder of a file is removed, and the file stays.
+fn link_is_removed<R: Files + Abort, S: Shelf>(
+    rt: &R,
+    shelf: &mut S,
+    target: &str,
+    file: &str,
+    link: &str,
+) -> Result<(), Fail> {
+    shelf.make_folder(target)?;
+    fs::write(rt, file, "hello")?;
+    symlink(rt, target, link)?;
+    assert_eq!(rt; shelf.make_folder(link), Ok(()));
+    assert_eq!(rt; shelf.remove_folder(link), Ok(()));
+    assert_eq!(rt; length(shelf, file), Ok(5));
     Ok(())
 }
 
@@ -118,12 +187,13 @@ fn a_link_is_removed_and_not_what_it_leads_to(rt: HostRuntime) -> Result<(), Fai
     let file = format!(in alloc; "{top}/target/f")?;
     let link = format!(in alloc; "{top}/link")?;
     let mut folders = Folders::new(&rt, alloc);
-    folders.make_folder(target.as_str())?;
-    fs::write(&rt, file.as_str(), "hello")?;
-    symlink(&rt, target.as_str(), link.as_str())?;
-    assert_eq!(rt; folders.make_folder(link.as_str()), Ok(()));
-    assert_eq!(rt; folders.remove_folder(link.as_str()), Ok(()));
-    assert_eq!(rt; length(&mut folders, file.as_str()), Ok(5));
+    link_is_removed(
+        &rt,
+        &mut folders,
+        target.as_str(),
+        file.as_str(),
+        link.as_str(),
+    )?;
     assert_eq!(rt; folders.failures(), 0);
     folders.remove_folder(top.as_str())?;
     Ok(())
@@ -180,20 +250,30 @@ fn read_pieces(
     Ok(read_opened(alloc, Ok(reader)))
 }
 
+/// What a reader gives that fails at a call with a fault: that fault, or where an interrupted call is tried again, all.
+fn fails_at<R: Abort>(rt: &R, alloc: Global, call: u32) -> Result<(), Fail> {
+    for (kind, fault) in [
+        (ErrorKind::Other, ShelfFault::Failed),
+        (ErrorKind::OutOfMemory, ShelfFault::NoMemory),
+    ] {
+        let read = read_pieces(alloc, call, kind)?;
+        assert_eq!(rt; read.err(), Some(fault), "call {call}");
+    }
+    is_whole(rt, alloc, call, ErrorKind::Interrupted)
+}
+
+fn is_whole<R: Abort>(rt: &R, alloc: Global, call: u32, kind: ErrorKind) -> Result<(), Fail> {
+    let read = read_pieces(alloc, call, kind)??;
+    assert_eq!(rt; read.as_slice(), b"0123456789".as_slice(), "call {call}");
+    Ok(())
+}
+
 #[test]
 fn a_reader_that_fails_at_any_call_gives_its_fault_and_no_cut_bytes(
     rt: HostRuntime,
 ) -> Result<(), Fail> {
-    let alloc = rt.alloc();
     for call in 1..=5 {
-        let failed = read_pieces(alloc, call, ErrorKind::Other)?;
-        assert_eq!(rt; failed.err(), Some(ShelfFault::Failed), "call {call}");
-        let refused = read_pieces(alloc, call, ErrorKind::OutOfMemory)?;
-        assert_eq!(rt; refused.err(), Some(ShelfFault::NoMemory), "call {call}");
-        let read = read_pieces(alloc, call, ErrorKind::Interrupted)??;
-        assert_eq!(rt; read.as_slice(), b"0123456789".as_slice(), "call {call}");
+        fails_at(&rt, rt.alloc(), call)?;
     }
-    let read = read_pieces(alloc, 6, ErrorKind::Other)??;
-    assert_eq!(rt; read.as_slice(), b"0123456789".as_slice());
-    Ok(())
+    is_whole(&rt, rt.alloc(), 6, ErrorKind::Other)
 }

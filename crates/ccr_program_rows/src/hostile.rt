@@ -113,6 +113,58 @@ fn put_programs(rt: &impl Files, alloc: Global, top: &str, script: &str) -> Resu
     Ok(())
 }
 
+/// The world whose resource type lies in a folder.
+fn world_in<'a, R: Processes + Drop>(
+    rt: &'a R,
+    alloc: Global,
+    top: &str,
+) -> Result<World<&'a R>, Fail> {
+    let version = Value::from_str(alloc, "{\"n\":\"2\"}")?;
+    Ok(World {
+        places: Places {
+            types: String::from_str(alloc, top)?,
+            work: String::from_str(alloc, top)?,
+        },
+        pipeline: pipeline(alloc, 65_600)?,
+        machine: Machine::new(rt, alloc),
+        version: Version::from_value(alloc, &version)?,
+    })
+}
+
+/// Programs of a script come to this at a check, and to this at a get.
+fn script_comes_to<R: Files + Processes + Abort + Drop>(
+    rt: &R,
+    alloc: Global,
+    world: &mut World<&R>,
+    top: &str,
+    row: &(&str, &str, &str),
+) -> Result<(), Fail> {
+    let (script, check, get) = *row;
+    put_programs(rt, alloc, top, script)?;
+    let checked = world.check(alloc, "a")?;
+    assert_eq!(rt; checked.as_str(), check, "check: {script}");
+    let got = world.get(alloc, "a")?;
+    assert_eq!(rt; got.as_str(), get, "in: {script}");
+    Ok(())
+}
+
+fn scripts_come_to<R: Files + Processes + Abort + Drop>(
+    rt: &R,
+    alloc: Global,
+    world: &mut World<&R>,
+    top: &str,
+    rows: &[(&str, &str, &str)],
+) -> Result<(), Fail> {
+    for row in rows {
+        script_comes_to(rt, alloc, world, top, row)?;
+    }
+    let checked = world.check(alloc, "b")?;
+    assert_eq!(rt; checked.as_str(), "request too long");
+    let got = world.get(alloc, "b")?;
+    assert_eq!(rt; got.as_str(), "request too long");
+    Ok(())
+}
+
 /// Programs of these scripts come to this at a check, and to this at a get.
 fn comes_to<R: Files + Processes + Abort + Drop>(
     rt: &R,
@@ -120,27 +172,8 @@ fn comes_to<R: Files + Processes + Abort + Drop>(
     top: &str,
     rows: &[(&str, &str, &str)],
 ) -> Result<(), Fail> {
-    let mut world = World {
-        places: Places {
-            types: String::from_str(alloc, top)?,
-            work: String::from_str(alloc, top)?,
-        },
-        pipeline: pipeline(alloc, 65_600)?,
-        machine: Machine::new(rt, alloc),
-        version: Version::from_value(alloc, &Value::from_str(alloc, "{\"n\":\"2\"}")?)?,
-    };
-    for (script, check, get) in rows {
-        put_programs(rt, alloc, top, script)?;
-        assert_eq!(rt;
-            world.check(alloc, "a")?.as_str(),
-            *check,
-            "check: {script}"
-        );
-        assert_eq!(rt; world.get(alloc, "a")?.as_str(), *get, "in: {script}");
-    }
-    assert_eq!(rt; world.check(alloc, "b")?.as_str(), "request too long");
-    assert_eq!(rt; world.get(alloc, "b")?.as_str(), "request too long");
-    Ok(())
+    let mut world = world_in(rt, alloc, top)?;
+    scripts_come_to(rt, alloc, &mut world, top, rows)
 }
 
 #[test]

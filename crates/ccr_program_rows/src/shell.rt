@@ -14,6 +14,37 @@ pub(crate) fn texts(alloc: Global, words: &[&str]) -> Result<Vec<String>, AllocE
     Ok(texts)
 }
 
+/// Variables with these names and values.
+fn variables(alloc: Global, rows: &[(&str, &str)]) -> Result<Vec<(String, String)>, AllocError> {
+    let mut env = Vec::new(alloc);
+    for (name, value) in rows {
+        env.push((
+            String::from_str(alloc, name)?,
+            String::from_str(alloc, value)?,
+        ))?;
+    }
+    Ok(env)
+}
+
+/// A launch in a folder, with these variables, whose output is kept.
+fn launch_in(
+    alloc: Global,
+    program: &str,
+    args: &[&str],
+    folder: &str,
+    env: &[(&str, &str)],
+    input: Vec<u8>,
+) -> Result<Launch, AllocError> {
+    Ok(Launch {
+        program: String::from_str(alloc, program)?,
+        args: texts(alloc, args)?,
+        folder: String::from_str(alloc, folder)?,
+        env: variables(alloc, env)?,
+        input,
+        keep: true,
+    })
+}
+
 /// A launch in the folder `/`, with one variable, whose output is kept.
 pub(crate) fn launch(
     alloc: Global,
@@ -21,19 +52,7 @@ pub(crate) fn launch(
     args: &[&str],
     input: Vec<u8>,
 ) -> Result<Launch, AllocError> {
-    let mut env = Vec::new(alloc);
-    env.push((
-        String::from_str(alloc, "GREETING")?,
-        String::from_str(alloc, "hello")?,
-    ))?;
-    Ok(Launch {
-        program: String::from_str(alloc, program)?,
-        args: texts(alloc, args)?,
-        folder: String::from_str(alloc, "/")?,
-        env,
-        input,
-        keep: true,
-    })
+    launch_in(alloc, program, args, "/", &[("GREETING", "hello")], input)
 }
 
 /// An end in words; a long output by its length.
@@ -64,6 +83,32 @@ pub(crate) fn run<R: Runner>(
     told(alloc, &runner.run(launch))
 }
 
+/// A script of `sh -c` that is given so many bytes of input ends so.
+fn show<R: Abort, M: Runner>(
+    rt: &R,
+    alloc: Global,
+    runner: &mut M,
+    row: &(&str, usize, &str),
+) -> Result<(), Fail> {
+    let (script, input, end) = *row;
+    let launch = launch(alloc, "sh", &["-c", script], vec![in alloc; b'A'; input]?)?;
+    let told = run(alloc, runner, &launch)?;
+    assert_eq!(rt; told.as_str(), end, "{script}");
+    Ok(())
+}
+
+fn show_each<R: Abort, M: Runner>(
+    rt: &R,
+    alloc: Global,
+    runner: &mut M,
+    rows: &[(&str, usize, &str)],
+) -> Result<(), Fail> {
+    for row in rows {
+        show(rt, alloc, runner, row)?;
+    }
+    Ok(())
+}
+
 /// Scripts of `sh -c` end as the rows say: the script, how many bytes of input it is given, and its end.
 pub(crate) fn shows<R: Processes + Abort>(
     rt: &R,
@@ -71,15 +116,7 @@ pub(crate) fn shows<R: Processes + Abort>(
     rows: &[(&str, usize, &str)],
 ) -> Result<(), Fail> {
     let mut machine = Machine::new(rt, alloc);
-    for (script, input, end) in rows {
-        let launch = launch(alloc, "sh", &["-c", script], vec![in alloc; b'A'; *input]?)?;
-        assert_eq!(rt;
-            run(alloc, &mut machine, &launch)?.as_str(),
-            *end,
-            "{script}"
-        );
-    }
-    Ok(())
+    show_each(rt, alloc, &mut machine, rows)
 }
 
 #[test]
@@ -104,10 +141,15 @@ fn programs_end_with_status_and_output(rt: HostRuntime) -> Result<(), Fail> {
             ("yes", 0, "output too long"),
         ],
     )?;
+    shows_no_output(&rt, alloc, &mut Machine::new(&rt, alloc))
+}
+
+/// An output that isn't kept may have any length.
+fn shows_no_output<R: Abort, M: Runner>(rt: &R, alloc: Global, runner: &mut M) -> Result<(), Fail> {
     let args = ["-c", "head -c 1048577 /dev/zero"];
     let mut launch = launch(alloc, "sh", &args, Vec::new(alloc))?;
     launch.keep = false;
-    let end = run(alloc, &mut Machine::new(&rt, alloc), &launch)?;
+    let end = run(alloc, runner, &launch)?;
     assert_eq!(rt; end.as_str(), "exit 0: ");
     Ok(())
 }
@@ -130,34 +172,57 @@ fn arguments_arrive_as_they_are(rt: HostRuntime) -> Result<(), Fail> {
     Ok(())
 }
 
+/// A program, its last argument, its folder, and the name and value of a variable, with which nothing is started.
+type Unstartable<'a> = (&'a str, &'a str, &'a str, &'a str, &'a str);
+
+fn is_not_started<R: Abort, M: Runner>(
+    rt: &R,
+    alloc: Global,
+    runner: &mut M,
+    row: &Unstartable<'_>,
+) -> Result<(), Fail> {
+    let (program, arg, folder, name, value) = *row;
+    let env = [("GREETING", "hello"), (name, value)];
+    let args = ["-c", "exit 0", arg];
+    let launch = launch_in(alloc, program, &args, folder, &env, Vec::new(alloc))?;
+    let end = run(alloc, runner, &launch)?;
+    assert_eq!(rt; end.as_str(), "not started", "{program} {folder} {name}");
+    Ok(())
+}
+
+fn are_not_started<R: Abort, M: Runner>(
+    rt: &R,
+    alloc: Global,
+    runner: &mut M,
+    rows: &[Unstartable<'_>],
+) -> Result<(), Fail> {
+    for row in rows {
+        is_not_started(rt, alloc, runner, row)?;
+    }
+    show(rt, alloc, runner, &("exit 0", 0, "exit 0: "))
+}
+
 #[test]
 fn what_cannot_be_started_is_not_started(rt: HostRuntime) -> Result<(), Fail> {
     let alloc = rt.alloc();
     let mut machine = Machine::new(&rt, alloc);
-    for (program, arg, folder, name, value) in [
-        ("/no/such/program", "", "/", "A", ""),
-        ("no-such-program", "", "/", "A", ""),
-        ("/etc/passwd", "", "/", "A", ""),
-        ("sh", "", "/no/such/folder", "A", ""),
-        ("sh", "", "/", "PATH", "/no/such/folder"),
-        ("sh", "", "/", "A=B", ""),
-        ("sh", "", "/", "", ""),
-        ("sh\0", "", "/", "A", ""),
-        ("sh", "\0", "/", "A", ""),
-        ("sh", "", "/\0", "A", ""),
-        ("sh", "", "/", "A\0", ""),
-        ("sh", "", "/", "A", "\0"),
-    ] {
-        let mut launch = launch(alloc, program, &["-c", "exit 0", arg], Vec::new(alloc))?;
-        launch.folder = String::from_str(alloc, folder)?;
-        launch.env.push((
-            String::from_str(alloc, name)?,
-            String::from_str(alloc, value)?,
-        ))?;
-        let end = run(alloc, &mut machine, &launch)?;
-        assert_eq!(rt; end.as_str(), "not started", "{program} {folder} {name}");
-    }
-    let plain = launch(alloc, "sh", &["-c", "exit 0"], Vec::new(alloc))?;
-    assert_eq!(rt; run(alloc, &mut machine, &plain)?.as_str(), "exit 0: ");
-    Ok(())
+    are_not_started(
+        &rt,
+        alloc,
+        &mut machine,
+        &[
+            ("/no/such/program", "", "/", "A", ""),
+            ("no-such-program", "", "/", "A", ""),
+            ("/etc/passwd", "", "/", "A", ""),
+            ("sh", "", "/no/such/folder", "A", ""),
+            ("sh", "", "/", "PATH", "/no/such/folder"),
+            ("sh", "", "/", "A=B", ""),
+            ("sh", "", "/", "", ""),
+            ("sh\0", "", "/", "A", ""),
+            ("sh", "\0", "/", "A", ""),
+            ("sh", "", "/\0", "A", ""),
+            ("sh", "", "/", "A\0", ""),
+            ("sh", "", "/", "A", "\0"),
+        ],
+    )
 }
