@@ -37,7 +37,8 @@ fn is_made_and_removed<R: Files + Abort, S: Shelf>(
     assert!(rt; fs::metadata(rt, deep)?.is_dir());
     fs::write(rt, file, "hello")?;
     assert_eq!(rt; shelf.make_folder(deep), Ok(()));
-    assert_eq!(rt; length(shelf, file), Ok(5));
+    let read = shelf.read_file(file)?;
+    assert_eq!(rt; read.as_slice(), b"hello".as_slice());
     assert_eq!(rt; shelf.remove_folder(top), Ok(()));
     assert!(rt; fs::metadata(rt, top).is_err());
     assert_eq!(rt; shelf.remove_folder(top), Ok(()));
