@@ -9,10 +9,9 @@ use Rattle.ccr_pipeline.specs.declared.step.When.TheVariants.{OnSuccess, OnFailu
 use Rattle.ccr_pipeline.specs.Hooks.{hook_key}
 use Rattle.ccr_pipeline.specs.Keys.{at_key, or_else, items_in, list_at}
 use Rattle.ccr_pipeline.specs.Meaning.{truth_from, get_from, put_from, task_from}
-use Rattle.ccr_pipeline.specs.Pipelines.{EachItem}
 use Rattle.ccr_pipeline.specs.Steps.{with_hook, with_hooks, each_tree, parallel_items, holder, action}
 use Rattle.ccr_pipeline.specs.Tree.{Tree, get, put, task, in_order, in_parallel, tried, hook, no_trees, trees_of}
-use Rattle.ccr_pipeline.proofs.Inside.{OwnSteps, Hooks}
+use Rattle.ccr_pipeline.proofs.Inside.{EachItem, OwnSteps, Hooks}
 
 -- a step keeps Q, if the steps that it holds keep R
 pub record Holds (Q R : Tree → Type 0) : Type 0 where

@@ -3,7 +3,7 @@ pub mod Members
 pub mod NameLemmas
 pub mod Visits
 pub mod StepLemmas
-pub mod UnknownLemmas
+pub mod NoteLemmas
 pub mod TableNames
 pub mod ObjectLemmas
 pub mod Rows
@@ -13,9 +13,11 @@ pub mod Kept
 pub mod Shallow
 pub mod Tries
 pub mod Named
-pub mod Subsequence
+pub mod Ordered
+pub mod Repeats
 pub mod Distinct
 pub mod PlansKept
 pub mod Linked
 pub mod LinksKept
+pub mod Whole
 pub mod Sorting

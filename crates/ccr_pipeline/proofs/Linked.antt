@@ -28,7 +28,7 @@ use Rattle.ccr_pipeline.proofs.Inside.{Inside, Opened, opened, Planned, planned}
 use Rattle.ccr_pipeline.proofs.Kept.{Holds, Leaves, action-kept, hooks-kept, plan-kept}
 use Rattle.ccr_pipeline.proofs.Named.{opened_own}
 use Rattle.ccr_pipeline.proofs.Rows.{nil_left, nil_right, passes, new_name, must_text, may_text}
-use Rattle.ccr_pipeline.proofs.UnknownLemmas.{unknown_append}
+use Rattle.ccr_pipeline.proofs.NoteLemmas.{unknown_append}
 use Rattle.ccr_pipeline.proofs.Unfaulted.{IsUnfaulted, unfaulted_parts, unfaulted_plan, unfaulted_hooks}
 
 -- a text that is there is known, where no fault says otherwise

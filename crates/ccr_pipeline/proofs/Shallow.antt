@@ -45,7 +45,7 @@ in_attempts : (n : ℕ) (o : Option ℕ) (t : Tree) → Within n t → Within n 
 in_attempts n None t h = h
 in_attempts n (Some m) t h = h
 
-no_level : (names : List (List ℕ)) (p : Path) (d : Data) → opening_faults names p 0 d ≡ [] → ⊥
+pub no_level : (names : List (List ℕ)) (p : Path) (d : Data) → opening_faults names p 0 d ≡ [] → ⊥
 unfolding opening_faults shape_faults
 no_level names p d e =
     let shape : shape_faults p 0 d ≡ [] = nil_left _ _ e in

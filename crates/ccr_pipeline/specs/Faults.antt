@@ -37,6 +37,11 @@ fault_of (Unsupported p) = Some (rule.Supported, string_bytes p)
 fault_of (NumberNotWhole p) = Some (rule.Whole, string_bytes p)
 fault_of NoMemory = None
 
+-- the first of the faults, if there is one
+abbrev pub first : Faults → Option (Rule × Path)
+first [] = None
+first (f ∷ fs) = Some f
+
 -- the first of the faults is this one, if it is one of the text
 abbrev pub StartsWith : Faults → Option (Rule × Path) → Type 0
 StartsWith fs None = ⊤

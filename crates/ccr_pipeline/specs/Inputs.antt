@@ -1,6 +1,6 @@
 -- The inputs of a job: its gets in the order of the plan.
 use Rattle.std.specs.Prelude.{Bool, List, [], ◌∷◌, ◌++◌, length, ◌&&◌, nat_le, map, string_bytes}
-use Rattle.ccr_pipeline.specs.declared.check_job.TheConstants.{MOST_INPUTS}
+use Rattle.ccr_pipeline.specs.declared.read_job.TheConstants.{MOST_INPUTS}
 use Rattle.ccr_pipeline.specs.declared.input.Input.{Input}
 use Rattle.ccr_pipeline.specs.declared.step.When.TheVariants.{OnError, OnAbort}
 use Rattle.ccr_pipeline.specs.Names.{with_names}

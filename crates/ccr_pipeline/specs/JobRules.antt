@@ -5,9 +5,7 @@ use Rattle.serde_json.specs.Data.{Data, Items, no_items, item}
 use Rattle.serde_json.specs.Events.{items_len}
 use Rattle.serde_json.specs.Find.{as_array}
 use Rattle.ccr_pipeline.specs.declared.fault.Rule.TheVariants as rule
-use Rattle.ccr_pipeline.specs.declared.check_job.Member.{Member}
-use Rattle.ccr_pipeline.specs.declared.check_job.Member.TheVariants.{Resource, Job}
-use Rattle.ccr_pipeline.specs.declared.check_job.TheConstants.{MOST_MEMBERS}
+use Rattle.ccr_pipeline.specs.declared.lists.TheConstants.{MOST_MEMBERS}
 use Rattle.ccr_pipeline.specs.declared.schema.Schema.TheVariants as schema
 use Rattle.ccr_pipeline.specs.declared.schema.TheConstants.{NESTED}
 use Rattle.ccr_pipeline.specs.Faults.{Path, Faults, unless}
@@ -19,40 +17,42 @@ use Rattle.ccr_pipeline.specs.Objects.{key_faults, object_faults, value_faults}
 use Rattle.ccr_pipeline.specs.Places.{plan_steps, job_hooks, gets_at}
 use Rattle.ccr_pipeline.specs.Schema.{closing}
 use Rattle.ccr_pipeline.specs.StepRules.{visits}
+use Rattle.ccr_pipeline.specs.Tree.{Tree}
 
--- at most 32 inputs, which name at most 32 jobs
-unfoldable pub too_many : Path → Data → Faults
-too_many p d = unless (are_few (inputs (plan_from d))) rule.Number (path_below p (codes "plan"))
+-- a plan has at most 32 inputs, which name at most 32 jobs
+abbrev pub too_many : Path → Tree → Faults
+too_many p t = unless (are_few (inputs t)) rule.Number (path_below p (codes "plan"))
 
 -- the job's keys after its plan, its hooks, and the number of its inputs and named jobs, where the plan's gets have
 -- these names
 unfoldable pub after_plan : List (List ℕ) → Path → Data → Faults
 after_plan gets p d =
-    key_faults (value_faults NESTED) [] (closing schema.Job) p d ++ (visits gets (job_hooks p d) ++ too_many p d)
+    key_faults (value_faults NESTED) [] (closing schema.Job) p d
+    ++ (visits gets (job_hooks p d) ++ too_many p (plan_from d))
 
 -- the steps of the plan, and what comes after it
 unfoldable pub job_rest : Path → Data → Faults
 job_rest p d = visits [] (plan_steps p d) ++ after_plan (flat_map gets_at (plan_steps p d)) p d
 
--- what is broken in a member of one list or the other, after those of these names
-abbrev pub member_faults : Member → List (List ℕ) → Path → Data → Faults
-member_faults Resource names p d = object_faults (value_faults NESTED) names schema.Resource p d
-member_faults Job names p d = object_faults (value_faults NESTED) names schema.Job p d ++ job_rest p d
+-- what is broken in a resource, after those of these names
+abbrev pub resource_faults : List (List ℕ) → Path → Data → Faults
+resource_faults names p d = object_faults (value_faults NESTED) names schema.Resource p d
 
--- resources or jobs from position i on, after those of these names
-abbrev pub members : Member → List (List ℕ) → Path → ℕ → Items → Faults
-members m names p i no_items = []
-members m names p i (item d ds) =
-    member_faults m names (path_at p i) d ++ members m (names ++ names_at (codes "name") d) p (i + 1) ds
+-- what is broken in a job, after those of these names
+abbrev pub job_faults : List (List ℕ) → Path → Data → Faults
+job_faults names p d = object_faults (value_faults NESTED) names schema.Job p d ++ job_rest p d
 
--- at most 200 of them
-unfoldable pub member_items : Member → List (List ℕ) → Path → Items → Faults
-member_items m names p ds = unless (nat_le (items_len ds) MOST_MEMBERS) rule.Number p ++ members m names p 0 ds
+-- what is broken in the members of a list from position i on, each by one, after those of these names
+abbrev pub members : (List (List ℕ) → Path → Data → Faults) → List (List ℕ) → Path → ℕ → Items → Faults
+members one names p i no_items = []
+members one names p i (item d ds) =
+    one names (path_at p i) d ++ members one (names ++ names_at (codes "name") d) p (i + 1) ds
 
--- the list at a key of the pipeline
-abbrev pub member_list : Member → List ℕ → Data → Faults
-member_list m k d =
-    or_else (at_key k d) [] (λ found. or_else (as_array found) (unless false rule.Kind k) (member_items m [] k))
+-- a list of at most 200 members, if anything stands at the key
+unfoldable pub list_rule : List ℕ → Data → Faults
+list_rule k d = or_else (at_key k d) [] (λ found.
+    or_else (as_array found) (unless false rule.Kind k)
+    (λ ds. unless (nat_le (items_len ds) MOST_MEMBERS) rule.Number k))
 
 -- the names of a list's members that have one
 abbrev pub names_in : Items → List (List ℕ)

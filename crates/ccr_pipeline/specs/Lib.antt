@@ -11,13 +11,14 @@ pub mod Hooks
 pub mod Tree
 pub mod Meaning
 pub mod Steps
-pub mod Plans
 pub mod Inputs
+pub mod Plans
 pub mod Limits
 pub mod JobData
 pub mod Links
 pub mod JobRules
 pub mod Unknown
 pub mod Unused
+pub mod Notes
 pub mod Pipelines
 pub mod Reading

@@ -2,7 +2,7 @@
 use Rattle.std.specs.Prelude.{◌≤◌, List, [], ◌∷◌, ◌++◌, length, map}
 use Rattle.std.specs.List.{All, AllPass, IsDistinct}
 use Rattle.std.specs.Str.{bytes_eq}
-use Rattle.ccr_pipeline.specs.declared.check_job.TheConstants.{MOST_MEMBERS}
+use Rattle.ccr_pipeline.specs.declared.lists.TheConstants.{MOST_MEMBERS}
 use Rattle.ccr_pipeline.specs.JobData.{ResourceData, JobData}
 use Rattle.ccr_pipeline.specs.Names.{has_name}
 use Rattle.ccr_pipeline.specs.Tree.{Text, Tree, Trees, get, put, task, in_order, in_parallel, tried, attempts, hook, no_trees, tree}

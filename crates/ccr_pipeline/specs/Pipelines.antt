@@ -1,13 +1,14 @@
 -- What a pipeline is read as, where no fault is present in it.
-use Rattle.std.specs.Prelude.{◌≡◌, ℕ, List, [], ◌∷◌, map, string_bytes, codes, IsTrue, ◌&&◌, ⊤}
+use Rattle.std.specs.Prelude.{◌≡◌, ℕ, List, [], ◌∷◌, map, string_bytes, codes, IsTrue, ◌&&◌}
 use Rattle.serde_json.specs.Data.{Data, Items, no_items, item}
 use Rattle.ccr_pipeline.specs.declared.pipeline.Pipeline.{Pipeline}
+use Rattle.ccr_pipeline.specs.Inputs.{inputs}
 use Rattle.ccr_pipeline.specs.JobData.{ResourceData, resource_data, JobData, job_data}
 use Rattle.ccr_pipeline.specs.Keys.{list_at}
 use Rattle.ccr_pipeline.specs.Meaning.{text_or, texts_from, truth_from, whole_from, object_at, pin_from}
 use Rattle.ccr_pipeline.specs.Kinds.{is_name}
 use Rattle.ccr_pipeline.specs.Limits.{IsPlan}
-use Rattle.ccr_pipeline.specs.Plans.{plan_from}
+use Rattle.ccr_pipeline.specs.Plans.{plan_from, inputs_read}
 use Rattle.ccr_pipeline.specs.Tree.{Text}
 use Rattle.ccr_pipeline.specs.Unused.{unused_in, IsSortedOnce}
 
@@ -56,11 +57,6 @@ IsJob d = IsTrue (is_name (text_or [] (codes "name") d)) × IsPlan (plan_from d)
 abbrev pub IsResource : Data → Type 0
 IsResource d = IsTrue (is_name (text_or [] (codes "name") d) && is_name (text_or [] (codes "type") d))
 
--- each member of a list is so
-abbrev pub EachItem : (Data → Type 0) → Items → Type 0
-EachItem Is no_items = ⊤
-EachItem Is (item d ds) = Is d × EachItem Is ds
-
 -- what a pipeline shows: the bytes read, the paths of its unused keys, its resources and its jobs
 pub record PipelineData : Type 0 where
   pub text : List ℕ
@@ -83,3 +79,5 @@ pub record IsPipelineOf (text : List ℕ) (d : Data) (p : PipelineData) : Type 0
   pub resources : p.resources ≡ resources_from d
   pub jobs : p.jobs ≡ jobs_from d
   pub unused : IsSortedOnce (unused_in d) p.unused
+  -- the inputs of each job are the gets of its text, in the order in which they are read
+  pub inputs : map (λ j. inputs j.plan) p.jobs ≡ inputs_read 0 (list_at (codes "jobs") d)

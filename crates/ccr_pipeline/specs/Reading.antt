@@ -5,21 +5,25 @@ use Rattle.serde_json.specs.Find.{as_object}
 use Rattle.serde_json.specs.Read.{read as json}
 use Rattle.ccr_pipeline.specs.declared.fault.Rule.{Rule}
 use Rattle.ccr_pipeline.specs.declared.fault.Rule.TheVariants as rule
-use Rattle.ccr_pipeline.specs.declared.check_job.Member.TheVariants.{Resource, Job}
 use Rattle.ccr_pipeline.specs.declared.reader.TheConstants.{MOST_BYTES}
 use Rattle.ccr_pipeline.specs.Faults.{Path, Faults, unless, StartsWith}
-use Rattle.ccr_pipeline.specs.JobRules.{member_list, list_names}
+use Rattle.ccr_pipeline.specs.JobRules.{resource_faults, job_faults, members, list_rule, list_names}
+use Rattle.ccr_pipeline.specs.Keys.{list_at}
 use Rattle.ccr_pipeline.specs.Unknown.{unknown_in}
 
--- the resources, the jobs, and then the names that the jobs mention
-unfoldable pub list_faults : Data → Faults
-list_faults d =
-    member_list Resource (codes "resources") d ++ (member_list Job (codes "jobs") d
-    ++ unknown_in (list_names (codes "resources") d) (list_names (codes "jobs") d) d)
+-- what is broken before the jobs: a pipeline is an object with a list of resources and a list of jobs
+unfoldable pub faults_before : Data → Faults
+faults_before d =
+    unless (is_some (as_object d)) rule.Kind (codes "pipeline")
+    ++ (list_rule (codes "resources") d
+    ++ (members resource_faults [] (codes "resources") 0 (list_at (codes "resources") d)
+    ++ list_rule (codes "jobs") d))
 
--- a pipeline is an object
+-- what is broken before the jobs, in the jobs, and then in the names that they mention
 unfoldable pub pipeline_faults : Data → Faults
-pipeline_faults d = unless (is_some (as_object d)) rule.Kind (codes "pipeline") ++ list_faults d
+pipeline_faults d =
+    faults_before d ++ (members job_faults [] (codes "jobs") 0 (list_at (codes "jobs") d)
+    ++ unknown_in (list_names (codes "resources") d) (list_names (codes "jobs") d) d)
 
 -- the bytes are the text of a JSON value: no more than a text may have, and they spell it
 abbrev pub IsTextOf : List ℕ → Data → Type 0

@@ -7,9 +7,11 @@ ghost use Rattle.ccr_pipeline.specs.Tree.{tree_of, trees_of, hook};
 ghost use Rattle.ccr_pipeline.specs.Steps.{with_attempts, with_hook, with_hooks, each_tree, parallel_items};
 ghost use Rattle.ccr_pipeline.specs.Steps.{holder, action, step_tree};
 ghost use Rattle.ccr_pipeline.specs.Hooks.{hook_key};
+ghost use Rattle.ccr_pipeline.specs.Plans.{plan_from};
 
 use crate::build::{get, put, task, truth};
 use crate::key::{at_key, items_in, list_at};
+use crate::place::LEVELS;
 use crate::step::{Step, When};
 use serde_json::Value;
 use std::alloc::{AllocError, Global};
@@ -57,12 +59,7 @@ fn add_hook(
 /// The step in its hooks, innermost `on_success`, outermost `ensure`.
 #[cycle(build)]
 #[tactic(auto, unfolding(crate::specs::Steps::with_hooks))]
-pub(crate) fn add_hooks(
-    alloc: Global,
-    value: &Value,
-    step: Step,
-    left: u32,
-) -> Result<Step, AllocError>
+fn add_hooks(alloc: Global, value: &Value, step: Step, left: u32) -> Result<Step, AllocError>
     ensures { IfOk result
         (λ s. tree_of s ≡ with_hooks (step_tree left) (view value.now) (tree_of step)) }
 {
@@ -75,7 +72,7 @@ pub(crate) fn add_hooks(
 
 /// The steps of a list.
 #[cycle(build)]
-pub(crate) fn steps_of(alloc: Global, list: &[Value], left: u32) -> Result<Vec<Step>, AllocError>
+fn steps_of(alloc: Global, list: &[Value], left: u32) -> Result<Vec<Step>, AllocError>
     ensures { IfOk result (λ v. map tree_of v.items ≡ each_tree (step_tree left) (items_view list.now)) }
 {
     let mut steps = Vec::new(alloc);
@@ -145,4 +142,13 @@ fn step_of(alloc: Global, step: &Value, left: u32) -> Result<Step, AllocError>
     let action = action_of(alloc, step, left - 1)?;
     let tried = add_attempts(alloc, step, action)?;
     add_hooks(alloc, step, tried, left - 1)
+}
+
+/// The plan that a job's tested text is: a `do`, in the job's hooks.
+#[tactic(auto, unfolding(crate::specs::Plans::plan_from))]
+pub(crate) fn plan(alloc: Global, job: &Value) -> Result<Step, AllocError>
+    ensures { IfOk result (λ s. tree_of s ≡ plan_from (view job.now)) }
+{
+    let steps = steps_of(alloc, list_at(job, "plan"), LEVELS)?;
+    add_hooks(alloc, job, Step::Do(steps), LEVELS)
 }

@@ -18,24 +18,24 @@
 #![tactic(auto)]
 
 mod build;
-mod build_job;
 mod build_step;
-mod check_job;
 mod check_step;
 mod copy;
 mod fault;
 mod input;
 mod key;
 mod kind;
+mod lists;
 mod names;
+mod notes;
 mod object;
 mod parts;
 mod pipeline;
 mod place;
+mod read_job;
 mod reader;
 mod resource;
 mod schema;
-mod second_walk;
 mod step;
 mod task;
 mod unknown;

@@ -1,9 +1,9 @@
 //! Where the steps of a job stand in its text.
-ghost use Rattle.std.specs.Prelude.{◌≡◌, [], ◌∷◌, ◌++◌, length, drop, codes, OnOk, IfOk, string_bytes};
+ghost use Rattle.std.specs.Prelude.{◌≡◌, [], ◌∷◌, ◌++◌, length, drop, codes, OnOk, string_bytes};
 ghost use Rattle.serde_json.specs.View.{view, items_view};
 ghost use Rattle.ccr_pipeline.specs.Keys.{at_key, or_else, list_at, path_below, path_at};
 ghost use Rattle.ccr_pipeline.specs.Places.{spots, spot_of, counted, tries_below, steps_from, steps_in, step_at};
-ghost use Rattle.ccr_pipeline.specs.Places.{own_steps, hook_steps, plan_steps, job_hooks};
+ghost use Rattle.ccr_pipeline.specs.Places.{own_steps, hook_steps};
 
 use crate::key::{at_key, list_at, path_at, path_below};
 use serde_json::Value;
@@ -194,19 +194,4 @@ fn push_steps<'v>(
     push_own(alloc, out, step, path, left - 1, below)?;
     push(alloc, out, Part::Closing, step, path, left, tries)?;
     push_hooks(alloc, out, step, path, left - 1, below)
-}
-
-/// The places of the steps of a job: those of its plan, and then those of its hooks.
-pub(crate) fn places_in<'v>(
-    alloc: Global,
-    job: &'v Value,
-    path: &str,
-) -> Result<Vec<Place<'v>>, AllocError>
-    ensures { IfOk result
-        (λ v. spots v.items ≡ plan_steps path.now (view job.now) ++ job_hooks path.now (view job.now)) }
-{
-    let mut places = Vec::new(alloc);
-    push_list(alloc, &mut places, job, path, "plan", LEVELS, 1)?;
-    push_hooks(alloc, &mut places, job, path, LEVELS, 1)?;
-    Ok(places)
 }

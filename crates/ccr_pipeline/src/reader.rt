@@ -1,27 +1,23 @@
 //! Reading of pipelines and of task files.
 ghost use Rattle.std.specs.Prelude.{◌≡◌, ◌++◌, [], length, map, IfOk, IfErr, string_bytes, codes};
 ghost use Rattle.serde_json.specs.View.{view};
-ghost use Rattle.ccr_pipeline.specs.Faults.{unless, Checks, ChecksAs, StartsWith, IsFirst, fault_of};
-ghost use Rattle.ccr_pipeline.specs.JobRules.{member_list, list_names};
+ghost use Rattle.ccr_pipeline.specs.Faults.{unless, Checks, StartsWith, IsFirst, fault_of};
+ghost use Rattle.ccr_pipeline.specs.JobRules.{job_faults, members};
 ghost use Rattle.ccr_pipeline.specs.Meaning.{config_from};
-ghost use Rattle.ccr_pipeline.specs.Objects.{object_faults, value_faults};
 ghost use Rattle.ccr_pipeline.specs.Pipelines.{pipeline_data, IsPipelineOf};
+ghost use Rattle.ccr_pipeline.specs.Reading.{faults_before, pipeline_faults, IsTextOf, IsNoValue, Refuses, IsReading};
 ghost use Rattle.ccr_pipeline.specs.TaskRules.{config_faults};
 ghost use Rattle.ccr_pipeline.specs.Tree.{config_data};
-ghost use Rattle.ccr_pipeline.specs.Names.{names_of as texts_of};
-ghost use Rattle.ccr_pipeline.specs.Unknown.{unknown_in};
-ghost use Rattle.ccr_pipeline.specs.Unused.{unused_in, IsSortedOnce};
-ghost use Rattle.ccr_pipeline.specs.Reading.{pipeline_faults, list_faults, IsTextOf, IsNoValue, Refuses, IsReading};
 
 use crate::build;
-use crate::build_job::{jobs, resources};
-use crate::check_job::{Member, check_member_list};
 use crate::fault::{ReadFault, Rule};
 use crate::key::require;
+use crate::lists::{Before, job_list, read_before};
+use crate::notes::unused_of;
 use crate::object::check_alone;
 use crate::pipeline::Pipeline;
+use crate::read_job::read_jobs;
 use crate::schema::Schema;
-use crate::second_walk::walk_again;
 use crate::task::TaskConfig;
 use serde_json::Value;
 use std::alloc::Global;
@@ -42,25 +38,27 @@ fn value_of(alloc: Global, text: &[u8], path: &str) -> Result<Value, ReadFault>
     }
 }
 
-/// Refuses the first fault of the resources, the jobs and the names that these mention; else gives the keys without
-/// effect.
-#[tactic(auto, using(crate::proofs::Faulted::first_append), unfolding(crate::specs::Reading::list_faults))]
-fn check_lists(alloc: Global, pipeline: &Value) -> Result<Vec<String>, ReadFault>
-    ensures checked { Checks (list_faults (view pipeline.now)) result }
-    ensures unused { IfOk result (λ v. IsSortedOnce (unused_in (view pipeline.now)) (texts_of v.items)) }
-{
-    let resources = check_member_list(alloc, Member::Resource, pipeline, "resources")?;
-    let jobs = check_member_list(alloc, Member::Job, pipeline, "jobs")?;
-    walk_again(alloc, &resources, &jobs, pipeline)
-}
-
+/// Reads a pipeline from the value of its text.
 #[tactic(auto, using(crate::proofs::Faulted::first_append), unfolding(crate::specs::Reading::pipeline_faults))]
-fn check_pipeline(alloc: Global, pipeline: &Value) -> Result<Vec<String>, ReadFault>
-    ensures checked { Checks (pipeline_faults (view pipeline.now)) result }
-    ensures unused { IfOk result (λ v. IsSortedOnce (unused_in (view pipeline.now)) (texts_of v.items)) }
+fn read_value(alloc: Global, text: &[u8], value: Value) -> Result<Pipeline, ReadFault>
+    ensures checked { Checks (pipeline_faults (view value)) result }
+    ensures read { IfOk result (λ p. IsPipelineOf text.now (view value) (pipeline_data p)) }
 {
-    require(alloc, pipeline.is_object(), Rule::Kind, "pipeline")?;
-    check_lists(alloc, pipeline)
+    let before = read_before(alloc, &value)?;
+    let Before {
+        known,
+        notes,
+        resources,
+    } = before;
+    let mut notes = notes;
+    let jobs = read_jobs(alloc, &known, &mut notes, job_list(alloc, value))?;
+    let unused = unused_of(notes)?;
+    Ok(Pipeline {
+        text: Vec::from_slice(alloc, text)?,
+        unused,
+        resources,
+        jobs,
+    })
 }
 
 /// Reads a pipeline from JSON, as `fly get-pipeline --json` prints it (Concourse: pipeline schema).
@@ -79,15 +77,7 @@ pub fn read(alloc: Global, text: &[u8]) -> Result<Pipeline, ReadFault>
         (λ fault. Refuses (codes "pipeline") pipeline_faults text.now (fault_of fault)) }
 {
     let value = value_of(alloc, text, "pipeline")?;
-    let unused = check_pipeline(alloc, &value)?;
-    let resources = resources(alloc, &value)?;
-    let jobs = jobs(alloc, value)?;
-    Ok(Pipeline {
-        text: Vec::from_slice(alloc, text)?,
-        unused,
-        resources,
-        jobs,
-    })
+    read_value(alloc, text, value)
 }
 
 /// Reads a task file from JSON (Concourse: tasks).

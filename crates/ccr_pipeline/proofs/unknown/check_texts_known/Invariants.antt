@@ -1,8 +1,0 @@
-use Rattle.std.proofs.Common.{◌≡◌}
-use Rattle.serde_json.specs.View.{items_view}
-use Rattle.ccr_pipeline.specs.Unknown.{unknown_texts}
-use Rattle.ccr_history.proofs.Items.{left}
-use Rattle.ccr_pipeline.proofs.unknown.check_texts_known.Given as goal
-
-abbrev pub invariant-loop-i : goal.invariant-loop-i
-invariant-loop-i l = unknown_texts l.jobs l.path 0 (items_view l.list) ≡ unknown_texts l.jobs l.path l.i (left l.i l.list)
