@@ -127,7 +127,7 @@ module _ (d : Data) (none : pipeline_faults d ≡ []) where
   unfolding pipeline_faults
   after = nil_right (faults_before d) _ none
 
-  pub in_jobs : members job_faults [] (codes "jobs") 0 (list_at (codes "jobs") d) ≡ []
+  in_jobs : members job_faults [] (codes "jobs") 0 (list_at (codes "jobs") d) ≡ []
   in_jobs = nil_left _ _ after
 
   resources_named : list_names (codes "resources") d ≡ resource_names (resources_from d)

@@ -11,7 +11,8 @@ use Rattle.ccr_pipeline.specs.JobRules.{resource_faults, job_faults, members, li
 use Rattle.ccr_pipeline.specs.Keys.{list_at}
 use Rattle.ccr_pipeline.specs.Unknown.{unknown_in}
 
--- what is broken before the jobs: a pipeline is an object with a list of resources and a list of jobs
+-- what is broken before the jobs: a pipeline is an object, its resources are a list and keep their rules, and its jobs
+-- are a list
 unfoldable pub faults_before : Data → Faults
 faults_before d =
     unless (is_some (as_object d)) rule.Kind (codes "pipeline")
