@@ -5,8 +5,6 @@ use Rattle.std.specs.List.{flat_map}
 use Rattle.std.specs.Option.{IfSome}
 use Rattle.serde_json.specs.Data.{Data}
 use Rattle.serde_json.specs.Find.{as_str}
-use Rattle.ccr_pipeline.specs.declared.place.Part.{Part}
-use Rattle.ccr_pipeline.specs.declared.place.Part.TheVariants.{Opening, Closing}
 use Rattle.ccr_pipeline.specs.declared.schema.Schema.TheVariants as schema
 use Rattle.ccr_pipeline.specs.Faults.{Path}
 use Rattle.ccr_pipeline.specs.Inputs.{InputData, input_from}
@@ -16,7 +14,7 @@ use Rattle.ccr_pipeline.specs.Limits.{HasDistinctInputs}
 use Rattle.ccr_pipeline.specs.Meaning.{get_from}
 use Rattle.ccr_pipeline.specs.Names.{has_name, text_at}
 use Rattle.ccr_pipeline.specs.Objects.{key_faults, value_faults}
-use Rattle.ccr_pipeline.specs.Places.{Spot, gets_by, gets_at, plan_steps, job_hooks}
+use Rattle.ccr_pipeline.specs.Places.{Part, Opening, Closing, Spot, gets_by, gets_at, plan_steps, job_hooks}
 use Rattle.ccr_pipeline.specs.Plans.{plan_from, input_by, input_at}
 use Rattle.ccr_pipeline.specs.Schema.{closing}
 use Rattle.ccr_pipeline.specs.StepRules.{visit_by, visit_faults, visits, own_keys}
@@ -25,7 +23,7 @@ use Rattle.ccr_pipeline.proofs.Named.{opened_own, get_named}
 use Rattle.ccr_pipeline.proofs.Ordered.{ordered_inputs}
 use Rattle.ccr_pipeline.proofs.Repeats.{NoRepeat, distinct, with_text}
 use Rattle.ccr_pipeline.proofs.Rows.{nil_left, nil_right}
-use Rattle.ccr_pipeline.proofs.Unfaulted.{visits-append}
+use Rattle.ccr_pipeline.proofs.Visits.{visits-append}
 
 if_there : (P : Text → Type 0) (o : Option Data) → (is_some o ≡ true → IfSome (option_and_then as_str o) P) → IfSome (option_and_then as_str o) P
 if_there P None h = tt

@@ -2,10 +2,9 @@
 use Rattle.std.proofs.Common.{ℕ, suc, ◌+◌, List, [], ◌∷◌, ◌++◌, Option, Some, None, codes}
 use Rattle.std.specs.Option.{IfSome}
 use Rattle.serde_json.specs.Data.{Data, Items, no_items, item}
-use Rattle.ccr_pipeline.specs.declared.place.Part.TheVariants.{Opening, Closing}
 use Rattle.ccr_pipeline.specs.Faults.{Path}
 use Rattle.ccr_pipeline.specs.Keys.{at_key, or_else, list_at, path_below, path_at}
-use Rattle.ccr_pipeline.specs.Places.{Spot, spot_of, each_step, steps_in, step_at, own_steps, hook_steps, steps_from, plan_steps, job_hooks, tries_below}
+use Rattle.ccr_pipeline.specs.Places.{Opening, Closing, Spot, spot_of, each_step, steps_in, step_at, own_steps, hook_steps, steps_from, plan_steps, job_hooks, tries_below}
 
 -- each member of a list is so
 abbrev pub EachItem : (Data → Type 0) → Items → Type 0

@@ -1,9 +1,9 @@
 pub mod Faulted
 pub mod Members
 pub mod NameLemmas
-pub mod Visits
 pub mod StepLemmas
 pub mod NoteLemmas
+pub mod Visits
 pub mod TableNames
 pub mod ObjectLemmas
 pub mod Rows
@@ -21,3 +21,9 @@ pub mod Linked
 pub mod LinksKept
 pub mod Whole
 pub mod Sorting
+pub mod UsedKeys
+pub mod UsedValues
+pub mod UsedSteps
+pub mod UsedMeaning
+pub mod UsedVisits
+pub mod Used

@@ -5,7 +5,6 @@ use Rattle.std.specs.List.{AllByRecursion, AllPass}
 use Rattle.serde_json.specs.Data.{Data, Items, no_items, item}
 use Rattle.serde_json.specs.Find.{as_number, as_str, as_u64}
 use Rattle.ccr_pipeline.specs.declared.fault.Rule.TheVariants as rule
-use Rattle.ccr_pipeline.specs.declared.place.Part.TheVariants.{Opening}
 use Rattle.ccr_pipeline.specs.declared.schema.Kind.TheVariants as kind
 use Rattle.ccr_pipeline.specs.declared.schema.Need.TheVariants.{New, Must}
 use Rattle.ccr_pipeline.specs.declared.schema.Schema.TheVariants as schema
@@ -17,7 +16,7 @@ use Rattle.ccr_pipeline.specs.Links.{used_resources, used_resources_in, passed_j
 use Rattle.ccr_pipeline.specs.Meaning.{text_or, texts_from}
 use Rattle.ccr_pipeline.specs.Names.{has_name, text_at, texts_in}
 use Rattle.ccr_pipeline.specs.Objects.{row_faults, key_faults, value_faults}
-use Rattle.ccr_pipeline.specs.Places.{Spot, spot_of, plan_steps, job_hooks, tries_below}
+use Rattle.ccr_pipeline.specs.Places.{Opening, Spot, spot_of, plan_steps, job_hooks, tries_below}
 use Rattle.ccr_pipeline.specs.Plans.{plan_from}
 use Rattle.ccr_pipeline.specs.Schema.{opening}
 use Rattle.ccr_pipeline.specs.StepRules.{own_keys, opening_faults}

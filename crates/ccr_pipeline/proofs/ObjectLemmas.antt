@@ -1,12 +1,14 @@
 -- Values that hold objects, level by level.
-use Rattle.std.proofs.Common.{◌≡◌, ℕ, zero, suc, ◌-◌, ◌<◌, List, [], ◌++◌, refl, arith}
+use Rattle.std.proofs.Common.{◌≡◌, ℕ, zero, suc, ◌-◌, ◌<◌, List, [], ◌++◌, refl, arith, Bor, drop, drop-cons, get_or, length}
 use Rattle.serde_json.specs.Data.{Data}
 use Rattle.ccr_pipeline.specs.declared.fault.ReadFault.{ReadFault}
+use Rattle.ccr_pipeline.specs.declared.schema.Need.{Need}
 use Rattle.ccr_pipeline.specs.declared.schema.Kind.{Kind}
 use Rattle.ccr_pipeline.specs.declared.schema.Kind.TheVariants as kind
 use Rattle.ccr_pipeline.specs.declared.schema.Schema.{Schema}
 use Rattle.ccr_pipeline.specs.Faults.{Path, IsFirst}
-use Rattle.ccr_pipeline.specs.Objects.{Test, broken, inside, value_faults}
+use Rattle.ccr_pipeline.specs.Objects.{Test, broken, row_faults, key_faults, inside, value_faults}
+use Rattle.ccr_pipeline.specs.Schema.{rows}
 use Rattle.ccr_pipeline.specs.Unused.{unused_value}
 use Rattle.ccr_pipeline.proofs.Faulted.{first_append}
 
@@ -14,6 +16,11 @@ pub value_first : (left : ℕ) (k : Kind) (p : Path) (whole d : Data) (e : ReadF
 unfolding value_faults
 value_first zero k p whole d e h = h
 value_first (suc n) k p whole d e h = first_append (broken k p d) (inside (value_faults n) k p whole d) e h
+
+-- the first fault at a key of a table is the first of the keys from there on
+pub rows_first : (test : Test) (names : List (List ℕ)) (table : List (Need × Kind × Bor (List ℕ))) (i : ℕ) (x : Need × Kind × Bor (List ℕ)) (p : Path) (d : Data) (e : ReadFault) → i < length table → IsFirst (row_faults test names ((get_or table i x).0, (get_or table i x).1, (get_or table i x).2.now) p d) e → IsFirst (key_faults test names (rows (drop i table)) p d) e
+rows_first test names table i x p d e h first =
+    rw (drop-cons table i x h) (first_append (row_faults test names ((get_or table i x).0, (get_or table i x).1, (get_or table i x).2.now) p d) _ e first)
 
 pub value_inside : (left : ℕ) (k : Kind) (p : Path) (whole d : Data) → 0 < left → value_faults left k p whole d ≡ broken k p d ++ inside (value_faults (left - 1)) k p whole d
 unfolding value_faults

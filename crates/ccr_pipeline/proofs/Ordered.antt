@@ -8,7 +8,6 @@ use Rattle.std.specs.Option.{IfSome}
 use Rattle.serde_json.specs.Data.{Data, null, boolean, number, string, array, object, Items, no_items, item}
 use Rattle.serde_json.specs.Find.{as_number, as_u64}
 use Rattle.ccr_pipeline.specs.declared.fault.Rule.TheVariants as rule
-use Rattle.ccr_pipeline.specs.declared.place.Part.TheVariants.{Opening, Closing}
 use Rattle.ccr_pipeline.specs.declared.schema.Schema.TheVariants as schema
 use Rattle.ccr_pipeline.specs.declared.step.When.{When}
 use Rattle.ccr_pipeline.specs.declared.step.When.TheVariants.{OnSuccess, OnFailure, OnError, OnAbort, Ensure}
@@ -20,7 +19,7 @@ use Rattle.ccr_pipeline.specs.Meaning.{truth_from, get_from, put_from, task_from
 use Rattle.ccr_pipeline.specs.Names.{names_at}
 use Rattle.ccr_pipeline.specs.Objects.{object_faults, value_faults}
 use Rattle.ccr_pipeline.specs.Pipelines.{job_from, jobs_in}
-use Rattle.ccr_pipeline.specs.Places.{Spot, spot_of, each_step, steps_in, step_at, own_steps, hook_steps, steps_from, plan_steps, job_hooks, tries_below}
+use Rattle.ccr_pipeline.specs.Places.{Opening, Closing, Spot, spot_of, each_step, steps_in, step_at, own_steps, hook_steps, steps_from, plan_steps, job_hooks, tries_below}
 use Rattle.ccr_pipeline.specs.Plans.{plan_from, input_by, input_at, inputs_read}
 use Rattle.ccr_pipeline.specs.StepRules.{kinds, shape_faults, kind_faults, own_keys, opening_faults}
 use Rattle.ccr_pipeline.specs.Steps.{step_tree, with_hook, with_hooks, with_attempts, each_tree, parallel_items, holder, action}

@@ -1,6 +1,5 @@
 -- Where no fault is present in a step's visits, none is in those of the steps in it.
-use Rattle.std.proofs.Common.{◌≡◌, ℕ, suc, List, [], ◌∷◌, ◌++◌, refl, append_assoc}
-use Rattle.std.proofs.lemmas.List.{append-nil}
+use Rattle.std.proofs.Common.{◌≡◌, ℕ, suc, List, [], ◌++◌}
 use Rattle.std.specs.List.{flat_map}
 use Rattle.serde_json.specs.Data.{Data}
 use Rattle.ccr_pipeline.specs.declared.schema.Schema.TheVariants as schema
@@ -12,10 +11,7 @@ use Rattle.ccr_pipeline.specs.Schema.{closing}
 use Rattle.ccr_pipeline.specs.StepRules.{visits, opening_faults, closing_faults}
 use Rattle.ccr_pipeline.proofs.Inside.{OwnSteps, Hooks, Inside, Opened as OpenedBy, opened as opened_by, Planned as PlannedBy, planned as planned_by}
 use Rattle.ccr_pipeline.proofs.Rows.{nil_left, nil_right}
-
-pub visits-append : (names : List (List ℕ)) (xs ys : List Spot) → visits names (xs ++ ys) ≡ visits names xs ++ visits (names ++ flat_map gets_at xs) ys
-visits-append names [] ys = rw append-nil refl
-visits-append names (x ∷ xs) ys = rw (visits-append (names ++ gets_at x) xs ys, append_assoc, append_assoc) refl
+use Rattle.ccr_pipeline.proofs.Visits.{visits-append}
 
 -- no fault is present in visits, after gets of some names
 abbrev pub IsUnfaulted : List Spot → Type 0

@@ -9,7 +9,6 @@ use Rattle.ccr_pipeline.specs.Names.{with_names}
 use Rattle.ccr_pipeline.specs.Notes.{NotesData, with_visits, IsBefore}
 use Rattle.ccr_pipeline.specs.Places.{all_steps}
 use Rattle.ccr_pipeline.specs.Reading.{faults_before, pipeline_faults}
-use Rattle.ccr_pipeline.specs.Tree.{Text}
 use Rattle.ccr_pipeline.specs.Unknown.{unknown_in}
 use Rattle.ccr_pipeline.specs.Unused.{unused_in}
 use Rattle.ccr_pipeline.proofs.Faulted.{first_append, no_first, starts_first}
@@ -28,11 +27,11 @@ module _ (d : Data) (before : faults_before d ≡ []) where
     all_known = all_added [] (list_names (codes "jobs") d) (job_names_once [] 0 (list_at (codes "jobs") d) none)
 
     -- what is noted of all jobs, after what was noted before them
-    module _ (resources jobs : List Text) (old new : NotesData) (known : IsBefore d resources jobs old) (noted : new ≡ with_visits resources jobs old (all_steps d)) where
+    module _ (old new : NotesData) (known : IsBefore d old) (noted : new ≡ with_visits old (all_steps d)) where
       -- what is noted is the first name that isn't there
       noted_unknown : new.unknown ≡ first (unknown_in (list_names (codes "resources") d) (list_names (codes "jobs") d) d)
       unfolding with_visits
-      noted_unknown = rw (noted, known.known_resources, known.known_jobs ∙ all_known, known.unknown) refl
+      noted_unknown = rw (noted, known.resources, known.jobs ∙ all_known, known.unknown) refl
 
       pub noted_unused : new.unused ≡ unused_in d
       unfolding with_visits unused_in

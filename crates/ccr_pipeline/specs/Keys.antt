@@ -2,6 +2,9 @@
 use Rattle.std.specs.Prelude.{ℕ, List, [], ◌∷◌, ◌++◌, Option, Some, None, option_and_then, is_some, if◌then◌else◌, decimal}
 use Rattle.serde_json.specs.Data.{Data, Items, no_items}
 use Rattle.serde_json.specs.Find.{as_null, as_array, get}
+use Rattle.ccr_pipeline.specs.declared.place.Place.{Place}
+use Rattle.ccr_pipeline.specs.declared.place.Place.TheOpen.{Place-F}
+use Rattle.ccr_pipeline.specs.declared.place.Place.TheFolds.{fold-Place}
 use Rattle.ccr_pipeline.specs.Faults.{Path}
 
 -- the value, unless it is null
@@ -33,3 +36,13 @@ path_below (c ∷ p) k = (c ∷ p) ++ 46 ∷ k
 -- the path of a member of the list at a path: its position in brackets
 abbrev pub path_at : Path → ℕ → Path
 path_at p i = p ++ 91 ∷ (decimal i ++ 93 ∷ [])
+
+-- the path of a place, those above it having theirs
+abbrev pub path_step : Place-F Path → Path
+path_step (Place-F.Top p) = p.now
+path_step (Place-F.Key above k) = path_below above.now k.now
+path_step (Place-F.Member above i) = path_at above.now i
+
+-- the path of a place
+unfoldable pub path_of : Place → Path
+path_of = fold-Place Path path_step

@@ -19,6 +19,7 @@ pub mod Links
 pub mod JobRules
 pub mod Unknown
 pub mod Unused
+pub mod Used
 pub mod Notes
-pub mod Pipelines
 pub mod Reading
+pub mod Pipelines

@@ -3,7 +3,8 @@ use Rattle.std.specs.Prelude.{ℕ, suc, max, ◌*◌, ◌≤◌, List, [], ◌�
 use Rattle.std.specs.Coded.{×_prop, Unit-prop, le_prop}
 use Rattle.std.specs.List.{AllPass, IsDistinct}
 use Rattle.std.specs.Str.{bytes_eq}
-use Rattle.ccr_pipeline.specs.declared.place.TheConstants.{LEVELS, MOST_ATTEMPTS, MOST_TRIES}
+use Rattle.ccr_pipeline.specs.declared.check_step.TheConstants.{MOST_ATTEMPTS, MOST_TRIES}
+use Rattle.ccr_pipeline.specs.declared.walk.TheConstants.{LEVELS}
 use Rattle.ccr_pipeline.specs.Inputs.{inputs, are_few}
 use Rattle.ccr_pipeline.specs.Kinds.{is_name}
 use Rattle.ccr_pipeline.specs.Tree.{Text, SourceData, config, file, Tree, Trees, get, put, task, in_order, in_parallel, tried, attempts, hook, no_trees, tree}

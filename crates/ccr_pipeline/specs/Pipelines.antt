@@ -9,7 +9,9 @@ use Rattle.ccr_pipeline.specs.Meaning.{text_or, texts_from, truth_from, whole_fr
 use Rattle.ccr_pipeline.specs.Kinds.{is_name}
 use Rattle.ccr_pipeline.specs.Limits.{IsPlan}
 use Rattle.ccr_pipeline.specs.Plans.{plan_from, inputs_read}
+use Rattle.ccr_pipeline.specs.Reading.{pipeline_faults}
 use Rattle.ccr_pipeline.specs.Tree.{Text}
+use Rattle.ccr_pipeline.specs.Used.{used_pipeline}
 use Rattle.ccr_pipeline.specs.Unused.{unused_in, IsSortedOnce}
 
 -- a resource
@@ -57,6 +59,12 @@ IsJob d = IsTrue (is_name (text_or [] (codes "name") d)) × IsPlan (plan_from d)
 abbrev pub IsResource : Data → Type 0
 IsResource d = IsTrue (is_name (text_or [] (codes "name") d) && is_name (text_or [] (codes "type") d))
 
+-- two values have the same faults, and are read as the same resources and jobs
+pub record SaysTheSame (e d : Data) : Type 0 where
+  pub faults : pipeline_faults e ≡ pipeline_faults d
+  pub resources : resources_from e ≡ resources_from d
+  pub jobs : jobs_from e ≡ jobs_from d
+
 -- what a pipeline shows: the bytes read, the paths of its unused keys, its resources and its jobs
 pub record PipelineData : Type 0 where
   pub text : List ℕ
@@ -79,5 +87,7 @@ pub record IsPipelineOf (text : List ℕ) (d : Data) (p : PipelineData) : Type 0
   pub resources : p.resources ≡ resources_from d
   pub jobs : p.jobs ≡ jobs_from d
   pub unused : IsSortedOnce (unused_in d) p.unused
+  -- it would be read as the same without its keys that have no effect, however many levels down they are taken away
+  pub effectless : (n : ℕ) → SaysTheSame (used_pipeline n d) d
   -- the inputs of each job are the gets of its text, in the order in which they are read
   pub inputs : map (λ j. inputs j.plan) p.jobs ≡ inputs_read 0 (list_at (codes "jobs") d)

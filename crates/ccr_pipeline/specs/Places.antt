@@ -2,14 +2,17 @@
 use Rattle.std.specs.Prelude.{ℕ, zero, suc, ◌+◌, ◌*◌, min, List, [], ◌∷◌, ◌++◌, map, ◌&&◌, nat_le, option_and_then, string_bytes, codes, if◌then◌else◌}
 use Rattle.serde_json.specs.Data.{Data, Items, no_items, item}
 use Rattle.serde_json.specs.Find.{as_number, as_u64}
-use Rattle.serde_json.specs.View.{view}
-use Rattle.ccr_pipeline.specs.declared.place.Part.{Part}
-use Rattle.ccr_pipeline.specs.declared.place.Part.TheVariants.{Opening, Closing}
-use Rattle.ccr_pipeline.specs.declared.place.Place.{Place}
-use Rattle.ccr_pipeline.specs.declared.place.TheConstants.{LEVELS, MOST_ATTEMPTS, MOST_TRIES}
+use Rattle.ccr_pipeline.specs.declared.check_step.TheConstants.{MOST_ATTEMPTS, MOST_TRIES}
+use Rattle.ccr_pipeline.specs.declared.walk.TheConstants.{LEVELS}
 use Rattle.ccr_pipeline.specs.Faults.{Path}
 use Rattle.ccr_pipeline.specs.Keys.{at_key, or_else, list_at, path_below, path_at}
 use Rattle.ccr_pipeline.specs.Names.{names_at}
+
+-- the two visits of a step in the order of reading: at its keys before the steps that they hold, and at those after
+-- these steps, before its hooks
+pub data Part : Type 0 where
+  Opening : Part
+  Closing : Part
 
 -- a visit of a step: its path, how many levels are left, the product of the attempts above it, and its text
 pub record Spot : Type 0 where
@@ -22,14 +25,6 @@ pub record Spot : Type 0 where
 -- a visit, made of its parts
 abbrev pub spot_of : Part → Path → ℕ → ℕ → Data → Spot
 spot_of x p n t d = record { part = x; path = p; levels = n; tries = t; step = d }
-
--- the visit that a place stands for
-abbrev pub spot : Place → Spot
-spot x = spot_of x.part (string_bytes x.path) x.left x.tries (view x.step.now)
-
--- the visits that places stand for
-abbrev pub spots : List Place → List Spot
-spots xs = map spot xs
 
 -- what attempts count for the steps below: 1 where they aren't from 1 to 100
 abbrev pub counted : Data → ℕ

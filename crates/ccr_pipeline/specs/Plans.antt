@@ -2,13 +2,11 @@
 use Rattle.std.specs.Prelude.{ℕ, ◌+◌, List, [], ◌∷◌, ◌++◌, is_some, codes, if◌then◌else◌}
 use Rattle.std.specs.List.{flat_map}
 use Rattle.serde_json.specs.Data.{Data, Items, no_items, item}
-use Rattle.ccr_pipeline.specs.declared.place.Part.{Part}
-use Rattle.ccr_pipeline.specs.declared.place.Part.TheVariants.{Opening, Closing}
-use Rattle.ccr_pipeline.specs.declared.place.TheConstants.{LEVELS}
+use Rattle.ccr_pipeline.specs.declared.walk.TheConstants.{LEVELS}
 use Rattle.ccr_pipeline.specs.Inputs.{InputData, input_from}
 use Rattle.ccr_pipeline.specs.Keys.{at_key, list_at, path_at}
 use Rattle.ccr_pipeline.specs.Meaning.{get_from}
-use Rattle.ccr_pipeline.specs.Places.{Spot, plan_steps, job_hooks}
+use Rattle.ccr_pipeline.specs.Places.{Part, Opening, Closing, Spot, plan_steps, job_hooks}
 use Rattle.ccr_pipeline.specs.Steps.{with_hooks, each_tree, step_tree}
 use Rattle.ccr_pipeline.specs.Tree.{Tree, in_order, trees_of}
 

@@ -4,15 +4,13 @@ use Rattle.serde_json.specs.Data.{Data}
 use Rattle.serde_json.specs.Find.{as_object, as_number, as_u64, as_i64}
 use Rattle.ccr_pipeline.specs.declared.fault.Rule.{Rule}
 use Rattle.ccr_pipeline.specs.declared.fault.Rule.TheVariants as rule
-use Rattle.ccr_pipeline.specs.declared.place.Part.{Part}
-use Rattle.ccr_pipeline.specs.declared.place.Part.TheVariants.{Opening, Closing}
-use Rattle.ccr_pipeline.specs.declared.place.TheConstants.{MOST_ATTEMPTS, MOST_TRIES}
+use Rattle.ccr_pipeline.specs.declared.check_step.TheConstants.{MOST_ATTEMPTS, MOST_TRIES}
 use Rattle.ccr_pipeline.specs.declared.schema.Schema.TheVariants as schema
 use Rattle.ccr_pipeline.specs.declared.schema.TheConstants.{NESTED}
 use Rattle.ccr_pipeline.specs.Faults.{Path, Faults, unless}
 use Rattle.ccr_pipeline.specs.Keys.{at_key, or_else, path_below}
 use Rattle.ccr_pipeline.specs.Objects.{key_faults, value_faults}
-use Rattle.ccr_pipeline.specs.Places.{Spot, gets_at}
+use Rattle.ccr_pipeline.specs.Places.{Part, Opening, Closing, Spot, gets_at}
 use Rattle.ccr_pipeline.specs.Schema.{opening, closing, schema_of}
 
 -- the keys that say a step's kind

@@ -3,12 +3,10 @@ use Rattle.std.specs.Prelude.{ℕ, ◌+◌, List, [], ◌∷◌, ◌++◌, ◌||
 use Rattle.serde_json.specs.Data.{Data, Items, no_items, item}
 use Rattle.serde_json.specs.Find.{as_str}
 use Rattle.ccr_pipeline.specs.declared.fault.Rule.TheVariants as rule
-use Rattle.ccr_pipeline.specs.declared.place.Part.{Part}
-use Rattle.ccr_pipeline.specs.declared.place.Part.TheVariants.{Opening, Closing}
 use Rattle.ccr_pipeline.specs.Faults.{Path, Faults, unless}
 use Rattle.ccr_pipeline.specs.Keys.{at_key, or_else, list_at, path_below, path_at}
 use Rattle.ccr_pipeline.specs.Names.{text_at, has_name}
-use Rattle.ccr_pipeline.specs.Places.{Spot, all_steps}
+use Rattle.ccr_pipeline.specs.Places.{Part, Opening, Closing, Spot, all_steps}
 
 -- the key that names the resource of a get or put
 abbrev pub name_key : Data → List ℕ
@@ -34,9 +32,13 @@ unfoldable pub unknown_passed : List (List ℕ) → Path → Data → Faults
 unknown_passed jobs p d = if is_some (at_key (codes "get") d) then
     unknown_texts jobs (path_below p (codes "passed")) 0 (list_at (codes "passed") d) else []
 
--- the first of the two visits of a step tells what it names that isn't there
+-- what a step names that isn't there
+abbrev pub unknown_names : List (List ℕ) → List (List ℕ) → Path → Data → Faults
+unknown_names resources jobs p d = unknown_resource resources p d ++ unknown_passed jobs p d
+
+-- the first of the two visits of a step tells it
 abbrev pub unknown_by : Part → List (List ℕ) → List (List ℕ) → Path → Data → Faults
-unknown_by Opening resources jobs p d = unknown_resource resources p d ++ unknown_passed jobs p d
+unknown_by Opening resources jobs p d = unknown_names resources jobs p d
 unknown_by Closing resources jobs p d = []
 
 -- what the visited steps name that isn't there, in the order of the visits

@@ -6,8 +6,6 @@ use Rattle.std.specs.List.Sorted.{IsStrictlySortedBy}
 use Rattle.std.specs.Ordering.{nat_cmp}
 use Rattle.serde_json.specs.Data.{Data, Items, no_items, item, Members, no_members, member}
 use Rattle.serde_json.specs.Find.{as_null, as_object}
-use Rattle.ccr_pipeline.specs.declared.place.Part.{Part}
-use Rattle.ccr_pipeline.specs.declared.place.Part.TheVariants.{Opening, Closing}
 use Rattle.ccr_pipeline.specs.declared.schema.Kind.{Kind}
 use Rattle.ccr_pipeline.specs.declared.schema.Kind.TheVariants as kind
 use Rattle.ccr_pipeline.specs.declared.schema.Schema.{Schema}
@@ -15,7 +13,7 @@ use Rattle.ccr_pipeline.specs.declared.schema.Schema.TheVariants as schema
 use Rattle.ccr_pipeline.specs.declared.schema.TheConstants.{NESTED}
 use Rattle.ccr_pipeline.specs.Faults.{Path}
 use Rattle.ccr_pipeline.specs.Keys.{at_key, or_else, items_in, path_below, path_at}
-use Rattle.ccr_pipeline.specs.Places.{Spot, all_steps}
+use Rattle.ccr_pipeline.specs.Places.{Part, Opening, Closing, Spot, all_steps}
 use Rattle.ccr_pipeline.specs.Schema.{Row, opening, has_key, schema_of}
 
 -- an object's members at keys that it can't have, unless null stands there

@@ -11,8 +11,8 @@ ghost use Rattle.ccr_pipeline.specs.Plans.{plan_from};
 
 use crate::build::{get, put, task, truth};
 use crate::key::{at_key, items_in, list_at};
-use crate::place::LEVELS;
 use crate::step::{Step, When};
+use crate::walk::LEVELS;
 use serde_json::Value;
 use std::alloc::{AllocError, Global};
 

@@ -3,12 +3,13 @@ ghost use Rattle.std.specs.Prelude.{◌≡◌, ◌++◌, [], length, drop, optio
 ghost use Rattle.std.specs.List.{list_all};
 ghost use Rattle.serde_json.specs.View.{view, items_view, members_view};
 ghost use Rattle.ccr_pipeline.specs.Faults.{unless, Checks, StartsWith, IsFirst, fault_of};
-ghost use Rattle.ccr_pipeline.specs.Keys.{or_else, path_below, path_at};
+ghost use Rattle.ccr_pipeline.specs.Keys.{or_else, path_below, path_at, path_of};
 ghost use Rattle.ccr_pipeline.specs.Kinds.{is_name, is_name_byte, is_text, broken_texts, broken_fields, broken_pin, is_empty};
 ghost use Rattle.ccr_pipeline.specs.Objects.{broken};
 
 use crate::fault::{ReadFault, Rule};
-use crate::key::{path_at, path_below, require_at};
+use crate::key::require;
+use crate::place::Place;
 use crate::schema::Kind;
 use ccr_history::has_float;
 use serde_json::Value;
@@ -40,13 +41,12 @@ pub(crate) fn is_name(text: &str) -> bool
     has_name_bytes(text.as_bytes())
 }
 
-fn check_texts(alloc: Global, list: &[Value], path: &str, key: &str) -> Result<(), ReadFault>
-    ensures { Checks (broken_texts (path_below path.now key.now) 0 (items_view list.now)) result }
+fn check_texts(alloc: Global, list: &[Value], place: &Place) -> Result<(), ReadFault>
+    ensures { Checks (broken_texts (path_of place.now) 0 (items_view list.now)) result }
 {
     for (i, member) in list.iter().enumerate() {
         if !member.is_string() {
-            let below = path_below(alloc, path, key)?;
-            return Err(ReadFault::of(Rule::Kind, path_at(alloc, below.as_str(), i)?));
+            return require(alloc, false, Rule::Kind, &place.member(i));
         }
     }
     Ok(())
@@ -55,19 +55,14 @@ fn check_texts(alloc: Global, list: &[Value], path: &str, key: &str) -> Result<(
 fn check_fields(
     alloc: Global,
     members: &BTreeMap<String, Value>,
-    path: &str,
-    key: &str,
+    place: &Place,
 ) -> Result<(), ReadFault>
-    ensures { Checks (broken_fields (path_below path.now key.now) (members_view members.now.entries))
+    ensures { Checks (broken_fields (path_of place.now) (members_view members.now.entries))
         result }
 {
     for (field, member) in members.iter() {
         if !member.is_string() {
-            let below = path_below(alloc, path, key)?;
-            return Err(ReadFault::of(
-                Rule::Kind,
-                path_below(alloc, below.as_str(), field.as_str())?,
-            ));
+            return require(alloc, false, Rule::Kind, &place.key(field.as_str()));
         }
     }
     Ok(())
@@ -79,12 +74,12 @@ fn is_empty(members: &BTreeMap<String, Value>) -> bool
     members.len() == 0
 }
 
-fn check_pin(alloc: Global, found: &Value, path: &str, key: &str) -> Result<(), ReadFault>
-    ensures { Checks (broken_pin (path_below path.now key.now) (view found.now)) result }
+fn check_pin(alloc: Global, found: &Value, place: &Place) -> Result<(), ReadFault>
+    ensures { Checks (broken_pin (path_of place.now) (view found.now)) result }
 {
     match found.as_object() {
-        Some(members) => check_fields(alloc, members, path, key),
-        None => require_at(alloc, false, Rule::Kind, path, key),
+        Some(members) => check_fields(alloc, members, place),
+        None => require(alloc, false, Rule::Kind, place),
     }
 }
 
@@ -94,47 +89,40 @@ pub(crate) fn check(
     alloc: Global,
     kind: Kind,
     found: &Value,
-    path: &str,
-    key: &str,
+    place: &Place,
 ) -> Result<(), ReadFault>
-    ensures { Checks (broken kind (path_below path.now key.now) (view found.now)) result }
+    ensures { Checks (broken kind (path_of place.now) (view found.now)) result }
 {
     match kind {
-        Kind::Text | Kind::OwnName => require_at(alloc, found.is_string(), Rule::Kind, path, key),
-        Kind::Steps | Kind::Objects(_) => require_at(
-            alloc,
-            found.is_array(),
-            Rule::Kind,
-            path,
-            key,
-        ),
-        Kind::Truth => require_at(alloc, found.is_boolean(), Rule::Kind, path, key),
-        Kind::Whole => require_at(alloc, found.is_u64(), Rule::Kind, path, key),
+        Kind::Text | Kind::OwnName => require(alloc, found.is_string(), Rule::Kind, place),
+        Kind::Steps | Kind::Objects(_) => require(alloc, found.is_array(), Rule::Kind, place),
+        Kind::Truth => require(alloc, found.is_boolean(), Rule::Kind, place),
+        Kind::Whole => require(alloc, found.is_u64(), Rule::Kind, place),
         Kind::Name => match found.as_str() {
-            Some(text) => require_at(alloc, is_name(text), Rule::Name, path, key),
-            None => require_at(alloc, false, Rule::Kind, path, key),
+            Some(text) => require(alloc, is_name(text), Rule::Name, place),
+            None => require(alloc, false, Rule::Kind, place),
         },
         Kind::Texts => match found.as_array() {
-            Some(list) => check_texts(alloc, list, path, key),
-            None => require_at(alloc, false, Rule::Kind, path, key),
+            Some(list) => check_texts(alloc, list, place),
+            None => require(alloc, false, Rule::Kind, place),
         },
         Kind::Params => match found.as_object() {
-            Some(_) => require_at(alloc, !has_float(found), Rule::Whole, path, key),
-            None => require_at(alloc, false, Rule::Kind, path, key),
+            Some(_) => require(alloc, !has_float(found), Rule::Whole, place),
+            None => require(alloc, false, Rule::Kind, place),
         },
-        Kind::Fields => check_pin(alloc, found, path, key),
+        Kind::Fields => check_pin(alloc, found, place),
         Kind::Nothing => match found.as_object() {
-            Some(members) => require_at(alloc, is_empty(members), Rule::Supported, path, key),
-            None => require_at(alloc, false, Rule::Kind, path, key),
+            Some(members) => require(alloc, is_empty(members), Rule::Supported, place),
+            None => require(alloc, false, Rule::Kind, place),
         },
         Kind::Wanted => match found.as_str() {
             Some(text) => {
                 let is_word = text == "latest" || text == "every";
-                require_at(alloc, is_word, Rule::Kind, path, key)
+                require(alloc, is_word, Rule::Kind, place)
             }
-            None => check_pin(alloc, found, path, key),
+            None => check_pin(alloc, found, place),
         },
-        Kind::Undone => require_at(alloc, false, Rule::Supported, path, key),
+        Kind::Undone => require(alloc, false, Rule::Supported, place),
         Kind::Object(_) | Kind::Parallel | Kind::Step | Kind::Attempts | Kind::Any => Ok(()),
     }
 }

@@ -40,6 +40,7 @@ mod step;
 mod task;
 mod unknown;
 mod unused;
+mod walk;
 
 pub use fault::ReadFault;
 pub use input::{Input, inputs_of};

@@ -6,7 +6,7 @@ ghost use Rattle.serde_json.specs.View.{view, items_view, members_view};
 ghost use Rattle.ccr_pipeline.specs.Faults.{unless, Checks, ChecksAs, StartsWith, IsFirst, fault_of};
 ghost use Rattle.ccr_pipeline.specs.JobData.{resource_data};
 ghost use Rattle.ccr_pipeline.specs.JobRules.{resource_faults, members, list_rule, names_in, list_names};
-ghost use Rattle.ccr_pipeline.specs.Keys.{at_key, or_else, list_at, path_at};
+ghost use Rattle.ccr_pipeline.specs.Keys.{at_key, or_else, list_at, path_at, path_of};
 ghost use Rattle.ccr_pipeline.specs.Names.{names_at, with_names};
 ghost use Rattle.ccr_pipeline.specs.Notes.{notes_data, IsBefore};
 ghost use Rattle.ccr_pipeline.specs.Objects.{object_faults, value_faults, new_names};
@@ -16,13 +16,13 @@ ghost use Rattle.ccr_pipeline.specs.Schema.{opening};
 
 use crate::build::{object, pin, text};
 use crate::fault::{ReadFault, Rule};
-use crate::key::{at_key, list_at, path_at, require};
+use crate::key::{at_key, list_at, require};
 use crate::names::{Names, text_at};
 use crate::notes::Notes;
 use crate::object::check_object;
+use crate::place::Place;
 use crate::resource::Resource;
 use crate::schema::{NESTED, Schema};
-use crate::unknown::Known;
 use crate::unused::push_pipeline;
 use serde_json::Value;
 use std::alloc::{AllocError, Global};
@@ -47,8 +47,8 @@ fn check_list(alloc: Global, pipeline: &Value, key: &str) -> Result<(), ReadFaul
         return Ok(());
     };
     match found.as_array() {
-        Some(list) => require(alloc, are_few(list), Rule::Number, key),
-        None => require(alloc, false, Rule::Kind, key),
+        Some(list) => require(alloc, are_few(list), Rule::Number, &Place::top(key)),
+        None => require(alloc, false, Rule::Kind, &Place::top(key)),
     }
 }
 
@@ -82,13 +82,13 @@ fn read_resource(
     alloc: Global,
     names: &mut Names,
     value: &Value,
-    path: &str,
+    place: &Place,
 ) -> Result<Resource, ReadFault>
-    ensures checked { ChecksAs (resource_faults names.old path.now (view value.now))
+    ensures checked { ChecksAs (resource_faults names.old (path_of place.now) (view value.now))
         (resource_from (view value.now)) resource_data result }
     ensures named { OnOk result (names.new ≡ names.old ++ names_at (codes "name") (view value.now)) }
 {
-    check_object(alloc, NESTED, Schema::Resource, names, value, path)?;
+    check_object(alloc, NESTED, Schema::Resource, names, value, place)?;
     Ok(resource(alloc, value)?)
 }
 
@@ -105,8 +105,7 @@ fn read_resources(
 {
     let mut resources = Vec::new(alloc);
     for (i, value) in list.iter().enumerate() {
-        let path = path_at(alloc, "resources", i)?;
-        let resource = read_resource(alloc, names, value, path.as_str())?;
+        let resource = read_resource(alloc, names, value, &Place::top("resources").member(i))?;
         resources.push(resource)?;
     }
     Ok(resources)
@@ -115,7 +114,6 @@ fn read_resources(
 /// What is read of a pipeline before its jobs.
 #[derive(Drop)]
 pub(crate) struct Before {
-    pub(crate) known: Known,
     pub(crate) notes: Notes,
     pub(crate) resources: Vec<Resource>,
 }
@@ -124,12 +122,16 @@ pub(crate) struct Before {
 #[tactic(auto, using(crate::proofs::Faulted::first_append), unfolding(crate::specs::Reading::faults_before))]
 pub(crate) fn read_before(alloc: Global, pipeline: &Value) -> Result<Before, ReadFault>
     ensures checked { Checks (faults_before (view pipeline.now)) result }
-    ensures known { IfOk result (λ before. IsBefore (view pipeline.now)
-        before.known.resources before.known.jobs (notes_data before.notes)) }
+    ensures known { IfOk result (λ before. IsBefore (view pipeline.now) (notes_data before.notes)) }
     ensures read { IfOk result
         (λ before. map resource_data before.resources.items ≡ resources_from (view pipeline.now)) }
 {
-    require(alloc, pipeline.is_object(), Rule::Kind, "pipeline")?;
+    require(
+        alloc,
+        pipeline.is_object(),
+        Rule::Kind,
+        &Place::top("pipeline"),
+    )?;
     check_list(alloc, pipeline, "resources")?;
     let mut names = Names::new(alloc);
     let resources = read_resources(alloc, &mut names, list_at(pipeline, "resources"))?;
@@ -139,11 +141,10 @@ pub(crate) fn read_before(alloc: Global, pipeline: &Value) -> Result<Before, Rea
     let mut unused = Vec::new(alloc);
     push_pipeline(alloc, &mut unused, pipeline)?;
     Ok(Before {
-        known: Known {
+        notes: Notes {
             resources: names,
             jobs,
-        },
-        notes: Notes {
+            gets: Names::new(alloc),
             unknown: None,
             unused,
         },

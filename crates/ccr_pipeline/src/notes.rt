@@ -1,41 +1,50 @@
 //! What is noted of jobs while they are read, and told once all of them are.
-ghost use Rattle.std.specs.Prelude.{◌≡◌, None, option_map, map, OnOk, IfOk, IfErr, string_bytes};
-ghost use Rattle.std.specs.Option.{option_or};
-ghost use Rattle.std.specs.List.{flat_map};
+ghost use Rattle.std.specs.Prelude.{◌≡◌, None, OnOk, IfOk, IfErr};
+ghost use Rattle.serde_json.specs.View.{view};
 ghost use Rattle.ccr_pipeline.specs.Faults.{fault_of};
+ghost use Rattle.ccr_pipeline.specs.Keys.{path_of};
 ghost use Rattle.ccr_pipeline.specs.Names.{names_of as texts_of};
-ghost use Rattle.ccr_pipeline.specs.Notes.{notes_data, with_visits};
-ghost use Rattle.ccr_pipeline.specs.Places.{spots};
+ghost use Rattle.ccr_pipeline.specs.Notes.{notes_data, with_step};
 ghost use Rattle.ccr_pipeline.specs.Unused.{IsSortedOnce};
 
 use crate::fault::{ReadFault, Rule};
+use crate::names::Names;
 use crate::place::Place;
-use crate::unknown::{Known, keep_unknown};
-use crate::unused::{push_places, sorted_once};
+use crate::unknown::unknown_name;
+use crate::unused::{push_step, sorted_once};
+use serde_json::Value;
 use std::alloc::{AllocError, Global};
 
-/// What is noted: it is told after all jobs, whose own faults come first.
+/// What is known while jobs are read, and what is noted: it is told after all jobs, whose own faults come first.
 #[derive(Drop)]
 pub(crate) struct Notes {
+    /// The names of the pipeline's resources.
+    pub(crate) resources: Names,
+    /// The names of its jobs.
+    pub(crate) jobs: Names,
+    /// The names of the gets that were met in the job that is read.
+    pub(crate) gets: Names,
     /// The first name that a step mentions and that isn't there.
     pub(crate) unknown: Option<(Rule, String)>,
     /// The paths of the keys without effect, in the order in which they were met.
     pub(crate) unused: Vec<String>,
 }
 
-/// Notes the visited steps.
-#[tactic(auto, unfolding(crate::specs::Notes::with_visits))]
-pub(crate) fn note_places(
+/// Notes a step; the steps that it holds are noted for themselves.
+#[tactic(auto, using(crate::proofs::NoteLemmas::told_or), unfolding(crate::specs::Notes::with_step))]
+pub(crate) fn note_step(
     alloc: Global,
-    known: &Known,
     notes: &mut Notes,
-    places: &[Place],
+    step: &Value,
+    place: &Place,
 ) -> Result<(), AllocError>
-    ensures { OnOk result (notes_data notes.new ≡ with_visits known.now.resources known.now.jobs
-        (notes_data notes.old) (spots places.now)) }
+    ensures noted { OnOk result
+        (notes_data notes.new ≡ with_step (notes_data notes.old) (path_of place.now) (view step.now)) }
+    ensures gets { OnOk result (notes.new.gets ≡ notes.old.gets) }
 {
-    keep_unknown(alloc, known, &mut notes.unknown, places)?;
-    push_places(alloc, &mut notes.unused, places)
+    let found = unknown_name(alloc, &notes.resources, &notes.jobs, step, place)?;
+    notes.unknown = notes.unknown.take().or(found);
+    push_step(alloc, &mut notes.unused, step, place)
 }
 
 /// The keys without effect, ascending by bytes, each once; refuses the name that isn't there, if one was noted.
@@ -44,7 +53,11 @@ pub(crate) fn unused_of(notes: Notes) -> Result<Vec<String>, ReadFault>
     ensures unknown { IfErr result (λ fault. fault_of fault ≡ (notes_data notes).unknown) }
     ensures sorted { IfOk result (λ v. IsSortedOnce (notes_data notes).unused (texts_of v.items)) }
 {
-    let Notes { unknown, unused } = notes;
+    let Notes {
+        unknown,
+        unused,
+        ..
+    } = notes;
     if let Some((rule, path)) = unknown {
         return Err(ReadFault::of(rule, path));
     }

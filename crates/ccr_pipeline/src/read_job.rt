@@ -1,17 +1,16 @@
 //! Jobs, checked and built together.
 ghost use Rattle.std.specs.Prelude.{◌≡◌, ◌++◌, ◌+◌, ◌∷◌, [], length, drop, map, codes, string_bytes, IfOk, OnOk};
-ghost use Rattle.std.specs.List.{flat_map};
 ghost use Rattle.serde_json.specs.View.{view, items_view};
 ghost use Rattle.ccr_pipeline.specs.Faults.{unless, Checks, ChecksAs, StartsWith, IsFirst, fault_of};
 ghost use Rattle.ccr_pipeline.specs.Inputs.{are_few, input_data, inputs, named_jobs};
 ghost use Rattle.ccr_pipeline.specs.JobData.{job_data};
 ghost use Rattle.ccr_pipeline.specs.JobRules.{too_many, after_plan, job_rest, job_faults, members};
-ghost use Rattle.ccr_pipeline.specs.Keys.{at_key, or_else, list_at, path_below, path_at};
+ghost use Rattle.ccr_pipeline.specs.Keys.{at_key, or_else, list_at, path_below, path_at, path_of};
 ghost use Rattle.ccr_pipeline.specs.Names.{names_at, with_names};
-ghost use Rattle.ccr_pipeline.specs.Notes.{notes_data, with_visits};
+ghost use Rattle.ccr_pipeline.specs.Notes.{notes_data, with_visits, Walks};
 ghost use Rattle.ccr_pipeline.specs.Objects.{key_faults, object_faults, value_faults, new_names};
 ghost use Rattle.ccr_pipeline.specs.Pipelines.{job_from, jobs_in, IsJob};
-ghost use Rattle.ccr_pipeline.specs.Places.{spots, plan_steps, job_hooks, job_steps, gets_at};
+ghost use Rattle.ccr_pipeline.specs.Places.{plan_steps, job_hooks, job_steps, gets_at};
 ghost use Rattle.ccr_pipeline.specs.Plans.{plan_from};
 ghost use Rattle.ccr_pipeline.specs.Schema.{opening, closing};
 ghost use Rattle.ccr_pipeline.specs.StepRules.{visits};
@@ -20,18 +19,17 @@ ghost use Rattle.ccr_pipeline.specs.declared.schema.Schema.TheVariants as schema
 
 use crate::build::{text, texts, truth, whole};
 use crate::build_step::plan;
-use crate::check_step::check_places;
 use crate::fault::{ReadFault, Rule};
 use crate::input::{Input, inputs_in};
-use crate::key::{path_at, require_at};
+use crate::key::require;
 use crate::names::Names;
-use crate::notes::{Notes, note_places};
+use crate::notes::Notes;
 use crate::object::{check_keys, check_object};
-use crate::place::{LEVELS, Place, push_hooks, push_list};
+use crate::place::Place;
 use crate::resource::Job;
 use crate::schema::{NESTED, Schema, closing};
 use crate::step::Step;
-use crate::unknown::Known;
+use crate::walk::{LEVELS, read_hooks, read_list};
 use serde_json::Value;
 use std::alloc::{AllocError, Global};
 use std::rc::Rc;
@@ -69,113 +67,57 @@ fn are_few_inputs(alloc: Global, inputs: &[Input]) -> Result<bool, AllocError>
 }
 
 /// Refuses a plan with too many inputs or named jobs.
-fn check_number(alloc: Global, plan: &Step, path: &str) -> Result<(), ReadFault>
-    ensures { Checks (too_many path.now (tree_of plan.now)) result }
+fn check_number(alloc: Global, plan: &Step, place: &Place) -> Result<(), ReadFault>
+    ensures { Checks (too_many (path_of place.now) (tree_of plan.now)) result }
 {
     let inputs = inputs_in(alloc, plan)?;
     let fit = are_few_inputs(alloc, &inputs)?;
-    require_at(alloc, fit, Rule::Number, path, "plan")
+    require(alloc, fit, Rule::Number, &place.key("plan"))
 }
 
 /// The plan of a job whose steps are tested.
-fn read_plan(alloc: Global, job: &Value, path: &str) -> Result<Step, ReadFault>
-    ensures { ChecksAs (too_many path.now (plan_from (view job.now))) (plan_from (view job.now)) tree_of result }
+fn read_plan(alloc: Global, job: &Value, place: &Place) -> Result<Step, ReadFault>
+    ensures { ChecksAs (too_many (path_of place.now) (plan_from (view job.now))) (plan_from (view job.now)) tree_of
+        result }
 {
     let plan = plan(alloc, job)?;
-    check_number(alloc, &plan, path)?;
+    check_number(alloc, &plan, place)?;
     Ok(plan)
 }
 
-/// Refuses the first rule that visited steps break, adds the names of their gets, and notes the steps.
-fn read_places(
-    alloc: Global,
-    known: &Known,
-    notes: &mut Notes,
-    gets: &mut Names,
-    places: &[Place],
-) -> Result<(), ReadFault>
-    ensures checked { Checks (visits gets.old (spots places.now)) result }
-    ensures added { OnOk result (gets.new ≡ gets.old ++ flat_map gets_at (spots places.now)) }
-    ensures noted { OnOk result (notes_data notes.new ≡ with_visits known.now.resources known.now.jobs
-        (notes_data notes.old) (spots places.now)) }
-{
-    check_places(alloc, gets, places)?;
-    note_places(alloc, known, notes, places)?;
-    Ok(())
-}
-
-/// Reads the steps of a job's plan.
-fn read_steps(
-    alloc: Global,
-    known: &Known,
-    notes: &mut Notes,
-    gets: &mut Names,
-    job: &Value,
-    path: &str,
-) -> Result<(), ReadFault>
-    ensures checked { Checks (visits gets.old (plan_steps path.now (view job.now))) result }
-    ensures added { OnOk result (gets.new ≡ gets.old ++ flat_map gets_at (plan_steps path.now (view job.now))) }
-    ensures noted { OnOk result (notes_data notes.new ≡ with_visits known.now.resources known.now.jobs
-        (notes_data notes.old) (plan_steps path.now (view job.now))) }
-{
-    let mut places = Vec::new(alloc);
-    push_list(alloc, &mut places, job, path, "plan", LEVELS, 1)?;
-    read_places(alloc, known, notes, gets, &places)
-}
-
-/// Reads the steps of a job's hooks, after gets of these names.
-fn read_hooks(
-    alloc: Global,
-    known: &Known,
-    notes: &mut Notes,
-    gets: &mut Names,
-    job: &Value,
-    path: &str,
-) -> Result<(), ReadFault>
-    ensures checked { Checks (visits gets.old (job_hooks path.now (view job.now))) result }
-    ensures noted { OnOk result (notes_data notes.new ≡ with_visits known.now.resources known.now.jobs
-        (notes_data notes.old) (job_hooks path.now (view job.now))) }
-{
-    let mut places = Vec::new(alloc);
-    push_hooks(alloc, &mut places, job, path, LEVELS, 1)?;
-    read_places(alloc, known, notes, gets, &places)
-}
-
-/// Reads what comes after the steps of a job's plan, whose gets have these names, and builds the plan.
+/// Reads what comes after the steps of a job's plan, whose gets are met, and builds the plan.
 #[tactic(auto, using(crate::proofs::Faulted::first_append), unfolding(crate::specs::JobRules::after_plan))]
 fn read_after_plan(
     alloc: Global,
-    known: &Known,
     notes: &mut Notes,
-    gets: &mut Names,
     job: &Value,
-    path: &str,
+    place: &Place,
 ) -> Result<Step, ReadFault>
-    ensures checked { ChecksAs (after_plan gets.old path.now (view job.now)) (plan_from (view job.now)) tree_of result }
-    ensures noted { OnOk result (notes_data notes.new ≡ with_visits known.now.resources known.now.jobs
-        (notes_data notes.old) (job_hooks path.now (view job.now))) }
+    ensures checked { ChecksAs (after_plan notes.old.gets (path_of place.now) (view job.now)) (plan_from (view job.now))
+        tree_of result }
+    ensures noted { OnOk result
+        (notes_data notes.new ≡ with_visits (notes_data notes.old) (job_hooks (path_of place.now) (view job.now))) }
 {
-    check_keys(alloc, closing(Schema::Job), job, path)?;
-    read_hooks(alloc, known, notes, gets, job, path)?;
-    read_plan(alloc, job, path)
+    check_keys(alloc, closing(Schema::Job), job, place)?;
+    read_hooks(alloc, notes, job, place, LEVELS, 1)?;
+    read_plan(alloc, job, place)
 }
 
 /// Reads what comes after a job's name, and builds its plan.
 #[tactic(auto, using(crate::proofs::Faulted::first_append), unfolding(crate::specs::JobRules::job_rest))]
 fn read_job_rest(
     alloc: Global,
-    known: &Known,
     notes: &mut Notes,
     job: &Value,
-    path: &str,
+    place: &Place,
 ) -> Result<Step, ReadFault>
-    ensures checked { ChecksAs (job_rest path.now (view job.now)) (plan_from (view job.now)) tree_of result }
-    ensures noted { OnOk result (notes_data notes.new ≡ with_visits known.now.resources known.now.jobs
-        (notes_data notes.old) (plan_steps path.now (view job.now) ++ job_hooks path.now (view job.now))) }
+    ensures checked { ChecksAs (job_rest (path_of place.now) (view job.now)) (plan_from (view job.now)) tree_of result }
+    ensures noted { OnOk result (notes_data notes.new ≡ with_visits (notes_data notes.old)
+        (plan_steps (path_of place.now) (view job.now) ++ job_hooks (path_of place.now) (view job.now))) }
 {
-    let mut gets = Names::new(alloc);
-    read_steps(alloc, known, notes, &mut gets, job, path)?;
-    read_after_plan(alloc, known, notes, &mut gets, job, path)
+    notes.gets = Names::new(alloc);
+    read_list(alloc, notes, job, place, "plan", LEVELS, 1)?;
+    read_after_plan(alloc, notes, job, place)
 }
 
 /// The job of a tested text, whose plan is built.
@@ -198,26 +140,25 @@ fn job_of(alloc: Global, value: &Value, plan: Step) -> Result<Job, AllocError>
 #[tactic(auto, using(crate::proofs::Faulted::first_append, crate::proofs::TableNames::job_names_are))]
 fn read_job(
     alloc: Global,
-    known: &Known,
     names: &mut Names,
     notes: &mut Notes,
     job: &Value,
-    path: &str,
+    place: &Place,
 ) -> Result<Job, ReadFault>
-    ensures checked { ChecksAs (job_faults names.old path.now (view job.now)) (job_from (view job.now)) job_data result }
+    ensures checked { ChecksAs (job_faults names.old (path_of place.now) (view job.now)) (job_from (view job.now)) job_data
+        result }
     ensures named { OnOk result (names.new ≡ names.old ++ names_at (codes "name") (view job.now)) }
-    ensures noted { OnOk result (notes_data notes.new ≡ with_visits known.now.resources known.now.jobs
-        (notes_data notes.old) (plan_steps path.now (view job.now) ++ job_hooks path.now (view job.now))) }
+    ensures noted { OnOk result (notes_data notes.new ≡ with_visits (notes_data notes.old)
+        (plan_steps (path_of place.now) (view job.now) ++ job_hooks (path_of place.now) (view job.now))) }
 {
-    check_object(alloc, NESTED, Schema::Job, names, job, path)?;
-    let plan = read_job_rest(alloc, known, notes, job, path)?;
+    check_object(alloc, NESTED, Schema::Job, names, job, place)?;
+    let plan = read_job_rest(alloc, notes, job, place)?;
     Ok(job_of(alloc, job, plan)?)
 }
 
 /// Reads a job's text, which is dropped once its job is built, and adds the job.
 fn push_job(
     alloc: Global,
-    known: &Known,
     names: &mut Names,
     notes: &mut Notes,
     jobs: &mut Vec<Job>,
@@ -226,15 +167,15 @@ fn push_job(
     ensures checked { Checks
         (job_faults names.old (path_at (codes "jobs") (length jobs.old.items)) (view text)) result }
     ensures named { OnOk result (names.new ≡ names.old ++ names_at (codes "name") (view text)) }
-    ensures noted { OnOk result (notes_data notes.new ≡ with_visits known.now.resources known.now.jobs
-        (notes_data notes.old) (plan_steps (path_at (codes "jobs") (length jobs.old.items)) (view text)
+    ensures noted { OnOk result (notes_data notes.new ≡ with_visits (notes_data notes.old)
+        (plan_steps (path_at (codes "jobs") (length jobs.old.items)) (view text)
         ++ job_hooks (path_at (codes "jobs") (length jobs.old.items)) (view text))) }
     ensures added { OnOk result
         (map job_data jobs.new.items ≡ map job_data jobs.old.items ++ job_from (view text) ∷ []) }
     ensures counted { OnOk result (length jobs.new.items ≡ length jobs.old.items + 1) }
 {
-    let path = path_at(alloc, "jobs", jobs.len())?;
-    let job = read_job(alloc, known, names, notes, &text, path.as_str())?;
+    let all = Place::top("jobs");
+    let job = read_job(alloc, names, notes, &text, &all.member(jobs.len()))?;
     jobs.push(job)?;
     Ok(())
 }
@@ -242,19 +183,18 @@ fn push_job(
 /// Reads jobs, each from its text, so that the jobs and the whole text are never held side by side.
 pub(crate) fn read_jobs(
     alloc: Global,
-    known: &Known,
     notes: &mut Notes,
     list: Vec<Value>,
 ) -> Result<Vec<Job>, ReadFault>
     ensures checked { ChecksAs (members job_faults [] (codes "jobs") 0 (items_view list.items))
         (jobs_in (items_view list.items)) (λ v. map job_data v.items) result }
-    ensures noted { OnOk result (notes_data notes.new ≡ with_visits known.now.resources known.now.jobs
-        (notes_data notes.old) (job_steps 0 (items_view list.items))) }
+    ensures noted { OnOk result
+        (notes_data notes.new ≡ with_visits (notes_data notes.old) (job_steps 0 (items_view list.items))) }
 {
     let mut names = Names::new(alloc);
     let mut jobs = Vec::new(alloc);
     for text in list {
-        push_job(alloc, known, &mut names, notes, &mut jobs, text)?;
+        push_job(alloc, &mut names, notes, &mut jobs, text)?;
     }
     Ok(jobs)
 }

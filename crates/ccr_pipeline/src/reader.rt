@@ -16,6 +16,7 @@ use crate::lists::{Before, job_list, read_before};
 use crate::notes::unused_of;
 use crate::object::check_alone;
 use crate::pipeline::Pipeline;
+use crate::place::Place;
 use crate::read_job::read_jobs;
 use crate::schema::Schema;
 use crate::task::TaskConfig;
@@ -30,7 +31,12 @@ fn value_of(alloc: Global, text: &[u8], path: &str) -> Result<Value, ReadFault>
     ensures ok { IfOk result (λ value. IsTextOf text.now (view value)) }
     ensures err { IfErr result (λ fault. IsNoValue path.now text.now (fault_of fault)) }
 {
-    require(alloc, text.len() <= MOST_BYTES, Rule::Length, path)?;
+    require(
+        alloc,
+        text.len() <= MOST_BYTES,
+        Rule::Length,
+        &Place::top(path),
+    )?;
     match Value::from_slice(alloc, text) {
         Ok(value) => Ok(value),
         Err(error) if error.is_memory() => Err(ReadFault::NoMemory),
@@ -44,14 +50,11 @@ fn read_value(alloc: Global, text: &[u8], value: Value) -> Result<Pipeline, Read
     ensures checked { Checks (pipeline_faults (view value)) result }
     ensures read { IfOk result (λ p. IsPipelineOf text.now (view value) (pipeline_data p)) }
 {
-    let before = read_before(alloc, &value)?;
     let Before {
-        known,
-        notes,
+        mut notes,
         resources,
-    } = before;
-    let mut notes = notes;
-    let jobs = read_jobs(alloc, &known, &mut notes, job_list(alloc, value))?;
+    } = read_before(alloc, &value)?;
+    let jobs = read_jobs(alloc, &mut notes, job_list(alloc, value))?;
     let unused = unused_of(notes)?;
     Ok(Pipeline {
         text: Vec::from_slice(alloc, text)?,
@@ -95,6 +98,6 @@ pub fn read_task(alloc: Global, text: &[u8]) -> Result<TaskConfig, ReadFault>
         (λ fault. Refuses (codes "task") (config_faults (codes "task")) text.now (fault_of fault)) }
 {
     let value = value_of(alloc, text, "task")?;
-    check_alone(alloc, Schema::Config, &value, "task")?;
+    check_alone(alloc, Schema::Config, &value, &Place::top("task"))?;
     Ok(build::config(alloc, &value)?)
 }

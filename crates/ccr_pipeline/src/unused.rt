@@ -1,17 +1,15 @@
 //! The keys that have no effect.
 ghost use Rattle.std.specs.Prelude.{◌≡◌, ◌++◌, [], ◌∷◌, drop, map, OnOk, IfOk, string_bytes};
-ghost use Rattle.std.specs.List.{flat_map};
 ghost use Rattle.serde_json.specs.View.{view, items_view, members_view};
-ghost use Rattle.ccr_pipeline.specs.Keys.{at_key, or_else, items_in, path_below, path_at};
+ghost use Rattle.ccr_pipeline.specs.Keys.{at_key, or_else, items_in, path_below, path_at, path_of};
 ghost use Rattle.ccr_pipeline.specs.Names.{names_of as texts_of};
-ghost use Rattle.ccr_pipeline.specs.Places.{spot, spots};
 ghost use Rattle.ccr_pipeline.specs.Schema.{opening, rows as row_list, has_key, schema_of};
 ghost use Rattle.ccr_pipeline.specs.Unused.{unused_members, unused_object, unused_value, unused_items, unused_rows};
-ghost use Rattle.ccr_pipeline.specs.Unused.{unused_own, unused_spot, IsSortedOnce};
+ghost use Rattle.ccr_pipeline.specs.Unused.{unused_own, IsSortedOnce};
 ghost use Rattle.ccr_pipeline.specs.declared.schema.Schema.TheVariants.{Pipeline};
 
-use crate::key::{at_key, items_in, path_at, path_below};
-use crate::place::{Part, Place};
+use crate::key::{at_key, items_in};
+use crate::place::{Place, path_of};
 use crate::schema::{Kind, NESTED, Row, Schema, has_key, opening, schema_of};
 use serde_json::Value;
 use std::alloc::{AllocError, Global};
@@ -22,17 +20,17 @@ fn push_own(
     out: &mut Vec<String>,
     schema: Schema,
     value: &Value,
-    path: &str,
+    place: &Place,
 ) -> Result<(), AllocError>
     ensures { OnOk result (texts_of out.new.items
-        ≡ texts_of out.old.items ++ unused_own schema path.now (view value.now)) }
+        ≡ texts_of out.old.items ++ unused_own schema (path_of place.now) (view value.now)) }
 {
     let Some(members) = value.as_object() else {
         return Ok(());
     };
     for (key, member) in members.iter() {
         if !member.is_null() && !has_key(schema, key.as_str()) {
-            out.push(path_below(alloc, path, key.as_str())?)?;
+            out.push(path_of(alloc, &place.key(key.as_str()))?)?;
         }
     }
     Ok(())
@@ -47,16 +45,16 @@ fn push_object(
     left: u32,
     schema: Schema,
     value: &Value,
-    path: &str,
+    place: &Place,
 ) -> Result<(), AllocError>
     ensures { OnOk result (texts_of out.new.items
-        ≡ texts_of out.old.items ++ unused_object left schema path.now (view value.now)) }
+        ≡ texts_of out.old.items ++ unused_object left schema (path_of place.now) (view value.now)) }
 {
     if left == 0 {
         return Ok(());
     }
-    push_own(alloc, out, schema, value, path)?;
-    push_rows(alloc, out, left - 1, opening(schema), value, path)
+    push_own(alloc, out, schema, value, place)?;
+    push_rows(alloc, out, left - 1, opening(schema), value, place)
 }
 
 #[cycle(unused)]
@@ -66,14 +64,14 @@ fn push_rows(
     left: u32,
     rows: &[Row],
     value: &Value,
-    path: &str,
+    place: &Place,
 ) -> Result<(), AllocError>
     ensures { OnOk result (texts_of out.new.items
-        ≡ texts_of out.old.items ++ unused_rows (unused_object left) (row_list rows.now) path.now (view value.now)) }
+        ≡ texts_of out.old.items ++ unused_rows (unused_object left) (row_list rows.now) (path_of place.now) (view value.now)) }
 {
     for (_, kind, key) in rows {
         if let Some(found) = at_key(value, *key) {
-            push_value(alloc, out, left, *kind, found, path, *key)?;
+            push_value(alloc, out, left, *kind, found, &(&*place).key(*key))?;
         }
     }
     Ok(())
@@ -86,25 +84,15 @@ fn push_value(
     left: u32,
     kind: Kind,
     found: &Value,
-    path: &str,
-    key: &str,
+    place: &Place,
 ) -> Result<(), AllocError>
     ensures { OnOk result (texts_of out.new.items ≡ texts_of out.old.items
-        ++ unused_value (unused_object left) kind (path_below path.now key.now) (view found.now)) }
+        ++ unused_value (unused_object left) kind (path_of place.now) (view found.now)) }
 {
     match kind {
-        Kind::Object(schema) => {
-            let path = path_below(alloc, path, key)?;
-            push_object(alloc, out, left, schema, found, path.as_str())
-        }
-        Kind::Parallel => {
-            let path = path_below(alloc, path, key)?;
-            push_object(alloc, out, left, Schema::Parallel, found, path.as_str())
-        }
-        Kind::Objects(schema) => {
-            let path = path_below(alloc, path, key)?;
-            push_items(alloc, out, left, schema, items_in(found), path.as_str())
-        }
+        Kind::Object(schema) => push_object(alloc, out, left, schema, found, place),
+        Kind::Parallel => push_object(alloc, out, left, Schema::Parallel, found, place),
+        Kind::Objects(schema) => push_items(alloc, out, left, schema, items_in(found), place),
         _ => Ok(()),
     }
 }
@@ -116,45 +104,28 @@ fn push_items(
     left: u32,
     schema: Schema,
     list: &[Value],
-    path: &str,
+    place: &Place,
 ) -> Result<(), AllocError>
     ensures { OnOk result (texts_of out.new.items
-        ≡ texts_of out.old.items ++ unused_items (unused_object left schema) path.now 0 (items_view list.now)) }
+        ≡ texts_of out.old.items ++ unused_items (unused_object left schema) (path_of place.now) 0 (items_view list.now)) }
 {
     for (i, item) in list.iter().enumerate() {
-        let path = path_at(alloc, path, i)?;
-        push_object(alloc, out, left, schema, item, path.as_str())?;
+        push_object(alloc, out, left, schema, item, &(&*place).member(i))?;
     }
     Ok(())
 }
 
-fn push_place(alloc: Global, out: &mut Vec<String>, place: &Place) -> Result<(), AllocError>
-    ensures { OnOk result (texts_of out.new.items
-        ≡ texts_of out.old.items ++ unused_spot (spot place.now)) }
-{
-    match place.part {
-        Part::Opening => {
-            let path = place.path.as_str();
-            push_object(alloc, out, NESTED, schema_of(place.step), place.step, path)
-        }
-        Part::Closing => Ok(()),
-    }
-}
-
-/// Adds the unused keys of the visited steps.
-#[tactic(auto, using(std::proofs::Common::append_assoc))]
-pub(crate) fn push_places(
+/// Adds the unused keys of a step, but for those of the steps that it holds.
+pub(crate) fn push_step(
     alloc: Global,
     out: &mut Vec<String>,
-    places: &[Place],
+    step: &Value,
+    place: &Place,
 ) -> Result<(), AllocError>
-    ensures { OnOk result (texts_of out.new.items
-        ≡ texts_of out.old.items ++ flat_map unused_spot (spots places.now)) }
+    ensures { OnOk result (texts_of out.new.items ≡ texts_of out.old.items
+        ++ unused_object NESTED (schema_of (view step.now)) (path_of place.now) (view step.now)) }
 {
-    for place in places {
-        push_place(alloc, out, place)?;
-    }
-    Ok(())
+    push_object(alloc, out, NESTED, schema_of(step), step, place)
 }
 
 /// Adds the unused keys of a pipeline, but for those of the steps of its jobs.
@@ -166,7 +137,14 @@ pub(crate) fn push_pipeline(
     ensures { OnOk result (texts_of out.new.items
         ≡ texts_of out.old.items ++ unused_object NESTED Pipeline [] (view pipeline.now)) }
 {
-    push_object(alloc, out, NESTED, Schema::Pipeline, pipeline, "")
+    push_object(
+        alloc,
+        out,
+        NESTED,
+        Schema::Pipeline,
+        pipeline,
+        &Place::top(""),
+    )
 }
 
 /// The paths ascending by bytes, each once.

@@ -1,9 +1,9 @@
 use Rattle.std.proofs.Common.{◌≡◌}
 use Rattle.serde_json.specs.View.{items_view}
-use Rattle.ccr_pipeline.specs.Keys.{path_below}
+use Rattle.ccr_pipeline.specs.Keys.{path_of}
 use Rattle.ccr_pipeline.specs.Kinds.{broken_texts}
 use Rattle.ccr_history.proofs.Items.{left}
 use Rattle.ccr_pipeline.proofs.kind.check_texts.Given as goal
 
 abbrev pub invariant-loop-i : goal.invariant-loop-i
-invariant-loop-i l = broken_texts (path_below l.path l.key) 0 (items_view l.list) ≡ broken_texts (path_below l.path l.key) l.i (left l.i l.list)
+invariant-loop-i l = broken_texts (path_of l.place) 0 (items_view l.list) ≡ broken_texts (path_of l.place) l.i (left l.i l.list)

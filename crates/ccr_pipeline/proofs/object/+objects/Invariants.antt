@@ -1,6 +1,7 @@
 use Rattle.std.proofs.Common.{◌≡◌, ◌+◌, ◌*◌, ◌++◌, [], drop}
 use Rattle.serde_json.specs.View.{view, items_view}
 use Rattle.ccr_history.proofs.Items.{left}
+use Rattle.ccr_pipeline.specs.Keys.{path_of}
 use Rattle.ccr_pipeline.specs.Objects.{key_faults, new_names, each_object, value_faults}
 use Rattle.ccr_pipeline.specs.Schema.{rows}
 use Rattle.ccr_pipeline.proofs.object.+objects.Given as goal
@@ -23,11 +24,11 @@ decreases-check_objects l = 6 * l.left + 4
 abbrev pub decreases-check_inside : goal.decreases-check_inside
 decreases-check_inside l = 6 * l.left + 5
 
-abbrev pub invariant-check_rows-loop-need : goal.invariant-check_rows-loop-need
-invariant-check_rows-loop-need l = record {
-  checked : key_faults (value_faults l.left) l.initial.names (rows l.rows) l.path (view l.value) ≡ key_faults (value_faults l.left) l.names (rows (drop l.need-index l.rows)) l.path (view l.value);
-  added : l.names ++ new_names (rows (drop l.need-index l.rows)) (view l.value) ≡ l.initial.names ++ new_names (rows l.rows) (view l.value);
+abbrev pub invariant-check_rows-loop-row : goal.invariant-check_rows-loop-row
+invariant-check_rows-loop-row l = record {
+  checked : key_faults (value_faults l.left) l.initial.names (rows l.rows) (path_of l.place) (view l.value) ≡ key_faults (value_faults l.left) l.names (rows (drop l.row-index l.rows)) (path_of l.place) (view l.value);
+  added : l.names ++ new_names (rows (drop l.row-index l.rows)) (view l.value) ≡ l.initial.names ++ new_names (rows l.rows) (view l.value);
 }
 
 abbrev pub invariant-check_objects-loop-i : goal.invariant-check_objects-loop-i
-invariant-check_objects-loop-i l = each_object (value_faults l.left) [] l.schema l.path 0 (items_view l.list) ≡ each_object (value_faults l.left) l.names l.schema l.path l.i (left l.i l.list)
+invariant-check_objects-loop-i l = each_object (value_faults l.left) [] l.schema (path_of l.place) 0 (items_view l.list) ≡ each_object (value_faults l.left) l.names l.schema (path_of l.place) l.i (left l.i l.list)

@@ -17,4 +17,4 @@ returns-in_err-push_job-clause-checked c =
     (rw (c.loop-text.invariant.checked, c.in-Some.ensures.steps.0) (first_append _ _ _ c.in_err-push_job.ensures.checked))
 
 pub returns-clause-noted : goal.returns-clause-noted
-returns-clause-noted c = sym (noted_end _ _ _ _ _ (sym c.loop-text.invariant.counted ∙ c.in-None.ensures.steps.0)) ∙ c.loop-text.invariant.noted
+returns-clause-noted c = sym (noted_end _ _ _ (sym c.loop-text.invariant.counted ∙ c.in-None.ensures.steps.0)) ∙ c.loop-text.invariant.noted

@@ -12,6 +12,6 @@ abbrev pub invariant-loop-text : goal.invariant-loop-text
 invariant-loop-text l = record {
   checked : members job_faults [] (codes "jobs") 0 (items_view l.fn.list.items) ≡ members job_faults l.names (codes "jobs") (length l.jobs.items) (items_view (into_iter_items l.text-iterator));
   built : map job_data l.jobs.items ++ jobs_in (items_view (into_iter_items l.text-iterator)) ≡ jobs_in (items_view l.fn.list.items);
-  noted : with_visits l.known.resources l.known.jobs (notes_data l.notes) (job_steps (length l.jobs.items) (items_view (into_iter_items l.text-iterator))) ≡ with_visits l.known.resources l.known.jobs (notes_data l.initial.notes) (job_steps 0 (items_view l.fn.list.items));
+  noted : with_visits (notes_data l.notes) (job_steps (length l.jobs.items) (items_view (into_iter_items l.text-iterator))) ≡ with_visits (notes_data l.initial.notes) (job_steps 0 (items_view l.fn.list.items));
   counted : into_iter_len l.text-iterator ≡ length (into_iter_items l.text-iterator);
 }

@@ -2,7 +2,8 @@ use Rattle.std.proofs.Common.{◌≡◌}
 use Rattle.serde_json.specs.View.{items_view}
 use Rattle.ccr_pipeline.specs.Unknown.{unknown_texts}
 use Rattle.ccr_history.proofs.Items.{left}
+use Rattle.ccr_pipeline.specs.Keys.{path_of}
 use Rattle.ccr_pipeline.proofs.unknown.unknown_text.Given as goal
 
 abbrev pub invariant-loop-i : goal.invariant-loop-i
-invariant-loop-i l = unknown_texts l.jobs l.path 0 (items_view l.list) ≡ unknown_texts l.jobs l.path l.i (left l.i l.list)
+invariant-loop-i l = unknown_texts l.jobs (path_of l.place) 0 (items_view l.list) ≡ unknown_texts l.jobs (path_of l.place) l.i (left l.i l.list)
