@@ -1,60 +1,58 @@
 -- The names that the keys of a table hold.
-use Rattle.std.proofs.Common.{◌≡◌, [], ◌∷◌, Bool, true, false, not, ◌&&◌, Option, Some, None, refl, option_and_then, is_some, codes, if◌then◌else◌}
+use Rattle.std.proofs.Common.{◌≡◌, ℕ, List, [], ◌∷◌, drop, Bool, true, false, not, ◌&&◌, Option, Some, None, refl, option_and_then, is_some, codes, if◌then◌else◌}
 use Rattle.std.proofs.lemmas.List.{append-nil}
 use Rattle.serde_json.specs.Data.{Data}
 use Rattle.serde_json.specs.Find.{as_str}
+use Rattle.ccr_pipeline.specs.declared.schema.Kind.{Kind}
+use Rattle.ccr_pipeline.specs.declared.schema.Kind.TheVariants as kind
 use Rattle.ccr_pipeline.specs.declared.schema.Need.TheVariants.{New, Must, May}
 use Rattle.ccr_pipeline.specs.declared.schema.Schema.TheVariants as schema
 use Rattle.ccr_pipeline.specs.Keys.{at_key, or_else}
 use Rattle.ccr_pipeline.specs.Names.{names_at}
 use Rattle.ccr_pipeline.specs.Objects.{once_names, new_names}
-use Rattle.ccr_pipeline.specs.Schema.{opening, schema_of}
+use Rattle.ccr_pipeline.specs.Schema.{Row, opening, schema_of}
 
-may : (o : Option Data) → or_else o [] (once_names May) ≡ []
-may None = refl
-may (Some d) = refl
+-- no row has a text that no later object may have
+abbrev are_old : List Row → Bool
+are_old [] = true
+are_old ((New, k, key) ∷ rs) = false
+are_old ((Must, k, key) ∷ rs) = are_old rs
+are_old ((May, k, key) ∷ rs) = are_old rs
 
-must : (o : Option Data) → or_else o [] (once_names Must) ≡ []
-must None = refl
-must (Some d) = refl
+none_at : (o : Option Data) → or_else {B = List (List ℕ)} o [] (λ d. []) ≡ []
+none_at None = refl
+none_at (Some d) = refl
+
+no_names : (rs : List Row) (d : Data) → are_old rs ≡ true → new_names rs d ≡ []
+no_names [] d e = refl
+no_names ((New, k, key) ∷ rs) d e = absurd (cc (e))
+no_names ((Must, k, key) ∷ rs) d e = rw (none_at (at_key key d), no_names rs d e) refl
+no_names ((May, k, key) ∷ rs) d e = rw (none_at (at_key key d), no_names rs d e) refl
 
 named : (o : Option Data) → or_else o [] (once_names New) ≡ or_else (option_and_then as_str o) [] (λ name. name ∷ [])
 named None = refl
 named (Some d) = refl
 
+-- only the first row has such a text
+first_named : (k : Kind) (key : List ℕ) (rs : List Row) (d : Data) → are_old rs ≡ true → new_names ((New, k, key) ∷ rs) d ≡ names_at key d
+first_named k key rs d e = rw (named (at_key key d), no_names rs d e, append-nil) refl
+
 pub resource_names_are : (d : Data) → new_names (opening schema.Resource) d ≡ names_at (codes "name") d
-resource_names_are d =
-    rw (named (at_key (codes "name") d), must (at_key (codes "type") d), may (at_key (codes "source") d), may (at_key (codes "version") d), append-nil) refl
+resource_names_are d = first_named kind.Name (codes "name") (drop 1 (opening schema.Resource)) d refl
 
 pub job_names_are : (d : Data) → new_names (opening schema.Job) d ≡ names_at (codes "name") d
-job_names_are d = rw (named (at_key (codes "name") d), must (at_key (codes "plan") d), append-nil) refl
+job_names_are d = first_named kind.Name (codes "name") (drop 1 (opening schema.Job)) d refl
 
 get_names : (d : Data) → new_names (opening schema.Get) d ≡ names_at (codes "get") d
-get_names d =
-    rw (named (at_key (codes "get") d), may (at_key (codes "resource") d), may (at_key (codes "passed") d), may (at_key (codes "trigger") d), may (at_key (codes "params") d), may (at_key (codes "version") d), append-nil) refl
-
-put_names : (d : Data) → new_names (opening schema.Put) d ≡ []
-put_names d =
-    rw (must (at_key (codes "put") d), may (at_key (codes "resource") d), may (at_key (codes "params") d), may (at_key (codes "get_params") d), may (at_key (codes "no_get") d)) refl
-
-task_names : (d : Data) → new_names (opening schema.Task) d ≡ []
-task_names d =
-    rw (must (at_key (codes "task") d), must (at_key (codes "config") d), may (at_key (codes "params") d), may (at_key (codes "input_mapping") d), may (at_key (codes "output_mapping") d)) refl
-
-file_names : (d : Data) → new_names (opening schema.FileTask) d ≡ []
-file_names d =
-    rw (must (at_key (codes "task") d), must (at_key (codes "file") d), may (at_key (codes "params") d), may (at_key (codes "input_mapping") d), may (at_key (codes "output_mapping") d)) refl
-
-holder_names : (d : Data) → new_names (opening schema.Holder) d ≡ []
-holder_names d = rw (may (at_key (codes "do") d), may (at_key (codes "in_parallel") d), may (at_key (codes "try") d)) refl
+get_names d = first_named kind.Name (codes "get") (drop 1 (opening schema.Get)) d refl
 
 -- a step other than a get
 other : (d : Data) (put task config file : Bool) → new_names (opening (if put then schema.Put else (if not task then schema.Holder else (if not config && file then schema.FileTask else schema.Task)))) d ≡ []
-other d true task config file = put_names d
-other d false false config file = holder_names d
-other d false true true file = task_names d
-other d false true false true = file_names d
-other d false true false false = task_names d
+other d true task config file = no_names (opening schema.Put) d refl
+other d false false config file = no_names (opening schema.Holder) d refl
+other d false true true file = no_names (opening schema.Task) d refl
+other d false true false true = no_names (opening schema.FileTask) d refl
+other d false true false false = no_names (opening schema.Task) d refl
 
 no_text : (o : Option Data) → is_some o ≡ false → or_else (option_and_then as_str o) [] (λ name. name ∷ []) ≡ []
 no_text None e = refl

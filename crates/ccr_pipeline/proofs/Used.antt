@@ -19,11 +19,11 @@ use Rattle.ccr_pipeline.specs.Objects.{key_faults, value_faults}
 use Rattle.ccr_pipeline.specs.Pipelines.{resource_from, resources_in, job_from, jobs_in, SaysTheSame}
 use Rattle.ccr_pipeline.specs.Places.{gets_at, steps_from, plan_steps, job_hooks, job_steps, all_steps}
 use Rattle.ccr_pipeline.specs.Reading.{faults_before, pipeline_faults}
-use Rattle.ccr_pipeline.specs.Schema.{closing}
+use Rattle.ccr_pipeline.specs.Schema.{opening, closing}
 use Rattle.ccr_pipeline.specs.Unknown.{unknown_in}
-use Rattle.ccr_pipeline.specs.Used.{kind_at, used_items, used, used_pipeline}
+use Rattle.ccr_pipeline.specs.Used.{kept, kind_at, used_items, used, used_pipeline}
 use Rattle.ccr_pipeline.proofs.UsedKeys.{used_like, at_used, at_same}
-use Rattle.ccr_pipeline.proofs.UsedValues.{keys_same, object_same}
+use Rattle.ccr_pipeline.proofs.UsedValues.{fits_part, keys_same, object_same}
 use Rattle.ccr_pipeline.proofs.UsedSteps.{Held, unheld, job_hooked, Listed, objects_listed, list_listed}
 use Rattle.ccr_pipeline.proofs.UsedMeaning.{plan_listed, plan_same}
 use Rattle.ccr_pipeline.proofs.UsedVisits.{AllAlike, all_same, join, visits_same, gets_alike, unknown_alike, list_alike, hooks_alike, steps_alike}
@@ -77,8 +77,7 @@ job_keys_same : (n : ℕ) (p : Path) (d : Data) → key_faults (value_faults NES
 unfolding kind_at
 job_keys_same zero p d = refl
 job_keys_same (suc n) p d =
-    keys_same NESTED n schema.Job [] (closing schema.Job) p d
-    (refl, tt, (refl, tt, (refl, tt, (refl, tt, (refl, tt, (refl, tt, (refl, tt, (refl, tt, tt))))))))
+    keys_same NESTED n schema.Job [] (closing schema.Job) p d (fits_part schema.Job (opening schema.Job) (closing schema.Job) (kept schema.Job) (λ k. refl) refl refl)
 
 after_plan_same : (n : ℕ) (gets : List (List ℕ)) (p : Path) (d : Data) → after_plan gets p (used n (kind.Object schema.Job) d) ≡ after_plan gets p d
 unfolding after_plan

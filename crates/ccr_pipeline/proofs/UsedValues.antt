@@ -1,5 +1,7 @@
 -- What is broken in an object is broken in it without its unused keys.
-use Rattle.std.proofs.Common.{◌≡◌, ℕ, zero, suc, ◌+◌, List, [], ◌∷◌, ◌++◌, Option, Some, None, refl, ap, ap₂, ◌∙◌, option_and_then, option_map, is_some, codes, if◌then◌else◌}
+use Rattle.std.proofs.Common.{◌≡◌, ℕ, zero, suc, ◌+◌, List, [], ◌∷◌, ◌++◌, Bool, true, false, not, ◌&&◌, ◌||◌, Option, Some, None, refl, ap, ap₂, ◌∙◌, append_assoc, option_and_then, option_map, is_some, codes, if◌then◌else◌}
+use Rattle.std.proofs.lemmas.Slice.Eq.{bytes_eq-Decides}
+use Rattle.std.specs.Str.{bytes_eq}
 use Rattle.serde_json.specs.Data.{Data, array, Items, no_items, item}
 use Rattle.serde_json.specs.Find.{as_str, as_array}
 use Rattle.ccr_pipeline.specs.declared.schema.Kind.{Kind}
@@ -12,8 +14,8 @@ use Rattle.ccr_pipeline.specs.Faults.{Path}
 use Rattle.ccr_pipeline.specs.Keys.{at_key, or_else, items_in, path_below, path_at}
 use Rattle.ccr_pipeline.specs.Names.{text_at}
 use Rattle.ccr_pipeline.specs.Objects.{Test, broken, absent, once, once_names, row_names, new_names, row_faults, key_faults, object_faults, each_object, inside, value_faults}
-use Rattle.ccr_pipeline.specs.Schema.{Row, opening}
-use Rattle.ccr_pipeline.specs.Used.{kind_at, used_object, used_items, used}
+use Rattle.ccr_pipeline.specs.Schema.{Row, opening, closing, has_row}
+use Rattle.ccr_pipeline.specs.Used.{kept, kind_in, kind_at, used_object, used_items, used}
 use Rattle.ccr_pipeline.proofs.UsedKeys.{used_like, at_used, plain, at_same}
 
 -- two objects have the same name, where a value of the kind asks for it
@@ -58,22 +60,85 @@ new_names_same : (n : ℕ) (s : Schema) (d : Data) (rs : List Row) → Fits s rs
 new_names_same n s d [] h = refl
 new_names_same n s d (r ∷ rs) h = ap₂ (λ xs ys. xs ++ ys) (row_names_same n s r d h.0) (new_names_same n s d rs h.2)
 
+-- the keys of the rows are none of those before them, and no two are one
+abbrev are_new : List Row → List Row → Bool
+are_new before [] = true
+are_new before (r ∷ rs) = not (has_row before r.2) && are_new (before ++ r ∷ []) rs
+
+abbrev is_name : Option Kind → Bool
+is_name (Some kind.Name) = true
+is_name _ = false
+
+-- objects of the schema have a name, where a row asks for it
+abbrev are_owned : Schema → List Row → Bool
+are_owned s [] = true
+are_owned s ((need, kind.OwnName, key) ∷ rs) = is_name (kind_at s (codes "name")) && are_owned s rs
+are_owned s (r ∷ rs) = are_owned s rs
+
+or_left : (a b : Bool) → (a || b) ≡ false → a ≡ false
+or_left true b e = absurd (cc (e))
+or_left false b e = refl
+
+or_right : (a b : Bool) → (a || b) ≡ false → b ≡ false
+or_right true b e = absurd (cc (e))
+or_right false b e = e
+
+kind_there : (before after : List Row) (r : Row) → has_row before r.2 ≡ false → kind_in (before ++ r ∷ after) r.2 ≡ Some r.1
+kind_there [] after r e = rw ((bytes_eq-Decides r.2 r.2).1 refl) refl
+kind_there (b ∷ before) after r e =
+    rw (or_left (bytes_eq b.2 r.2) _ e) (kind_there before after r (or_right (bytes_eq b.2 r.2) _ e))
+
+is_named : (o : Option Kind) → is_name o ≡ true → o ≡ Some kind.Name
+is_named (Some kind.Name) e = refl
+is_named (Some _) e = absurd (cc (e))
+is_named None e = absurd (cc (e))
+
+and_left : (a b : Bool) → (a && b) ≡ true → a ≡ true
+and_left true b e = refl
+and_left false b e = absurd (cc (e))
+
+and_right : (a b : Bool) → (a && b) ≡ true → b ≡ true
+and_right true b e = e
+and_right false b e = absurd (cc (e))
+
+is_not : (b : Bool) → not b ≡ true → b ≡ false
+is_not true e = absurd (cc (e))
+is_not false e = refl
+
+owns : (s : Schema) (r : Row) (rs : List Row) → are_owned s (r ∷ rs) ≡ true → Owns s r.1 × (are_owned s rs ≡ true)
+owns s (need, kind.OwnName, key) rs e = (is_named _ (and_left _ _ e), and_right (is_name (kind_at s (codes "name"))) _ e)
+owns s (need, _, key) rs e = (tt, e)
+
+-- the rows of a part of a schema's table are those of the schema
+pub fits_part : (s : Schema) (before rs after : List Row) → ((k : List ℕ) → kind_at s k ≡ kind_in (before ++ (rs ++ after)) k) → are_new before rs ≡ true → are_owned s rs ≡ true → Fits s rs
+fits_part s before [] after is new owned = tt
+fits_part s before (r ∷ rs) after is new owned =
+    let o = owns s r rs owned in (
+      is r.2 ∙ kind_there before (rs ++ after) r (is_not _ (and_left _ _ new)),
+      o.0,
+      fits_part s (before ++ r ∷ []) rs after (λ k. rw append_assoc (is k)) (and_right (not (has_row before r.2)) _ new) o.1,
+    )
+
+in_opening : (s : Schema) → are_new [] (opening s) ≡ true → are_owned s (opening s) ≡ true → Fits s (opening s)
+unfolding kind_at
+in_opening s = fits_part s [] (opening s) (closing s ++ kept s) (λ k. refl)
+
 pub fits_opening : (s : Schema) → Fits s (opening s)
 unfolding kind_at
-fits_opening schema.Pipeline = (refl, tt, (refl, tt, tt))
-fits_opening schema.Resource = (refl, tt, (refl, tt, (refl, tt, (refl, tt, tt))))
-fits_opening schema.Job = (refl, tt, (refl, tt, tt))
-fits_opening schema.Undone = (refl, tt, (refl, tt, (refl, tt, (refl, tt, tt))))
-fits_opening schema.Get = (refl, tt, (refl, tt, (refl, tt, (refl, tt, (refl, tt, (refl, tt, tt))))))
-fits_opening schema.Put = (refl, tt, (refl, tt, (refl, tt, (refl, tt, (refl, tt, tt)))))
-fits_opening schema.Task = (refl, tt, (refl, tt, (refl, tt, (refl, tt, (refl, tt, tt)))))
-fits_opening schema.FileTask = (refl, tt, (refl, tt, (refl, tt, (refl, tt, (refl, tt, tt)))))
-fits_opening schema.Holder = (refl, tt, (refl, tt, (refl, tt, tt)))
-fits_opening schema.Parallel = (refl, tt, tt)
-fits_opening schema.Config = (refl, tt, (refl, tt, (refl, tt, (refl, tt, (refl, tt, tt)))))
-fits_opening schema.Run = (refl, tt, (refl, tt, (refl, tt, tt)))
-fits_opening schema.Input = (refl, tt, (refl, refl, (refl, tt, tt)))
-fits_opening schema.Output = (refl, tt, (refl, refl, tt))
+fits_opening schema.Pipeline = in_opening schema.Pipeline refl refl
+fits_opening schema.Resource = in_opening schema.Resource refl refl
+fits_opening schema.Job = in_opening schema.Job refl refl
+fits_opening schema.Undone = in_opening schema.Undone refl refl
+fits_opening schema.Get = in_opening schema.Get refl refl
+fits_opening schema.Put = in_opening schema.Put refl refl
+fits_opening schema.Task = in_opening schema.Task refl refl
+fits_opening schema.FileTask = in_opening schema.FileTask refl refl
+fits_opening schema.Holder = in_opening schema.Holder refl refl
+fits_opening schema.Parallel = in_opening schema.Parallel refl refl
+fits_opening schema.Config = in_opening schema.Config refl refl
+fits_opening schema.Run = in_opening schema.Run refl refl
+fits_opening schema.Input = in_opening schema.Input refl refl
+fits_opening schema.Output = in_opening schema.Output refl refl
 
 module _ (test : Test) (same : Same test) where
   row_found : (n : ℕ) (k : Kind) (need : Need) (names : List (List ℕ)) (p : Path) (e d : Data) → SameOwner k e d → (o : Option Data) → or_else (option_map (used n k) o) (absent need p) (λ found. test k p e found ++ once need names p found) ≡ or_else o (absent need p) (λ found. test k p d found ++ once need names p found)
