@@ -1,5 +1,5 @@
 -- What is noted of a pipeline, once all of its jobs are read.
-use Rattle.std.proofs.Common.{◌≡◌, List, [], None, refl, sym, ◌∙◌, codes}
+use Rattle.std.proofs.Common.{◌≡◌, [], None, refl, sym, ◌∙◌, codes}
 use Rattle.serde_json.specs.Data.{Data}
 use Rattle.ccr_pipeline.specs.declared.fault.ReadFault.{ReadFault}
 use Rattle.ccr_pipeline.specs.Faults.{first, fault_of, IsFirst}

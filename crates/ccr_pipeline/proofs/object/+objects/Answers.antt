@@ -1,4 +1,4 @@
-use Rattle.std.proofs.Common.{rules, ◌<◌, arith}
+use Rattle.std.proofs.Common.{◌<◌, arith}
 use Rattle.ccr_pipeline.specs.Objects.{value_faults}
 use Rattle.ccr_pipeline.proofs.Faulted.{checks_fault}
 use Rattle.ccr_pipeline.proofs.ObjectLemmas.{rows_first, value_first, value_inside, inside_none}
