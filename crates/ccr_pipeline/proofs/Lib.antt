@@ -17,6 +17,13 @@ pub mod Ordered
 pub mod Repeats
 pub mod Distinct
 pub mod PlansKept
+pub mod Told
+pub mod Quiet
+pub mod Given
+pub mod QuietJobs
+pub mod TooDeep
+pub mod BadTries
+pub mod OfLimits
 pub mod Linked
 pub mod LinksKept
 pub mod Whole

@@ -110,17 +110,18 @@ module _ (rec : Data → Tree) where
       ) (simp append_assoc refl)
 
 -- how many of three keys have something
-abbrev held : Option Data → Option Data → Option Data → ℕ
+abbrev pub held : Option Data → Option Data → Option Data → ℕ
 held x y z = cond (is_some x) 1 0 + (cond (is_some y) 1 0 + cond (is_some z) 1 0)
 
 -- how many of the keys of a step's kind have something
-abbrev having : Bool → Bool → Bool → ℕ → ℕ
+abbrev pub having : Bool → Bool → Bool → ℕ → ℕ
 having a b c n = cond a 1 0 + (cond b 1 0 + (cond c 1 0 + n))
 
 few_kinds : (a b c x y z : ℕ) → nat_lt (((((0 + a + b) + c) + x) + y) + z) 2 ≡ true → a + (b + (c + (x + (y + z)))) < 2
 few_kinds a b c x y z e = grind (arith, nat_tests, e)
 
-one_kind : (names : List (List ℕ)) (p : Path) (n : ℕ) (d : Data) → opening_faults names p n d ≡ [] → having (is_some (at_key (codes "get") d)) (is_some (at_key (codes "put") d)) (is_some (at_key (codes "task") d)) (held (at_key (codes "do") d) (at_key (codes "in_parallel") d) (at_key (codes "try") d)) < 2
+-- a step without a fault before its steps has at most one of them
+pub one_kind : (names : List (List ℕ)) (p : Path) (n : ℕ) (d : Data) → opening_faults names p n d ≡ [] → having (is_some (at_key (codes "get") d)) (is_some (at_key (codes "put") d)) (is_some (at_key (codes "task") d)) (held (at_key (codes "do") d) (at_key (codes "in_parallel") d) (at_key (codes "try") d)) < 2
 unfolding opening_faults kind_faults
 one_kind names p n d e =
     let kind : kind_faults p d ≡ [] = nil_left _ (own_keys names p d) (nil_right (shape_faults p n d) _ e) in

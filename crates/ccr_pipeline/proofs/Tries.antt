@@ -29,10 +29,10 @@ and_right true b e = e
 and_right false b e = absurd (cc (e))
 
 -- attempts that keep the limits below this product
-record Few (t n : ℕ) : Type 0 where
-  some : nat_le 1 n ≡ true
-  few : nat_le n 100 ≡ true
-  all : nat_le (t * n) 10000 ≡ true
+pub record Few (t n : ℕ) : Type 0 where
+  pub some : nat_le 1 n ≡ true
+  pub few : nat_le n 100 ≡ true
+  pub all : nat_le (t * n) 10000 ≡ true
 
 few_number : (t : ℕ) (p : Path) (r : Rule) (o : Option ℕ) → or_else o (unless false r p) (λ n. unless (nat_le 1 n && (nat_le n 100 && nat_le (t * n) 10000)) rule.Attempts p) ≡ [] → IfSome o (Few t)
 few_number t p r None e = absurd (cc (e))
@@ -46,13 +46,15 @@ few_attempts t p None e = tt
 few_attempts t p (Some found) e = few_number t p (no_count found) (option_and_then as_u64 (as_number found)) e
 
 -- what attempts count
-abbrev own : Option ℕ → ℕ
+abbrev pub own : Option ℕ → ℕ
 own o = or_else o 1 (λ n. if nat_le 1 n && nat_le n 100 then n else 1)
 
-own-some : (t n : ℕ) → Few t n → own (Some n) ≡ n
+-- those that keep the limits count themselves
+pub own-some : (t n : ℕ) → Few t n → own (Some n) ≡ n
 own-some t n few = rw (few.some, few.few) refl
 
-bounded : (t : ℕ) (o : Option ℕ) → t ≤ 10000 → IfSome o (Few t) → t * own o ≤ 10000
+-- with them the product is no more than it may be
+pub bounded : (t : ℕ) (o : Option ℕ) → t ≤ 10000 → IfSome o (Few t) → t * own o ≤ 10000
 bounded t None h few = let one : t * 1 ≡ t = omega arith in rw one h
 bounded t (Some n) h few = rw (own-some t n few) (grind (arith, nat_tests, few.all))
 

@@ -14,6 +14,7 @@ pub mod Steps
 pub mod Inputs
 pub mod Plans
 pub mod Limits
+pub mod Breaches
 pub mod JobData
 pub mod Links
 pub mod JobRules

@@ -10,10 +10,13 @@ use Rattle.ccr_pipeline.specs.Places.{Part, Opening, Closing, Spot, plan_steps, 
 use Rattle.ccr_pipeline.specs.Steps.{with_hooks, each_tree, step_tree}
 use Rattle.ccr_pipeline.specs.Tree.{Tree, in_order, trees_of}
 
--- the plan as a do, in the job's hooks
+-- the plan of a job, each of its steps of so many levels: a do, in the job's hooks
+abbrev pub plan_to : ℕ → Data → Tree
+plan_to n d = with_hooks (step_tree n) d (in_order (trees_of (each_tree (step_tree n) (list_at (codes "plan") d))))
+
+-- the plan as it is read
 unfoldable pub plan_from : Data → Tree
-plan_from d =
-    with_hooks (step_tree LEVELS) d (in_order (trees_of (each_tree (step_tree LEVELS) (list_at (codes "plan") d))))
+plan_from d = plan_to LEVELS d
 
 -- the input of a get, at the first of its two visits
 abbrev pub input_by : Part → Data → List InputData

@@ -126,8 +126,8 @@ fn check_row(
     place: &Place,
 ) -> Result<(), ReadFault>
     ensures checked { Checks
-        (row_faults (value_faults left) names.old (row.entry.0, row.entry.1, row.entry.2.now) (path_of place.now) (view value.now))
-        result }
+        (row_faults (value_faults left) names.old (row.entry.0, row.entry.1, row.entry.2.now)
+        (path_of place.now) (view value.now)) result }
     ensures added { OnOk result
         (names.new ≡ names.old ++ row_names (row.entry.0, row.entry.1, row.entry.2.now) (view value.now)) }
 {
@@ -174,7 +174,8 @@ pub(crate) fn check_object(
     value: &Value,
     place: &Place,
 ) -> Result<(), ReadFault>
-    ensures checked { Checks (object_faults (value_faults left) names.old schema (path_of place.now) (view value.now)) result }
+    ensures checked { Checks
+        (object_faults (value_faults left) names.old schema (path_of place.now) (view value.now)) result }
     ensures added { OnOk result (names.new ≡ names.old ++ new_names (opening schema) (view value.now)) }
 {
     require(alloc, value.is_object(), Rule::Kind, place)?;
@@ -206,7 +207,8 @@ pub(crate) fn check_keys(
     value: &Value,
     place: &Place,
 ) -> Result<(), ReadFault>
-    ensures { Checks (key_faults (value_faults NESTED) [] (row_list rows.now) (path_of place.now) (view value.now)) result }
+    ensures { Checks (key_faults (value_faults NESTED) [] (row_list rows.now) (path_of place.now) (view value.now))
+        result }
 {
     let mut names = Names::new(alloc);
     check_rows(alloc, NESTED, rows, &mut names, value, place)

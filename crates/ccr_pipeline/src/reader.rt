@@ -1,6 +1,8 @@
 //! Reading of pipelines and of task files.
 ghost use Rattle.std.specs.Prelude.{◌≡◌, ◌++◌, [], length, map, IfOk, IfErr, string_bytes, codes};
+ghost use Rattle.serde_json.specs.Data.{Data};
 ghost use Rattle.serde_json.specs.View.{view};
+ghost use Rattle.ccr_pipeline.specs.Breaches.{OfLimits};
 ghost use Rattle.ccr_pipeline.specs.Faults.{unless, Checks, StartsWith, IsFirst, fault_of};
 ghost use Rattle.ccr_pipeline.specs.JobRules.{job_faults, members};
 ghost use Rattle.ccr_pipeline.specs.Meaning.{config_from};
@@ -78,6 +80,9 @@ pub fn read(alloc: Global, text: &[u8]) -> Result<Pipeline, ReadFault>
     // The text is too long or no JSON value, or the fault is the first one that is present in its value.
     ensures err { IfErr result
         (λ fault. Refuses (codes "pipeline") pipeline_faults text.now (fault_of fault)) }
+
+    // Too deep is told only where a job's plan is, and bad attempts only where those of a job break their limits.
+    ensures limits { IfErr result (λ fault. (d : Data) → IsTextOf text.now d → OfLimits d (fault_of fault)) }
 {
     let value = value_of(alloc, text, "pipeline")?;
     read_value(alloc, text, value)

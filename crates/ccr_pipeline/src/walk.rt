@@ -141,7 +141,7 @@ pub(crate) fn read_hooks(
     read_at(alloc, notes, value, place, "ensure", left, tries)
 }
 
-/// Reads what comes after a step's keys up to the steps in it: these steps, the keys after them, the hooks.
+/// Reads what comes after a step's own keys: the steps that these hold, the keys after them, and the hooks.
 #[cycle(walk)]
 fn read_rest(
     alloc: Global,

@@ -1,0 +1,5 @@
+use Rattle.ccr_pipeline.proofs.OfLimits.{read_limits}
+use Rattle.ccr_pipeline.proofs.reader.read.Goals as goal
+
+pub returns-clause-limits : goal.returns-clause-limits
+returns-clause-limits c = read_limits _ _ _ c.in_ok-value.ensures.ok c.read_value.ensures.checked
