@@ -64,7 +64,8 @@ abbrev pub Walked : List Text → NotesData → List Spot → List Text → Note
 Walked gets n xs more m = (visits gets xs ≡ []) × (more ≡ gets ++ flat_map gets_at xs) × (m ≡ with_visits n xs)
 
 -- visits of a job's steps: the first rule that they break is told, if they break one
-abbrev pub WalksAs : {T : Type 0} → List Text → NotesData → List Spot → Result T ReadFault → List Text → NotesData → Type 0
+abbrev pub WalksAs :
+    {T : Type 0} → List Text → NotesData → List Spot → Result T ReadFault → List Text → NotesData → Type 0
 WalksAs gets n xs (Ok t) more m = Walked gets n xs more m
 WalksAs gets n xs (Err e) more m = IsFirst (visits gets xs) e
 

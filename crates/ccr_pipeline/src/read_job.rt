@@ -145,8 +145,8 @@ fn read_job(
     job: &Value,
     place: &Place,
 ) -> Result<Job, ReadFault>
-    ensures checked { ChecksAs (job_faults names.old (path_of place.now) (view job.now)) (job_from (view job.now)) job_data
-        result }
+    ensures checked { ChecksAs (job_faults names.old (path_of place.now) (view job.now)) (job_from (view job.now))
+        job_data result }
     ensures named { OnOk result (names.new ≡ names.old ++ names_at (codes "name") (view job.now)) }
     ensures noted { OnOk result (notes_data notes.new ≡ with_visits (notes_data notes.old)
         (plan_steps (path_of place.now) (view job.now) ++ job_hooks (path_of place.now) (view job.now))) }

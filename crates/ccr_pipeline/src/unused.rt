@@ -67,7 +67,8 @@ fn push_rows(
     place: &Place,
 ) -> Result<(), AllocError>
     ensures { OnOk result (texts_of out.new.items
-        ≡ texts_of out.old.items ++ unused_rows (unused_object left) (row_list rows.now) (path_of place.now) (view value.now)) }
+        ≡ texts_of out.old.items
+        ++ unused_rows (unused_object left) (row_list rows.now) (path_of place.now) (view value.now)) }
 {
     for (_, kind, key) in rows {
         if let Some(found) = at_key(value, *key) {
@@ -107,7 +108,8 @@ fn push_items(
     place: &Place,
 ) -> Result<(), AllocError>
     ensures { OnOk result (texts_of out.new.items
-        ≡ texts_of out.old.items ++ unused_items (unused_object left schema) (path_of place.now) 0 (items_view list.now)) }
+        ≡ texts_of out.old.items
+        ++ unused_items (unused_object left schema) (path_of place.now) 0 (items_view list.now)) }
 {
     for (i, item) in list.iter().enumerate() {
         push_object(alloc, out, left, schema, item, &(&*place).member(i))?;
