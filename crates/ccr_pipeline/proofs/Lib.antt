@@ -34,3 +34,6 @@ pub mod UsedSteps
 pub mod UsedMeaning
 pub mod UsedVisits
 pub mod Used
+pub mod Ascending
+pub mod UsedOwn
+pub mod UsedUp

@@ -94,7 +94,7 @@ Hooked e d = (w : When) → Held kind.Step (at_key (hook_key w) e) (at_key (hook
 hooked_by : (n : ℕ) (s : Schema) (d : Data) → ((w : When) → kind_at s (hook_key w) ≡ Some kind.Step) → Hooked (used_object (used n) s d) d
 hooked_by n s d is w = (n, at_used n s (hook_key w) kind.Step (is w) d)
 
-step_hook : (w : When) → OfSteps (λ s. kind_at s (hook_key w) ≡ Some kind.Step)
+pub step_hook : (w : When) → OfSteps (λ s. kind_at s (hook_key w) ≡ Some kind.Step)
 unfolding kind_at
 step_hook OnSuccess = record { get = refl; put = refl; holder = refl; file = refl; task = refl }
 step_hook OnFailure = record { get = refl; put = refl; holder = refl; file = refl; task = refl }
@@ -106,7 +106,7 @@ pub step_hooked : (n : ℕ) (d : Data) → Hooked (used n kind.Step d) d
 step_hooked zero d = λ w. unheld kind.Step (at_key (hook_key w) d)
 step_hooked (suc n) d = hooked_by n (schema_of d) d (λ w. of_step (λ s. kind_at s (hook_key w) ≡ Some kind.Step) (step_hook w) d)
 
-job_hook : (w : When) → kind_at schema.Job (hook_key w) ≡ Some kind.Step
+pub job_hook : (w : When) → kind_at schema.Job (hook_key w) ≡ Some kind.Step
 unfolding kind_at
 job_hook OnSuccess = refl
 job_hook OnFailure = refl

@@ -1,5 +1,5 @@
 -- A pipeline without its keys that have no effect.
-use Rattle.std.specs.Prelude.{ℕ, zero, suc, List, [], ◌∷◌, ◌++◌, map, Option, Some, None, is_some, if◌then◌else◌}
+use Rattle.std.specs.Prelude.{ℕ, zero, suc, ◌+◌, ◌*◌, List, [], ◌∷◌, ◌++◌, map, Option, Some, None, is_some, if◌then◌else◌}
 use Rattle.std.specs.Str.{bytes_eq}
 use Rattle.serde_json.specs.Data.{Data, array, object, Items, no_items, item, Members, no_members, member}
 use Rattle.serde_json.specs.Find.{as_array}
@@ -8,6 +8,7 @@ use Rattle.ccr_pipeline.specs.declared.schema.Kind.TheVariants as kind
 use Rattle.ccr_pipeline.specs.declared.schema.Need.TheVariants.{May}
 use Rattle.ccr_pipeline.specs.declared.schema.Schema.{Schema}
 use Rattle.ccr_pipeline.specs.declared.schema.Schema.TheVariants as schema
+use Rattle.ccr_pipeline.specs.declared.walk.TheConstants.{LEVELS}
 use Rattle.ccr_pipeline.specs.Keys.{or_else}
 use Rattle.ccr_pipeline.specs.Schema.{Row, opening, closing, schema_of}
 use Rattle.ccr_pipeline.specs.StepRules.{kind_keys}
@@ -73,3 +74,8 @@ used (suc n) k d = used_inside (used n) k d
 -- a pipeline without its unused keys, so many levels down
 abbrev pub used_pipeline : ℕ → Data → Data
 used_pipeline n d = used n (kind.Object schema.Pipeline) d
+
+-- as many levels as keys that have no effect lie deep in a pipeline: at most three for each level of steps, and twelve
+-- around these
+abbrev pub ALL_LEVELS : ℕ
+ALL_LEVELS = 3 * LEVELS + 12

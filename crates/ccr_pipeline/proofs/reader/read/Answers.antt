@@ -1,5 +1,9 @@
 use Rattle.ccr_pipeline.proofs.OfLimits.{read_limits}
+use Rattle.ccr_pipeline.proofs.UsedUp.{read_leaves_none}
 use Rattle.ccr_pipeline.proofs.reader.read.Goals as goal
 
 pub returns-clause-limits : goal.returns-clause-limits
 returns-clause-limits c = read_limits _ _ _ c.in_ok-value.ensures.ok c.read_value.ensures.checked
+
+pub returns-clause-none_left : goal.returns-clause-none_left
+returns-clause-none_left c = read_leaves_none _ _ _ c.in_ok-value.ensures.ok c.read_value.ensures.checked
