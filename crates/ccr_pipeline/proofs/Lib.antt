@@ -37,3 +37,4 @@ pub mod Used
 pub mod Ascending
 pub mod UsedOwn
 pub mod UsedUp
+pub mod Reordering

@@ -23,4 +23,5 @@ pub mod Unused
 pub mod Used
 pub mod Notes
 pub mod Reading
+pub mod Reordered
 pub mod Pipelines

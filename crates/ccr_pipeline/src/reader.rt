@@ -1,6 +1,7 @@
 //! Reading of pipelines and of task files.
-ghost use Rattle.std.specs.Prelude.{◌≡◌, ◌≤◌, ℕ, ◌++◌, [], length, map, IfOk, IfErr, string_bytes, codes};
+ghost use Rattle.std.specs.Prelude.{◌≡◌, ◌≤◌, ℕ, ◌++◌, List, [], length, map, IfOk, IfErr, string_bytes, codes};
 ghost use Rattle.serde_json.specs.Data.{Data};
+ghost use Rattle.serde_json.specs.Read.{read as json};
 ghost use Rattle.serde_json.specs.View.{view};
 ghost use Rattle.ccr_pipeline.specs.Breaches.{OfLimits};
 ghost use Rattle.ccr_pipeline.specs.Faults.{unless, Checks, StartsWith, IsFirst, fault_of};
@@ -8,6 +9,7 @@ ghost use Rattle.ccr_pipeline.specs.JobRules.{job_faults, members};
 ghost use Rattle.ccr_pipeline.specs.Meaning.{config_from};
 ghost use Rattle.ccr_pipeline.specs.Pipelines.{pipeline_data, IsPipelineOf};
 ghost use Rattle.ccr_pipeline.specs.Reading.{faults_before, pipeline_faults, IsTextOf, IsNoValue, Refuses, IsReading};
+ghost use Rattle.ccr_pipeline.specs.Reordered.{IsReordering};
 ghost use Rattle.ccr_pipeline.specs.TaskRules.{config_faults};
 ghost use Rattle.ccr_pipeline.specs.Tree.{config_data};
 ghost use Rattle.ccr_pipeline.specs.Unused.{unused_in};
@@ -89,6 +91,9 @@ pub fn read(alloc: Global, text: &[u8]) -> Result<Pipeline, ReadFault>
 
     // Too deep is told only where a job's plan is, and bad attempts only where those of a job break their limits.
     ensures limits { IfErr result (λ fault. (d : Data) → IsTextOf text.now d → OfLimits d (fault_of fault)) }
+
+    // A text that differs in the order of an object's members alone, but for those of equal keys, has the same value.
+    ensures order { (others : List ℕ) → IsReordering text.now others → json text.now ≡ json others }
 {
     let value = value_of(alloc, text, "pipeline")?;
     read_value(alloc, text, value)

@@ -1,4 +1,5 @@
 use Rattle.ccr_pipeline.proofs.OfLimits.{read_limits}
+use Rattle.ccr_pipeline.proofs.Reordering.{reordered_same}
 use Rattle.ccr_pipeline.proofs.UsedUp.{read_leaves_none}
 use Rattle.ccr_pipeline.proofs.reader.read.Goals as goal
 
@@ -7,3 +8,9 @@ returns-clause-limits c = read_limits _ _ _ c.in_ok-value.ensures.ok c.read_valu
 
 pub returns-clause-none_left : goal.returns-clause-none_left
 returns-clause-none_left c = read_leaves_none _ _ _ c.in_ok-value.ensures.ok c.read_value.ensures.checked
+
+pub returns-in_err-value-clause-order : goal.returns-in_err-value-clause-order
+returns-in_err-value-clause-order c = reordered_same _
+
+pub returns-clause-order : goal.returns-clause-order
+returns-clause-order c = reordered_same _
