@@ -1,3 +1,4 @@
+pub mod Joined
 pub mod Faulted
 pub mod Members
 pub mod NameLemmas
@@ -38,3 +39,7 @@ pub mod Ascending
 pub mod UsedOwn
 pub mod UsedUp
 pub mod Reordering
+pub mod PrintedLeaves
+pub mod PrintedTrees
+pub mod PrintedVisits
+pub mod Printing

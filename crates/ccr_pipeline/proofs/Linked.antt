@@ -78,7 +78,7 @@ when true xs is e = e
 when false xs is e = absurd (cc (is))
 
 module _ (resources jobs : List Text) (names : List Text) (p : Path) (d : Data) (own : own_keys names p d ≡ []) (known : unknown_resource resources p d ++ unknown_passed jobs p d ≡ []) where
-  get_resource : is_some (at_key (codes "get") d) ≡ true → has_name resources (text_or (text_or [] (codes "get") d) (codes "resource") d) ≡ true
+  pub get_resource : is_some (at_key (codes "get") d) ≡ true → has_name resources (text_or (text_or [] (codes "get") d) (codes "resource") d) ≡ true
   unfolding unknown_resource
   get_resource a =
       let keys : key_faults (value_faults 3) names (opening schema.Get) p d ≡ [] = rw a at own in
@@ -87,13 +87,13 @@ module _ (resources jobs : List Text) (names : List Text) (p : Path) (d : Data) 
       let there : unknown_resource resources p d ≡ [] = nil_left (unknown_resource resources p d) _ known in
       meant resources p d (codes "get") (is_some (at_key (codes "resource") d)) refl (λ is. rw (is, a) refl) named.there text (when _ _ (rw a refl) there)
 
-  get_passed : is_some (at_key (codes "get") d) ≡ true → AllPass (has_name jobs) (texts_from (codes "passed") d)
+  pub get_passed : is_some (at_key (codes "get") d) ≡ true → AllPass (has_name jobs) (texts_from (codes "passed") d)
   unfolding unknown_passed
   get_passed a =
       let there : unknown_passed jobs p d ≡ [] = nil_right (unknown_resource resources p d) _ known in
       in_texts jobs (path_below p (codes "passed")) 0 (list_at (codes "passed") d) (when _ _ a there)
 
-  put_resource : is_some (at_key (codes "get") d) ≡ false → is_some (at_key (codes "put") d) ≡ true → has_name resources (text_or (text_or [] (codes "put") d) (codes "resource") d) ≡ true
+  pub put_resource : is_some (at_key (codes "get") d) ≡ false → is_some (at_key (codes "put") d) ≡ true → has_name resources (text_or (text_or [] (codes "put") d) (codes "resource") d) ≡ true
   unfolding unknown_resource
   put_resource a b =
       let keys : key_faults (value_faults 3) names (opening schema.Put) p d ≡ [] = rw (a, b) at own in

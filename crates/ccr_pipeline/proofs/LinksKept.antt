@@ -46,11 +46,11 @@ module _ (one : List Text → Path → Data → Faults) (named : (names : List T
       let rest = each_called (names ++ names_at (codes "name") d) p (i + 1) ds (nil_right (one names (path_at p i) d) _ e) in
       rw (first, rest) refl
 
-resource_named : (names : List Text) (p : Path) (d : Data) → resource_faults names p d ≡ [] → IsNamed names (codes "name") d
+pub resource_named : (names : List Text) (p : Path) (d : Data) → resource_faults names p d ≡ [] → IsNamed names (codes "name") d
 unfolding object_faults
 resource_named names p d e = new_name 2 names p (codes "name") d (nil_left _ _ (nil_right (unless (is_some (as_object d)) rule.Kind p) _ e))
 
-job_named : (names : List Text) (p : Path) (d : Data) → job_faults names p d ≡ [] → IsNamed names (codes "name") d
+pub job_named : (names : List Text) (p : Path) (d : Data) → job_faults names p d ≡ [] → IsNamed names (codes "name") d
 unfolding object_faults
 job_named names p d e =
     new_name 2 names p (codes "name") d (nil_left _ _ (nil_right (unless (is_some (as_object d)) rule.Kind p) _ (nil_left (object_faults (value_faults 3) names schema.Job p d) _ e)))

@@ -5,7 +5,7 @@ use Rattle.std.proofs.lemmas.Map.Lookups.{exact_bytes}
 use Rattle.std.specs.Cmp.Lexicographic.{slice_cmp}
 use Rattle.std.specs.Ordering.{ordering_reverse}
 use Rattle.json.specs.Json as tree
-use Rattle.serde_json.specs.Data.{Data, array, object, Items, item, Members, no_members, member, put}
+use Rattle.serde_json.specs.Data.{Data, array, object, Members, no_members, member, put}
 use Rattle.serde_json.specs.Read.{of_json, of_items, of_members, read as json}
 use Rattle.ccr_pipeline.specs.Reordered.{Reordered, same, chain, in_array, in_object, ReorderedItem, here, later, ReorderedMember, inside, after, swapped, IsReordering}
 

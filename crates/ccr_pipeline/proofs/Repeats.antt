@@ -1,5 +1,5 @@
 -- Lists in which no name is repeated.
-use Rattle.std.proofs.Common.{◌≡◌, List, [], ◌∷◌, ◌++◌, Bool, true, false, Option, Some, None, refl, sym, append_assoc, ◌∙◌, ◌||◌}
+use Rattle.std.proofs.Common.{◌≡◌, List, [], ◌∷◌, ◌++◌, false, Option, Some, None, refl, sym, append_assoc, ◌∙◌, ◌||◌}
 use Rattle.std.proofs.lemmas.Cmp.{nat_list_eq_equiv}
 use Rattle.std.proofs.lemmas.List.{append-nil}
 use Rattle.std.proofs.lemmas.List.Folds.{list_any-append}
@@ -9,19 +9,12 @@ use Rattle.std.specs.Str.{bytes_eq}
 use Rattle.ccr_pipeline.specs.Keys.{or_else}
 use Rattle.ccr_pipeline.specs.Names.{has_name, with_names}
 use Rattle.ccr_pipeline.specs.Tree.{Text}
+use Rattle.ccr_pipeline.proofs.Joined.{or_first, or_last}
 
 -- each text is none of these names, nor of the texts before it
 abbrev pub NoRepeat : List Text → List Text → Type 0
 NoRepeat names [] = Unit {0}
 NoRepeat names (x ∷ xs) = (has_name names x ≡ false) × NoRepeat (names ++ x ∷ []) xs
-
-or_left : (a b : Bool) → (a || b) ≡ false → a ≡ false
-or_left true b e = cc
-or_left false b e = refl
-
-or_right : (a b : Bool) → (a || b) ≡ false → b ≡ false
-or_right true b e = absurd (cc (e))
-or_right false b e = e
 
 all_map : (P Q : Text → Type 0) → ((x : Text) → P x → Q x) → (xs : List Text) → AllByRecursion P xs → AllByRecursion Q xs
 all_map P Q f [] h = tt
@@ -32,14 +25,14 @@ none_before names [] h = tt
 none_before names (x ∷ xs) h = (
   h.0,
   all_map (λ y. has_name (names ++ x ∷ []) y ≡ false) (λ y. has_name names y ≡ false)
-      (λ y e. or_left _ _ (sym (list_any-append (bytes_eq y) names (x ∷ [])) ∙ e)) xs
+      (λ y e. or_first _ _ (sym (list_any-append (bytes_eq y) names (x ∷ [])) ∙ e)) xs
       (none_before (names ++ x ∷ []) xs h.1),
 )
 
 other : (names : List Text) (x y : Text) → has_name (names ++ x ∷ []) y ≡ false → bytes_eq x y ≡ false
 other names x y e =
-    let last : (bytes_eq y x || false) ≡ false = or_right _ _ (sym (list_any-append (bytes_eq y) names (x ∷ [])) ∙ e) in
-    nat_list_eq_equiv.symm x y ∙ or_left _ _ last
+    let last : (bytes_eq y x || false) ≡ false = or_last _ _ (sym (list_any-append (bytes_eq y) names (x ∷ [])) ∙ e) in
+    nat_list_eq_equiv.symm x y ∙ or_first _ _ last
 
 pub distinct : (names xs : List Text) → NoRepeat names xs → IsDistinct bytes_eq xs
 unfolding IsDistinct

@@ -1,5 +1,5 @@
 -- Where no fault is present in a plan, its attempts keep the limits.
-use Rattle.std.proofs.Common.{◌≡◌, ℕ, zero, suc, ◌*◌, ◌≤◌, List, [], ◌∷◌, Bool, true, false, ◌&&◌, nat_le, refl, Option, Some, None, arith, option_and_then, codes, if◌then◌else◌}
+use Rattle.std.proofs.Common.{◌≡◌, ℕ, zero, suc, ◌*◌, ◌≤◌, List, [], ◌∷◌, true, false, ◌&&◌, nat_le, refl, Option, Some, None, arith, option_and_then, codes, if◌then◌else◌}
 use Rattle.std.proofs.lemmas.Bool.Decides.{nat_tests}
 use Rattle.std.specs.List.{AllByRecursion}
 use Rattle.std.specs.Option.{IfSome}
@@ -16,17 +16,10 @@ use Rattle.ccr_pipeline.specs.Plans.{plan_from}
 use Rattle.ccr_pipeline.specs.Steps.{step_tree, with_attempts, action}
 use Rattle.ccr_pipeline.specs.StepRules.{closing_faults, no_count, parallel_rest}
 use Rattle.ccr_pipeline.specs.Tree.{Tree, trees_of, attempts, hook}
+use Rattle.ccr_pipeline.proofs.Joined.{and_first, and_last}
 use Rattle.ccr_pipeline.proofs.Kept.{Holds, Leaves, action-kept, hooks-kept, plan-kept}
 use Rattle.ccr_pipeline.proofs.Rows.{nil_right, passes}
 use Rattle.ccr_pipeline.proofs.Unfaulted.{Unfaulted, Opened, opened, Planned}
-
-and_left : (a b : Bool) → (a && b) ≡ true → a ≡ true
-and_left true b e = refl
-and_left false b e = cc
-
-and_right : (a b : Bool) → (a && b) ≡ true → b ≡ true
-and_right true b e = e
-and_right false b e = absurd (cc (e))
 
 -- attempts that keep the limits below this product
 pub record Few (t n : ℕ) : Type 0 where
@@ -38,8 +31,8 @@ few_number : (t : ℕ) (p : Path) (r : Rule) (o : Option ℕ) → or_else o (unl
 few_number t p r None e = absurd (cc (e))
 few_number t p r (Some n) e =
     let all = passes _ rule.Attempts p e in
-    let rest = and_right (nat_le 1 n) _ all in
-    record { some = and_left _ _ all; few = and_left _ _ rest; all = and_right (nat_le n 100) _ rest }
+    let rest = and_last (nat_le 1 n) _ all in
+    record { some = and_first _ _ all; few = and_first _ _ rest; all = and_last (nat_le n 100) _ rest }
 
 few_attempts : (t : ℕ) (p : Path) (o : Option Data) → or_else o [] (λ found. or_else (option_and_then as_u64 (as_number found)) (unless false (no_count found) p) (λ n. unless (nat_le 1 n && (nat_le n 100 && nat_le (t * n) 10000)) rule.Attempts p)) ≡ [] → IfSome (option_and_then as_u64 (option_and_then as_number o)) (Few t)
 few_attempts t p None e = tt

@@ -14,6 +14,7 @@ use Rattle.ccr_pipeline.specs.Plans.{plan_from}
 use Rattle.ccr_pipeline.specs.Steps.{with_attempts, with_hook, with_hooks, each_tree, parallel_items, holder, action, step_tree}
 use Rattle.ccr_pipeline.specs.Tree.{Tree, get, put, task, in_order, in_parallel, tried, hook, no_trees, trees_of, SourceData, config}
 use Rattle.ccr_pipeline.specs.Used.{kind_at, used_object, used_items, used}
+use Rattle.ccr_pipeline.proofs.Joined.{none_of}
 use Rattle.ccr_pipeline.proofs.UsedKeys.{at_unused, at_used, at_same}
 use Rattle.ccr_pipeline.proofs.UsedSteps.{Held, get_same, put_same, task_same, attempts_same, do_held, parallel_held, try_held, Hooked, step_hooked, job_hooked, Listed, objects_listed, steps_listed, list_listed}
 
@@ -73,10 +74,6 @@ config_same (suc n) d =
 source_of : (n : ℕ) (x y : SourceData) (o : Option Data) → (is_some o ≡ false → x ≡ y) → or_else (option_map (used n (kind.Object schema.Config)) o) x (λ found. config (config_from found)) ≡ or_else o y (λ found. config (config_from found))
 source_of n x y None h = h refl
 source_of n x y (Some d) h = ap config (config_same n d)
-
-none_of : (o : Option Data) → is_some o ≡ false → o ≡ None
-none_of None e = refl
-none_of (Some d) e = absurd (cc (e))
 
 task_by : (n : ℕ) (d : Data) (c f : Bool) → is_some (at_key (codes "config") d) ≡ c → is_some (at_key (codes "file") d) ≡ f → task_from (used_object (used n) (if not c && f then schema.FileTask else schema.Task) d) ≡ task_from d
 unfolding kind_at

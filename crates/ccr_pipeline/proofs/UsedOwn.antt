@@ -19,6 +19,7 @@ use Rattle.ccr_pipeline.specs.Schema.{Row, opening, closing, has_row, has_key}
 use Rattle.ccr_pipeline.specs.Unused.{unused_members, unused_own, unused_items, unused_value, unused_rows, unused_object}
 use Rattle.ccr_pipeline.specs.Used.{kept, kind_in, kind_at, used_members, used_object, used_items, used}
 use Rattle.ccr_pipeline.proofs.Ascending.{Above, Ascends, AllAscend, AscendMembers, at_ascends}
+use Rattle.ccr_pipeline.proofs.Joined.{and_first, and_last, both_nil}
 use Rattle.ccr_pipeline.proofs.UsedKeys.{used_like, at_used}
 use Rattle.ccr_pipeline.proofs.UsedValues.{Fits, fits_opening}
 
@@ -92,7 +93,7 @@ module _ (n : ℕ) (s : Schema) (p : Path) where
       (members_none ms a.2 (λ l stays no. later l k d ms (slice_cmp nat_cmp l k) refl a.0 (h l stays no)))
 
 -- of an object of the schema, no key of its own is unused, so many levels down
-pub own_none : (n : ℕ) (s : Schema) (p : Path) (d : Data) → Ascends d → ((k : List ℕ) → has_row (kept s) k ≡ true → has_key s k ≡ false → at_key k d ≡ None) → unused_own s p (used_object (used n) s d) ≡ []
+own_none : (n : ℕ) (s : Schema) (p : Path) (d : Data) → Ascends d → ((k : List ℕ) → has_row (kept s) k ≡ true → has_key s k ≡ false → at_key k d ≡ None) → unused_own s p (used_object (used n) s d) ≡ []
 own_none n s p (object ms) a h =
     members_none n s p ms a (λ k stays no. null_at (get_member k ms) (h k stays no))
 own_none n s p _ a h = refl
@@ -127,17 +128,6 @@ none_stays : (s : Schema) (d : Data) (rs : List Row) → is_none rs ≡ true →
 none_stays s d [] e k there lacks = absurd (cc (there))
 none_stays s d (r ∷ rs) e k there lacks = absurd (cc (e))
 
-and_left : (a b : Bool) → (a && b) ≡ true → a ≡ true
-and_left true b e = refl
-and_left false b e = absurd (cc (e))
-
-and_right : (a b : Bool) → (a && b) ≡ true → b ≡ true
-and_right true b e = e
-and_right false b e = absurd (cc (e))
-
-both_nil : (xs ys : List Path) → xs ≡ [] → ys ≡ [] → xs ++ ys ≡ []
-both_nil xs ys e f = rw (e, f) refl
-
 -- none is unused in objects of a schema whose keys are all its own, so many levels down
 abbrev Below : ℕ → Type 0
 Below n = (s : Schema) → is_none (kept s) ≡ true → (p : Path) (m : ℕ) → 2 * n ≤ m → (d : Data) → Ascends d → unused_object n s p (used m (kind.Object s) d) ≡ []
@@ -169,8 +159,8 @@ module _ (n : ℕ) (below : Below n) where
   rows_none : (s : Schema) (rs : List Row) → Fits s rs → are_unkept rs ≡ true → (p : Path) (m : ℕ) → 2 * n + 1 ≤ m → (d : Data) → Ascends d → unused_rows (unused_object n) rs p (used_object (used m) s d) ≡ []
   rows_none s [] f e p m h d a = refl
   rows_none s (r ∷ rs) f e p m h d a =
-      both_nil _ _ (rw (at_used m s r.2 r.1 f.0 d) (found_none r.1 (and_left _ _ e) (path_below p r.2) m h (at_key r.2 d) (at_ascends r.2 d a)))
-      (rows_none s rs f.2 (and_right (is_unkept r.1) _ e) p m h d a)
+      both_nil _ _ (rw (at_used m s r.2 r.1 f.0 d) (found_none r.1 (and_first _ _ e) (path_below p r.2) m h (at_key r.2 d) (at_ascends r.2 d a)))
+      (rows_none s rs f.2 (and_last (is_unkept r.1) _ e) p m h d a)
 
 below_none : (n : ℕ) → Below n
 unfolding unused_object

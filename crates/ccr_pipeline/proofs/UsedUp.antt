@@ -28,6 +28,7 @@ use Rattle.ccr_pipeline.specs.Unused.{unused_spot, unused_in, unused_object}
 use Rattle.ccr_pipeline.specs.Used.{ALL_LEVELS, kept, kept_of_steps, kind_at, used_object, used_items, used, used_pipeline}
 use Rattle.ccr_pipeline.proofs.Ascending.{Ascends, AllAscend, at_ascends, list_ascends, read_ascends}
 use Rattle.ccr_pipeline.proofs.Inside.{EachItem, OwnSteps, Hooks}
+use Rattle.ccr_pipeline.proofs.Joined.{none_of}
 use Rattle.ccr_pipeline.proofs.Ordered.{held, having, one_kind}
 use Rattle.ccr_pipeline.proofs.Rows.{nil_left, nil_right}
 use Rattle.ccr_pipeline.proofs.Shallow.{no_level}
@@ -71,10 +72,6 @@ no_holder k true p t c f n few is e = omega (arith, few)
 no_holder k false true t c f n few is e = omega (arith, few)
 no_holder k false false true c f n few is e = omega (arith, few)
 no_holder k false false false c f n few is e = absurd (cc (is, e))
-
-no_some : (o : Option Data) → is_some o ≡ false → o ≡ None
-no_some None e = refl
-no_some (Some d) e = absurd (cc (e))
 
 no_one : (x y z : Option Data) → held x y z ≡ 0 → (x ≡ None) × (y ≡ None) × (z ≡ None)
 no_one None None None e = (refl, refl, refl)
@@ -120,9 +117,9 @@ stays names p n d e =
     let c = is_some (at_key (codes "config") d) in
     let f = is_some (at_key (codes "file") d) in
     record {
-      get = λ no. no_some (at_key (codes "get") d) (no_get g u t c f no);
-      put = λ no. no_some (at_key (codes "put") d) (no_put g u t c f (held x y z) few no);
-      task = λ no. no_some (at_key (codes "task") d) (no_task g u t c f (held x y z) few no);
+      get = λ no. none_of (at_key (codes "get") d) (no_get g u t c f no);
+      put = λ no. none_of (at_key (codes "put") d) (no_put g u t c f (held x y z) few no);
+      task = λ no. none_of (at_key (codes "task") d) (no_task g u t c f (held x y z) few no);
       order = λ no. (no_one x y z (no_holder (codes "do") g u t c f (held x y z) few refl no)).0;
       parallel = λ no. (no_one x y z (no_holder (codes "in_parallel") g u t c f (held x y z) few refl no)).1;
       trying = λ no. (no_one x y z (no_holder (codes "try") g u t c f (held x y z) few refl no)).2;

@@ -1,5 +1,5 @@
 -- What is broken in an object is broken in it without its unused keys.
-use Rattle.std.proofs.Common.{◌≡◌, ℕ, zero, suc, ◌+◌, List, [], ◌∷◌, ◌++◌, Bool, true, false, not, ◌&&◌, ◌||◌, Option, Some, None, refl, ap, ap₂, ◌∙◌, append_assoc, option_and_then, option_map, is_some, codes, if◌then◌else◌}
+use Rattle.std.proofs.Common.{◌≡◌, ℕ, zero, suc, ◌+◌, List, [], ◌∷◌, ◌++◌, Bool, true, false, not, ◌&&◌, Option, Some, None, refl, ap, ap₂, ◌∙◌, append_assoc, option_and_then, option_map, is_some, codes, if◌then◌else◌}
 use Rattle.std.proofs.lemmas.Slice.Eq.{bytes_eq-Decides}
 use Rattle.std.specs.Str.{bytes_eq}
 use Rattle.serde_json.specs.Data.{Data, array, Items, no_items, item}
@@ -16,6 +16,7 @@ use Rattle.ccr_pipeline.specs.Names.{text_at}
 use Rattle.ccr_pipeline.specs.Objects.{Test, broken, absent, once, once_names, row_names, new_names, row_faults, key_faults, object_faults, each_object, inside, value_faults}
 use Rattle.ccr_pipeline.specs.Schema.{Row, opening, closing, has_row}
 use Rattle.ccr_pipeline.specs.Used.{kept, kind_in, kind_at, used_object, used_items, used}
+use Rattle.ccr_pipeline.proofs.Joined.{and_first, and_last, or_first, or_last}
 use Rattle.ccr_pipeline.proofs.UsedKeys.{used_like, at_used, plain, at_same}
 
 -- two objects have the same name, where a value of the kind asks for it
@@ -75,38 +76,22 @@ are_owned s [] = true
 are_owned s ((need, kind.OwnName, key) ∷ rs) = is_name (kind_at s (codes "name")) && are_owned s rs
 are_owned s (r ∷ rs) = are_owned s rs
 
-or_left : (a b : Bool) → (a || b) ≡ false → a ≡ false
-or_left true b e = absurd (cc (e))
-or_left false b e = refl
-
-or_right : (a b : Bool) → (a || b) ≡ false → b ≡ false
-or_right true b e = absurd (cc (e))
-or_right false b e = e
-
 kind_there : (before after : List Row) (r : Row) → has_row before r.2 ≡ false → kind_in (before ++ r ∷ after) r.2 ≡ Some r.1
 kind_there [] after r e = rw ((bytes_eq-Decides r.2 r.2).1 refl) refl
 kind_there (b ∷ before) after r e =
-    rw (or_left (bytes_eq b.2 r.2) _ e) (kind_there before after r (or_right (bytes_eq b.2 r.2) _ e))
+    rw (or_first (bytes_eq b.2 r.2) _ e) (kind_there before after r (or_last (bytes_eq b.2 r.2) _ e))
 
 is_named : (o : Option Kind) → is_name o ≡ true → o ≡ Some kind.Name
 is_named (Some kind.Name) e = refl
 is_named (Some _) e = absurd (cc (e))
 is_named None e = absurd (cc (e))
 
-and_left : (a b : Bool) → (a && b) ≡ true → a ≡ true
-and_left true b e = refl
-and_left false b e = absurd (cc (e))
-
-and_right : (a b : Bool) → (a && b) ≡ true → b ≡ true
-and_right true b e = e
-and_right false b e = absurd (cc (e))
-
 is_not : (b : Bool) → not b ≡ true → b ≡ false
 is_not true e = absurd (cc (e))
 is_not false e = refl
 
 owns : (s : Schema) (r : Row) (rs : List Row) → are_owned s (r ∷ rs) ≡ true → Owns s r.1 × (are_owned s rs ≡ true)
-owns s (need, kind.OwnName, key) rs e = (is_named _ (and_left _ _ e), and_right (is_name (kind_at s (codes "name"))) _ e)
+owns s (need, kind.OwnName, key) rs e = (is_named _ (and_first _ _ e), and_last (is_name (kind_at s (codes "name"))) _ e)
 owns s (need, _, key) rs e = (tt, e)
 
 -- the rows of a part of a schema's table are those of the schema
@@ -114,9 +99,9 @@ pub fits_part : (s : Schema) (before rs after : List Row) → ((k : List ℕ) �
 fits_part s before [] after is new owned = tt
 fits_part s before (r ∷ rs) after is new owned =
     let o = owns s r rs owned in (
-      is r.2 ∙ kind_there before (rs ++ after) r (is_not _ (and_left _ _ new)),
+      is r.2 ∙ kind_there before (rs ++ after) r (is_not _ (and_first _ _ new)),
       o.0,
-      fits_part s (before ++ r ∷ []) rs after (λ k. rw append_assoc (is k)) (and_right (not (has_row before r.2)) _ new) o.1,
+      fits_part s (before ++ r ∷ []) rs after (λ k. rw append_assoc (is k)) (and_last (not (has_row before r.2)) _ new) o.1,
     )
 
 in_opening : (s : Schema) → are_new [] (opening s) ≡ true → are_owned s (opening s) ≡ true → Fits s (opening s)

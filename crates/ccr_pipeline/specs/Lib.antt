@@ -24,4 +24,5 @@ pub mod Used
 pub mod Notes
 pub mod Reading
 pub mod Reordered
+pub mod Printed
 pub mod Pipelines

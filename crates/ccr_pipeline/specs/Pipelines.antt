@@ -9,6 +9,7 @@ use Rattle.ccr_pipeline.specs.Meaning.{text_or, texts_from, truth_from, whole_fr
 use Rattle.ccr_pipeline.specs.Kinds.{is_name}
 use Rattle.ccr_pipeline.specs.Limits.{IsPlan}
 use Rattle.ccr_pipeline.specs.Plans.{plan_from, inputs_read}
+use Rattle.ccr_pipeline.specs.Printed.{pipeline_value}
 use Rattle.ccr_pipeline.specs.Reading.{pipeline_faults}
 use Rattle.ccr_pipeline.specs.Tree.{Text}
 use Rattle.ccr_pipeline.specs.Used.{used_pipeline}
@@ -65,6 +66,12 @@ pub record SaysTheSame (e d : Data) : Type 0 where
   pub resources : resources_from e ≡ resources_from d
   pub jobs : jobs_from e ≡ jobs_from d
 
+-- these resources and jobs, printed as a JSON value, are read as the same: no fault is present in it
+pub record AreReadAgain (rs : List ResourceData) (js : List JobData) : Type 0 where
+  pub faults : pipeline_faults (pipeline_value rs js) ≡ []
+  pub resources : resources_from (pipeline_value rs js) ≡ rs
+  pub jobs : jobs_from (pipeline_value rs js) ≡ js
+
 -- what a pipeline shows: the bytes read, the paths of its unused keys, its resources and its jobs
 pub record PipelineData : Type 0 where
   pub text : List ℕ
@@ -91,3 +98,5 @@ pub record IsPipelineOf (text : List ℕ) (d : Data) (p : PipelineData) : Type 0
   pub effectless : (n : ℕ) → SaysTheSame (used_pipeline n d) d
   -- the inputs of each job are the gets of its text, in the order in which they are read
   pub inputs : map (λ j. inputs j.plan) p.jobs ≡ inputs_read 0 (list_at (codes "jobs") d)
+  -- printed as a JSON value, they are read as the same
+  pub printed : AreReadAgain p.resources p.jobs

@@ -8,7 +8,7 @@ use thiserror::Error;
 
 /// Why a text is refused, with the path of the place that breaks the rule: keys joined by `.`, positions as `[i]`.
 /// The whole is `pipeline`, or `task` for a task file.
-#[derive(Debug, Drop, PartialEq, Eq, Error)]
+#[derive(Debug, Drop, Error)]
 pub enum ReadFault {
     /// The text has more than 1,048,576 bytes.
     #[error("too long at {0}")]

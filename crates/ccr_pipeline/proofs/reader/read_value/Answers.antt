@@ -10,6 +10,7 @@ use Rattle.ccr_pipeline.specs.Unused.{unused_in}
 use Rattle.ccr_pipeline.proofs.Faulted.{checks_fault}
 use Rattle.ccr_pipeline.proofs.LinksKept.{few_resources, few_jobs, distinct_resources, distinct_jobs, are_linked}
 use Rattle.ccr_pipeline.proofs.Ordered.{jobs_ordered}
+use Rattle.ccr_pipeline.proofs.Printing.{read_again}
 use Rattle.ccr_pipeline.proofs.Used.{says_the_same}
 use Rattle.ccr_pipeline.proofs.Whole.{in_jobs, in_names, noted_unused, unfaulted}
 use Rattle.ccr_pipeline.proofs.reader.read_value.Goals as goal
@@ -34,6 +35,8 @@ pub returns-clause-read : goal.returns-clause-read
 returns-clause-read c =
     let d = view c.args.value in
     let none = rw c.job_list.ensures at c.in_ok-jobs.ensures.checked.0 in
+    let whole : pipeline_faults d ≡ [] =
+    unfaulted d c.in_ok-notes.ensures.checked none _ _ c.in_ok-notes.ensures.known (rw c.job_list.ensures at c.in_ok-jobs.ensures.noted) c.in_ok-unused.ensures.known in
     let jobs : map job_data c.in_ok-jobs.jobs.items ≡ jobs_from d = rw c.job_list.ensures at c.in_ok-jobs.ensures.checked.1 in
     let unused : unused_in d ≡ names_of (c.read_jobs.new.notes).unused.items =
     sym (noted_unused d c.in_ok-notes.ensures.checked none _ _ c.in_ok-notes.ensures.known (rw c.job_list.ensures at c.in_ok-jobs.ensures.noted)) in
@@ -44,6 +47,7 @@ returns-clause-read c =
       unused = rw unused c.in_ok-unused.ensures.sorted;
       effectless = λ n. says_the_same n d;
       inputs = rw jobs (jobs_ordered [] 0 (list_at (codes "jobs") d) none);
+      printed = rw (c.in_ok-notes.ensures.read, jobs) (read_again d whole);
     }
 
 pub invariant_of-result : goal.invariant_of-result
