@@ -55,9 +55,9 @@ outputs_again : (ss : List Text) → outputs_in (output_values ss) ≡ ss
 outputs_again [] = refl
 outputs_again (s ∷ ss) = ap (λ ts. s ∷ ts) (outputs_again ss)
 
-dir_again : (o : Option Text) → option_and_then as_str (unless_null (or_null (option_map string o))) ≡ o
-dir_again None = refl
-dir_again (Some s) = refl
+pub optional_again : (o : Option Text) → option_and_then as_str (unless_null (or_null (option_map string o))) ≡ o
+optional_again None = refl
+optional_again (Some s) = refl
 
 pin_again : (o : Option TextMap) → option_and_then text_map_of (unless_null (or_null (option_map text_object o))) ≡ o
 pin_again None = refl
@@ -94,7 +94,7 @@ put_shown : (a : Around) (p : PutData) → IsObject p.params → IsObject p.get_
 put_shown a p params get_params = rw (params, get_params) refl
 
 run_shown : (r : RunData) → run_of (run_value r) ≡ r
-run_shown r = rw (texts_again r.args, dir_again r.dir) refl
+run_shown r = rw (texts_again r.args, optional_again r.dir) refl
 
 config_shown : (c : ConfigData) → config_from (config_value c) ≡ c
 config_shown c = rw (run_shown c.run, inputs_again c.inputs, outputs_again c.outputs, variables_again c.params) refl
@@ -173,9 +173,9 @@ module _ (n : ℕ) (p : Path) (whole : Data) where
   params_row (Some (array ds)) = refl
   params_row (Some (object ms)) = members_row ms (members_have_float ms) refl
 
-  dir_row : (o : Option Text) → May_row kind.Text (or_null (option_map string o))
-  dir_row None = refl
-  dir_row (Some s) = text_row s
+  pub optional_row : (o : Option Text) → May_row kind.Text (or_null (option_map string o))
+  optional_row None = refl
+  optional_row (Some s) = text_row s
 
   pin_row : (o : Option TextMap) → May_row kind.Fields (or_null (option_map text_object o))
   unfolding value_faults broken
@@ -203,7 +203,7 @@ unfolding object_faults
 run_quiet q r =
     both_nil _ _ (text_row 0 (path_below q (codes "path")) (run_value r) r.path)
     (both_nil _ _ (texts_row 0 (path_below q (codes "args")) (run_value r) r.args)
-    (both_nil _ [] (dir_row 0 (path_below q (codes "dir")) (run_value r) r.dir) refl))
+    (both_nil _ [] (optional_row 0 (path_below q (codes "dir")) (run_value r) r.dir) refl))
 
 text_one : (o : Option Text) → is_some o ≡ true → or_else o [] (λ s. s ∷ []) ≡ unwrap_or o [] ∷ []
 text_one None e = absurd (cc (e))
