@@ -1,5 +1,6 @@
 pub mod Faults
 pub mod Keys
+pub mod Cursors
 pub mod Schema
 pub mod Kinds
 pub mod Names

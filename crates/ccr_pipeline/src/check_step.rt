@@ -1,6 +1,7 @@
 //! The tests of steps.
 ghost use Rattle.std.specs.Prelude.{◌≡◌, ◌++◌, [], drop, codes, is_some, count_by, OnOk};
 ghost use Rattle.serde_json.specs.View.{view};
+ghost use Rattle.ccr_pipeline.specs.Cursors.{data_of, path_to, here};
 ghost use Rattle.ccr_pipeline.specs.Faults.{unless, Checks, StartsWith, IsFirst, fault_of};
 ghost use Rattle.ccr_pipeline.specs.Keys.{at_key, or_else, path_below, path_of};
 ghost use Rattle.ccr_pipeline.specs.Names.{names_at};
@@ -9,12 +10,12 @@ ghost use Rattle.ccr_pipeline.specs.Schema.{opening, closing, schema_of};
 ghost use Rattle.ccr_pipeline.specs.StepRules.{kinds, own_keys, shape_faults, kind_faults, opening_faults};
 ghost use Rattle.ccr_pipeline.specs.StepRules.{parallel_rest, closing_faults, attempts_faults};
 
-use crate::fault::{ReadFault, Rule};
-use crate::key::{at_key, require};
+use crate::cursor::Cursor;
+use crate::fault::{Checked, Rule};
+use crate::key::at_key;
 use crate::names::Names;
-use crate::object::{check_keys, check_rows};
-use crate::place::Place;
-use crate::schema::{NESTED, Schema, closing, opening, schema_of};
+use crate::object::check_keys;
+use crate::schema::{Schema, closing, opening, schema_of};
 use serde_json::Value;
 use std::alloc::Global;
 
@@ -40,95 +41,68 @@ fn kinds(step: &Value) -> usize
     count(step, &["get", "put", "task", "do", "in_parallel", "try"])
 }
 
-/// Refuses a step that breaks a rule in its own keys, as far as they come before the steps in it.
-#[tactic(auto, using(crate::proofs::TableNames::step_names_are))]
-fn check_own_keys(
-    alloc: Global,
-    names: &mut Names,
-    step: &Value,
-    place: &Place,
-) -> Result<(), ReadFault>
-    ensures checked { Checks (own_keys names.old (path_of place.now) (view step.now)) result }
-    ensures added { OnOk result (names.new ≡ names.old ++ names_at (codes "get") (view step.now)) }
-{
-    check_rows(alloc, NESTED, opening(schema_of(step)), names, step, place)
-}
-
 #[tactic(auto, using(crate::proofs::Faulted::first_append), unfolding(crate::specs::StepRules::shape_faults))]
-fn check_shape(alloc: Global, step: &Value, place: &Place, left: u32) -> Result<(), ReadFault>
-    ensures { Checks (shape_faults (path_of place.now) left (view step.now)) result }
+fn check_shape(alloc: Global, step: &Cursor, left: u32) -> Checked
+    ensures { Checks (shape_faults (path_to step.now) left (data_of step.now)) result }
 {
-    require(alloc, step.is_object(), Rule::Kind, place)?;
-    require(alloc, 0 < left, Rule::Depth, place)?;
-    check_keys(alloc, opening(Schema::Undone), step, place)
+    let (value, place) = (step.value, step.place);
+    place.require(alloc, value.is_object(), Rule::Kind)?;
+    place.require(alloc, 0 < left, Rule::Depth)?;
+    check_keys(alloc, opening(Schema::Undone), &mut Names::new(alloc), step)
 }
 
 #[tactic(auto, using(crate::proofs::Faulted::first_append), unfolding(crate::specs::StepRules::kind_faults))]
-fn check_one_kind(alloc: Global, step: &Value, place: &Place) -> Result<(), ReadFault>
-    ensures { Checks (kind_faults (path_of place.now) (view step.now)) result }
+fn check_one_kind(alloc: Global, step: &Cursor) -> Checked
+    ensures { Checks (here kind_faults step.now) result }
 {
-    let kinds = kinds(step);
-    require(alloc, 0 < kinds, Rule::OneStep, place)?;
-    require(alloc, kinds < 2, Rule::OnlyOneStep, place)
+    let kinds = kinds(step.value);
+    step.place.require(alloc, 0 < kinds, Rule::OneStep)?;
+    step.place.require(alloc, kinds < 2, Rule::OnlyOneStep)
 }
 
 /// Refuses a step that breaks a rule before the steps in it are read, and adds the name of a get to those of the job.
 #[tactic(auto, using(crate::proofs::Faulted::first_append), unfolding(crate::specs::StepRules::opening_faults))]
-pub(crate) fn check_opening(
-    alloc: Global,
-    names: &mut Names,
-    step: &Value,
-    place: &Place,
-    left: u32,
-) -> Result<(), ReadFault>
-    ensures checked { Checks (opening_faults names.old (path_of place.now) left (view step.now)) result }
-    ensures added { OnOk result (names.new ≡ names.old ++ names_at (codes "get") (view step.now)) }
+pub(crate) fn check_opening(alloc: Global, names: &mut Names, step: &Cursor, left: u32) -> Checked
+    ensures checked { Checks (opening_faults names.old (path_to step.now) left (data_of step.now)) result }
+    ensures added { OnOk result (names.new ≡ names.old ++ names_at (codes "get") (data_of step.now)) }
 {
-    check_shape(alloc, step, place, left)?;
-    check_one_kind(alloc, step, place)?;
-    check_own_keys(alloc, names, step, place)
+    check_shape(alloc, step, left)?;
+    check_one_kind(alloc, step)?;
+    check_keys(alloc, opening(schema_of(step.value)), names, step)
 }
 
 /// Refuses attempts that aren't from 1 to 100, or that come to more than 10,000 with those of the steps around.
-fn check_attempts(alloc: Global, step: &Value, place: &Place, tries: u64) -> Result<(), ReadFault>
-    ensures { Checks (attempts_faults (path_of place.now) tries (view step.now)) result }
+fn check_attempts(alloc: Global, step: &Cursor, tries: u64) -> Checked
+    ensures { Checks (attempts_faults (path_to step.now) tries (data_of step.now)) result }
 {
-    let Some(found) = at_key(step, "attempts") else {
+    let Some(found) = step.at("attempts") else {
         return Ok(());
     };
-    let below = place.key("attempts");
-    let Some(n) = found.as_u64() else {
-        let rule = if found.is_i64() {
-            Rule::Attempts
-        } else {
-            Rule::Kind
-        };
-        return require(alloc, false, rule, &below);
-    };
-    let fits = 1 <= n && n <= MOST_ATTEMPTS && tries.saturating_mul(n) <= MOST_TRIES;
-    require(alloc, fits, Rule::Attempts, &below)
+    match found.value.as_u64() {
+        Some(n) => {
+            let fits = 1 <= n && n <= MOST_ATTEMPTS && tries.saturating_mul(n) <= MOST_TRIES;
+            found.place.require(alloc, fits, Rule::Attempts)
+        }
+        None if found.value.is_i64() => found.place.require(alloc, false, Rule::Attempts),
+        None => found.place.require(alloc, false, Rule::Kind),
+    }
 }
 
-fn check_parallel_rest(alloc: Global, step: &Value, place: &Place) -> Result<(), ReadFault>
-    ensures { Checks (parallel_rest (path_of place.now) (view step.now)) result }
+fn check_parallel_rest(alloc: Global, step: &Cursor) -> Checked
+    ensures { Checks (here parallel_rest step.now) result }
 {
-    let Some(parallel) = at_key(step, "in_parallel") else {
+    let Some(parallel) = step.at("in_parallel") else {
         return Ok(());
     };
-    let below = place.key("in_parallel");
-    check_keys(alloc, closing(Schema::Parallel), parallel, &below)
+    let rows = closing(Schema::Parallel);
+    check_keys(alloc, rows, &mut Names::new(alloc), &parallel)
 }
 
 /// Refuses a step that breaks a rule in the keys after the steps in it.
 #[tactic(auto, using(crate::proofs::Faulted::first_append), unfolding(crate::specs::StepRules::closing_faults))]
-pub(crate) fn check_closing(
-    alloc: Global,
-    step: &Value,
-    place: &Place,
-    tries: u64,
-) -> Result<(), ReadFault>
-    ensures { Checks (closing_faults (path_of place.now) tries (view step.now)) result }
+pub(crate) fn check_closing(alloc: Global, step: &Cursor, tries: u64) -> Checked
+    ensures { Checks (closing_faults (path_to step.now) tries (data_of step.now)) result }
 {
-    check_parallel_rest(alloc, step, place)?;
-    check_attempts(alloc, step, place, tries)
+    check_parallel_rest(alloc, step)?;
+    check_attempts(alloc, step, tries)
 }

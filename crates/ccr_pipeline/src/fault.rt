@@ -60,6 +60,9 @@ pub enum ReadFault {
     NoMemory,
 }
 
+/// What was read of a text, or the first rule that it breaks.
+pub(crate) type Checked<T = ()> = Result<T, ReadFault>;
+
 /// The rule that a fault breaks.
 #[derive(Clone, Copy)]
 pub(crate) enum Rule {

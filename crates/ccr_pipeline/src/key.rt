@@ -1,13 +1,9 @@
 //! Keys of JSON objects, and what stands at them.
 ghost use Rattle.std.specs.Prelude.{◌≡◌, option_map};
 ghost use Rattle.serde_json.specs.View.{view, items_view};
-ghost use Rattle.ccr_pipeline.specs.Faults.{unless, Checks, StartsWith, IsFirst, fault_of};
-ghost use Rattle.ccr_pipeline.specs.Keys.{at_key, items_in, list_at, path_of};
+ghost use Rattle.ccr_pipeline.specs.Keys.{at_key, items_in, list_at};
 
-use crate::fault::{ReadFault, Rule};
-use crate::place::{Place, path_of};
 use serde_json::Value;
-use std::alloc::Global;
 
 /// What stands at a key of an object; `null` is as absent.
 pub(crate) fn at_key<'v>(value: &'v Value, key: &str) -> Option<&'v Value>
@@ -37,19 +33,4 @@ pub(crate) fn list_at<'v>(value: &'v Value, key: &str) -> &'v [Value]
         Some(found) => items_in(found),
         None => &[],
     }
-}
-
-/// Refuses where a test of the value at a place failed.
-pub(crate) fn require(
-    alloc: Global,
-    holds: bool,
-    rule: Rule,
-    place: &Place,
-) -> Result<(), ReadFault>
-    ensures { Checks (unless holds rule (path_of place.now)) result }
-{
-    if holds {
-        return Ok(());
-    }
-    Err(ReadFault::of(rule, path_of(alloc, place)?))
 }

@@ -2,13 +2,14 @@
 ghost use Rattle.std.specs.Prelude.{◌≡◌, ◌++◌, [], length, drop, option_map, string_bytes};
 ghost use Rattle.std.specs.List.{list_all};
 ghost use Rattle.serde_json.specs.View.{view, items_view, members_view};
+ghost use Rattle.ccr_pipeline.specs.Cursors.{here};
 ghost use Rattle.ccr_pipeline.specs.Faults.{unless, Checks, StartsWith, IsFirst, fault_of};
 ghost use Rattle.ccr_pipeline.specs.Keys.{or_else, path_below, path_at, path_of};
 ghost use Rattle.ccr_pipeline.specs.Kinds.{is_name, is_name_byte, is_text, broken_texts, broken_fields, broken_pin, is_empty};
 ghost use Rattle.ccr_pipeline.specs.Objects.{broken};
 
-use crate::fault::{ReadFault, Rule};
-use crate::key::require;
+use crate::cursor::Cursor;
+use crate::fault::{Checked, Rule};
 use crate::place::Place;
 use crate::schema::Kind;
 use ccr_history::has_float;
@@ -41,28 +42,12 @@ pub(crate) fn is_name(text: &str) -> bool
     has_name_bytes(text.as_bytes())
 }
 
-fn check_texts(alloc: Global, list: &[Value], place: &Place) -> Result<(), ReadFault>
+fn check_texts(alloc: Global, list: &[Value], place: &Place) -> Checked
     ensures { Checks (broken_texts (path_of place.now) 0 (items_view list.now)) result }
 {
     for (i, member) in list.iter().enumerate() {
         if !member.is_string() {
-            return require(alloc, false, Rule::Kind, &place.member(i));
-        }
-    }
-    Ok(())
-}
-
-fn check_fields(
-    alloc: Global,
-    members: &BTreeMap<String, Value>,
-    place: &Place,
-) -> Result<(), ReadFault>
-    ensures { Checks (broken_fields (path_of place.now) (members_view members.now.entries))
-        result }
-{
-    for (field, member) in members.iter() {
-        if !member.is_string() {
-            return require(alloc, false, Rule::Kind, &place.key(field.as_str()));
+            return place.member(i).require(alloc, false, Rule::Kind);
         }
     }
     Ok(())
@@ -74,55 +59,54 @@ fn is_empty(members: &BTreeMap<String, Value>) -> bool
     members.len() == 0
 }
 
-fn check_pin(alloc: Global, found: &Value, place: &Place) -> Result<(), ReadFault>
-    ensures { Checks (broken_pin (path_of place.now) (view found.now)) result }
+fn check_pin(alloc: Global, found: &Cursor) -> Checked
+    ensures { Checks (here broken_pin found.now) result }
 {
-    match found.as_object() {
-        Some(members) => check_fields(alloc, members, place),
-        None => require(alloc, false, Rule::Kind, place),
+    let Some(members) = found.value.as_object() else {
+        return found.place.require(alloc, false, Rule::Kind);
+    };
+    for (field, member) in members.iter() {
+        if !member.is_string() {
+            let place = found.place.key(field.as_str());
+            return place.require(alloc, false, Rule::Kind);
+        }
     }
+    Ok(())
 }
 
 /// Refuses a value that isn't of the kind, at the first place that breaks it. In the objects that it holds nothing is tested.
 #[tactic(auto, unfolding(crate::specs::Objects::broken))]
-pub(crate) fn check(
-    alloc: Global,
-    kind: Kind,
-    found: &Value,
-    place: &Place,
-) -> Result<(), ReadFault>
-    ensures { Checks (broken kind (path_of place.now) (view found.now)) result }
+pub(crate) fn check(alloc: Global, kind: Kind, found: &Cursor) -> Checked
+    ensures { Checks (here (broken kind) found.now) result }
 {
+    let (value, place) = (found.value, found.place);
     match kind {
-        Kind::Text | Kind::OwnName => require(alloc, found.is_string(), Rule::Kind, place),
-        Kind::Steps | Kind::Objects(_) => require(alloc, found.is_array(), Rule::Kind, place),
-        Kind::Truth => require(alloc, found.is_boolean(), Rule::Kind, place),
-        Kind::Whole => require(alloc, found.is_u64(), Rule::Kind, place),
-        Kind::Name => match found.as_str() {
-            Some(text) => require(alloc, is_name(text), Rule::Name, place),
-            None => require(alloc, false, Rule::Kind, place),
+        Kind::Text | Kind::OwnName => place.require(alloc, value.is_string(), Rule::Kind),
+        Kind::Steps | Kind::Objects(_) => place.require(alloc, value.is_array(), Rule::Kind),
+        Kind::Truth => place.require(alloc, value.is_boolean(), Rule::Kind),
+        Kind::Whole => place.require(alloc, value.is_u64(), Rule::Kind),
+        Kind::Name => match value.as_str() {
+            Some(text) => place.require(alloc, is_name(text), Rule::Name),
+            None => place.require(alloc, false, Rule::Kind),
         },
-        Kind::Texts => match found.as_array() {
-            Some(list) => check_texts(alloc, list, place),
-            None => require(alloc, false, Rule::Kind, place),
+        Kind::Texts => match value.as_array() {
+            Some(list) => check_texts(alloc, list, &place),
+            None => place.require(alloc, false, Rule::Kind),
         },
-        Kind::Params => match found.as_object() {
-            Some(_) => require(alloc, !has_float(found), Rule::Whole, place),
-            None => require(alloc, false, Rule::Kind, place),
+        Kind::Params => match value.as_object() {
+            Some(_) => place.require(alloc, !has_float(value), Rule::Whole),
+            None => place.require(alloc, false, Rule::Kind),
         },
-        Kind::Fields => check_pin(alloc, found, place),
-        Kind::Nothing => match found.as_object() {
-            Some(members) => require(alloc, is_empty(members), Rule::Supported, place),
-            None => require(alloc, false, Rule::Kind, place),
+        Kind::Fields => check_pin(alloc, found),
+        Kind::Nothing => match value.as_object() {
+            Some(members) => place.require(alloc, is_empty(members), Rule::Supported),
+            None => place.require(alloc, false, Rule::Kind),
         },
-        Kind::Wanted => match found.as_str() {
-            Some(text) => {
-                let is_word = text == "latest" || text == "every";
-                require(alloc, is_word, Rule::Kind, place)
-            }
-            None => check_pin(alloc, found, place),
+        Kind::Wanted => match value.as_str() {
+            Some(text) => place.require(alloc, text == "latest" || text == "every", Rule::Kind),
+            None => check_pin(alloc, found),
         },
-        Kind::Undone => require(alloc, false, Rule::Supported, place),
+        Kind::Undone => place.require(alloc, false, Rule::Supported),
         Kind::Object(_) | Kind::Parallel | Kind::Step | Kind::Attempts | Kind::Any => Ok(()),
     }
 }

@@ -21,6 +21,7 @@ mod build;
 mod build_step;
 mod check_step;
 mod copy;
+mod cursor;
 mod fault;
 mod input;
 mod key;

@@ -3,6 +3,7 @@ ghost use Rattle.std.specs.Prelude.{◌≡◌, ◌++◌, ◌∷◌, [], map, opt
 ghost use Rattle.serde_json.specs.Events.{items_len};
 ghost use Rattle.serde_json.specs.Find.{get_member};
 ghost use Rattle.serde_json.specs.View.{view, items_view, members_view};
+ghost use Rattle.ccr_pipeline.specs.Cursors.{data_of, here};
 ghost use Rattle.ccr_pipeline.specs.Faults.{unless, Checks, ChecksAs, StartsWith, IsFirst, fault_of};
 ghost use Rattle.ccr_pipeline.specs.JobData.{resource_data};
 ghost use Rattle.ccr_pipeline.specs.JobRules.{resource_faults, members, list_rule, names_in, list_names};
@@ -15,8 +16,9 @@ ghost use Rattle.ccr_pipeline.specs.Reading.{faults_before};
 ghost use Rattle.ccr_pipeline.specs.Schema.{opening};
 
 use crate::build::{object, pin, text};
-use crate::fault::{ReadFault, Rule};
-use crate::key::{at_key, list_at, require};
+use crate::cursor::Cursor;
+use crate::fault::{Checked, Rule};
+use crate::key::{at_key, list_at};
 use crate::names::{Names, text_at};
 use crate::notes::Notes;
 use crate::object::check_object;
@@ -40,15 +42,15 @@ fn are_few(list: &Vec<Value>) -> bool
 
 /// Refuses what is no list at a key of the pipeline, and a list that is too long.
 #[tactic(auto, unfolding(crate::specs::JobRules::list_rule))]
-fn check_list(alloc: Global, pipeline: &Value, key: &str) -> Result<(), ReadFault>
+fn check_list(alloc: Global, pipeline: &Value, key: &str) -> Checked
     ensures { Checks (list_rule key.now (view pipeline.now)) result }
 {
     let Some(found) = at_key(pipeline, key) else {
         return Ok(());
     };
     match found.as_array() {
-        Some(list) => require(alloc, are_few(list), Rule::Number, &Place::top(key)),
-        None => require(alloc, false, Rule::Kind, &Place::top(key)),
+        Some(list) => Place::top(key).require(alloc, are_few(list), Rule::Number),
+        None => Place::top(key).require(alloc, false, Rule::Kind),
     }
 }
 
@@ -78,60 +80,40 @@ fn resource(alloc: Global, value: &Value) -> Result<Resource, AllocError>
 
 /// Reads a resource (Concourse: resources), after those of these names, and adds its name.
 #[tactic(auto, using(crate::proofs::TableNames::resource_names_are))]
-fn read_resource(
-    alloc: Global,
-    names: &mut Names,
-    value: &Value,
-    place: &Place,
-) -> Result<Resource, ReadFault>
-    ensures checked { ChecksAs (resource_faults names.old (path_of place.now) (view value.now))
-        (resource_from (view value.now)) resource_data result }
-    ensures named { OnOk result (names.new ≡ names.old ++ names_at (codes "name") (view value.now)) }
+fn read_resource(alloc: Global, names: &mut Names, text: &Cursor) -> Checked<Resource>
+    ensures checked { ChecksAs (here (resource_faults names.old) text.now) (resource_from (data_of text.now))
+        resource_data result }
+    ensures named { OnOk result (names.new ≡ names.old ++ names_at (codes "name") (data_of text.now)) }
 {
-    check_object(alloc, NESTED, Schema::Resource, names, value, place)?;
-    Ok(resource(alloc, value)?)
+    check_object(alloc, NESTED, Schema::Resource, names, text)?;
+    Ok(resource(alloc, text.value)?)
 }
 
 /// Reads resources, and adds their names.
 #[tactic(auto, using(crate::proofs::Faulted::first_append))]
-fn read_resources(
-    alloc: Global,
-    names: &mut Names,
-    list: &[Value],
-) -> Result<Vec<Resource>, ReadFault>
+fn read_resources(alloc: Global, names: &mut Names, list: &[Value]) -> Checked<Vec<Resource>>
     ensures checked { ChecksAs (members resource_faults names.old (codes "resources") 0 (items_view list.now))
         (resources_in (items_view list.now)) (λ v. map resource_data v.items) result }
     ensures named { OnOk result (names.new ≡ names.old ++ names_in (items_view list.now)) }
 {
     let mut resources = Vec::new(alloc);
+    let all = Place::top("resources");
     for (i, value) in list.iter().enumerate() {
-        let resource = read_resource(alloc, names, value, &Place::top("resources").member(i))?;
+        let place = all.member(i);
+        let resource = read_resource(alloc, names, &Cursor { value, place })?;
         resources.push(resource)?;
     }
     Ok(resources)
 }
 
-/// What is read of a pipeline before its jobs.
-#[derive(Drop)]
-pub(crate) struct Before {
-    pub(crate) notes: Notes,
-    pub(crate) resources: Vec<Resource>,
-}
-
 /// Reads what comes before the jobs: the resources, the names of both, and the unused keys of all but the steps.
 #[tactic(auto, using(crate::proofs::Faulted::first_append), unfolding(crate::specs::Reading::faults_before))]
-pub(crate) fn read_before(alloc: Global, pipeline: &Value) -> Result<Before, ReadFault>
+pub(crate) fn read_before(alloc: Global, pipeline: &Value) -> Checked<(Notes, Vec<Resource>)>
     ensures checked { Checks (faults_before (view pipeline.now)) result }
-    ensures known { IfOk result (λ before. IsBefore (view pipeline.now) (notes_data before.notes)) }
-    ensures read { IfOk result
-        (λ before. map resource_data before.resources.items ≡ resources_from (view pipeline.now)) }
+    ensures known { IfOk result (λ before. IsBefore (view pipeline.now) (notes_data before.0)) }
+    ensures read { IfOk result (λ before. map resource_data before.1.items ≡ resources_from (view pipeline.now)) }
 {
-    require(
-        alloc,
-        pipeline.is_object(),
-        Rule::Kind,
-        &Place::top("pipeline"),
-    )?;
+    Place::top("pipeline").require(alloc, pipeline.is_object(), Rule::Kind)?;
     check_list(alloc, pipeline, "resources")?;
     let mut names = Names::new(alloc);
     let resources = read_resources(alloc, &mut names, list_at(pipeline, "resources"))?;
@@ -139,17 +121,15 @@ pub(crate) fn read_before(alloc: Global, pipeline: &Value) -> Result<Before, Rea
     let mut jobs = Names::new(alloc);
     add_names(alloc, &mut jobs, list_at(pipeline, "jobs"))?;
     let mut unused = Vec::new(alloc);
-    push_pipeline(alloc, &mut unused, pipeline)?;
-    Ok(Before {
-        notes: Notes {
-            resources: names,
-            jobs,
-            gets: Names::new(alloc),
-            unknown: None,
-            unused,
-        },
-        resources,
-    })
+    push_pipeline(&mut unused, pipeline)?;
+    let notes = Notes {
+        resources: names,
+        jobs,
+        gets: Names::new(alloc),
+        unknown: None,
+        unused,
+    };
+    Ok((notes, resources))
 }
 
 /// What stands at a key of the members, which are dropped.

@@ -1,18 +1,16 @@
 //! What is noted of jobs while they are read, and told once all of them are.
 ghost use Rattle.std.specs.Prelude.{◌≡◌, None, OnOk, IfOk, IfErr};
-ghost use Rattle.serde_json.specs.View.{view};
+ghost use Rattle.ccr_pipeline.specs.Cursors.{here};
 ghost use Rattle.ccr_pipeline.specs.Faults.{fault_of};
-ghost use Rattle.ccr_pipeline.specs.Keys.{path_of};
 ghost use Rattle.ccr_pipeline.specs.Names.{names_of as texts_of};
 ghost use Rattle.ccr_pipeline.specs.Notes.{notes_data, with_step};
 ghost use Rattle.ccr_pipeline.specs.Unused.{IsSortedOnce};
 
-use crate::fault::{ReadFault, Rule};
+use crate::cursor::Cursor;
+use crate::fault::{Checked, ReadFault, Rule};
 use crate::names::Names;
-use crate::place::Place;
 use crate::unknown::unknown_name;
 use crate::unused::{push_step, sorted_once};
-use serde_json::Value;
 use std::alloc::{AllocError, Global};
 
 /// What is known while jobs are read, and what is noted: it is told after all jobs, whose own faults come first.
@@ -32,34 +30,24 @@ pub(crate) struct Notes {
 
 /// Notes a step; the steps that it holds are noted for themselves.
 #[tactic(auto, using(crate::proofs::NoteLemmas::told_or), unfolding(crate::specs::Notes::with_step))]
-pub(crate) fn note_step(
-    alloc: Global,
-    notes: &mut Notes,
-    step: &Value,
-    place: &Place,
-) -> Result<(), AllocError>
-    ensures noted { OnOk result
-        (notes_data notes.new ≡ with_step (notes_data notes.old) (path_of place.now) (view step.now)) }
+pub(crate) fn note_step(alloc: Global, notes: &mut Notes, step: &Cursor) -> Result<(), AllocError>
+    ensures noted { OnOk result (notes_data notes.new ≡ here (with_step (notes_data notes.old)) step.now) }
     ensures gets { OnOk result (notes.new.gets ≡ notes.old.gets) }
 {
-    let found = unknown_name(alloc, &notes.resources, &notes.jobs, step, place)?;
+    let found = unknown_name(alloc, &notes.resources, &notes.jobs, step)?;
     notes.unknown = notes.unknown.take().or(found);
-    push_step(alloc, &mut notes.unused, step, place)
+    push_step(&mut notes.unused, step)
 }
 
 /// The keys without effect, ascending by bytes, each once; refuses the name that isn't there, if one was noted.
-pub(crate) fn unused_of(notes: Notes) -> Result<Vec<String>, ReadFault>
+pub(crate) fn unused_of(notes: Notes) -> Checked<Vec<String>>
     ensures known { IfOk result (λ v. (notes_data notes).unknown ≡ None) }
     ensures unknown { IfErr result (λ fault. fault_of fault ≡ (notes_data notes).unknown) }
     ensures sorted { IfOk result (λ v. IsSortedOnce (notes_data notes).unused (texts_of v.items)) }
 {
-    let Notes {
-        unknown,
-        unused,
-        ..
-    } = notes;
-    if let Some((rule, path)) = unknown {
-        return Err(ReadFault::of(rule, path));
+    let mut notes = notes;
+    match notes.unknown.take() {
+        Some((rule, path)) => Err(ReadFault::of(rule, path)),
+        None => Ok(sorted_once(notes.unused)?),
     }
-    Ok(sorted_once(unused)?)
 }

@@ -1,7 +1,9 @@
 //! Where a value stands in a text.
 ghost use Rattle.std.specs.Prelude.{◌≡◌, IfOk, string_bytes};
+ghost use Rattle.ccr_pipeline.specs.Faults.{unless, Checks, StartsWith, IsFirst, fault_of};
 ghost use Rattle.ccr_pipeline.specs.Keys.{path_of, path_below, path_at};
 
+use crate::fault::{Checked, ReadFault, Rule};
 use std::alloc::{AllocError, Global};
 
 /// Where a value stands. Its path is written only where a fault or an unused key is told.
@@ -35,6 +37,16 @@ impl<'a> Place<'a> {
         ensures { path_of result ≡ path_at (path_of self.now) position }
     {
         Place::Member(self, position)
+    }
+
+    /// Refuses where a test of the value at this place failed.
+    pub(crate) fn require(&self, alloc: Global, holds: bool, rule: Rule) -> Checked
+        ensures { Checks (unless holds rule (path_of self.now)) result }
+    {
+        if holds {
+            return Ok(());
+        }
+        Err(ReadFault::of(rule, path_of(alloc, self)?))
     }
 }
 

@@ -1,6 +1,7 @@
 //! Jobs, checked and built together.
 ghost use Rattle.std.specs.Prelude.{◌≡◌, ◌++◌, ◌+◌, ◌∷◌, [], length, drop, map, codes, string_bytes, IfOk, OnOk};
 ghost use Rattle.serde_json.specs.View.{view, items_view};
+ghost use Rattle.ccr_pipeline.specs.Cursors.{data_of, path_to, here};
 ghost use Rattle.ccr_pipeline.specs.Faults.{unless, Checks, ChecksAs, StartsWith, IsFirst, fault_of};
 ghost use Rattle.ccr_pipeline.specs.Inputs.{are_few, input_data, inputs, named_jobs};
 ghost use Rattle.ccr_pipeline.specs.JobData.{job_data};
@@ -19,9 +20,9 @@ ghost use Rattle.ccr_pipeline.specs.declared.schema.Schema.TheVariants as schema
 
 use crate::build::{text, texts, truth, whole};
 use crate::build_step::plan;
-use crate::fault::{ReadFault, Rule};
+use crate::cursor::Cursor;
+use crate::fault::{Checked, Rule};
 use crate::input::{Input, inputs_in};
-use crate::key::require;
 use crate::names::Names;
 use crate::notes::Notes;
 use crate::object::{check_keys, check_object};
@@ -29,7 +30,7 @@ use crate::place::Place;
 use crate::resource::Job;
 use crate::schema::{NESTED, Schema, closing};
 use crate::step::Step;
-use crate::walk::{LEVELS, read_hooks, read_list};
+use crate::walk::{JOB_REACH, read_hooks, read_list};
 use serde_json::Value;
 use std::alloc::{AllocError, Global};
 use std::rc::Rc;
@@ -66,58 +67,40 @@ fn are_few_inputs(alloc: Global, inputs: &[Input]) -> Result<bool, AllocError>
     Ok(inputs.len() <= MOST_INPUTS && jobs.len() <= MOST_INPUTS)
 }
 
-/// Refuses a plan with too many inputs or named jobs.
-fn check_number(alloc: Global, plan: &Step, place: &Place) -> Result<(), ReadFault>
-    ensures { Checks (too_many (path_of place.now) (tree_of plan.now)) result }
-{
-    let inputs = inputs_in(alloc, plan)?;
-    let fit = are_few_inputs(alloc, &inputs)?;
-    require(alloc, fit, Rule::Number, &place.key("plan"))
-}
-
-/// The plan of a job whose steps are tested.
-fn read_plan(alloc: Global, job: &Value, place: &Place) -> Result<Step, ReadFault>
-    ensures { ChecksAs (too_many (path_of place.now) (plan_from (view job.now))) (plan_from (view job.now)) tree_of
+/// The plan of a job whose steps are tested; refuses too many inputs or named jobs.
+fn read_plan(alloc: Global, job: &Cursor) -> Checked<Step>
+    ensures { ChecksAs (too_many (path_to job.now) (plan_from (data_of job.now))) (plan_from (data_of job.now)) tree_of
         result }
 {
-    let plan = plan(alloc, job)?;
-    check_number(alloc, &plan, place)?;
+    let plan = plan(alloc, job.value)?;
+    let inputs = inputs_in(alloc, &plan)?;
+    let few = are_few_inputs(alloc, &inputs)?;
+    job.place.key("plan").require(alloc, few, Rule::Number)?;
     Ok(plan)
 }
 
 /// Reads what comes after the steps of a job's plan, whose gets are met, and builds the plan.
 #[tactic(auto, using(crate::proofs::Faulted::first_append), unfolding(crate::specs::JobRules::after_plan))]
-fn read_after_plan(
-    alloc: Global,
-    notes: &mut Notes,
-    job: &Value,
-    place: &Place,
-) -> Result<Step, ReadFault>
-    ensures checked { ChecksAs (after_plan notes.old.gets (path_of place.now) (view job.now)) (plan_from (view job.now))
-        tree_of result }
-    ensures noted { OnOk result
-        (notes_data notes.new ≡ with_visits (notes_data notes.old) (job_hooks (path_of place.now) (view job.now))) }
+fn read_after_plan(alloc: Global, notes: &mut Notes, job: &Cursor) -> Checked<Step>
+    ensures checked { ChecksAs (here (after_plan notes.old.gets) job.now) (plan_from (data_of job.now)) tree_of
+        result }
+    ensures noted { OnOk result (notes_data notes.new ≡ with_visits (notes_data notes.old) (here job_hooks job.now)) }
 {
-    check_keys(alloc, closing(Schema::Job), job, place)?;
-    read_hooks(alloc, notes, job, place, LEVELS, 1)?;
-    read_plan(alloc, job, place)
+    check_keys(alloc, closing(Schema::Job), &mut Names::new(alloc), job)?;
+    read_hooks(alloc, notes, job, JOB_REACH)?;
+    read_plan(alloc, job)
 }
 
 /// Reads what comes after a job's name, and builds its plan.
 #[tactic(auto, using(crate::proofs::Faulted::first_append), unfolding(crate::specs::JobRules::job_rest))]
-fn read_job_rest(
-    alloc: Global,
-    notes: &mut Notes,
-    job: &Value,
-    place: &Place,
-) -> Result<Step, ReadFault>
-    ensures checked { ChecksAs (job_rest (path_of place.now) (view job.now)) (plan_from (view job.now)) tree_of result }
-    ensures noted { OnOk result (notes_data notes.new ≡ with_visits (notes_data notes.old)
-        (plan_steps (path_of place.now) (view job.now) ++ job_hooks (path_of place.now) (view job.now))) }
+fn read_job_rest(alloc: Global, notes: &mut Notes, job: &Cursor) -> Checked<Step>
+    ensures checked { ChecksAs (here job_rest job.now) (plan_from (data_of job.now)) tree_of result }
+    ensures noted { OnOk result (notes_data notes.new
+        ≡ with_visits (notes_data notes.old) (here plan_steps job.now ++ here job_hooks job.now)) }
 {
     notes.gets = Names::new(alloc);
-    read_list(alloc, notes, job, place, "plan", LEVELS, 1)?;
-    read_after_plan(alloc, notes, job, place)
+    read_list(alloc, notes, job, "plan", JOB_REACH)?;
+    read_after_plan(alloc, notes, job)
 }
 
 /// The job of a tested text, whose plan is built.
@@ -138,32 +121,19 @@ fn job_of(alloc: Global, value: &Value, plan: Step) -> Result<Job, AllocError>
 
 /// Reads a job (Concourse: jobs), after those of these names, adds its name, and notes its steps.
 #[tactic(auto, using(crate::proofs::Faulted::first_append, crate::proofs::TableNames::job_names_are))]
-fn read_job(
-    alloc: Global,
-    names: &mut Names,
-    notes: &mut Notes,
-    job: &Value,
-    place: &Place,
-) -> Result<Job, ReadFault>
-    ensures checked { ChecksAs (job_faults names.old (path_of place.now) (view job.now)) (job_from (view job.now))
-        job_data result }
-    ensures named { OnOk result (names.new ≡ names.old ++ names_at (codes "name") (view job.now)) }
-    ensures noted { OnOk result (notes_data notes.new ≡ with_visits (notes_data notes.old)
-        (plan_steps (path_of place.now) (view job.now) ++ job_hooks (path_of place.now) (view job.now))) }
+fn read_job(alloc: Global, names: &mut Names, notes: &mut Notes, job: &Cursor) -> Checked<Job>
+    ensures checked { ChecksAs (here (job_faults names.old) job.now) (job_from (data_of job.now)) job_data result }
+    ensures named { OnOk result (names.new ≡ names.old ++ names_at (codes "name") (data_of job.now)) }
+    ensures noted { OnOk result (notes_data notes.new
+        ≡ with_visits (notes_data notes.old) (here plan_steps job.now ++ here job_hooks job.now)) }
 {
-    check_object(alloc, NESTED, Schema::Job, names, job, place)?;
-    let plan = read_job_rest(alloc, notes, job, place)?;
-    Ok(job_of(alloc, job, plan)?)
+    check_object(alloc, NESTED, Schema::Job, names, job)?;
+    let plan = read_job_rest(alloc, notes, job)?;
+    Ok(job_of(alloc, job.value, plan)?)
 }
 
 /// Reads a job's text, which is dropped once its job is built, and adds the job.
-fn push_job(
-    alloc: Global,
-    names: &mut Names,
-    notes: &mut Notes,
-    jobs: &mut Vec<Job>,
-    text: Value,
-) -> Result<(), ReadFault>
+fn push_job(names: &mut Names, notes: &mut Notes, jobs: &mut Vec<Job>, text: Value) -> Checked
     ensures checked { Checks
         (job_faults names.old (path_at (codes "jobs") (length jobs.old.items)) (view text)) result }
     ensures named { OnOk result (names.new ≡ names.old ++ names_at (codes "name") (view text)) }
@@ -174,18 +144,16 @@ fn push_job(
         (map job_data jobs.new.items ≡ map job_data jobs.old.items ++ job_from (view text) ∷ []) }
     ensures counted { OnOk result (length jobs.new.items ≡ length jobs.old.items + 1) }
 {
+    let alloc = *jobs.allocator();
     let all = Place::top("jobs");
-    let job = read_job(alloc, names, notes, &text, &all.member(jobs.len()))?;
+    let (value, place) = (&text, all.member(jobs.len()));
+    let job = read_job(alloc, names, notes, &Cursor { value, place })?;
     jobs.push(job)?;
     Ok(())
 }
 
 /// Reads jobs, each from its text, so that the jobs and the whole text are never held side by side.
-pub(crate) fn read_jobs(
-    alloc: Global,
-    notes: &mut Notes,
-    list: Vec<Value>,
-) -> Result<Vec<Job>, ReadFault>
+pub(crate) fn read_jobs(alloc: Global, notes: &mut Notes, list: Vec<Value>) -> Checked<Vec<Job>>
     ensures checked { ChecksAs (members job_faults [] (codes "jobs") 0 (items_view list.items))
         (jobs_in (items_view list.items)) (λ v. map job_data v.items) result }
     ensures noted { OnOk result
@@ -194,7 +162,7 @@ pub(crate) fn read_jobs(
     let mut names = Names::new(alloc);
     let mut jobs = Vec::new(alloc);
     for text in list {
-        push_job(alloc, &mut names, notes, &mut jobs, text)?;
+        push_job(&mut names, notes, &mut jobs, text)?;
     }
     Ok(jobs)
 }

@@ -16,15 +16,16 @@ ghost use Rattle.ccr_pipeline.specs.Unused.{unused_in};
 ghost use Rattle.ccr_pipeline.specs.Used.{ALL_LEVELS, used_pipeline};
 
 use crate::build;
-use crate::fault::{ReadFault, Rule};
-use crate::key::require;
-use crate::lists::{Before, job_list, read_before};
+use crate::cursor::Cursor;
+use crate::fault::{Checked, ReadFault, Rule};
+use crate::lists::{job_list, read_before};
+use crate::names::Names;
 use crate::notes::unused_of;
-use crate::object::check_alone;
+use crate::object::check_object;
 use crate::pipeline::Pipeline;
 use crate::place::Place;
 use crate::read_job::read_jobs;
-use crate::schema::Schema;
+use crate::schema::{NESTED, Schema};
 use crate::task::TaskConfig;
 use serde_json::Value;
 use std::alloc::Global;
@@ -33,16 +34,11 @@ use std::alloc::Global;
 const MOST_BYTES: usize = 1_048_576;
 
 /// The JSON value of a text that isn't too long.
-fn value_of(alloc: Global, text: &[u8], path: &str) -> Result<Value, ReadFault>
+fn value_of(alloc: Global, text: &[u8], path: &str) -> Checked<Value>
     ensures ok { IfOk result (λ value. IsTextOf text.now (view value)) }
     ensures err { IfErr result (λ fault. IsNoValue path.now text.now (fault_of fault)) }
 {
-    require(
-        alloc,
-        text.len() <= MOST_BYTES,
-        Rule::Length,
-        &Place::top(path),
-    )?;
+    Place::top(path).require(alloc, text.len() <= MOST_BYTES, Rule::Length)?;
     match Value::from_slice(alloc, text) {
         Ok(value) => Ok(value),
         Err(error) if error.is_memory() => Err(ReadFault::NoMemory),
@@ -52,14 +48,11 @@ fn value_of(alloc: Global, text: &[u8], path: &str) -> Result<Value, ReadFault>
 
 /// Reads a pipeline from the value of its text.
 #[tactic(auto, using(crate::proofs::Faulted::first_append), unfolding(crate::specs::Reading::pipeline_faults))]
-fn read_value(alloc: Global, text: &[u8], value: Value) -> Result<Pipeline, ReadFault>
+fn read_value(alloc: Global, text: &[u8], value: Value) -> Checked<Pipeline>
     ensures checked { Checks (pipeline_faults (view value)) result }
     ensures read { IfOk result (λ p. IsPipelineOf text.now (view value) (pipeline_data p)) }
 {
-    let Before {
-        mut notes,
-        resources,
-    } = read_before(alloc, &value)?;
+    let (mut notes, resources) = read_before(alloc, &value)?;
     let jobs = read_jobs(alloc, &mut notes, job_list(alloc, value))?;
     let unused = unused_of(notes)?;
     Ok(Pipeline {
@@ -114,6 +107,8 @@ pub fn read_task(alloc: Global, text: &[u8]) -> Result<TaskConfig, ReadFault>
         (λ fault. Refuses (codes "task") (config_faults (codes "task")) text.now (fault_of fault)) }
 {
     let value = value_of(alloc, text, "task")?;
-    check_alone(alloc, Schema::Config, &value, &Place::top("task"))?;
-    Ok(build::config(alloc, &value)?)
+    let (value, place) = (&value, Place::top("task"));
+    let file = Cursor { value, place };
+    check_object(alloc, NESTED, Schema::Config, &mut Names::new(alloc), &file)?;
+    Ok(build::config(alloc, value)?)
 }

@@ -1,6 +1,7 @@
 //! The names that steps mention: of resources, and of jobs.
 ghost use Rattle.std.specs.Prelude.{◌≡◌, ◌++◌, [], codes, IfOk};
 ghost use Rattle.serde_json.specs.View.{view, items_view};
+ghost use Rattle.ccr_pipeline.specs.Cursors.{here};
 ghost use Rattle.ccr_pipeline.specs.Faults.{first, unless};
 ghost use Rattle.ccr_pipeline.specs.Keys.{at_key, or_else, list_at, path_below, path_at, path_of};
 ghost use Rattle.ccr_pipeline.specs.Names.{text_at, has_name};
@@ -8,12 +9,16 @@ ghost use Rattle.ccr_pipeline.specs.Notes.{told};
 ghost use Rattle.ccr_pipeline.specs.Unknown.{name_key, unknown_resource, unknown_texts, unknown_passed};
 ghost use Rattle.ccr_pipeline.specs.Unknown.{unknown_names};
 
+use crate::cursor::Cursor;
 use crate::fault::Rule;
 use crate::key::{at_key, list_at};
 use crate::names::{Names, text_at};
 use crate::place::{Place, path_of};
 use serde_json::Value;
 use std::alloc::{AllocError, Global};
+
+/// A name that isn't there, if there is one, by the rule that it breaks and its path.
+type Unknown = Result<Option<(Rule, String)>, AllocError>;
 
 /// The key that names the resource of a get or put: `resource`, or the key of its own name.
 fn name_key(step: &Value) -> &'static str
@@ -30,36 +35,24 @@ fn name_key(step: &Value) -> &'static str
 
 /// The resource of a get or put, if it isn't there.
 #[tactic(auto, unfolding(crate::specs::Unknown::unknown_resource))]
-fn unknown_resource(
-    alloc: Global,
-    resources: &Names,
-    step: &Value,
-    place: &Place,
-) -> Result<Option<(Rule, String)>, AllocError>
-    ensures { IfOk result
-        (λ fault. told fault ≡ first (unknown_resource resources.now (path_of place.now) (view step.now))) }
+fn unknown_resource(alloc: Global, resources: &Names, step: &Cursor) -> Unknown
+    ensures { IfOk result (λ fault. told fault ≡ first (here (unknown_resource resources.now) step.now)) }
 {
-    if at_key(step, "get").is_none() && at_key(step, "put").is_none() {
+    if at_key(step.value, "get").is_none() && at_key(step.value, "put").is_none() {
         return Ok(None);
     }
-    let key = name_key(step);
-    match text_at(step, key) {
+    let key = name_key(step.value);
+    match text_at(step.value, key) {
         Some(name) if !resources.contains(name) => {
-            Ok(Some((Rule::KnownResource, path_of(alloc, &place.key(key))?)))
+            Ok(Some((Rule::KnownResource, path_of(alloc, &step.place.key(key))?)))
         }
         _ => Ok(None),
     }
 }
 
 /// The first text of a list that is no job.
-fn unknown_text(
-    alloc: Global,
-    jobs: &Names,
-    list: &[Value],
-    place: &Place,
-) -> Result<Option<(Rule, String)>, AllocError>
-    ensures { IfOk result
-        (λ fault. told fault ≡ first (unknown_texts jobs.now (path_of place.now) 0 (items_view list.now))) }
+fn unknown_text(alloc: Global, jobs: &Names, list: &[Value], place: &Place) -> Unknown
+    ensures { IfOk result (λ o. told o ≡ first (unknown_texts jobs.now (path_of place.now) 0 (items_view list.now))) }
 {
     for (i, member) in list.iter().enumerate() {
         if let Some(name) = member.as_str() {
@@ -73,36 +66,23 @@ fn unknown_text(
 
 /// The first job that a get names in `passed` and that isn't there.
 #[tactic(auto, unfolding(crate::specs::Unknown::unknown_passed))]
-fn unknown_passed(
-    alloc: Global,
-    jobs: &Names,
-    step: &Value,
-    place: &Place,
-) -> Result<Option<(Rule, String)>, AllocError>
-    ensures { IfOk result
-        (λ fault. told fault ≡ first (unknown_passed jobs.now (path_of place.now) (view step.now))) }
+fn unknown_passed(alloc: Global, jobs: &Names, step: &Cursor) -> Unknown
+    ensures { IfOk result (λ fault. told fault ≡ first (here (unknown_passed jobs.now) step.now)) }
 {
-    if at_key(step, "get").is_none() {
+    if at_key(step.value, "get").is_none() {
         return Ok(None);
     }
-    let below = place.key("passed");
-    unknown_text(alloc, jobs, list_at(step, "passed"), &below)
+    let place = step.place.key("passed");
+    unknown_text(alloc, jobs, list_at(step.value, "passed"), &place)
 }
 
 /// The first name that a step mentions and that isn't there.
 #[tactic(auto, using(crate::proofs::NoteLemmas::first_or))]
-pub(crate) fn unknown_name(
-    alloc: Global,
-    resources: &Names,
-    jobs: &Names,
-    step: &Value,
-    place: &Place,
-) -> Result<Option<(Rule, String)>, AllocError>
-    ensures { IfOk result (λ fault. told fault
-        ≡ first (unknown_names resources.now jobs.now (path_of place.now) (view step.now))) }
+pub(crate) fn unknown_name(alloc: Global, resources: &Names, jobs: &Names, step: &Cursor) -> Unknown
+    ensures { IfOk result (λ fault. told fault ≡ first (here (unknown_names resources.now jobs.now) step.now)) }
 {
-    match unknown_resource(alloc, resources, step, place)? {
+    match unknown_resource(alloc, resources, step)? {
         Some(fault) => Ok(Some(fault)),
-        None => unknown_passed(alloc, jobs, step, place),
+        None => unknown_passed(alloc, jobs, step),
     }
 }

@@ -1,6 +1,7 @@
 //! The keys that have no effect.
 ghost use Rattle.std.specs.Prelude.{◌≡◌, ◌++◌, [], ◌∷◌, drop, map, OnOk, IfOk, string_bytes};
 ghost use Rattle.serde_json.specs.View.{view, items_view, members_view};
+ghost use Rattle.ccr_pipeline.specs.Cursors.{data_of, path_to, here};
 ghost use Rattle.ccr_pipeline.specs.Keys.{at_key, or_else, items_in, path_below, path_at, path_of};
 ghost use Rattle.ccr_pipeline.specs.Names.{names_of as texts_of};
 ghost use Rattle.ccr_pipeline.specs.Schema.{opening, rows as row_list, has_key, schema_of};
@@ -8,29 +9,26 @@ ghost use Rattle.ccr_pipeline.specs.Unused.{unused_members, unused_object, unuse
 ghost use Rattle.ccr_pipeline.specs.Unused.{unused_own, IsSortedOnce};
 ghost use Rattle.ccr_pipeline.specs.declared.schema.Schema.TheVariants.{Pipeline};
 
-use crate::key::{at_key, items_in};
+use crate::cursor::Cursor;
+use crate::key::items_in;
 use crate::place::{Place, path_of};
-use crate::schema::{Kind, NESTED, Row, Schema, has_key, opening, schema_of};
+use crate::schema::{Kind, NESTED, Schema, has_key, opening, schema_of};
 use serde_json::Value;
-use std::alloc::{AllocError, Global};
+use std::alloc::AllocError;
+
+/// What an addition of paths answers: memory may be refused.
+type Pushed = Result<(), AllocError>;
 
 /// Adds the paths of an object's members at keys that it can't have.
-fn push_own(
-    alloc: Global,
-    out: &mut Vec<String>,
-    schema: Schema,
-    value: &Value,
-    place: &Place,
-) -> Result<(), AllocError>
-    ensures { OnOk result (texts_of out.new.items
-        ≡ texts_of out.old.items ++ unused_own schema (path_of place.now) (view value.now)) }
+fn push_own(out: &mut Vec<String>, schema: Schema, object: &Cursor) -> Pushed
+    ensures { OnOk result (texts_of out.new.items ≡ texts_of out.old.items ++ here (unused_own schema) object.now) }
 {
-    let Some(members) = value.as_object() else {
+    let Some(members) = object.value.as_object() else {
         return Ok(());
     };
     for (key, member) in members.iter() {
         if !member.is_null() && !has_key(schema, key.as_str()) {
-            out.push(path_of(alloc, &place.key(key.as_str()))?)?;
+            out.push(path_of(*out.allocator(), &object.place.key(key.as_str()))?)?;
         }
     }
     Ok(())
@@ -39,114 +37,63 @@ fn push_own(
 /// Adds the unused keys of an object, and of the objects that its keys hold.
 #[cycle(unused)]
 #[tactic(auto, using(std::proofs::Common::append_assoc), unfolding(crate::specs::Unused::unused_object))]
-fn push_object(
-    alloc: Global,
-    out: &mut Vec<String>,
-    left: u32,
-    schema: Schema,
-    value: &Value,
-    place: &Place,
-) -> Result<(), AllocError>
-    ensures { OnOk result (texts_of out.new.items
-        ≡ texts_of out.old.items ++ unused_object left schema (path_of place.now) (view value.now)) }
+fn push_object(out: &mut Vec<String>, left: u32, schema: Schema, object: &Cursor) -> Pushed
+    ensures { OnOk result
+        (texts_of out.new.items ≡ texts_of out.old.items ++ here (unused_object left schema) object.now) }
 {
     if left == 0 {
         return Ok(());
     }
-    push_own(alloc, out, schema, value, place)?;
-    push_rows(alloc, out, left - 1, opening(schema), value, place)
-}
-
-#[cycle(unused)]
-fn push_rows(
-    alloc: Global,
-    out: &mut Vec<String>,
-    left: u32,
-    rows: &[Row],
-    value: &Value,
-    place: &Place,
-) -> Result<(), AllocError>
-    ensures { OnOk result (texts_of out.new.items
-        ≡ texts_of out.old.items
-        ++ unused_rows (unused_object left) (row_list rows.now) (path_of place.now) (view value.now)) }
-{
+    push_own(out, schema, object)?;
+    let rows = opening(schema);
     for (_, kind, key) in rows {
-        if let Some(found) = at_key(value, *key) {
-            push_value(alloc, out, left, *kind, found, &(&*place).key(*key))?;
+        if let Some(found) = (&*object).at(*key) {
+            push_value(out, left - 1, *kind, &found)?;
         }
     }
     Ok(())
 }
 
 #[cycle(unused)]
-fn push_value(
-    alloc: Global,
-    out: &mut Vec<String>,
-    left: u32,
-    kind: Kind,
-    found: &Value,
-    place: &Place,
-) -> Result<(), AllocError>
-    ensures { OnOk result (texts_of out.new.items ≡ texts_of out.old.items
-        ++ unused_value (unused_object left) kind (path_of place.now) (view found.now)) }
+fn push_value(out: &mut Vec<String>, left: u32, kind: Kind, found: &Cursor) -> Pushed
+    ensures { OnOk result
+        (texts_of out.new.items ≡ texts_of out.old.items ++ here (unused_value (unused_object left) kind) found.now) }
 {
     match kind {
-        Kind::Object(schema) => push_object(alloc, out, left, schema, found, place),
-        Kind::Parallel => push_object(alloc, out, left, Schema::Parallel, found, place),
-        Kind::Objects(schema) => push_items(alloc, out, left, schema, items_in(found), place),
+        Kind::Object(schema) => push_object(out, left, schema, found),
+        Kind::Parallel => push_object(out, left, Schema::Parallel, found),
+        Kind::Objects(schema) => push_items(out, left, schema, found),
         _ => Ok(()),
     }
 }
 
 #[cycle(unused)]
-fn push_items(
-    alloc: Global,
-    out: &mut Vec<String>,
-    left: u32,
-    schema: Schema,
-    list: &[Value],
-    place: &Place,
-) -> Result<(), AllocError>
-    ensures { OnOk result (texts_of out.new.items
-        ≡ texts_of out.old.items
-        ++ unused_items (unused_object left schema) (path_of place.now) 0 (items_view list.now)) }
+fn push_items(out: &mut Vec<String>, left: u32, schema: Schema, list: &Cursor) -> Pushed
+    ensures { OnOk result (texts_of out.new.items ≡ texts_of out.old.items
+        ++ unused_items (unused_object left schema) (path_to list.now) 0 (items_in (data_of list.now))) }
 {
-    for (i, item) in list.iter().enumerate() {
-        push_object(alloc, out, left, schema, item, &(&*place).member(i))?;
+    let items = items_in(list.value);
+    for (i, item) in items.iter().enumerate() {
+        push_object(out, left, schema, &(&*list).member(item, i))?;
     }
     Ok(())
 }
 
 /// Adds the unused keys of a step, but for those of the steps that it holds.
-pub(crate) fn push_step(
-    alloc: Global,
-    out: &mut Vec<String>,
-    step: &Value,
-    place: &Place,
-) -> Result<(), AllocError>
-    ensures { OnOk result (texts_of out.new.items ≡ texts_of out.old.items
-        ++ unused_object NESTED (schema_of (view step.now)) (path_of place.now) (view step.now)) }
+pub(crate) fn push_step(out: &mut Vec<String>, step: &Cursor) -> Pushed
+    ensures { OnOk result (texts_of out.new.items
+        ≡ texts_of out.old.items ++ here (unused_object NESTED (schema_of (data_of step.now))) step.now) }
 {
-    push_object(alloc, out, NESTED, schema_of(step), step, place)
+    push_object(out, NESTED, schema_of(step.value), step)
 }
 
 /// Adds the unused keys of a pipeline, but for those of the steps of its jobs.
-pub(crate) fn push_pipeline(
-    alloc: Global,
-    out: &mut Vec<String>,
-    pipeline: &Value,
-) -> Result<(), AllocError>
+pub(crate) fn push_pipeline(out: &mut Vec<String>, value: &Value) -> Pushed
     ensures { OnOk result (texts_of out.new.items
-        ≡ texts_of out.old.items ++ unused_object NESTED Pipeline [] (view pipeline.now)) }
+        ≡ texts_of out.old.items ++ unused_object NESTED Pipeline [] (view value.now)) }
 {
-    push_object(
-        alloc,
-        out,
-        NESTED,
-        Schema::Pipeline,
-        pipeline,
-        &Place::top(""),
-    )
+    let place = Place::top("");
+    push_object(out, NESTED, Schema::Pipeline, &Cursor { value, place })
 }
 
 /// The paths ascending by bytes, each once.

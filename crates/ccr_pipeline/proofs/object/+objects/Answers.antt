@@ -1,6 +1,7 @@
 use Rattle.std.proofs.Common.{◌<◌, arith}
+use Rattle.ccr_history.proofs.Items.{left_of-cons}
 use Rattle.ccr_pipeline.specs.Objects.{value_faults}
-use Rattle.ccr_pipeline.proofs.Faulted.{checks_fault}
+use Rattle.ccr_pipeline.proofs.Faulted.{checks_fault, first_append}
 use Rattle.ccr_pipeline.proofs.ObjectLemmas.{rows_first, value_first, value_inside, inside_none}
 use Rattle.ccr_pipeline.proofs.object.+objects.Goals as goal
 
@@ -21,3 +22,9 @@ check_rows-returns-in_err-check_row-clause-checked t c =
 pub check_inside-returns-in_default : goal.check_inside-returns-in_default
 check_inside-returns-in_default t c =
     inside_none _ _ _ _ _ c.in_default.not-Parallel c.in_default.not-Objects c.in_default.not-Object c.in_default.not-OwnName
+
+pub check_objects-returns-in_err-check_object : goal.check_objects-returns-in_err-check_object
+check_objects-returns-in_err-check_object t c =
+    checks_fault _ _ _ c.from_residual.ensures.1
+    (rw (c.loop-i.invariant, left_of-cons _ _ _ _ c.loop-i-test.true c.index-members-i.is)
+    (first_append _ _ _ (rw (c.member.ensures.value, c.member.ensures.place) at c.in_err-check_object.ensures.checked)))

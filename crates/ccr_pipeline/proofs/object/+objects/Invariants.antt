@@ -1,7 +1,7 @@
 use Rattle.std.proofs.Common.{◌≡◌, ◌+◌, ◌*◌, ◌++◌, [], drop}
-use Rattle.serde_json.specs.View.{view, items_view}
 use Rattle.ccr_history.proofs.Items.{left}
-use Rattle.ccr_pipeline.specs.Keys.{path_of}
+use Rattle.ccr_pipeline.specs.Cursors.{data_of, path_to}
+use Rattle.ccr_pipeline.specs.Keys.{items_in}
 use Rattle.ccr_pipeline.specs.Objects.{key_faults, new_names, each_object, value_faults}
 use Rattle.ccr_pipeline.specs.Schema.{rows}
 use Rattle.ccr_pipeline.proofs.object.+objects.Given as goal
@@ -26,9 +26,9 @@ decreases-check_inside l = 6 * l.left + 5
 
 abbrev pub invariant-check_rows-loop-row : goal.invariant-check_rows-loop-row
 invariant-check_rows-loop-row l = record {
-  checked : key_faults (value_faults l.left) l.initial.names (rows l.rows) (path_of l.place) (view l.value) ≡ key_faults (value_faults l.left) l.names (rows (drop l.row-index l.rows)) (path_of l.place) (view l.value);
-  added : l.names ++ new_names (rows (drop l.row-index l.rows)) (view l.value) ≡ l.initial.names ++ new_names (rows l.rows) (view l.value);
+  checked : key_faults (value_faults l.left) l.initial.names (rows l.rows) (path_to l.object) (data_of l.object) ≡ key_faults (value_faults l.left) l.names (rows (drop l.row-index l.rows)) (path_to l.object) (data_of l.object);
+  added : l.names ++ new_names (rows (drop l.row-index l.rows)) (data_of l.object) ≡ l.initial.names ++ new_names (rows l.rows) (data_of l.object);
 }
 
 abbrev pub invariant-check_objects-loop-i : goal.invariant-check_objects-loop-i
-invariant-check_objects-loop-i l = each_object (value_faults l.left) [] l.schema (path_of l.place) 0 (items_view l.list) ≡ each_object (value_faults l.left) l.names l.schema (path_of l.place) l.i (left l.i l.list)
+invariant-check_objects-loop-i l = each_object (value_faults l.left) [] l.schema (path_to l.list) 0 (items_in (data_of l.list)) ≡ each_object (value_faults l.left) l.names l.schema (path_to l.list) l.i (left l.i l.members)

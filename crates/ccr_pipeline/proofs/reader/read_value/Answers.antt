@@ -56,12 +56,12 @@ invariant_of-result c =
     let none : pipeline_faults d ≡ [] =
     unfaulted d c.in_ok-notes.ensures.checked (rw c.job_list.ensures at c.in_ok-jobs.ensures.checked.0) _ _
     c.in_ok-notes.ensures.known (rw c.job_list.ensures at c.in_ok-jobs.ensures.noted) c.in_ok-unused.ensures.known in
-    let resources : resources_from d ≡ map resource_data c.in_ok-notes.field-0.resources.items = sym c.in_ok-notes.ensures.read in
+    let resources : resources_from d ≡ map resource_data c.in_ok-notes.resources.items = sym c.in_ok-notes.ensures.read in
     let jobs : jobs_from d ≡ map job_data c.in_ok-jobs.jobs.items = sym (rw c.job_list.ensures at c.in_ok-jobs.ensures.checked.1) in
     record {
       few_resources = subst HasFewMembers resources (few_resources d none);
       few_jobs = subst HasFewMembers jobs (few_jobs d none);
       distinct_resources = subst HasDistinctResources resources (distinct_resources d none);
       distinct_jobs = subst HasDistinctJobs jobs (distinct_jobs d none);
-      linked = subst (AreLinked (map resource_data c.in_ok-notes.field-0.resources.items)) jobs (subst (λ rs. AreLinked rs (jobs_from d)) resources (are_linked d none));
+      linked = subst (AreLinked (map resource_data c.in_ok-notes.resources.items)) jobs (subst (λ rs. AreLinked rs (jobs_from d)) resources (are_linked d none));
     }

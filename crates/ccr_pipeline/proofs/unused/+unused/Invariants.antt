@@ -1,9 +1,9 @@
-use Rattle.std.proofs.Common.{◌≡◌, ◌+◌, ◌*◌, ◌++◌, drop}
-use Rattle.serde_json.specs.View.{view, items_view}
+use Rattle.std.proofs.Common.{◌≡◌, ◌+◌, ◌-◌, ◌*◌, ◌++◌, drop}
 use Rattle.ccr_history.proofs.Items.{left}
-use Rattle.ccr_pipeline.specs.Keys.{path_of}
+use Rattle.ccr_pipeline.specs.Cursors.{data_of, path_to}
+use Rattle.ccr_pipeline.specs.Keys.{items_in}
 use Rattle.ccr_pipeline.specs.Names.{names_of}
-use Rattle.ccr_pipeline.specs.Schema.{rows}
+use Rattle.ccr_pipeline.specs.Schema.{opening, rows}
 use Rattle.ccr_pipeline.specs.Unused.{unused_object, unused_rows, unused_items}
 use Rattle.ccr_pipeline.proofs.unused.+unused.Given as goal
 
@@ -16,13 +16,10 @@ decreases-push_items l = 4 * l.left + 1
 abbrev pub decreases-push_value : goal.decreases-push_value
 decreases-push_value l = 4 * l.left + 2
 
-abbrev pub decreases-push_rows : goal.decreases-push_rows
-decreases-push_rows l = 4 * l.left + 3
-
-abbrev pub invariant-push_rows-loop-kind : goal.invariant-push_rows-loop-kind
-invariant-push_rows-loop-kind l =
-    names_of l.out.items ++ unused_rows (unused_object l.left) (rows (drop l.kind-index l.rows)) (path_of l.place) (view l.value) ≡ names_of l.initial.out.items ++ unused_rows (unused_object l.left) (rows l.rows) (path_of l.place) (view l.value)
+abbrev pub invariant-push_object-loop-kind : goal.invariant-push_object-loop-kind
+invariant-push_object-loop-kind l =
+    names_of l.out.items ++ unused_rows (unused_object (l.left - 1)) (rows (drop l.kind-index l.rows)) (path_to l.object) (data_of l.object) ≡ names_of l.initial.out.items ++ unused_rows (unused_object (l.left - 1)) (opening l.fn.schema) (path_to l.object) (data_of l.object)
 
 abbrev pub invariant-push_items-loop-i : goal.invariant-push_items-loop-i
 invariant-push_items-loop-i l =
-    names_of l.out.items ++ unused_items (unused_object l.left l.schema) (path_of l.place) l.i (left l.i l.list) ≡ names_of l.initial.out.items ++ unused_items (unused_object l.left l.schema) (path_of l.place) 0 (items_view l.list)
+    names_of l.out.items ++ unused_items (unused_object l.left l.schema) (path_to l.list) l.i (left l.i l.items) ≡ names_of l.initial.out.items ++ unused_items (unused_object l.left l.schema) (path_to l.list) 0 (items_in (data_of l.list))

@@ -1,0 +1,8 @@
+use Rattle.std.proofs.Common.{◌≡◌}
+use Rattle.serde_json.specs.View.{members_view}
+use Rattle.ccr_pipeline.specs.Cursors.{data_of, path_to}
+use Rattle.ccr_pipeline.specs.Kinds.{broken_fields, broken_pin}
+use Rattle.ccr_pipeline.proofs.kind.check_pin.Given as goal
+
+abbrev pub invariant-loop-field : goal.invariant-loop-field
+invariant-loop-field l = broken_pin (path_to l.found) (data_of l.found) ≡ broken_fields (path_to l.found) (members_view l.field-iterator)
