@@ -1,5 +1,5 @@
 -- Of an object without its unused keys, no key of its own and none of the objects that it holds is unused.
-use Rattle.std.proofs.Common.{◌≡◌, ℕ, zero, suc, ◌+◌, ◌*◌, ◌≤◌, List, [], ◌∷◌, ◌++◌, ◌&&◌, ◌||◌, Bool, true, false, Option, Some, None, refl, sym, ap, ◌∙◌, option_and_then, option_map, is_some, if◌then◌else◌, arith, Ordering, Less, Equal, Greater, nat_cmp}
+use Rattle.std.proofs.Common.{◌≡◌, ℕ, zero, suc, ◌+◌, List, [], ◌∷◌, ◌++◌, ◌&&◌, ◌||◌, Bool, true, false, Option, Some, None, refl, sym, ap, ◌∙◌, option_and_then, option_map, is_some, if◌then◌else◌, Ordering, Less, Equal, Greater, nat_cmp}
 use Rattle.std.proofs.lemmas.Cmp.{nat_list_cmp_total, tied_itself}
 use Rattle.std.proofs.lemmas.List.Folds.{list_any-append}
 use Rattle.std.proofs.lemmas.Map.Lookups.{exact_bytes}
@@ -17,7 +17,7 @@ use Rattle.ccr_pipeline.specs.Faults.{Path}
 use Rattle.ccr_pipeline.specs.Keys.{at_key, or_else, unless_null, path_below, path_at}
 use Rattle.ccr_pipeline.specs.Schema.{Row, opening, closing, has_row, has_key}
 use Rattle.ccr_pipeline.specs.Unused.{unused_members, unused_own, unused_items, unused_value, unused_rows, unused_object}
-use Rattle.ccr_pipeline.specs.Used.{kept, kind_in, kind_at, used_members, used_object, used_items, used}
+use Rattle.ccr_pipeline.specs.Used.{kept, kind_in, kind_at, used, used_members, used_items}
 use Rattle.ccr_pipeline.proofs.Ascending.{Above, Ascends, AllAscend, AscendMembers, at_ascends}
 use Rattle.ccr_pipeline.proofs.Joined.{and_first, and_last, both_nil}
 use Rattle.ccr_pipeline.proofs.UsedKeys.{used_like, at_used}
@@ -79,24 +79,23 @@ own_case s p k true has rest h e = e
 own_case s p k false true rest h e = e
 own_case s p k false false rest h e = absurd (cc (h refl))
 
-module _ (n : ℕ) (s : Schema) (p : Path) where
-  by_member : (k : List ℕ) (d : Data) (ms : Members) (q : Option Kind) → kind_at s k ≡ q → (is_some q ≡ true → has_key s k ≡ false → IsNull d) → unused_members s p (used_members (used n) s ms) ≡ [] → unused_members s p (or_else q (used_members (used n) s ms) (λ j. member k (used n j d) (used_members (used n) s ms))) ≡ []
+module _ (s : Schema) (p : Path) where
+  by_member : (k : List ℕ) (d : Data) (ms : Members) (q : Option Kind) → kind_at s k ≡ q → (is_some q ≡ true → has_key s k ≡ false → IsNull d) → unused_members s p (used_members s ms) ≡ [] → unused_members s p (or_else q (used_members s ms) (λ j. member k (used j d) (used_members s ms))) ≡ []
   by_member k d ms None is h e = e
   by_member k d ms (Some j) is h e =
-      own_case s p k (is_some (as_null (used n j d))) (has_key s k) _ (λ no. (used_like n j d).is_null ∙ h refl no) e
+      own_case s p k (is_some (as_null (used j d))) (has_key s k) _ (λ no. (used_like j d).is_null ∙ h refl no) e
 
-  members_none : (ms : Members) → AscendMembers ms → Lacks s ms → unused_members s p (used_members (used n) s ms) ≡ []
+  members_none : (ms : Members) → AscendMembers ms → Lacks s ms → unused_members s p (used_members s ms) ≡ []
   members_none no_members a h = refl
   members_none (member k d ms) a h =
       by_member k d ms (kind_at s k) refl
       (λ there no. first k d ms (h k (last_of (has_row (opening s) k) (has_row (closing s) k) (has_row (kept s) k) no (sym (in_schema s k) ∙ there)) no))
       (members_none ms a.2 (λ l stays no. later l k d ms (slice_cmp nat_cmp l k) refl a.0 (h l stays no)))
 
--- of an object of the schema, no key of its own is unused, so many levels down
-own_none : (n : ℕ) (s : Schema) (p : Path) (d : Data) → Ascends d → ((k : List ℕ) → has_row (kept s) k ≡ true → has_key s k ≡ false → at_key k d ≡ None) → unused_own s p (used_object (used n) s d) ≡ []
-own_none n s p (object ms) a h =
-    members_none n s p ms a (λ k stays no. null_at (get_member k ms) (h k stays no))
-own_none n s p _ a h = refl
+  -- no key of an object of the schema is unused, where nothing stands at the keys that stay though it can't have them
+  own_none : (d : Data) → Ascends d → ((k : List ℕ) → has_row (kept s) k ≡ true → has_key s k ≡ false → at_key k d ≡ None) → unused_own s p (used (kind.Object s) d) ≡ []
+  own_none (object ms) a h = members_none ms a (λ k stays no. null_at (get_member k ms) (h k stays no))
+  own_none _ a h = refl
 
 -- no keys stay that objects of the schema can't have, where a value of the kind holds such
 abbrev is_unkept : Kind → Bool
@@ -130,7 +129,7 @@ none_stays s d (r ∷ rs) e k there lacks = absurd (cc (e))
 
 -- none is unused in objects of a schema whose keys are all its own, so many levels down
 abbrev Below : ℕ → Type 0
-Below n = (s : Schema) → is_none (kept s) ≡ true → (p : Path) (m : ℕ) → 2 * n ≤ m → (d : Data) → Ascends d → unused_object n s p (used m (kind.Object s) d) ≡ []
+Below n = (s : Schema) → is_none (kept s) ≡ true → (p : Path) (d : Data) → Ascends d → unused_object n s p (used (kind.Object s) d) ≡ []
 
 no_object : (n : ℕ) (p : Path) (ds : Items) → unused_object n schema.Parallel p (array ds) ≡ []
 unfolding unused_object
@@ -138,41 +137,40 @@ no_object zero p ds = refl
 no_object (suc n) p ds = refl
 
 module _ (n : ℕ) (below : Below n) where
-  each_none : (s : Schema) → is_none (kept s) ≡ true → (p : Path) (i m : ℕ) → 2 * n ≤ m → (ds : Items) → AllAscend ds → unused_items (unused_object n s) p i (used_items (used m (kind.Object s)) ds) ≡ []
-  each_none s e p i m h no_items a = refl
-  each_none s e p i m h (item d ds) a =
-      both_nil _ _ (below s e (path_at p i) m h d a.0) (each_none s e p (i + 1) m h ds a.1)
+  each_none : (s : Schema) → is_none (kept s) ≡ true → (p : Path) (i : ℕ) (ds : Items) → AllAscend ds → unused_items (unused_object n s) p i (used_items (kind.Object s) ds) ≡ []
+  each_none s e p i no_items a = refl
+  each_none s e p i (item d ds) a = both_nil _ _ (below s e (path_at p i) d a.0) (each_none s e p (i + 1) ds a.1)
 
-  value_none : (k : Kind) → is_unkept k ≡ true → (p : Path) (m : ℕ) → 2 * n + 1 ≤ m → (d : Data) → Ascends d → unused_value (unused_object n) k p (used m k d) ≡ []
-  value_none k e p zero h d a = absurd (omega (arith, h))
-  value_none (kind.Object s) e p (suc m) h d a = below s e p (suc m) (omega (arith, h)) d a
-  value_none (kind.Objects s) e p (suc m) h (array ds) a = each_none s e p 0 m (omega (arith, h)) ds a
-  value_none (kind.Objects s) e p (suc m) h _ a = refl
-  value_none kind.Parallel e p (suc m) h (array ds) a = no_object n p (used_items (used m kind.Step) ds)
-  value_none kind.Parallel e p (suc m) h d a = below schema.Parallel refl p (suc m) (omega (arith, h)) d a
-  value_none _ e p (suc m) h d a = refl
+  value_none : (k : Kind) → is_unkept k ≡ true → (p : Path) (d : Data) → Ascends d → unused_value (unused_object n) k p (used k d) ≡ []
+  value_none (kind.Object s) e p d a = below s e p d a
+  value_none (kind.Objects s) e p (array ds) a = each_none s e p 0 ds a
+  value_none (kind.Objects s) e p _ a = refl
+  value_none kind.Parallel e p (array ds) a = no_object n p (used_items kind.Step ds)
+  value_none kind.Parallel e p (object ms) a = below schema.Parallel refl p (object ms) a
+  value_none kind.Parallel e p d a = below schema.Parallel refl p d a
+  value_none _ e p d a = refl
 
-  found_none : (k : Kind) → is_unkept k ≡ true → (p : Path) (m : ℕ) → 2 * n + 1 ≤ m → (o : Option Data) → IfSome o Ascends → or_else (option_map (used m k) o) [] (unused_value (unused_object n) k p) ≡ []
-  found_none k e p m h None a = refl
-  found_none k e p m h (Some d) a = value_none k e p m h d a
+  found_none : (k : Kind) → is_unkept k ≡ true → (p : Path) (o : Option Data) → IfSome o Ascends → or_else (option_map (used k) o) [] (unused_value (unused_object n) k p) ≡ []
+  found_none k e p None a = refl
+  found_none k e p (Some d) a = value_none k e p d a
 
-  rows_none : (s : Schema) (rs : List Row) → Fits s rs → are_unkept rs ≡ true → (p : Path) (m : ℕ) → 2 * n + 1 ≤ m → (d : Data) → Ascends d → unused_rows (unused_object n) rs p (used_object (used m) s d) ≡ []
-  rows_none s [] f e p m h d a = refl
-  rows_none s (r ∷ rs) f e p m h d a =
-      both_nil _ _ (rw (at_used m s r.2 r.1 f.0 d) (found_none r.1 (and_first _ _ e) (path_below p r.2) m h (at_key r.2 d) (at_ascends r.2 d a)))
-      (rows_none s rs f.2 (and_last (is_unkept r.1) _ e) p m h d a)
+  rows_none : (s : Schema) (rs : List Row) → Fits s rs → are_unkept rs ≡ true → (p : Path) (d : Data) → Ascends d → unused_rows (unused_object n) rs p (used (kind.Object s) d) ≡ []
+  rows_none s [] f e p d a = refl
+  rows_none s (r ∷ rs) f e p d a =
+      both_nil _ _ (rw (at_used s r.2 r.1 f.0 d) (found_none r.1 (and_first _ _ e) (path_below p r.2) (at_key r.2 d) (at_ascends r.2 d a)))
+      (rows_none s rs f.2 (and_last (is_unkept r.1) _ e) p d a)
 
 below_none : (n : ℕ) → Below n
 unfolding unused_object
-below_none zero s e p m h d a = refl
-below_none (suc n) s e p zero h d a = absurd (omega (arith, h))
-below_none (suc n) s e p (suc m) h d a =
-    both_nil _ _ (own_none m s p d a (none_stays s d (kept s) e))
-    (rows_none n (below_none n) s (opening s) (fits_opening s) (unkept_opening s) p m (omega (arith, h)) d a)
+below_none zero s e p d a = refl
+below_none (suc n) s e p d a =
+    both_nil _ _ (own_none s p d a (none_stays s d (kept s) e))
+    (rows_none n (below_none n) s (opening s) (fits_opening s) (unkept_opening s) p d a)
 
 -- none is unused in an object of a step's schema, its own keys aside, and in what it holds
-pub object_none : (n : ℕ) (s : Schema) (p : Path) (m : ℕ) → 2 * n + 1 ≤ m → (d : Data) → Ascends d → ((k : List ℕ) → has_row (kept s) k ≡ true → has_key s k ≡ false → at_key k d ≡ None) → unused_object (suc n) s p (used_object (used m) s d) ≡ []
+pub object_none : (n : ℕ) (s : Schema) (p : Path) (d : Data) → Ascends d → ((k : List ℕ) → has_row (kept s) k ≡ true → has_key s k ≡ false → at_key k d ≡ None) → unused_object n s p (used (kind.Object s) d) ≡ []
 unfolding unused_object
-object_none n s p m h d a own =
-    both_nil _ _ (own_none m s p d a own)
-    (rows_none n (below_none n) s (opening s) (fits_opening s) (unkept_opening s) p m h d a)
+object_none zero s p d a own = refl
+object_none (suc n) s p d a own =
+    both_nil _ _ (own_none s p d a own)
+    (rows_none n (below_none n) s (opening s) (fits_opening s) (unkept_opening s) p d a)

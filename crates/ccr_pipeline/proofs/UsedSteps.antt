@@ -1,6 +1,6 @@
--- What stands at the keys of a step without its unused keys, and in lists.
-use Rattle.std.proofs.Common.{◌≡◌, ◌⊎◌, inl, inr, ℕ, zero, suc, List, Bool, true, false, not, ◌&&◌, Option, Some, None, refl, sym, ap, ◌∙◌, option_map, is_some, codes, if◌then◌else◌}
-use Rattle.serde_json.specs.Data.{Data, array, Items, no_items, item}
+-- What stands at the keys of a step without its unused keys.
+use Rattle.std.proofs.Common.{◌≡◌, Bool, true, false, not, ◌&&◌, Option, Some, None, refl, ap, ◌∙◌, option_map, is_some, codes, if◌then◌else◌, List, ℕ}
+use Rattle.serde_json.specs.Data.{Data, object, no_items}
 use Rattle.ccr_pipeline.specs.declared.schema.Kind.{Kind}
 use Rattle.ccr_pipeline.specs.declared.schema.Kind.TheVariants as kind
 use Rattle.ccr_pipeline.specs.declared.schema.Schema.{Schema}
@@ -8,29 +8,14 @@ use Rattle.ccr_pipeline.specs.declared.schema.Schema.TheVariants as schema
 use Rattle.ccr_pipeline.specs.declared.step.When.{When}
 use Rattle.ccr_pipeline.specs.declared.step.When.TheVariants.{OnSuccess, OnFailure, OnError, OnAbort, Ensure}
 use Rattle.ccr_pipeline.specs.Hooks.{hook_key}
-use Rattle.ccr_pipeline.specs.Keys.{at_key, or_else, items_in}
+use Rattle.ccr_pipeline.specs.Keys.{at_key, or_else, items_in, list_at}
 use Rattle.ccr_pipeline.specs.Schema.{schema_of}
-use Rattle.ccr_pipeline.specs.Used.{kind_at, used_object, used_items, used}
-use Rattle.ccr_pipeline.proofs.UsedKeys.{at_unused, at_used, is_plain, option_map-same, at_same}
+use Rattle.ccr_pipeline.specs.Used.{kind_at, used, used_items}
+use Rattle.ccr_pipeline.proofs.UsedKeys.{at_unused, at_used, is_plain, at_same, step_object, steps_used, list_used}
 
--- the values of a key are those of a kind, so many levels down
-abbrev pub Held : Kind → Option Data → Option Data → Type 0
-Held k e d = (n : ℕ) × (e ≡ option_map (used n k) d)
-
-pub unheld : (k : Kind) (o : Option Data) → Held k o o
-unheld k o = (0, sym (option_map-same (used 0 k) (λ d. refl) o))
-
-pub some_held : (k : Kind) (e d : Option Data) → Held k e d → is_some e ≡ is_some d
-some_held k e None h = rw h.1 refl
-some_held k e (Some d) h = rw h.1 refl
-
--- at a key stands a value of the kind, or one that stays
-abbrev OrPlain : Kind → Option Kind → Type 0
-OrPlain k o = (o ≡ Some k) ⊎ (is_plain o ≡ true)
-
-held : (n : ℕ) (s : Schema) (k : List ℕ) (found : Kind) (d : Data) → OrPlain found (kind_at s k) → Held found (at_key k (used_object (used n) s d)) (at_key k d)
-held n s k found d (inl is) = (n, at_used n s k found is d)
-held n s k found d (inr e) = rw (at_same n s k d e) (unheld found (at_key k d))
+pub some_used : (k : Kind) (o : Option Data) → is_some (option_map (used k) o) ≡ is_some o
+some_used k None = refl
+some_used k (Some d) = refl
 
 -- of each schema that a step may have
 pub record OfSteps (P : Schema → Type 0) : Type 0 where
@@ -51,50 +36,55 @@ by_tests P h false false true false false = h.task
 pub of_step : (P : Schema → Type 0) → OfSteps P → (d : Data) → P (schema_of d)
 of_step P h d = by_tests P h (is_some (at_key (codes "get") d)) (is_some (at_key (codes "put") d)) (is_some (at_key (codes "task") d)) (is_some (at_key (codes "config") d)) (is_some (at_key (codes "file") d))
 
-step_same : (k : List ℕ) → OfSteps (λ s. is_plain (kind_at s k) ≡ true) → (n : ℕ) (d : Data) → at_key k (used n kind.Step d) ≡ at_key k d
-step_same k h zero d = refl
-step_same k h (suc n) d = at_same n (schema_of d) k d (of_step (λ s. is_plain (kind_at s k) ≡ true) h d)
+step_same : (k : List ℕ) → OfSteps (λ s. is_plain (kind_at s k) ≡ true) → (d : Data) → at_key k (used kind.Step d) ≡ at_key k d
+step_same k h d =
+    ap (at_key k) (step_object d) ∙ at_same (schema_of d) k d (of_step (λ s. is_plain (kind_at s k) ≡ true) h d)
 
-step_held : (k : List ℕ) (found : Kind) → OfSteps (λ s. OrPlain found (kind_at s k)) → (n : ℕ) (d : Data) → Held found (at_key k (used n kind.Step d)) (at_key k d)
-step_held k found h zero d = unheld found (at_key k d)
-step_held k found h (suc n) d = held n (schema_of d) k found d (of_step (λ s. OrPlain found (kind_at s k)) h d)
+step_used : (k : List ℕ) (found : Kind) → OfSteps (λ s. kind_at s k ≡ Some found) → (d : Data) → at_key k (used kind.Step d) ≡ option_map (used found) (at_key k d)
+step_used k found h d =
+    ap (at_key k) (step_object d) ∙ at_used (schema_of d) k found (of_step (λ s. kind_at s k ≡ Some found) h d) d
 
-pub get_same : (n : ℕ) (d : Data) → at_key (codes "get") (used n kind.Step d) ≡ at_key (codes "get") d
+pub get_same : (d : Data) → at_key (codes "get") (used kind.Step d) ≡ at_key (codes "get") d
 unfolding kind_at
 get_same = step_same (codes "get") (record { get = refl; put = refl; holder = refl; file = refl; task = refl })
 
-pub put_same : (n : ℕ) (d : Data) → at_key (codes "put") (used n kind.Step d) ≡ at_key (codes "put") d
+pub put_same : (d : Data) → at_key (codes "put") (used kind.Step d) ≡ at_key (codes "put") d
 unfolding kind_at
 put_same = step_same (codes "put") (record { get = refl; put = refl; holder = refl; file = refl; task = refl })
 
-pub task_same : (n : ℕ) (d : Data) → at_key (codes "task") (used n kind.Step d) ≡ at_key (codes "task") d
+pub task_same : (d : Data) → at_key (codes "task") (used kind.Step d) ≡ at_key (codes "task") d
 unfolding kind_at
 task_same = step_same (codes "task") (record { get = refl; put = refl; holder = refl; file = refl; task = refl })
 
-pub attempts_same : (n : ℕ) (d : Data) → at_key (codes "attempts") (used n kind.Step d) ≡ at_key (codes "attempts") d
+pub attempts_same : (d : Data) → at_key (codes "attempts") (used kind.Step d) ≡ at_key (codes "attempts") d
 unfolding kind_at
 attempts_same = step_same (codes "attempts") (record { get = refl; put = refl; holder = refl; file = refl; task = refl })
 
-pub do_held : (n : ℕ) (d : Data) → Held kind.Steps (at_key (codes "do") (used n kind.Step d)) (at_key (codes "do") d)
+pub do_used : (d : Data) → at_key (codes "do") (used kind.Step d) ≡ option_map (used kind.Steps) (at_key (codes "do") d)
 unfolding kind_at
-do_held = step_held (codes "do") kind.Steps (record { get = inr refl; put = inr refl; holder = inl refl; file = inr refl; task = inr refl })
+do_used = step_used (codes "do") kind.Steps (record { get = refl; put = refl; holder = refl; file = refl; task = refl })
 
-pub parallel_held : (n : ℕ) (d : Data) → Held kind.Parallel (at_key (codes "in_parallel") (used n kind.Step d)) (at_key (codes "in_parallel") d)
+pub in_parallel_used : (d : Data) → at_key (codes "in_parallel") (used kind.Step d) ≡ option_map (used kind.Parallel) (at_key (codes "in_parallel") d)
 unfolding kind_at
-parallel_held = step_held (codes "in_parallel") kind.Parallel (record { get = inr refl; put = inr refl; holder = inl refl; file = inr refl; task = inr refl })
+in_parallel_used = step_used (codes "in_parallel") kind.Parallel (record { get = refl; put = refl; holder = refl; file = refl; task = refl })
 
-pub try_held : (n : ℕ) (d : Data) → Held kind.Step (at_key (codes "try") (used n kind.Step d)) (at_key (codes "try") d)
+pub try_used : (d : Data) → at_key (codes "try") (used kind.Step d) ≡ option_map (used kind.Step) (at_key (codes "try") d)
 unfolding kind_at
-try_held = step_held (codes "try") kind.Step (record { get = inr refl; put = inr refl; holder = inl refl; file = inr refl; task = inr refl })
+try_used = step_used (codes "try") kind.Step (record { get = refl; put = refl; holder = refl; file = refl; task = refl })
+
+-- the steps in the object of an in_parallel
+pub parallel_steps : (d : Data) → list_at (codes "steps") (used kind.Parallel d) ≡ used_items kind.Step (list_at (codes "steps") d)
+unfolding kind_at
+parallel_steps (object ms) =
+    ap (λ o. or_else o no_items items_in) (at_used schema.Parallel (codes "steps") kind.Steps refl (object ms))
+    ∙ list_used kind.Steps kind.Step steps_used (at_key (codes "steps") (object ms))
+parallel_steps _ = refl
 
 -- each hook of one is a step that stands there in the other
 abbrev pub Hooked : Data → Data → Type 0
-Hooked e d = (w : When) → Held kind.Step (at_key (hook_key w) e) (at_key (hook_key w) d)
+Hooked e d = (w : When) → at_key (hook_key w) e ≡ option_map (used kind.Step) (at_key (hook_key w) d)
 
-hooked_by : (n : ℕ) (s : Schema) (d : Data) → ((w : When) → kind_at s (hook_key w) ≡ Some kind.Step) → Hooked (used_object (used n) s d) d
-hooked_by n s d is w = (n, at_used n s (hook_key w) kind.Step (is w) d)
-
-pub step_hook : (w : When) → OfSteps (λ s. kind_at s (hook_key w) ≡ Some kind.Step)
+step_hook : (w : When) → OfSteps (λ s. kind_at s (hook_key w) ≡ Some kind.Step)
 unfolding kind_at
 step_hook OnSuccess = record { get = refl; put = refl; holder = refl; file = refl; task = refl }
 step_hook OnFailure = record { get = refl; put = refl; holder = refl; file = refl; task = refl }
@@ -102,11 +92,10 @@ step_hook OnError = record { get = refl; put = refl; holder = refl; file = refl;
 step_hook OnAbort = record { get = refl; put = refl; holder = refl; file = refl; task = refl }
 step_hook Ensure = record { get = refl; put = refl; holder = refl; file = refl; task = refl }
 
-pub step_hooked : (n : ℕ) (d : Data) → Hooked (used n kind.Step d) d
-step_hooked zero d = λ w. unheld kind.Step (at_key (hook_key w) d)
-step_hooked (suc n) d = hooked_by n (schema_of d) d (λ w. of_step (λ s. kind_at s (hook_key w) ≡ Some kind.Step) (step_hook w) d)
+pub step_hooked : (d : Data) → Hooked (used kind.Step d) d
+step_hooked d = λ w. step_used (hook_key w) kind.Step (step_hook w) d
 
-pub job_hook : (w : When) → kind_at schema.Job (hook_key w) ≡ Some kind.Step
+job_hook : (w : When) → kind_at schema.Job (hook_key w) ≡ Some kind.Step
 unfolding kind_at
 job_hook OnSuccess = refl
 job_hook OnFailure = refl
@@ -114,73 +103,42 @@ job_hook OnError = refl
 job_hook OnAbort = refl
 job_hook Ensure = refl
 
-pub job_hooked : (n : ℕ) (d : Data) → Hooked (used n (kind.Object schema.Job) d) d
-job_hooked zero d = λ w. unheld kind.Step (at_key (hook_key w) d)
-job_hooked (suc n) d = hooked_by n schema.Job d job_hook
+pub job_hooked : (d : Data) → Hooked (used (kind.Object schema.Job) d) d
+job_hooked d = λ w. at_used schema.Job (hook_key w) kind.Step (job_hook w) d
 
 -- the config of a task stays where it is, and so does a file where there is no config
 record SameSource (e d : Data) (c f : Bool) : Type 0 where
   config : is_some (at_key (codes "config") e) ≡ c
   file : c ≡ false → is_some (at_key (codes "file") e) ≡ f
 
-source_same : (n : ℕ) (d : Data) (config file : Bool) → is_some (at_key (codes "config") d) ≡ config → is_some (at_key (codes "file") d) ≡ file → SameSource (used_object (used n) (if not config && file then schema.FileTask else schema.Task) d) d config file
+source_same : (d : Data) (config file : Bool) → is_some (at_key (codes "config") d) ≡ config → is_some (at_key (codes "file") d) ≡ file → SameSource (used (kind.Object (if not config && file then schema.FileTask else schema.Task)) d) d config file
 unfolding kind_at
-source_same n d true file c f = record {
-  config = some_held (kind.Object schema.Config) _ (at_key (codes "config") d) (n, at_used n schema.Task (codes "config") (kind.Object schema.Config) refl d) ∙ c;
+source_same d true file c f = record {
+  config = ap is_some (at_used schema.Task (codes "config") (kind.Object schema.Config) refl d) ∙ some_used (kind.Object schema.Config) (at_key (codes "config") d) ∙ c;
   file = λ e. absurd (cc (e));
 }
-source_same n d false true c f = record {
-  config = ap is_some (at_unused (used n) schema.FileTask (codes "config") refl d);
-  file = λ e. ap is_some (at_same n schema.FileTask (codes "file") d refl) ∙ f;
+source_same d false true c f = record {
+  config = ap is_some (at_unused schema.FileTask (codes "config") refl d);
+  file = λ e. ap is_some (at_same schema.FileTask (codes "file") d refl) ∙ f;
 }
-source_same n d false false c f = record {
-  config = some_held (kind.Object schema.Config) _ (at_key (codes "config") d) (n, at_used n schema.Task (codes "config") (kind.Object schema.Config) refl d) ∙ c;
-  file = λ e. ap is_some (at_unused (used n) schema.Task (codes "file") refl d);
+source_same d false false c f = record {
+  config = ap is_some (at_used schema.Task (codes "config") (kind.Object schema.Config) refl d) ∙ some_used (kind.Object schema.Config) (at_key (codes "config") d) ∙ c;
+  file = λ e. ap is_some (at_unused schema.Task (codes "file") refl d);
 }
 
 same_task : (config file config' file' : Bool) → config' ≡ config → (config ≡ false → file' ≡ file) → (if not config' && file' then schema.FileTask else schema.Task) ≡ (if not config && file then schema.FileTask else schema.Task)
 same_task true file config' file' c f = rw c refl
 same_task false file config' file' c f = rw (c, f refl) refl
 
-schema_by : (n : ℕ) (d : Data) (get put task : Bool) → is_some (at_key (codes "get") d) ≡ get → is_some (at_key (codes "put") d) ≡ put → is_some (at_key (codes "task") d) ≡ task → schema_of (used (suc n) kind.Step d) ≡ schema_of d
-schema_by n d true put task g p t = rw (get_same (suc n) d, g) refl
-schema_by n d false true task g p t = rw (get_same (suc n) d, put_same (suc n) d, g, p) refl
-schema_by n d false false false g p t = rw (get_same (suc n) d, put_same (suc n) d, task_same (suc n) d, g, p, t) refl
-schema_by n d false false true g p t =
-    let s : SameSource (used_object (used n) (if not (is_some (at_key (codes "config") d)) && is_some (at_key (codes "file") d) then schema.FileTask else schema.Task) d) d (is_some (at_key (codes "config") d)) (is_some (at_key (codes "file") d)) = source_same n d _ _ refl refl in
-    rw (get_same (suc n) d, put_same (suc n) d, task_same (suc n) d, g, p, t) (same_task _ _ _ _ s.config s.file)
+schema_by : (d : Data) (get put task : Bool) → is_some (at_key (codes "get") d) ≡ get → is_some (at_key (codes "put") d) ≡ put → is_some (at_key (codes "task") d) ≡ task → schema_of (used kind.Step d) ≡ schema_of d
+schema_by d true put task g p t = rw (get_same d, g) refl
+schema_by d false true task g p t = rw (get_same d, put_same d, g, p) refl
+schema_by d false false false g p t = rw (get_same d, put_same d, task_same d, g, p, t) refl
+schema_by d false false true g p t =
+    let is : schema_of d ≡ (if not (is_some (at_key (codes "config") d)) && is_some (at_key (codes "file") d) then schema.FileTask else schema.Task) = rw (g, p, t) refl in
+    let own : used kind.Step d ≡ used (kind.Object (if not (is_some (at_key (codes "config") d)) && is_some (at_key (codes "file") d) then schema.FileTask else schema.Task)) d = step_object d ∙ ap (λ s. used (kind.Object s) d) is in
+    let s = source_same d _ _ refl refl in
+    rw (get_same d, put_same d, task_same d, g, p, t) (same_task _ _ _ _ (ap (λ e. is_some (at_key (codes "config") e)) own ∙ s.config) (λ no. ap (λ e. is_some (at_key (codes "file") e)) own ∙ s.file no))
 
-pub schema_same : (n : ℕ) (d : Data) → schema_of (used n kind.Step d) ≡ schema_of d
-schema_same zero d = refl
-schema_same (suc n) d = schema_by n d _ _ _ refl refl refl
-
--- the members of one list are those of the other, so many levels down
-abbrev pub Listed : Kind → Items → Items → Type 0
-Listed k es ds = (n : ℕ) × (es ≡ used_items (used n k) ds)
-
-unlisted : (k : Kind) (ds : Items) → Listed k ds ds
-unlisted k ds = (0, sym (all_same ds))
-  where
-    all_same : (ds : Items) → used_items (used 0 k) ds ≡ ds
-    all_same no_items = refl
-    all_same (item d ds) = ap (item d) (all_same ds)
-
-pub objects_listed : (s : Schema) (n : ℕ) (d : Data) → Listed (kind.Object s) (items_in (used n (kind.Objects s) d)) (items_in d)
-objects_listed s zero d = unlisted (kind.Object s) (items_in d)
-objects_listed s (suc n) (array ds) = (n, refl)
-objects_listed s (suc n) _ = (n, refl)
-
-pub steps_listed : (n : ℕ) (d : Data) → Listed kind.Step (items_in (used n kind.Steps d)) (items_in d)
-steps_listed zero d = unlisted kind.Step (items_in d)
-steps_listed (suc n) (array ds) = (n, refl)
-steps_listed (suc n) _ = (n, refl)
-
-pub parallel_listed : (n : ℕ) (d : Data) → Listed kind.Step (items_in (used n kind.Parallel d)) (items_in d)
-parallel_listed zero d = unlisted kind.Step (items_in d)
-parallel_listed (suc n) (array ds) = (n, refl)
-parallel_listed (suc n) _ = (n, refl)
-
--- the list at a key
-pub list_listed : (k inner : Kind) → ((n : ℕ) (d : Data) → Listed inner (items_in (used n k d)) (items_in d)) → (e d : Option Data) → Held k e d → Listed inner (or_else e no_items items_in) (or_else d no_items items_in)
-list_listed k inner each e None h = rw h.1 (unlisted inner no_items)
-list_listed k inner each e (Some d) h = rw h.1 (each h.0 d)
+pub schema_same : (d : Data) → schema_of (used kind.Step d) ≡ schema_of d
+schema_same d = schema_by d _ _ _ refl refl refl

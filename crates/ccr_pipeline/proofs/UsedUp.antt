@@ -1,31 +1,28 @@
--- Of a pipeline without its unused keys on all levels, no key is unused.
-use Rattle.std.proofs.Common.{◌≡◌, ◌⊎◌, inl, inr, ℕ, zero, suc, ◌+◌, ◌*◌, ◌<◌, ◌≤◌, List, [], ◌∷◌, ◌++◌, map, ◌&&◌, ◌||◌, not, Bool, true, false, Option, Some, None, refl, sym, subst, ap, ap₂, ◌∙◌, option_map, is_some, codes, if◌then◌else◌, arith, Result, Ok, Err, IfOk}
+-- Of a pipeline without its unused keys, no key is unused.
+use Rattle.std.proofs.Common.{◌≡◌, ℕ, zero, suc, ◌+◌, ◌<◌, List, [], ◌∷◌, ◌++◌, map, ◌&&◌, ◌||◌, not, Bool, true, false, Option, Some, None, refl, sym, subst, ap, ap₂, ◌∙◌, option_map, is_some, codes, if◌then◌else◌, arith, Result, Ok, Err, IfOk}
 use Rattle.std.proofs.lemmas.Grind.{flat_map-append}
 use Rattle.std.proofs.lemmas.Slice.Eq.{bytes_eq-Decides}
 use Rattle.std.specs.List.{flat_map}
 use Rattle.std.specs.Option.{IfSome}
 use Rattle.std.specs.Str.{bytes_eq}
-use Rattle.serde_json.specs.Data.{Data, array, object, Items, no_items, item}
+use Rattle.serde_json.specs.Data.{Data, Items, no_items, item}
 use Rattle.ccr_pipeline.specs.declared.schema.Kind.TheVariants as kind
-use Rattle.ccr_pipeline.specs.declared.schema.Kind.{Kind}
 use Rattle.ccr_pipeline.specs.declared.schema.Need.TheVariants.{May}
 use Rattle.ccr_pipeline.specs.declared.schema.Schema.{Schema}
 use Rattle.ccr_pipeline.specs.declared.schema.Schema.TheVariants as schema
-use Rattle.ccr_pipeline.specs.declared.step.When.{When}
 use Rattle.ccr_pipeline.specs.declared.step.When.TheVariants.{OnSuccess, OnFailure, OnError, OnAbort, Ensure}
 use Rattle.ccr_pipeline.specs.declared.fault.ReadFault.{ReadFault}
 use Rattle.ccr_pipeline.specs.Faults.{Path, Checks}
-use Rattle.ccr_pipeline.specs.Hooks.{hook_key}
 use Rattle.ccr_pipeline.specs.JobRules.{job_faults, members}
 use Rattle.ccr_pipeline.specs.Keys.{at_key, or_else, items_in, list_at, path_below, path_at}
 use Rattle.ccr_pipeline.specs.Names.{names_at}
 use Rattle.ccr_pipeline.specs.Objects.{row_names, broken, row_faults, key_faults, object_faults, value_faults}
-use Rattle.ccr_pipeline.specs.Places.{Closing, Spot, spot_of, each_step, steps_in, step_at, own_steps, hook_steps, steps_from, tries_below, plan_steps, job_steps}
+use Rattle.ccr_pipeline.specs.Places.{Closing, Spot, spot_of, each_step, steps_in, step_at, own_steps, hook_steps, steps_from, tries_below, plan_steps, job_hooks, job_steps}
 use Rattle.ccr_pipeline.specs.Reading.{faults_before, pipeline_faults, IsTextOf}
 use Rattle.ccr_pipeline.specs.Schema.{Row, has_row, has_key, schema_of}
 use Rattle.ccr_pipeline.specs.StepRules.{undone_faults, depth_faults, shape_faults, opening_faults}
 use Rattle.ccr_pipeline.specs.Unused.{unused_spot, unused_in, unused_object}
-use Rattle.ccr_pipeline.specs.Used.{ALL_LEVELS, kept, kept_of_steps, kind_at, used_object, used_items, used, used_pipeline}
+use Rattle.ccr_pipeline.specs.Used.{kept, kept_of_steps, used, used_items, used_pipeline}
 use Rattle.ccr_pipeline.proofs.Ascending.{Ascends, AllAscend, at_ascends, list_ascends, read_ascends}
 use Rattle.ccr_pipeline.proofs.Inside.{EachItem, OwnSteps, Hooks}
 use Rattle.ccr_pipeline.proofs.Joined.{none_of}
@@ -33,9 +30,11 @@ use Rattle.ccr_pipeline.proofs.Ordered.{held, having, one_kind}
 use Rattle.ccr_pipeline.proofs.Rows.{nil_left, nil_right}
 use Rattle.ccr_pipeline.proofs.Shallow.{no_level}
 use Rattle.ccr_pipeline.proofs.Unfaulted.{Unfaulted, Opened, opened, Planned, planned}
-use Rattle.ccr_pipeline.proofs.UsedKeys.{at_used, is_plain, at_same}
+use Rattle.ccr_pipeline.proofs.Used.{jobs_used}
+use Rattle.ccr_pipeline.proofs.UsedKeys.{step_object, steps_used, parallel_used, list_used}
+use Rattle.ccr_pipeline.proofs.UsedMeaning.{plan_used}
 use Rattle.ccr_pipeline.proofs.UsedOwn.{object_none}
-use Rattle.ccr_pipeline.proofs.UsedSteps.{of_step, step_hook, job_hook, schema_same}
+use Rattle.ccr_pipeline.proofs.UsedSteps.{of_step, do_used, in_parallel_used, try_used, parallel_steps, Hooked, step_hooked, job_hooked, schema_same}
 
 -- what stands at the keys that stay in a step
 
@@ -147,42 +146,6 @@ step_keys : (names : List (List ℕ)) (p : Path) (n : ℕ) (d : Data) → openin
 step_keys names p n d e k there =
     kept_row d kept_of_steps (all_stay names p n d e) k (ap (λ rs. has_row rs k) (sym (kept_same d)) ∙ there)
 
--- what stands at the keys that hold steps
-
-abbrev Holds : List ℕ → Kind → Schema → Type 0
-Holds k found s = (kind_at s k ≡ Some found) ⊎ ((is_plain (kind_at s k) ≡ true) × (has_key s k ≡ false))
-
-at_step_key : (n : ℕ) (s : Schema) (k : List ℕ) (found : Kind) (d : Data) → Holds k found s → (has_key s k ≡ false → at_key k d ≡ None) → at_key k (used_object (used n) s d) ≡ option_map (used n found) (at_key k d)
-at_step_key n s k found d (inl is) h = at_used n s k found is d
-at_step_key n s k found d (inr e) h = at_same n s k d e.0 ∙ h e.1 ∙ sym (ap (option_map (used n found)) (h e.1))
-
-order_held : (d : Data) → Holds (codes "do") kind.Steps (schema_of d)
-unfolding kind_at
-order_held = of_step (Holds (codes "do") kind.Steps) (record { get = inr (refl, refl); put = inr (refl, refl); holder = inl refl; file = inr (refl, refl); task = inr (refl, refl) })
-
-parallel_held : (d : Data) → Holds (codes "in_parallel") kind.Parallel (schema_of d)
-unfolding kind_at
-parallel_held = of_step (Holds (codes "in_parallel") kind.Parallel) (record { get = inr (refl, refl); put = inr (refl, refl); holder = inl refl; file = inr (refl, refl); task = inr (refl, refl) })
-
-try_held : (d : Data) → Holds (codes "try") kind.Step (schema_of d)
-unfolding kind_at
-try_held = of_step (Holds (codes "try") kind.Step) (record { get = inr (refl, refl); put = inr (refl, refl); holder = inl refl; file = inr (refl, refl); task = inr (refl, refl) })
-
-list_used : (n : ℕ) (o : Option Data) → or_else (option_map (used (suc n) kind.Steps) o) no_items items_in ≡ used_items (used n kind.Step) (or_else o no_items items_in)
-list_used n None = refl
-list_used n (Some (array ds)) = refl
-list_used n (Some _) = refl
-
-parallel_used : (n : ℕ) (o : Option Data) → or_else (option_map (used (suc n) kind.Parallel) o) no_items items_in ≡ used_items (used n kind.Step) (or_else o no_items items_in)
-parallel_used n None = refl
-parallel_used n (Some (array ds)) = refl
-parallel_used n (Some _) = refl
-
-objects_used : (s : Schema) (n : ℕ) (o : Option Data) → or_else (option_map (used (suc n) (kind.Objects s)) o) no_items items_in ≡ used_items (used n (kind.Object s)) (or_else o no_items items_in)
-objects_used s n None = refl
-objects_used s n (Some (array ds)) = refl
-objects_used s n (Some _) = refl
-
 -- no key of the steps is unused
 record AllUsed (xs : List Spot) : Type 0 where
   none : flat_map unused_spot xs ≡ []
@@ -192,113 +155,88 @@ join xs ys e f = record { none = flat_map-append unused_spot xs ys ∙ ap₂ (λ
 
 -- nor of a step with so many levels left
 abbrev Down : ℕ → ℕ → Type 0
-Down m u = (d : Data) → Unfaulted m u d → Ascends d → (n : ℕ) → 3 * m + 7 ≤ n → (t : ℕ) (p : Path) → AllUsed (steps_from m t p (used n kind.Step d))
+Down m u = (d : Data) → Unfaulted m u d → Ascends d → (t : ℕ) (p : Path) → AllUsed (steps_from m t p (used kind.Step d))
 
 module _ (m u : ℕ) (down : Down m u) (t : ℕ) where
-  each : (n : ℕ) → 3 * m + 7 ≤ n → (p : Path) (i : ℕ) (ds : Items) → EachItem (Unfaulted m u) ds → AllAscend ds → AllUsed (each_step (steps_from m) t p i (used_items (used n kind.Step) ds))
-  each n b p i no_items h a = record { none = refl }
-  each n b p i (item d ds) h a = join _ _ (down d h.0 a.0 n b t (path_at p i)) (each n b p (i + 1) ds h.1 a.1)
+  each : (p : Path) (i : ℕ) (ds : Items) → EachItem (Unfaulted m u) ds → AllAscend ds → AllUsed (each_step (steps_from m) t p i (used_items kind.Step ds))
+  each p i no_items h a = record { none = refl }
+  each p i (item d ds) h a = join _ _ (down d h.0 a.0 t (path_at p i)) (each p (i + 1) ds h.1 a.1)
 
-  at_found : (n : ℕ) → 3 * m + 7 ≤ n → (p : Path) (o : Option Data) → IfSome o (Unfaulted m u) → IfSome o Ascends → AllUsed (or_else (option_map (used n kind.Step) o) [] (steps_from m t p))
-  at_found n b p None h a = record { none = refl }
-  at_found n b p (Some d) h a = down d h a n b t p
+  at_list : (p : Path) (k : List ℕ) (e d : Data) → list_at k e ≡ used_items kind.Step (list_at k d) → EachItem (Unfaulted m u) (list_at k d) → Ascends d → AllUsed (steps_in (steps_from m) t p k e)
+  unfolding steps_in
+  at_list p k e d is h a = rw is (each (path_below p k) 0 (list_at k d) h (list_ascends k d a))
 
-  in_parallel : (n : ℕ) → 3 * m + 7 ≤ n → (p : Path) (o : Option Data) → IfSome o (λ found. EachItem (Unfaulted m u) (list_at (codes "steps") found)) → IfSome o Ascends → AllUsed (or_else (option_map (used (suc (suc n)) kind.Parallel) o) [] (steps_in (steps_from m) t p (codes "steps")))
-  unfolding steps_in kind_at
-  in_parallel n b p None h a = record { none = refl }
-  in_parallel n b p (Some (object ms)) h a =
-      rw (at_used (suc n) schema.Parallel (codes "steps") kind.Steps refl (object ms), list_used n (at_key (codes "steps") (object ms)))
-      (each n b (path_below p (codes "steps")) 0 (list_at (codes "steps") (object ms)) h (list_ascends (codes "steps") (object ms) a))
-  in_parallel n b p (Some _) h a = record { none = refl }
+  at_found : (p : Path) (o : Option Data) → IfSome o (Unfaulted m u) → IfSome o Ascends → AllUsed (or_else (option_map (used kind.Step) o) [] (steps_from m t p))
+  at_found p None h a = record { none = refl }
+  at_found p (Some d) h a = down d h a t p
 
-  at_hook : (n : ℕ) → 3 * m + 7 ≤ n → (p : Path) (s : Schema) (k : List ℕ) (d : Data) → kind_at s k ≡ Some kind.Step → IfSome (at_key k d) (Unfaulted m u) → Ascends d → AllUsed (step_at (steps_from m) t p k (used_object (used n) s d))
+  at_step : (p : Path) (k : List ℕ) (e d : Data) → at_key k e ≡ option_map (used kind.Step) (at_key k d) → IfSome (at_key k d) (Unfaulted m u) → Ascends d → AllUsed (step_at (steps_from m) t p k e)
   unfolding step_at
-  at_hook n b p s k d is h a =
-      rw (at_used n s k kind.Step is d) (at_found n b (path_below p k) (at_key k d) h (at_ascends k d a))
+  at_step p k e d is h a = rw is (at_found (path_below p k) (at_key k d) h (at_ascends k d a))
 
-  hooks_used : (n : ℕ) → 3 * m + 7 ≤ n → (p : Path) (s : Schema) (d : Data) → ((w : When) → kind_at s (hook_key w) ≡ Some kind.Step) → Hooks (Unfaulted m u) d → Ascends d → AllUsed (hook_steps (steps_from m) t p (used_object (used n) s d))
+  in_parallel : (p : Path) (o : Option Data) → IfSome o (λ found. EachItem (Unfaulted m u) (list_at (codes "steps") found)) → IfSome o Ascends → AllUsed (or_else (option_map (used kind.Parallel) o) [] (steps_in (steps_from m) t p (codes "steps")))
+  in_parallel p None h a = record { none = refl }
+  in_parallel p (Some found) h a = at_list p (codes "steps") (used kind.Parallel found) found (parallel_steps found) h a
+
+  hooks_used : (p : Path) (e d : Data) → Hooked e d → Hooks (Unfaulted m u) d → Ascends d → AllUsed (hook_steps (steps_from m) t p e)
   unfolding hook_steps
-  hooks_used n b p s d is h a =
-      join _ _ (at_hook n b p s (codes "on_success") d (is OnSuccess) h.on_success a)
-      (join _ _ (at_hook n b p s (codes "on_failure") d (is OnFailure) h.on_failure a)
-      (join _ _ (at_hook n b p s (codes "on_error") d (is OnError) h.on_error a)
-      (join _ _ (at_hook n b p s (codes "on_abort") d (is OnAbort) h.on_abort a)
-      (at_hook n b p s (codes "ensure") d (is Ensure) h.ensure a))))
+  hooks_used p e d is h a =
+      join _ _ (at_step p (codes "on_success") e d (is OnSuccess) h.on_success a)
+      (join _ _ (at_step p (codes "on_failure") e d (is OnFailure) h.on_failure a)
+      (join _ _ (at_step p (codes "on_error") e d (is OnError) h.on_error a)
+      (join _ _ (at_step p (codes "on_abort") e d (is OnAbort) h.on_abort a)
+      (at_step p (codes "ensure") e d (is Ensure) h.ensure a))))
 
-  own_used : (n : ℕ) → 3 * m + 7 ≤ n → (p : Path) (d : Data) → Stays d → OwnSteps (Unfaulted m u) d → Ascends d → AllUsed (own_steps (steps_from m) t p (used_object (used (suc (suc n))) (schema_of d) d))
-  unfolding own_steps steps_in step_at
-  own_used n b p d s h a =
-      rw (
-        at_step_key (suc (suc n)) (schema_of d) (codes "do") kind.Steps d (order_held d) s.order,
-        at_step_key (suc (suc n)) (schema_of d) (codes "in_parallel") kind.Parallel d (parallel_held d) s.parallel,
-        at_step_key (suc (suc n)) (schema_of d) (codes "try") kind.Step d (try_held d) s.trying,
-        list_used (suc n) (at_key (codes "do") d),
-        parallel_used (suc n) (at_key (codes "in_parallel") d),
-      )
-      (join _ _ (each (suc n) (omega (arith, b)) _ 0 (list_at (codes "do") d) h.order (list_ascends (codes "do") d a))
-      (join _ _ (each (suc n) (omega (arith, b)) _ 0 (list_at (codes "in_parallel") d) h.parallel (list_ascends (codes "in_parallel") d a))
-      (join _ _ (in_parallel n b _ (at_key (codes "in_parallel") d) h.steps (at_ascends (codes "in_parallel") d a))
-      (at_found (suc (suc n)) (omega (arith, b)) _ (at_key (codes "try") d) h.trying (at_ascends (codes "try") d a)))))
-
-hook_of : (d : Data) (w : When) → kind_at (schema_of d) (hook_key w) ≡ Some kind.Step
-hook_of d w = of_step (λ s. kind_at s (hook_key w) ≡ Some kind.Step) (step_hook w) d
+  own_used : (p : Path) (d : Data) → OwnSteps (Unfaulted m u) d → Ascends d → AllUsed (own_steps (steps_from m) t p (used kind.Step d))
+  unfolding own_steps
+  own_used p d h a =
+      let e : Data = used kind.Step d in
+      join _ _ (at_list p (codes "do") e d (ap (λ o. or_else o no_items items_in) (do_used d) ∙ list_used kind.Steps _ steps_used (at_key (codes "do") d)) h.order a)
+      (join _ _ (at_list p (codes "in_parallel") e d (ap (λ o. or_else o no_items items_in) (in_parallel_used d) ∙ list_used kind.Parallel _ parallel_used (at_key (codes "in_parallel") d)) h.parallel a)
+      (join _ _ (rw (in_parallel_used d) (in_parallel (path_below p (codes "in_parallel")) (at_key (codes "in_parallel") d) h.steps (at_ascends (codes "in_parallel") d a)))
+      (at_step p (codes "try") e d (try_used d) h.trying a)))
 
 step_used : (m u : ℕ) → Down m u
 unfolding steps_from
-step_used zero u d h a n b t p = absurd (no_level h.1.0 h.0 d (nil_left _ _ h.1.1))
-step_used (suc m) u d h a zero b t p = absurd (omega (arith, b))
-step_used (suc m) u d h a (suc zero) b t p = absurd (omega (arith, b))
-step_used (suc m) u d h a (suc (suc zero)) b t p = absurd (omega (arith, b))
-step_used (suc m) u d h a (suc (suc (suc n))) b t p =
+step_used zero u d h a t p = absurd (no_level h.1.0 h.0 d (nil_left _ _ h.1.1))
+step_used (suc m) u d h a t p =
     let o : Opened m u d = opened m u d h in
     let v : ℕ = tries_below u d in
-    let e : Data = used (suc (suc (suc n))) kind.Step d in
+    let e : Data = used kind.Step d in
     let w : ℕ = tries_below t e in
     let own : unused_object 3 (schema_of e) p e ≡ [] =
-    ap (λ s. unused_object 3 s p e) (schema_same (suc (suc (suc n))) d)
-    ∙ object_none 2 (schema_of d) p (suc (suc n)) (omega (arith, b)) d a (step_keys o.names o.path (suc m) d o.opening) in
-    let stay = stays o.names o.path (suc m) d o.opening in
-    let hooks : AllUsed (hook_steps (steps_from m) w p e) =
-    hooks_used m v (step_used m v) w (suc (suc n)) (omega (arith, b)) p (schema_of d) d (hook_of d) o.hooks a in
+    rw (schema_same d, step_object d) (object_none 3 (schema_of d) p d a (step_keys o.names o.path (suc m) d o.opening)) in
+    let hooks : AllUsed (hook_steps (steps_from m) w p e) = hooks_used m v (step_used m v) w p e d (step_hooked d) o.hooks a in
     let after : AllUsed (spot_of Closing p (suc m) t e ∷ hook_steps (steps_from m) w p e) = record { none = hooks.none } in
-    let inner : AllUsed (own_steps (steps_from m) w p e) =
-    own_used m v (step_used m v) w n (omega (arith, b)) p d stay o.own a in
+    let inner : AllUsed (own_steps (steps_from m) w p e) = own_used m v (step_used m v) w p d o.own a in
     record { none = ap₂ (λ us vs. us ++ vs) own (join _ _ inner after).none }
 
 -- a job, and the whole pipeline
 
-plan_used : (n : ℕ) → 97 ≤ n → (p : Path) (d : Data) → Planned d → Ascends d → AllUsed (plan_steps p (used (suc (suc n)) (kind.Object schema.Job) d))
-unfolding steps_in kind_at
-plan_used n b p d h a =
-    rw (at_used (suc n) schema.Job (codes "plan") kind.Steps refl d, list_used n (at_key (codes "plan") d))
-    (each 30 1 (step_used 30 1) 1 n (omega (arith, b)) (path_below p (codes "plan")) 0 (list_at (codes "plan") d) h.steps (list_ascends (codes "plan") d a))
+job_used : (p : Path) (d : Data) → Planned d → Ascends d → AllUsed (plan_steps p (used (kind.Object schema.Job) d) ++ job_hooks p (used (kind.Object schema.Job) d))
+job_used p d h a =
+    join _ _ (at_list 30 1 (step_used 30 1) 1 p (codes "plan") (used (kind.Object schema.Job) d) d (plan_used d) h.steps a)
+    (hooks_used 30 1 (step_used 30 1) 1 p (used (kind.Object schema.Job) d) d (job_hooked d) h.hooks a)
 
-jobs_used : (n : ℕ) → 97 ≤ n → (names : List (List ℕ)) (i : ℕ) (ds : Items) → members job_faults names (codes "jobs") i ds ≡ [] → AllAscend ds → AllUsed (job_steps i (used_items (used (suc (suc n)) (kind.Object schema.Job)) ds))
-jobs_used n b names i no_items e a = record { none = refl }
-jobs_used n b names i (item d ds) e a =
+all_used : (names : List (List ℕ)) (i : ℕ) (ds : Items) → members job_faults names (codes "jobs") i ds ≡ [] → AllAscend ds → AllUsed (job_steps i (used_items (kind.Object schema.Job) ds))
+all_used names i no_items e a = record { none = refl }
+all_used names i (item d ds) e a =
     let p : Path = path_at (codes "jobs") i in
     let own : job_faults names p d ≡ [] = nil_left (job_faults names p d) _ e in
     let plan : Planned d = planned p d (nil_right (object_faults (value_faults 3) names schema.Job p d) _ own) in
-    join _ _
-    (join _ _ (plan_used n b p d plan a.0) (hooks_used 30 1 (step_used 30 1) 1 (suc n) (omega (arith, b)) p schema.Job d job_hook plan.hooks a.0))
-    (jobs_used n b (names ++ names_at (codes "name") d) (i + 1) ds (nil_right (job_faults names p d) _ e) a.1)
+    join _ _ (job_used p d plan a.0) (all_used (names ++ names_at (codes "name") d) (i + 1) ds (nil_right (job_faults names p d) _ e) a.1)
 
-up_to : (d : Data) → Ascends d → pipeline_faults d ≡ [] → (n : ℕ) → 97 ≤ n → unused_in (used_pipeline (suc (suc (suc (suc n)))) d) ≡ []
-unfolding pipeline_faults unused_in kind_at
-up_to d a e n b =
+none_left : (d : Data) → Ascends d → pipeline_faults d ≡ [] → unused_in (used_pipeline d) ≡ []
+unfolding pipeline_faults unused_in
+none_left d a e =
     let jobs : members job_faults [] (codes "jobs") 0 (list_at (codes "jobs") d) ≡ [] = nil_left _ _ (nil_right (faults_before d) _ e) in
     ap₂ (λ us vs. us ++ vs)
-    (object_none 2 schema.Pipeline [] (suc (suc (suc n))) (omega (arith, b)) d a (λ k there no. absurd (cc (there))))
-    (rw (at_used (suc (suc (suc n))) schema.Pipeline (codes "jobs") (kind.Objects schema.Job) refl d, objects_used schema.Job (suc (suc n)) (at_key (codes "jobs") d))
-    (jobs_used n b [] 0 (list_at (codes "jobs") d) jobs (list_ascends (codes "jobs") d a)).none)
-
-by_levels : (d : Data) → Ascends d → pipeline_faults d ≡ [] → (n : ℕ) → ALL_LEVELS ≤ n → unused_in (used_pipeline n d) ≡ []
-by_levels d a e (suc (suc (suc (suc n)))) b = up_to d a e n (omega (arith, b))
-by_levels d a e n b = absurd (omega (arith, b))
+    (object_none 3 schema.Pipeline [] d a (λ k there no. absurd (cc (there))))
+    (rw (jobs_used d) (all_used [] 0 (list_at (codes "jobs") d) jobs (list_ascends (codes "jobs") d a)).none)
 
 -- bytes are the text of one value, whose keys ascend
-pub read_leaves_none : {T : Type 0} (bytes : List ℕ) (d : Data) (r : Result T ReadFault) → IsTextOf bytes d → Checks (pipeline_faults d) r → IfOk r (λ t. (e : Data) → IsTextOf bytes e → (n : ℕ) → ALL_LEVELS ≤ n → unused_in (used_pipeline n e) ≡ [])
-read_leaves_none bytes d (Ok t) one h = λ e two n b.
+pub read_leaves_none : {T : Type 0} (bytes : List ℕ) (d : Data) (r : Result T ReadFault) → IsTextOf bytes d → Checks (pipeline_faults d) r → IfOk r (λ t. (e : Data) → IsTextOf bytes e → unused_in (used_pipeline e) ≡ [])
+read_leaves_none bytes d (Ok t) one h = λ e two.
     let same : d ≡ e = cc (one.2, two.2) in
-    subst (λ x. unused_in (used_pipeline n x) ≡ []) same (by_levels d (read_ascends bytes d one.2) h n b)
+    subst (λ x. unused_in (used_pipeline x) ≡ []) same (none_left d (read_ascends bytes d one.2) h)
 read_leaves_none bytes d (Err f) one h = tt

@@ -2,7 +2,7 @@
 use Rattle.std.proofs.Common.{◌≡◌, ℕ, zero, suc, ◌+◌, List, [], ◌∷◌, ◌++◌, Bool, true, false, not, ◌&&◌, Option, Some, None, refl, ap, ap₂, ◌∙◌, append_assoc, option_and_then, option_map, is_some, codes, if◌then◌else◌}
 use Rattle.std.proofs.lemmas.Slice.Eq.{bytes_eq-Decides}
 use Rattle.std.specs.Str.{bytes_eq}
-use Rattle.serde_json.specs.Data.{Data, array, Items, no_items, item}
+use Rattle.serde_json.specs.Data.{Data, array, object, Items, no_items, item}
 use Rattle.serde_json.specs.Find.{as_str, as_array}
 use Rattle.ccr_pipeline.specs.declared.schema.Kind.{Kind}
 use Rattle.ccr_pipeline.specs.declared.schema.Kind.TheVariants as kind
@@ -15,7 +15,7 @@ use Rattle.ccr_pipeline.specs.Keys.{at_key, or_else, items_in, path_below, path_
 use Rattle.ccr_pipeline.specs.Names.{text_at}
 use Rattle.ccr_pipeline.specs.Objects.{Test, broken, absent, once, once_names, row_names, new_names, row_faults, key_faults, object_faults, each_object, inside, value_faults}
 use Rattle.ccr_pipeline.specs.Schema.{Row, opening, closing, has_row}
-use Rattle.ccr_pipeline.specs.Used.{kept, kind_in, kind_at, used_object, used_items, used}
+use Rattle.ccr_pipeline.specs.Used.{kept, kind_in, kind_at, used, used_items}
 use Rattle.ccr_pipeline.proofs.Joined.{and_first, and_last, or_first, or_last}
 use Rattle.ccr_pipeline.proofs.UsedKeys.{used_like, at_used, plain, at_same}
 
@@ -36,30 +36,30 @@ Fits s (r ∷ rs) = (kind_at s r.2 ≡ Some r.1) × Owns s r.1 × Fits s rs
 
 -- a test tells the same of a value without its unused keys
 abbrev Same : Test → Type 0
-Same test = (n : ℕ) (k : Kind) (p : Path) (e d found : Data) → SameOwner k e d → test k p e (used n k found) ≡ test k p d found
+Same test = (k : Kind) (p : Path) (e d found : Data) → SameOwner k e d → test k p e (used k found) ≡ test k p d found
 
-same_owner : (n : ℕ) (s : Schema) (k : Kind) (d : Data) → Owns s k → SameOwner k (used_object (used n) s d) d
-same_owner n s kind.OwnName d h = ap (option_and_then as_str) (at_same n s (codes "name") d (rw h refl))
-same_owner n s _ d h = tt
+same_owner : (s : Schema) (k : Kind) (d : Data) → Owns s k → SameOwner k (used (kind.Object s) d) d
+same_owner s kind.OwnName d h = ap (option_and_then as_str) (at_same s (codes "name") d (rw h refl))
+same_owner s _ d h = tt
 
-once_same : (n : ℕ) (k : Kind) (need : Need) (names : List (List ℕ)) (p : Path) (found : Data) → once need names p (used n k found) ≡ once need names p found
-once_same n k New names p found = rw (used_like n k found).text refl
-once_same n k _ names p found = refl
+once_same : (k : Kind) (need : Need) (names : List (List ℕ)) (p : Path) (found : Data) → once need names p (used k found) ≡ once need names p found
+once_same k New names p found = rw (used_like k found).text refl
+once_same k _ names p found = refl
 
-once_names_same : (n : ℕ) (k : Kind) (need : Need) (found : Data) → once_names need (used n k found) ≡ once_names need found
-once_names_same n k New found = rw (used_like n k found).text refl
-once_names_same n k _ found = refl
+once_names_same : (k : Kind) (need : Need) (found : Data) → once_names need (used k found) ≡ once_names need found
+once_names_same k New found = rw (used_like k found).text refl
+once_names_same k _ found = refl
 
-names_found : (n : ℕ) (k : Kind) (need : Need) (o : Option Data) → or_else (option_map (used n k) o) [] (once_names need) ≡ or_else o [] (once_names need)
-names_found n k need None = refl
-names_found n k need (Some found) = once_names_same n k need found
+names_found : (k : Kind) (need : Need) (o : Option Data) → or_else (option_map (used k) o) [] (once_names need) ≡ or_else o [] (once_names need)
+names_found k need None = refl
+names_found k need (Some found) = once_names_same k need found
 
-row_names_same : (n : ℕ) (s : Schema) (r : Row) (d : Data) → kind_at s r.2 ≡ Some r.1 → row_names r (used_object (used n) s d) ≡ row_names r d
-row_names_same n s r d is = rw (at_used n s r.2 r.1 is d) (names_found n r.1 r.0 (at_key r.2 d))
+row_names_same : (s : Schema) (r : Row) (d : Data) → kind_at s r.2 ≡ Some r.1 → row_names r (used (kind.Object s) d) ≡ row_names r d
+row_names_same s r d is = rw (at_used s r.2 r.1 is d) (names_found r.1 r.0 (at_key r.2 d))
 
-new_names_same : (n : ℕ) (s : Schema) (d : Data) (rs : List Row) → Fits s rs → new_names rs (used_object (used n) s d) ≡ new_names rs d
-new_names_same n s d [] h = refl
-new_names_same n s d (r ∷ rs) h = ap₂ (λ xs ys. xs ++ ys) (row_names_same n s r d h.0) (new_names_same n s d rs h.2)
+new_names_same : (s : Schema) (d : Data) (rs : List Row) → Fits s rs → new_names rs (used (kind.Object s) d) ≡ new_names rs d
+new_names_same s d [] h = refl
+new_names_same s d (r ∷ rs) h = ap₂ (λ xs ys. xs ++ ys) (row_names_same s r d h.0) (new_names_same s d rs h.2)
 
 -- the keys of the rows are none of those before them, and no two are one
 abbrev are_new : List Row → List Row → Bool
@@ -126,74 +126,71 @@ fits_opening schema.Input = in_opening schema.Input refl refl
 fits_opening schema.Output = in_opening schema.Output refl refl
 
 module _ (test : Test) (same : Same test) where
-  row_found : (n : ℕ) (k : Kind) (need : Need) (names : List (List ℕ)) (p : Path) (e d : Data) → SameOwner k e d → (o : Option Data) → or_else (option_map (used n k) o) (absent need p) (λ found. test k p e found ++ once need names p found) ≡ or_else o (absent need p) (λ found. test k p d found ++ once need names p found)
-  row_found n k need names p e d h None = refl
-  row_found n k need names p e d h (Some found) =
-      ap₂ (λ xs ys. xs ++ ys) (same n k p e d found h) (once_same n k need names p found)
+  row_found : (k : Kind) (need : Need) (names : List (List ℕ)) (p : Path) (e d : Data) → SameOwner k e d → (o : Option Data) → or_else (option_map (used k) o) (absent need p) (λ found. test k p e found ++ once need names p found) ≡ or_else o (absent need p) (λ found. test k p d found ++ once need names p found)
+  row_found k need names p e d h None = refl
+  row_found k need names p e d h (Some found) =
+      ap₂ (λ xs ys. xs ++ ys) (same k p e d found h) (once_same k need names p found)
 
-  row_same : (n : ℕ) (s : Schema) (names : List (List ℕ)) (r : Row) (p : Path) (d : Data) → kind_at s r.2 ≡ Some r.1 → Owns s r.1 → row_faults test names r p (used_object (used n) s d) ≡ row_faults test names r p d
-  row_same n s names r p d is owns =
-      rw (at_used n s r.2 r.1 is d)
-      (row_found n r.1 r.0 names (path_below p r.2) (used_object (used n) s d) d (same_owner n s r.1 d owns) (at_key r.2 d))
+  row_same : (s : Schema) (names : List (List ℕ)) (r : Row) (p : Path) (d : Data) → kind_at s r.2 ≡ Some r.1 → Owns s r.1 → row_faults test names r p (used (kind.Object s) d) ≡ row_faults test names r p d
+  row_same s names r p d is owns =
+      rw (at_used s r.2 r.1 is d)
+      (row_found r.1 r.0 names (path_below p r.2) (used (kind.Object s) d) d (same_owner s r.1 d owns) (at_key r.2 d))
 
-  keys_same_by : (n : ℕ) (s : Schema) (names : List (List ℕ)) (rs : List Row) (p : Path) (d : Data) → Fits s rs → key_faults test names rs p (used_object (used n) s d) ≡ key_faults test names rs p d
-  keys_same_by n s names [] p d h = refl
-  keys_same_by n s names (r ∷ rs) p d h =
-      ap₂ (λ xs ys. xs ++ ys) (row_same n s names r p d h.0 h.1)
-      (ap (λ ns. key_faults test (names ++ ns) rs p (used_object (used n) s d)) (row_names_same n s r d h.0)
-      ∙ keys_same_by n s (names ++ row_names r d) rs p d h.2)
+  keys_same_by : (s : Schema) (names : List (List ℕ)) (rs : List Row) (p : Path) (d : Data) → Fits s rs → key_faults test names rs p (used (kind.Object s) d) ≡ key_faults test names rs p d
+  keys_same_by s names [] p d h = refl
+  keys_same_by s names (r ∷ rs) p d h =
+      ap₂ (λ xs ys. xs ++ ys) (row_same s names r p d h.0 h.1)
+      (ap (λ ns. key_faults test (names ++ ns) rs p (used (kind.Object s) d)) (row_names_same s r d h.0)
+      ∙ keys_same_by s (names ++ row_names r d) rs p d h.2)
 
-  object_same_by : (n : ℕ) (s : Schema) (names : List (List ℕ)) (p : Path) (d : Data) → object_faults test names s p (used n (kind.Object s) d) ≡ object_faults test names s p d
+  object_same_by : (s : Schema) (names : List (List ℕ)) (p : Path) (d : Data) → object_faults test names s p (used (kind.Object s) d) ≡ object_faults test names s p d
   unfolding object_faults
-  object_same_by zero s names p d = refl
-  object_same_by (suc n) s names p d =
-      rw ((used_like (suc n) (kind.Object s) d).is_object, keys_same_by n s names (opening s) p d (fits_opening s)) refl
+  object_same_by s names p d =
+      rw ((used_like (kind.Object s) d).is_object, keys_same_by s names (opening s) p d (fits_opening s)) refl
 
-  object_names_same : (n : ℕ) (s : Schema) (d : Data) → new_names (opening s) (used n (kind.Object s) d) ≡ new_names (opening s) d
-  object_names_same zero s d = refl
-  object_names_same (suc n) s d = new_names_same n s d (opening s) (fits_opening s)
+  object_names_same : (s : Schema) (d : Data) → new_names (opening s) (used (kind.Object s) d) ≡ new_names (opening s) d
+  object_names_same s d = new_names_same s d (opening s) (fits_opening s)
 
-  each_same : (n : ℕ) (s : Schema) (names : List (List ℕ)) (p : Path) (i : ℕ) (ds : Items) → each_object test names s p i (used_items (used n (kind.Object s)) ds) ≡ each_object test names s p i ds
-  each_same n s names p i no_items = refl
-  each_same n s names p i (item d ds) =
-      ap₂ (λ xs ys. xs ++ ys) (object_same_by n s names (path_at p i) d)
-      (ap (λ ns. each_object test (names ++ ns) s p (i + 1) (used_items (used n (kind.Object s)) ds)) (object_names_same n s d)
-      ∙ each_same n s (names ++ new_names (opening s) d) p (i + 1) ds)
+  each_same : (s : Schema) (names : List (List ℕ)) (p : Path) (i : ℕ) (ds : Items) → each_object test names s p i (used_items (kind.Object s) ds) ≡ each_object test names s p i ds
+  each_same s names p i no_items = refl
+  each_same s names p i (item d ds) =
+      ap₂ (λ xs ys. xs ++ ys) (object_same_by s names (path_at p i) d)
+      (ap (λ ns. each_object test (names ++ ns) s p (i + 1) (used_items (kind.Object s) ds)) (object_names_same s d)
+      ∙ each_same s (names ++ new_names (opening s) d) p (i + 1) ds)
 
-  objects_same : (n : ℕ) (s : Schema) (p : Path) (d : Data) → each_object test [] s p 0 (items_in (used n (kind.Objects s) d)) ≡ each_object test [] s p 0 (items_in d)
-  objects_same zero s p d = refl
-  objects_same (suc n) s p (array ds) = each_same n s [] p 0 ds
-  objects_same (suc n) s p _ = refl
+  objects_same : (s : Schema) (p : Path) (d : Data) → each_object test [] s p 0 (items_in (used (kind.Objects s) d)) ≡ each_object test [] s p 0 (items_in d)
+  objects_same s p (array ds) = each_same s [] p 0 ds
+  objects_same s p _ = refl
 
-  parallel_same : (n : ℕ) (p : Path) (d : Data) → (if is_some (as_array (used n kind.Parallel d)) then [] else object_faults test [] schema.Parallel p (used n kind.Parallel d)) ≡ (if is_some (as_array d) then [] else object_faults test [] schema.Parallel p d)
-  parallel_same zero p d = refl
-  parallel_same (suc n) p (array ds) = refl
-  parallel_same (suc n) p d = object_same_by (suc n) schema.Parallel [] p d
+  parallel_same : (p : Path) (d : Data) → (if is_some (as_array (used kind.Parallel d)) then [] else object_faults test [] schema.Parallel p (used kind.Parallel d)) ≡ (if is_some (as_array d) then [] else object_faults test [] schema.Parallel p d)
+  parallel_same p (array ds) = refl
+  parallel_same p (object ms) = object_same_by schema.Parallel [] p (object ms)
+  parallel_same p _ = refl
 
   inside_same : Same (inside test)
-  inside_same n (kind.Object s) p e d found h = object_same_by n s [] p found
-  inside_same n (kind.Objects s) p e d found h = objects_same n s p found
-  inside_same n kind.Parallel p e d found h = parallel_same n p found
-  inside_same n kind.OwnName p e d found h = rw (plain n kind.OwnName refl found, h) refl
-  inside_same n _ p e d found h = refl
+  inside_same (kind.Object s) p e d found h = object_same_by s [] p found
+  inside_same (kind.Objects s) p e d found h = objects_same s p found
+  inside_same kind.Parallel p e d found h = parallel_same p found
+  inside_same kind.OwnName p e d found h = rw (plain kind.OwnName refl found, h) refl
+  inside_same _ p e d found h = refl
 
-broken_same : (n : ℕ) (k : Kind) (p : Path) (found : Data) → broken k p (used n k found) ≡ broken k p found
+broken_same : (k : Kind) (p : Path) (found : Data) → broken k p (used k found) ≡ broken k p found
 unfolding broken
-broken_same n (kind.Object s) p found = refl
-broken_same n (kind.Objects s) p found = rw (used_like n (kind.Objects s) found).is_list refl
-broken_same n kind.Steps p found = rw (used_like n kind.Steps found).is_list refl
-broken_same n kind.Parallel p found = refl
-broken_same n kind.Step p found = refl
-broken_same n k p found = ap (broken k p) (plain n k refl found)
+broken_same (kind.Object s) p found = refl
+broken_same (kind.Objects s) p found = rw (used_like (kind.Objects s) found).is_list refl
+broken_same kind.Steps p found = rw (used_like kind.Steps found).is_list refl
+broken_same kind.Parallel p found = refl
+broken_same kind.Step p found = refl
+broken_same k p found = ap (broken k p) (plain k refl found)
 
 value_same : (m : ℕ) → Same (value_faults m)
 unfolding value_faults
-value_same zero n k p e d found h = broken_same n k p found
-value_same (suc m) n k p e d found h =
-    ap₂ (λ xs ys. xs ++ ys) (broken_same n k p found) (inside_same (value_faults m) (value_same m) n k p e d found h)
+value_same zero k p e d found h = broken_same k p found
+value_same (suc m) k p e d found h =
+    ap₂ (λ xs ys. xs ++ ys) (broken_same k p found) (inside_same (value_faults m) (value_same m) k p e d found h)
 
-pub keys_same : (m n : ℕ) (s : Schema) (names : List (List ℕ)) (rs : List Row) (p : Path) (d : Data) → Fits s rs → key_faults (value_faults m) names rs p (used_object (used n) s d) ≡ key_faults (value_faults m) names rs p d
+pub keys_same : (m : ℕ) (s : Schema) (names : List (List ℕ)) (rs : List Row) (p : Path) (d : Data) → Fits s rs → key_faults (value_faults m) names rs p (used (kind.Object s) d) ≡ key_faults (value_faults m) names rs p d
 keys_same m = keys_same_by (value_faults m) (value_same m)
 
-pub object_same : (m n : ℕ) (s : Schema) (names : List (List ℕ)) (p : Path) (d : Data) → object_faults (value_faults m) names s p (used n (kind.Object s) d) ≡ object_faults (value_faults m) names s p d
+pub object_same : (m : ℕ) (s : Schema) (names : List (List ℕ)) (p : Path) (d : Data) → object_faults (value_faults m) names s p (used (kind.Object s) d) ≡ object_faults (value_faults m) names s p d
 object_same m = object_same_by (value_faults m) (value_same m)

@@ -1,5 +1,5 @@
 //! Reading of pipelines and of task files.
-ghost use Rattle.std.specs.Prelude.{◌≡◌, ◌≤◌, ℕ, ◌++◌, List, [], length, map, IfOk, IfErr, string_bytes, codes};
+ghost use Rattle.std.specs.Prelude.{◌≡◌, ℕ, ◌++◌, List, [], length, map, IfOk, IfErr, string_bytes, codes};
 ghost use Rattle.serde_json.specs.Data.{Data};
 ghost use Rattle.serde_json.specs.Read.{read as json};
 ghost use Rattle.serde_json.specs.View.{view};
@@ -13,7 +13,7 @@ ghost use Rattle.ccr_pipeline.specs.Reordered.{IsReordering};
 ghost use Rattle.ccr_pipeline.specs.TaskRules.{config_faults};
 ghost use Rattle.ccr_pipeline.specs.Tree.{config_data};
 ghost use Rattle.ccr_pipeline.specs.Unused.{unused_in};
-ghost use Rattle.ccr_pipeline.specs.Used.{ALL_LEVELS, used_pipeline};
+ghost use Rattle.ccr_pipeline.specs.Used.{used_pipeline};
 
 use crate::build;
 use crate::cursor::Cursor;
@@ -74,9 +74,8 @@ pub fn read(alloc: Global, text: &[u8]) -> Result<Pipeline, ReadFault>
     ensures ok { IfOk result
         (λ p. IsReading pipeline_faults text.now (λ d. IsPipelineOf text.now d (pipeline_data p))) }
 
-    // Without its keys that have no effect, taken away on all levels, none would be listed.
-    ensures none_left { IfOk result (λ p. (d : Data) → IsTextOf text.now d → (n : ℕ) → ALL_LEVELS ≤ n
-        → unused_in (used_pipeline n d) ≡ []) }
+    // Without the keys that have no effect, none would be listed.
+    ensures none_left { IfOk result (λ p. (d : Data) → IsTextOf text.now d → unused_in (used_pipeline d) ≡ []) }
 
     // The text is too long or no JSON value, or the fault is the first one that is present in its value.
     ensures err { IfErr result

@@ -45,7 +45,7 @@ returns-clause-read c =
       resources = c.in_ok-notes.ensures.read;
       jobs = jobs;
       unused = rw unused c.in_ok-unused.ensures.sorted;
-      effectless = λ n. says_the_same n d;
+      effectless = λ e is. says_the_same e d is;
       inputs = rw jobs (jobs_ordered [] 0 (list_at (codes "jobs") d) none);
       printed = rw (c.in_ok-notes.ensures.read, jobs) (read_again d whole);
     }
