@@ -11,6 +11,7 @@ pub mod Rows
 pub mod Inside
 pub mod Unfaulted
 pub mod Kept
+pub mod Gathered
 pub mod Shallow
 pub mod Tries
 pub mod Named

@@ -1,30 +1,27 @@
 -- Where no fault is present in a plan, the resources and jobs that it names are there.
-use Rattle.std.proofs.Common.{◌≡◌, ℕ, zero, suc, ◌+◌, List, [], ◌∷◌, ◌++◌, Bool, true, false, Option, Some, None, refl, if◌then◌else◌, option_and_then, unwrap_or, is_some, codes}
-use Rattle.std.proofs.lemmas.List.Elements.{All-nil, All-cons, All-append}
-use Rattle.std.specs.List.{AllByRecursion, AllPass}
+use Rattle.std.proofs.Common.{◌≡◌, ℕ, suc, ◌+◌, List, [], ◌∷◌, ◌++◌, Bool, true, false, Option, Some, None, refl, if◌then◌else◌, option_and_then, unwrap_or, is_some, codes}
+use Rattle.std.specs.List.{AllPass}
 use Rattle.serde_json.specs.Data.{Data, Items, no_items, item}
-use Rattle.serde_json.specs.Find.{as_number, as_str, as_u64}
+use Rattle.serde_json.specs.Find.{as_str}
 use Rattle.ccr_pipeline.specs.declared.fault.Rule.TheVariants as rule
 use Rattle.ccr_pipeline.specs.declared.schema.Kind.TheVariants as kind
 use Rattle.ccr_pipeline.specs.declared.schema.Need.TheVariants.{New, Must}
 use Rattle.ccr_pipeline.specs.declared.schema.Schema.TheVariants as schema
-use Rattle.ccr_pipeline.specs.declared.step.When.{When}
 use Rattle.ccr_pipeline.specs.Faults.{Path, Faults, unless}
 use Rattle.ccr_pipeline.specs.JobRules.{job_rest}
 use Rattle.ccr_pipeline.specs.Keys.{at_key, or_else, list_at, path_below, path_at}
-use Rattle.ccr_pipeline.specs.Links.{used_resources, used_resources_in, passed_jobs, passed_jobs_in, IsLinked}
+use Rattle.ccr_pipeline.specs.Links.{own_resource, own_passed, IsLinked}
 use Rattle.ccr_pipeline.specs.Meaning.{text_or, texts_from}
 use Rattle.ccr_pipeline.specs.Names.{has_name, text_at, texts_in}
 use Rattle.ccr_pipeline.specs.Objects.{row_faults, key_faults, value_faults}
-use Rattle.ccr_pipeline.specs.Places.{Opening, Spot, spot_of, plan_steps, job_hooks, tries_below}
+use Rattle.ccr_pipeline.specs.Places.{Opening, Spot, spot_of, plan_steps, job_hooks}
 use Rattle.ccr_pipeline.specs.Plans.{plan_from}
 use Rattle.ccr_pipeline.specs.Schema.{opening}
 use Rattle.ccr_pipeline.specs.StepRules.{own_keys, opening_faults}
-use Rattle.ccr_pipeline.specs.Steps.{step_tree, action}
-use Rattle.ccr_pipeline.specs.Tree.{Text, Tree, trees_of, hook, attempts}
+use Rattle.ccr_pipeline.specs.Tree.{Text}
 use Rattle.ccr_pipeline.specs.Unknown.{name_key, unknown_resource, unknown_texts, unknown_passed, unknown_spots}
-use Rattle.ccr_pipeline.proofs.Inside.{Inside, Opened, opened, Planned, planned}
-use Rattle.ccr_pipeline.proofs.Kept.{Holds, Leaves, action-kept, hooks-kept, plan-kept}
+use Rattle.ccr_pipeline.proofs.Gathered.{none, one, and, InStep, plan_passes}
+use Rattle.ccr_pipeline.proofs.Kept.{Leaves}
 use Rattle.ccr_pipeline.proofs.Named.{opened_own}
 use Rattle.ccr_pipeline.proofs.Rows.{nil_left, nil_right, passes, new_name, must_text, may_text}
 use Rattle.ccr_pipeline.proofs.NoteLemmas.{unknown_append}
@@ -52,23 +49,14 @@ module _ (known : List Text) (p : Path) (d : Data) where
 
 -- what a list names is known
 
-AllKnown-nil : (known : List Text) → AllPass (has_name known) []
-AllKnown-nil known = All-nil (λ s. has_name known s ≡ true)
-
-and : (known xs ys : List Text) → AllPass (has_name known) xs → AllPass (has_name known) ys → AllPass (has_name known) (xs ++ ys)
-and known xs ys h g = All-append (λ s. has_name known s ≡ true) xs ys h g
-
-one : (known : List Text) (s : Text) → has_name known s ≡ true → AllPass (has_name known) (s ∷ [])
-one known s h = All-cons (λ s. has_name known s ≡ true) s [] h (AllKnown-nil known)
-
 in_text : (known : List Text) (p : Path) (o : Option Text) → or_else o [] (λ name. unless (has_name known name) rule.KnownJob p) ≡ [] → AllPass (has_name known) (or_else o [] (λ s. s ∷ []))
-in_text known p None e = AllKnown-nil known
-in_text known p (Some s) e = one known s (passes (has_name known s) rule.KnownJob p e)
+in_text known p None e = none (has_name known)
+in_text known p (Some s) e = one (has_name known) s (passes (has_name known s) rule.KnownJob p e)
 
 in_texts : (known : List Text) (p : Path) (i : ℕ) (ds : Items) → unknown_texts known p i ds ≡ [] → AllPass (has_name known) (texts_in ds)
-in_texts known p i no_items e = AllKnown-nil known
+in_texts known p i no_items e = none (has_name known)
 in_texts known p i (item d ds) e =
-    and known _ _ (in_text known (path_at p i) (as_str d) (nil_left _ (unknown_texts known p (i + 1) ds) e))
+    and (has_name known) _ _ (in_text known (path_at p i) (as_str d) (nil_left _ (unknown_texts known p (i + 1) ds) e))
     (in_texts known p (i + 1) ds (nil_right (or_else (as_str d) [] (λ name. unless (has_name known name) rule.KnownJob (path_at p i))) _ e))
 
 -- what no fault in a step's own keys and none among its names say of the step
@@ -114,50 +102,28 @@ module _ (resources jobs : List Text) where
       let faults = unfaulted_parts xs ys f.0 in
       ((faults.0, nil_left _ _ known), (faults.1, nil_right _ _ known))
 
-  abbrev InStep : Tree → Type 0
-  InStep t = IsLinked resources jobs t
+  own : (n t : ℕ) (d : Data) (p : Path) → (f : Fine (spot_of Opening p (suc n) t d ∷ [])) → own_keys f.0.0 p d ≡ []
+  own n t d p f = opened_own f.0.0 p (suc n) d (nil_left (opening_faults f.0.0 p (suc n) d) [] f.0.1)
 
-  none : AllPass (has_name resources) [] × AllPass (has_name jobs) []
-  none = (AllKnown-nil resources, AllKnown-nil jobs)
+  resource_leaves : (n t : ℕ) (d : Data) (p : Path) → Fine (spot_of Opening p (suc n) t d ∷ []) → Leaves (InStep (has_name resources) own_resource) d
+  resource_leaves n t d p f = record {
+    getting = λ a. one (has_name resources) _ (get_resource resources jobs f.0.0 p d (own n t d p f) (nil_left _ [] f.1) a);
+    putting = λ a b. one (has_name resources) _ (put_resource resources jobs f.0.0 p d (own n t d p f) (nil_left _ [] f.1) a b);
+    doing = λ a b c. none (has_name resources);
+  }
 
-  leaves : (n t : ℕ) (d : Data) (p : Path) → Fine (spot_of Opening p (suc n) t d ∷ []) → Leaves InStep d
-  leaves n t d p f =
-      let names = f.0.0 in
-      let own = opened_own names p (suc n) d (nil_left (opening_faults names p (suc n) d) [] f.0.1) in
-      let known : unknown_resource resources p d ++ unknown_passed jobs p d ≡ [] = nil_left _ [] f.1 in
-      record {
-        getting = λ a. (one resources _ (get_resource resources jobs names p d own known a), get_passed resources jobs names p d own known a);
-        putting = λ a b. (one resources _ (put_resource resources jobs names p d own known a b), AllKnown-nil jobs);
-        doing = λ a b c. none;
-      }
-
-  all_linked : (ts : List Tree) → AllByRecursion InStep ts → AllPass (has_name resources) (used_resources_in (trees_of ts)) × AllPass (has_name jobs) (passed_jobs_in (trees_of ts))
-  all_linked [] h = none
-  all_linked (t ∷ ts) h =
-      let rest = all_linked ts h.1 in
-      (and resources (used_resources t) _ h.0.0 rest.0, and jobs (passed_jobs t) _ h.0.1 rest.1)
-
-  holds : Holds InStep InStep
-  holds = record { order = all_linked; parallel = λ ts fast h. all_linked ts h; trying = λ t h. h }
-
-  in_hook : (w : When) (t h : Tree) → InStep t → InStep h → InStep (hook w t h)
-  in_hook w t h a b = (and resources (used_resources t) _ a.0 b.0, and jobs (passed_jobs t) _ a.1 b.1)
-
-  in_attempts : (o : Option ℕ) (t : Tree) → InStep t → InStep (or_else o t (λ n. attempts n t))
-  in_attempts None t h = h
-  in_attempts (Some n) t h = h
-
-  in_step : (n t : ℕ) (d : Data) → Inside Fine n t d → InStep (step_tree n d)
-  unfolding step_tree
-  in_step zero t d f = none
-  in_step (suc n) t d f =
-      let o : Opened Fine n t d = opened Fine parts n t d f in
-      let acted = action-kept (Inside Fine n (tries_below t d)) InStep InStep (step_tree n) (in_step n (tries_below t d)) holds d (leaves n t d o.path o.opening) o.own in
-      hooks-kept (Inside Fine n (tries_below t d)) InStep InStep (step_tree n) (in_step n (tries_below t d)) in_hook d _ o.hooks (in_attempts (option_and_then as_u64 (option_and_then as_number (at_key (codes "attempts") d))) (action (step_tree n) d) acted)
+  job_leaves : (n t : ℕ) (d : Data) (p : Path) → Fine (spot_of Opening p (suc n) t d ∷ []) → Leaves (InStep (has_name jobs) own_passed) d
+  job_leaves n t d p f = record {
+    getting = λ a. get_passed resources jobs f.0.0 p d (own n t d p f) (nil_left _ [] f.1) a;
+    putting = λ a b. none (has_name jobs);
+    doing = λ a b c. none (has_name jobs);
+  }
 
   pub linked_plan : (p : Path) (d : Data) → job_rest p d ≡ [] → unknown_spots resources jobs (plan_steps p d ++ job_hooks p d) ≡ [] → IsLinked resources jobs (plan_from d)
-  unfolding plan_from
   linked_plan p d e u =
       let known : unknown_spots resources jobs (plan_steps p d) ++ unknown_spots resources jobs (job_hooks p d) ≡ [] = rw (unknown_append resources jobs (plan_steps p d) (job_hooks p d)) at u in
-      let plan : Planned Fine d = planned Fine parts p d (unfaulted_plan p d e, nil_left _ _ known) (unfaulted_hooks p d e, nil_right (unknown_spots resources jobs (plan_steps p d)) _ known) in
-      plan-kept (Inside Fine 30 1) InStep InStep (step_tree 30) (in_step 30 1) holds in_hook d plan.steps plan.hooks
+      let steps : Fine (plan_steps p d) = (unfaulted_plan p d e, nil_left _ _ known) in
+      let hooks : Fine (job_hooks p d) = (unfaulted_hooks p d e, nil_right (unknown_spots resources jobs (plan_steps p d)) _ known) in (
+        plan_passes (has_name resources) own_resource Fine parts resource_leaves p d steps hooks,
+        plan_passes (has_name jobs) own_passed Fine parts job_leaves p d steps hooks,
+      )

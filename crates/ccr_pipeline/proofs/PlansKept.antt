@@ -37,7 +37,7 @@ kept_job names p d own rest =
         distinct = distinct_inputs p d rest;
         shallow = shallow d plan;
         few_tries = few_tries d plan;
-        well_named = well_named d plan;
+        well_named = well_named p d rest;
       },
     )
 

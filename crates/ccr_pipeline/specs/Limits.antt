@@ -7,7 +7,7 @@ use Rattle.ccr_pipeline.specs.declared.check_step.TheConstants.{MOST_ATTEMPTS, M
 use Rattle.ccr_pipeline.specs.declared.walk.TheConstants.{LEVELS}
 use Rattle.ccr_pipeline.specs.Inputs.{inputs, are_few}
 use Rattle.ccr_pipeline.specs.Kinds.{is_name}
-use Rattle.ccr_pipeline.specs.Tree.{Text, SourceData, config, file, Tree, Trees, get, put, task, in_order, in_parallel, tried, attempts, hook, no_trees, tree}
+use Rattle.ccr_pipeline.specs.Tree.{Text, SourceData, config, file, Tree, Trees, get, put, task, in_order, in_parallel, tried, attempts, hook, no_trees, tree, gathered}
 
 -- how many levels of steps are in a step: those of a do, an in_parallel or a try and a hook are a level below the
 -- step that has them
@@ -81,22 +81,16 @@ abbrev pub artifact_names : SourceData → List Text
 artifact_names (config c) = map (λ input. input.0) c.inputs ++ c.outputs
 artifact_names (file path) = []
 
--- what a step names: its gets, its puts, and the inputs and outputs of its tasks
-abbrev mutual
-  pub names : Tree → List Text
-  names (get g) = g.name ∷ []
-  names (put p) = p.name ∷ []
-  names (task t) = artifact_names t.source
-  names (in_order ts) = names_in ts
-  names (in_parallel ts fast) = names_in ts
-  names (tried t) = names t
-  names (attempts n t) = names t
-  names (hook w t h) = names t ++ names h
+-- what a step that holds no others names: a get or a put itself, a task its inputs and outputs
+abbrev pub own_names : Tree → List Text
+own_names (get g) = g.name ∷ []
+own_names (put p) = p.name ∷ []
+own_names (task t) = artifact_names t.source
+own_names _ = []
 
-  -- what the steps of a list name
-  pub names_in : Trees → List Text
-  names_in no_trees = []
-  names_in (tree t ts) = names t ++ names_in ts
+-- what a step names
+abbrev pub names : Tree → List Text
+names t = gathered own_names t
 
 -- what a plan names has 1 to 128 bytes, none of them below 32, 127 or a slash, and is neither one point nor two
 abbrev pub IsWellNamed : Tree → Type 0

@@ -1,45 +1,30 @@
 -- What the resources and jobs of a pipeline keep: they are few, no two have one name, and what a plan names is there.
-use Rattle.std.specs.Prelude.{◌≤◌, List, [], ◌∷◌, ◌++◌, length, map}
+use Rattle.std.specs.Prelude.{◌≤◌, List, [], ◌∷◌, length, map}
 use Rattle.std.specs.List.{All, AllPass, IsDistinct}
 use Rattle.std.specs.Str.{bytes_eq}
 use Rattle.ccr_pipeline.specs.declared.lists.TheConstants.{MOST_MEMBERS}
 use Rattle.ccr_pipeline.specs.JobData.{ResourceData, JobData}
 use Rattle.ccr_pipeline.specs.Names.{has_name}
-use Rattle.ccr_pipeline.specs.Tree.{Text, Tree, Trees, get, put, task, in_order, in_parallel, tried, attempts, hook, no_trees, tree}
+use Rattle.ccr_pipeline.specs.Tree.{Text, Tree, get, put, gathered}
+
+-- the resource of a get or put
+abbrev pub own_resource : Tree → List Text
+own_resource (get g) = g.resource ∷ []
+own_resource (put p) = p.resource ∷ []
+own_resource _ = []
 
 -- the resources of a step: those of its gets and puts
-abbrev mutual
-  pub used_resources : Tree → List Text
-  used_resources (get g) = g.resource ∷ []
-  used_resources (put p) = p.resource ∷ []
-  used_resources (task t) = []
-  used_resources (in_order ts) = used_resources_in ts
-  used_resources (in_parallel ts fast) = used_resources_in ts
-  used_resources (tried t) = used_resources t
-  used_resources (attempts n t) = used_resources t
-  used_resources (hook w t h) = used_resources t ++ used_resources h
+abbrev pub used_resources : Tree → List Text
+used_resources t = gathered own_resource t
 
-  -- those of the steps of a list
-  pub used_resources_in : Trees → List Text
-  used_resources_in no_trees = []
-  used_resources_in (tree t ts) = used_resources t ++ used_resources_in ts
+-- the jobs that a get names in passed
+abbrev pub own_passed : Tree → List Text
+own_passed (get g) = g.passed
+own_passed _ = []
 
 -- the jobs of a step: those that its gets name in passed
-abbrev mutual
-  pub passed_jobs : Tree → List Text
-  passed_jobs (get g) = g.passed
-  passed_jobs (put p) = []
-  passed_jobs (task t) = []
-  passed_jobs (in_order ts) = passed_jobs_in ts
-  passed_jobs (in_parallel ts fast) = passed_jobs_in ts
-  passed_jobs (tried t) = passed_jobs t
-  passed_jobs (attempts n t) = passed_jobs t
-  passed_jobs (hook w t h) = passed_jobs t ++ passed_jobs h
-
-  -- those of the steps of a list
-  pub passed_jobs_in : Trees → List Text
-  passed_jobs_in no_trees = []
-  passed_jobs_in (tree t ts) = passed_jobs t ++ passed_jobs_in ts
+abbrev pub passed_jobs : Tree → List Text
+passed_jobs t = gathered own_passed t
 
 -- the resources of a plan are among those of these names, and its jobs among those of the others
 abbrev pub IsLinked : List Text → List Text → Tree → Type 0

@@ -1,5 +1,5 @@
 -- What the types of this crate hold, without where it lies in memory.
-use Rattle.std.specs.Prelude.{ℕ, Bool, List, [], ◌∷◌, Option, map, option_map, string_bytes}
+use Rattle.std.specs.Prelude.{ℕ, Bool, List, [], ◌∷◌, ◌++◌, Option, map, option_map, string_bytes}
 use Rattle.serde_json.specs.Data.{Data}
 use Rattle.ccr_history.specs.ObjectData.{object_data}
 use Rattle.ccr_history.specs.TextMap.{TextMap}
@@ -171,3 +171,20 @@ tree_step (Step-F.Hook w b h) = hook w b.value h.value
 -- the tree of a step
 abbrev pub tree_of : Step → Tree
 tree_of = fold-Step Tree tree_step
+
+-- what the steps of a tree that hold no others give, each by f, in the order of the text
+abbrev mutual
+  pub gathered : (Tree → List Text) → Tree → List Text
+  gathered f (get g) = f (get g)
+  gathered f (put p) = f (put p)
+  gathered f (task t) = f (task t)
+  gathered f (in_order ts) = gathered_in f ts
+  gathered f (in_parallel ts fast) = gathered_in f ts
+  gathered f (tried t) = gathered f t
+  gathered f (attempts n t) = gathered f t
+  gathered f (hook w t h) = gathered f t ++ gathered f h
+
+  -- what those of the steps of a list give
+  pub gathered_in : (Tree → List Text) → Trees → List Text
+  gathered_in f no_trees = []
+  gathered_in f (tree t ts) = gathered f t ++ gathered_in f ts
