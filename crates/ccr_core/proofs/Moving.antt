@@ -5,8 +5,8 @@ use Rattle.ccr_history.specs.TextMap.{TextMap}
 use Rattle.ccr_pipeline.specs.declared.step.When.{When}
 use Rattle.ccr_pipeline.specs.declared.step.When.TheVariants.{OnError, OnAbort}
 use Rattle.ccr_pipeline.specs.Inputs.{InputData, inputs, inputs_in}
-use Rattle.ccr_pipeline.specs.Links.{used_resources, used_resources_in}
-use Rattle.ccr_pipeline.specs.Tree.{Text, ConfigData, PutData, SourceData, config, file, Tree, Trees, get, put, task, in_order, in_parallel, tried, attempts, hook, no_trees, tree}
+use Rattle.ccr_pipeline.specs.Links.{own_resource, used_resources}
+use Rattle.ccr_pipeline.specs.Tree.{Text, ConfigData, PutData, SourceData, config, file, Tree, Trees, get, put, task, in_order, in_parallel, tried, attempts, hook, no_trees, tree, gathered_in}
 use Rattle.ccr_steps.specs.declared.outcome.Outcome.{Outcome}
 use Rattle.ccr_steps.specs.declared.outcome.Outcome.TheVariants.{Succeeded, Failed, Errored, Aborted}
 use Rattle.ccr_steps.specs.Asks.{AskData, read_config, run_task, AnswerData, done, pushed, configured, failed, errored, Exchange, exchange, Chosen, version_of, get_ask, put_ask, pushed_ask}
@@ -158,16 +158,16 @@ module _ (c : Chosen) (U : Text → Type 0) (P : MovedData → Type 0) (R : List
         let (r, s) = all_split U (used_resources t) (used_resources h) known in
         joined (Means c t) (AfterHooked w (Means c h)) (means_keep t p r) (λ o. hook_if (runs_after w o) (Means c h) (means_keep h q s) o)
 
-    in_order_keep : (ts : Trees) → AllByRecursion (IsGot P c) (inputs_in ts) → AllByRecursion U (used_resources_in ts) → Keeps (InOrder c ts)
+    in_order_keep : (ts : Trees) → AllByRecursion (IsGot P c) (inputs_in ts) → AllByRecursion U (gathered_in own_resource ts) → Keeps (InOrder c ts)
     in_order_keep no_trees gots known = stays Succeeded
     in_order_keep (tree t ts) gots known =
         let (p, q) = all_split (IsGot P c) (inputs t) (inputs_in ts) gots in
-        let (r, s) = all_split U (used_resources t) (used_resources_in ts) known in
+        let (r, s) = all_split U (used_resources t) (gathered_in own_resource ts) known in
         joined (Means c t) (AfterDo (InOrder c ts)) (means_keep t p r) (after_do (InOrder c ts) (in_order_keep ts q s))
 
-    all_of_keep : (ts : Trees) → AllByRecursion (IsGot P c) (inputs_in ts) → AllByRecursion U (used_resources_in ts) → Keeps (AllOf c ts)
+    all_of_keep : (ts : Trees) → AllByRecursion (IsGot P c) (inputs_in ts) → AllByRecursion U (gathered_in own_resource ts) → Keeps (AllOf c ts)
     all_of_keep no_trees gots known = stays Succeeded
     all_of_keep (tree t ts) gots known =
         let (p, q) = all_split (IsGot P c) (inputs t) (inputs_in ts) gots in
-        let (r, s) = all_split U (used_resources t) (used_resources_in ts) known in
+        let (r, s) = all_split U (used_resources t) (gathered_in own_resource ts) known in
         joined (Means c t) (AndWorse (AllOf c ts)) (means_keep t p r) (and_worse (AllOf c ts) (all_of_keep ts q s))

@@ -5,8 +5,8 @@ use Rattle.ccr_pipeline.specs.declared.step.When.{When}
 use Rattle.ccr_pipeline.specs.declared.step.When.TheVariants.{OnError, OnAbort}
 use Rattle.ccr_pipeline.specs.Inputs.{InputData, inputs, inputs_in}
 use Rattle.ccr_pipeline.specs.Kinds.{is_name}
-use Rattle.ccr_pipeline.specs.Limits.{names, names_in}
-use Rattle.ccr_pipeline.specs.Tree.{Text, Tree, Trees, get, put, task, in_order, in_parallel, tried, attempts, hook, no_trees, tree}
+use Rattle.ccr_pipeline.specs.Limits.{own_names, names}
+use Rattle.ccr_pipeline.specs.Tree.{Text, Tree, Trees, get, put, task, in_order, in_parallel, tried, attempts, hook, no_trees, tree, gathered_in}
 use Rattle.ccr_core.proofs.Moving.{all_split, all_join}
 
 no_name : is_name [] ≡ false
@@ -35,8 +35,8 @@ mutual
       let (p, q) = all_split (λ n. is_name n ≡ true) (names t) (names k) h in
       hook_join (λ i. i.name ≢ []) w t k (inputs_named t p) (inputs_named k q)
 
-  all_named : (ts : Trees) → AllByRecursion (λ n. is_name n ≡ true) (names_in ts) → AllByRecursion (λ i. i.name ≢ []) (inputs_in ts)
+  all_named : (ts : Trees) → AllByRecursion (λ n. is_name n ≡ true) (gathered_in own_names ts) → AllByRecursion (λ i. i.name ≢ []) (inputs_in ts)
   all_named no_trees h = tt
   all_named (tree t ts) h =
-      let (p, q) = all_split (λ n. is_name n ≡ true) (names t) (names_in ts) h in
+      let (p, q) = all_split (λ n. is_name n ≡ true) (names t) (gathered_in own_names ts) h in
       all_join (λ i. i.name ≢ []) (inputs t) (inputs_in ts) (inputs_named t p) (all_named ts q)

@@ -3,9 +3,9 @@ use Rattle.std.proofs.Common.{◌≡◌, List, [], ◌∷◌, ◌++◌, Bool, tr
 use Rattle.std.proofs.lemmas.Cmp.{nat_list_eq_equiv}
 use Rattle.std.proofs.lemmas.List.Folds.{list_any-append}
 use Rattle.std.specs.Option.{IfSome}
-use Rattle.ccr_pipeline.specs.Links.{used_resources, used_resources_in}
+use Rattle.ccr_pipeline.specs.Links.{own_resource, used_resources}
 use Rattle.ccr_pipeline.specs.Names.{has_name}
-use Rattle.ccr_pipeline.specs.Tree.{Text, SourceData, config, file, Tree, get, put, task, in_order, in_parallel, tried, attempts, hook}
+use Rattle.ccr_pipeline.specs.Tree.{Text, SourceData, config, file, Tree, get, put, task, in_order, in_parallel, tried, attempts, hook, gathered_in}
 use Rattle.ccr_steps.specs.declared.frame.Frame.{Frame}
 use Rattle.ccr_steps.specs.Asks.{AskData, Exchange, Chosen, ask_resource, NamesResourceOf, get_ask, put_ask, pushed_ask}
 use Rattle.ccr_steps.specs.Frames.{LeafData, first, fetching, running, source_ask, leaf_ask, leaf_at}
@@ -25,7 +25,7 @@ pub in_right : (xs ys : List Text) (r : Text) → has_name ys r ≡ true → has
 in_right xs ys r h = rw list_any-append (or_right (has_name xs r) (has_name ys r) h)
 
 -- that a resource is one of a step's goes up to the steps round it
-resource_up : (r : Text) → GoesUp (λ t. has_name (used_resources t) r ≡ true) (λ ts. has_name (used_resources_in ts) r ≡ true)
+resource_up : (r : Text) → GoesUp (λ t. has_name (used_resources t) r ≡ true) (λ ts. has_name (gathered_in own_resource ts) r ≡ true)
 resource_up r = record {
   ordered = λ ts h. h;
   parallel = λ ts fast h. h;
@@ -33,8 +33,8 @@ resource_up r = record {
   again = λ n t h. h;
   hooked = λ w t h is. in_left (used_resources t) (used_resources h) r is;
   hooks = λ w t h is. in_right (used_resources t) (used_resources h) r is;
-  here = λ t ts is. in_left (used_resources t) (used_resources_in ts) r is;
-  later = λ t ts is. in_right (used_resources t) (used_resources_in ts) r is;
+  here = λ t ts is. in_left (used_resources t) (gathered_in own_resource ts) r is;
+  later = λ t ts is. in_right (used_resources t) (gathered_in own_resource ts) r is;
 }
 
 pub only : (r : Text) → has_name (r ∷ []) r ≡ true
