@@ -1,5 +1,5 @@
 //! The lists of a pipeline, and all that is read of it before its jobs.
-ghost use Rattle.std.specs.Prelude.{◌≡◌, ◌++◌, ◌∷◌, [], map, option_map, nat_le, codes, IfOk, OnOk};
+ghost use Rattle.std.specs.Prelude.{◌≡◌, ◌++◌, ◌∷◌, [], None, map, option_map, nat_le, codes, IfOk, OnOk};
 ghost use Rattle.serde_json.specs.Events.{items_len};
 ghost use Rattle.serde_json.specs.Find.{get_member};
 ghost use Rattle.serde_json.specs.View.{view, items_view, members_view};
@@ -8,12 +8,15 @@ ghost use Rattle.ccr_pipeline.specs.Faults.{unless, Checks, ChecksAs, StartsWith
 ghost use Rattle.ccr_pipeline.specs.JobData.{resource_data};
 ghost use Rattle.ccr_pipeline.specs.JobRules.{resource_faults, members, list_rule, names_in, list_names};
 ghost use Rattle.ccr_pipeline.specs.Keys.{at_key, or_else, list_at, path_at, path_of};
-ghost use Rattle.ccr_pipeline.specs.Names.{names_at, with_names};
+ghost use Rattle.ccr_pipeline.specs.Names.{names_at, names_of, with_names};
 ghost use Rattle.ccr_pipeline.specs.Notes.{notes_data, IsBefore};
 ghost use Rattle.ccr_pipeline.specs.Objects.{object_faults, value_faults, new_names};
 ghost use Rattle.ccr_pipeline.specs.Pipelines.{resource_from, resources_in, resources_from, IsResource};
 ghost use Rattle.ccr_pipeline.specs.Reading.{faults_before};
 ghost use Rattle.ccr_pipeline.specs.Schema.{opening};
+ghost use Rattle.ccr_pipeline.specs.Unused.{unused_object};
+ghost use Rattle.ccr_pipeline.specs.declared.schema.Schema.TheVariants.{Pipeline};
+ghost use Rattle.ccr_pipeline.specs.declared.schema.TheConstants.{NESTED};
 
 use crate::build::{object, pin, text};
 use crate::cursor::Cursor;
@@ -89,6 +92,18 @@ fn read_resource(alloc: Global, names: &mut Names, text: &Cursor) -> Checked<Res
     Ok(resource(alloc, text.value)?)
 }
 
+/// Reads a resource, and adds it and its name.
+fn push_resource(names: &mut Names, resources: &mut Vec<Resource>, text: &Cursor) -> Checked
+    ensures checked { Checks (here (resource_faults names.old) text.now) result }
+    ensures named { OnOk result (names.new ≡ names.old ++ names_at (codes "name") (data_of text.now)) }
+    ensures added { OnOk result (map resource_data resources.new.items
+        ≡ map resource_data resources.old.items ++ resource_from (data_of text.now) ∷ []) }
+{
+    let alloc = *resources.allocator();
+    resources.push(read_resource(alloc, names, text)?)?;
+    Ok(())
+}
+
 /// Reads resources, and adds their names.
 #[tactic(auto, using(crate::proofs::Faulted::first_append))]
 fn read_resources(alloc: Global, names: &mut Names, list: &[Value]) -> Checked<Vec<Resource>>
@@ -100,35 +115,48 @@ fn read_resources(alloc: Global, names: &mut Names, list: &[Value]) -> Checked<V
     let all = Place::top("resources");
     for (i, value) in list.iter().enumerate() {
         let place = all.member(i);
-        let resource = read_resource(alloc, names, &Cursor { value, place })?;
-        resources.push(resource)?;
+        push_resource(names, &mut resources, &Cursor { value, place })?;
     }
     Ok(resources)
 }
 
-/// Reads what comes before the jobs: the resources, the names of both, and the unused keys of all but the steps.
+/// What is known and noted of a pipeline before anything is read of it: the names of its jobs, and the unused keys of
+/// all but the steps.
+fn first_notes(alloc: Global, pipeline: &Value) -> Result<Notes, AllocError>
+    ensures resources { IfOk result (λ n. n.resources ≡ []) }
+    ensures jobs { IfOk result (λ n. n.jobs ≡ with_names [] (list_names (codes "jobs") (view pipeline.now))) }
+    ensures unknown { IfOk result (λ n. n.unknown ≡ None) }
+    ensures unused { IfOk result (λ n. names_of n.unused.items ≡ unused_object NESTED Pipeline [] (view pipeline.now)) }
+{
+    let mut notes = Notes::new(alloc);
+    add_names(alloc, &mut notes.jobs, list_at(pipeline, "jobs"))?;
+    push_pipeline(&mut notes.unused, pipeline)?;
+    Ok(notes)
+}
+
+/// Reads the resources, whose names are the first ones, and refuses jobs that are no list.
 #[tactic(auto, using(crate::proofs::Faulted::first_append), unfolding(crate::specs::Reading::faults_before))]
+fn read_lists(alloc: Global, names: &mut Names, pipeline: &Value) -> Checked<Vec<Resource>>
+    requires { names.old ≡ [] }
+    ensures checked { Checks (faults_before (view pipeline.now)) result }
+    ensures named { OnOk result (names.new ≡ list_names (codes "resources") (view pipeline.now)) }
+    ensures read { IfOk result (λ v. map resource_data v.items ≡ resources_from (view pipeline.now)) }
+{
+    Place::top("pipeline").require(alloc, pipeline.is_object(), Rule::Kind)?;
+    check_list(alloc, pipeline, "resources")?;
+    let resources = read_resources(alloc, names, list_at(pipeline, "resources"))?;
+    check_list(alloc, pipeline, "jobs")?;
+    Ok(resources)
+}
+
+/// Reads what comes before the jobs: the resources, the names of both, and the unused keys of all but the steps.
 pub(crate) fn read_before(alloc: Global, pipeline: &Value) -> Checked<(Notes, Vec<Resource>)>
     ensures checked { Checks (faults_before (view pipeline.now)) result }
     ensures known { IfOk result (λ before. IsBefore (view pipeline.now) (notes_data before.0)) }
     ensures read { IfOk result (λ before. map resource_data before.1.items ≡ resources_from (view pipeline.now)) }
 {
-    Place::top("pipeline").require(alloc, pipeline.is_object(), Rule::Kind)?;
-    check_list(alloc, pipeline, "resources")?;
-    let mut names = Names::new(alloc);
-    let resources = read_resources(alloc, &mut names, list_at(pipeline, "resources"))?;
-    check_list(alloc, pipeline, "jobs")?;
-    let mut jobs = Names::new(alloc);
-    add_names(alloc, &mut jobs, list_at(pipeline, "jobs"))?;
-    let mut unused = Vec::new(alloc);
-    push_pipeline(&mut unused, pipeline)?;
-    let notes = Notes {
-        resources: names,
-        jobs,
-        gets: Names::new(alloc),
-        unknown: None,
-        unused,
-    };
+    let mut notes = first_notes(alloc, pipeline)?;
+    let resources = read_lists(alloc, &mut notes.resources, pipeline)?;
     Ok((notes, resources))
 }
 

@@ -1,5 +1,5 @@
 //! What is noted of jobs while they are read, and told once all of them are.
-ghost use Rattle.std.specs.Prelude.{◌≡◌, None, OnOk, IfOk, IfErr};
+ghost use Rattle.std.specs.Prelude.{◌≡◌, [], None, OnOk, IfOk, IfErr};
 ghost use Rattle.ccr_pipeline.specs.Cursors.{here};
 ghost use Rattle.ccr_pipeline.specs.Faults.{fault_of};
 ghost use Rattle.ccr_pipeline.specs.Names.{names_of as texts_of};
@@ -28,6 +28,25 @@ pub(crate) struct Notes {
     pub(crate) unused: Vec<String>,
 }
 
+impl Notes {
+    /// Nothing is known, and nothing is noted.
+    pub(crate) fn new(alloc: Global) -> Notes
+        ensures resources { result.resources ≡ [] }
+        ensures jobs { result.jobs ≡ [] }
+        ensures gets { result.gets ≡ [] }
+        ensures unknown { result.unknown ≡ None }
+        ensures unused { result.unused.items ≡ [] }
+    {
+        Notes {
+            resources: Names::new(alloc),
+            jobs: Names::new(alloc),
+            gets: Names::new(alloc),
+            unknown: None,
+            unused: Vec::new(alloc),
+        }
+    }
+}
+
 /// Notes a step; the steps that it holds are noted for themselves.
 #[tactic(auto, using(crate::proofs::NoteLemmas::told_or), unfolding(crate::specs::Notes::with_step))]
 pub(crate) fn note_step(alloc: Global, notes: &mut Notes, step: &Cursor) -> Result<(), AllocError>
@@ -45,9 +64,13 @@ pub(crate) fn unused_of(notes: Notes) -> Checked<Vec<String>>
     ensures unknown { IfErr result (λ fault. fault_of fault ≡ (notes_data notes).unknown) }
     ensures sorted { IfOk result (λ v. IsSortedOnce (notes_data notes).unused (texts_of v.items)) }
 {
-    let mut notes = notes;
-    match notes.unknown.take() {
+    let Notes {
+        unknown,
+        unused,
+        ..
+    } = notes;
+    match unknown {
         Some((rule, path)) => Err(ReadFault::of(rule, path)),
-        None => Ok(sorted_once(notes.unused)?),
+        None => Ok(sorted_once(unused)?),
     }
 }

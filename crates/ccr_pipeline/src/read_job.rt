@@ -67,15 +67,22 @@ fn are_few_inputs(alloc: Global, inputs: &[Input]) -> Result<bool, AllocError>
     Ok(inputs.len() <= MOST_INPUTS && jobs.len() <= MOST_INPUTS)
 }
 
+/// Refuses too many inputs or named jobs of a plan.
+fn check_few(alloc: Global, plan: &Step, job: &Cursor) -> Checked
+    ensures { Checks (too_many (path_to job.now) (tree_of plan.now)) result }
+{
+    let inputs = inputs_in(alloc, plan)?;
+    let few = are_few_inputs(alloc, &inputs)?;
+    job.place.key("plan").require(alloc, few, Rule::Number)
+}
+
 /// The plan of a job whose steps are tested; refuses too many inputs or named jobs.
 fn read_plan(alloc: Global, job: &Cursor) -> Checked<Step>
     ensures { ChecksAs (too_many (path_to job.now) (plan_from (data_of job.now))) (plan_from (data_of job.now)) tree_of
         result }
 {
     let plan = plan(alloc, job.value)?;
-    let inputs = inputs_in(alloc, &plan)?;
-    let few = are_few_inputs(alloc, &inputs)?;
-    job.place.key("plan").require(alloc, few, Rule::Number)?;
+    check_few(alloc, &plan, job)?;
     Ok(plan)
 }
 
