@@ -14,8 +14,8 @@ use crate::cursor::Cursor;
 use crate::fault::{Checked, Rule};
 use crate::key::at_key;
 use crate::names::Names;
-use crate::object::check_keys;
-use crate::schema::{Schema, closing, opening, schema_of};
+use crate::object::{check_own_keys, check_rows};
+use crate::schema::{NESTED, Schema, closing, opening, schema_of};
 use serde_json::Value;
 use std::alloc::Global;
 
@@ -48,7 +48,7 @@ fn check_shape(alloc: Global, step: &Cursor, left: u32) -> Checked
     let (value, place) = (step.value, step.place);
     place.require(alloc, value.is_object(), Rule::Kind)?;
     place.require(alloc, 0 < left, Rule::Depth)?;
-    check_keys(alloc, opening(Schema::Undone), &mut Names::new(alloc), step)
+    check_own_keys(alloc, opening(Schema::Undone), step)
 }
 
 #[tactic(auto, using(crate::proofs::Faulted::first_append), unfolding(crate::specs::StepRules::kind_faults))]
@@ -68,7 +68,7 @@ pub(crate) fn check_opening(alloc: Global, names: &mut Names, step: &Cursor, lef
 {
     check_shape(alloc, step, left)?;
     check_one_kind(alloc, step)?;
-    check_keys(alloc, opening(schema_of(step.value)), names, step)
+    check_rows(alloc, NESTED, opening(schema_of(step.value)), names, step)
 }
 
 /// Refuses attempts that aren't from 1 to 100, or that come to more than 10,000 with those of the steps around.
@@ -94,8 +94,7 @@ fn check_parallel_rest(alloc: Global, step: &Cursor) -> Checked
     let Some(parallel) = step.at("in_parallel") else {
         return Ok(());
     };
-    let rows = closing(Schema::Parallel);
-    check_keys(alloc, rows, &mut Names::new(alloc), &parallel)
+    check_own_keys(alloc, closing(Schema::Parallel), &parallel)
 }
 
 /// Refuses a step that breaks a rule in the keys after the steps in it.

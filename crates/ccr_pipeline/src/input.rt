@@ -1,9 +1,8 @@
 //! The inputs of a job.
 ghost use Rattle.std.specs.Prelude.{◌≡◌, ◌∷◌, ◌++◌, [], map, drop, IfOk, IsTrue, OnOk, string_bytes};
 ghost use Rattle.ccr_pipeline.specs.Inputs.{are_few, input_data, input_from, inputs, inputs_in};
-ghost use Rattle.ccr_pipeline.specs.Tree.{tree_of, trees_of, get_data};
+ghost use Rattle.ccr_pipeline.specs.Tree.{tree_of, trees_of, get_data, wanted_data};
 
-use crate::copy::{copy_texts, copy_wanted};
 use crate::resource::Job;
 use crate::step::{Get, Step, Wanted, When};
 use std::alloc::{AllocError, Global};
@@ -21,6 +20,28 @@ pub struct Input {
     pub trigger: bool,
     /// Which versions it wants.
     pub wanted: Wanted,
+}
+
+/// A copy of a list of texts.
+fn copy_texts(alloc: Global, texts: &[String]) -> Result<Vec<String>, AllocError>
+    ensures { IfOk result (λ v. map string_bytes v.items ≡ map string_bytes texts.now) }
+{
+    let mut copies = Vec::new(alloc);
+    for text in texts {
+        copies.push(String::from_str(alloc, text.as_str())?)?;
+    }
+    Ok(copies)
+}
+
+/// A copy of what a get wants.
+fn copy_wanted(wanted: &Wanted) -> Result<Wanted, AllocError>
+    ensures { IfOk result (λ w. wanted_data w ≡ wanted_data wanted.now) }
+{
+    match wanted {
+        Wanted::Latest => Ok(Wanted::Latest),
+        Wanted::Every => Ok(Wanted::Every),
+        Wanted::Pinned(pin) => Ok(Wanted::Pinned(pin.copy()?)),
+    }
 }
 
 fn input_of(alloc: Global, get: &Get) -> Result<Input, AllocError>

@@ -7,7 +7,6 @@ ghost use Rattle.ccr_pipeline.specs.Faults.{unless, Checks, StartsWith, IsFirst,
 ghost use Rattle.ccr_pipeline.specs.Keys.{or_else, path_below, path_at, path_of};
 ghost use Rattle.ccr_pipeline.specs.Kinds.{is_name, is_name_byte, is_text, broken_texts, broken_fields, broken_pin, is_empty};
 ghost use Rattle.ccr_pipeline.specs.Objects.{broken};
-ghost use Rattle.ccr_pipeline.specs.declared.schema.Kind.TheVariants as kind;
 
 use crate::cursor::Cursor;
 use crate::fault::{Checked, Rule};
@@ -75,62 +74,6 @@ fn check_pin(alloc: Global, found: &Cursor) -> Checked
     Ok(())
 }
 
-#[tactic(auto, unfolding(crate::specs::Objects::broken))]
-fn check_name(alloc: Global, found: &Cursor) -> Checked
-    ensures { Checks (here (broken kind.Name) found.now) result }
-{
-    match found.value.as_str() {
-        Some(text) => found.place.require(alloc, is_name(text), Rule::Name),
-        None => found.place.require(alloc, false, Rule::Kind),
-    }
-}
-
-#[tactic(auto, unfolding(crate::specs::Objects::broken))]
-fn check_list(alloc: Global, found: &Cursor) -> Checked
-    ensures { Checks (here (broken kind.Texts) found.now) result }
-{
-    match found.value.as_array() {
-        Some(list) => check_texts(alloc, list, &found.place),
-        None => found.place.require(alloc, false, Rule::Kind),
-    }
-}
-
-#[tactic(auto, unfolding(crate::specs::Objects::broken))]
-fn check_params(alloc: Global, found: &Cursor) -> Checked
-    ensures { Checks (here (broken kind.Params) found.now) result }
-{
-    match found.value.as_object() {
-        Some(_) => found
-            .place
-            .require(alloc, !has_float(found.value), Rule::Whole),
-        None => found.place.require(alloc, false, Rule::Kind),
-    }
-}
-
-#[tactic(auto, unfolding(crate::specs::Objects::broken))]
-fn check_nothing(alloc: Global, found: &Cursor) -> Checked
-    ensures { Checks (here (broken kind.Nothing) found.now) result }
-{
-    match found.value.as_object() {
-        Some(members) => found
-            .place
-            .require(alloc, is_empty(members), Rule::Supported),
-        None => found.place.require(alloc, false, Rule::Kind),
-    }
-}
-
-#[tactic(auto, unfolding(crate::specs::Objects::broken))]
-fn check_wanted(alloc: Global, found: &Cursor) -> Checked
-    ensures { Checks (here (broken kind.Wanted) found.now) result }
-{
-    match found.value.as_str() {
-        Some(text) => found
-            .place
-            .require(alloc, text == "latest" || text == "every", Rule::Kind),
-        None => check_pin(alloc, found),
-    }
-}
-
 /// Refuses a value that isn't of the kind, at the first place that breaks it. In the objects that it holds nothing is tested.
 #[tactic(auto, unfolding(crate::specs::Objects::broken))]
 pub(crate) fn check(alloc: Global, kind: Kind, found: &Cursor) -> Checked
@@ -142,12 +85,27 @@ pub(crate) fn check(alloc: Global, kind: Kind, found: &Cursor) -> Checked
         Kind::Steps | Kind::Objects(_) => place.require(alloc, value.is_array(), Rule::Kind),
         Kind::Truth => place.require(alloc, value.is_boolean(), Rule::Kind),
         Kind::Whole => place.require(alloc, value.is_u64(), Rule::Kind),
-        Kind::Name => check_name(alloc, found),
-        Kind::Texts => check_list(alloc, found),
-        Kind::Params => check_params(alloc, found),
+        Kind::Name => match value.as_str() {
+            Some(text) => place.require(alloc, is_name(text), Rule::Name),
+            None => place.require(alloc, false, Rule::Kind),
+        },
+        Kind::Texts => match value.as_array() {
+            Some(list) => check_texts(alloc, list, &place),
+            None => place.require(alloc, false, Rule::Kind),
+        },
+        Kind::Params => match value.as_object() {
+            Some(_) => place.require(alloc, !has_float(value), Rule::Whole),
+            None => place.require(alloc, false, Rule::Kind),
+        },
         Kind::Fields => check_pin(alloc, found),
-        Kind::Nothing => check_nothing(alloc, found),
-        Kind::Wanted => check_wanted(alloc, found),
+        Kind::Nothing => match value.as_object() {
+            Some(members) => place.require(alloc, is_empty(members), Rule::Supported),
+            None => place.require(alloc, false, Rule::Kind),
+        },
+        Kind::Wanted => match value.as_str() {
+            Some(text) => place.require(alloc, text == "latest" || text == "every", Rule::Kind),
+            None => check_pin(alloc, found),
+        },
         Kind::Undone => place.require(alloc, false, Rule::Supported),
         Kind::Object(_) | Kind::Parallel | Kind::Step | Kind::Attempts | Kind::Any => Ok(()),
     }

@@ -20,7 +20,6 @@
 mod build;
 mod build_step;
 mod check_step;
-mod copy;
 mod cursor;
 mod fault;
 mod input;

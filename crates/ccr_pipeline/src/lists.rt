@@ -28,7 +28,7 @@ use crate::object::check_object;
 use crate::place::Place;
 use crate::resource::Resource;
 use crate::schema::{NESTED, Schema};
-use crate::unused::push_pipeline;
+use crate::unused::push_object;
 use serde_json::Value;
 use std::alloc::{AllocError, Global};
 use std::collections::BTreeMap;
@@ -128,10 +128,21 @@ fn first_notes(alloc: Global, pipeline: &Value) -> Result<Notes, AllocError>
     ensures unknown { IfOk result (λ n. n.unknown ≡ None) }
     ensures unused { IfOk result (λ n. names_of n.unused.items ≡ unused_object NESTED Pipeline [] (view pipeline.now)) }
 {
-    let mut notes = Notes::new(alloc);
-    add_names(alloc, &mut notes.jobs, list_at(pipeline, "jobs"))?;
-    push_pipeline(&mut notes.unused, pipeline)?;
-    Ok(notes)
+    let mut unused = Vec::new(alloc);
+    let whole = Cursor {
+        value: pipeline,
+        place: Place::top(""),
+    };
+    push_object(&mut unused, NESTED, Schema::Pipeline, &whole)?;
+    let mut jobs = Names::new(alloc);
+    add_names(alloc, &mut jobs, list_at(pipeline, "jobs"))?;
+    Ok(Notes {
+        resources: Names::new(alloc),
+        jobs,
+        gets: Names::new(alloc),
+        unknown: None,
+        unused,
+    })
 }
 
 /// Reads the resources, whose names are the first ones, and refuses jobs that are no list.

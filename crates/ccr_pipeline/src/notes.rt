@@ -1,5 +1,5 @@
 //! What is noted of jobs while they are read, and told once all of them are.
-ghost use Rattle.std.specs.Prelude.{◌≡◌, [], None, OnOk, IfOk, IfErr};
+ghost use Rattle.std.specs.Prelude.{◌≡◌, None, OnOk, IfOk, IfErr};
 ghost use Rattle.ccr_pipeline.specs.Cursors.{here};
 ghost use Rattle.ccr_pipeline.specs.Faults.{fault_of};
 ghost use Rattle.ccr_pipeline.specs.Names.{names_of as texts_of};
@@ -9,8 +9,9 @@ ghost use Rattle.ccr_pipeline.specs.Unused.{IsSortedOnce};
 use crate::cursor::Cursor;
 use crate::fault::{Checked, ReadFault, Rule};
 use crate::names::Names;
+use crate::schema::{NESTED, schema_of};
 use crate::unknown::unknown_name;
-use crate::unused::{push_step, sorted_once};
+use crate::unused::{push_object, sorted_once};
 use std::alloc::{AllocError, Global};
 
 /// What is known while jobs are read, and what is noted: it is told after all jobs, whose own faults come first.
@@ -28,25 +29,6 @@ pub(crate) struct Notes {
     pub(crate) unused: Vec<String>,
 }
 
-impl Notes {
-    /// Nothing is known, and nothing is noted.
-    pub(crate) fn new(alloc: Global) -> Notes
-        ensures resources { result.resources ≡ [] }
-        ensures jobs { result.jobs ≡ [] }
-        ensures gets { result.gets ≡ [] }
-        ensures unknown { result.unknown ≡ None }
-        ensures unused { result.unused.items ≡ [] }
-    {
-        Notes {
-            resources: Names::new(alloc),
-            jobs: Names::new(alloc),
-            gets: Names::new(alloc),
-            unknown: None,
-            unused: Vec::new(alloc),
-        }
-    }
-}
-
 /// Notes a step; the steps that it holds are noted for themselves.
 #[tactic(auto, using(crate::proofs::NoteLemmas::told_or), unfolding(crate::specs::Notes::with_step))]
 pub(crate) fn note_step(alloc: Global, notes: &mut Notes, step: &Cursor) -> Result<(), AllocError>
@@ -55,7 +37,7 @@ pub(crate) fn note_step(alloc: Global, notes: &mut Notes, step: &Cursor) -> Resu
 {
     let found = unknown_name(alloc, &notes.resources, &notes.jobs, step)?;
     notes.unknown = notes.unknown.take().or(found);
-    push_step(&mut notes.unused, step)
+    push_object(&mut notes.unused, NESTED, schema_of(step.value), step)
 }
 
 /// The keys without effect, ascending by bytes, each once; refuses the name that isn't there, if one was noted.

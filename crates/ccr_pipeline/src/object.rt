@@ -59,13 +59,10 @@ fn check_inside(alloc: Global, left: u32, kind: Kind, whole: &Value, found: &Cur
         result }
 {
     match kind {
-        Kind::Object(schema) => check_object(alloc, left, schema, &mut Names::new(alloc), found),
+        Kind::Object(schema) => check_alone(alloc, left, schema, found),
         Kind::Objects(schema) => check_objects(alloc, left, schema, found),
         Kind::Parallel if found.value.is_array() => Ok(()),
-        Kind::Parallel => {
-            let names = &mut Names::new(alloc);
-            check_object(alloc, left, Schema::Parallel, names, found)
-        }
+        Kind::Parallel => check_alone(alloc, left, Schema::Parallel, found),
         Kind::OwnName => check_own_name(alloc, whole, found),
         _ => Ok(()),
     }
@@ -105,7 +102,13 @@ fn check_row(alloc: Global, left: u32, row: Row, names: &mut Names, object: &Cur
 /// Refuses what the keys of a table break, in its order, and adds the names that no later object may have.
 #[cycle(objects)]
 #[tactic(auto, using(crate::proofs::Faulted::first_append))]
-fn check_rows(alloc: Global, left: u32, rows: &[Row], names: &mut Names, object: &Cursor) -> Checked
+pub(crate) fn check_rows(
+    alloc: Global,
+    left: u32,
+    rows: &[Row],
+    names: &mut Names,
+    object: &Cursor,
+) -> Checked
     ensures checked { Checks (here (key_faults (value_faults left) names.old (row_list rows.now)) object.now) result }
     ensures added { OnOk result (names.new ≡ names.old ++ new_names (row_list rows.now) (data_of object.now)) }
 {
@@ -133,6 +136,14 @@ pub(crate) fn check_object(
     check_rows(alloc, left, opening(schema), names, object)
 }
 
+/// Refuses what is no object of a schema, beside which there are no others.
+#[cycle(objects)]
+pub(crate) fn check_alone(alloc: Global, left: u32, schema: Schema, object: &Cursor) -> Checked
+    ensures { Checks (here (object_faults (value_faults left) [] schema) object.now) result }
+{
+    check_object(alloc, left, schema, &mut Names::new(alloc), object)
+}
+
 #[cycle(objects)]
 #[tactic(auto, using(crate::proofs::Faulted::first_append))]
 fn check_objects(alloc: Global, left: u32, schema: Schema, list: &Cursor) -> Checked
@@ -147,11 +158,9 @@ fn check_objects(alloc: Global, left: u32, schema: Schema, list: &Cursor) -> Che
     Ok(())
 }
 
-/// Refuses what the keys of a table break, after objects of these names, and adds the object's own.
-pub(crate) fn check_keys(alloc: Global, rows: &[Row], names: &mut Names, object: &Cursor) -> Checked
-    ensures checked { Checks
-        (here (key_faults (value_faults NESTED) names.old (row_list rows.now)) object.now) result }
-    ensures added { OnOk result (names.new ≡ names.old ++ new_names (row_list rows.now) (data_of object.now)) }
+/// Refuses what the keys of a table break, beside which there are no other objects.
+pub(crate) fn check_own_keys(alloc: Global, rows: &[Row], object: &Cursor) -> Checked
+    ensures { Checks (here (key_faults (value_faults NESTED) [] (row_list rows.now)) object.now) result }
 {
-    check_rows(alloc, NESTED, rows, names, object)
+    check_rows(alloc, NESTED, rows, &mut Names::new(alloc), object)
 }

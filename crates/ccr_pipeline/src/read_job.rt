@@ -25,7 +25,7 @@ use crate::fault::{Checked, Rule};
 use crate::input::{Input, inputs_in};
 use crate::names::Names;
 use crate::notes::Notes;
-use crate::object::{check_keys, check_object};
+use crate::object::{check_object, check_own_keys};
 use crate::place::Place;
 use crate::resource::Job;
 use crate::schema::{NESTED, Schema, closing};
@@ -93,7 +93,7 @@ fn read_after_plan(alloc: Global, notes: &mut Notes, job: &Cursor) -> Checked<St
         result }
     ensures noted { OnOk result (notes_data notes.new ≡ with_visits (notes_data notes.old) (here job_hooks job.now)) }
 {
-    check_keys(alloc, closing(Schema::Job), &mut Names::new(alloc), job)?;
+    check_own_keys(alloc, closing(Schema::Job), job)?;
     read_hooks(alloc, notes, job, JOB_REACH)?;
     read_plan(alloc, job)
 }

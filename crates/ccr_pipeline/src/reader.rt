@@ -19,9 +19,8 @@ use crate::build;
 use crate::cursor::Cursor;
 use crate::fault::{Checked, ReadFault, Rule};
 use crate::lists::{job_list, read_before};
-use crate::names::Names;
 use crate::notes::unused_of;
-use crate::object::check_object;
+use crate::object::check_alone;
 use crate::pipeline::Pipeline;
 use crate::place::Place;
 use crate::read_job::read_jobs;
@@ -108,6 +107,6 @@ pub fn read_task(alloc: Global, text: &[u8]) -> Result<TaskConfig, ReadFault>
     let value = value_of(alloc, text, "task")?;
     let (value, place) = (&value, Place::top("task"));
     let file = Cursor { value, place };
-    check_object(alloc, NESTED, Schema::Config, &mut Names::new(alloc), &file)?;
+    check_alone(alloc, NESTED, Schema::Config, &file)?;
     Ok(build::config(alloc, value)?)
 }

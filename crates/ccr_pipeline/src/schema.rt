@@ -229,13 +229,7 @@ pub(crate) fn closing(schema: Schema) -> &'static [Row]
         Schema::Job => JOB_END,
         Schema::Get | Schema::Put | Schema::Task | Schema::FileTask | Schema::Holder => STEP_END,
         Schema::Parallel => PARALLEL_END,
-        Schema::Pipeline
-        | Schema::Resource
-        | Schema::Undone
-        | Schema::Config
-        | Schema::Run
-        | Schema::Input
-        | Schema::Output => &[],
+        _ => &[],
     }
 }
 

@@ -37,7 +37,12 @@ fn push_own(out: &mut Vec<String>, schema: Schema, object: &Cursor) -> Pushed
 /// Adds the unused keys of an object, and of the objects that its keys hold.
 #[cycle(unused)]
 #[tactic(auto, using(std::proofs::Common::append_assoc), unfolding(crate::specs::Unused::unused_object))]
-fn push_object(out: &mut Vec<String>, left: u32, schema: Schema, object: &Cursor) -> Pushed
+pub(crate) fn push_object(
+    out: &mut Vec<String>,
+    left: u32,
+    schema: Schema,
+    object: &Cursor,
+) -> Pushed
     ensures { OnOk result
         (texts_of out.new.items ≡ texts_of out.old.items ++ here (unused_object left schema) object.now) }
 {
@@ -77,23 +82,6 @@ fn push_items(out: &mut Vec<String>, left: u32, schema: Schema, list: &Cursor) -
         push_object(out, left, schema, &(&*list).member(item, i))?;
     }
     Ok(())
-}
-
-/// Adds the unused keys of a step, but for those of the steps that it holds.
-pub(crate) fn push_step(out: &mut Vec<String>, step: &Cursor) -> Pushed
-    ensures { OnOk result (texts_of out.new.items
-        ≡ texts_of out.old.items ++ here (unused_object NESTED (schema_of (data_of step.now))) step.now) }
-{
-    push_object(out, NESTED, schema_of(step.value), step)
-}
-
-/// Adds the unused keys of a pipeline, but for those of the steps of its jobs.
-pub(crate) fn push_pipeline(out: &mut Vec<String>, value: &Value) -> Pushed
-    ensures { OnOk result (texts_of out.new.items
-        ≡ texts_of out.old.items ++ unused_object NESTED Pipeline [] (view value.now)) }
-{
-    let place = Place::top("");
-    push_object(out, NESTED, Schema::Pipeline, &Cursor { value, place })
 }
 
 /// The paths ascending by bytes, each once.

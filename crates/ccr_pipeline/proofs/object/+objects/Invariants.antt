@@ -7,22 +7,25 @@ use Rattle.ccr_pipeline.specs.Schema.{rows}
 use Rattle.ccr_pipeline.proofs.object.+objects.Given as goal
 
 abbrev pub decreases-check_value : goal.decreases-check_value
-decreases-check_value l = 6 * l.left
+decreases-check_value l = 7 * l.left
 
 abbrev pub decreases-check_row : goal.decreases-check_row
-decreases-check_row l = 6 * l.left + 1
+decreases-check_row l = 7 * l.left + 1
 
 abbrev pub decreases-check_rows : goal.decreases-check_rows
-decreases-check_rows l = 6 * l.left + 2
+decreases-check_rows l = 7 * l.left + 2
 
 abbrev pub decreases-check_object : goal.decreases-check_object
-decreases-check_object l = 6 * l.left + 3
+decreases-check_object l = 7 * l.left + 3
 
 abbrev pub decreases-check_objects : goal.decreases-check_objects
-decreases-check_objects l = 6 * l.left + 4
+decreases-check_objects l = 7 * l.left + 4
+
+abbrev pub decreases-check_alone : goal.decreases-check_alone
+decreases-check_alone l = 7 * l.left + 5
 
 abbrev pub decreases-check_inside : goal.decreases-check_inside
-decreases-check_inside l = 6 * l.left + 5
+decreases-check_inside l = 7 * l.left + 6
 
 abbrev pub invariant-check_rows-loop-row : goal.invariant-check_rows-loop-row
 invariant-check_rows-loop-row l = record {
