@@ -2,16 +2,16 @@
 //!
 //! The text has been tested before, so each value is of its key's kind. What is absent, and only that, is built as
 //! empty, false or none.
-ghost use Rattle.std.specs.Prelude.{◌≡◌, ◌++◌, [], map, option_map, IfOk, OnOk, string_bytes, codes};
-ghost use Rattle.serde_json.specs.View.{view, items_view, members_view};
+ghost use Rattle.std.specs.Prelude.{◌≡◌, [], map, option_map, IfOk, string_bytes};
+ghost use Rattle.serde_json.specs.View.{view, members_view};
 ghost use Rattle.ccr_history.specs.ObjectData.{object_data};
-ghost use Rattle.ccr_pipeline.specs.Keys.{at_key, or_else, list_at};
-ghost use Rattle.ccr_pipeline.specs.Names.{text_at, texts_in};
+ghost use Rattle.ccr_pipeline.specs.Keys.{at_key, list_at};
+ghost use Rattle.ccr_pipeline.specs.Names.{text_at};
 ghost use Rattle.ccr_pipeline.specs.Tree.{run_data, input_data, variable_data, config_data, source_data, task_data};
 ghost use Rattle.ccr_pipeline.specs.Tree.{wanted_data, get_data, put_data};
 ghost use Rattle.ccr_pipeline.specs.Meaning.{text_or, texts_from, truth_from, whole_from, object_at, variable_value};
-ghost use Rattle.ccr_pipeline.specs.Meaning.{variables_in, variables_from, run_from, inputs_in, inputs_from};
-ghost use Rattle.ccr_pipeline.specs.Meaning.{outputs_in, outputs_from, config_from, source_from, task_from};
+ghost use Rattle.ccr_pipeline.specs.Meaning.{variables_in, variables_from, run_from, inputs_from};
+ghost use Rattle.ccr_pipeline.specs.Meaning.{outputs_from, config_from, source_from, task_from};
 ghost use Rattle.ccr_pipeline.specs.Meaning.{wanted_in, wanted_from, get_from, put_from, pin_from};
 
 use crate::key::{at_key, list_at};

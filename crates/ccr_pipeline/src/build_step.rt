@@ -1,12 +1,10 @@
 //! The steps that tested text is built into, in their modifiers.
-ghost use Rattle.std.specs.Prelude.{◌≡◌, ◌++◌, [], map, codes, IfOk};
+ghost use Rattle.std.specs.Prelude.{◌≡◌, map, IfOk};
 ghost use Rattle.serde_json.specs.View.{view, items_view};
-ghost use Rattle.ccr_pipeline.specs.Keys.{at_key, or_else, items_in, list_at};
-ghost use Rattle.ccr_pipeline.specs.Meaning.{truth_from};
-ghost use Rattle.ccr_pipeline.specs.Tree.{tree_of, trees_of, hook};
+ghost use Rattle.ccr_pipeline.specs.Keys.{at_key, items_in, list_at};
+ghost use Rattle.ccr_pipeline.specs.Tree.{tree_of, hook};
 ghost use Rattle.ccr_pipeline.specs.Steps.{with_attempts, with_hook, with_hooks, each_tree, parallel_items};
 ghost use Rattle.ccr_pipeline.specs.Steps.{holder, action, step_tree};
-ghost use Rattle.ccr_pipeline.specs.Hooks.{hook_key};
 ghost use Rattle.ccr_pipeline.specs.Plans.{plan_from};
 
 use crate::build::{get, put, task, truth};

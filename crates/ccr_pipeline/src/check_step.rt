@@ -1,13 +1,12 @@
 //! The tests of steps.
-ghost use Rattle.std.specs.Prelude.{◌≡◌, ◌++◌, [], drop, codes, is_some, count_by, OnOk};
+ghost use Rattle.std.specs.Prelude.{◌≡◌, ◌++◌, codes, is_some, count_by, OnOk};
 ghost use Rattle.serde_json.specs.View.{view};
 ghost use Rattle.ccr_pipeline.specs.Cursors.{data_of, path_to, here};
-ghost use Rattle.ccr_pipeline.specs.Faults.{unless, Checks, StartsWith, IsFirst, fault_of};
-ghost use Rattle.ccr_pipeline.specs.Keys.{at_key, or_else, path_below, path_of};
+ghost use Rattle.ccr_pipeline.specs.Faults.{Checks};
+ghost use Rattle.ccr_pipeline.specs.Keys.{at_key};
 ghost use Rattle.ccr_pipeline.specs.Names.{names_at};
-ghost use Rattle.ccr_pipeline.specs.Objects.{key_faults, value_faults, new_names};
 ghost use Rattle.ccr_pipeline.specs.Schema.{opening, closing, schema_of};
-ghost use Rattle.ccr_pipeline.specs.StepRules.{kinds, own_keys, shape_faults, kind_faults, opening_faults};
+ghost use Rattle.ccr_pipeline.specs.StepRules.{kinds, shape_faults, kind_faults, opening_faults};
 ghost use Rattle.ccr_pipeline.specs.StepRules.{parallel_rest, closing_faults, attempts_faults};
 
 use crate::cursor::Cursor;

@@ -1,5 +1,5 @@
 //! The inputs of a job.
-ghost use Rattle.std.specs.Prelude.{◌≡◌, ◌∷◌, ◌++◌, [], map, drop, IfOk, IsTrue, OnOk, string_bytes};
+ghost use Rattle.std.specs.Prelude.{◌≡◌, ◌∷◌, ◌++◌, [], map, IfOk, IsTrue, OnOk, string_bytes};
 ghost use Rattle.ccr_pipeline.specs.Inputs.{are_few, input_data, input_from, inputs, inputs_in};
 ghost use Rattle.ccr_pipeline.specs.Tree.{tree_of, trees_of, get_data, wanted_data};
 

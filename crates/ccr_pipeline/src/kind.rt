@@ -1,11 +1,11 @@
 //! The tests of single values.
-ghost use Rattle.std.specs.Prelude.{◌≡◌, ◌++◌, [], length, drop, option_map, string_bytes};
+ghost use Rattle.std.specs.Prelude.{◌≡◌};
 ghost use Rattle.std.specs.List.{list_all};
-ghost use Rattle.serde_json.specs.View.{view, items_view, members_view};
+ghost use Rattle.serde_json.specs.View.{items_view, members_view};
 ghost use Rattle.ccr_pipeline.specs.Cursors.{here};
-ghost use Rattle.ccr_pipeline.specs.Faults.{unless, Checks, StartsWith, IsFirst, fault_of};
-ghost use Rattle.ccr_pipeline.specs.Keys.{or_else, path_below, path_at, path_of};
-ghost use Rattle.ccr_pipeline.specs.Kinds.{is_name, is_name_byte, is_text, broken_texts, broken_fields, broken_pin, is_empty};
+ghost use Rattle.ccr_pipeline.specs.Faults.{Checks};
+ghost use Rattle.ccr_pipeline.specs.Keys.{path_of};
+ghost use Rattle.ccr_pipeline.specs.Kinds.{is_name, is_name_byte, broken_texts, broken_pin, is_empty};
 ghost use Rattle.ccr_pipeline.specs.Objects.{broken};
 
 use crate::cursor::Cursor;

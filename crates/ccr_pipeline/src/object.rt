@@ -1,11 +1,11 @@
 //! The tests of objects, key by key in the order of their tables.
-ghost use Rattle.std.specs.Prelude.{◌≡◌, ◌++◌, [], drop, codes, OnOk};
-ghost use Rattle.serde_json.specs.View.{view, items_view};
+ghost use Rattle.std.specs.Prelude.{◌≡◌, ◌++◌, [], OnOk};
+ghost use Rattle.serde_json.specs.View.{view};
 ghost use Rattle.ccr_pipeline.specs.Cursors.{data_of, path_to, here};
-ghost use Rattle.ccr_pipeline.specs.Faults.{unless, Checks, StartsWith, IsFirst, fault_of};
-ghost use Rattle.ccr_pipeline.specs.Keys.{at_key, or_else, items_in, path_below, path_at, path_of};
+ghost use Rattle.ccr_pipeline.specs.Faults.{Checks};
+ghost use Rattle.ccr_pipeline.specs.Keys.{items_in, path_of};
 ghost use Rattle.ccr_pipeline.specs.Names.{text_at};
-ghost use Rattle.ccr_pipeline.specs.Objects.{broken, absent, once, once_names, row_names, new_names, row_faults};
+ghost use Rattle.ccr_pipeline.specs.Objects.{absent, once, once_names, row_names, new_names, row_faults};
 ghost use Rattle.ccr_pipeline.specs.Objects.{key_faults, object_faults, each_object, own_name, inside, value_faults};
 ghost use Rattle.ccr_pipeline.specs.Schema.{opening, rows as row_list};
 

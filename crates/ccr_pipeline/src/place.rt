@@ -1,6 +1,6 @@
 //! Where a value stands in a text.
 ghost use Rattle.std.specs.Prelude.{◌≡◌, IfOk, string_bytes};
-ghost use Rattle.ccr_pipeline.specs.Faults.{unless, Checks, StartsWith, IsFirst, fault_of};
+ghost use Rattle.ccr_pipeline.specs.Faults.{unless, Checks};
 ghost use Rattle.ccr_pipeline.specs.Keys.{path_of, path_below, path_at};
 
 use crate::fault::{Checked, ReadFault, Rule};

@@ -1,20 +1,18 @@
 //! Jobs, checked and built together.
-ghost use Rattle.std.specs.Prelude.{◌≡◌, ◌++◌, ◌+◌, ◌∷◌, [], length, drop, map, codes, string_bytes, IfOk, OnOk};
+ghost use Rattle.std.specs.Prelude.{◌≡◌, ◌++◌, ◌+◌, ◌∷◌, [], length, map, codes, string_bytes, IfOk, OnOk};
 ghost use Rattle.serde_json.specs.View.{view, items_view};
 ghost use Rattle.ccr_pipeline.specs.Cursors.{data_of, path_to, here};
-ghost use Rattle.ccr_pipeline.specs.Faults.{unless, Checks, ChecksAs, StartsWith, IsFirst, fault_of};
+ghost use Rattle.ccr_pipeline.specs.Faults.{Checks, ChecksAs};
 ghost use Rattle.ccr_pipeline.specs.Inputs.{are_few, input_data, inputs, named_jobs};
 ghost use Rattle.ccr_pipeline.specs.JobData.{job_data};
 ghost use Rattle.ccr_pipeline.specs.JobRules.{too_many, after_plan, job_rest, job_faults, members};
-ghost use Rattle.ccr_pipeline.specs.Keys.{at_key, or_else, list_at, path_below, path_at, path_of};
+ghost use Rattle.ccr_pipeline.specs.Keys.{path_at};
 ghost use Rattle.ccr_pipeline.specs.Names.{names_at, with_names};
-ghost use Rattle.ccr_pipeline.specs.Notes.{notes_data, with_visits, Walks};
-ghost use Rattle.ccr_pipeline.specs.Objects.{key_faults, object_faults, value_faults, new_names};
+ghost use Rattle.ccr_pipeline.specs.Notes.{notes_data, with_visits};
 ghost use Rattle.ccr_pipeline.specs.Pipelines.{job_from, jobs_in, IsJob};
-ghost use Rattle.ccr_pipeline.specs.Places.{plan_steps, job_hooks, job_steps, gets_at};
+ghost use Rattle.ccr_pipeline.specs.Places.{plan_steps, job_hooks, job_steps};
 ghost use Rattle.ccr_pipeline.specs.Plans.{plan_from};
-ghost use Rattle.ccr_pipeline.specs.Schema.{opening, closing};
-ghost use Rattle.ccr_pipeline.specs.StepRules.{visits};
+ghost use Rattle.ccr_pipeline.specs.Schema.{closing};
 ghost use Rattle.ccr_pipeline.specs.Tree.{tree_of};
 ghost use Rattle.ccr_pipeline.specs.declared.schema.Schema.TheVariants as schema;
 

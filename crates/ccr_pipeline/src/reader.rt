@@ -1,14 +1,14 @@
 //! Reading of pipelines and of task files.
-ghost use Rattle.std.specs.Prelude.{◌≡◌, ℕ, ◌++◌, List, [], length, map, IfOk, IfErr, string_bytes, codes};
+ghost use Rattle.std.specs.Prelude.{◌≡◌, ℕ, List, [], IfOk, IfErr, codes};
 ghost use Rattle.serde_json.specs.Data.{Data};
 ghost use Rattle.serde_json.specs.Read.{read as json};
 ghost use Rattle.serde_json.specs.View.{view};
 ghost use Rattle.ccr_pipeline.specs.Breaches.{OfLimits};
-ghost use Rattle.ccr_pipeline.specs.Faults.{unless, Checks, StartsWith, IsFirst, fault_of};
-ghost use Rattle.ccr_pipeline.specs.JobRules.{job_faults, members};
+ghost use Rattle.ccr_pipeline.specs.Faults.{Checks, fault_of};
+ghost use Rattle.ccr_pipeline.specs.JobRules.{members};
 ghost use Rattle.ccr_pipeline.specs.Meaning.{config_from};
 ghost use Rattle.ccr_pipeline.specs.Pipelines.{pipeline_data, IsPipelineOf};
-ghost use Rattle.ccr_pipeline.specs.Reading.{faults_before, pipeline_faults, IsTextOf, IsNoValue, Refuses, IsReading};
+ghost use Rattle.ccr_pipeline.specs.Reading.{pipeline_faults, IsTextOf, IsNoValue, Refuses, IsReading};
 ghost use Rattle.ccr_pipeline.specs.Reordered.{IsReordering};
 ghost use Rattle.ccr_pipeline.specs.TaskRules.{config_faults};
 ghost use Rattle.ccr_pipeline.specs.Tree.{config_data};

@@ -1,13 +1,10 @@
 //! The keys that have no effect.
-ghost use Rattle.std.specs.Prelude.{◌≡◌, ◌++◌, [], ◌∷◌, drop, map, OnOk, IfOk, string_bytes};
-ghost use Rattle.serde_json.specs.View.{view, items_view, members_view};
+ghost use Rattle.std.specs.Prelude.{◌≡◌, ◌++◌, OnOk, IfOk};
 ghost use Rattle.ccr_pipeline.specs.Cursors.{data_of, path_to, here};
-ghost use Rattle.ccr_pipeline.specs.Keys.{at_key, or_else, items_in, path_below, path_at, path_of};
+ghost use Rattle.ccr_pipeline.specs.Keys.{items_in, path_of};
 ghost use Rattle.ccr_pipeline.specs.Names.{names_of as texts_of};
-ghost use Rattle.ccr_pipeline.specs.Schema.{opening, rows as row_list, has_key, schema_of};
-ghost use Rattle.ccr_pipeline.specs.Unused.{unused_members, unused_object, unused_value, unused_items, unused_rows};
-ghost use Rattle.ccr_pipeline.specs.Unused.{unused_own, IsSortedOnce};
-ghost use Rattle.ccr_pipeline.specs.declared.schema.Schema.TheVariants.{Pipeline};
+ghost use Rattle.ccr_pipeline.specs.Schema.{opening, has_key, schema_of};
+ghost use Rattle.ccr_pipeline.specs.Unused.{unused_object, unused_value, unused_items, unused_own, IsSortedOnce};
 
 use crate::cursor::Cursor;
 use crate::key::items_in;
