@@ -14,7 +14,10 @@ use crate::walk::LEVELS;
 use serde_json::Value;
 use std::alloc::{AllocError, Global};
 
-fn add_attempts(alloc: Global, value: &Value, step: Step) -> Result<Step, AllocError>
+/// A step, or a growth of memory was refused.
+type Built = Result<Step, AllocError>;
+
+fn add_attempts(alloc: Global, value: &Value, step: Step) -> Built
     ensures { IfOk result (λ s. tree_of s ≡ with_attempts (view value.now) (tree_of step)) }
 {
     let Some(found) = at_key(value, "attempts") else {
@@ -26,7 +29,7 @@ fn add_attempts(alloc: Global, value: &Value, step: Step) -> Result<Step, AllocE
     }
 }
 
-fn hooked(alloc: Global, when: When, step: Step, last: Step) -> Result<Step, AllocError>
+fn hooked(alloc: Global, when: When, step: Step, last: Step) -> Built
     ensures { IfOk result (λ s. tree_of s ≡ hook when (tree_of step) (tree_of last)) }
 {
     let step = Box::new(alloc, step)?;
@@ -35,15 +38,8 @@ fn hooked(alloc: Global, when: When, step: Step, last: Step) -> Result<Step, All
 
 #[cycle(build)]
 #[tactic(auto, unfolding(crate::specs::Steps::with_hook))]
-fn add_hook(
-    alloc: Global,
-    when: When,
-    value: &Value,
-    step: Step,
-    left: u32,
-) -> Result<Step, AllocError>
-    ensures { IfOk result
-        (λ s. tree_of s ≡ with_hook (step_tree left) when (view value.now) (tree_of step)) }
+fn add_hook(alloc: Global, when: When, value: &Value, step: Step, left: u32) -> Built
+    ensures { IfOk result (λ s. tree_of s ≡ with_hook (step_tree left) when (view value.now) (tree_of step)) }
 {
     match at_key(value, when.key()) {
         Some(found) => {
@@ -57,9 +53,8 @@ fn add_hook(
 /// The step in its hooks, innermost `on_success`, outermost `ensure`.
 #[cycle(build)]
 #[tactic(auto, unfolding(crate::specs::Steps::with_hooks))]
-fn add_hooks(alloc: Global, value: &Value, step: Step, left: u32) -> Result<Step, AllocError>
-    ensures { IfOk result
-        (λ s. tree_of s ≡ with_hooks (step_tree left) (view value.now) (tree_of step)) }
+fn add_hooks(alloc: Global, value: &Value, step: Step, left: u32) -> Built
+    ensures { IfOk result (λ s. tree_of s ≡ with_hooks (step_tree left) (view value.now) (tree_of step)) }
 {
     let step = add_hook(alloc, When::OnSuccess, value, step, left)?;
     let step = add_hook(alloc, When::OnFailure, value, step, left)?;
@@ -93,7 +88,7 @@ fn parallel_items(found: &Value) -> &[Value]
 /// The step of `do`, `in_parallel` or `try`.
 #[cycle(build)]
 #[tactic(auto, unfolding(crate::specs::Steps::holder))]
-fn holder_of(alloc: Global, step: &Value, left: u32) -> Result<Step, AllocError>
+fn holder_of(alloc: Global, step: &Value, left: u32) -> Built
     ensures { IfOk result (λ s. tree_of s ≡ holder (step_tree left) (view step.now)) }
 {
     if let Some(found) = at_key(step, "do") {
@@ -113,7 +108,7 @@ fn holder_of(alloc: Global, step: &Value, left: u32) -> Result<Step, AllocError>
 /// The step without its modifiers.
 #[cycle(build)]
 #[tactic(auto, unfolding(crate::specs::Steps::action))]
-fn action_of(alloc: Global, step: &Value, left: u32) -> Result<Step, AllocError>
+fn action_of(alloc: Global, step: &Value, left: u32) -> Built
     ensures { IfOk result (λ s. tree_of s ≡ action (step_tree left) (view step.now)) }
 {
     if at_key(step, "get").is_some() {
@@ -131,7 +126,7 @@ fn action_of(alloc: Global, step: &Value, left: u32) -> Result<Step, AllocError>
 /// The step that a tested text is, of so many levels.
 #[cycle(build)]
 #[tactic(auto, unfolding(crate::specs::Steps::step_tree))]
-fn step_of(alloc: Global, step: &Value, left: u32) -> Result<Step, AllocError>
+fn step_of(alloc: Global, step: &Value, left: u32) -> Built
     ensures { IfOk result (λ s. tree_of s ≡ step_tree left (view step.now)) }
 {
     if left == 0 {
@@ -144,7 +139,7 @@ fn step_of(alloc: Global, step: &Value, left: u32) -> Result<Step, AllocError>
 
 /// The plan that a job's tested text is: a `do`, in the job's hooks.
 #[tactic(auto, unfolding(crate::specs::Plans::plan_from))]
-pub(crate) fn plan(alloc: Global, job: &Value) -> Result<Step, AllocError>
+pub(crate) fn plan(alloc: Global, job: &Value) -> Built
     ensures { IfOk result (λ s. tree_of s ≡ plan_from (view job.now)) }
 {
     let steps = steps_of(alloc, list_at(job, "plan"), LEVELS)?;

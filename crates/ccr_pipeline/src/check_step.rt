@@ -44,9 +44,9 @@ fn kinds(step: &Value) -> usize
 fn check_shape(alloc: Global, step: &Cursor, left: u32) -> Checked
     ensures { Checks (shape_faults (path_to step.now) left (data_of step.now)) result }
 {
-    let (value, place) = (step.value, step.place);
-    place.require(alloc, value.is_object(), Rule::Kind)?;
-    place.require(alloc, 0 < left, Rule::Depth)?;
+    let is_object = step.value.is_object();
+    step.place.require(alloc, is_object, Rule::Kind)?;
+    step.place.require(alloc, 0 < left, Rule::Depth)?;
     check_own_keys(alloc, opening(Schema::Undone), step)
 }
 

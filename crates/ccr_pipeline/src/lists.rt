@@ -26,7 +26,7 @@ use crate::object::check_object;
 use crate::place::Place;
 use crate::resource::Resource;
 use crate::schema::{NESTED, Schema};
-use crate::unused::push_object;
+use crate::unused::push_keys;
 use serde_json::Value;
 use std::alloc::{AllocError, Global};
 use std::collections::BTreeMap;
@@ -127,11 +127,9 @@ fn first_notes(alloc: Global, pipeline: &Value) -> Result<Notes, AllocError>
     ensures unused { IfOk result (λ n. names_of n.unused.items ≡ unused_object NESTED Pipeline [] (view pipeline.now)) }
 {
     let mut unused = Vec::new(alloc);
-    let whole = Cursor {
-        value: pipeline,
-        place: Place::top(""),
-    };
-    push_object(&mut unused, NESTED, Schema::Pipeline, &whole)?;
+    let (value, place) = (pipeline, Place::top(""));
+    let whole = Cursor { value, place };
+    push_keys(&mut unused, NESTED, Schema::Pipeline, &whole)?;
     let mut jobs = Names::new(alloc);
     add_names(alloc, &mut jobs, list_at(pipeline, "jobs"))?;
     Ok(Notes {

@@ -11,7 +11,7 @@ use crate::fault::{Checked, ReadFault, Rule};
 use crate::names::Names;
 use crate::schema::{NESTED, schema_of};
 use crate::unknown::unknown_name;
-use crate::unused::{push_object, sorted_once};
+use crate::unused::{push_keys, sorted_once};
 use std::alloc::{AllocError, Global};
 
 /// What is known while jobs are read, and what is noted: it is told after all jobs, whose own faults come first.
@@ -37,7 +37,7 @@ pub(crate) fn note_step(alloc: Global, notes: &mut Notes, step: &Cursor) -> Resu
 {
     let found = unknown_name(alloc, &notes.resources, &notes.jobs, step)?;
     notes.unknown = notes.unknown.take().or(found);
-    push_object(&mut notes.unused, NESTED, schema_of(step.value), step)
+    push_keys(&mut notes.unused, NESTED, schema_of(step.value), step)
 }
 
 /// The keys without effect, ascending by bytes, each once; refuses the name that isn't there, if one was noted.

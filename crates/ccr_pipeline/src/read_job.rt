@@ -56,21 +56,14 @@ fn add_texts(alloc: Global, names: &mut Names, texts: &[String]) -> Result<(), A
     Ok(())
 }
 
-/// Whether there are at most 32 inputs, which name at most 32 jobs.
-fn are_few_inputs(alloc: Global, inputs: &[Input]) -> Result<bool, AllocError>
-    ensures { IfOk result (λ few. few ≡ are_few (map input_data inputs.now)) }
-{
-    let mut jobs = Names::new(alloc);
-    add_named_jobs(alloc, &mut jobs, inputs)?;
-    Ok(inputs.len() <= MOST_INPUTS && jobs.len() <= MOST_INPUTS)
-}
-
 /// Refuses too many inputs or named jobs of a plan.
 fn check_few(alloc: Global, plan: &Step, job: &Cursor) -> Checked
     ensures { Checks (too_many (path_to job.now) (tree_of plan.now)) result }
 {
     let inputs = inputs_in(alloc, plan)?;
-    let few = are_few_inputs(alloc, &inputs)?;
+    let mut jobs = Names::new(alloc);
+    add_named_jobs(alloc, &mut jobs, &inputs)?;
+    let few = inputs.len() <= MOST_INPUTS && jobs.len() <= MOST_INPUTS;
     job.place.key("plan").require(alloc, few, Rule::Number)
 }
 
@@ -152,8 +145,7 @@ fn push_job(names: &mut Names, notes: &mut Notes, jobs: &mut Vec<Job>, text: Val
     let alloc = *jobs.allocator();
     let all = Place::top("jobs");
     let (value, place) = (&text, all.member(jobs.len()));
-    let job = read_job(alloc, names, notes, &Cursor { value, place })?;
-    jobs.push(job)?;
+    jobs.push(read_job(alloc, names, notes, &Cursor { value, place })?)?;
     Ok(())
 }
 

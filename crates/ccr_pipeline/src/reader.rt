@@ -106,7 +106,6 @@ pub fn read_task(alloc: Global, text: &[u8]) -> Result<TaskConfig, ReadFault>
 {
     let value = value_of(alloc, text, "task")?;
     let (value, place) = (&value, Place::top("task"));
-    let file = Cursor { value, place };
-    check_alone(alloc, NESTED, Schema::Config, &file)?;
+    check_alone(alloc, NESTED, Schema::Config, &Cursor { value, place })?;
     Ok(build::config(alloc, value)?)
 }

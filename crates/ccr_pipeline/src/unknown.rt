@@ -71,8 +71,8 @@ fn unknown_passed(alloc: Global, jobs: &Names, step: &Cursor) -> Unknown
     if at_key(step.value, "get").is_none() {
         return Ok(None);
     }
-    let place = step.place.key("passed");
-    unknown_text(alloc, jobs, list_at(step.value, "passed"), &place)
+    let list = list_at(step.value, "passed");
+    unknown_text(alloc, jobs, list, &step.place.key("passed"))
 }
 
 /// The first name that a step mentions and that isn't there.

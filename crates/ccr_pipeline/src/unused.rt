@@ -34,12 +34,7 @@ fn push_own(out: &mut Vec<String>, schema: Schema, object: &Cursor) -> Pushed
 /// Adds the unused keys of an object, and of the objects that its keys hold.
 #[cycle(unused)]
 #[tactic(auto, using(std::proofs::Common::append_assoc), unfolding(crate::specs::Unused::unused_object))]
-pub(crate) fn push_object(
-    out: &mut Vec<String>,
-    left: u32,
-    schema: Schema,
-    object: &Cursor,
-) -> Pushed
+pub(crate) fn push_keys(out: &mut Vec<String>, left: u32, schema: Schema, object: &Cursor) -> Pushed
     ensures { OnOk result
         (texts_of out.new.items ≡ texts_of out.old.items ++ here (unused_object left schema) object.now) }
 {
@@ -62,8 +57,8 @@ fn push_value(out: &mut Vec<String>, left: u32, kind: Kind, found: &Cursor) -> P
         (texts_of out.new.items ≡ texts_of out.old.items ++ here (unused_value (unused_object left) kind) found.now) }
 {
     match kind {
-        Kind::Object(schema) => push_object(out, left, schema, found),
-        Kind::Parallel => push_object(out, left, Schema::Parallel, found),
+        Kind::Object(schema) => push_keys(out, left, schema, found),
+        Kind::Parallel => push_keys(out, left, Schema::Parallel, found),
         Kind::Objects(schema) => push_items(out, left, schema, found),
         _ => Ok(()),
     }
@@ -76,7 +71,7 @@ fn push_items(out: &mut Vec<String>, left: u32, schema: Schema, list: &Cursor) -
 {
     let items = items_in(list.value);
     for (i, item) in items.iter().enumerate() {
-        push_object(out, left, schema, &(&*list).member(item, i))?;
+        push_keys(out, left, schema, &(&*list).member(item, i))?;
     }
     Ok(())
 }

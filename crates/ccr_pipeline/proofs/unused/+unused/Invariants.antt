@@ -7,8 +7,8 @@ use Rattle.ccr_pipeline.specs.Schema.{opening, rows}
 use Rattle.ccr_pipeline.specs.Unused.{unused_object, unused_rows, unused_items}
 use Rattle.ccr_pipeline.proofs.unused.+unused.Given as goal
 
-abbrev pub decreases-push_object : goal.decreases-push_object
-decreases-push_object l = 4 * l.left
+abbrev pub decreases-push_keys : goal.decreases-push_keys
+decreases-push_keys l = 4 * l.left
 
 abbrev pub decreases-push_items : goal.decreases-push_items
 decreases-push_items l = 4 * l.left + 1
@@ -16,8 +16,8 @@ decreases-push_items l = 4 * l.left + 1
 abbrev pub decreases-push_value : goal.decreases-push_value
 decreases-push_value l = 4 * l.left + 2
 
-abbrev pub invariant-push_object-loop-kind : goal.invariant-push_object-loop-kind
-invariant-push_object-loop-kind l =
+abbrev pub invariant-push_keys-loop-kind : goal.invariant-push_keys-loop-kind
+invariant-push_keys-loop-kind l =
     names_of l.out.items ++ unused_rows (unused_object (l.left - 1)) (rows (drop l.kind-index l.rows)) (path_to l.object) (data_of l.object) ≡ names_of l.initial.out.items ++ unused_rows (unused_object (l.left - 1)) (opening l.fn.schema) (path_to l.object) (data_of l.object)
 
 abbrev pub invariant-push_items-loop-i : goal.invariant-push_items-loop-i
