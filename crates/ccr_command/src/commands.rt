@@ -23,10 +23,10 @@ pub(crate) fn set_pipeline<'a>(alloc: Global) -> Result<Command<'a>, AllocError>
         "set-pipeline",
         "Sets the pipeline from a file in JSON",
         "\
-It prints how many resources and jobs the pipeline has, and `unused PATH` for each key that has no effect. Versions,
-builds and pins stay.
+Prints how many resources and jobs the pipeline has, and `unused PATH` for each key that has no effect. Versions, builds
+and pins are kept.
 
-Exit statuses: 0 set; 1 refused, as the file has a fault, of which the path is told, or a build runs; 2 usage;
+Exit statuses: 0 set; 1 refused, because the file has a fault (its path is printed) or a build is running; 2 usage;
 4 the file can't be read, disk or memory.
 
 Example:
@@ -45,10 +45,10 @@ pub(crate) fn check_resource<'a>(alloc: Global) -> Result<Command<'a>, AllocErro
         "check-resource",
         "Looks for new versions of a resource",
         "\
-It runs the program `check` of the resource's type once, and prints `check NAME: N new`, or why there are none as
-`check NAME: refused: CAUSE`.
+Runs the program `check` of the resource's type once. Prints `check NAME: N new`, or `check NAME: refused: CAUSE` if the
+check failed.
 
-Exit statuses: 0 checked; 1 refused, also where there is no pipeline or no such resource; 2 usage; 4 disk or memory.
+Exit statuses: 0 checked; 1 the check failed, or there is no pipeline or no such resource; 2 usage; 4 disk or memory.
 
 Example:
   ccr_run --db ci.db check-resource repo",
@@ -66,9 +66,9 @@ pub(crate) fn resource_versions<'a>(alloc: Global) -> Result<Command<'a>, AllocE
         "resource-versions",
         "Shows the versions of a resource",
         "\
-It prints `PLACE KEY` for each version: its place in the resource's table, from 1, and its JSON text.
+Prints `PLACE KEY` for each version: its place in the resource's version table, counted from 1, and its JSON text.
 
-Exit statuses: 0 shown; 1 refused, as there is no pipeline or no such resource; 2 usage; 4 disk or memory.
+Exit statuses: 0 shown; 1 refused, because there is no pipeline or no such resource; 2 usage; 4 disk or memory.
 
 Example:
   ccr_run --db ci.db resource-versions repo",
@@ -82,15 +82,15 @@ pub(crate) fn pin_resource<'a>(alloc: Global) -> Result<Command<'a>, AllocError>
         (IsCommand (codes "pin-resource") (value_rule (codes "NAME") ∷ value_rule (codes "JSON") ∷ [])) }
 {
     let name = value(alloc, "NAME", "The resource's name");
-    let pin = value(alloc, "JSON", "An object of which each field is a text");
+    let pin = value(alloc, "JSON", "A JSON object whose fields are all strings");
     command(
         alloc,
         "pin-resource",
         "Pins a resource to some of its versions",
         "\
-Later builds take those versions alone that have each field of the object. It prints `pinned NAME`.
+Later builds take only versions that have each field of the object, with the same value. Prints `pinned NAME`.
 
-Exit statuses: 0 pinned; 1 refused, as there is no pipeline or no such resource, or the text is no pin; 2 usage;
+Exit statuses: 0 pinned; 1 refused, because there is no pipeline or no such resource, or the text isn't a pin; 2 usage;
 4 disk or memory.
 
 Example:
@@ -100,7 +100,7 @@ Example:
     .arg(pin)
 }
 
-/// Takes the pin of a resource away.
+/// Removes the pin of a resource.
 pub(crate) fn unpin_resource<'a>(alloc: Global) -> Result<Command<'a>, AllocError>
     ensures { IfOk result (IsCommand (codes "unpin-resource") (value_rule (codes "NAME") ∷ [])) }
 {
@@ -108,11 +108,11 @@ pub(crate) fn unpin_resource<'a>(alloc: Global) -> Result<Command<'a>, AllocErro
     command(
         alloc,
         "unpin-resource",
-        "Takes the pin of a resource away",
+        "Removes the pin of a resource",
         "\
-A pin that the pipeline's file gives stays. It prints `unpinned NAME`, also where the resource had no pin.
+A pin in the pipeline's file stays. Prints `unpinned NAME`, even if the resource had no pin.
 
-Exit statuses: 0 unpinned; 1 refused, as there is no pipeline or no such resource; 2 usage; 4 disk or memory.
+Exit statuses: 0 unpinned; 1 refused, because there is no pipeline or no such resource; 2 usage; 4 disk or memory.
 
 Example:
   ccr_run --db ci.db unpin-resource repo",
@@ -130,11 +130,11 @@ pub(crate) fn resolve<'a>(alloc: Global) -> Result<Command<'a>, AllocError>
         "resolve",
         "Shows which versions the next build of a job takes, with a proof",
         "\
-It prints the best choice of versions, or that none satisfies, with the proof. `ccr_verify` judges it, given the text that
-the command `problem` prints. No build is made.
+Prints the best choice of versions, or that none satisfies, with the proof. `ccr_verify` checks the proof, given the text
+that the command `problem` prints. No build is made.
 
-Exit statuses: 0 shown; 1 refused, as there is no pipeline or no such job; 2 usage; 3 the proof would go over the budget;
-4 disk or memory.
+Exit statuses: 0 shown; 1 refused, because there is no pipeline or no such job; 2 usage; 3 the proof would go over the
+budget; 4 disk or memory.
 
 Example:
   ccr_run --db ci.db problem unit >unit.problem
@@ -152,11 +152,11 @@ pub(crate) fn problem<'a>(alloc: Global) -> Result<Command<'a>, AllocError>
     command(
         alloc,
         "problem",
-        "Shows among what the next build of a job has to choose",
+        "Shows what the next build of a job has to choose from",
         "\
-It prints the places that each input may take, and what passed the jobs that an input names.
+Prints the places that each input may take, and the versions that passed the jobs named by the inputs.
 
-Exit statuses: 0 shown; 1 refused, as there is no pipeline or no such job; 2 usage; 4 disk or memory.
+Exit statuses: 0 shown; 1 refused, because there is no pipeline or no such job; 2 usage; 4 disk or memory.
 
 Example:
   ccr_run --db ci.db problem unit >unit.problem",
@@ -172,13 +172,14 @@ pub(crate) fn trigger_job<'a>(alloc: Global) -> Result<Command<'a>, AllocError>
     command(
         alloc,
         "trigger-job",
-        "Makes a build of a job, and runs it to its end",
+        "Makes a build of a job and runs it to its end",
         "\
-It takes the best choice of versions, also one that was built before. It prints `JOB N made`, and at the end `JOB N` with
-`succeeded`, `failed` or `errored`; or why there is no build: `JOB: none satisfies`, `JOB: over budget N` or `JOB: busy`.
+The build takes the best choice of versions, even if it was built before. Prints `JOB N made`, and at the end `JOB N` with
+`succeeded`, `failed` or `errored`. If there is no build, prints why: `JOB: none satisfies`, `JOB: over budget N` or
+`JOB: busy`.
 
-Exit statuses: 0 the build succeeded; 1 it ended otherwise, no choice satisfies, the job is busy, or it is refused;
-2 usage; 3 over the budget; 4 disk or memory.
+Exit statuses: 0 the build succeeded; 1 it ended in another way, no choice satisfies, the job is busy, or the command is
+refused; 2 usage; 3 over the budget; 4 disk or memory.
 
 Example:
   ccr_run --db ci.db trigger-job unit",
@@ -195,7 +196,7 @@ pub(crate) fn builds<'a>(alloc: Global) -> Command<'a>
         "builds",
         "Shows all builds",
         "\
-It prints `JOB N STATUS` for each build, in the order in which they were made.
+Prints `JOB N STATUS` for each build, in the order in which they were made.
 
 Exit statuses: 0 shown; 2 usage; 4 disk or memory.
 
@@ -213,12 +214,12 @@ pub(crate) fn run<'a>(alloc: Global) -> Result<Command<'a>, AllocError>
     command(
         alloc,
         "run",
-        "Runs rounds, and then all builds to their ends",
+        "Runs rounds, and then all builds to their end",
         "\
-A round checks each resource, makes the builds for which there is something new, and goes on with each build that runs by
-one step. What happens is printed as it happens.
+A round checks each resource, makes a build for each job that has something new, and advances each running build by one
+step. Each line is printed as it happens.
 
-Exit statuses: 0 done, whatever the checks and builds came to; 1 refused, as there is no pipeline; 2 usage;
+Exit statuses: 0 done, whatever the results of checks and builds; 1 refused, because there is no pipeline; 2 usage;
 4 disk or memory.
 
 Example:

@@ -12,12 +12,12 @@ use clap::Command;
 use std::alloc::{AllocError, Global};
 
 /// What the program does, at the top of its help.
-const ABOUT: &str = "Runs pipelines: checks resources, makes builds of jobs, and remembers both";
+const ABOUT: &str = "Runs pipelines: checks resources, runs builds of jobs, and remembers both";
 
 /// The end of the program's help.
 const MORE: &str = "\
 Exit statuses: 0 done, 1 refused, 2 usage, 3 over the budget, 4 disk or memory.
-What is done stands on standard output, line by line as it happens; a refusal on standard error.
+What happens is printed on standard output, line by line; a refusal goes to standard error.
 
 Example:
   ccr_run --db ci.db set-pipeline pipeline.json
@@ -42,28 +42,28 @@ fn with_options<'a>(alloc: Global) -> Result<Command<'a>, AllocError>
         alloc,
         "db",
         "FILE",
-        "The database; it is made where there is none",
+        "The database; created if it does not exist",
     );
     let types = optional(
         alloc,
         "types",
         "DIR",
         "/usr/local/lib/ccr/types",
-        "The folder with a folder of programs for each type of resource; begins with /",
+        "The directory that has a directory of programs for each resource type; begins with /",
     );
     let work = optional(
         alloc,
         "work",
         "DIR",
         "/var/tmp/ccr",
-        "The folder in which checks and builds run; begins with /",
+        "The directory in which checks and builds run; begins with /",
     );
     let budget = optional(
         alloc,
         "budget",
         "N",
         "100000",
-        "How many nodes the proof of a choice may have, from 1 to 1000000",
+        "The most nodes that the proof of a choice may have, from 1 to 1000000",
     );
     program(alloc)
         .arg(database)?

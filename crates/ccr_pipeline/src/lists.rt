@@ -118,10 +118,10 @@ fn read_resources(alloc: Global, names: &mut Names, list: &[Value]) -> Checked<V
     Ok(resources)
 }
 
-/// What is known and noted of a pipeline before anything is read of it: the names of its jobs, and the unused keys of
-/// all but the steps.
-fn first_notes(alloc: Global, pipeline: &Value) -> Result<Notes, AllocError>
-    ensures resources { IfOk result (λ n. n.resources ≡ []) }
+/// What is known and noted of a pipeline before its jobs are read: the names of its resources, which are given, those of
+/// its jobs, and the unused keys of all but the steps.
+fn first_notes(alloc: Global, resources: Names, pipeline: &Value) -> Result<Notes, AllocError>
+    ensures resources { IfOk result (λ n. n.resources ≡ resources) }
     ensures jobs { IfOk result (λ n. n.jobs ≡ with_names [] (list_names (codes "jobs") (view pipeline.now))) }
     ensures unknown { IfOk result (λ n. n.unknown ≡ None) }
     ensures unused { IfOk result (λ n. names_of n.unused.items ≡ unused_object NESTED Pipeline [] (view pipeline.now)) }
@@ -133,7 +133,7 @@ fn first_notes(alloc: Global, pipeline: &Value) -> Result<Notes, AllocError>
     let mut jobs = Names::new(alloc);
     add_names(alloc, &mut jobs, list_at(pipeline, "jobs"))?;
     Ok(Notes {
-        resources: Names::new(alloc),
+        resources,
         jobs,
         gets: Names::new(alloc),
         unknown: None,
@@ -162,8 +162,9 @@ pub(crate) fn read_before(alloc: Global, pipeline: &Value) -> Checked<(Notes, Ve
     ensures known { IfOk result (λ before. IsBefore (view pipeline.now) (notes_data before.0)) }
     ensures read { IfOk result (λ before. map resource_data before.1.items ≡ resources_from (view pipeline.now)) }
 {
-    let mut notes = first_notes(alloc, pipeline)?;
-    let resources = read_lists(alloc, &mut notes.resources, pipeline)?;
+    let mut names = Names::new(alloc);
+    let resources = read_lists(alloc, &mut names, pipeline)?;
+    let notes = first_notes(alloc, names, pipeline)?;
     Ok((notes, resources))
 }
 
