@@ -7,10 +7,11 @@ use Rattle.ccr_pipeline.specs.declared.step.When.{When}
 use Rattle.ccr_pipeline.specs.declared.step.When.TheVariants.{OnSuccess, OnFailure, OnError, OnAbort, Ensure}
 use Rattle.ccr_pipeline.specs.Hooks.{hook_key}
 use Rattle.ccr_pipeline.specs.Keys.{at_key, or_else, items_in, list_at}
-use Rattle.ccr_pipeline.specs.Meaning.{truth_from, get_from, put_from, task_from}
+use Rattle.ccr_pipeline.specs.Meaning.{get_from, put_from, task_from}
 use Rattle.ccr_pipeline.specs.Steps.{with_hook, with_hooks, each_tree, parallel_items, holder, action}
-use Rattle.ccr_pipeline.specs.Tree.{Tree, GetData, PutData, TaskData, get, put, task, in_order, in_parallel, tried, hook, no_trees, trees_of}
+use Rattle.ccr_pipeline.specs.Tree.{Tree, GetData, PutData, TaskData, get, put, task, in_order, in_parallel, tried, hook, trees_of}
 use Rattle.ccr_pipeline.proofs.Inside.{EachItem, OwnSteps, Hooks}
+use Rattle.ccr_pipeline.proofs.Kept.{holder_of}
 use Rattle.ccr_pipeline.proofs.Ordered.{held, having}
 
 -- where a step keeps Q, the steps that it holds keep R
@@ -47,14 +48,7 @@ module _ (P : Data → Type 0) (Q R : Tree → Type 0) (rec : Data → Tree) (up
     in_case (array ds) h = (each ds h, tt)
     in_case (object ms) h = (tt, each (list_at (codes "steps") (object ms)) h)
 
-    -- the step that holds them
-    abbrev holder_of : Option Data → Option Data → Option Data → Tree
-    holder_of x y z =
-        or_else x (or_else y (or_else z (in_order no_trees) (λ found. tried (rec found)))
-        (λ found. in_parallel (trees_of (each_tree rec (parallel_items found))) (truth_from (codes "fail_fast") found)))
-        (λ found. in_order (trees_of (each_tree rec (items_in found))))
-
-    one_held : (x y z : Option Data) → held x y z < 2 → Q (holder_of x y z) → Held x y z
+    one_held : (x y z : Option Data) → held x y z < 2 → Q (holder_of rec x y z) → Held x y z
     one_held None None None few q = record { order = tt; parallel = tt; steps = tt; trying = tt }
     one_held None None (Some d) few q = record { order = tt; parallel = tt; steps = tt; trying = up d (gives.trying _ q) }
     one_held None (Some d) None few q =
@@ -65,7 +59,7 @@ module _ (P : Data → Type 0) (Q R : Tree → Type 0) (rec : Data → Tree) (up
     one_held (Some d) None (Some a) few q = absurd (omega (arith, few))
     one_held (Some d) (Some a) z few q = absurd (omega (arith, few))
 
-    by_kind : (a b c : Bool) (x y z : Option Data) (g : GetData) (p : PutData) (k : TaskData) → having a b c (held x y z) < 2 → Q (if a then get g else (if b then put p else (if c then task k else holder_of x y z))) → Held x y z
+    by_kind : (a b c : Bool) (x y z : Option Data) (g : GetData) (p : PutData) (k : TaskData) → having a b c (held x y z) < 2 → Q (if a then get g else (if b then put p else (if c then task k else holder_of rec x y z))) → Held x y z
     by_kind true b c x y z g p k few q = none_held x y z (omega (arith, few))
     by_kind false true c x y z g p k few q = none_held x y z (omega (arith, few))
     by_kind false false true x y z g p k few q = none_held x y z (omega (arith, few))

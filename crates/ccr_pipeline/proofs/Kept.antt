@@ -1,5 +1,5 @@
 -- What the steps in a text keep, the tree keeps that they are read as.
-use Rattle.std.proofs.Common.{◌≡◌, List, [], Bool, true, false, Option, Some, None, refl, codes, is_some, if◌then◌else◌}
+use Rattle.std.proofs.Common.{◌≡◌, ℕ, List, [], Bool, true, false, Option, Some, None, refl, codes, is_some, if◌then◌else◌}
 use Rattle.std.specs.List.{AllByRecursion}
 use Rattle.std.specs.Option.{IfSome}
 use Rattle.serde_json.specs.Data.{Data, Items, no_items, item}
@@ -10,7 +10,7 @@ use Rattle.ccr_pipeline.specs.Hooks.{hook_key}
 use Rattle.ccr_pipeline.specs.Keys.{at_key, or_else, items_in, list_at}
 use Rattle.ccr_pipeline.specs.Meaning.{truth_from, get_from, put_from, task_from}
 use Rattle.ccr_pipeline.specs.Steps.{with_hook, with_hooks, each_tree, parallel_items, holder, action}
-use Rattle.ccr_pipeline.specs.Tree.{Tree, get, put, task, in_order, in_parallel, tried, hook, no_trees, trees_of}
+use Rattle.ccr_pipeline.specs.Tree.{Tree, get, put, task, in_order, in_parallel, tried, attempts, hook, no_trees, trees_of}
 use Rattle.ccr_pipeline.proofs.Inside.{EachItem, OwnSteps, Hooks}
 
 -- a step keeps Q, if the steps that it holds keep R
@@ -24,6 +24,22 @@ pub record Leaves (Q : Tree → Type 0) (d : Data) : Type 0 where
   pub getting : is_some (at_key (codes "get") d) ≡ true → Q (get (get_from d))
   pub putting : is_some (at_key (codes "get") d) ≡ false → is_some (at_key (codes "put") d) ≡ true → Q (put (put_from d))
   pub doing : is_some (at_key (codes "get") d) ≡ false → is_some (at_key (codes "put") d) ≡ false → is_some (at_key (codes "task") d) ≡ true → Q (task (task_from d))
+
+pub of_kind : (Q : Tree → Type 0) (b : Bool) (t other : Tree) → (b ≡ true → Q t) → (b ≡ false → Q other) → Q (if b then t else other)
+of_kind Q true t other here absent = here refl
+of_kind Q false t other here absent = absent refl
+
+-- the step that what stands at do, in_parallel and try makes
+abbrev pub holder_of : (Data → Tree) → Option Data → Option Data → Option Data → Tree
+holder_of rec x y z =
+    or_else x (or_else y (or_else z (in_order no_trees) (λ found. tried (rec found)))
+    (λ found. in_parallel (trees_of (each_tree rec (parallel_items found))) (truth_from (codes "fail_fast") found)))
+    (λ found. in_order (trees_of (each_tree rec (items_in found))))
+
+-- a step in its attempts keeps Q, if attempts do
+pub attempts-kept : (Q : Tree → Type 0) → ((n : ℕ) (t : Tree) → Q t → Q (attempts n t)) → (o : Option ℕ) (t : Tree) → Q t → Q (or_else o t (λ n. attempts n t))
+attempts-kept Q keep None t h = h
+attempts-kept Q keep (Some n) t h = keep n t h
 
 module _ (P : Data → Type 0) (Q R : Tree → Type 0) (rec : Data → Tree) (down : (d : Data) → P d → R (rec d)) where
   each : (ds : Items) → EachItem P ds → AllByRecursion R (each_tree rec ds)
@@ -53,16 +69,12 @@ module _ (P : Data → Type 0) (Q R : Tree → Type 0) (rec : Data → Tree) (do
         at_do (at_key (codes "do") d) _ own.order
         (at_parallel (at_key (codes "in_parallel") d) _ own.parallel own.steps (at_try (at_key (codes "try") d) own.trying))
 
-    of_kind : (b : Bool) (t other : Tree) → (b ≡ true → Q t) → (b ≡ false → Q other) → Q (if b then t else other)
-    of_kind true t other here absent = here refl
-    of_kind false t other here absent = absent refl
-
     pub action-kept : (d : Data) → Leaves Q d → OwnSteps P d → Q (action rec d)
     unfolding action
     action-kept d leaves own =
-        of_kind (is_some (at_key (codes "get") d)) _ _ leaves.getting (λ a.
-        of_kind (is_some (at_key (codes "put") d)) _ _ (leaves.putting a) (λ b.
-        of_kind (is_some (at_key (codes "task") d)) _ _ (leaves.doing a b) (λ c. holder-kept d own)))
+        of_kind Q (is_some (at_key (codes "get") d)) _ _ leaves.getting (λ a.
+        of_kind Q (is_some (at_key (codes "put") d)) _ _ (leaves.putting a) (λ b.
+        of_kind Q (is_some (at_key (codes "task") d)) _ _ (leaves.doing a b) (λ c. holder-kept d own)))
 
   module _ (hooked : (w : When) (t h : Tree) → Q t → R h → Q (hook w t h)) where
     at_hook : (w : When) (o : Option Data) (t : Tree) → IfSome o P → Q t → Q (or_else o t (λ found. hook w t (rec found)))

@@ -25,7 +25,7 @@ use Rattle.ccr_pipeline.specs.Unknown.{unknown_spots, unknown_in}
 use Rattle.ccr_pipeline.proofs.Linked.{linked_plan}
 use Rattle.ccr_pipeline.proofs.NoteLemmas.{unknown_append}
 use Rattle.ccr_pipeline.proofs.Repeats.{NoRepeat, distinct, with_text}
-use Rattle.ccr_pipeline.proofs.Rows.{nil_left, nil_right, passes, IsNamed, new_name}
+use Rattle.ccr_pipeline.proofs.Rows.{nil_left, nil_right, passes, IsNamed, resource_named, job_named as named_job}
 
 -- the members of a list have names, by which they are called
 abbrev called : Items → List Text
@@ -46,14 +46,8 @@ module _ (one : List Text → Path → Data → Faults) (named : (names : List T
       let rest = each_called (names ++ names_at (codes "name") d) p (i + 1) ds (nil_right (one names (path_at p i) d) _ e) in
       rw (first, rest) refl
 
-pub resource_named : (names : List Text) (p : Path) (d : Data) → resource_faults names p d ≡ [] → IsNamed names (codes "name") d
-unfolding object_faults
-resource_named names p d e = new_name 2 names p (codes "name") d (nil_left _ _ (nil_right (unless (is_some (as_object d)) rule.Kind p) _ e))
-
 pub job_named : (names : List Text) (p : Path) (d : Data) → job_faults names p d ≡ [] → IsNamed names (codes "name") d
-unfolding object_faults
-job_named names p d e =
-    new_name 2 names p (codes "name") d (nil_left _ _ (nil_right (unless (is_some (as_object d)) rule.Kind p) _ (nil_left (object_faults (value_faults 3) names schema.Job p d) _ e)))
+job_named names p d e = named_job names p d (nil_left (object_faults (value_faults 3) names schema.Job p d) _ e)
 
 -- no two jobs of a list have one name
 pub job_names_once : (names : List Text) (i : ℕ) (ds : Items) → members job_faults names (codes "jobs") i ds ≡ [] → NoRepeat names (names_in ds)

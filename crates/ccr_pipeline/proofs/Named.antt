@@ -21,7 +21,7 @@ use Rattle.ccr_pipeline.specs.StepRules.{shape_faults, kind_faults, own_keys, op
 use Rattle.ccr_pipeline.specs.Tree.{config, file}
 use Rattle.ccr_pipeline.proofs.Gathered.{none, more, one, and, InStep, plan_passes}
 use Rattle.ccr_pipeline.proofs.Kept.{Leaves}
-use Rattle.ccr_pipeline.proofs.Rows.{nil_left, nil_right, IsNamed, new_name, must_name}
+use Rattle.ccr_pipeline.proofs.Rows.{nil_left, nil_right, IsNamed, new_name, must_name, input_named, output_named}
 use Rattle.ccr_pipeline.proofs.Unfaulted.{IsUnfaulted, unfaulted_parts, unfaulted_plan, unfaulted_hooks}
 
 -- what is named has names
@@ -29,24 +29,16 @@ abbrev Named : List (List ℕ) → Type 0
 Named ss = AllPass is_name ss
 
 -- the inputs and the outputs of a task
-input_named : (before : List (List ℕ)) (p : Path) (d : Data) → object_faults (value_faults 1) before schema.Input p d ≡ [] → is_name (text_or [] (codes "name") d) ≡ true
-unfolding object_faults
-input_named before p d e = (new_name 0 before p (codes "name") d (nil_left _ _ (nil_right (unless (is_some (as_object d)) rule.Kind p) _ e))).name
-
-output_named : (before : List (List ℕ)) (p : Path) (d : Data) → object_faults (value_faults 1) before schema.Output p d ≡ [] → is_name (text_or [] (codes "name") d) ≡ true
-unfolding object_faults
-output_named before p d e = (new_name 0 before p (codes "name") d (nil_left _ _ (nil_right (unless (is_some (as_object d)) rule.Kind p) _ e))).name
-
 inputs_named : (before : List (List ℕ)) (p : Path) (i : ℕ) (ds : Items) → each_object (value_faults 1) before schema.Input p i ds ≡ [] → Named (map (λ x. x.0) (inputs_in ds))
 inputs_named before p i no_items e = none is_name
 inputs_named before p i (item d ds) e =
-    more is_name _ _ (input_named before (path_at p i) d (nil_left (object_faults (value_faults 1) before schema.Input (path_at p i) d) _ e))
+    more is_name _ _ (input_named before (path_at p i) d (nil_left (object_faults (value_faults 1) before schema.Input (path_at p i) d) _ e)).name
     (inputs_named (before ++ new_names (opening schema.Input) d) p (i + 1) ds (nil_right (object_faults (value_faults 1) before schema.Input (path_at p i) d) _ e))
 
 outputs_named : (before : List (List ℕ)) (p : Path) (i : ℕ) (ds : Items) → each_object (value_faults 1) before schema.Output p i ds ≡ [] → Named (outputs_in ds)
 outputs_named before p i no_items e = none is_name
 outputs_named before p i (item d ds) e =
-    more is_name _ _ (output_named before (path_at p i) d (nil_left (object_faults (value_faults 1) before schema.Output (path_at p i) d) _ e))
+    more is_name _ _ (output_named before (path_at p i) d (nil_left (object_faults (value_faults 1) before schema.Output (path_at p i) d) _ e)).name
     (outputs_named (before ++ new_names (opening schema.Output) d) p (i + 1) ds (nil_right (object_faults (value_faults 1) before schema.Output (path_at p i) d) _ e))
 
 at_inputs : (p : Path) (whole : Data) (o : Option Data) → or_else o [] (λ found. value_faults 2 (kind.Objects schema.Input) p whole found ++ []) ≡ [] → Named (map (λ x. x.0) (inputs_in (or_else o no_items items_in)))

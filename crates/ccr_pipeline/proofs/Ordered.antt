@@ -15,7 +15,7 @@ use Rattle.ccr_pipeline.specs.Faults.{Path, unless}
 use Rattle.ccr_pipeline.specs.Inputs.{InputData, input_from, inputs, inputs_in}
 use Rattle.ccr_pipeline.specs.JobRules.{job_faults, job_rest, members}
 use Rattle.ccr_pipeline.specs.Keys.{at_key, or_else, items_in, list_at, path_below, path_at}
-use Rattle.ccr_pipeline.specs.Meaning.{truth_from, get_from, put_from, task_from}
+use Rattle.ccr_pipeline.specs.Meaning.{get_from, put_from, task_from}
 use Rattle.ccr_pipeline.specs.Names.{names_at}
 use Rattle.ccr_pipeline.specs.Objects.{object_faults, value_faults}
 use Rattle.ccr_pipeline.specs.Pipelines.{job_from, jobs_in}
@@ -23,9 +23,9 @@ use Rattle.ccr_pipeline.specs.Places.{Opening, Closing, Spot, spot_of, each_step
 use Rattle.ccr_pipeline.specs.Plans.{plan_from, input_by, input_at, inputs_read}
 use Rattle.ccr_pipeline.specs.StepRules.{kinds, shape_faults, kind_faults, own_keys, opening_faults}
 use Rattle.ccr_pipeline.specs.Steps.{step_tree, with_hook, with_hooks, with_attempts, each_tree, parallel_items, holder, action}
-use Rattle.ccr_pipeline.specs.Tree.{Tree, GetData, PutData, TaskData, get, put, task, in_order, in_parallel, tried, attempts, hook, no_trees, trees_of}
+use Rattle.ccr_pipeline.specs.Tree.{Tree, GetData, PutData, TaskData, get, put, task, in_order, in_parallel, tried, attempts, hook, trees_of}
 use Rattle.ccr_pipeline.proofs.Inside.{EachItem, OwnSteps, Hooks}
-use Rattle.ccr_pipeline.proofs.Kept.{action-kept}
+use Rattle.ccr_pipeline.proofs.Kept.{holder_of, attempts-kept, action-kept}
 use Rattle.ccr_pipeline.proofs.Rows.{nil_left, nil_right, passes}
 use Rattle.ccr_pipeline.proofs.Shallow.{no_level}
 use Rattle.ccr_pipeline.proofs.Unfaulted.{Unfaulted, Opened, opened, Planned, planned}
@@ -169,15 +169,7 @@ module _ (n u : ℕ) (down : (d : Data) → Unfaulted n u d → Shown n d) (t : 
     none_held None (Some d) z e = absurd (omega (arith, e))
     none_held (Some d) y z e = absurd (omega (arith, e))
 
-    -- the step that holds them
-    abbrev holder_of : Option Data → Option Data → Option Data → Tree
-    holder_of x y z =
-        or_else x (or_else y (or_else z (in_order no_trees) (λ found. tried (step_tree n found)))
-        (λ found. in_parallel (trees_of (each_tree (step_tree n) (parallel_items found)))
-        (truth_from (codes "fail_fast") found)))
-        (λ found. in_order (trees_of (each_tree (step_tree n) (items_in found))))
-
-    one_held : (x y z : Option Data) → held x y z < 2 → EachItem (Unfaulted n u) (or_else x no_items items_in) → EachItem (Unfaulted n u) (or_else y no_items items_in) → IfSome y (λ found. EachItem (Unfaulted n u) (list_at (codes "steps") found)) → IfSome z (Unfaulted n u) → inputs (holder_of x y z) ≡ flat_map input_at (spots_in x y z)
+    one_held : (x y z : Option Data) → held x y z < 2 → EachItem (Unfaulted n u) (or_else x no_items items_in) → EachItem (Unfaulted n u) (or_else y no_items items_in) → IfSome y (λ found. EachItem (Unfaulted n u) (list_at (codes "steps") found)) → IfSome z (Unfaulted n u) → inputs (holder_of (step_tree n) x y z) ≡ flat_map input_at (spots_in x y z)
     one_held None None None few order parallel steps trying = refl
     one_held None None (Some d) few order parallel steps trying = down d trying t (path_below p (codes "try"))
     one_held None (Some d) None few order parallel steps trying =
@@ -197,7 +189,7 @@ module _ (n u : ℕ) (down : (d : Data) → Unfaulted n u d → Shown n d) (t : 
         let y : Option Data = at_key (codes "in_parallel") d in
         let z : Option Data = at_key (codes "try") d in
         by_kind (is_some (at_key (codes "get") d)) (is_some (at_key (codes "put") d)) (is_some (at_key (codes "task") d))
-        (held x y z) (get_from d) (put_from d) (task_from d) (holder_of x y z) _ (one_kind names q (suc n) d e)
+        (held x y z) (get_from d) (put_from d) (task_from d) (holder_of (step_tree n) x y z) _ (one_kind names q (suc n) d e)
         (λ none. ap (flat_map input_at) (none_held x y z none))
         (λ few. one_held x y z few own.order own.parallel own.steps own.trying)
 
@@ -223,10 +215,6 @@ plain_action n u d own =
     (record { order = λ ts h. tt; parallel = λ ts fast h. tt; trying = λ t h. tt }) d
     (record { getting = λ a. tt; putting = λ a b. tt; doing = λ a b c. tt }) own
 
-plain_attempts : (o : Option ℕ) (t : Tree) → NotAbort t → NotAbort (or_else o t (λ n. attempts n t))
-plain_attempts None t h = h
-plain_attempts (Some n) t h = tt
-
 in_attempts : (o : Option ℕ) (t : Tree) → inputs (or_else o t (λ n. attempts n t)) ≡ inputs t
 in_attempts None t = refl
 in_attempts (Some n) t = refl
@@ -239,7 +227,7 @@ shown (suc n) u d h t p =
     let v : ℕ = tries_below u d in
     let w : ℕ = tries_below t d in
     let number : Option ℕ = option_and_then as_u64 (option_and_then as_number (at_key (codes "attempts") d)) in
-    let plain = plain_attempts number (action (step_tree n) d) (plain_action n v d o.own) in
+    let plain = attempts-kept NotAbort (λ m s k. tt) number (action (step_tree n) d) (plain_action n v d o.own) in
     let all = with_all n v (shown n v) w p d (with_attempts d (action (step_tree n) d)) plain o.hooks in
     let acted = in_action n v (shown n v) w p o.names o.path d o.opening o.own in
     let after : List Spot = spot_of Closing p (suc n) t d ∷ hook_steps (steps_from n) w p d in

@@ -19,7 +19,7 @@ use Rattle.ccr_pipeline.proofs.Shallow.{shallow}
 use Rattle.ccr_pipeline.proofs.Distinct.{distinct_inputs}
 use Rattle.ccr_pipeline.proofs.Tries.{few_tries}
 use Rattle.ccr_pipeline.proofs.Named.{well_named}
-use Rattle.ccr_pipeline.proofs.Rows.{nil_left, nil_right, new_name, must_name}
+use Rattle.ccr_pipeline.proofs.Rows.{nil_left, nil_right, must_name, resource_named, job_named}
 use Rattle.ccr_pipeline.proofs.Unfaulted.{Planned, planned}
 
 holds : (b : Bool) (r : Rule) (p : Path) → unless b r p ≡ [] → IsTrue b
@@ -27,11 +27,10 @@ holds true r p e = refl
 holds false r p e = cc
 
 pub kept_job : (names : List (List ℕ)) (p : Path) (d : Data) → object_faults (value_faults 3) names schema.Job p d ≡ [] → job_rest p d ≡ [] → IsJob d
-unfolding object_faults job_rest after_plan
+unfolding job_rest after_plan
 kept_job names p d own rest =
-    let keys = nil_right (unless (is_some (as_object d)) rule.Kind p) _ own in
     let plan : Planned d = planned p d rest in (
-      (new_name 2 names p (codes "name") d (nil_left _ _ keys)).name,
+      (job_named names p d own).name,
       record {
         few = holds _ _ _ (nil_right (visits _ (job_hooks p d)) _ (nil_right (key_faults (value_faults 3) [] (closing schema.Job) p d) _ (nil_right (visits [] (plan_steps p d)) _ rest)));
         distinct = distinct_inputs p d rest;
@@ -46,4 +45,4 @@ unfolding object_faults
 kept_resource names p d e =
     let keys = nil_right (unless (is_some (as_object d)) rule.Kind p) _ e in
     let rest = nil_right (row_faults (value_faults 3) names (New, kind.Name, codes "name") p d) _ keys in
-    and_from _ _ (new_name 2 names p (codes "name") d (nil_left _ _ keys)).name (must_name 2 [] p (codes "type") d (nil_left _ _ rest))
+    and_from _ _ (resource_named names p d e).name (must_name 2 [] p (codes "type") d (nil_left _ _ rest))

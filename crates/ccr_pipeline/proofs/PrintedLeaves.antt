@@ -20,7 +20,7 @@ use Rattle.ccr_pipeline.specs.Keys.{unless_null, at_key, or_else, items_in, path
 use Rattle.ccr_pipeline.specs.Kinds.{is_name, broken_texts, broken_fields}
 use Rattle.ccr_pipeline.specs.Meaning.{text_or, variables_in, run_of, inputs_in, outputs_in, config_from, source_from, get_from, put_from, task_from, wanted_in}
 use Rattle.ccr_pipeline.specs.Names.{has_name, text_at, names_at, texts_in}
-use Rattle.ccr_pipeline.specs.Objects.{absent, broken, once, once_names, new_names, row_faults, key_faults, object_faults, each_object, value_faults}
+use Rattle.ccr_pipeline.specs.Objects.{absent, broken, once, new_names, row_faults, key_faults, object_faults, each_object, value_faults}
 use Rattle.ccr_pipeline.specs.Pipelines.{resource_from}
 use Rattle.ccr_pipeline.specs.Printed.{Around, made, or_null, strings, text_list, text_object, wanted_value, get_value, put_value, run_value, input_value, input_values, output_values, config_value, task_value, resource_value}
 use Rattle.ccr_pipeline.specs.Schema.{opening}
@@ -29,9 +29,9 @@ use Rattle.ccr_pipeline.specs.Tree.{Text, WantedData, latest, every, pinned, Get
 use Rattle.ccr_pipeline.specs.Unknown.{unknown_resource, unknown_texts, unknown_passed, unknown_names}
 use Rattle.ccr_pipeline.proofs.Joined.{both_nil}
 use Rattle.ccr_pipeline.proofs.Linked.{get_resource, get_passed, put_resource}
-use Rattle.ccr_pipeline.proofs.LinksKept.{resource_named as named_resource}
 use Rattle.ccr_pipeline.proofs.Named.{get_named as named_get}
-use Rattle.ccr_pipeline.proofs.Rows.{nil_left, nil_right, IsNamed, new_name, must_name}
+use Rattle.ccr_pipeline.proofs.Rows.{nil_left, nil_right, IsNamed, must_name, input_named, output_named, resource_named as named_resource}
+use Rattle.ccr_pipeline.proofs.TableNames.{input_names_are, output_names_are}
 
 -- the parts of what is printed are read as the same
 
@@ -205,18 +205,6 @@ run_quiet q r =
     (both_nil _ _ (texts_row 0 (path_below q (codes "args")) (run_value r) r.args)
     (both_nil _ [] (optional_row 0 (path_below q (codes "dir")) (run_value r) r.dir) refl))
 
-text_one : (o : Option Text) → is_some o ≡ true → or_else o [] (λ s. s ∷ []) ≡ unwrap_or o [] ∷ []
-text_one None e = absurd (cc (e))
-text_one (Some s) e = refl
-
-once_here : (o : Option Data) → is_some (option_and_then as_str o) ≡ true → or_else o [] (once_names New) ≡ unwrap_or (option_and_then as_str o) [] ∷ []
-once_here None e = absurd (cc (e))
-once_here (Some d) e = text_one (as_str d) e
-
-once_never : (o : Option Data) → or_else o [] (once_names May) ≡ []
-once_never None = refl
-once_never (Some d) = refl
-
 input_quiet : (before : List Text) (q : Path) (i : Text × Bool) → is_name i.0 ≡ true → has_name before i.0 ≡ false → object_faults (value_faults 1) before schema.Input q (input_value i) ≡ []
 unfolding object_faults
 input_quiet before q i e new =
@@ -227,34 +215,19 @@ output_quiet : (before : List Text) (q : Path) (s : Text) → is_name s ≡ true
 unfolding object_faults
 output_quiet before q s e new = both_nil _ [] (new_row 0 (path_below q (codes "name")) (made ((codes "name", string s) ∷ [])) before s e new) refl
 
-input_named : (before : List Text) (p : Path) (d : Data) → object_faults (value_faults 1) before schema.Input p d ≡ [] → IsNamed before (codes "name") d
-unfolding object_faults
-input_named before p d e = new_name 0 before p (codes "name") d (nil_left _ _ (nil_right (unless (is_some (as_object d)) rule.Kind p) _ e))
-
-output_named : (before : List Text) (p : Path) (d : Data) → object_faults (value_faults 1) before schema.Output p d ≡ [] → IsNamed before (codes "name") d
-unfolding object_faults
-output_named before p d e = new_name 0 before p (codes "name") d (nil_left _ _ (nil_right (unless (is_some (as_object d)) rule.Kind p) _ e))
-
-input_one : (d : Data) → is_some (text_at (codes "name") d) ≡ true → new_names (opening schema.Input) d ≡ text_or [] (codes "name") d ∷ []
-input_one d there =
-    rw (once_here (at_key (codes "name") d) there, once_never (at_key (codes "path") d), once_never (at_key (codes "optional") d)) refl
-
-output_one : (d : Data) → is_some (text_at (codes "name") d) ≡ true → new_names (opening schema.Output) d ≡ text_or [] (codes "name") d ∷ []
-output_one d there = rw (once_here (at_key (codes "name") d) there, once_never (at_key (codes "path") d)) refl
-
 inputs_quiet : (before : List Text) (p q : Path) (i : ℕ) (ds : Items) → each_object (value_faults 1) before schema.Input p i ds ≡ [] → each_object (value_faults 1) before schema.Input q i (input_values (inputs_in ds)) ≡ []
 inputs_quiet before p q i no_items e = refl
 inputs_quiet before p q i (item d ds) e =
     let one = input_named before (path_at p i) d (nil_left (object_faults (value_faults 1) before schema.Input (path_at p i) d) _ e) in
     let more = inputs_quiet (before ++ new_names (opening schema.Input) d) p q (i + 1) ds (nil_right (object_faults (value_faults 1) before schema.Input (path_at p i) d) _ e) in
-    both_nil _ _ (input_quiet before (path_at q i) _ one.name (is_new before (codes "name") d one)) (rw (input_one d one.there) at more)
+    both_nil _ _ (input_quiet before (path_at q i) _ one.name (is_new before (codes "name") d one)) (rw (input_names_are d, one.one) at more)
 
 outputs_quiet : (before : List Text) (p q : Path) (i : ℕ) (ds : Items) → each_object (value_faults 1) before schema.Output p i ds ≡ [] → each_object (value_faults 1) before schema.Output q i (output_values (outputs_in ds)) ≡ []
 outputs_quiet before p q i no_items e = refl
 outputs_quiet before p q i (item d ds) e =
     let one = output_named before (path_at p i) d (nil_left (object_faults (value_faults 1) before schema.Output (path_at p i) d) _ e) in
     let more = outputs_quiet (before ++ new_names (opening schema.Output) d) p q (i + 1) ds (nil_right (object_faults (value_faults 1) before schema.Output (path_at p i) d) _ e) in
-    both_nil _ _ (output_quiet before (path_at q i) _ one.name (is_new before (codes "name") d one)) (rw (output_one d one.there) at more)
+    both_nil _ _ (output_quiet before (path_at q i) _ one.name (is_new before (codes "name") d one)) (rw (output_names_are d, one.one) at more)
 
 module _ (p q : Path) (d whole : Data) where
   run_row : (r : RunData) → value_faults 2 (kind.Object schema.Run) q whole (run_value r) ++ [] ≡ []
@@ -360,7 +333,7 @@ pub resource_quiet : (names : List Text) (p q : Path) (d : Data) → resource_fa
 unfolding object_faults
 resource_quiet names p q d e =
     let keys = nil_right (unless (is_some (as_object d)) rule.Kind p) _ e in
-    let named = new_name 2 names p (codes "name") d (nil_left _ _ keys) in
+    let named = named_resource names p d e in
     let typed = must_name 2 [] p (codes "type") d (nil_left _ _ (nil_right (row_faults (value_faults 3) names (New, kind.Name, codes "name") p d) _ keys)) in
     let r : ResourceData = resource_from d in
     let whole : Data = resource_value r in

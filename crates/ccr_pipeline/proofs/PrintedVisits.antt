@@ -14,7 +14,7 @@ use Rattle.ccr_pipeline.specs.declared.walk.TheConstants.{LEVELS}
 use Rattle.ccr_pipeline.specs.Faults.{Path, Faults, unless}
 use Rattle.ccr_pipeline.specs.Hooks.{hook_key}
 use Rattle.ccr_pipeline.specs.Keys.{at_key, or_else, unless_null, items_in, list_at, path_below, path_at}
-use Rattle.ccr_pipeline.specs.Meaning.{truth_from, get_from, put_from, task_from}
+use Rattle.ccr_pipeline.specs.Meaning.{get_from, put_from, task_from}
 use Rattle.ccr_pipeline.specs.Names.{names_at}
 use Rattle.ccr_pipeline.specs.Objects.{broken, object_faults, value_faults}
 use Rattle.ccr_pipeline.specs.Pipelines.{job_from}
@@ -25,6 +25,7 @@ use Rattle.ccr_pipeline.specs.Steps.{each_tree, parallel_items, holder, action, 
 use Rattle.ccr_pipeline.specs.Tree.{Text, GetData, PutData, SourceData, config, file, TaskData, Tree, Trees, get, put, task, in_order, in_parallel, tried, attempts, hook, no_trees, trees_of}
 use Rattle.ccr_pipeline.specs.Unknown.{unknown_resource, unknown_passed, unknown_names, unknown_spots}
 use Rattle.ccr_pipeline.proofs.Joined.{both_nil}
+use Rattle.ccr_pipeline.proofs.Kept.{of_kind, holder_of}
 use Rattle.ccr_pipeline.proofs.Named.{opened_own}
 use Rattle.ccr_pipeline.proofs.NoteLemmas.{unknown_append}
 use Rattle.ccr_pipeline.proofs.Ordered.{held, having, one_kind}
@@ -121,17 +122,6 @@ task_known : (resources jobs : List Text) (a : Around) (q : Path) (name : Text) 
 unfolding unknown_resource unknown_passed
 task_known resources jobs a q name (config c) params = refl
 task_known resources jobs a q name (file path) params = refl
-
-of_kind : (Q : Tree → Type 0) (b : Bool) (t other : Tree) → (b ≡ true → Q t) → (b ≡ false → Q other) → Q (if b then t else other)
-of_kind Q true t other here absent = here refl
-of_kind Q false t other here absent = absent refl
-
--- the step that what stands at do, in_parallel and try makes
-abbrev holder_of : (Data → Tree) → Option Data → Option Data → Option Data → Tree
-holder_of rec x y z =
-    or_else x (or_else y (or_else z (in_order no_trees) (λ found. tried (rec found)))
-    (λ found. in_parallel (trees_of (each_tree rec (parallel_items found))) (truth_from (codes "fail_fast") found)))
-    (λ found. in_order (trees_of (each_tree rec (items_in found))))
 
 module _ (resources jobs names : List Text) (q : Path) (d : Data) (a : Around) (rec : Data → Tree) where
   module _ (lacks : is_some (at_key (codes "get") d) ≡ false) where

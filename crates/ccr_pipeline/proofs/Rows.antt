@@ -1,19 +1,20 @@
 -- What the rows of a table say of an object in which nothing is broken.
-use Rattle.std.proofs.Common.{◌≡◌, ℕ, suc, List, [], ◌∷◌, ◌++◌, Bool, true, false, not, refl, Option, Some, None, option_and_then, unwrap_or, is_some}
+use Rattle.std.proofs.Common.{◌≡◌, ℕ, suc, List, [], ◌∷◌, ◌++◌, Bool, true, false, not, refl, Option, Some, None, option_and_then, unwrap_or, is_some, codes}
 use Rattle.std.specs.Option.{IfSome}
 use Rattle.serde_json.specs.Data.{Data}
-use Rattle.serde_json.specs.Find.{as_str}
+use Rattle.serde_json.specs.Find.{as_str, as_object}
 use Rattle.ccr_pipeline.specs.declared.fault.Rule.{Rule}
 use Rattle.ccr_pipeline.specs.declared.fault.Rule.TheVariants as rule
 use Rattle.ccr_pipeline.specs.declared.schema.Kind.TheVariants as kind
 use Rattle.ccr_pipeline.specs.declared.schema.Need.{Need}
 use Rattle.ccr_pipeline.specs.declared.schema.Need.TheVariants.{New, Must, May}
+use Rattle.ccr_pipeline.specs.declared.schema.Schema.TheVariants as schema
 use Rattle.ccr_pipeline.specs.Faults.{Path, Faults, unless}
 use Rattle.ccr_pipeline.specs.Keys.{at_key, or_else, path_below}
 use Rattle.ccr_pipeline.specs.Kinds.{is_name, is_text}
 use Rattle.ccr_pipeline.specs.Meaning.{text_or}
 use Rattle.ccr_pipeline.specs.Names.{has_name, text_at, names_at}
-use Rattle.ccr_pipeline.specs.Objects.{absent, once, row_faults, broken, value_faults}
+use Rattle.ccr_pipeline.specs.Objects.{absent, once, row_faults, object_faults, broken, value_faults}
 
 pub nil_left : (xs ys : Faults) → xs ++ ys ≡ [] → xs ≡ []
 nil_left [] ys e = refl
@@ -105,3 +106,23 @@ may_at n p whole names (Some d) e there = passes (is_text d) rule.Kind p (nil_le
 -- a text is there, if anything is
 pub may_text : (n : ℕ) (names : List (List ℕ)) (p : Path) (k : List ℕ) (d : Data) → row_faults (value_faults (suc n)) names (May, kind.Text, k) p d ≡ [] → is_some (at_key k d) ≡ true → is_some (text_at k d) ≡ true
 may_text n names p k d e there = may_at n (path_below p k) d names (at_key k d) e there
+
+-- an object whose first key is a new name has one
+named_object : (n : ℕ) (names : List (List ℕ)) (p : Path) (d : Data) (rest : Faults) → unless (is_some (as_object d)) rule.Kind p ++ (row_faults (value_faults (suc n)) names (New, kind.Name, codes "name") p d ++ rest) ≡ [] → IsNamed names (codes "name") d
+named_object n names p d rest e = new_name n names p (codes "name") d (nil_left _ rest (nil_right (unless (is_some (as_object d)) rule.Kind p) _ e))
+
+pub input_named : (names : List (List ℕ)) (p : Path) (d : Data) → object_faults (value_faults 1) names schema.Input p d ≡ [] → IsNamed names (codes "name") d
+unfolding object_faults
+input_named names p d e = named_object 0 names p d _ e
+
+pub output_named : (names : List (List ℕ)) (p : Path) (d : Data) → object_faults (value_faults 1) names schema.Output p d ≡ [] → IsNamed names (codes "name") d
+unfolding object_faults
+output_named names p d e = named_object 0 names p d _ e
+
+pub resource_named : (names : List (List ℕ)) (p : Path) (d : Data) → object_faults (value_faults 3) names schema.Resource p d ≡ [] → IsNamed names (codes "name") d
+unfolding object_faults
+resource_named names p d e = named_object 2 names p d _ e
+
+pub job_named : (names : List (List ℕ)) (p : Path) (d : Data) → object_faults (value_faults 3) names schema.Job p d ≡ [] → IsNamed names (codes "name") d
+unfolding object_faults
+job_named names p d e = named_object 2 names p d _ e

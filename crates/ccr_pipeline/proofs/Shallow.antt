@@ -1,19 +1,19 @@
 -- Where no fault is present in a plan, its steps lie at most 30 levels deep.
-use Rattle.std.proofs.Common.{◌≡◌, ℕ, zero, suc, ◌<◌, ◌≤◌, List, [], ◌∷◌, Option, Some, None, max, arith, option_and_then, is_some, codes}
+use Rattle.std.proofs.Common.{◌≡◌, ℕ, zero, suc, ◌<◌, ◌≤◌, List, [], ◌∷◌, max, arith, option_and_then, is_some, codes}
 use Rattle.std.specs.List.{AllByRecursion}
 use Rattle.serde_json.specs.Data.{Data}
 use Rattle.serde_json.specs.Find.{as_number, as_u64, as_object}
 use Rattle.ccr_pipeline.specs.declared.step.When.{When}
 use Rattle.ccr_pipeline.specs.declared.fault.Rule.TheVariants as rule
 use Rattle.ccr_pipeline.specs.Faults.{Path, unless}
-use Rattle.ccr_pipeline.specs.Keys.{at_key, or_else}
+use Rattle.ccr_pipeline.specs.Keys.{at_key}
 use Rattle.ccr_pipeline.specs.Limits.{levels, levels_in, IsShallow}
 use Rattle.ccr_pipeline.specs.Steps.{step_tree, with_attempts, with_hooks, action}
 use Rattle.ccr_pipeline.specs.Plans.{plan_from}
 use Rattle.ccr_pipeline.specs.StepRules.{shape_faults, opening_faults}
 use Rattle.ccr_pipeline.specs.Places.{steps_from, tries_below}
-use Rattle.ccr_pipeline.specs.Tree.{Tree, trees_of, hook, attempts}
-use Rattle.ccr_pipeline.proofs.Kept.{Holds, Leaves, action-kept, hooks-kept, plan-kept}
+use Rattle.ccr_pipeline.specs.Tree.{Tree, trees_of, hook}
+use Rattle.ccr_pipeline.proofs.Kept.{Holds, Leaves, attempts-kept, action-kept, hooks-kept, plan-kept}
 use Rattle.ccr_pipeline.proofs.Rows.{nil_left, nil_right}
 use Rattle.ccr_pipeline.proofs.Unfaulted.{Unfaulted, Opened, opened, Planned}
 
@@ -41,10 +41,6 @@ leaves n d = record { getting = λ a. omega arith; putting = λ a b. omega arith
 hook_within : (n : ℕ) (w : When) (t h : Tree) → Within n t → Below n h → Within n (hook w t h)
 hook_within n w t h a b = most _ _ n a (omega (arith, b))
 
-in_attempts : (n : ℕ) (o : Option ℕ) (t : Tree) → Within n t → Within n (or_else o t (λ m. attempts m t))
-in_attempts n None t h = h
-in_attempts n (Some m) t h = h
-
 pub no_level : (names : List (List ℕ)) (p : Path) (d : Data) → opening_faults names p 0 d ≡ [] → ⊥
 unfolding opening_faults shape_faults
 no_level names p d e =
@@ -59,7 +55,7 @@ below (suc n) t d u =
     let o : Opened n t d = opened n t d u in
     let rec : Data → Tree = step_tree n in
     let acted : Within n (action rec d) = action-kept (Unfaulted n (tries_below t d)) (Within n) (Below n) rec (below n (tries_below t d)) (holds n) d (leaves n d) o.own in
-    let tried : Within n (with_attempts d (action rec d)) = in_attempts n (option_and_then as_u64 (option_and_then as_number (at_key (codes "attempts") d))) _ acted in
+    let tried : Within n (with_attempts d (action rec d)) = attempts-kept (Within n) (λ m s h. h) (option_and_then as_u64 (option_and_then as_number (at_key (codes "attempts") d))) _ acted in
     let hooked : Within n (with_hooks rec d (with_attempts d (action rec d))) = hooks-kept (Unfaulted n (tries_below t d)) (Within n) (Below n) rec (below n (tries_below t d)) (hook_within n) d _ o.hooks tried in
     omega (arith, hooked)
 

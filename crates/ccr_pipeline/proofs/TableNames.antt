@@ -43,6 +43,12 @@ resource_names_are d = first_named kind.Name (codes "name") (drop 1 (opening sch
 pub job_names_are : (d : Data) → new_names (opening schema.Job) d ≡ names_at (codes "name") d
 job_names_are d = first_named kind.Name (codes "name") (drop 1 (opening schema.Job)) d refl
 
+pub input_names_are : (d : Data) → new_names (opening schema.Input) d ≡ names_at (codes "name") d
+input_names_are d = first_named kind.Name (codes "name") (drop 1 (opening schema.Input)) d refl
+
+pub output_names_are : (d : Data) → new_names (opening schema.Output) d ≡ names_at (codes "name") d
+output_names_are d = first_named kind.Name (codes "name") (drop 1 (opening schema.Output)) d refl
+
 get_names : (d : Data) → new_names (opening schema.Get) d ≡ names_at (codes "get") d
 get_names d = first_named kind.Name (codes "get") (drop 1 (opening schema.Get)) d refl
 
