@@ -5,11 +5,10 @@ use Rattle.std.specs.Option.{IfSome}
 use Rattle.serde_json.specs.Data.{Data, null, boolean, number, string, array, object, Items, no_items, item}
 use Rattle.ccr_pipeline.specs.declared.step.When.{When}
 use Rattle.ccr_pipeline.specs.declared.step.When.TheVariants.{OnSuccess, OnFailure, OnError, OnAbort, Ensure}
-use Rattle.ccr_pipeline.specs.Hooks.{hook_key}
+use Rattle.ccr_pipeline.specs.Tree.{hook_key, Tree, GetData, PutData, TaskData, get, put, task, in_order, in_parallel, tried, hook, trees_of}
 use Rattle.ccr_pipeline.specs.Keys.{at_key, or_else, items_in, list_at}
 use Rattle.ccr_pipeline.specs.Meaning.{get_from, put_from, task_from}
 use Rattle.ccr_pipeline.specs.Steps.{with_hook, with_hooks, each_tree, parallel_items, holder, action}
-use Rattle.ccr_pipeline.specs.Tree.{Tree, GetData, PutData, TaskData, get, put, task, in_order, in_parallel, tried, hook, trees_of}
 use Rattle.ccr_pipeline.proofs.Inside.{EachItem, OwnSteps, Hooks}
 use Rattle.ccr_pipeline.proofs.Kept.{holder_of}
 use Rattle.ccr_pipeline.proofs.Ordered.{held, having}

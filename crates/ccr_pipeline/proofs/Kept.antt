@@ -6,11 +6,10 @@ use Rattle.serde_json.specs.Data.{Data, Items, no_items, item}
 use Rattle.serde_json.specs.Find.{as_array}
 use Rattle.ccr_pipeline.specs.declared.step.When.{When}
 use Rattle.ccr_pipeline.specs.declared.step.When.TheVariants.{OnSuccess, OnFailure, OnError, OnAbort, Ensure}
-use Rattle.ccr_pipeline.specs.Hooks.{hook_key}
+use Rattle.ccr_pipeline.specs.Tree.{hook_key, Tree, get, put, task, in_order, in_parallel, tried, attempts, hook, no_trees, trees_of}
 use Rattle.ccr_pipeline.specs.Keys.{at_key, or_else, items_in, list_at}
 use Rattle.ccr_pipeline.specs.Meaning.{truth_from, get_from, put_from, task_from}
 use Rattle.ccr_pipeline.specs.Steps.{with_hook, with_hooks, each_tree, parallel_items, holder, action}
-use Rattle.ccr_pipeline.specs.Tree.{Tree, get, put, task, in_order, in_parallel, tried, attempts, hook, no_trees, trees_of}
 use Rattle.ccr_pipeline.proofs.Inside.{EachItem, OwnSteps, Hooks}
 
 -- a step keeps Q, if the steps that it holds keep R

@@ -7,7 +7,7 @@ use Rattle.serde_json.specs.Find.{as_number, as_u64}
 use Rattle.ccr_pipeline.specs.declared.step.When.{When}
 use Rattle.ccr_pipeline.specs.declared.step.When.TheVariants.{OnSuccess, OnFailure, OnError, OnAbort, Ensure}
 use Rattle.ccr_pipeline.specs.declared.walk.TheConstants.{LEVELS}
-use Rattle.ccr_pipeline.specs.Hooks.{hook_key}
+use Rattle.ccr_pipeline.specs.Tree.{hook_key, Text, SourceData, config, file, Tree, Trees, get, put, task, in_order, in_parallel, tried, attempts, hook, no_trees, tree, trees_of}
 use Rattle.ccr_pipeline.specs.JobData.{JobData}
 use Rattle.ccr_pipeline.specs.Keys.{unless_null, at_key, or_else, list_at}
 use Rattle.ccr_pipeline.specs.Meaning.{task_from}
@@ -15,7 +15,6 @@ use Rattle.ccr_pipeline.specs.Pipelines.{job_from}
 use Rattle.ccr_pipeline.specs.Plans.{plan_from}
 use Rattle.ccr_pipeline.specs.Printed.{Field, made, or_null, Around, alone, with_printed, hook_fields, task_value, printed, printed_each, plan_fields, job_fields, job_value}
 use Rattle.ccr_pipeline.specs.Steps.{step_tree, with_attempts, with_hook, with_hooks, each_tree, holder, action}
-use Rattle.ccr_pipeline.specs.Tree.{Text, SourceData, config, file, Tree, Trees, get, put, task, in_order, in_parallel, tried, attempts, hook, no_trees, tree, trees_of}
 use Rattle.ccr_pipeline.proofs.Inside.{EachItem, OwnSteps}
 use Rattle.ccr_pipeline.proofs.Kept.{Holds, Leaves, action-kept}
 use Rattle.ccr_pipeline.proofs.PrintedLeaves.{texts_again, get_again, put_again, task_again}

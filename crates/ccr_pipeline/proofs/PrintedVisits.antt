@@ -12,7 +12,7 @@ use Rattle.ccr_pipeline.specs.declared.step.When.{When}
 use Rattle.ccr_pipeline.specs.declared.step.When.TheVariants.{OnSuccess, OnFailure, OnError, OnAbort, Ensure}
 use Rattle.ccr_pipeline.specs.declared.walk.TheConstants.{LEVELS}
 use Rattle.ccr_pipeline.specs.Faults.{Path, Faults, unless}
-use Rattle.ccr_pipeline.specs.Hooks.{hook_key}
+use Rattle.ccr_pipeline.specs.Tree.{hook_key, Text, GetData, PutData, SourceData, config, file, TaskData, Tree, Trees, get, put, task, in_order, in_parallel, tried, attempts, hook, no_trees, trees_of}
 use Rattle.ccr_pipeline.specs.Keys.{at_key, or_else, unless_null, items_in, list_at, path_below, path_at}
 use Rattle.ccr_pipeline.specs.Meaning.{get_from, put_from, task_from}
 use Rattle.ccr_pipeline.specs.Names.{names_at}
@@ -22,7 +22,6 @@ use Rattle.ccr_pipeline.specs.Places.{Opening, Closing, Spot, spot_of, gets_at, 
 use Rattle.ccr_pipeline.specs.Printed.{Around, alone, get_value, put_value, task_value, printed, printed_each, job_value}
 use Rattle.ccr_pipeline.specs.StepRules.{own_keys, depth_faults, undone_faults, shape_faults, kind_faults, opening_faults, no_count, parallel_rest, closing_faults, visits}
 use Rattle.ccr_pipeline.specs.Steps.{each_tree, parallel_items, holder, action, step_tree}
-use Rattle.ccr_pipeline.specs.Tree.{Text, GetData, PutData, SourceData, config, file, TaskData, Tree, Trees, get, put, task, in_order, in_parallel, tried, attempts, hook, no_trees, trees_of}
 use Rattle.ccr_pipeline.specs.Unknown.{unknown_resource, unknown_passed, unknown_names, unknown_spots}
 use Rattle.ccr_pipeline.proofs.Joined.{both_nil}
 use Rattle.ccr_pipeline.proofs.Kept.{of_kind, holder_of}

@@ -7,12 +7,11 @@ use Rattle.ccr_pipeline.specs.declared.schema.Kind.TheVariants as kind
 use Rattle.ccr_pipeline.specs.declared.schema.Schema.TheVariants as schema
 use Rattle.ccr_pipeline.specs.declared.step.When.{When}
 use Rattle.ccr_pipeline.specs.declared.step.When.TheVariants.{OnSuccess, OnFailure, OnError, OnAbort, Ensure}
-use Rattle.ccr_pipeline.specs.Hooks.{hook_key}
+use Rattle.ccr_pipeline.specs.Tree.{hook_key, Tree, get, put, task, in_order, in_parallel, tried, hook, no_trees, trees_of, SourceData, config}
 use Rattle.ccr_pipeline.specs.Keys.{at_key, or_else, items_in, list_at}
 use Rattle.ccr_pipeline.specs.Meaning.{truth_from, run_of, inputs_in, outputs_in, config_from, source_from, task_from, get_from, put_from}
 use Rattle.ccr_pipeline.specs.Plans.{plan_from}
 use Rattle.ccr_pipeline.specs.Steps.{with_hook, with_hooks, each_tree, parallel_items, holder, action, step_tree}
-use Rattle.ccr_pipeline.specs.Tree.{Tree, get, put, task, in_order, in_parallel, tried, hook, no_trees, trees_of, SourceData, config}
 use Rattle.ccr_pipeline.specs.Used.{kind_at, used, used_items}
 use Rattle.ccr_pipeline.proofs.Joined.{none_of}
 use Rattle.ccr_pipeline.proofs.UsedKeys.{at_unused, at_used, at_same, step_object, items_used, steps_used, list_used}

@@ -7,7 +7,7 @@ use Rattle.ccr_pipeline.specs.declared.schema.Schema.{Schema}
 use Rattle.ccr_pipeline.specs.declared.schema.Schema.TheVariants as schema
 use Rattle.ccr_pipeline.specs.declared.step.When.{When}
 use Rattle.ccr_pipeline.specs.declared.step.When.TheVariants.{OnSuccess, OnFailure, OnError, OnAbort, Ensure}
-use Rattle.ccr_pipeline.specs.Hooks.{hook_key}
+use Rattle.ccr_pipeline.specs.Tree.{hook_key}
 use Rattle.ccr_pipeline.specs.Keys.{at_key, or_else, items_in, list_at}
 use Rattle.ccr_pipeline.specs.Schema.{schema_of}
 use Rattle.ccr_pipeline.specs.Used.{kind_at, used, used_items}

@@ -62,3 +62,7 @@ names_in (item d ds) = names_at (codes "name") d ++ names_in ds
 -- the names of the members of the list at a key
 abbrev pub list_names : List ℕ → Data → List (List ℕ)
 list_names k d = names_in (list_at k d)
+
+-- a task file is a config
+unfoldable pub config_faults : Path → Data → Faults
+config_faults p d = object_faults (value_faults NESTED) [] schema.Config p d

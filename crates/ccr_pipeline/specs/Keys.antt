@@ -6,6 +6,8 @@ use Rattle.ccr_pipeline.specs.declared.place.Place.{Place}
 use Rattle.ccr_pipeline.specs.declared.place.Place.TheOpen.{Place-F}
 use Rattle.ccr_pipeline.specs.declared.place.Place.TheFolds.{fold-Place}
 use Rattle.ccr_pipeline.specs.Faults.{Path}
+use Rattle.serde_json.specs.View.{view}
+use Rattle.ccr_pipeline.specs.declared.cursor.Cursor.{Cursor}
 
 -- the value, unless it is null
 abbrev pub unless_null : Data → Option Data
@@ -46,3 +48,15 @@ path_step (Place-F.Member above i) = path_at above.now i
 -- the path of a place
 unfoldable pub path_of : Place → Path
 path_of = fold-Place Path path_step
+
+-- the value that a cursor is at
+abbrev pub data_of : Cursor → Data
+data_of c = view c.value.now
+
+-- the path of its place
+abbrev pub path_to : Cursor → Path
+path_to c = path_of c.place
+
+-- a word of a path and a value, of those of a cursor
+abbrev pub here : {A : Type 0} → (Path → Data → A) → Cursor → A
+here f c = f (path_of c.place) (view c.value.now)

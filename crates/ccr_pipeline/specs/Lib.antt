@@ -1,14 +1,11 @@
 pub mod Faults
 pub mod Keys
-pub mod Cursors
 pub mod Schema
 pub mod Kinds
 pub mod Names
 pub mod Objects
 pub mod Places
-pub mod TaskRules
 pub mod StepRules
-pub mod Hooks
 pub mod Tree
 pub mod Meaning
 pub mod Steps

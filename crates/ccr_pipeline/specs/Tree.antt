@@ -1,5 +1,5 @@
 -- What the types of this crate hold, without where it lies in memory.
-use Rattle.std.specs.Prelude.{ℕ, Bool, List, [], ◌∷◌, ◌++◌, Option, map, option_map, string_bytes}
+use Rattle.std.specs.Prelude.{ℕ, Bool, List, [], ◌∷◌, ◌++◌, Option, map, option_map, string_bytes, codes}
 use Rattle.serde_json.specs.Data.{Data}
 use Rattle.ccr_history.specs.ObjectData.{object_data}
 use Rattle.ccr_history.specs.TextMap.{TextMap}
@@ -18,6 +18,7 @@ use Rattle.ccr_pipeline.specs.declared.step.When.{When}
 use Rattle.ccr_pipeline.specs.declared.step.Step.{Step}
 use Rattle.ccr_pipeline.specs.declared.step.Step.TheOpen.{Step-F}
 use Rattle.ccr_pipeline.specs.declared.step.Step.TheFolds.{fold-Step}
+use Rattle.ccr_pipeline.specs.declared.step.When.TheVariants.{OnSuccess, OnFailure, OnError, OnAbort, Ensure}
 
 -- the bytes of a text
 abbrev pub Text : Type 0
@@ -188,3 +189,11 @@ abbrev mutual
   pub gathered_in : (Tree → List Text) → Trees → List Text
   gathered_in f no_trees = []
   gathered_in f (tree t ts) = gathered f t ++ gathered_in f ts
+
+-- the key under which a step has a hook
+abbrev pub hook_key : When → List ℕ
+hook_key OnSuccess = codes "on_success"
+hook_key OnFailure = codes "on_failure"
+hook_key OnError = codes "on_error"
+hook_key OnAbort = codes "on_abort"
+hook_key Ensure = codes "ensure"

@@ -1,9 +1,8 @@
 //! The tests of steps.
 ghost use Rattle.std.specs.Prelude.{◌≡◌, ◌++◌, codes, is_some, count_by, OnOk};
 ghost use Rattle.serde_json.specs.View.{view};
-ghost use Rattle.ccr_pipeline.specs.Cursors.{data_of, path_to, here};
+ghost use Rattle.ccr_pipeline.specs.Keys.{data_of, path_to, here, at_key};
 ghost use Rattle.ccr_pipeline.specs.Faults.{Checks};
-ghost use Rattle.ccr_pipeline.specs.Keys.{at_key};
 ghost use Rattle.ccr_pipeline.specs.Names.{names_at};
 ghost use Rattle.ccr_pipeline.specs.Schema.{opening, closing, schema_of};
 ghost use Rattle.ccr_pipeline.specs.StepRules.{kinds, shape_faults, kind_faults, opening_faults};

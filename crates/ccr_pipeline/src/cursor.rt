@@ -1,8 +1,7 @@
 //! A value of the text, and where it stands.
 ghost use Rattle.std.specs.Prelude.{◌≡◌, option_map, IfSome};
 ghost use Rattle.serde_json.specs.View.{view};
-ghost use Rattle.ccr_pipeline.specs.Cursors.{data_of, path_to};
-ghost use Rattle.ccr_pipeline.specs.Keys.{at_key, path_below, path_at};
+ghost use Rattle.ccr_pipeline.specs.Keys.{data_of, path_to, at_key, path_below, path_at};
 
 use crate::key::at_key;
 use crate::place::Place;

@@ -2,9 +2,8 @@
 ghost use Rattle.std.specs.Prelude.{◌≡◌};
 ghost use Rattle.std.specs.List.{list_all};
 ghost use Rattle.serde_json.specs.View.{items_view, members_view};
-ghost use Rattle.ccr_pipeline.specs.Cursors.{here};
+ghost use Rattle.ccr_pipeline.specs.Keys.{here, path_of};
 ghost use Rattle.ccr_pipeline.specs.Faults.{Checks};
-ghost use Rattle.ccr_pipeline.specs.Keys.{path_of};
 ghost use Rattle.ccr_pipeline.specs.Kinds.{is_name, is_name_byte, broken_texts, broken_pin, is_empty};
 ghost use Rattle.ccr_pipeline.specs.Objects.{broken};
 

@@ -3,11 +3,10 @@ ghost use Rattle.std.specs.Prelude.{◌≡◌, ◌++◌, ◌∷◌, [], None, ma
 ghost use Rattle.serde_json.specs.Events.{items_len};
 ghost use Rattle.serde_json.specs.Find.{get_member};
 ghost use Rattle.serde_json.specs.View.{view, items_view, members_view};
-ghost use Rattle.ccr_pipeline.specs.Cursors.{data_of, here};
+ghost use Rattle.ccr_pipeline.specs.Keys.{data_of, here, at_key, list_at};
 ghost use Rattle.ccr_pipeline.specs.Faults.{Checks, ChecksAs};
 ghost use Rattle.ccr_pipeline.specs.JobData.{resource_data};
 ghost use Rattle.ccr_pipeline.specs.JobRules.{resource_faults, members, list_rule, names_in, list_names};
-ghost use Rattle.ccr_pipeline.specs.Keys.{at_key, list_at};
 ghost use Rattle.ccr_pipeline.specs.Names.{names_at, names_of, with_names};
 ghost use Rattle.ccr_pipeline.specs.Notes.{notes_data, IsBefore};
 ghost use Rattle.ccr_pipeline.specs.Pipelines.{resource_from, resources_in, resources_from, IsResource};

@@ -1,6 +1,6 @@
 //! What is noted of jobs while they are read, and told once all of them are.
 ghost use Rattle.std.specs.Prelude.{◌≡◌, None, OnOk, IfOk, IfErr};
-ghost use Rattle.ccr_pipeline.specs.Cursors.{here};
+ghost use Rattle.ccr_pipeline.specs.Keys.{here};
 ghost use Rattle.ccr_pipeline.specs.Faults.{fault_of};
 ghost use Rattle.ccr_pipeline.specs.Names.{names_of as texts_of};
 ghost use Rattle.ccr_pipeline.specs.Notes.{notes_data, with_step};

@@ -1,9 +1,8 @@
 //! The tests of objects, key by key in the order of their tables.
 ghost use Rattle.std.specs.Prelude.{◌≡◌, ◌++◌, [], OnOk};
 ghost use Rattle.serde_json.specs.View.{view};
-ghost use Rattle.ccr_pipeline.specs.Cursors.{data_of, path_to, here};
+ghost use Rattle.ccr_pipeline.specs.Keys.{data_of, path_to, here, items_in, path_of};
 ghost use Rattle.ccr_pipeline.specs.Faults.{Checks};
-ghost use Rattle.ccr_pipeline.specs.Keys.{items_in, path_of};
 ghost use Rattle.ccr_pipeline.specs.Names.{text_at};
 ghost use Rattle.ccr_pipeline.specs.Objects.{absent, once, once_names, row_names, new_names, row_faults};
 ghost use Rattle.ccr_pipeline.specs.Objects.{key_faults, object_faults, each_object, own_name, inside, value_faults};

@@ -1,12 +1,11 @@
 //! Jobs, checked and built together.
 ghost use Rattle.std.specs.Prelude.{◌≡◌, ◌++◌, ◌+◌, ◌∷◌, [], length, map, codes, string_bytes, IfOk, OnOk};
 ghost use Rattle.serde_json.specs.View.{view, items_view};
-ghost use Rattle.ccr_pipeline.specs.Cursors.{data_of, path_to, here};
+ghost use Rattle.ccr_pipeline.specs.Keys.{data_of, path_to, here, path_at};
 ghost use Rattle.ccr_pipeline.specs.Faults.{Checks, ChecksAs};
 ghost use Rattle.ccr_pipeline.specs.Inputs.{are_few, input_data, inputs, named_jobs};
 ghost use Rattle.ccr_pipeline.specs.JobData.{job_data};
 ghost use Rattle.ccr_pipeline.specs.JobRules.{too_many, after_plan, job_rest, job_faults, members};
-ghost use Rattle.ccr_pipeline.specs.Keys.{path_at};
 ghost use Rattle.ccr_pipeline.specs.Names.{names_at, with_names};
 ghost use Rattle.ccr_pipeline.specs.Notes.{notes_data, with_visits};
 ghost use Rattle.ccr_pipeline.specs.Pipelines.{job_from, jobs_in, IsJob};

@@ -5,12 +5,11 @@ ghost use Rattle.serde_json.specs.Read.{read as json};
 ghost use Rattle.serde_json.specs.View.{view};
 ghost use Rattle.ccr_pipeline.specs.Breaches.{OfLimits};
 ghost use Rattle.ccr_pipeline.specs.Faults.{Checks, fault_of};
-ghost use Rattle.ccr_pipeline.specs.JobRules.{members};
+ghost use Rattle.ccr_pipeline.specs.JobRules.{members, config_faults};
 ghost use Rattle.ccr_pipeline.specs.Meaning.{config_from};
 ghost use Rattle.ccr_pipeline.specs.Pipelines.{pipeline_data, IsPipelineOf};
 ghost use Rattle.ccr_pipeline.specs.Reading.{pipeline_faults, IsTextOf, IsNoValue, Refuses, IsReading};
 ghost use Rattle.ccr_pipeline.specs.Reordered.{IsReordering};
-ghost use Rattle.ccr_pipeline.specs.TaskRules.{config_faults};
 ghost use Rattle.ccr_pipeline.specs.Tree.{config_data};
 ghost use Rattle.ccr_pipeline.specs.Unused.{unused_in};
 ghost use Rattle.ccr_pipeline.specs.Used.{used_pipeline};
@@ -94,7 +93,7 @@ pub fn read(alloc: Global, text: &[u8]) -> Result<Pipeline, ReadFault>
 ///
 /// `TooLong` above 1,048,576 bytes, `NotJson` where the bytes are no JSON value, both at `task`; else the first fault
 /// that is present in the value, at a path that begins with `task`. `NoMemory` where a growth was refused.
-#[tactic(auto, unfolding(crate::specs::TaskRules::config_faults))]
+#[tactic(auto, unfolding(crate::specs::JobRules::config_faults))]
 pub fn read_task(alloc: Global, text: &[u8]) -> Result<TaskConfig, ReadFault>
     // The text is a JSON value in which no fault is present, and the config has its keys.
     ensures ok { IfOk result (λ c. IsReading (config_faults (codes "task")) text.now

@@ -1,6 +1,6 @@
 //! The steps of a plan.
 ghost use Rattle.std.specs.Prelude.{◌≡◌};
-ghost use Rattle.ccr_pipeline.specs.Hooks.{hook_key};
+ghost use Rattle.ccr_pipeline.specs.Tree.{hook_key};
 
 use crate::task::Task;
 use ccr_history::{Object, Pin};

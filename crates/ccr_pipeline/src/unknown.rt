@@ -1,9 +1,8 @@
 //! The names that steps mention: of resources, and of jobs.
 ghost use Rattle.std.specs.Prelude.{◌≡◌, IfOk};
 ghost use Rattle.serde_json.specs.View.{view, items_view};
-ghost use Rattle.ccr_pipeline.specs.Cursors.{here};
+ghost use Rattle.ccr_pipeline.specs.Keys.{here, at_key, list_at, path_of};
 ghost use Rattle.ccr_pipeline.specs.Faults.{first};
-ghost use Rattle.ccr_pipeline.specs.Keys.{at_key, list_at, path_of};
 ghost use Rattle.ccr_pipeline.specs.Names.{text_at};
 ghost use Rattle.ccr_pipeline.specs.Notes.{told};
 ghost use Rattle.ccr_pipeline.specs.Unknown.{name_key, unknown_resource, unknown_texts, unknown_passed, unknown_names};

@@ -1,7 +1,6 @@
 //! The keys that have no effect.
 ghost use Rattle.std.specs.Prelude.{◌≡◌, ◌++◌, OnOk, IfOk};
-ghost use Rattle.ccr_pipeline.specs.Cursors.{data_of, path_to, here};
-ghost use Rattle.ccr_pipeline.specs.Keys.{items_in, path_of};
+ghost use Rattle.ccr_pipeline.specs.Keys.{data_of, path_to, here, items_in, path_of};
 ghost use Rattle.ccr_pipeline.specs.Names.{names_of as texts_of};
 ghost use Rattle.ccr_pipeline.specs.Schema.{opening, has_key, schema_of};
 ghost use Rattle.ccr_pipeline.specs.Unused.{unused_object, unused_value, unused_items, unused_own, IsSortedOnce};

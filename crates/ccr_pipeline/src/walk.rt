@@ -1,8 +1,7 @@
 //! The walk over the steps of a job: each is tested, and what is told after all jobs is noted.
 ghost use Rattle.std.specs.Prelude.{◌≡◌, ◌-◌, [], codes};
 ghost use Rattle.serde_json.specs.View.{view};
-ghost use Rattle.ccr_pipeline.specs.Cursors.{data_of, path_to, here};
-ghost use Rattle.ccr_pipeline.specs.Keys.{at_key, or_else, path_below};
+ghost use Rattle.ccr_pipeline.specs.Keys.{data_of, path_to, here, at_key, or_else, path_below};
 ghost use Rattle.ccr_pipeline.specs.Notes.{Walks};
 ghost use Rattle.ccr_pipeline.specs.Places.{counted, tries_below, steps_from, steps_in, step_at, own_steps, hook_steps};
 

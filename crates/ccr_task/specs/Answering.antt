@@ -5,7 +5,7 @@ use Rattle.ccr_history.specs.TextMap.{TextMap}
 use Rattle.ccr_pipeline.specs.Faults.{fault_of}
 use Rattle.ccr_pipeline.specs.Meaning.{config_from}
 use Rattle.ccr_pipeline.specs.Reading.{IsReading, Refuses}
-use Rattle.ccr_pipeline.specs.TaskRules.{config_faults}
+use Rattle.ccr_pipeline.specs.JobRules.{config_faults}
 use Rattle.ccr_pipeline.specs.Tree.{ConfigData}
 use Rattle.ccr_pipeline.specs.declared.fault.ReadFault.{ReadFault}
 use Rattle.ccr_steps.specs.Asks.{AskData, fetch, push, read_config, run_task, AnswerData, done, pushed, configured, failed, errored}

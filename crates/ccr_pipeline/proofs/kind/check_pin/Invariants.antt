@@ -1,6 +1,6 @@
 use Rattle.std.proofs.Common.{◌≡◌}
 use Rattle.serde_json.specs.View.{members_view}
-use Rattle.ccr_pipeline.specs.Cursors.{data_of, path_to}
+use Rattle.ccr_pipeline.specs.Keys.{data_of, path_to}
 use Rattle.ccr_pipeline.specs.Kinds.{broken_fields, broken_pin}
 use Rattle.ccr_pipeline.proofs.kind.check_pin.Given as goal
 

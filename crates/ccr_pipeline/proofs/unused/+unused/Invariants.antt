@@ -1,7 +1,6 @@
 use Rattle.std.proofs.Common.{◌≡◌, ◌+◌, ◌-◌, ◌*◌, ◌++◌, drop}
 use Rattle.ccr_history.proofs.Items.{left}
-use Rattle.ccr_pipeline.specs.Cursors.{data_of, path_to}
-use Rattle.ccr_pipeline.specs.Keys.{items_in}
+use Rattle.ccr_pipeline.specs.Keys.{data_of, path_to, items_in}
 use Rattle.ccr_pipeline.specs.Names.{names_of}
 use Rattle.ccr_pipeline.specs.Schema.{opening, rows}
 use Rattle.ccr_pipeline.specs.Unused.{unused_object, unused_rows, unused_items}

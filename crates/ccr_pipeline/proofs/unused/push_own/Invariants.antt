@@ -1,6 +1,6 @@
 use Rattle.std.proofs.Common.{◌≡◌, ◌++◌}
 use Rattle.serde_json.specs.View.{members_view}
-use Rattle.ccr_pipeline.specs.Cursors.{data_of, path_to}
+use Rattle.ccr_pipeline.specs.Keys.{data_of, path_to}
 use Rattle.ccr_pipeline.specs.Names.{names_of}
 use Rattle.ccr_pipeline.specs.Unused.{unused_members, unused_own}
 use Rattle.ccr_pipeline.proofs.unused.push_own.Given as goal

@@ -1,7 +1,7 @@
 use Rattle.std.proofs.Common.{◌+◌, ◌*◌}
 use Rattle.serde_json.specs.View.{items_view}
 use Rattle.ccr_history.proofs.Items.{left}
-use Rattle.ccr_pipeline.specs.Cursors.{path_to}
+use Rattle.ccr_pipeline.specs.Keys.{path_to}
 use Rattle.ccr_pipeline.specs.Notes.{notes_data}
 use Rattle.ccr_pipeline.specs.Places.{each_step, steps_from}
 use Rattle.ccr_pipeline.proofs.Visits.{Goes}
