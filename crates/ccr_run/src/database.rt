@@ -4,7 +4,7 @@ ghost use Rattle.sqlite.specs.Files.{file_state, IsOpened};
 ghost use Rattle.sqlite.specs.Held.{state};
 ghost use Rattle.sqlite.specs.State.{HasCleanDisk};
 ghost use Rattle.ccr_core.specs.Resumed.{IsReadable};
-ghost use Rattle.ccr_run.specs.Databases.{holds, knows};
+ghost use Rattle.ccr_run.specs.Databases.{holds};
 ghost use Rattle.ccr_run.specs.Served.{KeepsFromServing};
 
 use crate::failure::Failure;
@@ -56,23 +56,20 @@ impl<S: Alter + Drop> Database<S> {
     pub fn load(alloc: Global, conn: Connection<S>) -> Result<(Database<S>, History), StoreFault>
         requires { (state S.Store conn).in_transaction ≡ false }
         ensures holds { IfOk result (λ loaded. holds S.Store loaded.0 loaded.1) }
-        ensures knows { IfOk result (λ loaded. knows loaded.0 loaded.1) }
         ensures found { IfOk result (λ loaded. loaded.0.found.value ≡ conn) }
         ensures readable { IfOk result (λ loaded. IfSome loaded.1.text IsReadable) }
     {
         let found = Snapshot::of(&conn);
-        let mut store = Store::adopt(alloc, conn)?;
+        let mut store = Store::adopt(conn)?;
         let history = store.load(alloc)?;
         Ok((Database { store, found }, history))
     }
 }
 
 impl<S: Alter> Storage for Database<S> {
-    ghost use Rattle.ccr_run.specs.Databases.{holds, knows, tally};
+    ghost use Rattle.ccr_run.specs.Databases.{holds, tally};
 
     ghost holds = { λ database h. holds S.Store database h };
-
-    ghost knows = { knows };
 
     ghost tally = { tally };
 
