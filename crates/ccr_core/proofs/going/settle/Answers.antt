@@ -18,8 +18,7 @@ pub returns-clause-change : goal.returns-clause-change
 returns-clause-change c =
     let h = c.args.history.now in
     let fits = pairs_fit (pipeline_data c.args.pipeline.now) c.args.history.now (run_data c.args.run.now) c.in_ok-outcome.field-0.outcome c.in_ok-outcome.field-0.pairs.items c.requires.fits c.in_ok-outcome.ensures.stands in
-    changes_so c.in_ok-outcome.field-0.edits.items h c.finish.new.history
-    (
+    changes_so c.in_ok-outcome.field-0.edits.items h c.finish.new.history (
       subst (TakesAll h) (sym c.in_ok-outcome.ensures.edits) (end_taken h c.args.job.now c.args.number c.in_ok-outcome.field-0.outcome c.in_ok-outcome.field-0.pairs.items c.requires.running fits),
       ap (λ l. changed l h) c.in_ok-outcome.ensures.edits ∙ sym c.finish.ensures,
     )

@@ -13,8 +13,7 @@ cut_all-requires c =
 
 pub returns-clause-change : goal.returns-clause-change
 returns-clause-change c =
-    changes_so _ c.args.history.now c.cut_all.new.history
-    (
+    changes_so _ c.args.history.now c.cut_all.new.history (
       subst (TakesAll c.args.history.now) (sym c.in_ok-names.ensures.change) (all_cut c.args.history.now c.rules.ensures.1.1),
       ap (λ es. changed es c.args.history.now) c.in_ok-names.ensures.change
           ∙ sym (c.cut_all.ensures ∙ ap (λ l. changed (map cut_name (map name_data l)) c.args.history.now) c.deref.ensures.value ∙ ap (λ ns. changed (map cut_name ns) c.args.history.now) c.in_ok-names.ensures.names),
