@@ -61,7 +61,8 @@ impl<S: Alter + Drop> Database<S> {
         ensures kept { IfOk result (λ loaded. ((these : Contents) → Holds these (state S.Store store.conn).now
             → IsKept S.Store loaded.0.store loaded.1)
             × (HasCleanDisk (state S.Store loaded.0.store.conn)
-            → HasCleanDisk (state S.Store store.conn) × IsTrue (state S.Store store.conn).is_open)) }
+            → HasCleanDisk (state S.Store store.conn) × IsTrue (state S.Store store.conn).is_open)
+            × (loaded.0.found ≡ found)) }
         ensures found { IfOk result (λ loaded. loaded.0.found ≡ found) }
         ensures readable { IfOk result (λ loaded. IfSome loaded.1.text IsReadable) }
     {
