@@ -4,11 +4,13 @@ use Rattle.std.specs.Prelude.{Contains, Any}
 use Rattle.std.specs.List.{list_any}
 use Rattle.std.proofs.lemmas.Bool.{and_parts, and_from, cases_Bool, cond-true, cond-false, eq-eqb, eqb-true, ne_eqb}
 use Rattle.std.proofs.lemmas.List.{get_or_default}
+use Rattle.std.proofs.lemmas.Nat.{mul-le}
 use Rattle.std.proofs.Math.Nat.{mul-le-mul_left, mul_left_comm}
 use Rattle.ccr_choice.specs.Problem.{ProblemValue, BuildValue}
 use Rattle.ccr_choice.specs.Dominated.{IsNamedIn, IsDominated}
 use Rattle.ccr_choice.proofs.Members.{contains_none, contains_first, contains_later, contains_cases, tests_any, tests_contains, same_number}
 use Rattle.ccr_resolve.specs.Kinds.{is_named_in, counting, are_equal, kinds_after, kinds_from, repeats_from, product_of}
+use Rattle.ccr_resolve.specs.Room.{product}
 use Rattle.ccr_resolve.specs.Search.{free_kinds}
 
 -- ---- builds with the same pairs that count dominate each other
@@ -167,3 +169,24 @@ kinds_whole k m own d most B few wide one used =
 
 pub kinds_more : (k m n own B : ℕ) → m + own ≤ k + own * B → n ≤ B → m + n + (own + 1) ≤ (k + 1) + (own + 1) * B
 kinds_more k m n own B h l = let e : (own + 1) * B ≡ own * B + B = omega arith in omega (arith, h, l, e)
+
+-- ---- kinds are no more than builds
+kinds_length : (p : ProblemValue) (j : ℕ) (before bs : List BuildValue) → kinds_after p j before bs ≤ length bs
+kinds_length p j before [] = omega arith
+kinds_length p j before (b ∷ bs) =
+    let rest = kinds_length p j (b ∷ before) bs in
+    let test = list_any (λ c. are_equal (counting p j b) (counting p j c)) before in
+    elim (cases_Bool test) [
+      | inl e ↦ (let old = cond-true {A = ℕ} test 0 1 e in omega (arith, rest, old))
+      | inr e ↦ (let new = cond-false {A = ℕ} test 0 1 e in omega (arith, rest, new))
+    ]
+
+pub kinds_few : (p : ProblemValue) (jobs : List (List BuildValue)) (n : ℕ) → product_of (kinds_from p n jobs) ≤ product jobs
+kinds_few p [] n = omega arith
+kinds_few p (job ∷ jobs) n =
+    let k = kinds_after p n [] job in
+    mul-le (1 + k) (product_of (kinds_from p (n + 1) jobs)) (1 + length job) (product jobs) (let few = kinds_length p n [] job in omega (arith, few)) (kinds_few p jobs (n + 1))
+
+-- the kinds of job j
+pub kinds_here : (p : ProblemValue) (j : ℕ) → j < length p.jobs → slice_index (kinds_from p 0 p.jobs) j ≡ kinds_after p j [] (slice_index_or p.jobs j [])
+kinds_here p j inside = let here : 0 + j ≡ j = omega arith in kinds_at p p.jobs 0 j inside ∙ ap (λ i. kinds_after p i [] (slice_index_or p.jobs j [])) here

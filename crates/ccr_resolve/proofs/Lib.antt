@@ -9,3 +9,4 @@ pub mod UpperLaws
 pub mod SoughtLaws
 pub mod WantedLaws
 pub mod DominatorLaws
+pub mod OnceLaws

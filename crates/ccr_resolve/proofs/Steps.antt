@@ -589,15 +589,10 @@ pub room_over_found : (prefers : Preference) (p : ProblemValue) (budget n : ℕ)
     → IsNeeded prefers p (replicate n 0) best (budget + 1) → IsBelowRoom prefers p budget
 room_over_found prefers p budget n best fits some needed = record {
   product = (let h = needed.product in omega (arith, h, product_empty p.jobs n));
+  kinds = (let same = ap (λ x. (1 + repeats_from p 0 p.jobs) * x) (kinds_empty (kinds_from p 0 p.jobs) n) in let h = needed.kinds in omega (arith, h, same));
   fitting = λ top. absurd (fits top);
   lacking = λ i none. absurd (some i none);
 }
-
--- and so is the bound where builds that the inputs see as one are gone into once
-pub kinds_over_found : (prefers : Preference) (p : ProblemValue) (budget n : ℕ) (best : Option (List ℕ)) → IsNeeded prefers p (replicate n 0) best (budget + 1) → budget < kinds_bound p
-kinds_over_found prefers p budget n best needed =
-    let same = ap (λ x. (1 + repeats_from p 0 p.jobs) * x) (kinds_empty (kinds_from p 0 p.jobs) n) in
-    let all = needed.kinds in omega (arith, all, same)
 
 -- what was found in the end
 pub found_in : (prefers : Preference) (p : ProblemValue) (table : List ℕ) (before after : Option ChoiceValue) (room left : ℕ) (o : Option Node) (c : Node) (choice : ChoiceValue)

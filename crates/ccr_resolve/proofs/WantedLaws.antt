@@ -1,9 +1,9 @@
 -- Which builds can be part of a choice that is better than the one found.
-use Rattle.std.proofs.Common.{◌≡◌, ◌≢◌, ℕ, ◌+◌, ◌-◌, ◌<◌, ◌≤◌, inl, inr, true, ◌==◌, List, [], ◌∷◌, ◌++◌, length, length-append, All, drop, slice_index, slice_index_or, slice_set, refl, sym, ap, ◌∙◌, subst, arith, Option, Some, None}
+use Rattle.std.proofs.Common.{◌≡◌, ◌≢◌, ◌↔◌, ℕ, ◌+◌, ◌-◌, ◌<◌, ◌≤◌, inl, inr, true, ◌==◌, List, [], ◌∷◌, ◌++◌, length, length-append, All, drop, slice_index, slice_index_or, slice_set, refl, sym, ap, ◌∙◌, subst, arith, Option, Some, None}
 use Rattle.std.specs.Prelude.{Contains, Any, MatchOption, unwrap_or, slice_get}
 use Rattle.std.proofs.lemmas.Bool.{cases_Bool, cases_lt, cond-true, cond-false, eq-eqb, eqb-true, ltb-true, lt-ltb}
 use Rattle.std.proofs.lemmas.List.{get_or_default, get_or-drop, length-drop}
-use Rattle.std.proofs.lemmas.List.Elements.{All-append, All-cons, All-nil, Contains-append_left, Contains-append_right}
+use Rattle.std.proofs.lemmas.List.Elements.{All-contains, All-append, All-cons, All-nil, Contains-append_left, Contains-append_right}
 use Rattle.std.proofs.lemmas.Option.{get_or_from_slice_get}
 use Rattle.ccr_choice.specs.Problem.{ProblemValue, BuildValue, is_problem, input_at, builds_at}
 use Rattle.ccr_choice.specs.Satisfies.{Satisfies}
@@ -18,7 +18,7 @@ use Rattle.ccr_proof.proofs.Sound.{AreKnown, place_possible}
 use Rattle.ccr_index.specs.Rows.{no_build, last_with}
 use Rattle.ccr_index.proofs.RowLaws.{last_within, last_has, none_newer}
 use Rattle.ccr_resolve.specs.Search.{AreUpper}
-use Rattle.ccr_resolve.specs.Sought.{IsRuledOut, HasAll, HasAllOf, AreWanted, AreSources, IsSplit}
+use Rattle.ccr_resolve.specs.Sought.{IsRuledOut, AreDistinct, HasAll, HasAllOf, AreWanted, AreSources, IsSplit, IsSplitOnce}
 use Rattle.ccr_resolve.proofs.Path.{known_of}
 
 -- ---- from a build with a pair to the next older one
@@ -132,16 +132,23 @@ places_end bs bs' scope scope' from to step most list e f within few fits all la
 
 -- all builds of a job
 pub full_split : (p : ProblemValue) (table : List ℕ) (best : Option (List ℕ)) (job : ℕ) (list : List ℕ) → job < length p.jobs → slice_index table job ≡ 0
-    → length list ≡ length (builds_at p job) → ((k : ℕ) → k < length (builds_at p job) → slice_index list k ≡ k) → IsSplit p table best job list
+    → length list ≡ length (builds_at p job) → ((k : ℕ) → k < length (builds_at p job) → slice_index list k ≡ k) → IsSplitOnce p table best job list
 full_split p table best job list inside free long each = record {
-  inside = inside;
-  free = free;
-  few = omega (arith, long);
-  within = λ k d within. let is = get_or_default list k d 0 within in let at = each k (omega (arith, within, long)) in omega (arith, is, at, within, long);
-  left_out = λ k b within got out.
-      let here : k < length list = omega (arith, within, long) in
-      absurd (out (k, here, get_or_default list k k 0 here ∙ each k within));
+  split = full_one p table best job list inside free long each;
+  distinct = λ a b less within same. let one = each a (omega (arith, less, within, long)) in let two = each b (omega (arith, within, long)) in omega (arith, less, same, one, two);
 }
+  where
+    full_one : (p : ProblemValue) (table : List ℕ) (best : Option (List ℕ)) (job : ℕ) (list : List ℕ) → job < length p.jobs → slice_index table job ≡ 0
+        → length list ≡ length (builds_at p job) → ((k : ℕ) → k < length (builds_at p job) → slice_index list k ≡ k) → IsSplit p table best job list
+    full_one p table best job list inside free long each = record {
+      inside = inside;
+      free = free;
+      few = omega (arith, long);
+      within = λ k d within. let is = get_or_default list k d 0 within in let at = each k (omega (arith, within, long)) in omega (arith, is, at, within, long);
+      left_out = λ k b within got out.
+          let here : k < length list = omega (arith, within, long) in
+          absurd (out (k, here, get_or_default list k k 0 here ∙ each k within));
+    }
 
 -- ---- the places that a better choice can have
 no_better_of : (p : ProblemValue) (a : Assignment) (i place upper : ℕ) (o : Option ℕ) → IsBestPossible plain p a i o → upper ≡ unwrap_or o 0 → IsPossible p a i place → place ≤ upper
@@ -262,3 +269,19 @@ pairs_next bs scope pairs most k list list' so within few kept new = record {
 
 pub pairs_end : (bs : List BuildValue) (scope : ℕ) (pairs : List (ℕ × ℕ)) (most k : ℕ) (list : List ℕ) → ArePairsWalked bs scope pairs most k list → k ≡ 0 → HasAllOf bs scope pairs list
 pairs_end bs scope pairs most k list so e place h = so.done place h.0 (omega (arith, e)) h.1 (get_or_default pairs h.0 (0, 0) (scope, place) h.1 ∙ h.2)
+
+-- ---- each build once
+pub split_once : (p : ProblemValue) (table : List ℕ) (best : Option (List ℕ)) (job : ℕ) (list once : List ℕ) → length once ≤ length list → AreDistinct once → ((k : ℕ) → Contains once k ↔ Contains list k)
+    → IsSplit p table best job list → IsSplitOnce p table best job once
+split_once p table best job list once few distinct same so = record {
+  split = record {
+    inside = so.inside;
+    free = so.free;
+    few = omega (arith, few, so.few);
+    within = λ i d within.
+        let x = slice_index_or once i d in
+        All-contains (λ k. k < length (builds_at p job)) list x so.within ((same x).0 (i, within, get_or_default once i x d within));
+    left_out = λ k b within got out. so.left_out k b within got (λ h. out ((same k).1 h));
+  };
+  distinct = distinct;
+}

@@ -6,6 +6,7 @@ use Rattle.ccr_choice.specs.Preference.{Preference}
 use Rattle.ccr_choice.specs.Assignment.{nothing_fixed}
 use Rattle.ccr_choice.specs.Possible.{AreBestPlaces}
 use Rattle.ccr_proof.specs.Refutes.{HasNoPlace}
+use Rattle.ccr_resolve.specs.Kinds.{kinds_bound}
 
 -- The number of all successful builds of the named jobs.
 abbrev pub total : List (List BuildValue) → ℕ
@@ -32,9 +33,10 @@ abbrev pub TopFits : Preference → ProblemValue → Type 0
 TopFits prefers p = (top : List ℕ) × AreBestPlaces prefers p nothing_fixed top × Satisfies p top (newest p.jobs)
 
 -- The room is 1, where an input has no possible place; else one plus the number of all builds, where the best places
--- fit the newest builds; else the product. These grow in this order, so a number is below the room where it is below
--- each that applies.
+-- fit the newest builds; else the product, or the bound where builds that the inputs see as one are gone into once,
+-- whichever is less. A number is below the room where it is below each that applies.
 pub record IsBelowRoom (prefers : Preference) (p : ProblemValue) (n : ℕ) : Type 0 where
   pub product : n < product p.jobs
+  pub kinds : n < kinds_bound p
   pub fitting : TopFits prefers p → n < 1 + total p.jobs
   pub lacking : (i : ℕ) → HasNoPlace p nothing_fixed i → n < 1

@@ -1,5 +1,5 @@
 -- What the search without a proof gives. No public contract names these.
-use Rattle.std.specs.Prelude.{◌≡◌, ℕ, ◌+◌, ◌<◌, ◌≤◌, List, length, Bool, true, false, Option, Some, None, slice_index, slice_index_or, slice_get, All, Contains}
+use Rattle.std.specs.Prelude.{◌≡◌, ◌≢◌, ℕ, ◌+◌, ◌<◌, ◌≤◌, List, length, Bool, true, false, Option, Some, None, slice_index, slice_index_or, slice_get, All, Contains}
 use Rattle.ccr_choice.specs.Problem.{ProblemValue, BuildValue, ChoiceValue, input_at, builds_at}
 use Rattle.ccr_choice.specs.Satisfies.{Satisfies}
 use Rattle.ccr_choice.specs.Preference.{Preference, order_of, IsBetter}
@@ -7,7 +7,8 @@ use Rattle.ccr_choice.specs.Assignment.{Assignment, Agrees, with_build}
 use Rattle.ccr_choice.specs.Possible.{IsPossible}
 use Rattle.ccr_choice.specs.Table.{assigned}
 use Rattle.ccr_index.specs.Rows.{no_build}
-use Rattle.ccr_resolve.specs.Search.{places_of, FoundSatisfies, free_product, IsNoWorse}
+use Rattle.ccr_resolve.specs.Kinds.{kinds_from}
+use Rattle.ccr_resolve.specs.Search.{places_of, FoundSatisfies, free_kinds, IsNoWorse}
 
 -- Each choice that satisfies and agrees with these builds is no better than what was found; there is none where nothing was.
 abbrev pub IsRuledOut : Preference → ProblemValue → Option (List ℕ) → Assignment → Type 0
@@ -24,14 +25,18 @@ pub record IsSought (prefers : Preference) (p : ProblemValue) (table : List ℕ)
   pub satisfies : FoundSatisfies p after
   pub used : ℕ
   pub spent : room ≡ left + used
-  pub few : used ≤ free_product p.jobs table
+  pub few : used ≤ free_kinds (kinds_from p 0 p.jobs) table
 
 -- The search is over only where the room is less than what the table may need.
 abbrev pub Sought : Preference → ProblemValue → List ℕ → Option ChoiceValue → Option ChoiceValue → ℕ → ℕ → Bool → Type 0
-Sought prefers p table before after room left true = room + 1 ≤ free_product p.jobs table
+Sought prefers p table before after room left true = room + 1 ≤ free_kinds (kinds_from p 0 p.jobs) table
 Sought prefers p table before after room left false = IsSought prefers p table before after room left
 
 -- ---- the builds of a job that are gone into
+-- No number stands twice.
+abbrev pub AreDistinct : List ℕ → Type 0
+AreDistinct list = (a b : ℕ) → a < b → b < length list → slice_index list a ≢ slice_index list b
+
 -- The list has each position of a build with this pair.
 abbrev pub HasAll : List BuildValue → ℕ × ℕ → List ℕ → Type 0
 HasAll builds pair list =
@@ -59,3 +64,8 @@ pub record IsSplit (p : ProblemValue) (table : List ℕ) (best : Option (List �
   pub within : All (λ k. k < length (builds_at p job)) list
   pub left_out : (k : ℕ) (b : BuildValue) → k < length (builds_at p job) → slice_get (builds_at p job) k ≡ Some b
       → ¬ Contains list k → IsRuledOut (order_of p) p best (with_build (assigned p table) job b)
+
+-- The same, and no build stands twice.
+pub record IsSplitOnce (p : ProblemValue) (table : List ℕ) (best : Option (List ℕ)) (job : ℕ) (list : List ℕ) : Type 0 where
+  pub split : IsSplit p table best job list
+  pub distinct : AreDistinct list

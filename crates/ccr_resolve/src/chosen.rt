@@ -9,6 +9,7 @@ ghost use Rattle.ccr_resolve.specs.Sought.{Sought};
 
 use crate::choice::full_choice;
 use crate::dive::good_choice;
+use crate::dominator::dominator;
 use crate::newest::newest_choice;
 use crate::upper::{BestPlaces, first_empty, is_closed, lowered, tops};
 use crate::wanted::next_split;
@@ -33,7 +34,8 @@ pub enum Chosen {
 /// 1,000,000, is over, only where it is below the room of the problem. It is the answer of [`crate::resolve_indexed`]
 /// without the proof. The only error is want of memory.
 ///
-/// Where a job has few builds that can be part of a better choice than the one found, it goes into these alone.
+/// Where a job has few builds that can be part of a better choice than the one found, it goes into these alone, and into no
+/// build that a newer one dominates.
 pub fn choose(alloc: Global, index: &Index, budget: u32) -> Result<Chosen, AllocError>
     requires least { 1 ≤ budget }
     requires most { budget ≤ MOST_NODES }
@@ -102,6 +104,9 @@ fn seek(
             return Ok(false);
         }
         let k = found.builds[t];
+        if let Some(_) = dominator(index, j, k) {
+            continue;
+        }
         let mut inner = *fixed;
         inner[j] = k + 1;
         let places = lowered(index, upper, &inner, j);

@@ -17,6 +17,7 @@ mod descent;
 mod dive;
 mod dominator;
 mod newest;
+mod once;
 mod pick;
 mod resolver;
 mod upper;

@@ -5,8 +5,9 @@ ghost use Rattle.std.specs.Prelude.{◌≡◌, ◌≢◌, ◌<◌, ◌≤◌, �
 ghost use Rattle.ccr_choice.specs.Problem.{input_at, builds_at};
 ghost use Rattle.ccr_choice.specs.Table.{assigned};
 ghost use Rattle.ccr_resolve.specs.Search.{AreUpper, places_of};
-ghost use Rattle.ccr_resolve.specs.Sought.{HasAll, HasAllOf, AreWanted, AreSources, IsSplit};
+ghost use Rattle.ccr_resolve.specs.Sought.{HasAll, HasAllOf, AreWanted, AreSources, IsSplit, IsSplitOnce};
 
+use crate::once::each_once;
 use crate::pick::cheapest_job;
 use crate::upper::BestPlaces;
 use ccr_choice::Choice;
@@ -242,6 +243,31 @@ fn few_split(
     }
 }
 
+/// The same, each build once.
+fn few_once(
+    alloc: Global,
+    index: &Index,
+    fixed: &Fixed,
+    upper: &BestPlaces,
+    best: &Option<Choice>,
+    most: usize,
+) -> Result<Option<Split>, AllocError>
+    requires { AreUpper index.now.problem (assigned index.now.problem fixed.now) upper.now }
+    ensures { IfOk result (λ found. IfSome found (λ split.
+        IsSplitOnce index.now.problem fixed.now (places_of best.now) split.job split.builds.items)) }
+{
+    match few_split(alloc, index, fixed, upper, best, most)? {
+        Some(found) => {
+            let builds = each_once(alloc, &found.builds)?;
+            Ok(Some(Split {
+                job: found.job,
+                builds,
+            }))
+        }
+        None => Ok(None),
+    }
+}
+
 /// The positions below this one.
 fn all_below(alloc: Global, count: usize) -> Result<Vec<usize>, AllocError>
     ensures { IfOk result (λ all. (length all.items ≡ count)
@@ -254,7 +280,7 @@ fn all_below(alloc: Global, count: usize) -> Result<Vec<usize>, AllocError>
     Ok(all)
 }
 
-/// A free job and the builds of it to go into: few that can be part of a better choice, or all of the job that costs the least. None
+/// A free job and the builds of it to go into, each once: few that can be part of a better choice, or all of the job that costs the least. None
 /// where no job is free.
 pub(crate) fn next_split(
     alloc: Global,
@@ -266,12 +292,12 @@ pub(crate) fn next_split(
     requires { AreUpper index.now.problem (assigned index.now.problem fixed.now) upper.now }
     ensures { IfOk result (λ found. MatchOption found
         ((j : ℕ) → j < length index.now.problem.jobs → slice_index fixed.now j ≢ 0)
-        (λ split. IsSplit index.now.problem fixed.now (places_of best.now) split.job split.builds.items)) }
+        (λ split. IsSplitOnce index.now.problem fixed.now (places_of best.now) split.job split.builds.items)) }
 {
-    if let Some(found) = few_split(alloc, index, fixed, upper, best, FEW)? {
+    if let Some(found) = few_once(alloc, index, fixed, upper, best, FEW)? {
         return Ok(Some(found));
     }
-    if let Some(found) = few_split(alloc, index, fixed, upper, best, MANY)? {
+    if let Some(found) = few_once(alloc, index, fixed, upper, best, MANY)? {
         return Ok(Some(found));
     }
     let Some(job) = cheapest_job(index, fixed, upper, best) else {

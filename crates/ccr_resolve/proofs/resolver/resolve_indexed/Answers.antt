@@ -13,7 +13,7 @@ use Rattle.ccr_resolve.specs.Room.{TopFits}
 use Rattle.ccr_resolve.specs.Search.{AreUpper, IsTopChoice, places_of}
 use Rattle.ccr_resolve.proofs.Counting.{free_empty}
 use Rattle.ccr_resolve.proofs.ClaimFits.{short_claim}
-use Rattle.ccr_resolve.proofs.Steps.{kinds_over_found, none_needed, room_over_found, found_in, none_found}
+use Rattle.ccr_resolve.proofs.Steps.{none_needed, room_over_found, found_in, none_found}
 use Rattle.ccr_resolve.proofs.resolver.resolve_indexed.Goals as goal
 
 pub returns-in-Some : goal.returns-in-Some
@@ -58,7 +58,6 @@ returns-in_default-2 c =
     let needed = none_needed (order_of p) p (replicate 32 0) c.in_ok-best.best c.descend.new.best c.args.budget c.descend.new.left c.in_ok-tree.field-0 c.in_ok-tree.ensures c.in_default-2.is in (
       refl,
       room_over_found (order_of p) p c.args.budget 32 (places_of c.in_ok-best.best) fits (c.in_default.ensures.found nothing_fixed c.tops-upper.ensures) needed,
-      kinds_over_found (order_of p) p c.args.budget 32 (places_of c.in_ok-best.best) needed,
     )
 
 pub invariant_of-result-in-Some-best : goal.invariant_of-result-in-Some-best
