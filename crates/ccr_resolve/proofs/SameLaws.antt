@@ -1,9 +1,8 @@
 -- The child that another one is the same case as.
 use Rattle.std.proofs.Common.{◌≡◌, ℕ, zero, suc, ◌+◌, ◌<◌, inl, inr, false, List, [], ◌∷◌, length, take, get_or, slice_index_or, slice_get, refl, sym, ap, ◌∙◌, subst, arith, Option, Some, None}
 use Rattle.std.specs.Prelude.{Contains}
-use Rattle.std.proofs.lemmas.List.{get_or_default}
 use Rattle.std.proofs.lemmas.List.Elements.{All-contains}
-use Rattle.std.proofs.lemmas.Option.{slice_get-get_or, get_or_from_slice_get}
+use Rattle.std.proofs.lemmas.Option.{slice_get-get_or}
 use Rattle.ccr_choice.specs.Problem.{ProblemValue, BuildValue, builds_at}
 use Rattle.ccr_choice.specs.Preference.{Preference}
 use Rattle.ccr_choice.specs.Assignment.{Assignment, with_build}

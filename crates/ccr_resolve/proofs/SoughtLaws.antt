@@ -2,7 +2,7 @@
 use Rattle.std.proofs.Common.{◌≡◌, ℕ, zero, suc, ◌+◌, ◌*◌, ◌<◌, ◌≤◌, ◌⊎◌, inl, inr, true, false, ◌==◌, List, [], ◌∷◌, length, slice_index, slice_index_or, slice_set, replicate, refl, sym, ap, ◌∙◌, subst, arith, Bool, Option, Some, None}
 use Rattle.std.specs.Prelude.{Any, Contains, slice_get}
 use Rattle.std.specs.List.{list_any}
-use Rattle.std.proofs.lemmas.Bool.{cases_Bool, cases_lt, cases_eq, cond-true, cond-false, eqb-true, eq-eqb, false≢true}
+use Rattle.std.proofs.lemmas.Bool.{cases_Bool, cases_lt, cond-true, cond-false, eqb-true, eq-eqb, false≢true}
 use Rattle.std.proofs.lemmas.List.{get_or_default, get_or-set_same, get_or-set_other, length-set}
 use Rattle.std.proofs.lemmas.Nat.{mul-le}
 use Rattle.std.proofs.lemmas.Option.{slice_get-get_or, get_or_from_slice_get}
@@ -21,11 +21,11 @@ use Rattle.ccr_proof.specs.Tree.{Tree, bounded}
 use Rattle.ccr_proof.specs.Refutes.{HasNoPlace, IsBounded, Refutes}
 use Rattle.ccr_proof.proofs.Sound.{refutes_holds}
 use Rattle.ccr_index.specs.Rows.{no_build}
-use Rattle.ccr_resolve.specs.Kinds.{kinds_from, repeats_from, product_of, kinds_bound}
-use Rattle.ccr_resolve.specs.Room.{product, TopFits, IsBelowRoom}
+use Rattle.ccr_resolve.specs.Kinds.{kinds_from, repeats_from, product_of}
+use Rattle.ccr_resolve.specs.Room.{TopFits, IsBelowRoom}
 use Rattle.ccr_resolve.specs.Search.{FoundSatisfies, places_of, free_kinds, IsNoWorse, IsSearched}
 use Rattle.ccr_resolve.specs.Sought.{IsRuledOut, AreDistinct, IsSought, Sought, IsSplit}
-use Rattle.ccr_resolve.proofs.KindLaws.{marked, AreFresh, marked_kinds, kinds_at, length-kinds, kinds_set, kinds_same, kinds_one, kinds_empty, kinds_few, kinds_here}
+use Rattle.ccr_resolve.proofs.KindLaws.{marked, AreFresh, marked_kinds, length-kinds, kinds_set, kinds_same, kinds_one, kinds_empty, kinds_few, kinds_here}
 use Rattle.ccr_resolve.proofs.Path.{no_worse_refl, no_worse_trans, known_of}
 
 pub agrees_more : (a : Assignment) (j : ℕ) (b : BuildValue) (builds : List ℕ) → Agrees a builds → slice_index builds j ≡ b.number → Agrees (with_build a j b) builds

@@ -1,11 +1,11 @@
 -- The steps of the search.
 use Rattle.std.proofs.Common.{true, false, not, Bool, ◌≡◌, ℕ, zero, suc, ◌+◌, ◌*◌, ◌<◌, ◌≤◌, ◌⊎◌, inl, inr, List, [], ◌∷◌, ◌++◌, length, take, get_or, slice_index, slice_index_or, slice_get, slice_set, replicate, refl, sym, ap, ◌∙◌, subst, arith, Option, Some, None, Vec, Global}
 use Rattle.std.specs.Prelude.{Any}
-use Rattle.std.proofs.lemmas.Bool.{cases_eq, cases_lt}
+use Rattle.std.proofs.lemmas.Bool.{cases_eq}
 use Rattle.std.proofs.lemmas.List.{take_more, take_all, get_or-set_same, get_or-set_other}
 use Rattle.std.proofs.lemmas.Nat.{mul-le}
 use Rattle.std.proofs.Math.Nat.{mul-le-mul_left, mul_left_comm}
-use Rattle.std.proofs.lemmas.Option.{slice_get-get_or, get_or_from_slice_get, slice_get_within}
+use Rattle.std.proofs.lemmas.Option.{slice_get-get_or, get_or_from_slice_get}
 use Rattle.ccr_choice.specs.Problem.{ProblemValue, BuildValue, ChoiceValue, is_problem, builds_at}
 use Rattle.ccr_choice.specs.Satisfies.{Satisfies, IsSuccessful}
 use Rattle.ccr_proof.specs.declared.node.Node.{Node, Job}
@@ -21,7 +21,7 @@ use Rattle.ccr_choice.specs.Table.{build_of, assigned}
 use Rattle.ccr_choice.proofs.TableLaws.{table_set}
 use Rattle.ccr_proof.proofs.Trees.{tree_of_job}
 use Rattle.ccr_index.specs.Rows.{no_build}
-use Rattle.ccr_resolve.specs.Kinds.{kinds_after, kinds_from, repeats_from, kinds_bound}
+use Rattle.ccr_resolve.specs.Kinds.{kinds_after, kinds_from, repeats_from}
 use Rattle.ccr_resolve.specs.Room.{newest, TopFits, IsBelowRoom}
 use Rattle.ccr_resolve.specs.Search.{FixesKnown, FoundSatisfies, places_of, free_product, free_kinds, kinds_left, free_sum, free_jobs, OnPath, ReachesTop, IsNeeded, IsNoWorse, IsSearched, Searched}
 use Rattle.ccr_resolve.proofs.Counting.{product_set, product_same, sum_set, sum_same, product_one, product_empty, free_set}

@@ -1,8 +1,8 @@
-use Rattle.std.proofs.Common.{◌≡◌, ℕ, ◌+◌, ◌-◌, List, length, drop, slice_index_or, sym, ap, ◌∙◌, subst, arith, All}
+use Rattle.std.proofs.Common.{ℕ, ◌+◌, ◌-◌, List, length, drop, slice_index_or, sym, ap, ◌∙◌, subst, arith, All}
 use Rattle.std.specs.Prelude.{Contains}
 use Rattle.std.proofs.lemmas.List.{get_or_default}
 use Rattle.ccr_choice.specs.Problem.{builds_at}
-use Rattle.ccr_choice.specs.Dominated.{IsNamedIn, IsDominated}
+use Rattle.ccr_choice.specs.Dominated.{IsNamedIn}
 use Rattle.ccr_index.specs.Rows.{no_build, last_with}
 use Rattle.ccr_resolve.proofs.DominatorLaws.{search_first, search_less, search_next}
 use Rattle.ccr_resolve.proofs.dominator.dominator.Goals as goal

@@ -1,4 +1,3 @@
-use Rattle.ccr_choice.specs.Problem.{builds_at}
 use Rattle.ccr_resolve.proofs.DominatorLaws.{IsSearchedTo}
 use Rattle.ccr_resolve.proofs.dominator.dominator.Given as goal
 

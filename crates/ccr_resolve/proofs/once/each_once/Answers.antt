@@ -1,4 +1,4 @@
-use Rattle.std.proofs.Common.{◌<◌, length, nat_eq, arith, rules, sym, ap, ◌∙◌}
+use Rattle.std.proofs.Common.{nat_eq, arith}
 use Rattle.std.specs.HashSet.{contains}
 use Rattle.ccr_resolve.proofs.OnceLaws.{kept_once, pushed_once, once_same}
 use Rattle.ccr_resolve.proofs.once.each_once.Goals as goal
