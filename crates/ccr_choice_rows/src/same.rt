@@ -6,7 +6,7 @@ use ccr_check::{check, judge};
 use ccr_choice::read_problem;
 use ccr_index::build_index;
 use ccr_proof::{count, read_proof, write_claim, write_proof};
-use ccr_resolve::{Answer, resolve};
+use ccr_resolve::{Answer, Chosen, choose, resolve};
 use std::alloc::{AllocError, Global};
 use std::test::Fail;
 
@@ -154,6 +154,20 @@ fn answer_of(alloc: Global, text: &str, budget: u32) -> Result<Option<(String, u
     }
 }
 
+/// Whether the choice without a proof has these places, or none where there are none; false where the budget is over.
+fn is_chosen(alloc: Global, text: &str, budget: u32, places: Option<&[u32]>) -> Result<bool, Fail>
+    requires least { 1 ≤ budget }
+    requires most { budget ≤ 1000000 }
+{
+    let problem = read_problem(alloc, text.as_bytes())?;
+    let index = build_index(alloc, &problem)?;
+    match choose(alloc, &index, budget)? {
+        Chosen::Best(choice) => Ok(places.is_some_and(|p| choice.places.as_slice() == p)),
+        Chosen::Nothing => Ok(places.is_none()),
+        Chosen::OverBudget(_) => Ok(false),
+    }
+}
+
 /// Whether the answer has this claim and so many nodes.
 fn is_answered(
     alloc: Global,
@@ -175,6 +189,8 @@ fn is_answered(
 fn builds_that_are_alike_are_gone_into_once(rt: HostRuntime) -> Result<(), Fail> {
     assert!(rt; is_answered(rt.alloc(), ALIKE, 1_000_000, "none\n", 4)?);
     assert!(rt; is_answered(rt.alloc(), NESTED, 1_000_000, "best 1 1 builds 2\n", 1)?);
+    assert!(rt; is_chosen(rt.alloc(), ALIKE, 3, None)?);
+    assert!(rt; is_chosen(rt.alloc(), NESTED, 1, Some(&[1, 1]))?);
     Ok(())
 }
 
@@ -201,5 +217,6 @@ fn clash(alloc: Global, builds: u32) -> Result<String, AllocError> {
 fn two_jobs_that_clash_need_no_node_for_each_pair_of_builds(rt: HostRuntime) -> Result<(), Fail> {
     let text = clash(rt.alloc(), 1_000)?;
     assert!(rt; is_answered(rt.alloc(), text.as_str(), 8_991, "none\n", 3_001)?);
+    assert!(rt; is_chosen(rt.alloc(), text.as_str(), 8_991, None)?);
     Ok(())
 }

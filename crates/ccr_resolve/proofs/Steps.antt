@@ -21,7 +21,7 @@ use Rattle.ccr_choice.specs.Table.{build_of, assigned}
 use Rattle.ccr_choice.proofs.TableLaws.{table_set}
 use Rattle.ccr_proof.proofs.Trees.{tree_of_job}
 use Rattle.ccr_index.specs.Rows.{no_build}
-use Rattle.ccr_resolve.specs.Kinds.{kinds_after, kinds_from, repeats_from}
+use Rattle.ccr_resolve.specs.Kinds.{kinds_after, kinds_from, repeats_from, kinds_bound}
 use Rattle.ccr_resolve.specs.Room.{newest, TopFits, IsBelowRoom}
 use Rattle.ccr_resolve.specs.Search.{FixesKnown, FoundSatisfies, places_of, free_product, free_kinds, kinds_left, free_sum, free_jobs, OnPath, ReachesTop, IsNeeded, IsNoWorse, IsSearched, Searched}
 use Rattle.ccr_resolve.proofs.Counting.{product_set, product_same, sum_set, sum_same, product_one, product_empty, free_set}
@@ -584,12 +584,18 @@ none_needed prefers p table before after room left o h e = let P : Option Node �
 pub some_searched : (prefers : Preference) (p : ProblemValue) (table : List ℕ) (before after : Option ChoiceValue) (room left : ℕ) (o : Option Node) (c : Node) → Searched prefers p table before after room left o → o ≡ Some c → IsSearched prefers p table before after room left (tree_of c)
 some_searched prefers p table before after room left o c h e = let P : Option Node → Type 0 = λ x. Searched prefers p table before after room left x in subst P e h
 
+pub kinds_root : (p : ProblemValue) (n : ℕ) → kinds_left p (replicate n 0) ≡ kinds_bound p
+kinds_root p n = ap (λ x. (1 + repeats_from p 0 p.jobs) * x) (kinds_empty (kinds_from p 0 p.jobs) n)
+
+pub bound_one : (p : ProblemValue) → 1 ≤ kinds_bound p
+bound_one p = let one = kinds_left_one p (replicate 0 0) in let same = kinds_root p 0 in omega (arith, one, same)
+
 -- the room is as much, where a place is possible for each input and the best places don't fit the newest builds
 pub room_over_found : (prefers : Preference) (p : ProblemValue) (budget n : ℕ) (best : Option (List ℕ)) → (TopFits prefers p → ⊥) → ((i : ℕ) → HasNoPlace p nothing_fixed i → ⊥)
     → IsNeeded prefers p (replicate n 0) best (budget + 1) → IsBelowRoom prefers p budget
 room_over_found prefers p budget n best fits some needed = record {
   product = (let h = needed.product in omega (arith, h, product_empty p.jobs n));
-  kinds = (let same = ap (λ x. (1 + repeats_from p 0 p.jobs) * x) (kinds_empty (kinds_from p 0 p.jobs) n) in let h = needed.kinds in omega (arith, h, same));
+  kinds = (let same = kinds_root p n in let h = needed.kinds in omega (arith, h, same));
   fitting = λ top. absurd (fits top);
   lacking = λ i none. absurd (some i none);
 }

@@ -13,7 +13,7 @@ use Rattle.ccr_resolve.specs.Room.{TopFits}
 use Rattle.ccr_resolve.specs.Search.{AreUpper, IsTopChoice, places_of}
 use Rattle.ccr_resolve.proofs.Counting.{free_empty}
 use Rattle.ccr_resolve.proofs.ClaimFits.{short_claim}
-use Rattle.ccr_resolve.proofs.Steps.{none_needed, room_over_found, found_in, none_found}
+use Rattle.ccr_resolve.proofs.Steps.{kinds_root, bound_one, none_needed, room_over_found, found_in, none_found}
 use Rattle.ccr_resolve.proofs.resolver.resolve_indexed.Goals as goal
 
 pub returns-in-Some : goal.returns-in-Some
@@ -21,7 +21,7 @@ returns-in-Some c =
     let p = c.args.index.now.problem in
     let accepted : IsAccepted (order_of p) p Nothing (empty c.in-Some.i) = c.in-Some.ensures.found nothing_fixed c.tops-upper.ensures in
     let right = accepted_right (order_of p) (is_order p) p c.first_empty.ensures.rules Nothing (empty c.in-Some.i) accepted in
-    (refl, record { accepted = accepted; right = right; few_nodes = omega (arith, c.requires.least) })
+    (refl, record { accepted = accepted; right = right; few_nodes = omega (arith, c.requires.least); few_kinds = omega (arith, bound_one p) })
 
 pub newest_choice-requires-clause-some : goal.newest_choice-requires-clause-some
 newest_choice-requires-clause-some c = c.in_default.ensures.found nothing_fixed c.tops-upper.ensures
@@ -39,7 +39,7 @@ returns-in-Some-newest c =
     let P : Option ChoiceValue → Type 0 = λ o. MatchOption o (TopFits (order_of p) p → ⊥) (IsTopChoice p) in
     let accepted : IsAccepted (order_of p) p (Best c.in-Some-newest.choice) bounded = subst P c.in-Some-newest.is c.in_ok-newest.ensures in
     let right = accepted_right (order_of p) (is_order p) p c.first_empty.ensures.rules (Best c.in-Some-newest.choice) bounded accepted in
-    ((c.in-Some-newest.choice, refl), record { accepted = accepted; right = right; few_nodes = omega (arith, c.requires.least) })
+    ((c.in-Some-newest.choice, refl), record { accepted = accepted; right = right; few_nodes = omega (arith, c.requires.least); few_kinds = omega (arith, bound_one p) })
 
 pub descend-requires-clause-known : goal.descend-requires-clause-known
 descend-requires-clause-known c = λ j. omega (arith, zeros 32 j)
@@ -77,7 +77,7 @@ returns-in-None c =
     let P : Assignment → Type 0 = λ a. Refutes (order_of p) p None a (tree_of c.in-Some-2.tree) in
     let accepted : IsAccepted (order_of p) p Nothing (tree_of c.in-Some-2.tree) = subst P (table_empty p 32) done.refuted in
     let right = accepted_right (order_of p) (is_order p) p c.first_empty.ensures.rules Nothing (tree_of c.in-Some-2.tree) accepted in
-    (refl, record { accepted = accepted; right = right; few_nodes = omega (arith, done.counted, done.spent) })
+    (refl, record { accepted = accepted; right = right; few_nodes = omega (arith, done.counted, done.spent); few_kinds = omega (arith, done.counted, done.needed.kinds, kinds_root p 32) })
 
 pub returns-in-Some-best : goal.returns-in-Some-best
 returns-in-Some-best c =
@@ -86,4 +86,4 @@ returns-in-Some-best c =
     let P : Assignment → Type 0 = λ a. Refutes (order_of p) p (Some c.in-Some-best.choice.places) a (tree_of c.in-Some-2.tree) in
     let accepted : IsAccepted (order_of p) p (Best c.in-Some-best.choice) (tree_of c.in-Some-2.tree) = (done.satisfies, subst P (table_empty p 32) done.refuted) in
     let right = accepted_right (order_of p) (is_order p) p c.first_empty.ensures.rules (Best c.in-Some-best.choice) (tree_of c.in-Some-2.tree) accepted in
-    ((c.in-Some-best.choice, refl), record { accepted = accepted; right = right; few_nodes = omega (arith, done.counted, done.spent) })
+    ((c.in-Some-best.choice, refl), record { accepted = accepted; right = right; few_nodes = omega (arith, done.counted, done.spent); few_kinds = omega (arith, done.counted, done.needed.kinds, kinds_root p 32) })
