@@ -7,7 +7,6 @@
 
 ghost use Rattle.std.specs.Prelude.{◌<◌};
 
-use crate::answer::Answer;
 use crate::times::{Times, ask, no_times, told};
 use ccr_choice::read_problem;
 use ccr_index::{Index, build_index};
@@ -225,7 +224,8 @@ fn grown(rt: &HostRuntime, index: &mut Index, world: &mut World, builds: u32) ->
 
 /// Grows an index until each job has so many successful builds, and measures the events that come next; then gives each job a build
 /// of the newest versions and measures the two questions again.
-fn lines_of(rt: &HostRuntime, alloc: Global, builds: u32) -> io::Result<String> {
+pub(crate) fn grow_told(rt: &HostRuntime, builds: u32) -> io::Result<String> {
+    let alloc = rt.alloc();
     let Ok(problem) = read_problem(alloc, START) else {
         return Err(AllocError.into());
     };
@@ -245,16 +245,4 @@ fn lines_of(rt: &HostRuntime, alloc: Global, builds: u32) -> io::Result<String> 
     }
     lines.push_str(told(alloc, "once the newest builds agree", BUDGET, &times)?.as_str())?;
     Ok(lines)
-}
-
-/// Grows an index until each job has so many successful builds, and prints how long its calls take then.
-pub(crate) fn answer_grow(
-    rt: &HostRuntime,
-    alloc: Global,
-    builds: u32,
-) -> Result<Answer, AllocError> {
-    match lines_of(rt, alloc, builds) {
-        Ok(lines) => Ok(Answer { lines, status: 0 }),
-        Err(_) => Err(AllocError),
-    }
 }

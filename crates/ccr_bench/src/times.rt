@@ -2,7 +2,7 @@
 
 ghost use Rattle.std.specs.Prelude.{◌≤◌};
 
-use crate::answer::{Answer, bad_problem};
+use anyhow::Result;
 use ccr_choice::{Problem, read_problem};
 use ccr_index::{Index, build_index};
 use ccr_resolve::{Answer as Resolved, Chosen, choose, resolve_indexed};
@@ -10,6 +10,8 @@ use std::alloc::{AllocError, Global};
 use std::io;
 use std::time::Instant;
 
+/// The node budget.
+const BUDGET: u32 = 1_000_000;
 /// How often each question is asked.
 const ASKED: u32 = 5;
 
@@ -123,30 +125,10 @@ fn asked(rt: &HostRuntime, problem: &Problem, budget: u32, times: &mut Times) ->
     Ok(())
 }
 
-fn lines_of(rt: &HostRuntime, problem: &Problem, budget: u32) -> io::Result<String>
-    requires least { 1 ≤ budget }
-    requires most { budget ≤ 1000000 }
-{
-    let mut times = no_times();
-    asked(rt, problem, budget, &mut times)?;
-    Ok(told(rt.alloc(), "the calls on this problem", budget, &times)?)
-}
-
 /// How long the calls take on a problem that is read: the index of it, its best choice, and the proof of that.
-pub(crate) fn answer_times(
-    rt: &HostRuntime,
-    alloc: Global,
-    text: &[u8],
-    budget: u32,
-) -> Result<Answer, AllocError>
-    requires least { 1 ≤ budget }
-    requires most { budget ≤ 1000000 }
-{
-    match read_problem(alloc, text) {
-        Ok(problem) => match lines_of(rt, &problem, budget) {
-            Ok(lines) => Ok(Answer { lines, status: 0 }),
-            Err(_) => Err(AllocError),
-        },
-        Err(fault) => bad_problem(alloc, fault),
-    }
+pub(crate) fn times_told(rt: &HostRuntime, text: &[u8]) -> Result<String> {
+    let problem = read_problem(rt.alloc(), text)?;
+    let mut times = no_times();
+    asked(rt, &problem, BUDGET, &mut times)?;
+    Ok(told(rt.alloc(), "the calls on this problem", BUDGET, &times)?)
 }

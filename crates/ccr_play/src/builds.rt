@@ -104,6 +104,7 @@ impl Builds {
 
 impl Player for Builds {
     fn answer_to(&mut self, alloc: Global, line: &str) -> Result<String, AllocError> {
-        self.played(alloc, line).or_else(|error| format!(in alloc; "refused: {error}"))
+        self.played(alloc, line)
+            .or_else(|error| format!(in alloc; "refused: {error}"))
     }
 }

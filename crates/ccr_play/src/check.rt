@@ -9,24 +9,25 @@ use std::{fs, io};
 /// The number of the first line in which two texts differ.
 fn first_difference(stored: &str, told: &str) -> usize {
     let mut lines = stored.lines();
-    let same = told.lines().take_while(|line| lines.next() == Some(line)).count();
+    let same = told
+        .lines()
+        .take_while(|line| lines.next() == Some(line))
+        .count();
     same.saturating_add(1)
 }
 
 /// The line that tells of a file how many of its lines were played and are answered as stored, or where the first isn't.
-fn compared(
-    alloc: Global,
-    name: &str,
-    stored: &str,
-    told: &str,
-) -> Result<Answer, AllocError> {
+fn compared(alloc: Global, name: &str, stored: &str, told: &str) -> Result<Answer, AllocError> {
     if stored == told {
         let count = stored.lines().filter(|line| is_played(line)).count();
         let lines = format!(in alloc; "{name}: {count} lines, answered as stored\n")?;
         return Ok(Answer { lines, status: 0 });
     }
     let number = first_difference(stored, told);
-    let line = told.lines().nth(number.saturating_sub(1)).unwrap_or("the end");
+    let line = told
+        .lines()
+        .nth(number.saturating_sub(1))
+        .unwrap_or("the end");
     let lines = format!(in alloc; "{name}: line {number} is told otherwise: {line}\n")?;
     Ok(Answer { lines, status: 1 })
 }
@@ -44,7 +45,7 @@ fn check_file(rt: &HostRuntime, name: &str) -> io::Result<Answer> {
             status: 1,
         });
     };
-    let stored = fs::read_to_string(rt, rt.alloc(), name)?;
+    let stored = fs::read_to_string(rt, name)?;
     let told = play(rt, kind, stored.as_str(), Telling::Answers)?;
     Ok(compared(rt.alloc(), name, stored.as_str(), told.as_str())?)
 }

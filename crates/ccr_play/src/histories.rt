@@ -63,7 +63,8 @@ fn fail(alloc: Global, history: &mut History, job: &str, count: u32) -> Result<u
 
 impl Player for Histories {
     fn answer_to(&mut self, alloc: Global, line: &str) -> Result<String, AllocError> {
-        self.played(alloc, line).or_else(|error| format!(in alloc; "{error}"))
+        self.played(alloc, line)
+            .or_else(|error| format!(in alloc; "{error}"))
     }
 }
 

@@ -5,6 +5,7 @@ use crate::events::Events;
 use crate::histories::Histories;
 use crate::pipelines::Pipelines;
 use crate::play::{Telling, played};
+use crate::problems::Problems;
 use crate::programs::Programs;
 use crate::servers::Servers;
 use crate::steps::Steps;
@@ -19,6 +20,7 @@ pub(crate) enum Kind<'a> {
     Events,
     Histories,
     Pipelines,
+    Problems,
     Programs,
     Servers,
     Steps,
@@ -33,6 +35,7 @@ pub(crate) fn kind_of(name: &str) -> Option<Kind<'_>> {
         "events" => Some(Kind::Events),
         "histories" => Some(Kind::Histories),
         "pipelines" => Some(Kind::Pipelines),
+        "problems" => Some(Kind::Problems),
         "programs" => Some(Kind::Programs),
         "servers" => Some(Kind::Servers),
         "steps" => Some(Kind::Steps),
@@ -55,6 +58,7 @@ pub(crate) fn play(
         Kind::Events => played(rt, Events::new(), lines, telling),
         Kind::Histories => played(rt, Histories::new(alloc), lines, telling),
         Kind::Pipelines => played(rt, Pipelines::new(alloc), lines, telling),
+        Kind::Problems => played(rt, Problems::new(alloc), lines, telling),
         Kind::Programs => played(rt, Programs, lines, telling),
         Kind::Servers => played(rt, Servers::new(alloc)?, lines, telling),
         Kind::Steps => played(rt, Steps, lines, telling),

@@ -8,6 +8,7 @@
 //! | `pipelines` | pipelines and task files |
 //! | `steps` | builds in one line each |
 //! | `builds` | a build of a job, answered line by line |
+//! | `problems` | problems, claims, proofs, and what the checker says of them |
 //! | `programs` | requests, replies, launches, ends, and builds whose programs are a script |
 //! | `histories` | a history, and the problems of its jobs |
 //! | `events` | events of a core |
@@ -44,6 +45,7 @@ mod kind;
 mod order;
 mod pipelines;
 mod play;
+mod problems;
 mod programs;
 mod reply;
 mod servers;
@@ -102,7 +104,7 @@ fn answer_of(rt: &HostRuntime, call: Call<'_>) -> io::Result<Answer> {
     }
 }
 
-fn words(rt: &HostRuntime) -> io::Result<Vec<String>> {
+fn arguments(rt: &HostRuntime) -> io::Result<Vec<String>> {
     let mut words = Vec::new(rt.alloc());
     for word in env::args(rt)?.skip(1) {
         words.push(word)?;
@@ -112,7 +114,7 @@ fn words(rt: &HostRuntime) -> io::Result<Vec<String>> {
 
 /// What the program's words ask for; None where they ask for nothing that there is.
 fn answered(rt: &HostRuntime) -> io::Result<Option<Answer>> {
-    let words = words(rt)?;
+    let words = arguments(rt)?;
     match call_of(&words) {
         Some(call) => Ok(Some(answer_of(rt, call)?)),
         None => Ok(None),

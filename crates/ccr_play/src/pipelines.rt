@@ -26,12 +26,7 @@ impl Pipelines {
 }
 
 /// The answer to a line, with this example.
-fn answered(
-    alloc: Global,
-    example: &str,
-    kind: &str,
-    given: &str,
-) -> Result<String, AllocError> {
+fn answered(alloc: Global, example: &str, kind: &str, given: &str) -> Result<String, AllocError> {
     let text = if given == "example" { example } else { given };
     match kind {
         "example" | "pipeline" => told(alloc, read(alloc, text.as_bytes())),

@@ -29,11 +29,7 @@ fn is_want_of_memory(answer: &str) -> bool {
 
 /// The answer to a line. One that ran out of memory is played again: it has left all as it was, so a run in which one
 /// allocation is refused tells what every run tells.
-fn answer_of<P: Player>(
-    alloc: Global,
-    player: &mut P,
-    line: &str,
-) -> Result<String, AllocError> {
+fn answer_of<P: Player>(alloc: Global, player: &mut P, line: &str) -> Result<String, AllocError> {
     match player.answer_to(alloc, line) {
         Ok(answer) if !is_want_of_memory(answer.as_str()) => Ok(answer),
         _ => player.answer_to(alloc, line),

@@ -12,10 +12,9 @@ use crate::play::Player;
 use crate::words::{split, version_of};
 use anyhow::{Result, anyhow};
 use ccr_history::{Object, Version};
+pub(crate) use launches::{end_of, places};
 use serde_json::Value;
 use std::alloc::{AllocError, Global};
-
-pub(crate) use launches::{end_of, places};
 
 /// Plays lines of programs.
 #[derive(Clone, Copy)]

@@ -147,6 +147,7 @@ fn push_end(text: &mut String, end: Result<Option<u8>, ServeFault>) -> Result<()
 
 impl Player for Servers {
     fn answer_to(&mut self, alloc: Global, line: &str) -> Result<String, AllocError> {
-        self.played(alloc, line).or_else(|error| format!(in alloc; "{error}"))
+        self.played(alloc, line)
+            .or_else(|error| format!(in alloc; "{error}"))
     }
 }

@@ -81,7 +81,10 @@ pub(crate) fn version_numbered(alloc: Global, number: u64) -> Result<Version, Li
 pub(crate) fn numbered(alloc: Global, count: u32) -> Result<Vec<Version>, LineFault> {
     let mut versions = Vec::new(alloc);
     for before in 0..count {
-        add(&mut versions, version_numbered(alloc, u64::from(before) + 1)?)?;
+        add(
+            &mut versions,
+            version_numbered(alloc, u64::from(before) + 1)?,
+        )?;
     }
     Ok(versions)
 }
@@ -135,7 +138,11 @@ pub(crate) fn used_places(alloc: Global, words: &str) -> Result<Vec<Used>, LineF
 
 /// The scope of a resource of a pipeline.
 pub(crate) fn scope_in(alloc: Global, pipeline: &Pipeline, name: &str) -> Result<Scope, LineFault> {
-    match pipeline.resources().iter().find(|resource| resource.name.as_str() == name) {
+    match pipeline
+        .resources()
+        .iter()
+        .find(|resource| resource.name.as_str() == name)
+    {
         Some(resource) => Ok(scope_of(alloc, resource)?),
         None => Err(LineFault::NoResource),
     }
