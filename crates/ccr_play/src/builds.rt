@@ -7,9 +7,8 @@
 use crate::answer::answered_of;
 use crate::ask::ask_value;
 use crate::play::Player;
-use crate::reply::outcome_name;
 use crate::steps::started;
-use crate::words::{split, versions_of};
+use crate::words::{outcome_name, split, versions_of};
 use anyhow::{Result, anyhow};
 use ccr_pipeline::{Pipeline, read};
 use ccr_steps::{BuildRun, FeedFault};
@@ -86,10 +85,13 @@ impl Builds {
     fn start(&mut self, alloc: Global, words: &str) -> Result<String> {
         let (name, versions) = split(words);
         let pipeline = self.pipeline.as_ref().ok_or(anyhow!("no pipeline"))?;
-        let run = run_of(alloc, pipeline, name, versions)?;
-        let text = state_of(alloc, &run)?;
-        self.run = Some(run);
-        Ok(text)
+        self.run = Some(run_of(alloc, pipeline, name, versions)?);
+        self.state(alloc)
+    }
+
+    fn state(&self, alloc: Global) -> Result<String> {
+        let run = self.run.as_ref().ok_or(anyhow!("no build"))?;
+        Ok(state_of(alloc, run)?)
     }
 
     fn played(&mut self, alloc: Global, line: &str) -> Result<String> {

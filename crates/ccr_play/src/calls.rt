@@ -2,11 +2,12 @@
 ghost use Rattle.std.specs.Prelude.{◌≤◌};
 ghost use Rattle.ccr_proof.specs.Claim.{IsClaim};
 
-use ccr_choice::{ProblemFault, read_problem};
+use crate::problems::proof_text;
+use ccr_choice::{Problem, ProblemFault, read_problem};
 use ccr_index::build_index;
 use ccr_pipeline::{ReadFault, read, read_task};
-use ccr_proof::{Claim, write_claim, write_proof};
-use ccr_resolve::{Answer as Resolved, Chosen, choose, resolve};
+use ccr_proof::{Claim, write_claim};
+use ccr_resolve::{Chosen, choose};
 use std::alloc::{AllocError, Global};
 
 /// The status where a node budget is over; its line goes to standard error.
@@ -74,17 +75,19 @@ pub(crate) fn answer_resolve(alloc: Global, text: &[u8], budget: u32) -> Result<
     requires least { 1 ≤ budget }
     requires most { budget ≤ 1000000 }
 {
-    let problem = match read_problem(alloc, text) {
-        Ok(problem) => problem,
-        Err(fault) => return bad_problem(alloc, fault),
-    };
-    let index = build_index(alloc, &problem)?;
-    match resolve(alloc, &problem, &index, budget)? {
-        Resolved::Best(proof) | Resolved::Nothing(proof) => Ok(Answer {
-            lines: write_proof(alloc, &proof)?,
-            status: 0,
-        }),
-        Resolved::OverBudget(n) => over_budget(alloc, n),
+    match read_problem(alloc, text) {
+        Ok(problem) => resolved(alloc, &problem, budget),
+        Err(fault) => bad_problem(alloc, fault),
+    }
+}
+
+fn resolved(alloc: Global, problem: &Problem, budget: u32) -> Result<Answer, AllocError>
+    requires least { 1 ≤ budget }
+    requires most { budget ≤ 1000000 }
+{
+    match proof_text(alloc, problem, budget)? {
+        Some(lines) => Ok(Answer { lines, status: 0 }),
+        None => over_budget(alloc, budget),
     }
 }
 

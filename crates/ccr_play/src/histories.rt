@@ -9,21 +9,21 @@
 //! `history` prints the history; `copy` goes on with a copy of it.
 //! `grow BUILDS JOBS PLACES`, `more JOB SCOPE PLACE COUNT` and `extend RESOURCE FIRST COUNT` make large histories, for benchmarks.
 
+ghost use Rattle.std.specs.Prelude.{◌≤◌};
+
 use crate::grow::{extend, grow, one_more};
 use crate::history_text::text_of;
 use crate::play::Player;
+use crate::problems::proof_text;
 use crate::words::{
     number_of, numbered, pair_of, pairs_of, pin_of, scope_in, split, status_of, used_places,
     version_of, versions_of,
 };
 use anyhow::{Result, anyhow, bail};
-use ccr_choice::write_problem;
+use ccr_choice::{Problem, write_problem};
 use ccr_history::{History, HistoryFault, Scope, Status, Version};
-use ccr_index::build_index;
 use ccr_pipeline::{Pipeline, read};
 use ccr_problem::problem_of;
-use ccr_proof::write_proof;
-use ccr_resolve::{Answer, resolve};
 use std::alloc::{AllocError, Global};
 
 /// The history, and the pipeline that was set last.
@@ -264,10 +264,17 @@ impl Histories {
             bail!("no such budget")
         }
         let problem = problem_of(alloc, self.pipeline()?, &self.history, job)?;
-        let index = build_index(alloc, &problem)?;
-        match resolve(alloc, &problem, &index, budget)? {
-            Answer::Best(proof) | Answer::Nothing(proof) => Ok(write_proof(alloc, &proof)?),
-            Answer::OverBudget(budget) => Ok(format!(in alloc; "over budget {budget}")?),
-        }
+        proof_told(alloc, &problem, budget)
+    }
+}
+
+/// The text of the proof that the resolver gives for a problem, or that the budget is over.
+fn proof_told(alloc: Global, problem: &Problem, budget: u32) -> Result<String>
+    requires least { 1 ≤ budget }
+    requires most { budget ≤ 1000000 }
+{
+    match proof_text(alloc, problem, budget)? {
+        Some(text) => Ok(text),
+        None => Ok(format!(in alloc; "over budget {budget}")?),
     }
 }

@@ -7,7 +7,9 @@
 
 use crate::play::Player;
 use crate::words::split;
-use ccr_pipeline::{Input, Job, Pipeline, ReadFault, Wanted, inputs_of, read, read_task};
+use ccr_pipeline::{
+    Input, Job, Pipeline, ReadFault, TaskConfig, Wanted, inputs_of, read, read_task,
+};
 use std::alloc::{AllocError, Global};
 
 /// Plays lines of pipelines and task files, with the example that was given last.
@@ -61,11 +63,7 @@ fn told<T: Drop>(alloc: Global, read: Result<T, ReadFault>) -> Result<String, Al
 }
 
 /// How many resources and jobs a pipeline has, and whether it has the text that it was read from.
-fn parts(alloc: Global, text: &str) -> Result<String, AllocError> {
-    let pipeline = match read(alloc, text.as_bytes()) {
-        Ok(pipeline) => pipeline,
-        Err(fault) => return fault.to_string(alloc),
-    };
+fn parts_told(alloc: Global, pipeline: &Pipeline, text: &str) -> Result<String, AllocError> {
     let resources = pipeline.resources().len();
     let jobs = pipeline.jobs().len();
     let kept = if pipeline.text() == text.as_bytes() {
@@ -74,6 +72,13 @@ fn parts(alloc: Global, text: &str) -> Result<String, AllocError> {
         "another text"
     };
     format!(in alloc; "{resources} resources, {jobs} jobs, {kept}")
+}
+
+fn parts(alloc: Global, text: &str) -> Result<String, AllocError> {
+    match read(alloc, text.as_bytes()) {
+        Ok(pipeline) => parts_told(alloc, &pipeline, text),
+        Err(fault) => fault.to_string(alloc),
+    }
 }
 
 /// The texts with a blank between.
@@ -121,15 +126,18 @@ fn job_inputs(alloc: Global, job: &Job) -> Result<String, AllocError> {
     Ok(words)
 }
 
-/// The inputs of the only job.
-fn inputs(alloc: Global, text: &str) -> Result<String, AllocError> {
-    let pipeline: Pipeline = match read(alloc, text.as_bytes()) {
-        Ok(pipeline) => pipeline,
-        Err(fault) => return fault.to_string(alloc),
-    };
+fn only_inputs(alloc: Global, pipeline: &Pipeline) -> Result<String, AllocError> {
     match pipeline.jobs() {
         [job] => job_inputs(alloc, job),
         _ => String::from_str(alloc, "not one job"),
+    }
+}
+
+/// The inputs of the only job.
+fn inputs(alloc: Global, text: &str) -> Result<String, AllocError> {
+    match read(alloc, text.as_bytes()) {
+        Ok(pipeline) => only_inputs(alloc, &pipeline),
+        Err(fault) => fault.to_string(alloc),
     }
 }
 
@@ -237,19 +245,22 @@ fn generated(alloc: Global, given: &str) -> Result<String, AllocError> {
     told(alloc, read(alloc, text.as_bytes()))
 }
 
-/// The variables of a task file.
-fn variables(alloc: Global, text: &str) -> Result<String, AllocError> {
-    let config = match read_task(alloc, text.as_bytes()) {
-        Ok(config) => config,
-        Err(fault) => return fault.to_string(alloc),
-    };
+fn variables_told(alloc: Global, config: &TaskConfig) -> Result<String, AllocError> {
     let mut words = String::new(alloc);
     for (i, variable) in config.params.iter().enumerate() {
         if i > 0 {
             words.push_str(", ")?;
         }
         let (name, value) = (variable.name.as_str(), variable.value.as_str());
-        words.push_str(format!(in alloc; "{name}={value}")?.as_str())?;
+        write!(words, "{name}={value}")?;
     }
     Ok(words)
+}
+
+/// The variables of a task file.
+fn variables(alloc: Global, text: &str) -> Result<String, AllocError> {
+    match read_task(alloc, text.as_bytes()) {
+        Ok(config) => variables_told(alloc, &config),
+        Err(fault) => fault.to_string(alloc),
+    }
 }

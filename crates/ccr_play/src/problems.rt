@@ -5,11 +5,12 @@
 //! `judge-behind TEXT` is `judge` of the example with a text behind it, `satisfies PLACES / BUILDS` what is said of a choice,
 //! `check TEXT` of a proof, and `resolve BUDGET` finds the best choice. `later PLACES / PLACES` compares two lists.
 ghost use Rattle.std.specs.Prelude.{◌≤◌};
+ghost use Rattle.ccr_proof.specs.Claim.{IsClaim};
 
 use crate::play::Player;
 use crate::words::{number_of, split};
 use anyhow::{Result, anyhow};
-use ccr_check::{check, judge};
+use ccr_check::{CheckFault, check, judge};
 use ccr_choice::{Choice, Problem, later, read_problem, satisfies, write_problem};
 use ccr_index::build_index;
 use ccr_proof::{Claim, Proof, count, read_claim, read_proof, write_claim, write_proof};
@@ -50,41 +51,57 @@ fn push_numbers(text: &mut String, numbers: &[u32]) -> Result<(), AllocError> {
     Ok(())
 }
 
-/// How many inputs and jobs a problem has.
-fn problem(alloc: Global, text: &str) -> Result<String> {
-    let problem = read_problem(alloc, text.as_bytes())?;
+/// How many inputs and jobs a problem has, and whether it is written as it was read.
+fn problem_told(alloc: Global, problem: &Problem, text: &str) -> Result<String> {
     let (inputs, jobs) = (problem.inputs().len(), problem.jobs().len());
-    let back = back(write_problem(alloc, &problem)?.as_str() == text);
+    let back = back(write_problem(alloc, problem)?.as_str() == text);
     Ok(format!(in alloc; "{inputs} inputs, {jobs} jobs, {back}")?)
 }
 
-/// The places and builds that a claim names.
-fn claim_parts(alloc: Global, claim: &Claim) -> Result<String, AllocError> {
-    let mut parts = String::new(alloc);
+fn problem(alloc: Global, text: &str) -> Result<String> {
+    let problem = read_problem(alloc, text.as_bytes())?;
+    problem_told(alloc, &problem, text)
+}
+
+/// Adds the places and builds that a claim names.
+fn push_claim(text: &mut String, claim: &Claim) -> Result<(), AllocError> {
     match claim {
         Claim::Best(choice) => {
-            parts.push_str("places")?;
-            push_numbers(&mut parts, &choice.places)?;
-            parts.push_str(", builds")?;
-            push_numbers(&mut parts, &choice.builds)?;
+            text.push_str("places")?;
+            push_numbers(text, &choice.places)?;
+            text.push_str(", builds")?;
+            push_numbers(text, &choice.builds)
         }
-        Claim::Nothing => parts.push_str("nothing")?,
+        Claim::Nothing => text.push_str("nothing"),
     }
-    Ok(parts)
+}
+
+/// What a claim names, and whether it is written as it was read.
+fn claim_told(alloc: Global, claim: &Claim, text: &str) -> Result<String>
+    requires { IsClaim claim.now }
+{
+    let mut told = String::new(alloc);
+    push_claim(&mut told, claim)?;
+    told.push_str(", ")?;
+    told.push_str(back(write_claim(alloc, claim)?.as_str() == text))?;
+    Ok(told)
 }
 
 fn claim(alloc: Global, text: &str) -> Result<String> {
     let claim = read_claim(alloc, text.as_bytes())?;
-    let back = back(write_claim(alloc, &claim)?.as_str() == text);
-    let parts = claim_parts(alloc, &claim)?;
-    Ok(format!(in alloc; "{parts}, {back}")?)
+    claim_told(alloc, &claim, text)
+}
+
+/// How many nodes a proof has, and whether it is written as it was read.
+fn proof_told(alloc: Global, proof: &Proof, text: &str) -> Result<String> {
+    let nodes = count(proof);
+    let back = back(write_proof(alloc, proof)?.as_str() == text);
+    Ok(format!(in alloc; "{nodes} nodes, {back}")?)
 }
 
 fn proof(alloc: Global, text: &str) -> Result<String> {
     let proof = read_proof(alloc, text.as_bytes())?;
-    let nodes = count(&proof);
-    let back = back(write_proof(alloc, &proof)?.as_str() == text);
-    Ok(format!(in alloc; "{nodes} nodes, {back}")?)
+    proof_told(alloc, &proof, text)
 }
 
 fn judged(alloc: Global, text: &str) -> Result<String> {
@@ -114,73 +131,106 @@ fn said(alloc: Global, problem: &Problem, given: &str) -> Result<String> {
     Ok(satisfies(problem, &Choice { places, builds }).to_string(alloc)?)
 }
 
-/// What is said of a proof.
-fn checked(alloc: Global, problem: &Problem, text: &str) -> Result<String> {
-    let proof = read_proof(alloc, text.as_bytes())?;
-    match check(problem, &proof) {
+fn found(alloc: Global, found: Result<(), CheckFault>) -> Result<String> {
+    match found {
         Ok(()) => Ok(String::from_str(alloc, "accepted")?),
         Err(fault) => Ok(fault.to_string(alloc)?),
     }
 }
 
-/// The claim of a proof whose text, read again, is accepted and has at most so many nodes.
+/// What is said of a proof.
+fn checked(alloc: Global, problem: &Problem, text: &str) -> Result<String> {
+    let proof = read_proof(alloc, text.as_bytes())?;
+    found(alloc, check(problem, &proof))
+}
+
+/// The claim of a proof that is accepted and has at most so many nodes.
 fn accepted(alloc: Global, problem: &Problem, proof: &Proof, budget: u32) -> Result<String> {
-    let text = write_proof(alloc, proof)?;
-    let again = read_proof(alloc, text.as_bytes())?;
-    check(problem, &again)?;
-    let within = if count(&again) <= budget {
+    check(problem, proof)?;
+    let within = if count(proof) <= budget {
         "within"
     } else {
         "over"
     };
-    let parts = claim_parts(alloc, &again.claim)?;
-    Ok(format!(in alloc; "{parts}, accepted {within} {budget} nodes")?)
+    let mut told = String::new(alloc);
+    push_claim(&mut told, &proof.claim)?;
+    write!(told, ", accepted {within} {budget} nodes")?;
+    Ok(told)
 }
 
-fn resolved(alloc: Global, problem: &Problem, budget: u32) -> Result<String>
+/// The claim of a proof's text.
+fn accepted_text(alloc: Global, problem: &Problem, text: &str, budget: u32) -> Result<String> {
+    let proof = read_proof(alloc, text.as_bytes())?;
+    accepted(alloc, problem, &proof, budget)
+}
+
+/// The claim of a proof whose text, read again, is accepted; or that the budget is over.
+fn answer_told(
+    alloc: Global,
+    problem: &Problem,
+    text: Option<String>,
+    budget: u32,
+) -> Result<String> {
+    match text {
+        Some(text) => accepted_text(alloc, problem, text.as_str(), budget),
+        None => Ok(format!(in alloc; "over budget {budget}")?),
+    }
+}
+
+/// The text of the proof that the resolver gives; None where the budget is over.
+pub(crate) fn proof_text(
+    alloc: Global,
+    problem: &Problem,
+    budget: u32,
+) -> Result<Option<String>, AllocError>
     requires least { 1 ≤ budget }
     requires most { budget ≤ 1000000 }
 {
     let index = build_index(alloc, problem)?;
     match resolve(alloc, problem, &index, budget)? {
-        Answer::Best(proof) | Answer::Nothing(proof) => accepted(alloc, problem, &proof, budget),
-        Answer::OverBudget(budget) => Ok(format!(in alloc; "over budget {budget}")?),
+        Answer::Best(proof) | Answer::Nothing(proof) => Ok(Some(write_proof(alloc, &proof)?)),
+        Answer::OverBudget(_) => Ok(None),
     }
 }
 
-fn resolved_by(alloc: Global, problem: &Problem, given: &str) -> Result<String> {
+fn resolved(alloc: Global, problem: &Problem, given: &str) -> Result<String> {
     let budget = number_of(given)?;
     if budget < 1 || budget > 1_000_000 {
         return Err(anyhow!("no such budget"));
     }
-    resolved(alloc, problem, budget)
+    answer_told(alloc, problem, proof_text(alloc, problem, budget)?, budget)
 }
 
 /// What a line asks of the example.
-fn asked(alloc: Global, example: &str, kind: &str, given: &str) -> Result<String> {
+fn asked(alloc: Global, example: &str, kind: &str, text: &str) -> Result<String> {
     let problem = read_problem(alloc, example.as_bytes())?;
     match kind {
-        "satisfies" => said(alloc, &problem, given),
-        "check" => checked(alloc, &problem, text_of(alloc, given)?.as_str()),
-        "resolve" => resolved_by(alloc, &problem, given),
+        "satisfies" => said(alloc, &problem, text),
+        "check" => checked(alloc, &problem, text),
+        "resolve" => resolved(alloc, &problem, text),
         _ => Err(anyhow!("no such line")),
     }
 }
 
-fn answered(alloc: Global, example: &str, kind: &str, given: &str) -> Result<String> {
+/// What the checker says of a text behind the example.
+fn judged_behind(alloc: Global, example: &str, text: &str) -> Result<String> {
+    judged(alloc, format!(in alloc; "{example}{text}")?.as_str())
+}
+
+fn told(alloc: Global, example: &str, kind: &str, text: &str) -> Result<String> {
     match kind {
-        "example" => problem(alloc, example),
-        "problem" => problem(alloc, text_of(alloc, given)?.as_str()),
-        "claim" => claim(alloc, text_of(alloc, given)?.as_str()),
-        "proof" => proof(alloc, text_of(alloc, given)?.as_str()),
-        "judge" => judged(alloc, text_of(alloc, given)?.as_str()),
-        "judge-behind" => {
-            let behind = text_of(alloc, given)?;
-            judged(alloc, format!(in alloc; "{example}{behind}")?.as_str())
-        }
-        "later" => compared(alloc, given),
-        _ => asked(alloc, example, kind, given),
+        "example" | "problem" => problem(alloc, text),
+        "claim" => claim(alloc, text),
+        "proof" => proof(alloc, text),
+        "judge" => judged(alloc, text),
+        "judge-behind" => judged_behind(alloc, example, text),
+        "later" => compared(alloc, text),
+        _ => asked(alloc, example, kind, text),
     }
+}
+
+fn answered(alloc: Global, example: &str, kind: &str, given: &str) -> Result<String> {
+    told(alloc, example, kind, text_of(alloc, given)?.as_str())
 }
 
 impl Problems {

@@ -1,21 +1,11 @@
 //! Replies, in words.
 
+use crate::words::outcome_name;
 use ccr_core::{CoreFault, Reply};
-use ccr_steps::Outcome;
 use std::alloc::AllocError;
 
 /// So many bytes are enough for the words of each reply and fault.
 pub(crate) const MOST_BYTES: usize = 32;
-
-/// The name of an outcome.
-pub(crate) fn outcome_name(outcome: Outcome) -> &'static str {
-    match outcome {
-        Outcome::Succeeded => "succeeded",
-        Outcome::Failed => "failed",
-        Outcome::Errored => "errored",
-        Outcome::Aborted => "aborted",
-    }
-}
 
 /// Adds the words of a reply.
 pub(crate) fn push_reply(text: &mut String, reply: Reply) -> Result<(), AllocError> {

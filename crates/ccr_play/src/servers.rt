@@ -61,6 +61,39 @@ fn command_of(alloc: Global, kind: &str, words: &str) -> Result<Option<Command>,
     }))
 }
 
+/// The status of what a line has a server do; None where it is no line of one.
+fn done(
+    alloc: Global,
+    serving: &mut Serving<Tape>,
+    out: &mut Printed<Tape>,
+    kind: &str,
+    words: &str,
+) -> Result<Option<u8>, ServeFault> {
+    match kind {
+        "round" => Ok(Some(serving.round(out)?)),
+        "turn" => Ok(Some(serving.turn(out)?)),
+        _ => match command_of(alloc, kind, words) {
+            Ok(Some(command)) => serving.command(&command, out).map(|status| Some(status)),
+            Ok(None) => Ok(None),
+            Err(_) => Err(ServeFault::NoMemory),
+        },
+    }
+}
+
+/// The same, with what is printed on a tape.
+fn printed(
+    alloc: Global,
+    serving: &mut Serving<Tape>,
+    tape: Tape,
+    kind: &str,
+    words: &str,
+) -> Result<Option<u8>, ServeFault> {
+    let mut out = Printed::new(alloc, tape);
+    let status = done(alloc, serving, &mut out, kind, words);
+    out.hand_out();
+    status
+}
+
 impl Servers {
     /// An empty script, and no server.
     pub(crate) fn new(alloc: Global) -> Result<Servers, AllocError> {
@@ -86,10 +119,10 @@ impl Servers {
 
     /// Opens a server over the script; another script begins.
     fn open(&mut self, alloc: Global) -> Result<u8, ServeFault> {
-        let script = mem::replace(&mut self.script, Script::new(alloc));
         let Ok(tape) = self.tape.another() else {
             return Err(ServeFault::NoMemory);
         };
+        let script = mem::replace(&mut self.script, Script::new(alloc));
         self.serving = Some(Serving::open(alloc, tape, script)?);
         Ok(0)
     }
@@ -99,21 +132,10 @@ impl Servers {
         let Some(serving) = &mut self.serving else {
             return Ok(None);
         };
-        let Ok(tape) = self.tape.another() else {
-            return Err(ServeFault::NoMemory);
-        };
-        let mut out = Printed::new(alloc, tape);
-        let status = match kind {
-            "round" => serving.round(&mut out),
-            "turn" => serving.turn(&mut out),
-            _ => match command_of(alloc, kind, words) {
-                Ok(Some(command)) => serving.command(&command, &mut out),
-                Ok(None) => return Ok(None),
-                Err(_) => Err(ServeFault::NoMemory),
-            },
-        };
-        out.hand_out();
-        Ok(Some(status?))
+        match self.tape.another() {
+            Ok(tape) => printed(alloc, serving, tape, kind, words),
+            Err(_) => Err(ServeFault::NoMemory),
+        }
     }
 
     fn served(&mut self, alloc: Global, kind: &str, words: &str) -> Result<Option<u8>, ServeFault> {

@@ -6,6 +6,7 @@ use crate::fault::LineFault;
 use ccr_history::{HistoryFault, Pin, Scope, Status, Used, Version};
 use ccr_pipeline::Pipeline;
 use ccr_problem::scope_of;
+use ccr_steps::Outcome;
 use serde_json::Value;
 use std::alloc::{AllocError, Global};
 
@@ -169,5 +170,15 @@ pub(crate) fn status_name(status: Status) -> &'static str {
         Status::Failed => "failed",
         Status::Errored => "errored",
         Status::Aborted => "aborted",
+    }
+}
+
+/// The name of an outcome.
+pub(crate) fn outcome_name(outcome: Outcome) -> &'static str {
+    match outcome {
+        Outcome::Succeeded => "succeeded",
+        Outcome::Failed => "failed",
+        Outcome::Errored => "errored",
+        Outcome::Aborted => "aborted",
     }
 }

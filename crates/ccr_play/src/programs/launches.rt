@@ -8,6 +8,7 @@ use ccr_process::{Ended, Launch};
 use ccr_steps::{Answered, Ask};
 use ccr_task::{Places, ShelfFault, answered_of, can_launch, check_launch, config_of, launch_of};
 use std::alloc::{AllocError, Global};
+use std::collections::VecDeque;
 
 /// Types in `/t`, builds in `/w`.
 pub(crate) fn places(alloc: Global) -> Result<Places, AllocError> {
@@ -109,26 +110,45 @@ fn variables(alloc: Global, words: &str) -> Result<Vec<Variable>, AllocError> {
     Ok(variables)
 }
 
+/// What a task with these variables launches.
+fn task_launched(alloc: Global, words: &str, text: &str) -> Result<String> {
+    let config = read_task(alloc, text.as_bytes())?;
+    let env = variables(alloc, words)?;
+    let pipeline = pipeline(alloc, "-")?;
+    launched_by(alloc, &pipeline, &run(&config, &env))
+}
+
+/// What a fetch launches.
+fn fetch_launched(alloc: Global, pipeline: &Pipeline, name: &str, parts: &str) -> Result<String> {
+    let version = some_version(alloc, part(parts, 1))?;
+    let params = object(alloc, part(parts, 2))?;
+    launched_by(alloc, pipeline, &fetch(name, &version, params.as_ref()))
+}
+
+/// What a push launches.
+fn push_launched(alloc: Global, pipeline: &Pipeline, name: &str, parts: &str) -> Result<String> {
+    let params = object(alloc, part(parts, 2))?;
+    launched_by(alloc, pipeline, &push(name, params.as_ref()))
+}
+
+fn launched_in(alloc: Global, what: &str, name: &str, parts: &str) -> Result<String> {
+    let pipeline = pipeline(alloc, part(parts, 0))?;
+    match what {
+        "check" => checked(alloc, &pipeline, name, parts),
+        "fetch" => fetch_launched(alloc, &pipeline, name, parts),
+        "push" => push_launched(alloc, &pipeline, name, parts),
+        _ => launched_by(alloc, &pipeline, &Ask::ReadConfig { file: name }),
+    }
+}
+
 /// What is launched: `check NAME | SOURCE | VERSION`, `fetch` and `push` of the same form with `| PARAMS`,
 /// `task VARIABLES | CONFIG`, `file PATH`. The artifact of a fetch or a push is `code`.
 pub(super) fn launched(alloc: Global, given: &str) -> Result<String> {
     let (what, rest) = given.split_once(" ").unwrap_or((given, "-"));
     let (name, parts) = rest.split_once(" | ").unwrap_or((rest, "-"));
-    if what == "task" {
-        let config = read_task(alloc, parts.as_bytes())?;
-        let env = variables(alloc, name)?;
-        return launched_by(alloc, &pipeline(alloc, "-")?, &run(&config, &env));
-    }
-    let pipeline = pipeline(alloc, part(parts, 0))?;
-    let params = object(alloc, part(parts, 2))?;
     match what {
-        "check" => checked(alloc, &pipeline, name, parts),
-        "fetch" => {
-            let version = some_version(alloc, part(parts, 1))?;
-            launched_by(alloc, &pipeline, &fetch(name, &version, params.as_ref()))
-        }
-        "push" => launched_by(alloc, &pipeline, &push(name, params.as_ref())),
-        _ => launched_by(alloc, &pipeline, &Ask::ReadConfig { file: name }),
+        "task" => task_launched(alloc, name, parts),
+        _ => launched_in(alloc, what, name, parts),
     }
 }
 
@@ -175,6 +195,15 @@ pub(crate) fn end_of(alloc: Global, words: &str) -> Result<Ended> {
             Ended::Exit(status, Vec::from_slice(alloc, output.as_bytes())?)
         }
     })
+}
+
+/// The ends of words with blanks between.
+pub(super) fn ends_of(alloc: Global, words: &str) -> Result<VecDeque<Ended>> {
+    let mut ends = VecDeque::new(alloc);
+    for word in words.split_whitespace() {
+        ends.push_back(end_of(alloc, word)?)?;
+    }
+    Ok(ends)
 }
 
 /// What an end of a fetch, of a push and of a task answers.

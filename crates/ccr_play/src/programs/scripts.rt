@@ -1,6 +1,6 @@
 //! Runners and shelves whose answers are handed in.
 
-use super::launches::{end_of, fault_of};
+use super::launches::{ends_of, fault_of};
 use super::{letters, part};
 use anyhow::Result;
 use ccr_process::{Ended, Launch, Runner, Scripted};
@@ -37,15 +37,14 @@ fn launch(alloc: Global, program: &str) -> Result<Launch, AllocError> {
     })
 }
 
-/// What a runner with these ends answers for these programs, and its pairs then: `ENDS | PROGRAMS`, words each.
-pub(super) fn ran(alloc: Global, given: &str) -> Result<String> {
-    let mut ends = VecDeque::new(alloc);
-    for word in part(given, 0).split_whitespace() {
-        ends.push_back(end_of(alloc, word)?)?;
-    }
-    let mut runner = Scripted::new(alloc, ends);
-    let mut answers = String::new(alloc);
-    for program in part(given, 1).split_whitespace() {
+/// Adds how a runner's programs end, and its pairs then.
+fn push_runs(
+    alloc: Global,
+    answers: &mut String,
+    runner: &mut Scripted,
+    programs: &str,
+) -> Result<()> {
+    for program in programs.split_whitespace() {
         let end = runner.run(&launch(alloc, program)?);
         answers.push_str(told(alloc, &end)?.as_str())?;
         answers.push_str("; ")?;
@@ -54,7 +53,19 @@ pub(super) fn ran(alloc: Global, given: &str) -> Result<String> {
         answers.push_str(launch.program.as_str())?;
         answers.push_str(told(alloc, end)?.as_str())?;
     }
+    Ok(())
+}
+
+fn runs_of(alloc: Global, runner: &mut Scripted, programs: &str) -> Result<String> {
+    let mut answers = String::new(alloc);
+    push_runs(alloc, &mut answers, runner, programs)?;
     Ok(answers)
+}
+
+/// What a runner with these ends answers for these programs, and its pairs then: `ENDS | PROGRAMS`, words each.
+pub(super) fn ran(alloc: Global, given: &str) -> Result<String> {
+    let mut runner = Scripted::new(alloc, ends_of(alloc, part(given, 0))?);
+    runs_of(alloc, &mut runner, part(given, 1))
 }
 
 /// The answer of a word: `done`, `read:TEXT`, `read*COUNT` for so many bytes, or a fault.
@@ -104,19 +115,39 @@ fn answer_told(alloc: Global, shelf: &mut ShelfScript, call: &str) -> Result<Str
     }
 }
 
-/// What a shelf with these answers answers to these calls: `ANSWERS | CALLS`, words each.
-pub(super) fn asked(alloc: Global, given: &str) -> Result<String> {
-    let mut answers = VecDeque::new(alloc);
-    for word in part(given, 0).split_whitespace() {
-        answers.push_back(shelf_answer(alloc, word)?)?;
-    }
-    let mut shelf = ShelfScript::new(answers);
-    let mut told = String::new(alloc);
-    for (i, call) in part(given, 1).split_whitespace().enumerate() {
+/// Adds what a shelf answers to each of these calls.
+fn push_calls(
+    alloc: Global,
+    told: &mut String,
+    shelf: &mut ShelfScript,
+    calls: &str,
+) -> Result<()> {
+    for (i, call) in calls.split_whitespace().enumerate() {
         if i > 0 {
             told.push_str("; ")?;
         }
-        told.push_str(answer_told(alloc, &mut shelf, call)?.as_str())?;
+        told.push_str(answer_told(alloc, shelf, call)?.as_str())?;
     }
+    Ok(())
+}
+
+fn calls_of(alloc: Global, shelf: &mut ShelfScript, calls: &str) -> Result<String> {
+    let mut told = String::new(alloc);
+    push_calls(alloc, &mut told, shelf, calls)?;
     Ok(told)
+}
+
+/// The answers of words.
+fn answers_of(alloc: Global, words: &str) -> Result<VecDeque<ShelfAnswer>> {
+    let mut answers = VecDeque::new(alloc);
+    for word in words.split_whitespace() {
+        answers.push_back(shelf_answer(alloc, word)?)?;
+    }
+    Ok(answers)
+}
+
+/// What a shelf with these answers answers to these calls: `ANSWERS | CALLS`, words each.
+pub(super) fn asked(alloc: Global, given: &str) -> Result<String> {
+    let mut shelf = ShelfScript::new(answers_of(alloc, part(given, 0))?);
+    calls_of(alloc, &mut shelf, part(given, 1))
 }

@@ -3,7 +3,7 @@
 //! The members are those of the only job, but its name; `<x>` stands for the members of a task that runs x. The file is
 //! what the build's tasks read. An end is a status, `0:OUTPUT`, `killed`, `not-started` or `too-long`.
 
-use super::launches::{end_of, places};
+use super::launches::{ends_of, places};
 use super::part;
 use crate::steps::{pipeline_of, started};
 use crate::words::versions_of;
@@ -20,6 +20,16 @@ use std::collections::VecDeque;
 /// The most asks that a build of a case makes.
 const MOST_ASKS: u32 = 100;
 
+/// What the shelf gives: a file, unless it is absent.
+fn files_of(alloc: Global, part: &str) -> Result<VecDeque<ShelfAnswer>> {
+    let mut files = VecDeque::new(alloc);
+    if part != "-" {
+        let bytes = Vec::from_slice(alloc, part.as_bytes())?;
+        files.push_back(ShelfAnswer::Read(bytes))?;
+    }
+    Ok(files)
+}
+
 /// A server's way from an ask to its answer, for build 1 of job j.
 #[derive(Drop)]
 struct World {
@@ -31,21 +41,22 @@ struct World {
 
 impl World {
     fn new(alloc: Global, given: &str) -> Result<World> {
-        let mut ends = VecDeque::new(alloc);
-        for word in part(given, 3).split_whitespace() {
-            ends.push_back(end_of(alloc, word)?)?;
-        }
-        let mut files = VecDeque::new(alloc);
-        if part(given, 2) != "-" {
-            let bytes = Vec::from_slice(alloc, part(given, 2).as_bytes())?;
-            files.push_back(ShelfAnswer::Read(bytes))?;
-        }
+        let runner = Scripted::new(alloc, ends_of(alloc, part(given, 3))?);
+        let shelf = ShelfScript::new(files_of(alloc, part(given, 2))?);
+        let pipeline = pipeline_of(alloc, part(given, 0))?;
         Ok(World {
             places: places(alloc)?,
-            pipeline: pipeline_of(alloc, part(given, 0))?,
-            runner: Scripted::new(alloc, ends),
-            shelf: ShelfScript::new(files),
+            pipeline,
+            runner,
+            shelf,
         })
+    }
+
+    /// A build of the only job.
+    fn start(&self, alloc: Global, given: &str) -> Result<BuildRun> {
+        let versions = versions_of(alloc, part(given, 1))?;
+        let job = self.pipeline.jobs().first().ok_or(anyhow!("no job"))?;
+        started(alloc, job, &versions)
     }
 
     fn answer(&mut self, alloc: Global, ask: &Ask<'_>) -> Result<Answered> {
@@ -83,32 +94,38 @@ fn push_launch(line: &mut String, launch: &Launch) -> Result<(), AllocError> {
     line.push_str("; ")
 }
 
-/// What is seen of a build: each launch, its outcome, and the versions that it moved.
-fn seen(alloc: Global, world: &World, run: &BuildRun) -> Result<String> {
-    let mut line = String::new(alloc);
+/// Adds what is seen of a build: each launch, its outcome, and the versions that it moved.
+fn push_seen(alloc: Global, line: &mut String, world: &World, run: &BuildRun) -> Result<()> {
     for (launch, _) in world.runner.pairs() {
-        push_launch(&mut line, launch)?;
+        push_launch(line, launch)?;
     }
     if let Some(outcome) = run.outcome() {
-        line.push_str(format!(in alloc; "{outcome:?}")?.as_str())?;
+        write!(line, "{outcome:?}")?;
     }
     for moved in run.moved() {
         let resource = moved.resource.as_str();
         let key = moved.version.key(alloc)?;
         let key = key.as_str();
-        line.push_str(format!(in alloc; ", moved {resource} {key}")?.as_str())?;
+        write!(line, ", moved {resource} {key}")?;
     }
+    Ok(())
+}
+
+/// Plays a build to its end: what is seen of it.
+fn seen(alloc: Global, world: &mut World, run: &mut BuildRun) -> Result<String> {
+    world.play(alloc, run)?;
+    let mut line = String::new(alloc);
+    push_seen(alloc, &mut line, world, run)?;
     Ok(line)
+}
+
+fn seen_in(alloc: Global, world: &mut World, given: &str) -> Result<String> {
+    let mut run = world.start(alloc, given)?;
+    seen(alloc, world, &mut run)
 }
 
 /// What is seen of the build of a case.
 pub(super) fn played(alloc: Global, given: &str) -> Result<String> {
-    let versions = versions_of(alloc, part(given, 1))?;
     let mut world = World::new(alloc, given)?;
-    let Some(job) = world.pipeline.jobs().first() else {
-        return Err(anyhow!("no job"));
-    };
-    let mut run = started(alloc, job, &versions)?;
-    world.play(alloc, &mut run)?;
-    seen(alloc, &world, &run)
+    seen_in(alloc, &mut world, given)
 }
