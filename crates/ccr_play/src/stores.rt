@@ -1,9 +1,9 @@
 //! Histories that a store keeps, change by change, and loads again.
 //!
-//! The lines that change a history, from its `pipeline` on, are those of histories. `load` makes their changes in a store in memory,
-//! and, where the program is given a `DATABASE`, in the files `DATABASE-1`, `DATABASE-2` and so on too; such a file is closed,
-//! opened again and loaded once more. It is answered how many lines the history has that was loaded as it was made; where one
-//! wasn't, with both.
+//! The lines that change a history, from its `pipeline` on, are those of histories. `load` makes their changes in a store in
+//! memory, and, where the program is given a `DATABASE`, in the files `DATABASE-1`, `DATABASE-2` and so on too; such a file is
+//! closed, opened again and loaded once more. It is answered how many lines the history has that was loaded as it was made;
+//! where one wasn't, with both.
 
 mod commits;
 mod kept;
@@ -29,7 +29,7 @@ pub(crate) struct Stores<'r> {
 /// The store in the database of this file.
 fn opened(rt: &HostRuntime, path: &str) -> Result<Store<FileStore<File>>> {
     let conn = Connection::open(rt, path)?;
-    Ok(Store::adopt(rt.alloc(), conn)?)
+    Ok(Store::adopt(conn)?)
 }
 
 fn keep_in_file(rt: &HostRuntime, path: &str, lines: &str) -> Result<String> {

@@ -15,8 +15,6 @@ pub(super) struct Unkept {
 impl Storage for Unkept {
     ghost holds = { λ _ _. ⊤ };
 
-    ghost knows = { λ _ _. ⊤ };
-
     ghost tally = { λ storage. storage.tally };
 
     fn commit(&mut self, _alloc: Global, _change: &[Edit]) -> Result<(), StoreFault> {

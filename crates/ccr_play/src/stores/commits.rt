@@ -1,5 +1,4 @@
 //! Builds that are kept one after the other, for benchmarks.
-ghost use Rattle.std.specs.Prelude.{OnOk};
 
 use super::kept::Kept;
 use crate::words::version_numbered;
@@ -13,20 +12,14 @@ const JOB: &str = "j0";
 
 impl<S: Storage + Drop> Kept<S> {
     /// Reports a version of this number, which is a new one.
-    fn report_new(&mut self, alloc: Global, scope: &Scope, number: usize) -> Result<()>
-        requires { S.knows self.old.storage self.old.history }
-        ensures { OnOk result (S.knows self.new.storage self.new.history) }
-    {
+    fn report_new(&mut self, alloc: Global, scope: &Scope, number: usize) -> Result<()> {
         let mut seen = Vec::new(alloc);
         seen.push(version_numbered(alloc, number as u64)?)?;
         self.report(alloc, scope.copy()?, seen)
     }
 
     /// Makes a build that uses and moves this place. Three commits: of its version, its beginning and its end.
-    fn build_of(&mut self, alloc: Global, scope: u32, place: u32) -> Result<()>
-        requires { S.knows self.old.storage self.old.history }
-        ensures { OnOk result (S.knows self.new.storage self.new.history) }
-    {
+    fn build_of(&mut self, alloc: Global, scope: u32, place: u32) -> Result<()> {
         let mut used = Vec::new(alloc);
         let input = String::from_str(alloc, "a")?;
         used.push(Used {
@@ -45,10 +38,7 @@ impl<S: Storage + Drop> Kept<S> {
         Ok(())
     }
 
-    fn one_more(&mut self, alloc: Global, scope: &Scope) -> Result<()>
-        requires { S.knows self.old.storage self.old.history }
-        ensures { OnOk result (S.knows self.new.storage self.new.history) }
-    {
+    fn one_more(&mut self, alloc: Global, scope: &Scope) -> Result<()> {
         let number = self.history.scope_number(scope);
         let place = self.history.versions(scope).len().saturating_add(1);
         self.report_new(alloc, scope, place)?;
@@ -56,10 +46,7 @@ impl<S: Storage + Drop> Kept<S> {
     }
 
     /// Makes so many builds of the first table, each of a new version: three commits each.
-    pub(super) fn grow(&mut self, alloc: Global, count: u32) -> Result<()>
-        requires { S.knows self.old.storage self.old.history }
-        ensures { OnOk result (S.knows self.new.storage self.new.history) }
-    {
+    pub(super) fn grow(&mut self, alloc: Global, count: u32) -> Result<()> {
         let scope = self.history.scope_at(1).ok_or(anyhow!("no table"))?.copy()?;
         for _build in 0..count {
             self.one_more(alloc, &scope)?;

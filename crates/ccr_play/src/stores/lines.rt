@@ -1,5 +1,4 @@
 //! The lines that make a history.
-ghost use Rattle.std.specs.Prelude.{OnOk};
 
 use super::kept::Kept;
 use crate::words::{
@@ -18,20 +17,14 @@ impl<S: Storage + Drop> Kept<S> {
         pipeline: &Option<Pipeline>,
         name: &str,
         seen: Vec<Version>,
-    ) -> Result<()>
-        requires { S.knows self.old.storage self.old.history }
-        ensures { OnOk result (S.knows self.new.storage self.new.history) }
-    {
+    ) -> Result<()> {
         let pipeline = pipeline.as_ref().ok_or(anyhow!("no pipeline"))?;
         let scope = scope_in(alloc, pipeline, name)?;
         self.report(alloc, scope, seen)
     }
 
     /// Makes a build, unless its places aren't ones of the tables.
-    fn make(&mut self, alloc: Global, job: &str, words: &str) -> Result<()>
-        requires { S.knows self.old.storage self.old.history }
-        ensures { OnOk result (S.knows self.new.storage self.new.history) }
-    {
+    fn make(&mut self, alloc: Global, job: &str, words: &str) -> Result<()> {
         let used = used_places(alloc, words)?;
         if self.history.can_use(&used) {
             self.add_build(alloc, job, used)?;
@@ -40,10 +33,7 @@ impl<S: Storage + Drop> Kept<S> {
     }
 
     /// Ends a build, unless it doesn't run, or its pairs aren't places of the tables.
-    fn end(&mut self, alloc: Global, job: &str, words: &str) -> Result<()>
-        requires { S.knows self.old.storage self.old.history }
-        ensures { OnOk result (S.knows self.new.storage self.new.history) }
-    {
+    fn end(&mut self, alloc: Global, job: &str, words: &str) -> Result<()> {
         let (number, words) = split(words);
         let (status, words) = split(words);
         let (number, status) = (number_of(number)?, status_of(status)?);
@@ -59,19 +49,13 @@ impl<S: Storage + Drop> Kept<S> {
     }
 
     /// Makes a build of a job, and ends it as failed.
-    fn fail_one(&mut self, alloc: Global, job: &str) -> Result<()>
-        requires { S.knows self.old.storage self.old.history }
-        ensures { OnOk result (S.knows self.new.storage self.new.history) }
-    {
+    fn fail_one(&mut self, alloc: Global, job: &str) -> Result<()> {
         let number = self.add_build(alloc, job, Vec::new(alloc))?;
         self.end_build(alloc, job, number, Status::Failed, &[])
     }
 
     /// Makes so many builds of a job, and ends each as failed.
-    fn fail(&mut self, alloc: Global, job: &str, count: u32) -> Result<()>
-        requires { S.knows self.old.storage self.old.history }
-        ensures { OnOk result (S.knows self.new.storage self.new.history) }
-    {
+    fn fail(&mut self, alloc: Global, job: &str, count: u32) -> Result<()> {
         for _build in 0..count {
             self.fail_one(alloc, job)?;
         }
@@ -79,20 +63,14 @@ impl<S: Storage + Drop> Kept<S> {
     }
 
     /// Sets a pipeline, and gives it.
-    fn set(&mut self, alloc: Global, text: &str) -> Result<Pipeline>
-        requires { S.knows self.old.storage self.old.history }
-        ensures { OnOk result (S.knows self.new.storage self.new.history) }
-    {
+    fn set(&mut self, alloc: Global, text: &str) -> Result<Pipeline> {
         let pipeline = read(alloc, text.as_bytes())?;
         self.set_text(alloc, text.as_bytes())?;
         Ok(pipeline)
     }
 
     /// Makes the change of a line, if it makes one.
-    fn play(&mut self, alloc: Global, pipeline: &mut Option<Pipeline>, line: &str) -> Result<()>
-        requires { S.knows self.old.storage self.old.history }
-        ensures { OnOk result (S.knows self.new.storage self.new.history) }
-    {
+    fn play(&mut self, alloc: Global, pipeline: &mut Option<Pipeline>, line: &str) -> Result<()> {
         let (kind, given) = split(line);
         let (first, rest) = split(given);
         match kind {
@@ -112,10 +90,7 @@ impl<S: Storage + Drop> Kept<S> {
     }
 
     /// Makes the changes of these lines.
-    pub(super) fn play_lines(&mut self, alloc: Global, lines: &str) -> Result<()>
-        requires { S.knows self.old.storage self.old.history }
-        ensures { OnOk result (S.knows self.new.storage self.new.history) }
-    {
+    pub(super) fn play_lines(&mut self, alloc: Global, lines: &str) -> Result<()> {
         let mut pipeline = None;
         for line in lines.lines() {
             self.play(alloc, &mut pipeline, line)?;

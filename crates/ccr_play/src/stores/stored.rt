@@ -1,8 +1,6 @@
 //! Histories that a store keeps, and what it loads.
 //!
 //! The proof is dear where a function that owns a store also loops or returns early, so these do neither behind it.
-ghost use Rattle.std.specs.Prelude.{IfOk, OnOk};
-ghost use Rattle.ccr_store.specs.Outline.{IsOutline};
 
 use super::kept::Kept;
 use crate::history_text::text_of;
@@ -31,9 +29,7 @@ fn loaded_text<S: Alter + Drop>(alloc: Global, store: &mut Store<S>) -> Result<S
 }
 
 /// The history in a store, with the store that keeps it.
-fn loaded<S: Alter + Drop>(alloc: Global, store: Store<S>) -> Result<Kept<Store<S>>>
-    ensures { IfOk result (λ kept. IsOutline kept.history kept.storage.outline) }
-{
+fn loaded<S: Alter + Drop>(alloc: Global, store: Store<S>) -> Result<Kept<Store<S>>> {
     let mut storage = store;
     match storage.load(alloc) {
         Ok(history) => Ok(Kept { history, storage }),
@@ -44,9 +40,7 @@ fn loaded<S: Alter + Drop>(alloc: Global, store: Store<S>) -> Result<Kept<Store<
 impl<S: Alter + Drop> Kept<Store<S>> {
     /// Makes the history of these lines, change by change in the store too, and gives it as text. An error where the store
     /// loads another one.
-    fn played(&mut self, alloc: Global, lines: &str) -> Result<String>
-        requires { IsOutline self.old.history self.old.storage.outline }
-    {
+    fn played(&mut self, alloc: Global, lines: &str) -> Result<String> {
         self.play_lines(alloc, lines)?;
         let made = whole_text(alloc, &self.history)?;
         let loaded = loaded_text(alloc, &mut self.storage)?;
@@ -57,9 +51,7 @@ impl<S: Alter + Drop> Kept<Store<S>> {
     }
 
     /// Makes so many builds more, three commits each, and gives the microseconds that they took.
-    fn timed(&mut self, rt: &HostRuntime, count: u32) -> Result<u128>
-        requires { IsOutline self.old.history self.old.storage.outline }
-    {
+    fn timed(&mut self, rt: &HostRuntime, count: u32) -> Result<u128> {
         let start = Instant::now(rt)?;
         self.grow(rt.alloc(), count)?;
         Ok(start.elapsed(rt)?.as_micros())
