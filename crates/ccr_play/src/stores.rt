@@ -1,9 +1,9 @@
 //! Histories that a store keeps, change by change, and loads again.
 //!
-//! The lines that change a history, from its `pipeline` on, are those of histories. `load` makes their changes in a store in memory,
-//! and, where the program is given a `DATABASE`, in the files `DATABASE-1`, `DATABASE-2` and so on too; such a file is closed,
-//! opened again and loaded once more. It is answered how many lines the history has that was loaded as it was made; where one
-//! wasn't, with both.
+//! The lines that change a history, from its `pipeline` on, are those of histories. `load` makes their changes in a store in
+//! memory, and, where the program is given a `DATABASE`, in the files `DATABASE-1`, `DATABASE-2` and so on too; such a file is
+//! closed, opened again and loaded once more. It is answered how many lines the history has that was loaded as it was made;
+//! where one wasn't, with both.
 
 mod commits;
 mod kept;
