@@ -2,8 +2,8 @@
 //!
 //! Five jobs run over six repositories, of which one never changes: each takes it and two others, and a last job takes all six,
 //! each of which has to have passed the jobs that take it. A job begins a build once one of its repositories has a new version,
-//! and the build ends some ticks later; one in ten fails. So builds are nearly always in flight, and the newest builds of the jobs
-//! seldom agree.
+//! and the build ends some ticks later; one in ten fails. So builds are nearly always in flight, and the newest builds of the
+//! jobs seldom agree.
 
 ghost use Rattle.std.specs.Prelude.{◌<◌};
 
@@ -222,8 +222,8 @@ fn grown(rt: &HostRuntime, index: &mut Index, world: &mut World, builds: u32) ->
     Ok(times)
 }
 
-/// Grows an index until each job has so many successful builds, and measures the events that come next; then gives each job a build
-/// of the newest versions and measures the two questions again.
+/// Grows an index until each job has so many successful builds, and measures the events that come next; then gives each job a
+/// build of the newest versions and measures the two questions again.
 pub(crate) fn grow_told(rt: &HostRuntime, builds: u32) -> io::Result<String> {
     let alloc = rt.alloc();
     let Ok(problem) = read_problem(alloc, START) else {

@@ -1,14 +1,15 @@
 //! Measures calls, for `scripts/bench`: what `ccr_bench CALL [COUNT]` prints, or how much memory and time the whole run takes.
 //!
-//! Of a problem on standard input: `times` prints how long the calls of the index and the resolver take on it; `plain` prints the claim of
-//! the plain resolver and how many nodes its tree has. `grow BUILDS` grows an index event by event until each of five jobs has so many
-//! builds, and prints how long the calls of the next thousand events take (`grow.rt`).
+//! Of a problem on standard input: `times` prints how long the calls of the index and the resolver take on it; `plain` prints
+//! the claim of the plain resolver and how many nodes its tree has. `grow BUILDS` grows an index event by event until each of
+//! five jobs has so many builds, and prints how long the calls of the next thousand events take (`grow.rt`).
 //!
-//! Of a pipeline on standard input: `pipeline COUNT` reads it so often. `builds COUNT` starts so many builds of its first job, which has no
-//! inputs, and holds them all at once. `done COUNT` and `failed COUNT` start one and give so many of its asks this answer.
+//! Of a pipeline on standard input: `pipeline COUNT` reads it so often. `builds COUNT` starts so many builds of its first job,
+//! which has no inputs, and holds them all at once. `done COUNT` and `failed COUNT` start one and give so many of its asks this
+//! answer.
 //!
-//! `launch COUNT` starts `sh -c true` so often. `launches COUNT` starts so many programs by one runner, each of which writes 64 KiB.
-//! `versions COUNT` makes so many versions of two short fields and holds them at once.
+//! `launch COUNT` starts `sh -c true` so often. `launches COUNT` starts so many programs by one runner, each of which writes 64
+//! KiB. `versions COUNT` makes so many versions of two short fields and holds them at once.
 //!
 //! Statuses: 0 done, 1 refused, 2 usage.
 #![tactic(auto)]

@@ -1,8 +1,9 @@
 //! Plays lines, and prints each with its answer.
 //!
-//! `ccr_play KIND` reads lines from standard input. A line's first word says what is asked, and what follows is given to it. The line is
-//! printed as it stands, and each line of its answer below it, after `> `. A line that begins with `#`, and an empty one, is printed
-//! as it stands. Lines that begin with `> ` are left out: so what was printed can be played again. The kinds are:
+//! `ccr_play KIND` reads lines from standard input. A line's first word says what is asked, and what follows is given to it.
+//! The line is printed as it stands, and each line of its answer below it, after `> `. A line that begins with `#`, and an
+//! empty one, is printed as it stands. Lines that begin with `> ` are left out: so what was printed can be played again. The
+//! kinds are:
 //!
 //! | `versions` | versions, pins and objects |
 //! | `pipelines` | pipelines and task files |
@@ -15,18 +16,19 @@
 //! | `servers` | servers whose programs and folders are a script |
 //! | `stores [DATABASE]` | histories that a store keeps and loads |
 //!
-//! Each has a module of its name, which says what its lines are. With the word `--timed` behind it, nothing but each line's time is
-//! printed.
+//! Each has a module of its name, which says what its lines are. With the word `--timed` behind it, nothing but each line's
+//! time is printed.
 //!
-//! `ccr_play check KIND.cases ..` plays the lines of files, and compares what is told with the files: a line for each file. The gate
-//! runs this on the files of `data/`, whose answers were worked out by hand.
+//! `ccr_play check KIND.cases ..` plays the lines of files, and compares what is told with the files: a line for each file. The
+//! gate runs this on the files of `data/`, whose answers were worked out by hand.
 //!
-//! Other calls: `ccr_play pipeline` and `ccr_play task` read a whole text. `ccr_play resolve BUDGET` reads a problem and prints the proof
-//! of its best choice, or that none satisfies, of at most BUDGET nodes; `ccr_play choose BUDGET` prints the line of the same claim alone.
-//! `ccr_play type PROGRAMS FOLDER` reads `{"source":..,"params":..}` and tries a resource type: it starts PROGRAMS/check, PROGRAMS/in for
-//! the last version and PROGRAMS/out in FOLDER, with FOLDER/in as the artifact's folder, and prints each version.
-//! `ccr_play commits DATABASE COUNT` makes so many builds more in a database, three commits each, and prints how long the commits took.
-//! Statuses: 0 done, 1 refused or answered otherwise, 2 usage, 3 over budget, 4 out of memory or unreadable.
+//! Other calls: `ccr_play pipeline` and `ccr_play task` read a whole text. `ccr_play resolve BUDGET` reads a problem and prints
+//! the proof of its best choice, or that none satisfies, of at most BUDGET nodes; `ccr_play choose BUDGET` prints the line of
+//! the same claim alone. `ccr_play type PROGRAMS FOLDER` reads `{"source":..,"params":..}` and tries a resource type: it starts
+//! PROGRAMS/check, PROGRAMS/in for the last version and PROGRAMS/out in FOLDER, with FOLDER/in as the artifact's folder, and
+//! prints each version. `ccr_play commits DATABASE COUNT` makes so many builds more in a database, three commits each, and
+//! prints how long the commits took. Statuses: 0 done, 1 refused or answered otherwise, 2 usage, 3 over budget, 4 out of memory
+//! or unreadable.
 #![tactic(auto)]
 
 mod answer;

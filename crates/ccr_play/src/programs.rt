@@ -1,6 +1,7 @@
 //! Programs: requests and replies, launches and ends, and whole builds whose programs end by a script.
 //!
-//! A part of a line that is absent is written `-`. Parts are set apart by ` | `. The files of this folder say which parts a line has.
+//! A part of a line that is absent is written `-`. Parts are set apart by ` | `. The files of this folder say which parts a
+//! line has.
 
 mod launches;
 mod replies;

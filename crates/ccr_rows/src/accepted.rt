@@ -32,7 +32,8 @@ fn judged(alloc: Global, problem: &Problem, proof: &Proof) -> Result<(String, u8
 /// the line of a claim that is right, and status 0. None where the budget, from 1 to 1,000,000 nodes, is over; it is
 /// then below the room.
 ///
-/// This follows from what [`build_index`], [`resolve`], [`write_problem`], [`write_proof`] and [`judge`] promise, and from nothing else.
+/// This follows from what [`build_index`], [`resolve`], [`write_problem`], [`write_proof`] and [`judge`] promise, and from
+/// nothing else.
 pub fn resolved(
     alloc: Global,
     problem: &Problem,

@@ -1,7 +1,9 @@
-//! Tests in code, of what lines can't tell: readers, writers and programs that fail at a call, real programs and folders, texts of many
-//! lines, and the resolver beside two others. Each test is named by what it shows. What is data is in the lines of `ccr_play`.
+//! Tests in code, of what lines can't tell: readers, writers and programs that fail at a call, real programs and folders, texts
+//! of many lines, and the resolver beside two others. Each test is named by what it shows. What is data is in the lines of
+//! `ccr_play`.
 //!
-//! Beside the tests stand one law, [`resolved`]: the checker accepts what the resolver answers; and the plain resolver, [`plain`].
+//! Beside the tests stand one law, [`resolved`]: the checker accepts what the resolver answers; and the plain resolver,
+//! [`plain`].
 #![tactic(auto)]
 
 mod accepted;

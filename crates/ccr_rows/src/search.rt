@@ -1,5 +1,6 @@
-//! The plain resolver: it fixes the named jobs in their order, newest builds first, with a bound that rises, and closes no box before
-//! all its children are done. Possible places are found by looking through the rows. It is there to compare the resolver with.
+//! The plain resolver: it fixes the named jobs in their order, newest builds first, with a bound that rises, and closes no box
+//! before all its children are done. Possible places are found by looking through the rows. It is there to compare the resolver
+//! with.
 
 ghost use Rattle.std.specs.Prelude.{◌≤◌, length};
 
