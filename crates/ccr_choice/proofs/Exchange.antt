@@ -1,6 +1,6 @@
 -- The builds of a job are told apart by their numbers, and one that dominates another can take its place.
 use Rattle.std.proofs.Common.{◌≡◌, ◌≢◌, ℕ, ◌<◌, inl, inr, List, [], ◌∷◌, length, slice_index, slice_set, true, refl, sym, ap, ◌∙◌, subst, arith}
-use Rattle.std.specs.Prelude.{Contains, Any, EachIndex}
+use Rattle.std.specs.Prelude.{Contains, Any}
 use Rattle.std.proofs.lemmas.Bool.{and_parts, ltb-true, cases_eq}
 use Rattle.std.proofs.lemmas.List.{length-set, get_or-set_same, get_or-set_other, get_or_default}
 use Rattle.std.proofs.lemmas.List.Elements.{All-contains}
@@ -8,7 +8,6 @@ use Rattle.ccr_choice.specs.Problem.{ProblemValue, BuildValue, no_input, is_prob
 use Rattle.ccr_choice.specs.Satisfies.{Satisfies, Moved, IsSuccessful, HasPassed, HasPassedAll}
 use Rattle.ccr_choice.specs.Dominated.{IsNamedIn, IsDominated}
 use Rattle.ccr_choice.proofs.Bounds.{builds_kept}
-use Rattle.ccr_choice.proofs.Numbering.{named_below}
 use Rattle.ccr_choice.proofs.Members.{contains_none, contains_cases, any_of}
 
 pub below_high : (scopes high : ℕ) (bs : List BuildValue) (b : BuildValue) → are_builds_below scopes high bs ≡ true → Contains bs b → b.number < high

@@ -12,7 +12,9 @@ fn is_named_in(problem: &Problem, job: u32, scope: u32) -> bool
     ensures { IsTrue result ↔ IsNamedIn problem.now job scope }
 {
     let inputs = problem.inputs();
-    inputs.iter().any(|i| i.scope() == scope && i.jobs().contains(&job))
+    inputs
+        .iter()
+        .any(|i| i.scope() == scope && i.jobs().contains(&job))
 }
 
 /// Whether each of these pairs whose scope is that of an input naming the job is among the others.

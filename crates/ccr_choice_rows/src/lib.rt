@@ -19,5 +19,7 @@ mod problems;
 mod proofs;
 #[cfg(test)]
 mod resolving;
+#[cfg(test)]
+mod same;
 
 pub use accepted::resolved;

@@ -28,6 +28,7 @@ fn a_proof_is_read_counted_and_written_back(rt: HostRuntime) -> Result<(), Fail>
             "proof 1\nnone\njob 4294967295 2\njob 0 0\njob 1 1\nempty 7\n",
             4,
         ),
+        ("proof 2\nnone\njob 0 2\nempty 0\nsame 4294967295\n", 3),
     ];
     for (text, nodes) in cases {
         assert!(rt; goes_round(rt.alloc(), text, nodes)?, "{text:?}");
@@ -36,9 +37,14 @@ fn a_proof_is_read_counted_and_written_back(rt: HostRuntime) -> Result<(), Fail>
 }
 
 /// Texts that are no proof, and why.
-const REFUSED: [(&str, ProofFault); 8] = [
+const REFUSED: [(&str, ProofFault); 10] = [
     ("", ProofFault::BadLine(1)),
-    ("proof 2\nnone\nempty 0\n", ProofFault::BadLine(1)),
+    ("proof 3\nnone\nempty 0\n", ProofFault::BadLine(1)),
+    ("proof 2\nnone\nempty 0\n", ProofFault::BadLine(3)),
+    (
+        "proof 1\nnone\njob 0 2\nempty 0\nsame 0\n",
+        ProofFault::BadLine(5),
+    ),
     (
         "proof 1\nbest 4294967296 1 builds 9\nbounded\n",
         ProofFault::BadLine(2),

@@ -46,7 +46,10 @@ pub fn write_proof(alloc: Global, proof: &Proof) -> Result<String, AllocError>
 {
     let words = claim_words(alloc, &proof.claim)?;
     let mut out = String::new(alloc);
-    put_line(&mut out, &[Word::Proof, Word::Number(format_of(&proof.tree))])?;
+    put_line(
+        &mut out,
+        &[Word::Proof, Word::Number(format_of(&proof.tree))],
+    )?;
     put_line(&mut out, &words)?;
     put_tree(&mut out, &proof.tree)?;
     Ok(out)

@@ -13,7 +13,7 @@ use Rattle.ccr_choice.specs.Assignment.{Assignment, with_build, nothing_fixed}
 use Rattle.ccr_choice.specs.Possible.{AreBestPlaces, AreBoundedBy}
 use Rattle.ccr_choice.proofs.BestPlaces.{best_places}
 use Rattle.ccr_choice.proofs.PossibleLaws.{are_only, bounded_by}
-use Rattle.ccr_proof.specs.Tree.{Tree, Trees, job, empty, bounded, no_child, child, count, count_all, levels, levels_all, tree_of, trees_of}
+use Rattle.ccr_proof.specs.Tree.{Tree, Trees, job, empty, bounded, same_as, no_child, child, count, count_all, levels, levels_all, tree_of, trees_of}
 use Rattle.ccr_proof.specs.Refutes.{HasNoPlace, IsBounded, Refutes, RefuteEach}
 use Rattle.ccr_choice.specs.Table.{build_of, assigned}
 use Rattle.ccr_choice.proofs.TableLaws.{table_set}
@@ -34,12 +34,14 @@ module _ (prefers : Preference) (p : ProblemValue) (x y : Option (List ℕ)) (wo
     pub refutes_more : (a : Assignment) (t : Tree) → Refutes prefers p x a t → Refutes prefers p y a t
     refutes_more a (empty i) h = h
     refutes_more a bounded h = bounded_more a x y worse h
+    refutes_more a (same_as q) h = absurd h
     refutes_more a (job j ts) h = (h.0, h.1, each_more a j ts 0 (builds_at p j) ts h.2)
 
     pub each_more : (a : Assignment) (j : ℕ) (all : Trees) (k : ℕ) (bs : List BuildValue) (ts : Trees)
         → RefuteEach prefers p x a j all k bs ts → RefuteEach prefers p y a j all k bs ts
     each_more a j all k [] no_child h = tt
-    each_more a j all k (b ∷ bs) (child t ts) h = (refutes_more (with_build a j b) t h.0, each_more a j all (k + 1) bs ts h.1)
+    each_more a j all k (b ∷ bs) (child t ts) h =
+        (elim h.0 [ inl own ↦ inl (refutes_more (with_build a j b) t own) | inr other ↦ inr other ], each_more a j all (k + 1) bs ts h.1)
     each_more a j all k [] (child t ts) h = absurd h
     each_more a j all k (b ∷ bs) no_child h = absurd h
 
@@ -50,7 +52,7 @@ with_child (child x ts) t = child x (with_child ts t)
 
 pub each_one : (prefers : Preference) (p : ProblemValue) (bound : Option (List ℕ)) (a : Assignment) (j : ℕ) (all : Trees) (m : ℕ) (bs : List BuildValue) (ts : Trees) (b : BuildValue) (t : Tree)
     → RefuteEach prefers p bound a j all m bs ts → Refutes prefers p bound (with_build a j b) t → RefuteEach prefers p bound a j all m (bs ++ b ∷ []) (with_child ts t)
-each_one prefers p bound a j all m [] no_child b t h k = (k, tt)
+each_one prefers p bound a j all m [] no_child b t h k = (inl k, tt)
 each_one prefers p bound a j all m (x ∷ bs) (child y ts) b t h k = (h.0, each_one prefers p bound a j all (m + 1) bs ts b t h.1 k)
 each_one prefers p bound a j all m [] (child y ts) b t h k = absurd h
 each_one prefers p bound a j all m (x ∷ bs) no_child b t h k = absurd h

@@ -1,4 +1,4 @@
-use Rattle.std.proofs.Common.{◌<◌, [], ◌≡◌, length, get_or, inl, inr, refl, sym, ap, ◌∙◌, subst, arith, Some, option_copied}
+use Rattle.std.proofs.Common.{◌<◌, ◌≡◌, length, get_or, inl, refl, sym, ap, ◌∙◌, subst, arith, Some, option_copied}
 use Rattle.std.proofs.lemmas.Option.{slice_get-get_or}
 use Rattle.std.proofs.lemmas.Result.{err_from_is_err_and}
 use Rattle.ccr_choice.specs.Problem.{builds_at}
