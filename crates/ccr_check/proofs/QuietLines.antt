@@ -62,6 +62,7 @@ word_quiet word.Nothing more is h = absurd h
 word_quiet word.Job more is h = absurd h
 word_quiet word.Empty more is h = absurd h
 word_quiet word.Bounded more is h = absurd h
+word_quiet word.Same more is h = absurd h
 word_quiet word.Other more is h = absurd h
 
 line_quiet : (l : List Word) (more : List ℕ) → IsLine l → IsQuiet l → begins (line_text l ++ more) ≡ false

@@ -1,5 +1,5 @@
 -- The steps of the walk over a tree.
-use Rattle.std.proofs.Common.{◌≡◌, ◌≢◌, ℕ, suc, ◌+◌, ◌<◌, ◌≤◌, ◌⊎◌, inl, inr, Bool, true, false, not, List, [], ◌∷◌, length, drop, get_or, refl, sym, ap, ◌∙◌, subst, arith, Option, Some, None, IsTrue, drop-cons, add-one, is_some, option_copied, Bor}
+use Rattle.std.proofs.Common.{◌≡◌, ◌≢◌, ℕ, zero, suc, ◌+◌, ◌<◌, ◌≤◌, ◌⊎◌, inl, inr, Bool, true, false, not, List, [], ◌∷◌, length, drop, get_or, slice_get, refl, sym, ap, ◌∙◌, subst, arith, Option, Some, None, IsTrue, drop-cons, add-one, is_some, option_copied, Bor}
 use Rattle.std.proofs.lemmas.Bool.{not-false}
 use Rattle.std.proofs.lemmas.List.{drop_all}
 use Rattle.ccr_choice.specs.Problem.{ProblemValue, BuildValue, builds_at}
@@ -7,8 +7,8 @@ use Rattle.ccr_proof.specs.declared.node.Node.{Node}
 use Rattle.ccr_choice.specs.Preference.{Preference, order_of}
 use Rattle.ccr_choice.specs.Assignment.{Assignment, with_build}
 use Rattle.ccr_choice.specs.Possible.{IsBestPossible}
-use Rattle.ccr_proof.specs.Tree.{Tree, Trees, job, empty, bounded, no_child, child, width, count, count_all, tree_of, trees_of}
-use Rattle.ccr_proof.specs.Refutes.{HasNoPlace, Refutes, RefuteEach}
+use Rattle.ccr_proof.specs.Tree.{Tree, Trees, job, empty, bounded, same_as, no_child, child, width, count, count_all, is_same, are_same, tree_of, trees_of}
+use Rattle.ccr_proof.specs.Refutes.{HasNoPlace, IsSame, Refutes, RefuteEach}
 use Rattle.ccr_proof.proofs.Trees.{width_of, trees_at}
 use Rattle.ccr_check.specs.declared.fault.CheckFault.{CheckFault}
 use Rattle.ccr_check.specs.declared.fault.CheckFault.TheVariants.{WrongChildren}
@@ -53,24 +53,24 @@ module _ (p : ProblemValue) (bound : Option (List ℕ)) (a : Assignment) (j : �
     builds_step : drop k bs ≡ b ∷ drop (k + 1) bs
     builds_step = cc (drop-cons bs k b in_bs, add-one k)
 
-    pub step_refuted : Refutes (order_of p) p bound (with_build a j b) (tree_of c) → RefuteEach (order_of p) p bound a j (trees_of cs) (k + 1) (drop (k + 1) bs) (trees_of (drop (k + 1) cs)) → RefuteEach (order_of p) p bound a j (trees_of cs) k (drop k bs) (trees_of (drop k cs))
+    pub step_refuted : Refutes (order_of p) p bound (with_build a j b) (tree_of c) ⊎ IsSame p j (trees_of cs) k b (tree_of c) → RefuteEach (order_of p) p bound a j (trees_of cs) (k + 1) (drop (k + 1) bs) (trees_of (drop (k + 1) cs)) → RefuteEach (order_of p) p bound a j (trees_of cs) k (drop k bs) (trees_of (drop k cs))
     step_refuted h rest =
         let P : List BuildValue → Type 0 = λ xs. RefuteEach (order_of p) p bound a j (trees_of cs) k xs (trees_of (drop k cs)) in
         let Q : Trees → Type 0 = λ ts. RefuteEach (order_of p) p bound a j (trees_of cs) k (b ∷ drop (k + 1) bs) ts in
         subst P (sym builds_step) (subst Q (sym (trees_at cs k c in_cs c_at)) (h, rest))
 
-    from_pair : (n : ℕ) (f : CheckFault) → IsFirstFault (order_of p) p bound (with_build a j b) n (tree_of c) f
-        ⊎ (Refutes (order_of p) p bound (with_build a j b) (tree_of c) × IsFirstAmong (order_of p) p bound a (n + count (tree_of c)) j (trees_of cs) (k + 1) (drop (k + 1) bs) (trees_of (drop (k + 1) cs)) f)
+    from_pair : (n : ℕ) (f : CheckFault) → ((IsSame p j (trees_of cs) k b (tree_of c) → ⊥) × IsFirstFault (order_of p) p bound (with_build a j b) n (tree_of c) f)
+        ⊎ ((Refutes (order_of p) p bound (with_build a j b) (tree_of c) ⊎ IsSame p j (trees_of cs) k b (tree_of c)) × IsFirstAmong (order_of p) p bound a (n + count (tree_of c)) j (trees_of cs) (k + 1) (drop (k + 1) bs) (trees_of (drop (k + 1) cs)) f)
         → IsFirstAmong (order_of p) p bound a n j (trees_of cs) k (drop k bs) (trees_of (drop k cs)) f
     from_pair n f h =
         let P : List BuildValue → Type 0 = λ xs. IsFirstAmong (order_of p) p bound a n j (trees_of cs) k xs (trees_of (drop k cs)) f in
         let Q : Trees → Type 0 = λ ts. IsFirstAmong (order_of p) p bound a n j (trees_of cs) k (b ∷ drop (k + 1) bs) ts f in
         subst P (sym builds_step) (subst Q (sym (trees_at cs k c in_cs c_at)) h)
 
-    pub here_faulty : (n : ℕ) (f : CheckFault) → IsFirstFault (order_of p) p bound (with_build a j b) n (tree_of c) f → IsFirstAmong (order_of p) p bound a n j (trees_of cs) k (drop k bs) (trees_of (drop k cs)) f
-    here_faulty n f h = from_pair n f (inl h)
+    pub here_faulty : (n : ℕ) (f : CheckFault) → (IsSame p j (trees_of cs) k b (tree_of c) → ⊥) → IsFirstFault (order_of p) p bound (with_build a j b) n (tree_of c) f → IsFirstAmong (order_of p) p bound a n j (trees_of cs) k (drop k bs) (trees_of (drop k cs)) f
+    here_faulty n f other h = from_pair n f (inl (other, h))
 
-    pub step_faulty : (n next : ℕ) (f : CheckFault) → next ≡ n + count (tree_of c) → Refutes (order_of p) p bound (with_build a j b) (tree_of c)
+    pub step_faulty : (n next : ℕ) (f : CheckFault) → next ≡ n + count (tree_of c) → Refutes (order_of p) p bound (with_build a j b) (tree_of c) ⊎ IsSame p j (trees_of cs) k b (tree_of c)
         → IsFirstAmong (order_of p) p bound a next j (trees_of cs) (k + 1) (drop (k + 1) bs) (trees_of (drop (k + 1) cs)) f → IsFirstAmong (order_of p) p bound a n j (trees_of cs) k (drop k bs) (trees_of (drop k cs)) f
     step_faulty n next f e refutes rest =
         let P : ℕ → Type 0 = λ m. IsFirstAmong (order_of p) p bound a m j (trees_of cs) (k + 1) (drop (k + 1) bs) (trees_of (drop (k + 1) cs)) f in
@@ -81,6 +81,16 @@ module _ (p : ProblemValue) (bound : Option (List ℕ)) (a : Assignment) (j : �
       let P : List BuildValue → Type 0 = λ xs. RefuteEach (order_of p) p bound a j (trees_of cs) k xs (trees_of (drop k cs)) in
       let Q : List Node → Type 0 = λ ys. RefuteEach (order_of p) p bound a j (trees_of cs) k [] (trees_of ys) in
       subst P (sym (drop_all k bs done_bs)) (subst Q (sym (drop_all k cs done_cs)) tt)
+
+-- a child that is the same case as another is one node
+pub same_count : (p : ProblemValue) (j : ℕ) (all : Trees) (k : ℕ) (b : BuildValue) (t : Tree) → IsSame p j all k b t → count t ≡ 1
+same_count p j all k b t h = ap count h.1
+
+-- whether child q is a case of its own
+pub own_at : (cs : List Node) (q : ℕ) (c : Node) → q < length cs → c ≡ get_or cs q c → slice_get (are_same (trees_of cs)) q ≡ Some (is_same (tree_of c))
+own_at [] q c within at = absurd (omega arith)
+own_at (x ∷ cs) zero c within at = ap (λ y. Some (is_same (tree_of y))) (sym at)
+own_at (x ∷ cs) (suc q) c within at = own_at cs q c (omega arith) at
 
 -- a tree that refutes has no fault
 module _ (prefers : Preference) (p : ProblemValue) (bound : Option (List ℕ)) where
@@ -95,6 +105,7 @@ module _ (prefers : Preference) (p : ProblemValue) (bound : Option (List ℕ)) w
     faultless a n (empty i) f h (inl fault) = fault.2 h
     faultless a n (empty i) f h (inr fault) = absurd (omega (arith, h.0, fault.1))
     faultless a n bounded f h fault = fault.1 h
+    faultless a n (same_as q) f h fault = absurd h
     faultless a n (job j ts) f h (inl (inl fault)) = absurd (omega (arith, h.0, fault.1))
     faultless a n (job j ts) f h (inl (inr (inl fault))) = fault.2 h.1
     faultless a n (job j ts) f h (inl (inr (inr fault))) = fault.3 (each_width a j ts 0 (builds_at p j) ts h.2)
@@ -103,7 +114,8 @@ module _ (prefers : Preference) (p : ProblemValue) (bound : Option (List ℕ)) w
     each_faultless : (a : Assignment) (n j : ℕ) (all : Trees) (k : ℕ) (bs : List BuildValue) (ts : Trees) (f : CheckFault) → RefuteEach prefers p bound a j all k bs ts
         → IsFirstAmong prefers p bound a n j all k bs ts f → ⊥
     each_faultless a n j all k [] no_child f h fault = fault
-    each_faultless a n j all k (b ∷ bs) (child t ts) f h (inl fault) = faultless (with_build a j b) n t f h.0 fault
+    each_faultless a n j all k (b ∷ bs) (child t ts) f h (inl fault) =
+        elim h.0 [ inl refutes ↦ faultless (with_build a j b) n t f refutes fault.1 | inr other ↦ absurd (fault.0 other) ]
     each_faultless a n j all k (b ∷ bs) (child t ts) f h (inr fault) = each_faultless a (n + count t) j all (k + 1) bs ts f h.1 fault.1
     each_faultless a n j all k [] (child t ts) f h fault = fault
     each_faultless a n j all k (b ∷ bs) no_child f h fault = fault

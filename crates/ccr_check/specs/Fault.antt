@@ -8,10 +8,10 @@ use Rattle.ccr_proof.specs.declared.claim.Claim.{Claim}
 use Rattle.ccr_proof.specs.declared.claim.Claim.TheVariants.{Best, Nothing}
 use Rattle.ccr_choice.specs.Preference.{Preference}
 use Rattle.ccr_choice.specs.Assignment.{Assignment, nothing_fixed, with_build}
-use Rattle.ccr_proof.specs.Tree.{Tree, Trees, job, empty, bounded, no_child, child, width, count}
-use Rattle.ccr_proof.specs.Refutes.{HasNoPlace, IsBounded, Refutes}
+use Rattle.ccr_proof.specs.Tree.{Tree, Trees, job, empty, bounded, same_as, no_child, child, width, count}
+use Rattle.ccr_proof.specs.Refutes.{HasNoPlace, IsBounded, IsSame, Refutes}
 use Rattle.ccr_check.specs.declared.fault.CheckFault.{CheckFault}
-use Rattle.ccr_check.specs.declared.fault.CheckFault.TheVariants.{BadChoice, NoSuchJob, JobTwice, WrongChildren, NotEmpty, NotBounded, NoSuchInput}
+use Rattle.ccr_check.specs.declared.fault.CheckFault.TheVariants.{BadChoice, NoSuchJob, JobTwice, WrongChildren, NotEmpty, NotBounded, NoSuchInput, NotSame}
 
 -- What is wrong with a job node itself, the faults in the order of their numbers: no such job, a job with a fixed
 -- build, another number of children than the job has successful builds.
@@ -22,7 +22,8 @@ IsJobFault p a n j ts f =
     ⊎ ((f ≡ WrongChildren n) × (j < length p.jobs) × (a j ≡ None) × (width ts ≢ length (builds_at p j))))
 
 -- The first fault in preorder of a tree whose root is node n. A node's own fault comes before those of its children; a
--- child's comes where all children before it refute.
+-- child's comes where no child before it has one. A node that is the same case as a child may stand only below a job, where
+-- it has no fault if it is.
 --
 -- IsFirstAmong says it of the children from position k on, the first of which is node n: it knows the job and all the
 -- children, and goes through the builds and the children that stand there.
@@ -31,6 +32,7 @@ abbrev mutual
   IsFirstFault prefers p bound a n (empty i) f =
       ((f ≡ NotEmpty n) × (i < length p.inputs) × ¬ HasNoPlace p a i) ⊎ ((f ≡ NoSuchInput n) × (length p.inputs ≤ i))
   IsFirstFault prefers p bound a n bounded f = (f ≡ NotBounded n) × ¬ IsBounded prefers p bound a
+  IsFirstFault prefers p bound a n (same_as q) f = f ≡ NotSame n
   IsFirstFault prefers p bound a n (job j ts) f =
       IsJobFault p a n j ts f
       ⊎ ((j < length p.jobs) × (a j ≡ None) × (width ts ≡ length (builds_at p j))
@@ -40,8 +42,8 @@ abbrev mutual
       → Trees → CheckFault
       → Type 0
   IsFirstAmong prefers p bound a n j all k (b ∷ bs) (child t ts) f =
-      IsFirstFault prefers p bound (with_build a j b) n t f
-      ⊎ (Refutes prefers p bound (with_build a j b) t
+      (¬ IsSame p j all k b t × IsFirstFault prefers p bound (with_build a j b) n t f)
+      ⊎ ((Refutes prefers p bound (with_build a j b) t ⊎ IsSame p j all k b t)
       × IsFirstAmong prefers p bound a (n + count t) j all (k + 1) bs ts f)
   IsFirstAmong prefers p bound a n j all k [] (child t ts) f = ⊥
   IsFirstAmong prefers p bound a n j all k (b ∷ bs) no_child f = ⊥

@@ -1,5 +1,5 @@
 -- What is said of a problem's text that is followed by a proof's or a claim's.
-use Rattle.std.specs.Prelude.{◌≡◌, ◌≢◌, ◌⊎◌, ℕ, List, [], ◌∷◌, ◌++◌, map, take, drop, nat_eq, Result, Ok, Err, MatchBool, codes}
+use Rattle.std.specs.Prelude.{◌≡◌, ◌≢◌, ◌⊎◌, ℕ, List, ◌∷◌, ◌++◌, map, take, drop, nat_eq, Result, Ok, Err, MatchBool, codes}
 use Rattle.std.specs.List.{starts_with, flat_map, join_with_byte}
 use Rattle.std.specs.Fmt.{decimal}
 use Rattle.ccr_choice.specs.Problem.{ProblemValue, ChoiceValue}

@@ -3,7 +3,7 @@ use Rattle.std.specs.Prelude.{ℕ, List, ◌++◌, codes}
 use Rattle.std.specs.Fmt.{decimal}
 use Rattle.ccr_choice.specs.Words.{verdict_words}
 use Rattle.ccr_check.specs.declared.fault.CheckFault.{CheckFault}
-use Rattle.ccr_check.specs.declared.fault.CheckFault.TheVariants.{BadChoice, NoSuchJob, JobTwice, WrongChildren, NotEmpty, NotBounded, NoSuchInput}
+use Rattle.ccr_check.specs.declared.fault.CheckFault.TheVariants.{BadChoice, NoSuchJob, JobTwice, WrongChildren, NotEmpty, NotBounded, NoSuchInput, NotSame}
 
 -- Why a proof isn't accepted.
 abbrev pub check_fault_words : CheckFault → List ℕ
@@ -14,3 +14,4 @@ check_fault_words (WrongChildren n) = codes "node " ++ decimal n ++ codes ": wro
 check_fault_words (NotEmpty n) = codes "node " ++ decimal n ++ codes ": not empty"
 check_fault_words (NotBounded n) = codes "node " ++ decimal n ++ codes ": not bounded"
 check_fault_words (NoSuchInput n) = codes "node " ++ decimal n ++ codes ": no such input"
+check_fault_words (NotSame n) = codes "node " ++ decimal n ++ codes ": not same"

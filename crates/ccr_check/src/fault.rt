@@ -21,6 +21,9 @@ pub enum CheckFault {
     NotBounded(u32),
     /// The node names an input that the problem doesn't have.
     NoSuchInput(u32),
+    /// The node says that it is the same case as another child, and isn't: it is the root, or that child doesn't stand
+    /// before it, is the same as another itself, or has a build that lacks a pair which counts.
+    NotSame(u32),
 }
 
 impl fmt::Display for CheckFault {
@@ -38,6 +41,7 @@ impl fmt::Display for CheckFault {
             CheckFault::NotEmpty(n) => write!(f, "node {n}: not empty"),
             CheckFault::NotBounded(n) => write!(f, "node {n}: not bounded"),
             CheckFault::NoSuchInput(n) => write!(f, "node {n}: no such input"),
+            CheckFault::NotSame(n) => write!(f, "node {n}: not same"),
         }
     }
 }

@@ -1,16 +1,17 @@
 //! The walk over a refutation tree.
 
-ghost use Rattle.std.specs.Prelude.{◌≡◌, ◌<◌, ◌+◌, ◌^◌, ◌↔◌, length, IsTrue, MatchResult};
+ghost use Rattle.std.specs.Prelude.{◌≡◌, ◌<◌, ◌+◌, ◌^◌, ◌↔◌, false, length, IsTrue, MatchResult};
 ghost use Rattle.std.specs.Option.{option_copied};
+ghost use Rattle.ccr_choice.specs.Problem.{builds_at};
 ghost use Rattle.ccr_choice.specs.Preference.{order_of};
-ghost use Rattle.ccr_proof.specs.Tree.{tree_of, count};
-ghost use Rattle.ccr_proof.specs.Refutes.{HasNoPlace, IsBounded, Refutes};
+ghost use Rattle.ccr_proof.specs.Tree.{tree_of, trees_of, count, is_same};
+ghost use Rattle.ccr_proof.specs.Refutes.{HasNoPlace, IsBounded, IsSameCase, IsSame, Refutes};
 ghost use Rattle.ccr_check.specs.Fault.{IsFirstFault};
 ghost use Rattle.ccr_choice.specs.Table.{assigned};
 
 use crate::fault::CheckFault;
-use ccr_choice::Problem;
 use ccr_choice::possible::{Fixed, best_possible, fixed_build, is_bounded};
+use ccr_choice::{Build, Problem, is_dominated};
 use ccr_proof::Node;
 
 fn has_no_place(problem: &Problem, fixed: &Fixed, input: usize) -> bool
@@ -27,6 +28,58 @@ fn is_under(problem: &Problem, fixed: &Fixed, bound: Option<&[u32]>) -> bool
     match bound {
         Some(places) => is_bounded(problem, fixed, places),
         None => false,
+    }
+}
+
+/// Whether a node is a case of its own.
+fn is_own(node: &Node) -> bool
+    ensures { IsTrue result ↔ (is_same (tree_of node.now) ≡ false) }
+{
+    !matches!(node, Node::Same(_))
+}
+
+/// Whether child `k` of a node of job `job`, with this build, is the same case as child `earlier`.
+fn is_same_case(
+    problem: &Problem,
+    job: u32,
+    children: &[Node],
+    k: usize,
+    build: &Build,
+    earlier: usize,
+) -> bool
+    requires job { job < length problem.now.jobs }
+    requires child { k < length children.now }
+    requires builds { length children.now ≡ length (builds_at problem.now job) }
+    ensures { IsTrue result ↔ IsSameCase problem.now job (trees_of children.now) k build.now earlier }
+{
+    let builds = problem.builds(job as usize);
+    if earlier >= k {
+        return false;
+    }
+    if !is_own(&children[earlier]) {
+        return false;
+    }
+    is_dominated(problem, job, build, &builds[earlier])
+}
+
+/// Whether child `k` of a node of job `job`, with this build, says that it is the same case as an earlier child, and is.
+fn is_same(
+    problem: &Problem,
+    job: u32,
+    children: &[Node],
+    k: usize,
+    build: &Build,
+    child: &Node,
+) -> bool
+    requires job { job < length problem.now.jobs }
+    requires child { k < length children.now }
+    requires builds { length children.now ≡ length (builds_at problem.now job) }
+    ensures { IsTrue result
+        ↔ IsSame problem.now job (trees_of children.now) k build.now (tree_of child.now) }
+{
+    match child {
+        Node::Same(earlier) => { is_same_case(problem, job, children, k, build, *earlier as usize) }
+        Node::Job(_, _) | Node::Empty(_) | Node::Bounded => false,
     }
 }
 
@@ -63,8 +116,9 @@ pub(crate) fn walk(
             }
             Ok(node + 1)
         }
-        Node::Job(job, children) => {
-            let job = *job as usize;
+        Node::Same(_) => Err(CheckFault::NotSame(node)),
+        Node::Job(named, children) => {
+            let job = *named as usize;
             if job >= problem.jobs().len() {
                 return Err(CheckFault::NoSuchJob(node));
             }
@@ -78,6 +132,10 @@ pub(crate) fn walk(
             }
             let mut next = node + 1;
             for (k, child) in children.iter().enumerate() {
+                if is_same(problem, *named, children, k, &builds[k], child) {
+                    next += 1;
+                    continue;
+                }
                 let mut inner = *fixed;
                 inner[job] = k + 1;
                 next = walk(problem, bound, &inner, next, child)?;

@@ -14,7 +14,7 @@ pub record IsWanting {A E : Type 0} (miss : ℕ → E) (at : Reader A E) (front 
   pub here : at front ≡ Err (miss 0)
   pub open_line : (rest : List (List Word)) → at (front ++ unended ∷ rest) ≡ Err (miss (suc (length rest)))
   pub behind : (rest : List (List Word)) (m : ℕ) → at (front ++ rest) ≡ Err (miss m) → m ≤ length rest
-  pub after : (rest : List (List Word)) (x : A) (r : List (List Word)) → at (front ++ rest) ≡ Ok (x, r) → length r ≤ length rest
+  pub after : (rest : List (List Word)) (x : A) (r : List (List Word)) → at (front ++ rest) ≡ Ok (x, r) → length r < length rest
 
 -- What a reader does with a front of lines, whatever follows: it takes so many of them, or stops for another reason than a line, or
 -- wants a line more, or one of them is bad, with k lines of the front behind it.
@@ -40,10 +40,10 @@ within_ok {A} {E} miss at (took x q le h) ls y r e =
     let left : q ++ ls ≡ r = ap (λ z. z.1) same in
     omega (arith, le, ap length left, length-append q ls)
 within_ok miss at (halted e other_than h) ls y r f = absurd (cc (h ls, f))
-within_ok miss at (wants w) ls y r e = w.after ls y r e
+within_ok miss at (wants w) ls y r e = omega (arith, w.after ls y r e)
 within_ok miss at (broke k l h) ls y r e = absurd (omega (arith, l))
 
-bind_err : {A B E : Type 0} (r : Result A E) (f : A → Result B E) (e : E) → (r >>= f) ≡ Err e → (r ≡ Err e) ⊎ ((x : A) × (r ≡ Ok x) × (f x ≡ Err e))
+pub bind_err : {A B E : Type 0} (r : Result A E) (f : A → Result B E) (e : E) → (r >>= f) ≡ Err e → (r ≡ Err e) ⊎ ((x : A) × (r ≡ Ok x) × (f x ≡ Err e))
 bind_err (Ok x) f e h = inr (x, refl, h)
 bind_err (Err d) f e h = let same : d ≡ e = cc (h) in inl (ap Err same)
 
@@ -120,7 +120,7 @@ module _ {A : Type 0} (rule : List Word → Option A) (never : rule unended ≡ 
   line_err [] m e = let none : 0 ≡ m = cc (e) in omega (arith, none)
   line_err (l ∷ ls) m e = omega (arith, one_err ls (rule l) m e)
 
-  line_ok : (ls : List (List Word)) (y : A) (r : List (List Word)) → one_line rule ls ≡ Ok (y, r) → length r ≤ length ls
+  line_ok : (ls : List (List Word)) (y : A) (r : List (List Word)) → one_line rule ls ≡ Ok (y, r) → length r < length ls
   line_ok [] y r e = absurd (cc (e))
   line_ok (l ∷ ls) y r e = omega (arith, ap length (one_ok ls (rule l) y r e))
 

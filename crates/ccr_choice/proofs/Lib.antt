@@ -22,3 +22,4 @@ pub mod TableLaws
 pub mod Forward
 pub mod BadLines
 pub mod ProblemForward
+pub mod Exchange

@@ -10,7 +10,7 @@ use Rattle.std.proofs.lemmas.List.Elements.{All-from_recursion}
 use Rattle.std.proofs.lemmas.List.Splits.{join_with_byte-slice_split, slice_split_at, slice_split_none, length-slice_split}
 use Rattle.std.proofs.lemmas.Fmt.{digits_decimal}
 use Rattle.ccr_choice.specs.declared.text.word.Word.{Word}
-use Rattle.ccr_choice.specs.declared.text.word.Word.TheVariants.{Number, Problem, Inputs, Jobs, Places, Builds, Pairs, Proof, Best, Nothing, Job, Empty, Bounded, Other}
+use Rattle.ccr_choice.specs.declared.text.word.Word.TheVariants.{Number, Problem, Inputs, Jobs, Places, Builds, Pairs, Proof, Best, Nothing, Job, Empty, Bounded, Same, Other}
 use Rattle.ccr_choice.specs.Text.{spelled, IsWord, word_of, words_of, line_text, text_of, lines_from, unended, lines_of}
 use Rattle.ccr_choice.proofs.Cuts.{lines_step}
 use Rattle.ccr_choice.proofs.Words.{own, word_found, word_again, IsFit, word_fits}
@@ -52,6 +52,7 @@ blank_clear Nothing h = refl
 blank_clear Job h = refl
 blank_clear Empty h = refl
 blank_clear Bounded h = refl
+blank_clear Same h = refl
 blank_clear Other h = refl
 
 split_join : (c : ℕ) (x : List ℕ) (more : List (List ℕ)) → AllByRecursion (λ p. is_clear c p ≡ true) (x ∷ more)
@@ -108,6 +109,7 @@ feed_clear Nothing h = refl
 feed_clear Job h = refl
 feed_clear Empty h = refl
 feed_clear Bounded h = refl
+feed_clear Same h = refl
 feed_clear Other h = refl
 
 append_clear : (c : ℕ) (xs ys : List ℕ) → is_clear c xs ≡ true → is_clear c ys ≡ true → is_clear c (xs ++ ys) ≡ true

@@ -9,7 +9,7 @@ use Rattle.std.proofs.lemmas.Slice.Eq.{bytes_eq-Decides}
 use Rattle.std.proofs.lemmas.Str.Parse.{IsNumeralModel, numerals_by_fold}
 use Rattle.std.proofs.lemmas.Fmt.{decimal-digits_value, digits_decimal, digits_value-decimal, decimal_nonempty, first_decimal, decimal_digit}
 use Rattle.ccr_choice.specs.declared.text.word.Word.{Word}
-use Rattle.ccr_choice.specs.declared.text.word.Word.TheVariants.{Number, Problem, Inputs, Jobs, Places, Builds, Pairs, Proof, Best, Nothing, Job, Empty, Bounded, Other}
+use Rattle.ccr_choice.specs.declared.text.word.Word.TheVariants.{Number, Problem, Inputs, Jobs, Places, Builds, Pairs, Proof, Best, Nothing, Job, Empty, Bounded, Same, Other}
 use Rattle.ccr_choice.specs.Text.{spelled, IsWord, value_after, number_of, keyword_of, number_or_keyword, word_of}
 
 abbrev pub read_on : ℕ → List ℕ → ℕ
@@ -103,7 +103,8 @@ keyword_found bs w h known =
     key_step P bs (codes "job") Job w _ h (λ e. (e, tt)) (λ h.
     key_step P bs (codes "empty") Empty w _ h (λ e. (e, tt)) (λ h.
     key_step P bs (codes "bounded") Bounded w _ h (λ e. (e, tt)) (λ h.
-    absurd (known (sym h))))))))))))))
+    key_step P bs (codes "same") Same w _ h (λ e. (e, tt)) (λ h.
+    absurd (known (sym h)))))))))))))))
 
 from_number : (bs : List ℕ) (o : Option ℕ) (w : Word) → number_of bs ≡ o → number_or_keyword o bs ≡ w → w ≢ Other → (bs ≡ spelled w) × IsWord w
 from_number bs (Some n) w e h known =
@@ -131,6 +132,7 @@ word_again Nothing h = refl
 word_again Job h = refl
 word_again Empty h = refl
 word_again Bounded h = refl
+word_again Same h = refl
 word_again Other h = absurd h
 
 -- ---- a number that is read is small
@@ -152,6 +154,7 @@ fit_known Nothing h = tt
 fit_known Job h = tt
 fit_known Empty h = tt
 fit_known Bounded h = tt
+fit_known Same h = tt
 fit_known Other h = tt
 
 pub word_fits : (bs : List ℕ) → IsFit (word_of bs)

@@ -5,6 +5,7 @@ pub mod Preference
 pub mod Assignment
 pub mod Possible
 pub mod Optimal
+pub mod Dominated
 pub mod Table
 pub mod Ascending
 pub mod Text

@@ -5,7 +5,7 @@ use Rattle.std.specs.Str.{bytes_eq}
 use Rattle.std.specs.Fmt.{decimal}
 use Rattle.std.specs.Char.{is_ascii_digit}
 use Rattle.ccr_choice.specs.declared.text.word.Word.{Word}
-use Rattle.ccr_choice.specs.declared.text.word.Word.TheVariants.{Number, Problem, Inputs, Jobs, Places, Builds, Pairs, Proof, Best, Nothing, Job, Empty, Bounded, Other}
+use Rattle.ccr_choice.specs.declared.text.word.Word.TheVariants.{Number, Problem, Inputs, Jobs, Places, Builds, Pairs, Proof, Best, Nothing, Job, Empty, Bounded, Same, Other}
 
 -- ---- writing
 -- How a word is spelled: a number in decimal digits without a leading zero, a keyword by its name.
@@ -23,6 +23,7 @@ spelled Nothing = codes "none"
 spelled Job = codes "job"
 spelled Empty = codes "empty"
 spelled Bounded = codes "bounded"
+spelled Same = codes "same"
 spelled Other = []
 
 -- A line is its words with one blank between two of them, and a line feed.
@@ -65,7 +66,8 @@ keyword_of bs =
     (if bytes_eq bs (codes "none") then Nothing else
     (if bytes_eq bs (codes "job") then Job else
     (if bytes_eq bs (codes "empty") then Empty else
-    (if bytes_eq bs (codes "bounded") then Bounded else Other)))))))))))
+    (if bytes_eq bs (codes "bounded") then Bounded else
+    (if bytes_eq bs (codes "same") then Same else Other))))))))))))
 
 abbrev pub number_or_keyword : Option ℕ → List ℕ → Word
 number_or_keyword (Some n) bs = Number n

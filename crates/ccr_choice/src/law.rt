@@ -1,8 +1,10 @@
-//! Laws over the definitions alone: what best places are, and that a problem has one text.
+//! Laws over the definitions alone: what best places are, what a dominating build can do, and that a problem has one text.
 
-ghost use Rattle.std.specs.Prelude.{◌≡◌, ◌↔◌, ◌++◌, ℕ, List, [], Ok, Err};
+ghost use Rattle.std.specs.Prelude.{◌≡◌, ◌<◌, ◌↔◌, ◌++◌, ℕ, List, [], length, slice_index, slice_set, Contains, Ok, Err};
 ghost use Rattle.ccr_choice.specs.Reading.{bad_line, IsFirstBad};
-ghost use Rattle.ccr_choice.specs.Problem.{ProblemValue, IsProblem};
+ghost use Rattle.ccr_choice.specs.Problem.{ProblemValue, BuildValue, builds_at, IsProblem};
+ghost use Rattle.ccr_choice.specs.Satisfies.{Satisfies};
+ghost use Rattle.ccr_choice.specs.Dominated.{IsDominated};
 ghost use Rattle.ccr_choice.specs.ProblemText.{problem_text, problem_in};
 ghost use Rattle.ccr_choice.specs.Preference.{Preference, IsOrder, order_of};
 ghost use Rattle.ccr_choice.specs.Assignment.{Assignment};
@@ -19,6 +21,17 @@ pub fn best_places_are_one()
         → (p : ProblemValue) (a : Assignment) (places others : List ℕ)
         → AreBestPlaces prefers p a places → AreBestPlaces prefers p a others → places ≡ others }
     ensures order { (p : ProblemValue) → IsOrder (order_of p) }
+{}
+
+/// A choice that satisfies with a dominated build still satisfies, with the same places, where the build that dominates
+/// it takes its place.
+///
+/// It is a law over the definitions alone; nothing runs.
+pub fn dominating_build_takes_the_place()
+    ensures { (p : ProblemValue) → IsProblem p → (places builds : List ℕ) (j : ℕ) (b other : BuildValue)
+        → Satisfies p places builds → j < length p.jobs → slice_index builds j ≡ b.number
+        → Contains (builds_at p j) b → Contains (builds_at p j) other → IsDominated p j b other
+        → Satisfies p places (slice_set builds j other.number) }
 {}
 
 /// Each problem has one text and each text at most one problem, whether or not there is memory to read it.

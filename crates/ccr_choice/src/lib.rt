@@ -17,6 +17,7 @@
 #![tactic(auto)]
 
 mod choice;
+mod dominated;
 mod fault;
 mod law;
 mod order;
@@ -29,8 +30,12 @@ mod verdict;
 mod write;
 
 pub use choice::Choice;
+pub use dominated::is_dominated;
 pub use fault::ProblemFault;
-pub use law::{bad_line_of_a_problem_is_the_first, best_places_are_one, problem_has_one_text};
+pub use law::{
+    bad_line_of_a_problem_is_the_first, best_places_are_one, dominating_build_takes_the_place,
+    problem_has_one_text,
+};
 pub use order::later;
 pub use problem::{
     Build, Input, JobBuilds, MOST_BUILDS, MOST_INPUTS, MOST_JOBS, MOST_PLACES, Problem,

@@ -21,9 +21,13 @@ use Rattle.ccr_problem.specs.ProblemOf.{resource_of, scope_of}
 use Rattle.ccr_core.specs.declared.fault.CoreFault.{CoreFault}
 use Rattle.ccr_core.specs.declared.fault.CoreFault.TheVariants.{TableFull, NoMemory}
 use Rattle.ccr_core.specs.declared.pushed.Report.{Report}
+use Rattle.ccr_history.specs.declared.change.Edit.{Edit}
+use Rattle.ccr_history.specs.declared.change.Reported.{Reported}
+use Rattle.ccr_history.specs.declared.change.Edit.TheVariants.{Versions}
+use Rattle.ccr_history.specs.Edits.{edit_data}
 use Rattle.ccr_core.specs.Builds.{status_of, Settles}
-use Rattle.ccr_core.specs.Endings.{reports, IsOver, IsEnding, Stands, end_edits, PairsFit, EndFits, ReportFits}
-use Rattle.ccr_core.specs.Going.{named, CanGoOn, PushIsFull, GoesOn, IsRefused}
+use Rattle.ccr_core.specs.Endings.{reports, report_edits, IsOver, IsEnding, Stands, end_edits, PairsFit, EndFits, ReportFits}
+use Rattle.ccr_core.specs.Going.{named, CanGoOn, PushIsFull, GoesOn, IsRefused, Changes}
 use Rattle.ccr_core.specs.Kept.{IsAnswer}
 use Rattle.ccr_core.specs.Seen.{pairs_of, report, pushed_by, report_by}
 use Rattle.ccr_core.proofs.Sound.{pushed_up}
@@ -71,11 +75,12 @@ pub reports_run : (r : Option Report) (h mid : HistoryData) (job : Text) (number
 reports_run r h mid job number is runs = subst (λ bs. IsRunning job number bs) (sym (reports_builds r h) ∙ sym (ap (λ y. y.builds) is)) runs
 
 -- a report and then more
-pub report_then : (r : Option Report) (es all : List EditData) (h mid after : HistoryData) → all ≡ reports r ++ es → TakesAll h (reports r) → mid ≡ changed (reports r) h → TakesAll mid es × (changed es mid ≡ after) → TakesAll h all × (changed all h ≡ after)
-report_then None es all h mid after is takes to (more, e) =
-    (subst (TakesAll h) (sym is) (subst (λ y. TakesAll y es) to more), ap (λ l. changed l h) is ∙ ap (changed es) (sym to) ∙ e)
-report_then (Some r) es all h mid after is takes to (more, e) =
-    (subst (TakesAll h) (sym is) (takes.0, subst (λ y. TakesAll y es) to more), ap (λ l. changed l h) is ∙ ap (changed es) (sym to) ∙ e)
+pub changes_then : (r : Option Reported) (es all : List Edit) (h mid after : HistoryData) → all ≡ report_edits r ++ es → Changes (report_edits r) h mid → Changes es mid after → Changes all h after
+changes_then None es all h mid after is first more =
+    subst (λ l. Changes l h after) (sym is) (subst (λ y. Changes es y after) (sym first.1) more)
+changes_then (Some r) es all h mid after is first more =
+    let then : Changes es (edited (edit_data (Versions r)) h) after = subst (λ y. Changes es y after) (sym first.1) more in
+    subst (λ l. Changes l h after) (sym is) (((first.0.0.0, then.0.0), (first.0.1.0, then.0.1)), then.1)
 
 -- a report that isn't over is one that the history takes
 pub report_taken : (p : PipelineData) (h : HistoryData) (a : AskData) (x : AnswerData) (r : Option Report) → reports r ≡ report_by p a x → IsAnswer x → (IsOver r h → ⊥) → TakesAll h (reports r)

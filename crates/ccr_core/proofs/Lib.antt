@@ -25,5 +25,6 @@ pub mod Wanting
 pub mod Asking
 pub mod Ordering
 pub mod Answering
+pub mod Rows
 pub mod Making
 pub mod Busying

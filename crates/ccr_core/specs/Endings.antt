@@ -1,9 +1,12 @@
 -- How one build stands once it was answered or made, with the edits that say so.
 use Rattle.std.specs.Prelude.{◌≡◌, ℕ, true, List, [], ◌∷◌, Option, Some, None, ⊤}
 use Rattle.ccr_history.specs.Text.{Text}
-use Rattle.ccr_history.specs.Tables.{TableData, new_count, is_table_full}
+use Rattle.ccr_history.specs.Tables.{TableData, is_table_full}
 use Rattle.ccr_history.specs.Changes.{EditData, versions, ended, changed, AreMoved, TakesAll}
 use Rattle.ccr_history.specs.History.{HistoryData}
+use Rattle.ccr_history.specs.declared.change.Edit.{Edit}
+use Rattle.ccr_history.specs.declared.change.Edit.TheVariants.{Versions}
+use Rattle.ccr_history.specs.declared.change.Reported.{Reported}
 use Rattle.ccr_pipeline.specs.Pipelines.{PipelineData}
 use Rattle.ccr_pipeline.specs.Tree.{Tree}
 use Rattle.ccr_steps.specs.Asks.{Chosen, Exchange}
@@ -22,15 +25,15 @@ abbrev pub reports : Option Report → List EditData
 reports None = []
 reports (Some r) = versions r.scope r.versions.items ∷ []
 
+-- the edit that a report makes, if there is one
+abbrev pub report_edits : Option Reported → List Edit
+report_edits None = []
+report_edits (Some r) = Versions r ∷ []
+
 -- there is a report, and it can't be taken
 abbrev pub IsOver : Option Report → HistoryData → Type 0
 IsOver None h = ⊥
 IsOver (Some r) h = is_table_full r.scope r.versions.items h.tables ≡ true
-
--- how many of a report's versions are new
-abbrev pub new_in : Option Report → HistoryData → ℕ
-new_in None h = 0
-new_in (Some r) h = new_count r.scope r.versions.items h.tables
 
 -- ---- endings
 -- a build stands so at its exchanges: it goes on, or it has ended, and what it moved are these pairs

@@ -5,7 +5,9 @@ use Rattle.ccr_history.specs.Text.{Text}
 use Rattle.ccr_history.specs.TextMap.{TextMap}
 use Rattle.ccr_history.specs.Tables.{is_table_full}
 use Rattle.ccr_history.specs.Builds.{count_of}
-use Rattle.ccr_history.specs.Changes.{EditData, changed, AreUsed, AreMoved, IsRunning, TakesAll}
+use Rattle.ccr_history.specs.Changes.{changed, AreUsed, AreMoved, IsRunning, TakesAll}
+use Rattle.ccr_history.specs.Edits.{change_data, Accepts}
+use Rattle.ccr_history.specs.declared.change.Edit.{Edit}
 use Rattle.ccr_history.specs.History.{HistoryData}
 use Rattle.ccr_pipeline.specs.Inputs.{inputs}
 use Rattle.ccr_pipeline.specs.JobData.{JobData}
@@ -27,9 +29,9 @@ use Rattle.ccr_core.specs.Kept.{IsAnswer}
 use Rattle.ccr_core.specs.Seen.{pairs_of, pushed_by, report_by}
 use Rattle.ccr_core.specs.State.{RunningData}
 
--- the edits are ones that the history takes, and lead to the other history
-abbrev pub Changes : List EditData → HistoryData → HistoryData → Type 0
-Changes edits h after = TakesAll h edits × (changed edits h ≡ after)
+-- the edits are ones that the history takes, under its numbers, and lead to the other history
+abbrev pub Changes : List Edit → HistoryData → HistoryData → Type 0
+Changes edits h after = Accepts h edits × (changed (change_data edits) h ≡ after)
 
 -- a report of these versions of a resource has no place
 abbrev pub IsFull : PipelineData → HistoryData → Text → List TextMap → Type 0

@@ -56,11 +56,11 @@ LacksResource c name NoPipeline = c.pipeline ≡ None
 LacksResource c name NoResource = (p : PipelineData) × (c.pipeline ≡ Some p) × (resource_of name p.resources ≡ None)
 LacksResource c name f = ⊥
 
--- a report of versions of a scope: the history after it, how many were new, and the edit that says it
-abbrev pub IsReported : HistoryData → HistoryData → ScopeData → List TextMap → ℕ → List EditData → Type 0
-IsReported h after scope seen count edits =
+-- a report of versions of a scope: the history after it, and how many were new
+abbrev pub IsReported : HistoryData → HistoryData → ScopeData → List TextMap → ℕ → Type 0
+IsReported h after scope seen count =
     (is_table_full scope seen h.tables ≡ false) × (after ≡ edited (versions scope seen) h)
-    × (count ≡ new_count scope seen h.tables) × (edits ≡ versions scope seen ∷ [])
+    × (count ≡ new_count scope seen h.tables)
 
 -- why a report of versions of a scope is refused: it has no place, or out of memory
 abbrev pub IsNotReported : HistoryData → ScopeData → List TextMap → CoreFault → Type 0

@@ -1,13 +1,12 @@
 //! Changes of one edit.
-ghost use Rattle.std.specs.Prelude.{◌≡◌, [], ◌∷◌, map, IfOk};
-ghost use Rattle.ccr_history.specs.Edits.{edit_data};
+ghost use Rattle.std.specs.Prelude.{◌≡◌, [], ◌∷◌, IfOk};
 
 use ccr_history::{Change, Edit};
 use std::alloc::{AllocError, Global};
 
 /// The change that one edit is.
 pub(crate) fn change_of(alloc: Global, edit: Edit) -> Result<Change, AllocError>
-    ensures { IfOk result (λ change. map edit_data change.items ≡ edit_data edit ∷ []) }
+    ensures { IfOk result (λ change. change.items ≡ edit ∷ []) }
 {
     let mut change = Vec::new(alloc);
     change.push(edit)?;

@@ -1,14 +1,15 @@
 //! How a build ends, and the history with it.
 ghost use Rattle.std.specs.Prelude.{◌≡◌, ◌<◌, map, IfOk, vec_len, vec_capacity};
 ghost use Rattle.ccr_history.specs.Changes.{changed, IsRunning};
-ghost use Rattle.ccr_history.specs.Edits.{edit_data};
+ghost use Rattle.ccr_history.specs.Edits.{edit_data, row_of, HaveTheirNumbers};
+ghost use Rattle.ccr_history.specs.History.{HistoryData};
 ghost use Rattle.ccr_pipeline.specs.Pipelines.{pipeline_data};
 ghost use Rattle.ccr_steps.specs.Runs.{run_data};
 ghost use Rattle.ccr_core.specs.Builds.{status_of};
 ghost use Rattle.ccr_core.specs.Endings.{Stands, end_edits, PairsFit};
 
 use crate::place::places_of;
-use ccr_history::{Edit, History, Status};
+use ccr_history::{Edit, Ended, History, Status};
 use ccr_pipeline::Pipeline;
 use ccr_steps::{BuildRun, Outcome};
 use std::alloc::{AllocError, Global};
@@ -35,7 +36,7 @@ fn status_of(outcome: Outcome) -> Status
     }
 }
 
-/// How a build stands. Nothing changes.
+/// How a build stands, which has this row. Nothing changes.
 pub(crate) fn ending_of(
     alloc: Global,
     pipeline: &Pipeline,
@@ -43,11 +44,14 @@ pub(crate) fn ending_of(
     run: &BuildRun,
     job: &str,
     number: u32,
+    row: u32,
 ) -> Result<Ending, AllocError>
     ensures stands { IfOk result (λ e. Stands (pipeline_data pipeline.now) history.now (run_data run.now)
         e.outcome e.pairs.items) }
     ensures edits { IfOk result (λ e. map edit_data e.edits.items
         ≡ end_edits job.now number e.outcome e.pairs.items) }
+    ensures numbered { IfOk result (λ e. (h : HistoryData) → row ≡ row_of job.now number h.builds
+        → HaveTheirNumbers h e.edits.items) }
     ensures room { IfOk result (λ e. vec_len e.edits < vec_capacity e.edits) }
 {
     let mut edits = Vec::with_capacity(alloc, 2)?;
@@ -60,8 +64,13 @@ pub(crate) fn ending_of(
     };
     let pairs = places_of(alloc, pipeline, history, run.moved())?;
     let kept = Vec::from_slice(alloc, &pairs)?;
-    let name = String::from_str(alloc, job)?;
-    edits.push(Edit::Ended(name, number, status_of(outcome), kept))?;
+    edits.push(Edit::Ended(Ended {
+        row,
+        job: String::from_str(alloc, job)?,
+        number,
+        status: status_of(outcome),
+        moved: kept,
+    }))?;
     Ok(Ending {
         outcome: Some(outcome),
         pairs,

@@ -11,12 +11,12 @@ ghost use Rattle.ccr_core.specs.declared.fault.CoreFault.TheVariants.{TableFull,
 ghost use Rattle.ccr_core.specs.Builds.{Settles};
 ghost use Rattle.ccr_core.specs.Going.{CanGoOn, GoesOn, IsRefused, Changes, named};
 ghost use Rattle.ccr_core.specs.Kept.{IsAnswer};
-ghost use Rattle.ccr_core.specs.Endings.{reports, IsOver, EndFits, ReportFits};
+ghost use Rattle.ccr_core.specs.Endings.{reports, report_edits, IsOver, EndFits, ReportFits};
 
 use crate::end::{Ending, ending_of, finish};
 use crate::fault::CoreFault;
 use crate::pushed::{Report, append, report_by, rules_of, take_back};
-use ccr_history::{Edit, History};
+use ccr_history::{Edit, History, Reported};
 use ccr_pipeline::Pipeline;
 use ccr_steps::{Answered, BuildRun, Outcome};
 use std::alloc::{AllocError, Global};
@@ -36,28 +36,27 @@ fn settle(
     ensures settled { IfOk result (λ r. (plan : Tree) (inputs : Chosen) (es : List Exchange)
         → StandsFor (run_data run.now) plan inputs es
         → Settles (pipeline_data pipeline.now) history.old (named job.now number plan inputs es) r.0 history.new) }
-    ensures change { IfOk result (λ r. Changes (map edit_data r.1.items) history.old history.new) }
+    ensures change { IfOk result (λ r. Changes r.1.items history.old history.new) }
     ensures room { IfOk result (λ r. vec_len r.1 < vec_capacity r.1) }
     ensures err { OnErr result (history.new ≡ history.old) }
 {
+    let row = history.row_of(job, number);
     let Ending {
         outcome,
         pairs,
         edits,
-    } = ending_of(alloc, pipeline, history, run, job, number)?;
+    } = ending_of(alloc, pipeline, history, run, job, number, row)?;
     finish(history, job, number, outcome, pairs);
     Ok((outcome, edits))
 }
 
 /// The edits of an answer: what it reports, and then what it ends. It takes no memory.
-fn with_report(report: Option<Report>, mut edits: Vec<Edit>) -> Vec<Edit>
+fn with_report(reported: Option<Reported>, mut edits: Vec<Edit>) -> Vec<Edit>
     requires { vec_len edits < vec_capacity edits }
-    ensures { map edit_data result.items ≡ reports report ++ map edit_data edits.items }
+    ensures { result.items ≡ report_edits reported ++ edits.items }
 {
-    if let Some(report) = report {
-        edits
-            .insert(0, Edit::Versions(report.scope, report.versions))
-            .unwrap();
+    if let Some(reported) = reported {
+        edits.insert(0, Edit::Versions(reported)).unwrap();
     }
     edits
 }
@@ -78,17 +77,17 @@ fn go_on(
         → StandsFor (run_data run.now) plan inputs es
         → Settles (pipeline_data pipeline.now) (changed (reports report) history.old)
         (named job.now number plan inputs es) r.0 history.new) }
-    ensures change { IfOk result (λ r. Changes (map edit_data r.1.items) history.old history.new) }
+    ensures change { IfOk result (λ r. Changes r.1.items history.old history.new) }
     ensures room { OnOk result (IsOver report history.old → ⊥) }
     ensures err { OnErr result (history.new ≡ history.old) }
     ensures refused { IfErr result (λ f. (f ≡ NoMemory) ⊎ ((f ≡ TableFull) × IsOver report history.old)) }
 {
     history.rules();
-    let count = append(alloc, history, &report)?;
+    let reported = append(alloc, history, report)?;
     match settle(alloc, pipeline, history, run, job, number) {
-        Ok((outcome, edits)) => Ok((outcome, with_report(report, edits))),
+        Ok((outcome, edits)) => Ok((outcome, with_report(reported, edits))),
         Err(fault) => {
-            take_back(history, &report, count);
+            take_back(history, &reported);
             Err(CoreFault::from(fault))
         }
     }
@@ -107,7 +106,7 @@ pub(crate) fn answer_build(
     requires { CanGoOn (pipeline_data pipeline.now) history.old (run_data run.old) job.now number }
     ensures on { IfOk result (λ r. GoesOn (pipeline_data pipeline.now) history.old (run_data run.old) job.now number
         (answer_data answer) r.0 history.new (run_data run.new)) }
-    ensures change { IfOk result (λ r. Changes (map edit_data r.1.items) history.old history.new) }
+    ensures change { IfOk result (λ r. Changes r.1.items history.old history.new) }
     ensures history { OnErr result (history.new ≡ history.old) }
     ensures run { OnErr result (run_data run.new ≡ run_data run.old) }
     ensures refused { IfErr result (IsRefused (pipeline_data pipeline.now) history.old (run_data run.old)

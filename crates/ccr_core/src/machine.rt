@@ -64,7 +64,7 @@ impl Core {
         requires readable { IfSome history.text IsReadable }
         ensures begun { IfOk result (λ r. IsResumed history budget (core_data r.0)) }
         ensures is { IfOk result (λ r. map edit_data r.1.items ≡ resumed history) }
-        ensures change { IfOk result (λ r. Changes (map edit_data r.1.items) history (core_data r.0).history) }
+        ensures change { IfOk result (λ r. Changes r.1.items history (core_data r.0).history) }
         ensures only { IfErr result (λ fault. fault ≡ NoMemory) }
     {
         match begin(alloc, history, budget) {
@@ -80,7 +80,7 @@ impl Core {
     /// changes nothing; `NoMemory` where a growth was refused.
     pub fn step(&mut self, alloc: Global, event: Event) -> Result<(Reply, Change), CoreFault>
         ensures step { IfOk result (λ r. Takes (core_data self.old) (core_data self.new) (event_data event) (Ok r.0)) }
-        ensures change { IfOk result (λ r. Changes (map edit_data r.1.items)
+        ensures change { IfOk result (λ r. Changes r.1.items
             (core_data self.old).history (core_data self.new).history) }
         ensures refused { IfErr result (λ f. Takes (core_data self.old) (core_data self.old)
             (event_data event) (Err f)) }

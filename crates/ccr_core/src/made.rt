@@ -1,9 +1,9 @@
 //! One build that is made, and the history with it.
-ghost use Rattle.std.specs.Prelude.{◌≡◌, ◌<◌, ◌+◌, map, length, IfOk, OnOk, OnErr};
+ghost use Rattle.std.specs.Prelude.{◌≡◌, ◌<◌, ◌+◌, length, IfOk, OnOk, OnErr};
 ghost use Rattle.ccr_history.specs.declared.builds.TheConstants.{MOST_BUILDS};
 ghost use Rattle.ccr_history.specs.Builds.{count_of};
 ghost use Rattle.ccr_history.specs.Changes.{build, edited, AreUsed, IsRunning};
-ghost use Rattle.ccr_history.specs.Edits.{edit_data};
+ghost use Rattle.ccr_history.specs.Edits.{row_of};
 ghost use Rattle.ccr_pipeline.specs.JobData.{job_data};
 ghost use Rattle.ccr_pipeline.specs.Pipelines.{pipeline_data};
 ghost use Rattle.ccr_steps.specs.Runs.{run_data};
@@ -11,7 +11,7 @@ ghost use Rattle.ccr_core.specs.Going.{CanMake, IsMade, Changes};
 
 use crate::end::{Ending, ending_of, finish};
 use crate::used::{used_at, versions_at};
-use ccr_history::{Edit, History, Used};
+use ccr_history::{Edit, History, Made, Used};
 use ccr_pipeline::{Job, Pipeline, inputs_of};
 use ccr_steps::{BuildRun, Outcome, start};
 use std::alloc::{AllocError, Global};
@@ -34,12 +34,22 @@ fn next_number(history: &History, job: &str) -> u32
     history.count_of(job) + 1
 }
 
+/// The row of the next build.
+fn next_row(history: &History) -> u32
+    requires { length history.now.builds < MOST_BUILDS }
+    ensures { result ≡ length history.now.builds + 1 }
+{
+    history.build_count() as u32 + 1
+}
+
 /// Adds a build for which there is room. Where memory is refused, nothing changes.
 fn add(alloc: Global, history: &mut History, job: &str, used: &[Used]) -> Result<(), AllocError>
     requires room { length history.old.builds < MOST_BUILDS }
     requires used { AreUsed history.old.tables used.now }
     ensures ok { OnOk result (history.new ≡ edited (build job.now used.now) history.old) }
     ensures running { OnOk result (IsRunning job.now (count_of job.now history.old.builds + 1) history.new.builds) }
+    ensures row { OnOk result (length history.old.builds + 1
+        ≡ row_of job.now (count_of job.now history.old.builds + 1) history.new.builds) }
     ensures err { OnErr result (history.new ≡ history.old) }
 {
     history.rules();
@@ -62,7 +72,7 @@ pub(crate) fn make_build(
     requires { CanMake (pipeline_data pipeline.now) history.old (job_data job.now) places.now }
     ensures made { IfOk result (λ m. IsMade (pipeline_data pipeline.now) history.old (job_data job.now) places.now
         m.number m.outcome history.new (run_data m.run)) }
-    ensures change { IfOk result (λ m. Changes (map edit_data m.edits.items) history.old history.new) }
+    ensures change { IfOk result (λ m. Changes m.edits.items history.old history.new) }
     ensures err { OnErr result (history.new ≡ history.old) }
 {
     let name = job.name.as_str();
@@ -71,14 +81,21 @@ pub(crate) fn make_build(
     let versions = versions_at(alloc, pipeline, history, &inputs, places)?;
     let run = start(alloc, job, &versions)?;
     let number = next_number(history, name);
+    let row = next_row(history);
     let Ending {
         outcome,
         pairs,
         mut edits,
-    } = ending_of(alloc, pipeline, history, &run, name, number)?;
+    } = ending_of(alloc, pipeline, history, &run, name, number, row)?;
     let copy = String::from_str(alloc, name)?;
     add(alloc, history, name, &used)?;
-    edits.insert(0, Edit::Build(copy, used)).unwrap();
+    let made = Made {
+        row,
+        job: copy,
+        number,
+        used,
+    };
+    edits.insert(0, Edit::Build(made)).unwrap();
     finish(history, name, number, outcome, pairs);
     Ok(MadeBuild {
         run,

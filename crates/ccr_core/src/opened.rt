@@ -29,7 +29,7 @@ pub(crate) fn open_build(
     ensures opened { IfOk result (λ r. IsOpened (pipeline_data pipeline.now) history.old (job_data job.now) places.now
         r.0 history.new (map name_data names.old.items) (map name_data names.new.items)
         (map run_data runs.old.items) (map run_data runs.new.items)) }
-    ensures change { IfOk result (λ r. Changes (map edit_data r.1.items) history.old history.new) }
+    ensures change { IfOk result (λ r. Changes r.1.items history.old history.new) }
     ensures history { OnErr result (history.new ≡ history.old) }
     ensures names { OnErr result (names.new.items ≡ names.old.items) }
     ensures runs { OnErr result (runs.new.items ≡ runs.old.items) }

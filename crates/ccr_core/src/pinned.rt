@@ -1,7 +1,8 @@
 //! Pins by command.
 ghost use Rattle.std.specs.Prelude.{◌≡◌, [], ◌∷◌, Ok, Err, map, IfOk, IfErr, OnOk, OnErr};
 ghost use Rattle.ccr_history.specs.Changes.{pin_set, pin_cleared};
-ghost use Rattle.ccr_history.specs.Edits.{edit_data};
+ghost use Rattle.ccr_history.specs.Edits.{edit_data, HaveTheirNumbers};
+ghost use Rattle.ccr_history.specs.History.{HistoryData};
 ghost use Rattle.ccr_history.specs.TextMap.{IsAscending};
 ghost use Rattle.ccr_core.specs.Cores.{core_data};
 ghost use Rattle.ccr_core.specs.Events.{pin, unpin};
@@ -20,6 +21,7 @@ use std::alloc::{AllocError, Global};
 /// The change that a pin by command is.
 fn pin_change(alloc: Global, resource: &str, pin: &Pin) -> Result<Change, AllocError>
     ensures is { IfOk result (λ change. map edit_data change.items ≡ pin_set resource.now pin.now ∷ []) }
+    ensures numbered { IfOk result (λ change. (h : HistoryData) → HaveTheirNumbers h change.items) }
     ensures ascends { OnOk result (IsAscending pin.now) }
 {
     pin.rules();
@@ -31,7 +33,8 @@ fn pin_change(alloc: Global, resource: &str, pin: &Pin) -> Result<Change, AllocE
 
 /// The change that the end of a pin by command is.
 fn unpin_change(alloc: Global, resource: &str) -> Result<Change, AllocError>
-    ensures { IfOk result (λ change. map edit_data change.items ≡ pin_cleared resource.now ∷ []) }
+    ensures is { IfOk result (λ change. map edit_data change.items ≡ pin_cleared resource.now ∷ []) }
+    ensures numbered { IfOk result (λ change. (h : HistoryData) → HaveTheirNumbers h change.items) }
 {
     change_of(alloc, Edit::PinCleared(String::from_str(alloc, resource)?))
 }
@@ -60,7 +63,7 @@ impl Parts {
     ) -> Result<(Reply, Change), CoreFault>
         ensures step { IfOk result (λ r. Takes (core_data self.old) (core_data self.new)
             (pin resource.now given) (Ok r.0)) }
-        ensures change { IfOk result (λ r. Changes (map edit_data r.1.items) self.old.history self.new.history) }
+        ensures change { IfOk result (λ r. Changes r.1.items self.old.history self.new.history) }
         ensures refused { IfErr result (λ f. Takes (core_data self.old) (core_data self.old)
             (pin resource.now given) (Err f)) }
         ensures unchanged { OnErr result (core_data self.new ≡ core_data self.old) }
@@ -87,7 +90,7 @@ impl Parts {
     ) -> Result<(Reply, Change), CoreFault>
         ensures step { IfOk result (λ r. Takes (core_data self.old) (core_data self.new)
             (unpin resource.now) (Ok r.0)) }
-        ensures change { IfOk result (λ r. Changes (map edit_data r.1.items) self.old.history self.new.history) }
+        ensures change { IfOk result (λ r. Changes r.1.items self.old.history self.new.history) }
         ensures refused { IfErr result (λ f. Takes (core_data self.old) (core_data self.old)
             (unpin resource.now) (Err f)) }
         ensures unchanged { OnErr result (core_data self.new ≡ core_data self.old) }

@@ -1,7 +1,8 @@
 //! New pipelines.
 ghost use Rattle.std.specs.Prelude.{◌≡◌, [], ◌∷◌, Ok, Err, map, IfOk, IfErr, OnErr};
 ghost use Rattle.ccr_history.specs.Changes.{text};
-ghost use Rattle.ccr_history.specs.Edits.{edit_data};
+ghost use Rattle.ccr_history.specs.Edits.{edit_data, HaveTheirNumbers};
+ghost use Rattle.ccr_history.specs.History.{HistoryData};
 ghost use Rattle.ccr_pipeline.specs.Pipelines.{pipeline_data};
 ghost use Rattle.ccr_core.specs.Cores.{core_data};
 ghost use Rattle.ccr_core.specs.Events.{set_pipeline};
@@ -21,6 +22,7 @@ use std::alloc::{AllocError, Global};
 fn text_change(alloc: Global, pipeline: &Pipeline) -> Result<(Vec<u8>, Change), AllocError>
     ensures text { IfOk result (λ r. r.0.items ≡ (pipeline_data pipeline.now).text) }
     ensures change { IfOk result (λ r. map edit_data r.1.items ≡ text (pipeline_data pipeline.now).text ∷ []) }
+    ensures numbered { IfOk result (λ r. (h : HistoryData) → HaveTheirNumbers h r.1.items) }
 {
     let text = Vec::from_slice(alloc, pipeline.text())?;
     let copy = Vec::from_slice(alloc, pipeline.text())?;
@@ -37,7 +39,7 @@ impl Parts {
         requires { IsCore (core_data self.old) }
         ensures step { IfOk result (λ r. Takes (core_data self.old) (core_data self.new)
             (set_pipeline (pipeline_data pipeline)) (Ok r.0)) }
-        ensures change { IfOk result (λ r. Changes (map edit_data r.1.items) self.old.history self.new.history) }
+        ensures change { IfOk result (λ r. Changes r.1.items self.old.history self.new.history) }
         ensures refused { IfErr result (λ f. Takes (core_data self.old) (core_data self.old)
             (set_pipeline (pipeline_data pipeline)) (Err f)) }
         ensures unchanged { OnErr result (core_data self.new ≡ core_data self.old) }

@@ -7,11 +7,13 @@ ghost use Rattle.ccr_steps.specs.Asks.{ask_data, answer_data};
 ghost use Rattle.ccr_core.specs.declared.fault.CoreFault.TheVariants.{TableFull, NoMemory};
 ghost use Rattle.ccr_core.specs.Kept.{IsAnswer};
 ghost use Rattle.ccr_core.specs.Seen.{report, report_by};
-ghost use Rattle.ccr_core.specs.Endings.{reports, IsOver, new_in};
+ghost use Rattle.ccr_core.specs.Endings.{reports, report_edits, IsOver};
+ghost use Rattle.ccr_core.specs.Going.{Changes};
 
 use crate::fault::CoreFault;
 use crate::named::scope_named;
-use ccr_history::{History, HistoryFault, Scope, Version};
+use crate::reported::versions_ascend;
+use ccr_history::{History, HistoryFault, Reported, Scope, Version};
 use ccr_pipeline::Pipeline;
 use ccr_steps::{Answered, Ask};
 use std::alloc::{AllocError, Global};
@@ -70,36 +72,38 @@ pub(crate) fn report_by(
     report_of(alloc, pipeline, resource, version)
 }
 
-/// Appends what was reported, and gives how many versions are new. Where it is refused, nothing changes.
+/// Appends what was reported, and gives those versions that are new. Where it is refused, nothing changes.
 pub(crate) fn append(
     alloc: Global,
     history: &mut History,
-    report: &Option<Report>,
-) -> Result<u32, CoreFault>
-    ensures ok { OnOk result (history.new ≡ changed (reports report.now) history.old) }
-    ensures count { IfOk result (λ n. n ≡ new_in report.now history.old) }
-    ensures fits { OnOk result (IsOver report.now history.old → ⊥) }
+    report: Option<Report>,
+) -> Result<Option<Reported>, CoreFault>
+    ensures ok { OnOk result (history.new ≡ changed (reports report) history.old) }
+    ensures change { IfOk result (λ r. Changes (report_edits r) history.old history.new) }
+    ensures fits { OnOk result (IsOver report history.old → ⊥) }
     ensures err { OnErr result (history.new ≡ history.old) }
-    ensures refused { IfErr result (λ f. (f ≡ NoMemory) ⊎ ((f ≡ TableFull) × IsOver report.now history.old)) }
+    ensures refused { IfErr result (λ f. (f ≡ NoMemory) ⊎ ((f ≡ TableFull) × IsOver report history.old)) }
 {
     let Some(report) = report else {
-        return Ok(0);
+        return Ok(None);
     };
-    match history.append_versions(alloc, &report.scope, &report.versions) {
-        Ok(count) => Ok(count),
+    match history.report(alloc, report.scope, &report.versions) {
+        Ok(reported) => {
+            versions_ascend(&reported.versions);
+            Ok(Some(reported))
+        }
         Err(HistoryFault::TableFull) => Err(CoreFault::TableFull),
         Err(_) => Err(CoreFault::NoMemory),
     }
 }
 
-/// Takes back what was appended last, with so many new versions. It takes no memory.
-pub(crate) fn take_back(history: &mut History, report: &Option<Report>, count: u32)
-    requires { (before : HistoryData) × IsHistory before
-        × (history.old ≡ changed (reports report.now) before) × (count ≡ new_in report.now before) }
-    ensures { (before : HistoryData) → IsHistory before → history.old ≡ changed (reports report.now) before
-        → count ≡ new_in report.now before → history.new ≡ before }
+/// Takes back what was appended last. It takes no memory.
+pub(crate) fn take_back(history: &mut History, reported: &Option<Reported>)
+    requires { (before : HistoryData) × IsHistory before × Changes (report_edits reported.now) before history.old }
+    ensures { (before : HistoryData) → IsHistory before → Changes (report_edits reported.now) before history.old
+        → history.new ≡ before }
 {
-    if let Some(report) = report {
-        history.take_back(&report.scope, count);
+    if let Some(reported) = reported {
+        history.take_back(reported);
     }
 }

@@ -17,7 +17,7 @@ use ccr_history::{Change, Edit, History, HistoryFault, Scope, Version};
 use std::alloc::Global;
 
 /// Each version has its keys in order. Nothing runs.
-fn versions_ascend(versions: &[Version])
+pub(crate) fn versions_ascend(versions: &[Version])
     ensures { AllByRecursion IsAscending versions.now }
 {
     for version in versions {
@@ -32,14 +32,17 @@ fn append(
     scope: Scope,
     seen: Vec<Version>,
 ) -> Result<(u32, Change), CoreFault>
-    ensures ok { IfOk result (λ r. IsReported history.old history.new scope seen.items r.0 (map edit_data r.1.items)) }
+    ensures ok { IfOk result (λ r. IsReported history.old history.new scope seen.items r.0) }
+    ensures change { IfOk result (λ r. Changes r.1.items history.old history.new) }
     ensures refused { IfErr result (IsNotReported history.old scope seen.items) }
     ensures err { OnErr result (history.new ≡ history.old) }
 {
     let mut change = Vec::with_capacity(alloc, 1)?;
-    match history.append_versions(alloc, &scope, &seen) {
-        Ok(count) => {
-            change.push_reserved(Edit::Versions(scope, seen));
+    match history.report(alloc, scope, &seen) {
+        Ok(reported) => {
+            versions_ascend(&reported.versions);
+            let count = reported.versions.len() as u32;
+            change.push_reserved(Edit::Versions(reported));
             Ok((count, change))
         }
         Err(HistoryFault::TableFull) => Err(CoreFault::TableFull),
@@ -57,7 +60,7 @@ impl Parts {
     ) -> Result<(Reply, Change), CoreFault>
         ensures step { IfOk result (λ r. Takes (core_data self.old) (core_data self.new)
             (checked resource.now seen.items) (Ok r.0)) }
-        ensures change { IfOk result (λ r. Changes (map edit_data r.1.items) self.old.history self.new.history) }
+        ensures change { IfOk result (λ r. Changes r.1.items self.old.history self.new.history) }
         ensures refused { IfErr result (λ f. Takes (core_data self.old) (core_data self.old)
             (checked resource.now seen.items) (Err f)) }
         ensures unchanged { OnErr result (core_data self.new ≡ core_data self.old) }

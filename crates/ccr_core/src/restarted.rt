@@ -1,7 +1,7 @@
 //! Restarts.
 ghost use Rattle.std.specs.Prelude.{◌≡◌, Ok, Err, map, IfOk, IfErr, OnErr};
 ghost use Rattle.ccr_history.specs.Changes.{changed, TakesAll};
-ghost use Rattle.ccr_history.specs.Edits.{edit_data};
+ghost use Rattle.ccr_history.specs.Edits.{edit_data, HaveTheirNumbers};
 ghost use Rattle.ccr_core.specs.Cores.{core_data};
 ghost use Rattle.ccr_core.specs.Events.{restart};
 ghost use Rattle.ccr_core.specs.Going.{Changes};
@@ -11,17 +11,28 @@ ghost use Rattle.ccr_core.specs.Resumed.{cut_name};
 use crate::fault::CoreFault;
 use crate::parts::Parts;
 use crate::reply::Reply;
-use ccr_history::{Change, Edit, History, Status};
+use ccr_history::{Change, Edit, Ended, History, Status};
 use std::alloc::{AllocError, Global};
 
 /// The ends of builds that are cut short, in order: each is errored, and has moved nothing.
-pub(crate) fn cuts(alloc: Global, names: &[(String, u32)]) -> Result<Change, AllocError>
-    ensures { IfOk result (λ change. map edit_data change.items ≡ map cut_name (map name_data names.now)) }
+pub(crate) fn cuts(
+    alloc: Global,
+    history: &History,
+    names: &[(String, u32)],
+) -> Result<Change, AllocError>
+    ensures is { IfOk result (λ change. map edit_data change.items ≡ map cut_name (map name_data names.now)) }
+    ensures numbered { IfOk result (λ change. HaveTheirNumbers history.now change.items) }
 {
     let mut change = Vec::new(alloc);
     for name in names {
-        let job = String::from_str(alloc, name.0.as_str())?;
-        change.push(Edit::Ended(job, name.1, Status::Errored, Vec::new(alloc)))?;
+        let job = name.0.as_str();
+        change.push(Edit::Ended(Ended {
+            row: history.row_of(job, name.1),
+            job: String::from_str(alloc, job)?,
+            number: name.1,
+            status: Status::Errored,
+            moved: Vec::new(alloc),
+        }))?;
     }
     Ok(change)
 }
@@ -42,12 +53,12 @@ impl Parts {
     pub(crate) fn restart(&mut self, alloc: Global) -> Result<(Reply, Change), CoreFault>
         requires { IsCore (core_data self.old) }
         ensures step { IfOk result (λ r. Takes (core_data self.old) (core_data self.new) restart (Ok r.0)) }
-        ensures change { IfOk result (λ r. Changes (map edit_data r.1.items) self.old.history self.new.history) }
+        ensures change { IfOk result (λ r. Changes r.1.items self.old.history self.new.history) }
         ensures refused { IfErr result (λ f. Takes (core_data self.old) (core_data self.old) restart (Err f)) }
         ensures unchanged { OnErr result (core_data self.new ≡ core_data self.old) }
         ensures budget { self.new.budget ≡ self.old.budget }
     {
-        match cuts(alloc, &self.names) {
+        match cuts(alloc, &self.history, &self.names) {
             Ok(change) => {
                 cut_all(alloc, &mut self.history, &self.names);
                 self.names.clear();

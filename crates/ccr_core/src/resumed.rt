@@ -2,7 +2,7 @@
 ghost use Rattle.std.specs.Prelude.{◌≡◌, ◌≤◌, ◌+◌, ◌++◌, drop, map, option_map, IfOk, IfErr, OnOk};
 ghost use Rattle.std.specs.Option.{IfSome};
 ghost use Rattle.ccr_pipeline.specs.Pipelines.{pipeline_data};
-ghost use Rattle.ccr_history.specs.Edits.{edit_data};
+ghost use Rattle.ccr_history.specs.Edits.{edit_data, HaveTheirNumbers};
 ghost use Rattle.ccr_proof.specs.declared.proof.TheConstants.{MOST_NODES};
 ghost use Rattle.ccr_core.specs.Cores.{core_data};
 ghost use Rattle.ccr_core.specs.Going.{Changes};
@@ -72,16 +72,17 @@ fn running_in(alloc: Global, history: &History) -> Result<Vec<(String, u32)>, Al
 fn cuts_in(alloc: Global, history: &History) -> Result<(Vec<(String, u32)>, Change), AllocError>
     ensures names { IfOk result (λ r. map name_data r.0.items ≡ running_in history.now.builds) }
     ensures change { IfOk result (λ r. map edit_data r.1.items ≡ resumed history.now) }
+    ensures numbered { IfOk result (λ r. HaveTheirNumbers history.now r.1.items) }
 {
     let names = running_in(alloc, history)?;
-    let change = cuts(alloc, &names)?;
+    let change = cuts(alloc, history, &names)?;
     Ok((names, change))
 }
 
 /// Cuts the builds short that run in a history, and gives the change that this is. Where it is refused, nothing changes.
 fn cut_running(alloc: Global, history: &mut History) -> Result<Change, AllocError>
     ensures is { IfOk result (λ change. map edit_data change.items ≡ resumed history.old) }
-    ensures change { IfOk result (λ change. Changes (map edit_data change.items) history.old history.new) }
+    ensures change { IfOk result (λ change. Changes change.items history.old history.new) }
 {
     let (names, change) = cuts_in(alloc, history)?;
     history.rules();
@@ -97,7 +98,7 @@ fn pipeline_and_change(
     requires { IfSome history.old.text IsReadable }
     ensures pipeline { IfOk result (λ r. IsPipelineIn history.old.text (option_map pipeline_data r.0)) }
     ensures is { IfOk result (λ r. map edit_data r.1.items ≡ resumed history.old) }
-    ensures change { IfOk result (λ r. Changes (map edit_data r.1.items) history.old history.new) }
+    ensures change { IfOk result (λ r. Changes r.1.items history.old history.new) }
     ensures only { IfErr result (λ fault. fault ≡ NoMemory) }
 {
     let pipeline = pipeline_in(alloc, history)?;
@@ -119,7 +120,7 @@ pub(crate) fn begin(
     ensures begun { IfOk result (λ r. IsResumed history budget (core_data r.0)) }
     ensures core { IfOk result (λ r. IsCore (core_data r.0)) }
     ensures is { IfOk result (λ r. map edit_data r.1.items ≡ resumed history) }
-    ensures change { IfOk result (λ r. Changes (map edit_data r.1.items) history r.0.history) }
+    ensures change { IfOk result (λ r. Changes r.1.items history r.0.history) }
     ensures only { IfErr result (λ fault. fault ≡ NoMemory) }
 {
     let mut history = history;

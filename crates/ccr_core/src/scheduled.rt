@@ -42,7 +42,7 @@ impl Parts {
         requires { IsCore (core_data self.old) }
         ensures step { IfOk result (λ r. Takes (core_data self.old) (core_data self.new)
             (asked by_command job.now) (Ok r.0)) }
-        ensures change { IfOk result (λ r. Changes (map edit_data r.1.items) self.old.history self.new.history) }
+        ensures change { IfOk result (λ r. Changes r.1.items self.old.history self.new.history) }
         ensures refused { IfErr result (λ f. Takes (core_data self.old) (core_data self.old)
             (asked by_command job.now) (Err f)) }
         ensures unchanged { OnErr result (core_data self.new ≡ core_data self.old) }

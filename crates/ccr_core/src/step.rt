@@ -19,7 +19,7 @@ impl Parts {
     pub(crate) fn take(&mut self, alloc: Global, event: Event) -> Result<(Reply, Change), CoreFault>
         requires { IsCore (core_data self.old) }
         ensures step { IfOk result (λ r. Takes (core_data self.old) (core_data self.new) (event_data event) (Ok r.0)) }
-        ensures change { IfOk result (λ r. Changes (map edit_data r.1.items) self.old.history self.new.history) }
+        ensures change { IfOk result (λ r. Changes r.1.items self.old.history self.new.history) }
         ensures refused { IfErr result (λ f. Takes (core_data self.old) (core_data self.old)
             (event_data event) (Err f)) }
         ensures unchanged { OnErr result (core_data self.new ≡ core_data self.old) }

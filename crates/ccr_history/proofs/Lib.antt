@@ -9,6 +9,8 @@ pub mod ChangeLaws
 pub mod PinMaps
 pub mod HistoryLaws
 pub mod VersionLists
+pub mod NewVersions
+pub mod Rowed
 pub mod TableEntries
 pub mod Numbers
 pub mod Results

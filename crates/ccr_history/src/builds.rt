@@ -157,7 +157,7 @@ impl Builds {
     }
 
     /// Where the job's build of this number is.
-    fn position_of(&self, job: &str, number: u32) -> Option<usize>
+    pub(crate) fn position_of(&self, job: &str, number: u32) -> Option<usize>
         ensures only { IfSome result (IsOnly (is_build_of job.now number) self.now) }
         ensures none { IfNone result (build_of job.now number self.now ≡ None) }
     {

@@ -5,17 +5,60 @@ use crate::pin::Pin;
 use crate::scope::Scope;
 use crate::version::Version;
 
-/// One change of a history: the call that makes it, with its arguments.
+/// Versions that came to the table of a scope.
+#[derive(Drop)]
+pub struct Reported {
+    /// The scope.
+    pub scope: Scope,
+    /// The scope's number, from 1 in order of making.
+    pub number: u32,
+    /// Whether the scope had no table before.
+    pub is_new: bool,
+    /// The place of the first of the versions.
+    pub first: u32,
+    /// The versions, in order of their places.
+    pub versions: Vec<Version>,
+}
+
+/// A build that was made.
+#[derive(Drop)]
+pub struct Made {
+    /// The build's row: its position among all builds, from 1 in order of making.
+    pub row: u32,
+    /// The name of the build's job.
+    pub job: String,
+    /// The build's number within its job.
+    pub number: u32,
+    /// The places that the build uses.
+    pub used: Vec<Used>,
+}
+
+/// A build that ended.
+#[derive(Drop)]
+pub struct Ended {
+    /// The build's row: its position among all builds, from 1 in order of making.
+    pub row: u32,
+    /// The name of the build's job.
+    pub job: String,
+    /// The build's number within its job.
+    pub number: u32,
+    /// How the build ended.
+    pub status: Status,
+    /// The pairs of scope and place that the build moved.
+    pub moved: Vec<(u32, u32)>,
+}
+
+/// One change of a history, with the numbers that the history gave it.
 #[derive(Drop)]
 pub enum Edit {
     /// The text of the pipeline is set.
     Text(Vec<u8>),
-    /// These versions of a scope were reported, in this order.
-    Versions(Scope, Vec<Version>),
-    /// A build of this job is made, which uses these places.
-    Build(String, Vec<Used>),
-    /// The job's build of this number ended so, and moved these pairs of scope and place.
-    Ended(String, u32, Status, Vec<(u32, u32)>),
+    /// Versions came to the table of a scope.
+    Versions(Reported),
+    /// A build was made.
+    Build(Made),
+    /// A build ended.
+    Ended(Ended),
     /// This resource is pinned by command.
     PinSet(String, Pin),
     /// The pin by command of this resource is cleared.

@@ -1,9 +1,10 @@
 //! Histories: what has been seen, what was built, and what is set.
-ghost use Rattle.std.specs.Prelude.{◌≡◌, ◌≢◌, ◌↔◌, ◌⊎◌, ◌+◌, List, length, slice_get, false, None, is_some, option_map, option_copied, IsTrue, IsOk, IsErrOf, IfOk, IfErr, OnOk, OnErr};
+ghost use Rattle.std.specs.Prelude.{◌≡◌, ◌≢◌, ◌↔◌, ◌⊎◌, ◌+◌, List, length, slice_get, false, None, is_some, option_map, option_copied, IsTrue, IsOk, IsErrOf, IfOk, IfErr, IfSome, IfNone, OnOk, OnErr};
 ghost use Rattle.ccr_history.specs.declared.build.Status.TheVariants.{Running};
 ghost use Rattle.ccr_history.specs.TextMap.{TextMap};
 ghost use Rattle.ccr_history.specs.Tables.{versions_of, new_count, is_table_full, scope_number, place_in, at_place, versions_at};
-ghost use Rattle.ccr_history.specs.Builds.{build_of, count_of, positions_of, has_used, HasEnded};
+ghost use Rattle.ccr_history.specs.Builds.{build_of, is_build_of, count_of, positions_of, has_used, HasEnded};
+ghost use Rattle.ccr_history.specs.Orderly.{IsOnly};
 ghost use Rattle.ccr_history.specs.History.{HistoryData, no_history, IsHistory, has_place};
 ghost use Rattle.ccr_history.specs.Changes.{text, versions, build, ended, pin_set, pin_cleared, edited, pin_of, AreUsed, AreMoved, IsRunning};
 ghost use Rattle.ccr_history.specs.Faults.{is_fault_of_report, is_fault_of_add, is_fault_of_end};
@@ -94,7 +95,7 @@ impl History {
     /// Takes back the last report, which had so many new versions of this scope. It takes no memory.
     ///
     /// The caller has changed nothing since.
-    pub fn take_back(&mut self, scope: &Scope, count: u32)
+    pub(crate) fn take_back_last(&mut self, scope: &Scope, count: u32)
         requires { (before : HistoryData) × (seen : List TextMap) × IsHistory before
             × (self.old ≡ edited (versions scope.now seen) before) × (count ≡ new_count scope.now seen before.tables) }
         ensures { (before : HistoryData) (seen : List TextMap) → IsHistory before
@@ -334,6 +335,15 @@ impl History {
         ensures { result.now ≡ positions_of job.now self.now.builds }
     {
         self.builds.builds_of(job)
+    }
+
+    /// Where the job's build of this number is, counted from 0 in order of making, if there is one.
+    pub(crate) fn position_of(&self, job: &str, number: u32) -> Option<usize>
+        ensures only { IfSome result (IsOnly (is_build_of job.now number) self.now.builds) }
+        ensures none { IfNone result (build_of job.now number self.now.builds ≡ None) }
+        ensures kept { IsHistory self.now }
+    {
+        self.builds.position_of(job, number)
     }
 
     /// How many builds of a job were made.

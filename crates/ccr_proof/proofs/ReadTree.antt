@@ -14,35 +14,35 @@ use Rattle.ccr_proof.proofs.Trees.{tree_of_job}
 use Rattle.ccr_proof.specs.ProofText.{node_on, by_line, next_node, next_children, next_tree}
 
 -- what is read behind a job's line
-abbrev pub job_at : ℕ → ℕ → ℕ → ℕ → List (List Word) → NodeRead Tree
-job_at zero nodes j k after = Err (left (suc (length after)))
-job_at (suc levels) nodes j k after = next_children (next_tree levels) k (nodes + 1) after >>= λ ts. Ok (job j ts.0, ts.1)
+abbrev pub job_at : ℕ → ℕ → ℕ → ℕ → ℕ → List (List Word) → NodeRead Tree
+job_at format zero nodes j k after = Err (left (suc (length after)))
+job_at format (suc levels) nodes j k after = next_children (next_tree format levels) k (nodes + 1) after >>= λ ts. Ok (job j ts.0, ts.1)
 
-pub tree_full : (levels nodes : ℕ) (ls : List (List Word)) → 1000000 ≤ nodes → next_tree levels nodes ls ≡ Err too_many
-tree_full zero nodes ls full = cond-true (nat_le 1000000 nodes) _ _ (le-leb 1000000 nodes full)
-tree_full (suc levels) nodes ls full = cond-true (nat_le 1000000 nodes) _ _ (le-leb 1000000 nodes full)
+pub tree_full : (format levels nodes : ℕ) (ls : List (List Word)) → 1000000 ≤ nodes → next_tree format levels nodes ls ≡ Err too_many
+tree_full format zero nodes ls full = cond-true (nat_le 1000000 nodes) _ _ (le-leb 1000000 nodes full)
+tree_full format (suc levels) nodes ls full = cond-true (nat_le 1000000 nodes) _ _ (le-leb 1000000 nodes full)
 
-pub tree_next : (levels nodes : ℕ) (ls : List (List Word)) → nodes < 1000000 → next_tree levels nodes ls ≡ next_node ls (job_at levels nodes)
-tree_next zero nodes ls few = cond-false (nat_le 1000000 nodes) _ _ (false_from_ne_true _ (λ e. let le = leb-true 1000000 nodes e in omega (arith, le, few)))
-tree_next (suc levels) nodes ls few = cond-false (nat_le 1000000 nodes) _ _ (false_from_ne_true _ (λ e. let le = leb-true 1000000 nodes e in omega (arith, le, few)))
+pub tree_next : (format levels nodes : ℕ) (ls : List (List Word)) → nodes < 1000000 → next_tree format levels nodes ls ≡ next_node format ls (job_at format levels nodes)
+tree_next format zero nodes ls few = cond-false (nat_le 1000000 nodes) _ _ (false_from_ne_true _ (λ e. let le = leb-true 1000000 nodes e in omega (arith, le, few)))
+tree_next format (suc levels) nodes ls few = cond-false (nat_le 1000000 nodes) _ _ (false_from_ne_true _ (λ e. let le = leb-true 1000000 nodes e in omega (arith, le, few)))
 
-pub tree_none : (levels nodes : ℕ) (ls : List (List Word)) → nodes < 1000000 → ls ≡ [] → next_tree levels nodes ls ≡ Err (left 0)
-tree_none levels nodes ls few none = tree_next levels nodes ls few ∙ ap (λ xs. next_node xs (job_at levels nodes)) none
+pub tree_none : (format levels nodes : ℕ) (ls : List (List Word)) → nodes < 1000000 → ls ≡ [] → next_tree format levels nodes ls ≡ Err (left 0)
+tree_none format levels nodes ls few none = tree_next format levels nodes ls few ∙ ap (λ xs. next_node format xs (job_at format levels nodes)) none
 
-pub tree_line : (levels nodes : ℕ) (ls rest : List (List Word)) (l : List Word) (o : Option NodeLine) → nodes < 1000000 → ls ≡ l ∷ rest → o ≡ node_on l
-    → next_tree levels nodes ls ≡ by_line o rest (job_at levels nodes)
-tree_line levels nodes ls rest l o few is says =
-    tree_next levels nodes ls few ∙ ap (λ xs. next_node xs (job_at levels nodes)) is ∙ ap (λ x. by_line x rest (job_at levels nodes)) (sym says)
+pub tree_line : (format levels nodes : ℕ) (ls rest : List (List Word)) (l : List Word) (o : Option NodeLine) → nodes < 1000000 → ls ≡ l ∷ rest → o ≡ node_on format l
+    → next_tree format levels nodes ls ≡ by_line o rest (job_at format levels nodes)
+tree_line format levels nodes ls rest l o few is says =
+    tree_next format levels nodes ls few ∙ ap (λ xs. next_node format xs (job_at format levels nodes)) is ∙ ap (λ x. by_line x rest (job_at format levels nodes)) (sym says)
 
-pub job_none : (levels nodes j k : ℕ) (after : List (List Word)) → levels ≡ 0 → job_at levels nodes j k after ≡ Err (left (suc (length after)))
-job_none zero nodes j k after e = refl
-job_none (suc levels) nodes j k after e = absurd (omega (arith, e))
+pub job_none : (format levels nodes j k : ℕ) (after : List (List Word)) → levels ≡ 0 → job_at format levels nodes j k after ≡ Err (left (suc (length after)))
+job_none format zero nodes j k after e = refl
+job_none format (suc levels) nodes j k after e = absurd (omega (arith, e))
 
-pub job_some : (levels nodes j k : ℕ) (after : List (List Word)) → 0 < levels → job_at levels nodes j k after ≡ (next_children (next_tree (levels - 1)) k (nodes + 1) after >>= λ ts. Ok (job j ts.0, ts.1))
-job_some zero nodes j k after some = absurd (omega arith)
-job_some (suc levels) nodes j k after some =
+pub job_some : (format levels nodes j k : ℕ) (after : List (List Word)) → 0 < levels → job_at format levels nodes j k after ≡ (next_children (next_tree format (levels - 1)) k (nodes + 1) after >>= λ ts. Ok (job j ts.0, ts.1))
+job_some format zero nodes j k after some = absurd (omega arith)
+job_some format (suc levels) nodes j k after some =
     let e : levels ≡ suc levels - 1 = omega arith in
-    ap (λ n. next_children (next_tree n) k (nodes + 1) after >>= λ ts. Ok (job j ts.0, ts.1)) e
+    ap (λ n. next_children (next_tree format n) k (nodes + 1) after >>= λ ts. Ok (job j ts.0, ts.1)) e
 
 -- ---- children, one after the other
 abbrev pub onto : List Node → Trees → Trees
@@ -102,24 +102,24 @@ count_push [] c = omega arith
 count_push (x ∷ cs) c = omega (arith, count_push cs c)
 
 -- ---- a job's line with its children
-module _ (levels nodes j k : ℕ) (ls after : List (List Word)) (l : List Word) (few : nodes < 1000000) (is : ls ≡ l ∷ after) (says : Some (line.Job j k) ≡ node_on l) (some : 0 < levels) where
-  job_reads : next_tree levels nodes ls ≡ (next_children (next_tree (levels - 1)) k (nodes + 1) after >>= λ ts. Ok (job j ts.0, ts.1))
-  job_reads = tree_line levels nodes ls after l (Some (line.Job j k)) few is says ∙ job_some levels nodes j k after some
+module _ (format levels nodes j k : ℕ) (ls after : List (List Word)) (l : List Word) (few : nodes < 1000000) (is : ls ≡ l ∷ after) (says : Some (line.Job j k) ≡ node_on format l) (some : 0 < levels) where
+  job_reads : next_tree format levels nodes ls ≡ (next_children (next_tree format (levels - 1)) k (nodes + 1) after >>= λ ts. Ok (job j ts.0, ts.1))
+  job_reads = tree_line format levels nodes ls after l (Some (line.Job j k)) few is says ∙ job_some format levels nodes j k after some
 
   pub job_done : (n now : ℕ) (cs : List Node) (children : Vec Node Global) (rest : List (List Word)) → n ≡ 0 → cs ≡ children.items
-      → with_children cs (next_children (next_tree (levels - 1)) n now rest) ≡ next_children (next_tree (levels - 1)) k (nodes + 1) after
-      → next_tree levels nodes ls ≡ Ok (tree_of (Job j children), rest)
+      → with_children cs (next_children (next_tree format (levels - 1)) n now rest) ≡ next_children (next_tree format (levels - 1)) k (nodes + 1) after
+      → next_tree format levels nodes ls ≡ Ok (tree_of (Job j children), rest)
   job_done n now cs children rest none same whole =
       job_reads
-      ∙ ap (λ r. r >>= λ ts. Ok (job j ts.0, ts.1)) (children_done (next_tree (levels - 1)) n now cs rest _ none whole)
+      ∙ ap (λ r. r >>= λ ts. Ok (job j ts.0, ts.1)) (children_done (next_tree format (levels - 1)) n now cs rest _ none whole)
       ∙ ap (λ xs. Ok (job j (trees_of xs), rest)) same
       ∙ ap (λ t. Ok (t, rest)) (sym (tree_of_job j children))
 
-  pub job_stop : (n m now : ℕ) (cs : List Node) (rest : List (List Word)) (h : NodeStop) → n ≡ suc m → next_tree (levels - 1) now rest ≡ Err h
-      → with_children cs (next_children (next_tree (levels - 1)) n now rest) ≡ next_children (next_tree (levels - 1)) k (nodes + 1) after
-      → next_tree levels nodes ls ≡ Err h
+  pub job_stop : (n m now : ℕ) (cs : List Node) (rest : List (List Word)) (h : NodeStop) → n ≡ suc m → next_tree format (levels - 1) now rest ≡ Err h
+      → with_children cs (next_children (next_tree format (levels - 1)) n now rest) ≡ next_children (next_tree format (levels - 1)) k (nodes + 1) after
+      → next_tree format levels nodes ls ≡ Err h
   job_stop n m now cs rest h same read whole =
-      job_reads ∙ ap (λ r. r >>= λ ts. Ok (job j ts.0, ts.1)) (children_stop (next_tree (levels - 1)) n m now cs rest h _ same read whole)
+      job_reads ∙ ap (λ r. r >>= λ ts. Ok (job j ts.0, ts.1)) (children_stop (next_tree format (levels - 1)) n m now cs rest h _ same read whole)
 
 pub halts_on : {A B : Type 0} (h : Halt) (r : Result A NodeStop) (s : Result B NodeStop) → ((x : NodeStop) → r ≡ Err x → s ≡ Err x) → Halts h r → Halts h s
 halts_on Memory r s on stops = tt

@@ -1,10 +1,12 @@
 -- An accepted tree leaves no better choice.
-use Rattle.std.proofs.Common.{◌≡◌, ◌≢◌, ℕ, zero, suc, ◌+◌, ◌<◌, ◌≤◌, inl, inr, true, ◌==◌, List, [], ◌∷◌, length, slice_index, refl, sym, ap, ◌∙◌, subst, arith, Option, Some, None}
+use Rattle.std.proofs.Common.{◌≡◌, ◌≢◌, ℕ, zero, suc, ◌+◌, ◌<◌, ◌≤◌, ◌⊎◌, inl, inr, true, false, ◌==◌, List, [], ◌∷◌, length, slice_index, slice_get, slice_set, refl, sym, ap, ◌∙◌, subst, arith, Option, Some, None}
 use Rattle.std.specs.Prelude.{Contains, Any, EachIndex, MatchOption, unwrap_or}
-use Rattle.std.proofs.lemmas.Bool.{and_parts, ltb-true, cases_Bool, cases_eq, cond-true, cond-false, eqb-true}
-use Rattle.ccr_choice.specs.Problem.{ProblemValue, BuildValue, is_problem, input_at, builds_at, is_build, are_builds_below}
+use Rattle.std.proofs.lemmas.Bool.{cases_Bool, cases_eq, cond-true, cond-false, eqb-true, eq-eqb}
+use Rattle.std.proofs.lemmas.List.{get_or-set_same, get_or-set_other}
+use Rattle.ccr_choice.specs.Problem.{ProblemValue, BuildValue, is_problem, input_at, builds_at}
 use Rattle.ccr_choice.specs.Satisfies.{Satisfies, Moved, IsAllowed, IsSuccessful, HasPassed, HasPassedAll}
-use Rattle.ccr_choice.proofs.Bounds.{builds_kept}
+use Rattle.ccr_choice.specs.Dominated.{IsDominated}
+use Rattle.ccr_choice.proofs.Exchange.{build_at, other_satisfies}
 use Rattle.ccr_choice.proofs.Numbering.{named_below}
 use Rattle.ccr_proof.specs.declared.claim.Claim.{Claim}
 use Rattle.ccr_proof.specs.declared.claim.Claim.TheVariants.{Best, Nothing}
@@ -12,44 +14,13 @@ use Rattle.ccr_choice.specs.Preference.{Preference, IsOrder, IsBetter}
 use Rattle.ccr_choice.specs.Assignment.{Assignment, nothing_fixed, with_build, Agrees}
 use Rattle.ccr_choice.specs.Possible.{IsPossible, IsBestPossible}
 use Rattle.ccr_choice.proofs.BestPlaces.{best_possible, best_places}
-use Rattle.ccr_proof.specs.Tree.{Tree, Trees, job, empty, bounded, no_child, child}
-use Rattle.ccr_proof.specs.Refutes.{HasNoPlace, IsBounded, Refutes, RefuteEach, IsAccepted}
+use Rattle.ccr_proof.specs.Tree.{Tree, Trees, job, empty, bounded, same_as, no_child, child, is_same, are_same}
+use Rattle.ccr_proof.specs.Refutes.{HasNoPlace, IsBounded, IsSameCase, Refutes, RefuteEach, IsAccepted}
 use Rattle.ccr_proof.specs.Right.{IsRight}
-use Rattle.ccr_choice.proofs.Members.{contains_none, contains_first, contains_later, contains_cases, any_none, any_cases, any_more}
+use Rattle.ccr_choice.proofs.Members.{contains_none, contains_first, contains_later, contains_cases, any_more}
 use Rattle.ccr_choice.proofs.PossibleLaws.{best_is, length-best_places, best_places_at, bounded_by}
 
--- ---- builds are told apart by their numbers
-pub below_high : (scopes high : ℕ) (bs : List BuildValue) (b : BuildValue) → are_builds_below scopes high bs ≡ true → Contains bs b → b.number < high
-below_high scopes high [] b h among = absurd (contains_none b among)
-below_high scopes high (x ∷ bs) b h among =
-    let parts = and_parts (is_build scopes high x) (are_builds_below scopes x.number bs) h in
-    let low : x.number < high = ltb-true _ _ (and_parts _ _ (and_parts _ _ parts.0).1).0 in
-    elim (contains_cases x b bs among) [
-      | inl e ↦ (let P : BuildValue → Type 0 = λ y. y.number < high in subst P e low)
-      | inr e ↦ (let less = below_high scopes x.number bs b parts.1 e in omega arith)
-    ]
-
-same_build : (scopes high : ℕ) (bs : List BuildValue) (b c : BuildValue) → are_builds_below scopes high bs ≡ true → Contains bs b → Contains bs c → b.number ≡ c.number → b ≡ c
-same_build scopes high [] b c h one other same = absurd (contains_none b one)
-same_build scopes high (x ∷ bs) b c h one other same =
-    let parts = and_parts (is_build scopes high x) (are_builds_below scopes x.number bs) h in
-    elim (contains_cases x b bs one) [
-      | inl e ↦ elim (contains_cases x c bs other) [
-        | inl f ↦ sym e ∙ f
-        | inr f ↦ (let less = below_high scopes x.number bs c parts.1 f in absurd (omega (arith, less, same, ap (λ y. y.number) e)))
-      ]
-      | inr e ↦ elim (contains_cases x c bs other) [
-        | inl f ↦ (let less = below_high scopes x.number bs b parts.1 e in absurd (omega (arith, less, same, ap (λ y. y.number) f)))
-        | inr f ↦ same_build scopes x.number bs b c parts.1 e f same
-      ]
-    ]
-
 module _ (prefers : Preference) (order : IsOrder prefers) (p : ProblemValue) (rules : is_problem p ≡ true) where
-  build_at : (j : ℕ) (b c : BuildValue) → j < length p.jobs → Contains (builds_at p j) b → Contains (builds_at p j) c → b.number ≡ c.number → b ≡ c
-  build_at j b c within one other same =
-      let kept = builds_kept p j (builds_at p j) rules within refl in
-      same_build _ _ (builds_at p j) b c (and_parts _ _ kept).1 one other same
-
   -- each fixed build is one of its job
   abbrev pub AreKnown : Assignment → Type 0
   AreKnown a = (j : ℕ) (b : BuildValue) → a j ≡ Some b → Contains (builds_at p j) b
@@ -60,7 +31,7 @@ module _ (prefers : Preference) (order : IsOrder prefers) (p : ProblemValue) (ru
       → MatchOption o (Any (λ b. Contains b.pairs pair) (builds_at p j)) (λ b. Contains b.pairs pair)
   can_pass a j n pair None within e known agrees moved = any_more (λ b. (b.number ≡ n) × Contains b.pairs pair) (λ b. Contains b.pairs pair) (builds_at p j) (λ b h. h.1) moved
   can_pass a j n pair (Some b) within e known agrees (k, c, inside, at, (numbered, has)) =
-      let same : c ≡ b = build_at j c b within (k, inside, at) (known j b e) (numbered ∙ agrees b e) in
+      let same : c ≡ b = build_at p rules j c b within (k, inside, at) (known j b e) (numbered ∙ agrees b e) in
       let P : BuildValue → Type 0 = λ y. Contains y.pairs pair in
       subst P same has
 
@@ -171,23 +142,95 @@ module _ (prefers : Preference) (order : IsOrder prefers) (p : ProblemValue) (ru
         | inr other ↦ agrees k c (sym (cond-false (k == j) (Some b) (a k) other) ∙ e)
       ]
 
+  -- each child that is a case of its own leaves no better choice with its build
+  abbrev pub OwnHold : Option (List ℕ) → Assignment → ℕ → List BuildValue → Trees → Type 0
+  OwnHold bound a j bs ts = (n : ℕ) (b : BuildValue) → slice_get bs n ≡ Some b → slice_get (are_same ts) n ≡ Some false → Holds bound (with_build a j b)
+
+  -- each build has a child of its own, or one that is the same case as another
+  each_covered : (bound : Option (List ℕ)) (a : Assignment) (j : ℕ) (all : Trees) (k : ℕ) (bs : List BuildValue) (ts : Trees) → RefuteEach prefers p bound a j all k bs ts
+      → (n : ℕ) (b : BuildValue) → slice_get bs n ≡ Some b → (slice_get (are_same ts) n ≡ Some false) ⊎ ((m q : ℕ) × IsSameCase p j all m b q)
+  each_covered bound a j all k [] no_child h n b at = absurd (cc (at))
+  each_covered bound a j all k (x ∷ bs) (child t ts) h zero b at =
+      let same : x ≡ b = cc (at) in
+      let P : BuildValue → Type 0 = λ y. (slice_get (are_same (child t ts)) 0 ≡ Some false) ⊎ ((m q : ℕ) × IsSameCase p j all m y q) in
+      subst P same (elim h.0 [
+        | inl refutes ↦ inl (ap Some (own_case bound (with_build a j x) t refutes))
+        | inr other ↦ inr (k, other.0, other.2)
+      ])
+    where
+      own_case : (bound : Option (List ℕ)) (a : Assignment) (t : Tree) → Refutes prefers p bound a t → is_same t ≡ false
+      own_case bound a (job j ts) h = refl
+      own_case bound a (empty i) h = refl
+      own_case bound a bounded h = refl
+      own_case bound a (same_as q) h = absurd h
+  each_covered bound a j all k (x ∷ bs) (child t ts) h (suc n) b at = each_covered bound a j all (k + 1) bs ts h.1 n b at
+  each_covered bound a j all k [] (child t ts) h n b at = absurd h
+  each_covered bound a j all k (b ∷ bs) no_child h n c at = absurd h
+
+  slice_get_contains : (bs : List BuildValue) (n : ℕ) (b : BuildValue) → slice_get bs n ≡ Some b → Contains bs b
+  slice_get_contains [] n b at = absurd (cc (at))
+  slice_get_contains (x ∷ bs) zero b at = let same : x ≡ b = cc (at) in let P : BuildValue → Type 0 = λ y. Contains (x ∷ bs) y in subst P same (contains_first x bs)
+  slice_get_contains (x ∷ bs) (suc n) b at = contains_later x b bs (slice_get_contains bs n b at)
+
+  contains_slice_get : (bs : List BuildValue) (b : BuildValue) → Contains bs b → (n : ℕ) × (slice_get bs n ≡ Some b)
+  contains_slice_get [] b among = absurd (contains_none b among)
+  contains_slice_get (x ∷ bs) b among =
+      elim (contains_cases x b bs among) [
+        | inl same ↦ (0, ap Some same)
+        | inr later ↦ (let found = contains_slice_get bs b later in (suc found.0, found.1))
+      ]
+
+  -- a choice with the build of the job can be had with the build that dominates it, whose case leaves no better one
+  same_holds : (bound : Option (List ℕ)) (a : Assignment) (j : ℕ) (b other : BuildValue) → j < length p.jobs → Contains (builds_at p j) b → Contains (builds_at p j) other
+      → IsDominated p j b other → Holds bound (with_build a j other) → Holds bound (with_build a j b)
+  same_holds bound a j b other within one another dominated holds places builds sat agrees =
+      let now : slice_index builds j ≡ b.number = agrees j b (cond-true (j == j) (Some b) (a j) (eq-eqb j j refl)) in
+      let inside : j < length builds = omega (arith, sat.lengths.build_each) in
+      holds places (slice_set builds j other.number) (other_satisfies p rules places builds j b other sat within now one another dominated)
+      (λ k c e. elim (cases_Bool (k == j)) [
+        | inl same ↦ (let is : other ≡ c = cc (e, cond-true (k == j) (Some other) (a k) same) in
+            ap (slice_index (slice_set builds j other.number)) (eqb-true k j same) ∙ get_or-set_same builds j other.number 0 inside ∙ ap (λ x. x.number) is)
+        | inr differs ↦ (let fixed : a k ≡ Some c = sym (cond-false (k == j) (Some other) (a k) differs) ∙ e in
+            get_or-set_other builds j k other.number 0 (λ same. absurd (cc (differs, eq-eqb k j same)))
+            ∙ agrees k c (cond-false (k == j) (Some b) (a k) differs ∙ fixed))
+      ])
+
+  -- so a choice is no better, whichever build of the job it has
+  job_holds : (bound : Option (List ℕ)) (a : Assignment) (j : ℕ) (ts : Trees) → j < length p.jobs → RefuteEach prefers p bound a j ts 0 (builds_at p j) ts → OwnHold bound a j (builds_at p j) ts
+      → (places builds : List ℕ) → Satisfies p places builds → Agrees a builds → Any (λ b. b.number ≡ slice_index builds j) (builds_at p j) → IsNoBetter bound places
+  job_holds bound a j ts within each own places builds sat agrees (k, b, inside, at, numbered) =
+      let among : Contains (builds_at p j) b = (k, inside, at) in
+      let found = contains_slice_get (builds_at p j) b among in
+      let holds : Holds bound (with_build a j b) =
+      elim (each_covered bound a j ts 0 (builds_at p j) ts each found.0 b found.1) [
+        | inl mine ↦ own found.0 b found.1 mine
+        | inr other ↦ (let case = other.2 in
+            same_holds bound a j b case.other within among (slice_get_contains (builds_at p j) other.1 case.other case.its) case.dominated (own other.1 case.other case.its case.own))
+      ] in
+      holds places builds sat (agrees_with a j b builds agrees (sym numbered))
+
   mutual
     pub refutes_holds : (bound : Option (List ℕ)) (a : Assignment) (t : Tree) → AreKnown a → Refutes prefers p bound a t → Holds bound a
     refutes_holds bound a (empty i) known h = empty_holds a bound i known h
     refutes_holds bound a bounded known h = bounded_holds a bound known h
+    refutes_holds bound a (same_as q) known h = absurd h
     refutes_holds bound a (job j ts) known h = λ places builds sat agrees.
-        each_holds bound a j ts 0 (builds_at p j) ts known (λ b among. among) h.2 places builds sat agrees (successful_one builds j (sat.successful j h.0))
+        job_holds bound a j ts h.0 h.2 (own_hold bound a j ts 0 (builds_at p j) ts known (λ b among. among) h.2) places builds sat agrees (successful_one builds j (sat.successful j h.0))
 
-    each_holds : (bound : Option (List ℕ)) (a : Assignment) (j : ℕ) (all : Trees) (k : ℕ) (bs : List BuildValue) (ts : Trees) → AreKnown a → ((b : BuildValue) → Contains bs b → Contains (builds_at p j) b)
-        → RefuteEach prefers p bound a j all k bs ts → (places builds : List ℕ) → Satisfies p places builds → Agrees a builds → Any (λ b. b.number ≡ slice_index builds j) bs → IsNoBetter bound places
-    each_holds bound a j all k [] no_child known those h places builds sat agrees one = absurd (any_none (λ b. b.number ≡ slice_index builds j) one)
-    each_holds bound a j all k (b ∷ bs) (child t ts) known those h places builds sat agrees one =
-        elim (any_cases (λ c. c.number ≡ slice_index builds j) b bs one) [
-          | inl here ↦ refutes_holds bound (with_build a j b) t (known_with a j b known (those b (contains_first b bs))) h.0 places builds sat (agrees_with a j b builds agrees (sym here))
-          | inr there ↦ each_holds bound a j all (k + 1) bs ts known (λ c among. those c (contains_later b c bs among)) h.1 places builds sat agrees there
+    own_hold : (bound : Option (List ℕ)) (a : Assignment) (j : ℕ) (all : Trees) (k : ℕ) (bs : List BuildValue) (ts : Trees) → AreKnown a → ((b : BuildValue) → Contains bs b → Contains (builds_at p j) b)
+        → RefuteEach prefers p bound a j all k bs ts → OwnHold bound a j bs ts
+    own_hold bound a j all k [] no_child known those h n b at own = absurd (cc (at))
+    own_hold bound a j all k (x ∷ bs) (child t ts) known those h zero b at own =
+        let same : x ≡ b = cc (at) in
+        let P : BuildValue → Type 0 = λ y. Holds bound (with_build a j y) in
+        elim h.0 [
+          | inl refutes ↦ subst P same (refutes_holds bound (with_build a j x) t (known_with a j x known (those x (contains_first x bs))) refutes)
+          | inr other ↦ absurd (cc (own, ap (λ y. is_same y) other.1))
         ]
-    each_holds bound a j all k [] (child t ts) known those h places builds sat agrees one = absurd h
-    each_holds bound a j all k (b ∷ bs) no_child known those h places builds sat agrees one = absurd h
+    own_hold bound a j all k (x ∷ bs) (child t ts) known those h (suc n) b at own =
+        own_hold bound a j all (k + 1) bs ts known (λ c among. those c (contains_later x c bs among)) h.1 n b at own
+    own_hold bound a j all k [] (child t ts) known those h n b at own = absurd h
+    own_hold bound a j all k (b ∷ bs) no_child known those h n c at own = absurd h
 
   pub none_known : AreKnown nothing_fixed
   none_known j b e = absurd (cc (e))

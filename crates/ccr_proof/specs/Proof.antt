@@ -6,7 +6,7 @@ use Rattle.ccr_proof.specs.declared.claim.Claim.{Claim}
 use Rattle.ccr_proof.specs.declared.proof.TheConstants.{MOST_NODES, MOST_LEVELS}
 use Rattle.ccr_proof.specs.declared.claim.Claim.TheVariants.{Best, Nothing}
 use Rattle.ccr_proof.specs.Claim.{IsClaim}
-use Rattle.ccr_proof.specs.Tree.{Tree, Trees, job, empty, bounded, no_child, child, count, levels}
+use Rattle.ccr_proof.specs.Tree.{Tree, Trees, job, empty, bounded, same_as, no_child, child, count, levels}
 
 -- The numbers of a tree's nodes are below 2 ^ 32.
 abbrev mutual
@@ -14,6 +14,7 @@ abbrev mutual
   IsSmall (job j ts) = (j < 2 ^ 32) × AreSmall ts
   IsSmall (empty i) = i < 2 ^ 32
   IsSmall bounded = Unit {0}
+  IsSmall (same_as q) = q < 2 ^ 32
 
   pub AreSmall : Trees → Type 0
   AreSmall no_child = Unit {0}

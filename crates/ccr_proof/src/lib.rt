@@ -1,8 +1,8 @@
 //! What is said of a problem, and why it is so: claims, refutation trees, and their texts.
 //!
 //! A [`Claim`] names a choice as the best one, or says that no choice satisfies. A [`Proof`] is a claim with a tree of
-//! cases, whose root is a [`Node`]: the builds of a job one by one, an input without a possible place, or places that
-//! are no better than the claim's. Contracts see a tree without where it lies in memory (`specs/Tree.antt`). When a
+//! cases, whose root is a [`Node`]: the builds of a job one by one, an input without a possible place, places that are
+//! no better than the claim's, or the same case as an earlier build's. Contracts see a tree without where it lies in memory (`specs/Tree.antt`). When a
 //! tree refutes what is better than a claim, when a proof is accepted, and when a claim is right, is defined here for
 //! all crates that speak of it (`specs/Refutes.antt`, `specs/Right.antt`), with the order of preference as a parameter;
 //! the checker is another crate.
@@ -14,6 +14,7 @@
 
 mod claim;
 mod fault;
+mod format;
 mod halt;
 mod law;
 mod node;

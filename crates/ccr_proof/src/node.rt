@@ -9,4 +9,7 @@ pub enum Node {
     Empty(u32),
     /// The best places aren't better than the claim's.
     Bounded,
+    /// Below a job node: the build of the child at this position, counted from 0, has all that this child's build has, so
+    /// this case is that one. The child stands before this one, and is a case of its own.
+    Same(u32),
 }

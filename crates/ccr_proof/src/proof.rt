@@ -37,7 +37,7 @@ fn nodes_of(node: &Node) -> u32
     ensures { result ≡ count (tree_of node.now) }
 {
     match node {
-        Node::Empty(_) | Node::Bounded => 1,
+        Node::Empty(_) | Node::Bounded | Node::Same(_) => 1,
         Node::Job(_, children) => {
             let children: &[Node] = children;
             let mut nodes: u32 = 1;

@@ -6,9 +6,9 @@ ghost use Rattle.ccr_proof.specs.Tree.{tree_of, count};
 ghost use Rattle.ccr_proof.specs.Proof.{IsSmall, IsProof};
 ghost use Rattle.ccr_proof.specs.ProofText.{tree_lines, proof_text, proof_in};
 
+use crate::format::format_of;
 use crate::node::Node;
 use crate::proof::{MOST_NODES, Proof};
-use crate::proof_read::PROOF_FORMAT;
 use crate::write::claim_words;
 use ccr_choice::text::{Word, put_line};
 use std::alloc::{AllocError, Global};
@@ -23,6 +23,7 @@ fn put_tree(out: &mut String, node: &Node) -> Result<(), AllocError>
     match node {
         Node::Empty(input) => put_line(out, &[Word::Empty, Word::Number(*input)]),
         Node::Bounded => put_line(out, &[Word::Bounded]),
+        Node::Same(child) => put_line(out, &[Word::Same, Word::Number(*child)]),
         Node::Job(job, children) => {
             let children: &[Node] = children;
             let count = children.len() as u32;
@@ -45,7 +46,10 @@ pub fn write_proof(alloc: Global, proof: &Proof) -> Result<String, AllocError>
 {
     let words = claim_words(alloc, &proof.claim)?;
     let mut out = String::new(alloc);
-    put_line(&mut out, &[Word::Proof, Word::Number(PROOF_FORMAT)])?;
+    put_line(
+        &mut out,
+        &[Word::Proof, Word::Number(format_of(&proof.tree))],
+    )?;
     put_line(&mut out, &words)?;
     put_tree(&mut out, &proof.tree)?;
     Ok(out)

@@ -10,7 +10,7 @@ use Rattle.ccr_proof.specs.declared.claim.Claim.TheVariants.{Best}
 use Rattle.ccr_proof.specs.Claim.{IsClaim}
 use Rattle.ccr_choice.proofs.Members.{contains_none, contains_cases}
 use Rattle.ccr_choice.proofs.Places.{places_kept}
-use Rattle.ccr_proof.proofs.Sound.{below_high}
+use Rattle.ccr_choice.proofs.Exchange.{below_high}
 
 small_all : (xs : List ℕ) → ((i : ℕ) → i < length xs → slice_index xs i < 2 ^ 32) → AllByRecursion (λ n. n < 2 ^ 32) xs
 small_all [] h = tt

@@ -1,8 +1,11 @@
 pub mod Counting
 pub mod Path
 pub mod FullLaws
+pub mod KindLaws
 pub mod Steps
+pub mod SameLaws
 pub mod ClaimFits
 pub mod UpperLaws
 pub mod SoughtLaws
 pub mod WantedLaws
+pub mod DominatorLaws

@@ -1,26 +1,31 @@
 -- The steps of the search.
-use Rattle.std.proofs.Common.{true, ◌≡◌, ℕ, zero, suc, ◌+◌, ◌*◌, ◌<◌, ◌≤◌, ◌⊎◌, inl, inr, List, [], ◌∷◌, ◌++◌, length, take, get_or, slice_index, slice_set, replicate, refl, sym, ap, ◌∙◌, subst, arith, Option, Some, None, Vec, Global}
+use Rattle.std.proofs.Common.{true, false, not, Bool, ◌≡◌, ℕ, zero, suc, ◌+◌, ◌*◌, ◌<◌, ◌≤◌, ◌⊎◌, inl, inr, List, [], ◌∷◌, ◌++◌, length, take, get_or, slice_index, slice_index_or, slice_get, slice_set, replicate, refl, sym, ap, ◌∙◌, subst, arith, Option, Some, None, Vec, Global}
 use Rattle.std.specs.Prelude.{Any}
-use Rattle.std.proofs.lemmas.Bool.{cases_eq}
+use Rattle.std.proofs.lemmas.Bool.{cases_eq, cases_lt}
 use Rattle.std.proofs.lemmas.List.{take_more, take_all, get_or-set_same, get_or-set_other}
 use Rattle.std.proofs.lemmas.Nat.{mul-le}
-use Rattle.std.proofs.lemmas.Option.{slice_get-get_or}
+use Rattle.std.proofs.Math.Nat.{mul-le-mul_left, mul_left_comm}
+use Rattle.std.proofs.lemmas.Option.{slice_get-get_or, get_or_from_slice_get, slice_get_within}
 use Rattle.ccr_choice.specs.Problem.{ProblemValue, BuildValue, ChoiceValue, is_problem, builds_at}
 use Rattle.ccr_choice.specs.Satisfies.{Satisfies, IsSuccessful}
 use Rattle.ccr_proof.specs.declared.node.Node.{Node, Job}
 use Rattle.ccr_choice.specs.Preference.{Preference, IsOrder}
+use Rattle.ccr_choice.specs.Dominated.{IsDominated}
 use Rattle.ccr_choice.specs.Assignment.{Assignment, with_build, nothing_fixed}
 use Rattle.ccr_choice.specs.Possible.{AreBestPlaces, AreBoundedBy}
 use Rattle.ccr_choice.proofs.BestPlaces.{best_places}
 use Rattle.ccr_choice.proofs.PossibleLaws.{are_only, bounded_by}
-use Rattle.ccr_proof.specs.Tree.{Tree, Trees, job, empty, bounded, no_child, child, count, count_all, levels, levels_all, tree_of, trees_of}
-use Rattle.ccr_proof.specs.Refutes.{HasNoPlace, IsBounded, Refutes, RefuteEach}
+use Rattle.ccr_proof.specs.Tree.{Tree, Trees, job, empty, bounded, same_as, no_child, child, count, count_all, levels, levels_all, tree_of, trees_of, width, is_same, are_same}
+use Rattle.ccr_proof.specs.Refutes.{HasNoPlace, IsBounded, IsSameCase, IsSame, Refutes, RefuteEach}
 use Rattle.ccr_choice.specs.Table.{build_of, assigned}
 use Rattle.ccr_choice.proofs.TableLaws.{table_set}
 use Rattle.ccr_proof.proofs.Trees.{tree_of_job}
+use Rattle.ccr_index.specs.Rows.{no_build}
+use Rattle.ccr_resolve.specs.Kinds.{kinds_after, kinds_from, repeats_from, kinds_bound}
 use Rattle.ccr_resolve.specs.Room.{newest, TopFits, IsBelowRoom}
-use Rattle.ccr_resolve.specs.Search.{FixesKnown, FoundSatisfies, places_of, free_product, free_sum, free_jobs, OnPath, ReachesTop, IsNeeded, IsNoWorse, IsSearched, Searched}
+use Rattle.ccr_resolve.specs.Search.{FixesKnown, FoundSatisfies, places_of, free_product, free_kinds, kinds_left, free_sum, free_jobs, OnPath, ReachesTop, IsNeeded, IsNoWorse, IsSearched, Searched}
 use Rattle.ccr_resolve.proofs.Counting.{product_set, product_same, sum_set, sum_same, product_one, product_empty, free_set}
+use Rattle.ccr_resolve.proofs.KindLaws.{marked, AreFresh, marked_kinds, kinds_at, repeats_at, length-kinds, kinds_set, kinds_same, kinds_one, kinds_empty, kinds_whole, kinds_more}
 use Rattle.ccr_resolve.proofs.Path.{better_irreflexive, better_trans, no_worse_refl, no_worse_trans, reach_more, path_place, path_top, one_node}
 
 -- ---- a bound that rises keeps each refutation
@@ -34,26 +39,83 @@ module _ (prefers : Preference) (p : ProblemValue) (x y : Option (List ℕ)) (wo
     pub refutes_more : (a : Assignment) (t : Tree) → Refutes prefers p x a t → Refutes prefers p y a t
     refutes_more a (empty i) h = h
     refutes_more a bounded h = bounded_more a x y worse h
+    refutes_more a (same_as q) h = absurd h
     refutes_more a (job j ts) h = (h.0, h.1, each_more a j ts 0 (builds_at p j) ts h.2)
 
     pub each_more : (a : Assignment) (j : ℕ) (all : Trees) (k : ℕ) (bs : List BuildValue) (ts : Trees)
         → RefuteEach prefers p x a j all k bs ts → RefuteEach prefers p y a j all k bs ts
     each_more a j all k [] no_child h = tt
-    each_more a j all k (b ∷ bs) (child t ts) h = (refutes_more (with_build a j b) t h.0, each_more a j all (k + 1) bs ts h.1)
+    each_more a j all k (b ∷ bs) (child t ts) h =
+        (elim h.0 [ inl own ↦ inl (refutes_more (with_build a j b) t own) | inr other ↦ inr other ], each_more a j all (k + 1) bs ts h.1)
     each_more a j all k [] (child t ts) h = absurd h
     each_more a j all k (b ∷ bs) no_child h = absurd h
+
+-- what refutes by itself isn't the same case as another
+own_case : (prefers : Preference) (p : ProblemValue) (bound : Option (List ℕ)) (a : Assignment) (t : Tree) → Refutes prefers p bound a t → is_same t ≡ false
+own_case prefers p bound a (job j ts) h = refl
+own_case prefers p bound a (empty i) h = refl
+own_case prefers p bound a bounded h = refl
+own_case prefers p bound a (same_as q) h = absurd h
 
 -- ---- one child more
 abbrev pub with_child : Trees → Tree → Trees
 with_child no_child t = child t no_child
 with_child (child x ts) t = child x (with_child ts t)
 
-pub each_one : (prefers : Preference) (p : ProblemValue) (bound : Option (List ℕ)) (a : Assignment) (j : ℕ) (all : Trees) (m : ℕ) (bs : List BuildValue) (ts : Trees) (b : BuildValue) (t : Tree)
-    → RefuteEach prefers p bound a j all m bs ts → Refutes prefers p bound (with_build a j b) t → RefuteEach prefers p bound a j all m (bs ++ b ∷ []) (with_child ts t)
-each_one prefers p bound a j all m [] no_child b t h k = (k, tt)
-each_one prefers p bound a j all m (x ∷ bs) (child y ts) b t h k = (h.0, each_one prefers p bound a j all (m + 1) bs ts b t h.1 k)
-each_one prefers p bound a j all m [] (child y ts) b t h k = absurd h
-each_one prefers p bound a j all m (x ∷ bs) no_child b t h k = absurd h
+-- these children, with others behind them
+abbrev pub joined : Trees → Trees → Trees
+joined no_child rest = rest
+joined (child t ts) rest = child t (joined ts rest)
+
+joined_one : (ts : Trees) (t : Tree) (rest : Trees) → joined (with_child ts t) rest ≡ joined ts (child t rest)
+joined_one no_child t rest = refl
+joined_one (child x ts) t rest = ap (child x) (joined_one ts t rest)
+
+each_one : (prefers : Preference) (p : ProblemValue) (bound : Option (List ℕ)) (a : Assignment) (j : ℕ) (all : Trees) (m n : ℕ) (bs : List BuildValue) (ts : Trees) (b : BuildValue) (t : Tree)
+    → n ≡ m + width ts → RefuteEach prefers p bound a j all m bs ts → Refutes prefers p bound (with_build a j b) t ⊎ IsSame p j all n b t → RefuteEach prefers p bound a j all m (bs ++ b ∷ []) (with_child ts t)
+each_one prefers p bound a j all m n [] no_child b t e h k =
+    let P : ℕ → Type 0 = λ i. Refutes prefers p bound (with_build a j b) t ⊎ IsSame p j all i b t in
+    let now : n ≡ m = omega (arith, e) in (subst P now k, tt)
+each_one prefers p bound a j all m n (x ∷ bs) (child y ts) b t e h k = (h.0, each_one prefers p bound a j all (m + 1) n bs ts b t (omega (arith, e)) h.1 k)
+each_one prefers p bound a j all m n [] (child y ts) b t e h k = absurd h
+each_one prefers p bound a j all m n (x ∷ bs) no_child b t e h k = absurd h
+
+joined_none : (ts : Trees) → joined ts no_child ≡ ts
+joined_none no_child = refl
+joined_none (child t ts) = ap (child t) (joined_none ts)
+
+-- which children are cases of their own
+abbrev pub own_marks : Trees → List Bool
+own_marks no_child = []
+own_marks (child t ts) = not (is_same t) ∷ own_marks ts
+
+length-own : (ts : Trees) → length (own_marks ts) ≡ width ts
+length-own no_child = refl
+length-own (child t ts) = ap suc (length-own ts)
+
+width_one : (ts : Trees) (t : Tree) → width (with_child ts t) ≡ width ts + 1
+width_one no_child t = refl
+width_one (child x ts) t = let e = width_one ts t in omega (arith, e)
+
+marked_one : (ts : Trees) (t : Tree) → marked (own_marks (with_child ts t)) ≡ marked (own_marks ts) + marked (not (is_same t) ∷ [])
+marked_one no_child t = omega arith
+marked_one (child x ts) t = let rest = marked_one ts t in omega (arith, rest)
+
+mark_at : (ts : Trees) (t : Tree) (m : ℕ) → slice_get (own_marks (with_child ts t)) m ≡ Some true → (slice_get (own_marks ts) m ≡ Some true) ⊎ ((m ≡ width ts) × (is_same t ≡ false))
+mark_at no_child t zero h = inr (refl, own (is_same t) (cc (h)))
+  where
+    own : (b : Bool) → not b ≡ true → b ≡ false
+    own true h = absurd (cc (h))
+    own false h = refl
+mark_at no_child t (suc m) h = absurd (cc (h))
+mark_at (child x ts) t zero h = inl h
+mark_at (child x ts) t (suc m) h = elim (mark_at ts t m h) [ inl old ↦ inl old | inr new ↦ inr (ap suc new.0, new.1) ]
+
+-- a child that is a case of its own is so among more children
+pub own_joined : (ts rest : Trees) (q : ℕ) → slice_get (are_same ts) q ≡ Some false → slice_get (are_same (joined ts rest)) q ≡ Some false
+own_joined no_child rest q h = absurd (cc (h))
+own_joined (child t ts) rest zero h = h
+own_joined (child t ts) rest (suc q) h = own_joined ts rest q h
 
 count_one : (ts : Trees) (t : Tree) → count_all (with_child ts t) ≡ count_all ts + count t
 count_one no_child t = omega arith
@@ -77,12 +139,19 @@ split n m k h l = omega arith
 one_more : (k m a b : ℕ) → a ≤ k * m → b ≤ m → a + b ≤ (k + 1) * m
 one_more k m a b h l = omega arith
 
+pub kinds_left_one : (p : ProblemValue) (table : List ℕ) → 1 + repeats_from p 0 p.jobs ≤ kinds_left p table
+kinds_left_one p table =
+    let F = free_kinds (kinds_from p 0 p.jobs) table in
+    let up : (1 + repeats_from p 0 p.jobs) * 1 ≤ (1 + repeats_from p 0 p.jobs) * F = mul-le-mul_left (1 + repeats_from p 0 p.jobs) (kinds_one (kinds_from p 0 p.jobs) table) in
+    omega (arith, up)
+
 module _ (prefers : Preference) (p : ProblemValue) where
   -- one node is no more than any table may need
   pub needed_one : (table : List ℕ) (best : Option (List ℕ)) (n : ℕ) → n ≡ 1 → IsNeeded prefers p table best n
   needed_one table best n e =
       let one = product_one p.jobs table in
-      record { product = omega (arith, one, e); lacking = λ i x. omega arith; bounded = λ x. omega arith; path = λ x. omega arith }
+      let kinds = kinds_left_one p table in
+      record { product = omega (arith, one, e); kinds = omega (arith, kinds, e); lacking = λ i x. omega arith; bounded = λ x. omega arith; path = λ x. omega arith }
 
   -- ---- a job node
   -- what is known of a table where a job is split
@@ -99,7 +168,9 @@ module _ (prefers : Preference) (p : ProblemValue) where
 
   -- the first k builds of the job have their trees
   pub record IsLooping (table : List ℕ) (j : ℕ) (before : Option (List ℕ)) (room k : ℕ) (children : Trees) (best : Option ChoiceValue) (left : ℕ) : Type 0 where
-    pub each : (all : Trees) → RefuteEach prefers p (places_of best) (assigned p table) j all 0 (take k (builds_at p j)) children
+    pub each : (rest : Trees) → RefuteEach prefers p (places_of best) (assigned p table) j (joined children rest) 0 (take k (builds_at p j)) children
+    pub wide : width children ≡ k
+    pub fresh : AreFresh p j [] (builds_at p j) (own_marks children)
     pub kept : IsNoWorse prefers before (places_of best)
     pub satisfies : FoundSatisfies p best
     pub shallow : levels_all children < free_jobs table
@@ -107,6 +178,7 @@ module _ (prefers : Preference) (p : ProblemValue) where
     pub counted : count_all children ≤ used
     pub spent : room ≡ left + (1 + used)
     pub product : used ≤ k * free_product p.jobs (slice_set table j 1)
+    pub kinds : used + marked (own_marks children) ≤ k + marked (own_marks children) * kinds_left p (slice_set table j 1)
     pub path : OnPath prefers p table before → PathSoFar table j k used (places_of best)
 
 module _ (prefers : Preference) (order : IsOrder prefers) (p : ProblemValue) (rules : is_problem p ≡ true) where
@@ -178,7 +250,9 @@ module _ (prefers : Preference) (order : IsOrder prefers) (p : ProblemValue) (ru
         let P : Option (List ℕ) → Type 0 = λ x. IsNoWorse prefers x (places_of best) in
         let some = fewer_free 0 in
         record {
-          each = λ all. tt;
+          each = λ rest. tt;
+          wide = refl;
+          fresh = λ m b mark. absurd (cc (mark));
           kept = subst P same (no_worse_refl prefers (places_of best));
           satisfies = found;
           shallow = omega (arith, some);
@@ -186,6 +260,7 @@ module _ (prefers : Preference) (order : IsOrder prefers) (p : ProblemValue) (ru
           counted = omega arith;
           spent = omega arith;
           product = omega arith;
+          kinds = omega arith;
           path = λ path. inl (refl, refl, same ∙ path.nothing);
         }
 
@@ -203,8 +278,24 @@ module _ (prefers : Preference) (order : IsOrder prefers) (p : ProblemValue) (ru
       ];
     }
 
-    pub needed_whole : (k m : ℕ) → k ≤ length (builds_at p j) → m ≤ k * free_product p.jobs (slice_set table j 1) → (OnPath prefers p table before → m ≤ free_sum p.jobs (slice_set table j 1) + k) → IsNeeded prefers p table before (1 + m)
-    needed_whole k m l h path =
+    -- of the first k builds those that are gone into are no more than there are kinds, so that this many nodes are enough
+    kinds_needed : (k m : ℕ) (marks : List Bool) → k ≤ length (builds_at p j) → length marks ≡ k → AreFresh p j [] (builds_at p j) marks → m + marked marks ≤ k + marked marks * kinds_left p (slice_set table j 1)
+        → 1 + m ≤ kinds_left p table
+    kinds_needed k m marks l long fresh h =
+        let ks = kinds_from p 0 p.jobs in
+        let most = repeats_from p 0 p.jobs in
+        let F = free_kinds ks (slice_set table j 1) in
+        let d = slice_index ks j in
+        let own : marked marks ≤ d = (let few = marked_kinds p j [] (builds_at p j) marks (omega (arith, l, long)) fresh in let here : 0 + j ≡ j = omega arith in let at = kinds_at p p.jobs 0 j now.inside ∙ ap (λ i. kinds_after p i [] (builds_at p j)) here in omega (arith, few, at)) in
+        let wide : k ≤ d + most = (let all = repeats_at p p.jobs 0 j now.inside in omega (arith, l, all)) in
+        let whole : 1 + m ≤ (1 + d) * kinds_left p (slice_set table j 1) = kinds_whole k m (marked marks) d most (kinds_left p (slice_set table j 1)) own wide (kinds_left_one p (slice_set table j 1)) h in
+        let e : free_kinds ks table ≡ (1 + d) * F = kinds_set ks table j 1 (λ z. absurd (omega (arith, z))) now.free (omega (arith, now.inside, length-kinds p p.jobs 0)) now.wide in
+        let same : (1 + most) * ((1 + d) * F) ≡ (1 + d) * ((1 + most) * F) = mul_left_comm (1 + most) (1 + d) F in
+        let up : kinds_left p table ≡ (1 + most) * ((1 + d) * F) = ap (λ n. (1 + most) * n) e in
+        omega (arith, whole, same, up)
+
+    pub needed_whole : (k m : ℕ) → k ≤ length (builds_at p j) → m ≤ k * free_product p.jobs (slice_set table j 1) → 1 + m ≤ kinds_left p table → (OnPath prefers p table before → m ≤ free_sum p.jobs (slice_set table j 1) + k) → IsNeeded prefers p table before (1 + m)
+    needed_whole k m l h kinds path =
         let P = free_product p.jobs (slice_set table j 1) in
         let n = length (builds_at p j) in
         let one : 1 ≤ P = product_one p.jobs (slice_set table j 1) in
@@ -214,10 +305,15 @@ module _ (prefers : Preference) (order : IsOrder prefers) (p : ProblemValue) (ru
         let all : 1 + m ≤ (1 + n) * P = split n P m (omega arith) one in
         record {
           product = omega (arith, e, all);
+          kinds = kinds;
           lacking = λ i x. absurd (now.possible i x);
           bounded = λ x. absurd (now.unbounded x);
           path = λ x. let q = path x in omega (arith, q, s);
         }
+
+    loop_kinds : (k : ℕ) (children : Trees) (m : ℕ) → k ≤ length (builds_at p j) → width children ≡ k → AreFresh p j [] (builds_at p j) (own_marks children)
+        → m + marked (own_marks children) ≤ k + marked (own_marks children) * kinds_left p (slice_set table j 1) → 1 + m ≤ kinds_left p table
+    loop_kinds k children m l wide fresh h = kinds_needed k m (own_marks children) l (length-own children ∙ wide) fresh h
 
     child_product : (k m n : ℕ) (best : Option (List ℕ)) → m ≤ k * free_product p.jobs (slice_set table j 1) → IsNeeded prefers p (slice_set table j (k + 1)) best n → m + n ≤ (k + 1) * free_product p.jobs (slice_set table j 1)
     child_product k m n best h needed =
@@ -234,41 +330,147 @@ module _ (prefers : Preference) (order : IsOrder prefers) (p : ProblemValue) (ru
         let more = one_node prefers order p rules (slice_set table j (k + 1)) best n so.0 needed in
         omega (arith, more, so.1)
 
+    child_kinds : (k m n own : ℕ) (best : Option (List ℕ)) → m + own ≤ k + own * kinds_left p (slice_set table j 1) → IsNeeded prefers p (slice_set table j (k + 1)) best n
+        → m + n + (own + 1) ≤ (k + 1) + (own + 1) * kinds_left p (slice_set table j 1)
+    child_kinds k m n own best h needed =
+        let same : kinds_left p (slice_set table j (k + 1)) ≡ kinds_left p (slice_set table j 1) =
+        ap (λ x. (1 + repeats_from p 0 p.jobs) * x) (kinds_same (kinds_from p 0 p.jobs) table j (k + 1) 1 (λ z. absurd (omega (arith, z))) (λ z. absurd (omega (arith, z)))) in
+        kinds_more k m n own (kinds_left p (slice_set table j 1)) h (omega (arith, needed.kinds, same))
+
+    -- no newer build dominates build k
+    abbrev pub IsOwn : ℕ → Type 0
+    IsOwn k = (q : ℕ) → q < k → IsDominated p j (slice_index_or (builds_at p j) k no_build) (slice_index_or (builds_at p j) q no_build) → ⊥
+
+    fresh_next : (children : Trees) (t : Tree) (k : ℕ) → width children ≡ k → AreFresh p j [] (builds_at p j) (own_marks children) → (is_same t ≡ false → IsOwn k) → AreFresh p j [] (builds_at p j) (own_marks (with_child children t))
+    fresh_next children t k wide fresh own = λ m b mark at. elim (mark_at children t m mark) [
+      | inl old ↦ fresh m b old at
+      | inr new ↦ (
+        λ c among. absurd (omega (arith, among.1)),
+        λ q c less found dominated.
+            let here : m ≡ k = new.0 ∙ wide in
+            let mine : slice_index_or (builds_at p j) k no_build ≡ b = ap (λ n. slice_index_or (builds_at p j) n no_build) (sym here) ∙ get_or_from_slice_get (builds_at p j) m b no_build at in
+            let its : slice_index_or (builds_at p j) q no_build ≡ c = get_or_from_slice_get (builds_at p j) q c no_build found in
+            let P : BuildValue → Type 0 = λ x. IsDominated p j x c in
+            let Q : BuildValue → Type 0 = λ y. IsDominated p j (slice_index_or (builds_at p j) k no_build) y in
+            own new.1 q (omega (arith, less, here)) (subst Q (sym its) (subst P (sym mine) dominated)),
+      )
+    ]
+
     -- the budget ends in a child
-    pub loop_over : (room k : ℕ) (children : Trees) (best : Option ChoiceValue) (left : ℕ) → k < length (builds_at p j) → IsLooping prefers p table j before room k children best left
+    pub loop_over : (room k : ℕ) (children : Trees) (best : Option ChoiceValue) (left : ℕ) → k < length (builds_at p j) → IsOwn k → IsLooping prefers p table j before room k children best left
         → IsNeeded prefers p (slice_set table j (k + 1)) (places_of best) (left + 1) → IsNeeded prefers p table before (room + 1)
-    loop_over room k children best left l loop needed =
+    loop_over room k children best left l own loop needed =
         let m = loop.used in
+        let more = marked_one children bounded in
+        let kinds = kinds_needed (k + 1) (m + (left + 1)) (own_marks (with_child children bounded)) (omega (arith, l))
+        (length-own (with_child children bounded) ∙ width_one children bounded ∙ ap (λ n. n + 1) loop.wide) (fresh_next children bounded k loop.wide loop.fresh (λ e. own))
+        (let P : ℕ → Type 0 = λ n. m + (left + 1) + n ≤ (k + 1) + n * kinds_left p (slice_set table j 1) in
+        subst P (sym more) (child_kinds k m (left + 1) (marked (own_marks children)) (places_of best) loop.kinds needed)) in
         let whole : IsNeeded prefers p table before (1 + (m + (left + 1))) =
-        needed_whole (k + 1) (m + (left + 1)) (omega (arith, l)) (child_product k m (left + 1) (places_of best) loop.product needed)
+        needed_whole (k + 1) (m + (left + 1)) (omega (arith, l)) (child_product k m (left + 1) (places_of best) loop.product needed) kinds
         (λ path. child_path k m (left + 1) (places_of best) (loop.path path) needed path) in
         let same : 1 + (m + (left + 1)) ≡ room + 1 = omega (arith, loop.spent) in
         subst (λ t. IsNeeded prefers p table before t) same whole
+
+    -- ---- a child that is the same case as an earlier one
+    same_path : (k m : ℕ) (best : Option (List ℕ)) → 0 < k → PathSoFar prefers p table j k m best → PathSoFar prefers p table j (k + 1) (m + 1) best
+    same_path k m best some (inl so) = absurd (omega (arith, so.0, some))
+    same_path k m best some (inr so) = inr (so.0, omega (arith, so.1))
+
+    same_product : (k m : ℕ) → m ≤ k * free_product p.jobs (slice_set table j 1) → m + 1 ≤ (k + 1) * free_product p.jobs (slice_set table j 1)
+    same_product k m h = one_more k (free_product p.jobs (slice_set table j 1)) m 1 h (product_one p.jobs (slice_set table j 1))
+
+    pub same_over : (room k : ℕ) (children : Trees) (best : Option ChoiceValue) (left : ℕ) → k < length (builds_at p j) → 0 < k → left ≡ 0 → IsLooping prefers p table j before room k children best left
+        → IsNeeded prefers p table before (room + 1)
+    same_over room k children best left l some none loop =
+        let m = loop.used in
+        let more = marked_one children (same_as 0) in
+        let kinds = kinds_needed (k + 1) (m + 1) (own_marks (with_child children (same_as 0))) (omega (arith, l))
+        (length-own (with_child children (same_as 0)) ∙ width_one children (same_as 0) ∙ ap (λ n. n + 1) loop.wide) (fresh_next children (same_as 0) k loop.wide loop.fresh (λ e. absurd (cc (e))))
+        (let P : ℕ → Type 0 = λ n. m + 1 + n ≤ (k + 1) + n * kinds_left p (slice_set table j 1) in
+        let none_more : marked (own_marks children) + 0 ≡ marked (own_marks children) = omega arith in
+        subst P (sym (more ∙ none_more)) (omega (arith, loop.kinds))) in
+        let whole : IsNeeded prefers p table before (1 + (m + 1)) =
+        needed_whole (k + 1) (m + 1) (omega (arith, l)) (same_product k m loop.product) kinds
+        (λ path. same_few k m (places_of best) (same_path k m (places_of best) some (loop.path path))) in
+        let same : 1 + (m + 1) ≡ room + 1 = omega (arith, loop.spent, none) in
+        subst (λ t. IsNeeded prefers p table before t) same whole
+      where
+        same_few : (k m : ℕ) (o : Option (List ℕ)) → PathSoFar prefers p table j (k + 1) (m + 1) o → m + 1 ≤ free_sum p.jobs (slice_set table j 1) + (k + 1)
+        same_few k m o (inl so) = absurd (omega (arith, so.0))
+        same_few k m o (inr so) = so.1
+
+    pub same_next : (room k r : ℕ) (children : Trees) (best : Option ChoiceValue) (left left' : ℕ) → k < length (builds_at p j) → 0 < k → left ≡ left' + 1
+        → ((rest : Trees) → IsSameCase p j (joined children rest) k (slice_index_or (builds_at p j) k no_build) r)
+        → IsLooping prefers p table j before room k children best left → IsLooping prefers p table j before room (k + 1) (with_child children (same_as r)) best left'
+    same_next room k r children best left left' l some spent case loop =
+        let bs = builds_at p j in
+        let b = slice_index_or bs k no_build in
+        let m = loop.used in
+        let t = same_as r in
+        let taken : take (k + 1) bs ≡ take k bs ++ b ∷ [] = take_more bs k no_build l in
+        let counted : count_all (with_child children t) ≡ count_all children + count t = count_one children t in
+        let free = fewer_free k in
+        let more : marked (own_marks (with_child children t)) ≡ marked (own_marks children) = (let one = marked_one children t in omega (arith, one)) in
+        record {
+          each = λ rest.
+              let all = joined (with_child children t) rest in
+              let Q : List BuildValue → Type 0 = λ x. RefuteEach prefers p (places_of best) (assigned p table) j all 0 x (with_child children t) in
+              let A : Trees → Type 0 = λ x. RefuteEach prefers p (places_of best) (assigned p table) j x 0 (take k bs ++ b ∷ []) (with_child children t) in
+              subst Q (sym taken) (subst A (sym (joined_one children t rest))
+              (each_one prefers p (places_of best) (assigned p table) j (joined children (child t rest)) 0 k (take k bs) children b t (omega (arith, loop.wide)) (loop.each (child t rest)) (inr (r, refl, case (child t rest)))));
+          wide = width_one children t ∙ ap (λ n. n + 1) loop.wide;
+          fresh = fresh_next children t k loop.wide loop.fresh (λ e. absurd (cc (e)));
+          kept = loop.kept;
+          satisfies = loop.satisfies;
+          shallow = deep_one children t (free_jobs table) loop.shallow (omega (arith, free));
+          used = m + 1;
+          counted = omega (arith, loop.counted, counted);
+          spent = omega (arith, loop.spent, spent);
+          product = same_product k m loop.product;
+          kinds = (let P : ℕ → Type 0 = λ n. m + 1 + n ≤ (k + 1) + n * kinds_left p (slice_set table j 1) in subst P (sym more) (omega (arith, loop.kinds)));
+          path = λ path. same_path k m (places_of best) some (loop.path path);
+        }
+
+    pub same_next_node : (room k r : ℕ) (children more : List Node) (best : Option ChoiceValue) (left left' : ℕ) (c : Node) → k < length (builds_at p j) → 0 < k → left ≡ left' + 1
+        → more ≡ children ++ c ∷ [] → tree_of c ≡ same_as r
+        → ((rest : Trees) → IsSameCase p j (joined (trees_of children) rest) k (slice_index_or (builds_at p j) k no_build) r)
+        → IsLooping prefers p table j before room k (trees_of children) best left → IsLooping prefers p table j before room (k + 1) (trees_of more) best left'
+    same_next_node room k r children more best left left' c l some spent is same case loop =
+        let P : Trees → Type 0 = λ ts. IsLooping prefers p table j before room (k + 1) ts best left' in
+        subst P (ap (with_child (trees_of children)) (sym same) ∙ trees_more children c ∙ ap trees_of (sym is)) (same_next room k r (trees_of children) best left left' l some spent case loop)
 
     path_next : (m k room left : ℕ) (t : Tree) (best best' : Option ChoiceValue) → PathSoFar prefers p table j k m (places_of best) → IsSearched prefers p (slice_set table j (k + 1)) best best' room left t → OnPath prefers p table before → ReachesTop prefers p (places_of best')
     path_next m k room left t best best' (inl so) searched path = searched.reached (path_first k (places_of best) so.0 so.2 path)
     path_next m k room left t best best' (inr so) searched path = reach_more prefers p (places_of best) (places_of best') searched.kept so.0
 
     -- one build more
-    pub loop_next : (room k : ℕ) (children : Trees) (best best' : Option ChoiceValue) (left left' : ℕ) (t : Tree) → k < length (builds_at p j)
+    pub loop_next : (room k : ℕ) (children : Trees) (best best' : Option ChoiceValue) (left left' : ℕ) (t : Tree) → k < length (builds_at p j) → IsOwn k
         → IsLooping prefers p table j before room k children best left → IsSearched prefers p (slice_set table j (k + 1)) best best' left left' t → IsLooping prefers p table j before room (k + 1) (with_child children t) best' left'
-    loop_next room k children best best' left left' t l loop searched =
+    loop_next room k children best best' left left' t l own loop searched =
         let bs = builds_at p j in
         let b = get_or bs k (record { number = 0; pairs = [] }) in
         let m = loop.used in
         let n = searched.used in
         let table_is : assigned p (slice_set table j (k + 1)) ≡ with_build (assigned p table) j b = table_set p table j k b now.wide (slice_get-get_or bs k (record { number = 0; pairs = [] }) l) in
         let A : Assignment → Type 0 = λ a. Refutes prefers p (places_of best') a t in
-        let after : (all : Trees) → RefuteEach prefers p (places_of best') (assigned p table) j all 0 (take k bs ++ b ∷ []) (with_child children t) = λ all.
-        each_one prefers p (places_of best') (assigned p table) j all 0 (take k bs) children b t
-        (each_more prefers p (places_of best) (places_of best') searched.kept (assigned p table) j all 0 (take k bs) children (loop.each all))
-        (subst A table_is searched.refuted) in
+        let refuted = subst A table_is searched.refuted in
+        let after : (rest : Trees) → RefuteEach prefers p (places_of best') (assigned p table) j (joined (with_child children t) rest) 0 (take k bs ++ b ∷ []) (with_child children t) = λ rest.
+        let B : Trees → Type 0 = λ x. RefuteEach prefers p (places_of best') (assigned p table) j x 0 (take k bs ++ b ∷ []) (with_child children t) in
+        subst B (sym (joined_one children t rest))
+        (each_one prefers p (places_of best') (assigned p table) j (joined children (child t rest)) 0 k (take k bs) children b t (omega (arith, loop.wide))
+        (each_more prefers p (places_of best) (places_of best') searched.kept (assigned p table) j (joined children (child t rest)) 0 (take k bs) children (loop.each (child t rest)))
+        (inl refuted)) in
         let taken : take (k + 1) bs ≡ take k bs ++ b ∷ [] = take_more bs k (record { number = 0; pairs = [] }) l in
-        let Q : List BuildValue → Type 0 = λ x. (all : Trees) → RefuteEach prefers p (places_of best') (assigned p table) j all 0 x (with_child children t) in
+        let Q : List BuildValue → Type 0 = λ x. (rest : Trees) → RefuteEach prefers p (places_of best') (assigned p table) j (joined (with_child children t) rest) 0 x (with_child children t) in
+        let mine : is_same t ≡ false = own_case prefers p (places_of best') (with_build (assigned p table) j b) t refuted in
+        let more : marked (own_marks (with_child children t)) ≡ marked (own_marks children) + 1 = marked_one children t ∙ ap (λ x. marked (own_marks children) + marked (not x ∷ [])) mine in
         let counted : count_all (with_child children t) ≡ count_all children + count t = count_one children t in
         let free = fewer_free k in
         record {
           each = subst Q (sym taken) after;
+          wide = width_one children t ∙ ap (λ n. n + 1) loop.wide;
+          fresh = fresh_next children t k loop.wide loop.fresh (λ e. own);
           kept = no_worse_trans prefers before (places_of best) (places_of best') loop.kept searched.kept;
           satisfies = searched.satisfies;
           shallow = deep_one children t (free_jobs table) loop.shallow (omega (arith, searched.shallow, free));
@@ -276,15 +478,17 @@ module _ (prefers : Preference) (order : IsOrder prefers) (p : ProblemValue) (ru
           counted = omega (arith, loop.counted, searched.counted, counted);
           spent = omega (arith, loop.spent, searched.spent);
           product = child_product k m n (places_of best) loop.product searched.needed;
+          kinds = (let P : ℕ → Type 0 = λ x. m + n + x ≤ (k + 1) + x * kinds_left p (slice_set table j 1) in
+              subst P (sym more) (child_kinds k m n (marked (own_marks children)) (places_of best) loop.kinds searched.needed));
           path = λ path. inr (path_next m k left left' t best best' (loop.path path) searched path, child_path k m n (places_of best) (loop.path path) searched.needed path);
         }
 
-    pub loop_next_node : (room k : ℕ) (children more : List Node) (best best' : Option ChoiceValue) (left left' : ℕ) (c : Node) → k < length (builds_at p j) → more ≡ children ++ c ∷ []
+    pub loop_next_node : (room k : ℕ) (children more : List Node) (best best' : Option ChoiceValue) (left left' : ℕ) (c : Node) → k < length (builds_at p j) → IsOwn k → more ≡ children ++ c ∷ []
         → IsLooping prefers p table j before room k (trees_of children) best left → IsSearched prefers p (slice_set table j (k + 1)) best best' left left' (tree_of c)
         → IsLooping prefers p table j before room (k + 1) (trees_of more) best' left'
-    loop_next_node room k children more best best' left left' c l is loop searched =
+    loop_next_node room k children more best best' left left' c l own is loop searched =
         let P : Trees → Type 0 = λ ts. IsLooping prefers p table j before room (k + 1) ts best' left' in
-        subst P (trees_more children c ∙ ap trees_of (sym is)) (loop_next room k (trees_of children) best best' left left' (tree_of c) l loop searched)
+        subst P (trees_more children c ∙ ap trees_of (sym is)) (loop_next room k (trees_of children) best best' left left' (tree_of c) l own loop searched)
 
     -- on the path a job has a build
     end_path : (k m : ℕ) (best : Option (List ℕ)) → 0 < length (builds_at p j) → k ≡ length (builds_at p j) → PathSoFar prefers p table j k m best → OnPath prefers p table before → ReachesTop prefers p best × (m ≤ free_sum p.jobs (slice_set table j 1) + k)
@@ -297,18 +501,19 @@ module _ (prefers : Preference) (order : IsOrder prefers) (p : ProblemValue) (ru
         let bs = builds_at p j in
         let all : take k bs ≡ bs = take_all k bs (omega (arith, e)) in
         let Q : List BuildValue → Type 0 = λ x. RefuteEach prefers p (places_of best) (assigned p table) j children 0 x children in
+        let J : Trees → Type 0 = λ x. RefuteEach prefers p (places_of best) (assigned p table) j x 0 (take k bs) children in
         let B : Option (List ℕ) → Type 0 = λ x. IsNoWorse prefers x (places_of best) in
         let N : Option (List ℕ) → Type 0 = λ x. IsNeeded prefers p table x (1 + loop.used) in
         let R : Option (List ℕ) → Type 0 = λ x. OnPath prefers p table x → ReachesTop prefers p (places_of best) in
         record {
-          refuted = (now.inside, free_none (builds_at p j) (slice_index table j) now.free, subst Q all (loop.each children));
+          refuted = (now.inside, free_none (builds_at p j) (slice_index table j) now.free, subst Q all (subst J (joined_none children) (loop.each no_child)));
           kept = subst B (sym same) loop.kept;
           satisfies = loop.satisfies;
           shallow = omega (arith, loop.shallow);
           used = 1 + loop.used;
           counted = omega (arith, loop.counted);
           spent = loop.spent;
-          needed = subst N (sym same) (needed_whole k loop.used (omega (arith, e)) loop.product (λ path. (end_path k loop.used (places_of best) (some path) e (loop.path path) path).1));
+          needed = subst N (sym same) (needed_whole k loop.used (omega (arith, e)) loop.product (loop_kinds k children loop.used (omega (arith, e)) loop.wide loop.fresh loop.kinds) (λ path. (end_path k loop.used (places_of best) (some path) e (loop.path path) path).1));
           reached = subst R (sym same) (λ path. (end_path k loop.used (places_of best) (some path) e (loop.path path) path).0);
         }
       where
@@ -337,7 +542,7 @@ module _ (prefers : Preference) (order : IsOrder prefers) (p : ProblemValue) (ru
           used = 1 + loop.used;
           counted = omega arith;
           spent = loop.spent;
-          needed = subst N (sym same) (needed_whole k loop.used l loop.product (λ path. few k loop.used (places_of best) (loop.path path)));
+          needed = subst N (sym same) (needed_whole k loop.used l loop.product (loop_kinds k children loop.used l loop.wide loop.fresh loop.kinds) (λ path. few k loop.used (places_of best) (loop.path path)));
           reached = subst R (sym same) (λ path. reaches k loop.used (places_of best) closed (loop.path path));
         }
       where
@@ -387,6 +592,12 @@ room_over_found prefers p budget n best fits some needed = record {
   fitting = λ top. absurd (fits top);
   lacking = λ i none. absurd (some i none);
 }
+
+-- and so is the bound where builds that the inputs see as one are gone into once
+pub kinds_over_found : (prefers : Preference) (p : ProblemValue) (budget n : ℕ) (best : Option (List ℕ)) → IsNeeded prefers p (replicate n 0) best (budget + 1) → budget < kinds_bound p
+kinds_over_found prefers p budget n best needed =
+    let same = ap (λ x. (1 + repeats_from p 0 p.jobs) * x) (kinds_empty (kinds_from p 0 p.jobs) n) in
+    let all = needed.kinds in omega (arith, all, same)
 
 -- what was found in the end
 pub found_in : (prefers : Preference) (p : ProblemValue) (table : List ℕ) (before after : Option ChoiceValue) (room left : ℕ) (o : Option Node) (c : Node) (choice : ChoiceValue)

@@ -1,5 +1,5 @@
 -- What an answer of the resolver promises.
-use Rattle.std.specs.Prelude.{◌≡◌, ℕ, ◌≤◌}
+use Rattle.std.specs.Prelude.{◌≡◌, ℕ, ◌<◌, ◌≤◌}
 use Rattle.ccr_choice.specs.Problem.{ProblemValue, ChoiceValue}
 use Rattle.ccr_proof.specs.declared.claim.Claim.TheVariants as claim
 use Rattle.ccr_choice.specs.Preference.{Preference}
@@ -10,6 +10,7 @@ use Rattle.ccr_proof.specs.declared.proof.Proof.{Proof}
 use Rattle.ccr_resolve.specs.declared.answer.Answer.{Answer}
 use Rattle.ccr_resolve.specs.declared.answer.Answer.TheVariants.{Best, Nothing, OverBudget}
 use Rattle.ccr_resolve.specs.Room.{IsBelowRoom}
+use Rattle.ccr_resolve.specs.Kinds.{kinds_bound}
 
 -- A proof that may be given for a problem within a budget: it is accepted, its claim is right, and it has at most so
 -- many nodes.
@@ -19,9 +20,10 @@ pub record IsWithin (prefers : Preference) (p : ProblemValue) (budget : ℕ) (pr
   pub few_nodes : count (tree_of proof.tree) ≤ budget
 
 -- An answer of the best choice, or of none, has such a proof of its claim; over budget names the budget, which is below
--- the room.
+-- the room and below the bound where builds that the inputs see as one are gone into once.
 abbrev pub IsAnswer : Preference → ProblemValue → ℕ → Answer → Type 0
 IsAnswer prefers p budget (Best proof) =
     ((c : ChoiceValue) × (proof.claim ≡ claim.Best c)) × IsWithin prefers p budget proof
 IsAnswer prefers p budget (Nothing proof) = (proof.claim ≡ claim.Nothing) × IsWithin prefers p budget proof
-IsAnswer prefers p budget (OverBudget n) = (n ≡ budget) × IsBelowRoom prefers p budget
+IsAnswer prefers p budget (OverBudget n) =
+    (n ≡ budget) × IsBelowRoom prefers p budget × (budget < kinds_bound p)

@@ -1,5 +1,7 @@
+pub mod Kinds
 pub mod Room
 pub mod Answer
+pub mod Cases
 pub mod Search
 pub mod Chosen
 pub mod Sought

@@ -9,6 +9,7 @@ use Rattle.ccr_choice.specs.Possible.{IsBestPlace, AreBestPlaces, AreBoundedBy}
 use Rattle.ccr_proof.specs.Tree.{Tree, tree_of, count, levels}
 use Rattle.ccr_proof.specs.Refutes.{HasNoPlace, IsBounded, Refutes}
 use Rattle.ccr_choice.specs.Table.{assigned}
+use Rattle.ccr_resolve.specs.Kinds.{kinds_from, repeats_from}
 use Rattle.ccr_resolve.specs.Room.{TopFits}
 
 -- the number of a fixed build, 0 where none is fixed
@@ -51,6 +52,16 @@ free_sum [] table = 0
 free_sum (job ∷ jobs) [] = length job + free_sum jobs []
 free_sum (job ∷ jobs) (n ∷ ns) = (if n == 0 then length job else 0) + free_sum jobs ns
 
+-- the product of one plus these numbers, over the free jobs
+abbrev pub free_kinds : List ℕ → List ℕ → ℕ
+free_kinds [] table = 1
+free_kinds (k ∷ ks) [] = (1 + k) * free_kinds ks []
+free_kinds (k ∷ ks) (n ∷ ns) = (if n == 0 then 1 + k else 1) * free_kinds ks ns
+
+-- how many nodes may be needed where builds that the inputs see as one are gone into once
+abbrev pub kinds_left : ProblemValue → List ℕ → ℕ
+kinds_left p table = (1 + repeats_from p 0 p.jobs) * free_kinds (kinds_from p 0 p.jobs) table
+
 -- how many entries of the table are free
 abbrev pub free_jobs : List ℕ → ℕ
 free_jobs [] = 0
@@ -70,6 +81,7 @@ ReachesTop prefers p best = IsBounded prefers p best nothing_fixed
 pub record IsNeeded (prefers : Preference) (p : ProblemValue) (table : List ℕ) (best : Option (List ℕ))
     (n : ℕ) : Type 0 where
   pub product : n ≤ free_product p.jobs table
+  pub kinds : n ≤ kinds_left p table
   pub lacking : (i : ℕ) → HasNoPlace p (assigned p table) i → n ≤ 1
   pub bounded : IsBounded prefers p best (assigned p table) → n ≤ 1
   pub path : OnPath prefers p table best → n ≤ 1 + free_sum p.jobs table

@@ -15,6 +15,7 @@ mod choice;
 mod chosen;
 mod descent;
 mod dive;
+mod dominator;
 mod newest;
 mod pick;
 mod resolver;

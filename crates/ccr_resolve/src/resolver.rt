@@ -15,7 +15,7 @@ use ccr_proof::{Claim, MOST_NODES, Node, Proof};
 use std::alloc::{AllocError, Global};
 
 /// The best choice that satisfies a problem, or that none does, rightly so, with a proof that is accepted and has at
-/// most `budget` nodes, from 1 to 1,000,000; or that the budget is over, only where it is below the room of the problem.
+/// most `budget` nodes, from 1 to 1,000,000; or that the budget is over, only where it is below both bounds of the problem.
 /// The index is that of the problem. The only error is want of memory.
 ///
 /// An index stands for its problem, so whoever holds one alone calls [`resolve_indexed`].

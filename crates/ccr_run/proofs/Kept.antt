@@ -13,7 +13,7 @@ use Rattle.ccr_run.specs.Databases.{IsOurs}
 -- what was adopted and loaded keeps the history, where the database was ours
 pub kept_found : {S : Type 0} (g : Ghosts S) (conn : Held S) (adopted loaded : StoreData S) (h : HistoryData)
     → (HasCleanDisk (state g adopted.conn) → (state g conn).now.schema ≡ no_schema
-    → IsStored no_history (state g adopted.conn).now adopted.outline
+    → IsStored no_history (state g adopted.conn).now
     × ((state g adopted.conn).committed ≡ (state g adopted.conn).now))
     → ((these : Contents) → HasCleanDisk (state g adopted.conn) → (state g conn).now ≡ (state g conn).committed
     → Holds these (state g conn).now → Holds these (state g adopted.conn).now × HasFormat these)

@@ -18,7 +18,7 @@ use Rattle.ccr_run.specs.declared.order.Order.{Order}
 use Rattle.ccr_run.specs.declared.run.Outcome.{Outcome}
 use Rattle.ccr_run.specs.Obeyed.{Obeyed}
 use Rattle.ccr_run.specs.Orders.{IsOrdered}
-use Rattle.ccr_run.specs.Served.{Served, handed_on, places_in}
+use Rattle.ccr_run.specs.Served.{Served, Begins, handed_on, places_in}
 use Rattle.ccr_run.specs.Statuses.{exit_status_of}
 
 abbrev folders : Text → Text → PlacesData
@@ -31,18 +31,15 @@ same_places order p types work =
     ap (λ (t : Text). folders t (string_bytes p.work)) types
     ∙ ap (λ (w : Text). folders order.options.types.now w) work
 
--- a server did the command
-pub did : {R S T : Type 0} (pairs : R → List Pair) (failures : S → ℕ) (holds knows : T → HistoryData → Type 0)
-    (tally : T → Tally) (order : Order) (p : Places) (h : HistoryData) (opened left : Server R S T) (answer : Result ℕ ServeFault)
+-- a server that has just begun did the command
+pub did : {R S T : Type 0} (pairs : R → List Pair) (failures : S → ℕ) (holds : T → HistoryData → Type 0)
+    (tally : T → Tally) (order : Order) (h : HistoryData) (opened left : Server R S T) (answer : Result ℕ ServeFault)
     (end : Result ℕ Failure) (old new : Text)
-    → opened.places ≡ p → places_data p ≡ places_in order
-    → IsReady (view_of pairs failures holds knows tally opened [])
-    → IsResumed h order.options.budget (core_data opened.core) → opened.last ≡ 0
-    → pairs opened.runner ≡ [] → failures opened.shelf ≡ 0
+    → Begins h order.options.budget (view_of pairs failures holds tally opened []) → places_data opened.places ≡ places_in order
     → CameOf (places_data opened.places) (command_data order.command) answer
-    (view_of pairs failures holds knows tally opened old) (view_of pairs failures holds knows tally left new)
-    → end ≡ handed_on answer → Served pairs failures holds knows tally order end old new
-did pairs failures holds knows tally order p h opened left answer end old new at same ready resumed last none count came is =
+    (view_of pairs failures holds tally opened old) (view_of pairs failures holds tally left new)
+    → end ≡ handed_on answer → Served pairs failures holds tally order end old new
+did pairs failures holds tally order h opened left answer end old new begins same came is =
     inl (record {
       history = h;
       opened = opened;
@@ -50,33 +47,31 @@ did pairs failures holds knows tally order p h opened left answer end old new at
       answer = answer;
       begins = record {
         ready = record {
-          is_open = ready.is_open;
-          unfailed = ready.unfailed;
-          holds = ready.holds;
-          knows = ready.knows;
+          is_open = begins.ready.is_open;
+          unfailed = begins.ready.unfailed;
+          holds = begins.ready.holds;
         };
-        resumed = resumed;
-        last = last;
-        pairs = none;
-        failures = count;
+        resumed = begins.resumed;
+        last = begins.last;
+        pairs = begins.pairs;
+        failures = begins.failures;
       };
       came = subst (λ (q : PlacesData). CameOf q (command_data order.command) answer
-          (view_of pairs failures holds knows tally opened old) (view_of pairs failures holds knows tally left new))
-          (ap (λ (q : Places). places_data q) at ∙ same) came;
+          (view_of pairs failures holds tally opened old) (view_of pairs failures holds tally left new)) same came;
       end_is = is;
     })
 
 -- what was ordered is done, from where no line was printed
-pub done : {R S T : Type 0} (pairs : R → List Pair) (failures : S → ℕ) (holds knows : T → HistoryData → Type 0)
+pub done : {R S T : Type 0} (pairs : R → List Pair) (failures : S → ℕ) (holds : T → HistoryData → Type 0)
     (tally : T → Tally) (words : List Text) (status : ℕ) (order : Order) (outcome : Outcome) (old lines : Text)
-    → IsOrdered words order → old ≡ [] → Served pairs failures holds knows tally order outcome.end old lines
-    → status ≡ exit_status_of outcome → Obeyed pairs failures holds knows tally words status
-done pairs failures holds knows tally words status order outcome old lines ordered none served is =
+    → IsOrdered words order → old ≡ [] → Served pairs failures holds tally order outcome.end old lines
+    → status ≡ exit_status_of outcome → Obeyed pairs failures holds tally words status
+done pairs failures holds tally words status order outcome old lines ordered none served is =
     inl (record {
       order = order;
       ordered = ordered;
       outcome = outcome;
       lines = lines;
-      served = subst (λ (o : Text). Served pairs failures holds knows tally order outcome.end o lines) none served;
+      served = subst (λ (o : Text). Served pairs failures holds tally order outcome.end o lines) none served;
       status_is = is;
     })

@@ -7,7 +7,6 @@ use Rattle.ccr_history.specs.History.{HistoryData}
 use Rattle.ccr_tables.specs.Contents.{Contents, Holds}
 use Rattle.ccr_tables.specs.Schema.{no_schema}
 use Rattle.ccr_storage.specs.declared.tally.Tally.{Tally}
-use Rattle.ccr_store.specs.Outline.{IsOutline}
 use Rattle.ccr_store.specs.StoreData.{IsKept}
 use Rattle.ccr_run.specs.declared.database.Database.{Database}
 
@@ -20,10 +19,6 @@ IsOurs db =
 -- WHAT THE STORAGE HOLDS: where the database was ours when it was found, the store keeps the history
 abbrev pub holds : {S : Type 0} → Ghosts S → Database S → HistoryData → Type 0
 holds g database h = IsOurs (state g database.found.value) → IsKept g database.store h
-
--- WHICH HISTORY THE STORAGE KNOWS: one that its outline is of
-abbrev pub knows : {S : Type 0} → Database S → HistoryData → Type 0
-knows database h = IsOutline h database.store.outline
 
 -- WHAT THE STORAGE TELLS OF ITS COMMITS: what the store does
 abbrev pub tally : {S : Type 0} → Database S → Tally

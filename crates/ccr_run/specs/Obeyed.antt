@@ -13,12 +13,12 @@ use Rattle.ccr_run.specs.Statuses.{exit_status_of, misuse_status}
 
 -- the words order something, and what came of it has this status
 pub record IsDone {R S T : Type 0} (pairs : R → List Pair) (failures : S → ℕ)
-    (holds knows : T → HistoryData → Type 0) (tally : T → Tally) (words : List Text) (status : ℕ) : Type 0 where
+    (holds : T → HistoryData → Type 0) (tally : T → Tally) (words : List Text) (status : ℕ) : Type 0 where
   pub order : Order
   pub ordered : IsOrdered words order
   pub outcome : Outcome
   pub lines : Text
-  pub served : Served pairs failures holds knows tally order outcome.end [] lines
+  pub served : Served pairs failures holds tally order outcome.end [] lines
   pub status_is : status ≡ exit_status_of outcome
 
 -- a misuse has its status, or 4 where it can't be told
@@ -27,7 +27,7 @@ IsTold misuse status = (status ≡ misuse_status misuse) ⊎ (status ≡ 4)
 
 -- THE STATUS THAT WORDS COME TO: that of what they order, or of why they order nothing
 abbrev pub Obeyed : {R S T : Type 0} → (R → List Pair) → (S → ℕ) → (T → HistoryData → Type 0)
-    → (T → HistoryData → Type 0) → (T → Tally) → List Text → ℕ → Type 0
-Obeyed pairs failures holds knows tally words status =
-    IsDone pairs failures holds knows tally words status
+    → (T → Tally) → List Text → ℕ → Type 0
+Obeyed pairs failures holds tally words status =
+    IsDone pairs failures holds tally words status
     ⊎ ((misuse : Misuse) × IsMisused words misuse × IsTold misuse status)

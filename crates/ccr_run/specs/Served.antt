@@ -45,20 +45,20 @@ pub record Begins (h : HistoryData) (budget : ℕ) (v : View) : Type 0 where
 -- a server was made over a history, and did the command: from one value of it to another, with these lines before and
 -- after
 pub record DidCommand {R S T : Type 0} (pairs : R → List Pair) (failures : S → ℕ)
-    (holds knows : T → HistoryData → Type 0) (tally : T → Tally) (order : Order) (end : Result ℕ Failure) (old new : Text)
+    (holds : T → HistoryData → Type 0) (tally : T → Tally) (order : Order) (end : Result ℕ Failure) (old new : Text)
     : Type 0 where
   pub history : HistoryData
   pub opened : Server R S T
   pub left : Server R S T
   pub answer : Result ℕ ServeFault
-  pub begins : Begins history order.options.budget (view_of pairs failures holds knows tally opened old)
+  pub begins : Begins history order.options.budget (view_of pairs failures holds tally opened old)
   pub came : CameOf (places_in order) (command_data order.command) answer
-      (view_of pairs failures holds knows tally opened old) (view_of pairs failures holds knows tally left new)
+      (view_of pairs failures holds tally opened old) (view_of pairs failures holds tally left new)
   pub end_is : end ≡ handed_on answer
 
 -- WHAT CAME OF AN ORDER: a server did the command, or none was made and nothing is printed
 abbrev pub Served : {R S T : Type 0} → (R → List Pair) → (S → ℕ) → (T → HistoryData → Type 0)
-    → (T → HistoryData → Type 0) → (T → Tally) → Order → Result ℕ Failure → Text → Text → Type 0
-Served pairs failures holds knows tally order end old new =
-    DidCommand pairs failures holds knows tally order end old new
+    → (T → Tally) → Order → Result ℕ Failure → Text → Text → Type 0
+Served pairs failures holds tally order end old new =
+    DidCommand pairs failures holds tally order end old new
     ⊎ (IsUnserved end × (new ≡ old))

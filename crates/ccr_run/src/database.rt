@@ -1,10 +1,12 @@
 //! The database's file.
-ghost use Rattle.std.specs.Prelude.{◌≡◌, false, IfOk, IfErr, IfSome};
+ghost use Rattle.std.specs.Prelude.{◌≡◌, false, IsTrue, IfOk, IfErr, IfSome};
 ghost use Rattle.sqlite.specs.Files.{file_state, IsOpened};
 ghost use Rattle.sqlite.specs.Held.{state};
 ghost use Rattle.sqlite.specs.State.{HasCleanDisk};
 ghost use Rattle.ccr_core.specs.Resumed.{IsReadable};
-ghost use Rattle.ccr_run.specs.Databases.{holds, knows};
+ghost use Rattle.ccr_tables.specs.Contents.{Contents, Holds};
+ghost use Rattle.ccr_store.specs.StoreData.{IsKept};
+ghost use Rattle.ccr_run.specs.Databases.{holds};
 ghost use Rattle.ccr_run.specs.Served.{KeepsFromServing};
 
 use crate::failure::Failure;
@@ -50,29 +52,47 @@ pub fn open(rt: &HostRuntime, path: &str) -> Result<Connection<FileStore<File>>,
 }
 
 impl<S: Alter + Drop> Database<S> {
+    /// The storage of a store, with the history that it holds.
+    fn with_history(
+        alloc: Global,
+        store: Store<S>,
+        found: Snapshot<Connection<S>>,
+    ) -> Result<(Database<S>, History), StoreFault>
+        ensures kept { IfOk result (λ loaded. ((these : Contents) → Holds these (state S.Store store.conn).now
+            → IsKept S.Store loaded.0.store loaded.1)
+            × (HasCleanDisk (state S.Store loaded.0.store.conn)
+            → HasCleanDisk (state S.Store store.conn) × IsTrue (state S.Store store.conn).is_open)) }
+        ensures found { IfOk result (λ loaded. loaded.0.found ≡ found) }
+        ensures readable { IfOk result (λ loaded. IfSome loaded.1.text IsReadable) }
+    {
+        let mut store = store;
+        match store.load(alloc) {
+            Ok(history) => Ok((Database { store, found }, history)),
+            Err(fault) => Err(fault),
+        }
+    }
+
     /// The storage in a database, with the history that it holds. A database without tables gets them.
     ///
     /// The errors are those of [`Store::adopt`] and [`Store::load`].
     pub fn load(alloc: Global, conn: Connection<S>) -> Result<(Database<S>, History), StoreFault>
         requires { (state S.Store conn).in_transaction ≡ false }
         ensures holds { IfOk result (λ loaded. holds S.Store loaded.0 loaded.1) }
-        ensures knows { IfOk result (λ loaded. knows loaded.0 loaded.1) }
         ensures found { IfOk result (λ loaded. loaded.0.found.value ≡ conn) }
         ensures readable { IfOk result (λ loaded. IfSome loaded.1.text IsReadable) }
     {
         let found = Snapshot::of(&conn);
-        let mut store = Store::adopt(alloc, conn)?;
-        let history = store.load(alloc)?;
-        Ok((Database { store, found }, history))
+        match Store::adopt(conn) {
+            Ok(store) => Database::with_history(alloc, store, found),
+            Err(fault) => Err(fault),
+        }
     }
 }
 
 impl<S: Alter> Storage for Database<S> {
-    ghost use Rattle.ccr_run.specs.Databases.{holds, knows, tally};
+    ghost use Rattle.ccr_run.specs.Databases.{holds, tally};
 
     ghost holds = { λ database h. holds S.Store database h };
-
-    ghost knows = { knows };
 
     ghost tally = { tally };
 

@@ -50,7 +50,7 @@ fn words(rt: &HostRuntime) -> Result<Vec<String>, Misuse> {
 /// Does what the words order, and tells what came of it: the exit status.
 fn obey<'a>(rt: &'a HostRuntime, words: &[String]) -> ExitCode
     ensures { Obeyed ⟦<Machine<&'a HostRuntime> as Runner>⟧.pairs ⟦<Folders<&'a HostRuntime> as Shelf>⟧.failures
-        ⟦<Database<FileStore<File>> as Storage>⟧.holds ⟦<Database<FileStore<File>> as Storage>⟧.knows
+        ⟦<Database<FileStore<File>> as Storage>⟧.holds
         ⟦<Database<FileStore<File>> as Storage>⟧.tally
         (map string_bytes words.now) (exit_status result) }
 {

@@ -1,22 +1,25 @@
 //! A command is done.
-ghost use Rattle.std.specs.Prelude.{◌≡◌, ◌≤◌, ◌++◌, ℕ, [], Result, false, not, IfOk, string_bytes};
+ghost use Rattle.std.specs.Prelude.{◌≡◌, ◌≤◌, ◌++◌, ℕ, [], Result, false, not, IfOk, IfSome, string_bytes};
+ghost use Rattle.sqlite.specs.Files.{file_state};
+ghost use Rattle.ccr_history.specs.History.{HistoryData};
+ghost use Rattle.ccr_core.specs.Resumed.{IsReadable};
 ghost use Rattle.ccr_proof.specs.declared.proof.TheConstants.{MOST_NODES};
 ghost use Rattle.ccr_task.specs.Places.{places_data};
 ghost use Rattle.ccr_serve.specs.Commanding.{CameOf};
 ghost use Rattle.ccr_serve.specs.Commands.{command_data};
 ghost use Rattle.ccr_serve.specs.Views.{view_of, IsReady};
-ghost use Rattle.ccr_run.specs.Served.{Served, handed_on};
+ghost use Rattle.ccr_run.specs.Served.{Served, Begins, handed_on, places_in};
 
 use crate::database::{Database, open};
 use crate::failure::Failure;
 use crate::order::Order;
-use ccr_command::Options;
+use ccr_history::History;
 use ccr_lines::{Lines, Printed};
 use ccr_process::{Machine, Runner};
 use ccr_serve::{Command, ServeFault, Server};
 use ccr_storage::Storage;
 use ccr_task::{Folders, Places, Shelf};
-use sqlite::{File, FileStore};
+use sqlite::{Connection, File, FileStore};
 use std::alloc::{AllocError, Global};
 use std::io::Write;
 
@@ -30,13 +33,13 @@ pub struct Outcome {
 }
 
 /// The server's two folders.
-fn places_of(alloc: Global, options: &Options<'_>) -> Result<Places, AllocError>
-    ensures types { IfOk result (λ places. string_bytes places.types ≡ options.now.types.now) }
-    ensures work { IfOk result (λ places. string_bytes places.work ≡ options.now.work.now) }
+fn places_of(alloc: Global, types: &str, work: &str) -> Result<Places, AllocError>
+    ensures types { IfOk result (λ places. string_bytes places.types ≡ types.now) }
+    ensures work { IfOk result (λ places. string_bytes places.work ≡ work.now) }
 {
     Ok(Places {
-        types: String::from_str(alloc, options.types)?,
-        work: String::from_str(alloc, options.work)?,
+        types: String::from_str(alloc, types)?,
+        work: String::from_str(alloc, work)?,
     })
 }
 
@@ -46,9 +49,9 @@ fn command<R: Runner, S: Shelf, T: Storage, W: Write>(
     command: &Command,
     out: &mut Printed<W>,
 ) -> Result<u8, Failure>
-    requires ready { let view = view_of R.pairs S.failures T.holds T.knows T.tally in
+    requires ready { let view = view_of R.pairs S.failures T.holds T.tally in
         IsReady (view server.old (out.old.shown ++ out.old.waiting)) }
-    ensures came { let view = view_of R.pairs S.failures T.holds T.knows T.tally in
+    ensures came { let view = view_of R.pairs S.failures T.holds T.tally in
         (answer : Result ℕ ServeFault) × (result ≡ handed_on answer)
         × CameOf (places_data server.old.places) (command_data command.now) answer
         (view server.old (out.old.shown ++ out.old.waiting)) (view server.new (out.new.shown ++ out.new.waiting)) }
@@ -57,6 +60,77 @@ fn command<R: Runner, S: Shelf, T: Storage, W: Write>(
     let end = server.command(command, out);
     out.hand_out();
     Ok(end?)
+}
+
+/// Has a server do the command, which has just begun.
+fn serve_by<R: Runner + Drop, S: Shelf + Drop, T: Storage + Drop, W: Write>(
+    server: Server<R, S, T>,
+    order: &Order<'_>,
+    out: &mut Printed<W>,
+) -> Result<u8, Failure>
+    requires begins { (h : HistoryData)
+        × Begins h order.now.options.budget (view_of R.pairs S.failures T.holds T.tally server []) }
+    requires places { places_data server.places ≡ places_in order.now }
+    ensures served { Served R.pairs S.failures T.holds T.tally order.now result
+        (out.old.shown ++ out.old.waiting) (out.new.shown ++ out.new.waiting) }
+    ensures printed { out.old.waiting ≡ [] → out.new.failed ≡ false → out.new.waiting ≡ [] }
+{
+    let mut server = server;
+    command(&mut server, &order.command, out)
+}
+
+/// Has a server over a database with its history do the command.
+fn serve_history<'a, W: Write>(
+    rt: &'a HostRuntime,
+    order: &Order<'_>,
+    database: Database<FileStore<File>>,
+    history: History,
+    places: Places,
+    out: &mut Printed<W>,
+) -> Result<u8, Failure>
+    requires least { 1 ≤ order.now.options.budget }
+    requires most { order.now.options.budget ≤ MOST_NODES }
+    requires holds { ⟦<Database<FileStore<File>> as Storage>⟧.holds database history }
+    requires readable { IfSome history.text IsReadable }
+    requires places { places_data places ≡ places_in order.now }
+    ensures served { Served ⟦<Machine<&'a HostRuntime> as Runner>⟧.pairs ⟦<Folders<&'a HostRuntime> as Shelf>⟧.failures
+        ⟦<Database<FileStore<File>> as Storage>⟧.holds
+        ⟦<Database<FileStore<File>> as Storage>⟧.tally
+        order.now result (out.old.shown ++ out.old.waiting) (out.new.shown ++ out.new.waiting) }
+    ensures printed { out.old.waiting ≡ [] → out.new.failed ≡ false → out.new.waiting ≡ [] }
+{
+    let alloc = rt.alloc();
+    let machine = Machine::new(rt, alloc);
+    let folders = Folders::new(rt, alloc);
+    let budget = order.options.budget;
+    match Server::open(alloc, machine, folders, database, history, places, budget) {
+        Ok(server) => serve_by(server, order, out),
+        Err(fault) => Err(Failure::from(fault)),
+    }
+}
+
+/// Has a server over a database do the command.
+fn serve_database<'a, W: Write>(
+    rt: &'a HostRuntime,
+    order: &Order<'_>,
+    conn: Connection<FileStore<File>>,
+    places: Places,
+    out: &mut Printed<W>,
+) -> Result<u8, Failure>
+    requires least { 1 ≤ order.now.options.budget }
+    requires most { order.now.options.budget ≤ MOST_NODES }
+    requires idle { (file_state conn).in_transaction ≡ false }
+    requires places { places_data places ≡ places_in order.now }
+    ensures served { Served ⟦<Machine<&'a HostRuntime> as Runner>⟧.pairs ⟦<Folders<&'a HostRuntime> as Shelf>⟧.failures
+        ⟦<Database<FileStore<File>> as Storage>⟧.holds
+        ⟦<Database<FileStore<File>> as Storage>⟧.tally
+        order.now result (out.old.shown ++ out.old.waiting) (out.new.shown ++ out.new.waiting) }
+    ensures printed { out.old.waiting ≡ [] → out.new.failed ≡ false → out.new.waiting ≡ [] }
+{
+    match Database::load(rt.alloc(), conn) {
+        Ok((database, history)) => serve_history(rt, order, database, history, places, out),
+        Err(fault) => Err(Failure::from(fault)),
+    }
 }
 
 /// Opens the database, and has a server over it do the command.
@@ -68,22 +142,18 @@ fn serve<'a, W: Write>(
     requires least { 1 ≤ order.now.options.budget }
     requires most { order.now.options.budget ≤ MOST_NODES }
     ensures served { Served ⟦<Machine<&'a HostRuntime> as Runner>⟧.pairs ⟦<Folders<&'a HostRuntime> as Shelf>⟧.failures
-        ⟦<Database<FileStore<File>> as Storage>⟧.holds ⟦<Database<FileStore<File>> as Storage>⟧.knows
+        ⟦<Database<FileStore<File>> as Storage>⟧.holds
         ⟦<Database<FileStore<File>> as Storage>⟧.tally
         order.now result (out.old.shown ++ out.old.waiting) (out.new.shown ++ out.new.waiting) }
     ensures printed { out.old.waiting ≡ [] → out.new.failed ≡ false → out.new.waiting ≡ [] }
 {
-    let alloc = rt.alloc();
-    let Ok(places) = places_of(alloc, &order.options) else {
+    let Ok(places) = places_of(rt.alloc(), order.options.types, order.options.work) else {
         return Err(Failure::Refused(ServeFault::NoMemory));
     };
-    let conn = open(rt, order.options.database)?;
-    let (database, history) = Database::load(alloc, conn)?;
-    let machine = Machine::new(rt, alloc);
-    let folders = Folders::new(rt, alloc);
-    let budget = order.options.budget;
-    let mut server = Server::open(alloc, machine, folders, database, history, places, budget)?;
-    command(&mut server, &order.command, out)
+    match open(rt, order.options.database) {
+        Ok(conn) => serve_database(rt, order, conn, places, out),
+        Err(failure) => Err(failure),
+    }
 }
 
 /// Does what is ordered. The lines go out as they come.
@@ -91,7 +161,7 @@ pub fn run<'a, W: Write>(rt: &'a HostRuntime, order: &Order<'_>, out: &mut Print
     requires least { 1 ≤ order.now.options.budget }
     requires most { order.now.options.budget ≤ MOST_NODES }
     ensures served { Served ⟦<Machine<&'a HostRuntime> as Runner>⟧.pairs ⟦<Folders<&'a HostRuntime> as Shelf>⟧.failures
-        ⟦<Database<FileStore<File>> as Storage>⟧.holds ⟦<Database<FileStore<File>> as Storage>⟧.knows
+        ⟦<Database<FileStore<File>> as Storage>⟧.holds
         ⟦<Database<FileStore<File>> as Storage>⟧.tally
         order.now result.end (out.old.shown ++ out.old.waiting) (out.new.shown ++ out.new.waiting) }
     ensures printed { result.is_printed ≡ not out.new.failed }

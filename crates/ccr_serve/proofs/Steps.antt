@@ -38,7 +38,6 @@ after v f p l = record {
   failures = f;
   pairs = p;
   holds = v.holds;
-  knows = v.knows;
   tally = v.tally;
   lines = l;
   closed = v.closed;
@@ -53,7 +52,6 @@ ready_after v f p l ready = record {
   is_open = ready.is_open;
   unfailed = ready.unfailed;
   holds = ready.holds;
-  knows = ready.knows;
 }
 
 -- ---- parts of which one item was done, or nothing

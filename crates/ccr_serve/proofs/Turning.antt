@@ -58,7 +58,6 @@ served n rank failures lines = record {
   failures = failures;
   pairs = n.pairs;
   holds = n.holds;
-  knows = n.knows;
   tally = n.tally;
   lines = lines;
   closed = n.closed;
@@ -127,7 +126,6 @@ module _ (places : PlacesData) (v : View) (job : Text) (number rank turn : ℕ) 
         is_open = gives.ready.is_open;
         unfailed = gives.ready.unfailed;
         holds = gives.ready.holds;
-        knows = gives.ready.knows;
       }) (λ s is.
       let g = gives.takes s is in
       record {

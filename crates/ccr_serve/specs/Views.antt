@@ -20,29 +20,27 @@ use Rattle.ccr_serve.specs.Items.{World, Done, Part, pairs_of, lines_of_all}
 use Rattle.ccr_serve.specs.Taken.{taken_in, commits_for}
 
 -- what a server holds: its core, the rank of the build served last, how often its shelf failed, what its runner ran,
--- which history its storage holds and which one it knows, the tally of its storage's commits, what it has printed, and
--- whether its storage failed
+-- which history its storage holds, the tally of its storage's commits, what it has printed, and whether its storage
+-- failed
 pub record View : Type 1 where
   pub core : CoreData
   pub last : ℕ
   pub failures : ℕ
   pub pairs : List Pair
   pub holds : HistoryData → Type 0
-  pub knows : HistoryData → Type 0
   pub tally : Tally
   pub lines : Text
   pub closed : Bool
 
 -- what a server holds that has printed these lines
 abbrev pub view_of : {R S T : Type 0} → (R → List Pair) → (S → ℕ) → (T → HistoryData → Type 0)
-    → (T → HistoryData → Type 0) → (T → Tally) → Server R S T → Text → View
-view_of pairs failures holds knows tally server lines = record {
+    → (T → Tally) → Server R S T → Text → View
+view_of pairs failures holds tally server lines = record {
   core = core_data server.core;
   last = server.last;
   failures = failures server.shelf;
   pairs = pairs server.runner;
   holds = holds server.storage;
-  knows = knows server.storage;
   tally = tally server.storage;
   lines = lines;
   closed = server.closed;
@@ -60,12 +58,11 @@ jobs_held c = (unwrap_or c.pipeline no_pipeline).jobs
 abbrev pub world_of : View → State → World
 world_of v s = record { core = s; last = v.last; failures = v.failures }
 
--- the server goes on: its storage hasn't failed, and no commit of it, and it holds the core's history and knows it
+-- the server goes on: its storage hasn't failed, and no commit of it, and it holds the core's history
 pub record IsReady (v : View) : Type 0 where
   pub is_open : v.closed ≡ false
   pub unfailed : v.tally.fault ≡ None
   pub holds : v.holds v.core.history
-  pub knows : v.knows v.core.history
 
 -- ---- calls
 -- the pairs that answer for no item: none in a whole call, else at most one, that of a program whose answer was lost

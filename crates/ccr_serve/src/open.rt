@@ -32,11 +32,10 @@ impl<R: Runner + Drop, S: Shelf + Drop, T: Storage + Drop> Server<R, S, T> {
         budget: u32,
     ) -> Result<Server<R, S, T>, ServeFault>
         requires holds { T.holds storage history }
-        requires knows { T.knows storage history }
         requires readable { IfSome history.text IsReadable }
         requires least { 1 ≤ budget }
         requires most { budget ≤ MOST_NODES }
-        ensures ready { let view = view_of R.pairs S.failures T.holds T.knows T.tally in
+        ensures ready { let view = view_of R.pairs S.failures T.holds T.tally in
             IfOk result (λ server. IsReady (view server [])) }
         ensures resumed { IfOk result (λ server. IsResumed history budget (core_data server.core)) }
         ensures nobody { IfOk result (λ server. server.last ≡ 0) }

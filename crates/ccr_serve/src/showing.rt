@@ -21,14 +21,14 @@ impl<R: Runner, S: Shelf, T: Storage> Server<R, S, T> {
         name: &str,
         out: &mut O,
     ) -> Result<u8, ServeFault>
-        requires ready { let view = view_of R.pairs S.failures T.holds T.knows T.tally in
+        requires ready { let view = view_of R.pairs S.failures T.holds T.tally in
             IsReady (view self.old (O.written out.old)) }
-        ensures came { let view = view_of R.pairs S.failures T.holds T.knows T.tally in
+        ensures came { let view = view_of R.pairs S.failures T.holds T.tally in
             CameOf (places_data self.old.places) (resource_versions name.now) result
             (view self.old (O.written out.old)) (view self.new (O.written out.new)) }
-        ensures kept { let view = view_of R.pairs S.failures T.holds T.knows T.tally in
+        ensures kept { let view = view_of R.pairs S.failures T.holds T.tally in
             OnOk result (IsReady (view self.new (O.written out.new))) }
-        ensures stops { let view = view_of R.pairs S.failures T.holds T.knows T.tally in
+        ensures stops { let view = view_of R.pairs S.failures T.holds T.tally in
             IfErr result (λ fault. Stops fault (view self.new (O.written out.new))) }
         ensures places { self.new.places ≡ self.old.places }
     {
@@ -45,14 +45,14 @@ impl<R: Runner, S: Shelf, T: Storage> Server<R, S, T> {
     /// Shows the choice for the next build of the job of this name, with its proof: status 3 where its search would go
     /// over the budget.
     pub(crate) fn resolve<O: Lines>(&mut self, job: &str, out: &mut O) -> Result<u8, ServeFault>
-        requires ready { let view = view_of R.pairs S.failures T.holds T.knows T.tally in
+        requires ready { let view = view_of R.pairs S.failures T.holds T.tally in
             IsReady (view self.old (O.written out.old)) }
-        ensures came { let view = view_of R.pairs S.failures T.holds T.knows T.tally in
+        ensures came { let view = view_of R.pairs S.failures T.holds T.tally in
             CameOf (places_data self.old.places) (resolve job.now) result
             (view self.old (O.written out.old)) (view self.new (O.written out.new)) }
-        ensures kept { let view = view_of R.pairs S.failures T.holds T.knows T.tally in
+        ensures kept { let view = view_of R.pairs S.failures T.holds T.tally in
             OnOk result (IsReady (view self.new (O.written out.new))) }
-        ensures stops { let view = view_of R.pairs S.failures T.holds T.knows T.tally in
+        ensures stops { let view = view_of R.pairs S.failures T.holds T.tally in
             IfErr result (λ fault. Stops fault (view self.new (O.written out.new))) }
         ensures places { self.new.places ≡ self.old.places }
     {
@@ -77,14 +77,14 @@ impl<R: Runner, S: Shelf, T: Storage> Server<R, S, T> {
 
     /// Shows the problem of the next build of the job of this name.
     pub(crate) fn problem<O: Lines>(&mut self, job: &str, out: &mut O) -> Result<u8, ServeFault>
-        requires ready { let view = view_of R.pairs S.failures T.holds T.knows T.tally in
+        requires ready { let view = view_of R.pairs S.failures T.holds T.tally in
             IsReady (view self.old (O.written out.old)) }
-        ensures came { let view = view_of R.pairs S.failures T.holds T.knows T.tally in
+        ensures came { let view = view_of R.pairs S.failures T.holds T.tally in
             CameOf (places_data self.old.places) (command.problem job.now) result
             (view self.old (O.written out.old)) (view self.new (O.written out.new)) }
-        ensures kept { let view = view_of R.pairs S.failures T.holds T.knows T.tally in
+        ensures kept { let view = view_of R.pairs S.failures T.holds T.tally in
             OnOk result (IsReady (view self.new (O.written out.new))) }
-        ensures stops { let view = view_of R.pairs S.failures T.holds T.knows T.tally in
+        ensures stops { let view = view_of R.pairs S.failures T.holds T.tally in
             IfErr result (λ fault. Stops fault (view self.new (O.written out.new))) }
         ensures places { self.new.places ≡ self.old.places }
     {
@@ -100,14 +100,14 @@ impl<R: Runner, S: Shelf, T: Storage> Server<R, S, T> {
 
     /// Shows all builds.
     pub(crate) fn builds<O: Lines>(&mut self, out: &mut O) -> Result<u8, ServeFault>
-        requires ready { let view = view_of R.pairs S.failures T.holds T.knows T.tally in
+        requires ready { let view = view_of R.pairs S.failures T.holds T.tally in
             IsReady (view self.old (O.written out.old)) }
-        ensures came { let view = view_of R.pairs S.failures T.holds T.knows T.tally in
+        ensures came { let view = view_of R.pairs S.failures T.holds T.tally in
             CameOf (places_data self.old.places) builds result
             (view self.old (O.written out.old)) (view self.new (O.written out.new)) }
-        ensures kept { let view = view_of R.pairs S.failures T.holds T.knows T.tally in
+        ensures kept { let view = view_of R.pairs S.failures T.holds T.tally in
             OnOk result (IsReady (view self.new (O.written out.new))) }
-        ensures stops { let view = view_of R.pairs S.failures T.holds T.knows T.tally in
+        ensures stops { let view = view_of R.pairs S.failures T.holds T.tally in
             IfErr result (λ fault. Stops fault (view self.new (O.written out.new))) }
         ensures places { self.new.places ≡ self.old.places }
     {

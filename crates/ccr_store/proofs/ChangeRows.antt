@@ -19,7 +19,8 @@ use Rattle.ccr_tables.specs.Written.{without}
 use Rattle.ccr_store.specs.Rows.{format_row, text_row, meta_rows, scope_row, scope_rows, version_rows, build_row, build_rows, used_row, moved_row, pair_rows, rows_of, status_number}
 use Rattle.ccr_store.specs.WriteData.{WriteData, made, all_made}
 use Rattle.ccr_store.specs.WriteData as write
-use Rattle.ccr_store.specs.Writes.{has_scope, scope_id, new_versions, scope_writes, version_writes, report_writes, build_id, build_writes, writes_of, all_writes_of}
+use Rattle.ccr_store.specs.Writes.{version_writes}
+use Rattle.ccr_store.proofs.HistoryWrites.{has_scope, scope_id, new_versions, scope_writes, report_writes, build_id, build_writes, writes_of, all_writes_of}
 use Rattle.ccr_store.specs.Reordered.{HasSameRows}
 use Rattle.ccr_store.proofs.SameRows.{swapped, same_rows, then_rows, all_made-alike, all_made-append, keeps_same}
 use Rattle.ccr_store.proofs.ReportRows.{report_versions, report_scopes, scope_made, versions_made}

@@ -17,7 +17,7 @@ use Rattle.ccr_history.specs.History.{AreNumbered}
 use Rattle.ccr_history.proofs.Positions.{count_rises}
 use Rattle.ccr_tables.specs.Written.{begins_with, restated}
 use Rattle.ccr_store.specs.Rows.{build_row, build_rows, used_row, moved_row, pair_rows, status_number}
-use Rattle.ccr_store.specs.Writes.{build_id}
+use Rattle.ccr_store.proofs.HistoryWrites.{build_id}
 use Rattle.ccr_store.proofs.SameRows.{swapped}
 use Rattle.ccr_store.proofs.BuildRows.{own_rows, by_place-order}
 

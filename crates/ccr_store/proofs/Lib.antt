@@ -4,9 +4,9 @@ pub mod BuildRows
 pub mod EndRows
 pub mod PinRows
 pub mod ChangeRows
-pub mod OutlineLaws
-pub mod MirrorLemmas
-pub mod EndLemmas
+pub mod HistoryWrites
+pub mod WriteLemmas
+pub mod EditWrites
 pub mod StoreLemmas
 pub mod ListedRows
 pub mod OneMap

@@ -8,7 +8,8 @@ use Rattle.ccr_history.specs.TextMap.{TextMap}
 use Rattle.ccr_history.specs.Tables.{ScopeData, TableData, is_scope, has_version, with_versions, with_report, versions_of}
 use Rattle.ccr_tables.specs.Contents.{Contents}
 use Rattle.ccr_store.specs.Rows.{scope_row, scope_rows, version_row, version_rows, table_rows}
-use Rattle.ccr_store.specs.Writes.{has_scope, scope_id, new_versions, version_writes}
+use Rattle.ccr_store.specs.Writes.{version_writes}
+use Rattle.ccr_store.proofs.HistoryWrites.{has_scope, scope_id, new_versions}
 use Rattle.ccr_store.specs.WriteData.{all_made}
 use Rattle.ccr_store.specs.WriteData as write
 use Rattle.ccr_store.specs.Reordered.{HasSameRows}

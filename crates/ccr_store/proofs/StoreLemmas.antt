@@ -9,7 +9,9 @@ use Rattle.sqlite.specs.State.{State, HasCleanDisk, IsUnchanged, Survives}
 use Rattle.sqlite.specs.Held.{state}
 use Rattle.sqlite.proofs.StateLemmas.{survives_weaker}
 use Rattle.ccr_history.specs.History.{HistoryData, IsHistory}
-use Rattle.ccr_history.specs.Changes.{EditData, changed, TakesAll}
+use Rattle.ccr_history.specs.Changes.{changed}
+use Rattle.ccr_history.specs.Edits.{change_data, Accepts}
+use Rattle.ccr_history.specs.declared.change.Edit.{Edit}
 use Rattle.ccr_history.proofs.ChangeLaws.{all_kept as history_kept}
 use Rattle.ccr_tables.specs.Contents.{Contents, Holds, Keeps}
 use Rattle.ccr_tables.specs.Schema.{our_schema}
@@ -18,7 +20,7 @@ use Rattle.ccr_tables.specs.Written.{all_written}
 use Rattle.ccr_tables.specs.declared.creation.Creation.{Creation}
 use Rattle.ccr_tables.specs.declared.creation.Creation.TheVariants.{Made, Found}
 use Rattle.ccr_tables.specs.declared.write.Write.{Write}
-use Rattle.ccr_store.specs.Outline.{IsOutline, name_of, all_outlined, outline_writes}
+use Rattle.ccr_store.specs.Writes.{change_writes}
 use Rattle.ccr_store.specs.Reordered.{HasSameRows}
 use Rattle.ccr_storage.specs.declared.fault.StoreFault.{StoreFault}
 use Rattle.ccr_storage.specs.declared.fault.StoreFault.TheVariants.{NoMemory, NotOurs}
@@ -31,53 +33,46 @@ use Rattle.ccr_store.proofs.ListedRows.{loaded}
 use Rattle.sqlite.specs.Order.{Row}
 use Rattle.ccr_history.specs.Text.{Text}
 use Rattle.ccr_store.specs.WriteData.{WriteData, write_data, all_made}
-use Rattle.ccr_store.proofs.ChangeRows.{changes_kept}
-use Rattle.ccr_store.proofs.OutlineLaws.{all_kept, all_writes_same}
+use Rattle.ccr_store.proofs.EditWrites.{edits_kept}
 use Rattle.ccr_store.proofs.SameRows.{all_written-made, keeps_same}
 
-pub outlined_now : {S : Type 0} (s t : StoreData S) (n : HistoryData) (es : List EditData) (h : HistoryData) → s ≡ t → n ≡ all_outlined es s.outline → IsOutline h t.outline → IsOutline (changed es h) n
-outlined_now s t n es h same now it =
-    subst (IsOutline (changed es h)) (sym now) (all_kept es h s.outline (subst (λ (k : StoreData _). IsOutline h k.outline) (sym same) it))
-
 -- trees that hold what the writes make of the history's rows hold those of the changed history
-left_keeps : (h o : HistoryData) (es : List EditData) (ws : List Write) (db : Database) (trees : Trees) → IsStored h db o → TakesAll h es → map write_data ws ≡ outline_writes es o → IsLeft (all_written ws) db trees → Keeps (rows_of (changed es h)) trees
-left_keeps h o es ws db trees it takes are left =
-    changes_kept es h trees it.rules takes
+left_keeps : (h : HistoryData) (es : List Edit) (ws : List Write) (db : Database) (trees : Trees) → IsStored h db → Accepts h es → map write_data ws ≡ change_writes es → IsLeft (all_written ws) db trees → Keeps (rows_of (changed (change_data es) h)) trees
+left_keeps h es ws db trees it accepts are left =
+    edits_kept es h trees it.rules accepts
     (subst (λ (these : Contents). Keeps these trees)
-    (all_written-made ws (rows_of h) ∙ ap (λ (l : List WriteData). all_made l (rows_of h)) (are ∙ sym (all_writes_same es h o it.outlined)))
+    (all_written-made ws (rows_of h) ∙ ap (λ (l : List WriteData). all_made l (rows_of h)) are)
     (left (rows_of h) it.rows))
 
-pub stored_now : {S : Type 0} (g : Ghosts S) (s t : StoreData S) (next : Database) (n : HistoryData) (es : List EditData) (ws : List Write) (h : HistoryData) → s ≡ t → n ≡ all_outlined es s.outline → map write_data ws ≡ outline_writes es s.outline
-    → Turns (all_written ws) (state g s.conn).now next → IsStored h (state g t.conn).now t.outline → TakesAll h es → IsStored (changed es h) next n
-stored_now g s t next n es ws h same now are turns it takes =
-    let here : IsStored h (state g s.conn).now s.outline = subst (λ (k : StoreData _). IsStored h (state g k.conn).now k.outline) (sym same) it in
+pub stored_now : {S : Type 0} (g : Ghosts S) (s t : StoreData S) (next : Database) (es : List Edit) (ws : List Write) (h : HistoryData) → s ≡ t → map write_data ws ≡ change_writes es
+    → Turns (all_written ws) (state g s.conn).now next → IsStored h (state g t.conn).now → Accepts h es → IsStored (changed (change_data es) h) next
+stored_now g s t next es ws h same are turns it accepts =
+    let here : IsStored h (state g s.conn).now = subst (λ (k : StoreData _). IsStored h (state g k.conn).now) (sym same) it in
     record {
-      rules = history_kept es h here.rules takes;
+      rules = history_kept (change_data es) h here.rules accepts.0;
       rows = record {
         schema = (turns (rows_of h) here.rows).schema;
-        rows = left_keeps h s.outline es ws (state g s.conn).now next.trees here takes are (λ these holds. (turns these holds).rows);
+        rows = left_keeps h es ws (state g s.conn).now next.trees here accepts are (λ these holds. (turns these holds).rows);
       };
-      outlined = outlined_now s t n es h same now it.outlined;
     }
 
-pub crash_now : {S : Type 0} (g : Ghosts S) (s t : StoreData S) (new : State) (es : List EditData) (ws : List Write) → s ≡ t → map write_data ws ≡ outline_writes es s.outline
+pub crash_now : {S : Type 0} (g : Ghosts S) (s t : StoreData S) (new : State) (es : List Edit) (ws : List Write) → s ≡ t → map write_data ws ≡ change_writes es
     → Survives (state g s.conn) new (IsLeft (all_written ws) (state g s.conn).now)
-    → Survives (state g t.conn) new (λ trees. (h : HistoryData) → IsStored h (state g t.conn).now t.outline → TakesAll h es → Keeps (rows_of (changed es h)) trees)
+    → Survives (state g t.conn) new (λ trees. (h : HistoryData) → IsStored h (state g t.conn).now → Accepts h es → Keeps (rows_of (changed (change_data es) h)) trees)
 crash_now g s t new es ws same are one =
-    subst (λ (k : StoreData _). Survives (state g k.conn) new (λ trees. (h : HistoryData) → IsStored h (state g k.conn).now k.outline → TakesAll h es → Keeps (rows_of (changed es h)) trees)) same
-    (survives_weaker (state g s.conn) new _ _ (λ clean trees left h it takes. left_keeps h s.outline es ws (state g s.conn).now trees it takes are left) one)
+    subst (λ (k : StoreData _). Survives (state g k.conn) new (λ trees. (h : HistoryData) → IsStored h (state g k.conn).now → Accepts h es → Keeps (rows_of (changed (change_data es) h)) trees)) same
+    (survives_weaker (state g s.conn) new _ _ (λ clean trees left h it accepts. left_keeps h es ws (state g s.conn).now trees it accepts are left) one)
 
--- the history that was loaded is stored, and the outline is one of it
-pub stored_loaded : {S : Type 0} (g : Ghosts S) (s t : StoreData S) (new : State) (h o : HistoryData) (these : Contents) → s ≡ t → o ≡ h → IsHistory h → (Holds these (state g s.conn).now → HasSameRows (rows_of h) these)
-    → ((state g s.conn).now.schema ≡ our_schema → IsUnchanged (state g s.conn) new) → Holds these (state g t.conn).now → HasSameRows (rows_of h) these × IsStored h new.now o
-stored_loaded g s t new h o these same is rules rows unchanged holds =
+-- the history that was loaded is stored
+pub stored_loaded : {S : Type 0} (g : Ghosts S) (s t : StoreData S) (new : State) (h : HistoryData) (these : Contents) → s ≡ t → IsHistory h → (Holds these (state g s.conn).now → HasSameRows (rows_of h) these)
+    → ((state g s.conn).now.schema ≡ our_schema → IsUnchanged (state g s.conn) new) → Holds these (state g t.conn).now → HasSameRows (rows_of h) these × IsStored h new.now
+stored_loaded g s t new h these same rules rows unchanged holds =
     let here : Holds these (state g s.conn).now = subst (λ (k : StoreData _). Holds these (state g k.conn).now) (sym same) holds in
     let there : Holds these new.now = subst (Holds these) (sym (unchanged here.schema).0.now_is) here in (
       rows here,
       record {
         rules = rules;
         rows = record { schema = there.schema; rows = keeps_same (rows_of h) these new.now.trees (rows here) there.rows };
-        outlined = record { tables = ap (λ (k : HistoryData). k.tables) is; builds = ap (λ (k : HistoryData). map name_of k.builds) is };
       },
     )
 
@@ -151,14 +146,14 @@ found_kept (Ok u) old mid new these kept settled holds format unchanged =
 
 -- ---- a store as a storage
 -- a commit that was made keeps the changed history
-pub kept_changed : {S : Type 0} (g : Ghosts S) (s t : StoreData S) (es : List EditData) (h : HistoryData) → IsOutline h s.outline → IsKept g s h → TakesAll h es
+pub kept_changed : {S : Type 0} (g : Ghosts S) (s t : StoreData S) (es : List Edit) (h : HistoryData) → IsKept g s h → Accepts h es
     → (HasCleanDisk (state g t.conn) → IsTrue (state g t.conn).is_open → HasCleanDisk (state g s.conn) × IsTrue (state g s.conn).is_open)
-    → (IsStored h (state g s.conn).now s.outline → HasCleanDisk (state g t.conn) → IsStored (changed es h) (state g t.conn).now t.outline × ((state g t.conn).committed ≡ (state g t.conn).now))
-    → IsKept g t (changed es h)
-kept_changed g s t es h knows kept takes was done clean up =
+    → (IsStored h (state g s.conn).now → HasCleanDisk (state g t.conn) → IsStored (changed (change_data es) h) (state g t.conn).now × ((state g t.conn).committed ≡ (state g t.conn).now))
+    → IsKept g t (changed (change_data es) h)
+kept_changed g s t es h kept accepts was done clean up =
     let before = was clean up in
     let it = kept before.0 before.1 in
-    let after = done (record { rules = it.1; rows = it.2; outlined = knows }) clean in
+    let after = done (record { rules = it.1; rows = it.2 }) clean in
     (sym after.1, after.0.rules, after.0.rows)
 
 -- a commit that was refused keeps the history

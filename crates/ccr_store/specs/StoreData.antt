@@ -9,29 +9,25 @@ use Rattle.ccr_tables.specs.Contents.{Holds}
 use Rattle.ccr_history.specs.History.{HistoryData, IsHistory}
 use Rattle.ccr_storage.specs.declared.tally.Tally.{Tally}
 use Rattle.ccr_storage.specs.contracts.tally.Tally as tally
-use Rattle.ccr_store.specs.Outline.{IsOutline}
 use Rattle.ccr_store.specs.Rows.{rows_of}
-use Rattle.ccr_store.specs.contracts.mirror.Mirror as mirror
 
--- a connection, what is kept of the history to number its next rows, and the tally of its commits
+-- a connection, and the tally of its commits
 pub record StoreData (S : Type 0) : Type 0 where
   pub conn : Held S
-  pub outline : HistoryData
   pub tally : Tally
 
 -- how the prover stores it
 abbrev pub store_code : {S : Type 0} → Coded S → Coded (StoreData S)
 store_code {S} store =
-    code_by (Held S × (HistoryData × Tally)) (coded× (held_code store) (coded× mirror.the_row.coded tally.the_row.coded))
-    (λ s. (s.conn, (s.outline, s.tally)))
-    (λ p. record { conn = p.0; outline = p.1.0; tally = p.1.1 })
+    code_by (Held S × Tally) (coded× (held_code store) tally.the_row.coded)
+    (λ s. (s.conn, s.tally))
+    (λ p. record { conn = p.0; tally = p.1 })
     (λ _. refl)
 
--- the history is stored: a database with the six tables holds its rows, and the outline is one of it
-pub record IsStored (h : HistoryData) (db : Database) (outline : HistoryData) : Type 0 where
+-- the history is stored: a database with the six tables holds its rows
+pub record IsStored (h : HistoryData) (db : Database) : Type 0 where
   pub rules : IsHistory h
   pub rows : Holds (rows_of h) db
-  pub outlined : IsOutline h outline
 
 -- while the disk returns what was written and the connection is open, the database holds the rows of the history, all of
 -- them committed

@@ -1,55 +1,31 @@
--- The writes that a change of a history makes.
-use Rattle.std.specs.Prelude.{ℕ, ◌+◌, [], ◌∷◌, ◌++◌, List, map, length, Bool, if◌then◌else◌}
-use Rattle.std.specs.List.{list_any}
-use Rattle.ccr_history.specs.Text.{Text}
+-- What the edits of a change write.
+use Rattle.std.specs.Prelude.{ℕ, ◌+◌, ◌≤◌, [], ◌∷◌, ◌++◌, List, map, length, Bool, if◌then◌else◌, string_bytes, ⊤}
+use Rattle.ccr_history.specs.declared.change.Edit.{Edit}
+use Rattle.ccr_history.specs.declared.change.Edit.TheVariants.{Text, Versions, Build, Ended, PinSet, PinCleared}
+use Rattle.ccr_history.specs.declared.change.Reported.{Reported}
+use Rattle.ccr_history.specs.declared.table.TheConstants.{MOST_VERSIONS}
 use Rattle.ccr_history.specs.TextMap.{TextMap, key_text}
-use Rattle.ccr_history.specs.Tables.{ScopeData, TableData, is_scope, has_version, versions_of}
-use Rattle.ccr_history.specs.Builds.{UsedData, BuildData, is_build_of, count_of}
-use Rattle.ccr_history.specs.History.{HistoryData}
-use Rattle.ccr_history.specs.Changes.{EditData, text, versions, build, ended, pin_set, pin_cleared, edited}
+use Rattle.ccr_history.specs.Tables.{ScopeData}
+use Rattle.ccr_history.specs.Builds.{UsedData}
 use Rattle.ccr_store.specs.Rows.{status_number}
 use Rattle.ccr_store.specs.WriteData.{WriteData}
 use Rattle.ccr_store.specs.WriteData as write
 
--- ---- a report
--- the scope has a table
-abbrev pub has_scope : ScopeData → List TableData → Bool
-has_scope scope tables = list_any (λ t. is_scope scope t.scope) tables
-
--- the id of a scope, where the ids of the tables begin with this one; the next id, where the scope is new
-abbrev pub scope_id : ℕ → ScopeData → List TableData → ℕ
-scope_id id scope [] = id
-scope_id id scope (t ∷ ts) = if is_scope scope t.scope then id else scope_id (id + 1) scope ts
-
--- the versions of a report that aren't known, each once
-abbrev pub new_versions : List TextMap → List TextMap → List TextMap
-new_versions known [] = []
-new_versions known (v ∷ vs) =
-    if has_version known v then new_versions known vs else v ∷ new_versions (known ++ v ∷ []) vs
-
 -- a scope, if it is new
-abbrev pub scope_writes : ℕ → ScopeData → List TableData → List WriteData
-scope_writes id scope tables =
-    if has_scope scope tables then [] else write.scope id scope.resource scope.kind scope.source ∷ []
+abbrev pub scope_writes : Bool → ℕ → ScopeData → List WriteData
+scope_writes is_new number scope =
+    if is_new then write.scope number scope.resource scope.kind scope.source ∷ [] else []
 
--- versions at places from this one up
+-- versions of a scope at places from this one up
 abbrev pub version_writes : ℕ → ℕ → List TextMap → List WriteData
 version_writes scope place [] = []
 version_writes scope place (v ∷ vs) =
     write.version scope place (key_text v) ∷ version_writes scope (place + 1) vs
 
--- the scope of a report, if it is new, and its new versions at the next places
-abbrev pub report_writes : ScopeData → List TextMap → List TableData → List WriteData
-report_writes scope seen tables =
-    scope_writes (scope_id 1 scope tables) scope tables
-    ++ version_writes (scope_id 1 scope tables) (length (versions_of scope tables) + 1)
-    (new_versions (versions_of scope tables) seen)
-
--- ---- builds
--- the id of the job's build of this number, where the ids of the builds begin with this one
-abbrev pub build_id : ℕ → Text → ℕ → List BuildData → ℕ
-build_id id job number [] = id
-build_id id job number (b ∷ bs) = if is_build_of job number b then id else build_id (id + 1) job number bs
+-- the scope of a report, if it is new, and these versions of it; nothing where there are none
+abbrev pub report_writes : Reported → List TextMap → List WriteData
+report_writes r [] = []
+report_writes r (v ∷ vs) = scope_writes r.is_new r.number r.scope ++ version_writes r.number r.first (v ∷ vs)
 
 -- a used place, under its input
 abbrev pub used_write : ℕ → UsedData → WriteData
@@ -59,25 +35,25 @@ used_write id u = write.pair id u.input u.scope u.place
 abbrev pub moved_write : ℕ → ℕ × ℕ → WriteData
 moved_write id p = write.pair id [] p.0 p.1
 
--- a build that runs, under the next id and with its job's next number, and what it uses
-abbrev pub build_writes : Text → List UsedData → List BuildData → List WriteData
-build_writes job used builds =
-    write.build (length builds + 1) job (count_of job builds + 1) 0 ∷ map (used_write (length builds + 1)) used
+-- what an edit writes, under the numbers that it carries
+abbrev pub edit_writes : Edit → List WriteData
+edit_writes (Text bytes) = write.text bytes.items ∷ []
+edit_writes (Versions r) = report_writes r r.versions.items
+edit_writes (Build b) = write.build b.row (string_bytes b.job) b.number 0 ∷ map (used_write b.row) b.used.items
+edit_writes (Ended e) = write.status e.row (status_number e.status) ∷ map (moved_write e.row) e.moved.items
+edit_writes (PinSet resource pin) = write.pin (string_bytes resource) (key_text pin) ∷ []
+edit_writes (PinCleared resource) = write.no_pin (string_bytes resource) ∷ []
 
--- ---- each change
--- what a change of this history writes
-abbrev pub writes_of : EditData → HistoryData → List WriteData
-writes_of (text bytes) h = write.text bytes ∷ []
-writes_of (versions scope []) h = []
-writes_of (versions scope (v ∷ vs)) h = report_writes scope (v ∷ vs) h.tables
-writes_of (build job used) h = build_writes job used h.builds
-writes_of (ended job number how moved) h =
-    write.status (build_id 1 job number h.builds) (status_number how)
-    ∷ map (moved_write (build_id 1 job number h.builds)) moved
-writes_of (pin_set resource pin) h = write.pin resource (key_text pin) ∷ []
-writes_of (pin_cleared resource) h = write.no_pin resource ∷ []
+-- what the edits of a change write, the first of them first
+abbrev pub change_writes : List Edit → List WriteData
+change_writes [] = []
+change_writes (e ∷ es) = edit_writes e ++ change_writes es
 
--- what changes write, the first of them first
-abbrev pub all_writes_of : List EditData → HistoryData → List WriteData
-all_writes_of [] h = []
-all_writes_of (e ∷ es) h = writes_of e h ++ all_writes_of es (edited e h)
+-- the places of reported versions are ones that a table has
+abbrev pub HasPlaces : Edit → Type 0
+HasPlaces (Text bytes) = ⊤
+HasPlaces (Versions r) = r.first + length r.versions.items ≤ MOST_VERSIONS + 1
+HasPlaces (Build b) = ⊤
+HasPlaces (Ended e) = ⊤
+HasPlaces (PinSet resource pin) = ⊤
+HasPlaces (PinCleared resource) = ⊤

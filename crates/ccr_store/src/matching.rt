@@ -7,7 +7,7 @@ ghost use Rattle.ccr_store.specs.Listed.{listed_pairs};
 ghost use Rattle.ccr_store.specs.Rows.{format_row, meta_rows, scope_row, scope_rows, version_rows, table_rows, build_row, build_rows, used_row, moved_row, pin_row};
 
 use crate::columns::{is_blob, is_number, is_text};
-use crate::mirror::number_of;
+use crate::writes::number_of;
 use ccr_history::{BuildRef, History, Pins, Scope, Version};
 use ccr_tables::pairs::Pair;
 use sqlite::Row;

@@ -1,9 +1,8 @@
 //! The store as a server's storage.
 ghost use Rattle.std.specs.Prelude.{◌≡◌, OnOk, OnErr};
 ghost use Rattle.ccr_history.specs.History.{HistoryData};
-ghost use Rattle.ccr_history.specs.Edits.{change_data};
-ghost use Rattle.ccr_history.specs.Changes.{changed, TakesAll};
-ghost use Rattle.ccr_store.specs.Outline.{IsOutline};
+ghost use Rattle.ccr_history.specs.Edits.{change_data, Accepts};
+ghost use Rattle.ccr_history.specs.Changes.{changed};
 ghost use Rattle.ccr_store.specs.StoreData.{IsKept};
 
 use crate::store::Store;
@@ -15,11 +14,8 @@ use std::alloc::Global;
 impl<S: Alter> Store<S> {
     /// Writes what a change of the history changes. One of nothing needs no transaction, which would wait for the disk.
     fn write(&mut self, alloc: Global, change: &[Edit]) -> Result<(), StoreFault>
-        requires { (h : HistoryData) × IsOutline h self.old.outline × TakesAll h (change_data change.now) }
-        ensures knows { (h : HistoryData) → IsOutline h self.old.outline → TakesAll h (change_data change.now)
-            → OnOk result (IsOutline (changed (change_data change.now) h) self.new.outline) }
-        ensures done { (h : HistoryData) → IsOutline h self.old.outline → IsKept S.Store self.old h
-            → TakesAll h (change_data change.now)
+        requires { (h : HistoryData) × Accepts h change.now }
+        ensures done { (h : HistoryData) → IsKept S.Store self.old h → Accepts h change.now
             → OnOk result (IsKept S.Store self.new (changed (change_data change.now) h)) }
         ensures refused { (h : HistoryData) → IsKept S.Store self.old h → OnErr result (IsKept S.Store self.new h) }
         ensures tally { self.new.tally ≡ self.old.tally }
@@ -32,12 +28,9 @@ impl<S: Alter> Store<S> {
 }
 
 impl<S: Alter> Storage for Store<S> {
-    ghost use Rattle.ccr_store.specs.Outline.{IsOutline};
     ghost use Rattle.ccr_store.specs.StoreData.{IsKept};
 
     ghost holds = { λ store h. IsKept S.Store store h };
-
-    ghost knows = { λ store h. IsOutline h store.outline };
 
     ghost tally = { λ store. store.tally };
 

@@ -4,12 +4,11 @@ ghost use Rattle.sqlite.specs.State.{HasCleanDisk, IsUnchanged, Survives};
 ghost use Rattle.sqlite.specs.Held.{state};
 ghost use Rattle.sqlite.specs.Steps.{over_memory};
 ghost use Rattle.ccr_history.specs.History.{HistoryData, IsHistory, no_history};
-ghost use Rattle.ccr_history.specs.Edits.{change_data};
-ghost use Rattle.ccr_history.specs.Changes.{changed, TakesAll};
+ghost use Rattle.ccr_history.specs.Edits.{change_data, Accepts};
+ghost use Rattle.ccr_history.specs.Changes.{changed};
 ghost use Rattle.ccr_tables.specs.Contents.{Contents, Holds, Keeps, new_contents};
 ghost use Rattle.ccr_tables.specs.Schema.{no_schema, our_schema};
 ghost use Rattle.ccr_storage.specs.declared.fault.StoreFault.TheVariants.{NotOurs};
-ghost use Rattle.ccr_store.specs.Outline.{IsOutline, AllowsAll};
 ghost use Rattle.ccr_store.specs.Readable.{IsReadable};
 ghost use Rattle.ccr_store.specs.Reordered.{HasSameRows};
 ghost use Rattle.ccr_store.specs.Rows.{HasFormat, rows_of};
@@ -18,7 +17,7 @@ ghost use Rattle.ccr_store.specs.Texts.{HasTexts};
 
 use crate::fault::fault_of;
 use crate::loading;
-use crate::mirror::Mirror;
+use crate::writes::writes_of;
 use ccr_history::{Edit, History};
 use ccr_storage::{StoreFault, Tally};
 use ccr_tables::{Creation, commit, create};
@@ -30,7 +29,6 @@ use std::marker::Model;
 #[derive(Drop)]
 pub struct Store<S: Alter> {
     conn: Connection<S>,
-    mirror: Mirror,
     pub(crate) tally: Tally,
 }
 
@@ -64,7 +62,7 @@ impl<S: Alter> Model for Store<S> {
 
     ghost coded = { store_code S.code };
 
-    ghost view = { λ s. record { conn = s.conn; outline = s.mirror; tally = s.tally } };
+    ghost view = { λ s. record { conn = s.conn; tally = s.tally } };
 
     ghost invariant = { λ s. s.conn.in_transaction ≡ false };
 }
@@ -74,31 +72,28 @@ impl Store<MemStore> {
     ///
     /// `NoMemory` if out of memory.
     pub fn open_in_memory(alloc: Global) -> Result<Store<MemStore>, StoreFault>
-        ensures stored { IfOk result
-            (λ store. IsStored no_history (state over_memory store.conn).now store.outline) }
-        ensures kept { IfOk result
-            (λ store. IsKept over_memory store no_history × IsOutline no_history store.outline) }
+        ensures stored { IfOk result (λ store. IsStored no_history (state over_memory store.conn).now) }
+        ensures kept { IfOk result (λ store. IsKept over_memory store no_history) }
     {
-        Store::adopt(alloc, Connection::open_in_memory(alloc)?)
+        Store::adopt(Connection::open_in_memory(alloc)?)
     }
 }
 
 impl<S: Alter + Drop> Store<S> {
     /// A store over a database. One without tables gets the six tables, and has the empty history then. Tables that are
-    /// there are taken as they are found, and [`load`](Store::load) says which history they hold; until then the store
-    /// knows none.
+    /// there are taken as they are found, and [`load`](Store::load) says which history they hold.
     ///
     /// - `NotOurs` where a table of another program has the name of one of the six, or the tables haven't the number of
     ///   the format; nothing is written then.
     /// - `Refused`, `Disk` or `Interrupted` where `sqlite` failed so.
     /// - `NoMemory` if out of memory.
-    pub fn adopt(alloc: Global, conn: Connection<S>) -> Result<Store<S>, StoreFault>
+    pub fn adopt(conn: Connection<S>) -> Result<Store<S>, StoreFault>
         requires { (state S.Store conn).in_transaction ≡ false }
         ensures made { IfOk result (λ store. let new = state S.Store store.conn in
             HasCleanDisk new → (state S.Store conn).now.schema ≡ no_schema
-            → IsStored no_history new.now store.outline × (new.committed ≡ new.now)) }
+            → IsStored no_history new.now × (new.committed ≡ new.now)) }
         ensures kept { IfOk result (λ store. (state S.Store conn).now.schema ≡ no_schema
-            → IsKept S.Store store no_history × IsOutline no_history store.outline) }
+            → IsKept S.Store store no_history) }
         ensures found { IfOk result (λ store. let old = state S.Store conn in
             let new = state S.Store store.conn in
             (these : Contents) → HasCleanDisk new → old.now ≡ old.committed → Holds these old.now
@@ -108,7 +103,6 @@ impl<S: Alter + Drop> Store<S> {
         prepare(&mut conn)?;
         Ok(Store {
             conn,
-            mirror: Mirror::new(alloc),
             tally: Tally::new(),
         })
     }
@@ -117,28 +111,24 @@ impl<S: Alter + Drop> Store<S> {
 impl<S: Alter> Store<S> {
     /// Writes what a change of the history changes, in one transaction.
     ///
-    /// The edits are ones that the history takes, each by then. After an `Err` the tables hold what they held, but the store
-    /// is of no use; another one is made of the database.
+    /// The edits are ones that the history takes, each by then, and carry the numbers that it gave them. After an `Err` the
+    /// tables hold what they held.
     ///
     /// - `Refused`, `Disk` or `Interrupted` where `sqlite` failed so.
     /// - `NoMemory` if out of memory.
     pub fn commit(&mut self, alloc: Global, change: &[Edit]) -> Result<(), StoreFault>
-        requires { AllowsAll self.old.outline (change_data change.now) }
-        ensures outlined { (h : HistoryData) → IsOutline h self.old.outline
-            → OnOk result (IsOutline (changed (change_data change.now) h) self.new.outline) }
+        requires { (h : HistoryData) × Accepts h change.now }
         ensures done { let old = state S.Store self.old.conn in
             let new = state S.Store self.new.conn in
-            let edits = change_data change.now in
-            (h : HistoryData) → IsStored h old.now self.old.outline → TakesAll h edits → HasCleanDisk new
-            → OnOk result (IsStored (changed edits h) new.now self.new.outline × (new.committed ≡ new.now)) }
+            (h : HistoryData) → IsStored h old.now → Accepts h change.now → HasCleanDisk new
+            → OnOk result (IsStored (changed (change_data change.now) h) new.now × (new.committed ≡ new.now)) }
         ensures refused { let old = state S.Store self.old.conn in
             let new = state S.Store self.new.conn in
             HasCleanDisk new → IsTrue new.is_open
             → OnErr result ((old.now ≡ old.committed → new.now ≡ old.now) × (new.committed ≡ old.committed)) }
         ensures crash { let old = state S.Store self.old.conn in
-            let edits = change_data change.now in
-            Survives old (state S.Store self.new.conn) (λ trees. (h : HistoryData)
-            → IsStored h old.now self.old.outline → TakesAll h edits → Keeps (rows_of (changed edits h)) trees) }
+            Survives old (state S.Store self.new.conn) (λ trees. (h : HistoryData) → IsStored h old.now
+            → Accepts h change.now → Keeps (rows_of (changed (change_data change.now) h)) trees) }
         ensures durable { let new = state S.Store self.new.conn in
             IsTrue new.is_open → (trees : _) → new.may_leave trees → trees ≡ new.committed.trees }
         ensures open { let old = state S.Store self.old.conn in
@@ -147,7 +137,7 @@ impl<S: Alter> Store<S> {
         ensures only { IfErr result (λ fault. fault ≢ NotOurs) }
         ensures tally { self.new.tally ≡ self.old.tally }
     {
-        let writes = self.mirror.writes(alloc, change)?;
+        let writes = writes_of(alloc, change)?;
         match commit(&mut self.conn, &writes) {
             Ok(()) => Ok(()),
             Err(error) => Err(fault_of(&error)),
@@ -160,12 +150,11 @@ impl<S: Alter> Store<S> {
     /// - `Disk` or `Interrupted` where `sqlite` failed so.
     /// - `NoMemory` if out of memory.
     pub fn load(&mut self, alloc: Global) -> Result<History, StoreFault>
-        ensures outlined { IfOk result (λ history. IsOutline history self.new.outline) }
         ensures readable { IfOk result (λ history. IfSome history.text IsReadable) }
         ensures stored { let old = state S.Store self.old.conn in
             let new = state S.Store self.new.conn in
             HasCleanDisk new → IfOk result (λ history. (these : Contents) → Holds these old.now
-            → HasSameRows (rows_of history) these × IsStored history new.now self.new.outline) }
+            → HasSameRows (rows_of history) these × IsStored history new.now) }
         ensures only { HasCleanDisk (state S.Store self.new.conn) → IfOk result (λ history. (h : HistoryData)
             → IsHistory h → Holds (rows_of h) (state S.Store self.old.conn).now → h ≡ history) }
         ensures not_ours { HasCleanDisk (state S.Store self.new.conn) → IfErr result (λ fault. fault ≡ NotOurs
@@ -180,14 +169,8 @@ impl<S: Alter> Store<S> {
             HasCleanDisk (state S.Store self.new.conn) → HasCleanDisk old × IfOk result (λ _. IsTrue old.is_open) }
     {
         let history = loading::load(alloc, &mut self.conn)?;
-        match history.copy(alloc) {
-            Ok(outline) => {
-                self.mirror = Mirror::of(outline);
-                // Outside a transaction an open database is as it was committed.
-                self.conn.is_autocommit();
-                Ok(history)
-            }
-            Err(_) => Err(StoreFault::NoMemory),
-        }
+        // Outside a transaction an open database is as it was committed.
+        self.conn.is_autocommit();
+        Ok(history)
     }
 }

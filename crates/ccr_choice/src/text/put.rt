@@ -24,6 +24,7 @@ fn put_word(out: &mut String, word: Word) -> Result<(), AllocError>
         Word::Job => out.push_str("job"),
         Word::Empty => out.push_str("empty"),
         Word::Bounded => out.push_str("bounded"),
+        Word::Same => out.push_str("same"),
         Word::Other => Ok(()),
     }
 }

@@ -32,6 +32,8 @@ pub enum Word {
     Empty,
     /// `bounded`
     Bounded,
+    /// `same`
+    Same,
     /// Any other bytes, which no format has.
     Other,
 }
@@ -94,6 +96,8 @@ fn keyword_of(bytes: &[u8]) -> Word
         Word::Empty
     } else if bytes == b"bounded".as_slice() {
         Word::Bounded
+    } else if bytes == b"same".as_slice() {
+        Word::Same
     } else {
         Word::Other
     }

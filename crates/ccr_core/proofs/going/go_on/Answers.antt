@@ -7,4 +7,4 @@ use Rattle.ccr_core.proofs.going.go_on.Goals as goal
 pub settle-requires-clause-fits : goal.settle-requires-clause-fits
 settle-requires-clause-fits c =
     let (taken, fits) = c.requires.fits in
-    subst (λ h. EndFits (pipeline_data c.args.pipeline.now) h (run_data c.args.run.now)) (sym c.in_ok-count.ensures.ok) (fits (taken c.in_ok-count.ensures.fits))
+    subst (λ h. EndFits (pipeline_data c.args.pipeline.now) h (run_data c.args.run.now)) (sym c.in_ok-reported.ensures.ok) (fits (taken c.in_ok-reported.ensures.fits))

@@ -3,6 +3,7 @@ use Rattle.ccr_history.specs.Changes.{changed, TakesAll}
 use Rattle.ccr_pipeline.specs.Pipelines.{pipeline_data}
 use Rattle.ccr_steps.specs.Runs.{run_data}
 use Rattle.ccr_core.proofs.Answering.{settles_so, pairs_fit, end_taken}
+use Rattle.ccr_core.proofs.Rows.{changes_so}
 use Rattle.ccr_core.proofs.going.settle.Goals as goal
 
 pub finish-requires-clause-fits : goal.finish-requires-clause-fits
@@ -16,7 +17,9 @@ returns-clause-settled c = λ plan inputs es stands.
 pub returns-clause-change : goal.returns-clause-change
 returns-clause-change c =
     let h = c.args.history.now in
-    let fits = pairs_fit (pipeline_data c.args.pipeline.now) c.args.history.now (run_data c.args.run.now) c.in_ok-outcome.field-0.outcome c.in_ok-outcome.field-0.pairs.items c.requires.fits c.in_ok-outcome.ensures.stands in (
+    let fits = pairs_fit (pipeline_data c.args.pipeline.now) c.args.history.now (run_data c.args.run.now) c.in_ok-outcome.field-0.outcome c.in_ok-outcome.field-0.pairs.items c.requires.fits c.in_ok-outcome.ensures.stands in
+    changes_so c.in_ok-outcome.field-0.edits.items h c.finish.new.history (
       subst (TakesAll h) (sym c.in_ok-outcome.ensures.edits) (end_taken h c.args.job.now c.args.number c.in_ok-outcome.field-0.outcome c.in_ok-outcome.field-0.pairs.items c.requires.running fits),
       ap (λ l. changed l h) c.in_ok-outcome.ensures.edits ∙ sym c.finish.ensures,
     )
+    (c.in_ok-outcome.ensures.numbered h c.row_of-row.ensures)

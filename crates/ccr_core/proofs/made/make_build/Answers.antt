@@ -1,6 +1,6 @@
 use Rattle.std.proofs.Common.{[], ◌∷◌, map, length, sym, ap, ◌∙◌, subst}
 use Rattle.ccr_history.specs.Changes.{build, IsRunning}
-use Rattle.ccr_history.specs.Edits.{edit_data}
+use Rattle.ccr_history.specs.Edits.{edit_data, row_of}
 use Rattle.ccr_pipeline.specs.Inputs.{inputs, input_data}
 use Rattle.ccr_pipeline.specs.JobData.{job_data}
 use Rattle.ccr_pipeline.specs.Limits.{input_names}
@@ -9,7 +9,8 @@ use Rattle.ccr_pipeline.specs.Tree.{tree_of}
 use Rattle.ccr_steps.specs.Asks.{chosen}
 use Rattle.ccr_steps.specs.Runs.{run_data, StandsFor}
 use Rattle.ccr_core.specs.Choices.{used_at, versions_at}
-use Rattle.ccr_core.proofs.Making.{versions_each, made_fits, made_so, made_change}
+use Rattle.ccr_core.proofs.Making.{versions_each, made_fits, made_so, made_change, made_numbers}
+use Rattle.ccr_core.proofs.Rows.{changes_so}
 use Rattle.ccr_core.proofs.made.make_build.Goals as goal
 
 pub start-requires : goal.start-requires
@@ -45,7 +46,12 @@ returns-clause-change c =
     let is = ap (map input_data) c.deref.ensures.value ∙ c.in_ok-inputs.ensures.inputs in
     let is2 = ap (map input_data) c.deref-2.ensures.value ∙ c.in_ok-inputs.ensures.inputs in
     let items = rw c.unwrap.ensures at c.insert.ensures.items in
-    made_change (pipeline_data c.args.pipeline.now) c.args.history.now c.add.new.history c.finish.new.history (job_data c.args.job.now) c.args.places.now c.requires (run_data c.in_ok-run.run') c.in_ok-versions.versions.items c.deref-4.result.now c.as_str-name.result.now c.next_number-number.result c.in_ok-outcome.field-0.outcome c.in_ok-outcome.field-0.pairs.items
+    let numbers = made_numbers c.args.history.now c.add.new.history c.insert.new.self.items c.in_ok-outcome.field-0.edits.items _ c.as_str-name.result.now c.deref-4.result.now
+    items c.in_ok-copy.ensures.ok (sym c.deref-4.ensures.value) c.in_ok-add.ensures.ok c.next_row-row.ensures c.next_number-number.ensures
+    (c.in_ok-outcome.ensures.numbered c.add.new.history (c.next_row-row.ensures ∙ c.in_ok-add.ensures.row
+    ∙ ap (λ n. row_of c.as_str-name.result.now n c.add.new.history.builds) (sym c.next_number-number.ensures))) in
+    changes_so c.insert.new.self.items c.args.history.now c.finish.new.history
+    (made_change (pipeline_data c.args.pipeline.now) c.args.history.now c.add.new.history c.finish.new.history (job_data c.args.job.now) c.args.places.now c.requires (run_data c.in_ok-run.run') c.in_ok-versions.versions.items c.deref-4.result.now c.as_str-name.result.now c.next_number-number.result c.in_ok-outcome.field-0.outcome c.in_ok-outcome.field-0.pairs.items
     c.as_str-name.ensures.value c.next_number-number.ensures
     (c.in_ok-versions.ensures ∙ ap (λ l. versions_at (pipeline_data c.args.pipeline.now) c.args.history.now l c.args.places.now) is2)
     (c.deref-4.ensures.value ∙ c.in_ok-used.ensures ∙ ap (λ l. used_at (pipeline_data c.args.pipeline.now) c.args.history.now l c.args.places.now) is)
@@ -56,4 +62,5 @@ returns-clause-change c =
     ∙ ap (λ y. build y c.in_ok-used.used.items ∷ map edit_data c.in_ok-outcome.field-0.edits.items) c.in_ok-copy.ensures.ok
     ∙ ap (λ l. build c.as_str-name.result.now l ∷ map edit_data c.in_ok-outcome.field-0.edits.items) (sym c.deref-4.ensures.value)
     ∙ ap (λ l. build c.as_str-name.result.now c.deref-4.result.now ∷ l) c.in_ok-outcome.ensures.edits)
-    (subst (λ n. IsRunning c.as_str-name.result.now n c.add.new.history.builds) (sym c.next_number-number.ensures) c.in_ok-add.ensures.running)
+    (subst (λ n. IsRunning c.as_str-name.result.now n c.add.new.history.builds) (sym c.next_number-number.ensures) c.in_ok-add.ensures.running))
+    numbers

@@ -6,8 +6,8 @@ use Rattle.ccr_proof.proofs.proof_read.+next_tree.Given as goal
 
 abbrev pub invariant-loop : goal.invariant-loop
 invariant-loop l = record {
-  read : with_children l.children.items (next_children (next_tree (l.levels - 1)) (l.count - l.counter) l.nodes l.lines)
-      ≡ next_children (next_tree (l.levels - 1)) l.count (l.fn.nodes + 1) l.initial.lines;
+  read : with_children l.children.items (next_children (next_tree l.format (l.levels - 1)) (l.count - l.counter) l.nodes l.lines)
+      ≡ next_children (next_tree l.format (l.levels - 1)) l.count (l.fn.nodes + 1) l.initial.lines;
   counted : l.nodes ≡ l.fn.nodes + 1 + count_all (trees_of l.children.items);
   few : l.nodes ≤ 1000000;
 }

@@ -13,7 +13,7 @@ use Rattle.ccr_resolve.specs.Room.{TopFits}
 use Rattle.ccr_resolve.specs.Search.{AreUpper, IsTopChoice, places_of}
 use Rattle.ccr_resolve.proofs.Counting.{free_empty}
 use Rattle.ccr_resolve.proofs.ClaimFits.{short_claim}
-use Rattle.ccr_resolve.proofs.Steps.{none_needed, room_over_found, found_in, none_found}
+use Rattle.ccr_resolve.proofs.Steps.{kinds_over_found, none_needed, room_over_found, found_in, none_found}
 use Rattle.ccr_resolve.proofs.resolver.resolve_indexed.Goals as goal
 
 pub returns-in-Some : goal.returns-in-Some
@@ -54,10 +54,11 @@ pub returns-in_default-2 : goal.returns-in_default-2
 returns-in_default-2 c =
     let p = c.args.index.now.problem in
     let P : Option ChoiceValue → Type 0 = λ o. MatchOption o (TopFits (order_of p) p → ⊥) (IsTopChoice p) in
-    let fits : TopFits (order_of p) p → ⊥ = subst P c.in_default-newest.is c.in_ok-newest.ensures in (
+    let fits : TopFits (order_of p) p → ⊥ = subst P c.in_default-newest.is c.in_ok-newest.ensures in
+    let needed = none_needed (order_of p) p (replicate 32 0) c.in_ok-best.best c.descend.new.best c.args.budget c.descend.new.left c.in_ok-tree.field-0 c.in_ok-tree.ensures c.in_default-2.is in (
       refl,
-      room_over_found (order_of p) p c.args.budget 32 (places_of c.in_ok-best.best) fits (c.in_default.ensures.found nothing_fixed c.tops-upper.ensures)
-          (none_needed (order_of p) p (replicate 32 0) c.in_ok-best.best c.descend.new.best c.args.budget c.descend.new.left c.in_ok-tree.field-0 c.in_ok-tree.ensures c.in_default-2.is),
+      room_over_found (order_of p) p c.args.budget 32 (places_of c.in_ok-best.best) fits (c.in_default.ensures.found nothing_fixed c.tops-upper.ensures) needed,
+      kinds_over_found (order_of p) p c.args.budget 32 (places_of c.in_ok-best.best) needed,
     )
 
 pub invariant_of-result-in-Some-best : goal.invariant_of-result-in-Some-best

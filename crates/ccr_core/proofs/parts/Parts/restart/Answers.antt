@@ -5,6 +5,7 @@ use Rattle.ccr_core.specs.Cores.{core_data}
 use Rattle.ccr_core.specs.Holding.{name_data}
 use Rattle.ccr_core.specs.Resumed.{cut_name}
 use Rattle.ccr_core.proofs.Editing.{all_taken, restarted_so}
+use Rattle.ccr_core.proofs.Rows.{changes_so}
 use Rattle.ccr_core.proofs.parts.Parts.restart.Goals as goal
 
 pub cut_all-requires : goal.cut_all-requires
@@ -19,7 +20,9 @@ returns-in-Ok-clause-step c =
 
 pub returns-in-Ok-clause-change : goal.returns-in-Ok-clause-change
 returns-in-Ok-clause-change c =
-    let same = c.in-Ok.ensures ∙ ap (λ l. map cut_name (map name_data l)) c.deref.ensures.value in (
+    let same = c.in-Ok.ensures.is ∙ ap (λ l. map cut_name (map name_data l)) c.deref.ensures.value in
+    changes_so c.in-Ok.change.items c.args.self.now.history c.cut_all.new.history (
       subst (TakesAll c.args.self.now.history) (sym same) (all_taken (core_data c.args.self.now) c.requires),
       ap (λ es. changed es c.args.self.now.history) same ∙ sym (c.cut_all.ensures ∙ ap (λ l. changed (map cut_name (map name_data l)) c.args.self.now.history) c.deref-in-Ok.ensures.value),
     )
+    c.in-Ok.ensures.numbered

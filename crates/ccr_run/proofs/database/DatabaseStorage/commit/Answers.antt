@@ -7,10 +7,10 @@ use Rattle.ccr_run.proofs.Kept.{on_ok_under, on_err_under}
 use Rattle.ccr_run.proofs.database.DatabaseStorage.commit.Goals as goal
 
 pub returns-clause-done : goal.returns-clause-done
-returns-clause-done g c h knows kept takes =
+returns-clause-done g c h kept accepts =
     on_ok_under (IsOurs (state g.S.Store c.args.self.now.found.value))
     (IsKept g.S.Store c.commit.new.self (changed (change_data c.args.change.now) h)) c.commit.result
-    (λ ours. c.commit.ensures.done h knows (kept ours) takes)
+    (λ ours. c.commit.ensures.done h (kept ours) accepts)
 
 pub returns-clause-refused : goal.returns-clause-refused
 returns-clause-refused g c h kept =

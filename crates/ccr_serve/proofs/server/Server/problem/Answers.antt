@@ -10,13 +10,13 @@ use Rattle.ccr_serve.proofs.server.Server.problem.Goals as goal
 
 pub returns-in-Err-clause-came : goal.returns-in-Err-clause-came
 returns-in-Err-clause-came g c =
-    let view = view_of g.R.Runner.pairs g.S.Shelf.failures g.T.Storage.holds g.T.Storage.knows g.T.Storage.tally in
+    let view = view_of g.R.Runner.pairs g.S.Shelf.failures g.T.Storage.holds g.T.Storage.tally in
     lacks_job (places_data c.args.self.now.places) (command.problem c.args.job.now) c.args.job.now c.in-Err.fault
     (view c.args.self.now (g.O.Lines.written c.args.out.now)) refl tt c.requires.ready c.in-Err.ensures.lacks
 
 pub returns-in-Ok-show_problem-clause-came : goal.returns-in-Ok-show_problem-clause-came
 returns-in-Ok-show_problem-clause-came g c =
-    let view = view_of g.R.Runner.pairs g.S.Shelf.failures g.T.Storage.holds g.T.Storage.knows g.T.Storage.tally in
+    let view = view_of g.R.Runner.pairs g.S.Shelf.failures g.T.Storage.holds g.T.Storage.tally in
     shown_problem (places_data c.args.self.now.places) c.args.job.now (pipeline_data c.in-Ok.pipeline.now)
     (view c.args.self.now (g.O.Lines.written c.args.out.now)) c.history.result.now (g.O.Lines.written c.show_problem.new.out)
     c.requires.ready c.in-Ok.ensures.held c.in-Ok.ensures.there c.history.ensures
@@ -24,6 +24,6 @@ returns-in-Ok-show_problem-clause-came g c =
 
 pub returns-in-Err-show_problem-clause-came : goal.returns-in-Err-show_problem-clause-came
 returns-in-Err-show_problem-clause-came g c =
-    let view = view_of g.R.Runner.pairs g.S.Shelf.failures g.T.Storage.holds g.T.Storage.knows g.T.Storage.tally in
+    let view = view_of g.R.Runner.pairs g.S.Shelf.failures g.T.Storage.holds g.T.Storage.tally in
     shown_nothing _ (view c.args.self.now (g.O.Lines.written c.args.out.now)) (g.O.Lines.written c.show_problem.new.out)
     (items_stop _ _) c.requires.ready c.in-Err-show_problem.ensures.refused

@@ -12,14 +12,14 @@ use Rattle.ccr_serve.proofs.server.Server.serve_build.Goals as goal
 
 pub returns-in_default-clause-served : goal.returns-in_default-clause-served
 returns-in_default-clause-served g c =
-    let view = view_of g.R.Runner.pairs g.S.Shelf.failures g.T.Storage.holds g.T.Storage.knows g.T.Storage.tally in
+    let view = view_of g.R.Runner.pairs g.S.Shelf.failures g.T.Storage.holds g.T.Storage.tally in
     cut_by_memory _ (view c.args.self.now (g.O.Lines.written c.args.out.now)) (g.S.Shelf.failures c.args.self.now.shelf)
     (g.R.Runner.pairs c.args.self.now.runner) (g.O.Lines.written c.begin_turn.new.out) (items_stop _ _) c.requires.ready
     (omega arith) (none_added _) c.begin_turn.ensures.same
 
 pub returns-in_default-answer_wanted-clause-served : goal.returns-in_default-answer_wanted-clause-served
 returns-in_default-answer_wanted-clause-served g c =
-    let view = view_of g.R.Runner.pairs g.S.Shelf.failures g.T.Storage.holds g.T.Storage.knows g.T.Storage.tally in
+    let view = view_of g.R.Runner.pairs g.S.Shelf.failures g.T.Storage.holds g.T.Storage.tally in
     cut_by_memory _ (view c.args.self.now (g.O.Lines.written c.args.out.now))
     (g.S.Shelf.failures c.answer_wanted.new.shelf) (g.R.Runner.pairs c.answer_wanted.new.runner)
     (g.O.Lines.written c.begin_turn.new.out) (items_stop _ _) c.requires.ready c.answer_wanted.ensures.grows
@@ -27,7 +27,7 @@ returns-in_default-answer_wanted-clause-served g c =
 
 pub returns-clause-served : goal.returns-clause-served
 returns-clause-served g c =
-    let view = view_of g.R.Runner.pairs g.S.Shelf.failures g.T.Storage.holds g.T.Storage.knows g.T.Storage.tally in
+    let view = view_of g.R.Runner.pairs g.S.Shelf.failures g.T.Storage.holds g.T.Storage.tally in
     let w = c.in-Ok-answer_wanted.ensures.ok in
     let v = view c.args.self.now (g.O.Lines.written c.args.out.now) in
     calls_unmade _ v (g.S.Shelf.failures c.answer_wanted.new.shelf)
@@ -42,7 +42,7 @@ returns-clause-served g c =
 
 pub returns-in-Ok-give-clause-served : goal.returns-in-Ok-give-clause-served
 returns-in-Ok-give-clause-served g c =
-    let view = view_of g.R.Runner.pairs g.S.Shelf.failures g.T.Storage.holds g.T.Storage.knows g.T.Storage.tally in
+    let view = view_of g.R.Runner.pairs g.S.Shelf.failures g.T.Storage.holds g.T.Storage.tally in
     let v = view c.args.self.now (g.O.Lines.written c.args.out.now) in
     let job = string_bytes c.args.due.job in
     let name : c.as_str-job.result.now ≡ job = c.as_str-job.ensures.value in
