@@ -37,13 +37,13 @@ pub(crate) struct Histories {
 fn taken_back(
     alloc: Global,
     history: &mut History,
-    scope: &Scope,
+    scope: Scope,
     versions: &[Version],
-) -> Result<u32, HistoryFault> {
+) -> Result<usize, HistoryFault> {
     history.rules();
-    let new = history.append_versions(alloc, scope, versions)?;
-    history.take_back(scope, new);
-    Ok(new)
+    let report = history.report(alloc, scope, versions)?;
+    history.take_back(&report);
+    Ok(report.versions.len())
 }
 
 /// Room for the answer to a change. It is made before the change, so that no answer is refused memory after one.
@@ -149,7 +149,7 @@ impl Histories {
     fn tried(&mut self, alloc: Global, name: &str, text: &str) -> Result<String> {
         let scope = self.scope(alloc, name)?;
         let versions = versions_of(alloc, text)?;
-        let new = taken_back(alloc, &mut self.history, &scope, &versions)?;
+        let new = taken_back(alloc, &mut self.history, scope, &versions)?;
         Ok(format!(in alloc; "{new} taken back")?)
     }
 
