@@ -1,5 +1,0 @@
-use Rattle.ccr_histories.proofs.play.taken_back.Goals as goal
-
-pub take_back-requires : goal.take_back-requires
-take_back-requires c =
-    (c.args.history.now, c.args.versions.now, c.rules.ensures, c.in_ok-new.ensures.ok, c.in_ok-new.ensures.count)

@@ -1,0 +1,58 @@
+//! Events, as lines.
+
+use crate::answer::answered_of;
+use crate::fault::LineFault;
+use crate::words::{number_of, numbered, pin_of, split, turn_of, versions_of};
+use ccr_core::Event;
+use ccr_pipeline::read;
+use std::alloc::{AllocError, Global};
+
+fn name_of(alloc: Global, word: &str) -> Result<String, AllocError> {
+    String::from_str(alloc, word)
+}
+
+/// What a check of a resource printed.
+fn checked(alloc: Global, given: &str) -> Result<Event, LineFault> {
+    let (resource, versions) = split(given);
+    let versions = versions_of(alloc, versions)?;
+    Ok(Event::Checked(name_of(alloc, resource)?, versions))
+}
+
+/// That a check of a resource printed the versions from `{"n":"1"}` to that of a number.
+fn filled(alloc: Global, given: &str) -> Result<Event, LineFault> {
+    let (resource, count) = split(given);
+    let versions = numbered(alloc, number_of(count)?)?;
+    Ok(Event::Checked(name_of(alloc, resource)?, versions))
+}
+
+fn answer(alloc: Global, given: &str) -> Result<Event, LineFault> {
+    let (job, rest) = split(given);
+    let (number, rest) = split(rest);
+    let (turn, words) = split(rest);
+    let (kind, given) = split(words);
+    let answered = answered_of(alloc, kind, given)?;
+    let job = name_of(alloc, job)?;
+    Ok(Event::Answer(job, number_of(number)?, turn_of(turn)?, answered))
+}
+
+fn pin(alloc: Global, given: &str) -> Result<Event, LineFault> {
+    let (resource, pin) = split(given);
+    let pin = pin_of(alloc, pin)?;
+    Ok(Event::Pin(name_of(alloc, resource)?, pin))
+}
+
+/// The event that a line tells by its first word and by what stands behind it.
+pub(crate) fn event_of(alloc: Global, kind: &str, given: &str) -> Result<Event, LineFault> {
+    match kind {
+        "pipeline" => Ok(Event::SetPipeline(read(alloc, given.as_bytes())?)),
+        "checked" => checked(alloc, given),
+        "fill" => filled(alloc, given),
+        "schedule" => Ok(Event::Schedule(name_of(alloc, given)?)),
+        "trigger" => Ok(Event::Trigger(name_of(alloc, given)?)),
+        "answer" => answer(alloc, given),
+        "pin" => pin(alloc, given),
+        "unpin" => Ok(Event::Unpin(name_of(alloc, given)?)),
+        "restart" => Ok(Event::Restart),
+        _ => Err(LineFault::NoSuchLine),
+    }
+}

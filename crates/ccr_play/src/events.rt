@@ -1,0 +1,96 @@
+//! Events of a core.
+//!
+//! `core BUDGET` begins a core with nothing seen and no pipeline, whose searches take at most so many nodes. Each other line is
+//! an event, and its answer the core's reply or its fault: `pipeline JSON`, `checked RESOURCE VERSIONS`, `fill RESOURCE COUNT`,
+//! `schedule JOB`, `trigger JOB`, `answer JOB NUMBER TURN ANSWER`, `pin RESOURCE PIN`, `unpin RESOURCE`, `restart`. Or it asks
+//! what the core holds: `builds`, `tables`, `wants JOB NUMBER`. `docs/FORMATS.md` has the answers.
+ghost use Rattle.std.specs.Prelude.{◌≤◌};
+ghost use Rattle.ccr_proof.specs.declared.proof.TheConstants.{MOST_NODES};
+
+use crate::event::event_of;
+use crate::fault::LineFault;
+use crate::play::Player;
+use crate::reply::{MOST_BYTES, fault_name, push_reply};
+use crate::show::{builds_text, tables_text, wants_text};
+use crate::words::{number_of, split};
+use ccr_core::{Core, CoreFault, Event};
+use ccr_history::History;
+use std::alloc::{AllocError, Global};
+
+/// The core that was begun last, if one was.
+#[derive(Drop)]
+pub(crate) struct Events {
+    core: Option<Core>,
+}
+
+/// A core with nothing seen and no pipeline.
+fn new_core(alloc: Global, budget: u32) -> Result<Core, LineFault>
+    requires least { 1 ≤ budget }
+    requires most { budget ≤ MOST_NODES }
+{
+    match Core::resume(alloc, History::new(alloc), budget) {
+        Ok((core, _)) => Ok(core),
+        Err(_) => Err(LineFault::NoMemory),
+    }
+}
+
+/// What an event is replied. Room for the words is made before it, so that it isn't done without them.
+fn step(alloc: Global, core: &mut Core, event: Event) -> Result<String, LineFault> {
+    let mut text = String::with_capacity(alloc, MOST_BYTES)?;
+    match core.step(alloc, event) {
+        Ok((reply, _)) => push_reply(&mut text, reply)?,
+        Err(CoreFault::NoMemory) => return Err(LineFault::NoMemory),
+        Err(fault) => text.push_str(fault_name(fault))?,
+    }
+    Ok(text)
+}
+
+/// What a core answers to an event, or what it holds.
+fn answered(alloc: Global, core: &mut Core, line: &str) -> Result<String, LineFault> {
+    let (kind, given) = split(line);
+    match kind {
+        "builds" => Ok(builds_text(alloc, core.history())?),
+        "tables" => Ok(tables_text(alloc, core.history())?),
+        "wants" => {
+            let (job, number) = split(given);
+            Ok(wants_text(alloc, core, job, number_of(number)?)?)
+        }
+        _ => step(alloc, core, event_of(alloc, kind, given)?),
+    }
+}
+
+impl Events {
+    /// No core.
+    pub(crate) fn new() -> Events {
+        Events { core: None }
+    }
+
+    fn begin(&mut self, alloc: Global, text: &str) -> Result<String, LineFault> {
+        let budget = number_of(text)?;
+        if budget < 1 || budget > 1_000_000 {
+            return Ok(String::from_str(alloc, "no such budget")?);
+        }
+        self.core = Some(new_core(alloc, budget)?);
+        Ok(String::from_str(alloc, "begun")?)
+    }
+
+    fn played(&mut self, alloc: Global, line: &str) -> Result<String, LineFault> {
+        if let Some(budget) = line.strip_prefix("core ") {
+            return self.begin(alloc, budget);
+        }
+        match &mut self.core {
+            Some(core) => answered(alloc, core, line),
+            None => Ok(String::from_str(alloc, "no core")?),
+        }
+    }
+}
+
+impl Player for Events {
+    fn answer_to(&mut self, alloc: Global, line: &str) -> Result<String, AllocError> {
+        match self.played(alloc, line) {
+            Ok(text) => Ok(text),
+            Err(LineFault::NoMemory) => Err(AllocError),
+            Err(fault) => format!(in alloc; "refused: {fault}"),
+        }
+    }
+}

@@ -1,0 +1,74 @@
+//! What the program's words ask for.
+ghost use Rattle.std.specs.Prelude.{◌≤◌};
+
+use crate::kind::{Kind, kind_of};
+use crate::play::Telling;
+use crate::trial::Trial;
+
+/// A node budget, from 1 to 1,000,000.
+#[derive(Clone, Copy, Debug, PartialEq, Eq)]
+pub(crate) struct Budget {
+    pub(crate) nodes: u32,
+    ghost least: { 1 ≤ nodes },
+    ghost most: { nodes ≤ 1000000 },
+}
+
+/// What the program does.
+#[derive(Clone, Copy)]
+pub(crate) enum Call<'a> {
+    Check(&'a [String]),
+    Lines(Kind<'a>, Telling),
+    Commits(&'a str, u32),
+    Pipeline,
+    Task,
+    Resolve(Budget),
+    Choose(Budget),
+    Type(Trial<'a>),
+}
+
+fn budget_of(word: &str) -> Option<Budget> {
+    let nodes = word.parse::<u32>().ok()?;
+    if 1 <= nodes && nodes <= 1_000_000 {
+        Some(Budget { nodes })
+    } else {
+        None
+    }
+}
+
+/// The call of two words.
+fn call_of_two<'a>(first: &'a str, second: &'a str) -> Option<Call<'a>> {
+    match (first, second) {
+        ("resolve", budget) => Some(Call::Resolve(budget_of(budget)?)),
+        ("choose", budget) => Some(Call::Choose(budget_of(budget)?)),
+        (kind, "--timed") => Some(Call::Lines(kind_of(kind)?, Telling::Times)),
+        ("stores", path) => Some(Call::Lines(Kind::Stores(Some(path)), Telling::Answers)),
+        _ => None,
+    }
+}
+
+/// The call of three words.
+fn call_of_three<'a>(first: &str, second: &'a str, third: &'a str) -> Option<Call<'a>> {
+    match first {
+        "commits" => Some(Call::Commits(second, third.parse::<u32>().ok()?)),
+        "type" => Some(Call::Type(Trial {
+            programs: second,
+            folder: third,
+        })),
+        _ => None,
+    }
+}
+
+/// The call that words ask for.
+pub(crate) fn call_of(words: &[String]) -> Option<Call<'_>> {
+    match words {
+        [first, names @ ..] if first.as_str() == "check" => Some(Call::Check(names)),
+        [first] => match first.as_str() {
+            "pipeline" => Some(Call::Pipeline),
+            "task" => Some(Call::Task),
+            kind => Some(Call::Lines(kind_of(kind)?, Telling::Answers)),
+        },
+        [first, second] => call_of_two(first.as_str(), second.as_str()),
+        [first, second, third] => call_of_three(first.as_str(), second.as_str(), third.as_str()),
+        _ => None,
+    }
+}

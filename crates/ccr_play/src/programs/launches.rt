@@ -1,0 +1,242 @@
+//! Launches of checks and asks, and what ends and task files answer.
+
+use super::{object, part, some_version, source_text, version};
+use anyhow::{Result, anyhow};
+use ccr_history::{Object, Version};
+use ccr_pipeline::{Pipeline, TaskConfig, Variable, read, read_task};
+use ccr_process::{Ended, Launch};
+use ccr_steps::{Answered, Ask};
+use ccr_task::{Places, ShelfFault, answered_of, can_launch, check_launch, config_of, launch_of};
+use std::alloc::{AllocError, Global};
+use std::collections::VecDeque;
+
+/// Types in `/t`, builds in `/w`.
+pub(crate) fn places(alloc: Global) -> Result<Places, AllocError> {
+    Ok(Places {
+        types: String::from_str(alloc, "/t")?,
+        work: String::from_str(alloc, "/w")?,
+    })
+}
+
+/// A pipeline of the resource `a` without a source, and of `b` with such a source.
+fn pipeline(alloc: Global, part: &str) -> Result<Pipeline> {
+    let source = source_text(alloc, if part == "-" { "{}" } else { part })?;
+    let source = source.as_str();
+    let text = format!(in alloc;
+        "{{\"resources\":[{{\"name\":\"a\",\"type\":\"git\"}},{{\"name\":\"b\",\"type\":\"s3\",\"source\":{source}}}]}}"
+    )?;
+    Ok(read(alloc, text.as_bytes())?)
+}
+
+/// The ask of a get of this resource, as an artifact of another name.
+fn fetch<'r>(resource: &'r str, version: &'r Version, params: Option<&'r Object>) -> Ask<'r> {
+    Ask::Fetch {
+        artifact: "code",
+        resource,
+        version,
+        params,
+    }
+}
+
+/// The ask of a put of this resource, as an artifact of another name.
+fn push<'r>(resource: &'r str, params: Option<&'r Object>) -> Ask<'r> {
+    Ask::Push {
+        artifact: "code",
+        resource,
+        params,
+    }
+}
+
+fn run<'r>(config: &'r TaskConfig, env: &'r [Variable]) -> Ask<'r> {
+    Ask::RunTask { config, env }
+}
+
+/// All that a launch holds, in one line.
+fn told(alloc: Global, launch: &Launch) -> Result<String> {
+    let mut line = String::new(alloc);
+    for (name, value) in &launch.env {
+        let (name, value) = (name.as_str(), value.as_str());
+        line.push_str(format!(in alloc; "{name}={value} ")?.as_str())?;
+    }
+    line.push_str(launch.program.as_str())?;
+    for arg in &launch.args {
+        let arg = arg.as_str();
+        line.push_str(format!(in alloc; " [{arg}]")?.as_str())?;
+    }
+    let folder = launch.folder.as_str();
+    let kept = if launch.keep { "kept" } else { "dropped" };
+    let input = String::from_utf8(launch.input.clone()?)?;
+    let (line, input) = (line.as_str(), input.as_str());
+    Ok(format!(in alloc; "{line} in {folder}, {kept}, given {input}")?)
+}
+
+/// What build 3 of job j launches for an ask.
+fn launched_by(alloc: Global, pipeline: &Pipeline, ask: &Ask<'_>) -> Result<String> {
+    if !can_launch(pipeline, ask) {
+        return Ok(String::from_str(alloc, "nothing")?);
+    }
+    match launch_of(alloc, &places(alloc)?, pipeline, "j", 3, ask) {
+        Ok(launch) => told(alloc, &launch),
+        Err(fault) => Ok(fault.to_string(alloc)?),
+    }
+}
+
+/// What a check of the resource of this name launches.
+fn checked(alloc: Global, pipeline: &Pipeline, name: &str, parts: &str) -> Result<String> {
+    let version = version(alloc, part(parts, 1))?;
+    let Some(resource) = pipeline
+        .resources()
+        .iter()
+        .find(|r| r.name.as_str() == name)
+    else {
+        return Err(anyhow!("no resource"));
+    };
+    match check_launch(alloc, &places(alloc)?, resource, version.as_ref()) {
+        Ok(launch) => told(alloc, &launch),
+        Err(fault) => Ok(fault.to_string(alloc)?),
+    }
+}
+
+/// The variables of words `NAME=VALUE`.
+fn variables(alloc: Global, words: &str) -> Result<Vec<Variable>, AllocError> {
+    let mut variables = Vec::new(alloc);
+    for word in words.split_whitespace() {
+        let (name, value) = word.split_once("=").unwrap_or((word, ""));
+        variables.push(Variable {
+            name: String::from_str(alloc, name)?,
+            value: String::from_str(alloc, value)?,
+        })?;
+    }
+    Ok(variables)
+}
+
+/// What a task with these variables launches.
+fn task_launched(alloc: Global, words: &str, text: &str) -> Result<String> {
+    let config = read_task(alloc, text.as_bytes())?;
+    let env = variables(alloc, words)?;
+    let pipeline = pipeline(alloc, "-")?;
+    launched_by(alloc, &pipeline, &run(&config, &env))
+}
+
+/// What a fetch launches.
+fn fetch_launched(alloc: Global, pipeline: &Pipeline, name: &str, parts: &str) -> Result<String> {
+    let version = some_version(alloc, part(parts, 1))?;
+    let params = object(alloc, part(parts, 2))?;
+    launched_by(alloc, pipeline, &fetch(name, &version, params.as_ref()))
+}
+
+/// What a push launches.
+fn push_launched(alloc: Global, pipeline: &Pipeline, name: &str, parts: &str) -> Result<String> {
+    let params = object(alloc, part(parts, 2))?;
+    launched_by(alloc, pipeline, &push(name, params.as_ref()))
+}
+
+fn launched_in(alloc: Global, what: &str, name: &str, parts: &str) -> Result<String> {
+    let pipeline = pipeline(alloc, part(parts, 0))?;
+    match what {
+        "check" => checked(alloc, &pipeline, name, parts),
+        "fetch" => fetch_launched(alloc, &pipeline, name, parts),
+        "push" => push_launched(alloc, &pipeline, name, parts),
+        _ => launched_by(alloc, &pipeline, &Ask::ReadConfig { file: name }),
+    }
+}
+
+/// What is launched: `check NAME | SOURCE | VERSION`, `fetch` and `push` of the same form with `| PARAMS`,
+/// `task VARIABLES | CONFIG`, `file PATH`. The artifact of a fetch or a push is `code`.
+pub(super) fn launched(alloc: Global, given: &str) -> Result<String> {
+    let (what, rest) = given.split_once(" ").unwrap_or((given, "-"));
+    let (name, parts) = rest.split_once(" | ").unwrap_or((rest, "-"));
+    match what {
+        "task" => task_launched(alloc, name, parts),
+        _ => launched_in(alloc, what, name, parts),
+    }
+}
+
+/// Where something lies in a build's folder: `JOB NUMBER NAME`.
+pub(super) fn in_build(alloc: Global, given: &str) -> Result<String> {
+    let mut words = given.split_whitespace();
+    let (job, number) = (words.next().unwrap_or(""), words.next().unwrap_or(""));
+    let name = words.next().unwrap_or("");
+    Ok(places(alloc)?.in_build(alloc, job, number.parse::<u32>()?, name)?)
+}
+
+/// An answer in a word; a version by its key, a config by its program.
+fn word(alloc: Global, answer: Result<Answered, AllocError>) -> Result<String, AllocError> {
+    match answer {
+        Ok(Answered::Done) => String::from_str(alloc, "done"),
+        Ok(Answered::Pushed(version)) => version.key(alloc),
+        Ok(Answered::Config(config)) => config.run.path.clone(),
+        Ok(Answered::Failed) => String::from_str(alloc, "failed"),
+        Ok(Answered::Errored) => String::from_str(alloc, "errored"),
+        Err(_) => String::from_str(alloc, "no memory"),
+    }
+}
+
+/// A status and an output, with a blank or a colon between.
+fn halves(words: &str) -> (&str, &str) {
+    match words.split_once(" ") {
+        Some((status, output)) if !status.contains(":") => (status, output),
+        _ => words.split_once(":").unwrap_or((words, "")),
+    }
+}
+
+/// The end of the words `STATUS OUTPUT` or `STATUS:OUTPUT`, or of a word for another end.
+pub(crate) fn end_of(alloc: Global, words: &str) -> Result<Ended> {
+    Ok(match words {
+        "killed" => Ended::Killed,
+        "not-started" => Ended::NotStarted,
+        "input-fault" => Ended::InputFault,
+        "read-fault" => Ended::ReadFault,
+        "too-long" => Ended::OutputTooLong,
+        "no-memory" => Ended::NoMemory,
+        _ => {
+            let (status, output) = halves(words);
+            let status = status.parse::<u8>()?;
+            Ended::Exit(status, Vec::from_slice(alloc, output.as_bytes())?)
+        }
+    })
+}
+
+/// The ends of words with blanks between.
+pub(super) fn ends_of(alloc: Global, words: &str) -> Result<VecDeque<Ended>> {
+    let mut ends = VecDeque::new(alloc);
+    for word in words.split_whitespace() {
+        ends.push_back(end_of(alloc, word)?)?;
+    }
+    Ok(ends)
+}
+
+/// What an end of a fetch, of a push and of a task answers.
+pub(super) fn ended(alloc: Global, given: &str) -> Result<String> {
+    let end = end_of(alloc, given)?;
+    let version = some_version(alloc, "{\"n\":\"2\"}")?;
+    let config = read_task(alloc, b"{\"run\":{\"path\":\"x\"}}")?;
+    let fetched = answered_of(alloc, &fetch("a", &version, None), end.copy()?);
+    let pushed = answered_of(alloc, &push("a", None), end.copy()?);
+    let done = answered_of(alloc, &run(&config, &[]), end);
+    let fetched = word(alloc, fetched)?;
+    let pushed = word(alloc, pushed)?;
+    let done = word(alloc, done)?;
+    let (fetched, pushed, done) = (fetched.as_str(), pushed.as_str(), done.as_str());
+    Ok(format!(in alloc; "{fetched} {pushed} {done}")?)
+}
+
+/// What the bytes of a task's file answer.
+pub(super) fn task_file(alloc: Global, given: &str) -> Result<String> {
+    let bytes = Vec::from_slice(alloc, given.as_bytes())?;
+    Ok(word(alloc, config_of(alloc, Ok(bytes)))?)
+}
+
+/// The fault of a word.
+pub(super) fn fault_of(word: &str) -> ShelfFault {
+    match word {
+        "too-long" => ShelfFault::TooLong,
+        "no-memory" => ShelfFault::NoMemory,
+        _ => ShelfFault::Failed,
+    }
+}
+
+/// What a task's file answers that a shelf doesn't give.
+pub(super) fn task_file_fault(alloc: Global, given: &str) -> Result<String> {
+    Ok(word(alloc, config_of(alloc, Err(fault_of(given))))?)
+}

@@ -1,0 +1,175 @@
+//! Servers whose programs and folders are a script.
+//!
+//! What a server prints stands as it is printed; between its lines, two blanks in, stands each launch as it happens,
+//! and at last how the line ended, unless with status 0.
+//!
+//! The script of the next server: `ends WORD ..` (`STATUS`, `STATUS:OUTPUT`, `killed`, `too-long`, `not-started`: how
+//! programs end, in turn), `folders N` and `no-folders N` (N calls for folders are done, or fail), `file TEXT` (a
+//! file that is read), `commits N` (the storage fails after N commits). `open` makes a server over it, with an empty
+//! history, types in `/t` and builds in `/w`. Then `round`, `turn`, and the commands of `ccr_run`, of which
+//! `set-pipeline` and tasks read the script's files.
+
+mod script;
+mod serving;
+mod tape;
+mod told;
+mod unkept;
+
+use crate::play::Player;
+use crate::words::split;
+use anyhow::Result;
+use ccr_lines::{Lines, Printed};
+use ccr_serve::{Command, ServeFault};
+use script::Script;
+use serving::Serving;
+use std::alloc::{AllocError, Global};
+use std::mem;
+use tape::Tape;
+
+/// A script, the server that was opened last, and what is printed.
+#[derive(Drop)]
+pub(crate) struct Servers {
+    script: Script,
+    serving: Option<Serving<Tape>>,
+    tape: Tape,
+}
+
+/// The number that words are; 1 where they are none.
+fn number_of(words: &str) -> u32 {
+    words.parse::<u32>().unwrap_or(1)
+}
+
+/// The command of a line, if it is one.
+fn command_of(alloc: Global, kind: &str, words: &str) -> Result<Option<Command>, AllocError> {
+    let name = String::from_str(alloc, words)?;
+    Ok(Some(match kind {
+        "set-pipeline" => Command::SetPipeline(name),
+        "check-resource" => Command::CheckResource(name),
+        "resource-versions" => Command::ResourceVersions(name),
+        "pin-resource" => {
+            let (resource, pin) = split(words);
+            let resource = String::from_str(alloc, resource)?;
+            Command::PinResource(resource, String::from_str(alloc, pin)?)
+        }
+        "unpin-resource" => Command::UnpinResource(name),
+        "resolve" => Command::Resolve(name),
+        "problem" => Command::Problem(name),
+        "trigger-job" => Command::TriggerJob(name),
+        "builds" => Command::Builds,
+        "run" => Command::Run(number_of(words)),
+        _ => return Ok(None),
+    }))
+}
+
+/// The status of what a line has a server do; None where it is no line of one.
+fn done(
+    alloc: Global,
+    serving: &mut Serving<Tape>,
+    out: &mut Printed<Tape>,
+    kind: &str,
+    words: &str,
+) -> Result<Option<u8>, ServeFault> {
+    match kind {
+        "round" => Ok(Some(serving.round(out)?)),
+        "turn" => Ok(Some(serving.turn(out)?)),
+        _ => match command_of(alloc, kind, words) {
+            Ok(Some(command)) => serving.command(&command, out).map(|status| Some(status)),
+            Ok(None) => Ok(None),
+            Err(_) => Err(ServeFault::NoMemory),
+        },
+    }
+}
+
+/// The same, with what is printed on a tape.
+fn printed(
+    alloc: Global,
+    serving: &mut Serving<Tape>,
+    tape: Tape,
+    kind: &str,
+    words: &str,
+) -> Result<Option<u8>, ServeFault> {
+    let mut out = Printed::new(alloc, tape);
+    let status = done(alloc, serving, &mut out, kind, words);
+    out.hand_out();
+    status
+}
+
+impl Servers {
+    /// An empty script, and no server.
+    pub(crate) fn new(alloc: Global) -> Result<Servers, AllocError> {
+        Ok(Servers {
+            script: Script::new(alloc),
+            serving: None,
+            tape: Tape::new(alloc)?,
+        })
+    }
+
+    /// Adds to the script what a line says; false where it says nothing of one.
+    fn add(&mut self, alloc: Global, kind: &str, words: &str) -> Result<bool> {
+        match kind {
+            "ends" => self.script.add_ends(alloc, words)?,
+            "file" => self.script.add_file(alloc, words)?,
+            "folders" => self.script.add_folders(number_of(words), true)?,
+            "no-folders" => self.script.add_folders(number_of(words), false)?,
+            "commits" => self.script.commits = number_of(words),
+            _ => return Ok(false),
+        }
+        Ok(true)
+    }
+
+    /// Opens a server over the script; another script begins.
+    fn open(&mut self, alloc: Global) -> Result<u8, ServeFault> {
+        let Ok(tape) = self.tape.another() else {
+            return Err(ServeFault::NoMemory);
+        };
+        let script = mem::replace(&mut self.script, Script::new(alloc));
+        self.serving = Some(Serving::open(alloc, tape, script)?);
+        Ok(0)
+    }
+
+    /// Has the server do what a line says: its status. None where there is no server, or it is no line of one.
+    fn serve(&mut self, alloc: Global, kind: &str, words: &str) -> Result<Option<u8>, ServeFault> {
+        let Some(serving) = &mut self.serving else {
+            return Ok(None);
+        };
+        match self.tape.another() {
+            Ok(tape) => printed(alloc, serving, tape, kind, words),
+            Err(_) => Err(ServeFault::NoMemory),
+        }
+    }
+
+    fn served(&mut self, alloc: Global, kind: &str, words: &str) -> Result<Option<u8>, ServeFault> {
+        match kind {
+            "open" => self.open(alloc).map(|status| Some(status)),
+            _ => self.serve(alloc, kind, words),
+        }
+    }
+
+    fn played(&mut self, alloc: Global, line: &str) -> Result<String> {
+        let (kind, words) = split(line);
+        if self.add(alloc, kind, words)? {
+            return Ok(String::new(alloc));
+        }
+        let end = self.served(alloc, kind, words);
+        let mut text = self.tape.text()?;
+        push_end(&mut text, end)?;
+        Ok(text)
+    }
+}
+
+/// Adds how a line ended, unless with status 0.
+fn push_end(text: &mut String, end: Result<Option<u8>, ServeFault>) -> Result<(), AllocError> {
+    match end {
+        Ok(Some(0)) => Ok(()),
+        Ok(Some(status)) => write!(text, "  status {status}"),
+        Ok(None) => text.push_str("  no such line"),
+        Err(fault) => write!(text, "  {fault:?}"),
+    }
+}
+
+impl Player for Servers {
+    fn answer_to(&mut self, alloc: Global, line: &str) -> Result<String, AllocError> {
+        self.played(alloc, line)
+            .or_else(|error| format!(in alloc; "{error}"))
+    }
+}

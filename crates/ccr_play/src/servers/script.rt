@@ -1,0 +1,54 @@
+//! Scripts: how programs end, what folders and files answer, and how many commits are taken.
+
+use crate::programs::end_of;
+use anyhow::Result;
+use ccr_process::Ended;
+use ccr_task::{ShelfAnswer, ShelfFault};
+use std::alloc::{AllocError, Global};
+use std::collections::VecDeque;
+
+/// What programs and the machine answer to the next server.
+#[derive(Drop)]
+pub(super) struct Script {
+    pub(super) ends: VecDeque<Ended>,
+    pub(super) answers: VecDeque<ShelfAnswer>,
+    pub(super) commits: u32,
+}
+
+impl Script {
+    /// No answers; every commit is taken.
+    pub(super) fn new(alloc: Global) -> Script {
+        Script {
+            ends: VecDeque::new(alloc),
+            answers: VecDeque::new(alloc),
+            commits: u32::MAX,
+        }
+    }
+
+    /// Adds ends, a word each.
+    pub(super) fn add_ends(&mut self, alloc: Global, words: &str) -> Result<()> {
+        for word in words.split_whitespace() {
+            self.ends.push_back(end_of(alloc, word)?)?;
+        }
+        Ok(())
+    }
+
+    /// Adds so many answers to calls for folders: that it is done, or that it failed.
+    pub(super) fn add_folders(&mut self, count: u32, is_done: bool) -> Result<(), AllocError> {
+        for _ in 0..count {
+            self.answers.push_back(if is_done {
+                ShelfAnswer::Done
+            } else {
+                ShelfAnswer::Fault(ShelfFault::Failed)
+            })?;
+        }
+        Ok(())
+    }
+
+    /// Adds an answer to a call for a file: its text.
+    pub(super) fn add_file(&mut self, alloc: Global, text: &str) -> Result<(), AllocError> {
+        let bytes = Vec::from_slice(alloc, text.as_bytes())?;
+        self.answers.push_back(ShelfAnswer::Read(bytes))?;
+        Ok(())
+    }
+}

@@ -1,0 +1,84 @@
+//! A server over a script.
+ghost use Rattle.std.specs.Prelude.{⊤};
+ghost use Rattle.ccr_process.specs.Runs.{script_pairs};
+ghost use Rattle.ccr_task.specs.Shelves.{script_failures};
+ghost use Rattle.ccr_serve.specs.Views.{view_of, IsKept};
+
+use super::script::Script;
+use super::told::Told;
+use super::unkept::Unkept;
+use crate::programs::places;
+use ccr_history::History;
+use ccr_lines::Printed;
+use ccr_process::Scripted;
+use ccr_serve::{Command, ServeFault, Server};
+use ccr_storage::Tally;
+use ccr_task::ShelfScript;
+use std::alloc::Global;
+use std::io::Write;
+use std::marker::Model;
+
+/// The node budget.
+const BUDGET: u32 = 100_000;
+
+/// A server over a script. It goes on, or has closed.
+#[derive(Drop)]
+pub(super) struct Serving<W: Write> {
+    server: Server<Told<W>, ShelfScript, Unkept>,
+}
+
+impl<W: Write> Model for Serving<W> {
+    ghost use Rattle.std.specs.Prelude.{[], ⊤};
+    ghost use Rattle.ccr_process.specs.Runs.{script_pairs};
+    ghost use Rattle.ccr_task.specs.Shelves.{script_failures};
+    ghost use Rattle.ccr_serve.specs.Views.{view_of, IsKept};
+
+    ghost Value = { ⊤ };
+
+    ghost view = { λ _. tt };
+
+    ghost invariant = { λ s. IsKept (view_of (λ told. script_pairs told.script) script_failures
+        (λ _ _. ⊤) (λ unkept. unkept.tally) s.server []) };
+}
+
+impl<W: Write + Drop> Serving<W> {
+    /// A server over a script, with an empty history.
+    pub(super) fn open(alloc: Global, writer: W, script: Script) -> Result<Serving<W>, ServeFault> {
+        let Ok(places) = places(alloc) else {
+            return Err(ServeFault::NoMemory);
+        };
+        let runner = Told {
+            alloc,
+            writer,
+            script: Scripted::new(alloc, script.ends),
+        };
+        let shelf = ShelfScript::new(script.answers);
+        let storage = Unkept {
+            commits: script.commits,
+            tally: Tally::new(),
+        };
+        let history = History::new(alloc);
+        let server = Server::open(alloc, runner, shelf, storage, history, places, BUDGET)?;
+        Ok(Serving { server })
+    }
+
+    /// Does a command.
+    pub(super) fn command(
+        &mut self,
+        command: &Command,
+        out: &mut Printed<W>,
+    ) -> Result<u8, ServeFault> {
+        self.server.command(command, out)
+    }
+
+    /// Goes a round.
+    pub(super) fn round(&mut self, out: &mut Printed<W>) -> Result<u8, ServeFault> {
+        self.server.round(out)?;
+        Ok(0)
+    }
+
+    /// Takes a turn: 0, or 1 where no build runs.
+    pub(super) fn turn(&mut self, out: &mut Printed<W>) -> Result<u8, ServeFault> {
+        if self.server.turn(out)? { Ok(0) } else { Ok(1) }
+    }
+}

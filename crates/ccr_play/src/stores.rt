@@ -1,0 +1,111 @@
+//! Histories that a store keeps, change by change, and loads again.
+//!
+//! The lines that change a history, from its `pipeline` on, are those of histories. `load` makes their changes in a store in
+//! memory, and, where the program is given a `DATABASE`, in the files `DATABASE-1`, `DATABASE-2` and so on too; such a file is
+//! closed, opened again and loaded once more. It is answered how many lines the history has that was loaded as it was made;
+//! where one wasn't, with both.
+
+mod commits;
+mod kept;
+mod lines;
+mod stored;
+
+use crate::play::Player;
+use anyhow::{Result, bail};
+use ccr_store::Store;
+use sqlite::{Connection, File, FileStore};
+use std::alloc::{AllocError, Global};
+use stored::{held, keep, time_commits};
+
+/// The lines of the history that is made, and where it is kept besides in memory.
+#[derive(Drop)]
+pub(crate) struct Stores<'r> {
+    rt: &'r HostRuntime,
+    path: Option<&'r str>,
+    loaded: usize,
+    lines: String,
+}
+
+/// The store in the database of this file.
+fn opened(rt: &HostRuntime, path: &str) -> Result<Store<FileStore<File>>> {
+    let conn = Connection::open(rt, path)?;
+    Ok(Store::adopt(conn)?)
+}
+
+fn keep_in_file(rt: &HostRuntime, path: &str, lines: &str) -> Result<String> {
+    let store = opened(rt, path)?;
+    keep(rt.alloc(), store, lines)
+}
+
+fn held_in_file(rt: &HostRuntime, path: &str) -> Result<String> {
+    let store = opened(rt, path)?;
+    held(rt.alloc(), store)
+}
+
+fn keep_in_memory(alloc: Global, lines: &str) -> Result<String> {
+    let store = Store::open_in_memory(alloc)?;
+    keep(alloc, store, lines)
+}
+
+/// Keeps a history in a file, which is closed and opened again. An error where it isn't this one then.
+fn check_in_file(rt: &HostRuntime, path: &str, lines: &str, made: &str) -> Result<()> {
+    let kept = keep_in_file(rt, path, lines)?;
+    let again = held_in_file(rt, path)?;
+    if kept.as_str() != made || again.as_str() != made {
+        bail!("made:\n{made}\nin the file:\n{kept}\nopened again:\n{again}")
+    }
+    Ok(())
+}
+
+/// Keeps a history in memory, and in a file where one is named: that it was loaded as it was made.
+fn told(rt: &HostRuntime, path: Option<&str>, number: usize, lines: &str) -> Result<String> {
+    let made = keep_in_memory(rt.alloc(), lines)?;
+    if let Some(path) = path {
+        let path = format!(in rt.alloc(); "{path}-{number}")?;
+        check_in_file(rt, path.as_str(), lines, made.as_str())?;
+    }
+    let count = made.as_str().lines().count();
+    Ok(format!(in rt.alloc(); "history {number} of {count} lines: loaded as it was made")?)
+}
+
+/// Makes so many builds more in the database of this file, three commits each: how long the commits took.
+pub(crate) fn commits_told(rt: &HostRuntime, path: &str, count: u32) -> Result<String> {
+    let store = opened(rt, path)?;
+    let micros = time_commits(rt, store, count)?;
+    Ok(format!(in rt.alloc(); "{count} builds, {micros} microseconds\n")?)
+}
+
+impl<'r> Stores<'r> {
+    /// No history; histories will be kept in memory, and in files of this name.
+    pub(crate) fn new(rt: &'r HostRuntime, path: Option<&'r str>) -> Stores<'r> {
+        Stores {
+            rt,
+            path,
+            loaded: 0,
+            lines: String::new(rt.alloc()),
+        }
+    }
+
+    fn load(&mut self) -> Result<String> {
+        self.loaded = self.loaded.saturating_add(1);
+        told(self.rt, self.path, self.loaded, self.lines.as_str())
+    }
+
+    fn add(&mut self, line: &str) -> Result<(), AllocError> {
+        if line.starts_with("pipeline ") {
+            self.lines.clear();
+        }
+        self.lines.push_str(line)?;
+        self.lines.push_str("\n")
+    }
+}
+
+impl Player for Stores<'_> {
+    fn answer_to(&mut self, alloc: Global, line: &str) -> Result<String, AllocError> {
+        if line == "load" {
+            return self.load().or_else(|error| format!(in alloc; "{error}"));
+        }
+        self.add(line)?;
+        Ok(String::new(alloc))
+    }
+}
