@@ -1,9 +1,13 @@
-# demo: builds the programs into bin/ and plays the examples · test: proves and tests everything
-# edits: tries the wrong bodies that the gate leaves out · bench: prints figures
-.PHONY: demo test edits bench
+# demo: plays the examples with the programs of the release, or with those that were built · build: proves and builds the programs into bin/
+# test: proves and tests everything · edits: tries the wrong bodies that the gate leaves out · soak: what else belongs to a whole test
+# bench: prints figures · release: writes dist/ · check-release: builds the commit that dist/ names, and compares
+.PHONY: demo build test edits soak bench release check-release
 
 demo:
 	@scripts/demo
+
+build:
+	@scripts/build
 
 test:
 	rt ci
@@ -11,5 +15,14 @@ test:
 edits:
 	@scripts/edits $(NAMES)
 
+soak:
+	@scripts/soak
+
 bench:
 	@scripts/bench
+
+release:
+	@scripts/release
+
+check-release:
+	@scripts/check-release
