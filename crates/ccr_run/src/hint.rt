@@ -4,6 +4,7 @@ ghost use Rattle.ccr_run.specs.Hints as spec;
 
 use crate::failure::Failure;
 use ccr_core::CoreFault;
+use ccr_pipeline::ReadFault;
 use ccr_serve::ServeFault;
 use ccr_store::StoreFault;
 
@@ -14,6 +15,9 @@ fn of_server(fault: &ServeFault) -> Option<&'static str>
     match fault {
         ServeFault::Core(CoreFault::NoPipeline) => Some(
             "set one with: ccr_run --db FILE set-pipeline PIPELINE.json",
+        ),
+        ServeFault::Read(ReadFault::NotJson(_)) => Some(
+            "YAML isn't read; fly get-pipeline --json prints a pipeline as JSON",
         ),
         ServeFault::Read(_) => Some("docs/FORMATS.md describes the format of a pipeline"),
         ServeFault::BadPin => Some("a pin is a JSON object of texts, as {\"ref\":\"61cbef\"}"),
@@ -42,7 +46,7 @@ pub fn hint_of(end: &Result<u8, Failure>) -> Option<&'static str>
     match end {
         Ok(status) => of_status(*status),
         Err(Failure::Locked) => Some(
-            "another program has the database open; try again when it has ended",
+            "another program has the database open; try again when it has ended (examples/operating/ccr waits for it)",
         ),
         Err(Failure::Refused(fault)) => of_server(fault),
     }
