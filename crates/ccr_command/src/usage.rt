@@ -18,6 +18,7 @@ const ABOUT: &str = "Runs pipelines: checks resources, runs builds of jobs, and 
 const MORE: &str = "\
 Exit statuses: 0 done, 1 refused, 2 usage, 3 over the budget, 4 disk or memory.
 What happens is printed on standard output, line by line; a refusal goes to standard error.
+`ccr_run validate-pipeline FILE [--strict]` reads a pipeline without a database, and says what each input has to have passed.
 
 Example:
   ccr_run --db ci.db set-pipeline pipeline.json

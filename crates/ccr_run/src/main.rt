@@ -7,6 +7,7 @@
 
 mod database;
 mod failure;
+mod found;
 mod hint;
 mod order;
 mod refusal;
@@ -22,6 +23,7 @@ use ccr_process::{Machine, Runner};
 use ccr_storage::Storage;
 use ccr_task::{Folders, Shelf};
 use database::Database;
+use found::{is_validation, tell_gates, validate};
 use order::{Misuse, order_of};
 use run::run;
 use sqlite::{File, FileStore};
@@ -58,6 +60,9 @@ fn obey<'a>(rt: &'a HostRuntime, words: &[String]) -> ExitCode
         Ok(order) => {
             let mut out = Printed::new(rt.alloc(), io::writer(rt));
             let outcome = run(rt, &order, &mut out);
+            if matches!(outcome.end, Ok(0)) {
+                tell_gates(rt, &order.command);
+            }
             tell(rt, &order, &outcome)
         }
         Err(misuse) => tell_misuse(rt, &misuse),
@@ -66,6 +71,7 @@ fn obey<'a>(rt: &'a HostRuntime, words: &[String]) -> ExitCode
 
 fn main(rt: HostRuntime) -> ExitCode {
     match words(&rt) {
+        Ok(words) if is_validation(&words) => validate(&rt, &words),
         Ok(words) => obey(&rt, &words),
         Err(misuse) => tell_misuse(&rt, &misuse),
     }

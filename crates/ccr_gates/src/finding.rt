@@ -1,0 +1,75 @@
+//! What is found in a pipeline.
+
+use crate::gate::find_gates;
+use crate::keys::find_keys;
+use crate::never::find_never;
+use crate::vars::find_vars;
+use ccr_pipeline::Pipeline;
+use serde_json::Value;
+use std::alloc::{AllocError, Global};
+
+/// What a finding says.
+#[derive(Clone, Copy, Debug, PartialEq, Eq)]
+pub enum Kind {
+    /// What has to hold of the version that a job's input takes.
+    Gate,
+    /// A key of Concourse without effect here.
+    Unused,
+    /// A key without effect that looks like one with an effect.
+    Misspelt,
+    /// A key without effect that has one in another object.
+    Misplaced,
+    /// A key without effect that isn't known.
+    Unknown,
+    /// A job in `passed` that never gets or puts the resource.
+    Never,
+    /// A text that a variable was to replace.
+    Vars,
+}
+
+/// A finding: its kind, and its line without a line end.
+#[derive(Debug, Drop)]
+pub struct Finding {
+    /// Its kind.
+    pub kind: Kind,
+    /// Its line.
+    pub line: String,
+}
+
+/// Findings, with room for more.
+pub type Findings = Vec<Finding>;
+
+impl Kind {
+    /// Whether a pipeline with such a finding doesn't do what it seems to say.
+    pub fn is_wrong(self) -> bool {
+        match self {
+            Kind::Misspelt | Kind::Misplaced | Kind::Never | Kind::Vars => true,
+            Kind::Gate | Kind::Unused | Kind::Unknown => false,
+        }
+    }
+}
+
+/// What is found in a pipeline, whose text is this value: its gates, then its keys without effect, what never passes, and
+/// the variables.
+pub fn findings_of(
+    alloc: Global,
+    pipeline: &Pipeline,
+    value: &Value,
+) -> Result<Findings, AllocError> {
+    let mut out = Vec::new(alloc);
+    find_gates(alloc, &mut out, pipeline)?;
+    find_keys(alloc, &mut out, value)?;
+    find_never(alloc, &mut out, pipeline, value)?;
+    find_vars(alloc, &mut out, value)?;
+    Ok(out)
+}
+
+/// Whether nothing that was found is wrong; to be strict, whether gates alone were found.
+pub fn is_faultless(findings: &[Finding], is_strict: bool) -> bool {
+    for finding in findings {
+        if finding.kind.is_wrong() || (is_strict && finding.kind != Kind::Gate) {
+            return false;
+        }
+    }
+    true
+}
