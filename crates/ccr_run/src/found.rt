@@ -51,9 +51,9 @@ fn tell_findings<R: Eprint>(rt: &R, findings: &Findings) -> io::Result<()> {
     Ok(())
 }
 
-/// Says on standard error what a pipeline that was set has.
-pub fn tell_gates(rt: &HostRuntime, command: &Command) {
-    let Command::SetPipeline(path) = command else {
+/// Says on standard error what a pipeline has, where the command has set one.
+pub fn tell_gates(rt: &HostRuntime, command: &Command, end: &Result<u8, Failure>) {
+    let (Command::SetPipeline(path), Ok(0)) = (command, end) else {
         return;
     };
     let mut folders = Folders::new(rt, rt.alloc());

@@ -60,9 +60,7 @@ fn obey<'a>(rt: &'a HostRuntime, words: &[String]) -> ExitCode
         Ok(order) => {
             let mut out = Printed::new(rt.alloc(), io::writer(rt));
             let outcome = run(rt, &order, &mut out);
-            if matches!(outcome.end, Ok(0)) {
-                tell_gates(rt, &order.command);
-            }
+            tell_gates(rt, &order.command, &outcome.end);
             tell(rt, &order, &outcome)
         }
         Err(misuse) => tell_misuse(rt, &misuse),
