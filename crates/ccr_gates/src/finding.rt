@@ -1,4 +1,6 @@
 //! What is found in a pipeline.
+ghost use Rattle.std.specs.Prelude.{◌≡◌};
+ghost use Rattle.ccr_gates.specs.Findings.{kinds, is_wrong, is_reason, is_faultless};
 
 use crate::gate::find_gates;
 use crate::keys::find_keys;
@@ -23,6 +25,8 @@ pub enum Kind {
     Unknown,
     /// A job in `passed` that never gets or puts the resource.
     Never,
+    /// A `passed` that names no job.
+    Empty,
     /// A text that a variable was to replace.
     Vars,
 }
@@ -41,10 +45,22 @@ pub type Findings = Vec<Finding>;
 
 impl Kind {
     /// Whether a pipeline with such a finding doesn't do what it seems to say.
-    pub fn is_wrong(self) -> bool {
+    pub fn is_wrong(self) -> bool
+        ensures { result ≡ is_wrong self }
+    {
         match self {
-            Kind::Misspelt | Kind::Misplaced | Kind::Never | Kind::Vars => true,
+            Kind::Misspelt | Kind::Misplaced | Kind::Never | Kind::Empty | Kind::Vars => true,
             Kind::Gate | Kind::Unused | Kind::Unknown => false,
+        }
+    }
+
+    /// Whether such a finding is a reason to refuse the pipeline; to be strict, each but a gate is.
+    pub fn is_reason(self, is_strict: bool) -> bool
+        ensures { result ≡ is_reason is_strict self }
+    {
+        match self {
+            Kind::Gate => false,
+            _ => is_strict || self.is_wrong(),
         }
     }
 }
@@ -64,10 +80,12 @@ pub fn findings_of(
     Ok(out)
 }
 
-/// Whether nothing that was found is wrong; to be strict, whether gates alone were found.
-pub fn is_faultless(findings: &[Finding], is_strict: bool) -> bool {
+/// Whether nothing that was found is a reason to refuse the pipeline.
+pub fn is_faultless(findings: &[Finding], is_strict: bool) -> bool
+    ensures { result ≡ is_faultless is_strict (kinds findings.now) }
+{
     for finding in findings {
-        if finding.kind.is_wrong() || (is_strict && finding.kind != Kind::Gate) {
+        if finding.kind.is_reason(is_strict) {
             return false;
         }
     }

@@ -1,4 +1,6 @@
 //! The keys of a pipeline's text that have no effect.
+ghost use Rattle.std.specs.Prelude.{◌≡◌, IfOk, string_bytes};
+ghost use Rattle.ccr_pipeline.specs.Keys.{path_below, path_at};
 
 use crate::finding::{Finding, Findings, Kind};
 use crate::known::{OBJECTS, Object, has, has_effect, name_of, own_keys, remedy_of, step_keys};
@@ -72,7 +74,9 @@ fn object_of(step: &Value) -> Object {
 }
 
 /// The path of a key of the object at a path.
-pub(crate) fn path_below(alloc: Global, path: &str, key: &str) -> Result<String, AllocError> {
+pub(crate) fn path_below(alloc: Global, path: &str, key: &str) -> Result<String, AllocError>
+    ensures { IfOk result (λ p. string_bytes p ≡ path_below path.now key.now) }
+{
     if path.is_empty() {
         return String::from_str(alloc, key);
     }
@@ -80,7 +84,9 @@ pub(crate) fn path_below(alloc: Global, path: &str, key: &str) -> Result<String,
 }
 
 /// The path of a member of the list at a path.
-pub(crate) fn path_at(alloc: Global, path: &str, position: usize) -> Result<String, AllocError> {
+pub(crate) fn path_at(alloc: Global, path: &str, position: usize) -> Result<String, AllocError>
+    ensures { IfOk result (λ p. string_bytes p ≡ path_at path.now position) }
+{
     format!(in alloc; "{path}[{position}]")
 }
 

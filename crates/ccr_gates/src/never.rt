@@ -1,4 +1,4 @@
-//! Jobs in `passed` that never get or put the resource.
+//! Jobs in `passed` that never get or put the resource, and a `passed` without jobs.
 
 use crate::finding::{Findings, Kind};
 use crate::keys::{DEPTH, add, path_at, path_below};
@@ -61,7 +61,19 @@ fn resource_of(get: &Value) -> Option<&str> {
     }
 }
 
-/// Says which jobs of a get never get or put its resource.
+/// The members of a list that stands at a key; `null` has none.
+fn list_of(found: Option<&Value>) -> Option<&[Value]> {
+    let found = found?;
+    if found.is_null() {
+        return Some(&[]);
+    }
+    match found.as_array() {
+        Some(list) => Some(list),
+        None => None,
+    }
+}
+
+/// Says which jobs of a get never get or put its resource, and that no job is named.
 fn find_passed(
     alloc: Global,
     out: &mut Findings,
@@ -72,9 +84,18 @@ fn find_passed(
     let Some(resource) = resource_of(get) else {
         return Ok(());
     };
-    let Some(list) = get.get("passed").and_then(|found| found.as_array()) else {
+    let Some(list) = list_of(get.get("passed")) else {
         return Ok(());
     };
+    if list.is_empty() {
+        let passed = path_below(alloc, path, "passed")?;
+        let passed = passed.as_str();
+        add(
+            out,
+            Kind::Empty,
+            format!(in alloc; "empty {passed}: no gate")?,
+        )?;
+    }
     for (i, member) in list.iter().enumerate() {
         if let Some(name) = member.as_str() {
             if is_never(pipeline, name, resource) {
