@@ -14,6 +14,10 @@ use Rattle.ccr_check.specs.declared.fault.CheckFault.{CheckFault}
 use Rattle.ccr_check.specs.declared.fault.CheckFault.TheVariants.{WrongChildren}
 use Rattle.ccr_check.specs.Fault.{IsFirstFault, IsFirstAmong}
 
+-- a build, where one is wanted that is never looked at
+pub no_build : BuildValue
+no_build = record { number = 0; pairs = [] }
+
 -- where there is no best possible place, no place is possible
 pub none_best : (p : ProblemValue) (a : Assignment) (i : ℕ) (o : Option ℕ) (b : Bool) → i < length p.inputs → IsBestPossible (order_of p) p a i o → is_some o ≡ not b
     → (IsTrue b → HasNoPlace p a i) × (HasNoPlace p a i → IsTrue b)

@@ -1,8 +1,9 @@
 //! The walk over a refutation tree.
 
-ghost use Rattle.std.specs.Prelude.{◌≡◌, ◌<◌, ◌+◌, ◌^◌, ◌↔◌, false, length, IsTrue, MatchResult};
+ghost use Rattle.std.specs.Prelude.{◌≡◌, ◌<◌, ◌+◌, ◌^◌, ◌↔◌, false, length, slice_get, Some, IsTrue, MatchResult};
 ghost use Rattle.std.specs.Option.{option_copied};
-ghost use Rattle.ccr_choice.specs.Problem.{builds_at};
+ghost use Rattle.ccr_choice.specs.Problem.{BuildValue, builds_at};
+ghost use Rattle.ccr_choice.specs.Dominated.{IsDominated};
 ghost use Rattle.ccr_choice.specs.Preference.{order_of};
 ghost use Rattle.ccr_proof.specs.Tree.{tree_of, trees_of, count, is_same};
 ghost use Rattle.ccr_proof.specs.Refutes.{HasNoPlace, IsBounded, IsSameCase, IsSame, Refutes};
@@ -11,7 +12,7 @@ ghost use Rattle.ccr_choice.specs.Table.{assigned};
 
 use crate::fault::CheckFault;
 use ccr_choice::possible::{Fixed, best_possible, fixed_build, is_bounded};
-use ccr_choice::{Build, Problem, is_dominated};
+use ccr_choice::{Problem, is_dominated};
 use ccr_proof::Node;
 
 fn has_no_place(problem: &Problem, fixed: &Fixed, input: usize) -> bool
@@ -38,47 +39,46 @@ fn is_own(node: &Node) -> bool
     !matches!(node, Node::Same(_))
 }
 
-/// Whether child `k` of a node of job `job`, with this build, is the same case as child `earlier`.
-fn is_same_case(
-    problem: &Problem,
-    job: u32,
-    children: &[Node],
-    k: usize,
-    build: &Build,
-    earlier: usize,
-) -> bool
+/// Whether build `build` of job `job` is dominated by its build `other`, the newest being build 0.
+fn is_below(problem: &Problem, job: u32, build: usize, other: usize) -> bool
+    requires job { job < length problem.now.jobs }
+    requires build { build < length (builds_at problem.now job) }
+    requires other { other < length (builds_at problem.now job) }
+    ensures { (b o : BuildValue) → slice_get (builds_at problem.now job) build ≡ Some b
+        → slice_get (builds_at problem.now job) other ≡ Some o
+        → (IsTrue result ↔ IsDominated problem.now job b o) }
+{
+    let builds = problem.builds(job as usize);
+    is_dominated(problem, job, &builds[build], &builds[other])
+}
+
+/// Whether child `k` of a node of job `job` is the same case as child `earlier`.
+fn is_same_case(problem: &Problem, job: u32, children: &[Node], k: usize, earlier: usize) -> bool
     requires job { job < length problem.now.jobs }
     requires child { k < length children.now }
     requires builds { length children.now ≡ length (builds_at problem.now job) }
-    ensures { IsTrue result ↔ IsSameCase problem.now job (trees_of children.now) k build.now earlier }
+    ensures { (b : BuildValue) → slice_get (builds_at problem.now job) k ≡ Some b
+        → (IsTrue result ↔ IsSameCase problem.now job (trees_of children.now) k b earlier) }
 {
-    let builds = problem.builds(job as usize);
     if earlier >= k {
         return false;
     }
     if !is_own(&children[earlier]) {
         return false;
     }
-    is_dominated(problem, job, build, &builds[earlier])
+    is_below(problem, job, k, earlier)
 }
 
-/// Whether child `k` of a node of job `job`, with this build, says that it is the same case as an earlier child, and is.
-fn is_same(
-    problem: &Problem,
-    job: u32,
-    children: &[Node],
-    k: usize,
-    build: &Build,
-    child: &Node,
-) -> bool
+/// Whether child `k` of a node of job `job` says that it is the same case as an earlier child, and is.
+fn is_same(problem: &Problem, job: u32, children: &[Node], k: usize, child: &Node) -> bool
     requires job { job < length problem.now.jobs }
     requires child { k < length children.now }
     requires builds { length children.now ≡ length (builds_at problem.now job) }
-    ensures { IsTrue result
-        ↔ IsSame problem.now job (trees_of children.now) k build.now (tree_of child.now) }
+    ensures { (b : BuildValue) → slice_get (builds_at problem.now job) k ≡ Some b
+        → (IsTrue result ↔ IsSame problem.now job (trees_of children.now) k b (tree_of child.now)) }
 {
     match child {
-        Node::Same(earlier) => { is_same_case(problem, job, children, k, build, *earlier as usize) }
+        Node::Same(earlier) => is_same_case(problem, job, children, k, *earlier as usize),
         Node::Job(_, _) | Node::Empty(_) | Node::Bounded => false,
     }
 }
@@ -125,14 +125,13 @@ pub(crate) fn walk(
             if fixed_build(problem, fixed, job).is_some() {
                 return Err(CheckFault::JobTwice(node));
             }
-            let builds = problem.builds(job);
             let children: &[Node] = children;
-            if children.len() != builds.len() {
+            if children.len() != problem.builds(job).len() {
                 return Err(CheckFault::WrongChildren(node));
             }
             let mut next = node + 1;
             for (k, child) in children.iter().enumerate() {
-                if is_same(problem, *named, children, k, &builds[k], child) {
+                if is_same(problem, *named, children, k, child) {
                     next += 1;
                     continue;
                 }
