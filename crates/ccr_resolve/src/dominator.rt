@@ -36,20 +36,25 @@ fn are_covered(index: &Index, job: usize, pairs: &[(u32, u32)], others: &[(u32, 
     true
 }
 
-/// Of these pairs, one in the scope of an input naming the job whose newest build is the oldest; None where no pair lies in
-/// such a scope.
-fn rarest_pair(index: &Index, job: usize, pairs: &[(u32, u32)]) -> Option<(u32, u32)>
-    requires { job < length index.now.problem.jobs }
+/// Of the pairs of build `build`, one in the scope of an input naming the job whose newest build is the oldest; None where no pair
+/// lies in such a scope. A pair that no newer build has is taken at once.
+fn rarest_pair(index: &Index, job: usize, build: usize, pairs: &[(u32, u32)]) -> Option<(u32, u32)>
+    requires job { job < length index.now.problem.jobs }
+    requires build { build < length (builds_at index.now.problem job) }
     ensures { MatchOption result
         ((q : ℕ × ℕ) → Contains pairs.now q → ¬ IsNamedIn index.now.problem job q.0)
         (λ q. Contains pairs.now q × IsNamedIn index.now.problem job q.0) }
 {
     let rows = index.rows(job);
+    let own = rows.len() - build;
     let mut rarest = None;
     let mut least = usize::MAX;
     for (scope, place) in pairs {
         if is_named_in(index, job, *scope) {
             let last = rows.last_with(*scope, *place);
+            if last <= own {
+                return Some((*scope, *place));
+            }
             if rarest.is_none() || last < least {
                 rarest = Some((*scope, *place));
                 least = last;
@@ -72,7 +77,7 @@ pub(crate) fn dominator(index: &Index, job: usize, build: usize) -> Option<usize
 {
     let rows = index.rows(job);
     let pairs = rows.pairs(build);
-    let Some(rarest) = rarest_pair(index, job, pairs) else {
+    let Some(rarest) = rarest_pair(index, job, build, pairs) else {
         return if build == 0 { None } else { Some(0) };
     };
     let mut last = rows.last_with(rarest.0, rarest.1);
