@@ -17,19 +17,22 @@ use Rattle.ccr_steps.specs.Means.{Means}
 use Rattle.ccr_steps.specs.Progress.{AnswersDecide, answers}
 use Rattle.ccr_steps.specs.declared.outcome.Outcome.{Outcome}
 use Rattle.ccr_steps.specs.declared.outcome.Outcome.TheVariants as outcome
+use Rattle.ccr_core.specs.declared.fault.CoreFault.{CoreFault}
 use Rattle.ccr_core.specs.declared.fault.CoreFault.TheVariants.{TableFull}
 use Rattle.ccr_core.specs.declared.reply.Reply.{Reply}
 use Rattle.ccr_core.specs.declared.reply.Reply.TheVariants.{Set, New, Made, NotNew, Goes, Ends, Pinned, Unpinned, Restarted}
 use Rattle.ccr_problem.specs.ProblemOf.{job_of}
 use Rattle.ccr_core.specs.Builds.{status_of, Settles, begun, history_with, with_made, Makes, with_answer, Takes, cut}
 use Rattle.ccr_core.specs.Choices.{best, Finds, used_at}
-use Rattle.ccr_core.specs.Events.{EventData, set_pipeline, checked, schedule, trigger, answer, pin, unpin, restart}
-use Rattle.ccr_core.specs.Own.{own, own_of}
+use Rattle.ccr_core.specs.Addressed.{AnswerTo, addressed}
+use Rattle.ccr_core.specs.Events.{EventData, set_pipeline, checked, schedule, trigger, pin, unpin, restart}
+use Rattle.ccr_core.specs.Faults.{MeetsBy}
+use Rattle.ccr_core.specs.Own.{said_to, own, own_of}
 use Rattle.ccr_core.specs.Kept.{IsEvent, IsStart}
 use Rattle.ccr_core.specs.Seen.{AreThoseUsed, pairs_of, report_by}
 use Rattle.ccr_core.specs.Replies.{Replied}
 use Rattle.ccr_core.specs.State.{RunningData, State, pipeline_of, moved_on, running_at, without}
-use Rattle.ccr_core.specs.Steps.{Schedules, Triggers, Step, Run}
+use Rattle.ccr_core.specs.Steps.{Schedules, Triggers, Answers, DoesBy, Step, Run}
 use Rattle.ccr_core.specs.Told.{EndsIn, EndsAsMeant, EachEndsAsMeant, EachIsCutShort, EndsAgree}
 use Rattle.ccr_core.proofs.Placing.{moved_fit}
 use Rattle.ccr_core.proofs.RunningLists.{all_weaker, all_at, id_same, id_refl, at_id}
@@ -125,43 +128,43 @@ module _ (s before : State) (es : List EventData) (rs : List Replied) (start : I
   sound = (leaves_run s es rs before up (starts s start) run).sound
 
   -- ---- a build ends by an answer
-  module _ (j : Text) (n turn : ℕ) (x : AnswerData) (b : RunningData) (o : Outcome) (c : BuildData) (at : running_at j n before.running ≡ Some b) where
-    answered_so : (a : AskData) → c.job ≡ b.job → c.number ≡ b.number → answers (b.exchanges ++ exchange a x ∷ []) ≡ own c.job c.number (es ++ answer j n turn x ∷ []) (rs ++ Ok (Ends o) ∷ [])
+  module _ (e : EventData) (w : AnswerTo) (said : addressed e ≡ Some w) (b : RunningData) (o : Outcome) (c : BuildData) (at : running_at w.job w.number before.running ≡ Some b) where
+    answered_so : (a : AskData) → c.job ≡ b.job → c.number ≡ b.number → answers (b.exchanges ++ exchange a w.given ∷ []) ≡ own c.job c.number (es ++ e ∷ []) (rs ++ Ok (Ends o) ∷ [])
     answered_so a p q =
-        let own_b = of_build s before es rs j n b none run at in
-        let (u, v) = at_id j n before.running b at in
-        let last = own_last j n (answer j n turn x) (Ok (Ends o)) s before es rs run in
-        answers_more b.exchanges (exchange a x) ∙ ap (λ l. l ++ x ∷ []) own_b.answered
-        ∙ sym (last ∙ ap (λ t. own j n es rs ++ cond t (x ∷ []) []) (id_refl j n))
-        ∙ ap (λ y. own y n (es ++ answer j n turn x ∷ []) (rs ++ Ok (Ends o) ∷ [])) (sym (p ∙ u))
-        ∙ ap (λ y. own c.job y (es ++ answer j n turn x ∷ []) (rs ++ Ok (Ends o) ∷ [])) (sym (q ∙ v))
+        let own_b = of_build s before es rs w.job w.number b none run at in
+        let (u, v) = at_id w.job w.number before.running b at in
+        let last = own_last w.job w.number e (Ok (Ends o)) s before es rs run in
+        answers_more b.exchanges (exchange a w.given) ∙ ap (λ l. l ++ w.given ∷ []) own_b.answered
+        ∙ sym (last ∙ ap (λ t. own w.job w.number es rs ++ said_to w.job w.number t) said ∙ ap (λ t. own w.job w.number es rs ++ cond t (w.given ∷ []) []) (id_refl w.job w.number))
+        ∙ ap (λ y. own y w.number (es ++ e ∷ []) (rs ++ Ok (Ends o) ∷ [])) (sym (p ∙ u))
+        ∙ ap (λ y. own c.job y (es ++ e ∷ []) (rs ++ Ok (Ends o) ∷ [])) (sym (q ∙ v))
 
-    fits_so : (a : AskData) (o : Outcome) (g : GainsData) → Means b.inputs b.plan no_gains (b.exchanges ++ exchange a x ∷ []) o g → AreMoved (taken before a x).tables (pairs_of (pipeline_of before) (taken before a x) g.moved)
+    fits_so : (a : AskData) (o : Outcome) (g : GainsData) → Means b.inputs b.plan no_gains (b.exchanges ++ exchange a w.given ∷ []) o g → AreMoved (taken before a w.given).tables (pairs_of (pipeline_of before) (taken before a w.given) g.moved)
     fits_so a o g means =
-        let sb = sound_answered before j n b a x sound at in
-        moved_fit (pipeline_of before) (taken before a x) b.inputs b.plan (b.exchanges ++ exchange a x ∷ []) o g sb.got sb.known sb.pushes means
+        let sb = sound_answered before w.job w.number b a w.given sound at in
+        moved_fit (pipeline_of before) (taken before a w.given) b.inputs b.plan (b.exchanges ++ exchange a w.given ∷ []) o g sb.got sb.known sb.pushes means
 
-    used_so : (a : AskData) (was : BuildData) (st : Status) (mv : List (ℕ × ℕ)) → c.job ≡ b.job → c.number ≡ b.number → c ≡ ended_build st mv was → build_of c.job c.number (taken before a x).builds ≡ Some was → AreThoseUsed (taken before a x).tables c.used b.inputs
+    used_so : (a : AskData) (was : BuildData) (st : Status) (mv : List (ℕ × ℕ)) → c.job ≡ b.job → c.number ≡ b.number → c ≡ ended_build st mv was → build_of c.job c.number (taken before a w.given).builds ≡ Some was → AreThoseUsed (taken before a w.given).tables c.used b.inputs
     used_so a was st mv p q same there =
-        let (d, found, runs, right, each) = (all_at (IsSoundBuild (pipeline_of before) before.history) j n before.running b sound.each at).held in
-        let here : build_of c.job c.number before.history.builds ≡ Some was = ap (build_of c.job c.number) (sym (pushed_builds (pipeline_of before) a x before.history)) ∙ there in
+        let (d, found, runs, right, each) = (all_at (IsSoundBuild (pipeline_of before) before.history) w.job w.number before.running b sound.each at).held in
+        let here : build_of c.job c.number before.history.builds ≡ Some was = ap (build_of c.job c.number) (sym (pushed_builds (pipeline_of before) a w.given before.history)) ∙ there in
         let one : was ≡ d = found_as c.job b.job c.number b.number before.history.builds was d p q here found in
-        subst (λ us. AreThoseUsed (taken before a x).tables us b.inputs) (sym (ap (λ y. y.used) same ∙ ap (λ y. y.used) one))
-        (each, all_weaker (λ u r. (right_changed (report_by (pipeline_of before) a x) before.history b.inputs u r).1) d.used right)
+        subst (λ us. AreThoseUsed (taken before a w.given).tables us b.inputs) (sym (ap (λ y. y.used) same ∙ ap (λ y. y.used) one))
+        (each, all_weaker (λ u r. (right_changed (report_by (pipeline_of before) a w.given) before.history b.inputs u r).1) d.used right)
 
-    ends_now : (a : AskData) (g : GainsData) → Means b.inputs b.plan no_gains (b.exchanges ++ exchange a x ∷ []) o g → EndsTo before (own c.job c.number (es ++ answer j n turn x ∷ []) (rs ++ Ok (Ends o) ∷ [])) c (moved_on before (done_with (pipeline_of before) b o g (taken before a x)) (without b.job b.number before.running))
-    ends_now a g means (found, done, fresh) = by (found_end c.job c.number b.job b.number (status_of o) (pairs_of (pipeline_of before) (taken before a x) g.moved) c (taken before a x).builds found)
+    ends_now : (a : AskData) (g : GainsData) → Means b.inputs b.plan no_gains (b.exchanges ++ exchange a w.given ∷ []) o g → EndsTo before (own c.job c.number (es ++ e ∷ []) (rs ++ Ok (Ends o) ∷ [])) c (moved_on before (done_with (pipeline_of before) b o g (taken before a w.given)) (without b.job b.number before.running))
+    ends_now a g means (found, done, fresh) = by (found_end c.job c.number b.job b.number (status_of o) (pairs_of (pipeline_of before) (taken before a w.given) g.moved) c (taken before a w.given).builds found)
       where
-        by : IsEnded c.job c.number b.job b.number (status_of o) (pairs_of (pipeline_of before) (taken before a x) g.moved) c (taken before a x).builds ⊎ (build_of c.job c.number (taken before a x).builds ≡ Some c) → EndsAsMeant (moved_on before (done_with (pipeline_of before) b o g (taken before a x)) (without b.job b.number before.running)) (own c.job c.number (es ++ answer j n turn x ∷ []) (rs ++ Ok (Ends o) ∷ [])) c
-        by (inr old) = absurd (fresh (c, ap (build_of c.job c.number) (sym (pushed_builds (pipeline_of before) a x before.history)) ∙ old, done))
+        by : IsEnded c.job c.number b.job b.number (status_of o) (pairs_of (pipeline_of before) (taken before a w.given) g.moved) c (taken before a w.given).builds ⊎ (build_of c.job c.number (taken before a w.given).builds ≡ Some c) → EndsAsMeant (moved_on before (done_with (pipeline_of before) b o g (taken before a w.given)) (without b.job b.number before.running)) (own c.job c.number (es ++ e ∷ []) (rs ++ Ok (Ends o) ∷ [])) c
+        by (inr old) = absurd (fresh (c, ap (build_of c.job c.number) (sym (pushed_builds (pipeline_of before) a w.given before.history)) ∙ old, done))
         by (inl (p, q, (was, same, there))) = record {
-          run = with_answer b a x;
+          run = with_answer b a w.given;
           outcome = o;
           gains = g;
           is_job = sym p;
           is_number = sym q;
-          planned = (of_build s before es rs j n b none run at).planned;
-          used = used_so a was (status_of o) (pairs_of (pipeline_of before) (taken before a x) g.moved) p q same there;
+          planned = (of_build s before es rs w.job w.number b none run at).planned;
+          used = used_so a was (status_of o) (pairs_of (pipeline_of before) (taken before a w.given) g.moved) p q same there;
           answered = answered_so a p q;
           meant = means;
           status = ap (λ y. y.status) same;
@@ -170,10 +173,10 @@ module _ (s before : State) (es : List EventData) (rs : List Replied) (start : I
           passed = passed_by o c (ap (λ y. y.status) same);
         }
 
-    ends_taken : (after : State) → Takes before b x (Some o) after → EndsTo before (own c.job c.number (es ++ answer j n turn x ∷ []) (rs ++ Ok (Ends o) ∷ [])) c after
+    ends_taken : (after : State) → Takes before b w.given (Some o) after → EndsTo before (own c.job c.number (es ++ e ∷ []) (rs ++ Ok (Ends o) ∷ [])) c after
     ends_taken after (a, next, (h, (g, means, is), to)) =
-        subst (EndsTo before (own c.job c.number (es ++ answer j n turn x ∷ []) (rs ++ Ok (Ends o) ∷ [])) c) (sym to)
-        (subst (λ y. EndsTo before (own c.job c.number (es ++ answer j n turn x ∷ []) (rs ++ Ok (Ends o) ∷ [])) c (moved_on before y (without b.job b.number before.running))) (sym is)
+        subst (EndsTo before (own c.job c.number (es ++ e ∷ []) (rs ++ Ok (Ends o) ∷ [])) c) (sym to)
+        (subst (λ y. EndsTo before (own c.job c.number (es ++ e ∷ []) (rs ++ Ok (Ends o) ∷ [])) c (moved_on before y (without b.job b.number before.running))) (sym is)
         (ends_now a g means))
 
   -- ---- a build ends in the event that made it
@@ -253,18 +256,28 @@ module _ (s before : State) (es : List EventData) (rs : List Replied) (start : I
   goes_on : (b : RunningData) (x : AnswerData) (after : State) → Takes before b x None after → after.history.builds ≡ before.history.builds
   goes_on b x after (a, next, (h, (begins, waits, is), to)) = ap (λ y. y.history.builds) to ∙ ap (λ y. y.builds) is ∙ pushed_builds (pipeline_of before) a x before.history
 
+  ends_other : (e : EventData) (r : Reply) (after : State) → ((f : CoreFault) → ¬ MeetsBy before None e f) → DoesBy before None e r after → e ≢ restart → (c : BuildData) → EndsIn before after c → EndsAsMeant after (own c.job c.number (es ++ e ∷ []) (rs ++ Ok r ∷ [])) c
+  ends_other (set_pipeline p) Set after free is ne c ends = absurd (none_ends before after c (ap (λ y. y.history.builds) is) ends)
+  ends_other (checked resource vs) (New n) after free (news, is) ne c ends = absurd (none_ends before after c (ap (λ y. y.history.builds) is ∙ report_builds (pipeline_of before) resource vs before.history) ends)
+  ends_other (schedule job) r after free (j, at, how) ne c ends = ends_scheduled job j r after at (free TableFull) how c ends
+  ends_other (trigger job) r after free (j, at, how) ne c ends = ends_triggered job j r after at (free TableFull) how c ends
+  ends_other (pin resource p) Pinned after free is ne c ends = absurd (none_ends before after c (ap (λ y. y.history.builds) is) ends)
+  ends_other (unpin resource) Unpinned after free is ne c ends = absurd (none_ends before after c (ap (λ y. y.history.builds) is) ends)
+  ends_other restart r after free does ne c ends = absurd (ne refl)
+  ends_other e r after free does ne c ends = absurd does
+
+  ends_answered : (e : EventData) (w : AnswerTo) (r : Reply) (after : State) → addressed e ≡ Some w → Answers before w r after → (c : BuildData) → EndsIn before after c → EndsAsMeant after (own c.job c.number (es ++ e ∷ []) (rs ++ Ok r ∷ [])) c
+  ends_answered e w Goes after said (b, at, takes) c ends = absurd (none_ends before after c (goes_on b w.given after takes) ends)
+  ends_answered e w (Ends o) after said (b, at, takes) c ends = ends_taken e w said b o c at after takes ends
+  ends_answered e w r after said answers c ends = absurd answers
+
   ends_step : (e : EventData) (r : Replied) (after : State) → Step before e r after → e ≢ restart → (c : BuildData) → EndsIn before after c → EndsAsMeant after (own c.job c.number (es ++ e ∷ []) (rs ++ r ∷ [])) c
-  ends_step (set_pipeline p) (Ok Set) after (free, is) ne c ends = absurd (none_ends before after c (ap (λ y. y.history.builds) is) ends)
-  ends_step (checked resource vs) (Ok (New n)) after (free, (news, is)) ne c ends = absurd (none_ends before after c (ap (λ y. y.history.builds) is ∙ report_builds (pipeline_of before) resource vs before.history) ends)
-  ends_step (schedule job) (Ok r) after (free, (j, at, how)) ne c ends = ends_scheduled job j r after at (free TableFull) how c ends
-  ends_step (trigger job) (Ok r) after (free, (j, at, how)) ne c ends = ends_triggered job j r after at (free TableFull) how c ends
-  ends_step (answer j n turn x) (Ok Goes) after (free, (b, at, takes)) ne c ends = absurd (none_ends before after c (goes_on b x after takes) ends)
-  ends_step (answer j n turn x) (Ok (Ends o)) after (free, (b, at, takes)) ne c ends = ends_taken j n turn x b o c at after takes ends
-  ends_step (pin resource p) (Ok Pinned) after (free, is) ne c ends = absurd (none_ends before after c (ap (λ y. y.history.builds) is) ends)
-  ends_step (unpin resource) (Ok Unpinned) after (free, is) ne c ends = absurd (none_ends before after c (ap (λ y. y.history.builds) is) ends)
-  ends_step restart r after step ne c ends = absurd (ne refl)
+  ends_step e (Ok r) after (free, does) ne c ends = by (addressed e) refl free does
+    where
+      by : (o : Option AnswerTo) → addressed e ≡ o → ((f : CoreFault) → ¬ MeetsBy before o e f) → DoesBy before o e r after → EndsAsMeant after (own c.job c.number (es ++ e ∷ []) (rs ++ Ok r ∷ [])) c
+      by (Some w) said free answers = ends_answered e w r after said answers c ends
+      by None said free other = ends_other e r after free other ne c ends
   ends_step e (Err f) after (may, is) ne c ends = absurd (none_ends before after c (ap (λ y. y.history.builds) is) ends)
-  ends_step e (Ok r) after (free, does) ne c ends = absurd does
 
 pub each_ends_as_meant : EachEndsAsMeant
 each_ends_as_meant s before after es rs e r start up run step ne c ends = ends_step s before es rs start up run e r after step ne c ends

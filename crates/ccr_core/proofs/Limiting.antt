@@ -12,6 +12,7 @@ use Rattle.ccr_pipeline.specs.JobData.{JobData}
 use Rattle.ccr_pipeline.specs.Names.{has_name}
 use Rattle.ccr_steps.specs.Asks.{AnswerData}
 use Rattle.ccr_steps.specs.declared.outcome.Outcome.{Outcome}
+use Rattle.ccr_core.specs.declared.fault.CoreFault.{CoreFault}
 use Rattle.ccr_core.specs.declared.fault.CoreFault.TheVariants.{TooManyOpen}
 use Rattle.ccr_core.specs.declared.limit.TheConstants.{MOST_RUNNING}
 use Rattle.ccr_core.specs.declared.reply.Reply.{Reply}
@@ -19,11 +20,13 @@ use Rattle.ccr_core.specs.declared.reply.Reply.TheVariants.{Set, New, Made, NotN
 use Rattle.ccr_problem.specs.ProblemOf.{job_of}
 use Rattle.ccr_core.specs.Builds.{begun, with_made, Makes, with_answer, with_answered, Takes, cut}
 use Rattle.ccr_core.specs.Busy.{limit_of, running_of, has_reached, share, is_shut_out, is_busy}
-use Rattle.ccr_core.specs.Events.{EventData, set_pipeline, checked, schedule, trigger, answer, pin, unpin, restart}
+use Rattle.ccr_core.specs.Addressed.{AnswerTo, addressed}
+use Rattle.ccr_core.specs.Events.{EventData, set_pipeline, checked, schedule, trigger, pin, unpin, restart}
+use Rattle.ccr_core.specs.Faults.{MeetsBy}
 use Rattle.ccr_core.specs.Limits.{IsWithin, Runs, IsLimited, LimitsAreKept}
 use Rattle.ccr_core.specs.Replies.{Replied}
 use Rattle.ccr_core.specs.State.{RunningData, State, pipeline_of, moved_on, with_history, is_run_of, replaced, without}
-use Rattle.ccr_core.specs.Steps.{with_pipeline, Schedules, Triggers, Step, Run}
+use Rattle.ccr_core.specs.Steps.{with_pipeline, Schedules, Triggers, Answers, DoesBy, Step, Run}
 use Rattle.ccr_core.proofs.RunningLists.{all_weaker, id_same}
 use Rattle.ccr_core.proofs.Owning.{job_at, none_runs}
 
@@ -231,18 +234,28 @@ limited_triggered : (s : State) (name : Text) (j : JobData) (r : Reply) (after :
 limited_triggered s name j (Made m) after l at room (idle, (places, finds, makes)) = limited_made s name j places m after l at idle room makes
 limited_triggered s name j r after l at room (held, is) = subst IsLimited (sym is) l
 
+limited_answered : (s : State) (a : AnswerTo) (r : Reply) (after : State) → IsLimited s → Answers s a r after → IsLimited after
+limited_answered s a Goes after l (b, at, takes) = limited_taken s b a.given None after l takes
+limited_answered s a (Ends o) after l (b, at, takes) = limited_taken s b a.given (Some o) after l takes
+limited_answered s a r after l answers = absurd answers
+
+limited_other : (s : State) (e : EventData) (r : Reply) (after : State) → IsLimited s → ((f : CoreFault) → ¬ MeetsBy s None e f) → DoesBy s None e r after → IsLimited after
+limited_other s (set_pipeline p) Set after l free is = subst IsLimited (sym is) (limited_none (with_pipeline s p) (none_runs s p free))
+limited_other s (checked resource vs) (New n) after l free (news, is) = subst IsLimited (sym is) (limited_history s _ l)
+limited_other s (schedule job) r after l free (j, at, how) = limited_scheduled s job j r after l at (free TooManyOpen) how
+limited_other s (trigger job) r after l free (j, at, how) = limited_triggered s job j r after l at (free TooManyOpen) how
+limited_other s (pin resource p) Pinned after l free is = subst IsLimited (sym is) (limited_history s _ l)
+limited_other s (unpin resource) Unpinned after l free is = subst IsLimited (sym is) (limited_history s _ l)
+limited_other s restart Restarted after l free is = subst IsLimited (sym is) (limited_none (moved_on s (changed (map cut s.running) s.history) []) refl)
+limited_other s e r after l free does = absurd does
+
 limited_step : (s : State) (e : EventData) (r : Replied) (after : State) → IsLimited s → Step s e r after → IsLimited after
-limited_step s (set_pipeline p) (Ok Set) after l (free, is) = subst IsLimited (sym is) (limited_none (with_pipeline s p) (none_runs s p free))
-limited_step s (checked resource vs) (Ok (New n)) after l (free, (news, is)) = subst IsLimited (sym is) (limited_history s _ l)
-limited_step s (schedule job) (Ok r) after l (free, (j, at, how)) = limited_scheduled s job j r after l at (free TooManyOpen) how
-limited_step s (trigger job) (Ok r) after l (free, (j, at, how)) = limited_triggered s job j r after l at (free TooManyOpen) how
-limited_step s (answer j n turn x) (Ok Goes) after l (free, (b, at, takes)) = limited_taken s b x None after l takes
-limited_step s (answer j n turn x) (Ok (Ends o)) after l (free, (b, at, takes)) = limited_taken s b x (Some o) after l takes
-limited_step s (pin resource p) (Ok Pinned) after l (free, is) = subst IsLimited (sym is) (limited_history s _ l)
-limited_step s (unpin resource) (Ok Unpinned) after l (free, is) = subst IsLimited (sym is) (limited_history s _ l)
-limited_step s restart (Ok Restarted) after l (free, is) = subst IsLimited (sym is) (limited_none (moved_on s (changed (map cut s.running) s.history) []) refl)
+limited_step s e (Ok r) after l (free, does) = by (addressed e) free does
+  where
+    by : (o : Option AnswerTo) → ((f : CoreFault) → ¬ MeetsBy s o e f) → DoesBy s o e r after → IsLimited after
+    by (Some a) free answers = limited_answered s a r after l answers
+    by None free other = limited_other s e r after l free other
 limited_step s e (Err f) after l (may, is) = subst IsLimited (sym is) l
-limited_step s e (Ok r) after l (free, does) = absurd does
 
 limited_run : (s : State) (es : List EventData) (rs : List Replied) (after : State) → IsLimited s → Run s es rs after → IsLimited after
 limited_run s [] [] after l h = subst IsLimited (sym h) l

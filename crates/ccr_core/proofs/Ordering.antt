@@ -14,7 +14,8 @@ use Rattle.ccr_core.specs.declared.reply.Reply.{Reply}
 use Rattle.ccr_core.specs.declared.reply.Reply.TheVariants.{Set, New, Made, NotNew, Goes, Ends, Pinned, Unpinned, Restarted}
 use Rattle.ccr_core.specs.Builds.{begun, history_with, Makes, with_answer, Takes as TakesAnswer}
 use Rattle.ccr_core.specs.Choices.{used_at}
-use Rattle.ccr_core.specs.Events.{EventData, set_pipeline, checked, schedule, trigger, answer, pin, unpin, restart}
+use Rattle.ccr_core.specs.Addressed.{AnswerTo, addressed}
+use Rattle.ccr_core.specs.Events.{EventData, set_pipeline, checked, schedule, trigger, pin, unpin, restart}
 use Rattle.ccr_core.specs.Holding.{CoreData, IsCore}
 use Rattle.ccr_core.specs.Kept.{IsEvent, IsStart}
 use Rattle.ccr_core.specs.Picking.{name_of}
@@ -22,7 +23,7 @@ use Rattle.ccr_core.specs.Positions.{IsMadeAt, AreInOrder}
 use Rattle.ccr_core.specs.Replies.{Replied}
 use Rattle.ccr_core.specs.Seen.{pairs_of, report_by}
 use Rattle.ccr_core.specs.State.{RunningData, State, pipeline_of, moved_on, is_run_of, replaced, without}
-use Rattle.ccr_core.specs.Steps.{Schedules, Triggers, Step, Run}
+use Rattle.ccr_core.specs.Steps.{Schedules, Triggers, Answers, DoesBy, Step, Run}
 use Rattle.ccr_core.proofs.Keeping.{AreKnown, found_there, new_found}
 use Rattle.ccr_core.proofs.Opening.{names_are}
 use Rattle.ccr_core.proofs.RunningLists.{id_same}
@@ -147,19 +148,29 @@ module _ (s : State) (ordered : IsOrdered s) where
   ordered_triggered j (Made m) after known (idle, (places, finds, makes)) = ordered_made j places m after known makes
   ordered_triggered j r after known (held, is) = subst IsOrdered (sym is) ordered
 
-  ordered_step : (e : EventData) (r : Replied) (after : State) → AreKnown s.history.builds s.history.builds → Step s e r after → IsOrdered after
-  ordered_step (set_pipeline p) (Ok Set) after known (free, is) = subst IsOrdered (sym is) ordered
-  ordered_step (checked resource vs) (Ok (New n)) after known (free, (news, is)) =
+  ordered_answered : (a : AnswerTo) (r : Reply) (after : State) → Answers s a r after → IsOrdered after
+  ordered_answered a Goes after (b, at, takes) = ordered_taken b a.given None after takes
+  ordered_answered a (Ends o) after (b, at, takes) = ordered_taken b a.given (Some o) after takes
+  ordered_answered a r after answers = absurd answers
+
+  ordered_other : (e : EventData) (r : Reply) (after : State) → AreKnown s.history.builds s.history.builds → DoesBy s None e r after → IsOrdered after
+  ordered_other (set_pipeline p) Set after known is = subst IsOrdered (sym is) ordered
+  ordered_other (checked resource vs) (New n) after known (news, is) =
       subst IsOrdered (sym is) (ordered_same _ s.running (report_builds (pipeline_of s) resource vs s.history) refl)
-  ordered_step (schedule job) (Ok r) after known (free, (j, at, how)) = ordered_scheduled j r after known how
-  ordered_step (trigger job) (Ok r) after known (free, (j, at, how)) = ordered_triggered j r after known how
-  ordered_step (answer j n turn x) (Ok Goes) after known (free, (b, at, takes)) = ordered_taken b x None after takes
-  ordered_step (answer j n turn x) (Ok (Ends o)) after known (free, (b, at, takes)) = ordered_taken b x (Some o) after takes
-  ordered_step (pin resource p) (Ok Pinned) after known (free, is) = subst IsOrdered (sym is) ordered
-  ordered_step (unpin resource) (Ok Unpinned) after known (free, is) = subst IsOrdered (sym is) ordered
-  ordered_step restart (Ok Restarted) after known (free, is) = subst IsOrdered (sym is) tt
+  ordered_other (schedule job) r after known (j, at, how) = ordered_scheduled j r after known how
+  ordered_other (trigger job) r after known (j, at, how) = ordered_triggered j r after known how
+  ordered_other (pin resource p) Pinned after known is = subst IsOrdered (sym is) ordered
+  ordered_other (unpin resource) Unpinned after known is = subst IsOrdered (sym is) ordered
+  ordered_other restart Restarted after known is = subst IsOrdered (sym is) tt
+  ordered_other e r after known does = absurd does
+
+  ordered_step : (e : EventData) (r : Replied) (after : State) → AreKnown s.history.builds s.history.builds → Step s e r after → IsOrdered after
+  ordered_step e (Ok r) after known (free, does) = by (addressed e) does
+    where
+      by : (o : Option AnswerTo) → DoesBy s o e r after → IsOrdered after
+      by (Some a) answers = ordered_answered a r after answers
+      by None other = ordered_other e r after known other
   ordered_step e (Err f) after known (may, is) = subst IsOrdered (sym is) ordered
-  ordered_step e (Ok r) after known (free, does) = absurd does
 
 -- ---- each run
 ordered_run : (s : State) (es : List EventData) (rs : List Replied) (after : State) → AllByRecursion IsEvent es → IsSound s → IsOrdered s → Run s es rs after → IsOrdered after

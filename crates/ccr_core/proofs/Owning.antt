@@ -19,13 +19,14 @@ use Rattle.ccr_core.specs.declared.reply.Reply.TheVariants.{Set, New, Made, NotN
 use Rattle.ccr_problem.specs.ProblemOf.{job_of}
 use Rattle.ccr_core.specs.Builds.{status_of, Settles, begun, history_with, with_made, Makes, with_answer, with_answered, Takes, cut}
 use Rattle.ccr_core.specs.Choices.{used_at}
-use Rattle.ccr_core.specs.Events.{EventData, set_pipeline, checked, schedule, trigger, answer, pin, unpin, restart}
-use Rattle.ccr_core.specs.Faults.{IsFree}
-use Rattle.ccr_core.specs.Own.{own, own_of}
+use Rattle.ccr_core.specs.Addressed.{AnswerTo, addressed}
+use Rattle.ccr_core.specs.Events.{EventData, set_pipeline, checked, schedule, trigger, pin, unpin, restart}
+use Rattle.ccr_core.specs.Faults.{MeetsBy, IsFree}
+use Rattle.ccr_core.specs.Own.{said_to, own, own_of}
 use Rattle.ccr_core.specs.Seen.{pairs_of, report, report_by}
 use Rattle.ccr_core.specs.Replies.{Replied}
 use Rattle.ccr_core.specs.State.{RunningData, State, pipeline_of, moved_on, with_history, is_run_of, running_at, replaced, without}
-use Rattle.ccr_core.specs.Steps.{with_pipeline, Schedules, Triggers, Step, Run}
+use Rattle.ccr_core.specs.Steps.{with_pipeline, Schedules, Triggers, Answers, DoesBy, Step, Run}
 use Rattle.ccr_core.specs.Told.{HasItsOwn, EachHasItsOwn, RunsAgree}
 use Rattle.ccr_core.proofs.Counting.{count_new, count_edited, count_changed, fresh}
 use Rattle.ccr_core.proofs.RunningLists.{all_weaker, all_append, id_same, id_refl, id_flip, at_id, IsApart, apart_with, apart_less, apart_more, all_with, all_less, all_at}
@@ -218,35 +219,34 @@ cut_kept past s k = record {
   apart = tt;
 }
 
-pub own_err : (j : Text) (n : ℕ) (e : EventData) (f : CoreFault) → own_of j n e (Err f) ≡ []
-own_err j n (set_pipeline p) f = refl
-own_err j n (checked resource vs) f = refl
-own_err j n (schedule job) f = refl
-own_err j n (trigger job) f = refl
-own_err j n (answer job number turn x) f = refl
-own_err j n (pin resource p) f = refl
-own_err j n (unpin resource) f = refl
-own_err j n restart f = refl
-
 -- the answers that were each build's own, with those of one event more
 abbrev pub past_by : Past → EventData → Replied → Past
 past_by past e r j n = past j n ++ own_of j n e r
 
-pub step_kept : (past : Past) (s : State) (e : EventData) (r : Replied) (after : State) → IsKept past s → Step s e r after → IsKept (past_by past e r) after
-step_kept past s (set_pipeline p) (Ok Set) after k (free, is) = with_nothing past after (subst (IsKept past) (sym is) (set_kept past s p (none_runs s p free) k))
-step_kept past s (checked resource vs) (Ok (New n)) after k (free, (news, is)) =
+answered_kept : (past : Past) (s : State) (a : AnswerTo) (r : Reply) (after : State) → IsKept past s → Answers s a r after → IsKept (λ j n. past j n ++ said_to j n (Some a)) after
+answered_kept past s a Goes after k (b, at, takes) = taken_kept past s a.job a.number b a.given None after k at takes
+answered_kept past s a (Ends o) after k (b, at, takes) = taken_kept past s a.job a.number b a.given (Some o) after k at takes
+answered_kept past s a r after k does = absurd does
+
+other_kept : (past : Past) (s : State) (e : EventData) (r : Reply) (after : State) → IsKept past s → ((f : CoreFault) → ¬ MeetsBy s None e f) → DoesBy s None e r after → IsKept past after
+other_kept past s (set_pipeline p) Set after k free is = subst (IsKept past) (sym is) (set_kept past s p (none_runs s p free) k)
+other_kept past s (checked resource vs) (New n) after k free (news, is) =
     let edits = report (pipeline_of s) resource vs in
-    with_nothing past after (subst (IsKept past) (sym is) (kept_on past s (changed edits s.history) (λ j. count_changed j edits s.history) k))
-step_kept past s (schedule job) (Ok r) after k (free, (j, at, how)) = with_nothing past after (scheduled_kept past s job j r after k at how)
-step_kept past s (trigger job) (Ok r) after k (free, (j, at, how)) = with_nothing past after (triggered_kept past s job j r after k at how)
-step_kept past s (answer j n turn x) (Ok Goes) after k (free, (b, at, takes)) = taken_kept past s j n b x None after k at takes
-step_kept past s (answer j n turn x) (Ok (Ends o)) after k (free, (b, at, takes)) = taken_kept past s j n b x (Some o) after k at takes
-step_kept past s (pin resource p) (Ok Pinned) after k (free, is) = with_nothing past after (subst (IsKept past) (sym is) (kept_on past s (edited (pin_set resource p) s.history) (λ j. count_edited j (pin_set resource p) s.history) k))
-step_kept past s (unpin resource) (Ok Unpinned) after k (free, is) = with_nothing past after (subst (IsKept past) (sym is) (kept_on past s (edited (pin_cleared resource) s.history) (λ j. count_edited j (pin_cleared resource) s.history) k))
-step_kept past s restart (Ok Restarted) after k (free, is) = with_nothing past after (subst (IsKept past) (sym is) (cut_kept past s k))
-step_kept past s e (Err f) after k (may, is) =
-    subst (IsKept (past_by past e (Err f))) (sym is) (kept_past past (past_by past e (Err f)) s (λ j n. sym (ap (λ l. past j n ++ l) (own_err j n e f) ∙ append-nil (past j n))) k)
-step_kept past s e (Ok r) after k (free, does) = absurd does
+    subst (IsKept past) (sym is) (kept_on past s (changed edits s.history) (λ j. count_changed j edits s.history) k)
+other_kept past s (schedule job) r after k free (j, at, how) = scheduled_kept past s job j r after k at how
+other_kept past s (trigger job) r after k free (j, at, how) = triggered_kept past s job j r after k at how
+other_kept past s (pin resource p) Pinned after k free is = subst (IsKept past) (sym is) (kept_on past s (edited (pin_set resource p) s.history) (λ j. count_edited j (pin_set resource p) s.history) k)
+other_kept past s (unpin resource) Unpinned after k free is = subst (IsKept past) (sym is) (kept_on past s (edited (pin_cleared resource) s.history) (λ j. count_edited j (pin_cleared resource) s.history) k)
+other_kept past s restart Restarted after k free is = subst (IsKept past) (sym is) (cut_kept past s k)
+other_kept past s e r after k free does = absurd does
+
+pub step_kept : (past : Past) (s : State) (e : EventData) (r : Replied) (after : State) → IsKept past s → Step s e r after → IsKept (past_by past e r) after
+step_kept past s e (Ok r) after k (free, does) = by (addressed e) free does
+  where
+    by : (o : Option AnswerTo) → ((f : CoreFault) → ¬ MeetsBy s o e f) → DoesBy s o e r after → IsKept (λ j n. past j n ++ said_to j n o) after
+    by (Some a) free does = answered_kept past s a r after k does
+    by None free does = with_nothing past after (other_kept past s e r after k free does)
+step_kept past s e (Err f) after k (may, is) = with_nothing past after (subst (IsKept past) (sym is) k)
 
 -- ---- each run keeps it
 pub run_kept : (past : Past) (s : State) (es : List EventData) (rs : List Replied) (after : State) → IsKept past s → Run s es rs after → IsKept (λ j n. past j n ++ own j n es rs) after

@@ -25,19 +25,21 @@ use Rattle.ccr_steps.specs.Progress.{IsNext}
 use Rattle.ccr_steps.specs.declared.outcome.Outcome.{Outcome}
 use Rattle.ccr_steps.specs.declared.outcome.Outcome.TheVariants as outcome
 use Rattle.ccr_choice.specs.Satisfies.{Satisfies}
+use Rattle.ccr_core.specs.declared.fault.CoreFault.{CoreFault}
 use Rattle.ccr_core.specs.declared.fault.CoreFault.TheVariants.{TableFull}
 use Rattle.ccr_core.specs.declared.reply.Reply.{Reply}
 use Rattle.ccr_core.specs.declared.reply.Reply.TheVariants.{Set, New, Made, NotNew, Goes, Ends, Pinned, Unpinned, Restarted}
 use Rattle.ccr_problem.specs.ProblemOf.{resource_of, scope_of, job_of, problem_with}
 use Rattle.ccr_core.specs.Builds.{status_of, begun, history_with, Makes, with_answer, Takes as TakesAnswer, cut}
 use Rattle.ccr_core.specs.Choices.{best, Finds, used_at}
-use Rattle.ccr_core.specs.Events.{EventData, set_pipeline, checked, schedule, trigger, answer, pin, unpin, restart}
-use Rattle.ccr_core.specs.Faults.{PushOverfills}
-use Rattle.ccr_core.specs.Kept.{IsPipeline, IsAnswer, IsEvent, IsStart, IsTakenTo, EachChangeIsTaken}
+use Rattle.ccr_core.specs.Addressed.{AnswerTo, addressed}
+use Rattle.ccr_core.specs.Events.{EventData, set_pipeline, checked, schedule, trigger, pin, unpin, restart}
+use Rattle.ccr_core.specs.Faults.{PushOverfills, AnswerMeets, MeetsBy}
+use Rattle.ccr_core.specs.Kept.{IsPipeline, IsAnswer, IsEventBy, IsEvent, IsStart, IsTakenTo, EachChangeIsTaken}
 use Rattle.ccr_core.specs.Replies.{Replied}
 use Rattle.ccr_core.specs.Seen.{pairs_of, is_used_for, report, Overfills, pushed_by, report_by}
 use Rattle.ccr_core.specs.State.{RunningData, State, pipeline_of, moved_on, with_history, running_at, replaced, without}
-use Rattle.ccr_core.specs.Steps.{with_pipeline, Schedules, Triggers, Step, Run}
+use Rattle.ccr_core.specs.Steps.{with_pipeline, Schedules, Triggers, Answers, DoesBy, Step, Run}
 use Rattle.ccr_core.proofs.Choosing.{IsSeen, ArePlaced, satisfied_placed, chosen_seen, are_used}
 use Rattle.ccr_core.proofs.Counting.{count_edited, fresh}
 use Rattle.ccr_core.proofs.Keeping.{AreKnown, known_start, known_new, known_end, number_known, new_found, found_there, found_other}
@@ -348,27 +350,37 @@ set_sound s p piped none k = record {
   each = subst (AllByRecursion (IsSoundBuild p (edited (text p.text) s.history))) (sym none) tt;
 }
 
-pub leaves_step : (s : State) (e : EventData) (r : Replied) (after : State) → IsEvent e → IsSound s → Step s e r after → Leaves s after
-leaves_step s (set_pipeline p) (Ok Set) after piped k (free, is) =
+leaves_answered : (s : State) (a : AnswerTo) (r : Reply) (after : State) → IsAnswer a.given → IsSound s → ((f : CoreFault) → ¬ AnswerMeets s a f) → Answers s a r after → Leaves s after
+leaves_answered s a Goes after up k free (b, at, takes) = leaves_taken s a.job a.number b a.given None after k at (free TableFull) up takes
+leaves_answered s a (Ends o) after up k free (b, at, takes) = leaves_taken s a.job a.number b a.given (Some o) after k at (free TableFull) up takes
+leaves_answered s a r after up k free answers = absurd answers
+
+leaves_other : (s : State) (e : EventData) (r : Reply) (after : State) → IsEventBy None e → IsSound s → ((f : CoreFault) → ¬ MeetsBy s None e f) → DoesBy s None e r after → Leaves s after
+leaves_other s (set_pipeline p) Set after piped k free is =
     subst (Leaves s) (sym is) (record { sound = set_sound s p piped (none_runs s p free) k; taken = (text p.text ∷ [], (tt, tt), refl) })
-leaves_step s (checked resource vs) (Ok (New n)) after up k (free, (news, is)) =
+leaves_other s (checked resource vs) (New n) after up k free (news, is) =
     let edits = report (pipeline_of s) resource vs in
     subst (Leaves s) (sym is) (record { sound = sound_history s edits (report_builds (pipeline_of s) resource vs s.history) k; taken = (edits, takes_report s resource vs (free TableFull) up, refl) })
-leaves_step s (schedule job) (Ok r) after up k (free, (j, at, how)) = leaves_scheduled s job j r after k at (free TableFull) how
-leaves_step s (trigger job) (Ok r) after up k (free, (j, at, how)) = leaves_triggered s job j r after k at (free TableFull) how
-leaves_step s (answer j n turn x) (Ok Goes) after up k (free, (b, at, takes)) = leaves_taken s j n b x None after k at (free TableFull) up takes
-leaves_step s (answer j n turn x) (Ok (Ends o)) after up k (free, (b, at, takes)) = leaves_taken s j n b x (Some o) after k at (free TableFull) up takes
-leaves_step s (pin resource p) (Ok Pinned) after up k (free, is) =
+leaves_other s (schedule job) r after up k free (j, at, how) = leaves_scheduled s job j r after k at (free TableFull) how
+leaves_other s (trigger job) r after up k free (j, at, how) = leaves_triggered s job j r after k at (free TableFull) how
+leaves_other s (pin resource p) Pinned after up k free is =
     subst (Leaves s) (sym is) (record { sound = sound_history s (pin_set resource p ∷ []) refl k; taken = (pin_set resource p ∷ [], (up, tt), refl) })
-leaves_step s (unpin resource) (Ok Unpinned) after up k (free, is) =
+leaves_other s (unpin resource) Unpinned after up k free is =
     subst (Leaves s) (sym is) (record { sound = sound_history s (pin_cleared resource ∷ []) refl k; taken = (pin_cleared resource ∷ [], (tt, tt), refl) })
-leaves_step s restart (Ok Restarted) after up k (free, is) =
+leaves_other s restart Restarted after up k free is =
     subst (Leaves s) (sym is) (record {
       sound = record { piped = k.piped; numbers = cut_known s.running s.history k.numbers; apart = tt; each = tt };
       taken = (map cut s.running, cut_takes s.running s.history k.apart (all_weaker (λ b sb. is_running s.history b sb.held) s.running k.each), refl);
     })
+leaves_other s e r after up k free does = absurd does
+
+pub leaves_step : (s : State) (e : EventData) (r : Replied) (after : State) → IsEvent e → IsSound s → Step s e r after → Leaves s after
+leaves_step s e (Ok r) after up k (free, does) = by (addressed e) up free does
+  where
+    by : (o : Option AnswerTo) → IsEventBy o e → ((f : CoreFault) → ¬ MeetsBy s o e f) → DoesBy s o e r after → Leaves s after
+    by (Some a) up free answers = leaves_answered s a r after up k free answers
+    by None up free other = leaves_other s e r after up k free other
 leaves_step s e (Err f) after up k (may, is) = leaves_same s after k is
-leaves_step s e (Ok r) after up k (free, does) = absurd does
 
 -- ---- each run
 pub leaves_run : (s : State) (es : List EventData) (rs : List Replied) (after : State) → AllByRecursion IsEvent es → IsSound s → Run s es rs after → Leaves s after

@@ -6,18 +6,19 @@ use Rattle.ccr_history.specs.declared.build.Status.TheVariants.{Running, Succeed
 use Rattle.ccr_history.specs.Text.{Text}
 use Rattle.ccr_history.specs.Builds.{BuildData, build_of}
 use Rattle.ccr_steps.specs.Asks.{AnswerData}
+use Rattle.ccr_core.specs.declared.reply.Reply.{Reply}
 use Rattle.ccr_core.specs.declared.reply.Reply.TheVariants.{Goes, Ends}
+use Rattle.ccr_core.specs.Addressed.{AnswerTo, addressed}
 use Rattle.ccr_core.specs.Events.{EventData, set_pipeline, checked, schedule, trigger, answer, pin, unpin, restart}
 use Rattle.ccr_core.specs.Fates.{HasRestart, HasFate, EachHasItsFate, EndedStays}
 use Rattle.ccr_core.specs.Kept.{IsEvent, IsStart}
-use Rattle.ccr_core.specs.Own.{own, own_of}
+use Rattle.ccr_core.specs.Own.{said_to, own, own_of}
 use Rattle.ccr_core.specs.Replies.{Replied}
 use Rattle.ccr_core.specs.State.{RunningData, State, pipeline_of, running_at}
-use Rattle.ccr_core.specs.Steps.{Step, Run}
+use Rattle.ccr_core.specs.Steps.{Answers, DoesBy, Step, Run}
 use Rattle.ccr_core.specs.Told.{HasEnded, EndsIn, EndsAsMeant}
 use Rattle.ccr_core.proofs.Ending.{each_ends_as_meant, each_is_cut_short}
 use Rattle.ccr_core.proofs.Keeping.{all_stay}
-use Rattle.ccr_core.proofs.Owning.{own_err}
 use Rattle.ccr_core.proofs.RunningLists.{all_append, id_same, at_id, all_at}
 use Rattle.ccr_core.proofs.Sound.{IsSoundBuild, IsSound, Leaves, leaves_step, leaves_run, starts}
 
@@ -61,17 +62,17 @@ not_owned s j job n number x c b k found done at = by (bytes_eq j job && n == nu
         absurd (not_running s j n c b k found done (ap (λ y. running_at y n s.running) p ∙ ap (λ y. running_at job y s.running) q ∙ at))
 
 own_none : (s : State) (e : EventData) (r : Replied) (after : State) (j : Text) (n : ℕ) (c : BuildData) → IsSound s → Step s e r after → build_of j n s.history.builds ≡ Some c → c.status ≢ Running → own_of j n e r ≡ []
-own_none s (set_pipeline p) (Ok r) after j n c k step found done = refl
-own_none s (checked resource vs) (Ok r) after j n c k step found done = refl
-own_none s (schedule job) (Ok r) after j n c k step found done = refl
-own_none s (trigger job) (Ok r) after j n c k step found done = refl
-own_none s (answer job number turn x) (Ok Goes) after j n c k (free, (b, at, takes)) found done = not_owned s j job n number x c b k found done at
-own_none s (answer job number turn x) (Ok (Ends o)) after j n c k (free, (b, at, takes)) found done = not_owned s j job n number x c b k found done at
-own_none s (answer job number turn x) (Ok r) after j n c k (free, does) found done = absurd does
-own_none s (pin resource p) (Ok r) after j n c k step found done = refl
-own_none s (unpin resource) (Ok r) after j n c k step found done = refl
-own_none s restart (Ok r) after j n c k step found done = refl
-own_none s e (Err f) after j n c k step found done = own_err j n e f
+own_none s e (Ok r) after j n c k (free, does) found done = by (addressed e) does
+  where
+    on : (a : AnswerTo) (u : Reply) → Answers s a u after → said_to j n (Some a) ≡ []
+    on a Goes (b, at, takes) = not_owned s j a.job n a.number a.given c b k found done at
+    on a (Ends o) (b, at, takes) = not_owned s j a.job n a.number a.given c b k found done at
+    on a u answers = absurd answers
+
+    by : (o : Option AnswerTo) → DoesBy s o e r after → said_to j n o ≡ []
+    by (Some a) answers = on a r answers
+    by None other = refl
+own_none s e (Err f) after j n c k step found done = refl
 
 owns_none : (s : State) (es : List EventData) (rs : List Replied) (after : State) (j : Text) (n : ℕ) (c : BuildData) → AllByRecursion IsEvent es → IsSound s → Run s es rs after → build_of j n s.history.builds ≡ Some c → c.status ≢ Running → own j n es rs ≡ []
 owns_none s [] [] after j n c up k run found done = refl

@@ -11,7 +11,7 @@ use Rattle.ccr_core.specs.State.{State}
 use Rattle.ccr_core.specs.Steps.{Run}
 use Rattle.ccr_core.specs.Told.{EndsAsMeant}
 
--- one of the events is a restart
+-- one of the events is a restart, the only event that cuts builds short
 abbrev pub HasRestart : List EventData → Type 0
 HasRestart [] = ⊥
 HasRestart (restart ∷ es) = ⊤

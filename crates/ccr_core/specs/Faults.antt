@@ -1,5 +1,5 @@
 -- Which fault an event meets.
-use Rattle.std.specs.Prelude.{◌≡◌, ◌≢◌, ◌⊎◌, ℕ, ◌≤◌, ◌<◌, [], ◌∷◌, length, Some, None}
+use Rattle.std.specs.Prelude.{◌≡◌, ◌≢◌, ◌⊎◌, ℕ, ◌≤◌, ◌<◌, [], ◌∷◌, List, length, Option, Some, None, IsSomeAnd}
 use Rattle.ccr_history.specs.Text.{Text}
 use Rattle.ccr_history.specs.TextMap.{TextMap}
 use Rattle.ccr_history.specs.declared.builds.TheConstants.{MOST_BUILDS}
@@ -10,7 +10,8 @@ use Rattle.ccr_core.specs.declared.fault.CoreFault.{CoreFault}
 use Rattle.ccr_core.specs.declared.fault.CoreFault.TheVariants.{NoPipeline, NoJob, NoResource, NoBuild, BuildsOpen, NotWanted, TooManyOpen, TableFull, NoMemory}
 use Rattle.ccr_core.specs.declared.limit.TheConstants.{MOST_RUNNING}
 use Rattle.ccr_problem.specs.ProblemOf.{resource_of, job_of}
-use Rattle.ccr_core.specs.Events.{EventData, set_pipeline, checked, schedule, trigger, answer, pin, unpin}
+use Rattle.ccr_core.specs.Addressed.{AnswerTo, addressed}
+use Rattle.ccr_core.specs.Events.{EventData, set_pipeline, checked, schedule, trigger, answer, pin, unpin, restart}
 use Rattle.ccr_core.specs.State.{RunningData, State, resources_of, jobs_of, running_at}
 use Rattle.ccr_core.specs.Seen.{Overfills, pushed_by}
 
@@ -26,28 +27,53 @@ PushOverfills s job number x =
     × (running_at job number s.running ≡ Some b) × IsNext b.inputs b.plan b.exchanges a
     × (pushed_by a x ≡ Some (resource, v)) × Overfills s resource (v ∷ [])
 
+-- ---- which faults an event meets: in each of these tables, a fault with no row of its own is met by no such event
+-- a new pipeline is to be set
+abbrev pub PipelineMeets : State → CoreFault → Type 0
+PipelineMeets s BuildsOpen = s.running ≢ []
+PipelineMeets s f = ⊥
+
+-- a resource is named
+abbrev pub ResourceMeets : State → Text → CoreFault → Type 0
+ResourceMeets s resource NoPipeline = s.pipeline ≡ None
+ResourceMeets s resource NoResource = resource_of resource (resources_of s) ≡ None
+ResourceMeets s resource f = ⊥
+
+-- versions of a resource are reported
+abbrev pub ReportMeets : State → Text → List TextMap → CoreFault → Type 0
+ReportMeets s resource vs TableFull = Overfills s resource vs
+ReportMeets s resource vs f = ResourceMeets s resource f
+
+-- a build of a job is to be made
+abbrev pub JobMeets : State → Text → CoreFault → Type 0
+JobMeets s job NoPipeline = s.pipeline ≡ None
+JobMeets s job NoJob = job_of job (jobs_of s) ≡ None
+JobMeets s job TooManyOpen = MOST_RUNNING ≤ length s.running
+JobMeets s job TableFull = MOST_BUILDS ≤ length s.history.builds
+JobMeets s job f = ⊥
+
+-- a build is given an answer; only one that names a turn may name another than the build's
+abbrev pub AnswerMeets : State → AnswerTo → CoreFault → Type 0
+AnswerMeets s a NoBuild = running_at a.job a.number s.running ≡ None
+AnswerMeets s a NotWanted = IsSomeAnd a.turn (HasOtherTurn s a.job a.number)
+AnswerMeets s a TableFull = PushOverfills s a.job a.number a.given
+AnswerMeets s a f = ⊥
+
+-- the fault that an event meets by what it says to a build, or, where it says nothing to one, by what it is
+abbrev pub MeetsBy : State → Option AnswerTo → EventData → CoreFault → Type 0
+MeetsBy s (Some a) e f = AnswerMeets s a f
+MeetsBy s None (set_pipeline p) f = PipelineMeets s f
+MeetsBy s None (checked resource vs) f = ReportMeets s resource vs f
+MeetsBy s None (schedule job) f = JobMeets s job f
+MeetsBy s None (trigger job) f = JobMeets s job f
+MeetsBy s None (answer job number turn x) f = ⊥
+MeetsBy s None (pin resource p) f = ResourceMeets s resource f
+MeetsBy s None (unpin resource) f = ResourceMeets s resource f
+MeetsBy s None restart f = ⊥
+
 -- the event meets the fault; out of memory is no fault of an event
 abbrev pub Meets : State → EventData → CoreFault → Type 0
-Meets s (set_pipeline p) BuildsOpen = s.running ≢ []
-Meets s (checked resource vs) NoPipeline = s.pipeline ≡ None
-Meets s (checked resource vs) NoResource = resource_of resource (resources_of s) ≡ None
-Meets s (checked resource vs) TableFull = Overfills s resource vs
-Meets s (schedule job) NoPipeline = s.pipeline ≡ None
-Meets s (schedule job) NoJob = job_of job (jobs_of s) ≡ None
-Meets s (schedule job) TooManyOpen = MOST_RUNNING ≤ length s.running
-Meets s (schedule job) TableFull = MOST_BUILDS ≤ length s.history.builds
-Meets s (trigger job) NoPipeline = s.pipeline ≡ None
-Meets s (trigger job) NoJob = job_of job (jobs_of s) ≡ None
-Meets s (trigger job) TooManyOpen = MOST_RUNNING ≤ length s.running
-Meets s (trigger job) TableFull = MOST_BUILDS ≤ length s.history.builds
-Meets s (answer job number turn x) NoBuild = running_at job number s.running ≡ None
-Meets s (answer job number turn x) NotWanted = HasOtherTurn s job number turn
-Meets s (answer job number turn x) TableFull = PushOverfills s job number x
-Meets s (pin resource p) NoPipeline = s.pipeline ≡ None
-Meets s (pin resource p) NoResource = resource_of resource (resources_of s) ≡ None
-Meets s (unpin resource) NoPipeline = s.pipeline ≡ None
-Meets s (unpin resource) NoResource = resource_of resource (resources_of s) ≡ None
-Meets s e f = ⊥
+Meets s e f = MeetsBy s (addressed e) e f
 
 -- the order in which faults count
 abbrev pub fault_number : CoreFault → ℕ

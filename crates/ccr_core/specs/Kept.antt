@@ -1,5 +1,5 @@
 -- What a history takes, over any list of events.
-use Rattle.std.specs.Prelude.{◌≡◌, List, [], Some, All, ⊤}
+use Rattle.std.specs.Prelude.{◌≡◌, List, [], Option, Some, None, All, ⊤}
 use Rattle.std.specs.List.{AllByRecursion}
 use Rattle.ccr_history.specs.TextMap.{IsAscending}
 use Rattle.ccr_history.specs.declared.build.Status.TheVariants.{Running}
@@ -10,7 +10,8 @@ use Rattle.ccr_pipeline.specs.Limits.{IsPlan}
 use Rattle.ccr_pipeline.specs.Links.{AreLinked}
 use Rattle.ccr_pipeline.specs.Pipelines.{PipelineData}
 use Rattle.ccr_steps.specs.Asks.{AnswerData, pushed}
-use Rattle.ccr_core.specs.Events.{EventData, set_pipeline, checked, answer, pin}
+use Rattle.ccr_core.specs.Addressed.{AnswerTo, addressed}
+use Rattle.ccr_core.specs.Events.{EventData, set_pipeline, checked, schedule, trigger, answer, pin, unpin, restart}
 use Rattle.ccr_core.specs.Replies.{Replied}
 use Rattle.ccr_core.specs.Seen.{AreThoseUsed}
 use Rattle.ccr_core.specs.State.{RunningData, State, pipeline_of}
@@ -22,18 +23,26 @@ pub record IsPipeline (p : PipelineData) : Type 0 where
   pub plans : All (λ j. IsPlan j.plan) p.jobs
   pub linked : AreLinked p.resources p.jobs
 
--- a version that an answer brings has its keys in order
+-- a version that an answer brings has its keys in order; only an answer to a push brings one
 abbrev pub IsAnswer : AnswerData → Type 0
 IsAnswer (pushed v) = IsAscending v
 IsAnswer x = ⊤
 
+-- what an event keeps by what it says to a build, or, where it says nothing to one, by what it is
+abbrev pub IsEventBy : Option AnswerTo → EventData → Type 0
+IsEventBy (Some a) e = IsAnswer a.given
+IsEventBy None (set_pipeline p) = IsPipeline p
+IsEventBy None (checked resource vs) = AllByRecursion IsAscending vs
+IsEventBy None (schedule job) = ⊤
+IsEventBy None (trigger job) = ⊤
+IsEventBy None (answer job number turn x) = ⊥
+IsEventBy None (pin resource p) = IsAscending p
+IsEventBy None (unpin resource) = ⊤
+IsEventBy None restart = ⊤
+
 -- what every event keeps: a pipeline was read, and versions and pins have their keys in order
 abbrev pub IsEvent : EventData → Type 0
-IsEvent (set_pipeline p) = IsPipeline p
-IsEvent (checked resource vs) = AllByRecursion IsAscending vs
-IsEvent (answer job number turn x) = IsAnswer x
-IsEvent (pin resource p) = IsAscending p
-IsEvent e = ⊤
+IsEvent e = IsEventBy (addressed e) e
 
 -- a state from which a run begins: its history is one, its pipeline was read, and nothing runs
 pub record IsStart (s : State) : Type 0 where

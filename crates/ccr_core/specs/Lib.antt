@@ -1,5 +1,6 @@
 pub mod State
 pub mod Events
+pub mod Addressed
 pub mod Replies
 pub mod Seen
 pub mod Faults

@@ -27,7 +27,7 @@ asked false job = schedule job
 abbrev pub HasRoom : HistoryData → ℕ → Type 0
 HasRoom h running = (running < MOST_RUNNING) × (length h.builds < MOST_BUILDS)
 
--- why there is no room for one more build
+-- why there is no room for one more build; no other fault says so
 abbrev pub LacksRoom : HistoryData → ℕ → CoreFault → Type 0
 LacksRoom h running TooManyOpen = MOST_RUNNING ≤ running
 LacksRoom h running TableFull = (running < MOST_RUNNING) × (MOST_BUILDS ≤ length h.builds)
@@ -50,7 +50,7 @@ abbrev pub HasResource : CoreData → Text → Type 0
 HasResource c name =
     (p : PipelineData) × (r : ResourceData) × (c.pipeline ≡ Some p) × (resource_of name p.resources ≡ Some r)
 
--- why there is no resource of this name
+-- why there is no resource of this name; no other fault says so
 abbrev pub LacksResource : CoreData → Text → CoreFault → Type 0
 LacksResource c name NoPipeline = c.pipeline ≡ None
 LacksResource c name NoResource = (p : PipelineData) × (c.pipeline ≡ Some p) × (resource_of name p.resources ≡ None)
