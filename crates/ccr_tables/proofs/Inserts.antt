@@ -116,6 +116,7 @@ pub alters : (text : List ℕ) (params : Row) (change : Contents → Contents) (
 alters text params change old new (Ok count) does h = record {
   kept = record { was_open = λ _. h.1.was_open; committed = λ _. h.1.committed_is };
   made = (h.1.mode, λ these holds. does count these holds h.0);
+  opened = h.1.was_open;
 }
-alters text params change old new (Err e) does (inl h) = record { kept = elim h.1 [ inl same ↦ unchanged_keeps old new same | inr back ↦ back_keeps old new back ]; made = tt }
-alters text params change old new (Err e) does (inr h) = record { kept = unchanged_keeps old new h.2; made = tt }
+alters text params change old new (Err e) does (inl h) = record { kept = elim h.1 [ inl same ↦ unchanged_keeps old new same | inr back ↦ back_keeps old new back ]; made = tt; opened = tt }
+alters text params change old new (Err e) does (inr h) = record { kept = unchanged_keeps old new h.2; made = tt; opened = tt }

@@ -29,4 +29,8 @@ loop-write-preserved g c =
                   (step.made.1 (all_written (take c.loop-write.write-index c.args.writes.now) these) (before.made.1 these has)),
             );
           };
+      opened = λ clean inside some.
+          let early : HasCleanDisk mid = omega (arith, c.write_one.ensures.survives.clean) in
+          let before = so_far.steps early inside in
+          before.kept.was_open (c.in_ok-write_one.ensures.step clean before.made.0).opened;
     }
