@@ -119,6 +119,11 @@ pub on_ok_none : {X E : Type 0} (P : Type 0) (r : Result X E) → IfOk r (λ _. 
 on_ok_none P (Ok x) none = absurd none
 on_ok_none P (Err e) none = tt
 
+-- want of memory needs no answer
+pub no_memory_no_answer : {X : Type 0} (r : Result X StoreFault) (P : StoreFault → Type 0) → IfErr r (λ e. e ≡ NoMemory) → IfErr r (λ e. e ≢ NoMemory → P e)
+no_memory_no_answer (Ok x) P is = tt
+no_memory_no_answer (Err e) P is = λ other. absurd (other is)
+
 -- tables that were read and have the number of the format are as they were
 pub found_read : {E : Type 0} (r : Result (Unit {0}) E) (old new : State) (these : Contents) → OnOk r ((those : Contents) → Holds those old.now → HasFormat those) → OnOk r (IsUnchanged old new) → Holds these old.now
     → OnOk r (Holds these new.now × HasFormat these)

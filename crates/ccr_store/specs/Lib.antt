@@ -4,6 +4,7 @@ pub mod Writes
 pub mod Reordered
 pub mod StoreData
 pub mod Crash
+pub mod Causes
 pub mod Faults
 pub mod Listed
 pub mod Left

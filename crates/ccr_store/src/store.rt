@@ -8,7 +8,8 @@ ghost use Rattle.ccr_history.specs.Edits.{change_data, Accepts};
 ghost use Rattle.ccr_history.specs.Changes.{changed};
 ghost use Rattle.ccr_tables.specs.Contents.{Contents, Holds, Keeps, new_contents};
 ghost use Rattle.ccr_tables.specs.Schema.{no_schema};
-ghost use Rattle.ccr_storage.specs.declared.fault.StoreFault.TheVariants.{NotOurs};
+ghost use Rattle.ccr_storage.specs.declared.fault.StoreFault.TheVariants.{NoMemory, NotOurs};
+ghost use Rattle.ccr_store.specs.Causes.{HasAnswer};
 ghost use Rattle.ccr_store.specs.Crash.{IsChangedIn, Leaves};
 ghost use Rattle.ccr_store.specs.Left.{IsAsItWas};
 ghost use Rattle.ccr_store.specs.Readable.{IsReadable};
@@ -162,6 +163,8 @@ impl<S: Alter> Store<S> {
         ensures open { let old = state S.Store self.old.conn in
             let new = state S.Store self.new.conn in
             HasCleanDisk new → IsTrue new.is_open → HasCleanDisk old × IsTrue old.is_open }
+        ensures answered { HasCleanDisk (state S.Store self.new.conn) → IfErr result (λ fault. fault ≢ NoMemory
+            → HasAnswer S.Store change.now (state S.Store self.old.conn) fault) }
         ensures only { IfErr result (λ fault. fault ≢ NotOurs) }
         ensures tally { self.new.tally ≡ self.old.tally }
     {

@@ -1,9 +1,11 @@
 //! The table `pins`: the pin of each resource that has one.
 
-ghost use Rattle.std.specs.Prelude.{◌≡◌, pos, false, IsTrue, IfOk, ◌≢◌, IfErr};
-ghost use Rattle.sqlite.specs.State.{HasCleanDisk, Survives};
+ghost use Rattle.std.specs.Prelude.{◌≡◌, pos, false, IsTrue, IfOk, ◌≢◌, IfErr, ◌∷◌, []};
+ghost use Rattle.sqlite.specs.declared.types.Value.TheVariants.{Text};
+ghost use Rattle.sqlite.specs.State.{HasCleanDisk, Survives, ExecutesInside};
 ghost use Rattle.sqlite.specs.Held.{state};
 ghost use Rattle.ccr_tables.specs.Schema.{our_schema, pairs_schema};
+ghost use Rattle.ccr_tables.specs.Answered.{put_pin_text, remove_pin_text};
 ghost use Rattle.ccr_tables.specs.Cause.{cause_of};
 ghost use Rattle.ccr_tables.specs.Contents.{Holds};
 ghost use Rattle.ccr_tables.specs.Left.{OnlyReads};
@@ -38,6 +40,11 @@ pub(crate) fn put<S: Alter>(
     ensures step { let old = state S.Store tx.old.conn.now in
         let new = state S.Store tx.new.conn.now in
         HasCleanDisk new → IsTrue old.in_transaction → Alters old new (with_pin resource.now body.now) result }
+    ensures answered { let old = state S.Store tx.old.conn.now in
+        let new = state S.Store tx.new.conn.now in
+        HasCleanDisk new → IsTrue old.in_transaction
+        → IfErr result (λ e. ExecutesInside 0 put_pin_text
+        (Text resource.now ∷ Text body.now ∷ []) old new (Err e)) }
     ensures survives { Survives (state S.Store tx.old.conn.now) (state S.Store tx.new.conn.now) (λ _. ⊥) }
 {
     tx.execute(
@@ -52,6 +59,11 @@ pub(crate) fn remove<S: Alter>(tx: &mut Transaction<'_, S>, resource: &str) -> R
     ensures step { let old = state S.Store tx.old.conn.now in
         let new = state S.Store tx.new.conn.now in
         HasCleanDisk new → IsTrue old.in_transaction → Alters old new (without_pin resource.now) result }
+    ensures answered { let old = state S.Store tx.old.conn.now in
+        let new = state S.Store tx.new.conn.now in
+        HasCleanDisk new → IsTrue old.in_transaction
+        → IfErr result (λ e. ExecutesInside 0 remove_pin_text
+        (Text resource.now ∷ []) old new (Err e)) }
     ensures survives { Survives (state S.Store tx.old.conn.now) (state S.Store tx.new.conn.now) (λ _. ⊥) }
 {
     tx.execute("DELETE FROM pins WHERE resource = ?1", params![resource])

@@ -1,9 +1,11 @@
 //! The table `scopes`: whose version tables there are.
 
-ghost use Rattle.std.specs.Prelude.{◌≡◌, pos, false, IsTrue, IfOk, ◌≢◌, IfErr};
-ghost use Rattle.sqlite.specs.State.{HasCleanDisk, Survives};
+ghost use Rattle.std.specs.Prelude.{◌≡◌, pos, false, IsTrue, IfOk, ◌≢◌, IfErr, ◌∷◌, []};
+ghost use Rattle.sqlite.specs.declared.types.Value.TheVariants.{Int, Text};
+ghost use Rattle.sqlite.specs.State.{HasCleanDisk, Survives, ExecutesInside};
 ghost use Rattle.sqlite.specs.Held.{state};
 ghost use Rattle.ccr_tables.specs.Schema.{meta_schema, our_schema, scopes_schema};
+ghost use Rattle.ccr_tables.specs.Answered.{scope_text};
 ghost use Rattle.ccr_tables.specs.Cause.{cause_of};
 ghost use Rattle.ccr_tables.specs.Contents.{Holds};
 ghost use Rattle.ccr_tables.specs.Left.{OnlyReads};
@@ -40,6 +42,11 @@ pub(crate) fn insert<S: Alter>(
     ensures step { let old = state S.Store tx.old.conn.now in
         let new = state S.Store tx.new.conn.now in
         HasCleanDisk new → IsTrue old.in_transaction → Alters old new (with_scope id resource.now kind.now source.now) result }
+    ensures answered { let old = state S.Store tx.old.conn.now in
+        let new = state S.Store tx.new.conn.now in
+        HasCleanDisk new → IsTrue old.in_transaction
+        → IfErr result (λ e. ExecutesInside 0 scope_text
+        (Int (pos id) ∷ Text resource.now ∷ Text kind.now ∷ Text source.now ∷ []) old new (Err e)) }
     ensures survives { Survives (state S.Store tx.old.conn.now) (state S.Store tx.new.conn.now) (λ _. ⊥) }
 {
     tx.execute(

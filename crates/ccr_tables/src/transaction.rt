@@ -1,8 +1,9 @@
 //! Writes in one transaction.
 
-ghost use Rattle.std.specs.Prelude.{◌≡◌, ◌≢◌, [], false, IsTrue, OnOk, OnErr};
+ghost use Rattle.std.specs.Prelude.{◌≡◌, ◌≢◌, [], false, IsTrue, IfErr, OnOk, OnErr};
 ghost use Rattle.sqlite.specs.State.{HasCleanDisk, Survives};
 ghost use Rattle.sqlite.specs.Held.{state};
+ghost use Rattle.ccr_tables.specs.Answered.{FailedAtWrite, IsAnswered};
 ghost use Rattle.ccr_tables.specs.Step.{AltersAll, Turns, IsLeftBy};
 ghost use Rattle.ccr_tables.specs.Written.{all_written};
 
@@ -17,6 +18,9 @@ fn write_all<S: Alter>(tx: &mut Transaction<'_, S>, writes: &[Write]) -> Result<
     ensures opened { let old = state S.Store tx.old.conn.now in
         HasCleanDisk (state S.Store tx.new.conn.now) → IsTrue old.in_transaction
         → OnOk result (writes.now ≢ [] → IsTrue old.is_open) }
+    ensures answered { let old = state S.Store tx.old.conn.now in
+        HasCleanDisk (state S.Store tx.new.conn.now) → IsTrue old.in_transaction
+        → IfErr result (FailedAtWrite S.Store writes.now old) }
     ensures survives { Survives (state S.Store tx.old.conn.now) (state S.Store tx.new.conn.now) (λ _. ⊥) }
 {
     for write in writes {
@@ -39,6 +43,8 @@ pub fn commit<S: Alter>(conn: &mut Connection<S>, writes: &[Write]) -> Result<()
         → OnErr result ((new.now ≡ old.committed) × (new.committed ≡ old.committed)) }
     ensures crash { let old = state S.Store conn.old in
         Survives old (state S.Store conn.new) (IsLeftBy writes.now old) }
+    ensures answered { HasCleanDisk (state S.Store conn.new)
+        → IfErr result (IsAnswered S.Store writes.now (state S.Store conn.old)) }
     ensures mode { (state S.Store conn.new).in_transaction ≡ false }
     ensures durable { let new = state S.Store conn.new in
         IsTrue new.is_open → (trees : _) → new.may_leave trees → trees ≡ new.committed.trees }

@@ -1,9 +1,11 @@
 //! The table `versions`: the versions of each scope by place.
 
-ghost use Rattle.std.specs.Prelude.{◌≡◌, pos, false, IsTrue, IfOk, ◌≢◌, IfErr};
-ghost use Rattle.sqlite.specs.State.{HasCleanDisk, Survives};
+ghost use Rattle.std.specs.Prelude.{◌≡◌, pos, false, IsTrue, IfOk, ◌≢◌, IfErr, ◌∷◌, []};
+ghost use Rattle.sqlite.specs.declared.types.Value.TheVariants.{Int, Text};
+ghost use Rattle.sqlite.specs.State.{HasCleanDisk, Survives, ExecutesInside};
 ghost use Rattle.sqlite.specs.Held.{state};
 ghost use Rattle.ccr_tables.specs.Schema.{our_schema, scopes_schema, versions_schema};
+ghost use Rattle.ccr_tables.specs.Answered.{version_text};
 ghost use Rattle.ccr_tables.specs.Cause.{cause_of};
 ghost use Rattle.ccr_tables.specs.Contents.{Holds};
 ghost use Rattle.ccr_tables.specs.Left.{OnlyReads};
@@ -39,6 +41,11 @@ pub(crate) fn insert<S: Alter>(
     ensures step { let old = state S.Store tx.old.conn.now in
         let new = state S.Store tx.new.conn.now in
         HasCleanDisk new → IsTrue old.in_transaction → Alters old new (with_version scope place body.now) result }
+    ensures answered { let old = state S.Store tx.old.conn.now in
+        let new = state S.Store tx.new.conn.now in
+        HasCleanDisk new → IsTrue old.in_transaction
+        → IfErr result (λ e. ExecutesInside 0 version_text
+        (Int (pos scope) ∷ Int (pos place) ∷ Text body.now ∷ []) old new (Err e)) }
     ensures survives { Survives (state S.Store tx.old.conn.now) (state S.Store tx.new.conn.now) (λ _. ⊥) }
 {
     tx.execute(

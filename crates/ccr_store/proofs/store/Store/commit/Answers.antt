@@ -1,7 +1,8 @@
 use Rattle.std.proofs.Common.{◌∙◌, ap, sym, subst, refl, not, inr}
 use Rattle.sqlite.specs.Held.{state}
 use Rattle.ccr_store.proofs.EditWrites.{all_have_places}
-use Rattle.ccr_store.proofs.StoreLemmas.{stored_now, crash_now, on_err, on_ok_none, was_itself, undone_kept, leaves_changed, leaves_made}
+use Rattle.ccr_store.proofs.StoreLemmas.{stored_now, crash_now, on_err, on_ok_none, was_itself, undone_kept, out_of_memory, no_memory_no_answer, leaves_changed, leaves_made}
+use Rattle.ccr_tables.specs.Answered.{IsAnswered}
 use Rattle.ccr_tables.proofs.Queries.{only_error}
 use Rattle.ccr_store.specs.StoreData.{StoreData, IsKept}
 use Rattle.ccr_store.proofs.store.Store.commit.Goals as goal
@@ -67,3 +68,15 @@ returns-in-Ok-clause-acknowledged g c h kept accepts =
       done.1,
     ))
     c.in-Ok.ensures.open c.commit.ensures.durable
+
+pub returns-in_err-writes-clause-answered : goal.returns-in_err-writes-clause-answered
+returns-in_err-writes-clause-answered g c clean = no_memory_no_answer c.from_residual.result _ (out_of_memory c.from_residual.result c.in_err-writes.field-0.0 c.from_residual.ensures.1 c.in_err-writes.ensures.only)
+
+pub returns-clause-answered : goal.returns-clause-answered
+returns-clause-answered g c clean = λ other. record {
+  writes = c.deref.result.now;
+  error = c.in-Err.error;
+  writes_are = rw c.deref.ensures.value c.in_ok-writes.ensures.written;
+  fault_is = c.fault_of.ensures;
+  answered = subst (λ (k : StoreData _). IsAnswered g.S.Store c.deref.result.now (state g.S.Store k.conn) c.in-Err.error) c.self.view_is (c.in-Err.ensures.answered clean);
+}
