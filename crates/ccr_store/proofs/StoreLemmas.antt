@@ -2,7 +2,6 @@
 use Rattle.std.proofs.Common.{◌≡◌, ◌≢◌, Ok, Err, OnOk, OnErr, IfOk, IfErr, Option, Result, List, [], ◌∷◌, map, refl, sym, ap, ◌∙◌, subst, IsTrue, ◌⊎◌, inl, inr, arith}
 use Rattle.std.specs.Prelude.{IfSome, IsErrAnd}
 use Rattle.sqlite_trees.specs.declared.store.Store.{Ghosts}
-use Rattle.sqlite.specs.declared.error.Error.{Error}
 use Rattle.sqlite.specs.Tree.{Trees}
 use Rattle.sqlite.specs.Effect.{Database}
 use Rattle.sqlite.specs.State.{State, HasCleanDisk, IsUnchanged, Survives}
@@ -26,7 +25,7 @@ use Rattle.ccr_storage.specs.declared.fault.StoreFault.TheVariants.{NoMemory, No
 use Rattle.ccr_store.specs.Crash.{HoldOneOf, Leaves, IsChangedIn}
 use Rattle.ccr_store.specs.Left.{IsAsItWas}
 use Rattle.ccr_store.specs.Readable.{IsReadable}
-use Rattle.ccr_store.specs.Rows.{HasFormat, rows_of}
+use Rattle.ccr_store.specs.Rows.{rows_of}
 use Rattle.ccr_store.specs.StoreData.{StoreData, IsStored, IsKept}
 use Rattle.ccr_store.specs.Texts.{HasTexts, OrNoMemory, OrFault}
 use Rattle.ccr_store.specs.Listed.{AreSeen, AreBuilt, ListsSeen, ListsBuilt, KeepsSeen, seen_of}
@@ -123,12 +122,6 @@ on_ok_none P (Err e) none = tt
 pub no_memory_no_answer : {X : Type 0} (r : Result X StoreFault) (P : StoreFault → Type 0) → IfErr r (λ e. e ≡ NoMemory) → IfErr r (λ e. e ≢ NoMemory → P e)
 no_memory_no_answer (Ok x) P is = tt
 no_memory_no_answer (Err e) P is = λ other. absurd (other is)
-
--- tables that were read and have the number of the format are as they were
-pub found_read : {E : Type 0} (r : Result (Unit {0}) E) (old new : State) (these : Contents) → OnOk r ((those : Contents) → Holds those old.now → HasFormat those) → OnOk r (IsUnchanged old new) → Holds these old.now
-    → OnOk r (Holds these new.now × HasFormat these)
-found_read (Err e) old new these format same holds = tt
-found_read (Ok u) old new these format same holds = (subst (Holds these) (sym same.0.now_is) holds, format these holds)
 
 -- ---- no history has the rows
 -- each history of the database has texts, a pipeline that can be read, and isn't there

@@ -1,5 +1,5 @@
 -- What the SELECT of each table gives.
-use Rattle.std.proofs.Common.{◌≡◌, List, [], ◌∷◌, refl, Vec, Global, Result, IfOk, IsTrue}
+use Rattle.std.proofs.Common.{List, [], ◌∷◌, refl, Vec, Global, Result, IfOk, IsTrue}
 use Rattle.sqlite.specs.declared.error.Error.{Error}
 use Rattle.sqlite.specs.Order.{Row}
 use Rattle.sqlite.specs.Term.{col}

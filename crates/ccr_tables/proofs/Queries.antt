@@ -1,5 +1,5 @@
 -- A SELECT writes nothing, whatever tables the database has.
-use Rattle.std.proofs.Common.{◌≡◌, ◌≢◌, List, ℕ, [], ◌∷◌, true, false, None, Some, Ok, Err, Result, IfOk, OnOk, IfErr, Vec, Global, Option, refl, sym, subst, ◌∙◌, inl, inr, ◌⊎◌, IsTrue, arith}
+use Rattle.std.proofs.Common.{◌≡◌, List, ℕ, [], true, false, None, Some, Ok, Err, Result, IfOk, IfErr, Vec, Global, Option, refl, subst, ◌∙◌, inl, inr, ◌⊎◌, arith}
 use Rattle.std.specs.Prelude.{IsSome, IsErrAnd, if◌then◌else◌}
 use Rattle.std.proofs.lemmas.Result.{on_ok_weaker}
 use Rattle.sqlite_tied.specs.Compute.{everything}

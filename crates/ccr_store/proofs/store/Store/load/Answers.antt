@@ -1,4 +1,4 @@
-use Rattle.std.proofs.Common.{◌≡◌, ◌∙◌, not, sym, ap, subst, inl}
+use Rattle.std.proofs.Common.{◌∙◌, not, sym, ap, subst, inl}
 use Rattle.sqlite.specs.Effect.{Database}
 use Rattle.sqlite.specs.Held.{state}
 use Rattle.ccr_tables.specs.Contents.{Keeps}
