@@ -12,7 +12,8 @@ use Rattle.ccr_store.specs.Faults.{fault_of}
 use Rattle.ccr_store.specs.WriteData.{write_data}
 use Rattle.ccr_store.specs.Writes.{change_writes}
 
--- SQLITE ANSWERED SO: an error that is this fault, to one of the writes of these edits or at the end of the transaction with all of them
+-- SQLITE ANSWERED SO: an error that is this fault, to one of the writes of these edits or at the end of the transaction
+-- with all of them
 pub record HasAnswer {S : Type 0} (g : Ghosts S) (es : List Edit) (old : State) (fault : StoreFault) : Type 0 where
   pub writes : List Write
   pub error : Error

@@ -44,8 +44,9 @@ fn is_blank(schema: &Schema) -> bool
     schema.tables.is_empty() && schema.indexes.is_empty() && schema.views.is_empty()
 }
 
-/// Makes the six tables in a database without tables. In another one nothing is written: it has to have the number of the
-/// format. [`Store::adopt`] begins with this call, which leaves the connection to its caller also where it is refused.
+/// Makes the six tables in a database without tables. In another one nothing is written: it has to have the number of
+/// the format. [`Store::adopt`] begins with this call, which leaves the connection to its caller also where it is
+/// refused.
 ///
 /// The faults are those of [`Store::adopt`].
 pub fn prepare<S: Alter>(conn: &mut Connection<S>) -> Result<(), StoreFault>
@@ -103,8 +104,8 @@ impl Store<MemStore> {
 }
 
 impl<S: Alter + Drop> Store<S> {
-    /// A store over a database. One without tables gets the six tables, and has the empty history then. Nothing is written
-    /// to tables that are there: [`load`](Store::load) says which history they hold.
+    /// A store over a database. One without tables gets the six tables, and has the empty history then. Nothing is
+    /// written to tables that are there: [`load`](Store::load) says which history they hold.
     ///
     /// - `NotOurs` where there are tables, and they haven't the number of the format.
     /// - `Refused`, `Disk` or `Interrupted` where `sqlite` failed so.
@@ -135,8 +136,8 @@ impl<S: Alter + Drop> Store<S> {
 impl<S: Alter> Store<S> {
     /// Writes what a change of the history changes, in one transaction.
     ///
-    /// The edits are ones that the history takes, each by then, and carry the numbers that it gave them. After an `Err` the
-    /// tables hold what they held.
+    /// The edits are ones that the history takes, each by then, and carry the numbers that it gave them. After an `Err`
+    /// the tables hold what they held.
     ///
     /// - `Refused`, `Disk` or `Interrupted` where `sqlite` failed so.
     /// - `NoMemory` if out of memory.

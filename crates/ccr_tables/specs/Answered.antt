@@ -32,7 +32,8 @@ abbrev pub pair_text : List ℕ
 pair_text = codes "INSERT INTO pairs(build, input, scope, place) VALUES(?1, ?2, ?3, ?4)"
 
 abbrev pub put_pin_text : List ℕ
-put_pin_text = codes "INSERT INTO pins(resource, body) VALUES(?1, ?2) ON CONFLICT(resource) DO UPDATE SET body = excluded.body"
+put_pin_text =
+    codes "INSERT INTO pins(resource, body) VALUES(?1, ?2) ON CONFLICT(resource) DO UPDATE SET body = excluded.body"
 
 abbrev pub remove_pin_text : List ℕ
 remove_pin_text = codes "DELETE FROM pins WHERE resource = ?1"
@@ -49,11 +50,14 @@ text_of (write.NoPin resource) = remove_pin_text
 
 abbrev pub params_of : Write → Row
 params_of (write.PipelineText text) = Int (pos 2) ∷ Blob text.items ∷ []
-params_of (write.Scope id resource kind source) = Int (pos id) ∷ Text (string_bytes resource) ∷ Text (string_bytes kind) ∷ Text (string_bytes source) ∷ []
+params_of (write.Scope id resource kind source) =
+    Int (pos id) ∷ Text (string_bytes resource) ∷ Text (string_bytes kind) ∷ Text (string_bytes source) ∷ []
 params_of (write.Version scope place body) = Int (pos scope) ∷ Int (pos place) ∷ Text (string_bytes body) ∷ []
-params_of (write.Build id job number status) = Int (pos id) ∷ Text (string_bytes job) ∷ Int (pos number) ∷ Int (pos status) ∷ []
+params_of (write.Build id job number status) =
+    Int (pos id) ∷ Text (string_bytes job) ∷ Int (pos number) ∷ Int (pos status) ∷ []
 params_of (write.Status build status) = Int (pos build) ∷ Int (pos status) ∷ []
-params_of (write.Pair build input scope place) = Int (pos build) ∷ Text (string_bytes input) ∷ Int (pos scope) ∷ Int (pos place) ∷ []
+params_of (write.Pair build input scope place) =
+    Int (pos build) ∷ Text (string_bytes input) ∷ Int (pos scope) ∷ Int (pos place) ∷ []
 params_of (write.Pin resource body) = Text (string_bytes resource) ∷ Text (string_bytes body) ∷ []
 params_of (write.NoPin resource) = Text (string_bytes resource) ∷ []
 

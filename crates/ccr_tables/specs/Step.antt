@@ -14,14 +14,15 @@ use Rattle.ccr_tables.specs.declared.write.Write.{Write}
 abbrev pub Turns : (Contents → Contents) → Database → Database → Type 0
 Turns change old new = (these : Contents) → Holds these old → Holds (change these) new
 
--- a statement inside a transaction: nothing is committed; where it is made, the connection was open, and the transaction goes on and
--- sees the change
+-- a statement inside a transaction: nothing is committed; where it is made, the connection was open, and the
+-- transaction goes on and sees the change
 pub record Alters {X : Type 0} (old new : State) (change : Contents → Contents) (result : Result X Error) : Type 0 where
   pub kept : KeepsCommit old new
   pub made : OnOk result ((new.in_transaction ≡ true) × Turns change old.now new.now)
   pub opened : OnOk result (IsTrue old.is_open)
 
--- writes inside a transaction, one after the other: nothing is committed; where they are made, the transaction goes on and sees them
+-- writes inside a transaction, one after the other: nothing is committed; where they are made, the transaction goes on
+-- and sees them
 pub record AltersAll {X : Type 0} (old new : State) (change : Contents → Contents) (result : Result X Error) : Type 0 where
   pub kept : KeepsCommit old new
   pub made : OnOk result ((new.in_transaction ≡ true) × Turns change old.now new.now)
