@@ -1,5 +1,5 @@
 -- What an edit writes under its numbers is what its change of the history writes.
-use Rattle.std.proofs.Common.{◌≡◌, ℕ, ◌+◌, ◌≤◌, List, [], ◌∷◌, ◌++◌, map, length, not, Bool, true, false, cond, ◌||◌, eqb, Option, Some, None, nat_lt, string_bytes, refl, sym, ap, ap₂, ◌∙◌, subst, arith}
+use Rattle.std.proofs.Common.{◌≡◌, ℕ, ◌+◌, ◌≤◌, List, [], ◌∷◌, ◌++◌, map, length, not, Bool, true, false, cond, ◌||◌, eqb, Some, nat_lt, string_bytes, refl, sym, ap, ap₂, ◌∙◌, subst, arith}
 use Rattle.std.proofs.lemmas.Bool.{cond-true, cond-false, or_parts, ltb-false}
 use Rattle.std.proofs.lemmas.Bool.Decides.{nat_tests}
 use Rattle.std.proofs.lemmas.List.{append_cancel_left}
@@ -10,10 +10,10 @@ use Rattle.ccr_history.specs.declared.change.Reported.{Reported}
 use Rattle.ccr_history.specs.declared.table.TheConstants.{MOST_VERSIONS, MOST_SCOPES}
 use Rattle.ccr_history.specs.Text.{Text}
 use Rattle.ccr_history.specs.TextMap.{TextMap}
-use Rattle.ccr_history.specs.Tables.{ScopeData, TableData, is_scope, with_versions, with_report, reported, is_table_full, versions_of, scope_number}
+use Rattle.ccr_history.specs.Tables.{ScopeData, TableData, is_scope, with_versions, with_report, reported, versions_of, scope_number}
 use Rattle.ccr_history.specs.Builds.{BuildData, is_build_of, build_of}
-use Rattle.ccr_history.specs.Changes.{versions, edited, changed, Takes, TakesAll}
-use Rattle.ccr_history.specs.Edits.{edit_data, change_data, row_of, AreNew, HasItsNumbers, HaveTheirNumbers, Accepts}
+use Rattle.ccr_history.specs.Changes.{versions, edited, changed, Takes}
+use Rattle.ccr_history.specs.Edits.{edit_data, change_data, row_of, AreNew, HasItsNumbers, Accepts}
 use Rattle.ccr_history.specs.History.{HistoryData, IsHistory}
 use Rattle.sqlite.specs.Tree.{Trees}
 use Rattle.ccr_tables.specs.Contents.{Keeps}
@@ -25,7 +25,6 @@ use Rattle.ccr_store.specs.WriteData.{WriteData, all_made}
 use Rattle.ccr_store.specs.WriteData as write
 use Rattle.ccr_store.specs.Writes.{version_writes, used_write, moved_write, scope_writes, report_writes, edit_writes, change_writes, HasPlaces}
 use Rattle.ccr_store.proofs.HistoryWrites.{has_scope, scope_id, new_versions, build_id, writes_of, all_writes_of}
-use Rattle.ccr_store.proofs.HistoryWrites as history
 use Rattle.ccr_store.proofs.ReportRows.{new_versions-are}
 use Rattle.ccr_store.proofs.ChangeRows.{change_rows, changes_rows, changes_kept}
 

@@ -1,8 +1,7 @@
 -- What a commit leaves, over what a store is.
-use Rattle.std.proofs.Common.{◌≡◌, ◌≢◌, Ok, Err, OnOk, IfOk, IfErr, Option, Result, List, map, sym, ap, ◌∙◌, subst, IsTrue}
+use Rattle.std.proofs.Common.{◌≡◌, ◌≢◌, Ok, Err, OnOk, OnErr, IfOk, IfErr, Option, Result, List, [], ◌∷◌, map, refl, sym, ap, ◌∙◌, subst, IsTrue, ◌⊎◌, inl, inr, arith}
 use Rattle.std.specs.Prelude.{IfSome, IsErrAnd}
 use Rattle.sqlite_trees.specs.declared.store.Store.{Ghosts}
-use Rattle.sqlite.specs.declared.error.Error.{Error}
 use Rattle.sqlite.specs.Tree.{Trees}
 use Rattle.sqlite.specs.Effect.{Database}
 use Rattle.sqlite.specs.State.{State, HasCleanDisk, IsUnchanged, Survives}
@@ -15,17 +14,18 @@ use Rattle.ccr_history.specs.declared.change.Edit.{Edit}
 use Rattle.ccr_history.proofs.ChangeLaws.{all_kept as history_kept}
 use Rattle.ccr_tables.specs.Contents.{Contents, Holds, Keeps}
 use Rattle.ccr_tables.specs.Schema.{our_schema}
-use Rattle.ccr_tables.specs.Step.{Turns, IsLeft}
+use Rattle.ccr_tables.specs.Left.{WritesNothing, OnlyReads}
+use Rattle.ccr_tables.specs.Step.{Turns, IsLeft, IsLeftBy}
 use Rattle.ccr_tables.specs.Written.{all_written}
-use Rattle.ccr_tables.specs.declared.creation.Creation.{Creation}
-use Rattle.ccr_tables.specs.declared.creation.Creation.TheVariants.{Made, Found}
 use Rattle.ccr_tables.specs.declared.write.Write.{Write}
 use Rattle.ccr_store.specs.Writes.{change_writes}
 use Rattle.ccr_store.specs.Reordered.{HasSameRows}
 use Rattle.ccr_storage.specs.declared.fault.StoreFault.{StoreFault}
 use Rattle.ccr_storage.specs.declared.fault.StoreFault.TheVariants.{NoMemory, NotOurs}
+use Rattle.ccr_store.specs.Crash.{HoldOneOf, Leaves, IsChangedIn}
+use Rattle.ccr_store.specs.Left.{IsAsItWas}
 use Rattle.ccr_store.specs.Readable.{IsReadable}
-use Rattle.ccr_store.specs.Rows.{HasFormat, rows_of}
+use Rattle.ccr_store.specs.Rows.{rows_of}
 use Rattle.ccr_store.specs.StoreData.{StoreData, IsStored, IsKept}
 use Rattle.ccr_store.specs.Texts.{HasTexts, OrNoMemory, OrFault}
 use Rattle.ccr_store.specs.Listed.{AreSeen, AreBuilt, ListsSeen, ListsBuilt, KeepsSeen, seen_of}
@@ -57,18 +57,20 @@ stored_now g s t next es ws h same are turns it accepts =
     }
 
 pub crash_now : {S : Type 0} (g : Ghosts S) (s t : StoreData S) (new : State) (es : List Edit) (ws : List Write) → s ≡ t → map write_data ws ≡ change_writes es
-    → Survives (state g s.conn) new (IsLeft (all_written ws) (state g s.conn).now)
-    → Survives (state g t.conn) new (λ trees. (h : HistoryData) → IsStored h (state g t.conn).now → Accepts h es → Keeps (rows_of (changed (change_data es) h)) trees)
+    → Survives (state g s.conn) new (IsLeftBy ws (state g s.conn)) → Survives (state g t.conn) new (IsChangedIn es (state g t.conn))
 crash_now g s t new es ws same are one =
-    subst (λ (k : StoreData _). Survives (state g k.conn) new (λ trees. (h : HistoryData) → IsStored h (state g k.conn).now → Accepts h es → Keeps (rows_of (changed (change_data es) h)) trees)) same
-    (survives_weaker (state g s.conn) new _ _ (λ clean trees left h it accepts. left_keeps h es ws (state g s.conn).now trees it accepts are left) one)
+    subst (λ (k : StoreData _). Survives (state g k.conn) new (IsChangedIn es (state g k.conn))) same
+    (survives_weaker (state g s.conn) new _ _ (λ clean trees left. record {
+      opened = λ some. left.opened (λ none. some (sym are ∙ ap (map write_data) none));
+      made = λ h it accepts. left_keeps h es ws (state g s.conn).now trees it accepts are left.made;
+    }) one)
 
 -- the history that was loaded is stored
 pub stored_loaded : {S : Type 0} (g : Ghosts S) (s t : StoreData S) (new : State) (h : HistoryData) (these : Contents) → s ≡ t → IsHistory h → (Holds these (state g s.conn).now → HasSameRows (rows_of h) these)
-    → ((state g s.conn).now.schema ≡ our_schema → IsUnchanged (state g s.conn) new) → Holds these (state g t.conn).now → HasSameRows (rows_of h) these × IsStored h new.now
+    → IsUnchanged (state g s.conn) new → Holds these (state g t.conn).now → HasSameRows (rows_of h) these × IsStored h new.now
 stored_loaded g s t new h these same rules rows unchanged holds =
     let here : Holds these (state g s.conn).now = subst (λ (k : StoreData _). Holds these (state g k.conn).now) (sym same) holds in
-    let there : Holds these new.now = subst (Holds these) (sym (unchanged here.schema).0.now_is) here in (
+    let there : Holds these new.now = subst (Holds these) (sym unchanged.0.now_is) here in (
       rows here,
       record {
         rules = rules;
@@ -76,10 +78,50 @@ stored_loaded g s t new h these same rules rows unchanged holds =
       },
     )
 
--- a read that changes nothing of the connection changes nothing of the store
-pub same_loaded : {S : Type 0} (g : Ghosts S) (s t : StoreData S) (new : State) → s ≡ t → ((state g s.conn).now.schema ≡ our_schema → IsUnchanged (state g s.conn) new) → (state g t.conn).now.schema ≡ our_schema → IsUnchanged (state g t.conn) new
-same_loaded g s t new same unchanged has =
-    subst (λ (k : StoreData _). IsUnchanged (state g k.conn) new) same (unchanged (subst (λ (k : StoreData _). (state g k.conn).now.schema ≡ our_schema) (sym same) has))
+-- what a read leaves of the connection it leaves of the store
+pub reads_store : {X S : Type 0} (g : Ghosts S) (s t : StoreData S) (new : State) (r : Result X StoreFault) → s ≡ t → OnlyReads (state g s.conn) new r → OnlyReads (state g t.conn) new r
+reads_store g s t new r same it = subst (λ (k : StoreData _). OnlyReads (state g k.conn) new r) same it
+
+-- outside a transaction, where nothing is written, the tables are as they were
+pub as_it_was : (old new : State) → (IsTrue old.is_open → old.now ≡ old.committed) → WritesNothing old new → IsAsItWas old new
+as_it_was old new settled it = record {
+  was_open = it.was_open;
+  now = λ up. by (it.now up) (settled (it.was_open up));
+  committed = it.committed;
+}
+  where
+    by : (new.now ≡ old.now) ⊎ (new.now ≡ old.committed) → old.now ≡ old.committed → new.now ≡ old.now
+    by (inl same) is = same
+    by (inr back) is = back ∙ sym is
+
+pub was_itself : (old : State) → IsAsItWas old old
+was_itself old = record { was_open = λ up. up; now = λ up. refl; committed = λ up. refl }
+
+-- the same of a store, whose connection it is
+pub as_it_was_kept : {S : Type 0} (g : Ghosts S) (s t : StoreData S) (new : State) → s ≡ t → (IsTrue (state g s.conn).is_open → (state g s.conn).now ≡ (state g s.conn).committed) → WritesNothing (state g s.conn) new
+    → IsAsItWas (state g t.conn) new
+as_it_was_kept g s t new same settled it = subst (λ (k : StoreData _). IsAsItWas (state g k.conn) new) same (as_it_was (state g s.conn) new settled it)
+
+-- a transaction that was undone leaves the tables as they were
+pub undone_as_it_was : (old new : State) → (IsTrue old.is_open → old.now ≡ old.committed) → (IsTrue new.is_open → IsTrue old.is_open) → (IsTrue new.is_open → (new.now ≡ old.committed) × (new.committed ≡ old.committed)) → IsAsItWas old new
+undone_as_it_was old new settled was back = record { was_open = was; now = λ up. (back up).0 ∙ sym (settled (was up)); committed = λ up. (back up).1 }
+
+pub undone_kept : {S : Type 0} (g : Ghosts S) (s t : StoreData S) (new : State) → s ≡ t → (IsTrue (state g s.conn).is_open → (state g s.conn).now ≡ (state g s.conn).committed) → (IsTrue new.is_open → IsTrue (state g s.conn).is_open)
+    → (IsTrue new.is_open → (new.now ≡ (state g s.conn).committed) × (new.committed ≡ (state g s.conn).committed)) → IsAsItWas (state g t.conn) new
+undone_kept g s t new same settled was back = subst (λ (k : StoreData _). IsAsItWas (state g k.conn) new) same (undone_as_it_was (state g s.conn) new settled was back)
+
+pub on_err : {X E : Type 0} (P : Type 0) (r : Result X E) → P → OnErr r P
+on_err P (Ok x) p = tt
+on_err P (Err e) p = p
+
+pub on_ok_none : {X E : Type 0} (P : Type 0) (r : Result X E) → IfOk r (λ _. ⊥) → OnOk r P
+on_ok_none P (Ok x) none = absurd none
+on_ok_none P (Err e) none = tt
+
+-- want of memory needs no answer
+pub no_memory_no_answer : {X : Type 0} (r : Result X StoreFault) (P : StoreFault → Type 0) → IfErr r (λ e. e ≡ NoMemory) → IfErr r (λ e. e ≢ NoMemory → P e)
+no_memory_no_answer (Ok x) P is = tt
+no_memory_no_answer (Err e) P is = λ other. absurd (other is)
 
 -- ---- no history has the rows
 -- each history of the database has texts, a pipeline that can be read, and isn't there
@@ -132,18 +174,6 @@ pub not_ours_loaded : {X S : Type 0} (g : Ghosts S) (s t : StoreData S) (r : Res
 not_ours_loaded g s t (Ok x) fault same is h = tt
 not_ours_loaded g s t (Err e) fault same is h = λ ours. subst (λ (k : StoreData _). HasNone (state g k.conn).now) same (h (sym is ∙ ours))
 
--- ---- a store over a database
-pub found_not_made : (r : Result Creation Error) (it : Creation) → r ≡ Ok it → it ≡ Found → r ≡ Ok Made → ⊥
-found_not_made r it answer which made = absurd (cc)
-
--- the tables that were found stay
-pub found_kept : (r : Result (Unit {0}) StoreFault) (old mid new : State) (these : Contents) → mid.now ≡ old.committed → old.now ≡ old.committed → Holds these old.now
-    → OnOk r ((those : Contents) → Holds those mid.now → HasFormat those) → (mid.now.schema ≡ our_schema → OnOk r (IsUnchanged mid new)) → OnOk r (Holds these new.now × HasFormat these)
-found_kept (Err e) old mid new these kept settled holds format unchanged = tt
-found_kept (Ok u) old mid new these kept settled holds format unchanged =
-    let here : Holds these mid.now = subst (Holds these) (settled ∙ sym kept) holds in
-    (subst (Holds these) (sym (unchanged here.schema).0.now_is) here, format these here)
-
 -- ---- a store as a storage
 -- a commit that was made keeps the changed history
 pub kept_changed : {S : Type 0} (g : Ghosts S) (s t : StoreData S) (es : List Edit) (h : HistoryData) → IsKept g s h → Accepts h es
@@ -159,11 +189,39 @@ kept_changed g s t es h kept accepts was done clean up =
 -- a commit that was refused keeps the history
 pub kept_still : {S : Type 0} (g : Ghosts S) (s t : StoreData S) (h : HistoryData) → IsKept g s h
     → (HasCleanDisk (state g t.conn) → IsTrue (state g t.conn).is_open → HasCleanDisk (state g s.conn) × IsTrue (state g s.conn).is_open)
-    → (HasCleanDisk (state g t.conn) → IsTrue (state g t.conn).is_open → ((state g s.conn).now ≡ (state g s.conn).committed → (state g t.conn).now ≡ (state g s.conn).now) × ((state g t.conn).committed ≡ (state g s.conn).committed))
+    → (HasCleanDisk (state g t.conn) → IsAsItWas (state g s.conn) (state g t.conn))
     → IsKept g t h
 kept_still g s t h kept was refused clean up =
     let before = was clean up in
     let it = kept before.0 before.1 in
-    let after = refused clean up in
-    let now = after.0 it.0 in
-    (now ∙ it.0 ∙ sym after.1, it.1, subst (Holds (rows_of h)) (sym now) it.2)
+    let now = (refused clean).now up in
+    (now ∙ it.0 ∙ sym ((refused clean).committed up), it.1, subst (Holds (rows_of h)) (sym now) it.2)
+
+-- ---- what a crash leaves
+-- a commit leaves what could be left before, or the changed history
+pub leaves_changed : {S : Type 0} (g : Ghosts S) (t u : StoreData S) (es : List Edit) (h : HistoryData) (hs : List HistoryData) → change_writes es ≢ [] → IsKept g t h → Accepts h es → Leaves g t hs
+    → Survives (state g t.conn) (state g u.conn) (IsChangedIn es (state g t.conn)) → Leaves g u (changed (change_data es) h ∷ hs)
+leaves_changed g t u es h hs some kept accepts before it clean trees may = by (it.crash clean trees may)
+  where
+    early : HasCleanDisk (state g t.conn)
+    early = omega (arith, it.clean)
+
+    by : (state g t.conn).may_leave trees ⊎ IsChangedIn es (state g t.conn) trees → HoldOneOf (changed (change_data es) h ∷ hs) trees
+    by (inl old) = inr (before early trees old)
+    by (inr new) =
+        let held = kept early (new.opened some) in
+        inl (new.made h (record { rules = held.1; rows = held.2 }) accepts)
+
+-- a commit that was made leaves the changed history alone
+pub leaves_made : {S : Type 0} (g : Ghosts S) (t u : StoreData S) (es : List Edit) (h : HistoryData) → IsKept g t h → Accepts h es
+    → (HasCleanDisk (state g u.conn) → IsTrue (state g u.conn).is_open → HasCleanDisk (state g t.conn) × IsTrue (state g t.conn).is_open)
+    → (IsStored h (state g t.conn).now → HasCleanDisk (state g u.conn) → IsStored (changed (change_data es) h) (state g u.conn).now × ((state g u.conn).committed ≡ (state g u.conn).now))
+    → (HasCleanDisk (state g u.conn) → IsTrue (state g u.conn).is_open)
+    → (IsTrue (state g u.conn).is_open → (trees : Trees) → (state g u.conn).may_leave trees → trees ≡ (state g u.conn).committed.trees) → Leaves g u (changed (change_data es) h ∷ [])
+leaves_made g t u es h kept accepts was done opened durable clean trees may =
+    let up = opened clean in
+    let before = was clean up in
+    let it = kept before.0 before.1 in
+    let after = done (record { rules = it.1; rows = it.2 }) clean in
+    let these = rows_of (changed (change_data es) h) in
+    inl (subst (Keeps these) (sym (durable up trees may ∙ ap (λ (d : Database). d.trees) after.1)) after.0.rows.rows)

@@ -3,7 +3,10 @@ pub mod WriteData
 pub mod Writes
 pub mod Reordered
 pub mod StoreData
+pub mod Crash
+pub mod Causes
 pub mod Faults
 pub mod Listed
+pub mod Left
 pub mod Readable
 pub mod Texts

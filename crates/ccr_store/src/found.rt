@@ -1,9 +1,10 @@
 //! The rows that the six tables have.
-ghost use Rattle.std.specs.Prelude.{◌≡◌, ◌≢◌, false, IsTrue, IfOk, IfErr, IfSome, IfNone, OnOk};
+ghost use Rattle.std.specs.Prelude.{◌≡◌, ◌≢◌, false, IsTrue, IfOk, IfErr, IfSome, IfNone};
 ghost use Rattle.ccr_tables.specs.Cause.{cause_of};
-ghost use Rattle.sqlite.specs.State.{HasCleanDisk, IsUnchanged};
+ghost use Rattle.sqlite.specs.State.{HasCleanDisk};
 ghost use Rattle.sqlite.specs.Held.{state};
 ghost use Rattle.ccr_tables.specs.Contents.{Holds};
+ghost use Rattle.ccr_tables.specs.Left.{OnlyReads};
 ghost use Rattle.ccr_tables.specs.Schema.{our_schema};
 ghost use Rattle.ccr_store.specs.Listed.{AreSeen, AreBuilt, HasOther};
 
@@ -32,9 +33,7 @@ pub(crate) struct Built {
 pub(crate) fn read_seen<S: Alter>(conn: &mut Connection<S>) -> Result<Seen, SqlError>
     ensures rows { HasCleanDisk (state S.Store conn.new) → IfOk result (λ seen. (these : _)
         → Holds these (state S.Store conn.old).now → AreSeen these seen.meta.items seen.scopes.items seen.versions.items) }
-    ensures same { let old = state S.Store conn.old in
-        let new = state S.Store conn.new in
-        HasCleanDisk new → old.now.schema ≡ our_schema → OnOk result (IsUnchanged old new) }
+    ensures reads { OnlyReads (state S.Store conn.old) (state S.Store conn.new) result }
     ensures unrefused { HasCleanDisk (state S.Store conn.new) → (state S.Store conn.old).now.schema ≡ our_schema
         → IfErr result (λ e. cause_of e ≢ Cause.Refused) }
     ensures clean { HasCleanDisk (state S.Store conn.new) → HasCleanDisk (state S.Store conn.old) }
@@ -61,9 +60,7 @@ pub(crate) fn read_built<S: Alter>(
         → AreBuilt these built.builds.items built.pairs.items built.pins.items)) }
     ensures none { HasCleanDisk (state S.Store conn.new) → IfOk result (λ found. IfNone found ((these : _)
         → Holds these (state S.Store conn.old).now → HasOther these.pairs)) }
-    ensures same { let old = state S.Store conn.old in
-        let new = state S.Store conn.new in
-        HasCleanDisk new → old.now.schema ≡ our_schema → OnOk result (IsUnchanged old new) }
+    ensures reads { OnlyReads (state S.Store conn.old) (state S.Store conn.new) result }
     ensures unrefused { HasCleanDisk (state S.Store conn.new) → (state S.Store conn.old).now.schema ≡ our_schema
         → IfErr result (λ e. cause_of e ≢ Cause.Refused) }
     ensures clean { HasCleanDisk (state S.Store conn.new) → HasCleanDisk (state S.Store conn.old) }

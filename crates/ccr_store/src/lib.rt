@@ -21,4 +21,4 @@ mod writes;
 pub use ccr_storage::StoreFault;
 pub use fault::open_fault_of;
 pub use law::{changes_write_their_rows, rows_tell_the_history};
-pub use store::Store;
+pub use store::{Store, prepare};

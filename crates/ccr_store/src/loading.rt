@@ -1,13 +1,13 @@
 //! The history whose rows the tables have.
 ghost use Rattle.std.specs.Prelude.{◌≡◌, ◌≢◌, List, false, IsTrue, IfOk, IfErr, IfSome, OnOk};
 ghost use Rattle.sqlite.specs.Order.{Row};
-ghost use Rattle.sqlite.specs.State.{HasCleanDisk, IsUnchanged};
+ghost use Rattle.sqlite.specs.State.{HasCleanDisk};
 ghost use Rattle.sqlite.specs.Held.{state};
 ghost use Rattle.ccr_history.specs.History.{HistoryData, IsHistory};
 ghost use Rattle.ccr_storage.specs.declared.fault.StoreFault.TheVariants.{NoMemory, NotOurs};
 ghost use Rattle.ccr_tables.specs.Cause.{cause_of};
 ghost use Rattle.ccr_tables.specs.Contents.{Contents, Holds};
-ghost use Rattle.ccr_tables.specs.Schema.{our_schema};
+ghost use Rattle.ccr_tables.specs.Left.{OnlyReads};
 ghost use Rattle.ccr_store.specs.Listed.{AreSeen, AreBuilt, ListsSeen, ListsBuilt, KeepsSeen, seen_of};
 ghost use Rattle.ccr_store.specs.Readable.{IsReadable};
 ghost use Rattle.ccr_store.specs.Reordered.{HasSameRows};
@@ -40,9 +40,7 @@ fn read_fault_of(error: &SqlError) -> StoreFault
 pub(crate) fn check_format<S: Alter>(conn: &mut Connection<S>) -> Result<(), StoreFault>
     ensures format { HasCleanDisk (state S.Store conn.new) → OnOk result ((these : Contents)
         → Holds these (state S.Store conn.old).now → HasFormat these) }
-    ensures same { let old = state S.Store conn.old in
-        let new = state S.Store conn.new in
-        HasCleanDisk new → old.now.schema ≡ our_schema → OnOk result (IsUnchanged old new) }
+    ensures reads { OnlyReads (state S.Store conn.old) (state S.Store conn.new) result }
     ensures clean { HasCleanDisk (state S.Store conn.new) → HasCleanDisk (state S.Store conn.old) }
     ensures open { HasCleanDisk (state S.Store conn.new) → OnOk result (IsTrue (state S.Store conn.old).is_open) }
     ensures mode { conn.old.in_transaction ≡ false → conn.new.in_transaction ≡ false }
@@ -108,9 +106,7 @@ fn load_seen<S: Alter>(alloc: Global, conn: &mut Connection<S>) -> Result<Histor
     ensures only { HasCleanDisk (state S.Store conn.new) → (h : HistoryData) → IsHistory h → HasTexts h
         → IfSome h.text IsReadable → Holds (rows_of h) (state S.Store conn.old).now
         → OrFault (λ history. history ≡ seen_of h) result }
-    ensures same { let old = state S.Store conn.old in
-        let new = state S.Store conn.new in
-        HasCleanDisk new → old.now.schema ≡ our_schema → OnOk result (IsUnchanged old new) }
+    ensures reads { OnlyReads (state S.Store conn.old) (state S.Store conn.new) result }
     ensures clean { HasCleanDisk (state S.Store conn.new) → HasCleanDisk (state S.Store conn.old) }
     ensures open { HasCleanDisk (state S.Store conn.new) → IfOk result (λ _. IsTrue (state S.Store conn.old).is_open) }
     ensures mode { conn.old.in_transaction ≡ false → conn.new.in_transaction ≡ false }
@@ -175,9 +171,7 @@ fn found_in<S: Alter>(alloc: Global, conn: &mut Connection<S>) -> Result<Built, 
         → AreBuilt these built.builds.items built.pairs.items built.pins.items) }
     ensures only { HasCleanDisk (state S.Store conn.new) → (h : HistoryData) → IsHistory h → HasTexts h
         → Holds (rows_of h) (state S.Store conn.old).now → IfErr result (λ fault. fault ≢ NotOurs) }
-    ensures same { let old = state S.Store conn.old in
-        let new = state S.Store conn.new in
-        HasCleanDisk new → old.now.schema ≡ our_schema → OnOk result (IsUnchanged old new) }
+    ensures reads { OnlyReads (state S.Store conn.old) (state S.Store conn.new) result }
     ensures clean { HasCleanDisk (state S.Store conn.new) → HasCleanDisk (state S.Store conn.old) }
     ensures mode { conn.old.in_transaction ≡ false → conn.new.in_transaction ≡ false }
 {
@@ -204,9 +198,7 @@ fn load_built<S: Alter>(
     ensures only { HasCleanDisk (state S.Store conn.new) → (h : HistoryData) → IsHistory h → HasTexts h
         → history ≡ seen_of h → Holds (rows_of h) (state S.Store conn.old).now
         → IfErr result (λ fault. fault ≢ NotOurs) }
-    ensures same { let old = state S.Store conn.old in
-        let new = state S.Store conn.new in
-        HasCleanDisk new → old.now.schema ≡ our_schema → OnOk result (IsUnchanged old new) }
+    ensures reads { OnlyReads (state S.Store conn.old) (state S.Store conn.new) result }
     ensures clean { HasCleanDisk (state S.Store conn.new) → HasCleanDisk (state S.Store conn.old) }
     ensures mode { conn.old.in_transaction ≡ false → conn.new.in_transaction ≡ false }
 {
@@ -222,9 +214,7 @@ fn load_built<S: Alter>(
 pub(crate) fn load<S: Alter>(alloc: Global, conn: &mut Connection<S>) -> Result<History, StoreFault>
     ensures rows { HasCleanDisk (state S.Store conn.new) → IfOk result (λ history. (these : Contents)
         → Holds these (state S.Store conn.old).now → HasSameRows (rows_of history) these) }
-    ensures same { let old = state S.Store conn.old in
-        let new = state S.Store conn.new in
-        HasCleanDisk new → old.now.schema ≡ our_schema → OnOk result (IsUnchanged old new) }
+    ensures reads { OnlyReads (state S.Store conn.old) (state S.Store conn.new) result }
     ensures clean { HasCleanDisk (state S.Store conn.new) → HasCleanDisk (state S.Store conn.old) }
     ensures rules { IfOk result IsHistory }
     ensures readable { IfOk result (λ history. IfSome history.text IsReadable) }

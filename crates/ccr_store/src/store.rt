@@ -1,5 +1,5 @@
 //! The history in a database.
-ghost use Rattle.std.specs.Prelude.{◌≡◌, ◌≢◌, false, IsTrue, IfOk, IfErr, IfSome, OnOk, OnErr};
+ghost use Rattle.std.specs.Prelude.{◌≡◌, ◌≢◌, ◌↔◌, List, [], ◌∷◌, false, IsTrue, IfOk, IfErr, IfSome, OnOk, OnErr};
 ghost use Rattle.sqlite.specs.State.{HasCleanDisk, IsUnchanged, Survives};
 ghost use Rattle.sqlite.specs.Held.{state};
 ghost use Rattle.sqlite.specs.Steps.{over_memory};
@@ -7,13 +7,17 @@ ghost use Rattle.ccr_history.specs.History.{HistoryData, IsHistory, no_history};
 ghost use Rattle.ccr_history.specs.Edits.{change_data, Accepts};
 ghost use Rattle.ccr_history.specs.Changes.{changed};
 ghost use Rattle.ccr_tables.specs.Contents.{Contents, Holds, Keeps, new_contents};
-ghost use Rattle.ccr_tables.specs.Schema.{no_schema, our_schema};
-ghost use Rattle.ccr_storage.specs.declared.fault.StoreFault.TheVariants.{NotOurs};
+ghost use Rattle.ccr_tables.specs.Schema.{no_schema};
+ghost use Rattle.ccr_storage.specs.declared.fault.StoreFault.TheVariants.{NoMemory, NotOurs};
+ghost use Rattle.ccr_store.specs.Causes.{HasAnswer};
+ghost use Rattle.ccr_store.specs.Crash.{IsChangedIn, Leaves};
+ghost use Rattle.ccr_store.specs.Left.{IsAsItWas};
 ghost use Rattle.ccr_store.specs.Readable.{IsReadable};
 ghost use Rattle.ccr_store.specs.Reordered.{HasSameRows};
 ghost use Rattle.ccr_store.specs.Rows.{HasFormat, rows_of};
 ghost use Rattle.ccr_store.specs.StoreData.{IsStored, IsKept};
 ghost use Rattle.ccr_store.specs.Texts.{HasTexts};
+ghost use Rattle.ccr_store.specs.Writes.{change_writes};
 
 use crate::fault::fault_of;
 use crate::loading;
@@ -22,6 +26,7 @@ use ccr_history::{Edit, History};
 use ccr_storage::{StoreFault, Tally};
 use ccr_tables::{Creation, commit, create};
 use sqlite::{Alter, Connection, MemStore};
+use sqlite_schema::schema::Schema;
 use std::alloc::Global;
 use std::marker::Model;
 
@@ -32,23 +37,42 @@ pub struct Store<S: Alter> {
     pub(crate) tally: Tally,
 }
 
-/// Makes the six tables in a database without tables. Where the first of them is there already, the number of the format
-/// has to be there too.
-fn prepare<S: Alter>(conn: &mut Connection<S>) -> Result<(), StoreFault>
+/// Whether no statement has made anything in the database.
+fn is_blank(schema: &Schema) -> bool
+    ensures { IsTrue result ↔ (schema.now ≡ no_schema) }
+{
+    schema.tables.is_empty() && schema.indexes.is_empty() && schema.views.is_empty()
+}
+
+/// Makes the six tables in a database without tables. In another one nothing is written: it has to have the number of
+/// the format. [`Store::adopt`] begins with this call, which leaves the connection to its caller also where it is
+/// refused.
+///
+/// The faults are those of [`Store::adopt`].
+pub fn prepare<S: Alter>(conn: &mut Connection<S>) -> Result<(), StoreFault>
     requires { (state S.Store conn.old).in_transaction ≡ false }
     ensures made { let new = state S.Store conn.new in
         HasCleanDisk new → (state S.Store conn.old).now.schema ≡ no_schema
         → OnOk result (Holds new_contents new.now × (new.committed ≡ new.now)) }
     ensures found { let old = state S.Store conn.old in
         let new = state S.Store conn.new in
-        (these : Contents) → HasCleanDisk new → old.now ≡ old.committed → Holds these old.now
+        (these : Contents) → HasCleanDisk new → Holds these old.now
         → OnOk result (Holds these new.now × HasFormat these) }
+    ensures left { let old = state S.Store conn.old in
+        let new = state S.Store conn.new in
+        HasCleanDisk new → OnErr result (IsAsItWas old new) }
+    ensures not_ours { result ≡ Err NotOurs → Survives (state S.Store conn.old) (state S.Store conn.new) (λ _. ⊥) }
+    ensures crash { let old = state S.Store conn.old in
+        Survives old (state S.Store conn.new) (λ trees. (old.now.schema ≡ no_schema) × Keeps new_contents trees) }
     ensures mode { (state S.Store conn.new).in_transaction ≡ false }
 {
-    let has_tables = conn.schema().tables.len() > 0;
+    // Outside a transaction an open database is as it was committed.
+    conn.is_autocommit();
+    if !is_blank(conn.schema()) {
+        return loading::check_format(conn);
+    }
     match create(conn) {
         Ok(Creation::Made) => Ok(()),
-        Ok(Creation::Found) if has_tables => loading::check_format(conn),
         Ok(_) => Err(StoreFault::NotOurs),
         Err(error) => Err(fault_of(&error)),
     }
@@ -80,11 +104,10 @@ impl Store<MemStore> {
 }
 
 impl<S: Alter + Drop> Store<S> {
-    /// A store over a database. One without tables gets the six tables, and has the empty history then. Tables that are
-    /// there are taken as they are found, and [`load`](Store::load) says which history they hold.
+    /// A store over a database. One without tables gets the six tables, and has the empty history then. Nothing is
+    /// written to tables that are there: [`load`](Store::load) says which history they hold.
     ///
-    /// - `NotOurs` where a table of another program has the name of one of the six, or the tables haven't the number of
-    ///   the format; nothing is written then.
+    /// - `NotOurs` where there are tables, and they haven't the number of the format.
     /// - `Refused`, `Disk` or `Interrupted` where `sqlite` failed so.
     /// - `NoMemory` if out of memory.
     pub fn adopt(conn: Connection<S>) -> Result<Store<S>, StoreFault>
@@ -98,6 +121,8 @@ impl<S: Alter + Drop> Store<S> {
             let new = state S.Store store.conn in
             (these : Contents) → HasCleanDisk new → old.now ≡ old.committed → Holds these old.now
             → Holds these new.now × HasFormat these) }
+        ensures crash { IfOk result (λ store. let old = state S.Store conn in
+            Survives old (state S.Store store.conn) (λ trees. (old.now.schema ≡ no_schema) × Keeps new_contents trees)) }
     {
         let mut conn = conn;
         prepare(&mut conn)?;
@@ -111,8 +136,8 @@ impl<S: Alter + Drop> Store<S> {
 impl<S: Alter> Store<S> {
     /// Writes what a change of the history changes, in one transaction.
     ///
-    /// The edits are ones that the history takes, each by then, and carry the numbers that it gave them. After an `Err` the
-    /// tables hold what they held.
+    /// The edits are ones that the history takes, each by then, and carry the numbers that it gave them. After an `Err`
+    /// the tables hold what they held.
     ///
     /// - `Refused`, `Disk` or `Interrupted` where `sqlite` failed so.
     /// - `NoMemory` if out of memory.
@@ -124,19 +149,28 @@ impl<S: Alter> Store<S> {
             → OnOk result (IsStored (changed (change_data change.now) h) new.now × (new.committed ≡ new.now)) }
         ensures refused { let old = state S.Store self.old.conn in
             let new = state S.Store self.new.conn in
-            HasCleanDisk new → IsTrue new.is_open
-            → OnErr result ((old.now ≡ old.committed → new.now ≡ old.now) × (new.committed ≡ old.committed)) }
+            HasCleanDisk new → OnErr result (IsAsItWas old new) }
         ensures crash { let old = state S.Store self.old.conn in
-            Survives old (state S.Store self.new.conn) (λ trees. (h : HistoryData) → IsStored h old.now
-            → Accepts h change.now → Keeps (rows_of (changed (change_data change.now) h)) trees) }
+            Survives old (state S.Store self.new.conn) (IsChangedIn change.now old) }
         ensures durable { let new = state S.Store self.new.conn in
             IsTrue new.is_open → (trees : _) → new.may_leave trees → trees ≡ new.committed.trees }
+        ensures stays_open { HasCleanDisk (state S.Store self.new.conn)
+            → OnOk result (IsTrue (state S.Store self.new.conn).is_open) }
+        ensures leaves { (hs : List HistoryData) → (h : HistoryData) → Leaves S.Store self.old hs
+            → IsKept S.Store self.old h → Accepts h change.now → change_writes change.now ≢ []
+            → Leaves S.Store self.new (changed (change_data change.now) h ∷ hs) }
+        ensures acknowledged { (h : HistoryData) → IsKept S.Store self.old h → Accepts h change.now
+            → OnOk result (Leaves S.Store self.new (changed (change_data change.now) h ∷ [])) }
         ensures open { let old = state S.Store self.old.conn in
             let new = state S.Store self.new.conn in
             HasCleanDisk new → IsTrue new.is_open → HasCleanDisk old × IsTrue old.is_open }
+        ensures answered { HasCleanDisk (state S.Store self.new.conn) → IfErr result (λ fault. fault ≢ NoMemory
+            → HasAnswer S.Store change.now (state S.Store self.old.conn) fault) }
         ensures only { IfErr result (λ fault. fault ≢ NotOurs) }
         ensures tally { self.new.tally ≡ self.old.tally }
     {
+        // Outside a transaction an open database is as it was committed.
+        self.conn.is_autocommit();
         let writes = writes_of(alloc, change)?;
         match commit(&mut self.conn, &writes) {
             Ok(()) => Ok(()),
@@ -164,13 +198,20 @@ impl<S: Alter> Store<S> {
             → IsKept S.Store self.new history) }
         ensures same { let old = state S.Store self.old.conn in
             let new = state S.Store self.new.conn in
-            HasCleanDisk new → old.now.schema ≡ our_schema → OnOk result (IsUnchanged old new) }
+            HasCleanDisk new → OnOk result (IsUnchanged old new) }
+        ensures left { let old = state S.Store self.old.conn in
+            let new = state S.Store self.new.conn in
+            HasCleanDisk new → IsAsItWas old new }
+        ensures crash { Survives (state S.Store self.old.conn) (state S.Store self.new.conn) (λ _. ⊥) }
         ensures open { let old = state S.Store self.old.conn in
             HasCleanDisk (state S.Store self.new.conn) → HasCleanDisk old × IfOk result (λ _. IsTrue old.is_open) }
+        ensures leaves { IfOk result (λ history. (these : Contents) → Holds these (state S.Store self.old.conn).now
+            → Leaves S.Store self.new (history ∷ [])) }
+        ensures tally { self.new.tally ≡ self.old.tally }
     {
-        let history = loading::load(alloc, &mut self.conn)?;
         // Outside a transaction an open database is as it was committed.
         self.conn.is_autocommit();
+        let history = loading::load(alloc, &mut self.conn)?;
         Ok(history)
     }
 }

@@ -1,5 +1,5 @@
 -- What an INSERT of one row does.
-use Rattle.std.proofs.Common.{◌≡◌, ◌≢◌, ◌⊎◌, inl, inr, ℕ, ◌/◌, List, [], ◌∷◌, length, drop, slice_get, Bool, true, false, cond, Some, None, Ok, Err, Result, refl, sym, ap, subst, ◌∙◌, IsPermutation}
+use Rattle.std.proofs.Common.{IfErr, ◌≡◌, ◌≢◌, ◌⊎◌, inl, inr, ℕ, ◌/◌, List, [], ◌∷◌, length, drop, slice_get, Bool, true, false, cond, Some, None, Ok, Err, Result, refl, sym, ap, subst, ◌∙◌, IsPermutation}
 use Rattle.std.specs.List.{AllByRecursion}
 use Rattle.sqlite.specs.declared.types.Value.{Value}
 use Rattle.sqlite.specs.declared.types.Value.TheVariants.{Null, Int}
@@ -116,6 +116,12 @@ pub alters : (text : List ℕ) (params : Row) (change : Contents → Contents) (
 alters text params change old new (Ok count) does h = record {
   kept = record { was_open = λ _. h.1.was_open; committed = λ _. h.1.committed_is };
   made = (h.1.mode, λ these holds. does count these holds h.0);
+  opened = h.1.was_open;
 }
-alters text params change old new (Err e) does (inl h) = record { kept = elim h.1 [ inl same ↦ unchanged_keeps old new same | inr back ↦ back_keeps old new back ]; made = tt }
-alters text params change old new (Err e) does (inr h) = record { kept = unchanged_keeps old new h.2; made = tt }
+alters text params change old new (Err e) does (inl h) = record { kept = elim h.1 [ inl same ↦ unchanged_keeps old new same | inr back ↦ back_keeps old new back ]; made = tt; opened = tt }
+alters text params change old new (Err e) does (inr h) = record { kept = unchanged_keeps old new h.2; made = tt; opened = tt }
+
+-- an error of a statement is what SQLite answered
+pub answered : (text : List ℕ) (params : Row) (old new : State) (r : Result ℕ Error) → ExecutesInside 0 text params old new r → IfErr r (λ e. ExecutesInside 0 text params old new (Err e))
+answered text params old new (Ok count) does = tt
+answered text params old new (Err e) does = does

@@ -1,6 +1,7 @@
 pub mod Texts
 pub mod Edits
 pub mod Selects
+pub mod Queries
 pub mod Lists
 pub mod Inserts
 pub mod Turns

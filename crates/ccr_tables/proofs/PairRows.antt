@@ -12,8 +12,7 @@ use Rattle.sqlite.proofs.StateLemmas.{survives_then}
 use Rattle.ccr_tables.specs.Cause.{cause_of}
 use Rattle.ccr_tables.specs.declared.cause.Cause.TheVariants.{Refused}
 use Rattle.ccr_tables.specs.Pairs.{IsPair, Are}
-use Rattle.ccr_tables.specs.Schema.{our_schema}
-use Rattle.ccr_tables.proofs.Lists.{survive_pairs}
+use Rattle.ccr_tables.proofs.Queries.{survives, pairs_plain}
 use Rattle.ccr_tables.proofs.Texts.{pairs_text}
 
 all_before : (rows : List Row) (r : Row) → AllByRecursion IsPair (rows ++ r ∷ []) → AllByRecursion IsPair rows
@@ -45,8 +44,8 @@ pub refused_on : {X Y : Type 0} (r : Result X Error) (s : Result Y Error) (e : E
 refused_on r (Ok y) e was same h = tt
 refused_on r (Err x) e was same h = subst (λ y. cause_of y ≢ Refused) (sym same) (subst (λ q. IfErr q (λ y. cause_of y ≢ Refused)) was h)
 
-pub survives_on : (a b c : State) → a.now.schema ≡ our_schema → Survives a b (CommitsShowing pairs_text [] a) → Survives b c (λ _. ⊥) → Survives a c (λ _. ⊥)
-survives_on a b c has one two = survives_then a b c (λ _. ⊥) (λ _. ⊥) (λ _. ⊥) (λ _ db none. none) (λ _ db none. none) (survive_pairs a b has one) two
+pub survives_on : (a b c : State) → Survives a b (CommitsShowing pairs_text [] a) → Survives b c (λ _. ⊥) → Survives a c (λ _. ⊥)
+survives_on a b c one two = survives_then a b c (λ _. ⊥) (λ _. ⊥) (λ _. ⊥) (λ _ db none. none) (λ _ db none. none) (survives pairs_text a b (pairs_plain _) one) two
 
 pub shows_on : (a b c : State) → Survives a b (CommitsShowing pairs_text [] a) → Survives b c (λ _. ⊥) → Survives a c (CommitsShowing pairs_text [] a)
 shows_on a b c one two = survives_then a b c (CommitsShowing pairs_text [] a) (λ _. ⊥) (CommitsShowing pairs_text [] a) (λ _ db h. h) (λ _ db none. absurd none) one two

@@ -1,5 +1,5 @@
 -- What a SELECT shows.
-use Rattle.std.proofs.Common.{◌≡◌, ◌<◌, ◌+◌, ℕ, List, [], ◌∷◌, map, filter, flat_map, Bool, true, false, cond, ◌&&◌, get_or, length, arith, refl, sym, ap, ap₂, subst, ◌∙◌, IsPermutation, IsSorted, IsTrue, Vec, Global, Ok, Err, Result, IfOk, OnOk, Ordering, is_lt, Option, Some, None}
+use Rattle.std.proofs.Common.{◌≡◌, ◌<◌, ◌+◌, ℕ, List, [], ◌∷◌, map, filter, flat_map, Bool, true, false, cond, ◌&&◌, get_or, length, arith, refl, sym, ap, ap₂, subst, ◌∙◌, IsPermutation, IsSorted, IsTrue, Vec, Global, Ok, Err, Result, IfOk, Ordering, is_lt, Option, Some, None}
 use Rattle.std.specs.List.{AllByRecursion}
 use Rattle.std.proofs.lemmas.List.Concat.{flat_map_single}
 use Rattle.std.proofs.lemmas.List.Sorted.{IsPermutation-trans, IsPermutation-map, All-permutation}
@@ -7,18 +7,17 @@ use Rattle.std.proofs.lemmas.List.Elements.{All-from_recursion}
 use Rattle.sqlite.specs.declared.types.Value.TheVariants.{Null}
 use Rattle.sqlite.specs.declared.error.Error.{Error}
 use Rattle.sqlite.specs.Order.{Row}
-use Rattle.sqlite.specs.Term.{Term, col}
+use Rattle.sqlite.specs.Term.{Term}
 use Rattle.sqlite.specs.Tree.{Trees}
-use Rattle.sqlite.specs.Query.{Query, Output, IsAnswer, output, output_cmp, inner, end}
+use Rattle.sqlite.specs.Query.{Query, Output, IsAnswer, output, output_cmp}
 use Rattle.sqlite.specs.Program.{overlay}
 use Rattle.sqlite.specs.Command.TheVariants.{Select}
 use Rattle.sqlite.specs.Listing.{understood, reads_listing}
-use Rattle.sqlite.specs.State.{State, Shown, ShowsRows, IsUnchanged, Survives, CommitsShowing, HasCleanDisk}
+use Rattle.sqlite.specs.State.{State, Shown, ShowsRows}
 use Rattle.sqlite.specs.Clock.{timed}
 use Rattle.sqlite_schema.specs.declared.command.Returning.{Returning}
 use Rattle.sqlite_sql.specs.Term.{eval_all, holds}
-use Rattle.sqlite.proofs.Callers.{IsPlain, command_of, reads_as, never_commits}
-use Rattle.sqlite.proofs.StateLemmas.{survives_weaker}
+use Rattle.sqlite.proofs.Callers.{IsPlain, command_of, reads_as}
 use Rattle.sqlite_keyed.proofs.ListLemmas.{map-map}
 use Rattle.sqlite_exec.proofs.RowsLemmas.{IsSorted-map}
 use Rattle.ccr_tables.specs.Schema.{our_schema}
@@ -94,19 +93,6 @@ module _ (tree : ℕ) (keys project : List Term) (shown : Row → Row) (width : 
         → IfOk r (λ rows. Shown text [] old new rows.items) → IfOk r (λ rows. IsListed width these rows.items)
     lists these old new (Err e) has same h = tt
     lists these old new (Ok rows) has same h = lists_rows these old new rows.items has same h
-
-    -- a query changes nothing
-    pub same : (old new : State) (r : Result (Vec Row Global) Error) → old.now.schema ≡ our_schema → IfOk r (λ rows. Shown text [] old new rows.items) → OnOk r (IsUnchanged old new)
-    unfolding Shown
-    same old new (Err e) has h = tt
-    same old new (Ok rows) has h =
-        let here = subst (λ s. IsPlain (understood s text)) (sym has) plain in
-        let none = (subst IsPlain h.1.is here).0 in
-        (subst (λ r. Rattle.sqlite.specs.State.ShowsRows old new text h.0 (Rattle.sqlite.specs.Clock.timed [] h.0.formats h.1.now) rows.items r) none h.2).3
-
-    pub survives : (old new : State) → old.now.schema ≡ our_schema → Survives old new (CommitsShowing text [] old) → Survives old new (λ _. ⊥)
-    survives old new has h =
-        let here = subst (λ s. IsPlain (understood s text)) (sym has) plain in survives_weaker old new _ _ (λ _ db. never_commits text [] old db here) h
 
 -- what is shown is shown by an open connection
 pub shown_open : {X : Type 0} (rows_of : X → List Row) (text : List ℕ) (old new : State) (r : Result X Error) → IfOk r (λ x. Shown text [] old new (rows_of x)) → IfOk r (λ _. IsTrue old.is_open)

@@ -14,6 +14,7 @@ use Rattle.sqlite.specs.Source.TheVariants.{Values}
 use Rattle.sqlite.specs.Command.TheVariants.{Insert, InsertOr, Select, Update, Delete}
 use Rattle.sqlite.proofs.Callers.{IsPlain, command_of}
 use Rattle.ccr_tables.specs.Schema.{our_schema}
+pub use Rattle.ccr_tables.specs.Answered.{put_meta_text, scope_text, version_text, build_text, set_status_text, pair_text, put_pin_text, remove_pin_text}
 
 -- SELECT project FROM the table in this tree WHERE tests ORDER BY keys
 abbrev pub query : ℕ → List Term → List Term → List Term → Query
@@ -36,9 +37,6 @@ where_equal tree a b project = query tree (op2 (Compare Eq Binary) a b ∷ []) [
 abbrev pub columns : List ℕ → List Term
 columns places = map (λ at. col 1 at) places
 
-abbrev pub scope_text : List ℕ
-scope_text = codes "INSERT INTO scopes(id, resource, kind, source) VALUES(?1, ?2, ?3, ?4)"
-
 pub scope_command : command_of (understood our_schema scope_text) ≡ Insert 1 (Values (col 0 0 ∷ lit Null ∷ col 0 1 ∷ col 0 2 ∷ col 0 3 ∷ []) 5)
 unfolding understood everything
 scope_command = refl
@@ -46,9 +44,6 @@ scope_command = refl
 pub scope_plain : IsPlain (understood our_schema scope_text)
 unfolding understood everything
 scope_plain = (refl, refl)
-
-abbrev pub version_text : List ℕ
-version_text = codes "INSERT INTO versions(scope, place, body) VALUES(?1, ?2, ?3)"
 
 pub version_command : command_of (understood our_schema version_text) ≡ Insert 2 (Values (lit Null ∷ col 0 0 ∷ col 0 1 ∷ col 0 2 ∷ []) 4)
 unfolding understood everything
@@ -58,9 +53,6 @@ pub version_plain : IsPlain (understood our_schema version_text)
 unfolding understood everything
 version_plain = (refl, refl)
 
-abbrev pub build_text : List ℕ
-build_text = codes "INSERT INTO builds(id, job, number, status) VALUES(?1, ?2, ?3, ?4)"
-
 pub build_command : command_of (understood our_schema build_text) ≡ Insert 3 (Values (col 0 0 ∷ lit Null ∷ col 0 1 ∷ col 0 2 ∷ col 0 3 ∷ []) 5)
 unfolding understood everything
 build_command = refl
@@ -68,9 +60,6 @@ build_command = refl
 pub build_plain : IsPlain (understood our_schema build_text)
 unfolding understood everything
 build_plain = (refl, refl)
-
-abbrev pub pair_text : List ℕ
-pair_text = codes "INSERT INTO pairs(build, input, scope, place) VALUES(?1, ?2, ?3, ?4)"
 
 pub pair_command : command_of (understood our_schema pair_text) ≡ Insert 4 (Values (lit Null ∷ col 0 0 ∷ col 0 1 ∷ col 0 2 ∷ col 0 3 ∷ []) 5)
 unfolding understood everything
@@ -188,9 +177,6 @@ pub pins_plain : IsPlain (understood our_schema pins_text)
 unfolding understood everything
 pins_plain = (refl, refl)
 
-abbrev pub put_meta_text : List ℕ
-put_meta_text = codes "INSERT INTO meta(k, v) VALUES(?1, ?2) ON CONFLICT(k) DO UPDATE SET v = excluded.v"
-
 -- where meta has the row already, its new value
 abbrev pub meta_over : Query
 meta_over = where_equal 0 (col 1 0) (col 0 2) (col 1 0 ∷ col 1 0 ∷ lit Null ∷ col 0 5 ∷ [])
@@ -202,9 +188,6 @@ put_meta_command = refl
 pub put_meta_plain : IsPlain (understood our_schema put_meta_text)
 unfolding understood everything
 put_meta_plain = (refl, refl)
-
-abbrev pub put_pin_text : List ℕ
-put_pin_text = codes "INSERT INTO pins(resource, body) VALUES(?1, ?2) ON CONFLICT(resource) DO UPDATE SET body = excluded.body"
 
 -- where the resource has a pin already, its new body
 abbrev pub pin_over : Query
@@ -218,9 +201,6 @@ pub put_pin_plain : IsPlain (understood our_schema put_pin_text)
 unfolding understood everything
 put_pin_plain = (refl, refl)
 
-abbrev pub set_status_text : List ℕ
-set_status_text = codes "UPDATE builds SET status = ?2 WHERE id = ?1"
-
 -- the build with its new status
 abbrev pub status_set : Query
 status_set = where_equal 6 (col 1 0) (col 0 0) (col 1 0 ∷ col 1 0 ∷ lit Null ∷ col 1 2 ∷ col 1 3 ∷ col 0 1 ∷ [])
@@ -232,9 +212,6 @@ set_status_command = refl
 pub set_status_plain : IsPlain (understood our_schema set_status_text)
 unfolding understood everything
 set_status_plain = (refl, refl)
-
-abbrev pub remove_pin_text : List ℕ
-remove_pin_text = codes "DELETE FROM pins WHERE resource = ?1"
 
 -- the numbers of the pins of the resource
 abbrev pub pin_gone : Query

@@ -2,6 +2,8 @@ pub mod Schema
 pub mod Contents
 pub mod Written
 pub mod Step
+pub mod Left
+pub mod Answered
 pub mod Listing
 pub mod Cause
 pub mod Pairs

@@ -1,5 +1,5 @@
 -- What a statement does to the tables, and what a crash can leave of them.
-use Rattle.std.specs.Prelude.{◌≡◌, true, [], Result, OnOk}
+use Rattle.std.specs.Prelude.{◌≡◌, ◌≢◌, true, [], List, Result, OnOk, IsTrue}
 use Rattle.std.specs.List.{AllByRecursion}
 use Rattle.sqlite.specs.Schema.{Schema}
 use Rattle.sqlite.specs.declared.error.Error.{Error}
@@ -7,13 +7,23 @@ use Rattle.sqlite.specs.Tree.{Trees}
 use Rattle.sqlite.specs.Effect.{Database}
 use Rattle.sqlite.specs.State.{State, KeepsCommit}
 use Rattle.ccr_tables.specs.Contents.{Contents, Keeps, Holds, new_contents}
+use Rattle.ccr_tables.specs.Written.{all_written}
+use Rattle.ccr_tables.specs.declared.write.Write.{Write}
 
 -- where the first database holds some contents, the second holds what the change makes of them
 abbrev pub Turns : (Contents → Contents) → Database → Database → Type 0
 Turns change old new = (these : Contents) → Holds these old → Holds (change these) new
 
--- statements inside a transaction: nothing is committed; where they are made, the transaction goes on and sees the change
+-- a statement inside a transaction: nothing is committed; where it is made, the connection was open, and the
+-- transaction goes on and sees the change
 pub record Alters {X : Type 0} (old new : State) (change : Contents → Contents) (result : Result X Error) : Type 0 where
+  pub kept : KeepsCommit old new
+  pub made : OnOk result ((new.in_transaction ≡ true) × Turns change old.now new.now)
+  pub opened : OnOk result (IsTrue old.is_open)
+
+-- writes inside a transaction, one after the other: nothing is committed; where they are made, the transaction goes on
+-- and sees them
+pub record AltersAll {X : Type 0} (old new : State) (change : Contents → Contents) (result : Result X Error) : Type 0 where
   pub kept : KeepsCommit old new
   pub made : OnOk result ((new.in_transaction ≡ true) × Turns change old.now new.now)
 
@@ -34,3 +44,8 @@ pub record Founds {X : Type 0} (before : Schema) (old new : State) (result : Res
 -- the trees hold what the change makes of the contents that the database held
 abbrev pub IsLeft : (Contents → Contents) → Database → Trees → Type 0
 IsLeft change old trees = (these : Contents) → Holds these old → Keeps (change these) trees
+
+-- what a crash can leave of these writes: all of them, of an open connection, if there are any
+pub record IsLeftBy (writes : List Write) (old : State) (trees : Trees) : Type 0 where
+  pub opened : writes ≢ [] → IsTrue old.is_open
+  pub made : IsLeft (all_written writes) old.now trees

@@ -114,8 +114,13 @@ pub fn create<S: Alter>(conn: &mut Connection<S>) -> Result<Creation, Error>
         → (new.now ≡ old.committed) × (new.committed ≡ old.committed) }
     ensures taken { HasCleanDisk (state S.Store conn.new) → (state S.Store conn.old).now.schema ≡ our_schema
         → result ≢ Ok Creation.Made }
+    ensures was_open { let old = state S.Store conn.old in
+        let new = state S.Store conn.new in
+        HasCleanDisk new → IsTrue new.is_open → result ≢ Ok Creation.Made → IsTrue old.is_open }
     ensures crash { let old = state S.Store conn.old in
         Survives old (state S.Store conn.new) (λ trees. old.now.schema ≡ no_schema → Keeps new_contents trees) }
+    ensures refused { IfOk result (λ it. it ≢ Creation.Made
+        → Survives (state S.Store conn.old) (state S.Store conn.new) (λ _. ⊥)) }
     ensures mode { (state S.Store conn.new).in_transaction ≡ false }
 {
     let mut tx = conn.transaction();

@@ -2,8 +2,7 @@
 //!
 //! A contract sees the tables as their contents: for each table, the rows that its SELECT shows. [`create`] makes the
 //! tables of a new database. [`commit`] makes a list of [`Write`]s in one transaction, all of them or none, and the
-//! `select` of each table's module reads it. What the columns hold is told in docs/FORMATS.md. No program uses this crate
-//! yet.
+//! `select` of each table's module reads it. What the columns hold is told in docs/FORMATS.md.
 #![tactic(auto)]
 
 pub mod builds;

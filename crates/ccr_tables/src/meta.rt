@@ -1,11 +1,14 @@
 //! The table `meta`: row 1 is the number of the format, row 2 the text of the pipeline.
 
-ghost use Rattle.std.specs.Prelude.{◌≡◌, ◌≢◌, pos, false, IsTrue, IfOk, IfErr, OnOk};
-ghost use Rattle.sqlite.specs.State.{HasCleanDisk, IsUnchanged, Survives};
+ghost use Rattle.std.specs.Prelude.{◌≡◌, ◌≢◌, pos, false, IsTrue, IfOk, IfErr, ◌∷◌, []};
+ghost use Rattle.sqlite.specs.declared.types.Value.TheVariants.{Int, Blob};
+ghost use Rattle.sqlite.specs.State.{HasCleanDisk, Survives, ExecutesInside};
 ghost use Rattle.sqlite.specs.Held.{state};
 ghost use Rattle.ccr_tables.specs.Schema.{meta_schema, no_schema, our_schema};
+ghost use Rattle.ccr_tables.specs.Answered.{put_meta_text};
 ghost use Rattle.ccr_tables.specs.Cause.{cause_of};
 ghost use Rattle.ccr_tables.specs.Contents.{Holds};
+ghost use Rattle.ccr_tables.specs.Left.{OnlyReads};
 ghost use Rattle.ccr_tables.specs.Listing.{IsListed};
 ghost use Rattle.ccr_tables.specs.Step.{Alters, Creates};
 ghost use Rattle.ccr_tables.specs.Written.{with_meta};
@@ -36,6 +39,11 @@ pub(crate) fn put<S: Alter>(tx: &mut Transaction<'_, S>, k: u32, v: &[u8]) -> Re
     ensures step { let old = state S.Store tx.old.conn.now in
         let new = state S.Store tx.new.conn.now in
         HasCleanDisk new → IsTrue old.in_transaction → Alters old new (with_meta k v.now) result }
+    ensures answered { let old = state S.Store tx.old.conn.now in
+        let new = state S.Store tx.new.conn.now in
+        HasCleanDisk new → IsTrue old.in_transaction
+        → IfErr result (λ e. ExecutesInside 0 put_meta_text
+        (Int (pos k) ∷ Blob v.now ∷ []) old new (Err e)) }
     ensures survives { Survives (state S.Store tx.old.conn.now) (state S.Store tx.new.conn.now) (λ _. ⊥) }
 {
     tx.execute(
@@ -49,16 +57,12 @@ pub fn select<S: Alter>(conn: &mut Connection<S>) -> Result<Vec<Row>, Error>
     ensures rows { let old = state S.Store conn.old in
         HasCleanDisk (state S.Store conn.new)
         → IfOk result (λ rows. (these : _) → Holds these old.now → IsListed 1 these.meta rows.items) }
-    ensures same { let old = state S.Store conn.old in
-        let new = state S.Store conn.new in
-        HasCleanDisk new → old.now.schema ≡ our_schema → OnOk result (IsUnchanged old new) }
+    ensures reads { OnlyReads (state S.Store conn.old) (state S.Store conn.new) result }
     ensures clean { HasCleanDisk (state S.Store conn.new) → HasCleanDisk (state S.Store conn.old) }
     ensures open { HasCleanDisk (state S.Store conn.new) → IfOk result (λ _. IsTrue (state S.Store conn.old).is_open) }
     ensures unrefused { HasCleanDisk (state S.Store conn.new) → (state S.Store conn.old).now.schema ≡ our_schema
         → IfErr result (λ e. cause_of e ≢ Cause.Refused) }
     ensures mode { conn.old.in_transaction ≡ false → conn.new.in_transaction ≡ false }
-    ensures survives { let old = state S.Store conn.old in
-        old.now.schema ≡ our_schema → Survives old (state S.Store conn.new) (λ _. ⊥) }
 {
     conn.query_all("SELECT k, v FROM meta ORDER BY k", &[])
 }

@@ -1,10 +1,8 @@
-use Rattle.std.proofs.Common.{◌≡◌, sym, ap, subst, ◌∙◌}
-use Rattle.sqlite.specs.Effect.{Database}
+use Rattle.std.proofs.Common.{sym, subst}
 use Rattle.sqlite.specs.State.{HasCleanDisk}
 use Rattle.sqlite.specs.Held.{state}
-use Rattle.sqlite.proofs.Callers.{unchanged_then}
 use Rattle.ccr_tables.specs.Contents.{Holds}
-use Rattle.ccr_tables.specs.Schema.{our_schema}
+use Rattle.ccr_tables.proofs.Queries.{reads_then, reads_on, reads_failed, only_error}
 use Rattle.ccr_store.proofs.found.read_seen.Goals as goal
 
 pub returns-clause-rows : goal.returns-clause-rows
@@ -13,27 +11,38 @@ returns-clause-rows g c clean these holds =
     let s2 = state g.S.Store c.select-2.new.conn in
     let clean2 : HasCleanDisk s2 = c.select-3.ensures.clean clean in
     let clean1 : HasCleanDisk s1 = c.select-2.ensures.clean clean2 in
-    let holds1 : Holds these s1.now = subst (Holds these) (sym (c.in_ok-meta.ensures.same clean1 holds.schema).0.now_is) holds in
-    let holds2 : Holds these s2.now = subst (Holds these) (sym (c.in_ok-scopes.ensures.same clean2 holds1.schema).0.now_is) holds1 in
+    let holds1 : Holds these s1.now = subst (Holds these) (sym (c.in_ok-meta.ensures.reads.same clean1).0.now_is) holds in
+    let holds2 : Holds these s2.now = subst (Holds these) (sym (c.in_ok-scopes.ensures.reads.same clean2).0.now_is) holds1 in
     record {
       set = c.in_ok-meta.ensures.rows clean1 these holds;
       named = c.in_ok-scopes.ensures.rows clean2 these holds1;
       reported = c.in_ok-versions.ensures.rows clean these holds2;
     }
 
-pub returns-clause-same : goal.returns-clause-same
-returns-clause-same g c clean has =
+pub returns-in_err-scopes-clause-reads : goal.returns-in_err-scopes-clause-reads
+returns-in_err-scopes-clause-reads g c =
+    let s0 = state g.S.Store c.args.conn.now in
+    let s1 = state g.S.Store c.select.new.conn in
+    let s2 = state g.S.Store c.select-2.new.conn in
+    reads_failed s0 s2 _ c.from_residual-in_err-scopes.result (only_error c.from_residual-in_err-scopes.result _ c.from_residual-in_err-scopes.ensures.1)
+    (reads_then s0 s1 s2 _ _ c.in_ok-meta.ensures.reads c.in_err-scopes.ensures.reads)
+
+pub returns-in_err-versions-clause-reads : goal.returns-in_err-versions-clause-reads
+returns-in_err-versions-clause-reads g c =
     let s0 = state g.S.Store c.args.conn.now in
     let s1 = state g.S.Store c.select.new.conn in
     let s2 = state g.S.Store c.select-2.new.conn in
     let s3 = state g.S.Store c.select-3.new.conn in
-    let clean2 : HasCleanDisk s2 = c.select-3.ensures.clean clean in
-    let clean1 : HasCleanDisk s1 = c.select-2.ensures.clean clean2 in
-    let one = c.in_ok-meta.ensures.same clean1 has in
-    let has1 : s1.now.schema ≡ our_schema = ap (λ (d : Database). d.schema) one.0.now_is ∙ has in
-    let two = c.in_ok-scopes.ensures.same clean2 has1 in
-    let has2 : s2.now.schema ≡ our_schema = ap (λ (d : Database). d.schema) two.0.now_is ∙ has1 in
-    unchanged_then s0 s1 s3 one (unchanged_then s1 s2 s3 two (c.in_ok-versions.ensures.same clean has2))
+    reads_failed s0 s3 _ c.from_residual-in_err-versions.result (only_error c.from_residual-in_err-versions.result _ c.from_residual-in_err-versions.ensures.1)
+    (reads_then s0 s2 s3 _ _ (reads_then s0 s1 s2 _ _ c.in_ok-meta.ensures.reads c.in_ok-scopes.ensures.reads) c.in_err-versions.ensures.reads)
+
+pub returns-clause-reads : goal.returns-clause-reads
+returns-clause-reads g c =
+    let s0 = state g.S.Store c.args.conn.now in
+    let s1 = state g.S.Store c.select.new.conn in
+    let s2 = state g.S.Store c.select-2.new.conn in
+    let s3 = state g.S.Store c.select-3.new.conn in
+    reads_on s0 s3 _ _ (reads_then s0 s2 s3 _ _ (reads_then s0 s1 s2 _ _ c.in_ok-meta.ensures.reads c.in_ok-scopes.ensures.reads) c.in_ok-versions.ensures.reads)
 
 pub returns-clause-open : goal.returns-clause-open
 returns-clause-open g c clean = c.in_ok-meta.ensures.open (c.select-2.ensures.clean (c.select-3.ensures.clean clean))

@@ -1,5 +1,7 @@
 use Rattle.ccr_store.specs.Rows.{rows_of}
 use Rattle.ccr_store.proofs.ShownRows.{no_other}
+use Rattle.sqlite.specs.Held.{state}
+use Rattle.ccr_tables.proofs.Queries.{reads_on, reads_failed}
 use Rattle.ccr_store.proofs.loading.found_in.Goals as goal
 
 pub returns-in-None-clause-only : goal.returns-in-None-clause-only
@@ -12,3 +14,12 @@ returns-in-Err-clause-only g c clean h rules texts holds = λ ours. c.in-Err.ens
 
 pub returns-in-Some-clause-rows : goal.returns-in-Some-clause-rows
 returns-in-Some-clause-rows g c clean = rw c.in-Some.is at (c.in-Ok.ensures.rows clean)
+
+pub returns-in-Some-clause-reads : goal.returns-in-Some-clause-reads
+returns-in-Some-clause-reads g c = reads_on (state g.S.Store c.args.conn.now) (state g.S.Store c.read_built.new.conn) _ _ c.in-Ok.ensures.reads
+
+pub returns-in-None-clause-reads : goal.returns-in-None-clause-reads
+returns-in-None-clause-reads g c = reads_on (state g.S.Store c.args.conn.now) (state g.S.Store c.read_built.new.conn) _ _ c.in-Ok.ensures.reads
+
+pub returns-in-Err-clause-reads : goal.returns-in-Err-clause-reads
+returns-in-Err-clause-reads g c = reads_failed (state g.S.Store c.args.conn.now) (state g.S.Store c.read_built.new.conn) _ _ tt c.in-Err.ensures.reads

@@ -1,10 +1,8 @@
-use Rattle.std.proofs.Common.{sym, ap, ◌∙◌, subst}
-use Rattle.std.proofs.lemmas.Result.{on_ok_weaker}
-use Rattle.sqlite.specs.Effect.{Database}
+use Rattle.std.proofs.Common.{sym, subst}
 use Rattle.sqlite.specs.State.{HasCleanDisk}
 use Rattle.sqlite.specs.Held.{state}
-use Rattle.sqlite.proofs.Callers.{unchanged_then}
 use Rattle.ccr_tables.specs.Contents.{Holds}
+use Rattle.ccr_tables.proofs.Queries.{reads_then}
 use Rattle.ccr_store.specs.Rows.{rows_of}
 use Rattle.ccr_store.proofs.StoreLemmas.{not_ours_read, fault_on, rows_loaded, readable_on}
 use Rattle.ccr_store.proofs.loading.load.Goals as goal
@@ -19,16 +17,14 @@ returns-clause-rows g c clean =
     let old = state g.S.Store c.args.conn.now in
     let mid = state g.S.Store c.load_seen.new.conn in
     let clean_mid : HasCleanDisk mid = c.load_built.ensures.clean clean in
-    rows_loaded c.load_built.result c.in_ok-history.history old.now mid.now (λ has. (c.in_ok-history.ensures.same clean_mid has).0.now_is) (c.in_ok-history.ensures.rows clean_mid) c.load_built.ensures.kept (c.load_built.ensures.rows clean)
+    rows_loaded c.load_built.result c.in_ok-history.history old.now mid.now (λ has. (c.in_ok-history.ensures.reads.same clean_mid).0.now_is) (c.in_ok-history.ensures.rows clean_mid) c.load_built.ensures.kept (c.load_built.ensures.rows clean)
 
-pub returns-clause-same : goal.returns-clause-same
-returns-clause-same g c clean has =
+pub returns-clause-reads : goal.returns-clause-reads
+returns-clause-reads g c =
     let old = state g.S.Store c.args.conn.now in
     let mid = state g.S.Store c.load_seen.new.conn in
     let new = state g.S.Store c.load_built.new.conn in
-    let clean_mid : HasCleanDisk mid = c.load_built.ensures.clean clean in
-    let one = c.in_ok-history.ensures.same clean_mid has in
-    on_ok_weaker c.load_built.result (λ two. unchanged_then old mid new one two) (c.load_built.ensures.same clean (ap (λ (d : Database). d.schema) one.0.now_is ∙ has))
+    reads_then old mid new _ _ c.in_ok-history.ensures.reads c.load_built.ensures.reads
 
 pub returns-clause-readable : goal.returns-clause-readable
 returns-clause-readable g c = readable_on c.load_built.result c.in_ok-history.history c.in_ok-history.ensures.readable c.load_built.ensures.kept
@@ -39,5 +35,5 @@ returns-clause-not_ours g c clean =
     let clean_mid : HasCleanDisk mid = c.load_built.ensures.clean clean in
     not_ours_read c.load_built.result (state g.S.Store c.args.conn.now).now
     (λ h rules texts readable holds.
-    let holds_mid : Holds (rows_of h) mid.now = subst (Holds (rows_of h)) (sym (c.in_ok-history.ensures.same clean_mid holds.schema).0.now_is) holds in
+    let holds_mid : Holds (rows_of h) mid.now = subst (Holds (rows_of h)) (sym (c.in_ok-history.ensures.reads.same clean_mid).0.now_is) holds in
     c.load_built.ensures.only clean h rules texts (c.in_ok-history.ensures.only clean_mid h rules texts readable holds) holds_mid)

@@ -2,6 +2,8 @@ use Rattle.std.proofs.lemmas.Result.{IfOk-weaker}
 use Rattle.ccr_store.specs.Rows.{rows_of}
 use Rattle.ccr_store.proofs.ShownRows.{shown_built}
 use Rattle.ccr_store.proofs.StoreLemmas.{if_fault}
+use Rattle.sqlite.specs.Held.{state}
+use Rattle.ccr_tables.proofs.Queries.{reads_on, reads_failed}
 use Rattle.ccr_store.proofs.loading.load_built.Goals as goal
 
 pub returns-in-Ok-clause-rows : goal.returns-in-Ok-clause-rows
@@ -11,3 +13,9 @@ returns-in-Ok-clause-rows g c clean =
 pub returns-in-Ok-clause-only : goal.returns-in-Ok-clause-only
 returns-in-Ok-clause-only g c clean h rules texts was holds =
     if_fault c.history_of.result (c.history_of.ensures.only h rules texts was (shown_built h c.in-Ok.built.builds.items c.in-Ok.built.pairs.items c.in-Ok.built.pins.items rules (c.in-Ok.ensures.rows clean (rows_of h) holds)))
+
+pub returns-in-Ok-clause-reads : goal.returns-in-Ok-clause-reads
+returns-in-Ok-clause-reads g c = reads_on (state g.S.Store c.args.conn.now) (state g.S.Store c.found_in.new.conn) _ _ c.in-Ok.ensures.reads
+
+pub returns-in-Err-clause-reads : goal.returns-in-Err-clause-reads
+returns-in-Err-clause-reads g c = reads_failed (state g.S.Store c.args.conn.now) (state g.S.Store c.found_in.new.conn) _ _ tt c.in-Err.ensures.reads

@@ -5,6 +5,8 @@ use Rattle.ccr_store.specs.Rows.{rows_of}
 use Rattle.ccr_store.proofs.ShownRows.{shown_seen}
 use Rattle.ccr_store.proofs.StoreLemmas.{or_fault}
 use Rattle.std.proofs.Common.{◌≡◌}
+use Rattle.sqlite.specs.Held.{state}
+use Rattle.ccr_tables.proofs.Queries.{reads_on, reads_failed}
 use Rattle.ccr_store.proofs.loading.load_seen.Goals as goal
 
 pub returns-in-Ok-clause-rows : goal.returns-in-Ok-clause-rows
@@ -18,3 +20,9 @@ returns-in-Ok-clause-only g c clean h rules texts readable holds =
 
 pub returns-in-Err-clause-only : goal.returns-in-Err-clause-only
 returns-in-Err-clause-only g c clean h rules texts readable holds = λ ours. c.in-Err.ensures.unrefused clean holds.schema (c.read_fault_of.ensures ours)
+
+pub returns-in-Ok-clause-reads : goal.returns-in-Ok-clause-reads
+returns-in-Ok-clause-reads g c = reads_on (state g.S.Store c.args.conn.now) (state g.S.Store c.read_seen.new.conn) _ _ c.in-Ok.ensures.reads
+
+pub returns-in-Err-clause-reads : goal.returns-in-Err-clause-reads
+returns-in-Err-clause-reads g c = reads_failed (state g.S.Store c.args.conn.now) (state g.S.Store c.read_seen.new.conn) _ _ tt c.in-Err.ensures.reads

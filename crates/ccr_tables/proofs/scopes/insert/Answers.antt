@@ -3,7 +3,7 @@ use Rattle.sqlite.specs.declared.types.Value.TheVariants.{Int, Text}
 use Rattle.sqlite.specs.Held.{state}
 use Rattle.ccr_tables.specs.Written.{with_scope}
 use Rattle.ccr_tables.proofs.Texts.{scope_text}
-use Rattle.ccr_tables.proofs.Inserts.{alters}
+use Rattle.ccr_tables.proofs.Inserts.{alters, answered}
 use Rattle.ccr_tables.proofs.Adds.{add_scope}
 use Rattle.ccr_tables.proofs.scopes.insert.Goals as goal
 
@@ -13,4 +13,10 @@ returns-clause-step g c clean inside =
     let new = state g.S.Store c.execute.new.self.conn.now in
     let row = Int (pos c.args.id) ∷ Text c.args.resource.now ∷ Text c.args.kind.now ∷ Text c.args.source.now ∷ [] in
     alters scope_text row (with_scope c.args.id c.args.resource.now c.args.kind.now c.args.source.now) old new c.execute.result (λ count. add_scope c.args.id c.args.resource.now c.args.kind.now c.args.source.now old new count)
+    (rw (c.params-to_sql.ensures, c.params-to_sql-2.ensures, c.params-to_sql-3.ensures, c.params-to_sql-4.ensures) at (c.execute.ensures.runs clean inside))
+
+pub returns-clause-answered : goal.returns-clause-answered
+returns-clause-answered g c clean inside =
+    let row = Int (pos c.args.id) ∷ Text c.args.resource.now ∷ Text c.args.kind.now ∷ Text c.args.source.now ∷ [] in
+    answered scope_text row (state g.S.Store c.args.tx.now.conn.now) (state g.S.Store c.execute.new.self.conn.now) c.execute.result
     (rw (c.params-to_sql.ensures, c.params-to_sql-2.ensures, c.params-to_sql-3.ensures, c.params-to_sql-4.ensures) at (c.execute.ensures.runs clean inside))

@@ -1,7 +1,9 @@
 use Rattle.sqlite.specs.Held.{state}
 use Rattle.ccr_tables.specs.Listing.{IsListed}
-use Rattle.ccr_tables.proofs.Lists.{list_scopes, same_scopes, survive_scopes, each}
+use Rattle.ccr_tables.proofs.Lists.{list_scopes, each}
+use Rattle.ccr_tables.proofs.Queries.{only_reads, scopes_plain}
 use Rattle.ccr_tables.proofs.Refusals.{unrefused_scopes}
+use Rattle.ccr_tables.proofs.Texts.{scopes_text}
 use Rattle.ccr_tables.proofs.scopes.select.Goals as goal
 
 pub returns-clause-rows : goal.returns-clause-rows
@@ -10,12 +12,9 @@ returns-clause-rows g c clean =
     let new = state g.S.Store c.query_all.new.self in
     each old.now (λ these rows. IsListed 1 these.scopes rows.items) c.query_all.result (λ these holds. list_scopes these old new c.query_all.result holds (c.query_all.ensures.ok clean))
 
-pub returns-clause-same : goal.returns-clause-same
-returns-clause-same g c clean has =
-    same_scopes (state g.S.Store c.args.conn.now) (state g.S.Store c.query_all.new.self) c.query_all.result has (c.query_all.ensures.ok clean)
-
-pub returns-clause-survives : goal.returns-clause-survives
-returns-clause-survives g c has = survive_scopes (state g.S.Store c.args.conn.now) (state g.S.Store c.query_all.new.self) has c.query_all.ensures.survives
+pub returns-clause-reads : goal.returns-clause-reads
+returns-clause-reads g c =
+    only_reads scopes_text (state g.S.Store c.args.conn.now) (state g.S.Store c.query_all.new.self) c.query_all.result (scopes_plain _) c.query_all.ensures.survives c.query_all.ensures.ok c.query_all.ensures.err
 
 pub returns-clause-unrefused : goal.returns-clause-unrefused
 returns-clause-unrefused g c clean has =

@@ -11,3 +11,6 @@ pub returns-clause-kept : goal.returns-clause-kept
 returns-clause-kept g c = λ blank clean up.
     let made = c.in_ok-prepare.ensures.made clean blank in
     (sym made.1, none_is_history, made.0)
+
+pub returns-clause-found : goal.returns-clause-found
+returns-clause-found g c = λ these clean settled holds. c.in_ok-prepare.ensures.found these clean holds
