@@ -9,9 +9,9 @@ use Rattle.ccr_pipeline.specs.Links.{own_resource, used_resources}
 use Rattle.ccr_pipeline.specs.Tree.{Text, ConfigData, PutData, SourceData, config, file, Tree, Trees, get, put, task, in_order, in_parallel, tried, attempts, hook, no_trees, tree, gathered_in}
 use Rattle.ccr_steps.specs.declared.outcome.Outcome.{Outcome}
 use Rattle.ccr_steps.specs.declared.outcome.Outcome.TheVariants.{Succeeded, Failed, Errored, Aborted}
-use Rattle.ccr_steps.specs.Asks.{AskData, read_config, run_task, AnswerData, done, pushed, configured, failed, errored, Exchange, exchange, Chosen, version_of, get_ask, put_ask, pushed_ask}
+use Rattle.ccr_steps.specs.Asks.{AskData, read_config, run_task, AnswerData, done, pushed, configured, failed, errored, aborted, Exchange, exchange, Chosen, version_of, get_ask, put_ask, pushed_ask}
 use Rattle.ccr_steps.specs.Gains.{MovedData, GainsData, with_moved, register, register_all, move, same, has_inputs}
-use Rattle.ccr_steps.specs.Means.{worse, runs_after, Meaning, Ends, Asks, Joined, AfterFetch, got, AfterPushed, AfterPush, AfterRun, RunsIf, Runs, AfterRead, TaskBy, AfterDo, AndWorse, AfterTry, AfterAttempt, Tries, HookIf, AfterHooked, Either, Means, InOrder, AllOf}
+use Rattle.ccr_steps.specs.Means.{worse, runs_after, Meaning, Ends, Asks, Joined, AfterFetch, got, AfterPushed, AfterPush, AfterRun, RunsIf, Runs, AfterRead, TaskBy, AfterDo, AndWorse, AfterParallel, AfterTry, AfterAttempt, Tries, HookIf, AfterHooked, Either, Means, InOrder, AllOf}
 use Rattle.ccr_core.specs.Seen.{pushed_by}
 
 -- a version of a resource
@@ -73,6 +73,7 @@ module _ (c : Chosen) (U : Text → Type 0) (P : MovedData → Type 0) (R : List
   fetched gain so (configured k) = stays Errored
   fetched gain so failed = stays Failed
   fetched gain so errored = stays Errored
+  fetched gain so aborted = stays Aborted
 
   after_pushed : (b : Bool) (p : PutData) (v : TextMap) → P (moved_of p.resource v) → Keeps (AfterPushed b p v)
   after_pushed true p v new g es o g' pushes (e, f, is) h = subst (λ y. R y.moved) (sym is) (more g.moved (moved_of p.resource v) new h)
@@ -85,6 +86,7 @@ module _ (c : Chosen) (U : Text → Type 0) (P : MovedData → Type 0) (R : List
   after_push p known (configured k) new = stays Errored
   after_push p known failed new = stays Failed
   after_push p known errored new = stays Errored
+  after_push p known aborted new = stays Aborted
 
   after_run : (outputs : List Text) (x : AnswerData) → Keeps (AfterRun outputs x)
   after_run outputs done = ends Succeeded (register_all outputs) (λ g h. h)
@@ -92,6 +94,7 @@ module _ (c : Chosen) (U : Text → Type 0) (P : MovedData → Type 0) (R : List
   after_run outputs (configured k) = stays Errored
   after_run outputs failed = ends Failed (register_all outputs) (λ g h. h)
   after_run outputs errored = stays Errored
+  after_run outputs aborted = stays Aborted
 
   runs_if : (b : Bool) (k : ConfigData) (env : List (Text × Text)) → Keeps (RunsIf b k env)
   runs_if true k env = asked (run_task k env) (AfterRun k.outputs) (λ x none. after_run k.outputs x)
@@ -106,6 +109,7 @@ module _ (c : Chosen) (U : Text → Type 0) (P : MovedData → Type 0) (R : List
   after_read env (configured k) = runs k env
   after_read env failed = stays Errored
   after_read env errored = stays Errored
+  after_read env aborted = stays Aborted
 
   task_by : (source : SourceData) (env : List (Text × Text)) → Keeps (TaskBy source env)
   task_by (config k) env = runs k env
@@ -119,6 +123,12 @@ module _ (c : Chosen) (U : Text → Type 0) (P : MovedData → Type 0) (R : List
 
   and_worse : (A : Meaning) → Keeps A → (o : Outcome) → Keeps (AndWorse A o)
   and_worse A keep o = joined A (λ rest. Ends (worse o rest) same) keep (λ rest. stays (worse o rest))
+
+  after_parallel : (A : Meaning) → Keeps A → (o : Outcome) → Keeps (AfterParallel A o)
+  after_parallel A keep Succeeded = and_worse A keep Succeeded
+  after_parallel A keep Failed = and_worse A keep Failed
+  after_parallel A keep Errored = and_worse A keep Errored
+  after_parallel A keep Aborted = stays Aborted
 
   after_try : (o : Outcome) → Keeps (AfterTry o)
   after_try Succeeded = stays Succeeded
@@ -170,4 +180,4 @@ module _ (c : Chosen) (U : Text → Type 0) (P : MovedData → Type 0) (R : List
     all_of_keep (tree t ts) gots known =
         let (p, q) = all_split (IsGot P c) (inputs t) (inputs_in ts) gots in
         let (r, s) = all_split U (used_resources t) (gathered_in own_resource ts) known in
-        joined (Means c t) (AndWorse (AllOf c ts)) (means_keep t p r) (and_worse (AllOf c ts) (all_of_keep ts q s))
+        joined (Means c t) (AfterParallel (AllOf c ts)) (means_keep t p r) (after_parallel (AllOf c ts) (all_of_keep ts q s))

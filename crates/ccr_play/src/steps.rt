@@ -1,9 +1,11 @@
 //! Builds in one line: what a build asks, step by step, how it ends and which versions it moved.
 //!
-//! `steps JOB | VERSIONS | ANSWERS`: the job's members but its name, a JSON list of its inputs' versions, and the answers with a
-//! blank between: `done`, `failed`, `errored`, `pushed:VERSION`, `config:CONFIG`, or `undo`, which takes the last answer back. In
-//! the job `<x>` stands for the members of a task that runs x; the pipeline has the resources a, b and p.
-//! `steps-repeated JOB | VERSIONS | ANSWER` gives each ask that answer, up to the build's end, and tells how often each was asked.
+//! `steps JOB | VERSIONS | ANSWERS`: the job's members but its name, a JSON list of its inputs' versions, and the
+//! answers with a blank between: `done`, `failed`, `errored`, `aborted`, `pushed:VERSION`, `config:CONFIG`, or `undo`,
+//! which takes the last answer back. In the job `<x>` stands for the members of a task that runs x; the pipeline has the
+//! resources a, b and p.
+//! `steps-repeated JOB | VERSIONS | ANSWER` gives each ask that answer, up to the build's end, and tells how often each
+//! was asked.
 
 use crate::answer::answered_of;
 use crate::play::Player;

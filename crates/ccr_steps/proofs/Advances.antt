@@ -14,8 +14,8 @@ use Rattle.ccr_steps.specs.Asks.{Chosen}
 use Rattle.ccr_steps.specs.Gains.{GainsData}
 use Rattle.ccr_steps.specs.Means.{worse}
 use Rattle.ccr_steps.specs.Play.{Play, ended, Going, and_then, after_do, and_worse_end, and_worst, after_try, after_hooked, play, play_in_order, play_all}
-use Rattle.ccr_steps.specs.Frames.{leaf_at, goes_on, more_tries, Came, CameUnder, is_succeeded, tried_outcome}
-use Rattle.ccr_steps.proofs.Joining.{worst_then}
+use Rattle.ccr_steps.specs.Frames.{leaf_at, goes_on, more_tries, Came, CameUnder, is_succeeded, is_aborted, tried_outcome}
+use Rattle.ccr_steps.proofs.Joining.{worst_then, worst_last}
 use Rattle.ccr_steps.proofs.Under.{Under, came_under, ended_under, under_try, under_tries, under_step, under_hook, under_at, under_all, came_fast}
 use Rattle.ccr_steps.proofs.Begins.{list_cut, try_some}
 use Rattle.ccr_steps.proofs.Paths.{drop_there, take_there, past_lost}
@@ -72,10 +72,18 @@ module _ (old : List Frame) (level : ℕ) (o : Outcome) (g : GainsData) (new : L
     pub all_goes_none : r ≡ None → CameUnder (At k worst) (below (tree_of s)) (tree_of s) g (take level old) new r → Came (whole (in_parallel (trees_of (map tree_of steps)) false)) (in_parallel (trees_of (map tree_of steps)) false) g (take level old) new None
     all_goes_none none came = goes_none (At k worst) (tree_of s) (in_parallel (trees_of (map tree_of steps)) false) (λ c. and_worst worst (play_all c (trees_of (map tree_of (drop (k + 1) steps))))) (under_all (map tree_of steps) k (tree_of s) (map tree_of (drop (k + 1) steps)) worst (list_cut steps k s l is)) at none came
 
-    pub all_goes_some : (end : Outcome) → r ≡ Some end → CameUnder (At k worst) (below (tree_of s)) (tree_of s) g (take level old) new r → (new ≡ take level old) × ((c : Chosen) → whole (in_parallel (trees_of (map tree_of steps)) false) c ≡ and_then (play_all c (trees_of (map tree_of (drop (k + 1) steps))) g) (and_worse_end (worse worst end)))
-    all_goes_some end some came =
-        let got = goes_some (At k worst) (tree_of s) (in_parallel (trees_of (map tree_of steps)) false) (λ c. and_worst worst (play_all c (trees_of (map tree_of (drop (k + 1) steps))))) (under_all (map tree_of steps) k (tree_of s) (map tree_of (drop (k + 1) steps)) worst (list_cut steps k s l is)) at end some came in
-        (got.0, λ c. got.1 c ∙ worst_then (play_all c (trees_of (map tree_of (drop (k + 1) steps)))) worst end g)
+    all_ends : (end : Outcome) → r ≡ Some end → CameUnder (At k worst) (below (tree_of s)) (tree_of s) g (take level old) new r → (new ≡ take level old) × ((c : Chosen) → whole (in_parallel (trees_of (map tree_of steps)) false) c ≡ and_worst worst (play_all c (trees_of (map tree_of (drop (k + 1) steps)))) end g)
+    all_ends end some came = goes_some (At k worst) (tree_of s) (in_parallel (trees_of (map tree_of steps)) false) (λ c. and_worst worst (play_all c (trees_of (map tree_of (drop (k + 1) steps))))) (under_all (map tree_of steps) k (tree_of s) (map tree_of (drop (k + 1) steps)) worst (list_cut steps k s l is)) at end some came
+
+    pub all_goes_some : (end : Outcome) → is_aborted end ≡ false → r ≡ Some end → CameUnder (At k worst) (below (tree_of s)) (tree_of s) g (take level old) new r → (new ≡ take level old) × ((c : Chosen) → whole (in_parallel (trees_of (map tree_of steps)) false) c ≡ and_then (play_all c (trees_of (map tree_of (drop (k + 1) steps))) g) (and_worse_end (worse worst end)))
+    all_goes_some end on some came =
+        let got = all_ends end some came in
+        (got.0, λ c. got.1 c ∙ worst_then (play_all c (trees_of (map tree_of (drop (k + 1) steps)))) worst end g on)
+
+    pub all_goes_last : (end : Outcome) → is_aborted end ≡ true → r ≡ Some end → CameUnder (At k worst) (below (tree_of s)) (tree_of s) g (take level old) new r → (new ≡ take level old) × ((c : Chosen) → whole (in_parallel (trees_of (map tree_of steps)) false) c ≡ ended end g)
+    all_goes_last end off some came =
+        let got = all_ends end some came in
+        (got.0, λ c. got.1 c ∙ worst_last (play_all c (trees_of (map tree_of (drop (k + 1) steps)))) worst end g off)
 
 -- a step that goes on is one of its tree
 pub advanced_at : (T t : Tree) (old : List Frame) (level : ℕ) (o : Outcome) (g : GainsData) (new : List Frame) (r : Option Outcome) → T ≡ t → Came (λ c. goes_on c t (drop level old) o g) t g (take level old) new r → Came (λ c. goes_on c T (drop level old) o g) T g (take level old) new r

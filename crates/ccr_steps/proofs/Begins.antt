@@ -12,9 +12,9 @@ use Rattle.ccr_steps.specs.declared.frame.Frame.TheVariants.{At, In, Left, Hook}
 use Rattle.ccr_steps.specs.Asks.{Chosen, run_task}
 use Rattle.ccr_steps.specs.Gains.{GainsData, has_inputs}
 use Rattle.ccr_steps.specs.Means.{worse, runs_after}
-use Rattle.ccr_steps.specs.Play.{Play, ended, asks, Going, and_then, after_run, runs_if, after_do, and_worse_end, and_worse, and_worst, after_try, after_attempt, tries, hook_if, after_hooked, play, play_in_order, play_all}
-use Rattle.ccr_steps.specs.Frames.{first, more_tries, waiting, Waits, Came, CameUnder, tried_outcome, is_tried_again, ends_if, begins_by, begins_task}
-use Rattle.ccr_steps.proofs.Joining.{then_then, then_ended, tries_then, worst_then}
+use Rattle.ccr_steps.specs.Play.{Play, ended, asks, Going, and_then, after_run, runs_if, after_do, and_worse_end, after_parallel, and_worst, after_try, after_attempt, tries, hook_if, after_hooked, play, play_in_order, play_all}
+use Rattle.ccr_steps.specs.Frames.{first, more_tries, waiting, Waits, Came, CameUnder, is_aborted, tried_outcome, is_tried_again, ends_if, begins_by, begins_task}
+use Rattle.ccr_steps.proofs.Joining.{then_then, then_ended, tries_then, worst_then, worst_last}
 use Rattle.ccr_steps.proofs.Under.{came_under, ended_under, under_try, under_tries, under_step, under_hook, under_at, under_all, came_fast}
 
 abbrev task_with : Text → ConfigData → List (Text × Text) → TaskData
@@ -92,17 +92,25 @@ module _ (steps : List Step) (i : ℕ) (s : Step) (l : i < length steps) (is : s
       (under_at (map tree_of steps) i (tree_of s) (map tree_of (drop (i + 1) steps)) worst (list_cut steps i s l is)) (in_order_now e) none came
 
   all_now : (worst : Outcome) → ((c : Chosen) → p c ≡ and_then (play_all c (trees_of (map tree_of (drop i steps))) g) (and_worse_end worst)) → (c : Chosen) → p c ≡ and_then (play c (tree_of s) g) (and_worst worst (play_all c (trees_of (map tree_of (drop (i + 1) steps)))))
-  all_now worst e c = e c ∙ ap (λ ts. and_then (play_all c (trees_of ts) g) (and_worse_end worst)) (from_cut steps i s l is) ∙ then_then (play c (tree_of s) g) (and_worse (play_all c (trees_of (map tree_of (drop (i + 1) steps))))) (and_worse_end worst)
+  all_now worst e c = e c ∙ ap (λ ts. and_then (play_all c (trees_of ts) g) (and_worse_end worst)) (from_cut steps i s l is) ∙ then_then (play c (tree_of s) g) (after_parallel (play_all c (trees_of (map tree_of (drop (i + 1) steps))))) (and_worse_end worst)
 
   pub all_none : (worst : Outcome) → ((c : Chosen) → p c ≡ and_then (play_all c (trees_of (map tree_of (drop i steps))) g) (and_worse_end worst)) → r ≡ None → CameUnder (At i worst) (λ c. play c (tree_of s) g) (tree_of s) g old new r → Came p (in_parallel (trees_of (map tree_of steps)) false) g old new None
   all_none worst e none came =
       came_under (λ c. play c (tree_of s) g) p (At i worst) (tree_of s) (in_parallel (trees_of (map tree_of steps)) false) (λ c. and_worst worst (play_all c (trees_of (map tree_of (drop (i + 1) steps))))) g old new r
       (under_all (map tree_of steps) i (tree_of s) (map tree_of (drop (i + 1) steps)) worst (list_cut steps i s l is)) (all_now worst e) none came
 
-  pub all_some : (worst o : Outcome) → ((c : Chosen) → p c ≡ and_then (play_all c (trees_of (map tree_of (drop i steps))) g) (and_worse_end worst)) → r ≡ Some o → CameUnder (At i worst) (λ c. play c (tree_of s) g) (tree_of s) g old new r → (new ≡ old) × ((c : Chosen) → p c ≡ and_then (play_all c (trees_of (map tree_of (drop (i + 1) steps))) g) (and_worse_end (worse worst o)))
-  all_some worst o e some came =
-      let got = ended_under (λ c. play c (tree_of s) g) p (At i worst) (tree_of s) (λ c. and_worst worst (play_all c (trees_of (map tree_of (drop (i + 1) steps))))) g old new r o (all_now worst e) some came in
-      (got.0, λ c. got.1 c ∙ worst_then (play_all c (trees_of (map tree_of (drop (i + 1) steps)))) worst o g)
+  all_ended : (worst o : Outcome) → ((c : Chosen) → p c ≡ and_then (play_all c (trees_of (map tree_of (drop i steps))) g) (and_worse_end worst)) → r ≡ Some o → CameUnder (At i worst) (λ c. play c (tree_of s) g) (tree_of s) g old new r → (new ≡ old) × ((c : Chosen) → p c ≡ and_worst worst (play_all c (trees_of (map tree_of (drop (i + 1) steps)))) o g)
+  all_ended worst o e some came = ended_under (λ c. play c (tree_of s) g) p (At i worst) (tree_of s) (λ c. and_worst worst (play_all c (trees_of (map tree_of (drop (i + 1) steps))))) g old new r o (all_now worst e) some came
+
+  pub all_some : (worst o : Outcome) → is_aborted o ≡ false → ((c : Chosen) → p c ≡ and_then (play_all c (trees_of (map tree_of (drop i steps))) g) (and_worse_end worst)) → r ≡ Some o → CameUnder (At i worst) (λ c. play c (tree_of s) g) (tree_of s) g old new r → (new ≡ old) × ((c : Chosen) → p c ≡ and_then (play_all c (trees_of (map tree_of (drop (i + 1) steps))) g) (and_worse_end (worse worst o)))
+  all_some worst o on e some came =
+      let got = all_ended worst o e some came in
+      (got.0, λ c. got.1 c ∙ worst_then (play_all c (trees_of (map tree_of (drop (i + 1) steps)))) worst o g on)
+
+  pub all_last : (worst o : Outcome) → is_aborted o ≡ true → ((c : Chosen) → p c ≡ and_then (play_all c (trees_of (map tree_of (drop i steps))) g) (and_worse_end worst)) → r ≡ Some o → CameUnder (At i worst) (λ c. play c (tree_of s) g) (tree_of s) g old new r → (new ≡ old) × ((c : Chosen) → p c ≡ ended o g)
+  all_last worst o off e some came =
+      let got = all_ended worst o e some came in
+      (got.0, λ c. got.1 c ∙ worst_last (play_all c (trees_of (map tree_of (drop (i + 1) steps)))) worst o g off)
 
 module _ (T : Tree) (g : GainsData) (old new : List Frame) (r : Option Outcome) where
   -- a step begun is one of its tree

@@ -1,12 +1,12 @@
 -- Plays one after another.
-use Rattle.std.proofs.Common.{◌≡◌, ℕ, zero, suc, refl, ap, ◌∙◌}
+use Rattle.std.proofs.Common.{◌≡◌, ℕ, zero, suc, true, false, refl, ap, ◌∙◌}
 use mathlib.Core.Path.{fun_ext}
 use Rattle.ccr_steps.specs.declared.outcome.Outcome.{Outcome}
 use Rattle.ccr_steps.specs.declared.outcome.Outcome.TheVariants.{Succeeded, Failed, Errored, Aborted}
 use Rattle.ccr_steps.specs.Gains.{GainsData}
 use Rattle.ccr_steps.specs.Means.{worse}
-use Rattle.ccr_steps.specs.Play.{Play, ended, asks, Going, and_then, and_worse_end, and_worse, tries}
-use Rattle.ccr_steps.specs.Frames.{more_tries}
+use Rattle.ccr_steps.specs.Play.{Play, ended, asks, Going, and_then, and_worse_end, and_worse, and_worst, tries}
+use Rattle.ccr_steps.specs.Frames.{more_tries, is_aborted}
 
 pub then_then : (p : Play) (f g : Outcome → Going) → and_then (and_then p f) g ≡ and_then p (λ o. λ h. and_then (f o h) g)
 then_then (ended o h) f g = refl
@@ -52,6 +52,25 @@ worse_worse Errored Errored Aborted = refl
 worse_worse Errored Aborted c = refl
 worse_worse Aborted b c = refl
 
--- the worst of all: what came before, a step, and the rest
-pub worst_then : (rest : Going) (worst o : Outcome) (g : GainsData) → and_then (and_worse rest o g) (and_worse_end worst) ≡ and_then (rest g) (and_worse_end (worse worst o))
-worst_then rest worst o g = then_then (rest g) (and_worse_end o) (and_worse_end worst) ∙ then_same (rest g) (λ r. λ h. and_then (and_worse_end o r h) (and_worse_end worst)) (and_worse_end (worse worst o)) (λ r h. ap (λ w. ended w h) (worse_worse worst o r))
+worse_then : (rest : Going) (worst o : Outcome) (g : GainsData) → and_then (and_worse rest o g) (and_worse_end worst) ≡ and_then (rest g) (and_worse_end (worse worst o))
+worse_then rest worst o g = then_then (rest g) (and_worse_end o) (and_worse_end worst) ∙ then_same (rest g) (λ r. λ h. and_then (and_worse_end o r h) (and_worse_end worst)) (and_worse_end (worse worst o)) (λ r h. ap (λ w. ended w h) (worse_worse worst o r))
+
+-- the worst of all: what came before, a step that wasn't aborted, and the rest
+pub worst_then : (rest : Going) (worst o : Outcome) (g : GainsData) → is_aborted o ≡ false → and_worst worst rest o g ≡ and_then (rest g) (and_worse_end (worse worst o))
+worst_then rest worst Succeeded g e = worse_then rest worst Succeeded g
+worst_then rest worst Failed g e = worse_then rest worst Failed g
+worst_then rest worst Errored g e = worse_then rest worst Errored g
+worst_then rest worst Aborted g e = absurd (cc (e))
+
+pub worse_aborted : (a : Outcome) → worse a Aborted ≡ Aborted
+worse_aborted Succeeded = refl
+worse_aborted Failed = refl
+worse_aborted Errored = refl
+worse_aborted Aborted = refl
+
+-- a step that was aborted is the last
+pub worst_last : (rest : Going) (worst o : Outcome) (g : GainsData) → is_aborted o ≡ true → and_worst worst rest o g ≡ ended o g
+worst_last rest worst Succeeded g e = absurd (cc (e))
+worst_last rest worst Failed g e = absurd (cc (e))
+worst_last rest worst Errored g e = absurd (cc (e))
+worst_last rest worst Aborted g e = ap (λ o. ended o g) (worse_aborted worst)

@@ -13,3 +13,4 @@ pub mod Paths
 pub mod Advances
 pub mod Nexts
 pub mod Choosing
+pub mod Aborting

@@ -5,10 +5,10 @@ use Rattle.ccr_pipeline.specs.declared.step.When.{When}
 use Rattle.ccr_pipeline.specs.Tree.{Text, ConfigData, PutData, SourceData, config, file, Tree, Trees, get, put, task, in_order, in_parallel, tried, attempts, hook, no_trees, tree}
 use Rattle.ccr_steps.specs.declared.outcome.Outcome.{Outcome}
 use Rattle.ccr_steps.specs.declared.outcome.Outcome.TheVariants.{Succeeded, Failed, Errored, Aborted}
-use Rattle.ccr_steps.specs.Asks.{AskData, read_config, run_task, AnswerData, done, pushed, configured, failed, errored, Exchange, exchange, Chosen, get_ask, put_ask, pushed_ask}
+use Rattle.ccr_steps.specs.Asks.{AskData, read_config, run_task, AnswerData, done, pushed, configured, failed, errored, aborted, Exchange, exchange, Chosen, get_ask, put_ask, pushed_ask}
 use Rattle.ccr_steps.specs.Gains.{GainsData, register, register_all, move, same, has_inputs}
-use Rattle.ccr_steps.specs.Means.{Meaning, Ends, Asks, Joined, worse, runs_after, got, AfterFetch, AfterPushed, AfterPush, AfterRun, RunsIf, Runs, AfterRead, TaskBy, AfterDo, AndWorse, AfterTry, AfterAttempt, Tries, HookIf, AfterHooked, Either, Means, InOrder, AllOf}
-use Rattle.ccr_steps.specs.Play.{Play, ended, asks, Going, and_then, Leads, after_fetch, after_pushed, after_push, after_run, runs_if, runs, after_read, task_by, after_do, and_worse_end, and_worse, after_try, after_attempt, tries, hook_if, after_hooked, either, play, play_in_order, play_all}
+use Rattle.ccr_steps.specs.Means.{Meaning, Ends, Asks, Joined, worse, runs_after, got, AfterFetch, AfterPushed, AfterPush, AfterRun, RunsIf, Runs, AfterRead, TaskBy, AfterDo, AndWorse, AfterParallel, AfterTry, AfterAttempt, Tries, HookIf, AfterHooked, Either, Means, InOrder, AllOf}
+use Rattle.ccr_steps.specs.Play.{Play, ended, asks, Going, and_then, Leads, after_fetch, after_pushed, after_push, after_run, runs_if, runs, after_read, task_by, after_do, and_worse_end, and_worse, after_parallel, after_try, after_attempt, tries, hook_if, after_hooked, either, play, play_in_order, play_all}
 use Rattle.ccr_steps.proofs.Leading.{leads_join, leads_split}
 
 -- the exchanges that a meaning allows are those that lead to the play's end
@@ -45,6 +45,7 @@ fetched gain (pushed v) = ends Errored same
 fetched gain (configured k) = ends Errored same
 fetched gain failed = ends Failed same
 fetched gain errored = ends Errored same
+fetched gain aborted = ends Aborted same
 
 pushed_on : (b : Bool) (p : PutData) (v : TextMap) → Plays (AfterPushed b p v) (after_pushed b p v)
 pushed_on true p v g = ends Succeeded same (move p.resource v g)
@@ -56,6 +57,7 @@ push_ended p (pushed v) = pushed_on p.no_get p v
 push_ended p (configured k) = ends Errored same
 push_ended p failed = ends Failed same
 push_ended p errored = ends Errored same
+push_ended p aborted = ends Aborted same
 
 ran : (outputs : List Text) (x : AnswerData) → Plays (AfterRun outputs x) (after_run outputs x)
 ran outputs done = ends Succeeded (register_all outputs)
@@ -63,6 +65,7 @@ ran outputs (pushed v) = ends Errored same
 ran outputs (configured k) = ends Errored same
 ran outputs failed = ends Failed (register_all outputs)
 ran outputs errored = ends Errored same
+ran outputs aborted = ends Aborted same
 
 runs_when : (b : Bool) (k : ConfigData) (env : List (Text × Text)) → Plays (RunsIf b k env) (runs_if b k env)
 runs_when true k env = asked (run_task k env) (AfterRun k.outputs) (after_run k.outputs) (ran k.outputs)
@@ -77,6 +80,7 @@ read_ended env (pushed v) = ends Errored same
 read_ended env (configured k) = running_of k env
 read_ended env failed = ends Errored same
 read_ended env errored = ends Errored same
+read_ended env aborted = ends Aborted same
 
 task_of : (s : SourceData) (env : List (Text × Text)) → Plays (TaskBy s env) (task_by s env)
 task_of (config k) env = running_of k env
@@ -90,6 +94,12 @@ did A p h Aborted = ends Aborted same
 
 worse_of : (A : Meaning) (p : Going) → Plays A p → (o : Outcome) → Plays (AndWorse A o) (and_worse p o)
 worse_of A p h o = joined A (λ rest. Ends (worse o rest) same) p (and_worse_end o) h (λ rest. ends (worse o rest) same)
+
+did_parallel : (A : Meaning) (p : Going) → Plays A p → (o : Outcome) → Plays (AfterParallel A o) (after_parallel p o)
+did_parallel A p h Succeeded = worse_of A p h Succeeded
+did_parallel A p h Failed = worse_of A p h Failed
+did_parallel A p h Errored = worse_of A p h Errored
+did_parallel A p h Aborted = ends Aborted same
 
 did_try : (o : Outcome) → Plays (AfterTry o) (after_try o)
 did_try Succeeded = ends Succeeded same
@@ -136,4 +146,4 @@ mutual
 
   plays_all : (c : Chosen) (ts : Trees) → Plays (AllOf c ts) (play_all c ts)
   plays_all c no_trees = ends Succeeded same
-  plays_all c (tree t ts) = joined (Means c t) (AndWorse (AllOf c ts)) (play c t) (and_worse (play_all c ts)) (plays c t) (worse_of (AllOf c ts) (play_all c ts) (plays_all c ts))
+  plays_all c (tree t ts) = joined (Means c t) (AfterParallel (AllOf c ts)) (play c t) (after_parallel (play_all c ts)) (plays c t) (did_parallel (AllOf c ts) (play_all c ts) (plays_all c ts))

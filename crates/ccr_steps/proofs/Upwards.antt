@@ -1,5 +1,5 @@
 -- What holds of the step at the end of a path holds of the steps round it, if it goes up from each step to the one that it is in.
-use Rattle.std.proofs.Common.{◌≡◌, ℕ, zero, suc, Bool, List, [], ◌∷◌, Option, Some, subst}
+use Rattle.std.proofs.Common.{◌≡◌, ℕ, zero, suc, Bool, List, ◌∷◌, Option, Some, subst}
 use Rattle.ccr_pipeline.specs.declared.step.When.{When}
 use Rattle.ccr_pipeline.specs.Tree.{Tree, Trees, get, put, task, in_order, in_parallel, tried, attempts, hook, no_trees, tree}
 use Rattle.ccr_steps.specs.declared.frame.Frame.{Frame}

@@ -11,7 +11,7 @@ use Rattle.ccr_pipeline.specs.Tree.{Text, ConfigData, config_data, variable_data
 use Rattle.ccr_steps.specs.declared.ask.Ask.{Ask}
 use Rattle.ccr_steps.specs.declared.ask.Ask.TheVariants.{Fetch, Push, ReadConfig, RunTask}
 use Rattle.ccr_steps.specs.declared.ask.Answered.{Answered}
-use Rattle.ccr_steps.specs.declared.ask.Answered.TheVariants.{Done, Pushed, Config, Failed, Errored}
+use Rattle.ccr_steps.specs.declared.ask.Answered.TheVariants.{Done, Pushed, Config, Failed, Errored, Aborted}
 
 -- what a build waits for: a version's files, a version to be pushed, a task file, or a program
 pub data AskData : Type 0 where
@@ -39,13 +39,14 @@ ask_resource (run_task config env) = None
 abbrev pub NamesResourceOf : Tree → AskData → Type 0
 NamesResourceOf t a = IfSome (ask_resource a) (λ r. IsTrue (has_name (used_resources t) r))
 
--- how it went; a version comes back from a push alone, a config from a task file alone
+-- how it went; a version comes back from a push alone, a config from a task file alone; every ask may be aborted
 pub data AnswerData : Type 0 where
   done : AnswerData
   pushed : (version : TextMap) → AnswerData
   configured : (config : ConfigData) → AnswerData
   failed : AnswerData
   errored : AnswerData
+  aborted : AnswerData
 
 -- an answer, without where its parts lie in memory
 abbrev pub answer_data : Answered → AnswerData
@@ -54,6 +55,7 @@ answer_data (Pushed version) = pushed version
 answer_data (Config config) = configured (config_data config)
 answer_data Failed = failed
 answer_data Errored = errored
+answer_data Aborted = aborted
 
 -- an ask and its answer
 pub record Exchange : Type 0 where

@@ -110,7 +110,8 @@ abbrev mutual
   goes_on_in_order c (tree t ts) zero fs o g = and_then (goes_on c t fs o g) (after_do (play_in_order c ts))
   goes_on_in_order c (tree t ts) (suc k) fs o g = goes_on_in_order c ts k fs o g
 
-  -- a list of which all steps run goes on so; the outcome is the worst, with what came before
+  -- a list of which all steps run, up to one that is aborted, goes on so; the outcome is the worst, with what came
+  -- before
   pub goes_on_all : Chosen → Outcome → Trees → ℕ → List Frame → Outcome → Going
   goes_on_all c worst no_trees k fs o g = ended Errored g
   goes_on_all c worst (tree t ts) zero fs o g = and_then (goes_on c t fs o g) (and_worst worst (play_all c ts))
@@ -198,6 +199,13 @@ begins_task t g = begins_by t.source g
 abbrev pub NextIs : Chosen → Play → Tree → GainsData → Next → Type 0
 NextIs c p t g (Next.Ended o) = p ≡ ended o g
 NextIs c p t g (Next.Waits l) = IsSome (leaf_ask c t (leaf_data l)) × (p ≡ leaf_play c t (leaf_data l) g)
+
+-- an in_parallel stops after it
+abbrev pub is_aborted : Outcome → Bool
+is_aborted Succeeded = false
+is_aborted Failed = false
+is_aborted Errored = false
+is_aborted Aborted = true
 
 -- a do goes on after it
 abbrev pub is_succeeded : Outcome → Bool

@@ -8,3 +8,4 @@ pub mod Frames
 pub mod Runs
 pub mod FrameKinds
 pub mod Moments
+pub mod Aborts

@@ -6,7 +6,7 @@ use Rattle.ccr_pipeline.specs.declared.step.When.TheVariants.{OnSuccess, OnFailu
 use Rattle.ccr_pipeline.specs.Tree.{Text, ConfigData, GetData, PutData, SourceData, config, file, Tree, Trees, get, put, task, in_order, in_parallel, tried, attempts, hook, no_trees, tree}
 use Rattle.ccr_steps.specs.declared.outcome.Outcome.{Outcome}
 use Rattle.ccr_steps.specs.declared.outcome.Outcome.TheVariants.{Succeeded, Failed, Errored, Aborted}
-use Rattle.ccr_steps.specs.Asks.{AskData, read_config, run_task, AnswerData, done, pushed, configured, failed, errored, Exchange, exchange, Chosen, version_of, get_ask, put_ask, pushed_ask}
+use Rattle.ccr_steps.specs.Asks.{AskData, read_config, run_task, AnswerData, done, pushed, configured, failed, errored, aborted, Exchange, exchange, Chosen, version_of, get_ask, put_ask, pushed_ask}
 use Rattle.ccr_steps.specs.Gains.{GainsData, register, register_all, move, same, has_inputs}
 
 -- from best to worst: succeeded, failed, errored, aborted
@@ -53,13 +53,14 @@ Joined A B g es o g' =
 
 -- THE STEPS
 
--- a fetch that is done succeeds and gains; an answer of another kind is an error
+-- a fetch that is done succeeds and gains; one that is aborted gains nothing; an answer of another kind is an error
 abbrev pub AfterFetch : (GainsData → GainsData) → AnswerData → Meaning
 AfterFetch gain done = Ends Succeeded gain
 AfterFetch gain (pushed v) = Ends Errored same
 AfterFetch gain (configured k) = Ends Errored same
 AfterFetch gain failed = Ends Failed same
 AfterFetch gain errored = Ends Errored same
+AfterFetch gain aborted = Ends Aborted same
 
 -- what a get of a version gains: its artifact, and the version
 abbrev pub got_version : GetData → TextMap → GainsData → GainsData
@@ -74,21 +75,24 @@ abbrev pub AfterPushed : Bool → PutData → TextMap → Meaning
 AfterPushed true p v g = Ends Succeeded (move p.resource v) g
 AfterPushed false p v g = Asks (pushed_ask p v) (AfterFetch (register p.name)) (move p.resource v g)
 
--- a push that gave a version is followed by its fetch; an answer of another kind is an error
+-- a push that gave a version is followed by its fetch; one that is aborted moves nothing; an answer of another kind is
+-- an error
 abbrev pub AfterPush : PutData → AnswerData → Meaning
 AfterPush p done = Ends Errored same
 AfterPush p (pushed v) = AfterPushed p.no_get p v
 AfterPush p (configured k) = Ends Errored same
 AfterPush p failed = Ends Failed same
 AfterPush p errored = Ends Errored same
+AfterPush p aborted = Ends Aborted same
 
--- a program that ran leaves its outputs, though it failed
+-- a program that ran leaves its outputs, though it failed; one that is aborted leaves none
 abbrev pub AfterRun : List Text → AnswerData → Meaning
 AfterRun outputs done = Ends Succeeded (register_all outputs)
 AfterRun outputs (pushed v) = Ends Errored same
 AfterRun outputs (configured k) = Ends Errored same
 AfterRun outputs failed = Ends Failed (register_all outputs)
 AfterRun outputs errored = Ends Errored same
+AfterRun outputs aborted = Ends Aborted same
 
 -- the program runs if its inputs are there; else it is an error
 abbrev pub RunsIf : Bool → ConfigData → List (Text × Text) → Meaning
@@ -99,13 +103,14 @@ RunsIf false k env = Ends Errored same
 abbrev pub Runs : ConfigData → List (Text × Text) → Meaning
 Runs k env g = RunsIf (has_inputs k.inputs g) k env g
 
--- a task file that was read is run; without one the task is an error
+-- a task file that was read is run; a reading that is aborted aborts the task; without a file the task is an error
 abbrev pub AfterRead : List (Text × Text) → AnswerData → Meaning
 AfterRead env done = Ends Errored same
 AfterRead env (pushed v) = Ends Errored same
 AfterRead env (configured k) = Runs k env
 AfterRead env failed = Ends Errored same
 AfterRead env errored = Ends Errored same
+AfterRead env aborted = Ends Aborted same
 
 -- a task file is read first
 abbrev pub TaskBy : SourceData → List (Text × Text) → Meaning
@@ -122,6 +127,13 @@ AfterDo more Aborted = Ends Aborted same
 -- the rest follows however the step ended; the worse of both
 abbrev pub AndWorse : Meaning → Outcome → Meaning
 AndWorse more o = Joined more (λ rest. Ends (worse o rest) same)
+
+-- after a step of an in_parallel the rest follows, unless the step was aborted; the worse of both
+abbrev pub AfterParallel : Meaning → Outcome → Meaning
+AfterParallel more Succeeded = AndWorse more Succeeded
+AfterParallel more Failed = AndWorse more Failed
+AfterParallel more Errored = AndWorse more Errored
+AfterParallel more Aborted = Ends Aborted same
 
 -- every outcome but aborted becomes succeeded
 abbrev pub AfterTry : Outcome → Meaning
@@ -173,7 +185,7 @@ abbrev mutual
   InOrder c no_trees = Ends Succeeded same
   InOrder c (tree t ts) = Joined (Means c t) (AfterDo (InOrder c ts))
 
-  -- all in list order, with the worst outcome
+  -- all in list order, up to the first that is aborted, with the worst outcome
   pub AllOf : Chosen → Trees → Meaning
   AllOf c no_trees = Ends Succeeded same
-  AllOf c (tree t ts) = Joined (Means c t) (AndWorse (AllOf c ts))
+  AllOf c (tree t ts) = Joined (Means c t) (AfterParallel (AllOf c ts))

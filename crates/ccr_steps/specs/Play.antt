@@ -5,7 +5,7 @@ use Rattle.ccr_pipeline.specs.declared.step.When.{When}
 use Rattle.ccr_pipeline.specs.Tree.{Text, ConfigData, PutData, SourceData, config, file, Tree, Trees, get, put, task, in_order, in_parallel, tried, attempts, hook, no_trees, tree}
 use Rattle.ccr_steps.specs.declared.outcome.Outcome.{Outcome}
 use Rattle.ccr_steps.specs.declared.outcome.Outcome.TheVariants.{Succeeded, Failed, Errored, Aborted}
-use Rattle.ccr_steps.specs.Asks.{AskData, read_config, run_task, AnswerData, done, pushed, configured, failed, errored, Exchange, Chosen, get_ask, put_ask, pushed_ask}
+use Rattle.ccr_steps.specs.Asks.{AskData, read_config, run_task, AnswerData, done, pushed, configured, failed, errored, aborted, Exchange, Chosen, get_ask, put_ask, pushed_ask}
 use Rattle.ccr_steps.specs.Gains.{GainsData, register, register_all, move, has_inputs}
 use Rattle.ccr_steps.specs.Means.{worse, runs_after, got}
 
@@ -31,34 +31,37 @@ Leads (asks a then) (e ∷ es) q = (e.ask ≡ a) × Leads (then e.answer) es q
 
 -- THE STEPS, each as its meaning
 
--- as `AfterFetch`: a fetch that is done succeeds and gains
+-- as `AfterFetch`: a fetch that is done succeeds and gains; one that is aborted gains nothing
 abbrev pub after_fetch : (GainsData → GainsData) → AnswerData → Going
 after_fetch gain done g = ended Succeeded (gain g)
 after_fetch gain (pushed v) g = ended Errored g
 after_fetch gain (configured k) g = ended Errored g
 after_fetch gain failed g = ended Failed g
 after_fetch gain errored g = ended Errored g
+after_fetch gain aborted g = ended Aborted g
 
 -- as `AfterPushed`: the pushed version is moved, and fetched unless no_get says otherwise
 abbrev pub after_pushed : Bool → PutData → TextMap → Going
 after_pushed true p v g = ended Succeeded (move p.resource v g)
 after_pushed false p v g = asks (pushed_ask p v) (λ x. after_fetch (register p.name) x (move p.resource v g))
 
--- as `AfterPush`: a push that gave a version is followed by its fetch
+-- as `AfterPush`: a push that gave a version is followed by its fetch; one that is aborted moves nothing
 abbrev pub after_push : PutData → AnswerData → Going
 after_push p done g = ended Errored g
 after_push p (pushed v) g = after_pushed p.no_get p v g
 after_push p (configured k) g = ended Errored g
 after_push p failed g = ended Failed g
 after_push p errored g = ended Errored g
+after_push p aborted g = ended Aborted g
 
--- as `AfterRun`: a program that ran leaves its outputs, though it failed
+-- as `AfterRun`: a program that ran leaves its outputs, though it failed; one that is aborted leaves none
 abbrev pub after_run : List Text → AnswerData → Going
 after_run outputs done g = ended Succeeded (register_all outputs g)
 after_run outputs (pushed v) g = ended Errored g
 after_run outputs (configured k) g = ended Errored g
 after_run outputs failed g = ended Failed (register_all outputs g)
 after_run outputs errored g = ended Errored g
+after_run outputs aborted g = ended Aborted g
 
 -- as `RunsIf`: the program runs if its inputs are there
 abbrev pub runs_if : Bool → ConfigData → List (Text × Text) → Going
@@ -69,13 +72,14 @@ runs_if false k env g = ended Errored g
 abbrev pub runs : ConfigData → List (Text × Text) → Going
 runs k env g = runs_if (has_inputs k.inputs g) k env g
 
--- as `AfterRead`: a task file that was read is run
+-- as `AfterRead`: a task file that was read is run; a reading that is aborted aborts the task
 abbrev pub after_read : List (Text × Text) → AnswerData → Going
 after_read env done g = ended Errored g
 after_read env (pushed v) g = ended Errored g
 after_read env (configured k) g = runs k env g
 after_read env failed g = ended Errored g
 after_read env errored g = ended Errored g
+after_read env aborted g = ended Aborted g
 
 -- as `TaskBy`: a task file is read first
 abbrev pub task_by : SourceData → List (Text × Text) → Going
@@ -97,9 +101,16 @@ and_worse_end o rest g = ended (worse o rest) g
 abbrev pub and_worse : Going → Outcome → Going
 and_worse more o g = and_then (more g) (and_worse_end o)
 
+-- as `AfterParallel`: the rest follows, unless the step was aborted; the worse of both
+abbrev pub after_parallel : Going → Outcome → Going
+after_parallel more Succeeded g = and_worse more Succeeded g
+after_parallel more Failed g = and_worse more Failed g
+after_parallel more Errored g = and_worse more Errored g
+after_parallel more Aborted g = ended Aborted g
+
 -- the worst of what came before, a step's outcome, and the rest
 abbrev pub and_worst : Outcome → Going → Outcome → Going
-and_worst worst rest o g = and_then (and_worse rest o g) (and_worse_end worst)
+and_worst worst rest o g = and_then (after_parallel rest o g) (and_worse_end worst)
 
 -- as `AfterTry`: every outcome but aborted becomes succeeded
 abbrev pub after_try : Outcome → Going
@@ -151,7 +162,7 @@ abbrev mutual
   play_in_order c no_trees g = ended Succeeded g
   play_in_order c (tree t ts) g = and_then (play c t g) (after_do (play_in_order c ts))
 
-  -- as `AllOf`: all in list order, with the worst outcome
+  -- as `AllOf`: all in list order, up to the first that is aborted, with the worst outcome
   pub play_all : Chosen → Trees → Going
   play_all c no_trees g = ended Succeeded g
-  play_all c (tree t ts) g = and_then (play c t g) (and_worse (play_all c ts))
+  play_all c (tree t ts) g = and_then (play c t g) (after_parallel (play_all c ts))

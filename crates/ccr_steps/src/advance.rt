@@ -203,6 +203,7 @@ fn advance_all(
     }
     match advance_under(&steps[k], gains, frames, level, ended)? {
         None => Ok(None),
+        Some(outcome) if outcome.is_aborted() => Ok(Some(outcome)),
         Some(outcome) => begin_all(steps, k + 1, worst.worse(outcome), gains, frames),
     }
 }

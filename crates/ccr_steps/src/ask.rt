@@ -40,7 +40,7 @@ pub enum Ask<'r> {
     },
 }
 
-/// How an ask went. An answer of a kind that the ask doesn't have counts as `Errored`.
+/// How an ask went. Every ask may be `Aborted`. An answer of a kind that the ask doesn't have counts as `Errored`.
 #[derive(Drop)]
 pub enum Answered {
     /// The version was fetched, or the program ended well.
@@ -53,4 +53,6 @@ pub enum Answered {
     Failed,
     /// The program couldn't be run, or its reply couldn't be read.
     Errored,
+    /// The build was aborted while it waited: the step that asked is aborted.
+    Aborted,
 }

@@ -163,7 +163,7 @@ pub(crate) fn begin_in_order(
     Ok(Some(Outcome::Succeeded))
 }
 
-/// Begins all steps of a list from one on, those before it having had this worst outcome.
+/// Begins all steps of a list from one on, up to the first that is aborted. Those before it had this worst outcome.
 #[cycle(begins)]
 pub(crate) fn begin_all(
     steps: &[Step],
@@ -181,6 +181,7 @@ pub(crate) fn begin_all(
     for i in from..steps.len() {
         match begin_under(Frame::At(i, worst), &steps[i], gains, frames)? {
             None => return Ok(None),
+            Some(outcome) if outcome.is_aborted() => return Ok(Some(outcome)),
             Some(outcome) => worst = worst.worse(outcome),
         }
     }

@@ -96,6 +96,7 @@ fn answer_get(
             Ok(Outcome::Succeeded)
         }
         Answered::Failed => Ok(Outcome::Failed),
+        Answered::Aborted => Ok(Outcome::Aborted),
         Answered::Pushed(_) | Answered::Config(_) | Answered::Errored => Ok(Outcome::Errored),
     }
 }
@@ -117,6 +118,7 @@ fn answer_fetch(
             Ok(Outcome::Succeeded)
         }
         Answered::Failed => Ok(Outcome::Failed),
+        Answered::Aborted => Ok(Outcome::Aborted),
         Answered::Pushed(_) | Answered::Config(_) | Answered::Errored => Ok(Outcome::Errored),
     }
 }
@@ -141,6 +143,7 @@ fn answer_push(
             Ok(Next::Waits(Leaf::Fetching(version)))
         }
         Answered::Failed => Ok(Next::Ended(Outcome::Failed)),
+        Answered::Aborted => Ok(Next::Ended(Outcome::Aborted)),
         Answered::Done => Ok(Next::Ended(Outcome::Errored)),
         Answered::Config(_config) => Ok(Next::Ended(Outcome::Errored)),
         Answered::Errored => Ok(Next::Ended(Outcome::Errored)),
@@ -161,6 +164,7 @@ fn answer_run(
     let outcome = match answer {
         Answered::Done => Outcome::Succeeded,
         Answered::Failed => Outcome::Failed,
+        Answered::Aborted => return Ok(Outcome::Aborted),
         Answered::Pushed(_) | Answered::Config(_) | Answered::Errored => {
             return Ok(Outcome::Errored);
         }
@@ -174,13 +178,19 @@ fn answer_read(task: &Task, gains: &Gains, answer: Answered) -> Next
         → NextIs c (after_read (task_data task.now).params (answer_data answer) (gains_data gains.now))
         (task_tree (task_data task.now)) (gains_data gains.now) result }
 {
-    let Answered::Config(config) = answer else {
-        return Next::Ended(Outcome::Errored);
-    };
-    if gains.has_inputs(&config.inputs) {
-        Next::Waits(Leaf::Running(config))
-    } else {
-        Next::Ended(Outcome::Errored)
+    match answer {
+        Answered::Config(config) => {
+            if gains.has_inputs(&config.inputs) {
+                Next::Waits(Leaf::Running(config))
+            } else {
+                Next::Ended(Outcome::Errored)
+            }
+        }
+        Answered::Aborted => Next::Ended(Outcome::Aborted),
+        Answered::Done => Next::Ended(Outcome::Errored),
+        Answered::Pushed(_version) => Next::Ended(Outcome::Errored),
+        Answered::Failed => Next::Ended(Outcome::Errored),
+        Answered::Errored => Next::Ended(Outcome::Errored),
     }
 }
 

@@ -8,6 +8,8 @@
 //! build stands for the exchanges that it has had so far: they begin a list that its plan allows, what it wants is the
 //! ask that comes next in every such list, and it has ended exactly where the list is whole.
 //!
+//! Each ask may be answered as aborted. Then only hooks of the plan are asked for, and the build ends aborted.
+//!
 //! The builds of a job share its plan, which never changes. Each has a path of its own down to the step that waits, one
 //! small frame a level. So going on takes as long as the way from one asking step to the next, however much was asked
 //! before.

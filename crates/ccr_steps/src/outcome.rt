@@ -1,7 +1,7 @@
 //! How a step ends.
 ghost use Rattle.std.specs.Prelude.{◌≡◌};
 ghost use Rattle.ccr_steps.specs.Means.{worse, runs_after};
-ghost use Rattle.ccr_steps.specs.Frames.{is_succeeded, tried_outcome, is_tried_again};
+ghost use Rattle.ccr_steps.specs.Frames.{is_succeeded, is_aborted, tried_outcome, is_tried_again};
 
 use ccr_pipeline::When;
 
@@ -36,6 +36,13 @@ impl Outcome {
         ensures { result ≡ is_succeeded self }
     {
         self == Outcome::Succeeded
+    }
+
+    /// Whether an `in_parallel` stops after a step that ended so.
+    pub(crate) fn is_aborted(self) -> bool
+        ensures { result ≡ is_aborted self }
+    {
+        self == Outcome::Aborted
     }
 
     /// The outcome of a `try` whose step ended so.

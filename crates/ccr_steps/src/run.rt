@@ -5,6 +5,7 @@ ghost use Rattle.std.specs.Option.{IfSome};
 ghost use Rattle.ccr_pipeline.specs.Inputs.{inputs};
 ghost use Rattle.ccr_pipeline.specs.Limits.{input_names};
 ghost use Rattle.ccr_pipeline.specs.Tree.{Tree, tree_of};
+ghost use Rattle.ccr_steps.specs.Aborts.{LeavesHooks};
 ghost use Rattle.ccr_steps.specs.Asks.{AskData, Chosen, Exchange, NamesResourceOf};
 ghost use Rattle.ccr_steps.specs.Asks.{ask_data, answer_data, chosen, exchange};
 ghost use Rattle.ccr_steps.specs.Gains.{gains_data, moved_data, Grew};
@@ -83,6 +84,10 @@ impl BuildRun {
         ensures begun { (plan : Tree) (inputs : Chosen) (es : List Exchange)
             → StandsFor (run_data self.now) plan inputs es
             → Begins inputs plan es }
+        // After an abort only hooks of the plan ran, and the build is aborted.
+        ensures aborts { (plan : Tree) (inputs : Chosen) (es : List Exchange)
+            → StandsFor (run_data self.now) plan inputs es
+            → IfSome result (LeavesHooks inputs plan es) }
     {
         self.at.outcome
     }

@@ -168,6 +168,7 @@ fn word(alloc: Global, answer: Result<Answered, AllocError>) -> Result<String, A
         Ok(Answered::Config(config)) => config.run.path.clone(),
         Ok(Answered::Failed) => String::from_str(alloc, "failed"),
         Ok(Answered::Errored) => String::from_str(alloc, "errored"),
+        Ok(Answered::Aborted) => String::from_str(alloc, "aborted"),
         Err(_) => String::from_str(alloc, "no memory"),
     }
 }

@@ -9,7 +9,7 @@ use Rattle.ccr_steps.specs.Play.{ended, and_then, and_worse_end, after_try, afte
 use Rattle.ccr_steps.specs.Frames.{goes_on, more_tries, Came}
 use Rattle.ccr_steps.proofs.Under.{under_try, under_tries, under_step, under_hook}
 use Rattle.ccr_steps.proofs.Paths.{at_there, in_there, left_there, try_lost, tries_lost, hook_lost, list_lost}
-use Rattle.ccr_steps.proofs.Advances.{advanced_then, advanced_else, came_next, came_lost, goes_none, goes_some, try_goes_some, in_order_goes_none, in_order_goes_some, all_goes_none, all_goes_some, advanced_at, advanced_fast, hook_goes_some, past_steps, not_done, is_done}
+use Rattle.ccr_steps.proofs.Advances.{advanced_then, advanced_else, came_next, came_lost, goes_none, goes_some, try_goes_some, in_order_goes_none, in_order_goes_some, all_goes_none, all_goes_some, all_goes_last, advanced_at, advanced_fast, hook_goes_some, past_steps, not_done, is_done}
 use Rattle.ccr_steps.proofs.StepTrees.{tree_do, tree_parallel, tree_try, tree_attempts, tree_hook}
 use Rattle.ccr_steps.proofs.advance.+advances.Goals as goal
 
@@ -59,7 +59,13 @@ pub advance_all-returns-in-Some-2 : goal.advance_all-returns-in-Some-2
 advance_all-returns-in-Some-2 t c =
     let at = ((sym (c.frame_at.ensures.value ∙ ap (λ l. slice_get l c.args.level) c.deref.ensures.value)) ∙ at_there _ c.in-Some.k c.in-Some.worst (sym c.place_in.ensures.value ∙ c.in-Some.is)) in
     let l : c.in-Some.k < length c.args.steps.now = omega arith in
-    let got = all_goes_some c.args.frames.now.items c.args.level c.args.ended (gains_data c.args.gains.now) c.advance_under.new.frames.items c.in_ok-advance_under.field-0 c.args.steps.now c.in-Some.k c.index-steps-k.result c.in-Some.worst l c.index-steps-k.is at c.in-Some-2.outcome c.in-Some-2.is (c.in_ok-advance_under.ensures (At c.in-Some.k c.in-Some.worst) at) in
+    all_goes_last c.args.frames.now.items c.args.level c.args.ended (gains_data c.args.gains.now) c.advance_under.new.frames.items c.in_ok-advance_under.field-0 c.args.steps.now c.in-Some.k c.index-steps-k.result c.in-Some.worst l c.index-steps-k.is at c.in-Some-2.outcome (sym c.is_aborted.ensures ∙ c.if-is_aborted.true) c.in-Some-2.is (c.in_ok-advance_under.ensures (At c.in-Some.k c.in-Some.worst) at)
+
+pub advance_all-returns-in-Some-2-2 : goal.advance_all-returns-in-Some-2-2
+advance_all-returns-in-Some-2-2 t c =
+    let at = ((sym (c.frame_at.ensures.value ∙ ap (λ l. slice_get l c.args.level) c.deref.ensures.value)) ∙ at_there _ c.in-Some.k c.in-Some.worst (sym c.place_in.ensures.value ∙ c.in-Some.is)) in
+    let l : c.in-Some.k < length c.args.steps.now = omega arith in
+    let got = all_goes_some c.args.frames.now.items c.args.level c.args.ended (gains_data c.args.gains.now) c.advance_under.new.frames.items c.in_ok-advance_under.field-0 c.args.steps.now c.in-Some.k c.index-steps-k.result c.in-Some.worst l c.index-steps-k.is at c.in-Some-2.outcome (sym c.is_aborted.ensures ∙ c.if-is_aborted.false) c.in-Some-2.is (c.in_ok-advance_under.ensures (At c.in-Some.k c.in-Some.worst) at) in
     IfOk-weaker c.begin_all.result _ _ (λ r came. came_next (λ i. and_then (play_all i (trees_of (map tree_of (drop (c.in-Some.k + 1) c.args.steps.now))) (gains_data c.args.gains.now)) (and_worse_end c.worse.result)) (λ i. goes_on i (in_parallel (trees_of (map tree_of c.args.steps.now)) false) (drop c.args.level c.args.frames.now.items) c.args.ended (gains_data c.args.gains.now)) (in_parallel (trees_of (map tree_of c.args.steps.now)) false) (gains_data c.args.gains.now) (take c.args.level c.args.frames.now.items) c.advance_under.new.frames.items _ r (got.0, λ i. got.1 i ∙ ap (λ w. and_then (play_all i (trees_of (map tree_of (drop (c.in-Some.k + 1) c.args.steps.now))) (gains_data c.args.gains.now)) (and_worse_end w)) (sym c.worse.ensures)) came) c.begin_all.ensures
 
 pub advance_in_order-returns-in_default : goal.advance_in_order-returns-in_default

@@ -6,7 +6,7 @@ use Rattle.ccr_steps.specs.declared.frame.Frame.TheVariants.{At}
 use Rattle.ccr_steps.specs.Frames.{Came, CameUnder}
 use Rattle.ccr_steps.specs.Gains.{gains_data}
 use Rattle.ccr_steps.specs.Play.{and_then, and_worse_end, play, play_in_order, play_all}
-use Rattle.ccr_steps.proofs.Begins.{came_get, came_put, came_task, tries_came, begun_at, begun_in_order, begun_fast, begun_all, begun_try_none, begun_tries, begun_step_none, begun_step_some, hook_none, in_order_none, all_none, all_some}
+use Rattle.ccr_steps.proofs.Begins.{came_get, came_put, came_task, tries_came, begun_at, begun_in_order, begun_fast, begun_all, begun_try_none, begun_tries, begun_step_none, begun_step_some, hook_none, in_order_none, all_none, all_some, all_last}
 use Rattle.ccr_steps.proofs.StepTrees.{tree_get, tree_put, tree_task, tree_do, tree_parallel, tree_try, tree_attempts, tree_hook}
 use Rattle.ccr_steps.proofs.begin.+begins.Goals as goal
 
@@ -63,9 +63,13 @@ pub begin_all-returns-in-None : goal.begin_all-returns-in-None
 begin_all-returns-in-None t c =
     all_none c.args.steps.now c.loop-i.i c.index-steps-i.result c.loop-i-test.true c.index-steps-i.is (gains_data c.args.gains.now) c.args.frames.now.items _ c.in_ok-begin_under.field-0 (λ i. and_then (play_all i (trees_of (map tree_of (drop c.args.from c.args.steps.now))) (gains_data c.args.gains.now)) (and_worse_end c.args.worst)) c.loop-i.worst c.loop-i.invariant.1 c.in-None.is (subst (λ l. CameUnder (At c.loop-i.i c.loop-i.worst) (λ i. play i (tree_of c.index-steps-i.result) (gains_data c.args.gains.now)) (tree_of c.index-steps-i.result) (gains_data c.args.gains.now) l c.begin_under.new.frames.items c.in_ok-begin_under.field-0) c.loop-i.invariant.0 c.in_ok-begin_under.ensures)
 
+pub begin_all-returns-in-Some : goal.begin_all-returns-in-Some
+begin_all-returns-in-Some t c =
+    all_last c.args.steps.now c.loop-i.i c.index-steps-i.result c.loop-i-test.true c.index-steps-i.is (gains_data c.args.gains.now) c.args.frames.now.items c.begin_under.new.frames.items c.in_ok-begin_under.field-0 (λ i. and_then (play_all i (trees_of (map tree_of (drop c.args.from c.args.steps.now))) (gains_data c.args.gains.now)) (and_worse_end c.args.worst)) c.loop-i.worst c.in-Some.outcome (sym c.is_aborted.ensures ∙ c.if-is_aborted.true) c.loop-i.invariant.1 c.in-Some.is (subst (λ l. CameUnder (At c.loop-i.i c.loop-i.worst) (λ i. play i (tree_of c.index-steps-i.result) (gains_data c.args.gains.now)) (tree_of c.index-steps-i.result) (gains_data c.args.gains.now) l c.begin_under.new.frames.items c.in_ok-begin_under.field-0) c.loop-i.invariant.0 c.in_ok-begin_under.ensures)
+
 pub begin_all-loop-i-preserved : goal.begin_all-loop-i-preserved
 begin_all-loop-i-preserved t c =
-    let got = all_some c.args.steps.now c.loop-i.i c.index-steps-i.result c.loop-i-test.true c.index-steps-i.is (gains_data c.args.gains.now) c.args.frames.now.items c.begin_under.new.frames.items c.in_ok-begin_under.field-0 (λ i. and_then (play_all i (trees_of (map tree_of (drop c.args.from c.args.steps.now))) (gains_data c.args.gains.now)) (and_worse_end c.args.worst)) c.loop-i.worst c.in-Some.outcome c.loop-i.invariant.1 c.in-Some.is (subst (λ l. CameUnder (At c.loop-i.i c.loop-i.worst) (λ i. play i (tree_of c.index-steps-i.result) (gains_data c.args.gains.now)) (tree_of c.index-steps-i.result) (gains_data c.args.gains.now) l c.begin_under.new.frames.items c.in_ok-begin_under.field-0) c.loop-i.invariant.0 c.in_ok-begin_under.ensures) in
+    let got = all_some c.args.steps.now c.loop-i.i c.index-steps-i.result c.loop-i-test.true c.index-steps-i.is (gains_data c.args.gains.now) c.args.frames.now.items c.begin_under.new.frames.items c.in_ok-begin_under.field-0 (λ i. and_then (play_all i (trees_of (map tree_of (drop c.args.from c.args.steps.now))) (gains_data c.args.gains.now)) (and_worse_end c.args.worst)) c.loop-i.worst c.in-Some.outcome (sym c.is_aborted.ensures ∙ c.if-is_aborted.false) c.loop-i.invariant.1 c.in-Some.is (subst (λ l. CameUnder (At c.loop-i.i c.loop-i.worst) (λ i. play i (tree_of c.index-steps-i.result) (gains_data c.args.gains.now)) (tree_of c.index-steps-i.result) (gains_data c.args.gains.now) l c.begin_under.new.frames.items c.in_ok-begin_under.field-0) c.loop-i.invariant.0 c.in_ok-begin_under.ensures) in
     (got.0, λ i. got.1 i ∙ ap (λ w. and_then (play_all i (trees_of (map tree_of (drop (c.loop-i.i + 1) c.args.steps.now))) (gains_data c.args.gains.now)) (and_worse_end w)) (sym c.worse-worst.ensures))
 
 pub begin_hook-returns-in-None : goal.begin_hook-returns-in-None

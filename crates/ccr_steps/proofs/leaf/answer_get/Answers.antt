@@ -13,3 +13,6 @@ returns-in-Pushed-2-clause-grew c = grew_same (gains_data c.args.gains.now)
 
 pub returns-in-Pushed-3-clause-grew : goal.returns-in-Pushed-3-clause-grew
 returns-in-Pushed-3-clause-grew c = grew_same (gains_data c.args.gains.now)
+
+pub returns-in-Aborted-clause-grew : goal.returns-in-Aborted-clause-grew
+returns-in-Aborted-clause-grew c = grew_same (gains_data c.args.gains.now)

@@ -13,3 +13,6 @@ returns-in-Config-clause-grew c = grew_same (gains_data c.args.gains.now)
 
 pub returns-in-Errored-clause-grew : goal.returns-in-Errored-clause-grew
 returns-in-Errored-clause-grew c = grew_same (gains_data c.args.gains.now)
+
+pub returns-in-Aborted-clause-grew : goal.returns-in-Aborted-clause-grew
+returns-in-Aborted-clause-grew c = grew_same (gains_data c.args.gains.now)
