@@ -3,7 +3,8 @@ use Rattle.std.specs.Prelude.{List, Option, Some, None, option_map, option_and_t
 use Rattle.std.specs.Str.{bytes_eq}
 use Rattle.clap.specs.declared.parser.matches.ArgMatches.{ArgMatches}
 use Rattle.clap.specs.Words.{Row, Text, first_of, subcommand_rows_of}
-use Rattle.ccr_serve.specs.Commands.{CommandData, set_pipeline, check_resource, resource_versions, pin_resource, unpin_resource, resolve, problem, trigger_job, builds, run}
+use Rattle.ccr_lines.specs.Commands.{CommandData, set_pipeline, check_resource, pin_resource, unpin_resource, trigger_job, run, shows}
+use Rattle.ccr_lines.specs.Shown.{versions, problem, proof, builds}
 use Rattle.ccr_command.specs.Numbers.{number_of}
 
 -- a pin of a resource, where both its arguments have a value
@@ -21,13 +22,14 @@ abbrev pub command_named : Text → List Row → Option CommandData
 command_named word values =
     if bytes_eq word (codes "set-pipeline") then option_map set_pipeline (first_of (codes "FILE") values)
     else if bytes_eq word (codes "check-resource") then option_map check_resource (first_of (codes "NAME") values)
-    else if bytes_eq word (codes "resource-versions") then option_map resource_versions (first_of (codes "NAME") values)
+    else if bytes_eq word (codes "resource-versions")
+    then option_map (λ resource. shows (versions resource)) (first_of (codes "NAME") values)
     else if bytes_eq word (codes "pin-resource") then pin_named (first_of (codes "NAME") values) (first_of (codes "JSON") values)
     else if bytes_eq word (codes "unpin-resource") then option_map unpin_resource (first_of (codes "NAME") values)
-    else if bytes_eq word (codes "resolve") then option_map resolve (first_of (codes "JOB") values)
-    else if bytes_eq word (codes "problem") then option_map problem (first_of (codes "JOB") values)
+    else if bytes_eq word (codes "resolve") then option_map (λ job. shows (proof job)) (first_of (codes "JOB") values)
+    else if bytes_eq word (codes "problem") then option_map (λ job. shows (problem job)) (first_of (codes "JOB") values)
     else if bytes_eq word (codes "trigger-job") then option_map trigger_job (first_of (codes "JOB") values)
-    else if bytes_eq word (codes "builds") then Some builds
+    else if bytes_eq word (codes "builds") then Some (shows builds)
     else if bytes_eq word (codes "run") then run_named (first_of (codes "rounds") values)
     else None
 

@@ -1,11 +1,11 @@
 //! The command that a command line names.
 ghost use Rattle.std.specs.Prelude.{◌≡◌, IfOk, codes, option_map, string_bytes};
 ghost use Rattle.clap.specs.Words.{first_of, found_of, rows_of};
-ghost use Rattle.ccr_serve.specs.Commands.{command_data};
+ghost use Rattle.ccr_lines.specs.Commands.{command_data};
 ghost use Rattle.ccr_command.specs.Commands.{pin_named, run_named, command_named, command_in};
 
 use crate::number::number_of;
-use ccr_serve::Command;
+use ccr_lines::Command;
 use clap::ArgMatches;
 use std::alloc::{AllocError, Global};
 

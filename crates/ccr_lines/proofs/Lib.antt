@@ -1,3 +1,4 @@
+mod Cores
 mod Printing
 mod Showing
 mod Telling

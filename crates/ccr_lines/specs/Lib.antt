@@ -1,3 +1,5 @@
+pub mod Commands
 pub mod Lines
+pub mod Needs
 pub mod Printed
 pub mod Shown

@@ -10,9 +10,9 @@ use Rattle.ccr_pipeline.specs.Pipelines.{PipelineData}
 use Rattle.ccr_core.specs.declared.fault.CoreFault.{CoreFault}
 use Rattle.ccr_core.specs.declared.fault.CoreFault.TheVariants.{TooManyOpen, TableFull}
 use Rattle.ccr_core.specs.declared.reply.Reply.{Reply}
-use Rattle.ccr_core.specs.declared.reply.Reply.TheVariants.{Set, New, Made, NoneSatisfies, OverBudget, Busy, Ends, Pinned, Unpinned}
+use Rattle.ccr_core.specs.declared.reply.Reply.TheVariants.{Set, New, Made, NoneSatisfies, OverBudget, NotNew, Busy, Goes, Ends, Pinned, Unpinned, Restarted}
 use Rattle.ccr_core.specs.Builds.{status_of}
-use Rattle.ccr_core.specs.Events.{EventData, set_pipeline, checked, schedule, trigger, answer, pin, unpin}
+use Rattle.ccr_core.specs.Events.{EventData, set_pipeline, checked, schedule, trigger, answer, pin, unpin, restart}
 use Rattle.ccr_core.specs.Replies.{Replied}
 use Rattle.ccr_lines.specs.declared.cause.Cause.{Cause}
 use Rattle.ccr_lines.specs.declared.cause.Cause.TheVariants as cause
@@ -86,7 +86,14 @@ job_lines job (Made number) h =
 job_lines job NoneSatisfies h = job_line job (codes "none satisfies" ∷ [])
 job_lines job (OverBudget n) h = job_line job (codes "over budget " ∷ decimal n ∷ [])
 job_lines job Busy h = job_line job (codes "busy" ∷ [])
-job_lines job r h = []
+job_lines job NotNew h = []
+job_lines job Set h = []
+job_lines job (New n) h = []
+job_lines job Goes h = []
+job_lines job (Ends o) h = []
+job_lines job Pinned h = []
+job_lines job Unpinned h = []
+job_lines job Restarted h = []
 
 -- what is printed of a job whose schedule is refused
 abbrev pub refused_job_lines : Text → CoreFault → Text
@@ -98,12 +105,18 @@ refused_job_lines job f = []
 -- WHAT IS PRINTED of an event with its reply, and with the history after it
 abbrev pub lines_of : EventData → Replied → HistoryData → Text
 lines_of (set_pipeline p) (Ok Set) h = pipeline_lines p
+lines_of (set_pipeline p) r h = []
 lines_of (checked resource vs) (Ok (New n)) h = check_line resource (decimal n ∷ codes " new" ∷ [])
 lines_of (checked resource vs) (Err TableFull) h = refused_line resource (codes "table full" ∷ [])
+lines_of (checked resource vs) r h = []
 lines_of (schedule job) (Ok r) h = job_lines job r h
 lines_of (schedule job) (Err f) h = refused_job_lines job f
 lines_of (trigger job) (Ok r) h = job_lines job r h
+lines_of (trigger job) (Err f) h = []
 lines_of (answer job number turn x) (Ok (Ends o)) h = build_line job number (status_word (status_of o))
+lines_of (answer job number turn x) r h = []
 lines_of (pin resource p) (Ok Pinned) h = line (codes "pinned " ∷ resource ∷ [])
+lines_of (pin resource p) r h = []
 lines_of (unpin resource) (Ok Unpinned) h = line (codes "unpinned " ∷ resource ∷ [])
-lines_of e r h = []
+lines_of (unpin resource) r h = []
+lines_of restart r h = []

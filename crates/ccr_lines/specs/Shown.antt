@@ -1,5 +1,5 @@
 -- What a command shows. Each line ends with a line feed.
-use Rattle.std.specs.Prelude.{◌≡◌, ℕ, ◌+◌, List, [], ◌∷◌, ◌++◌, flat_map, codes, decimal, IsSomeAnd, ⊤}
+use Rattle.std.specs.Prelude.{◌≡◌, ℕ, ◌+◌, List, [], ◌∷◌, ◌++◌, flat_map, codes, decimal, IsSomeAnd, Option, unwrap_or, Result, Ok, Err, ⊤}
 use Rattle.ccr_history.specs.Text.{Text}
 use Rattle.ccr_history.specs.TextMap.{TextMap, key_text}
 use Rattle.ccr_history.specs.Tables.{versions_of}
@@ -14,14 +14,35 @@ use Rattle.ccr_problem.specs.ProblemOf.{resource_of, scope_of, IsProblemOf}
 use Rattle.ccr_resolve.specs.declared.answer.Answer.{Answer}
 use Rattle.ccr_resolve.specs.declared.answer.Answer.TheVariants.{Best, Nothing, OverBudget}
 use Rattle.ccr_resolve.specs.Answer.{IsAnswer}
+use Rattle.ccr_core.specs.Holding.{CoreData}
+use Rattle.ccr_core.specs.State.{no_pipeline}
+use Rattle.ccr_lines.specs.declared.shown.Shown.{Shown}
+use Rattle.ccr_lines.specs.declared.shown.Shown.TheVariants as value
+use Rattle.ccr_lines.specs.declared.shown.ShowFault.{ShowFault}
+use Rattle.ccr_lines.specs.declared.shown.ShowFault.TheVariants as why
 use Rattle.ccr_lines.specs.Lines.{line, build_line, status_word}
+use Rattle.ccr_lines.specs.Needs.{Need, no_need, a_resource, a_job, IsMet, Lacks}
 
 -- all builds, the versions of a resource, the problem of a job's next build, or the proof of the choice for it
-pub data Shown : Type 0 where
-  builds : Shown
-  versions : (resource : Text) → Shown
-  problem : (job : Text) → Shown
-  proof : (job : Text) → Shown
+pub data ShownData : Type 0 where
+  builds : ShownData
+  versions : (resource : Text) → ShownData
+  problem : (job : Text) → ShownData
+  proof : (job : Text) → ShownData
+
+-- what a value of the program's type stands for
+abbrev pub shown_data : Shown → ShownData
+shown_data value.Builds = builds
+shown_data (value.Versions resource) = versions resource.now
+shown_data (value.Problem job) = problem job.now
+shown_data (value.Proof job) = proof job.now
+
+-- what has to be there for it to be shown
+abbrev pub needs : ShownData → Need
+needs builds = no_need
+needs (versions resource) = a_resource resource
+needs (problem job) = a_job job
+needs (proof job) = a_job job
 
 -- how each build stands, in order of making
 abbrev pub builds_lines : HistoryData → Text
@@ -41,31 +62,35 @@ IsVersionsShown p h resource lines =
 abbrev pub IsProblemShown : PipelineData → HistoryData → Text → Text → Type 0
 IsProblemShown p h job lines = (q : ProblemValue) × IsProblemOf p h job q × (lines ≡ problem_text q)
 
--- the proof of an answer
-abbrev pub IsTextOf : Answer → Text → Type 0
-IsTextOf (Best given) lines = lines ≡ proof_text given.claim (tree_of given.tree)
-IsTextOf (Nothing given) lines = lines ≡ proof_text given.claim (tree_of given.tree)
-IsTextOf (OverBudget n) lines = ⊥
-
--- the answer is that the budget is over
-abbrev pub IsOver : Answer → Type 0
-IsOver (Best given) = ⊥
-IsOver (Nothing given) = ⊥
-IsOver (OverBudget n) = ⊤
+-- the proof of an answer, with status 0; nothing where the budget is over, with status 3
+abbrev pub IsTextOf : Answer → ℕ → Text → Type 0
+IsTextOf (Best given) status lines = (status ≡ 0) × (lines ≡ proof_text given.claim (tree_of given.tree))
+IsTextOf (Nothing given) status lines = (status ≡ 0) × (lines ≡ proof_text given.claim (tree_of given.tree))
+IsTextOf (OverBudget n) status lines = (status ≡ 3) × (lines ≡ [])
 
 -- the proof of the choice for a job's next build, or that there is none, within a budget
-abbrev pub IsProofShown : PipelineData → HistoryData → ℕ → Text → Text → Type 0
-IsProofShown p h budget job lines =
-    (q : ProblemValue) × (a : Answer) × IsProblemOf p h job q × IsAnswer (order_of q) q budget a × IsTextOf a lines
+abbrev pub IsProofShown : PipelineData → HistoryData → ℕ → Text → ℕ → Text → Type 0
+IsProofShown p h budget job status lines =
+    (q : ProblemValue) × (a : Answer) × IsProblemOf p h job q × IsAnswer (order_of q) q budget a
+    × IsTextOf a status lines
 
--- WHAT IS SHOWN, in a pipeline with a history and a budget
-abbrev pub IsShown : Shown → PipelineData → HistoryData → ℕ → Text → Type 0
-IsShown builds p h budget lines = lines ≡ builds_lines h
-IsShown (versions resource) p h budget lines = IsVersionsShown p h resource lines
-IsShown (problem job) p h budget lines = IsProblemShown p h job lines
-IsShown (proof job) p h budget lines = IsProofShown p h budget job lines
+-- WHAT IS SHOWN, in a pipeline with a history and a budget, and with which status
+abbrev pub IsShown : ShownData → PipelineData → HistoryData → ℕ → ℕ → Text → Type 0
+IsShown builds p h budget status lines = (status ≡ 0) × (lines ≡ builds_lines h)
+IsShown (versions resource) p h budget status lines = (status ≡ 0) × IsVersionsShown p h resource lines
+IsShown (problem job) p h budget status lines = (status ≡ 0) × IsProblemShown p h job lines
+IsShown (proof job) p h budget status lines = IsProofShown p h budget job status lines
 
--- the budget is over for the choice of a job's next build, which says so only below the room of its problem
-abbrev pub IsOverBudget : PipelineData → HistoryData → ℕ → Text → Type 0
-IsOverBudget p h budget job =
-    (q : ProblemValue) × IsProblemOf p h job q × IsAnswer (order_of q) q budget (OverBudget budget)
+-- why nothing is shown that has this need: it isn't met; or out of memory
+abbrev pub IsUnshown : Need → Option PipelineData → ShowFault → Type 0
+IsUnshown n p (why.Lacks fault) = Lacks n p fault
+IsUnshown n p why.NoMemory = ⊤
+
+-- WHAT COMES OF SHOWING IT from what a core holds, with all lines before and after: what it needs is there and it is
+-- shown, or nothing is
+abbrev pub Showing : ShownData → CoreData → Result ℕ ShowFault → Text → Text → Type 0
+Showing what c (Ok status) old new =
+    IsMet (needs what) c.pipeline
+    × ((lines : Text) × IsShown what (unwrap_or c.pipeline no_pipeline) c.history c.budget status lines
+    × (new ≡ old ++ lines))
+Showing what c (Err fault) old new = IsUnshown (needs what) c.pipeline fault × (new ≡ old)

@@ -2,20 +2,30 @@
 //!
 //! What an event prints follows from the event, its reply and the history after it (`specs/Lines.antt`): a function
 //! writes each kind of line into a sink. The sink is a [`Lines`]: room for a line is made before the event, so that a
-//! whole line always follows. A vector is one, and [`Printed`] prints what it is handed. What the commands show that
-//! change nothing is said in `specs/Shown.antt`.
+//! whole line always follows. A vector is one, and [`Printed`] prints what it is handed.
+//!
+//! A [`Command`] is what a server is told to do. What a command shows that changes nothing is a [`Shown`]: [`show`] writes
+//! its lines from what the core holds (`specs/Shown.antt`).
 #![tactic(auto)]
 
 mod cause;
+mod command;
+mod held;
 mod lines;
+mod named;
 mod printed;
-mod show;
+mod shown;
+mod shows;
 mod tell;
 
 pub use cause::Cause;
+pub use command::Command;
+pub use held::resource_held;
 pub use lines::Lines;
+pub use named::resource_named;
 pub use printed::Printed;
-pub use show::{show_builds, show_problem, show_proof, show_versions};
+pub use shown::{ShowFault, Shown};
+pub use shows::show;
 pub use tell::{
     pipeline_room, tell_cause, tell_end, tell_full, tell_job, tell_new, tell_pinned, tell_pipeline,
     tell_refused_job, tell_unpinned,

@@ -7,8 +7,8 @@ use Rattle.clap.specs.declared.error.Error.{Error as LineError}
 use Rattle.clap.specs.declared.error.kind.ErrorKind.TheVariants.{OutOfMemory}
 use Rattle.clap.specs.Values.{kind_of}
 use Rattle.clap.specs.Words.{App, Text, first_value, takes}
-use Rattle.ccr_serve.specs.declared.command.Command.{Command}
-use Rattle.ccr_serve.specs.Commands.{CommandData, command_data}
+use Rattle.ccr_lines.specs.declared.command.Command.{Command}
+use Rattle.ccr_lines.specs.Commands.{CommandData, command_data}
 use Rattle.ccr_command.specs.declared.options.OptionFault.{OptionFault}
 use Rattle.ccr_command.specs.Numbers.{MOST, in_range, is_numeral, numeral_of, number_of}
 use Rattle.ccr_command.specs.Options.{OptionsData, given_or, from_the_top, options_in}

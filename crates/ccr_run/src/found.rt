@@ -3,8 +3,9 @@
 use crate::failure::Failure;
 use crate::refusal::refusal_of;
 use ccr_gates::{Findings, Kind, findings_of, is_faultless};
+use ccr_lines::Command;
 use ccr_pipeline::{ReadFault, read};
-use ccr_serve::{Command, ServeFault};
+use ccr_serve::ServeFault;
 use ccr_task::{Folders, Shelf, ShelfFault};
 use serde_json::Value;
 use std::alloc::Global;

@@ -7,7 +7,7 @@ ghost use Rattle.ccr_run.specs.Orders.{IsMisused, IsOrdered};
 ghost use Rattle.ccr_run.specs.declared.order.Misuse.TheVariants.{Line, NoMemory};
 
 use ccr_command::{OptionFault, Options, command_line, command_of, options_of};
-use ccr_serve::Command;
+use ccr_lines::Command;
 use clap::Error as LineError;
 use clap::error::ErrorKind;
 use std::alloc::{AllocError, AllocFailed, Global};

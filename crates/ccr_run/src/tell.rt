@@ -9,7 +9,7 @@ use crate::hint::hint_of;
 use crate::order::{Misuse, Order};
 use crate::refusal::refusal_of;
 use crate::run::Outcome;
-use ccr_serve::Command;
+use ccr_lines::Command;
 use std::io;
 use std::process::ExitCode;
 

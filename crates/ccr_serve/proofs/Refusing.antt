@@ -1,19 +1,18 @@
 -- Commands that are refused, or that are kept from beginning.
-use Rattle.std.proofs.Common.{◌≡◌, ◌≤◌, ℕ, [], length, false, Option, None, Some, IsSome, unwrap_or, Err, refl, sym, ◌∙◌, ap, subst, append-nil, arith, inl, inr}
+use Rattle.std.proofs.Common.{◌≡◌, ◌≤◌, ℕ, [], length, false, Option, None, Some, IsSome, Err, refl, sym, ◌∙◌, ap, subst, append-nil, arith, inl, inr}
 use Rattle.ccr_history.specs.Text.{Text}
 use Rattle.ccr_process.specs.Runs.{Pair}
-use Rattle.ccr_problem.specs.ProblemOf.{resource_of, job_of}
 use Rattle.ccr_task.specs.Places.{PlacesData}
 use Rattle.ccr_core.specs.declared.fault.CoreFault.{CoreFault}
 use Rattle.ccr_core.specs.declared.fault.CoreFault.TheVariants as core_fault
 use Rattle.ccr_core.specs.Events.{EventData}
 use Rattle.ccr_core.specs.Faults.{MayRefuse, IsFirstFault}
 use Rattle.ccr_core.specs.Holding.{Stands}
-use Rattle.ccr_core.specs.State.{State, no_pipeline}
-use Rattle.ccr_serve.specs.Commanding.{NeedsPipeline, named_resource, named_job, Commanded, IsRefused, WasRefused, CameOf}
-use Rattle.ccr_serve.specs.Commands.{CommandData}
+use Rattle.ccr_core.specs.State.{State}
+use Rattle.ccr_lines.specs.Commands.{CommandData, need_of}
+use Rattle.ccr_lines.specs.Needs.{Lacks}
+use Rattle.ccr_serve.specs.Commanding.{Commanded, IsRefused, WasRefused, CameOf}
 use Rattle.ccr_serve.specs.Items.{Items}
-use Rattle.ccr_serve.specs.Lacking.{LacksResource, LacksJob}
 use Rattle.ccr_serve.specs.Serving.{Serves}
 use Rattle.ccr_serve.specs.Views.{View, world_of, IsReady, Calls, StandsAt, Made, Stops, StopsItem}
 use Rattle.ccr_serve.specs.declared.fault.ServeFault.{ServeFault}
@@ -35,60 +34,42 @@ refused_at_once places c f v ready why = record {
 }
 
 -- a server refuses whose shelf may have failed
-pub refused_after : (places : PlacesData) (c : CommandData) (f : ServeFault) (v : View) (k : ℕ) → IsReady v
-    → v.failures ≤ k → ((s : State) → Stands v.core s → IsRefused c f s v.failures k)
-    → WasRefused places c f v (after v k v.pairs v.lines)
-refused_after places c f v k ready grows why = record {
+pub refused_after : (places : PlacesData) (c : CommandData) (f : ServeFault) (v : View) (k : ℕ) (l : Text) → IsReady v
+    → v.failures ≤ k → l ≡ v.lines → ((s : State) → Stands v.core s → IsRefused c f s v.failures k)
+    → WasRefused places c f v (after v k v.pairs l)
+refused_after places c f v k l ready grows lines why = record {
   why = why;
-  back = cut_by_memory (Items (Serves places) []) v k v.pairs v.lines (items_stop (Serves places) []) ready grows
-      (none_added v.pairs) refl;
+  back = cut_by_memory (Items (Serves places) []) v k v.pairs l (items_stop (Serves places) []) ready grows
+      (none_added v.pairs) lines;
   pairs = refl;
   commits = rose_none v.tally.commits;
-  lines = refl;
+  lines = lines;
 }
 
--- ---- what is lacking
--- no resource has the name that a command names
-pub lacks_resource : (places : PlacesData) (c : CommandData) (name : Text) (f : CoreFault) (v : View)
-    → named_resource c ≡ Some name → NeedsPipeline c → IsReady v → LacksResource v.core.pipeline name f
-    → CameOf places c (Err (fault.Core f)) v v
-lacks_resource places c name core_fault.NoPipeline v named needs ready lacks =
-    refused_at_once places c (fault.Core core_fault.NoPipeline) v ready (λ s is. (needs, sym is.1 ∙ lacks))
-lacks_resource places c name core_fault.NoResource v named needs ready lacks =
-    refused_at_once places c (fault.Core core_fault.NoResource) v ready (λ s is. (
-      name,
-      named,
-      subst (λ p. IsSome p) is.1 lacks.0,
-      ap (λ p. resource_of name (unwrap_or p no_pipeline).resources) (sym is.1) ∙ lacks.1,
-    ))
-lacks_resource places c name core_fault.NoJob v named needs ready lacks = absurd lacks
-lacks_resource places c name core_fault.NoBuild v named needs ready lacks = absurd lacks
-lacks_resource places c name core_fault.BuildsOpen v named needs ready lacks = absurd lacks
-lacks_resource places c name core_fault.NotWanted v named needs ready lacks = absurd lacks
-lacks_resource places c name core_fault.TooManyOpen v named needs ready lacks = absurd lacks
-lacks_resource places c name core_fault.TableFull v named needs ready lacks = absurd lacks
-lacks_resource places c name core_fault.NoMemory v named needs ready lacks = absurd lacks
+-- what the command needs isn't there
+pub lacks : (places : PlacesData) (c : CommandData) (f : CoreFault) (v : View) (l : Text) → IsReady v → l ≡ v.lines
+    → Lacks (need_of c) v.core.pipeline f → CameOf places c (Err (fault.Core f)) v (printed v l)
+lacks places c f v l ready lines is = by f is where
+  same : v.failures ≤ v.failures
+  same = omega arith
 
--- no job has the name that a command names
-pub lacks_job : (places : PlacesData) (c : CommandData) (name : Text) (f : CoreFault) (v : View)
-    → named_job c ≡ Some name → NeedsPipeline c → IsReady v → LacksJob v.core.pipeline name f
-    → CameOf places c (Err (fault.Core f)) v v
-lacks_job places c name core_fault.NoPipeline v named needs ready lacks =
-    refused_at_once places c (fault.Core core_fault.NoPipeline) v ready (λ s is. (needs, sym is.1 ∙ lacks))
-lacks_job places c name core_fault.NoJob v named needs ready lacks =
-    refused_at_once places c (fault.Core core_fault.NoJob) v ready (λ s is. (
-      name,
-      named,
-      subst (λ p. IsSome p) is.1 lacks.0,
-      ap (λ p. job_of name (unwrap_or p no_pipeline).jobs) (sym is.1) ∙ lacks.1,
-    ))
-lacks_job places c name core_fault.NoResource v named needs ready lacks = absurd lacks
-lacks_job places c name core_fault.NoBuild v named needs ready lacks = absurd lacks
-lacks_job places c name core_fault.BuildsOpen v named needs ready lacks = absurd lacks
-lacks_job places c name core_fault.NotWanted v named needs ready lacks = absurd lacks
-lacks_job places c name core_fault.TooManyOpen v named needs ready lacks = absurd lacks
-lacks_job places c name core_fault.TableFull v named needs ready lacks = absurd lacks
-lacks_job places c name core_fault.NoMemory v named needs ready lacks = absurd lacks
+  refuses : (f : CoreFault) → ((s : State) → Stands v.core s → IsRefused c (fault.Core f) s v.failures v.failures)
+      → CameOf places c (Err (fault.Core f)) v (printed v l)
+  refuses f why = refused_after places c (fault.Core f) v v.failures l ready same lines why
+
+  by : (f : CoreFault) → Lacks (need_of c) v.core.pipeline f → CameOf places c (Err (fault.Core f)) v (printed v l)
+  by core_fault.NoPipeline h =
+      refuses core_fault.NoPipeline (λ s stands. subst (λ p. Lacks (need_of c) p core_fault.NoPipeline) stands.1 h)
+  by core_fault.NoResource h =
+      refuses core_fault.NoResource (λ s stands. subst (λ p. Lacks (need_of c) p core_fault.NoResource) stands.1 h)
+  by core_fault.NoJob h =
+      refuses core_fault.NoJob (λ s stands. subst (λ p. Lacks (need_of c) p core_fault.NoJob) stands.1 h)
+  by core_fault.NoBuild h = absurd h
+  by core_fault.BuildsOpen h = absurd h
+  by core_fault.NotWanted h = absurd h
+  by core_fault.TooManyOpen h = absurd h
+  by core_fault.TableFull h = absurd h
+  by core_fault.NoMemory h = absurd h
 
 -- ---- what the core refused
 pub some_if : {A : Type 0} (o : Option A) → (o ≡ None → ⊥) → IsSome o

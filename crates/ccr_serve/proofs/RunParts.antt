@@ -7,7 +7,7 @@ use Rattle.ccr_history.specs.Text.{Text}
 use Rattle.ccr_history.specs.History.{HistoryData}
 use Rattle.ccr_task.specs.Places.{PlacesData}
 use Rattle.ccr_serve.specs.Commanding.{HasJob, IsFirstReply, trigger_status, Such, Commanded, Unended, WasRefused, CameOf}
-use Rattle.ccr_serve.specs.Commands.{run, trigger_job}
+use Rattle.ccr_lines.specs.Commands.{run, trigger_job}
 use Rattle.ccr_serve.specs.Items.{World, Done, tell, Part, Items, Then}
 use Rattle.ccr_serve.specs.Runs.{Rounds, ToTheEnd, UsedUp, TurnsTo, TriggerAndRun}
 use Rattle.ccr_serve.specs.Serving.{Serves}
@@ -33,7 +33,7 @@ cut_at at places v0 v1 same a = subst (λ p. Calls (ToTheEnd p) v0 false v1) sam
 pub run_refused : (places : PlacesData) (rounds : ℕ) (v : View) → IsReady v → v.core.pipeline ≡ None
     → WasRefused places (run rounds) (fault.Core core_fault.NoPipeline) v v
 run_refused places rounds v ready none =
-    refused_at_once places (run rounds) (fault.Core core_fault.NoPipeline) v ready (λ s h. (tt, sym h.1 ∙ none))
+    refused_at_once places (run rounds) (fault.Core core_fault.NoPipeline) v ready (λ s h. sym h.1 ∙ none)
 
 module _ (places : PlacesData) (rounds : ℕ) (v0 v1 : View) where
   -- a run that is cut short in its rounds

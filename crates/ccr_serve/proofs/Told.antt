@@ -22,7 +22,7 @@ use Rattle.ccr_core.specs.State.{State, no_pipeline, resources_of}
 use Rattle.ccr_core.specs.Steps.{Step}
 use Rattle.ccr_lines.specs.Lines.{line, lines_of, pipeline_lines}
 use Rattle.ccr_serve.specs.Commanding.{pin_in, HasResource, Commanded, IsRefused, CameOf}
-use Rattle.ccr_serve.specs.Commands.{set_pipeline, pin_resource, unpin_resource}
+use Rattle.ccr_lines.specs.Commands.{set_pipeline, pin_resource, unpin_resource}
 use Rattle.ccr_serve.specs.Items.{World, Done}
 use Rattle.ccr_serve.specs.Reads.{KeepsFromReading}
 use Rattle.ccr_serve.specs.Serving.{Tells}
@@ -103,9 +103,9 @@ pin_made places name named text p replied r v n l m copied is took lines made to
 
 pin_refused_so : (name text : Text) (p : TextMap) (f : CoreFault) (s : State) (before after : ℕ)
     → IsFirstFault s (event.pin name p) f → IsRefused (pin_resource name text) (fault.Core f) s before after
-pin_refused_so name text p core_fault.NoPipeline s before after first = (tt, first.0)
+pin_refused_so name text p core_fault.NoPipeline s before after first = first.0
 pin_refused_so name text p core_fault.NoResource s before after first =
-    (name, refl, some_if s.pipeline (first.1 core_fault.NoPipeline (omega arith)), first.0)
+    (some_if s.pipeline (first.1 core_fault.NoPipeline (omega arith)), first.0)
 pin_refused_so name text p f s before after first = absurd first.0
 
 pub pin_refused : (places : PlacesData) (name named text : Text) (p : TextMap) (replied : Replied) (f : CoreFault)
@@ -148,9 +148,9 @@ unpin_made places name named replied r v n l m copied took lines made told =
 
 unpin_refused_so : (name : Text) (f : CoreFault) (s : State) (before after : ℕ)
     → IsFirstFault s (event.unpin name) f → IsRefused (unpin_resource name) (fault.Core f) s before after
-unpin_refused_so name core_fault.NoPipeline s before after first = (tt, first.0)
+unpin_refused_so name core_fault.NoPipeline s before after first = first.0
 unpin_refused_so name core_fault.NoResource s before after first =
-    (name, refl, some_if s.pipeline (first.1 core_fault.NoPipeline (omega arith)), first.0)
+    (some_if s.pipeline (first.1 core_fault.NoPipeline (omega arith)), first.0)
 unpin_refused_so name f s before after first = absurd first.0
 
 pub unpin_refused : (places : PlacesData) (name named : Text) (replied : Replied) (f : CoreFault) (v n : View)
@@ -177,10 +177,11 @@ pub not_read : (places : PlacesData) (path : Text) (f : ServeFault) (v : View) (
     → KeepsFromReading f v.failures k
     → CameOf places (set_pipeline path) (Err f) v (after v k v.pairs v.lines)
 not_read places path (fault.Read g) v k ready keeps =
-    refused_after places (set_pipeline path) (fault.Read g) v k ready (same_grows v.failures k keeps.1)
+    refused_after places (set_pipeline path) (fault.Read g) v k v.lines ready (same_grows v.failures k keeps.1) refl
     (λ s is. keeps.0)
 not_read places path fault.File v k ready keeps =
-    refused_after places (set_pipeline path) fault.File v k ready (rose_grows v.failures k keeps) (λ s is. keeps)
+    refused_after places (set_pipeline path) fault.File v k v.lines ready (rose_grows v.failures k keeps) refl
+    (λ s is. keeps)
 not_read places path fault.NoMemory v k ready keeps =
     cut_by_memory (Commanded places (set_pipeline path) 0) v k v.pairs v.lines (set_stop places path) ready
     (same_grows v.failures k keeps) (none_added v.pairs) refl

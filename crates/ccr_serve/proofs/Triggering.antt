@@ -13,7 +13,7 @@ use Rattle.ccr_history.specs.Text.{Text}
 use Rattle.ccr_lines.specs.Lines.{lines_of}
 use Rattle.ccr_task.specs.Places.{PlacesData}
 use Rattle.ccr_serve.specs.Commanding.{HasJob, IsRefused, Commanded, CameOf}
-use Rattle.ccr_serve.specs.Commands.{trigger_job}
+use Rattle.ccr_lines.specs.Commands.{trigger_job}
 use Rattle.ccr_serve.specs.Items.{World, Done, tell}
 use Rattle.ccr_serve.specs.Serving.{Tells}
 use Rattle.ccr_serve.specs.Views.{View, Calls, Made}
@@ -63,9 +63,9 @@ trigger_made places job named replied r v n l m copied is lines made_named told 
 -- ---- the core's refusal
 refused_so : (job : Text) (f : CoreFault) (s : State) (before after : ℕ) → IsFirstFault s (event.trigger job) f
     → IsRefused (trigger_job job) (fault.Core f) s before after
-refused_so job core_fault.NoPipeline s before after first = (tt, first.0)
+refused_so job core_fault.NoPipeline s before after first = first.0
 refused_so job core_fault.NoJob s before after first = let lt : 1 < 2 = omega arith in
-    (job, refl, some_if s.pipeline (first.1 core_fault.NoPipeline lt), first.0)
+    (some_if s.pipeline (first.1 core_fault.NoPipeline lt), first.0)
 refused_so job core_fault.NoResource s before after first = absurd first.0
 refused_so job core_fault.NoBuild s before after first = absurd first.0
 refused_so job core_fault.BuildsOpen s before after first = absurd first.0

@@ -21,13 +21,12 @@ use Rattle.ccr_core.specs.declared.reply.Reply.TheVariants.{New, Made, OverBudge
 use Rattle.ccr_core.specs.Events as event
 use Rattle.ccr_core.specs.Faults.{IsFirstFault}
 use Rattle.ccr_core.specs.Holding.{Stands}
-use Rattle.ccr_core.specs.State.{State, pipeline_of, resources_of, jobs_of}
-use Rattle.ccr_lines.specs.Shown.{versions, problem, proof, IsOverBudget}
-use Rattle.ccr_lines.specs.Shown as shown
+use Rattle.ccr_core.specs.State.{State, resources_of, jobs_of}
+use Rattle.ccr_lines.specs.Needs.{IsMet, Lacks}
+use Rattle.ccr_lines.specs.Shown.{needs}
 use Rattle.ccr_serve.specs.declared.fault.ServeFault.{ServeFault}
 use Rattle.ccr_serve.specs.declared.fault.ServeFault.TheVariants.{Core, Store, Read, File, BadPin, NoMemory, TurnsUsedUp}
-use Rattle.ccr_serve.specs.Commands.{CommandData, set_pipeline, check_resource, resource_versions, pin_resource, unpin_resource, resolve, trigger_job, builds, run}
-use Rattle.ccr_serve.specs.Commands as command
+use Rattle.ccr_lines.specs.Commands.{CommandData, set_pipeline, check_resource, pin_resource, unpin_resource, trigger_job, run, shows, need_of}
 use Rattle.ccr_serve.specs.Items.{World, check, tell, show, Done, Each, Part, Items, Then}
 use Rattle.ccr_serve.specs.Runs.{Rounds, UsedUp, Run, TriggerAndRun}
 use Rattle.ccr_serve.specs.Serving.{Serves}
@@ -55,14 +54,11 @@ HasJob s name = IsSome (job_of name (jobs_of s))
 abbrev pub IsFit : CommandData → State → Type 0
 IsFit (set_pipeline file) s = ⊤
 IsFit (check_resource resource) s = HasResource s resource
-IsFit (resource_versions resource) s = HasResource s resource
 IsFit (pin_resource resource pin) s = HasResource s resource × IsSome (pin_in pin)
 IsFit (unpin_resource resource) s = HasResource s resource
-IsFit (resolve job) s = HasJob s job
-IsFit (command.problem job) s = HasJob s job
 IsFit (trigger_job job) s = HasJob s job
-IsFit builds s = ⊤
 IsFit (run rounds) s = IsSome s.pipeline
+IsFit (shows what) s = IsMet (needs what) s.pipeline
 
 -- ---- statuses
 -- the first event was replied so
@@ -114,32 +110,19 @@ Pins places resource text old ds false new =
     ⊎ ((p : TextMap) × (pin_in text ≡ Some p)
     × Items (Serves places) (tell (event.pin resource p) ∷ []) old ds false new)
 
--- the proof of a choice is shown with status 0; over the budget nothing is, with status 3
-abbrev pub Resolves : PlacesData → Text → ℕ → Part
-Resolves places job status old ds true new =
-    ((status ≡ 0) × Each (Serves places) (show (proof job) ∷ []) old ds new)
-    ⊎ ((status ≡ 3) × IsOverBudget (pipeline_of old.core) old.core.history old.core.budget job
-    × Each (Serves places) [] old ds new)
-Resolves places job status old ds false new = Items (Serves places) (show (proof job) ∷ []) old ds false new
-
 -- what a command consists of, which ends with this status
 abbrev pub Consists : PlacesData → CommandData → ℕ → Part
 Consists places (set_pipeline file) status = Such (λ old ds new. status ≡ 0) (SetsPipeline places)
 Consists places (check_resource resource) status =
     Such (λ old ds new. IsCheckStatus ds status) (Items (Serves places) (check resource ∷ []))
-Consists places (resource_versions resource) status =
-    Such (λ old ds new. status ≡ 0) (Items (Serves places) (show (versions resource) ∷ []))
 Consists places (pin_resource resource pin) status = Such (λ old ds new. status ≡ 0) (Pins places resource pin)
 Consists places (unpin_resource resource) status =
     Such (λ old ds new. status ≡ 0) (Items (Serves places) (tell (event.unpin resource) ∷ []))
-Consists places (resolve job) status = Resolves places job status
-Consists places (command.problem job) status =
-    Such (λ old ds new. status ≡ 0) (Items (Serves places) (show (problem job) ∷ []))
 Consists places (trigger_job job) status =
     Such (λ old ds new. (r : Reply) × IsFirstReply ds r × (status ≡ trigger_status job r new.core.history))
     (TriggerAndRun places job)
-Consists places builds status = Such (λ old ds new. status ≡ 0) (Items (Serves places) (show shown.builds ∷ []))
 Consists places (run rounds) status = Such (λ old ds new. status ≡ 0) (Run places rounds)
+Consists places (shows what) status = Items (Serves places) (show what status ∷ [])
 
 -- WHAT A COMMAND DOES that ends with this status; it was fit
 abbrev pub Commanded : PlacesData → CommandData → ℕ → Part
@@ -155,27 +138,6 @@ Unended places (run rounds) =
 Unended places c = λ old ds whole new. ⊥
 
 -- ---- refusals
--- the command needs a pipeline
-abbrev pub NeedsPipeline : CommandData → Type 0
-NeedsPipeline (set_pipeline file) = ⊥
-NeedsPipeline builds = ⊥
-NeedsPipeline c = ⊤
-
--- the resource that a command names
-abbrev pub named_resource : CommandData → Option Text
-named_resource (check_resource resource) = Some resource
-named_resource (resource_versions resource) = Some resource
-named_resource (pin_resource resource pin) = Some resource
-named_resource (unpin_resource resource) = Some resource
-named_resource c = None
-
--- the job that a command names
-abbrev pub named_job : CommandData → Option Text
-named_job (resolve job) = Some job
-named_job (command.problem job) = Some job
-named_job (trigger_job job) = Some job
-named_job c = None
-
 -- the whole pipeline is too long
 abbrev pub IsTooLong : ReadFault → Type 0
 IsTooLong (TooLong path) = string_bytes path ≡ codes "pipeline"
@@ -190,11 +152,9 @@ IsReadFault f =
 -- a command is refused so, with the shelf's count of failures before and after: no pipeline comes first, then an
 -- unknown name, then a bad pin, and then what keeps the event away
 abbrev pub IsRefused : CommandData → ServeFault → State → ℕ → ℕ → Type 0
-IsRefused c (Core NoPipeline) s before after = NeedsPipeline c × (s.pipeline ≡ None)
-IsRefused c (Core NoResource) s before after =
-    (name : Text) × (named_resource c ≡ Some name) × IsSome s.pipeline × (resource_of name (resources_of s) ≡ None)
-IsRefused c (Core NoJob) s before after =
-    (name : Text) × (named_job c ≡ Some name) × IsSome s.pipeline × (job_of name (jobs_of s) ≡ None)
+IsRefused c (Core NoPipeline) s before after = Lacks (need_of c) s.pipeline NoPipeline
+IsRefused c (Core NoResource) s before after = Lacks (need_of c) s.pipeline NoResource
+IsRefused c (Core NoJob) s before after = Lacks (need_of c) s.pipeline NoJob
 IsRefused (set_pipeline file) (Core BuildsOpen) s before after = s.running ≢ []
 IsRefused (trigger_job job) (Core TooManyOpen) s before after = IsFirstFault s (event.trigger job) TooManyOpen
 IsRefused (trigger_job job) (Core TableFull) s before after = IsFirstFault s (event.trigger job) TableFull

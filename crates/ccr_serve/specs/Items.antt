@@ -5,7 +5,7 @@ use Rattle.ccr_process.specs.Runs.{Pair}
 use Rattle.ccr_core.specs.Events.{EventData}
 use Rattle.ccr_core.specs.Replies.{Replied}
 use Rattle.ccr_core.specs.State.{State}
-use Rattle.ccr_lines.specs.Shown.{Shown}
+use Rattle.ccr_lines.specs.Shown.{ShownData}
 
 -- where a server stands: the core's state, the rank of the build served last, which counts from 1 in order of making,
 -- or 0 where none was served, and how often its shelf failed
@@ -15,13 +15,13 @@ pub record World : Type 0 where
   pub failures : ℕ
 
 -- a check of a resource, a schedule of a job, a turn of the build whose turn it is, the event of a command, or what a
--- command shows
+-- command shows with which status
 pub data Item : Type 0 where
   check : (resource : Text) → Item
   schedule : (job : Text) → Item
   turn : Item
   tell : (event : EventData) → Item
-  show : (what : Shown) → Item
+  show : (what : ShownData) (status : ℕ) → Item
 
 -- what came of an item: the launch of its program with the end, its event with the reply, and its lines
 pub record Done : Type 0 where

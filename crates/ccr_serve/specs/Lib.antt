@@ -7,8 +7,6 @@ pub mod Serving
 pub mod Runs
 pub mod Views
 pub mod Due
-pub mod Commands
 pub mod Commanding
 pub mod Taken
-pub mod Lacking
 pub mod Reads

@@ -19,7 +19,7 @@ use Rattle.ccr_core.specs.Steps.{Step}
 use Rattle.ccr_serve.specs.Asked.{Answers}
 use Rattle.ccr_serve.specs.Found.{FoundData, found, newest, Finds}
 use Rattle.ccr_serve.specs.Found as what_is
-use Rattle.ccr_lines.specs.Shown.{Shown, IsShown}
+use Rattle.ccr_lines.specs.Shown.{ShownData, IsShown}
 use Rattle.ccr_serve.specs.Items.{World, Item, check, schedule, turn, tell, show, Done, nothing}
 use Rattle.ccr_lines.specs.Lines.{lines_of, refused_line, cause_words}
 use Rattle.ccr_serve.specs.Turns.{rank_in, next_after}
@@ -100,11 +100,11 @@ TakesTurn places None old did new = (did ≡ nothing) × (new ≡ old)
 TakesTurn places (Some b) old did new = ServesBuild places b old did new
 
 -- ---- showing
--- what is asked for is shown; nothing changes
-pub record Shows (what : Shown) (old : World) (did : Done) (new : World) : Type 0 where
+-- what is asked for is shown with a status; nothing changes
+pub record Shows (what : ShownData) (status : ℕ) (old : World) (did : Done) (new : World) : Type 0 where
   pub pair : did.pair ≡ None
   pub event : did.event ≡ None
-  pub shown : IsShown what (pipeline_of old.core) old.core.history old.core.budget did.lines
+  pub shown : IsShown what (pipeline_of old.core) old.core.history old.core.budget status did.lines
   pub same : new ≡ old
 
 -- WHAT A SERVER DOES of an item
@@ -113,4 +113,4 @@ Serves places (check resource) old did new = Checks places resource old did new
 Serves places (schedule job) old did new = Tells (event.schedule job) old did new
 Serves places turn old did new = TakesTurn places (next_build old) old did new
 Serves places (tell e) old did new = Tells e old did new × IsTaken e did
-Serves places (show what) old did new = Shows what old did new
+Serves places (show what status) old did new = Shows what status old did new

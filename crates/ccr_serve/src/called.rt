@@ -3,7 +3,7 @@ ghost use Rattle.std.specs.Prelude.{◌≡◌, [], ◌∷◌, true, false, is_ok
 ghost use Rattle.ccr_task.specs.Places.{places_data};
 ghost use Rattle.ccr_core.specs.Cores.{core_data};
 ghost use Rattle.ccr_serve.specs.Commanding.{CameOf};
-ghost use Rattle.ccr_serve.specs.Commands.{command_data};
+ghost use Rattle.ccr_lines.specs.Commands.{command_data};
 ghost use Rattle.ccr_serve.specs.Items.{Items};
 ghost use Rattle.ccr_serve.specs.Items as item;
 ghost use Rattle.ccr_serve.specs.Runs.{Round};
@@ -11,10 +11,9 @@ ghost use Rattle.ccr_serve.specs.Serving.{Serves};
 ghost use Rattle.ccr_serve.specs.Views.{view_of, is_running, Calls, CommitsOnce, Ends, EndsItems, IsKept};
 ghost use Rattle.ccr_serve.specs.declared.fault.ServeFault.TheVariants.{Closed};
 
-use crate::command::Command;
 use crate::fault::ServeFault;
 use crate::server::Server;
-use ccr_lines::Lines;
+use ccr_lines::{Command, Lines, Shown};
 use ccr_process::Runner;
 use ccr_storage::Storage;
 use ccr_task::Shelf;
@@ -49,15 +48,17 @@ impl<R: Runner, S: Shelf, T: Storage> Server<R, S, T> {
         match command {
             Command::SetPipeline(path) => self.set_pipeline(path.as_str(), out),
             Command::CheckResource(resource) => self.check_resource(resource.as_str(), out),
-            Command::ResourceVersions(resource) => self.resource_versions(resource.as_str(), out),
+            Command::ResourceVersions(resource) => {
+                self.show(Shown::Versions(resource.as_str()), out)
+            }
             Command::PinResource(resource, pin) => {
                 self.pin_resource(resource.as_str(), pin.as_str(), out)
             }
             Command::UnpinResource(resource) => self.unpin_resource(resource.as_str(), out),
-            Command::Resolve(job) => self.resolve(job.as_str(), out),
-            Command::Problem(job) => self.problem(job.as_str(), out),
+            Command::Resolve(job) => self.show(Shown::Proof(job.as_str()), out),
+            Command::Problem(job) => self.show(Shown::Problem(job.as_str()), out),
             Command::TriggerJob(job) => self.trigger_job(job.as_str(), out),
-            Command::Builds => self.builds(out),
+            Command::Builds => self.show(Shown::Builds, out),
             Command::Run(rounds) => self.run(*rounds, out),
         }
     }

@@ -2,13 +2,12 @@
 ghost use Rattle.std.specs.Prelude.{◌≡◌, IfErr, OnOk};
 ghost use Rattle.ccr_task.specs.Places.{places_data};
 ghost use Rattle.ccr_serve.specs.Commanding.{CameOf};
-ghost use Rattle.ccr_serve.specs.Commands.{check_resource};
+ghost use Rattle.ccr_lines.specs.Commands.{check_resource};
 ghost use Rattle.ccr_serve.specs.Views.{view_of, IsReady, Stops};
 
 use crate::fault::ServeFault;
-use crate::held::resource_held;
 use crate::server::Server;
-use ccr_lines::Lines;
+use ccr_lines::{Lines, resource_held};
 use ccr_process::Runner;
 use ccr_storage::Storage;
 use ccr_task::Shelf;

@@ -19,11 +19,12 @@ ghost use Rattle.ccr_serve.specs.Views.{view_of, resources_held, Calls, IsReady,
 
 use crate::fault::ServeFault;
 use crate::found::{Found, find};
-use crate::named::resource_named;
 use crate::server::Server;
 use ccr_core::{Core, CoreFault, Event, Reply};
 use ccr_history::History;
-use ccr_lines::{Lines, tell_cause, tell_full, tell_job, tell_new, tell_refused_job};
+use ccr_lines::{
+    Lines, resource_named, tell_cause, tell_full, tell_job, tell_new, tell_refused_job,
+};
 use ccr_process::Runner;
 use ccr_storage::Storage;
 use ccr_task::{Places, Shelf};

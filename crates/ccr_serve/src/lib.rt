@@ -12,16 +12,13 @@
 mod answer;
 mod called;
 mod checking;
-mod command;
 mod due;
 mod end;
 mod fault;
 mod found;
-mod held;
 mod items;
 mod law;
 mod make;
-mod named;
 mod names;
 mod open;
 mod pinning;
@@ -33,7 +30,6 @@ mod showing;
 mod turn;
 mod wanted;
 
-pub use command::Command;
 pub use fault::ServeFault;
 pub use law::turns_go_round;
 pub use server::Server;

@@ -2,16 +2,15 @@
 ghost use Rattle.std.specs.Prelude.{◌≡◌, IfErr, IfOk, OnOk};
 ghost use Rattle.ccr_task.specs.Places.{places_data};
 ghost use Rattle.ccr_serve.specs.Commanding.{pin_in, CameOf};
-ghost use Rattle.ccr_serve.specs.Commands.{pin_resource, unpin_resource};
+ghost use Rattle.ccr_lines.specs.Commands.{pin_resource, unpin_resource};
 ghost use Rattle.ccr_serve.specs.Views.{view_of, IsReady, Stops};
 
 use crate::fault::ServeFault;
-use crate::held::resource_held;
 use crate::items::{begin, line_room};
 use crate::server::Server;
 use ccr_core::Event;
 use ccr_history::{HistoryFault, Pin};
-use ccr_lines::{Lines, tell_pinned, tell_unpinned};
+use ccr_lines::{Lines, resource_held, tell_pinned, tell_unpinned};
 use ccr_process::Runner;
 use ccr_storage::Storage;
 use ccr_task::Shelf;

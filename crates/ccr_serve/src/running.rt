@@ -3,7 +3,7 @@ ghost use Rattle.std.specs.Prelude.{◌≡◌, ◌∷◌, [], true, Some, Err, I
 ghost use Rattle.ccr_task.specs.Places.{places_data};
 ghost use Rattle.ccr_core.specs.Events as event;
 ghost use Rattle.ccr_serve.specs.Commanding.{build_status, trigger_status, CameOf, HasJob, IsFirstReply, Such};
-ghost use Rattle.ccr_serve.specs.Commands.{run, trigger_job};
+ghost use Rattle.ccr_lines.specs.Commands.{run, trigger_job};
 ghost use Rattle.ccr_serve.specs.Items.{Items};
 ghost use Rattle.ccr_serve.specs.Items as item;
 ghost use Rattle.ccr_serve.specs.Serving.{Serves};

@@ -7,7 +7,7 @@ ghost use Rattle.ccr_core.specs.Cores.{core_data};
 ghost use Rattle.ccr_core.specs.State.{no_pipeline};
 ghost use Rattle.ccr_lines.specs.Lines.{pipeline_lines};
 ghost use Rattle.ccr_serve.specs.Commanding.{CameOf};
-ghost use Rattle.ccr_serve.specs.Commands.{set_pipeline};
+ghost use Rattle.ccr_lines.specs.Commands.{set_pipeline};
 ghost use Rattle.ccr_serve.specs.Reads.{lines_room, KeepsFromReading};
 ghost use Rattle.ccr_serve.specs.Views.{view_of, IsReady, Stops};
 

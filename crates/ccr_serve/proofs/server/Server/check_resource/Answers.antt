@@ -1,21 +1,22 @@
 use Rattle.std.proofs.Common.{◌≡◌, [], ◌∷◌, Bool, true, refl, subst}
 use Rattle.ccr_pipeline.specs.JobData.{resource_data}
 use Rattle.ccr_task.specs.Places.{places_data}
-use Rattle.ccr_serve.specs.Commands.{check_resource}
+use Rattle.ccr_lines.specs.Commands.{check_resource}
 use Rattle.ccr_serve.specs.Items.{Items, Noting}
 use Rattle.ccr_serve.specs.Items as item
 use Rattle.ccr_serve.specs.Serving.{Serves}
 use Rattle.ccr_serve.specs.Taken.{all_taken}
 use Rattle.ccr_serve.specs.Views.{view_of, Calls}
 use Rattle.ccr_serve.proofs.CheckStatus.{check_came}
-use Rattle.ccr_serve.proofs.Refusing.{lacks_resource}
+use Rattle.ccr_serve.proofs.Refusing.{lacks}
 use Rattle.ccr_serve.proofs.server.Server.check_resource.Goals as goal
 
 pub returns-in-Err-clause-came : goal.returns-in-Err-clause-came
 returns-in-Err-clause-came g c =
     let view = view_of g.R.Runner.pairs g.S.Shelf.failures g.T.Storage.holds g.T.Storage.tally in
-    lacks_resource (places_data c.args.self.now.places) (check_resource c.args.name.now) c.args.name.now c.in-Err.fault
-    (view c.args.self.now (g.O.Lines.written c.args.out.now)) refl tt c.requires.ready c.in-Err.ensures.lacks
+    let v = view c.args.self.now (g.O.Lines.written c.args.out.now) in
+    lacks (places_data c.args.self.now.places) (check_resource c.args.name.now) c.in-Err.fault v v.lines c.requires.ready refl
+    c.in-Err.ensures.lacks
 
 pub returns-in-Ok-true-clause-came : goal.returns-in-Ok-true-clause-came
 returns-in-Ok-true-clause-came g c =

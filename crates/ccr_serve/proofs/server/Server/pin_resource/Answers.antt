@@ -1,9 +1,9 @@
 use Rattle.std.proofs.Common.{◌∙◌, sym, [], arith, refl, string_bytes}
 use Rattle.ccr_task.specs.Places.{places_data}
 use Rattle.ccr_serve.specs.Commanding.{Commanded}
-use Rattle.ccr_serve.specs.Commands.{pin_resource}
+use Rattle.ccr_lines.specs.Commands.{pin_resource}
 use Rattle.ccr_serve.specs.Views.{view_of}
-use Rattle.ccr_serve.proofs.Refusing.{lacks_resource, came_stopped}
+use Rattle.ccr_serve.proofs.Refusing.{lacks, came_stopped}
 use Rattle.ccr_serve.proofs.Steps.{cut_by_memory, none_added, calls_unmade, stops_item, unmade_printed}
 use Rattle.ccr_serve.proofs.Told.{pin_stop, bad_pin, pin_made, pin_refused}
 use Rattle.ccr_serve.proofs.server.Server.pin_resource.Goals as goal
@@ -11,8 +11,8 @@ use Rattle.ccr_serve.proofs.server.Server.pin_resource.Goals as goal
 pub returns-in-Err-clause-came : goal.returns-in-Err-clause-came
 returns-in-Err-clause-came g c =
     let view = view_of g.R.Runner.pairs g.S.Shelf.failures g.T.Storage.holds g.T.Storage.tally in
-    lacks_resource (places_data c.args.self.now.places) (pin_resource c.args.name.now c.args.text.now) c.args.name.now
-    c.in-Err.fault (view c.args.self.now (g.O.Lines.written c.args.out.now)) refl tt c.requires.ready
+    let v = view c.args.self.now (g.O.Lines.written c.args.out.now) in
+    lacks (places_data c.args.self.now.places) (pin_resource c.args.name.now c.args.text.now) c.in-Err.fault v v.lines c.requires.ready refl
     c.in-Err.ensures.lacks
 
 pub returns-in-Ok-None-clause-came : goal.returns-in-Ok-None-clause-came

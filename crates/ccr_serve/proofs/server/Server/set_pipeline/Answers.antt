@@ -2,7 +2,7 @@ use Rattle.std.proofs.Common.{[], arith, refl}
 use Rattle.ccr_pipeline.specs.Pipelines.{pipeline_data}
 use Rattle.ccr_task.specs.Places.{places_data}
 use Rattle.ccr_serve.specs.Commanding.{Commanded}
-use Rattle.ccr_serve.specs.Commands.{set_pipeline}
+use Rattle.ccr_lines.specs.Commands.{set_pipeline}
 use Rattle.ccr_serve.specs.Views.{view_of}
 use Rattle.ccr_serve.proofs.Refusing.{came_stopped}
 use Rattle.ccr_serve.proofs.Steps.{after, cut_by_memory, none_added, calls_unmade, stops_item, unmade_printed}

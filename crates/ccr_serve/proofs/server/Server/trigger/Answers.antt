@@ -3,7 +3,7 @@ use Rattle.ccr_core.specs.Events as event
 use Rattle.ccr_lines.specs.Lines.{lines_of}
 use Rattle.ccr_task.specs.Places.{places_data}
 use Rattle.ccr_serve.specs.Commanding.{Commanded}
-use Rattle.ccr_serve.specs.Commands.{trigger_job}
+use Rattle.ccr_lines.specs.Commands.{trigger_job}
 use Rattle.ccr_serve.specs.Views.{view_of}
 use Rattle.ccr_serve.proofs.Refusing.{came_stopped}
 use Rattle.ccr_serve.proofs.Steps.{cut_by_memory, none_added, calls_unmade, stops_item, unmade_printed}

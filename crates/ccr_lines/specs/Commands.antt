@@ -1,0 +1,40 @@
+-- What the server is commanded.
+use Rattle.std.specs.Prelude.{ℕ, string_bytes}
+use Rattle.ccr_history.specs.Text.{Text}
+use Rattle.ccr_lines.specs.declared.command.Command.{Command}
+use Rattle.ccr_lines.specs.declared.command.Command.TheVariants as command
+use Rattle.ccr_lines.specs.Needs.{Need, no_need, a_pipeline, a_resource, a_job}
+use Rattle.ccr_lines.specs.Shown.{ShownData, versions, problem, proof, builds, needs}
+
+-- a command with its arguments; one that changes nothing shows something
+pub data CommandData : Type 0 where
+  set_pipeline : (file : Text) → CommandData
+  check_resource : (resource : Text) → CommandData
+  pin_resource : (resource pin : Text) → CommandData
+  unpin_resource : (resource : Text) → CommandData
+  trigger_job : (job : Text) → CommandData
+  run : (rounds : ℕ) → CommandData
+  shows : (what : ShownData) → CommandData
+
+-- what a value of the program's type stands for
+abbrev pub command_data : Command → CommandData
+command_data (command.SetPipeline path) = set_pipeline (string_bytes path)
+command_data (command.CheckResource resource) = check_resource (string_bytes resource)
+command_data (command.ResourceVersions resource) = shows (versions (string_bytes resource))
+command_data (command.PinResource resource pin) = pin_resource (string_bytes resource) (string_bytes pin)
+command_data (command.UnpinResource resource) = unpin_resource (string_bytes resource)
+command_data (command.Resolve job) = shows (proof (string_bytes job))
+command_data (command.Problem job) = shows (problem (string_bytes job))
+command_data (command.TriggerJob job) = trigger_job (string_bytes job)
+command_data command.Builds = shows builds
+command_data (command.Run rounds) = run rounds
+
+-- what has to be there for a command
+abbrev pub need_of : CommandData → Need
+need_of (set_pipeline file) = no_need
+need_of (check_resource resource) = a_resource resource
+need_of (pin_resource resource pin) = a_resource resource
+need_of (unpin_resource resource) = a_resource resource
+need_of (trigger_job job) = a_job job
+need_of (run rounds) = a_pipeline
+need_of (shows what) = needs what
