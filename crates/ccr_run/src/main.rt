@@ -9,6 +9,7 @@ mod database;
 mod failure;
 mod found;
 mod hint;
+mod naming;
 mod order;
 mod refusal;
 mod run;
@@ -24,6 +25,7 @@ use ccr_storage::Storage;
 use ccr_task::{Folders, Shelf};
 use database::Database;
 use found::{is_validation, tell_gates, validate};
+use naming::Naming;
 use order::{Misuse, order_of};
 use run::run;
 use sqlite::{File, FileStore};
@@ -51,7 +53,7 @@ fn words(rt: &HostRuntime) -> Result<Vec<String>, Misuse> {
 
 /// Does what the words order, and tells what came of it: the exit status.
 fn obey<'a>(rt: &'a HostRuntime, words: &[String]) -> ExitCode
-    ensures { Obeyed ⟦<Machine<&'a HostRuntime> as Runner>⟧.pairs ⟦<Folders<&'a HostRuntime> as Shelf>⟧.failures
+    ensures { Obeyed ⟦<Naming<'a, Machine<&'a HostRuntime>> as Runner>⟧.pairs ⟦<Folders<&'a HostRuntime> as Shelf>⟧.failures
         ⟦<Database<FileStore<File>> as Storage>⟧.holds
         ⟦<Database<FileStore<File>> as Storage>⟧.tally
         (map string_bytes words.now) (exit_status result) }

@@ -12,6 +12,7 @@ ghost use Rattle.ccr_run.specs.Served.{Served, Begins, handed_on, places_in};
 
 use crate::database::{Database, open};
 use crate::failure::Failure;
+use crate::naming::Naming;
 use crate::order::Order;
 use ccr_history::History;
 use ccr_lines::{Command, Lines, Printed};
@@ -93,17 +94,17 @@ fn serve_history<'a, W: Write>(
     requires holds { ⟦<Database<FileStore<File>> as Storage>⟧.holds database history }
     requires readable { IfSome history.text IsReadable }
     requires places { places_data places ≡ places_in order.now }
-    ensures served { Served ⟦<Machine<&'a HostRuntime> as Runner>⟧.pairs ⟦<Folders<&'a HostRuntime> as Shelf>⟧.failures
+    ensures served { Served ⟦<Naming<'a, Machine<&'a HostRuntime>> as Runner>⟧.pairs ⟦<Folders<&'a HostRuntime> as Shelf>⟧.failures
         ⟦<Database<FileStore<File>> as Storage>⟧.holds
         ⟦<Database<FileStore<File>> as Storage>⟧.tally
         order.now result (out.old.shown ++ out.old.waiting) (out.new.shown ++ out.new.waiting) }
     ensures printed { out.old.waiting ≡ [] → out.new.failed ≡ false → out.new.waiting ≡ [] }
 {
     let alloc = rt.alloc();
-    let machine = Machine::new(rt, alloc);
+    let runner = Naming::new(rt, Machine::new(rt, alloc));
     let folders = Folders::new(rt, alloc);
     let budget = order.options.budget;
-    match Server::open(alloc, machine, folders, database, history, places, budget) {
+    match Server::open(alloc, runner, folders, database, history, places, budget) {
         Ok(server) => serve_by(server, order, out),
         Err(fault) => Err(Failure::from(fault)),
     }
@@ -121,7 +122,7 @@ fn serve_database<'a, W: Write>(
     requires most { order.now.options.budget ≤ MOST_NODES }
     requires idle { (file_state conn).in_transaction ≡ false }
     requires places { places_data places ≡ places_in order.now }
-    ensures served { Served ⟦<Machine<&'a HostRuntime> as Runner>⟧.pairs ⟦<Folders<&'a HostRuntime> as Shelf>⟧.failures
+    ensures served { Served ⟦<Naming<'a, Machine<&'a HostRuntime>> as Runner>⟧.pairs ⟦<Folders<&'a HostRuntime> as Shelf>⟧.failures
         ⟦<Database<FileStore<File>> as Storage>⟧.holds
         ⟦<Database<FileStore<File>> as Storage>⟧.tally
         order.now result (out.old.shown ++ out.old.waiting) (out.new.shown ++ out.new.waiting) }
@@ -141,7 +142,7 @@ fn serve<'a, W: Write>(
 ) -> Result<u8, Failure>
     requires least { 1 ≤ order.now.options.budget }
     requires most { order.now.options.budget ≤ MOST_NODES }
-    ensures served { Served ⟦<Machine<&'a HostRuntime> as Runner>⟧.pairs ⟦<Folders<&'a HostRuntime> as Shelf>⟧.failures
+    ensures served { Served ⟦<Naming<'a, Machine<&'a HostRuntime>> as Runner>⟧.pairs ⟦<Folders<&'a HostRuntime> as Shelf>⟧.failures
         ⟦<Database<FileStore<File>> as Storage>⟧.holds
         ⟦<Database<FileStore<File>> as Storage>⟧.tally
         order.now result (out.old.shown ++ out.old.waiting) (out.new.shown ++ out.new.waiting) }
@@ -160,7 +161,7 @@ fn serve<'a, W: Write>(
 pub fn run<'a, W: Write>(rt: &'a HostRuntime, order: &Order<'_>, out: &mut Printed<W>) -> Outcome
     requires least { 1 ≤ order.now.options.budget }
     requires most { order.now.options.budget ≤ MOST_NODES }
-    ensures served { Served ⟦<Machine<&'a HostRuntime> as Runner>⟧.pairs ⟦<Folders<&'a HostRuntime> as Shelf>⟧.failures
+    ensures served { Served ⟦<Naming<'a, Machine<&'a HostRuntime>> as Runner>⟧.pairs ⟦<Folders<&'a HostRuntime> as Shelf>⟧.failures
         ⟦<Database<FileStore<File>> as Storage>⟧.holds
         ⟦<Database<FileStore<File>> as Storage>⟧.tally
         order.now result.end (out.old.shown ++ out.old.waiting) (out.new.shown ++ out.new.waiting) }
