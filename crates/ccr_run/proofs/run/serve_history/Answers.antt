@@ -10,7 +10,7 @@ serve_by-requires-clause-begins g c =
         ready = opened.ready;
         resumed = opened.resumed;
         last = opened.nobody;
-        pairs = opened.pairs ∙ c.new-machine.ensures;
+        pairs = opened.pairs ∙ c.new-runner.ensures ∙ c.new.ensures;
         failures = opened.failures ∙ c.new-folders.ensures;
       },
     )
