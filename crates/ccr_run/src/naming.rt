@@ -28,7 +28,9 @@ impl<'a, R: Runner> Runner for Naming<'a, R> {
         let end = self.runner.run(launch);
         if matches!(end, Ended::NotStarted) {
             let program = launch.program.as_str();
-            let _ = eprintln!(self.rt; "hint: {program} didn't start; is it there, and executable?");
+            let _ = eprintln!(self.rt;
+                "hint: {program} didn't start; is it there, and executable?"
+            );
         }
         end
     }
