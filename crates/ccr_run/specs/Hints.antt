@@ -1,21 +1,40 @@
 -- What to do about how a command ended, where that helps.
 use Rattle.std.specs.Prelude.{ℕ, Option, Some, None, Result, Ok, Err, codes, nat_eq, if◌then◌else◌}
 use Rattle.ccr_history.specs.Text.{Text}
-use Rattle.ccr_storage.specs.declared.fault.StoreFault.TheVariants.{NotOurs}
+use Rattle.ccr_storage.specs.declared.fault.StoreFault.TheVariants as store
 use Rattle.ccr_pipeline.specs.declared.fault.ReadFault.TheVariants.{NotJson}
-use Rattle.ccr_core.specs.declared.fault.CoreFault.TheVariants.{NoPipeline}
+use Rattle.ccr_core.specs.declared.fault.CoreFault.TheVariants.{NoPipeline, NoJob, NoResource}
 use Rattle.ccr_serve.specs.declared.fault.ServeFault.{ServeFault}
-use Rattle.ccr_serve.specs.declared.fault.ServeFault.TheVariants.{Core, Store, Read, BadPin}
+use Rattle.ccr_serve.specs.declared.fault.ServeFault.TheVariants.{Core, Store, Read, File, BadPin, NoMemory, TurnsUsedUp}
 use Rattle.ccr_run.specs.declared.failure.Failure.{Failure}
 use Rattle.ccr_run.specs.declared.failure.Failure.TheVariants.{Locked, Refused}
+
+-- about a name that the pipeline hasn't
+abbrev pub named_wrong : Text
+named_wrong = codes "names are those of the pipeline that was set last"
+
+-- about a database that can't be opened, read or written
+abbrev pub disk_failed : Text
+disk_failed = codes "is the disk full or read-only? may you write the file and its directory? what was printed is kept"
+
+-- about want of memory, of the server's or its database's
+abbrev pub out_of_memory : Text
+out_of_memory = codes "what was printed is kept; try again with more memory"
 
 -- about a fault of the server
 abbrev pub of_server : ServeFault → Option Text
 of_server (Core NoPipeline) = Some (codes "set one with: ccr_run --db FILE set-pipeline PIPELINE.json")
+of_server (Core NoJob) = Some named_wrong
+of_server (Core NoResource) = Some named_wrong
 of_server (Read (NotJson path)) = Some (codes "YAML isn't read; fly get-pipeline --json prints a pipeline as JSON")
 of_server (Read fault) = Some (codes "docs/FORMATS.md describes the format of a pipeline")
 of_server BadPin = Some (codes "a pin is a JSON object of texts, as {\"ref\":\"61cbef\"}")
-of_server (Store NotOurs) = Some (codes "the file isn't a database of ccr_run; name another one")
+of_server (Store store.NotOurs) = Some (codes "the file isn't a database of ccr_run; name another one")
+of_server (Store store.Disk) = Some disk_failed
+of_server (Store store.NoMemory) = Some out_of_memory
+of_server File = Some (codes "is the file there, and may you read it?")
+of_server NoMemory = Some out_of_memory
+of_server TurnsUsedUp = Some (codes "the next command ends the builds that still run as errored")
 of_server fault = None
 
 -- about a status of a command: 3 is over the budget

@@ -16,6 +16,9 @@ fn of_server(fault: &ServeFault) -> Option<&'static str>
         ServeFault::Core(CoreFault::NoPipeline) => Some(
             "set one with: ccr_run --db FILE set-pipeline PIPELINE.json",
         ),
+        ServeFault::Core(CoreFault::NoJob) | ServeFault::Core(CoreFault::NoResource) => {
+            Some("names are those of the pipeline that was set last")
+        }
         ServeFault::Read(ReadFault::NotJson(_)) => Some(
             "YAML isn't read; fly get-pipeline --json prints a pipeline as JSON",
         ),
@@ -24,6 +27,14 @@ fn of_server(fault: &ServeFault) -> Option<&'static str>
         ServeFault::Store(StoreFault::NotOurs) => Some(
             "the file isn't a database of ccr_run; name another one",
         ),
+        ServeFault::Store(StoreFault::Disk) => Some(
+            "is the disk full or read-only? may you write the file and its directory? what was printed is kept",
+        ),
+        ServeFault::File => Some("is the file there, and may you read it?"),
+        ServeFault::NoMemory | ServeFault::Store(StoreFault::NoMemory) => Some(
+            "what was printed is kept; try again with more memory",
+        ),
+        ServeFault::TurnsUsedUp => Some("the next command ends the builds that still run as errored"),
         _ => None,
     }
 }

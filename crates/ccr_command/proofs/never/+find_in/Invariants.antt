@@ -1,4 +1,4 @@
-use Rattle.ccr_gates.proofs.never.+find_in.Given as goal
+use Rattle.ccr_command.proofs.never.+find_in.Given as goal
 
 abbrev pub decreases-find_in : goal.decreases-find_in
 decreases-find_in l = l.left

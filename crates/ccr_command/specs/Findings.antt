@@ -1,8 +1,8 @@
 -- What is a reason to refuse a pipeline.
 use Rattle.std.specs.Prelude.{List, [], ◌∷◌, map, Bool, true, false, not, ◌&&◌, ◌||◌}
-use Rattle.ccr_gates.specs.declared.finding.Finding.{Finding}
-use Rattle.ccr_gates.specs.declared.finding.Kind.{Kind}
-use Rattle.ccr_gates.specs.declared.finding.Kind.TheVariants.{Gate, Misspelt, Misplaced, Never, Empty, Vars}
+use Rattle.ccr_command.specs.declared.finding.Finding.{Finding}
+use Rattle.ccr_command.specs.declared.finding.Kind.{Kind}
+use Rattle.ccr_command.specs.declared.finding.Kind.TheVariants.{Gate, Misspelt, Misplaced, Never, Empty, Vars}
 
 -- the kinds of findings
 abbrev pub kinds : List Finding → List Kind

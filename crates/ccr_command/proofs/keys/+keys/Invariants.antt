@@ -1,4 +1,4 @@
-use Rattle.ccr_gates.proofs.keys.+keys.Given as goal
+use Rattle.ccr_command.proofs.keys.+keys.Given as goal
 
 abbrev pub decreases-find_object : goal.decreases-find_object
 decreases-find_object l = l.left

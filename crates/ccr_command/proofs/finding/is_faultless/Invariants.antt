@@ -1,6 +1,6 @@
 use Rattle.std.proofs.Common.{◌≡◌, drop}
-use Rattle.ccr_gates.specs.Findings.{kinds, is_faultless}
-use Rattle.ccr_gates.proofs.finding.is_faultless.Given as goal
+use Rattle.ccr_command.specs.Findings.{kinds, is_faultless}
+use Rattle.ccr_command.proofs.finding.is_faultless.Given as goal
 
 abbrev pub invariant-loop-finding : goal.invariant-loop-finding
 invariant-loop-finding l =

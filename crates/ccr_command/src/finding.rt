@@ -1,6 +1,6 @@
 //! What is found in a pipeline.
 ghost use Rattle.std.specs.Prelude.{◌≡◌};
-ghost use Rattle.ccr_gates.specs.Findings.{kinds, is_wrong, is_reason, is_faultless};
+ghost use Rattle.ccr_command.specs.Findings.{kinds, is_wrong, is_reason, is_faultless};
 
 use crate::gate::find_gates;
 use crate::keys::find_keys;
