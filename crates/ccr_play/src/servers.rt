@@ -3,11 +3,11 @@
 //! What a server prints stands as it is printed; between its lines, two blanks in, stands each launch as it happens,
 //! and at last how the line ended, unless with status 0.
 //!
-//! The script of the next server: `ends WORD ..` (`STATUS`, `STATUS:OUTPUT`, `killed`, `too-long`, `not-started`: how
-//! programs end, in turn), `folders N` and `no-folders N` (N calls for folders are done, or fail), `file TEXT` (a
-//! file that is read), `commits N` (the storage fails after N commits). `open` makes a server over it, with an empty
-//! history, types in `/t` and builds in `/w`. Then `round`, `turn`, and the commands of `ccr_run`, of which
-//! `set-pipeline` and tasks read the script's files.
+//! The script of the next server: `ends WORD ..` (`STATUS`, `STATUS:OUTPUT`, `numbers:COUNT` for a check that found so
+//! many versions, `killed`, `too-long`, `not-started`: how programs end, in turn), `folders N` and `no-folders N` (N
+//! calls for folders are done, or fail), `file TEXT` (a file that is read), `commits N` (the storage fails after N
+//! commits). `open` makes a server over it, with an empty history, types in `/t` and builds in `/w`. Then `round`,
+//! `turn`, and the commands of `ccr_run`, of which `set-pipeline` and tasks read the script's files.
 
 mod script;
 mod serving;

@@ -181,6 +181,28 @@ fn halves(words: &str) -> (&str, &str) {
     }
 }
 
+/// The reply of a check that found the versions `{"n":"1"}` to `{"n":"COUNT"}`.
+fn numbers(alloc: Global, count: u32) -> Result<Vec<u8>> {
+    let mut reply = String::from_str(alloc, "[")?;
+    for before in 0..count {
+        let number = u64::from(before) + 1;
+        let mark = if before == 0 { "" } else { "," };
+        write!(reply, "{mark}{{\"n\":\"{number}\"}}")?;
+    }
+    reply.push_str("]")?;
+    Ok(reply.into_bytes())
+}
+
+/// The exit of a word: `numbers:COUNT`, or a status, with what was printed behind a colon.
+fn exit_of(alloc: Global, word: &str) -> Result<Ended> {
+    if let Some(count) = word.strip_prefix("numbers:") {
+        return Ok(Ended::Exit(0, numbers(alloc, count.parse::<u32>()?)?));
+    }
+    let (status, output) = halves(word);
+    let status = status.parse::<u8>()?;
+    Ok(Ended::Exit(status, Vec::from_slice(alloc, output.as_bytes())?))
+}
+
 /// The end of the words `STATUS OUTPUT` or `STATUS:OUTPUT`, or of a word for another end.
 pub(crate) fn end_of(alloc: Global, words: &str) -> Result<Ended> {
     Ok(match words {
@@ -190,11 +212,7 @@ pub(crate) fn end_of(alloc: Global, words: &str) -> Result<Ended> {
         "read-fault" => Ended::ReadFault,
         "too-long" => Ended::OutputTooLong,
         "no-memory" => Ended::NoMemory,
-        _ => {
-            let (status, output) = halves(words);
-            let status = status.parse::<u8>()?;
-            Ended::Exit(status, Vec::from_slice(alloc, output.as_bytes())?)
-        }
+        _ => exit_of(alloc, words)?,
     })
 }
 
