@@ -43,7 +43,7 @@ each_wants c k n w core at wants none =
     by (Some b) some asked = asked
 
 -- a build that is asked at this turn has no other
-asked_there : (o : Option RunningData) (turn : ℕ) (ask : Ask) → IsAsked o (Some (turn, ask)) → (b : RunningData) × (o ≡ Some b) × HasTurn b.exchanges turn
+pub asked_there : (o : Option RunningData) (turn : ℕ) (ask : Ask) → IsAsked o (Some (turn, ask)) → (b : RunningData) × (o ≡ Some b) × HasTurn b.exchanges turn
 asked_there None turn ask asked = absurd asked
 asked_there (Some b) turn ask (own, next) = (b, refl, own)
 
