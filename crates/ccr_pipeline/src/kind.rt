@@ -29,7 +29,7 @@ fn has_name_bytes(bytes: &[u8]) -> bool
 
 /// Whether the text may be a name: 1 to 128 bytes, none of them below 32, 127 or `/`, and neither `.` nor `..`.
 #[tactic(auto, unfolding(crate::specs::Kinds::is_name))]
-pub(crate) fn is_name(text: &str) -> bool
+pub fn is_name(text: &str) -> bool
     ensures { result ≡ is_name text.now }
 {
     if text.is_empty() || text.len() > MOST_NAME_BYTES {

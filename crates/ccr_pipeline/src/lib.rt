@@ -44,6 +44,7 @@ mod walk;
 
 pub use fault::ReadFault;
 pub use input::{Input, inputs_of};
+pub use kind::is_name;
 pub use names::Names;
 pub use pipeline::Pipeline;
 pub use reader::{read, read_task};

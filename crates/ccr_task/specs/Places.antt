@@ -1,5 +1,5 @@
 -- Where programs lie and builds work.
-use Rattle.std.specs.Prelude.{ℕ, ◌∷◌, ◌++◌, string_bytes, decimal}
+use Rattle.std.specs.Prelude.{ℕ, ◌∷◌, ◌++◌, string_bytes, decimal, codes}
 use Rattle.ccr_pipeline.specs.Tree.{Text}
 use Rattle.ccr_task.specs.declared.places.Places.{Places}
 
@@ -27,3 +27,7 @@ build_folder places job number = below (below places.work job) (decimal number)
 -- all artifacts of a build lie beside each other in its folder, under their own names
 abbrev pub in_build : PlacesData → Text → ℕ → Text → Text
 in_build places job number name = below (build_folder places job number) name
+
+-- a build is asked to be aborted by a folder beside its own, whose name says so with the build's number
+abbrev pub abort_folder : PlacesData → Text → ℕ → Text
+abort_folder places job number = below (below places.work job) (codes "abort-" ++ decimal number)

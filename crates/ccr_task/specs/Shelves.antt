@@ -1,8 +1,9 @@
 -- What a shelf answers, and what it counts.
-use Rattle.std.specs.Prelude.{◌≡◌, ◌≢◌, ◌⊎◌, ◌+◌, ℕ, List, [], ◌∷◌, Vec, vec_len, nat_le, Result, Ok, Err, IsOk, IsErrAnd, if◌then◌else◌}
+use Rattle.std.specs.Prelude.{◌≡◌, ◌≢◌, ◌⊎◌, ◌+◌, ◌≤◌, ℕ, List, [], ◌∷◌, Bool, true, false, Vec, vec_len, nat_le, Result, Ok, Err, IsOk, IsErrAnd, if◌then◌else◌}
 use Rattle.std.specs.declared.alloc.Global.{Global}
 use Rattle.std.specs.declared.io.ErrorKind.{ErrorKind}
 use Rattle.std.specs.declared.io.ErrorKind.TheVariants.{NotFound, OutOfMemory}
+use Rattle.ccr_task.specs.declared.counts.ShelfCounts.{ShelfCounts}
 use Rattle.ccr_task.specs.declared.shelf.TheConstants.{MOST_FILE}
 use Rattle.ccr_task.specs.declared.fault.ShelfFault.{ShelfFault}
 use Rattle.ccr_task.specs.declared.fault.ShelfFault.TheVariants.{Failed, TooLong, NoMemory}
@@ -11,20 +12,42 @@ use Rattle.ccr_task.specs.declared.script.ShelfAnswer.{ShelfAnswer}
 use Rattle.ccr_task.specs.declared.script.ShelfAnswer.TheVariants.{Done, Read, Fault}
 use Rattle.ccr_task.specs.declared.script.ShelfScript.{ShelfScript}
 
--- the greatest count of failures, 2^64 - 1
+-- the greatest count, 2^64 - 1
 abbrev pub greatest : ℕ
 greatest = 18446744073709551615
 
--- one failure more; the greatest count stays
+-- one more; the greatest count stays
 abbrev pub Rose : ℕ → ℕ → Type 0
 Rose old new = (new ≡ old + 1) ⊎ ((old ≡ greatest) × (new ≡ old))
 
--- the count moves at a failure, and at no other answer
-abbrev pub Counts : {A : Type 0} → ℕ → Result A ShelfFault → ℕ → Type 0
+-- nothing was counted yet
+abbrev pub no_counts : ShelfCounts
+no_counts = record { failures = 0; seen = 0 }
+
+-- one failure more, and no folder more was seen
+abbrev pub Fails : ShelfCounts → ShelfCounts → Type 0
+Fails old new = Rose old.failures new.failures × (new.seen ≡ old.seen)
+
+-- one folder more was seen, and there is no failure more
+abbrev pub Sees : ShelfCounts → ShelfCounts → Type 0
+Sees old new = Rose old.seen new.seen × (new.failures ≡ old.failures)
+
+-- neither count has gone down
+abbrev pub Grew : ShelfCounts → ShelfCounts → Type 0
+Grew old new = (old.failures ≤ new.failures) × (old.seen ≤ new.seen)
+
+-- the count of failures moves at a failure; at no other answer does a count move
+abbrev pub Counts : {A : Type 0} → ShelfCounts → Result A ShelfFault → ShelfCounts → Type 0
 Counts old (Ok done) new = new ≡ old
-Counts old (Err Failed) new = Rose old new
+Counts old (Err Failed) new = Fails old new
 Counts old (Err TooLong) new = new ≡ old
 Counts old (Err NoMemory) new = new ≡ old
+
+-- on whether a folder is there: that it is moves the count of folders seen, and a fault is counted as ever
+abbrev pub CountsSeen : ShelfCounts → Result Bool ShelfFault → ShelfCounts → Type 0
+CountsSeen old (Ok true) new = Sees old new
+CountsSeen old (Ok false) new = new ≡ old
+CountsSeen old (Err fault) new = Counts {A = Bool} old (Err fault) new
 
 -- the fault that an error of the system is: want of memory is one of its own, and all else a failure
 abbrev pub IsFaultOf : ErrorKind → ShelfFault → Type 0
@@ -33,6 +56,10 @@ IsFaultOf kind fault = ((kind ≡ OutOfMemory) × (fault ≡ NoMemory)) ⊎ ((ki
 -- a folder that isn't there is removed, and any other error is a fault
 abbrev pub RemovesAs : {A : Type 0} → ErrorKind → Result A ShelfFault → Type 0
 RemovesAs kind answer = ((kind ≡ NotFound) × IsOk answer) ⊎ ((kind ≢ NotFound) × IsErrAnd answer (IsFaultOf kind))
+
+-- what isn't there is no folder that is seen, and any other error is a fault
+abbrev pub SeesAs : ErrorKind → Result Bool ShelfFault → Type 0
+SeesAs kind answer = ((kind ≡ NotFound) × (answer ≡ Ok false)) ⊎ ((kind ≢ NotFound) × IsErrAnd answer (IsFaultOf kind))
 
 -- what a call for a folder answers where these answers are left: the first if it can give it, else it fails
 abbrev pub folder_answer : List ShelfAnswer → Result Unit ShelfFault
@@ -50,14 +77,26 @@ file_answer (Done ∷ rest) = Err Failed
 file_answer (Read bytes ∷ rest) = if nat_le (vec_len bytes) MOST_FILE then Ok bytes else Err Failed
 file_answer (Fault fault ∷ rest) = Err fault
 
+-- on whether a folder is there, where these answers are left: the first, if it is one for a folder; else that it isn't
+abbrev pub seen_answer : List (Result Bool ShelfFault) → Result Bool ShelfFault
+seen_answer [] = Ok false
+seen_answer (Ok is_there ∷ rest) = Ok is_there
+seen_answer (Err Failed ∷ rest) = Err Failed
+seen_answer (Err TooLong ∷ rest) = Err Failed
+seen_answer (Err NoMemory ∷ rest) = Err NoMemory
+
 -- the answers that a script has left
 abbrev pub answers_left : ShelfScript → List ShelfAnswer
 answers_left s = s.answers.items
 
--- how many calls of a script failed
-abbrev pub script_failures : ShelfScript → ℕ
-script_failures s = s.failed
+-- the answers that it has left on whether a folder is there
+abbrev pub sights_left : ShelfScript → List (Result Bool ShelfFault)
+sights_left s = s.sights.items
 
--- how many calls on the machine's folders failed
-abbrev pub folders_failures : {R : Type 0} → Folders R → ℕ
-folders_failures f = f.failed
+-- what a script has counted
+abbrev pub script_counts : ShelfScript → ShelfCounts
+script_counts s = s.counts
+
+-- what was counted on the machine's folders
+abbrev pub folders_counts : {R : Type 0} → Folders R → ShelfCounts
+folders_counts f = f.counts

@@ -1,10 +1,11 @@
 //! The machine's folders.
 ghost use Rattle.std.specs.Prelude.{◌≡◌, ◌≢◌, ◌≤◌, ◌<◌, length, IfOk, IfErr, IfSome, IsOk, IsOkAnd, IsErrAnd, MatchResult, vec_len};
 ghost use Rattle.std.specs.IoError.{error_kind};
-ghost use Rattle.ccr_task.specs.Shelves.{IsFaultOf, RemovesAs, folders_failures};
+ghost use Rattle.ccr_task.specs.Shelves.{IsFaultOf, RemovesAs, SeesAs, no_counts, folders_counts};
 
+use crate::counts::ShelfCounts;
 use crate::fault::ShelfFault;
-use crate::shelf::{MOST_FILE, Shelf, counted};
+use crate::shelf::{MOST_FILE, Shelf};
 use std::alloc::Global;
 use std::io::{ErrorKind, Read};
 use std::rt::Files;
@@ -21,7 +22,7 @@ const MOST_READS: u32 = 1_000_000_000;
 pub struct Folders<R> {
     rt: R,
     alloc: Global,
-    failed: u64,
+    counts: ShelfCounts,
 }
 
 /// What an error of the system counts as.
@@ -50,6 +51,17 @@ fn removed(end: io::Result<()>) -> Result<(), ShelfFault>
     match end {
         Ok(()) => Ok(()),
         Err(error) if error.kind() == ErrorKind::NotFound => Ok(()),
+        Err(error) => Err(fault_of(&error)),
+    }
+}
+
+/// What the system's answer to the question whether a folder is there comes to: what isn't there is none.
+fn seen(end: io::Result<bool>) -> Result<bool, ShelfFault>
+    ensures { MatchResult end (λ is_folder. result ≡ Ok is_folder) (λ error. SeesAs (error_kind error) result) }
+{
+    match end {
+        Ok(is_folder) => Ok(is_folder),
+        Err(error) if error.kind() == ErrorKind::NotFound => Ok(false),
         Err(error) => Err(fault_of(&error)),
     }
 }
@@ -105,41 +117,51 @@ fn open_file<R: Files>(rt: &R, path: &str) -> io::Result<R::File> {
     }
 }
 
+/// Whether what a path leads to is a folder.
+fn is_folder<R: Files>(rt: &R, path: &str) -> io::Result<bool> {
+    Ok(fs::metadata(rt, path)?.is_dir())
+}
+
 impl<R> Folders<R> {
-    /// The machine's folders, with no failure yet.
+    /// The machine's folders, with no failure yet, and none seen.
     pub fn new(rt: R, alloc: Global) -> Folders<R>
-        ensures { folders_failures result ≡ 0 }
+        ensures { folders_counts result ≡ no_counts }
     {
         Folders {
             rt,
             alloc,
-            failed: 0,
+            counts: ShelfCounts::new(),
         }
     }
 
-    /// How many calls failed so far, at most 2^64 - 1.
-    pub fn failures(&self) -> u64
-        ensures { result ≡ folders_failures self.now }
+    /// What was counted so far.
+    pub fn counts(&self) -> ShelfCounts
+        ensures { result ≡ folders_counts self.now }
     {
-        self.failed
+        self.counts
     }
 }
 
 impl<R: Files + Drop> Shelf for Folders<R> {
-    ghost failures = { folders_failures };
+    ghost counts = { folders_counts };
 
     fn make_folder(&mut self, path: &str) -> Result<(), ShelfFault> {
         let end = fs::create_dir_all(&self.rt, path);
-        counted(&mut self.failed, made(end))
+        self.counts.note(made(end))
     }
 
     fn read_file(&mut self, path: &str) -> Result<Vec<u8>, ShelfFault> {
         let opened = open_file(&self.rt, path);
-        counted(&mut self.failed, read_opened(self.alloc, opened))
+        self.counts.note(read_opened(self.alloc, opened))
     }
 
     fn remove_folder(&mut self, path: &str) -> Result<(), ShelfFault> {
         let end = self.rt.remove_dir_all(self.alloc, path);
-        counted(&mut self.failed, removed(end))
+        self.counts.note(removed(end))
+    }
+
+    fn has_folder(&mut self, path: &str) -> Result<bool, ShelfFault> {
+        let end = is_folder(&self.rt, path);
+        self.counts.note_seen(seen(end))
     }
 }

@@ -5,13 +5,16 @@
 //! what a task's file does. Contracts see asks, launches, ends and answers as data without where it lies in memory, and
 //! each of these calls as the one launch or answer that its data make.
 //!
-//! A [`Shelf`] makes a folder, reads a file and removes a folder, and counts its failures: its contract says at which
-//! answer the count moves, so that who has seen the count knows whether the shelf has failed since. [`Folders`] are the
-//! machine's folders, [`ShelfScript`] gives answers that were handed in. What lies in a folder of the machine, no
+//! A [`Shelf`] makes a folder, reads a file, removes a folder and says whether one is there, and counts its failures and
+//! the folders that it saw: its contract says at which answer a count moves, so that who has seen the counts knows whether
+//! the shelf has failed since, or has seen a folder. [`ask_abort`] asks for a build to be aborted, by a folder that the
+//! server looks for at the build's turns. [`Folders`] are the machine's folders, [`ShelfScript`] gives answers that were handed in. What lies in a folder of the machine, no
 //! contract can say, and tests show it; what is read of an open file is its bytes, by contract.
 #![tactic(auto)]
 
+mod abort;
 mod answer;
+mod counts;
 mod environment;
 mod fault;
 mod folders;
@@ -20,7 +23,9 @@ mod places;
 mod script;
 mod shelf;
 
+pub use abort::ask_abort;
 pub use answer::{answered_of, config_of};
+pub use counts::ShelfCounts;
 pub use fault::ShelfFault;
 pub use folders::{Folders, read_opened};
 pub use launch::{can_launch, check_launch, launch_of};

@@ -1,6 +1,6 @@
 //! Where programs lie and builds work.
 ghost use Rattle.std.specs.Prelude.{◌≡◌, IfOk, string_bytes, codes};
-ghost use Rattle.ccr_task.specs.Places.{places_data, below, program_path, build_folder, in_build};
+ghost use Rattle.ccr_task.specs.Places.{places_data, below, program_path, build_folder, in_build, abort_folder};
 
 use std::alloc::{AllocError, Global};
 
@@ -50,5 +50,14 @@ impl Places {
     {
         let work = self.work.as_str();
         format!(in alloc; "{work}/{job}/{number}/{name}")
+    }
+
+    /// The folder that asks for a build to be aborted: `WORK/JOB/abort-NUMBER`.
+    pub fn abort_folder(&self, alloc: Global, job: &str, number: u32) -> Result<String, AllocError>
+        ensures { IfOk result (λ path. string_bytes path
+            ≡ abort_folder (places_data self.now) job.now number) }
+    {
+        let work = self.work.as_str();
+        format!(in alloc; "{work}/{job}/abort-{number}")
     }
 }

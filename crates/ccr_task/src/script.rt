@@ -1,9 +1,10 @@
 //! A shelf that holds nothing.
 ghost use Rattle.std.specs.Prelude.{◌≡◌, drop};
-ghost use Rattle.ccr_task.specs.Shelves.{Counts, folder_answer, file_answer, answers_left, script_failures};
+ghost use Rattle.ccr_task.specs.Shelves.{no_counts, Counts, CountsSeen, folder_answer, file_answer, seen_answer, answers_left, sights_left, script_counts};
 
+use crate::counts::ShelfCounts;
 use crate::fault::ShelfFault;
-use crate::shelf::{MOST_FILE, Shelf, counted};
+use crate::shelf::{MOST_FILE, Shelf};
 use std::collections::VecDeque;
 
 /// What a script answers to one call.
@@ -20,52 +21,64 @@ pub enum ShelfAnswer {
 /// Answers that were handed in, given in their order, one a call.
 ///
 /// `Failed` comes when they run out, and in place of an answer that the call can't give: to a folder's call `Read` and
-/// `TooLong`, to a file's `Done` and a `Read` of more than 1,048,576 bytes. Such an answer is used up too. No call
+/// `TooLong`, to a file's `Done` and a `Read` of more than 1,048,576 bytes. Such an answer is used up too. Whether a folder
+/// is there, a list of its own answers, and that it isn't when that runs out; `Failed` comes in place of `TooLong`. No call
 /// takes memory.
 #[derive(Drop)]
 pub struct ShelfScript {
     answers: VecDeque<ShelfAnswer>,
-    failed: u64,
+    sights: VecDeque<Result<bool, ShelfFault>>,
+    counts: ShelfCounts,
 }
 
 impl ShelfScript {
-    /// A shelf that gives these answers, with no failure yet.
-    pub fn new(answers: VecDeque<ShelfAnswer>) -> ShelfScript
+    /// A shelf that gives these answers, and these on whether a folder is there, with no failure yet, and none seen.
+    pub fn new(
+        answers: VecDeque<ShelfAnswer>,
+        sights: VecDeque<Result<bool, ShelfFault>>,
+    ) -> ShelfScript
         ensures answers { answers_left result ≡ answers.items }
-        ensures none { script_failures result ≡ 0 }
+        ensures sights { sights_left result ≡ sights.items }
+        ensures none { script_counts result ≡ no_counts }
     {
-        ShelfScript { answers, failed: 0 }
+        ShelfScript {
+            answers,
+            sights,
+            counts: ShelfCounts::new(),
+        }
     }
 
-    /// How many calls failed so far, at most 2^64 - 1.
-    pub fn failures(&self) -> u64
-        ensures { result ≡ script_failures self.now }
+    /// What was counted so far.
+    pub fn counts(&self) -> ShelfCounts
+        ensures { result ≡ script_counts self.now }
     {
-        self.failed
+        self.counts
     }
 
     /// The next answer, to a call for a folder.
     fn next_of_folder(&mut self) -> Result<(), ShelfFault>
         ensures answer { result ≡ folder_answer (answers_left self.old) }
         ensures left { answers_left self.new ≡ drop 1 (answers_left self.old) }
-        ensures counted { Counts (script_failures self.old) result (script_failures self.new) }
+        ensures sights { sights_left self.new ≡ sights_left self.old }
+        ensures counted { Counts (script_counts self.old) result (script_counts self.new) }
     {
         let answer = match self.answers.pop_front() {
             Some(ShelfAnswer::Done) => Ok(()),
             Some(ShelfAnswer::Fault(ShelfFault::NoMemory)) => Err(ShelfFault::NoMemory),
             _ => Err(ShelfFault::Failed),
         };
-        counted(&mut self.failed, answer)
+        self.counts.note(answer)
     }
 }
 
 impl Shelf for ShelfScript {
-    ghost failures = { script_failures };
+    ghost counts = { script_counts };
 
     fn make_folder(&mut self, _path: &str) -> Result<(), ShelfFault>
         ensures answer { result ≡ folder_answer (answers_left self.old) }
         ensures left { answers_left self.new ≡ drop 1 (answers_left self.old) }
-        ensures counted { Counts (script_failures self.old) result (script_failures self.new) }
+        ensures sights { sights_left self.new ≡ sights_left self.old }
+        ensures counted { Counts (script_counts self.old) result (script_counts self.new) }
     {
         self.next_of_folder()
     }
@@ -73,21 +86,37 @@ impl Shelf for ShelfScript {
     fn read_file(&mut self, _path: &str) -> Result<Vec<u8>, ShelfFault>
         ensures answer { result ≡ file_answer (answers_left self.old) }
         ensures left { answers_left self.new ≡ drop 1 (answers_left self.old) }
-        ensures counted { Counts (script_failures self.old) result (script_failures self.new) }
+        ensures sights { sights_left self.new ≡ sights_left self.old }
+        ensures counted { Counts (script_counts self.old) result (script_counts self.new) }
     {
         let answer = match self.answers.pop_front() {
             Some(ShelfAnswer::Read(bytes)) if bytes.len() <= MOST_FILE => Ok(bytes),
             Some(ShelfAnswer::Fault(fault)) => Err(fault),
             _ => Err(ShelfFault::Failed),
         };
-        counted(&mut self.failed, answer)
+        self.counts.note(answer)
     }
 
     fn remove_folder(&mut self, _path: &str) -> Result<(), ShelfFault>
         ensures answer { result ≡ folder_answer (answers_left self.old) }
         ensures left { answers_left self.new ≡ drop 1 (answers_left self.old) }
-        ensures counted { Counts (script_failures self.old) result (script_failures self.new) }
+        ensures sights { sights_left self.new ≡ sights_left self.old }
+        ensures counted { Counts (script_counts self.old) result (script_counts self.new) }
     {
         self.next_of_folder()
+    }
+
+    fn has_folder(&mut self, _path: &str) -> Result<bool, ShelfFault>
+        ensures answer { result ≡ seen_answer (sights_left self.old) }
+        ensures left { sights_left self.new ≡ drop 1 (sights_left self.old) }
+        ensures answers { answers_left self.new ≡ answers_left self.old }
+        ensures counted { CountsSeen (script_counts self.old) result (script_counts self.new) }
+    {
+        let answer = match self.sights.pop_front() {
+            Some(Err(ShelfFault::TooLong)) => Err(ShelfFault::Failed),
+            Some(sight) => sight,
+            None => Ok(false),
+        };
+        self.counts.note_seen(answer)
     }
 }
