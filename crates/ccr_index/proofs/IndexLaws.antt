@@ -1,17 +1,20 @@
 -- The parts of an index, and what the rules of its problem say of them.
-use Rattle.std.proofs.Common.{◌≡◌, ℕ, zero, suc, ◌+◌, ◌-◌, ◌*◌, ◌^◌, ◌<◌, ◌≤◌, List, [], ◌∷◌, length, map, slice_index, slice_index_or, slice_set, Bool, true, ◌&&◌, nat_lt, nat_le, get_or, inl, inr, refl, sym, ap, ◌∙◌, subst, arith, All, Result, Ok, Err}
-use Rattle.std.specs.Prelude.{EachIndex, OnErr}
+use Rattle.std.proofs.Common.{◌≡◌, ℕ, zero, suc, ◌+◌, ◌-◌, ◌*◌, ◌^◌, ◌<◌, ◌≤◌, List, [], ◌∷◌, ◌++◌, length, map, slice_index, slice_index_or, slice_set, Bool, true, ◌&&◌, nat_lt, nat_le, get_or, inl, inr, refl, sym, ap, ◌∙◌, subst, arith, ◌↔◌, IsTrue, All, Result, Ok, Err}
+use Rattle.std.specs.Prelude.{EachIndex, OnErr, Any, Contains}
 use Rattle.std.proofs.lemmas.Bool.{and_parts, cases_Bool, cases_lt, cond-true, cond-false, ltb-true, leb-true, le-leb}
-use Rattle.std.proofs.lemmas.List.{get_or-map, get_or_read, length-map, length-set, map-set, get_or-set_same, get_or-set_other}
-use Rattle.std.proofs.Math.Seq.{map-set_same}
+use Rattle.std.proofs.lemmas.List.{get_or-map, get_or_read, length-map, length-set, map-set, get_or-set_same, get_or-set_other, get_or_default, get_or_append_left, length-append}
+use Rattle.std.proofs.Math.Seq.{map-set_same, get_or-append_seam}
 use Rattle.std.proofs.lemmas.List.Elements.{All-set, All-cons, All-nil}
-use Rattle.ccr_choice.specs.Problem.{ProblemValue, InputValue, BuildValue, no_input, IsProblem, is_problem, is_build, are_builds, are_builds_below, are_pairs_after, are_places_after, scopes_after, input_at, builds_at}
+use Rattle.ccr_choice.specs.Problem.{ProblemValue, InputValue, BuildValue, no_input, IsProblem, is_problem, is_input, is_build, are_inputs, are_numbered, are_distinct, next_used, used_after, are_builds, are_builds_below, are_pairs_after, are_places_after, scopes_after, input_at, builds_at}
+use Rattle.ccr_choice.specs.Dominated.{IsNamedIn}
+use Rattle.ccr_choice.proofs.Members.{any_first, any_later, any_cases}
 use Rattle.ccr_choice.proofs.Bounds.{rules_of, builds_kept}
 use Rattle.ccr_choice.proofs.Numbering.{named_in}
 use Rattle.ccr_choice.proofs.Places.{places_kept}
 use Rattle.ccr_choice.specs.Ascending.{is_before, AreAscending, AreRising}
 use Rattle.ccr_choice.proofs.Lookups.{before_is, pairs_ascend, places_rise}
 use Rattle.ccr_index.specs.Rows.{InputRowsValue, JobRowsValue, no_build, with_place, AreDescending}
+use Rattle.ccr_index.specs.Alike.{does_count, AreCounted}
 use Rattle.ccr_index.specs.Index.{IndexValue, problem_in, AreTops, IsIndex, with_version, with_new_build, left_after}
 
 -- ---- an element
@@ -19,7 +22,7 @@ no_rows : InputRowsValue
 no_rows = record { input = no_input; spare = 0 }
 
 no_builds : JobRowsValue
-no_builds = record { builds = []; spare = 0 }
+no_builds = record { builds = []; scopes = []; spare = 0 }
 
 pub input_in : (inputs : List InputRowsValue) (jobs : List JobRowsValue) (i : ℕ) (x : InputRowsValue) → i < length inputs → x ≡ slice_index_or inputs i x → x.input ≡ input_at (problem_in inputs jobs) i
 unfolding no_rows
@@ -126,20 +129,65 @@ less_places inputs n m le all = λ k d within. omega (arith, le, all k d within)
 less_pairs : (jobs : List JobRowsValue) (n m : ℕ) → m ≤ n → All (λ r. n ≤ r.spare) jobs → All (λ r. m ≤ r.spare) jobs
 less_pairs jobs n m le all = λ k d within. omega (arith, le, all k d within)
 
+-- ---- which scopes count
+any_kept : {X : Type 0} (P : X → Type 0) (xs : List X) (i : ℕ) (y : X) → ((d : X) → i < length xs → P (get_or xs i d) → P y) → Any P xs → Any P (slice_set xs i y)
+any_kept P [] i y f h = h
+any_kept P (x ∷ xs) zero y f h = elim (any_cases P x xs h) [ inl here ↦ any_first P y xs (f x (omega arith) here) | inr more ↦ any_later P y xs more ]
+any_kept P (x ∷ xs) (suc i) y f h =
+    elim (any_cases P x xs h) [
+      | inl here ↦ any_first P x (slice_set xs i y) here
+      | inr more ↦ any_later P x (slice_set xs i y) (any_kept P xs i y (λ d within. f d (omega (arith, within))) more)
+    ]
+
+any_back : {X : Type 0} (P : X → Type 0) (xs : List X) (i : ℕ) (y : X) → ((d : X) → i < length xs → P y → P (get_or xs i d)) → Any P (slice_set xs i y) → Any P xs
+any_back P [] i y f h = h
+any_back P (x ∷ xs) zero y f h = elim (any_cases P y xs h) [ inl here ↦ any_first P x xs (f x (omega arith) here) | inr more ↦ any_later P x xs more ]
+any_back P (x ∷ xs) (suc i) y f h =
+    elim (any_cases P x (slice_set xs i y) h) [
+      | inl here ↦ any_first P x xs here
+      | inr more ↦ any_later P x xs (any_back P xs i y (λ d within. f d (omega (arith, within))) more)
+    ]
+
+-- a further place changes none
+counted_raised : (xs : List InputValue) (ss : List (List Bool)) (i place : ℕ) (y : InputValue) → y ≡ with_place (slice_index_or xs i no_input) place → AreCounted xs ss → AreCounted (slice_set xs i y) ss
+counted_raised xs ss i place y e is j scope within =
+    let P : InputValue → Type 0 = λ z. (z.scope ≡ scope) × Contains z.jobs j in
+    let Q : InputValue → Type 0 = λ z. (z.scope ≡ scope) × Contains z.jobs j in
+    let same : (d : InputValue) → i < length xs → slice_index_or xs i no_input ≡ get_or xs i d = λ d inside. get_or_default xs i no_input d inside in (
+      λ t. any_kept P xs i y (λ d inside h. subst P (sym e) (subst Q (sym (same d inside)) h)) ((is j scope within).0 t),
+      λ h. (is j scope within).1 (any_back P xs i y (λ d inside k. subst Q (same d inside) (subst P e k)) h),
+    )
+
+-- a further job with its own
+pub counted_push : (xs : List InputValue) (ss : List (List Bool)) (s : List Bool) → AreCounted xs ss
+    → ((scope : ℕ) → IsTrue (does_count s scope) ↔ Any (λ i. (i.scope ≡ scope) × Contains i.jobs (length ss)) xs) → AreCounted xs (ss ++ s ∷ [])
+counted_push xs ss s is new j scope within =
+    let P : ℕ → List Bool → Type 0 = λ k t. IsTrue (does_count t scope) ↔ Any (λ i. (i.scope ≡ scope) × Contains i.jobs k) xs in
+    elim (cases_lt j (length ss)) [
+      | inl less ↦ (let Q : List Bool → Type 0 = P j in subst Q (sym (get_or_append_left ss (s ∷ []) [] j less)) (is j scope less))
+      | inr le ↦ (let now : j ≡ length ss = omega (arith, le, within, length-append ss (s ∷ [])) in
+          let Q : List Bool → Type 0 = P (length ss) in
+          let R : ℕ → Type 0 = λ k. P k (slice_index_or (ss ++ s ∷ []) k []) in
+          subst R (sym now) (subst Q (sym (get_or-append_seam ss s [] [])) (new scope)))
+    ]
+
 -- an index whose input i has a further place
 pub index_raised : (inputs : List InputRowsValue) (jobs : List JobRowsValue) (tops tops' : List ℕ) (places pairs left i place : ℕ) (x : InputRowsValue) → IsIndex inputs jobs tops places pairs
     → x.input ≡ with_place (input_at (problem_in inputs jobs) i) place → left ≤ x.spare → left ≤ places → AreTops (with_version (problem_in inputs jobs) i place) tops' → IsIndex (slice_set inputs i x) jobs tops' left pairs
 index_raised inputs jobs tops tops' places pairs left i place x is e room le best = record {
   tops = (let P : ProblemValue → Type 0 = λ p. AreTops p tops' in subst P (sym (version_in inputs jobs i place x e)) best);
+  counted = (let P : List InputValue → Type 0 = λ xs. AreCounted xs (map (λ r. r.scopes) jobs) in
+      subst P (sym (map-set (λ y. y.input) inputs i x)) (counted_raised (map (λ y. y.input) inputs) (map (λ r. r.scopes) jobs) i place x.input e is.counted));
   places = All-set (λ y. left ≤ y.spare) inputs i x room (less_places inputs places left le is.places);
   pairs = is.pairs;
 }
 
 -- an index whose job j has a further build
-pub index_grown : (inputs : List InputRowsValue) (jobs : List JobRowsValue) (tops tops' : List ℕ) (places pairs left j : ℕ) (b : BuildValue) (r : JobRowsValue) → IsIndex inputs jobs tops places pairs
-    → r.builds ≡ b ∷ builds_at (problem_in inputs jobs) j → left ≤ r.spare → left ≤ pairs → AreTops (with_new_build (problem_in inputs jobs) j b) tops' → IsIndex inputs (slice_set jobs j r) tops' places left
-index_grown inputs jobs tops tops' places pairs left j b r is e room le best = record {
+pub index_grown : (inputs : List InputRowsValue) (jobs : List JobRowsValue) (tops tops' : List ℕ) (places pairs left j : ℕ) (b : BuildValue) (d r : JobRowsValue) → IsIndex inputs jobs tops places pairs
+    → r.builds ≡ b ∷ builds_at (problem_in inputs jobs) j → r.scopes ≡ (get_or jobs j d).scopes → left ≤ r.spare → left ≤ pairs → AreTops (with_new_build (problem_in inputs jobs) j b) tops' → IsIndex inputs (slice_set jobs j r) tops' places left
+index_grown inputs jobs tops tops' places pairs left j b d r is e kept room le best = record {
   tops = (let P : ProblemValue → Type 0 = λ p. AreTops p tops' in subst P (sym (build_in inputs jobs j b r e)) best);
+  counted = (let P : List (List Bool) → Type 0 = λ ss. AreCounted (map (λ x. x.input) inputs) ss in subst P (sym (map-set_same (λ (z : JobRowsValue). z.scopes) jobs j r d kept)) is.counted);
   places = is.places;
   pairs = All-set (λ y. left ≤ y.spare) jobs j r room (less_pairs jobs pairs left le is.pairs);
 }
@@ -168,15 +216,18 @@ module _ (inputs : List InputRowsValue) (jobs : List JobRowsValue) (best : List 
       let mapped = same_map (λ (z : InputRowsValue). z.input) (λ z. z.spare) inputs i x y within (same ∙ ap (λ (z : InputRowsValue). z.input) at) (omega (arith, more, ap (λ (z : InputRowsValue). z.spare) at)) in
       let all = still_all (λ (z : InputRowsValue). z.input) (λ z. z.spare) inputs i x y within (same ∙ ap (λ (z : InputRowsValue). z.input) at) (omega (arith, more, ap (λ (z : InputRowsValue). z.spare) at)) n is.places in
       let P : List InputValue → Type 0 = λ is. AreTops (record { inputs = is; jobs = map (λ (r : JobRowsValue). r.builds) jobs }) best in
-      (record { tops = subst P (sym mapped) is.tops; places = all; pairs = is.pairs }, mapped)
+      let Q : List InputValue → Type 0 = λ xs. AreCounted xs (map (λ (r : JobRowsValue). r.scopes) jobs) in
+      (record { tops = subst P (sym mapped) is.tops; counted = subst Q (sym mapped) is.counted; places = all; pairs = is.pairs }, mapped)
 
-  pub index_roomy_job : (j : ℕ) (r s : JobRowsValue) → r ≡ get_or jobs j r → j < length jobs → s.builds ≡ r.builds → r.spare ≤ s.spare
+  pub index_roomy_job : (j : ℕ) (r s : JobRowsValue) → r ≡ get_or jobs j r → j < length jobs → s.builds ≡ r.builds → s.scopes ≡ r.scopes → r.spare ≤ s.spare
       → IsIndex inputs (slice_set jobs j s) best n m × (map (λ (z : JobRowsValue). z.builds) (slice_set jobs j s) ≡ map (λ (z : JobRowsValue). z.builds) jobs)
-  index_roomy_job j r s at within same more =
+  index_roomy_job j r s at within same kept more =
       let mapped = same_map (λ (z : JobRowsValue). z.builds) (λ z. z.spare) jobs j r s within (same ∙ ap (λ (z : JobRowsValue). z.builds) at) (omega (arith, more, ap (λ (z : JobRowsValue). z.spare) at)) in
       let all = still_all (λ (z : JobRowsValue). z.builds) (λ z. z.spare) jobs j r s within (same ∙ ap (λ (z : JobRowsValue). z.builds) at) (omega (arith, more, ap (λ (z : JobRowsValue). z.spare) at)) m is.pairs in
       let P : List (List BuildValue) → Type 0 = λ js. AreTops (record { inputs = map (λ (x : InputRowsValue). x.input) inputs; jobs = js }) best in
-      (record { tops = subst P (sym mapped) is.tops; places = is.places; pairs = all }, mapped)
+      let Q : List (List Bool) → Type 0 = λ ss. AreCounted (map (λ (x : InputRowsValue). x.input) inputs) ss in
+      let scopes = map-set_same (λ (z : JobRowsValue). z.scopes) jobs j s r (kept ∙ ap (λ (z : JobRowsValue). z.scopes) at) in
+      (record { tops = subst P (sym mapped) is.tops; counted = subst Q (sym scopes) is.counted; places = is.places; pairs = all }, mapped)
 
 -- rows that stand for the builds of a problem
 pub rows_are : (p : ProblemValue) (jobs : List JobRowsValue) → map (λ r. r.builds) jobs ≡ p.jobs → (j : ℕ) (r : JobRowsValue) → j < length p.jobs → r ≡ get_or jobs j r → r.builds ≡ builds_at p j
@@ -215,6 +266,11 @@ pub record RowsFacts (v : IndexValue) (j : ℕ) (r : JobRowsValue) : Type 0 wher
   pub few : length r.builds ≤ 1000000
   pub descending : AreDescending r.builds
   pub limit : length v.problem.jobs ≤ 32
+  pub counted : (scope : ℕ) → IsTrue (does_count r.scopes scope) ↔ IsNamedIn v.problem j scope
+
+scopes_at : (jobs : List JobRowsValue) (j : ℕ) (r : JobRowsValue) → j < length jobs → r ≡ slice_index_or jobs j r → r.scopes ≡ slice_index_or (map (λ y. y.scopes) jobs) j []
+unfolding no_builds
+scopes_at jobs j r within at = ap (λ y. y.scopes) (get_or_read jobs j r within at no_builds) ∙ sym (get_or-map (λ y. y.scopes) jobs j no_builds [] within)
 
 pub rows_facts : (inputs : List InputRowsValue) (jobs : List JobRowsValue) (best : List ℕ) (n m : ℕ) → IsIndex inputs jobs best n m → (v : IndexValue) → viewed inputs jobs n m ≡ v
     → (j : ℕ) (r : JobRowsValue) → j < length v.problem.jobs → r ≡ slice_index_or jobs j r → RowsFacts v j r
@@ -224,7 +280,16 @@ rows_facts inputs jobs best n m is v e j r inside at =
     let p = problem_in inputs jobs in
     let same = rows_in inputs jobs j r (omega (arith, within, length-map jobs (λ y. y.builds))) at in
     let rule = builds_rule (scopes_after 0 p.inputs) r.builds (builds_kept p j r.builds is.tops.rules within same) in
-    record { value = same; few = rule.0; descending = rule.1; limit = (rules_of p is.tops.rules).few_jobs } in
+    let inside : j < length jobs = omega (arith, within, length-map jobs (λ y. y.builds)) in
+    let C : List Bool → ℕ → Type 0 = λ ss scope. IsTrue (does_count ss scope) ↔ IsNamedIn p j scope in
+    record {
+      value = same;
+      few = rule.0;
+      descending = rule.1;
+      limit = (rules_of p is.tops.rules).few_jobs;
+      counted = λ scope. (let P : List Bool → Type 0 = λ ss. C ss scope in
+          subst P (sym (scopes_at jobs j r inside at)) (is.counted j scope (omega (arith, inside, length-map jobs (λ y. y.scopes)))));
+    } in
     subst P e here inside
 
 -- ---- what a call that adds a row gives
@@ -275,3 +340,28 @@ job_inside inputs jobs n m v e j inside =
     let P : IndexValue → Type 0 = λ w. j < length w.problem.jobs in
     let within : j < length (map (λ (r : JobRowsValue). r.builds) jobs) = subst P (sym e) inside in
     omega (arith, within, length-map jobs (λ (r : JobRowsValue). r.builds))
+
+-- ---- the scope of an input
+next_low : (used n : ℕ) → n ≤ used → n < next_used used n
+next_low used n le = grind arith
+
+next_kept : (used n : ℕ) → used ≤ next_used used n
+next_kept used n = grind arith
+
+after_more : (scopes : ℕ) (is : List InputValue) → scopes ≤ scopes_after scopes is
+after_more scopes [] = omega arith
+after_more scopes (i ∷ is) = omega (arith, next_kept scopes i.scope, after_more (next_used scopes i.scope) is)
+
+scope_below : (scopes jobs : ℕ) (is : List InputValue) → are_inputs scopes jobs is ≡ true → (k : ℕ) → k < length is → (slice_index_or is k no_input).scope < scopes_after scopes is
+scope_below scopes jobs [] h k within = absurd (omega arith)
+scope_below scopes jobs (i ∷ is) h zero within =
+    let a = and_parts (is_input scopes jobs i) (are_inputs (next_used scopes i.scope) (used_after jobs i.jobs) is) h in
+    let b = and_parts (nat_le i.scope scopes) (are_distinct i.jobs && (are_numbered jobs i.jobs && are_places_after 0 i.places)) a.0 in
+    let low = next_low scopes i.scope (leb-true _ _ b.0) in
+    omega (arith, low, after_more (next_used scopes i.scope) is)
+scope_below scopes jobs (i ∷ is) h (suc k) within =
+    let a = and_parts (is_input scopes jobs i) (are_inputs (next_used scopes i.scope) (used_after jobs i.jobs) is) h in
+    scope_below (next_used scopes i.scope) (used_after jobs i.jobs) is a.1 k (omega arith)
+
+pub scope_low : (p : ProblemValue) (k : ℕ) → is_problem p ≡ true → k < length p.inputs → (input_at p k).scope < 32
+scope_low p k h within = let rules = rules_of p h in let low = scope_below 0 0 p.inputs rules.inputs k within in omega (arith, low, rules.few_scopes)

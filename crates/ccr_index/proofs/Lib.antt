@@ -4,3 +4,5 @@ pub mod GrowLaws
 pub mod VersionLaws
 pub mod IndexLaws
 pub mod RuleLaws
+pub mod AlikeLaws
+mod ScopeLaws

@@ -336,3 +336,15 @@ no_row pool rows at n falls point other = sym (none_numbered (builds_of pool row
             | inr not_beyond ↦ (let now : m ≡ at = omega arith in other zero_row (omega arith) (ap (λ i. (get_or rows i zero_row).number) (sym now) ∙ is))
           ]
         ]
+
+-- the pairs of each build ascend
+pub builds_rise : (pool : List (ℕ × ℕ)) (rows : List Row) → All (IsRow pool) rows → (k : ℕ) → k < length (builds_of pool rows) → AreAscending (slice_index_or (builds_of pool rows) k no_build).pairs
+builds_rise pool rows each k within =
+    let many : length (builds_of pool rows) ≡ length rows = length-reverse (map (build_of_row pool) rows) ∙ length-map rows (build_of_row pool) in
+    let m = length rows - 1 - k in
+    let zero_row : Row = record { number = 0; count = 0; from = 0 } in
+    let inside : m < length rows = omega (arith, many, within) in
+    let back : length rows - 1 - m ≡ k = omega (arith, many, within) in
+    let is = ap (λ n. slice_index_or (builds_of pool rows) n no_build) (sym back) ∙ row_at pool rows m (get_or rows m zero_row) inside (get_or_default rows m zero_row _ inside) in
+    let P : BuildValue → Type 0 = λ b. AreAscending b.pairs in
+    subst P (sym is) (each m zero_row inside).ascending

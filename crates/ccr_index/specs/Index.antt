@@ -4,6 +4,7 @@ use Rattle.ccr_choice.specs.Problem.{ProblemValue, BuildValue, IsProblem, input_
 use Rattle.ccr_choice.specs.Preference.{order_of}
 use Rattle.ccr_choice.specs.Assignment.{Assignment, nothing_fixed, with_build}
 use Rattle.ccr_choice.specs.Possible.{CanHavePassed, IsPossible, IsBestPlace}
+use Rattle.ccr_index.specs.Alike.{AreCounted}
 use Rattle.ccr_index.specs.Rows.{InputRowsValue, JobRowsValue, with_place, numbered}
 
 -- A problem, with how many further places each input, and how many further pairs and builds each job, has room for.
@@ -23,9 +24,11 @@ pub record AreTops (p : ProblemValue) (tops : List ℕ) : Type 0 where
   pub long : length tops ≡ 32
   pub best : (i : ℕ) → i < length p.inputs → IsBestPlace (order_of p) p nothing_fixed i (slice_index tops i)
 
--- The best places are kept, and each input and each job has the room that is promised.
+-- The best places are kept, of each job the scopes of inputs naming it count, and each input and each job has the room that is
+-- promised.
 pub record IsIndex (inputs : List InputRowsValue) (jobs : List JobRowsValue) (best : List ℕ) (n m : ℕ) : Type 0 where
   pub tops : AreTops (problem_in inputs jobs) best
+  pub counted : AreCounted (map (λ x. x.input) inputs) (map (λ r. r.scopes) jobs)
   pub places : All (λ x. n ≤ x.spare) inputs
   pub pairs : All (λ r. m ≤ r.spare) jobs
 

@@ -22,9 +22,10 @@ last_after low [] = low
 last_after low (n ∷ ns) = last_after n ns
 
 -- ---- builds
--- The builds of a job, newest first, and how many further pairs and builds there is room for.
+-- The builds of a job, newest first, which scopes count for it, and how many further pairs and builds there is room for.
 pub record JobRowsValue : Type 0 where
   pub builds : List BuildValue
+  pub scopes : List Bool
   pub spare : ℕ
 
 abbrev pub no_build : BuildValue

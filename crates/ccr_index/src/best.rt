@@ -16,7 +16,8 @@ use ccr_choice::possible::{Fixed, has_pair, has_place};
 /// For each named job the number of one of its successful builds, or 0 where the job is free.
 pub type FixedBuilds = [u32; MOST_JOBS as usize];
 
-fn names(jobs: &[u32], job: usize) -> bool
+/// Whether job `job` is among these.
+pub(crate) fn names(jobs: &[u32], job: usize) -> bool
     ensures { IsTrue result ↔ Contains jobs.now job }
 {
     jobs.iter().any(|j| *j as usize == job)

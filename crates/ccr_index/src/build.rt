@@ -5,8 +5,12 @@ ghost use Rattle.ccr_choice.specs.Preference.{order_of};
 ghost use Rattle.ccr_choice.specs.Assignment.{nothing_fixed};
 ghost use Rattle.ccr_choice.specs.Possible.{IsBestPlace};
 ghost use Rattle.ccr_choice.specs.Ascending.{AreAscending};
+ghost use Rattle.ccr_choice.specs.Dominated.{IsNamedIn};
 ghost use Rattle.ccr_index.specs.Index.{AreTops, HasPassed};
+ghost use Rattle.ccr_index.specs.Alike.{does_count, AreCounted};
 
+use crate::alike::Scopes;
+use crate::best::names;
 use crate::index::Index;
 use crate::input::InputRows;
 use crate::rows::JobRows;
@@ -34,22 +38,38 @@ fn inputs_of(alloc: Global, problem: &Problem) -> Result<Vec<InputRows>, AllocEr
 }
 
 fn jobs_of(alloc: Global, problem: &Problem) -> Result<Vec<JobRows>, AllocError>
-    ensures { IfOk result (λ jobs. map (λ r. r.builds) jobs.items ≡ problem.now.jobs) }
+    ensures builds { IfOk result (λ jobs. map (λ r. r.builds) jobs.items ≡ problem.now.jobs) }
+    ensures counted { IfOk result (λ jobs. AreCounted problem.now.inputs (map (λ r. r.scopes) jobs.items)) }
 {
     let mut jobs = Vec::new(alloc);
     for j in 0..problem.jobs().len() {
-        jobs.push(rows_of(alloc, problem.builds(j))?)?;
+        let scopes = scopes_of(problem, j);
+        jobs.push(rows_of(alloc, scopes, problem.builds(j))?)?;
     }
     Ok(jobs)
 }
 
-fn rows_of(alloc: Global, builds: &[Build]) -> Result<JobRows, AllocError>
+/// The scopes of the inputs that name job `job`.
+fn scopes_of(problem: &Problem, job: usize) -> Scopes
+    ensures { (scope : ℕ) → IsTrue (does_count result scope) ↔ IsNamedIn problem.now job scope }
+{
+    let mut scopes = [false; MOST_INPUTS as usize];
+    for i in 0..problem.inputs().len() {
+        if names(problem.named(i), job) {
+            scopes[problem.inputs()[i].scope() as usize] = true;
+        }
+    }
+    scopes
+}
+
+fn rows_of(alloc: Global, scopes: Scopes, builds: &[Build]) -> Result<JobRows, AllocError>
     requires ascending { All (λ b. AreAscending b.pairs) builds.now }
     requires few { All (λ b. length b.pairs < 2 ^ 32) builds.now }
     requires limit { length builds.now ≤ 1000000 }
-    ensures { IfOk result (λ rows. rows.builds ≡ builds.now) }
+    ensures builds { IfOk result (λ rows. rows.builds ≡ builds.now) }
+    ensures scopes { IfOk result (λ rows. rows.scopes ≡ scopes) }
 {
-    let mut rows = JobRows::new(alloc);
+    let mut rows = JobRows::new(alloc, scopes);
     for k in (0..builds.len()).rev() {
         let pairs = builds[k].pairs();
         rows.make_room(pairs.len() + 1)?;

@@ -1,12 +1,14 @@
 //! The index of a problem: its parts, and how it follows the problem row by row.
 
-ghost use Rattle.std.specs.Prelude.{◌≡◌, ◌<◌, ◌≤◌, ◌+◌, ℕ, length, map, max, slice_index, EachIndex, All, OnOk, OnErr, IsOk};
+ghost use Rattle.std.specs.Prelude.{◌≡◌, ◌<◌, ◌≤◌, ◌+◌, ◌↔◌, ℕ, length, map, max, slice_index, IsTrue, EachIndex, All, OnOk, OnErr, IsOk};
 ghost use Rattle.ccr_choice.specs.Problem.{input_at, builds_at, IsProblem};
 ghost use Rattle.ccr_choice.specs.Preference.{order_of};
 ghost use Rattle.ccr_choice.specs.Assignment.{nothing_fixed};
 ghost use Rattle.ccr_choice.specs.Possible.{IsBestPlace};
 ghost use Rattle.ccr_choice.specs.Ascending.{AreAscending, AreRising};
+ghost use Rattle.ccr_choice.specs.Dominated.{IsNamedIn};
 ghost use Rattle.ccr_index.specs.Rows.{AreDescending};
+ghost use Rattle.ccr_index.specs.Alike.{does_count, AreCounted};
 ghost use Rattle.ccr_index.specs.Index.{problem_in, AreTops, with_version, with_new_build, left_after};
 
 use crate::input::InputRows;
@@ -49,7 +51,8 @@ impl Index {
         jobs: Vec<JobRows>,
         tops: [u32; MOST_INPUTS as usize],
     ) -> Self
-        requires { AreTops (problem_in inputs.items jobs.items) tops }
+        requires tops { AreTops (problem_in inputs.items jobs.items) tops }
+        requires counted { AreCounted (map (λ x. x.input) inputs.items) (map (λ r. r.scopes) jobs.items) }
         ensures { result ≡ record { problem = problem_in inputs.items jobs.items; spare_places = 0; spare_pairs = 0 } }
     {
         Index {
@@ -98,6 +101,7 @@ impl Index {
         ensures few { length result.now.builds ≤ 1000000 }
         ensures descending { AreDescending result.now.builds }
         ensures limit { length self.now.problem.jobs ≤ 32 }
+        ensures counted { (scope : ℕ) → IsTrue (does_count result.now.scopes scope) ↔ IsNamedIn self.now.problem job scope }
     {
         &self.jobs[job]
     }
@@ -204,6 +208,7 @@ fn room_in_inputs(inputs: &mut [InputRows], places: usize) -> Result<(), AllocEr
 /// Makes room for so many pairs and builds in each of these jobs.
 fn room_in_jobs(jobs: &mut [JobRows], pairs: usize) -> Result<(), AllocError>
     ensures builds { map (λ r. r.builds) jobs.new ≡ map (λ r. r.builds) jobs.old }
+    ensures scopes { map (λ r. r.scopes) jobs.new ≡ map (λ r. r.scopes) jobs.old }
     ensures room { OnOk result (All (λ r. pairs ≤ r.spare) jobs.new) }
     ensures kept { (n : ℕ) → All (λ r. n ≤ r.spare) jobs.old → All (λ r. n ≤ r.spare) jobs.new }
 {

@@ -13,6 +13,7 @@
 //! The only error is out of memory, and it leaves the index as it was.
 #![tactic(auto)]
 
+mod alike;
 mod best;
 mod build;
 mod index;

@@ -1,11 +1,13 @@
 //! The builds of a named job, in the order in which they were made.
 
-ghost use Rattle.std.specs.Prelude.{◌≡◌, ◌+◌, ◌-◌, ◌<◌, ◌≤◌, ◌^◌, ◌↔◌, ◌++◌, ℕ, [], ◌∷◌, length, map, drop, if◌then◌else◌, slice_index_or, IsTrue, Any, Contains, OnOk, IsOk, vec_len, vec_capacity};
+ghost use Rattle.std.specs.Prelude.{◌≡◌, ◌+◌, ◌-◌, ◌<◌, ◌≤◌, ◌^◌, ◌↔◌, ◌++◌, ◌==◌, ℕ, [], ◌∷◌, length, map, drop, if◌then◌else◌, slice_index_or, IsTrue, IfSome, IfNone, Any, Contains, OnOk, IsOk, vec_len, vec_capacity};
 ghost use Rattle.std.specs.HashMap.{spare};
 ghost use Rattle.ccr_choice.specs.Ascending.{AreAscending};
 ghost use Rattle.ccr_choice.specs.Table.{build_of};
 ghost use Rattle.ccr_index.specs.Rows.{no_build, number_for, is_among, last_with, AreDescending, numbered};
+ghost use Rattle.ccr_index.specs.Alike.{does_count, AreAmong, row_for};
 
+use crate::alike::{Scopes, does_count, print_of};
 use std::alloc::{AllocError, Global};
 use std::collections::HashMap;
 use std::marker::Model;
@@ -32,34 +34,47 @@ pub struct JobRows {
     earlier: Vec<u32>,
     /// To each pair that a build has, one more than the row of the last such build.
     newest: HashMap<(u32, u32), u32>,
+    /// Which scopes count.
+    scopes: Scopes,
+    /// To the number of each build's print, one more than the row of the last such build.
+    prints: HashMap<u32, u32>,
+    /// How many pairs that count a build has at the most.
+    most: usize,
 }
 
 impl Model for JobRows {
-    ghost use Rattle.std.specs.Prelude.{◌-◌, vec_len, vec_capacity};
+    ghost use Rattle.std.specs.Prelude.{◌-◌, vec_len, vec_capacity, min};
     ghost use Rattle.std.specs.HashMap.{spare as room};
     ghost use Rattle.ccr_index.specs.Rows.{JobRowsValue, builds_of, AreRows, number_for, least};
+    ghost use Rattle.ccr_index.specs.Alike.{ArePrinted, row_for};
 
     ghost Value = { JobRowsValue };
 
     ghost view = { λ a. record {
       builds = builds_of a.pairs.items a.rows.items;
-      spare = least (vec_capacity a.rows - vec_len a.rows) (vec_capacity a.pairs - vec_len a.pairs)
-          (vec_capacity a.earlier - vec_len a.earlier) (room a.newest);
+      scopes = a.scopes;
+      spare = min (room a.prints) (least (vec_capacity a.rows - vec_len a.rows) (vec_capacity a.pairs - vec_len a.pairs)
+          (vec_capacity a.earlier - vec_len a.earlier) (room a.newest));
     } };
 
-    ghost invariant = { λ a. AreRows a.pairs.items a.rows.items a.earlier.items (λ pair. number_for a.newest pair) };
+    ghost invariant = { λ a. AreRows a.pairs.items a.rows.items a.earlier.items (λ pair. number_for a.newest pair)
+        × ArePrinted a.scopes (builds_of a.pairs.items a.rows.items) (λ n. row_for a.prints n) a.most };
 }
 
 impl JobRows {
-    /// No builds.
-    pub(crate) fn new(alloc: Global) -> Self
-        ensures { result.builds ≡ [] }
+    /// No builds of a job for which these scopes count.
+    pub(crate) fn new(alloc: Global, scopes: Scopes) -> Self
+        ensures builds { result.builds ≡ [] }
+        ensures scopes { result.scopes ≡ scopes }
     {
         JobRows {
             rows: Vec::new(alloc),
             pairs: Vec::new(alloc),
             earlier: Vec::new(alloc),
             newest: HashMap::new(alloc),
+            scopes,
+            prints: HashMap::new(alloc),
+            most: 0,
         }
     }
 
@@ -136,9 +151,34 @@ impl JobRows {
         self.earlier[row.from + at] as usize
     }
 
+    /// Whether pairs in this scope count: whether an input of the scope names the job.
+    pub fn does_count(&self, scope: u32) -> bool
+        ensures { result ≡ does_count self.now.scopes scope }
+    {
+        does_count(&self.scopes, scope)
+    }
+
+    /// A build to look at first, where a build is sought that is newer than build `build` and has all its pairs that count: the newest one with
+    /// the same print, which may be build `build` itself; None where it is known at once that there is none.
+    pub fn newest_alike(&self, build: usize) -> Option<usize>
+        requires { build < length self.now.builds }
+        ensures some { IfSome result (λ q. q < length self.now.builds) }
+        ensures none { IfNone result ((q : ℕ) → q < build → ¬ AreAmong self.now.scopes
+            (slice_index_or self.now.builds build no_build).pairs (slice_index_or self.now.builds q no_build).pairs) }
+    {
+        let print = print_of(&self.scopes, self.pairs(build));
+        let last = self.prints.get(&print.number).copied().unwrap_or(0) as usize;
+        let alike = self.rows.len().saturating_sub(last);
+        if alike >= build && print.size >= self.most {
+            return None;
+        }
+        Some(alike.min(build))
+    }
+
     /// Makes room for so many builds and pairs.
     pub(crate) fn make_room(&mut self, pairs: usize) -> Result<(), AllocError>
         ensures builds { self.new.builds ≡ self.old.builds }
+        ensures scopes { self.new.scopes ≡ self.old.scopes }
         ensures room { OnOk result (pairs ≤ self.new.spare) }
         ensures kept { self.old.spare ≤ self.new.spare }
         ensures succeeds { pairs ≤ self.old.spare → IsOk result }
@@ -147,6 +187,7 @@ impl JobRows {
         self.pairs.reserve(pairs)?;
         self.earlier.reserve(pairs)?;
         self.newest.reserve(pairs)?;
+        self.prints.reserve(pairs)?;
         Ok(())
     }
 
@@ -157,11 +198,13 @@ impl JobRows {
         requires few { length pairs.now < 2 ^ 32 }
         requires limit { length self.old.builds < 1000000 }
         ensures builds { self.new.builds ≡ record { number = number; pairs = pairs.now } ∷ self.old.builds }
+        ensures scopes { self.new.scopes ≡ self.old.scopes }
         ensures spare { self.old.spare ≤ self.new.spare + length pairs.now + 1 }
     {
         let row = self.rows.len();
         let from = self.pairs.len();
         let count = pairs.len() as u32;
+        let print = print_of(&self.scopes, pairs);
         note_earlier(&mut self.earlier, &self.newest, pairs);
         let has_pairs = self.pairs.extend_from_slice(pairs).is_ok();
         prove!(has_pairs);
@@ -175,6 +218,8 @@ impl JobRows {
             .is_ok();
         prove!(has_row);
         note(&mut self.newest, pairs, row as u32 + 1);
+        note_print(&mut self.prints, print.number, row as u32 + 1);
+        self.most = self.most.max(print.size);
     }
 }
 
@@ -211,4 +256,14 @@ fn note(newest: &mut HashMap<(u32, u32), u32>, pairs: &[(u32, u32)], row: u32)
         let has_room = newest.insert(*pair, row).is_ok();
         prove!(has_room);
     }
+}
+
+/// Notes that a row, by one more than its number, is the last one with this print.
+fn note_print(prints: &mut HashMap<u32, u32>, print: u32, row: u32)
+    requires { 0 < spare prints.old }
+    ensures spare { spare prints.old ≤ spare prints.new + 1 }
+    ensures told { (n : ℕ) → row_for prints.new n ≡ (if print == n then row else row_for prints.old n) }
+{
+    let has_room = prints.insert(print, row).is_ok();
+    prove!(has_room);
 }

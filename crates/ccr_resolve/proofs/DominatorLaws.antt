@@ -1,11 +1,12 @@
 -- The builds that have a pair, one after the other, until one dominates.
-use Rattle.std.proofs.Common.{◌≡◌, ◌≢◌, ℕ, ◌+◌, ◌-◌, ◌<◌, ◌≤◌, inl, inr, length, drop, slice_index_or, sym, ◌∙◌, subst, arith}
+use Rattle.std.proofs.Common.{◌≡◌, ◌≢◌, ℕ, ◌+◌, ◌-◌, ◌<◌, ◌≤◌, inl, inr, List, Bool, IsTrue, ◌↔◌, length, drop, slice_index_or, sym, ◌∙◌, subst, arith}
 use Rattle.std.specs.Prelude.{Contains}
 use Rattle.std.proofs.lemmas.Bool.{cases_lt}
 use Rattle.std.proofs.lemmas.List.Elements.{All-contains}
 use Rattle.ccr_choice.specs.Problem.{ProblemValue, BuildValue, builds_at}
 use Rattle.ccr_choice.specs.Dominated.{IsNamedIn, IsDominated}
 use Rattle.ccr_index.specs.Rows.{no_build, last_with}
+use Rattle.ccr_index.specs.Alike.{does_count, AreAmong}
 use Rattle.ccr_index.proofs.RowLaws.{last_within, last_has, none_newer}
 use Rattle.ccr_resolve.proofs.WantedLaws.{step_low, step_has, step_none}
 
@@ -67,3 +68,7 @@ module _ (p : ProblemValue) (j build : ℕ) where
   -- no newer build dominates, where all that have the pair were looked at
   pub search_end : (pair : ℕ × ℕ) (last q : ℕ) → IsSearchedTo pair last → q + last < length (builds_at p j) → IsDominated p j (at build) (at q) → ⊥
   search_end pair last q so less dominated = so.done q less dominated
+
+-- what dominates a build has all its pairs that count
+pub dominated_among : (p : ProblemValue) (j : ℕ) (scopes : List Bool) (b c : BuildValue) → ((scope : ℕ) → IsTrue (does_count scopes scope) ↔ IsNamedIn p j scope) → IsDominated p j b c → AreAmong scopes b.pairs c.pairs
+dominated_among p j scopes b c counted dominated = λ k d within t. dominated k d within ((counted (slice_index_or b.pairs k d).0).0 t)

@@ -1,5 +1,5 @@
 -- Builds of which none dominates an earlier one's kind are no more than there are kinds.
-use Rattle.std.proofs.Common.{◌≡◌, ◌≢◌, ℕ, zero, suc, ◌+◌, ◌-◌, ◌*◌, ◌<◌, ◌≤◌, inl, inr, Bool, true, false, cond, ◌&&◌, ◌==◌, List, [], ◌∷◌, length, replicate, slice_index, slice_index_or, slice_get, slice_set, filter, refl, sym, ap, ◌∙◌, subst, arith, Some}
+use Rattle.std.proofs.Common.{◌≡◌, ◌≢◌, ℕ, zero, suc, ◌+◌, ◌-◌, ◌*◌, ◌<◌, ◌≤◌, inl, inr, Bool, true, false, cond, ◌&&◌, ◌==◌, List, [], ◌∷◌, length, replicate, slice_index, slice_index_or, slice_get, slice_set, refl, sym, ap, ◌∙◌, subst, arith, Some}
 use Rattle.std.specs.Prelude.{Contains}
 use Rattle.std.specs.List.{list_any}
 use Rattle.std.proofs.lemmas.Bool.{and_parts, and_from, cases_Bool, cond-true, cond-false, eq-eqb, eqb-true, ne_eqb}
@@ -8,7 +8,8 @@ use Rattle.std.proofs.lemmas.Nat.{mul-le}
 use Rattle.std.proofs.Math.Nat.{mul-le-mul_left, mul_left_comm}
 use Rattle.ccr_choice.specs.Problem.{ProblemValue, BuildValue}
 use Rattle.ccr_choice.specs.Dominated.{IsNamedIn, IsDominated}
-use Rattle.ccr_choice.proofs.Members.{contains_none, contains_first, contains_later, contains_cases, tests_any, tests_contains, same_number}
+use Rattle.ccr_choice.proofs.Members.{contains_cases, tests_any, tests_contains, same_number}
+use Rattle.ccr_index.proofs.AlikeLaws.{filter_has, has_filter}
 use Rattle.ccr_resolve.specs.Kinds.{is_named_in, counting, are_equal, kinds_after, kinds_from, repeats_from, product_of}
 use Rattle.ccr_resolve.specs.Room.{product}
 use Rattle.ccr_resolve.specs.Search.{free_kinds}
@@ -33,38 +34,13 @@ equal_is (x ∷ xs) (y ∷ ys) h =
 equal_is [] (y ∷ ys) h = absurd (cc (h))
 equal_is (x ∷ xs) [] h = absurd (cc (h))
 
-filter_has : (test : ℕ × ℕ → Bool) (xs : List (ℕ × ℕ)) (x : ℕ × ℕ) → Contains xs x → test x ≡ true → Contains (filter test xs) x
-filter_has test [] x h t = absurd (contains_none x h)
-filter_has test (y ∷ xs) x h t =
-    let P : List (ℕ × ℕ) → Type 0 = λ zs. Contains zs x in
-    elim (contains_cases y x xs h) [
-      | inl e ↦ (let Q : ℕ × ℕ → Type 0 = λ z. Contains (z ∷ filter test xs) x in
-          subst P (sym (cond-true (test y) (y ∷ filter test xs) (filter test xs) (ap test e ∙ t))) (subst Q (sym e) (contains_first x (filter test xs))))
-      | inr more ↦ elim (cases_Bool (test y)) [
-        | inl e ↦ subst P (sym (cond-true (test y) (y ∷ filter test xs) (filter test xs) e)) (contains_later y x (filter test xs) (filter_has test xs x more t))
-        | inr e ↦ subst P (sym (cond-false (test y) (y ∷ filter test xs) (filter test xs) e)) (filter_has test xs x more t)
-      ]
-    ]
-
-has_filter : (test : ℕ × ℕ → Bool) (xs : List (ℕ × ℕ)) (x : ℕ × ℕ) → Contains (filter test xs) x → Contains xs x
-has_filter test [] x h = h
-has_filter test (y ∷ xs) x h =
-    let P : List (ℕ × ℕ) → Type 0 = λ zs. Contains zs x in
-    elim (cases_Bool (test y)) [
-      | inl e ↦ elim (contains_cases y x (filter test xs) (subst P (cond-true (test y) (y ∷ filter test xs) (filter test xs) e) h)) [
-        | inl here ↦ (let Q : ℕ × ℕ → Type 0 = λ z. Contains (z ∷ xs) x in subst Q (sym here) (contains_first x xs))
-        | inr more ↦ contains_later y x xs (has_filter test xs x more)
-      ]
-      | inr e ↦ contains_later y x xs (has_filter test xs x (subst P (cond-false (test y) (y ∷ filter test xs) (filter test xs) e) h))
-    ]
-
 equal_dominates : (p : ProblemValue) (j : ℕ) (b c : BuildValue) → are_equal (counting p j b) (counting p j c) ≡ true → IsDominated p j b c
 equal_dominates p j b c h k d within named =
     let q = slice_index_or b.pairs k d in
     let test : ℕ × ℕ → Bool = λ r. is_named_in p j r.0 in
     let in_b : Contains b.pairs q = (k, within, get_or_default b.pairs k q d within) in
     let P : List (ℕ × ℕ) → Type 0 = λ xs. Contains xs q in
-    has_filter test c.pairs q (subst P (equal_is (counting p j b) (counting p j c) h) (filter_has test b.pairs q in_b (named_test p j q.0 named)))
+    (has_filter test c.pairs q (subst P (equal_is (counting p j b) (counting p j c) h) (filter_has test b.pairs q in_b (named_test p j q.0 named)))).0
 
 -- ---- marked builds, of which none is dominated by an earlier build
 abbrev pub marked : List Bool → ℕ

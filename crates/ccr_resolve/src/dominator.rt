@@ -6,25 +6,21 @@ ghost use Rattle.ccr_choice.specs.Ascending.{AreAscending};
 ghost use Rattle.ccr_choice.specs.Dominated.{IsNamedIn, IsDominated};
 ghost use Rattle.ccr_index.specs.Rows.{no_build};
 
-use crate::upper::names;
 use ccr_choice::possible::has_pair;
 use ccr_index::Index;
 
 /// Whether job `job` is named by an input of this scope.
 fn is_named_in(index: &Index, job: usize, scope: u32) -> bool
+    requires { job < length index.now.problem.jobs }
     ensures { IsTrue result ↔ IsNamedIn index.now.problem job scope }
 {
-    for i in 0..index.input_count() {
-        if index.input(i).scope() == scope && names(index, i, job) {
-            return true;
-        }
-    }
-    false
+    index.rows(job).does_count(scope)
 }
 
 /// Whether each of these pairs whose scope is that of an input naming the job is among the others.
 fn are_covered(index: &Index, job: usize, pairs: &[(u32, u32)], others: &[(u32, u32)]) -> bool
-    requires { AreAscending others.now }
+    requires job { job < length index.now.problem.jobs }
+    requires ascending { AreAscending others.now }
     ensures { IsTrue result
         ↔ All (λ q. IsNamedIn index.now.problem job q.0 → Contains others.now q) pairs.now }
 {
@@ -66,7 +62,7 @@ fn rarest_pair(index: &Index, job: usize, build: usize, pairs: &[(u32, u32)]) ->
 
 /// The newest build of a job that dominates build `build`, if one that is newer does. Only builds that have one pair in common
 /// with it are looked at.
-pub(crate) fn dominator(index: &Index, job: usize, build: usize) -> Option<usize>
+fn newest_dominator(index: &Index, job: usize, build: usize) -> Option<usize>
     requires job { job < length index.now.problem.jobs }
     requires build { build < length (builds_at index.now.problem job) }
     ensures { let p = index.now.problem in MatchOption result
@@ -92,4 +88,27 @@ pub(crate) fn dominator(index: &Index, job: usize, build: usize) -> Option<usize
         last = rows.last_before(newer, rarest.0, rarest.1);
     }
     None
+}
+
+/// A build of a job that is newer than build `build` and dominates it, if there is one: the newest that is alike, or else the
+/// newest of all.
+///
+/// The first is found at once. So it is, where no build of the job has more pairs that count, that there is none.
+pub(crate) fn dominator(index: &Index, job: usize, build: usize) -> Option<usize>
+    requires job { job < length index.now.problem.jobs }
+    requires build { build < length (builds_at index.now.problem job) }
+    ensures { let p = index.now.problem in MatchOption result
+        ((q : ℕ) → q < build → ¬ IsDominated p job (slice_index_or (builds_at p job) build no_build)
+        (slice_index_or (builds_at p job) q no_build))
+        (λ q. (q < build) × IsDominated p job (slice_index_or (builds_at p job) build no_build)
+        (slice_index_or (builds_at p job) q no_build)) }
+{
+    let rows = index.rows(job);
+    let Some(alike) = rows.newest_alike(build) else {
+        return None;
+    };
+    if alike < build && are_covered(index, job, rows.pairs(build), rows.pairs(alike)) {
+        return Some(alike);
+    }
+    newest_dominator(index, job, build)
 }

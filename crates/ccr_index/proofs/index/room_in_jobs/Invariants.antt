@@ -7,3 +7,4 @@ invariant-loop-j l =
     (map (λ x. x.builds) l.jobs ≡ map (λ x. x.builds) l.initial.jobs)
     × ((n : ℕ) → All (λ x. n ≤ x.spare) l.initial.jobs → All (λ x. n ≤ x.spare) l.jobs)
     × ((k : ℕ) (d : JobRowsValue) → k < l.j → l.pairs ≤ (get_or l.jobs k d).spare)
+    × (map (λ x. x.scopes) l.jobs ≡ map (λ x. x.scopes) l.initial.jobs)

@@ -1,10 +1,13 @@
-use Rattle.std.proofs.Common.{◌≡◌, ◌∷◌, ◌+◌, List, length, true, arith, rules, refl, ap, ◌∙◌}
+use Rattle.std.proofs.Common.{◌≡◌, ◌∷◌, ◌+◌, List, length, map, true, arith, rules, refl, ap, ◌∙◌}
 use Rattle.std.proofs.lemmas.Bool.{cond-true}
 use Rattle.std.specs.Prelude.{is_ok}
 use Rattle.std.proofs.lemmas.Grind.{common_steps}
 use Rattle.ccr_choice.specs.Problem.{BuildValue}
-use Rattle.ccr_index.specs.Rows.{JobRowsValue, number_for}
+use Rattle.std.proofs.lemmas.List.{length-map, length-reverse}
+use Rattle.ccr_index.specs.Rows.{JobRowsValue, number_for, builds_of, build_of_row}
+use Rattle.ccr_index.specs.Alike.{row_for}
 use Rattle.ccr_index.proofs.RowLaws.{rows_added}
+use Rattle.ccr_index.proofs.AlikeLaws.{printed_added}
 use Rattle.ccr_index.proofs.rows.JobRows.add.Goals as goal
 
 pub invariant_of-self : goal.invariant_of-self
@@ -15,8 +18,16 @@ invariant_of-self c =
     let pushed = c.push.ensures.items ∙ cond-true (is_ok c.push.result) _ _ has_row in
     let begins : c.len-from.result ≡ length c.self.inside.pairs.items = search rules in
     let last : c.len-row.result + 1 ≡ length c.self.inside.rows.items + 1 = search rules in
-    (rows_added c.self.inside.pairs.items c.args.pairs.now _ c.self.inside.rows.items _ c.self.inside.earlier.items _ c.args.number (length c.args.pairs.now) c.len-from.result (c.len-row.result + 1)
-    (λ pair. number_for c.self.inside.newest pair) _ c.self.invariant c.requires.ascending grown pushed c.note_earlier.ensures.items begins refl last (λ pair. c.note.ensures.told pair)).0
+    let rows = rows_added c.self.inside.pairs.items c.args.pairs.now c.extend_from_slice.new.self.items c.self.inside.rows.items c.push.new.self.items c.self.inside.earlier.items c.note_earlier.new.earlier.items c.args.number
+    (length c.args.pairs.now) c.len-from.result (c.len-row.result + 1)
+    (λ pair. number_for c.self.inside.newest pair) (λ pair. number_for c.note.new.newest pair) c.self.invariant.0 c.requires.ascending grown pushed c.note_earlier.ensures.items begins refl last (λ pair. c.note.ensures.told pair) in
+    let many : length (builds_of c.self.inside.pairs.items c.self.inside.rows.items) ≡ length c.self.inside.rows.items = length-reverse (map (build_of_row c.self.inside.pairs.items) c.self.inside.rows.items)
+    ∙ length-map c.self.inside.rows.items (build_of_row c.self.inside.pairs.items) in (
+      rows.0,
+      printed_added c.self.inside.scopes _ _ (record { number = c.args.number; pairs = c.args.pairs.now }) (λ n. row_for c.self.inside.prints n) _ c.self.inside.most _ c.print_of-print.result.number c.print_of-print.result.size (c.len-row.result + 1)
+          c.self.invariant.1 rows.1 c.print_of-print.ensures.number c.print_of-print.ensures.size (omega (arith, last, many)) (omega (arith, c.max-self-inside.ensures)) (omega (arith, c.max-self-inside.ensures))
+          c.note_print.ensures.told,
+    )
 
 pub returns-clause-builds : goal.returns-clause-builds
 returns-clause-builds c =
@@ -27,5 +38,5 @@ returns-clause-builds c =
     let begins : c.len-from.result ≡ length c.self.inside.pairs.items = search rules in
     let last : c.len-row.result + 1 ≡ length c.self.inside.rows.items + 1 = search rules in
     (rows_added c.self.inside.pairs.items c.args.pairs.now c.extend_from_slice.new.self.items c.self.inside.rows.items c.push.new.self.items c.self.inside.earlier.items c.note_earlier.new.earlier.items c.args.number (length c.args.pairs.now) c.len-from.result (c.len-row.result + 1)
-    (λ pair. number_for c.self.inside.newest pair) (λ pair. number_for c.note.new.newest pair) c.self.invariant c.requires.ascending grown pushed c.note_earlier.ensures.items begins refl last (λ pair. c.note.ensures.told pair)).1
+    (λ pair. number_for c.self.inside.newest pair) (λ pair. number_for c.note.new.newest pair) c.self.invariant.0 c.requires.ascending grown pushed c.note_earlier.ensures.items begins refl last (λ pair. c.note.ensures.told pair)).1
     ∙ ap (λ (v : JobRowsValue). let bs : List BuildValue = record { number = c.args.number; pairs = c.args.pairs.now } ∷ v.builds in bs) c.self.view_is

@@ -8,4 +8,4 @@ returns c =
     let pair : ℕ × ℕ = (c.args.scope, c.args.place) in
     let is : c.unwrap_or.result ≡ number_for c.self.inside.newest pair = c.unwrap_or.ensures ∙ ap (λ (o : Option ℕ). unwrap_or o 0) (c.copied.ensures ∙ c.get.ensures.value) in
     let V : JobRowsValue → Type 0 = λ v. c.unwrap_or.result ≡ last_with v.builds pair in
-    subst V c.self.view_is (is ∙ c.self.invariant.told pair)
+    subst V c.self.view_is (is ∙ c.self.invariant.0.told pair)

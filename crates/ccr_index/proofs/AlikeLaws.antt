@@ -1,0 +1,186 @@
+-- Builds that are alike have one print, and what has all pairs of a build of the greatest size is alike.
+use Rattle.std.proofs.Common.{◌≡◌, ℕ, zero, suc, ◌+◌, ◌-◌, ◌*◌, ◌%◌, ◌<◌, ◌≤◌, List, [], ◌∷◌, ◌++◌, length, take, get_or, Bool, true, false, cond, ◌==◌, filter, inl, inr, refl, sym, ap, ◌∙◌, subst, arith}
+use Rattle.std.specs.Prelude.{Contains, slice_index_or}
+use Rattle.std.proofs.lemmas.Bool.{cases_Bool, cond-true, cond-false, eq-eqb}
+use Rattle.std.proofs.lemmas.List.{append-nil}
+use Rattle.std.proofs.lemmas.List.Filters.{length-filter_more}
+use Rattle.std.proofs.lemmas.List.Elements.{All-contains, All-cons, filter_more}
+use Rattle.std.proofs.lemmas.List.Kept.{AllPairs-filter}
+use Rattle.ccr_choice.specs.Problem.{BuildValue}
+use Rattle.ccr_choice.specs.Ascending.{is_before, AreAscending}
+use Rattle.ccr_choice.proofs.Lookups.{never_before, before_chain}
+use Rattle.ccr_choice.proofs.Members.{contains_none, contains_first, contains_later, contains_cases}
+use Rattle.ccr_index.specs.Rows.{no_build}
+use Rattle.ccr_index.specs.Alike.{does_count, counting, AreAmong, print_of, last_printed, ArePrinted}
+
+-- ---- the print so far
+abbrev mixed : ℕ → ℕ × ℕ → ℕ
+mixed n q = (n * 1000003 + q.0 * 100001 + q.1) % 4294967291
+
+print_push : (n : ℕ) (qs : List (ℕ × ℕ)) (q : ℕ × ℕ) → print_of n (qs ++ q ∷ []) ≡ mixed (print_of n qs) q
+print_push n [] q = refl
+print_push n (x ∷ qs) q = print_push (mixed n x) qs q
+
+pub print_more : (scopes : List Bool) (xs : List (ℕ × ℕ)) (i : ℕ) (d : ℕ × ℕ) → i < length xs → does_count scopes (get_or xs i d).0 ≡ true
+    → print_of 0 (counting scopes (take (i + 1) xs)) ≡ (print_of 0 (counting scopes (take i xs)) * 1000003 + (get_or xs i d).0 * 100001 + (get_or xs i d).1) % 4294967291
+print_more scopes xs i d within t =
+    let x = get_or xs i d in
+    ap (print_of 0) (filter_more (λ (q : ℕ × ℕ). does_count scopes q.0) xs i d within)
+    ∙ ap (λ ys. print_of 0 (counting scopes (take i xs) ++ ys)) (cond-true (does_count scopes x.0) (x ∷ []) [] t)
+    ∙ print_push 0 (counting scopes (take i xs)) x
+
+pub print_kept : (scopes : List Bool) (xs : List (ℕ × ℕ)) (i : ℕ) (d : ℕ × ℕ) → i < length xs → does_count scopes (get_or xs i d).0 ≡ false
+    → counting scopes (take (i + 1) xs) ≡ counting scopes (take i xs)
+print_kept scopes xs i d within f =
+    let x = get_or xs i d in
+    filter_more (λ (q : ℕ × ℕ). does_count scopes q.0) xs i d within
+    ∙ ap (λ ys. counting scopes (take i xs) ++ ys) (cond-false (does_count scopes x.0) (x ∷ []) [] f)
+    ∙ append-nil (counting scopes (take i xs))
+
+pub size_more : (scopes : List Bool) (xs : List (ℕ × ℕ)) (i : ℕ) (d : ℕ × ℕ) → i < length xs → does_count scopes (get_or xs i d).0 ≡ true
+    → length (counting scopes (take (i + 1) xs)) ≡ length (counting scopes (take i xs)) + 1
+size_more scopes xs i d within t =
+    let x = get_or xs i d in
+    length-filter_more (λ (q : ℕ × ℕ). does_count scopes q.0) xs i d within ∙ ap (λ n. length (counting scopes (take i xs)) + n) (cond-true (does_count scopes x.0) 1 0 t)
+
+-- ---- what a filter keeps
+pub filter_has : (test : ℕ × ℕ → Bool) (xs : List (ℕ × ℕ)) (x : ℕ × ℕ) → Contains xs x → test x ≡ true → Contains (filter test xs) x
+filter_has test [] x h t = absurd (contains_none x h)
+filter_has test (y ∷ xs) x h t =
+    let P : List (ℕ × ℕ) → Type 0 = λ zs. Contains zs x in
+    elim (contains_cases y x xs h) [
+      | inl e ↦ (let Q : ℕ × ℕ → Type 0 = λ z. Contains (z ∷ filter test xs) x in
+          subst P (sym (cond-true (test y) (y ∷ filter test xs) (filter test xs) (ap test e ∙ t))) (subst Q (sym e) (contains_first x (filter test xs))))
+      | inr more ↦ elim (cases_Bool (test y)) [
+        | inl e ↦ subst P (sym (cond-true (test y) (y ∷ filter test xs) (filter test xs) e)) (contains_later y x (filter test xs) (filter_has test xs x more t))
+        | inr e ↦ subst P (sym (cond-false (test y) (y ∷ filter test xs) (filter test xs) e)) (filter_has test xs x more t)
+      ]
+    ]
+
+pub has_filter : (test : ℕ × ℕ → Bool) (xs : List (ℕ × ℕ)) (x : ℕ × ℕ) → Contains (filter test xs) x → Contains xs x × (test x ≡ true)
+has_filter test [] x h = absurd (contains_none x h)
+has_filter test (y ∷ xs) x h =
+    let P : List (ℕ × ℕ) → Type 0 = λ zs. Contains zs x in
+    elim (cases_Bool (test y)) [
+      | inl e ↦ elim (contains_cases y x (filter test xs) (subst P (cond-true (test y) (y ∷ filter test xs) (filter test xs) e) h)) [
+        | inl here ↦ (let Q : ℕ × ℕ → Type 0 = λ z. Contains (z ∷ xs) x in (subst Q (sym here) (contains_first x xs), ap test (sym here) ∙ e))
+        | inr more ↦ (let rest = has_filter test xs x more in (contains_later y x xs rest.0, rest.1))
+      ]
+      | inr e ↦ (let rest = has_filter test xs x (subst P (cond-false (test y) (y ∷ filter test xs) (filter test xs) e) h) in (contains_later y x xs rest.0, rest.1))
+    ]
+
+-- ---- lists that ascend
+abbrev AreWithin : List (ℕ × ℕ) → List (ℕ × ℕ) → Type 0
+AreWithin xs ys = (z : ℕ × ℕ) → Contains xs z → Contains ys z
+
+rest_ascends : (x : ℕ × ℕ) (xs : List (ℕ × ℕ)) → AreAscending (x ∷ xs) → AreAscending xs
+rest_ascends x xs up = λ i j d less within. up (suc i) (suc j) d (omega (arith, less)) (omega (arith, within))
+
+first_before : (x : ℕ × ℕ) (xs : List (ℕ × ℕ)) → AreAscending (x ∷ xs) → (z : ℕ × ℕ) → Contains xs z → is_before x z ≡ true
+first_before x xs up z among =
+    let at : is_before x (slice_index_or xs among.0 z) ≡ true = up 0 (suc among.0) z (omega arith) (let within = among.1 in omega (arith, within)) in
+    ap (is_before x) (sym among.2) ∙ at
+
+-- what is behind the first of both is within what is behind it
+within_rest : (x : ℕ × ℕ) (xs ys : List (ℕ × ℕ)) → AreAscending (x ∷ xs) → AreWithin (x ∷ xs) (x ∷ ys) → AreWithin xs ys
+within_rest x xs ys up within z among =
+    elim (contains_cases x z ys (within z (contains_later x z xs among))) [
+      | inl same ↦ absurd (never_before x (ap (is_before x) same ∙ first_before x xs up z among))
+      | inr more ↦ more
+    ]
+
+-- what begins later is within what is behind the first
+within_later : (x y : ℕ × ℕ) (xs ys : List (ℕ × ℕ)) → AreAscending (x ∷ xs) → AreAscending (y ∷ ys) → Contains ys x → AreWithin (x ∷ xs) (y ∷ ys) → AreWithin (x ∷ xs) ys
+within_later x y xs ys up high later within z among =
+    let low = first_before y ys high x later in
+    elim (contains_cases y z ys (within z among)) [
+      | inl same ↦ elim (contains_cases x z xs among) [
+        | inl first ↦ absurd (never_before y (ap (is_before y) (same ∙ sym first) ∙ low))
+        | inr more ↦ absurd (never_before y (before_chain y x y low (ap (is_before x) same ∙ first_before x xs up z more)))
+      ]
+      | inr more ↦ more
+    ]
+
+few_within : (xs ys : List (ℕ × ℕ)) → AreAscending xs → AreAscending ys → AreWithin xs ys → length xs ≤ length ys
+few_within [] ys up high within = omega arith
+few_within (x ∷ xs) [] up high within = absurd (contains_none x (within x (contains_first x xs)))
+few_within (x ∷ xs) (y ∷ ys) up high within =
+    elim (contains_cases y x ys (within x (contains_first x xs))) [
+      | inl same ↦ (let P : ℕ × ℕ → Type 0 = λ z. AreWithin (x ∷ xs) (z ∷ ys) in
+          let rest = few_within xs ys (rest_ascends x xs up) (rest_ascends y ys high) (within_rest x xs ys up (subst P same within)) in omega (arith, rest))
+      | inr more ↦ (let rest = few_within (x ∷ xs) ys up (rest_ascends y ys high) (within_later x y xs ys up high more within) in omega (arith, rest))
+    ]
+
+same_within : (xs ys : List (ℕ × ℕ)) → AreAscending xs → AreAscending ys → AreWithin xs ys → length ys ≤ length xs → xs ≡ ys
+same_within [] [] up high within few = refl
+same_within [] (y ∷ ys) up high within few = absurd (omega (arith, few))
+same_within (x ∷ xs) [] up high within few = absurd (contains_none x (within x (contains_first x xs)))
+same_within (x ∷ xs) (y ∷ ys) up high within few =
+    elim (contains_cases y x ys (within x (contains_first x xs))) [
+      | inl same ↦ (let P : ℕ × ℕ → Type 0 = λ z. AreWithin (x ∷ xs) (z ∷ ys) in
+          ap (λ z. z ∷ xs) (sym same) ∙ ap (λ zs. y ∷ zs) (same_within xs ys (rest_ascends x xs up) (rest_ascends y ys high) (within_rest x xs ys up (subst P same within)) (omega (arith, few))))
+      | inr more ↦ (let rest = few_within (x ∷ xs) ys up (rest_ascends y ys high) (within_later x y xs ys up high more within) in absurd (omega (arith, rest, few)))
+    ]
+
+-- pairs that count and are among others which are no more
+pub same_counting : (scopes : List Bool) (xs ys : List (ℕ × ℕ)) → AreAscending xs → AreAscending ys → AreAmong scopes xs ys
+    → length (counting scopes ys) ≤ length (counting scopes xs) → counting scopes xs ≡ counting scopes ys
+same_counting scopes xs ys up high among few =
+    let test : ℕ × ℕ → Bool = λ q. does_count scopes q.0 in
+    let R : ℕ × ℕ → ℕ × ℕ → Type 0 = λ p q. is_before p q ≡ true in
+    same_within (counting scopes xs) (counting scopes ys) (AllPairs-filter R test xs up) (AllPairs-filter R test ys high)
+    (λ z in_xs. let had = has_filter test xs z in_xs in filter_has test ys z (All-contains (λ q. does_count scopes q.0 ≡ true → Contains ys q) xs z among had.0 had.1) had.1) few
+
+-- ---- the last build with a print
+pub printed_within : (scopes : List Bool) (bs : List BuildValue) (n : ℕ) → last_printed scopes bs n ≤ length bs
+printed_within scopes [] n = omega arith
+printed_within scopes (b ∷ bs) n =
+    let test = print_of 0 (counting scopes b.pairs) == n in
+    elim (cases_Bool test) [
+      | inl e ↦ (let is = cond-true test (length bs + 1) (last_printed scopes bs n) e in omega (arith, is))
+      | inr e ↦ (let is = cond-false test (length bs + 1) (last_printed scopes bs n) e in let less = printed_within scopes bs n in omega (arith, is, less))
+    ]
+
+-- no newer build has the print
+pub none_printed : (scopes : List Bool) (bs : List BuildValue) (n k : ℕ) → k + last_printed scopes bs n < length bs → print_of 0 (counting scopes (slice_index_or bs k no_build).pairs) ≡ n → ⊥
+none_printed scopes [] n k less h = absurd (omega arith)
+none_printed scopes (b ∷ bs) n zero less h =
+    let test = print_of 0 (counting scopes b.pairs) == n in
+    let is = cond-true test (length bs + 1) (last_printed scopes bs n) (eq-eqb _ _ h) in omega (arith, less, is)
+none_printed scopes (b ∷ bs) n (suc k) less h =
+    let test = print_of 0 (counting scopes b.pairs) == n in
+    elim (cases_Bool test) [
+      | inl e ↦ (let is = cond-true test (length bs + 1) (last_printed scopes bs n) e in omega (arith, less, is))
+      | inr e ↦ (let is = cond-false test (length bs + 1) (last_printed scopes bs n) e in none_printed scopes bs n k (omega (arith, less, is)) h)
+    ]
+
+-- ---- what is kept of the prints
+pub printed_same : (scopes : List Bool) (bs bs' : List BuildValue) (last told : ℕ → ℕ) (most : ℕ) → ArePrinted scopes bs last most → bs' ≡ bs → ((n : ℕ) → told n ≡ last n) → ArePrinted scopes bs' told most
+printed_same scopes bs bs' last told most is e tells =
+    let P : List BuildValue → Type 0 = λ xs. ArePrinted scopes xs told most in
+    subst P (sym e) (record { told = λ n. tells n ∙ is.told n; largest = is.largest })
+
+pub printed_added : (scopes : List Bool) (bs bs' : List BuildValue) (b : BuildValue) (last told : ℕ → ℕ) (most most' number size row : ℕ) → ArePrinted scopes bs last most → bs' ≡ b ∷ bs
+    → number ≡ print_of 0 (counting scopes b.pairs) → size ≡ length (counting scopes b.pairs) → row ≡ length bs + 1 → most ≤ most' → size ≤ most'
+    → ((n : ℕ) → told n ≡ cond (number == n) row (last n)) → ArePrinted scopes bs' told most'
+printed_added scopes bs bs' b last told most most' number size row is e print sized at up big tells =
+    let P : List BuildValue → Type 0 = λ xs. ArePrinted scopes xs told most' in
+    subst P (sym e) (record {
+      told = λ n. tells n ∙ ap (λ m. cond (m == n) row (last n)) print ∙ ap (λ r. cond (print_of 0 (counting scopes b.pairs) == n) r (last n)) at
+          ∙ ap (cond (print_of 0 (counting scopes b.pairs) == n) (length bs + 1)) (is.told n);
+      largest = All-cons (λ x. length (counting scopes x.pairs) ≤ most') b bs (omega (arith, sized, big)) (λ k d within. let old = is.largest k d within in omega (arith, old, up));
+    })
+
+-- where the last build with the print of a build of the greatest size is that one, no newer one has all its pairs that count
+pub none_alike : (scopes : List Bool) (bs : List BuildValue) (last : ℕ → ℕ) (most : ℕ) → ArePrinted scopes bs last most
+    → ((k : ℕ) → k < length bs → AreAscending (slice_index_or bs k no_build).pairs)
+    → (build number size : ℕ) → build < length bs → number ≡ print_of 0 (counting scopes (slice_index_or bs build no_build).pairs) → size ≡ length (counting scopes (slice_index_or bs build no_build).pairs)
+    → build ≤ length bs - last number → most ≤ size → (q : ℕ) → q < build → AreAmong scopes (slice_index_or bs build no_build).pairs (slice_index_or bs q no_build).pairs → ⊥
+none_alike scopes bs last most is rise build number size within print sized newest great q less among =
+    let xs = (slice_index_or bs build no_build).pairs in
+    let ys = (slice_index_or bs q no_build).pairs in
+    let below : q < length bs = omega (arith, less, within) in
+    let most_q = is.largest q no_build below in
+    let same = same_counting scopes xs ys (rise build within) (rise q below) among (omega (arith, most_q, great, sized)) in
+    let low = printed_within scopes bs number in
+    none_printed scopes bs number q (omega (arith, less, newest, low, is.told number)) (sym (print ∙ ap (print_of 0) same))

@@ -1,0 +1,42 @@
+-- Builds that the inputs naming their job see as one, and what is kept to find them.
+use Rattle.std.specs.Prelude.{◌≡◌, ◌↔◌, ℕ, ◌+◌, ◌*◌, ◌%◌, ◌<◌, ◌≤◌, List, [], ◌∷◌, length, Bool, false, ◌==◌, nat_eq, if◌then◌else◌, unwrap_or, slice_index_or, filter, IsTrue, All, Any, Contains}
+use Rattle.std.specs.HashMap.{HashMap, get}
+use Rattle.ccr_choice.specs.Problem.{InputValue, BuildValue}
+
+-- Whether the pairs in this scope count.
+abbrev pub does_count : List Bool → ℕ → Bool
+does_count scopes scope = slice_index_or scopes scope false
+
+-- The pairs of a build that count. Two builds are of one kind exactly if these are the same.
+abbrev pub counting : List Bool → List (ℕ × ℕ) → List (ℕ × ℕ)
+counting scopes pairs = filter (λ q. does_count scopes q.0) pairs
+
+-- Of a build's pairs, those that count are among the pairs of another.
+abbrev pub AreAmong : List Bool → List (ℕ × ℕ) → List (ℕ × ℕ) → Type 0
+AreAmong scopes pairs others = All (λ q. IsTrue (does_count scopes q.0) → Contains others q) pairs
+
+-- Of each job those scopes count that are the scopes of inputs naming it.
+abbrev pub AreCounted : List InputValue → List (List Bool) → Type 0
+AreCounted inputs scopes = (j scope : ℕ) → j < length scopes
+    → IsTrue (does_count (slice_index_or scopes j []) scope) ↔ Any (λ i. (i.scope ≡ scope) × Contains i.jobs j) inputs
+
+-- ---- prints
+-- A number that is made of pairs. Lists that differ seldom have the same.
+abbrev pub print_of : ℕ → List (ℕ × ℕ) → ℕ
+print_of n [] = n
+print_of n (q ∷ qs) = print_of ((n * 1000003 + q.0 * 100001 + q.1) % 4294967291) qs
+
+-- How many builds there are up to the newest one with this print, counted from the oldest; 0 where none has it.
+abbrev pub last_printed : List Bool → List BuildValue → ℕ → ℕ
+last_printed scopes [] n = 0
+last_printed scopes (b ∷ bs) n =
+    if print_of 0 (counting scopes b.pairs) == n then length bs + 1 else last_printed scopes bs n
+
+-- The number that a map has for this print, 0 where it has none.
+abbrev pub row_for : {S : Type 0} → HashMap ℕ ℕ S → ℕ → ℕ
+row_for m n = unwrap_or (get nat_eq m n) 0
+
+-- The last row with each print is told, and no build has more pairs that count than the most.
+pub record ArePrinted (scopes : List Bool) (builds : List BuildValue) (last : ℕ → ℕ) (most : ℕ) : Type 0 where
+  pub told : (n : ℕ) → last n ≡ last_printed scopes builds n
+  pub largest : All (λ b. length (counting scopes b.pairs) ≤ most) builds
