@@ -1,11 +1,8 @@
 -- Aborts of builds.
-use Rattle.std.proofs.Common.{◌≡◌, ◌⊎◌, inl, inr, ℕ, ◌<◌, Option, Some, None, Ok, Err, refl, sym, ◌∙◌, subst}
-use Rattle.std.specs.Prelude.{◌↔◌}
+use Rattle.std.proofs.Common.{◌≡◌, inl, inr, ℕ, Some, None, Ok, Err, refl, sym, ◌∙◌, subst}
 use Rattle.ccr_history.specs.Text.{Text}
-use Rattle.ccr_history.specs.TextMap.{TextMap}
 use Rattle.ccr_steps.specs.Asks.{AskData, fetch, push, read_config, run_task, aborted}
 use Rattle.ccr_steps.specs.Runs.{HasTurn}
-use Rattle.ccr_steps.specs.declared.ask.Ask.{Ask}
 use Rattle.ccr_core.specs.declared.fault.CoreFault.{CoreFault}
 use Rattle.ccr_core.specs.declared.fault.CoreFault.TheVariants.{NoPipeline, NoJob, NoResource, NoBuild, BuildsOpen, NotWanted, TooManyOpen, TableFull, NoMemory}
 use Rattle.ccr_core.specs.declared.reply.Reply.{Reply}
@@ -13,8 +10,7 @@ use Rattle.ccr_core.specs.declared.reply.Reply.TheVariants.{Goes, Ends}
 use Rattle.ccr_core.specs.Aborting.{AbortIsAnswer, AbortMeetsNoBuild}
 use Rattle.ccr_core.specs.Addressed.{answer_to}
 use Rattle.ccr_core.specs.Events.{answer, abort}
-use Rattle.ccr_core.specs.Faults.{Meets, MayRefuse, IsFree, PushOverfills, fault_number}
-use Rattle.ccr_core.specs.Holding.{CoreData, IsCore, Wants, Takes}
+use Rattle.ccr_core.specs.Faults.{Meets, MayRefuse, PushOverfills}
 use Rattle.ccr_core.specs.Replies.{Replied}
 use Rattle.ccr_core.specs.Seen.{pushed_by}
 use Rattle.ccr_core.specs.State.{RunningData, State, running_at}

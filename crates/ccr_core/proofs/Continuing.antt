@@ -6,7 +6,7 @@ use Rattle.ccr_history.specs.Changes.{changed}
 use Rattle.ccr_history.specs.History.{HistoryData}
 use Rattle.ccr_pipeline.specs.Pipelines.{PipelineData}
 use Rattle.ccr_pipeline.specs.Tree.{Tree}
-use Rattle.ccr_steps.specs.Asks.{AnswerData, Exchange, exchange, Chosen}
+use Rattle.ccr_steps.specs.Asks.{Exchange, exchange, Chosen}
 use Rattle.ccr_steps.specs.Progress.{IsNext}
 use Rattle.ccr_steps.specs.Runs.{RunData, run_data, StandsFor, HasTurn}
 use Rattle.ccr_steps.specs.declared.outcome.Outcome.{Outcome}

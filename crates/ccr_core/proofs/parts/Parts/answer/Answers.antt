@@ -1,4 +1,4 @@
-use Rattle.std.proofs.Common.{◌≡◌, ◌<◌, ◌≤◌, length, map, get_or, slice_set, option_map, refl, sym, ap, ◌∙◌, subst, arith}
+use Rattle.std.proofs.Common.{◌≡◌, ◌<◌, length, map, get_or, slice_set, option_map, sym, ap, ◌∙◌, subst, arith}
 use Rattle.ccr_pipeline.specs.Pipelines.{pipeline_data}
 use Rattle.ccr_steps.specs.Asks.{answer_data}
 use Rattle.ccr_steps.specs.Runs.{run_data, StandsFor}
