@@ -1,13 +1,13 @@
 //! The builds of a named job, in the order in which they were made.
 
-ghost use Rattle.std.specs.Prelude.{◌≡◌, ◌+◌, ◌-◌, ◌<◌, ◌≤◌, ◌^◌, ◌↔◌, ◌++◌, ◌==◌, ℕ, [], ◌∷◌, length, map, drop, if◌then◌else◌, slice_index_or, IsTrue, IfSome, IfNone, Any, Contains, OnOk, IsOk, vec_len, vec_capacity};
+ghost use Rattle.std.specs.Prelude.{◌≡◌, ◌+◌, ◌-◌, ◌<◌, ◌≤◌, ◌^◌, ◌↔◌, ◌++◌, ◌==◌, ℕ, [], ◌∷◌, length, map, drop, if◌then◌else◌, slice_index_or, IsTrue, not, IfSome, IfNone, Any, Contains, OnOk, IsOk, vec_len, vec_capacity};
 ghost use Rattle.std.specs.HashMap.{spare};
 ghost use Rattle.ccr_choice.specs.Ascending.{AreAscending};
 ghost use Rattle.ccr_choice.specs.Table.{build_of};
 ghost use Rattle.ccr_index.specs.Rows.{no_build, number_for, is_among, last_with, AreDescending, numbered};
 ghost use Rattle.ccr_index.specs.Alike.{does_count, AreAmong, row_for};
 
-use crate::alike::{Scopes, does_count, print_of};
+use crate::alike::{Scopes, does_count, has_first, print_of};
 use std::alloc::{AllocError, Global};
 use std::collections::HashMap;
 use std::marker::Model;
@@ -36,7 +36,8 @@ pub struct JobRows {
     newest: HashMap<(u32, u32), u32>,
     /// Which scopes count.
     scopes: Scopes,
-    /// To the number of each build's print, one more than the row of the last such build.
+    /// To the print of builds of one kind, one more than the row of the last one with this print. A build with a pair that no earlier one
+    /// has is of a new kind, and isn't noted here.
     prints: HashMap<u32, u32>,
     /// How many pairs that count a build has at the most.
     most: usize,
@@ -206,6 +207,7 @@ impl JobRows {
         let count = pairs.len() as u32;
         let print = print_of(&self.scopes, pairs);
         note_earlier(&mut self.earlier, &self.newest, pairs);
+        let is_new_kind = has_first(&self.scopes, pairs, &self.earlier[from..]);
         let has_pairs = self.pairs.extend_from_slice(pairs).is_ok();
         prove!(has_pairs);
         let has_row = self
@@ -218,7 +220,7 @@ impl JobRows {
             .is_ok();
         prove!(has_row);
         note(&mut self.newest, pairs, row as u32 + 1);
-        note_print(&mut self.prints, print.number, row as u32 + 1);
+        note_print(&mut self.prints, is_new_kind, print.number, row as u32 + 1);
         self.most = self.most.max(print.size);
     }
 }
@@ -258,12 +260,17 @@ fn note(newest: &mut HashMap<(u32, u32), u32>, pairs: &[(u32, u32)], row: u32)
     }
 }
 
-/// Notes that a row, by one more than its number, is the last one with this print.
-fn note_print(prints: &mut HashMap<u32, u32>, print: u32, row: u32)
+/// Notes that a row, by one more than its number, is the last one with this print, unless it is of a new kind.
+fn note_print(prints: &mut HashMap<u32, u32>, is_new_kind: bool, print: u32, row: u32)
     requires { 0 < spare prints.old }
     ensures spare { spare prints.old ≤ spare prints.new + 1 }
-    ensures told { (n : ℕ) → row_for prints.new n ≡ (if print == n then row else row_for prints.old n) }
+    ensures unless { IsTrue is_new_kind → (n : ℕ) → row_for prints.new n ≡ row_for prints.old n }
+    ensures told { IsTrue (not is_new_kind) → (n : ℕ) → row_for prints.new n
+        ≡ (if print == n then row else row_for prints.old n) }
 {
+    if is_new_kind {
+        return;
+    }
     let has_room = prints.insert(print, row).is_ok();
     prove!(has_room);
 }
