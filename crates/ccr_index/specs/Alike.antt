@@ -31,15 +31,20 @@ print_of n (q ∷ qs) = print_of ((n * 1000003 + q.0 * 100001 + q.1) % 429496729
 abbrev pub row_for : {S : Type 0} → HashMap ℕ ℕ S → ℕ → ℕ
 row_for m n = unwrap_or (get nat_eq m n) 0
 
--- Of two builds of one kind their print tells the row of the newer one, or of one that is newer still; and no build has more pairs
--- that count than the most.
-pub record ArePrinted (scopes : List Bool) (builds : List BuildValue) (last : ℕ → ℕ) (most : ℕ) : Type 0 where
+-- Of two builds of one kind their print tells the row of the newer one, or of one that is newer still; and no build with a pair has
+-- more pairs that count than the size of that pair.
+pub record ArePrinted (scopes : List Bool) (builds : List BuildValue) (last : ℕ → ℕ) (size : ℕ × ℕ → ℕ) : Type 0 where
   pub told : (k q : ℕ) → q < k → k < length builds
       → counting scopes (slice_index_or builds k no_build).pairs ≡ counting scopes (slice_index_or builds q no_build).pairs
       → length builds ≤ q + last (print_of 0 (counting scopes (slice_index_or builds k no_build).pairs))
-  pub largest : All (λ b. length (counting scopes b.pairs) ≤ most) builds
+  pub largest : (pair : ℕ × ℕ) → All (λ b. Contains b.pairs pair → length (counting scopes b.pairs) ≤ size pair) builds
 
 -- One of these pairs counts, and no earlier row has it.
 abbrev pub HasFirst : List Bool → List (ℕ × ℕ) → List ℕ → Type 0
 HasFirst scopes pairs earlier = (k : ℕ) × (k < length pairs)
     × IsTrue (does_count scopes (slice_index_or pairs k (0, 0)).0) × (slice_index earlier k ≡ 0)
+
+-- One of these pairs counts, and its size is no more than this.
+abbrev pub HasSmall : List Bool → List (ℕ × ℕ) → (ℕ × ℕ → ℕ) → ℕ → Type 0
+HasSmall scopes pairs size most =
+    Any (λ q. IsTrue (does_count scopes q.0) × (size q ≤ most)) pairs

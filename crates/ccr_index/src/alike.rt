@@ -28,6 +28,7 @@ pub(crate) fn does_count(scopes: &Scopes, scope: u32) -> bool
 pub(crate) fn print_of(scopes: &Scopes, pairs: &[(u32, u32)]) -> Print
     ensures number { result.number ≡ print_of 0 (counting scopes.now pairs.now) }
     ensures size { result.size ≡ length (counting scopes.now pairs.now) }
+    ensures few { result.size ≤ length pairs.now }
 {
     let mut number: u64 = 0;
     let mut size = 0;
