@@ -1,28 +1,30 @@
 -- Builds that are alike have one print, and what has all pairs of a build of the greatest size is alike.
-use Rattle.std.proofs.Common.{◌≡◌, ℕ, zero, suc, ◌+◌, ◌-◌, ◌*◌, ◌%◌, ◌<◌, ◌≤◌, List, [], ◌∷◌, ◌++◌, length, take, get_or, Bool, true, false, cond, ◌==◌, filter, inl, inr, refl, sym, ap, ◌∙◌, subst, arith}
-use Rattle.std.specs.Prelude.{Contains, slice_index_or}
+use Rattle.std.proofs.Common.{◌≡◌, ℕ, zero, suc, ◌+◌, ◌-◌, ◌*◌, ◌%◌, ◌<◌, ◌≤◌, List, [], ◌∷◌, ◌++◌, length, map, take, drop, max, get_or, Bool, true, false, cond, ◌==◌, filter, inl, inr, refl, sym, ap, ◌∙◌, subst, arith, All}
+use Rattle.std.specs.Prelude.{Contains, slice_index, slice_index_or}
 use Rattle.std.proofs.lemmas.Bool.{cases_Bool, cond-true, cond-false, eq-eqb}
-use Rattle.std.proofs.lemmas.List.{append-nil}
+use Rattle.std.proofs.lemmas.List.{append-nil, get_or_default, get_or-map}
+use Rattle.std.proofs.Math.Seq.{drop-append_seam}
 use Rattle.std.proofs.lemmas.List.Filters.{length-filter_more}
-use Rattle.std.proofs.lemmas.List.Elements.{All-contains, All-cons, filter_more}
+use Rattle.std.proofs.lemmas.List.Elements.{All-contains, All-cons, Contains-get_or, filter_more}
 use Rattle.std.proofs.lemmas.List.Kept.{AllPairs-filter}
 use Rattle.ccr_choice.specs.Problem.{BuildValue}
 use Rattle.ccr_choice.specs.Ascending.{is_before, AreAscending}
 use Rattle.ccr_choice.proofs.Lookups.{never_before, before_chain}
 use Rattle.ccr_choice.proofs.Members.{contains_none, contains_first, contains_later, contains_cases}
-use Rattle.ccr_index.specs.Rows.{no_build}
-use Rattle.ccr_index.specs.Alike.{does_count, counting, AreAmong, print_of, last_printed, ArePrinted}
+use Rattle.ccr_index.specs.Rows.{no_build, is_among, last_with}
+use Rattle.ccr_index.proofs.RowLaws.{last_some, among_is}
+use Rattle.ccr_index.specs.Alike.{does_count, counting, AreAmong, print_of, ArePrinted, HasFirst, HasSmall}
 
 -- ---- the print so far
 abbrev mixed : ℕ → ℕ × ℕ → ℕ
-mixed n q = (n * 1000003 + q.0 * 100001 + q.1) % 4294967291
+mixed n q = (n * 1000003 + q.0 * 100001 + q.1) % 4294967296
 
 print_push : (n : ℕ) (qs : List (ℕ × ℕ)) (q : ℕ × ℕ) → print_of n (qs ++ q ∷ []) ≡ mixed (print_of n qs) q
 print_push n [] q = refl
 print_push n (x ∷ qs) q = print_push (mixed n x) qs q
 
 pub print_more : (scopes : List Bool) (xs : List (ℕ × ℕ)) (i : ℕ) (d : ℕ × ℕ) → i < length xs → does_count scopes (get_or xs i d).0 ≡ true
-    → print_of 0 (counting scopes (take (i + 1) xs)) ≡ (print_of 0 (counting scopes (take i xs)) * 1000003 + (get_or xs i d).0 * 100001 + (get_or xs i d).1) % 4294967291
+    → print_of 0 (counting scopes (take (i + 1) xs)) ≡ (print_of 0 (counting scopes (take i xs)) * 1000003 + (get_or xs i d).0 * 100001 + (get_or xs i d).1) % 4294967296
 print_more scopes xs i d within t =
     let x = get_or xs i d in
     ap (print_of 0) (filter_more (λ (q : ℕ × ℕ). does_count scopes q.0) xs i d within)
@@ -131,56 +133,107 @@ same_counting scopes xs ys up high among few =
     same_within (counting scopes xs) (counting scopes ys) (AllPairs-filter R test xs up) (AllPairs-filter R test ys high)
     (λ z in_xs. let had = has_filter test xs z in_xs in filter_has test ys z (All-contains (λ q. does_count scopes q.0 ≡ true → Contains ys q) xs z among had.0 had.1) had.1) few
 
--- ---- the last build with a print
-pub printed_within : (scopes : List Bool) (bs : List BuildValue) (n : ℕ) → last_printed scopes bs n ≤ length bs
-printed_within scopes [] n = omega arith
-printed_within scopes (b ∷ bs) n =
-    let test = print_of 0 (counting scopes b.pairs) == n in
-    elim (cases_Bool test) [
-      | inl e ↦ (let is = cond-true test (length bs + 1) (last_printed scopes bs n) e in omega (arith, is))
-      | inr e ↦ (let is = cond-false test (length bs + 1) (last_printed scopes bs n) e in let less = printed_within scopes bs n in omega (arith, is, less))
-    ]
-
--- no newer build has the print
-pub none_printed : (scopes : List Bool) (bs : List BuildValue) (n k : ℕ) → k + last_printed scopes bs n < length bs → print_of 0 (counting scopes (slice_index_or bs k no_build).pairs) ≡ n → ⊥
-none_printed scopes [] n k less h = absurd (omega arith)
-none_printed scopes (b ∷ bs) n zero less h =
-    let test = print_of 0 (counting scopes b.pairs) == n in
-    let is = cond-true test (length bs + 1) (last_printed scopes bs n) (eq-eqb _ _ h) in omega (arith, less, is)
-none_printed scopes (b ∷ bs) n (suc k) less h =
-    let test = print_of 0 (counting scopes b.pairs) == n in
-    elim (cases_Bool test) [
-      | inl e ↦ (let is = cond-true test (length bs + 1) (last_printed scopes bs n) e in omega (arith, less, is))
-      | inr e ↦ (let is = cond-false test (length bs + 1) (last_printed scopes bs n) e in none_printed scopes bs n k (omega (arith, less, is)) h)
-    ]
-
 -- ---- what is kept of the prints
-pub printed_same : (scopes : List Bool) (bs bs' : List BuildValue) (last told : ℕ → ℕ) (most : ℕ) → ArePrinted scopes bs last most → bs' ≡ bs → ((n : ℕ) → told n ≡ last n) → ArePrinted scopes bs' told most
-printed_same scopes bs bs' last told most is e tells =
-    let P : List BuildValue → Type 0 = λ xs. ArePrinted scopes xs told most in
-    subst P (sym e) (record { told = λ n. tells n ∙ is.told n; largest = is.largest })
-
-pub printed_added : (scopes : List Bool) (bs bs' : List BuildValue) (b : BuildValue) (last told : ℕ → ℕ) (most most' number size row : ℕ) → ArePrinted scopes bs last most → bs' ≡ b ∷ bs
-    → number ≡ print_of 0 (counting scopes b.pairs) → size ≡ length (counting scopes b.pairs) → row ≡ length bs + 1 → most ≤ most' → size ≤ most'
-    → ((n : ℕ) → told n ≡ cond (number == n) row (last n)) → ArePrinted scopes bs' told most'
-printed_added scopes bs bs' b last told most most' number size row is e print sized at up big tells =
-    let P : List BuildValue → Type 0 = λ xs. ArePrinted scopes xs told most' in
+pub printed_same : (scopes : List Bool) (bs bs' : List BuildValue) (last told : ℕ → ℕ) (size sized : ℕ × ℕ → ℕ) → ArePrinted scopes bs last size → bs' ≡ bs → ((n : ℕ) → told n ≡ last n) → ((x : ℕ × ℕ) → sized x ≡ size x) → ArePrinted scopes bs' told sized
+printed_same scopes bs bs' last told size sized is e tells sizes =
+    let P : List BuildValue → Type 0 = λ xs. ArePrinted scopes xs told sized in
     subst P (sym e) (record {
-      told = λ n. tells n ∙ ap (λ m. cond (m == n) row (last n)) print ∙ ap (λ r. cond (print_of 0 (counting scopes b.pairs) == n) r (last n)) at
-          ∙ ap (cond (print_of 0 (counting scopes b.pairs) == n) (length bs + 1)) (is.told n);
-      largest = All-cons (λ x. length (counting scopes x.pairs) ≤ most') b bs (omega (arith, sized, big)) (λ k d within. let old = is.largest k d within in omega (arith, old, up));
+      told = λ k q less within same. let old = is.told k q less within same in omega (arith, old, tells (print_of 0 (counting scopes (slice_index_or bs k no_build).pairs)));
+      largest = λ x k d within has. let old = is.largest x k d within has in omega (arith, old, sizes x);
     })
 
--- where the last build with the print of a build of the greatest size is that one, no newer one has all its pairs that count
-pub none_alike : (scopes : List Bool) (bs : List BuildValue) (last : ℕ → ℕ) (most : ℕ) → ArePrinted scopes bs last most
+-- the sizes, once a build is added
+module _ (scopes : List Bool) (bs : List BuildValue) (b : BuildValue) (last : ℕ → ℕ) (size size' : ℕ × ℕ → ℕ) (most : ℕ) (is : ArePrinted scopes bs last size) (counted : most ≡ length (counting scopes b.pairs))
+    (sizes : (x : ℕ × ℕ) → size' x ≡ cond (is_among b.pairs x) (max (size x) most) (size x)) where
+  size_up : (x : ℕ × ℕ) → size x ≤ size' x
+  size_up x = elim (cases_Bool (is_among b.pairs x)) [
+    | inl t ↦ (let now = sizes x ∙ cond-true (is_among b.pairs x) (max (size x) most) (size x) t in omega (arith, now))
+    | inr f ↦ (let now = sizes x ∙ cond-false (is_among b.pairs x) (max (size x) most) (size x) f in omega (arith, now))
+  ]
+
+  size_big : (x : ℕ × ℕ) → Contains b.pairs x → most ≤ size' x
+  size_big x has = let now = sizes x ∙ cond-true (is_among b.pairs x) (max (size x) most) (size x) ((among_is b.pairs x).1 has) in omega (arith, now)
+
+  largest_added : (x : ℕ × ℕ) → All (λ y. Contains y.pairs x → length (counting scopes y.pairs) ≤ size' x) (b ∷ bs)
+  largest_added x =
+      All-cons (λ y. Contains y.pairs x → length (counting scopes y.pairs) ≤ size' x) b bs (λ has. let big = size_big x has in omega (arith, big, counted)) (λ k d within has. let old = is.largest x k d within has in let up = size_up x in omega (arith, old, up))
+
+  -- a build whose print is noted
+  pub printed_noted : (bs' : List BuildValue) (told : ℕ → ℕ) (number row : ℕ) → bs' ≡ b ∷ bs → number ≡ print_of 0 (counting scopes b.pairs) → row ≡ length bs + 1 → ((n : ℕ) → told n ≡ cond (number == n) row (last n))
+      → ArePrinted scopes bs' told size'
+  printed_noted bs' told number row e print at tells =
+      let P : List BuildValue → Type 0 = λ xs. ArePrinted scopes xs told size' in
+      subst P (sym e) (record { told = tells_more; largest = largest_added })
+    where
+      tells_more : (k q : ℕ) → q < k → k < length (b ∷ bs) → counting scopes (slice_index_or (b ∷ bs) k no_build).pairs ≡ counting scopes (slice_index_or (b ∷ bs) q no_build).pairs
+          → length (b ∷ bs) ≤ q + told (print_of 0 (counting scopes (slice_index_or (b ∷ bs) k no_build).pairs))
+      tells_more zero q less within same = absurd (omega (arith, less))
+      tells_more (suc k) zero less within same =
+          let n = print_of 0 (counting scopes (slice_index_or bs k no_build).pairs) in
+          let hit : number ≡ n = print ∙ ap (print_of 0) (sym same) in
+          let now = tells n ∙ cond-true (number == n) row (last n) (eq-eqb number n hit) in omega (arith, now, at)
+      tells_more (suc k) (suc q) less within same =
+          let n = print_of 0 (counting scopes (slice_index_or bs k no_build).pairs) in
+          let old = is.told k q (omega (arith, less)) (omega (arith, within)) same in
+          elim (cases_Bool (number == n)) [
+            | inl t ↦ (let now = tells n ∙ cond-true (number == n) row (last n) t in omega (arith, now, at))
+            | inr f ↦ (let now = tells n ∙ cond-false (number == n) row (last n) f in omega (arith, now, old))
+          ]
+
+  -- a build with a pair that counts and that no other has: it is of a new kind, and its print need not be noted
+  pub printed_first : (bs' : List BuildValue) (told : ℕ → ℕ) (x : ℕ × ℕ) → bs' ≡ b ∷ bs → ((n : ℕ) → told n ≡ last n) → Contains b.pairs x → does_count scopes x.0 ≡ true → last_with bs x ≡ 0
+      → ArePrinted scopes bs' told size'
+  printed_first bs' told x e tells has counts none =
+      let P : List BuildValue → Type 0 = λ xs. ArePrinted scopes xs told size' in
+      subst P (sym e) (record { told = tells_more; largest = largest_added })
+    where
+      test : ℕ × ℕ → Bool
+      test q = does_count scopes q.0
+
+      tells_more : (k q : ℕ) → q < k → k < length (b ∷ bs) → counting scopes (slice_index_or (b ∷ bs) k no_build).pairs ≡ counting scopes (slice_index_or (b ∷ bs) q no_build).pairs
+          → length (b ∷ bs) ≤ q + told (print_of 0 (counting scopes (slice_index_or (b ∷ bs) k no_build).pairs))
+      tells_more zero q less within same = absurd (omega (arith, less))
+      tells_more (suc k) zero less within same =
+          let y = slice_index_or bs k no_build in
+          let Q : List (ℕ × ℕ) → Type 0 = λ ps. Contains ps x in
+          let inside : k < length bs = omega (arith, within) in
+          let kept = subst Q (sym same) (filter_has (λ q. does_count scopes q.0) b.pairs x has counts) in
+          let had = has_filter (λ q. does_count scopes q.0) y.pairs x kept in
+          absurd ((last_some bs x).1 (k, y, inside, get_or_default bs k y no_build inside, had.0) none)
+      tells_more (suc k) (suc q) less within same =
+          let old = is.told k q (omega (arith, less)) (omega (arith, within)) same in
+          omega (arith, old, tells (print_of 0 (counting scopes (slice_index_or bs k no_build).pairs)))
+
+-- the pair of which the rows before tell that they lack it
+pub first_among : (scopes : List Bool) (more : List (ℕ × ℕ)) (earlier earlier' rest : List ℕ) (bs : List BuildValue) (newest : ℕ × ℕ → ℕ) (from : ℕ) → ((pair : ℕ × ℕ) → newest pair ≡ last_with bs pair)
+    → earlier' ≡ earlier ++ map newest more → from ≡ length earlier → rest ≡ drop from earlier' → HasFirst scopes more rest
+    → (x : ℕ × ℕ) × Contains more x × (does_count scopes x.0 ≡ true) × (last_with bs x ≡ 0)
+first_among scopes more earlier earlier' rest bs newest from told e begins is first =
+    let k = first.0 in
+    let x = slice_index_or more k (0, 0) in
+    let tail : rest ≡ map newest more = is ∙ ap (drop from) e ∙ ap (λ n. drop n (earlier ++ map newest more)) begins ∙ drop-append_seam earlier (map newest more) in
+    (x, Contains-get_or more k (0, 0) first.1, first.2, sym (told x) ∙ sym (get_or-map newest more k (0, 0) 0 first.1) ∙ ap (λ ns. slice_index ns k) (sym tail) ∙ first.3)
+
+-- a pair that counts and has a small size
+pub small_all : (scopes : List Bool) (pairs : List (ℕ × ℕ)) (bs : List BuildValue) (last : ℕ → ℕ) (size : ℕ × ℕ → ℕ) (most : ℕ) → ArePrinted scopes bs last size → HasSmall scopes pairs size most
+    → (x : ℕ × ℕ) × Contains pairs x × (does_count scopes x.0 ≡ true) × All (λ b. Contains b.pairs x → length (counting scopes b.pairs) ≤ most) bs
+small_all scopes pairs bs last size most is small =
+    let x = small.1 in
+    let low = small.4.1 in
+    (x, (small.0, small.2, small.3), small.4.0, λ k d within has. let old = is.largest x k d within has in omega (arith, old, low))
+
+-- where the print of a build tells no newer one, and no build with one of its pairs is larger, no newer one has all its pairs that count
+pub none_alike : (scopes : List Bool) (bs : List BuildValue) (last : ℕ → ℕ) (size : ℕ × ℕ → ℕ) → ArePrinted scopes bs last size
     → ((k : ℕ) → k < length bs → AreAscending (slice_index_or bs k no_build).pairs)
-    → (build number size : ℕ) → build < length bs → number ≡ print_of 0 (counting scopes (slice_index_or bs build no_build).pairs) → size ≡ length (counting scopes (slice_index_or bs build no_build).pairs)
-    → build ≤ length bs - last number → most ≤ size → (q : ℕ) → q < build → AreAmong scopes (slice_index_or bs build no_build).pairs (slice_index_or bs q no_build).pairs → ⊥
-none_alike scopes bs last most is rise build number size within print sized newest great q less among =
+    → (build number most : ℕ) → build < length bs → number ≡ print_of 0 (counting scopes (slice_index_or bs build no_build).pairs) → most ≡ length (counting scopes (slice_index_or bs build no_build).pairs)
+    → build ≤ length bs - last number
+    → (x : ℕ × ℕ) → Contains (slice_index_or bs build no_build).pairs x → does_count scopes x.0 ≡ true → All (λ b. Contains b.pairs x → length (counting scopes b.pairs) ≤ most) bs
+    → (q : ℕ) → q < build → AreAmong scopes (slice_index_or bs build no_build).pairs (slice_index_or bs q no_build).pairs → ⊥
+none_alike scopes bs last size is rise build number most within print counted newest x has counts small q less among =
     let xs = (slice_index_or bs build no_build).pairs in
     let ys = (slice_index_or bs q no_build).pairs in
     let below : q < length bs = omega (arith, less, within) in
-    let most_q = is.largest q no_build below in
-    let same = same_counting scopes xs ys (rise build within) (rise q below) among (omega (arith, most_q, great, sized)) in
-    let low = printed_within scopes bs number in
-    none_printed scopes bs number q (omega (arith, less, newest, low, is.told number)) (sym (print ∙ ap (print_of 0) same))
+    let few = small q no_build below (All-contains (λ q. does_count scopes q.0 ≡ true → Contains ys q) xs x among has counts) in
+    let same = same_counting scopes xs ys (rise build within) (rise q below) among (omega (arith, few, counted)) in
+    let told = is.told build q less within same in
+    omega (arith, less, newest, within, told, ap last print)

@@ -8,7 +8,8 @@ use Rattle.std.proofs.lemmas.Option.{slice_get-get_or}
 use Rattle.std.proofs.Math.Seq.{drop-append_seam, take-append_seam, take-length, get_or-append_seam}
 use Rattle.std.proofs.lemmas.List.Elements.{All-append, All-cons, All-nil, All-take}
 use Rattle.ccr_choice.specs.Problem.{BuildValue}
-use Rattle.ccr_choice.specs.Ascending.{AreAscending}
+use Rattle.ccr_choice.specs.Ascending.{is_before, AreAscending}
+use Rattle.ccr_choice.proofs.Lookups.{never_before}
 use Rattle.ccr_choice.specs.Table.{build_of}
 use Rattle.ccr_choice.proofs.Members.{any_none, any_first, any_later, any_cases, tests_contains}
 use Rattle.ccr_index.specs.declared.rows.Row.{Row}
@@ -70,7 +71,7 @@ row_new pool more number ascending = record {
 rows_kept : (pool more : List (ℕ × ℕ)) (rows : List Row) → All (IsRow pool) rows → All (IsRow (pool ++ more)) rows
 rows_kept pool more rows each = λ k d within. row_kept pool more (get_or rows k d) (each k d within)
 
-equal_pairs : (pair q : ℕ × ℕ) → (pair_eq q pair ≡ true) ↔ (q ≡ pair)
+pub equal_pairs : (pair q : ℕ × ℕ) → (pair_eq q pair ≡ true) ↔ (q ≡ pair)
 equal_pairs pair q = (
   λ h. let parts = and_parts (nat_eq q.0 pair.0) (nat_eq q.1 pair.1) h in
       let first : q.0 ≡ pair.0 = eqb-true _ _ parts.0 in
@@ -80,7 +81,7 @@ equal_pairs pair q = (
 )
 
 -- ---- the last build with a pair
-among_is : (pairs : List (ℕ × ℕ)) (pair : ℕ × ℕ) → IsTrue (is_among pairs pair) ↔ Contains pairs pair
+pub among_is : (pairs : List (ℕ × ℕ)) (pair : ℕ × ℕ) → IsTrue (is_among pairs pair) ↔ Contains pairs pair
 among_is pairs pair = tests_contains (λ q. pair_eq q pair) pair pairs (equal_pairs pair)
 
 pub last_within : (bs : List BuildValue) (pair : ℕ × ℕ) → last_with bs pair ≤ length bs
@@ -348,3 +349,18 @@ builds_rise pool rows each k within =
     let is = ap (λ n. slice_index_or (builds_of pool rows) n no_build) (sym back) ∙ row_at pool rows m (get_or rows m zero_row) inside (get_or_default rows m zero_row _ inside) in
     let P : BuildValue → Type 0 = λ b. AreAscending b.pairs in
     subst P (sym is) (each m zero_row inside).ascending
+
+-- a pair isn't among those before it
+pub not_among : (xs : List (ℕ × ℕ)) (i : ℕ) (d : ℕ × ℕ) → AreAscending xs → i < length xs → is_among (take i xs) (get_or xs i d) ≡ false
+not_among xs i d up within =
+    let x = get_or xs i d in
+    elim (cases_Bool (is_among (take i xs) x)) [
+      | inl t ↦ (let found = (among_is (take i xs) x).0 t in
+          let k = found.0 in
+          let low : k < i = omega (arith, found.1, length-take-le i xs (omega (arith, within))) in
+          let at : get_or xs k x ≡ x = sym (get_or-take i xs k x low) ∙ found.2 in
+          let before : is_before (get_or xs k x) (get_or xs i x) ≡ true = up k i x low within in
+          let same : get_or xs i x ≡ x = get_or_default xs i x d within in
+          absurd (never_before x (ap₂ is_before (sym at) (sym same) ∙ before)))
+      | inr f ↦ f
+    ]

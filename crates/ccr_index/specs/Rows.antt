@@ -5,6 +5,7 @@ use Rattle.std.specs.HashMap.{HashMap, get}
 use Rattle.ccr_choice.specs.Problem.{InputValue, BuildValue}
 use Rattle.ccr_choice.specs.Ascending.{AreAscending}
 use Rattle.ccr_index.specs.declared.rows.Row.{Row}
+use Rattle.ccr_index.specs.declared.rows.Seen.{Seen}
 
 -- ---- inputs
 -- An input, and how many further places it has room for.
@@ -62,9 +63,17 @@ abbrev pub last_with : List BuildValue → ℕ × ℕ → ℕ
 last_with [] pair = 0
 last_with (b ∷ bs) pair = if is_among b.pairs pair then length bs + 1 else last_with bs pair
 
--- The number that a map has for this pair, 0 where it has none.
-abbrev pub number_for : {S : Type 0} → HashMap (ℕ × ℕ) ℕ S → ℕ × ℕ → ℕ
-number_for m pair = unwrap_or (get pair_eq m pair) 0
+-- What a map has for this pair, zeros where it has nothing.
+abbrev pub seen_in : {S : Type 0} → HashMap (ℕ × ℕ) Seen S → ℕ × ℕ → Seen
+seen_in m pair = unwrap_or (get pair_eq m pair) (record { row = 0; size = 0 })
+
+-- One more than the row that a map has for this pair, 0 where it has none.
+abbrev pub number_for : {S : Type 0} → HashMap (ℕ × ℕ) Seen S → ℕ × ℕ → ℕ
+number_for m pair = (seen_in m pair).row
+
+-- The size that a map has for this pair, 0 where it has none.
+abbrev pub size_for : {S : Type 0} → HashMap (ℕ × ℕ) Seen S → ℕ × ℕ → ℕ
+size_for m pair = (seen_in m pair).size
 
 -- A row's pairs lie in the pool and ascend.
 pub record IsRow (pool : List (ℕ × ℕ)) (r : Row) : Type 0 where

@@ -1,7 +1,7 @@
 //! Prints of builds, by which builds that are alike are found.
 
-ghost use Rattle.std.specs.Prelude.{◌≡◌, ◌<◌, ◌^◌, length};
-ghost use Rattle.ccr_index.specs.Alike.{does_count, counting, print_of};
+ghost use Rattle.std.specs.Prelude.{◌≡◌, ◌≤◌, length, IsTrue};
+ghost use Rattle.ccr_index.specs.Alike.{does_count, counting, print_of, HasFirst};
 
 use ccr_choice::MOST_INPUTS;
 
@@ -28,12 +28,13 @@ pub(crate) fn does_count(scopes: &Scopes, scope: u32) -> bool
 pub(crate) fn print_of(scopes: &Scopes, pairs: &[(u32, u32)]) -> Print
     ensures number { result.number ≡ print_of 0 (counting scopes.now pairs.now) }
     ensures size { result.size ≡ length (counting scopes.now pairs.now) }
+    ensures few { result.size ≤ length pairs.now }
 {
     let mut number: u64 = 0;
     let mut size = 0;
     for (scope, place) in pairs {
         if does_count(scopes, *scope) {
-            number = (number * 1_000_003 + *scope as u64 * 100_001 + *place as u64) % 4_294_967_291;
+            number = (number * 1_000_003 + *scope as u64 * 100_001 + *place as u64) % 4_294_967_296;
             size += 1;
         }
     }
@@ -41,4 +42,17 @@ pub(crate) fn print_of(scopes: &Scopes, pairs: &[(u32, u32)]) -> Print
         number: number as u32,
         size,
     }
+}
+
+/// Whether one of these pairs counts and no earlier row has it, of which 0 tells in the same place.
+pub(crate) fn has_first(scopes: &Scopes, pairs: &[(u32, u32)], earlier: &[u32]) -> bool
+    requires { length pairs.now ≤ length earlier.now }
+    ensures { IsTrue result → HasFirst scopes.now pairs.now earlier.now }
+{
+    for k in 0..pairs.len() {
+        if earlier[k] == 0 && does_count(scopes, pairs[k].0) {
+            return true;
+        }
+    }
+    false
 }

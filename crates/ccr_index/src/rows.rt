@@ -1,13 +1,13 @@
 //! The builds of a named job, in the order in which they were made.
 
-ghost use Rattle.std.specs.Prelude.{◌≡◌, ◌+◌, ◌-◌, ◌<◌, ◌≤◌, ◌^◌, ◌↔◌, ◌++◌, ◌==◌, ℕ, [], ◌∷◌, length, map, drop, if◌then◌else◌, slice_index_or, IsTrue, IfSome, IfNone, Any, Contains, OnOk, IsOk, vec_len, vec_capacity};
+ghost use Rattle.std.specs.Prelude.{◌≡◌, ◌+◌, ◌-◌, ◌<◌, ◌≤◌, ◌^◌, ◌↔◌, ◌++◌, ◌==◌, ℕ, [], ◌∷◌, length, map, max, drop, if◌then◌else◌, slice_index_or, IsTrue, not, IfSome, IfNone, All, Any, Contains, OnOk, IsOk, vec_len, vec_capacity};
 ghost use Rattle.std.specs.HashMap.{spare};
 ghost use Rattle.ccr_choice.specs.Ascending.{AreAscending};
 ghost use Rattle.ccr_choice.specs.Table.{build_of};
-ghost use Rattle.ccr_index.specs.Rows.{no_build, number_for, is_among, last_with, AreDescending, numbered};
-ghost use Rattle.ccr_index.specs.Alike.{does_count, AreAmong, row_for};
+ghost use Rattle.ccr_index.specs.Rows.{no_build, number_for, size_for, is_among, last_with, AreDescending, numbered};
+ghost use Rattle.ccr_index.specs.Alike.{does_count, counting, AreAmong, HasSmall, row_for};
 
-use crate::alike::{Scopes, does_count, print_of};
+use crate::alike::{Scopes, does_count, has_first, print_of};
 use std::alloc::{AllocError, Global};
 use std::collections::HashMap;
 use std::marker::Model;
@@ -21,6 +21,18 @@ pub(crate) struct Row {
     from: usize,
 }
 
+/// The last build with a pair, and the greatest one.
+#[derive(Clone, Copy, Drop)]
+pub(crate) struct Seen {
+    /// One more than the row of the last build that has it.
+    row: u32,
+    /// How many pairs that count a build with it has at the most.
+    size: u32,
+}
+
+/// Nothing is known of a pair that no build has.
+const UNSEEN: Seen = Seen { row: 0, size: 0 };
+
 /// The successful builds of a named job. Rows and pairs only grow, at their ends.
 ///
 /// All pairs lie in one pool. With a list for each build, no room could be promised to a build that comes later.
@@ -32,20 +44,19 @@ pub struct JobRows {
     pairs: Vec<(u32, u32)>,
     /// To each pair of the pool, one more than the row of the last earlier build with the same pair, or 0.
     earlier: Vec<u32>,
-    /// To each pair that a build has, one more than the row of the last such build.
-    newest: HashMap<(u32, u32), u32>,
+    /// What is known of each pair that a build has.
+    seen: HashMap<(u32, u32), Seen>,
     /// Which scopes count.
     scopes: Scopes,
-    /// To the number of each build's print, one more than the row of the last such build.
+    /// To the print of builds of one kind, one more than the row of the last one with this print. A build with a pair that no earlier one
+    /// has is of a new kind, and isn't noted here.
     prints: HashMap<u32, u32>,
-    /// How many pairs that count a build has at the most.
-    most: usize,
 }
 
 impl Model for JobRows {
     ghost use Rattle.std.specs.Prelude.{◌-◌, vec_len, vec_capacity, min};
     ghost use Rattle.std.specs.HashMap.{spare as room};
-    ghost use Rattle.ccr_index.specs.Rows.{JobRowsValue, builds_of, AreRows, number_for, least};
+    ghost use Rattle.ccr_index.specs.Rows.{JobRowsValue, builds_of, AreRows, number_for, size_for, least};
     ghost use Rattle.ccr_index.specs.Alike.{ArePrinted, row_for};
 
     ghost Value = { JobRowsValue };
@@ -54,11 +65,11 @@ impl Model for JobRows {
       builds = builds_of a.pairs.items a.rows.items;
       scopes = a.scopes;
       spare = min (room a.prints) (least (vec_capacity a.rows - vec_len a.rows) (vec_capacity a.pairs - vec_len a.pairs)
-          (vec_capacity a.earlier - vec_len a.earlier) (room a.newest));
+          (vec_capacity a.earlier - vec_len a.earlier) (room a.seen));
     } };
 
-    ghost invariant = { λ a. AreRows a.pairs.items a.rows.items a.earlier.items (λ pair. number_for a.newest pair)
-        × ArePrinted a.scopes (builds_of a.pairs.items a.rows.items) (λ n. row_for a.prints n) a.most };
+    ghost invariant = { λ a. AreRows a.pairs.items a.rows.items a.earlier.items (λ pair. number_for a.seen pair)
+        × ArePrinted a.scopes (builds_of a.pairs.items a.rows.items) (λ n. row_for a.prints n) (λ pair. size_for a.seen pair) };
 }
 
 impl JobRows {
@@ -71,10 +82,9 @@ impl JobRows {
             rows: Vec::new(alloc),
             pairs: Vec::new(alloc),
             earlier: Vec::new(alloc),
-            newest: HashMap::new(alloc),
+            seen: HashMap::new(alloc),
             scopes,
             prints: HashMap::new(alloc),
-            most: 0,
         }
     }
 
@@ -137,7 +147,11 @@ impl JobRows {
     pub fn last_with(&self, scope: u32, place: u32) -> usize
         ensures { result ≡ last_with self.now.builds (scope, place) }
     {
-        self.newest.get(&(scope, place)).copied().unwrap_or(0) as usize
+        self.seen
+            .get(&(scope, place))
+            .copied()
+            .unwrap_or(UNSEEN)
+            .row as usize
     }
 
     /// The same among the builds that are older than build `build`, which has the pair.
@@ -169,10 +183,20 @@ impl JobRows {
         let print = print_of(&self.scopes, self.pairs(build));
         let last = self.prints.get(&print.number).copied().unwrap_or(0) as usize;
         let alike = self.rows.len().saturating_sub(last);
-        if alike >= build && print.size >= self.most {
+        if alike >= build && self.has_small(build, print.size) {
             return None;
         }
         Some(alike.min(build))
+    }
+
+    /// Whether build `build` has a pair that counts, and no build with this pair has more than `most` pairs that count.
+    fn has_small(&self, build: usize, most: usize) -> bool
+        requires { build < length self.now.builds }
+        ensures { IsTrue result → (x : ℕ × ℕ) × Contains (slice_index_or self.now.builds build no_build).pairs x
+            × IsTrue (does_count self.now.scopes x.0)
+            × All (λ b. Contains b.pairs x → length (counting self.now.scopes b.pairs) ≤ most) self.now.builds }
+    {
+        has_small(&self.scopes, &self.seen, self.pairs(build), most)
     }
 
     /// Makes room for so many builds and pairs.
@@ -186,7 +210,7 @@ impl JobRows {
         self.rows.reserve(pairs)?;
         self.pairs.reserve(pairs)?;
         self.earlier.reserve(pairs)?;
-        self.newest.reserve(pairs)?;
+        self.seen.reserve(pairs)?;
         self.prints.reserve(pairs)?;
         Ok(())
     }
@@ -205,7 +229,10 @@ impl JobRows {
         let from = self.pairs.len();
         let count = pairs.len() as u32;
         let print = print_of(&self.scopes, pairs);
-        note_earlier(&mut self.earlier, &self.newest, pairs);
+        let next = row as u32 + 1;
+        let size = print.size as u32;
+        note(&mut self.earlier, &mut self.seen, pairs, next, size);
+        let is_new_kind = has_first(&self.scopes, pairs, &self.earlier[from..]);
         let has_pairs = self.pairs.extend_from_slice(pairs).is_ok();
         prove!(has_pairs);
         let has_row = self
@@ -217,9 +244,7 @@ impl JobRows {
             })
             .is_ok();
         prove!(has_row);
-        note(&mut self.newest, pairs, row as u32 + 1);
-        note_print(&mut self.prints, print.number, row as u32 + 1);
-        self.most = self.most.max(print.size);
+        note_print(&mut self.prints, is_new_kind, print.number, row as u32 + 1);
     }
 }
 
@@ -232,38 +257,73 @@ fn place_of(pairs: &[(u32, u32)], scope: u32, place: u32) -> usize
     pairs.partition_point(|q| q.0 < scope || (q.0 == scope && q.1 < place))
 }
 
-/// Notes of each of these pairs which row had it last.
-fn note_earlier(earlier: &mut Vec<u32>, newest: &HashMap<(u32, u32), u32>, pairs: &[(u32, u32)])
-    requires { length pairs.now ≤ vec_capacity earlier.old - vec_len earlier.old }
-    ensures items { earlier.new.items ≡ earlier.old.items ++ map (λ q. number_for newest.now q) pairs.now }
-    ensures spare { vec_capacity earlier.old - vec_len earlier.old
+/// Notes of each of these pairs which row had it last, and that a row, by one more than its number, is now the last one that has it, with so
+/// many pairs that count.
+fn note(
+    earlier: &mut Vec<u32>,
+    seen: &mut HashMap<(u32, u32), Seen>,
+    pairs: &[(u32, u32)],
+    row: u32,
+    size: u32,
+)
+    requires ascending { AreAscending pairs.now }
+    requires earlier { length pairs.now ≤ vec_capacity earlier.old - vec_len earlier.old }
+    requires seen { length pairs.now ≤ spare seen.old }
+    ensures items { earlier.new.items ≡ earlier.old.items ++ map (λ q. number_for seen.old q) pairs.now }
+    ensures spare_earlier { vec_capacity earlier.old - vec_len earlier.old
         ≤ vec_capacity earlier.new - vec_len earlier.new + length pairs.now }
+    ensures spare_seen { spare seen.old ≤ spare seen.new + length pairs.now }
+    ensures told { (pair : ℕ × ℕ) → number_for seen.new pair
+        ≡ (if is_among pairs.now pair then row else number_for seen.old pair) }
+    ensures sized { (pair : ℕ × ℕ) → size_for seen.new pair
+        ≡ (if is_among pairs.now pair then max (size_for seen.old pair) size else size_for seen.old pair) }
 {
     for pair in pairs {
-        let has_room = earlier.push(newest.get(pair).copied().unwrap_or(0)).is_ok();
+        let before = seen.get(pair).copied().unwrap_or(UNSEEN);
+        let has_room = earlier.push(before.row).is_ok();
         prove!(has_room);
+        let has_place = seen
+            .insert(
+                *pair,
+                Seen {
+                    row,
+                    size: before.size.max(size),
+                },
+            )
+            .is_ok();
+        prove!(has_place);
     }
 }
 
-/// Notes of these pairs that a row, by one more than its number, is the last one that has them.
-fn note(newest: &mut HashMap<(u32, u32), u32>, pairs: &[(u32, u32)], row: u32)
-    requires { length pairs.now ≤ spare newest.old }
-    ensures spare { spare newest.old ≤ spare newest.new + length pairs.now }
-    ensures told { (pair : ℕ × ℕ) → number_for newest.new pair
-        ≡ (if is_among pairs.now pair then row else number_for newest.old pair) }
+/// Whether one of these pairs counts, and no build with it has more than `most` pairs that count.
+fn has_small(
+    scopes: &Scopes,
+    seen: &HashMap<(u32, u32), Seen>,
+    pairs: &[(u32, u32)],
+    most: usize,
+) -> bool
+    ensures { IsTrue result → HasSmall scopes.now pairs.now (λ q. size_for seen.now q) most }
 {
-    for pair in pairs {
-        let has_room = newest.insert(*pair, row).is_ok();
-        prove!(has_room);
+    for (scope, place) in pairs {
+        let size = seen.get(&(*scope, *place)).copied().unwrap_or(UNSEEN).size;
+        if does_count(scopes, *scope) && size as usize <= most {
+            return true;
+        }
     }
+    false
 }
 
-/// Notes that a row, by one more than its number, is the last one with this print.
-fn note_print(prints: &mut HashMap<u32, u32>, print: u32, row: u32)
+/// Notes that a row, by one more than its number, is the last one with this print, unless it is of a new kind.
+fn note_print(prints: &mut HashMap<u32, u32>, is_new_kind: bool, print: u32, row: u32)
     requires { 0 < spare prints.old }
     ensures spare { spare prints.old ≤ spare prints.new + 1 }
-    ensures told { (n : ℕ) → row_for prints.new n ≡ (if print == n then row else row_for prints.old n) }
+    ensures unless { IsTrue is_new_kind → (n : ℕ) → row_for prints.new n ≡ row_for prints.old n }
+    ensures told { IsTrue (not is_new_kind) → (n : ℕ) → row_for prints.new n
+        ≡ (if print == n then row else row_for prints.old n) }
 {
+    if is_new_kind {
+        return;
+    }
     let has_room = prints.insert(print, row).is_ok();
     prove!(has_room);
 }

@@ -13,7 +13,7 @@ loop-scope-preserved c =
     let is = c.loop-scope.invariant in
     elim c.if-does_count.branch [
       | then-does_count w ↦ (let t = sym c.does_count.ensures ∙ w.if-does_count.true in (
-        w.number-is ∙ ap (λ n. (n * 1000003 + x.0 * 100001 + x.1) % 4294967291) is.0 ∙ sym (print_more scopes xs i (0, 0) c.loop-scope-test.true t),
+        w.number-is ∙ ap (λ n. (n * 1000003 + x.0 * 100001 + x.1) % 4294967296) is.0 ∙ sym (print_more scopes xs i (0, 0) c.loop-scope-test.true t),
         w.size-is ∙ ap (λ n. n + 1) is.1 ∙ sym (size_more scopes xs i (0, 0) c.loop-scope-test.true t),
         omega (arith, w.number-is),
         omega (arith, w.size-is, is.3),

@@ -29,7 +29,7 @@ returns c =
     ∙ ap (λ b. b.pairs) (row_at pool rows k r (omega (arith, fits)) here) in
     let P : List (ℕ × ℕ) → Type 0 = λ xs. Contains xs pair in
     let stands = c.place_of-at.ensures (subst P (sym c.pairs.ensures.value) c.requires.has) in
-    let last = earlier_row pool rows earlier (λ q. number_for c.self.inside.newest q) k at build r pair c.self.invariant.0 fits here (omega (arith, stands.0, ap length shown))
+    let last = earlier_row pool rows earlier (λ q. number_for c.self.inside.seen q) k at build r pair c.self.invariant.0 fits here (omega (arith, stands.0, ap length shown))
     (ap (λ xs. slice_index_or xs at (0, 0)) (sym shown) ∙ stands.1) in
     let V : JobRowsValue → Type 0 = λ v. c.index.result.now ≡ last_with (drop (build + 1) v.builds) pair in
     subst V c.self.view_is (c.index.ensures ∙ get_or_default earlier (r.from + at) _ 0 last.1 ∙ last.0)
