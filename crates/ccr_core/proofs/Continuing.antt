@@ -6,7 +6,7 @@ use Rattle.ccr_history.specs.Changes.{changed}
 use Rattle.ccr_history.specs.History.{HistoryData}
 use Rattle.ccr_pipeline.specs.Pipelines.{PipelineData}
 use Rattle.ccr_pipeline.specs.Tree.{Tree}
-use Rattle.ccr_steps.specs.Asks.{AnswerData, Exchange, exchange, Chosen}
+use Rattle.ccr_steps.specs.Asks.{Exchange, exchange, Chosen}
 use Rattle.ccr_steps.specs.Progress.{IsNext}
 use Rattle.ccr_steps.specs.Runs.{RunData, run_data, StandsFor, HasTurn}
 use Rattle.ccr_steps.specs.declared.outcome.Outcome.{Outcome}
@@ -19,7 +19,7 @@ use Rattle.ccr_core.specs.Addressed.{AnswerTo, addressed}
 use Rattle.ccr_core.specs.Events.{EventData}
 use Rattle.ccr_core.specs.Faults.{HasOtherTurn, AnswerMeets, MayRefuse}
 use Rattle.ccr_core.specs.Going.{CanGoOn, EndsFit, GoesOn, PushIsFull, IsRefused}
-use Rattle.ccr_core.specs.Holding.{CoreData, name_data, name_index, AreRuns, Stands, IsCore, Takes}
+use Rattle.ccr_core.specs.Holding.{CoreData, name_data, name_index, AreRuns, Stands, IsCore, TakesSaid}
 use Rattle.ccr_core.specs.Seen.{report_by}
 use Rattle.ccr_core.specs.State.{State, no_pipeline, pipeline_of, moved_on, running_at, replaced, without}
 use Rattle.ccr_core.specs.Steps.{Step}
@@ -36,10 +36,6 @@ some_same o x y p q = let same : Some x ≡ Some y = sym p ∙ q in cc same
 -- the turn of a machine is that of the build that it stands for
 abbrev pub TurnIs : RunData → ℕ → Type 0
 TurnIs r n = (plan : Tree) (inputs : Chosen) (es : List Exchange) → StandsFor r plan inputs es → HasTurn es n
-
--- an answer to what a build asked at a turn
-abbrev pub at_turn : Text → ℕ → ℕ → AnswerData → AnswerTo
-at_turn job number turn x = record { job = job; number = number; turn = Some turn; given = x }
 
 module _ (s : State) (e : EventData) (a : AnswerTo) (said : addressed e ≡ Some a) where
   -- ---- refusals
@@ -123,15 +119,15 @@ can_go_on s j m ns rs k d f sound = (is_running s.history f.b own.held, (f.b.pla
         moved_fit (pipeline_of s) (changed (report_by (pipeline_of s) a x) s.history) f.b.inputs f.b.plan (f.b.exchanges ++ exchange a x ∷ []) o g then.got then.known then.pushes means
 
 -- ---- what the parts of a core do at an answer
-module _ (h : HistoryData) (pl : Option PipelineData) (budget : ℕ) (ns : Names) (rs : List BuildRun) (e : EventData) (a : AnswerTo) (said : addressed e ≡ Some a) where
+module _ (h : HistoryData) (pl : Option PipelineData) (budget : ℕ) (ns : Names) (rs : List BuildRun) (a : AnswerTo) where
   abbrev pub held : HistoryData → Names → List BuildRun → CoreData
   held g ms qs = record { history = g; pipeline = pl; budget = budget; names = map name_data ms; runs = map run_data qs }
 
-  pub bare : IsCore (held h ns rs) → pl ≡ None → Takes (held h ns rs) (held h ns rs) e (Err NoBuild)
-  bare core none = refuses (held h ns rs) e NoBuild (λ s st. refuses_none s e a said (ap (running_at a.job a.number) (idle (held h ns rs) core none s st)))
+  pub bare : IsCore (held h ns rs) → pl ≡ None → TakesSaid (held h ns rs) (held h ns rs) a (Err NoBuild)
+  bare core none e said = refuses (held h ns rs) e NoBuild (λ s st. refuses_none s e a said (ap (running_at a.job a.number) (idle (held h ns rs) core none s st)))
 
-  pub none_there : length rs ≤ name_index a.job a.number (map name_data ns) → Takes (held h ns rs) (held h ns rs) e (Err NoBuild)
-  none_there past = refuses (held h ns rs) e NoBuild (λ s st. refuses_none s e a said (lost a.job a.number ns rs s.running st.3 past))
+  pub none_there : length rs ≤ name_index a.job a.number (map name_data ns) → TakesSaid (held h ns rs) (held h ns rs) a (Err NoBuild)
+  none_there past e said = refuses (held h ns rs) e NoBuild (λ s st. refuses_none s e a said (lost a.job a.number ns rs s.running st.3 past))
 
   module _ (p : PipelineData) (piped : pl ≡ Some p) (k : ℕ) (d : BuildRun) (at : k ≡ name_index a.job a.number (map name_data ns)) (lt : k < length rs) where
     there : (s : State) → Stands (held h ns rs) s → Found a.job a.number ns rs s.running k d
@@ -159,20 +155,20 @@ module _ (h : HistoryData) (pl : Option PipelineData) (budget : ℕ) (ns : Names
         (subst (λ q. GoesOn q h (run_data (get_or rs k d)) a.job a.number a.given o g r) (pipe s st) goes)))
 
     module _ (n : ℕ) (has : TurnIs (run_data (get_or rs k d)) n) where
-      pub other_turn : IsSomeAnd a.turn (λ turn. n ≡ turn → ⊥) → Takes (held h ns rs) (held h ns rs) e (Err NotWanted)
-      other_turn ne = refuses (held h ns rs) e NotWanted (λ s st. refuses_turn s e a said ns rs k d (there s st) n has ne)
+      pub other_turn : IsSomeAnd a.turn (λ turn. n ≡ turn → ⊥) → TakesSaid (held h ns rs) (held h ns rs) a (Err NotWanted)
+      other_turn ne e said = refuses (held h ns rs) e NotWanted (λ s st. refuses_turn s e a said ns rs k d (there s st) n has ne)
 
-      pub not_taken : IfSome a.turn (λ turn. n ≡ turn) → (fault : CoreFault) → IsRefused p h (run_data (get_or rs k d)) a.given fault → Takes (held h ns rs) (held h ns rs) e (Err fault)
-      not_taken same fault why = refuses (held h ns rs) e fault (λ s st.
+      pub not_taken : IfSome a.turn (λ turn. n ≡ turn) → (fault : CoreFault) → IsRefused p h (run_data (get_or rs k d)) a.given fault → TakesSaid (held h ns rs) (held h ns rs) a (Err fault)
+      not_taken same fault why e said = refuses (held h ns rs) e fault (λ s st.
           (let f = there s st in
           let here : IsRefused (pipeline_of s) s.history (run_data (get_or rs k d)) a.given fault = subst (λ y. IsRefused (pipeline_of s) y (run_data (get_or rs k d)) a.given fault) st.0 (subst (λ q. IsRefused q h (run_data (get_or rs k d)) a.given fault) (pipe s st) why) in
           refuses_so s e a said ns rs k d f n has same fault (here f.b.plan f.b.inputs f.b.exchanges (f.stands, f.waits))))
 
-      pub taken_on : IfSome a.turn (λ turn. n ≡ turn) → (g : HistoryData) (r : BuildRun) → GoesOn p h (run_data (get_or rs k d)) a.job a.number a.given None g (run_data r) → Takes (held h ns rs) (held g ns (set rs k r)) e (Ok Goes)
-      taken_on same g r goes s st = answer_goes s e a said ns rs k d (there s st) n has same pl budget g r st.1 st.2 (on s st None g (run_data r) goes)
+      pub taken_on : IfSome a.turn (λ turn. n ≡ turn) → (g : HistoryData) (r : BuildRun) → GoesOn p h (run_data (get_or rs k d)) a.job a.number a.given None g (run_data r) → TakesSaid (held h ns rs) (held g ns (set rs k r)) a (Ok Goes)
+      taken_on same g r goes e said s st = answer_goes s e a said ns rs k d (there s st) n has same pl budget g r st.1 st.2 (on s st None g (run_data r) goes)
 
-      pub taken_to_end : IfSome a.turn (λ turn. n ≡ turn) → (g : HistoryData) (r : BuildRun) (o : Outcome) (ms : Names) (qs : List BuildRun) → ms ≡ take k ns ++ drop (suc k) ns → qs ≡ take k rs ++ drop (suc k) rs → GoesOn p h (run_data (get_or rs k d)) a.job a.number a.given (Some o) g (run_data r) → Takes (held h ns rs) (held g ms qs) e (Ok (Ends o))
-      taken_to_end same g r o ms qs me qe goes s st = answer_ends s e a said ns rs k d (there s st) n has same pl budget g r o ms qs st.1 st.2 me qe (on s st (Some o) g (run_data r) goes)
+      pub taken_to_end : IfSome a.turn (λ turn. n ≡ turn) → (g : HistoryData) (r : BuildRun) (o : Outcome) (ms : Names) (qs : List BuildRun) → ms ≡ take k ns ++ drop (suc k) ns → qs ≡ take k rs ++ drop (suc k) rs → GoesOn p h (run_data (get_or rs k d)) a.job a.number a.given (Some o) g (run_data r) → TakesSaid (held h ns rs) (held g ms qs) a (Ok (Ends o))
+      taken_to_end same g r o ms qs me qe goes e said s st = answer_ends s e a said ns rs k d (there s st) n has same pl budget g r o ms qs st.1 st.2 me qe (on s st (Some o) g (run_data r) goes)
 
 -- ---- lists of machines
 -- a machine that is as it was leaves all as they were

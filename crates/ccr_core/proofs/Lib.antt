@@ -22,6 +22,7 @@ pub mod Resuming
 pub mod Piping
 pub mod Standing
 pub mod Wanting
+pub mod Aborting
 pub mod Asking
 pub mod Ordering
 pub mod Answering

@@ -9,7 +9,7 @@ use Rattle.ccr_steps.specs.Asks.{AnswerData}
 use Rattle.ccr_core.specs.declared.reply.Reply.{Reply}
 use Rattle.ccr_core.specs.declared.reply.Reply.TheVariants.{Goes, Ends}
 use Rattle.ccr_core.specs.Addressed.{AnswerTo, addressed}
-use Rattle.ccr_core.specs.Events.{EventData, set_pipeline, checked, schedule, trigger, answer, pin, unpin, restart}
+use Rattle.ccr_core.specs.Events.{EventData, set_pipeline, checked, schedule, trigger, answer, abort, pin, unpin, restart}
 use Rattle.ccr_core.specs.Fates.{HasRestart, HasFate, EachHasItsFate, EndedStays}
 use Rattle.ccr_core.specs.Kept.{IsEvent, IsStart}
 use Rattle.ccr_core.specs.Own.{said_to, own, own_of}
@@ -123,6 +123,7 @@ module _ (start : State) (begins : IsStart start) where
     ends_here (schedule job) step = meant_here (schedule job) (λ e. cc (e)) step
     ends_here (trigger job) step = meant_here (trigger job) (λ e. cc (e)) step
     ends_here (answer job number turn x) step = meant_here (answer job number turn x) (λ e. cc (e)) step
+    ends_here (abort job number) step = meant_here (abort job number) (λ e. cc (e)) step
     ends_here (pin resource p) step = meant_here (pin resource p) (λ e. cc (e)) step
     ends_here (unpin resource) step = meant_here (unpin resource) (λ e. cc (e)) step
     ends_here restart step =

@@ -1,16 +1,14 @@
 -- Builds of a core that want something.
-use Rattle.std.proofs.Common.{◌≡◌, ◌≢◌, ◌⊎◌, inl, inr, ℕ, zero, suc, ◌==◌, Bool, true, false, cond, ◌&&◌, List, [], ◌∷◌, slice_get, Option, Some, None, Err, bytes_eq, refl, sym, ap, ◌∙◌, subst}
+use Rattle.std.proofs.Common.{◌≡◌, ◌≢◌, ◌⊎◌, inl, inr, ℕ, zero, suc, ◌==◌, Bool, true, false, cond, ◌&&◌, List, [], ◌∷◌, slice_get, Option, Some, None, bytes_eq, refl, sym, ap, ◌∙◌, subst}
 use Rattle.ccr_history.specs.Text.{Text}
 use Rattle.ccr_steps.specs.Asks.{AnswerData}
-use Rattle.ccr_steps.specs.Progress.{IsNext}
 use Rattle.ccr_steps.specs.Runs.{RunData, HasTurn}
-use Rattle.ccr_steps.specs.Asks.{ask_data}
 use Rattle.ccr_steps.specs.declared.ask.Ask.{Ask}
 use Rattle.ccr_core.specs.declared.fault.CoreFault.{CoreFault}
 use Rattle.ccr_core.specs.declared.fault.CoreFault.TheVariants.{NoPipeline, NoJob, NoResource, NoBuild, BuildsOpen, NotWanted, TooManyOpen, TableFull, NoMemory}
 use Rattle.ccr_core.specs.Events.{answer}
 use Rattle.ccr_core.specs.Faults.{Meets, MayRefuse}
-use Rattle.ccr_core.specs.Holding.{CoreData, AreRuns, IsCore, IsAsked}
+use Rattle.ccr_core.specs.Holding.{AreRuns, IsAsked}
 use Rattle.ccr_core.specs.State.{RunningData, State, is_run_of, running_at}
 use Rattle.ccr_core.specs.Wanting.{EachWants, WantedIsTaken}
 use Rattle.ccr_core.proofs.Reaching.{firm}
@@ -43,7 +41,7 @@ each_wants c k n w core at wants none =
     by (Some b) some asked = asked
 
 -- a build that is asked at this turn has no other
-asked_there : (o : Option RunningData) (turn : ℕ) (ask : Ask) → IsAsked o (Some (turn, ask)) → (b : RunningData) × (o ≡ Some b) × HasTurn b.exchanges turn
+pub asked_there : (o : Option RunningData) (turn : ℕ) (ask : Ask) → IsAsked o (Some (turn, ask)) → (b : RunningData) × (o ≡ Some b) × HasTurn b.exchanges turn
 asked_there None turn ask asked = absurd asked
 asked_there (Some b) turn ask (own, next) = (b, refl, own)
 

@@ -5,16 +5,17 @@ use Rattle.ccr_history.specs.TextMap.{TextMap}
 use Rattle.ccr_pipeline.specs.Pipelines.{PipelineData, pipeline_data}
 use Rattle.ccr_steps.specs.Asks.{AnswerData, answer_data}
 use Rattle.ccr_core.specs.declared.event.Event.{Event}
-use Rattle.ccr_core.specs.declared.event.Event.TheVariants.{SetPipeline, Checked, Schedule, Trigger, Answer, Pin, Unpin, Restart}
+use Rattle.ccr_core.specs.declared.event.Event.TheVariants.{SetPipeline, Checked, Schedule, Trigger, Answer, Abort, Pin, Unpin, Restart}
 
 -- what happens: a new pipeline, what a check found, a build that is to be made where there is something new or by
--- command, an answer to what a build asked at a turn, a pin by command, its end, or a restart
+-- command, an answer to what a build asked at a turn, an abort of a build, a pin by command, its end, or a restart
 pub data EventData : Type 0 where
   set_pipeline : PipelineData → EventData
   checked : (resource : Text) (versions : List TextMap) → EventData
   schedule : (job : Text) → EventData
   trigger : (job : Text) → EventData
   answer : (job : Text) (number turn : ℕ) (x : AnswerData) → EventData
+  abort : (job : Text) (number : ℕ) → EventData
   pin : (resource : Text) (pin : TextMap) → EventData
   unpin : (resource : Text) → EventData
   restart : EventData
@@ -26,6 +27,7 @@ event_data (Checked resource versions) = checked (string_bytes resource) version
 event_data (Schedule job) = schedule (string_bytes job)
 event_data (Trigger job) = trigger (string_bytes job)
 event_data (Answer job number turn x) = answer (string_bytes job) number turn (answer_data x)
+event_data (Abort job number) = abort (string_bytes job) number
 event_data (Pin resource p) = pin (string_bytes resource) p
 event_data (Unpin resource) = unpin (string_bytes resource)
 event_data Restart = restart

@@ -11,7 +11,7 @@ use Rattle.ccr_core.specs.declared.fault.CoreFault.TheVariants.{NoPipeline, NoJo
 use Rattle.ccr_core.specs.declared.limit.TheConstants.{MOST_RUNNING}
 use Rattle.ccr_problem.specs.ProblemOf.{resource_of, job_of}
 use Rattle.ccr_core.specs.Addressed.{AnswerTo, addressed}
-use Rattle.ccr_core.specs.Events.{EventData, set_pipeline, checked, schedule, trigger, answer, pin, unpin, restart}
+use Rattle.ccr_core.specs.Events.{EventData, set_pipeline, checked, schedule, trigger, answer, abort, pin, unpin, restart}
 use Rattle.ccr_core.specs.State.{RunningData, State, resources_of, jobs_of, running_at}
 use Rattle.ccr_core.specs.Seen.{Overfills, pushed_by}
 
@@ -67,6 +67,7 @@ MeetsBy s None (checked resource vs) f = ReportMeets s resource vs f
 MeetsBy s None (schedule job) f = JobMeets s job f
 MeetsBy s None (trigger job) f = JobMeets s job f
 MeetsBy s None (answer job number turn x) f = ⊥
+MeetsBy s None (abort job number) f = ⊥
 MeetsBy s None (pin resource p) f = ResourceMeets s resource f
 MeetsBy s None (unpin resource) f = ResourceMeets s resource f
 MeetsBy s None restart f = ⊥

@@ -15,6 +15,7 @@ use Rattle.ccr_steps.specs.Asks.{AskData, ask_data, ask_resource}
 use Rattle.ccr_steps.specs.Progress.{IsAllowed, IsNext}
 use Rattle.ccr_steps.specs.Runs.{RunData, StandsFor, HasTurn}
 use Rattle.ccr_steps.specs.declared.ask.Ask.{Ask}
+use Rattle.ccr_core.specs.Addressed.{AnswerTo, addressed}
 use Rattle.ccr_core.specs.Events.{EventData}
 use Rattle.ccr_core.specs.Kept.{IsEvent, IsStart}
 use Rattle.ccr_core.specs.Replies.{Replied}
@@ -64,6 +65,10 @@ pub record IsCore (c : CoreData) : Type 0 where
 -- A STEP leads from each state that the core stood for to one that it stands for
 abbrev pub Takes : CoreData → CoreData → EventData → Replied → Type 0
 Takes old new e r = (s : State) → Stands old s → (after : State) × Step s e r after × Stands new after
+
+-- A STEP by whatever event says this to a build
+abbrev pub TakesSaid : CoreData → CoreData → AnswerTo → Replied → Type 0
+TakesSaid old new a r = (e : EventData) → addressed e ≡ Some a → Takes old new e r
 
 -- what a running build wants: nothing exactly where it doesn't run; else the ask that follows its exchanges, at its
 -- turn

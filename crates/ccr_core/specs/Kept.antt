@@ -11,7 +11,7 @@ use Rattle.ccr_pipeline.specs.Links.{AreLinked}
 use Rattle.ccr_pipeline.specs.Pipelines.{PipelineData}
 use Rattle.ccr_steps.specs.Asks.{AnswerData, pushed}
 use Rattle.ccr_core.specs.Addressed.{AnswerTo, addressed}
-use Rattle.ccr_core.specs.Events.{EventData, set_pipeline, checked, schedule, trigger, answer, pin, unpin, restart}
+use Rattle.ccr_core.specs.Events.{EventData, set_pipeline, checked, schedule, trigger, answer, abort, pin, unpin, restart}
 use Rattle.ccr_core.specs.Replies.{Replied}
 use Rattle.ccr_core.specs.Seen.{AreThoseUsed}
 use Rattle.ccr_core.specs.State.{RunningData, State, pipeline_of}
@@ -36,6 +36,7 @@ IsEventBy None (checked resource vs) = AllByRecursion IsAscending vs
 IsEventBy None (schedule job) = ⊤
 IsEventBy None (trigger job) = ⊤
 IsEventBy None (answer job number turn x) = ⊥
+IsEventBy None (abort job number) = ⊥
 IsEventBy None (pin resource p) = IsAscending p
 IsEventBy None (unpin resource) = ⊤
 IsEventBy None restart = ⊤

@@ -19,6 +19,7 @@ pub mod Resumed
 pub mod Opening
 pub mod Positions
 pub mod Wanting
+pub mod Aborting
 pub mod Endings
 pub mod Going
 pub mod Picking

@@ -11,7 +11,7 @@ use Rattle.ccr_core.specs.Addressed.{AnswerTo, addressed}
 use Rattle.ccr_core.specs.Busy.{is_busy}
 use Rattle.ccr_core.specs.Builds.{Makes, Takes, cut}
 use Rattle.ccr_core.specs.Choices.{best, nothing, over_budget, Finds, used_at, is_new}
-use Rattle.ccr_core.specs.Events.{EventData, set_pipeline, checked, schedule, trigger, answer, pin, unpin, restart}
+use Rattle.ccr_core.specs.Events.{EventData, set_pipeline, checked, schedule, trigger, answer, abort, pin, unpin, restart}
 use Rattle.ccr_core.specs.Faults.{MayRefuse, IsFree}
 use Rattle.ccr_core.specs.Replies.{Replied}
 use Rattle.ccr_core.specs.Seen.{report, news_of}
@@ -82,6 +82,7 @@ DoesBy s None (checked resource vs) r after = ⊥
 DoesBy s None (schedule job) r after = (j : JobData) × (job_of job (jobs_of s) ≡ Some j) × Schedules s j r after
 DoesBy s None (trigger job) r after = (j : JobData) × (job_of job (jobs_of s) ≡ Some j) × Triggers s j r after
 DoesBy s None (answer job number turn x) r after = ⊥
+DoesBy s None (abort job number) r after = ⊥
 DoesBy s None (pin resource p) Pinned after = after ≡ with_history s (edited (pin_set resource p) s.history)
 DoesBy s None (pin resource p) r after = ⊥
 DoesBy s None (unpin resource) Unpinned after = after ≡ with_history s (edited (pin_cleared resource) s.history)

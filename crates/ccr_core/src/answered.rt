@@ -1,11 +1,12 @@
 //! Answers to what builds asked.
-ghost use Rattle.std.specs.Prelude.{◌≡◌, Ok, Err, map, IfOk, IfErr, OnOk, OnErr};
+ghost use Rattle.std.specs.Prelude.{◌≡◌, ◌≢◌, Ok, Err, map, IsTrue, IsFalse, IsSomeAnd, IfOk, IfErr, OnOk, OnErr};
+ghost use Rattle.std.specs.Option.{IfSome};
 ghost use Rattle.ccr_history.specs.Edits.{edit_data};
 ghost use Rattle.ccr_steps.specs.Asks.{answer_data};
+ghost use Rattle.ccr_core.specs.Addressed.{answer_to};
 ghost use Rattle.ccr_core.specs.Cores.{core_data};
-ghost use Rattle.ccr_core.specs.Events.{answer};
 ghost use Rattle.ccr_core.specs.Going.{Changes};
-ghost use Rattle.ccr_core.specs.Holding.{IsCore, Takes};
+ghost use Rattle.ccr_core.specs.Holding.{IsCore, TakesSaid};
 ghost use Rattle.ccr_core.specs.Kept.{IsAnswer};
 
 use crate::fault::CoreFault;
@@ -17,22 +18,34 @@ use ccr_history::Change;
 use ccr_steps::Answered;
 use std::alloc::Global;
 
+/// Whether a turn is named that isn't this one.
+fn names_other(turn: Option<u64>, present: u64) -> bool
+    ensures other { IsTrue result → IsSomeAnd turn (λ named. present ≢ named) }
+    ensures own { IsFalse result → IfSome turn (λ named. present ≡ named) }
+{
+    match turn {
+        Some(named) => present != named,
+        None => false,
+    }
+}
+
 impl Parts {
-    /// An answer to what the job's build of this number asked at this turn. Where it is refused, nothing changes.
+    /// An answer to what the job's build of this number asked at this turn, or, where no turn is named, to what it
+    /// asks. Where it is refused, nothing changes.
     pub(crate) fn answer(
         &mut self,
         alloc: Global,
         job: &str,
         number: u32,
-        turn: u64,
+        turn: Option<u64>,
         answered: Answered,
     ) -> Result<(Reply, Change), CoreFault>
         requires { IsCore (core_data self.old) }
-        ensures step { IfOk result (λ r. Takes (core_data self.old) (core_data self.new)
-            (answer job.now number turn (answer_data answered)) (Ok r.0)) }
+        ensures step { IfOk result (λ r. TakesSaid (core_data self.old) (core_data self.new)
+            (answer_to job.now number turn (answer_data answered)) (Ok r.0)) }
         ensures change { IfOk result (λ r. Changes r.1.items self.old.history self.new.history) }
-        ensures refused { IfErr result (λ f. Takes (core_data self.old) (core_data self.old)
-            (answer job.now number turn (answer_data answered)) (Err f)) }
+        ensures refused { IfErr result (λ f. TakesSaid (core_data self.old) (core_data self.old)
+            (answer_to job.now number turn (answer_data answered)) (Err f)) }
         ensures unchanged { OnErr result (core_data self.new ≡ core_data self.old) }
         ensures kept { OnOk result (IsAnswer (answer_data answered)) }
         ensures budget { self.new.budget ≡ self.old.budget }
@@ -46,7 +59,7 @@ impl Parts {
             return Err(CoreFault::NoBuild);
         }
         let run = &mut self.runs[k];
-        if run.turn() != turn {
+        if names_other(turn, run.turn()) {
             return Err(CoreFault::NotWanted);
         }
         match answer_build(

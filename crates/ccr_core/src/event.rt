@@ -21,6 +21,9 @@ pub enum Event {
     /// far, modulo 2 to the 64th. `NoBuild` where no such build runs; `NotWanted` where it has another turn;
     /// `TableFull` where a pushed version would be one too many, as at `Checked`.
     Answer(String, u32, u64, Answered),
+    /// The job's build of this number is aborted: what it asks is answered with `Aborted`, whatever its turn is. Hooks
+    /// that follow ask as usual, and can be aborted too. `NoBuild` where no such build runs.
+    Abort(String, u32),
     /// The resource of this name is held to the versions that meet the pin, in place of an earlier pin. `NoPipeline`,
     /// `NoResource`.
     Pin(String, ccr_history::Pin),

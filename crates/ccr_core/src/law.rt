@@ -1,4 +1,5 @@
 //! The laws over every list of events.
+ghost use Rattle.ccr_core.specs.Aborting.{AbortIsAnswer, AbortMeetsNoBuild};
 ghost use Rattle.ccr_core.specs.Fates.{EachHasItsFate, EndedStays};
 ghost use Rattle.ccr_core.specs.Kept.{EachChangeIsTaken};
 ghost use Rattle.ccr_core.specs.Limits.{LimitsAreKept};
@@ -70,4 +71,13 @@ pub fn limits_are_kept()
 /// It is a law over the definitions alone; nothing runs.
 pub fn each_change_is_taken()
     ensures { EachChangeIsTaken }
+{}
+
+/// An abort of a build that runs is the answer, at its turn, that what it asks was aborted: it has the same replies and
+/// does the same. It meets no fault but `NoBuild`, and that exactly where no such build runs.
+///
+/// It is a law over the definitions alone; nothing runs.
+pub fn aborts_are_answers()
+    ensures same { AbortIsAnswer }
+    ensures meets { AbortMeetsNoBuild }
 {}

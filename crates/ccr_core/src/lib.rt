@@ -1,8 +1,8 @@
 //! The server without the world: events in, replies and changes of the history out.
 //!
 //! The core knows a history, a pipeline, and the builds that run. An [`Event`] is one atomic step: a new pipeline, what
-//! a check found, a build that is to be made, an answer to what a build asked, a pin, or a restart. It is answered by a
-//! [`Reply`], or refused with a [`CoreFault`], and then nothing changes.
+//! a check found, a build that is to be made, an answer to what a build asked, an abort of a build, a pin, or a restart.
+//! It is answered by a [`Reply`], or refused with a [`CoreFault`], and then nothing changes.
 //!
 //! What the core does is a relation on states: from a state, an event may have a reply and lead to another state. A run
 //! is a list of events with their replies, one step after another. Which programs ran, how long they took and what else
@@ -46,8 +46,8 @@ mod wanted;
 pub use event::Event;
 pub use fault::CoreFault;
 pub use law::{
-    each_change_is_taken, each_ends_as_meant, each_has_its_fate, each_has_its_own, limits_are_kept,
-    runs_agree,
+    aborts_are_answers, each_change_is_taken, each_ends_as_meant, each_has_its_fate,
+    each_has_its_own, limits_are_kept, runs_agree,
 };
 pub use limit::MOST_RUNNING;
 pub use machine::Core;

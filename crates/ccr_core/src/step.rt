@@ -12,6 +12,7 @@ use crate::fault::CoreFault;
 use crate::parts::Parts;
 use crate::reply::Reply;
 use ccr_history::Change;
+use ccr_steps::Answered;
 use std::alloc::Global;
 
 impl Parts {
@@ -32,7 +33,10 @@ impl Parts {
             Event::Schedule(job) => self.make(alloc, job.as_str(), false),
             Event::Trigger(job) => self.make(alloc, job.as_str(), true),
             Event::Answer(job, number, turn, answered) => {
-                self.answer(alloc, job.as_str(), number, turn, answered)
+                self.answer(alloc, job.as_str(), number, Some(turn), answered)
+            }
+            Event::Abort(job, number) => {
+                self.answer(alloc, job.as_str(), number, None, Answered::Aborted)
             }
             Event::Pin(resource, pin) => self.pin(alloc, resource.as_str(), pin),
             Event::Unpin(resource) => self.unpin(alloc, resource.as_str()),

@@ -5,7 +5,7 @@ ghost use Rattle.ccr_steps.specs.Asks.{ask_data};
 ghost use Rattle.ccr_core.specs.Cores.{core_data};
 ghost use Rattle.ccr_core.specs.Holding.{name_data, name_index, IsCore, NamesResource, Stands, Wants};
 ghost use Rattle.ccr_core.specs.State.{State};
-ghost use Rattle.ccr_core.specs.Wanting.{EachWants, WantedIsTaken};
+ghost use Rattle.ccr_core.specs.Wanting.{EachWants, WantedIsTaken, AbortIsTaken};
 
 use crate::parts::Parts;
 use ccr_steps::Ask;
@@ -43,11 +43,12 @@ impl Parts {
     }
 }
 
-/// Each build that runs in a core wants something; and an answer to what a build wants, at its turn, is refused only as
-/// `TableFull`, where what it pushes has no place, or out of memory.
+/// Each build that runs in a core wants something. An answer to what a build wants, at its turn, is refused only as
+/// `TableFull`, where what it pushes has no place, or out of memory; an abort of the build only out of memory.
 ///
 /// It is a law over the definitions alone; nothing runs.
 pub fn wants_are_answered()
     ensures each { EachWants }
     ensures taken { WantedIsTaken }
+    ensures aborted { AbortIsTaken }
 {}

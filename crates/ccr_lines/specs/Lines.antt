@@ -12,7 +12,7 @@ use Rattle.ccr_core.specs.declared.fault.CoreFault.TheVariants.{TooManyOpen, Tab
 use Rattle.ccr_core.specs.declared.reply.Reply.{Reply}
 use Rattle.ccr_core.specs.declared.reply.Reply.TheVariants.{Set, New, Made, NoneSatisfies, OverBudget, NotNew, Busy, Goes, Ends, Pinned, Unpinned, Restarted}
 use Rattle.ccr_core.specs.Builds.{status_of}
-use Rattle.ccr_core.specs.Events.{EventData, set_pipeline, checked, schedule, trigger, answer, pin, unpin, restart}
+use Rattle.ccr_core.specs.Events.{EventData, set_pipeline, checked, schedule, trigger, answer, abort, pin, unpin, restart}
 use Rattle.ccr_core.specs.Replies.{Replied}
 use Rattle.ccr_lines.specs.declared.cause.Cause.{Cause}
 use Rattle.ccr_lines.specs.declared.cause.Cause.TheVariants as cause
@@ -115,6 +115,8 @@ lines_of (trigger job) (Ok r) h = job_lines job r h
 lines_of (trigger job) (Err f) h = []
 lines_of (answer job number turn x) (Ok (Ends o)) h = build_line job number (status_word (status_of o))
 lines_of (answer job number turn x) r h = []
+lines_of (abort job number) (Ok (Ends o)) h = build_line job number (status_word (status_of o))
+lines_of (abort job number) r h = []
 lines_of (pin resource p) (Ok Pinned) h = line (codes "pinned " ∷ resource ∷ [])
 lines_of (pin resource p) r h = []
 lines_of (unpin resource) (Ok Unpinned) h = line (codes "unpinned " ∷ resource ∷ [])

@@ -35,6 +35,12 @@ fn answer(alloc: Global, given: &str) -> Result<Event, LineFault> {
     Ok(Event::Answer(job, number_of(number)?, turn_of(turn)?, answered))
 }
 
+fn abort(alloc: Global, given: &str) -> Result<Event, LineFault> {
+    let (job, number) = split(given);
+    let job = name_of(alloc, job)?;
+    Ok(Event::Abort(job, number_of(number)?))
+}
+
 fn pin(alloc: Global, given: &str) -> Result<Event, LineFault> {
     let (resource, pin) = split(given);
     let pin = pin_of(alloc, pin)?;
@@ -50,6 +56,7 @@ pub(crate) fn event_of(alloc: Global, kind: &str, given: &str) -> Result<Event, 
         "schedule" => Ok(Event::Schedule(name_of(alloc, given)?)),
         "trigger" => Ok(Event::Trigger(name_of(alloc, given)?)),
         "answer" => answer(alloc, given),
+        "abort" => abort(alloc, given),
         "pin" => pin(alloc, given),
         "unpin" => Ok(Event::Unpin(name_of(alloc, given)?)),
         "restart" => Ok(Event::Restart),

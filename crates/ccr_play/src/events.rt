@@ -2,8 +2,8 @@
 //!
 //! `core BUDGET` begins a core with nothing seen and no pipeline, whose searches take at most so many nodes. Each other line is
 //! an event, and its answer the core's reply or its fault: `pipeline JSON`, `checked RESOURCE VERSIONS`, `fill RESOURCE COUNT`,
-//! `schedule JOB`, `trigger JOB`, `answer JOB NUMBER TURN ANSWER`, `pin RESOURCE PIN`, `unpin RESOURCE`, `restart`. Or it asks
-//! what the core holds: `builds`, `tables`, `wants JOB NUMBER`. `docs/FORMATS.md` has the answers.
+//! `schedule JOB`, `trigger JOB`, `answer JOB NUMBER TURN ANSWER`, `abort JOB NUMBER`, `pin RESOURCE PIN`, `unpin RESOURCE`,
+//! `restart`. Or it asks what the core holds: `builds`, `tables`, `wants JOB NUMBER`. `docs/FORMATS.md` has the answers.
 ghost use Rattle.std.specs.Prelude.{◌≤◌};
 ghost use Rattle.ccr_proof.specs.declared.proof.TheConstants.{MOST_NODES};
 
