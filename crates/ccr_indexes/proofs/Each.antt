@@ -1,7 +1,12 @@
 -- Index by index.
-use Rattle.std.proofs.Common.{◌≡◌, ℕ, zero, suc, ◌+◌, ◌<◌, List, [], ◌∷◌, ◌++◌, length, map, take, drop, get_or, slice_get, true, Some, Result, Ok, Err, OnOk, OnErr, IsOk, refl, sym, ap, ◌∙◌, arith}
+use Rattle.std.proofs.Common.{◌≡◌, ℕ, zero, suc, ◌+◌, ◌<◌, ◌≤◌, List, [], ◌∷◌, ◌++◌, length, map, take, drop, get_or, slice_get, Bool, true, false, not, cond, ◌⊎◌, inl, inr, Some, None, subst, Result, Ok, Err, OnOk, OnErr, IsOk, refl, sym, ap, ◌∙◌, arith}
+use Rattle.std.specs.Prelude.{find, IsSomeAnd}
+use Rattle.std.specs.List.{position_or_len}
+use Rattle.std.specs.Str.{bytes_eq}
+use Rattle.std.proofs.lemmas.Bool.{cases_lt}
 use Rattle.std.proofs.lemmas.List.{length-map, get_or-map, same_lists, take_at}
 use Rattle.std.proofs.lemmas.Option.{get_or_from_slice_get, slice_get_within}
+use Rattle.ccr_history.specs.Text.{Text}
 use Rattle.ccr_history.specs.History.{HistoryData}
 use Rattle.ccr_pipeline.specs.Inputs.{inputs, are_few}
 use Rattle.ccr_pipeline.specs.JobData.{JobData, job_data}
@@ -10,7 +15,7 @@ use Rattle.ccr_pipeline.specs.declared.pipeline.Pipeline.{Pipeline}
 use Rattle.ccr_pipeline.specs.declared.resource.Job.{Job}
 use Rattle.ccr_choice.specs.Problem.{ProblemValue}
 use Rattle.ccr_index.specs.Index.{IndexValue}
-use Rattle.ccr_problem.specs.ProblemOf.{problem_with}
+use Rattle.ccr_problem.specs.ProblemOf.{job_of, problem_with, IsProblemOf}
 use Rattle.ccr_indexes.specs.Indexes.{problems, problems_of, AreIndexes}
 
 abbrev no_problem : ProblemValue
@@ -78,3 +83,38 @@ same_problems xs ys many each =
     same_lists (problems ys) (problems xs) (left ∙ many ∙ sym right) (λ k d within.
     let inside : k < length xs = omega (arith, within, left, many) in
     get_or-map (λ x. x.problem) ys k no_index d (omega (arith, inside, many)) ∙ each k no_index inside ∙ sym (get_or-map (λ x. x.problem) xs k no_index d inside))
+
+-- ---- the job of a name
+-- what stands where the first that passes does
+pub first_at : {X : Type 0} (t : X → Bool) (xs : List X) → slice_get xs (position_or_len t xs) ≡ find t xs
+first_at t [] = refl
+first_at t (x ∷ xs) = by (t x) (first_at t xs)
+  where
+    by : (b : Bool) → slice_get xs (position_or_len t xs) ≡ find t xs → slice_get (x ∷ xs) (cond (not b) (1 + position_or_len t xs) 0) ≡ cond b (Some x) (find t xs)
+    by true rec = refl
+    by false rec = let e : 1 + position_or_len t xs ≡ suc (position_or_len t xs) = omega arith in ap (slice_get (x ∷ xs)) e ∙ rec
+
+module _ (p : PipelineData) (h : HistoryData) (xs : List IndexValue) (are : AreIndexes p h xs) (name : Text) (k : ℕ) (at : k ≡ position_or_len (λ (j : JobData). bytes_eq name j.name) p.jobs) where
+  found : slice_get p.jobs k ≡ job_of name p.jobs
+  found = ap (slice_get p.jobs) at ∙ first_at (λ (j : JobData). bytes_eq name j.name) p.jobs
+
+  -- the index that stands there is that of the job
+  pub of_job_so : (x : IndexValue) → slice_get xs k ≡ Some x → IsProblemOf p h name x.problem
+  of_job_so x here =
+      let there = some_at p.jobs k (omega (arith, slice_get_within xs k x here, as_many p h xs are)) in
+      let job : job_of name p.jobs ≡ Some there.0 = sym found ∙ there.1 in
+      subst (λ o. IsSomeAnd o (λ j. x.problem ≡ problem_with p h (inputs j.plan))) (sym job)
+      (ap (λ (y : IndexValue). y.problem) (sym (get_or_from_slice_get xs k x x here)) ∙ index_at p h xs are k there.0 x there.1)
+
+  -- where none stands there, there is no such job
+  pub no_job_so : slice_get xs k ≡ None → job_of name p.jobs ≡ None
+  no_job_so none = sym found ∙ by (cases_lt k (length p.jobs))
+    where
+      past_end : (js : List JobData) (n : ℕ) → length js ≤ n → slice_get js n ≡ None
+      past_end [] n past = refl
+      past_end (j ∷ js) zero past = absurd (omega (arith, past))
+      past_end (j ∷ js) (suc n) past = past_end js n (omega (arith, past))
+
+      by : (k < length p.jobs) ⊎ (length p.jobs ≤ k) → slice_get p.jobs k ≡ None
+      by (inl less) = let there = some_at xs k (omega (arith, less, as_many p h xs are)) in absurd (cc (sym none ∙ there.1))
+      by (inr past) = past_end p.jobs k past

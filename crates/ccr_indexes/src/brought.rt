@@ -1,5 +1,5 @@
 //! What the end of a build brings to the indexes.
-ghost use Rattle.std.specs.Prelude.{◌≡◌, ◌≢◌, None, map, option_map, slice_index_or, AllPairs, IfOk};
+ghost use Rattle.std.specs.Prelude.{◌≡◌, ◌≢◌, [], None, map, option_map, slice_index_or, AllPairs, IfOk};
 ghost use Rattle.ccr_pipeline.specs.Inputs.{inputs};
 ghost use Rattle.ccr_pipeline.specs.Pipelines.{pipeline_data};
 ghost use Rattle.ccr_problem.specs.Follows.{passed_to};
@@ -52,6 +52,16 @@ fn passed_to_all(
 }
 
 impl Brought {
+    /// Nothing.
+    pub fn nothing(alloc: Global) -> Brought
+        ensures { result ≡ [] }
+    {
+        Brought {
+            number: 0,
+            to: Vec::new(alloc),
+        }
+    }
+
     /// What the end of a build, with these pairs, brings to the indexes of a pipeline's jobs.
     ///
     /// Of the history it reads the numbers of scopes alone. The caller gives each pair once. The only error is out of memory.

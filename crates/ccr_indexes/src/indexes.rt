@@ -1,6 +1,8 @@
 //! The indexes of a pipeline's jobs.
-ghost use Rattle.std.specs.Prelude.{◌≡◌, ◌≢◌, ◌<◌, ℕ, List, Option, [], None, true, false, length, map, option_map, slice_get, slice_index_or, IfOk, OnOk, OnErr};
+ghost use Rattle.std.specs.Prelude.{◌≡◌, ◌≢◌, ◌<◌, ℕ, List, Option, [], None, true, false, length, map, option_map, slice_get, slice_index_or, IfOk, IfSome, IfNone, OnOk, OnErr};
+ghost use Rattle.std.specs.List.{position_or_len};
 ghost use Rattle.std.specs.Option.{option_copied};
+ghost use Rattle.std.specs.Str.{bytes_eq};
 ghost use Rattle.ccr_history.specs.Builds.{is_succeeded};
 ghost use Rattle.ccr_history.specs.Changes.{ended, edited, AreMoved, IsRunning};
 ghost use Rattle.ccr_choice.specs.Problem.{BuildValue};
@@ -8,6 +10,8 @@ ghost use Rattle.ccr_history.specs.declared.build.Status.TheVariants.{Running};
 ghost use Rattle.ccr_index.specs.Index.{IndexValue};
 ghost use Rattle.ccr_pipeline.specs.Inputs.{inputs};
 ghost use Rattle.ccr_pipeline.specs.Pipelines.{pipeline_data};
+ghost use Rattle.ccr_pipeline.specs.JobData.{job_data};
+ghost use Rattle.ccr_problem.specs.ProblemOf.{job_of, IsProblemOf};
 ghost use Rattle.ccr_problem.specs.Follows.{has_newer, with_passed};
 ghost use Rattle.ccr_indexes.specs.Indexes.{problems, AreIndexes, AreBefore, IsBrought, FitsIn, HaveRoom};
 ghost use Rattle.ccr_indexes.specs.Passing.{CanAllTake};
@@ -16,7 +20,7 @@ use crate::brought::Brought;
 use crate::news::{follow, news_of};
 use ccr_history::{History, Reported, Status};
 use ccr_index::{Index, build_index};
-use ccr_pipeline::Pipeline;
+use ccr_pipeline::{Job, Pipeline};
 use ccr_problem::{Passed, builds_change_problems, problem_of_job, reports_change_problems};
 use std::alloc::{AllocError, Global};
 use std::marker::Model;
@@ -34,6 +38,26 @@ impl Model for Indexes {
     ghost Value = { List IndexValue };
 
     ghost view = { λ a. a.of_jobs.items };
+}
+
+/// Where the job of a name stands; past the end if there is none.
+fn job_position(jobs: &[Job], name: &str) -> usize
+    ensures { result ≡ position_or_len (λ j. bytes_eq name.now j.name) (map job_data jobs.now) }
+{
+    let mut position = 0;
+    for job in jobs {
+        if name == job.name.as_str() {
+            return position;
+        }
+        position += 1;
+    }
+    position
+}
+
+fn index_at(indexes: &[Index], position: usize) -> Option<&Index>
+    ensures { option_copied result ≡ slice_get indexes.now position }
+{
+    indexes.get(position)
 }
 
 fn indexes_of(
@@ -115,11 +139,15 @@ impl Indexes {
         })
     }
 
-    /// The index of the job at a position of the pipeline, if there are so many.
-    pub fn at(&self, position: usize) -> Option<&Index>
-        ensures { option_copied result ≡ slice_get self.now position }
+    /// The index of the job of a name, if the pipeline has such a job, where these are the indexes of its jobs with a history.
+    /// It stands for the job's problem. No memory is taken.
+    pub fn of_job(&self, pipeline: &Pipeline, history: &History, name: &str) -> Option<&Index>
+        requires { AreIndexes (pipeline_data pipeline.now) history.now self.now }
+        ensures some { IfSome result (λ index. IsProblemOf (pipeline_data pipeline.now) history.now name.now
+            index.now.problem) }
+        ensures none { IfNone result (job_of name.now (pipeline_data pipeline.now).jobs ≡ None) }
     {
-        self.of_jobs.get(position)
+        index_at(&self.of_jobs, job_position(pipeline.jobs(), name))
     }
 
     /// Makes room for what the end of a build brings. The problems stay, also where memory is refused.
