@@ -29,3 +29,4 @@ pub mod Answering
 pub mod Rows
 pub mod Making
 pub mod Busying
+pub mod Indexing

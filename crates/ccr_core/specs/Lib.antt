@@ -23,3 +23,4 @@ pub mod Aborting
 pub mod Endings
 pub mod Going
 pub mod Picking
+pub mod Indexed

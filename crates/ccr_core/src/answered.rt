@@ -6,6 +6,7 @@ ghost use Rattle.ccr_steps.specs.Asks.{answer_data};
 ghost use Rattle.ccr_core.specs.Addressed.{answer_to};
 ghost use Rattle.ccr_core.specs.Cores.{core_data};
 ghost use Rattle.ccr_core.specs.Going.{Changes};
+ghost use Rattle.ccr_core.specs.Indexed.{IsIndexed};
 ghost use Rattle.ccr_core.specs.Holding.{IsCore, TakesSaid};
 ghost use Rattle.ccr_core.specs.Kept.{IsAnswer};
 
@@ -40,7 +41,8 @@ impl Parts {
         turn: Option<u64>,
         answered: Answered,
     ) -> Result<(Reply, Change), CoreFault>
-        requires { IsCore (core_data self.old) }
+        requires core { IsCore (core_data self.old) }
+        requires indexed { IsIndexed self.old }
         ensures step { IfOk result (λ r. TakesSaid (core_data self.old) (core_data self.new)
             (answer_to job.now number turn (answer_data answered)) (Ok r.0)) }
         ensures change { IfOk result (λ r. Changes r.1.items self.old.history self.new.history) }
@@ -49,6 +51,7 @@ impl Parts {
         ensures unchanged { OnErr result (core_data self.new ≡ core_data self.old) }
         ensures kept { OnOk result (IsAnswer (answer_data answered)) }
         ensures budget { self.new.budget ≡ self.old.budget }
+        ensures indexed { IsIndexed self.new }
     {
         // Where no pipeline is set, nothing runs.
         let Some(pipeline) = &self.pipeline else {
@@ -66,6 +69,7 @@ impl Parts {
             alloc,
             pipeline,
             &mut self.history,
+            &mut self.indexes,
             run,
             job,
             number,

@@ -1,15 +1,19 @@
 //! How a build ends, and the history with it.
-ghost use Rattle.std.specs.Prelude.{◌≡◌, ◌<◌, map, IfOk, vec_len, vec_capacity};
+ghost use Rattle.std.specs.Prelude.{◌≡◌, ◌<◌, true, false, map, IfOk, IfSome, vec_len, vec_capacity};
 ghost use Rattle.ccr_history.specs.Changes.{changed, IsRunning};
 ghost use Rattle.ccr_history.specs.Edits.{edit_data, row_of, HaveTheirNumbers};
 ghost use Rattle.ccr_history.specs.History.{HistoryData};
 ghost use Rattle.ccr_pipeline.specs.Pipelines.{pipeline_data};
 ghost use Rattle.ccr_steps.specs.Runs.{run_data};
+ghost use Rattle.ccr_history.specs.Builds.{is_succeeded};
+ghost use Rattle.ccr_problem.specs.Follows.{has_newer};
+ghost use Rattle.ccr_indexes.specs.Indexes.{AreIndexes, IsBrought, HaveRoom};
 ghost use Rattle.ccr_core.specs.Builds.{status_of};
 ghost use Rattle.ccr_core.specs.Endings.{Stands, end_edits, PairsFit};
 
 use crate::place::places_of;
 use ccr_history::{Edit, Ended, History, Status};
+use ccr_indexes::{Brought, Indexes};
 use ccr_pipeline::Pipeline;
 use ccr_steps::{BuildRun, Outcome};
 use std::alloc::{AllocError, Global};
@@ -25,7 +29,7 @@ pub(crate) struct Ending {
     pub(crate) edits: Vec<Edit>,
 }
 
-fn status_of(outcome: Outcome) -> Status
+pub(crate) fn status_of(outcome: Outcome) -> Status
     ensures { result ≡ status_of outcome }
 {
     match outcome {
@@ -78,9 +82,14 @@ pub(crate) fn ending_of(
     })
 }
 
-/// Ends a build in the history, if it has ended. It takes no memory.
+/// Ends a build in the history and in the indexes, if it has ended, with what its end brings. It takes no memory.
+///
+/// There is room for what is brought, and if the build succeeded, no newer one of its job has.
 pub(crate) fn finish(
+    pipeline: &Pipeline,
     history: &mut History,
+    indexes: &mut Indexes,
+    brought: &Brought,
     job: &str,
     number: u32,
     outcome: Option<Outcome>,
@@ -88,11 +97,17 @@ pub(crate) fn finish(
 )
     requires running { IsRunning job.now number history.old.builds }
     requires fits { PairsFit history.old.tables outcome pairs.items }
-    ensures { history.new ≡ changed (end_edits job.now number outcome pairs.items) history.old }
+    requires indexed { AreIndexes (pipeline_data pipeline.now) history.old indexes.old }
+    requires newest { IfSome outcome (λ o. is_succeeded (status_of o) ≡ true
+        → has_newer job.now number history.old.builds ≡ false) }
+    requires brought { IfSome outcome (λ o. IsBrought (pipeline_data pipeline.now) history.old job.now number
+        (status_of o) pairs.items brought.now) }
+    requires room { HaveRoom brought.now indexes.old }
+    ensures history { history.new ≡ changed (end_edits job.now number outcome pairs.items) history.old }
+    ensures indexed { AreIndexes (pipeline_data pipeline.now) history.new indexes.new }
 {
     if let Some(outcome) = outcome {
-        history
-            .end_build_with(job, number, status_of(outcome), pairs)
-            .unwrap();
+        let status = status_of(outcome);
+        indexes.end(pipeline, history, brought, job, number, status, pairs);
     }
 }

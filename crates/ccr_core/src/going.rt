@@ -11,34 +11,43 @@ ghost use Rattle.ccr_core.specs.declared.fault.CoreFault.TheVariants.{TableFull,
 ghost use Rattle.ccr_core.specs.Builds.{Settles};
 ghost use Rattle.ccr_core.specs.Going.{CanGoOn, GoesOn, IsRefused, Changes, named};
 ghost use Rattle.ccr_core.specs.Kept.{IsAnswer};
+ghost use Rattle.ccr_indexes.specs.Indexes.{problems, AreIndexes};
+ghost use Rattle.ccr_core.specs.Indexed.{AreReported};
 ghost use Rattle.ccr_core.specs.Endings.{reports, report_edits, IsOver, EndFits, ReportFits};
 
-use crate::end::{Ending, ending_of, finish};
+use crate::end::{Ending, ending_of};
 use crate::fault::CoreFault;
+use crate::indexed::follow;
 use crate::pushed::{Report, append, report_by, rules_of, take_back};
 use ccr_history::{Edit, History, Reported};
+use ccr_indexes::Indexes;
 use ccr_pipeline::Pipeline;
 use ccr_steps::{Answered, BuildRun, Outcome};
 use std::alloc::{AllocError, Global};
 
-/// Ends a build in the history, if it has ended; its edits have room for one more. Where memory is refused, nothing
-/// changes.
+/// Ends a build in the history and in the indexes, if it has ended, after a report, if there was one; its edits have room
+/// for one more. Where memory is refused, nothing changes.
 fn settle(
     alloc: Global,
     pipeline: &Pipeline,
     history: &mut History,
+    indexes: &mut Indexes,
+    reported: &Option<Reported>,
     run: &BuildRun,
     job: &str,
     number: u32,
 ) -> Result<(Option<Outcome>, Vec<Edit>), AllocError>
     requires running { IsRunning job.now number history.old.builds }
     requires fits { EndFits (pipeline_data pipeline.now) history.old (run_data run.now) }
+    requires indexed { AreReported (pipeline_data pipeline.now) history.old reported.now indexes.old }
     ensures settled { IfOk result (λ r. (plan : Tree) (inputs : Chosen) (es : List Exchange)
         → StandsFor (run_data run.now) plan inputs es
         → Settles (pipeline_data pipeline.now) history.old (named job.now number plan inputs es) r.0 history.new) }
     ensures change { IfOk result (λ r. Changes r.1.items history.old history.new) }
     ensures room { IfOk result (λ r. vec_len r.1 < vec_capacity r.1) }
+    ensures indexed { OnOk result (AreIndexes (pipeline_data pipeline.now) history.new indexes.new) }
     ensures err { OnErr result (history.new ≡ history.old) }
+    ensures problems { OnErr result (problems indexes.new ≡ problems indexes.old) }
 {
     let row = history.row_of(job, number);
     let Ending {
@@ -46,7 +55,9 @@ fn settle(
         pairs,
         edits,
     } = ending_of(alloc, pipeline, history, run, job, number, row)?;
-    finish(history, job, number, outcome, pairs);
+    follow(
+        alloc, pipeline, history, indexes, reported, job, number, outcome, pairs,
+    )?;
     Ok((outcome, edits))
 }
 
@@ -66,6 +77,7 @@ fn go_on(
     alloc: Global,
     pipeline: &Pipeline,
     history: &mut History,
+    indexes: &mut Indexes,
     run: &BuildRun,
     job: &str,
     number: u32,
@@ -73,18 +85,22 @@ fn go_on(
 ) -> Result<(Option<Outcome>, Vec<Edit>), CoreFault>
     requires running { IsRunning job.now number history.old.builds }
     requires fits { ReportFits (pipeline_data pipeline.now) history.old report (run_data run.now) }
+    requires indexed { AreIndexes (pipeline_data pipeline.now) history.old indexes.old }
     ensures settled { IfOk result (λ r. (plan : Tree) (inputs : Chosen) (es : List Exchange)
         → StandsFor (run_data run.now) plan inputs es
         → Settles (pipeline_data pipeline.now) (changed (reports report) history.old)
         (named job.now number plan inputs es) r.0 history.new) }
     ensures change { IfOk result (λ r. Changes r.1.items history.old history.new) }
     ensures room { OnOk result (IsOver report history.old → ⊥) }
+    ensures indexed { AreIndexes (pipeline_data pipeline.now) history.new indexes.new }
     ensures err { OnErr result (history.new ≡ history.old) }
     ensures refused { IfErr result (λ f. (f ≡ NoMemory) ⊎ ((f ≡ TableFull) × IsOver report history.old)) }
 {
     history.rules();
     let reported = append(alloc, history, report)?;
-    match settle(alloc, pipeline, history, run, job, number) {
+    match settle(
+        alloc, pipeline, history, indexes, &reported, run, job, number,
+    ) {
         Ok((outcome, edits)) => Ok((outcome, with_report(reported, edits))),
         Err(fault) => {
             take_back(history, &reported);
@@ -98,15 +114,18 @@ pub(crate) fn answer_build(
     alloc: Global,
     pipeline: &Pipeline,
     history: &mut History,
+    indexes: &mut Indexes,
     run: &mut BuildRun,
     job: &str,
     number: u32,
     answer: Answered,
 ) -> Result<(Option<Outcome>, Vec<Edit>), CoreFault>
-    requires { CanGoOn (pipeline_data pipeline.now) history.old (run_data run.old) job.now number }
+    requires can { CanGoOn (pipeline_data pipeline.now) history.old (run_data run.old) job.now number }
+    requires indexed { AreIndexes (pipeline_data pipeline.now) history.old indexes.old }
     ensures on { IfOk result (λ r. GoesOn (pipeline_data pipeline.now) history.old (run_data run.old) job.now number
         (answer_data answer) r.0 history.new (run_data run.new)) }
     ensures change { IfOk result (λ r. Changes r.1.items history.old history.new) }
+    ensures indexed { AreIndexes (pipeline_data pipeline.now) history.new indexes.new }
     ensures history { OnErr result (history.new ≡ history.old) }
     ensures run { OnErr result (run_data run.new ≡ run_data run.old) }
     ensures refused { IfErr result (IsRefused (pipeline_data pipeline.now) history.old (run_data run.old)
@@ -122,7 +141,7 @@ pub(crate) fn answer_build(
         // It waits: only memory is refused.
         Err(_) => return Err(CoreFault::NoMemory),
     };
-    match go_on(alloc, pipeline, history, run, job, number, report) {
+    match go_on(alloc, pipeline, history, indexes, run, job, number, report) {
         Ok(gone) => Ok(gone),
         Err(fault) => {
             run.undo(before);

@@ -20,6 +20,7 @@ mod end;
 mod event;
 mod fault;
 mod going;
+mod indexed;
 mod law;
 mod limit;
 mod machine;

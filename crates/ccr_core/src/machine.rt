@@ -7,6 +7,7 @@ use crate::position::position_of;
 use crate::reply::Reply;
 use crate::resumed::begin;
 use ccr_history::{Change, History};
+use ccr_index::Index;
 use ccr_pipeline::Pipeline;
 use ccr_steps::Ask;
 use std::alloc::Global;
@@ -26,6 +27,7 @@ impl Model for Core {
     ghost use Rattle.ccr_core.specs.declared.parts.Parts.{Parts};
     ghost use Rattle.ccr_core.specs.Cores.{core_data};
     ghost use Rattle.ccr_core.specs.Holding.{IsCore};
+    ghost use Rattle.ccr_core.specs.Indexed.{IsIndexed};
 
     ghost Value = { Parts };
 
@@ -33,14 +35,15 @@ impl Model for Core {
 
     ghost view = { λ c. c.parts };
 
-    ghost invariant = { λ c. IsCore (core_data c.parts) };
+    ghost invariant = { λ c. IsCore (core_data c.parts) × IsIndexed c.parts };
 }
 
 impl Core {
-    ghost use Rattle.std.specs.Prelude.{◌≡◌, ◌≤◌, Ok, Err, map, option_map, IfOk, IfErr, OnErr};
+    ghost use Rattle.std.specs.Prelude.{◌≡◌, ◌≤◌, None, Ok, Err, map, option_map, IfOk, IfErr, IfNone, IsSomeAnd, OnErr};
     ghost use Rattle.std.specs.Option.{IfSome, option_copied};
     ghost use Rattle.ccr_history.specs.Edits.{edit_data};
     ghost use Rattle.ccr_pipeline.specs.Pipelines.{pipeline_data};
+    ghost use Rattle.ccr_problem.specs.ProblemOf.{job_of, IsProblemOf};
     ghost use Rattle.ccr_proof.specs.declared.proof.TheConstants.{MOST_NODES};
     ghost use Rattle.ccr_core.specs.Cores.{core_data};
     ghost use Rattle.ccr_core.specs.Events.{event_data};
@@ -127,6 +130,22 @@ impl Core {
         ensures { option_map pipeline_data (option_copied result) ≡ (core_data self.now).pipeline }
     {
         self.parts.pipeline.as_ref()
+    }
+
+    /// The index by which the next build of the job of a name is chosen; None exactly where the pipeline has no such job, or
+    /// none is set. It stands for the problem of the job. No memory is taken.
+    pub fn index(&self, job: &str) -> Option<&Index>
+        ensures some { IfSome result (λ index. IsSomeAnd (core_data self.now).pipeline
+            (λ p. IsProblemOf p (core_data self.now).history job.now index.now.problem)) }
+        ensures none { IfNone result (IfSome (core_data self.now).pipeline (λ p. job_of job.now p.jobs ≡ None)) }
+    {
+        match &self.parts.pipeline {
+            Some(pipeline) => {
+                let indexes = &self.parts.indexes;
+                indexes.of_job(pipeline, &self.parts.history, job)
+            }
+            None => None,
+        }
     }
 
     /// How many nodes a search may take.

@@ -1,5 +1,5 @@
 //! One build that is made, and the history with it.
-ghost use Rattle.std.specs.Prelude.{◌≡◌, ◌<◌, ◌+◌, length, IfOk, OnOk, OnErr};
+ghost use Rattle.std.specs.Prelude.{◌≡◌, ◌<◌, ◌+◌, false, length, IfOk, OnOk, OnErr};
 ghost use Rattle.ccr_history.specs.declared.builds.TheConstants.{MOST_BUILDS};
 ghost use Rattle.ccr_history.specs.Builds.{count_of};
 ghost use Rattle.ccr_history.specs.Changes.{build, edited, AreUsed, IsRunning};
@@ -7,12 +7,17 @@ ghost use Rattle.ccr_history.specs.Edits.{row_of};
 ghost use Rattle.ccr_pipeline.specs.JobData.{job_data};
 ghost use Rattle.ccr_pipeline.specs.Pipelines.{pipeline_data};
 ghost use Rattle.ccr_steps.specs.Runs.{run_data};
+ghost use Rattle.ccr_problem.specs.Follows.{has_newer};
+ghost use Rattle.ccr_indexes.specs.Indexes.{AreIndexes};
 ghost use Rattle.ccr_core.specs.Going.{CanMake, IsMade, Changes};
 
 use crate::end::{Ending, ending_of, finish};
+use crate::indexed::brought_by;
 use crate::used::{used_at, versions_at};
 use ccr_history::{Edit, History, Made, Used};
+use ccr_indexes::Indexes;
 use ccr_pipeline::{Job, Pipeline, inputs_of};
+use ccr_problem::builds_change_problems;
 use ccr_steps::{BuildRun, Outcome, start};
 use std::alloc::{AllocError, Global};
 
@@ -42,16 +47,28 @@ fn next_row(history: &History) -> u32
     history.build_count() as u32 + 1
 }
 
-/// Adds a build for which there is room. Where memory is refused, nothing changes.
-fn add(alloc: Global, history: &mut History, job: &str, used: &[Used]) -> Result<(), AllocError>
+/// Adds a build for which there is room; the indexes stay. Where memory is refused, nothing changes.
+fn add(
+    alloc: Global,
+    pipeline: &Pipeline,
+    history: &mut History,
+    indexes: &Indexes,
+    job: &str,
+    used: &[Used],
+) -> Result<(), AllocError>
     requires room { length history.old.builds < MOST_BUILDS }
     requires used { AreUsed history.old.tables used.now }
+    requires indexed { AreIndexes (pipeline_data pipeline.now) history.old indexes.now }
     ensures ok { OnOk result (history.new ≡ edited (build job.now used.now) history.old) }
     ensures running { OnOk result (IsRunning job.now (count_of job.now history.old.builds + 1) history.new.builds) }
     ensures row { OnOk result (length history.old.builds + 1
         ≡ row_of job.now (count_of job.now history.old.builds + 1) history.new.builds) }
+    ensures newest { OnOk result (has_newer job.now (count_of job.now history.old.builds + 1) history.new.builds
+        ≡ false) }
+    ensures indexed { OnOk result (AreIndexes (pipeline_data pipeline.now) history.new indexes.now) }
     ensures err { OnErr result (history.new ≡ history.old) }
 {
+    builds_change_problems();
     history.rules();
     match history.add_build(alloc, job, used) {
         Ok(_) => Ok(()),
@@ -66,13 +83,16 @@ pub(crate) fn make_build(
     alloc: Global,
     pipeline: &Pipeline,
     history: &mut History,
+    indexes: &mut Indexes,
     job: &Job,
     places: &[u32],
 ) -> Result<MadeBuild, AllocError>
-    requires { CanMake (pipeline_data pipeline.now) history.old (job_data job.now) places.now }
+    requires can { CanMake (pipeline_data pipeline.now) history.old (job_data job.now) places.now }
+    requires indexed { AreIndexes (pipeline_data pipeline.now) history.old indexes.old }
     ensures made { IfOk result (λ m. IsMade (pipeline_data pipeline.now) history.old (job_data job.now) places.now
         m.number m.outcome history.new (run_data m.run)) }
     ensures change { IfOk result (λ m. Changes m.edits.items history.old history.new) }
+    ensures indexed { AreIndexes (pipeline_data pipeline.now) history.new indexes.new }
     ensures err { OnErr result (history.new ≡ history.old) }
 {
     let name = job.name.as_str();
@@ -88,7 +108,9 @@ pub(crate) fn make_build(
         mut edits,
     } = ending_of(alloc, pipeline, history, &run, name, number, row)?;
     let copy = String::from_str(alloc, name)?;
-    add(alloc, history, name, &used)?;
+    let brought = brought_by(alloc, pipeline, history, name, number, outcome, &pairs)?;
+    indexes.make_room(&brought)?;
+    add(alloc, pipeline, history, indexes, name, &used)?;
     let made = Made {
         row,
         job: copy,
@@ -96,7 +118,9 @@ pub(crate) fn make_build(
         used,
     };
     edits.insert(0, Edit::Build(made)).unwrap();
-    finish(history, name, number, outcome, pairs);
+    finish(
+        pipeline, history, indexes, &brought, name, number, outcome, pairs,
+    );
     Ok(MadeBuild {
         run,
         number,

@@ -4,12 +4,14 @@ ghost use Rattle.ccr_history.specs.Edits.{edit_data};
 ghost use Rattle.ccr_pipeline.specs.JobData.{job_data};
 ghost use Rattle.ccr_pipeline.specs.Pipelines.{pipeline_data};
 ghost use Rattle.ccr_steps.specs.Runs.{run_data};
+ghost use Rattle.ccr_indexes.specs.Indexes.{AreIndexes};
 ghost use Rattle.ccr_core.specs.Going.{CanMake, Changes};
 ghost use Rattle.ccr_core.specs.Holding.{name_data};
 ghost use Rattle.ccr_core.specs.Opening.{IsOpened};
 
 use crate::made::{MadeBuild, make_build};
 use ccr_history::{Change, History};
+use ccr_indexes::Indexes;
 use ccr_pipeline::{Job, Pipeline};
 use ccr_steps::BuildRun;
 use std::alloc::{AllocError, Global};
@@ -20,16 +22,19 @@ pub(crate) fn open_build(
     alloc: Global,
     pipeline: &Pipeline,
     history: &mut History,
+    indexes: &mut Indexes,
     names: &mut Vec<(String, u32)>,
     runs: &mut Vec<BuildRun>,
     job: &Job,
     places: &[u32],
 ) -> Result<(u32, Change), AllocError>
-    requires { CanMake (pipeline_data pipeline.now) history.old (job_data job.now) places.now }
+    requires can { CanMake (pipeline_data pipeline.now) history.old (job_data job.now) places.now }
+    requires indexed { AreIndexes (pipeline_data pipeline.now) history.old indexes.old }
     ensures opened { IfOk result (λ r. IsOpened (pipeline_data pipeline.now) history.old (job_data job.now) places.now
         r.0 history.new (map name_data names.old.items) (map name_data names.new.items)
         (map run_data runs.old.items) (map run_data runs.new.items)) }
     ensures change { IfOk result (λ r. Changes r.1.items history.old history.new) }
+    ensures indexed { AreIndexes (pipeline_data pipeline.now) history.new indexes.new }
     ensures history { OnErr result (history.new ≡ history.old) }
     ensures names { OnErr result (names.new.items ≡ names.old.items) }
     ensures runs { OnErr result (runs.new.items ≡ runs.old.items) }
@@ -37,7 +42,7 @@ pub(crate) fn open_build(
     let name = String::from_str(alloc, job.name.as_str())?;
     names.reserve(1)?;
     runs.reserve(1)?;
-    match make_build(alloc, pipeline, history, job, places) {
+    match make_build(alloc, pipeline, history, indexes, job, places) {
         Ok(made) => {
             let MadeBuild {
                 run,

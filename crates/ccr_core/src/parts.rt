@@ -1,6 +1,7 @@
 //! The parts of a core.
 
 use ccr_history::History;
+use ccr_indexes::Indexes;
 use ccr_pipeline::Pipeline;
 use ccr_steps::BuildRun;
 
@@ -13,4 +14,6 @@ pub(crate) struct Parts {
     // The builds that run, in order of making: their names, and beside each what it is.
     pub(crate) names: Vec<(String, u32)>,
     pub(crate) runs: Vec<BuildRun>,
+    // The index of each job of the pipeline, in order: what the job's next build is chosen by.
+    pub(crate) indexes: Indexes,
 }

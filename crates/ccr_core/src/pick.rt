@@ -5,6 +5,7 @@ ghost use Rattle.ccr_pipeline.specs.JobData.{job_data};
 ghost use Rattle.ccr_pipeline.specs.Pipelines.{pipeline_data};
 ghost use Rattle.ccr_problem.specs.ProblemOf.{job_of};
 ghost use Rattle.ccr_proof.specs.declared.proof.TheConstants.{MOST_NODES};
+ghost use Rattle.ccr_indexes.specs.Indexes.{AreIndexes};
 ghost use Rattle.ccr_core.specs.Choices.{used_at, is_new};
 ghost use Rattle.ccr_core.specs.Holding.{name_data};
 ghost use Rattle.ccr_core.specs.Picking.{IsPicked};
@@ -13,6 +14,7 @@ use crate::busy::is_busy;
 use crate::search::found;
 use crate::used::{is_new, used_at};
 use ccr_history::History;
+use ccr_indexes::Indexes;
 use ccr_pipeline::{Job, Pipeline, inputs_of};
 use ccr_resolve::Chosen;
 use std::alloc::{AllocError, Global};
@@ -54,6 +56,7 @@ pub(crate) fn pick(
     alloc: Global,
     pipeline: &Pipeline,
     history: &History,
+    indexes: &Indexes,
     budget: u32,
     names: &[(String, u32)],
     job: &Job,
@@ -62,13 +65,14 @@ pub(crate) fn pick(
     requires least { 1 ≤ budget }
     requires most { budget ≤ MOST_NODES }
     requires there { job_of (job_data job.now).name (pipeline_data pipeline.now).jobs ≡ Some (job_data job.now) }
+    requires indexed { AreIndexes (pipeline_data pipeline.now) history.now indexes.now }
     ensures { IfOk result (IsPicked (pipeline_data pipeline.now) history.now budget (map name_data names.now)
         (job_data job.now) by_command) }
 {
     if is_busy(pipeline.jobs(), job, names) {
         return Ok(Picked::Busy);
     }
-    match found(alloc, pipeline, history, budget, job.name.as_str())? {
+    match found(alloc, pipeline, history, indexes, budget, job.name.as_str())? {
         Chosen::Nothing => Ok(Picked::NoneSatisfies),
         Chosen::OverBudget(_) => Ok(Picked::OverBudget(budget)),
         Chosen::Best(choice) => {

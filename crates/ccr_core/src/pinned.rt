@@ -1,21 +1,26 @@
 //! Pins by command.
-ghost use Rattle.std.specs.Prelude.{◌≡◌, [], ◌∷◌, Ok, Err, map, IfOk, IfErr, OnOk, OnErr};
-ghost use Rattle.ccr_history.specs.Changes.{pin_set, pin_cleared};
+ghost use Rattle.std.specs.Prelude.{◌≡◌, [], ◌∷◌, Ok, Err, map, option_map, IfOk, IfErr, OnOk, OnErr};
+ghost use Rattle.ccr_history.specs.Changes.{pin_set, pin_cleared, edited};
 ghost use Rattle.ccr_history.specs.Edits.{edit_data, HaveTheirNumbers};
 ghost use Rattle.ccr_history.specs.History.{HistoryData};
 ghost use Rattle.ccr_history.specs.TextMap.{IsAscending};
+ghost use Rattle.ccr_pipeline.specs.Pipelines.{pipeline_data};
 ghost use Rattle.ccr_core.specs.Cores.{core_data};
 ghost use Rattle.ccr_core.specs.Events.{pin, unpin};
 ghost use Rattle.ccr_core.specs.Going.{Changes};
+ghost use Rattle.ccr_core.specs.Indexed.{AreIndexesOf, IsIndexed};
 ghost use Rattle.ccr_core.specs.Holding.{Takes};
 ghost use Rattle.ccr_core.specs.Opening.{HasResource, LacksResource};
 
 use crate::change::change_of;
 use crate::fault::CoreFault;
+use crate::indexed::indexes_of;
 use crate::named::resource_named;
 use crate::parts::Parts;
 use crate::reply::Reply;
-use ccr_history::{Change, Edit, Pin};
+use ccr_history::{Change, Edit, History, Pin};
+use ccr_indexes::Indexes;
+use ccr_pipeline::Pipeline;
 use std::alloc::{AllocError, Global};
 
 /// The change that a pin by command is.
@@ -37,6 +42,44 @@ fn unpin_change(alloc: Global, resource: &str) -> Result<Change, AllocError>
     ensures numbered { IfOk result (λ change. (h : HistoryData) → HaveTheirNumbers h change.items) }
 {
     change_of(alloc, Edit::PinCleared(String::from_str(alloc, resource)?))
+}
+
+/// The history with a resource pinned by command, and the indexes then.
+fn pinned(
+    alloc: Global,
+    pipeline: &Option<Pipeline>,
+    history: &History,
+    resource: &str,
+    given: Pin,
+) -> Result<(History, Indexes), AllocError>
+    ensures history { IfOk result (λ r. r.0 ≡ edited (pin_set resource.now given) history.now) }
+    ensures indexes { IfOk result (λ r. AreIndexesOf (option_map pipeline_data pipeline.now) r.0 r.1) }
+{
+    let mut next = history.copy(alloc)?;
+    match next.set_pin(alloc, resource, given) {
+        Ok(()) => {
+            let indexes = indexes_of(alloc, pipeline, &next)?;
+            Ok((next, indexes))
+        }
+        // Only memory is refused.
+        Err(_) => Err(AllocError),
+    }
+}
+
+/// The history without the pin by command of a resource, and the indexes then.
+fn unpinned(
+    alloc: Global,
+    pipeline: &Option<Pipeline>,
+    history: &History,
+    resource: &str,
+) -> Result<(History, Indexes), AllocError>
+    ensures history { IfOk result (λ r. r.0 ≡ edited (pin_cleared resource.now) history.now) }
+    ensures indexes { IfOk result (λ r. AreIndexesOf (option_map pipeline_data pipeline.now) r.0 r.1) }
+{
+    let mut next = history.copy(alloc)?;
+    let _had = next.clear_pin(resource);
+    let indexes = indexes_of(alloc, pipeline, &next)?;
+    Ok((next, indexes))
 }
 
 impl Parts {
@@ -61,6 +104,7 @@ impl Parts {
         resource: &str,
         given: Pin,
     ) -> Result<(Reply, Change), CoreFault>
+        requires { IsIndexed self.old }
         ensures step { IfOk result (λ r. Takes (core_data self.old) (core_data self.new)
             (pin resource.now given) (Ok r.0)) }
         ensures change { IfOk result (λ r. Changes r.1.items self.old.history self.new.history) }
@@ -69,11 +113,16 @@ impl Parts {
         ensures unchanged { OnErr result (core_data self.new ≡ core_data self.old) }
         ensures kept { OnOk result (IsAscending given) }
         ensures budget { self.new.budget ≡ self.old.budget }
+        ensures indexed { IsIndexed self.new }
     {
         match self.has_resource(resource) {
             Ok(()) => match pin_change(alloc, resource, &given) {
-                Ok(change) => match self.history.set_pin(alloc, resource, given) {
-                    Ok(()) => Ok((Reply::Pinned, change)),
+                Ok(change) => match pinned(alloc, &self.pipeline, &self.history, resource, given) {
+                    Ok((history, indexes)) => {
+                        self.history = history;
+                        self.indexes = indexes;
+                        Ok((Reply::Pinned, change))
+                    }
                     Err(_) => Err(CoreFault::NoMemory),
                 },
                 Err(_) => Err(CoreFault::NoMemory),
@@ -88,6 +137,7 @@ impl Parts {
         alloc: Global,
         resource: &str,
     ) -> Result<(Reply, Change), CoreFault>
+        requires { IsIndexed self.old }
         ensures step { IfOk result (λ r. Takes (core_data self.old) (core_data self.new)
             (unpin resource.now) (Ok r.0)) }
         ensures change { IfOk result (λ r. Changes r.1.items self.old.history self.new.history) }
@@ -95,13 +145,18 @@ impl Parts {
             (unpin resource.now) (Err f)) }
         ensures unchanged { OnErr result (core_data self.new ≡ core_data self.old) }
         ensures budget { self.new.budget ≡ self.old.budget }
+        ensures indexed { IsIndexed self.new }
     {
         match self.has_resource(resource) {
             Ok(()) => match unpin_change(alloc, resource) {
-                Ok(change) => {
-                    let _had = self.history.clear_pin(resource);
-                    Ok((Reply::Unpinned, change))
-                }
+                Ok(change) => match unpinned(alloc, &self.pipeline, &self.history, resource) {
+                    Ok((history, indexes)) => {
+                        self.history = history;
+                        self.indexes = indexes;
+                        Ok((Reply::Unpinned, change))
+                    }
+                    Err(_) => Err(CoreFault::NoMemory),
+                },
                 Err(_) => Err(CoreFault::NoMemory),
             },
             Err(fault) => Err(fault),

@@ -3,9 +3,12 @@ ghost use Rattle.std.specs.Prelude.{◌≡◌, Ok, Err, map, IfOk, IfErr, OnOk, 
 ghost use Rattle.std.specs.List.{AllByRecursion};
 ghost use Rattle.ccr_history.specs.Edits.{edit_data};
 ghost use Rattle.ccr_history.specs.TextMap.{IsAscending};
+ghost use Rattle.ccr_pipeline.specs.Pipelines.{pipeline_data};
+ghost use Rattle.ccr_indexes.specs.Indexes.{AreIndexes};
 ghost use Rattle.ccr_core.specs.Cores.{core_data};
 ghost use Rattle.ccr_core.specs.Events.{checked};
 ghost use Rattle.ccr_core.specs.Going.{Changes};
+ghost use Rattle.ccr_core.specs.Indexed.{IsIndexed};
 ghost use Rattle.ccr_core.specs.Holding.{Takes};
 ghost use Rattle.ccr_core.specs.Opening.{IsReported, IsNotReported};
 
@@ -14,6 +17,8 @@ use crate::named::scope_named;
 use crate::parts::Parts;
 use crate::reply::Reply;
 use ccr_history::{Change, Edit, History, HistoryFault, Scope, Version};
+use ccr_indexes::Indexes;
+use ccr_pipeline::Pipeline;
 use std::alloc::Global;
 
 /// Each version has its keys in order. Nothing runs.
@@ -25,26 +30,38 @@ pub(crate) fn versions_ascend(versions: &[Version])
     }
 }
 
-/// Reports versions of a scope, and gives how many were new. Where it is refused, nothing changes.
+/// Reports versions of a scope, to the history and to the indexes, and gives how many were new. Where it is refused,
+/// nothing changes.
 fn append(
     alloc: Global,
+    pipeline: &Pipeline,
     history: &mut History,
+    indexes: &mut Indexes,
     scope: Scope,
     seen: Vec<Version>,
 ) -> Result<(u32, Change), CoreFault>
+    requires { AreIndexes (pipeline_data pipeline.now) history.old indexes.old }
     ensures ok { IfOk result (λ r. IsReported history.old history.new scope seen.items r.0) }
     ensures change { IfOk result (λ r. Changes r.1.items history.old history.new) }
+    ensures indexed { AreIndexes (pipeline_data pipeline.now) history.new indexes.new }
     ensures refused { IfErr result (IsNotReported history.old scope seen.items) }
     ensures err { OnErr result (history.new ≡ history.old) }
 {
+    history.rules();
     let mut change = Vec::with_capacity(alloc, 1)?;
     match history.report(alloc, scope, &seen) {
-        Ok(reported) => {
-            versions_ascend(&reported.versions);
-            let count = reported.versions.len() as u32;
-            change.push_reserved(Edit::Versions(reported));
-            Ok((count, change))
-        }
+        Ok(reported) => match indexes.add_report(alloc, pipeline, history, &reported) {
+            Ok(()) => {
+                versions_ascend(&reported.versions);
+                let count = reported.versions.len() as u32;
+                change.push_reserved(Edit::Versions(reported));
+                Ok((count, change))
+            }
+            Err(_) => {
+                history.take_back(&reported);
+                Err(CoreFault::NoMemory)
+            }
+        },
         Err(HistoryFault::TableFull) => Err(CoreFault::TableFull),
         Err(_) => Err(CoreFault::NoMemory),
     }
@@ -58,6 +75,7 @@ impl Parts {
         resource: &str,
         seen: Vec<Version>,
     ) -> Result<(Reply, Change), CoreFault>
+        requires { IsIndexed self.old }
         ensures step { IfOk result (λ r. Takes (core_data self.old) (core_data self.new)
             (checked resource.now seen.items) (Ok r.0)) }
         ensures change { IfOk result (λ r. Changes r.1.items self.old.history self.new.history) }
@@ -66,6 +84,7 @@ impl Parts {
         ensures unchanged { OnErr result (core_data self.new ≡ core_data self.old) }
         ensures kept { OnOk result (AllByRecursion IsAscending seen.items) }
         ensures budget { self.new.budget ≡ self.old.budget }
+        ensures indexed { IsIndexed self.new }
     {
         let Some(pipeline) = &self.pipeline else {
             return Err(CoreFault::NoPipeline);
@@ -74,7 +93,14 @@ impl Parts {
             Ok(found) => match found {
                 Some(scope) => {
                     versions_ascend(&seen);
-                    match append(alloc, &mut self.history, scope, seen) {
+                    match append(
+                        alloc,
+                        pipeline,
+                        &mut self.history,
+                        &mut self.indexes,
+                        scope,
+                        seen,
+                    ) {
                         Ok((count, change)) => Ok((Reply::New(count), change)),
                         Err(fault) => Err(fault),
                     }

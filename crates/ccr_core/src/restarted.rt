@@ -5,6 +5,7 @@ ghost use Rattle.ccr_history.specs.Edits.{edit_data, HaveTheirNumbers};
 ghost use Rattle.ccr_core.specs.Cores.{core_data};
 ghost use Rattle.ccr_core.specs.Events.{restart};
 ghost use Rattle.ccr_core.specs.Going.{Changes};
+ghost use Rattle.ccr_core.specs.Indexed.{IsIndexed};
 ghost use Rattle.ccr_core.specs.Holding.{name_data, IsCore, Takes};
 ghost use Rattle.ccr_core.specs.Resumed.{cut_name};
 
@@ -12,6 +13,7 @@ use crate::fault::CoreFault;
 use crate::parts::Parts;
 use crate::reply::Reply;
 use ccr_history::{Change, Edit, Ended, History, Status};
+use ccr_problem::builds_change_problems;
 use std::alloc::{AllocError, Global};
 
 /// The ends of builds that are cut short, in order: each is errored, and has moved nothing.
@@ -51,15 +53,20 @@ pub(crate) fn cut_all(alloc: Global, history: &mut History, names: &[(String, u3
 impl Parts {
     /// Each build that runs is errored, with nothing moved. Where it is refused, nothing changes.
     pub(crate) fn restart(&mut self, alloc: Global) -> Result<(Reply, Change), CoreFault>
-        requires { IsCore (core_data self.old) }
+        requires core { IsCore (core_data self.old) }
+        requires indexed { IsIndexed self.old }
         ensures step { IfOk result (λ r. Takes (core_data self.old) (core_data self.new) restart (Ok r.0)) }
         ensures change { IfOk result (λ r. Changes r.1.items self.old.history self.new.history) }
         ensures refused { IfErr result (λ f. Takes (core_data self.old) (core_data self.old) restart (Err f)) }
         ensures unchanged { OnErr result (core_data self.new ≡ core_data self.old) }
         ensures budget { self.new.budget ≡ self.old.budget }
+        ensures indexed { IsIndexed self.new }
     {
         match cuts(alloc, &self.history, &self.names) {
             Ok(change) => {
+                // A build that is cut short passes nothing, so the indexes stay.
+                builds_change_problems();
+                self.history.rules();
                 cut_all(alloc, &mut self.history, &self.names);
                 self.names.clear();
                 self.runs.clear();

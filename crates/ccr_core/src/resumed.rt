@@ -6,11 +6,13 @@ ghost use Rattle.ccr_history.specs.Edits.{edit_data, HaveTheirNumbers};
 ghost use Rattle.ccr_proof.specs.declared.proof.TheConstants.{MOST_NODES};
 ghost use Rattle.ccr_core.specs.Cores.{core_data};
 ghost use Rattle.ccr_core.specs.Going.{Changes};
+ghost use Rattle.ccr_core.specs.Indexed.{IsIndexed};
 ghost use Rattle.ccr_core.specs.Holding.{name_data, IsCore};
 ghost use Rattle.ccr_core.specs.Resumed.{running_in, resumed, IsReadable, IsPipelineIn, IsResumed};
 ghost use Rattle.ccr_core.specs.declared.fault.CoreFault.TheVariants.{NoMemory};
 
 use crate::fault::CoreFault;
+use crate::indexed::indexes_of;
 use crate::parts::Parts;
 use crate::restarted::{cut_all, cuts};
 use ccr_history::{Change, History, Status};
@@ -119,6 +121,7 @@ pub(crate) fn begin(
     requires readable { IfSome history.text IsReadable }
     ensures begun { IfOk result (λ r. IsResumed history budget (core_data r.0)) }
     ensures core { IfOk result (λ r. IsCore (core_data r.0)) }
+    ensures indexed { IfOk result (λ r. IsIndexed r.0) }
     ensures is { IfOk result (λ r. map edit_data r.1.items ≡ resumed history) }
     ensures change { IfOk result (λ r. Changes r.1.items history r.0.history) }
     ensures only { IfErr result (λ fault. fault ≡ NoMemory) }
@@ -127,14 +130,20 @@ pub(crate) fn begin(
     match pipeline_and_change(alloc, &mut history) {
         Ok((pipeline, change)) => {
             history.rules();
-            let parts = Parts {
-                history,
-                pipeline,
-                budget,
-                names: Vec::new(alloc),
-                runs: Vec::new(alloc),
-            };
-            Ok((parts, change))
+            match indexes_of(alloc, &pipeline, &history) {
+                Ok(indexes) => {
+                    let parts = Parts {
+                        history,
+                        pipeline,
+                        budget,
+                        names: Vec::new(alloc),
+                        runs: Vec::new(alloc),
+                        indexes,
+                    };
+                    Ok((parts, change))
+                }
+                Err(_) => Err(CoreFault::NoMemory),
+            }
         }
         Err(fault) => Err(fault),
     }

@@ -3,6 +3,7 @@ ghost use Rattle.std.specs.Prelude.{◌≡◌, Ok, Err, map, IfOk, IfErr, OnOk, 
 ghost use Rattle.ccr_history.specs.Edits.{edit_data};
 ghost use Rattle.ccr_core.specs.Cores.{core_data};
 ghost use Rattle.ccr_core.specs.Going.{Changes};
+ghost use Rattle.ccr_core.specs.Indexed.{IsIndexed};
 ghost use Rattle.ccr_core.specs.Holding.{IsCore, Takes};
 ghost use Rattle.ccr_core.specs.Opening.{asked, HasRoom, LacksRoom};
 
@@ -39,7 +40,8 @@ impl Parts {
         job: &str,
         by_command: bool,
     ) -> Result<(Reply, Change), CoreFault>
-        requires { IsCore (core_data self.old) }
+        requires core { IsCore (core_data self.old) }
+        requires indexed { IsIndexed self.old }
         ensures step { IfOk result (λ r. Takes (core_data self.old) (core_data self.new)
             (asked by_command job.now) (Ok r.0)) }
         ensures change { IfOk result (λ r. Changes r.1.items self.old.history self.new.history) }
@@ -47,6 +49,7 @@ impl Parts {
             (asked by_command job.now) (Err f)) }
         ensures unchanged { OnErr result (core_data self.new ≡ core_data self.old) }
         ensures budget { self.new.budget ≡ self.old.budget }
+        ensures indexed { IsIndexed self.new }
     {
         let Some(pipeline) = &self.pipeline else {
             return Err(CoreFault::NoPipeline);
@@ -59,6 +62,7 @@ impl Parts {
             alloc,
             pipeline,
             &self.history,
+            &self.indexes,
             self.budget,
             &self.names,
             found,
@@ -73,6 +77,7 @@ impl Parts {
                     alloc,
                     pipeline,
                     &mut self.history,
+                    &mut self.indexes,
                     &mut self.names,
                     &mut self.runs,
                     found,

@@ -4,6 +4,7 @@ ghost use Rattle.ccr_history.specs.Edits.{edit_data};
 ghost use Rattle.ccr_core.specs.Cores.{core_data};
 ghost use Rattle.ccr_core.specs.Events.{event_data};
 ghost use Rattle.ccr_core.specs.Going.{Changes};
+ghost use Rattle.ccr_core.specs.Indexed.{IsIndexed};
 ghost use Rattle.ccr_core.specs.Holding.{IsCore, Takes};
 ghost use Rattle.ccr_core.specs.Kept.{IsEvent};
 
@@ -18,7 +19,8 @@ use std::alloc::Global;
 impl Parts {
     /// One step. Where it is refused, nothing changes.
     pub(crate) fn take(&mut self, alloc: Global, event: Event) -> Result<(Reply, Change), CoreFault>
-        requires { IsCore (core_data self.old) }
+        requires core { IsCore (core_data self.old) }
+        requires indexed { IsIndexed self.old }
         ensures step { IfOk result (λ r. Takes (core_data self.old) (core_data self.new) (event_data event) (Ok r.0)) }
         ensures change { IfOk result (λ r. Changes r.1.items self.old.history self.new.history) }
         ensures refused { IfErr result (λ f. Takes (core_data self.old) (core_data self.old)
@@ -26,6 +28,7 @@ impl Parts {
         ensures unchanged { OnErr result (core_data self.new ≡ core_data self.old) }
         ensures kept { OnOk result (IsEvent (event_data event)) }
         ensures budget { self.new.budget ≡ self.old.budget }
+        ensures indexed { IsIndexed self.new }
     {
         match event {
             Event::SetPipeline(pipeline) => self.set_pipeline(alloc, pipeline),

@@ -15,7 +15,7 @@ use Rattle.ccr_problem.specs.Passed.{cut_to, build_value, job_value}
 use Rattle.ccr_problem.proofs.Names.{same_text}
 use Rattle.ccr_problem.proofs.Pairs.{AreRising, IsPlaced, rising, placed, cut_rises}
 
-at_seam : (bs : List BuildData) (x : BuildData) (xs : List BuildData) → slice_get (bs ++ x ∷ xs) (length bs) ≡ Some x
+pub at_seam : (bs : List BuildData) (x : BuildData) (xs : List BuildData) → slice_get (bs ++ x ∷ xs) (length bs) ≡ Some x
 at_seam [] x xs = refl
 at_seam (b ∷ bs) x xs = at_seam bs x xs
 
@@ -33,14 +33,14 @@ all_cut scopes n ts (b ∷ bs) tables few (is, each) =
 
 -- ---- one build more
 -- of the job's builds those that succeeded, in order of making
-abbrev chosen : Text → List BuildData → List BuildData
+abbrev pub chosen : Text → List BuildData → List BuildData
 chosen job bs = filter (λ b. is_succeeded b.status) (filter (is_of job) bs)
 
 filtered : (p : BuildData → Bool) (b : Bool) (bs : List BuildData) (x : BuildData) → p x ≡ b → filter p (bs ++ x ∷ []) ≡ filter p bs ++ cond b (x ∷ []) []
 filtered p b bs x e = filter-append p bs (x ∷ []) ∙ ap (λ c. filter p bs ++ cond c (x ∷ []) []) e
 
 -- a build's state decides whether it is chosen
-chosen_by : (job : Text) (b c : Bool) (bs : List BuildData) (x : BuildData) → is_of job x ≡ b → is_succeeded x.status ≡ c
+pub chosen_by : (job : Text) (b c : Bool) (bs : List BuildData) (x : BuildData) → is_of job x ≡ b → is_succeeded x.status ≡ c
     → chosen job (bs ++ x ∷ []) ≡ chosen job bs ++ cond b (cond c (x ∷ []) []) []
 chosen_by job true c bs x e d =
     ap (λ ys. filter (λ y. is_succeeded y.status) ys) (filtered (is_of job) true bs x e) ∙ filtered (λ y. is_succeeded y.status) c (filter (is_of job) bs) x d

@@ -6,3 +6,6 @@ pub mod Builds
 pub mod Kept
 pub mod Jobs
 pub mod Positions
+pub mod Ends
+pub mod Reports
+pub mod Newer

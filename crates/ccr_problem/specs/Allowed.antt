@@ -19,6 +19,10 @@ meets_if (Some pin) v = meets v pin
 abbrev pub meets_all : PinsData → TextMap → Bool
 meets_all pins v = meets_if pins.by_resource v && (meets_if pins.by_get v && meets_if pins.by_command v)
 
+-- the places of the versions that meet all of the pins, ascending, where the first version has this place
+abbrev pub places_from : ℕ → PinsData → List TextMap → List ℕ
+places_from first pins versions = map (λ x. x.0) (filter (λ x. meets_all pins x.1) (enumerate_from first versions))
+
 -- the places of the versions that meet all of the pins, ascending; places begin at 1
 abbrev pub allowed_places : PinsData → List TextMap → List ℕ
-allowed_places pins versions = map (λ x. x.0) (filter (λ x. meets_all pins x.1) (enumerate_from 1 versions))
+allowed_places pins versions = places_from 1 pins versions

@@ -1,8 +1,8 @@
 //! Which versions an input may take.
-ghost use Rattle.std.specs.Prelude.{◌≡◌, ◌≤◌, length, IfOk};
+ghost use Rattle.std.specs.Prelude.{◌≡◌, ◌≤◌, ◌+◌, length, IfOk};
 ghost use Rattle.std.specs.Option.{option_copied};
 ghost use Rattle.ccr_history.specs.TextMap.{meets};
-ghost use Rattle.ccr_problem.specs.Allowed.{meets_if, meets_all, allowed_places};
+ghost use Rattle.ccr_problem.specs.Allowed.{meets_if, meets_all, places_from};
 
 use ccr_history::{Pin, Version};
 use std::alloc::{AllocError, Global};
@@ -52,19 +52,20 @@ impl<'p> Pins<'p> {
     }
 }
 
-/// The places, from 1, of the versions that meet all of the pins, ascending.
-pub(crate) fn allowed_places(
+/// The places of the versions that meet all of the pins, ascending, where the first version has this place.
+pub(crate) fn places_from(
     alloc: Global,
+    first: u32,
     pins: &Pins<'_>,
     versions: &[Version],
 ) -> Result<Vec<u32>, AllocError>
-    requires { length versions.now ≤ 100000 }
-    ensures { IfOk result (λ v. v.items ≡ allowed_places pins.now versions.now) }
+    requires { first + length versions.now ≤ 100001 }
+    ensures { IfOk result (λ v. v.items ≡ places_from first pins.now versions.now) }
 {
     let mut places = Vec::new(alloc);
     for (before, version) in versions.iter().enumerate() {
         if pins.are_met_by(version) {
-            places.push(before as u32 + 1)?;
+            places.push(first + before as u32)?;
         }
     }
     Ok(places)

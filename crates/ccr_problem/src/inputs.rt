@@ -2,17 +2,18 @@
 ghost use Rattle.std.specs.Prelude.{◌≡◌, ◌≤◌, [], length, map, string_bytes, IfOk};
 ghost use Rattle.std.specs.Option.{option_copied};
 ghost use Rattle.ccr_pipeline.specs.Inputs.{input_data, named_jobs};
+ghost use Rattle.ccr_pipeline.specs.JobData.{resource_data};
 ghost use Rattle.ccr_pipeline.specs.Pipelines.{pipeline_data};
 ghost use Rattle.ccr_pipeline.specs.Tree.{wanted_data};
 ghost use Rattle.ccr_problem.specs.Numbering.{each_once, number_of};
-ghost use Rattle.ccr_problem.specs.ProblemOf.{get_pin, input_places, input_value, used_resources};
+ghost use Rattle.ccr_problem.specs.ProblemOf.{get_pin, pins_of, input_places, input_value, used_resources};
 
-use crate::allowed::{Pins, allowed_places};
+use crate::allowed::{Pins, places_from};
 use crate::numbering::Numbering;
 use crate::scopes::{resource_named, scope_of};
 use ccr_choice::Input as ChoiceInput;
 use ccr_history::{History, Pin};
-use ccr_pipeline::{Input, Pipeline, Wanted};
+use ccr_pipeline::{Input, Pipeline, Resource, Wanted};
 use std::alloc::{AllocError, Global};
 
 /// The resources that inputs use, each once, in order of first use.
@@ -47,6 +48,21 @@ fn get_pin(wanted: &Wanted) -> Option<&Pin>
     }
 }
 
+/// The pins of an input of a resource.
+pub(crate) fn pins_of<'p>(
+    resource: &'p Resource,
+    history: &'p History,
+    input: &'p Input,
+) -> Pins<'p>
+    ensures { result ≡ pins_of (resource_data resource.now) history.now (input_data input.now) }
+{
+    Pins {
+        by_resource: resource.version.as_ref(),
+        by_get: get_pin(&input.wanted),
+        by_command: history.pin(input.resource.as_str()),
+    }
+}
+
 /// The allowed places of an input.
 fn input_places(
     alloc: Global,
@@ -60,15 +76,15 @@ fn input_places(
     let Some(resource) = resource_named(pipeline.resources(), input.resource.as_str()) else {
         return Ok(Vec::new(alloc));
     };
-    let pins = Pins {
-        by_resource: resource.version.as_ref(),
-        by_get: get_pin(&input.wanted),
-        by_command: history.pin(input.resource.as_str()),
-    };
     let scope = scope_of(alloc, resource)?;
     // A scope has few versions.
     history.rules();
-    allowed_places(alloc, &pins, history.versions(&scope))
+    places_from(
+        alloc,
+        1,
+        &pins_of(resource, history, input),
+        history.versions(&scope),
+    )
 }
 
 /// The numbers of names.

@@ -9,13 +9,17 @@
 #![tactic(auto)]
 
 mod allowed;
+mod coming;
 mod fault;
 mod inputs;
+mod law;
 mod numbering;
 mod passed;
 mod problem;
 mod scopes;
 
+pub use coming::{Passed, has_newer, new_places, passed_to};
 pub use fault::ProblemFault;
-pub use problem::problem_of;
+pub use law::{builds_change_problems, reports_change_problems};
+pub use problem::{problem_of, problem_of_job};
 pub use scopes::scope_of;

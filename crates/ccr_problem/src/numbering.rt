@@ -37,6 +37,13 @@ impl Numbering {
         &self.names
     }
 
+    /// Whether a name is there.
+    pub(crate) fn has(&self, name: &str) -> bool
+        ensures { result ≡ has_name self.now name.now }
+    {
+        has_name(&self.names, name)
+    }
+
     /// The number of a name.
     pub(crate) fn number(&self, name: &str) -> u32
         requires { length self.now ≤ 32 }

@@ -26,7 +26,7 @@ fn push_places(
 }
 
 /// The pairs that lie in these scopes, each scope under its position among these.
-fn cut_to(
+pub(crate) fn cut_to(
     alloc: Global,
     scopes: &[u32],
     pairs: &[(u32, u32)],
@@ -41,7 +41,8 @@ fn cut_to(
     Ok(cut)
 }
 
-fn is_succeeded(status: Status) -> bool
+/// Whether a build stands so that it has succeeded.
+pub(crate) fn is_succeeded(status: Status) -> bool
     ensures { result ≡ is_succeeded status }
 {
     match status {

@@ -56,7 +56,10 @@ fn problem_with(
     Ok(Problem::new(values, builds))
 }
 
-fn job_problem(
+/// The problem of a job of a pipeline, as [`problem_of`] gives it by the job's name.
+///
+/// The only error is out of memory.
+pub fn problem_of_job(
     alloc: Global,
     pipeline: &Pipeline,
     history: &History,
@@ -100,7 +103,7 @@ pub fn problem_of(
         ↔ (has_name (job_names (pipeline_data pipeline.now).jobs) job.now ≡ false) }
 {
     match job_named(pipeline.jobs(), job) {
-        Some(job) => Ok(job_problem(alloc, pipeline, history, job)?),
+        Some(job) => Ok(problem_of_job(alloc, pipeline, history, job)?),
         None => Err(ProblemFault::NoJob),
     }
 }

@@ -7,7 +7,7 @@ use Rattle.ccr_core.proofs.going.answer_build.Goals as goal
 pub go_on-requires-clause-fits : goal.go_on-requires-clause-fits
 go_on-requires-clause-fits c =
     report_fits (pipeline_data c.args.pipeline.now) c.args.history.now (run_data c.args.run.now) (run_data c.feed_back.new.self) c.args.job.now c.args.number (answer_data c.args.answer) c.wants.result c.unwrap-ask.result c.in_ok-report.report
-    c.requires c.unwrap-ask.ensures c.wants.ensures.next c.rules_of.ensures c.in_ok-report.ensures c.in-Ok.ensures.fed
+    c.requires.can c.unwrap-ask.ensures c.wants.ensures.next c.rules_of.ensures c.in_ok-report.ensures c.in-Ok.ensures.fed
 
 pub returns-in-Ok-go_on-clause-on : goal.returns-in-Ok-go_on-clause-on
 returns-in-Ok-go_on-clause-on c =

@@ -6,7 +6,7 @@ use Rattle.ccr_core.proofs.Piping.{option_kept}
 use Rattle.ccr_core.proofs.Reaching.{begun_core}
 use Rattle.ccr_core.proofs.resumed.begin.Goals as goal
 
-pub returns-in-Ok-clause-core : goal.returns-in-Ok-clause-core
-returns-in-Ok-clause-core c =
-    begun_core (core_data (record { history = c.pipeline_and_change.new.history; pipeline = c.in-Ok.pipeline; budget = c.args.budget; names = c.new.result; runs = c.new-in-Ok.result }))
-    c.requires.least c.requires.most c.rules.ensures (option_kept c.in-Ok.pipeline) (ap (map name_data) c.new.ensures.items) (ap (map run_data) c.new-in-Ok.ensures.items)
+pub returns-in-Ok-indexes_of-clause-core : goal.returns-in-Ok-indexes_of-clause-core
+returns-in-Ok-indexes_of-clause-core c =
+    begun_core (core_data (record { history = c.pipeline_and_change.new.history; pipeline = c.in-Ok.pipeline; budget = c.args.budget; names = c.new.result; runs = c.new-in-Ok-indexes_of.result; indexes = c.in-Ok-indexes_of.indexes }))
+    c.requires.least c.requires.most c.rules.ensures (option_kept c.in-Ok.pipeline) (ap (map name_data) c.new.ensures.items) (ap (map run_data) c.new-in-Ok-indexes_of.ensures.items)

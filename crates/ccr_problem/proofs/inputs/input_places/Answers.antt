@@ -2,6 +2,6 @@ use Rattle.std.proofs.Common.{ap, arith, length}
 use Rattle.ccr_problem.proofs.Places.{few_in_history}
 use Rattle.ccr_problem.proofs.inputs.input_places.Goals as goal
 
-pub allowed_places-requires : goal.allowed_places-requires
-allowed_places-requires c =
+pub places_from-requires : goal.places_from-requires
+places_from-requires c =
     omega (arith, ap length c.versions.ensures, few_in_history c.args.history.now c.in_ok-scope.scope c.rules.ensures)

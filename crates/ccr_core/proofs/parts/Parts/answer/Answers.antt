@@ -12,7 +12,7 @@ use Rattle.ccr_core.proofs.Reaching.{paired}
 use Rattle.ccr_core.proofs.parts.Parts.answer.Goals as goal
 
 pub returns-in_default-clause-refused : goal.returns-in_default-clause-refused
-returns-in_default-clause-refused c = bare c.args.self.now.history (option_map pipeline_data c.args.self.now.pipeline) c.args.self.now.budget c.args.self.now.names.items c.args.self.now.runs.items (answer_to c.args.job.now c.args.number c.args.turn (answer_data c.args.answered)) c.requires (ap (option_map pipeline_data) c.in_default.is)
+returns-in_default-clause-refused c = bare c.args.self.now.history (option_map pipeline_data c.args.self.now.pipeline) c.args.self.now.budget c.args.self.now.names.items c.args.self.now.runs.items (answer_to c.args.job.now c.args.number c.args.turn (answer_data c.args.answered)) c.requires.core (ap (option_map pipeline_data) c.in_default.is)
 
 pub returns-then-k-len-clause-refused : goal.returns-then-k-len-clause-refused
 returns-then-k-len-clause-refused c =
@@ -26,16 +26,16 @@ returns-then-names_other-clause-refused c =
     let has : TurnIs (run_data (get_or c.args.self.now.runs.items c.index_of-k.result c.index_mut-run.result.now)) c.turn.result = λ plan inputs es st. c.turn.ensures plan inputs es (subst (λ r. StandsFor (run_data r) plan inputs es) (sym c.index_mut-run.ensures.value) st) in
     other_turn c.args.self.now.history (option_map pipeline_data c.args.self.now.pipeline) c.args.self.now.budget c.args.self.now.names.items c.args.self.now.runs.items (answer_to c.args.job.now c.args.number c.args.turn (answer_data c.args.answered)) (pipeline_data c.in-Some.pipeline) (ap (option_map pipeline_data) c.in-Some.is) c.index_of-k.result c.index_mut-run.result.now at lt c.turn.result has (c.names_other.ensures.other c.if-names_other.true)
 
-pub answer_build-requires : goal.answer_build-requires
-answer_build-requires c =
+pub answer_build-requires-clause-can : goal.answer_build-requires-clause-can
+answer_build-requires-clause-can c =
     let at : c.index_of-k.result ≡ name_index c.args.job.now c.args.number (map name_data c.args.self.now.names.items) = c.index_of-k.ensures ∙ ap (λ l. name_index c.args.job.now c.args.number (map name_data l)) c.deref.ensures.value in
     let lt : c.index_of-k.result < length c.args.self.now.runs.items = omega (arith, c.if-k-len.false, c.len.ensures, c.args.self.now.runs.ok) in
-    subst (λ r. CanGoOn (pipeline_data c.in-Some.pipeline) c.args.self.now.history (run_data r) c.args.job.now c.args.number) (sym c.index_mut-run.ensures.value) (can_answer c.args.self.now.history (option_map pipeline_data c.args.self.now.pipeline) c.args.self.now.budget c.args.self.now.names.items c.args.self.now.runs.items (answer_to c.args.job.now c.args.number c.args.turn (answer_data c.args.answered)) (pipeline_data c.in-Some.pipeline) (ap (option_map pipeline_data) c.in-Some.is) c.index_of-k.result c.index_mut-run.result.now at lt c.requires)
+    subst (λ r. CanGoOn (pipeline_data c.in-Some.pipeline) c.args.self.now.history (run_data r) c.args.job.now c.args.number) (sym c.index_mut-run.ensures.value) (can_answer c.args.self.now.history (option_map pipeline_data c.args.self.now.pipeline) c.args.self.now.budget c.args.self.now.names.items c.args.self.now.runs.items (answer_to c.args.job.now c.args.number c.args.turn (answer_data c.args.answered)) (pipeline_data c.in-Some.pipeline) (ap (option_map pipeline_data) c.in-Some.is) c.index_of-k.result c.index_mut-run.result.now at lt c.requires.core)
 
 pub remove-name-requires : goal.remove-name-requires
 remove-name-requires c =
     let lt : c.index_of-k.result < length c.args.self.now.runs.items = omega (arith, c.if-k-len.false, c.len.ensures, c.args.self.now.runs.ok) in
-    let same = paired (core_data c.args.self.now) c.requires in
+    let same = paired (core_data c.args.self.now) c.requires.core in
     let runs = length_map run_data c.args.self.now.runs.items in
     let names = length_map name_data c.args.self.now.names.items in
     omega (arith, lt, same, runs, names, c.args.self.now.names.ok)

@@ -38,9 +38,9 @@ pub returns-in-NotNew-clause-step : goal.returns-in-NotNew-clause-step
 returns-in-NotNew-clause-step c =
     not_new (core_data c.args.self.now) c.args.by_command c.args.job.now (pipeline_data c.in-Some.pipeline) (ap (option_map pipeline_data) c.in-Some.is) (job_data c.in-Some-job_named.found.now) (ap (job_of c.args.job.now) (sym c.jobs.ensures) ∙ sym c.in-Some-job_named.ensures) (let names = length_map name_data c.args.self.now.names.items in let room = c.in_ok-check_room.ensures.has.0 in omega (arith, names, room, c.len.ensures, c.args.self.now.names.ok)) c.in_ok-check_room.ensures.has.1 (subst (IsPicked (pipeline_data c.in-Some.pipeline) c.args.self.now.history c.args.self.now.budget (map name_data c.args.self.now.names.items) (job_data c.in-Some-job_named.found.now) c.args.by_command) c.in-NotNew.is (subst (λ l. IsPicked (pipeline_data c.in-Some.pipeline) c.args.self.now.history c.args.self.now.budget (map name_data l) (job_data c.in-Some-job_named.found.now) c.args.by_command c.in-Ok.pick) c.deref.ensures.value c.in-Ok.ensures))
 
-pub open_build-requires : goal.open_build-requires
-open_build-requires c =
-    subst (CanMake (pipeline_data c.in-Some.pipeline) c.args.self.now.history (job_data c.in-Some-job_named.found.now)) (sym c.deref-in-Best.ensures.value) (can (core_data c.args.self.now) c.args.by_command c.args.job.now (pipeline_data c.in-Some.pipeline) (ap (option_map pipeline_data) c.in-Some.is) (job_data c.in-Some-job_named.found.now) (ap (job_of c.args.job.now) (sym c.jobs.ensures) ∙ sym c.in-Some-job_named.ensures) (let names = length_map name_data c.args.self.now.names.items in let room = c.in_ok-check_room.ensures.has.0 in omega (arith, names, room, c.len.ensures, c.args.self.now.names.ok)) c.in_ok-check_room.ensures.has.1 c.in-Best.places.items (picks (core_data c.args.self.now) c.args.by_command c.args.job.now (pipeline_data c.in-Some.pipeline) (ap (option_map pipeline_data) c.in-Some.is) (job_data c.in-Some-job_named.found.now) (ap (job_of c.args.job.now) (sym c.jobs.ensures) ∙ sym c.in-Some-job_named.ensures) (let names = length_map name_data c.args.self.now.names.items in let room = c.in_ok-check_room.ensures.has.0 in omega (arith, names, room, c.len.ensures, c.args.self.now.names.ok)) c.in_ok-check_room.ensures.has.1 (pick.Best c.in-Best.places) (subst (IsPicked (pipeline_data c.in-Some.pipeline) c.args.self.now.history c.args.self.now.budget (map name_data c.args.self.now.names.items) (job_data c.in-Some-job_named.found.now) c.args.by_command) c.in-Best.is (subst (λ l. IsPicked (pipeline_data c.in-Some.pipeline) c.args.self.now.history c.args.self.now.budget (map name_data l) (job_data c.in-Some-job_named.found.now) c.args.by_command c.in-Ok.pick) c.deref.ensures.value c.in-Ok.ensures))) c.requires)
+pub open_build-requires-clause-can : goal.open_build-requires-clause-can
+open_build-requires-clause-can c =
+    subst (CanMake (pipeline_data c.in-Some.pipeline) c.args.self.now.history (job_data c.in-Some-job_named.found.now)) (sym c.deref-in-Best.ensures.value) (can (core_data c.args.self.now) c.args.by_command c.args.job.now (pipeline_data c.in-Some.pipeline) (ap (option_map pipeline_data) c.in-Some.is) (job_data c.in-Some-job_named.found.now) (ap (job_of c.args.job.now) (sym c.jobs.ensures) ∙ sym c.in-Some-job_named.ensures) (let names = length_map name_data c.args.self.now.names.items in let room = c.in_ok-check_room.ensures.has.0 in omega (arith, names, room, c.len.ensures, c.args.self.now.names.ok)) c.in_ok-check_room.ensures.has.1 c.in-Best.places.items (picks (core_data c.args.self.now) c.args.by_command c.args.job.now (pipeline_data c.in-Some.pipeline) (ap (option_map pipeline_data) c.in-Some.is) (job_data c.in-Some-job_named.found.now) (ap (job_of c.args.job.now) (sym c.jobs.ensures) ∙ sym c.in-Some-job_named.ensures) (let names = length_map name_data c.args.self.now.names.items in let room = c.in_ok-check_room.ensures.has.0 in omega (arith, names, room, c.len.ensures, c.args.self.now.names.ok)) c.in_ok-check_room.ensures.has.1 (pick.Best c.in-Best.places) (subst (IsPicked (pipeline_data c.in-Some.pipeline) c.args.self.now.history c.args.self.now.budget (map name_data c.args.self.now.names.items) (job_data c.in-Some-job_named.found.now) c.args.by_command) c.in-Best.is (subst (λ l. IsPicked (pipeline_data c.in-Some.pipeline) c.args.self.now.history c.args.self.now.budget (map name_data l) (job_data c.in-Some-job_named.found.now) c.args.by_command c.in-Ok.pick) c.deref.ensures.value c.in-Ok.ensures))) c.requires.core)
 
 pub returns-in-Ok-open_build-clause-step : goal.returns-in-Ok-open_build-clause-step
 returns-in-Ok-open_build-clause-step c =

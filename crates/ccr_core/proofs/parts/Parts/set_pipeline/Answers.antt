@@ -1,7 +1,8 @@
-use Rattle.std.proofs.Common.{rules, ◌≡◌, true, false, [], length, map, sym, ap, ◌∙◌, arith}
+use Rattle.std.proofs.Common.{rules, ◌≡◌, true, false, [], length, map, sym, ap, ◌∙◌, subst, arith}
 use Rattle.ccr_history.specs.Changes.{text, edited}
 use Rattle.ccr_pipeline.specs.Pipelines.{pipeline_data}
 use Rattle.ccr_steps.specs.Runs.{run_data}
+use Rattle.ccr_indexes.specs.Indexes.{AreIndexes}
 use Rattle.ccr_core.specs.Cores.{core_data}
 use Rattle.ccr_core.proofs.Choosing.{length_map}
 use Rattle.ccr_core.proofs.Editing.{builds_open, piped_so, no_length, is_zero, not_zero}
@@ -30,3 +31,6 @@ returns-in-Ok-clause-kept c = pipeline_kept c.args.pipeline
 
 pub returns-in-Err-clause-kept : goal.returns-in-Err-clause-kept
 returns-in-Err-clause-kept c = pipeline_kept c.args.pipeline
+
+pub returns-in-Ok-clause-indexed : goal.returns-in-Ok-clause-indexed
+returns-in-Ok-clause-indexed c = subst (λ y. AreIndexes (pipeline_data c.args.pipeline) y c.in-Ok.indexes) (sym c.set_text.ensures) c.in-Ok.ensures.indexes

@@ -1,0 +1,5 @@
+mod Lists
+mod Places
+mod Each
+mod Ends
+mod Reports
