@@ -6,7 +6,7 @@ use Rattle.ccr_history.specs.declared.build.Status.TheVariants as status
 use Rattle.ccr_history.specs.Text.{Text}
 use Rattle.ccr_history.specs.TextMap.{TextMap}
 use Rattle.ccr_history.specs.Tables.{is_table_full}
-use Rattle.ccr_history.specs.Changes.{EditData, versions, ended, edited, changed, IsRunning, TakesAll}
+use Rattle.ccr_history.specs.Changes.{versions, ended, edited, changed, IsRunning, TakesAll}
 use Rattle.ccr_history.specs.History.{HistoryData}
 use Rattle.ccr_pipeline.specs.JobData.{ResourceData}
 use Rattle.ccr_pipeline.specs.Pipelines.{PipelineData}

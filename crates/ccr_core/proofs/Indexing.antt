@@ -1,13 +1,12 @@
 -- How the indexes of a core follow its history.
-use Rattle.std.proofs.Common.{◌≡◌, ℕ, ◌+◌, ◌≤◌, List, [], ◌∷◌, ◌++◌, length, map, Bool, true, false, cond, Option, Some, None, Result, Ok, Err, OnOk, OnErr, IsOk, IsErr, refl, sym, ap, ◌∙◌, subst, arith}
-use Rattle.std.specs.Prelude.{IfSome, option_map}
+use Rattle.std.proofs.Common.{◌≡◌, ℕ, ◌+◌, ◌≤◌, List, [], ◌∷◌, map, Bool, true, false, cond, Option, Some, None, refl, sym, ap, ◌∙◌, subst, arith}
+use Rattle.std.specs.Prelude.{IfSome}
 use Rattle.std.proofs.lemmas.List.Sums.{sum_by_push}
 use Rattle.ccr_history.specs.declared.build.Status.TheVariants.{Errored}
-use Rattle.ccr_history.specs.declared.change.Edit.TheVariants.{Versions}
 use Rattle.ccr_history.specs.declared.change.Reported.{Reported}
 use Rattle.ccr_history.specs.Text.{Text}
 use Rattle.ccr_history.specs.Builds.{UsedData, is_of, count_of, new_build, is_succeeded}
-use Rattle.ccr_history.specs.Changes.{build, ended, edited, changed, TakesAll}
+use Rattle.ccr_history.specs.Changes.{build, edited, changed, TakesAll}
 use Rattle.ccr_history.specs.History.{HistoryData, IsHistory}
 use Rattle.ccr_history.proofs.ChangeLaws.{kept}
 use Rattle.ccr_pipeline.specs.Inputs.{inputs}

@@ -1,5 +1,5 @@
 -- The builds that run stand in order of making.
-use Rattle.std.proofs.Common.{◌≡◌, ℕ, zero, suc, ◌+◌, ◌<◌, ◌≤◌, Bool, true, false, cond, List, [], ◌∷◌, ◌++◌, length, map, slice_get, Option, Some, None, option_map, Ok, Err, refl, sym, ap, ◌∙◌, subst, arith}
+use Rattle.std.proofs.Common.{◌≡◌, ℕ, zero, suc, ◌+◌, ◌≤◌, Bool, true, false, cond, List, [], ◌∷◌, ◌++◌, length, map, slice_get, Option, Some, None, option_map, Ok, Err, refl, sym, ap, ◌∙◌, subst, arith}
 use Rattle.std.specs.List.{AllByRecursion}
 use Rattle.std.proofs.lemmas.Option.{slice_get_within}
 use Rattle.ccr_history.specs.declared.build.Status.{Status}
@@ -17,12 +17,12 @@ use Rattle.ccr_core.specs.Choices.{used_at}
 use Rattle.ccr_core.specs.Addressed.{AnswerTo, addressed}
 use Rattle.ccr_core.specs.Events.{EventData, set_pipeline, checked, schedule, trigger, pin, unpin, restart}
 use Rattle.ccr_core.specs.Holding.{CoreData, IsCore}
-use Rattle.ccr_core.specs.Kept.{IsEvent, IsStart}
+use Rattle.ccr_core.specs.Kept.{IsEvent}
 use Rattle.ccr_core.specs.Picking.{name_of}
 use Rattle.ccr_core.specs.Positions.{IsMadeAt, AreInOrder}
 use Rattle.ccr_core.specs.Replies.{Replied}
 use Rattle.ccr_core.specs.Seen.{pairs_of, report_by}
-use Rattle.ccr_core.specs.State.{RunningData, State, pipeline_of, moved_on, is_run_of, replaced, without}
+use Rattle.ccr_core.specs.State.{RunningData, State, pipeline_of, is_run_of, replaced, without}
 use Rattle.ccr_core.specs.Steps.{Schedules, Triggers, Answers, DoesBy, Step, Run}
 use Rattle.ccr_core.proofs.Keeping.{AreKnown, found_there, new_found}
 use Rattle.ccr_core.proofs.Opening.{names_are}

@@ -11,12 +11,12 @@ use Rattle.ccr_problem.specs.ProblemOf.{job_of}
 use Rattle.ccr_core.specs.declared.fault.CoreFault.{CoreFault}
 use Rattle.ccr_core.specs.declared.reply.Reply.{Reply}
 use Rattle.ccr_core.specs.Events.{EventData}
-use Rattle.ccr_core.specs.Holding.{CoreData, AreRuns, Stands, IsReached, IsCore, Takes}
-use Rattle.ccr_core.specs.Kept.{IsPipeline, IsEvent, IsStart}
+use Rattle.ccr_core.specs.Holding.{CoreData, AreRuns, Stands, IsCore, Takes}
+use Rattle.ccr_core.specs.Kept.{IsPipeline, IsEvent}
 use Rattle.ccr_core.specs.Replies.{Replied}
 use Rattle.ccr_core.specs.State.{RunningData, State, no_pipeline, pipeline_of}
 use Rattle.ccr_core.specs.Steps.{Step, Run}
-use Rattle.ccr_core.specs.Told.{HasItsOwn, IsPlanned}
+use Rattle.ccr_core.specs.Told.{IsPlanned}
 use Rattle.ccr_core.proofs.Owning.{each_has_its_own}
 use Rattle.ccr_core.proofs.RunningLists.{all_weaker, all_append}
 use Rattle.ccr_core.proofs.Sound.{IsSound, leaves_run, starts}

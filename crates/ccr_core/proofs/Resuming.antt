@@ -1,9 +1,9 @@
 -- Builds that run in a history that a core begins with.
-use Rattle.std.proofs.Common.{◌≡◌, ◌⊎◌, inl, inr, ℕ, zero, suc, ◌+◌, ◌<◌, ◌≤◌, ◌==◌, Bool, true, false, cond, ◌&&◌, List, [], ◌∷◌, ◌++◌, take, drop, slice_get, map, Option, Some, None, bytes_eq, refl, sym, ap, ◌∙◌, subst, arith, append_assoc}
+use Rattle.std.proofs.Common.{◌≡◌, ℕ, zero, suc, ◌+◌, ◌<◌, ◌≤◌, ◌==◌, Bool, true, false, cond, ◌&&◌, List, [], ◌∷◌, ◌++◌, take, drop, slice_get, map, Some, None, bytes_eq, refl, sym, ap, ◌∙◌, subst, arith, append_assoc}
 use Rattle.std.specs.List.{AllByRecursion}
 use Rattle.std.proofs.lemmas.Slice.Eq.{bytes_eq-Decides}
 use Rattle.ccr_history.specs.Text.{Text}
-use Rattle.ccr_history.specs.Builds.{BuildData, is_of, is_build_of, count_of, build_of, is_running}
+use Rattle.ccr_history.specs.Builds.{BuildData, count_of, build_of, is_running}
 use Rattle.ccr_history.specs.Changes.{edited, IsRunning, TakesAll}
 use Rattle.ccr_history.specs.History.{HistoryData, AreNumbered}
 use Rattle.ccr_history.specs.declared.build.Status.{Status}

@@ -4,7 +4,7 @@ use Rattle.ccr_history.specs.declared.builds.TheConstants.{MOST_BUILDS}
 use Rattle.ccr_history.specs.Text.{Text}
 use Rattle.ccr_history.specs.TextMap.{TextMap}
 use Rattle.ccr_history.specs.Tables.{ScopeData, new_count, is_table_full}
-use Rattle.ccr_history.specs.Changes.{EditData, versions, edited}
+use Rattle.ccr_history.specs.Changes.{versions, edited}
 use Rattle.ccr_history.specs.History.{HistoryData}
 use Rattle.ccr_pipeline.specs.JobData.{ResourceData, JobData}
 use Rattle.ccr_pipeline.specs.Pipelines.{PipelineData}

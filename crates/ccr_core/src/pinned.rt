@@ -57,10 +57,10 @@ fn pinned(
 {
     let mut next = history.copy(alloc)?;
     match next.set_pin(alloc, resource, given) {
-        Ok(()) => {
-            let indexes = indexes_of(alloc, pipeline, &next)?;
-            Ok((next, indexes))
-        }
+        Ok(()) => match indexes_of(alloc, pipeline, &next) {
+            Ok(indexes) => Ok((next, indexes)),
+            Err(fault) => Err(fault),
+        },
         // Only memory is refused.
         Err(_) => Err(AllocError),
     }

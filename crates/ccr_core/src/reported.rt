@@ -4,7 +4,7 @@ ghost use Rattle.std.specs.List.{AllByRecursion};
 ghost use Rattle.ccr_history.specs.Edits.{edit_data};
 ghost use Rattle.ccr_history.specs.TextMap.{IsAscending};
 ghost use Rattle.ccr_pipeline.specs.Pipelines.{pipeline_data};
-ghost use Rattle.ccr_indexes.specs.Indexes.{AreIndexes};
+ghost use Rattle.ccr_indexes.specs.Indexes.{problems, AreIndexes, AreBefore};
 ghost use Rattle.ccr_core.specs.Cores.{core_data};
 ghost use Rattle.ccr_core.specs.Events.{checked};
 ghost use Rattle.ccr_core.specs.Going.{Changes};
@@ -16,10 +16,10 @@ use crate::fault::CoreFault;
 use crate::named::scope_named;
 use crate::parts::Parts;
 use crate::reply::Reply;
-use ccr_history::{Change, Edit, History, HistoryFault, Scope, Version};
+use ccr_history::{Change, Edit, History, HistoryFault, Reported, Scope, Version};
 use ccr_indexes::Indexes;
 use ccr_pipeline::Pipeline;
-use std::alloc::Global;
+use std::alloc::{AllocError, Global};
 
 /// Each version has its keys in order. Nothing runs.
 pub(crate) fn versions_ascend(versions: &[Version])
@@ -28,6 +28,30 @@ pub(crate) fn versions_ascend(versions: &[Version])
     for version in versions {
         version.rules();
     }
+}
+
+/// From how many new versions on the indexes are built anew. With fewer, each index makes room for every version in each of
+/// its inputs, so that nothing is refused once the first has come.
+const MANY_VERSIONS: usize = 1000;
+
+/// Brings the indexes from the history before a report to the one after it. Where memory is refused, the problems stay.
+fn follow_report(
+    alloc: Global,
+    pipeline: &Pipeline,
+    history: &History,
+    indexes: &mut Indexes,
+    reported: &Reported,
+) -> Result<(), AllocError>
+    requires { AreBefore (pipeline_data pipeline.now) history.now reported.now indexes.old }
+    ensures ok { OnOk result (AreIndexes (pipeline_data pipeline.now) history.now indexes.new) }
+    ensures err { OnErr result (problems indexes.new ≡ problems indexes.old) }
+{
+    if reported.versions.len() < MANY_VERSIONS {
+        return indexes.add_report(alloc, pipeline, history, reported);
+    }
+    let anew = Indexes::of(alloc, pipeline, history)?;
+    *indexes = anew;
+    Ok(())
 }
 
 /// Reports versions of a scope, to the history and to the indexes, and gives how many were new. Where it is refused,
@@ -50,7 +74,7 @@ fn append(
     history.rules();
     let mut change = Vec::with_capacity(alloc, 1)?;
     match history.report(alloc, scope, &seen) {
-        Ok(reported) => match indexes.add_report(alloc, pipeline, history, &reported) {
+        Ok(reported) => match follow_report(alloc, pipeline, history, indexes, &reported) {
             Ok(()) => {
                 versions_ascend(&reported.versions);
                 let count = reported.versions.len() as u32;

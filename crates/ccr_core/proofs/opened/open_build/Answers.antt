@@ -1,4 +1,4 @@
-use Rattle.std.proofs.Common.{◌≡◌, ◌∷◌, [], ◌++◌, sym, ap, ◌∙◌}
+use Rattle.std.proofs.Common.{◌∷◌, [], ◌++◌, ap, ◌∙◌}
 use Rattle.ccr_pipeline.specs.JobData.{job_data}
 use Rattle.ccr_pipeline.specs.Pipelines.{pipeline_data}
 use Rattle.ccr_core.proofs.Opening.{opened_ended, opened_open}

@@ -1,4 +1,4 @@
-use Rattle.std.proofs.Common.{◌≡◌, ◌+◌, ◌-◌, ◌<◌, ◌≤◌, inl, inr, Some, None, length, slice_get, sym, ap, ◌∙◌, arith}
+use Rattle.std.proofs.Common.{◌-◌, inl, inr, slice_get, sym, ap, ◌∙◌, arith}
 use Rattle.ccr_history.specs.Builds.{positions_of}
 use Rattle.ccr_core.proofs.Standing.{stands_at, stands_nowhere, none_past}
 use Rattle.ccr_core.proofs.position.position_of.Goals as goal

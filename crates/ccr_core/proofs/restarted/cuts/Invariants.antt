@@ -1,4 +1,4 @@
-use Rattle.std.proofs.Common.{◌≡◌, ◌++◌, map, take, drop}
+use Rattle.std.proofs.Common.{◌≡◌, map, take}
 use Rattle.ccr_history.specs.Edits.{edit_data, HaveTheirNumbers}
 use Rattle.ccr_core.specs.Holding.{name_data}
 use Rattle.ccr_core.specs.Resumed.{cut_name}

@@ -1,4 +1,4 @@
-use Rattle.std.proofs.Common.{◌≡◌, ◌++◌, map, sym, ap, ◌∙◌}
+use Rattle.std.proofs.Common.{◌++◌, map, sym, ap, ◌∙◌}
 use Rattle.ccr_core.specs.Holding.{name_data}
 use Rattle.ccr_core.proofs.Opening.{name_more}
 use Rattle.ccr_core.proofs.Resuming.{add_one, add_none, past_end}

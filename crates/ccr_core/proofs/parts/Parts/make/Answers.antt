@@ -1,4 +1,4 @@
-use Rattle.std.proofs.Common.{◌≡◌, ◌<◌, length, map, option_map, sym, ap, ◌∙◌, subst, arith}
+use Rattle.std.proofs.Common.{map, option_map, sym, ap, ◌∙◌, subst, arith}
 use Rattle.ccr_pipeline.specs.JobData.{job_data}
 use Rattle.ccr_pipeline.specs.Pipelines.{pipeline_data}
 use Rattle.ccr_steps.specs.Runs.{run_data}

@@ -1,4 +1,4 @@
-use Rattle.std.proofs.Common.{◌≡◌, map, option_map, refl, sym, ap, ◌∙◌, subst}
+use Rattle.std.proofs.Common.{map, option_map, sym, ap, ◌∙◌, subst}
 use Rattle.ccr_history.specs.Changes.{changed, TakesAll}
 use Rattle.ccr_steps.specs.Runs.{run_data}
 use Rattle.ccr_core.specs.Cores.{core_data}

@@ -1,4 +1,4 @@
-use Rattle.std.proofs.Common.{rules, ◌≡◌, true, false, [], length, map, sym, ap, ◌∙◌, subst, arith}
+use Rattle.std.proofs.Common.{rules, ◌≡◌, true, false, length, map, sym, ap, ◌∙◌, subst, arith}
 use Rattle.ccr_history.specs.Changes.{text, edited}
 use Rattle.ccr_pipeline.specs.Pipelines.{pipeline_data}
 use Rattle.ccr_steps.specs.Runs.{run_data}
