@@ -1,7 +1,7 @@
 //! What a server asks of the place where its history is kept: that a change is written whole, or not at all.
 //!
 //! Contracts see which history the tables hold. After an `Ok` it is the changed one; after an `Err` it is the one that
-//! it was. A [`Tally`] says how many commits there were, and why the last one failed, so that a server's promises can
+//! it was. They also see which history a crash leaves: after an `Ok` the changed one alone. A [`Tally`] says how many commits there were, and why the last one failed, so that a server's promises can
 //! say that it asked.
 #![tactic(auto)]
 

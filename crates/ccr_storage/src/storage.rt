@@ -1,18 +1,23 @@
 //! Where a history is kept.
-ghost use Rattle.std.specs.Prelude.{◌≡◌, OnOk, OnErr};
-ghost use Rattle.ccr_history.specs.History.{HistoryData};
+ghost use Rattle.std.specs.Prelude.{◌≡◌, List, [], ◌∷◌, OnOk, OnErr, ⊤};
+ghost use Rattle.ccr_history.specs.History.{HistoryData, IsHistory};
 ghost use Rattle.ccr_history.specs.Edits.{change_data, Accepts};
 ghost use Rattle.ccr_history.specs.Changes.{changed};
 ghost use Rattle.ccr_storage.specs.Counts.{RoseBy, fault_in};
+ghost use Rattle.ccr_storage.specs.Crash.{left_by};
 ghost use Rattle.ccr_storage.specs.declared.tally.Tally.{Tally};
 
 use crate::fault::StoreFault;
 use ccr_history::Edit;
 use std::alloc::Global;
 
-/// Where a history is kept. Contracts see which history its tables hold, and the tally of its commits.
+/// Where a history is kept. Contracts see which history its tables hold, which ones a crash may leave, and the tally of its
+/// commits.
 pub trait Storage {
     ghost holds: { Self → HistoryData → Type 0 };
+
+    /// A crash at this moment leaves one of these histories. A storage that says nothing of crashes leaves it out.
+    ghost leaves: { Self → List HistoryData → Type 0 } = { λ _ _. ⊤ };
 
     ghost tally: { Self → Tally };
 
@@ -28,6 +33,8 @@ pub trait Storage {
         ensures done { (h : HistoryData) → holds self.old h → Accepts h change.now
             → OnOk result (holds self.new (changed (change_data change.now) h)) }
         ensures refused { (h : HistoryData) → holds self.old h → OnErr result (holds self.new h) }
+        ensures crash { (h : HistoryData) → IsHistory h → holds self.old h → leaves self.old (h ∷ []) → Accepts h change.now
+            → leaves self.new (left_by result h (changed (change_data change.now) h)) }
         ensures counted { RoseBy (tally self.old).commits 1 (tally self.new).commits }
         ensures told { (tally self.new).fault ≡ fault_in result };
 }

@@ -16,3 +16,4 @@ pub mod ReadRows
 pub mod ReadTables
 pub mod ReadBuilds
 pub mod ShownRows
+pub mod Nothing

@@ -14,6 +14,7 @@ mod law;
 mod loading;
 mod matching;
 mod reading;
+mod still;
 mod storage;
 mod store;
 mod writes;

@@ -1,10 +1,13 @@
 //! The store as a server's storage.
-ghost use Rattle.std.specs.Prelude.{◌≡◌, OnOk, OnErr};
-ghost use Rattle.ccr_history.specs.History.{HistoryData};
+ghost use Rattle.std.specs.Prelude.{◌≡◌, [], ◌∷◌, OnOk, OnErr};
+ghost use Rattle.ccr_history.specs.History.{HistoryData, IsHistory};
 ghost use Rattle.ccr_history.specs.Edits.{change_data, Accepts};
 ghost use Rattle.ccr_history.specs.Changes.{changed};
+ghost use Rattle.ccr_storage.specs.Crash.{left_by};
+ghost use Rattle.ccr_store.specs.Crash.{Leaves};
 ghost use Rattle.ccr_store.specs.StoreData.{IsKept};
 
+use crate::still::writes_nothing;
 use crate::store::Store;
 use ccr_history::Edit;
 use ccr_storage::{Storage, StoreFault};
@@ -18,9 +21,12 @@ impl<S: Alter> Store<S> {
         ensures done { (h : HistoryData) → IsKept S.Store self.old h → Accepts h change.now
             → OnOk result (IsKept S.Store self.new (changed (change_data change.now) h)) }
         ensures refused { (h : HistoryData) → IsKept S.Store self.old h → OnErr result (IsKept S.Store self.new h) }
+        ensures crash { (h : HistoryData) → IsHistory h → IsKept S.Store self.old h → Leaves S.Store self.old (h ∷ [])
+            → Accepts h change.now
+            → Leaves S.Store self.new (left_by result h (changed (change_data change.now) h)) }
         ensures tally { self.new.tally ≡ self.old.tally }
     {
-        if change.is_empty() {
+        if writes_nothing(change) {
             return Ok(());
         }
         self.commit(alloc, change)
@@ -28,9 +34,12 @@ impl<S: Alter> Store<S> {
 }
 
 impl<S: Alter> Storage for Store<S> {
+    ghost use Rattle.ccr_store.specs.Crash.{Leaves};
     ghost use Rattle.ccr_store.specs.StoreData.{IsKept};
 
     ghost holds = { λ store h. IsKept S.Store store h };
+
+    ghost leaves = { λ store hs. Leaves S.Store store hs };
 
     ghost tally = { λ store. store.tally };
 

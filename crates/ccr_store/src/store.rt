@@ -134,6 +134,26 @@ impl<S: Alter + Drop> Store<S> {
 }
 
 impl<S: Alter> Store<S> {
+    /// A store over a database that [`prepare`] took: what [`adopt`](Store::adopt) ends with.
+    pub fn over(conn: Connection<S>) -> Store<S>
+        requires { (state S.Store conn).in_transaction ≡ false }
+        ensures { result.conn ≡ conn }
+    {
+        Store {
+            conn,
+            tally: Tally::new(),
+        }
+    }
+
+    /// The connection, which a caller may close, or open again where the disk failed.
+    pub fn into_connection(self) -> Connection<S>
+        ensures same { result ≡ self.conn }
+        ensures idle { (state S.Store result).in_transaction ≡ false }
+    {
+        let Store { conn, tally: _ } = self;
+        conn
+    }
+
     /// Writes what a change of the history changes, in one transaction.
     ///
     /// The edits are ones that the history takes, each by then, and carry the numbers that it gave them. After an `Err`
