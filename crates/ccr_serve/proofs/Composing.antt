@@ -3,9 +3,12 @@ use Rattle.std.proofs.Common.{◌≡◌, ◌≤◌, ◌++◌, ℕ, List, [], ◌
 use Rattle.ccr_process.specs.Runs.{Pair}
 use Rattle.ccr_core.specs.Holding.{Stands}
 use Rattle.ccr_core.specs.State.{State}
+use Rattle.ccr_task.specs.declared.counts.ShelfCounts.{ShelfCounts}
+use Rattle.ccr_task.specs.Shelves.{Grew}
 use Rattle.ccr_serve.specs.Items.{World, Item, Done, Serve, Each, Part, Items, Then, pairs_of, lines_of_all}
 use Rattle.ccr_serve.specs.Taken.{taken_in}
 use Rattle.ccr_serve.specs.Views.{View, world_of, IsReady, HasAsked, StandsAt, Called, Calls}
+use Rattle.ccr_serve.proofs.Counted.{grew_none}
 use Rattle.ccr_serve.proofs.Commits.{taken_in-append, rose_none, asked_none, asked_then}
 
 pub pairs_of-append : (ds es : List Done) → pairs_of (ds ++ es) ≡ pairs_of ds ++ pairs_of es
@@ -29,13 +32,13 @@ each-append S (i ∷ is) js old mid new [] es a b = absurd a
 each-append S (i ∷ is) js old mid new (d ∷ ds) es (w, one, rest) b =
     (w, one, each-append S is js w mid new ds es rest b)
 
-abbrev world_at : State → ℕ → ℕ → World
-world_at s last failures = record { core = s; last = last; failures = failures }
+abbrev world_at : State → ℕ → ShelfCounts → World
+world_at s last counts = record { core = s; last = last; counts = counts }
 
 -- a server that stands for a world's state is there
-pub at_world : (v : View) (w : World) → v.last ≡ w.last → v.failures ≡ w.failures → world_of v w.core ≡ w
-at_world v w last failures =
-    ap (λ n. world_at w.core n v.failures) last ∙ ap (λ n. world_at w.core w.last n) failures
+pub at_world : (v : View) (w : World) → v.last ≡ w.last → v.counts ≡ w.counts → world_of v w.core ≡ w
+at_world v w last counts =
+    ap (λ n. world_at w.core n v.counts) last ∙ ap (λ n. world_at w.core w.last n) counts
 
 module _ (A B : Part) (v0 v1 v2 : View) (s : State) (whole : Bool) where
   pub called_then : (a : Called A v0 s true v1) → Called B v1 a.now.core whole v2 → Called (Then A B) v0 s whole v2
@@ -162,11 +165,11 @@ calls_cut S is old new lost pairs few commits lines holds stands s h = record {
 }
 
 -- nothing was done of the items, and the server goes on
-pub stands_back : (old new : View) → new.core ≡ old.core → new.last ≡ old.last → old.failures ≤ new.failures
+pub stands_back : (old new : View) → new.core ≡ old.core → new.last ≡ old.last → Grew old.counts new.counts
     → new.closed ≡ false → (s : State) → Stands old.core s → StandsAt false new.closed (world_of old s) new
-stands_back old new core last failures is_open s h =
+stands_back old new core last counts is_open s h =
     subst (λ c. StandsAt false c (world_of old s) new) (sym is_open)
-    (subst (λ c. Stands c s) (sym core) h, last, failures)
+    (subst (λ c. Stands c s) (sym core) h, last, counts)
 
 -- nothing was done, and nothing has changed
 pub calls_back : (S : Serve) (is : List Item) (v : View) → IsReady v → Calls (Items S is) v false v
@@ -176,5 +179,5 @@ calls_back S is v ready =
       nil_few : length {A = Pair} [] ≤ 1
       nil_few = omega arith
 
-      same : v.failures ≤ v.failures
-      same = omega arith
+      same : Grew v.counts v.counts
+      same = grew_none v.counts

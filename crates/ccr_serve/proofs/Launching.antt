@@ -1,5 +1,5 @@
 -- A program that was run: its pair is there, unless memory was wanted.
-use Rattle.std.proofs.Common.{◌≡◌, ◌≢◌, ◌≤◌, ℕ, List, length, IfOk, Option, Some, Result, Ok, Err, refl, subst, inl, inr}
+use Rattle.std.proofs.Common.{◌≡◌, ◌≢◌, ◌≤◌, List, length, IfOk, Option, Some, Result, Ok, Err, refl, subst, inl, inr}
 use Rattle.ccr_history.specs.Text.{Text}
 use Rattle.ccr_history.specs.TextMap.{TextMap}
 use Rattle.ccr_pipeline.specs.JobData.{ResourceData}
@@ -16,12 +16,13 @@ use Rattle.ccr_steps.specs.declared.ask.Answered.{Answered}
 use Rattle.ccr_task.specs.Answering.{AnswersEnd}
 use Rattle.ccr_task.specs.Launching.{can_launch, check_launch, starts_program, LaunchesAsk}
 use Rattle.ccr_task.specs.Places.{PlacesData}
+use Rattle.ccr_task.specs.declared.counts.ShelfCounts.{ShelfCounts}
 use Rattle.ccr_serve.specs.Asked.{AnswersByLaunch, Answers}
 use Rattle.ccr_serve.specs.Found.{found_data, FindsBy, Finds}
 use Rattle.ccr_serve.specs.Pairs.{Adds}
 use Rattle.ccr_serve.specs.declared.found.Found.{Found}
 
-pub found_after : {E : Type 0} (places : PlacesData) (r : ResourceData) (told version : Option TextMap) (before after : ℕ)
+pub found_after : {E : Type 0} (places : PlacesData) (r : ResourceData) (told version : Option TextMap) (before after : ShelfCounts)
     (old new : List Pair) (l : LaunchData) (end : EndData) (result : Result Found E)
     → told ≡ version → AddsPair old l end new → l ≡ check_launch places r told
     → length (check_launch places r told).input ≤ MOST_REQUEST → after ≡ before
@@ -37,7 +38,7 @@ found_after places r told version before after old new l end (Ok f) is_told (inr
     absurd (subst (λ e. FindsBy e (found_data f)) none by)
 found_after places r told version before after old new l end (Err e) is_told added is short same by = tt
 
-pub answered_after : {E : Type 0} (ask : AskData) (launch : Launch) (before after : ℕ) (old new : List Pair)
+pub answered_after : {E : Type 0} (ask : AskData) (launch : Launch) (before after : ShelfCounts) (old new : List Pair)
     (end : EndData) (result : Result Answered E)
     → AddsPair old (launch_data launch) end new → after ≡ before → IfOk result (λ a. AnswersEnd ask end (answer_data a))
     → IfOk result (λ a. (pair : Option Pair) × Adds old pair new
@@ -50,7 +51,7 @@ answered_after ask launch before after old new end (Err e) added same by = tt
 
 -- what isn't an ask for a file is answered by its launch
 pub by_program : {E : Type 0} (places : PlacesData) (rs : List ResourceData) (build : Text) (ask : Ask)
-    (launch : Result Launch RequestFault) (before after : ℕ) (old new : List Pair) (result : Result Answered E)
+    (launch : Result Launch RequestFault) (before after : ShelfCounts) (old new : List Pair) (result : Result Answered E)
     → ((file : _) → ask ≢ ReadConfig file) → can_launch rs (ask_data ask) ≡ starts_program (ask_data ask)
     → LaunchesAsk places rs build (ask_data ask) launch
     → IfOk result (λ a. (pair : Option Pair) × Adds old pair new

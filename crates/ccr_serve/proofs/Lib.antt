@@ -1,3 +1,4 @@
+mod Counted
 mod Commits
 mod Launching
 mod GoingRound

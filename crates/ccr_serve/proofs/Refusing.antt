@@ -1,5 +1,5 @@
 -- Commands that are refused, or that are kept from beginning.
-use Rattle.std.proofs.Common.{◌≡◌, ◌≤◌, ℕ, [], length, false, Option, None, Some, IsSome, Err, refl, sym, ◌∙◌, ap, subst, append-nil, arith, inl, inr}
+use Rattle.std.proofs.Common.{◌≡◌, ◌≤◌, [], length, false, Option, None, Some, IsSome, Err, refl, sym, ◌∙◌, ap, subst, append-nil, arith, inl, inr}
 use Rattle.ccr_history.specs.Text.{Text}
 use Rattle.ccr_process.specs.Runs.{Pair}
 use Rattle.ccr_task.specs.Places.{PlacesData}
@@ -11,6 +11,8 @@ use Rattle.ccr_core.specs.Holding.{Stands}
 use Rattle.ccr_core.specs.State.{State}
 use Rattle.ccr_lines.specs.Commands.{CommandData, need_of}
 use Rattle.ccr_lines.specs.Needs.{Lacks}
+use Rattle.ccr_task.specs.declared.counts.ShelfCounts.{ShelfCounts}
+use Rattle.ccr_task.specs.Shelves.{Grew}
 use Rattle.ccr_serve.specs.Commanding.{Commanded, IsRefused, WasRefused, CameOf}
 use Rattle.ccr_serve.specs.Items.{Items}
 use Rattle.ccr_serve.specs.Serving.{Serves}
@@ -18,13 +20,14 @@ use Rattle.ccr_serve.specs.Views.{View, world_of, IsReady, Calls, StandsAt, Made
 use Rattle.ccr_serve.specs.declared.fault.ServeFault.{ServeFault}
 use Rattle.ccr_serve.specs.declared.fault.ServeFault.TheVariants as fault
 use Rattle.ccr_serve.proofs.Commits.{rose_none, asked_these}
+use Rattle.ccr_serve.proofs.Counted.{grew_none}
 use Rattle.ccr_serve.proofs.Composing.{calls_back}
 use Rattle.ccr_serve.proofs.Steps.{after, printed, items_stop, cut_by_memory, none_added}
 
 -- ---- nothing was done
 -- a server that has done nothing refuses
 pub refused_at_once : (places : PlacesData) (c : CommandData) (f : ServeFault) (v : View) → IsReady v
-    → ((s : State) → Stands v.core s → IsRefused c f s v.failures v.failures) → WasRefused places c f v v
+    → ((s : State) → Stands v.core s → IsRefused c f s v.counts v.counts) → WasRefused places c f v v
 refused_at_once places c f v ready why = record {
   why = why;
   back = calls_back (Serves places) [] v ready;
@@ -34,12 +37,12 @@ refused_at_once places c f v ready why = record {
 }
 
 -- a server refuses whose shelf may have failed
-pub refused_after : (places : PlacesData) (c : CommandData) (f : ServeFault) (v : View) (k : ℕ) (l : Text) → IsReady v
-    → v.failures ≤ k → l ≡ v.lines → ((s : State) → Stands v.core s → IsRefused c f s v.failures k)
+pub refused_after : (places : PlacesData) (c : CommandData) (f : ServeFault) (v : View) (k : ShelfCounts) (l : Text) → IsReady v
+    → Grew v.counts k → l ≡ v.lines → ((s : State) → Stands v.core s → IsRefused c f s v.counts k)
     → WasRefused places c f v (after v k v.pairs l)
-refused_after places c f v k l ready grows lines why = record {
+refused_after places c f v k l ready grew lines why = record {
   why = why;
-  back = cut_by_memory (Items (Serves places) []) v k v.pairs l (items_stop (Serves places) []) ready grows
+  back = cut_by_memory (Items (Serves places) []) v k v.pairs l (items_stop (Serves places) []) ready grew
       (none_added v.pairs) lines;
   pairs = refl;
   commits = rose_none v.tally.commits;
@@ -50,12 +53,12 @@ refused_after places c f v k l ready grows lines why = record {
 pub lacks : (places : PlacesData) (c : CommandData) (f : CoreFault) (v : View) (l : Text) → IsReady v → l ≡ v.lines
     → Lacks (need_of c) v.core.pipeline f → CameOf places c (Err (fault.Core f)) v (printed v l)
 lacks places c f v l ready lines is = by f is where
-  same : v.failures ≤ v.failures
-  same = omega arith
+  same : Grew v.counts v.counts
+  same = grew_none v.counts
 
-  refuses : (f : CoreFault) → ((s : State) → Stands v.core s → IsRefused c (fault.Core f) s v.failures v.failures)
+  refuses : (f : CoreFault) → ((s : State) → Stands v.core s → IsRefused c (fault.Core f) s v.counts v.counts)
       → CameOf places c (Err (fault.Core f)) v (printed v l)
-  refuses f why = refused_after places c (fault.Core f) v v.failures l ready same lines why
+  refuses f why = refused_after places c (fault.Core f) v v.counts l ready same lines why
 
   by : (f : CoreFault) → Lacks (need_of c) v.core.pipeline f → CameOf places c (Err (fault.Core f)) v (printed v l)
   by core_fault.NoPipeline h =
@@ -91,7 +94,7 @@ module _ (places : PlacesData) (c : CommandData) (e : EventData) (f : CoreFault)
   stands_still s h = let t = made.takes s h in subst (λ u. Stands n.core u) t.1.1 t.2
 
   nothing_done : Calls (Items (Serves places) []) v false (printed n l)
-  nothing_done s h = let le : v.failures ≤ v.failures = omega arith in record {
+  nothing_done s h = let none : Grew v.counts v.counts = grew_none v.counts in record {
     dones = [];
     now = world_of v s;
     does = ([], [], refl, refl);
@@ -102,11 +105,11 @@ module _ (places : PlacesData) (c : CommandData) (e : EventData) (f : CoreFault)
     lines = lines ∙ sym (append-nil v.lines);
     holds = subst n.holds (stands_still s h).0 made.ready.holds;
     stands = subst (λ b. StandsAt false b (world_of v s) (printed n l)) (sym made.ready.is_open)
-        (stands_still s h, made.rest.last, subst (λ k. v.failures ≤ k) (sym made.rest.failures) le);
+        (stands_still s h, made.rest.last, subst (λ k. Grew v.counts k) (sym made.rest.counts) none);
   }
 
   -- the event's first fault is the command's
-  pub refused_by_core : ((s : State) → IsFirstFault s e f → IsRefused c (fault.Core f) s v.failures n.failures)
+  pub refused_by_core : ((s : State) → IsFirstFault s e f → IsRefused c (fault.Core f) s v.counts n.counts)
       → CameOf places c (Err (fault.Core f)) v (printed n l)
   refused_by_core why = record {
     why = λ s h. why s

@@ -1,5 +1,5 @@
 -- What items leave as it is, and what they surely do.
-use Rattle.std.proofs.Common.{◌≡◌, ◌≢◌, ℕ, List, [], ◌∷◌, true, Option, Some, None, Ok, Err, IsSome, refl, sym, ◌∙◌, ap, subst}
+use Rattle.std.proofs.Common.{◌≡◌, ◌≢◌, ℕ, List, [], ◌∷◌, Bool, true, false, Option, Some, None, Ok, Err, IsSome, refl, sym, ◌∙◌, ap, subst}
 use Rattle.std.specs.Option.{option_or}
 use Rattle.ccr_history.specs.Text.{Text}
 use Rattle.ccr_history.specs.TextMap.{TextMap}
@@ -13,7 +13,7 @@ use Rattle.ccr_core.specs.Steps.{Step}
 use Rattle.ccr_serve.specs.Found.{FoundData, found}
 use Rattle.ccr_serve.specs.Found as what_is
 use Rattle.ccr_serve.specs.Items.{World, check, Done, Each, Items}
-use Rattle.ccr_serve.specs.Serving.{Reports, TakesTurn, Serves}
+use Rattle.ccr_serve.specs.Serving.{Reports, GoesOnBy, TakesTurn, Serves}
 use Rattle.ccr_serve.specs.Turns.{rank_in, next_after}
 use Rattle.ccr_serve.specs.Views.{View, world_of, Calls}
 use Rattle.ccr_serve.proofs.Ending.{MakesEvents}
@@ -30,7 +30,10 @@ someone rank last (b ∷ bs) some = or_some _ b
 of_someone : (places : PlacesData) (o : Option RunningData) (old new : World) (d : Done) → o ≢ None
     → TakesTurn places o old d new → IsSome d.event
 of_someone places None old new d some h = absurd (some refl)
-of_someone places (Some b) old new d some h = subst (λ e. IsSome e) (sym h.event) refl
+of_someone places (Some b) old new d some h = by h.asked h.goes_on where
+  by : (asked : Bool) → GoesOnBy asked places b old.core h.looked d h.reply h.counts new.core → IsSome d.event
+  by true on = subst (λ e. IsSome e) (sym on.0.event) refl
+  by false on = subst (λ e. IsSome e) (sym on.event) refl
 
 -- a turn where a build runs makes an event
 pub turns_make_events : (places : PlacesData) → MakesEvents places

@@ -1,5 +1,5 @@
 -- Items that were done, and items that were cut short.
-use Rattle.std.proofs.Common.{◌≡◌, ◌≤◌, ◌++◌, ◌⊎◌, ◌&&◌, ℕ, List, [], ◌∷◌, length, Bool, true, false, is_ok, Option, Some, None, option_to_list, unwrap_or, Ok, Err, refl, sym, ◌∙◌, ap, subst, append-nil, arith, inl, inr}
+use Rattle.std.proofs.Common.{◌≡◌, ◌≤◌, ◌++◌, ◌⊎◌, ◌&&◌, List, [], ◌∷◌, length, Bool, true, false, is_ok, Option, Some, None, option_to_list, unwrap_or, Ok, Err, refl, sym, ◌∙◌, ap, subst, append-nil, arith, inl, inr}
 use Rattle.std.proofs.lemmas.Bool.{false≢true}
 use Rattle.std.specs.Option.{option_map_or}
 use Rattle.ccr_history.specs.Text.{Text}
@@ -16,6 +16,8 @@ use Rattle.ccr_core.specs.State.{State, no_pipeline, resources_of}
 use Rattle.ccr_core.specs.Steps.{Step}
 use Rattle.ccr_lines.specs.Lines.{lines_of, refused_line, cause_words}
 use Rattle.ccr_lines.specs.declared.cause.Cause.{Cause}
+use Rattle.ccr_task.specs.declared.counts.ShelfCounts.{ShelfCounts}
+use Rattle.ccr_task.specs.Shelves.{Grew}
 use Rattle.ccr_serve.specs.Found.{found, newest, Finds}
 use Rattle.ccr_serve.specs.Found as what_is
 use Rattle.ccr_serve.specs.Items.{World, Item, Done, Serve, Part, Items, Noting}
@@ -31,11 +33,11 @@ use Rattle.ccr_serve.proofs.Commits.{add_none, rose_none, asked_none}
 
 -- ---- views
 -- a view after launches: the shelf's count, the pairs and what is printed may be others
-abbrev pub after : View → ℕ → List Pair → Text → View
+abbrev pub after : View → ShelfCounts → List Pair → Text → View
 after v f p l = record {
   core = v.core;
   last = v.last;
-  failures = f;
+  counts = f;
   pairs = p;
   holds = v.holds;
   tally = v.tally;
@@ -45,9 +47,9 @@ after v f p l = record {
 
 -- a view that has printed these lines
 abbrev pub printed : View → Text → View
-printed v l = after v v.failures v.pairs l
+printed v l = after v v.counts v.pairs l
 
-pub ready_after : (v : View) (f : ℕ) (p : List Pair) (l : Text) → IsReady v → IsReady (after v f p l)
+pub ready_after : (v : View) (f : ShelfCounts) (p : List Pair) (l : Text) → IsReady v → IsReady (after v f p l)
 ready_after v f p l ready = record {
   is_open = ready.is_open;
   unfailed = ready.unfailed;
@@ -113,16 +115,16 @@ noting_stop S is Note w = ([], is, refl, refl)
 
 -- ---- stopped by want of memory, or by a failure of the storage
 stands_back : (closed : Bool) (v new : View) (s : State) → Stands new.core s → new.last ≡ v.last
-    → v.failures ≤ new.failures → StandsAt false closed (world_of v s) new
-stands_back true v new s is last grows = tt
-stands_back false v new s is last grows = (is, last, grows)
+    → Grew v.counts new.counts → StandsAt false closed (world_of v s) new
+stands_back true v new s is last grew = tt
+stands_back false v new s is last grew = (is, last, grew)
 
 -- memory was wanted before the event
-pub cut_by_memory : (P : Part) (v : View) (f : ℕ) (p : List Pair) (l : Text) → MayStop P
-    → IsReady v → v.failures ≤ f → AddsAtMostOne v.pairs p → l ≡ v.lines → Calls P v false (after v f p l)
-cut_by_memory P v f p l may ready grows adds lines =
+pub cut_by_memory : (P : Part) (v : View) (f : ShelfCounts) (p : List Pair) (l : Text) → MayStop P
+    → IsReady v → Grew v.counts f → AddsAtMostOne v.pairs p → l ≡ v.lines → Calls P v false (after v f p l)
+cut_by_memory P v f p l may ready grew adds lines =
     calls_stop P v (after v f p l) adds.0 may adds.1 adds.2 (asked_none v.tally.commits) lines ready.holds
-    (λ s is. stands_back v.closed v (after v f p l) s is refl grows)
+    (λ s is. stands_back v.closed v (after v f p l) s is refl grew)
 
 pub none_added : (p : List Pair) → AddsAtMostOne p p
 none_added p = ([], sym (append-nil p), omega arith)
@@ -147,14 +149,14 @@ stands_closed : (closed : Bool) (v new : View) (s : State) → closed ≡ true �
 stands_closed true v new s is = tt
 stands_closed false v new s is = absurd (false≢true is)
 
-pub calls_unmade : (P : Part) (v : View) (f : ℕ) (p : List Pair) (l : Text) (new : View) (stop : ServeFault)
-    → MayStop P → v.failures ≤ f → AddsAtMostOne v.pairs p → l ≡ v.lines
+pub calls_unmade : (P : Part) (v : View) (f : ShelfCounts) (p : List Pair) (l : Text) (new : View) (stop : ServeFault)
+    → MayStop P → Grew v.counts f → AddsAtMostOne v.pairs p → l ≡ v.lines
     → Unmade stop (after v f p l) new → Calls P v false new
-calls_unmade P v f p l new stop may grows adds lines un =
+calls_unmade P v f p l new stop may grew adds lines un =
     calls_stop P v new adds.0 may (un.rest.pairs ∙ adds.1) adds.2 un.commits (un.rest.lines ∙ lines) un.holds
     (λ s is. elim (unmade_back stop (after v f p l) new un) as (λ _. StandsAt false new.closed (world_of v s) new) [
       | inl back ↦ stands_back new.closed v new s (subst (λ c. Stands c s) (sym back.0) is) un.rest.last
-          (subst (λ n. v.failures ≤ n) (sym un.rest.failures) grows)
+          (subst (λ n. Grew v.counts n) (sym un.rest.counts) grew)
       | inr closed ↦ stands_closed new.closed v new s closed
     ])
 
@@ -175,7 +177,7 @@ unmade_printed f old new l m same un = record {
   back = back f un.back;
   holds = un.holds;
   commits = un.commits;
-  rest = record { last = un.rest.last; failures = un.rest.failures; pairs = un.rest.pairs; lines = same };
+  rest = record { last = un.rest.last; counts = un.rest.counts; pairs = un.rest.pairs; lines = same };
 } where
   back : (f : ServeFault) → IsBack f old new → IsBack f (printed old l) (printed new m)
   back (fault.Core e) b = b
@@ -183,7 +185,7 @@ unmade_printed f old new l m same un = record {
   back (fault.Read e) b = b
   back fault.File b = b
   back fault.BadPin b = b
-  back fault.NoMemory b = (b.0, ready_after new new.failures new.pairs m b.1)
+  back fault.NoMemory b = (b.0, ready_after new new.counts new.pairs m b.1)
   back fault.Closed b = b
   back fault.TurnsUsedUp b = b
 
@@ -203,7 +205,7 @@ made_did P e r v n m s made lines can is = let t = made.takes s is in
         makes = record { reply = r; step = t.1; found_memory = made.found_memory; event = refl; lines = refl };
         pair = refl;
         last = made.rest.last;
-        failures = made.rest.failures;
+        counts = made.rest.counts;
       }) refl;
       pairs = made.rest.pairs ∙ sym (append-nil v.pairs);
       commits = made.commits;
@@ -216,7 +218,7 @@ pub calls_made : (P : Part) (e : EventData) (r : Replied) (v n : View) (m : Text
     → ((w u : World) (d : Done) → Tells e w d u → d.event ≡ Some (e, r) → P w (d ∷ []) true u)
     → Calls P v true (printed n m)
 calls_made P e r v n m made lines can =
-    calls_did P v (printed n m) (ready_after n n.failures n.pairs m made.ready)
+    calls_did P v (printed n m) (ready_after n n.counts n.pairs m made.ready)
     (λ s is. made_did P e r v n m s made lines can is)
 
 -- the lines of an event, with the history of a state that the core stands for
@@ -235,16 +237,16 @@ taken_one (Ok x) d e made = sym (ap (λ o. option_map_or (λ made. is_ok made.1)
 taken_one (Err x) d e made = sym (ap (λ o. option_map_or (λ made. is_ok made.1) o false && true) made)
 
 -- the versions that a check found were an event
-pub check_made : (places : PlacesData) (name named : Text) (one : ResourceData) (v : View) (f : ℕ) (p : List Pair)
+pub check_made : (places : PlacesData) (name named : Text) (one : ResourceData) (v : View) (f : ShelfCounts) (p : List Pair)
     (l : Text) (n : View) (m : Text) (pair : Option Pair) (vs : List TextMap) (r : Replied) (good : Bool)
     → named ≡ name → resource_of name (resources_held v.core) ≡ Some one → l ≡ v.lines
-    → p ≡ v.pairs ++ option_to_list pair → Finds places one (newest one v.core.history) v.failures f pair (found vs)
+    → p ≡ v.pairs ++ option_to_list pair → Finds places one (newest one v.core.history) v.counts f pair (found vs)
     → Made (checked named vs) r (after v f p []) n → m ≡ l ++ lines_of (checked name vs) r n.core.history
     → good ≡ is_ok r
     → Calls (Noting (Items (Serves places) (item.check name ∷ [])) (λ ds. good ≡ all_taken ds)) v true (printed n m)
 check_made places name named one v f p l n m pair vs r good copied there lines pairs finds made_named told is_good =
     calls_did (Noting (Items (Serves places) (item.check name ∷ [])) (λ ds. good ≡ all_taken ds)) v (printed n m)
-    (ready_after n n.failures n.pairs m made_named.ready) (λ s is.
+    (ready_after n n.counts n.pairs m made_named.ready) (λ s is.
     let made : Made (checked name vs) r (after v f p []) n =
     subst (λ t. Made (checked t vs) r (after v f p []) n) copied made_named in
     let t = made.takes s is in
@@ -264,9 +266,9 @@ check_made places name named one v f p l n m pair vs r good copied there lines p
             one = one;
             named = ap (λ rs. resource_of name rs) (sym (resources_at v.core s is)) ∙ there;
             what = found vs;
-            finds = subst (λ h. Finds places one (newest one h) v.failures n.failures pair (found vs)) is.0
-                (subst (λ k. Finds places one (newest one v.core.history) v.failures k pair (found vs))
-                (sym made.rest.failures) finds);
+            finds = subst (λ h. Finds places one (newest one h) v.counts n.counts pair (found vs)) is.0
+                (subst (λ k. Finds places one (newest one v.core.history) v.counts k pair (found vs))
+                (sym made.rest.counts) finds);
             reports = record { reply = r; step = t.1; found_memory = made.found_memory; event = refl; lines = refl };
             last = made.rest.last;
           },
@@ -280,11 +282,11 @@ check_made places name named one v f p l n m pair vs r good copied there lines p
     })
 
 -- a check found nothing, and its line says why
-pub check_found_nothing : (places : PlacesData) (name : Text) (one : ResourceData) (v : View) (f : ℕ) (p : List Pair)
+pub check_found_nothing : (places : PlacesData) (name : Text) (one : ResourceData) (v : View) (f : ShelfCounts) (p : List Pair)
     (l m : Text) (pair : Option Pair) (cause : Cause)
     → IsReady v → resource_of name (resources_held v.core) ≡ Some one → l ≡ v.lines
     → p ≡ v.pairs ++ option_to_list pair
-    → Finds places one (newest one v.core.history) v.failures f pair (what_is.nothing cause)
+    → Finds places one (newest one v.core.history) v.counts f pair (what_is.nothing cause)
     → m ≡ l ++ refused_line name (cause_words cause)
     → Calls (Noting (Items (Serves places) (item.check name ∷ [])) (λ ds. false ≡ all_taken ds)) v true (after v f p m)
 check_found_nothing places name one v f p l m pair cause ready there lines pairs finds told =
@@ -300,7 +302,7 @@ check_found_nothing places name one v f p l m pair cause ready there lines pairs
             one = one;
             named = ap (λ rs. resource_of name rs) (sym (resources_at v.core s is)) ∙ there;
             what = what_is.nothing cause;
-            finds = subst (λ h. Finds places one (newest one h) v.failures f pair (what_is.nothing cause)) is.0 finds;
+            finds = subst (λ h. Finds places one (newest one h) v.counts f pair (what_is.nothing cause)) is.0 finds;
             reports = (refl, refl, refl);
             last = refl;
           },

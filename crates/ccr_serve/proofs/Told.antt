@@ -1,5 +1,5 @@
 -- Commands of one event: pins, and pipelines.
-use Rattle.std.proofs.Common.{◌≡◌, ◌≤◌, ◌++◌, ℕ, List, [], ◌∷◌, true, Option, None, Some, IsSome, unwrap_or, codes, Ok, Err, refl, sym, ◌∙◌, ap, subst, arith, inl, inr}
+use Rattle.std.proofs.Common.{◌≡◌, ◌++◌, ℕ, List, [], ◌∷◌, true, Option, None, Some, IsSome, unwrap_or, codes, Ok, Err, refl, sym, ◌∙◌, ap, subst, arith, inl}
 use Rattle.std.specs.Option.{option_map_or}
 use Rattle.ccr_history.specs.Text.{Text}
 use Rattle.ccr_history.specs.TextMap.{TextMap}
@@ -8,7 +8,6 @@ use Rattle.ccr_pipeline.specs.Pipelines.{PipelineData, IsPipelineOf}
 use Rattle.ccr_pipeline.specs.Reading.{pipeline_faults, IsReading}
 use Rattle.ccr_problem.specs.ProblemOf.{resource_of}
 use Rattle.ccr_task.specs.Places.{PlacesData}
-use Rattle.ccr_task.specs.Shelves.{Rose}
 use Rattle.ccr_core.specs.declared.fault.CoreFault.{CoreFault}
 use Rattle.ccr_core.specs.declared.fault.CoreFault.TheVariants as core_fault
 use Rattle.ccr_core.specs.declared.reply.Reply.{Reply}
@@ -21,6 +20,7 @@ use Rattle.ccr_core.specs.Replies.{Replied}
 use Rattle.ccr_core.specs.State.{State, no_pipeline, resources_of}
 use Rattle.ccr_core.specs.Steps.{Step}
 use Rattle.ccr_lines.specs.Lines.{line, lines_of, pipeline_lines}
+use Rattle.ccr_task.specs.declared.counts.ShelfCounts.{ShelfCounts}
 use Rattle.ccr_serve.specs.Commanding.{pin_in, HasResource, Commanded, IsRefused, CameOf}
 use Rattle.ccr_lines.specs.Commands.{set_pipeline, pin_resource, unpin_resource}
 use Rattle.ccr_serve.specs.Items.{World, Done}
@@ -29,6 +29,7 @@ use Rattle.ccr_serve.specs.Serving.{Tells}
 use Rattle.ccr_serve.specs.Views.{View, resources_held, IsReady, Made}
 use Rattle.ccr_serve.specs.declared.fault.ServeFault.{ServeFault}
 use Rattle.ccr_serve.specs.declared.fault.ServeFault.TheVariants as fault
+use Rattle.ccr_serve.proofs.Counted.{grew_same, grew_failed}
 use Rattle.ccr_serve.proofs.Refusing.{some_if, refused_at_once, refused_after, refused_by_core}
 use Rattle.ccr_serve.proofs.Steps.{after, printed, MayStop, cut_by_memory, none_added, calls_made, resources_at}
 
@@ -101,7 +102,7 @@ pin_made places name named text p replied r v n l m copied is took lines made to
     (pin_lines name p r s a step))
     (pin_told places name text p r (sym is))
 
-pin_refused_so : (name text : Text) (p : TextMap) (f : CoreFault) (s : State) (before after : ℕ)
+pin_refused_so : (name text : Text) (p : TextMap) (f : CoreFault) (s : State) (before after : ShelfCounts)
     → IsFirstFault s (event.pin name p) f → IsRefused (pin_resource name text) (fault.Core f) s before after
 pin_refused_so name text p core_fault.NoPipeline s before after first = first.0
 pin_refused_so name text p core_fault.NoResource s before after first =
@@ -115,7 +116,7 @@ pub pin_refused : (places : PlacesData) (name named text : Text) (p : TextMap) (
 pin_refused places name named text p replied f v n l copied is lines made =
     refused_by_core places (pin_resource name text) (event.pin name p) f v n l lines
     (made_so (event.pin named p) (event.pin name p) replied (Err f) v n (ap (λ t. event.pin t p) copied) is made)
-    (λ s first. pin_refused_so name text p f s v.failures n.failures first)
+    (λ s first. pin_refused_so name text p f s v.counts n.counts first)
 
 -- ---- pins that are taken away
 pub unpin_stop : (places : PlacesData) (name : Text) → MayStop (Commanded places (unpin_resource name) 0)
@@ -146,7 +147,7 @@ unpin_made places name named replied r v n l m copied took lines made told =
     (unpin_lines name r s a step))
     (unpin_told places name r)
 
-unpin_refused_so : (name : Text) (f : CoreFault) (s : State) (before after : ℕ)
+unpin_refused_so : (name : Text) (f : CoreFault) (s : State) (before after : ShelfCounts)
     → IsFirstFault s (event.unpin name) f → IsRefused (unpin_resource name) (fault.Core f) s before after
 unpin_refused_so name core_fault.NoPipeline s before after first = first.0
 unpin_refused_so name core_fault.NoResource s before after first =
@@ -159,32 +160,25 @@ pub unpin_refused : (places : PlacesData) (name named : Text) (replied : Replied
 unpin_refused places name named replied f v n l copied is lines made =
     refused_by_core places (unpin_resource name) (event.unpin name) f v n l lines
     (made_so (event.unpin named) (event.unpin name) replied (Err f) v n (ap (λ t. event.unpin t) copied) is made)
-    (λ s first. unpin_refused_so name f s v.failures n.failures first)
+    (λ s first. unpin_refused_so name f s v.counts n.counts first)
 
 -- ---- pipelines
 pub set_stop : (places : PlacesData) (path : Text) → MayStop (Commanded places (set_pipeline path) 0)
 set_stop places path w = inl refl
 
-rose_grows : (before after : ℕ) → Rose before after → before ≤ after
-rose_grows before after (inl is) = omega (arith, is)
-rose_grows before after (inr is) = omega (arith, is.1)
-
-same_grows : (before after : ℕ) → after ≡ before → before ≤ after
-same_grows before after is = omega (arith, is)
-
 -- the file gives no pipeline
-pub not_read : (places : PlacesData) (path : Text) (f : ServeFault) (v : View) (k : ℕ) → IsReady v
-    → KeepsFromReading f v.failures k
+pub not_read : (places : PlacesData) (path : Text) (f : ServeFault) (v : View) (k : ShelfCounts) → IsReady v
+    → KeepsFromReading f v.counts k
     → CameOf places (set_pipeline path) (Err f) v (after v k v.pairs v.lines)
 not_read places path (fault.Read g) v k ready keeps =
-    refused_after places (set_pipeline path) (fault.Read g) v k v.lines ready (same_grows v.failures k keeps.1) refl
+    refused_after places (set_pipeline path) (fault.Read g) v k v.lines ready (grew_same v.counts k keeps.1) refl
     (λ s is. keeps.0)
 not_read places path fault.File v k ready keeps =
-    refused_after places (set_pipeline path) fault.File v k v.lines ready (rose_grows v.failures k keeps) refl
+    refused_after places (set_pipeline path) fault.File v k v.lines ready (grew_failed v.counts k keeps) refl
     (λ s is. keeps)
 not_read places path fault.NoMemory v k ready keeps =
     cut_by_memory (Commanded places (set_pipeline path) 0) v k v.pairs v.lines (set_stop places path) ready
-    (same_grows v.failures k keeps) (none_added v.pairs) refl
+    (grew_same v.counts k keeps) (none_added v.pairs) refl
 not_read places path f v k ready keeps = absurd keeps
 
 pipeline_after : (p : PipelineData) (r : Reply) (s a : State) → Step s (event.set_pipeline p) (Ok r) a
@@ -207,8 +201,8 @@ set_told places path p r read w u d tells made =
     (((read.0, p, read.1, (u, (tells, (r, made)), refl)), refl), tt)
 
 pub set_made : (places : PlacesData) (path : Text) (p : PipelineData) (replied : Replied) (r : Reply) (v n : View)
-    (k : ℕ) (l m : Text) → (bytes : List ℕ) × IsReading pipeline_faults bytes (λ d. IsPipelineOf bytes d p)
-    → replied ≡ Ok r → k ≡ v.failures → l ≡ v.lines → Made (event.set_pipeline p) replied (after v k v.pairs []) n
+    (k : ShelfCounts) (l m : Text) → (bytes : List ℕ) × IsReading pipeline_faults bytes (λ d. IsPipelineOf bytes d p)
+    → replied ≡ Ok r → k ≡ v.counts → l ≡ v.lines → Made (event.set_pipeline p) replied (after v k v.pairs []) n
     → m ≡ l ++ pipeline_lines (unwrap_or n.core.pipeline no_pipeline)
     → CameOf places (set_pipeline path) (Ok 0) v (printed n m)
 set_made places path p replied r v n k l m read is same lines made told =
@@ -219,17 +213,17 @@ set_made places path p replied r v n k l m read is same lines made told =
     v.lines l m lines told (set_lines p r s a n.core step h))
     (set_told places path p r read)
 
-set_refused_so : (path : Text) (p : PipelineData) (f : CoreFault) (s : State) (before after : ℕ)
+set_refused_so : (path : Text) (p : PipelineData) (f : CoreFault) (s : State) (before after : ShelfCounts)
     → IsFirstFault s (event.set_pipeline p) f → IsRefused (set_pipeline path) (fault.Core f) s before after
 set_refused_so path p core_fault.BuildsOpen s before after first = first.0
 set_refused_so path p f s before after first = absurd first.0
 
 pub set_refused : (places : PlacesData) (path : Text) (p : PipelineData) (replied : Replied) (f : CoreFault)
-    (v n : View) (k : ℕ) (l : Text) → replied ≡ Err f → k ≡ v.failures → l ≡ v.lines
+    (v n : View) (k : ShelfCounts) (l : Text) → replied ≡ Err f → k ≡ v.counts → l ≡ v.lines
     → Made (event.set_pipeline p) replied (after v k v.pairs []) n
     → CameOf places (set_pipeline path) (Err (fault.Core f)) v (printed n l)
 set_refused places path p replied f v n k l is same lines made =
     refused_by_core places (set_pipeline path) (event.set_pipeline p) f v n l lines
     (subst (λ j. Made (event.set_pipeline p) (Err f) (after v j v.pairs []) n) same
     (subst (λ q. Made (event.set_pipeline p) q (after v k v.pairs []) n) is made))
-    (λ s first. set_refused_so path p f s v.failures n.failures first)
+    (λ s first. set_refused_so path p f s v.counts n.counts first)

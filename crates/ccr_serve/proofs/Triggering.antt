@@ -1,5 +1,5 @@
 -- The event that triggers a job: made, refused, or kept away.
-use Rattle.std.proofs.Common.{◌≡◌, ◌<◌, ◌++◌, ℕ, [], ◌∷◌, true, Option, Some, IsSome, Ok, Err, refl, sym, ap, subst, ◌∙◌, arith, inl}
+use Rattle.std.proofs.Common.{◌≡◌, ◌<◌, ◌++◌, [], ◌∷◌, true, Option, Some, IsSome, Ok, Err, refl, sym, ap, subst, ◌∙◌, arith, inl}
 use Rattle.ccr_core.specs.declared.fault.CoreFault.{CoreFault}
 use Rattle.ccr_core.specs.declared.fault.CoreFault.TheVariants as core_fault
 use Rattle.ccr_core.specs.declared.reply.Reply.{Reply}
@@ -12,6 +12,7 @@ use Rattle.ccr_core.specs.Steps.{Step}
 use Rattle.ccr_history.specs.Text.{Text}
 use Rattle.ccr_lines.specs.Lines.{lines_of}
 use Rattle.ccr_task.specs.Places.{PlacesData}
+use Rattle.ccr_task.specs.declared.counts.ShelfCounts.{ShelfCounts}
 use Rattle.ccr_serve.specs.Commanding.{HasJob, IsRefused, Commanded, CameOf}
 use Rattle.ccr_lines.specs.Commands.{trigger_job}
 use Rattle.ccr_serve.specs.Items.{World, Done, tell}
@@ -61,7 +62,7 @@ trigger_made places job named replied r v n l m copied is lines made_named told 
     (trigger_told places job r)
 
 -- ---- the core's refusal
-refused_so : (job : Text) (f : CoreFault) (s : State) (before after : ℕ) → IsFirstFault s (event.trigger job) f
+refused_so : (job : Text) (f : CoreFault) (s : State) (before after : ShelfCounts) → IsFirstFault s (event.trigger job) f
     → IsRefused (trigger_job job) (fault.Core f) s before after
 refused_so job core_fault.NoPipeline s before after first = first.0
 refused_so job core_fault.NoJob s before after first = let lt : 1 < 2 = omega arith in
@@ -82,4 +83,4 @@ trigger_refused places job named replied f v n l copied is lines made =
     refused_by_core places (trigger_job job) (event.trigger job) f v n l lines
     (subst (λ t. Made (event.trigger t) (Err f) (printed v []) n) copied
     (subst (λ q. Made (event.trigger named) q (printed v []) n) is made))
-    (λ s first. refused_so job f s v.failures n.failures first)
+    (λ s first. refused_so job f s v.counts n.counts first)

@@ -1,13 +1,14 @@
 -- Turns that were taken.
-use Rattle.std.proofs.Common.{◌≡◌, ◌++◌, ◌⊎◌, ℕ, List, [], ◌∷◌, map, true, Some, unwrap_or, Ok, Err, refl, sym, ◌∙◌, ap, subst, append-nil}
+use Rattle.std.proofs.Common.{◌≡◌, ◌++◌, ◌⊎◌, ℕ, List, [], ◌∷◌, map, Bool, true, false, Some, None, unwrap_or, Ok, Err, refl, sym, ◌∙◌, ap, subst, append-nil}
 use Rattle.ccr_history.specs.Text.{Text}
 use Rattle.ccr_history.specs.History.{HistoryData}
 use Rattle.ccr_process.specs.Runs.{Pair}
 use Rattle.ccr_steps.specs.Asks.{ask_data, AnswerData, errored}
 use Rattle.ccr_task.specs.Places.{PlacesData, build_folder}
+use Rattle.ccr_task.specs.declared.counts.ShelfCounts.{ShelfCounts}
 use Rattle.ccr_core.specs.declared.fault.CoreFault.TheVariants.{TableFull}
 use Rattle.ccr_core.specs.declared.reply.Reply.{Reply}
-use Rattle.ccr_core.specs.Events.{answer}
+use Rattle.ccr_core.specs.Events.{answer, abort}
 use Rattle.ccr_core.specs.Holding.{IsAsked, Stands}
 use Rattle.ccr_core.specs.Picking.{name_of}
 use Rattle.ccr_core.specs.State.{RunningData, State, no_pipeline, resources_of}
@@ -15,13 +16,14 @@ use Rattle.ccr_core.specs.Steps.{Step}
 use Rattle.ccr_core.proofs.Opening.{names_are}
 use Rattle.ccr_core.proofs.RunningLists.{at_id}
 use Rattle.ccr_lines.specs.Lines.{lines_of}
+use Rattle.ccr_serve.specs.Aborts.{AbortIsAsked, Clears}
 use Rattle.ccr_serve.specs.Asked.{Answers}
 use Rattle.ccr_serve.specs.Due.{IsTurnOf, AnswersWant, GivesFrom, Gives}
-use Rattle.ccr_serve.specs.Items.{World, Done, nothing, Items}
+use Rattle.ccr_serve.specs.Items.{World, Done, nothing, Part, Items}
 use Rattle.ccr_serve.specs.Items as item
-use Rattle.ccr_serve.specs.Serving.{Removes, ServesBuild, TakesTurn, Serves}
+use Rattle.ccr_serve.specs.Serving.{ServesBuild, TakesTurn, Serves}
 use Rattle.ccr_serve.specs.Turns.{rank_in, next_after}
-use Rattle.ccr_serve.specs.Views.{View, world_of, IsReady, Calls}
+use Rattle.ccr_serve.specs.Views.{View, world_of, IsReady, Made, Calls}
 use Rattle.ccr_serve.proofs.Commits.{rose_none}
 use Rattle.ccr_serve.proofs.Steps.{after, calls_did}
 
@@ -51,11 +53,11 @@ turn_of_nobody places v ready none =
     })
 
 -- a server after a turn: the build's rank is noted, and its folder may be removed
-abbrev pub served : View → ℕ → ℕ → Text → View
-served n rank failures lines = record {
+abbrev pub served : View → ℕ → ShelfCounts → Text → View
+served n rank counts lines = record {
   core = n.core;
   last = rank;
-  failures = failures;
+  counts = counts;
   pairs = n.pairs;
   holds = n.holds;
   tally = n.tally;
@@ -67,9 +69,9 @@ served n rank failures lines = record {
 renamed : (P : Text → ℕ → Type 0) (j k : Text) (m n : ℕ) → k ≡ j → n ≡ m → P j m → P k n
 renamed P j k m n job number p = subst (λ t. P t n) (sym job) (subst (λ i. P j i) (sym number) p)
 
-module _ (places : PlacesData) (v : View) (job : Text) (number rank turn : ℕ) (x : AnswerData) (reply : Reply) (f : ℕ) (p : List Pair) (l : Text) (n : View) (f2 : ℕ) (m : Text)
-    (wanted : AnswersWant places v.core job number turn x v.pairs p v.failures f)
-    (gives : Gives job number turn x reply (after v f p []) n) (removes : Removes reply f f2) where
+module _ (places : PlacesData) (v : View) (looked : ShelfCounts) (job : Text) (number rank turn : ℕ) (x : AnswerData) (reply : Reply) (f : ShelfCounts) (p : List Pair) (n : View) (f2 : ShelfCounts) (m : Text)
+    (unasked : AbortIsAsked false v.counts looked) (wanted : AnswersWant places v.core job number turn x v.pairs p looked f)
+    (gives : Gives job number turn x reply (after v f p []) n) (clears : Clears reply f f2) where
   module _ (s : State) (is : Stands v.core s) (due : IsTurnOf s v.last job number rank)
       (g : GivesFrom job number turn x reply s n.core) where
     abbrev did : Done
@@ -89,25 +91,30 @@ module _ (places : PlacesData) (v : View) (job : Text) (number rank turn : ℕ) 
 
     serves : ServesBuild places due.build (world_of v s) did (world_of (served n rank f2 m) g.after)
     serves = record {
-      turn = turn;
-      ask = ask_data wanted.ask;
-      has_turn = asked.0;
-      wanted = asked.1;
-      x = x;
-      failures = f;
-      answers = named
-          (λ j i. Answers places (resources_of s) (build_folder places j i) (ask_data wanted.ask) v.failures f wanted.pair x)
-          (subst
-          (λ rs. Answers places rs (build_folder places job number) (ask_data wanted.ask) v.failures f wanted.pair x)
-          (ap (λ o. (unwrap_or o no_pipeline).resources) is.1) wanted.answers);
-      given = g.given;
-      is_given = named (λ j i. (g.given ≡ x) ⊎ (Step s (answer j i turn x) (Err TableFull) s × (g.given ≡ errored)))
-          g.is_given;
+      asked = false;
+      looked = looked;
+      is_asked = unasked;
       reply = reply;
-      step = named (λ j i. Step s (answer j i turn g.given) (Ok reply) g.after) g.step;
-      event = named (λ j i. did.event ≡ Some (answer j i turn g.given, Ok reply)) refl;
-      lines = named (λ j i. did.lines ≡ lines_of (answer j i turn g.given) (Ok reply) g.after.history) refl;
-      removes = removes;
+      counts = f;
+      goes_on = record {
+        turn = turn;
+        ask = ask_data wanted.ask;
+        has_turn = asked.0;
+        wanted = asked.1;
+        x = x;
+        answers = named
+            (λ j i. Answers places (resources_of s) (build_folder places j i) (ask_data wanted.ask) looked f wanted.pair x)
+            (subst
+            (λ rs. Answers places rs (build_folder places job number) (ask_data wanted.ask) looked f wanted.pair x)
+            (ap (λ o. (unwrap_or o no_pipeline).resources) is.1) wanted.answers);
+        given = g.given;
+        is_given = named (λ j i. (g.given ≡ x) ⊎ (Step s (answer j i turn x) (Err TableFull) s × (g.given ≡ errored)))
+            g.is_given;
+        step = named (λ j i. Step s (answer j i turn g.given) (Ok reply) g.after) g.step;
+        event = named (λ j i. did.event ≡ Some (answer j i turn g.given, Ok reply)) refl;
+        lines = named (λ j i. did.lines ≡ lines_of (answer j i turn g.given) (Ok reply) g.after.history) refl;
+      };
+      clears = clears;
       last = due.ranked;
     }
 
@@ -117,10 +124,10 @@ module _ (places : PlacesData) (v : View) (job : Text) (number rank turn : ℕ) 
         serves
 
   -- the build whose turn it is was answered
-  pub turn_served : ((s : State) → Stands v.core s → IsTurnOf s v.last job number rank) → l ≡ v.lines
-      → ((t : ℕ) (y : AnswerData) (h : HistoryData) → m ≡ l ++ lines_of (answer job number t y) (Ok reply) h)
+  pub turn_served : ((s : State) → Stands v.core s → IsTurnOf s v.last job number rank)
+      → ((t : ℕ) (y : AnswerData) (h : HistoryData) → m ≡ v.lines ++ lines_of (answer job number t y) (Ok reply) h)
       → Calls (Items (Serves places) (item.turn ∷ [])) v true (served n rank f2 m)
-  turn_served due lines told =
+  turn_served due told =
       calls_did (Items (Serves places) (item.turn ∷ [])) v (served n rank f2 m)
       (record {
         is_open = gives.ready.is_open;
@@ -135,6 +142,76 @@ module _ (places : PlacesData) (v : View) (job : Text) (number rank turn : ℕ) 
         does = (world_of (served n rank f2 m) g.after, takes s is (due s is) g, refl);
         pairs = gives.rest.pairs ∙ wanted.adds;
         commits = gives.commits;
-        lines = told turn g.given g.after.history
-            ∙ ap (λ ls. ls ++ lines_of (answer job number turn g.given) (Ok reply) g.after.history) lines;
+        lines = told turn g.given g.after.history;
       })
+
+-- ---- aborts
+module _ (places : PlacesData) (v : View) (looked : ShelfCounts) (job : Text) (number rank : ℕ) (reply : Reply) (n : View) (f2 : ShelfCounts) (m : Text)
+    (asked : AbortIsAsked true v.counts looked)
+    (made : Made (abort job number) (Ok reply) (after v looked v.pairs []) n) (clears : Clears reply looked f2) where
+  module _ (s : State) (is : Stands v.core s) (due : IsTurnOf s v.last job number rank) where
+    abbrev next : State
+    next = (made.takes s is).0
+
+    abbrev aborted : Done
+    aborted = record {
+      pair = None;
+      event = Some (abort job number, Ok reply);
+      lines = lines_of (abort job number) (Ok reply) next.history;
+    }
+
+    -- under the build's own name
+    so_named : (P : Text → ℕ → Type 0) → P job number → P due.build.job due.build.number
+    so_named P = let id = at_id job number s.running due.build due.there in
+        renamed P job due.build.job number due.build.number id.0 id.1
+
+    aborts : ServesBuild places due.build (world_of v s) aborted (world_of (served n rank f2 m) next)
+    aborts = record {
+      asked = true;
+      looked = looked;
+      is_asked = asked;
+      reply = reply;
+      counts = looked;
+      goes_on = (
+        record {
+          pair = refl;
+          step = so_named (λ j i. Step s (abort j i) (Ok reply) next) (made.takes s is).1;
+          event = so_named (λ j i. aborted.event ≡ Some (abort j i, Ok reply)) refl;
+          lines = so_named (λ j i. aborted.lines ≡ lines_of (abort j i) (Ok reply) next.history) refl;
+        },
+        refl,
+      );
+      clears = clears;
+      last = due.ranked;
+    }
+
+    takes_abort : TakesTurn places (next_after (rank_in s.history) v.last s.running) (world_of v s) aborted
+        (world_of (served n rank f2 m) next)
+    takes_abort = subst (λ o. TakesTurn places o (world_of v s) aborted (world_of (served n rank f2 m) next))
+        (sym due.next) aborts
+
+  -- the build whose turn it is was aborted
+  pub abort_served : ((s : State) → Stands v.core s → IsTurnOf s v.last job number rank)
+      → ((h : HistoryData) → m ≡ v.lines ++ lines_of (abort job number) (Ok reply) h)
+      → Calls (Items (Serves places) (item.turn ∷ [])) v true (served n rank f2 m)
+  abort_served due told =
+      calls_did (Items (Serves places) (item.turn ∷ [])) v (served n rank f2 m)
+      (record {
+        is_open = made.ready.is_open;
+        unfailed = made.ready.unfailed;
+        holds = made.ready.holds;
+      }) (λ s is.
+      record {
+        did = aborted s is (due s is);
+        state = next s is (due s is);
+        stands = (made.takes s is).2;
+        does = (world_of (served n rank f2 m) (next s is (due s is)), takes_abort s is (due s is), refl);
+        pairs = made.rest.pairs ∙ sym (append-nil v.pairs);
+        commits = made.commits;
+        lines = told (next s is (due s is)).history;
+      })
+
+-- what was called from where these lines were printed was called from where others are that are the same
+pub from_lines : (P : Part) (v : View) (l : Text) (whole : Bool) (new : View) → l ≡ v.lines
+    → Calls P (after v v.counts v.pairs l) whole new → Calls P v whole new
+from_lines P v l whole new same h = subst (λ k. Calls P (after v v.counts v.pairs k) whole new) same h

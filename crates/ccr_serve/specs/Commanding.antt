@@ -14,7 +14,8 @@ use Rattle.ccr_pipeline.specs.declared.fault.ReadFault.{ReadFault}
 use Rattle.ccr_pipeline.specs.declared.fault.ReadFault.TheVariants.{TooLong}
 use Rattle.ccr_problem.specs.ProblemOf.{resource_of, job_of}
 use Rattle.ccr_task.specs.Places.{PlacesData}
-use Rattle.ccr_task.specs.Shelves.{Rose}
+use Rattle.ccr_task.specs.declared.counts.ShelfCounts.{ShelfCounts}
+use Rattle.ccr_task.specs.Shelves.{Fails}
 use Rattle.ccr_core.specs.declared.fault.CoreFault.TheVariants.{NoPipeline, NoJob, NoResource, BuildsOpen, TooManyOpen, TableFull}
 use Rattle.ccr_core.specs.declared.reply.Reply.{Reply}
 use Rattle.ccr_core.specs.declared.reply.Reply.TheVariants.{New, Made, OverBudget}
@@ -149,9 +150,9 @@ IsReadFault f =
     IsTooLong f
     ⊎ ((bytes : List ℕ) × IsSome (fault_of f) × Refuses (codes "pipeline") pipeline_faults bytes (fault_of f))
 
--- a command is refused so, with the shelf's count of failures before and after: no pipeline comes first, then an
+-- a command is refused so, with what the shelf has counted before and after: no pipeline comes first, then an
 -- unknown name, then a bad pin, and then what keeps the event away
-abbrev pub IsRefused : CommandData → ServeFault → State → ℕ → ℕ → Type 0
+abbrev pub IsRefused : CommandData → ServeFault → State → ShelfCounts → ShelfCounts → Type 0
 IsRefused c (Core NoPipeline) s before after = Lacks (need_of c) s.pipeline NoPipeline
 IsRefused c (Core NoResource) s before after = Lacks (need_of c) s.pipeline NoResource
 IsRefused c (Core NoJob) s before after = Lacks (need_of c) s.pipeline NoJob
@@ -159,13 +160,13 @@ IsRefused (set_pipeline file) (Core BuildsOpen) s before after = s.running ≢ [
 IsRefused (trigger_job job) (Core TooManyOpen) s before after = IsFirstFault s (event.trigger job) TooManyOpen
 IsRefused (trigger_job job) (Core TableFull) s before after = IsFirstFault s (event.trigger job) TableFull
 IsRefused (set_pipeline file) (Read f) s before after = IsReadFault f
-IsRefused (set_pipeline file) File s before after = Rose before after
+IsRefused (set_pipeline file) File s before after = Fails before after
 IsRefused (pin_resource resource pin) BadPin s before after = HasResource s resource × (pin_in pin ≡ None)
 IsRefused c f s before after = ⊥
 
 -- a command was refused with this fault: nothing was done, and no commit was asked for
 pub record WasRefused (places : PlacesData) (c : CommandData) (f : ServeFault) (old new : View) : Type 0 where
-  pub why : (s : State) → Stands old.core s → IsRefused c f s old.failures new.failures
+  pub why : (s : State) → Stands old.core s → IsRefused c f s old.counts new.counts
   pub back : Calls (Items (Serves places) []) old false new
   pub pairs : new.pairs ≡ old.pairs
   pub commits : RoseBy old.tally.commits 0 new.tally.commits

@@ -7,6 +7,7 @@ use Rattle.ccr_process.specs.Runs.{Pair}
 use Rattle.ccr_steps.specs.Asks.{ask_data, AnswerData, errored}
 use Rattle.ccr_steps.specs.declared.ask.Ask.{Ask}
 use Rattle.ccr_task.specs.Places.{PlacesData, build_folder}
+use Rattle.ccr_task.specs.declared.counts.ShelfCounts.{ShelfCounts}
 use Rattle.ccr_core.specs.declared.fault.CoreFault.TheVariants.{TableFull}
 use Rattle.ccr_core.specs.declared.reply.Reply.{Reply}
 use Rattle.ccr_core.specs.Events.{answer}
@@ -39,10 +40,10 @@ IsDue c last None = c.names ≡ []
 IsDue c last (Some d) = (s : State) → Stands c s → IsTurnOf s last (string_bytes d.job) d.number d.rank
 
 -- ---- what came of it
--- what the job's build of this number wants at this turn was answered so, with the runner's pairs and the shelf's count
--- of failures before and after
+-- what the job's build of this number wants at this turn was answered so, with the runner's pairs and what the shelf
+-- has counted before and after
 pub record AnswersWant (places : PlacesData) (c : CoreData) (job : Text) (number turn : ℕ) (x : AnswerData)
-    (old new : List Pair) (before after : ℕ) : Type 0 where
+    (old new : List Pair) (before after : ShelfCounts) : Type 0 where
   pub ask : Ask
   pub wants : Wants c job number (Some (turn, ask))
   pub pair : Option Pair

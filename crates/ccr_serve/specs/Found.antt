@@ -13,7 +13,8 @@ use Rattle.ccr_process.specs.Ends.{EndData, exited, killed, not_started, input_f
 use Rattle.ccr_process.specs.Runs.{Pair}
 use Rattle.ccr_task.specs.Launching.{check_launch}
 use Rattle.ccr_task.specs.Places.{PlacesData}
-use Rattle.ccr_task.specs.Shelves.{Rose}
+use Rattle.ccr_task.specs.declared.counts.ShelfCounts.{ShelfCounts}
+use Rattle.ccr_task.specs.Shelves.{Fails}
 use Rattle.ccr_lines.specs.declared.cause.Cause.{Cause}
 use Rattle.ccr_lines.specs.declared.cause.Cause.TheVariants.{RequestTooLong, FolderFault, NotStarted, Killed, InputFault, ReadFault, OutputTooLong, Status, NotJson, WrongKind, VersionNotText}
 use Rattle.ccr_serve.specs.declared.found.Found.{Found}
@@ -63,15 +64,15 @@ FindsBy no_memory f = ⊥
 abbrev pub newest : ResourceData → HistoryData → Option TextMap
 newest r h = slice_get (versions_of (scope_of r) h.tables) (length (versions_of (scope_of r) h.tables) - 1)
 
--- what a check of a resource finds that is told a version, with the shelf's count of failures before and after: by the
+-- what a check of a resource finds that is told a version, with what the shelf has counted before and after: by the
 -- end of its one launch; or without a launch, where its request is too long, or else the folder of all builds couldn't
 -- be made
-abbrev pub Finds : PlacesData → ResourceData → Option TextMap → ℕ → ℕ → Option Pair → FoundData → Type 0
+abbrev pub Finds : PlacesData → ResourceData → Option TextMap → ShelfCounts → ShelfCounts → Option Pair → FoundData → Type 0
 Finds places r version before after (Some pair) f =
     (length (check_launch places r version).input ≤ MOST_REQUEST) × (after ≡ before)
     × (pair.0 ≡ check_launch places r version) × FindsBy pair.1 f
 Finds places r version before after None (nothing RequestTooLong) =
     (MOST_REQUEST < length (check_launch places r version).input) × (after ≡ before)
 Finds places r version before after None (nothing FolderFault) =
-    (length (check_launch places r version).input ≤ MOST_REQUEST) × Rose before after
+    (length (check_launch places r version).input ≤ MOST_REQUEST) × Fails before after
 Finds places r version before after None f = ⊥

@@ -2,17 +2,18 @@
 use Rattle.std.specs.Prelude.{◌≡◌, ◌⊎◌, ℕ, List, [], ◌∷◌, ◌++◌, Bool, true, false, Option, None, flat_map, option_to_list}
 use Rattle.ccr_history.specs.Text.{Text}
 use Rattle.ccr_process.specs.Runs.{Pair}
+use Rattle.ccr_task.specs.declared.counts.ShelfCounts.{ShelfCounts}
 use Rattle.ccr_core.specs.Events.{EventData}
 use Rattle.ccr_core.specs.Replies.{Replied}
 use Rattle.ccr_core.specs.State.{State}
 use Rattle.ccr_lines.specs.Shown.{ShownData}
 
 -- where a server stands: the core's state, the rank of the build served last, which counts from 1 in order of making,
--- or 0 where none was served, and how often its shelf failed
+-- or 0 where none was served, and what its shelf has counted
 pub record World : Type 0 where
   pub core : State
   pub last : ℕ
-  pub failures : ℕ
+  pub counts : ShelfCounts
 
 -- a check of a resource, a schedule of a job, a turn of the build whose turn it is, the event of a command, or what a
 -- command shows with which status

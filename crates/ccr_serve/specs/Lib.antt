@@ -1,6 +1,7 @@
 pub mod Pairs
 pub mod Found
 pub mod Asked
+pub mod Aborts
 pub mod Items
 pub mod Turns
 pub mod Serving

@@ -1,21 +1,21 @@
 -- What a server does of each item.
-use Rattle.std.specs.Prelude.{◌≡◌, ◌≢◌, ◌⊎◌, ℕ, Option, Some, None, Ok, Err}
+use Rattle.std.specs.Prelude.{◌≡◌, ◌≢◌, ◌⊎◌, ℕ, Bool, true, false, Option, Some, None, Ok, Err}
 use Rattle.ccr_history.specs.Text.{Text}
 use Rattle.ccr_pipeline.specs.JobData.{ResourceData}
 use Rattle.ccr_steps.specs.Asks.{AskData, AnswerData, errored}
 use Rattle.ccr_steps.specs.Progress.{IsNext}
 use Rattle.ccr_steps.specs.Runs.{HasTurn}
 use Rattle.ccr_task.specs.Places.{PlacesData, build_folder}
-use Rattle.ccr_task.specs.Shelves.{Rose}
+use Rattle.ccr_task.specs.declared.counts.ShelfCounts.{ShelfCounts}
 use Rattle.ccr_problem.specs.ProblemOf.{resource_of}
 use Rattle.ccr_core.specs.declared.fault.CoreFault.TheVariants.{TableFull, NoMemory}
 use Rattle.ccr_core.specs.declared.reply.Reply.{Reply}
-use Rattle.ccr_core.specs.declared.reply.Reply.TheVariants.{Ends}
-use Rattle.ccr_core.specs.Events.{EventData, checked, answer}
+use Rattle.ccr_core.specs.Events.{EventData, checked, answer, abort}
 use Rattle.ccr_core.specs.Events as event
 use Rattle.ccr_core.specs.Replies.{Replied}
 use Rattle.ccr_core.specs.State.{RunningData, State, pipeline_of, resources_of}
 use Rattle.ccr_core.specs.Steps.{Step}
+use Rattle.ccr_serve.specs.Aborts.{AbortIsAsked, Clears}
 use Rattle.ccr_serve.specs.Asked.{Answers}
 use Rattle.ccr_serve.specs.Found.{FoundData, found, newest, Finds}
 use Rattle.ccr_serve.specs.Found as what_is
@@ -38,7 +38,7 @@ pub record Tells (e : EventData) (old : World) (did : Done) (new : World) : Type
   pub makes : Makes e old.core did new.core
   pub pair : did.pair ≡ None
   pub last : new.last ≡ old.last
-  pub failures : new.failures ≡ old.failures
+  pub counts : new.counts ≡ old.counts
 
 -- the core took the event; a command whose event it refuses is refused itself
 abbrev pub IsTaken : EventData → Done → Type 0
@@ -56,7 +56,7 @@ pub record Checks (places : PlacesData) (resource : Text) (old : World) (did : D
   pub one : ResourceData
   pub named : resource_of resource (resources_of old.core) ≡ Some one
   pub what : FoundData
-  pub finds : Finds places one (newest one old.core.history) old.failures new.failures did.pair what
+  pub finds : Finds places one (newest one old.core.history) old.counts new.counts did.pair what
   pub reports : Reports resource what old.core did new.core
   pub last : new.last ≡ old.last
 
@@ -66,28 +66,43 @@ abbrev pub IsGiven : State → RunningData → ℕ → AnswerData → AnswerData
 IsGiven s b t x given =
     (given ≡ x) ⊎ (Step s (answer b.job b.number t x) (Err TableFull) s × (given ≡ errored))
 
--- the folder of a build that ended is removed; if that fails, it is counted and no more
-abbrev pub Removes : Reply → ℕ → ℕ → Type 0
-Removes (Ends o) before after = (after ≡ before) ⊎ Rose before after
-Removes reply before after = after ≡ before
-
--- the one ask of a build is answered
-pub record ServesBuild (places : PlacesData) (b : RunningData) (old : World) (did : Done) (new : World) : Type 0 where
+-- the one ask of a build is answered: from a state, with what the shelf has counted before and after
+pub record AnswersBuild (places : PlacesData) (b : RunningData) (old : State) (before : ShelfCounts) (did : Done)
+    (reply : Reply) (after : ShelfCounts) (new : State) : Type 0 where
   pub turn : ℕ
   pub ask : AskData
   pub has_turn : HasTurn b.exchanges turn
   pub wanted : IsNext b.inputs b.plan b.exchanges ask
   pub x : AnswerData
-  pub failures : ℕ
-  pub answers : Answers places (resources_of old.core) (build_folder places b.job b.number) ask
-      old.failures failures did.pair x
+  pub answers : Answers places (resources_of old) (build_folder places b.job b.number) ask before after did.pair x
   pub given : AnswerData
-  pub is_given : IsGiven old.core b turn x given
-  pub reply : Reply
-  pub step : Step old.core (answer b.job b.number turn given) (Ok reply) new.core
+  pub is_given : IsGiven old b turn x given
+  pub step : Step old (answer b.job b.number turn given) (Ok reply) new
   pub event : did.event ≡ Some (answer b.job b.number turn given, Ok reply)
-  pub lines : did.lines ≡ lines_of (answer b.job b.number turn given) (Ok reply) new.core.history
-  pub removes : Removes reply failures new.failures
+  pub lines : did.lines ≡ lines_of (answer b.job b.number turn given) (Ok reply) new.history
+
+-- a build is aborted, and no program is started
+pub record AbortsBuild (b : RunningData) (old : State) (did : Done) (reply : Reply) (new : State) : Type 0 where
+  pub pair : did.pair ≡ None
+  pub step : Step old (abort b.job b.number) (Ok reply) new
+  pub event : did.event ≡ Some (abort b.job b.number, Ok reply)
+  pub lines : did.lines ≡ lines_of (abort b.job b.number) (Ok reply) new.history
+
+-- a build is aborted where that is asked, and else its one ask is answered
+abbrev pub GoesOnBy : Bool → PlacesData → RunningData → State → ShelfCounts → Done → Reply → ShelfCounts → State → Type 0
+GoesOnBy true places b old before did reply after new = AbortsBuild b old did reply new × (after ≡ before)
+GoesOnBy false places b old before did reply after new = AnswersBuild places b old before did reply after new
+
+-- a build is served: it is looked whether it is asked that it be aborted, it goes on by that, and what it leaves is
+-- cleared away if it ends
+pub record ServesBuild (places : PlacesData) (b : RunningData) (old : World) (did : Done) (new : World) : Type 0 where
+  pub asked : Bool
+  pub looked : ShelfCounts
+  pub is_asked : AbortIsAsked asked old.counts looked
+  pub reply : Reply
+  pub counts : ShelfCounts
+  pub goes_on : GoesOnBy asked places b old.core looked did reply counts new.core
+  pub clears : Clears reply counts new.counts
   pub last : new.last ≡ rank_in old.core.history b
 
 -- the build whose turn it is

@@ -4,6 +4,8 @@ use Rattle.ccr_history.specs.Text.{Text}
 use Rattle.ccr_history.specs.History.{HistoryData}
 use Rattle.ccr_pipeline.specs.JobData.{ResourceData, JobData}
 use Rattle.ccr_process.specs.Runs.{Pair}
+use Rattle.ccr_task.specs.declared.counts.ShelfCounts.{ShelfCounts}
+use Rattle.ccr_task.specs.Shelves.{Grew}
 use Rattle.ccr_core.specs.declared.fault.CoreFault.TheVariants as core_fault
 use Rattle.ccr_core.specs.Cores.{core_data}
 use Rattle.ccr_core.specs.Events.{EventData}
@@ -19,13 +21,13 @@ use Rattle.ccr_serve.specs.declared.server.Server.{Server}
 use Rattle.ccr_serve.specs.Items.{World, Done, Part, pairs_of, lines_of_all}
 use Rattle.ccr_serve.specs.Taken.{taken_in, commits_for}
 
--- what a server holds: its core, the rank of the build served last, how often its shelf failed, what its runner ran,
+-- what a server holds: its core, the rank of the build served last, what its shelf has counted, what its runner ran,
 -- which history its storage holds, the tally of its storage's commits, what it has printed, and whether its storage
 -- failed
 pub record View : Type 1 where
   pub core : CoreData
   pub last : ℕ
-  pub failures : ℕ
+  pub counts : ShelfCounts
   pub pairs : List Pair
   pub holds : HistoryData → Type 0
   pub tally : Tally
@@ -33,17 +35,30 @@ pub record View : Type 1 where
   pub closed : Bool
 
 -- what a server holds that has printed these lines
-abbrev pub view_of : {R S T : Type 0} → (R → List Pair) → (S → ℕ) → (T → HistoryData → Type 0)
+abbrev pub view_of : {R S T : Type 0} → (R → List Pair) → (S → ShelfCounts) → (T → HistoryData → Type 0)
     → (T → Tally) → Server R S T → Text → View
-view_of pairs failures holds tally server lines = record {
+view_of pairs counts holds tally server lines = record {
   core = core_data server.core;
   last = server.last;
-  failures = failures server.shelf;
+  counts = counts server.shelf;
   pairs = pairs server.runner;
   holds = holds server.storage;
   tally = tally server.storage;
   lines = lines;
   closed = server.closed;
+}
+
+-- what a server held when its shelf had counted so
+abbrev pub with_counts : ShelfCounts → View → View
+with_counts c v = record {
+  core = v.core;
+  last = v.last;
+  counts = c;
+  pairs = v.pairs;
+  holds = v.holds;
+  tally = v.tally;
+  lines = v.lines;
+  closed = v.closed;
 }
 
 -- the resources of a core's pipeline; none where none was set
@@ -56,7 +71,7 @@ jobs_held c = (unwrap_or c.pipeline no_pipeline).jobs
 
 -- where a server stands whose core stands for this state
 abbrev pub world_of : View → State → World
-world_of v s = record { core = s; last = v.last; failures = v.failures }
+world_of v s = record { core = s; last = v.last; counts = v.counts }
 
 -- the server goes on: its storage hasn't failed, and no commit of it, and it holds the core's history
 pub record IsReady (v : View) : Type 0 where
@@ -76,12 +91,12 @@ HasAsked true before n after = RoseBy before n after
 HasAsked false before n after = (more : ℕ) × (more ≤ 1) × RoseBy before (n + more) after
 
 -- where a server is after the items that were done: there, if the call is whole; cut short, it has closed, or is there
--- with the shelf's count gone up
+-- with what its shelf counts gone up
 abbrev pub StandsAt : Bool → Bool → World → View → Type 0
 StandsAt true closed now new =
-    (closed ≡ false) × Stands new.core now.core × (new.last ≡ now.last) × (new.failures ≡ now.failures)
+    (closed ≡ false) × Stands new.core now.core × (new.last ≡ now.last) × (new.counts ≡ now.counts)
 StandsAt false true now new = ⊤
-StandsAt false false now new = Stands new.core now.core × (new.last ≡ now.last) × (now.failures ≤ new.failures)
+StandsAt false false now new = Stands new.core now.core × (new.last ≡ now.last) × Grew now.counts new.counts
 
 -- what a call did from a state: a part, whole or cut short. Its new pairs are those of its items, in order, with none
 -- left over, but for at most one where it was cut short; the storage was asked for a commit of each event that the core
@@ -152,7 +167,7 @@ is_running c = nat_lt 0 (length c.names)
 -- nothing but the core and the storage has changed
 pub record IsElse (old new : View) : Type 0 where
   pub last : new.last ≡ old.last
-  pub failures : new.failures ≡ old.failures
+  pub counts : new.counts ≡ old.counts
   pub pairs : new.pairs ≡ old.pairs
   pub lines : new.lines ≡ old.lines
 

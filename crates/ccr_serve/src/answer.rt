@@ -1,11 +1,11 @@
 //! How what a build asks is answered.
-ghost use Rattle.std.specs.Prelude.{◌≡◌, ◌≢◌, ◌≤◌, IfOk, OnErr, Option};
+ghost use Rattle.std.specs.Prelude.{◌≡◌, ◌≢◌, IfOk, OnErr, Option};
 ghost use Rattle.ccr_pipeline.specs.Pipelines.{pipeline_data};
 ghost use Rattle.ccr_process.specs.Runs.{Pair};
 ghost use Rattle.ccr_steps.specs.Asks.{ask_data, answer_data};
 ghost use Rattle.ccr_task.specs.Launching.{can_launch, starts_program};
 ghost use Rattle.ccr_task.specs.Places.{places_data, build_folder};
-ghost use Rattle.ccr_task.specs.Shelves.{Counts};
+ghost use Rattle.ccr_task.specs.Shelves.{Counts, Grew};
 ghost use Rattle.ccr_serve.specs.Asked.{AnswersByFile, AnswersByLaunch, Answers};
 ghost use Rattle.ccr_serve.specs.Pairs.{Adds, AddsAtMostOne};
 
@@ -18,8 +18,8 @@ use std::alloc::{AllocError, Global};
 
 /// Makes the folder of an artifact anew.
 fn make_anew<S: Shelf>(shelf: &mut S, path: &str) -> Result<(), ShelfFault>
-    ensures counted { Counts (S.failures shelf.old) result (S.failures shelf.new) }
-    ensures grows { S.failures shelf.old ≤ S.failures shelf.new }
+    ensures counted { Counts (S.counts shelf.old) result (S.counts shelf.new) }
+    ensures grew { Grew (S.counts shelf.old) (S.counts shelf.new) }
     ensures kind { result ≢ Err ShelfFault.TooLong }
 {
     match shelf.remove_folder(path) {
@@ -37,8 +37,8 @@ fn make_each<S: Shelf>(
     number: u32,
     names: &[String],
 ) -> Result<(), ShelfFault>
-    ensures counted { Counts (S.failures shelf.old) result (S.failures shelf.new) }
-    ensures grows { S.failures shelf.old ≤ S.failures shelf.new }
+    ensures counted { Counts (S.counts shelf.old) result (S.counts shelf.new) }
+    ensures grew { Grew (S.counts shelf.old) (S.counts shelf.new) }
     ensures kind { result ≢ Err ShelfFault.TooLong }
 {
     for name in names {
@@ -63,8 +63,8 @@ fn make_folders<S: Shelf>(
     number: u32,
     ask: &Ask<'_>,
 ) -> Result<(), ShelfFault>
-    ensures counted { Counts (S.failures shelf.old) result (S.failures shelf.new) }
-    ensures grows { S.failures shelf.old ≤ S.failures shelf.new }
+    ensures counted { Counts (S.counts shelf.old) result (S.counts shelf.new) }
+    ensures grew { Grew (S.counts shelf.old) (S.counts shelf.new) }
     ensures kind { result ≢ Err ShelfFault.TooLong }
 {
     if let Ask::Fetch { artifact, .. } = ask {
@@ -106,9 +106,9 @@ fn answer_by_launch<R: Runner, S: Shelf>(
 ) -> Result<Answered, AllocError>
     ensures ok { IfOk result (λ a. (pair : Option Pair) × Adds (R.pairs runner.old) pair (R.pairs runner.new)
         × AnswersByLaunch (ask_data ask.now) launch
-        (S.failures shelf.old) (S.failures shelf.new) pair (answer_data a)) }
+        (S.counts shelf.old) (S.counts shelf.new) pair (answer_data a)) }
     ensures err { OnErr result (AddsAtMostOne (R.pairs runner.old) (R.pairs runner.new)) }
-    ensures grows { S.failures shelf.old ≤ S.failures shelf.new }
+    ensures grew { Grew (S.counts shelf.old) (S.counts shelf.new) }
 {
     let launch = match launch {
         Ok(launch) => launch,
@@ -133,8 +133,8 @@ fn answer_by_file<S: Shelf>(
     file: &str,
 ) -> Result<Answered, AllocError>
     ensures ok { IfOk result (λ a.
-        AnswersByFile (S.failures shelf.old) (S.failures shelf.new) (answer_data a)) }
-    ensures grows { S.failures shelf.old ≤ S.failures shelf.new }
+        AnswersByFile (S.counts shelf.old) (S.counts shelf.new) (answer_data a)) }
+    ensures grew { Grew (S.counts shelf.old) (S.counts shelf.new) }
 {
     let Ok(path) = places.in_build(alloc, job, number, file) else {
         return Err(AllocError);
@@ -162,9 +162,9 @@ pub(crate) fn answer_to<R: Runner, S: Shelf>(
     ensures ok { IfOk result (λ a. (pair : Option Pair) × Adds (R.pairs runner.old) pair (R.pairs runner.new)
         × Answers (places_data places.now) (pipeline_data pipeline.now).resources
         (build_folder (places_data places.now) job.now number) (ask_data ask.now)
-        (S.failures shelf.old) (S.failures shelf.new) pair (answer_data a)) }
+        (S.counts shelf.old) (S.counts shelf.new) pair (answer_data a)) }
     ensures err { OnErr result (AddsAtMostOne (R.pairs runner.old) (R.pairs runner.new)) }
-    ensures grows { S.failures shelf.old ≤ S.failures shelf.new }
+    ensures grew { Grew (S.counts shelf.old) (S.counts shelf.new) }
 {
     if let Ask::ReadConfig { file } = ask {
         return answer_by_file(alloc, shelf, places, job, number, file);

@@ -1,9 +1,10 @@
 //! What a check finds.
-ghost use Rattle.std.specs.Prelude.{◌≡◌, ◌==◌, ◌≤◌, IfOk, OnErr, Option};
+ghost use Rattle.std.specs.Prelude.{◌≡◌, ◌==◌, IfOk, OnErr, Option};
 ghost use Rattle.std.specs.Option.{option_copied};
 ghost use Rattle.ccr_pipeline.specs.JobData.{resource_data};
 ghost use Rattle.ccr_process.specs.Ends.{end_data};
 ghost use Rattle.ccr_process.specs.Runs.{Pair};
+ghost use Rattle.ccr_task.specs.Shelves.{Grew};
 ghost use Rattle.ccr_task.specs.Places.{places_data};
 ghost use Rattle.ccr_serve.specs.Found.{found_data, newest, FindsOutput, FindsExit, FindsBy, Finds};
 ghost use Rattle.ccr_serve.specs.Pairs.{Adds, AddsAtMostOne};
@@ -94,9 +95,9 @@ pub(crate) fn find<R: Runner, S: Shelf>(
     ensures ok { IfOk result (λ f. (pair : Option Pair) × Adds (R.pairs runner.old) pair (R.pairs runner.new)
         × Finds (places_data places.now) (resource_data resource.now)
         (newest (resource_data resource.now) history.now)
-        (S.failures shelf.old) (S.failures shelf.new) pair (found_data f)) }
+        (S.counts shelf.old) (S.counts shelf.new) pair (found_data f)) }
     ensures err { OnErr result (AddsAtMostOne (R.pairs runner.old) (R.pairs runner.new)) }
-    ensures grows { S.failures shelf.old ≤ S.failures shelf.new }
+    ensures grew { Grew (S.counts shelf.old) (S.counts shelf.new) }
 {
     let version = match newest_of(alloc, history, resource) {
         Ok(version) => version,

@@ -9,11 +9,13 @@
 //! A [`Server`] stands over a runner of programs, a shelf of folders and a storage of its history.
 #![tactic(auto)]
 
+mod aborting;
 mod answer;
 mod called;
 mod checking;
 mod due;
 mod end;
+mod ended;
 mod fault;
 mod found;
 mod items;

@@ -2,6 +2,7 @@
 ghost use Rattle.std.specs.Prelude.{◌≡◌, ◌++◌, ◌≤◌, ℕ, List, unwrap_or, IfOk, IfErr, OnOk, IsSomeAnd};
 ghost use Rattle.ccr_pipeline.specs.Pipelines.{pipeline_data, IsPipelineOf};
 ghost use Rattle.ccr_pipeline.specs.Reading.{pipeline_faults, IsReading};
+ghost use Rattle.ccr_task.specs.declared.counts.ShelfCounts.{ShelfCounts};
 ghost use Rattle.ccr_task.specs.Places.{places_data};
 ghost use Rattle.ccr_core.specs.Cores.{core_data};
 ghost use Rattle.ccr_core.specs.State.{no_pipeline};
@@ -23,7 +24,7 @@ use std::alloc::{AllocError, Global};
 
 /// The fault of a pipeline's file that is too long.
 fn too_long(alloc: Global) -> ServeFault
-    ensures { (n : ℕ) → KeepsFromReading result n n }
+    ensures { (c : ShelfCounts) → KeepsFromReading result c c }
 {
     match String::from_str(alloc, "pipeline") {
         Ok(path) => ServeFault::Read(ReadFault::TooLong(path)),
@@ -36,8 +37,8 @@ fn too_long(alloc: Global) -> ServeFault
 fn read_pipeline<S: Shelf>(alloc: Global, shelf: &mut S, path: &str) -> Result<Pipeline, ServeFault>
     ensures ok { IfOk result (λ p. (bytes : List ℕ)
         × IsReading pipeline_faults bytes (λ d. IsPipelineOf bytes d (pipeline_data p))) }
-    ensures same { OnOk result (S.failures shelf.new ≡ S.failures shelf.old) }
-    ensures err { IfErr result (λ fault. KeepsFromReading fault (S.failures shelf.old) (S.failures shelf.new)) }
+    ensures same { OnOk result (S.counts shelf.new ≡ S.counts shelf.old) }
+    ensures err { IfErr result (λ fault. KeepsFromReading fault (S.counts shelf.old) (S.counts shelf.new)) }
 {
     let bytes = match shelf.read_file(path) {
         Ok(bytes) => bytes,
@@ -83,14 +84,14 @@ impl<R: Runner, S: Shelf, T: Storage> Server<R, S, T> {
         path: &str,
         out: &mut O,
     ) -> Result<u8, ServeFault>
-        requires ready { let view = view_of R.pairs S.failures T.holds T.tally in
+        requires ready { let view = view_of R.pairs S.counts T.holds T.tally in
             IsReady (view self.old (O.written out.old)) }
-        ensures came { let view = view_of R.pairs S.failures T.holds T.tally in
+        ensures came { let view = view_of R.pairs S.counts T.holds T.tally in
             CameOf (places_data self.old.places) (set_pipeline path.now) result
             (view self.old (O.written out.old)) (view self.new (O.written out.new)) }
-        ensures kept { let view = view_of R.pairs S.failures T.holds T.tally in
+        ensures kept { let view = view_of R.pairs S.counts T.holds T.tally in
             OnOk result (IsReady (view self.new (O.written out.new))) }
-        ensures stops { let view = view_of R.pairs S.failures T.holds T.tally in
+        ensures stops { let view = view_of R.pairs S.counts T.holds T.tally in
             IfErr result (λ fault. Stops fault (view self.new (O.written out.new))) }
         ensures places { self.new.places ≡ self.old.places }
     {

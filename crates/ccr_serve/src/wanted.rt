@@ -1,6 +1,7 @@
 //! What a build wants, and its answer.
-ghost use Rattle.std.specs.Prelude.{◌≡◌, ◌≤◌, IfOk, OnErr, IsSome};
+ghost use Rattle.std.specs.Prelude.{◌≡◌, IfOk, OnErr, IsSome};
 ghost use Rattle.ccr_steps.specs.Asks.{answer_data};
+ghost use Rattle.ccr_task.specs.Shelves.{Grew};
 ghost use Rattle.ccr_task.specs.Places.{places_data};
 ghost use Rattle.ccr_core.specs.Cores.{core_data};
 ghost use Rattle.ccr_core.specs.Holding.{Stands};
@@ -29,9 +30,9 @@ pub(crate) fn answer_wanted<R: Runner, S: Shelf>(
 ) -> Result<(u64, Answered), AllocError>
     requires { (s : State) → Stands (core_data core.now) s → IsSome (running_at job.now number s.running) }
     ensures ok { IfOk result (λ r. AnswersWant (places_data places.now) (core_data core.now) job.now number r.0
-        (answer_data r.1) (R.pairs runner.old) (R.pairs runner.new) (S.failures shelf.old) (S.failures shelf.new)) }
+        (answer_data r.1) (R.pairs runner.old) (R.pairs runner.new) (S.counts shelf.old) (S.counts shelf.new)) }
     ensures err { OnErr result (AddsAtMostOne (R.pairs runner.old) (R.pairs runner.new)) }
-    ensures grows { S.failures shelf.old ≤ S.failures shelf.new }
+    ensures grew { Grew (S.counts shelf.old) (S.counts shelf.new) }
 {
     core.rules();
     let (turn, ask) = core.wants(job, number).unwrap();

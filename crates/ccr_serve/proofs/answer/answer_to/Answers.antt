@@ -7,9 +7,9 @@ pub returns : goal.returns
 returns g c = record {
   ok = by_program (places_data c.args.places.now) (pipeline_data c.args.pipeline.now).resources
       (build_folder (places_data c.args.places.now) c.args.job.now c.args.number) c.args.ask.now
-      c.launch_of-launch.result (g.S.Shelf.failures c.args.shelf.now) (g.S.Shelf.failures c.answer_by_launch.new.shelf)
+      c.launch_of-launch.result (g.S.Shelf.counts c.args.shelf.now) (g.S.Shelf.counts c.answer_by_launch.new.shelf)
       (g.R.Runner.pairs c.args.runner.now) (g.R.Runner.pairs c.answer_by_launch.new.runner) c.answer_by_launch.result
       c.in_default.not-ReadConfig c.requires c.launch_of-launch.ensures c.answer_by_launch.ensures.ok;
   err = c.answer_by_launch.ensures.err;
-  grows = c.answer_by_launch.ensures.grows;
+  grew = c.answer_by_launch.ensures.grew;
 }

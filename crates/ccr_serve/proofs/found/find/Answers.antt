@@ -11,7 +11,7 @@ pub returns-clause-ok : goal.returns-clause-ok
 returns-clause-ok g c =
     found_after (places_data c.args.places.now) (resource_data c.args.resource.now)
     (option_copied c.in-Ok.version) (newest (resource_data c.args.resource.now) c.args.history.now)
-    (g.S.Shelf.failures c.args.shelf.now) (g.S.Shelf.failures c.make_folder.new.self)
+    (g.S.Shelf.counts c.args.shelf.now) (g.S.Shelf.counts c.make_folder.new.self)
     (g.R.Runner.pairs c.args.runner.now) (g.R.Runner.pairs c.run.new.self)
     (launch_data c.in-Ok-check_launch.launch) (end_data c.run.result) c.found_by.result
     c.in-Ok.ensures c.run.ensures c.in-Ok-check_launch.ensures.0 c.in-Ok-check_launch.ensures.1

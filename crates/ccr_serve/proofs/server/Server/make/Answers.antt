@@ -7,5 +7,5 @@ returns-in-Ok-clause-unmade g c = record {
   back = (refl, c.in-Err-commit.ensures.told);
   holds = c.in-Err-commit.ensures.refused _ c.requires.ready.holds;
   commits = asked_one _ _ c.in-Err-commit.ensures.counted;
-  rest = record { last = refl; failures = refl; pairs = refl; lines = refl };
+  rest = record { last = refl; counts = refl; pairs = refl; lines = refl };
 }

@@ -1,0 +1,47 @@
+use Rattle.std.proofs.Common.{◌≡◌, ◌++◌, [], Ok, true, IsSome, is_some, ap, refl, string_bytes, subst, sym}
+use Rattle.ccr_task.specs.Places.{places_data}
+use Rattle.ccr_core.specs.Events.{abort}
+use Rattle.ccr_core.specs.State.{running_at}
+use Rattle.ccr_lines.specs.Lines.{lines_of}
+use Rattle.ccr_serve.specs.Aborts.{Clears}
+use Rattle.ccr_serve.specs.Views.{view_of, with_counts, Made}
+use Rattle.ccr_serve.proofs.Counted.{grew_asked}
+use Rattle.ccr_serve.proofs.Steps.{items_stop, none_added, after, calls_unmade, unmade_printed}
+use Rattle.ccr_serve.proofs.Turning.{abort_served}
+use Rattle.ccr_serve.proofs.server.Server.abort_due.Goals as goal
+
+pub abort-requires-clause-runs : goal.abort-requires-clause-runs
+abort-requires-clause-runs g c s is =
+    let due = c.requires.due s is in
+    subst (λ j. IsSome (running_at j c.args.due.number s.running)) (sym c.requires.name) (ap is_some due.there)
+
+pub returns-clause-served : goal.returns-clause-served
+returns-clause-served g c before asked =
+    let view = view_of g.R.Runner.pairs g.S.Shelf.counts g.T.Storage.holds g.T.Storage.tally in
+    let v = with_counts before (view c.args.self.now (g.O.Lines.written c.args.out.now)) in
+    let looked = g.S.Shelf.counts c.args.self.now.shelf in
+    calls_unmade _ v looked (g.R.Runner.pairs c.args.self.now.runner) (g.O.Lines.written c.args.out.now)
+    (view c.abort.new.self (g.O.Lines.written c.args.out.now)) c.in-Err.fault (items_stop _ _)
+    (grew_asked true before looked asked) (none_added _) refl
+    (unmade_printed c.in-Err.fault (after v looked (g.R.Runner.pairs c.args.self.now.runner) [])
+    (view c.abort.new.self []) (g.O.Lines.written c.args.out.now) (g.O.Lines.written c.args.out.now) refl
+    c.in-Err.ensures.unmade)
+
+pub returns-in-Ok-clause-served : goal.returns-in-Ok-clause-served
+returns-in-Ok-clause-served g c before asked =
+    let view = view_of g.R.Runner.pairs g.S.Shelf.counts g.T.Storage.holds g.T.Storage.tally in
+    let v = with_counts before (view c.args.self.now (g.O.Lines.written c.args.out.now)) in
+    let looked = g.S.Shelf.counts c.args.self.now.shelf in
+    let name : c.as_str-job.result.now ≡ string_bytes c.args.due.job = c.as_str-job.ensures.value in
+    abort_served (places_data c.args.self.now.places) v looked (string_bytes c.args.due.job) c.args.due.number
+    c.args.due.rank c.in-Ok.reply (view c.abort.new.self []) (g.S.Shelf.counts c.clear_away.new.shelf)
+    (g.O.Lines.written c.tell_ended.new.out) asked
+    (subst (λ j. Made (abort j c.args.due.number) (Ok c.in-Ok.reply)
+    (after v looked (g.R.Runner.pairs c.args.self.now.runner) []) (view c.abort.new.self [])) c.requires.name
+    c.in-Ok.ensures.made)
+    (subst (λ n. Clears c.in-Ok.reply n (g.S.Shelf.counts c.clear_away.new.shelf)) c.in-Ok.ensures.made.rest.counts
+    c.clear_away.ensures)
+    c.requires.due
+    (λ h. subst (λ j. g.O.Lines.written c.tell_ended.new.out
+    ≡ g.O.Lines.written c.args.out.now ++ lines_of (abort j c.args.due.number) (Ok c.in-Ok.reply) h) name
+    (c.tell_ended.ensures.aborted h))

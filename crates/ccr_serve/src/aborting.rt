@@ -1,0 +1,113 @@
+//! Builds that are asked to be aborted.
+ghost use Rattle.std.specs.Prelude.{◌≡◌, ◌+◌, ◌≤◌, [], ◌∷◌, length, true, string_bytes, is_ok, Ok, Err, IfOk, IfErr, OnOk, OnErr, IsSome, Some};
+ghost use Rattle.ccr_task.specs.Places.{places_data};
+ghost use Rattle.ccr_task.specs.Shelves.{Grew};
+ghost use Rattle.ccr_task.specs.declared.counts.ShelfCounts.{ShelfCounts};
+ghost use Rattle.ccr_core.specs.Cores.{core_data};
+ghost use Rattle.ccr_core.specs.Events.{abort};
+ghost use Rattle.ccr_core.specs.Holding.{Stands};
+ghost use Rattle.ccr_core.specs.State.{State, running_at};
+ghost use Rattle.ccr_serve.specs.Aborts.{AbortIsAsked};
+ghost use Rattle.ccr_serve.specs.Due.{IsDue};
+ghost use Rattle.ccr_serve.specs.Items.{Items};
+ghost use Rattle.ccr_serve.specs.Items as item;
+ghost use Rattle.ccr_serve.specs.Serving.{Serves};
+ghost use Rattle.ccr_serve.specs.Views.{view_of, with_counts, Calls, CommitsOnce, IsReady, Made, Unmade, StopsItem};
+
+use crate::due::Due;
+use crate::ended::{clear_away, tell_ended};
+use crate::fault::ServeFault;
+use crate::server::Server;
+use ccr_core::{Event, Reply};
+use ccr_lines::Lines;
+use ccr_process::Runner;
+use ccr_storage::Storage;
+use ccr_task::{Places, Shelf};
+use std::alloc::{AllocError, Global};
+
+/// Whether it is asked that a job's build of this number be aborted: a folder that asks for it is there, and is removed, so that it
+/// asks once. Where one of the two can't be done, it is as if it weren't asked. `AllocError` where nothing was looked for.
+pub(crate) fn take_abort<S: Shelf>(
+    alloc: Global,
+    shelf: &mut S,
+    places: &Places,
+    job: &str,
+    number: u32,
+) -> Result<bool, AllocError>
+    ensures asked { IfOk result (λ asked. AbortIsAsked asked (S.counts shelf.old) (S.counts shelf.new)) }
+    ensures err { OnErr result (S.counts shelf.new ≡ S.counts shelf.old) }
+    ensures grew { Grew (S.counts shelf.old) (S.counts shelf.new) }
+{
+    let folder = places.abort_folder(alloc, job, number)?;
+    match shelf.has_folder(folder.as_str()) {
+        Ok(true) => Ok(shelf.remove_folder(folder.as_str()).is_ok()),
+        Ok(false) | Err(_) => Ok(false),
+    }
+}
+
+impl<R: Runner, S: Shelf, T: Storage> Server<R, S, T> {
+    /// Aborts a build that runs: what it asks is answered so.
+    fn abort(&mut self, job: String, number: u32) -> Result<Reply, ServeFault>
+        requires ready { let view = view_of R.pairs S.counts T.holds T.tally in IsReady (view self.old []) }
+        requires runs { (s : State) → Stands (core_data self.old.core) s
+            → IsSome (running_at (string_bytes job) number s.running) }
+        ensures made { let view = view_of R.pairs S.counts T.holds T.tally in
+            IfOk result (λ reply. Made (abort (string_bytes job) number) (Ok reply)
+            (view self.old []) (view self.new [])) }
+        ensures unmade { let view = view_of R.pairs S.counts T.holds T.tally in
+            IfErr result (λ fault. Unmade fault (view self.old []) (view self.new [])) }
+        ensures places { self.new.places ≡ self.old.places }
+    {
+        self.core.rules();
+        match self.make(Event::Abort(job, number)) {
+            Ok(Ok(reply)) => Ok(reply),
+            Ok(Err(_)) => unreachable!(),
+            Err(fault) => Err(fault),
+        }
+    }
+
+    /// Aborts the build whose turn it is, for which it was just asked. No program is started.
+    pub(crate) fn abort_due<O: Lines>(
+        &mut self,
+        due: Due,
+        name: String,
+        out: &mut O,
+    ) -> Result<(), ServeFault>
+        requires ready { let view = view_of R.pairs S.counts T.holds T.tally in
+            IsReady (view self.old (O.written out.old)) }
+        requires due { IsDue (core_data self.old.core) self.old.last (Some due) }
+        requires name { string_bytes name ≡ string_bytes due.job }
+        requires room { length (string_bytes due.job) + 64 ≤ O.room out.old }
+        ensures served { let view = view_of R.pairs S.counts T.holds T.tally in
+            (before : ShelfCounts) → AbortIsAsked true before (S.counts self.old.shelf)
+            → Calls (Items (Serves (places_data self.old.places)) (item.turn ∷ []))
+            (with_counts before (view self.old (O.written out.old))) (is_ok result) (view self.new (O.written out.new)) }
+        ensures kept { let view = view_of R.pairs S.counts T.holds T.tally in
+            OnOk result (IsReady (view self.new (O.written out.new))) }
+        ensures stops { let view = view_of R.pairs S.counts T.holds T.tally in
+            IfErr result (λ fault. StopsItem fault (view self.new (O.written out.new))) }
+        ensures once { let view = view_of R.pairs S.counts T.holds T.tally in
+            IfOk result (λ _. CommitsOnce (Ok true) (view self.old []) (view self.new [])) }
+        ensures at_most { let view = view_of R.pairs S.counts T.holds T.tally in
+            IfErr result (λ fault. CommitsOnce (Err fault) (view self.old []) (view self.new [])) }
+        ensures places { self.new.places ≡ self.old.places }
+    {
+        match self.abort(name, due.number) {
+            Ok(reply) => {
+                self.last = due.rank;
+                let job = due.job.as_str();
+                tell_ended(out, job, due.number, reply);
+                clear_away(
+                    self.alloc,
+                    &mut self.shelf,
+                    &self.places,
+                    job,
+                    due.number,
+                    reply,
+                );
+                Ok(())
+            }
+            Err(fault) => Err(fault),
+        }
+    }
+}
