@@ -2,3 +2,4 @@ pub mod Numbers
 pub mod Commands
 pub mod Options
 pub mod Usage
+pub mod Aborts
