@@ -3,6 +3,7 @@ use Rattle.std.proofs.Common.{◌≡◌, ◌∙◌, inl, ℕ, List, [], Result, 
 use Rattle.ccr_history.specs.Text.{Text}
 use Rattle.ccr_history.specs.History.{HistoryData}
 use Rattle.ccr_process.specs.Runs.{Pair}
+use Rattle.ccr_task.specs.declared.counts.ShelfCounts.{ShelfCounts}
 use Rattle.ccr_task.specs.declared.places.Places.{Places}
 use Rattle.ccr_task.specs.Places.{PlacesData, places_data}
 use Rattle.ccr_core.specs.Cores.{core_data}
@@ -32,14 +33,14 @@ same_places order p types work =
     ∙ ap (λ (w : Text). folders order.options.types.now w) work
 
 -- a server that has just begun did the command
-pub did : {R S T : Type 0} (pairs : R → List Pair) (failures : S → ℕ) (holds : T → HistoryData → Type 0)
+pub did : {R S T : Type 0} (pairs : R → List Pair) (counts : S → ShelfCounts) (holds : T → HistoryData → Type 0)
     (tally : T → Tally) (order : Order) (h : HistoryData) (opened left : Server R S T) (answer : Result ℕ ServeFault)
     (end : Result ℕ Failure) (old new : Text)
-    → Begins h order.options.budget (view_of pairs failures holds tally opened []) → places_data opened.places ≡ places_in order
+    → Begins h order.options.budget (view_of pairs counts holds tally opened []) → places_data opened.places ≡ places_in order
     → CameOf (places_data opened.places) (command_data order.command) answer
-    (view_of pairs failures holds tally opened old) (view_of pairs failures holds tally left new)
-    → end ≡ handed_on answer → Served pairs failures holds tally order end old new
-did pairs failures holds tally order h opened left answer end old new begins same came is =
+    (view_of pairs counts holds tally opened old) (view_of pairs counts holds tally left new)
+    → end ≡ handed_on answer → Served pairs counts holds tally order end old new
+did pairs counts holds tally order h opened left answer end old new begins same came is =
     inl (record {
       history = h;
       opened = opened;
@@ -54,24 +55,24 @@ did pairs failures holds tally order h opened left answer end old new begins sam
         resumed = begins.resumed;
         last = begins.last;
         pairs = begins.pairs;
-        failures = begins.failures;
+        counts = begins.counts;
       };
       came = subst (λ (q : PlacesData). CameOf q (command_data order.command) answer
-          (view_of pairs failures holds tally opened old) (view_of pairs failures holds tally left new)) same came;
+          (view_of pairs counts holds tally opened old) (view_of pairs counts holds tally left new)) same came;
       end_is = is;
     })
 
 -- what was ordered is done, from where no line was printed
-pub done : {R S T : Type 0} (pairs : R → List Pair) (failures : S → ℕ) (holds : T → HistoryData → Type 0)
+pub done : {R S T : Type 0} (pairs : R → List Pair) (counts : S → ShelfCounts) (holds : T → HistoryData → Type 0)
     (tally : T → Tally) (words : List Text) (status : ℕ) (order : Order) (outcome : Outcome) (old lines : Text)
-    → IsOrdered words order → old ≡ [] → Served pairs failures holds tally order outcome.end old lines
-    → status ≡ exit_status_of outcome → Obeyed pairs failures holds tally words status
-done pairs failures holds tally words status order outcome old lines ordered none served is =
+    → IsOrdered words order → old ≡ [] → Served pairs counts holds tally order outcome.end old lines
+    → status ≡ exit_status_of outcome → Obeyed pairs counts holds tally words status
+done pairs counts holds tally words status order outcome old lines ordered none served is =
     inl (record {
       order = order;
       ordered = ordered;
       outcome = outcome;
       lines = lines;
-      served = subst (λ (o : Text). Served pairs failures holds tally order outcome.end o lines) none served;
+      served = subst (λ (o : Text). Served pairs counts holds tally order outcome.end o lines) none served;
       status_is = is;
     })

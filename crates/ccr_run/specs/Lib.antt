@@ -1,3 +1,4 @@
+pub mod Aborting
 pub mod Databases
 pub mod Hints
 pub mod Obeyed

@@ -3,7 +3,9 @@ use Rattle.std.specs.Prelude.{◌≡◌, ◌⊎◌, ℕ, List, [], Result, Ok, E
 use Rattle.ccr_history.specs.Text.{Text}
 use Rattle.ccr_history.specs.History.{HistoryData}
 use Rattle.ccr_process.specs.Runs.{Pair}
+use Rattle.ccr_task.specs.declared.counts.ShelfCounts.{ShelfCounts}
 use Rattle.ccr_task.specs.Places.{PlacesData}
+use Rattle.ccr_task.specs.Shelves.{no_counts}
 use Rattle.ccr_core.specs.Resumed.{IsResumed}
 use Rattle.ccr_storage.specs.declared.tally.Tally.{Tally}
 use Rattle.ccr_serve.specs.declared.fault.ServeFault.{ServeFault}
@@ -33,32 +35,32 @@ abbrev pub handed_on : Result ℕ ServeFault → Result ℕ Failure
 handed_on (Ok status) = Ok status
 handed_on (Err fault) = Err (Refused fault)
 
--- a server begins with a history, in which what still ran is cut short: it goes on, and neither ran a program nor had a
--- folder fail
+-- a server begins with a history, in which what still ran is cut short: it goes on, and has neither run a program nor
+-- counted a folder
 pub record Begins (h : HistoryData) (budget : ℕ) (v : View) : Type 0 where
   pub ready : IsReady v
   pub resumed : IsResumed h budget v.core
   pub last : v.last ≡ 0
   pub pairs : v.pairs ≡ []
-  pub failures : v.failures ≡ 0
+  pub counts : v.counts ≡ no_counts
 
 -- a server was made over a history, and did the command: from one value of it to another, with these lines before and
 -- after
-pub record DidCommand {R S T : Type 0} (pairs : R → List Pair) (failures : S → ℕ)
+pub record DidCommand {R S T : Type 0} (pairs : R → List Pair) (counts : S → ShelfCounts)
     (holds : T → HistoryData → Type 0) (tally : T → Tally) (order : Order) (end : Result ℕ Failure) (old new : Text)
     : Type 0 where
   pub history : HistoryData
   pub opened : Server R S T
   pub left : Server R S T
   pub answer : Result ℕ ServeFault
-  pub begins : Begins history order.options.budget (view_of pairs failures holds tally opened old)
+  pub begins : Begins history order.options.budget (view_of pairs counts holds tally opened old)
   pub came : CameOf (places_in order) (command_data order.command) answer
-      (view_of pairs failures holds tally opened old) (view_of pairs failures holds tally left new)
+      (view_of pairs counts holds tally opened old) (view_of pairs counts holds tally left new)
   pub end_is : end ≡ handed_on answer
 
 -- WHAT CAME OF AN ORDER: a server did the command, or none was made and nothing is printed
-abbrev pub Served : {R S T : Type 0} → (R → List Pair) → (S → ℕ) → (T → HistoryData → Type 0)
+abbrev pub Served : {R S T : Type 0} → (R → List Pair) → (S → ShelfCounts) → (T → HistoryData → Type 0)
     → (T → Tally) → Order → Result ℕ Failure → Text → Text → Type 0
-Served pairs failures holds tally order end old new =
-    DidCommand pairs failures holds tally order end old new
+Served pairs counts holds tally order end old new =
+    DidCommand pairs counts holds tally order end old new
     ⊎ (IsUnserved end × (new ≡ old))

@@ -2,9 +2,11 @@
 //!
 //! It reads its words, opens the database, has a server do the command, and ends with the status of that. Lines go to
 //! standard output as they come; a refusal, with a hint below it, to standard error. What a command does is said by the
-//! contract of [`Server::command`](ccr_serve::Server::command).
+//! contract of [`Server::command`](ccr_serve::Server::command). That a build be aborted is asked beside the server, and
+//! opens no database.
 #![tactic(auto)]
 
+mod abort;
 mod database;
 mod failure;
 mod found;
@@ -19,6 +21,7 @@ ghost use Rattle.std.specs.Prelude.{map, string_bytes};
 ghost use Rattle.std.specs.Process.{exit_status};
 ghost use Rattle.ccr_run.specs.Obeyed.{Obeyed};
 
+use abort::abort_build;
 use ccr_lines::Printed;
 use ccr_process::{Machine, Runner};
 use ccr_storage::Storage;
@@ -26,7 +29,7 @@ use ccr_task::{Folders, Shelf};
 use database::Database;
 use found::{is_validation, tell_gates, validate};
 use naming::Naming;
-use order::{Misuse, order_of};
+use order::{Misuse, Ordered, ordered_by};
 use run::run;
 use sqlite::{File, FileStore};
 use std::io::ErrorKind;
@@ -53,13 +56,14 @@ fn words(rt: &HostRuntime) -> Result<Vec<String>, Misuse> {
 
 /// Does what the words order, and tells what came of it: the exit status.
 fn obey<'a>(rt: &'a HostRuntime, words: &[String]) -> ExitCode
-    ensures { Obeyed ⟦<Naming<'a, Machine<&'a HostRuntime>> as Runner>⟧.pairs ⟦<Folders<&'a HostRuntime> as Shelf>⟧.failures
+    ensures { Obeyed ⟦<Naming<'a, Machine<&'a HostRuntime>> as Runner>⟧.pairs ⟦<Folders<&'a HostRuntime> as Shelf>⟧.counts
         ⟦<Database<FileStore<File>> as Storage>⟧.holds
         ⟦<Database<FileStore<File>> as Storage>⟧.tally
         (map string_bytes words.now) (exit_status result) }
 {
-    match order_of(rt.alloc(), words) {
-        Ok(order) => {
+    match ordered_by(rt.alloc(), words) {
+        Ok(Ordered::Abort(order)) => abort_build(rt, &order),
+        Ok(Ordered::Command(order)) => {
             let mut out = Printed::new(rt.alloc(), io::writer(rt));
             let outcome = run(rt, &order, &mut out);
             tell_gates(rt, &order.command, &outcome.end);

@@ -34,7 +34,7 @@ pub struct Outcome {
 }
 
 /// The server's two folders.
-fn places_of(alloc: Global, types: &str, work: &str) -> Result<Places, AllocError>
+pub fn places_of(alloc: Global, types: &str, work: &str) -> Result<Places, AllocError>
     ensures types { IfOk result (λ places. string_bytes places.types ≡ types.now) }
     ensures work { IfOk result (λ places. string_bytes places.work ≡ work.now) }
 {
@@ -50,9 +50,9 @@ fn command<R: Runner, S: Shelf, T: Storage, W: Write>(
     command: &Command,
     out: &mut Printed<W>,
 ) -> Result<u8, Failure>
-    requires ready { let view = view_of R.pairs S.failures T.holds T.tally in
+    requires ready { let view = view_of R.pairs S.counts T.holds T.tally in
         IsReady (view server.old (out.old.shown ++ out.old.waiting)) }
-    ensures came { let view = view_of R.pairs S.failures T.holds T.tally in
+    ensures came { let view = view_of R.pairs S.counts T.holds T.tally in
         (answer : Result ℕ ServeFault) × (result ≡ handed_on answer)
         × CameOf (places_data server.old.places) (command_data command.now) answer
         (view server.old (out.old.shown ++ out.old.waiting)) (view server.new (out.new.shown ++ out.new.waiting)) }
@@ -70,9 +70,9 @@ fn serve_by<R: Runner + Drop, S: Shelf + Drop, T: Storage + Drop, W: Write>(
     out: &mut Printed<W>,
 ) -> Result<u8, Failure>
     requires begins { (h : HistoryData)
-        × Begins h order.now.options.budget (view_of R.pairs S.failures T.holds T.tally server []) }
+        × Begins h order.now.options.budget (view_of R.pairs S.counts T.holds T.tally server []) }
     requires places { places_data server.places ≡ places_in order.now }
-    ensures served { Served R.pairs S.failures T.holds T.tally order.now result
+    ensures served { Served R.pairs S.counts T.holds T.tally order.now result
         (out.old.shown ++ out.old.waiting) (out.new.shown ++ out.new.waiting) }
     ensures printed { out.old.waiting ≡ [] → out.new.failed ≡ false → out.new.waiting ≡ [] }
 {
@@ -94,7 +94,7 @@ fn serve_history<'a, W: Write>(
     requires holds { ⟦<Database<FileStore<File>> as Storage>⟧.holds database history }
     requires readable { IfSome history.text IsReadable }
     requires places { places_data places ≡ places_in order.now }
-    ensures served { Served ⟦<Naming<'a, Machine<&'a HostRuntime>> as Runner>⟧.pairs ⟦<Folders<&'a HostRuntime> as Shelf>⟧.failures
+    ensures served { Served ⟦<Naming<'a, Machine<&'a HostRuntime>> as Runner>⟧.pairs ⟦<Folders<&'a HostRuntime> as Shelf>⟧.counts
         ⟦<Database<FileStore<File>> as Storage>⟧.holds
         ⟦<Database<FileStore<File>> as Storage>⟧.tally
         order.now result (out.old.shown ++ out.old.waiting) (out.new.shown ++ out.new.waiting) }
@@ -122,7 +122,7 @@ fn serve_database<'a, W: Write>(
     requires most { order.now.options.budget ≤ MOST_NODES }
     requires idle { (file_state conn).in_transaction ≡ false }
     requires places { places_data places ≡ places_in order.now }
-    ensures served { Served ⟦<Naming<'a, Machine<&'a HostRuntime>> as Runner>⟧.pairs ⟦<Folders<&'a HostRuntime> as Shelf>⟧.failures
+    ensures served { Served ⟦<Naming<'a, Machine<&'a HostRuntime>> as Runner>⟧.pairs ⟦<Folders<&'a HostRuntime> as Shelf>⟧.counts
         ⟦<Database<FileStore<File>> as Storage>⟧.holds
         ⟦<Database<FileStore<File>> as Storage>⟧.tally
         order.now result (out.old.shown ++ out.old.waiting) (out.new.shown ++ out.new.waiting) }
@@ -142,7 +142,7 @@ fn serve<'a, W: Write>(
 ) -> Result<u8, Failure>
     requires least { 1 ≤ order.now.options.budget }
     requires most { order.now.options.budget ≤ MOST_NODES }
-    ensures served { Served ⟦<Naming<'a, Machine<&'a HostRuntime>> as Runner>⟧.pairs ⟦<Folders<&'a HostRuntime> as Shelf>⟧.failures
+    ensures served { Served ⟦<Naming<'a, Machine<&'a HostRuntime>> as Runner>⟧.pairs ⟦<Folders<&'a HostRuntime> as Shelf>⟧.counts
         ⟦<Database<FileStore<File>> as Storage>⟧.holds
         ⟦<Database<FileStore<File>> as Storage>⟧.tally
         order.now result (out.old.shown ++ out.old.waiting) (out.new.shown ++ out.new.waiting) }
@@ -161,7 +161,7 @@ fn serve<'a, W: Write>(
 pub fn run<'a, W: Write>(rt: &'a HostRuntime, order: &Order<'_>, out: &mut Printed<W>) -> Outcome
     requires least { 1 ≤ order.now.options.budget }
     requires most { order.now.options.budget ≤ MOST_NODES }
-    ensures served { Served ⟦<Naming<'a, Machine<&'a HostRuntime>> as Runner>⟧.pairs ⟦<Folders<&'a HostRuntime> as Shelf>⟧.failures
+    ensures served { Served ⟦<Naming<'a, Machine<&'a HostRuntime>> as Runner>⟧.pairs ⟦<Folders<&'a HostRuntime> as Shelf>⟧.counts
         ⟦<Database<FileStore<File>> as Storage>⟧.holds
         ⟦<Database<FileStore<File>> as Storage>⟧.tally
         order.now result.end (out.old.shown ++ out.old.waiting) (out.new.shown ++ out.new.waiting) }

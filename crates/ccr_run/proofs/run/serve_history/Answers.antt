@@ -11,7 +11,7 @@ serve_by-requires-clause-begins g c =
         resumed = opened.resumed;
         last = opened.nobody;
         pairs = opened.pairs ∙ c.new-runner.ensures ∙ c.new.ensures;
-        failures = opened.failures ∙ c.new-folders.ensures;
+        counts = opened.counts ∙ c.new-folders.ensures;
       },
     )
 
