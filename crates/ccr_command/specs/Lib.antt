@@ -4,3 +4,4 @@ pub mod Options
 pub mod Usage
 pub mod Near
 pub mod Findings
+pub mod Aborts

@@ -53,6 +53,7 @@ job_commands =
     command_shape (codes "resolve") (value_rule (codes "JOB") ∷ [])
     ∷ command_shape (codes "problem") (value_rule (codes "JOB") ∷ [])
     ∷ command_shape (codes "trigger-job") (value_rule (codes "JOB") ∷ [])
+    ∷ command_shape (codes "abort-build") (value_rule (codes "JOB") ∷ as_number (value_rule (codes "N")) ∷ [])
     ∷ command_shape (codes "builds") []
     ∷ command_shape (codes "run") (as_number (required_rule (codes "rounds")) ∷ [])
     ∷ []

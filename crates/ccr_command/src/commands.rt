@@ -175,7 +175,7 @@ pub(crate) fn trigger_job<'a>(alloc: Global) -> Result<Command<'a>, AllocError>
         "Makes a build of a job and runs it to its end",
         "\
 The build takes the best choice of versions, even if it was built before. Prints `JOB N made`, and at the end `JOB N` with
-`succeeded`, `failed` or `errored`. If there is no build, prints why: `JOB: none satisfies`, `JOB: over budget N` or
+`succeeded`, `failed`, `errored` or `aborted`. If there is no build, prints why: `JOB: none satisfies`, `JOB: over budget N` or
 `JOB: busy`.
 
 Exit statuses: 0 the build succeeded; 1 it ended in another way, no choice satisfies, the job is busy, or the command is
@@ -185,6 +185,37 @@ Example:
   ccr_run --db ci.db trigger-job unit",
     )
     .arg(job)
+}
+
+/// Asks that a build be aborted.
+pub(crate) fn abort_build<'a>(alloc: Global) -> Result<Command<'a>, AllocError>
+    ensures { IfOk result
+        (IsCommand (codes "abort-build") (value_rule (codes "JOB") ∷ as_number (value_rule (codes "N")) ∷ [])) }
+{
+    let job = value(alloc, "JOB", "The job's name");
+    let number = value(alloc, "N", "The build's number, from 1 to 1000000");
+    command(
+        alloc,
+        "abort-build",
+        "Asks that a build be aborted",
+        "\
+Stops one build and leaves all others alone. It works while another `ccr_run` has the database open: it makes the directory
+WORK/JOB/abort-N and ends; the server looks for it at each turn of the build. Prints `abort asked: JOB N`.
+
+A program that runs isn't killed by the request: the build is aborted at its next turn, once the program has ended. What
+was asked then is aborted, the build's `on_abort` and `ensure` hooks run, and it ends as `JOB N aborted`. To end a program
+that hangs, kill it, or start it under `timeout` to begin with.
+
+A request that comes before its build aborts it at its first turn; for a build that has ended it does nothing. Give the
+same --work as the server has.
+
+Exit statuses: 0 asked; 1 refused, because no job can have that name; 2 usage; 4 disk or memory.
+
+Example:
+  ccr_run --db ci.db abort-build unit 7",
+    )
+    .arg(job)?
+    .arg(as_number(number))
 }
 
 /// Shows all builds.

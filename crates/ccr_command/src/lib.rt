@@ -2,7 +2,8 @@
 //!
 //! [`command_line`] is the program's command line as `clap` reads it, with all help texts; which commands it has, with
 //! which arguments, options and defaults, stands in `specs/Usage.antt`. Of what `clap` answers, [`options_of`] gives the
-//! four options, and [`command_of`] the command (`specs/Options.antt`, `specs/Commands.antt`).
+//! four options, [`abort_of`] the build that is to be aborted, and [`command_of`] the command (`specs/Options.antt`,
+//! `specs/Aborts.antt`, `specs/Commands.antt`).
 //!
 //! A gate is what has to hold of a version before a job takes it. [`findings_of`] says of a pipeline that was read: the gate of
 //! each input of each job; each key without effect, and whether it is a key of Concourse, a misspelled key, a key of
@@ -13,6 +14,7 @@
 //! (`src/known.rt`), those with an effect and those that Concourse knows and that have none here.
 #![tactic(auto)]
 
+mod abort;
 mod argument;
 mod command;
 mod commands;
@@ -27,6 +29,7 @@ mod options;
 mod usage;
 mod vars;
 
+pub use abort::{AbortRequest, abort_of};
 pub use command::command_of;
 pub use finding::{Finding, Findings, Kind, findings_of, is_faultless};
 pub use near::{is_like, is_near};

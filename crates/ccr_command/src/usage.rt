@@ -5,8 +5,8 @@ ghost use Rattle.ccr_command.specs.Usage.{program, options_line, with_all, resou
 
 use crate::argument::{as_number, optional, required};
 use crate::commands::{
-    builds, check_resource, pin_resource, problem, resolve, resource_versions, run, set_pipeline,
-    trigger_job, unpin_resource,
+    abort_build, builds, check_resource, pin_resource, problem, resolve, resource_versions, run,
+    set_pipeline, trigger_job, unpin_resource,
 };
 use clap::Command;
 use std::alloc::{AllocError, Global};
@@ -91,12 +91,13 @@ fn with_job_commands<'a>(alloc: Global, line: Command<'a>) -> Result<Command<'a>
     let line = line.subcommand(resolve(alloc)?)?;
     let line = line.subcommand(problem(alloc)?)?;
     let line = line.subcommand(trigger_job(alloc)?)?;
+    let line = line.subcommand(abort_build(alloc)?)?;
     let line = line.subcommand(builds(alloc))?;
     line.subcommand(run(alloc)?)
 }
 
 /// The program's command line: `ccr_run --db FILE [--types DIR] [--work DIR] [--budget N] COMMAND`, with the help of the
-/// program and of each of its ten commands.
+/// program and of each of its eleven commands.
 ///
 /// The only error is that a growth of memory was refused.
 pub fn command_line<'a>(alloc: Global) -> Result<Command<'a>, AllocError>

@@ -14,6 +14,7 @@ use crate::words::{split, version_of};
 use anyhow::{Result, anyhow};
 use ccr_history::{Object, Version};
 pub(crate) use launches::{end_of, places};
+pub(crate) use scripts::sights_of;
 use serde_json::Value;
 use std::alloc::{AllocError, Global};
 

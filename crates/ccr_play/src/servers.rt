@@ -108,6 +108,7 @@ impl Servers {
     fn add(&mut self, alloc: Global, kind: &str, words: &str) -> Result<bool> {
         match kind {
             "ends" => self.script.add_ends(alloc, words)?,
+            "sights" => self.script.add_sights(alloc, words)?,
             "file" => self.script.add_file(alloc, words)?,
             "folders" => self.script.add_folders(number_of(words), true)?,
             "no-folders" => self.script.add_folders(number_of(words), false)?,

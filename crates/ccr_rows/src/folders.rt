@@ -2,7 +2,7 @@
 
 mod fake;
 
-use ccr_task::{Folders, Shelf, ShelfFault, read_opened};
+use ccr_task::{Folders, Places, Shelf, ShelfFault, ask_abort, read_opened};
 use fake::{Broken, Pieces};
 use std::alloc::Global;
 use std::collections::VecDeque;
@@ -61,7 +61,7 @@ fn a_folder_is_made_with_those_above_it_and_removed_with_all_in_it(
         deep.as_str(),
         file.as_str(),
     )?;
-    assert_eq!(rt; folders.failures(), 0);
+    assert_eq!(rt; folders.counts().failures, 0);
     Ok(())
 }
 
@@ -99,7 +99,7 @@ fn a_file_is_read_up_to_its_greatest_length(rt: HostRuntime) -> Result<(), Fail>
     let mut folders = Folders::new(&rt, alloc);
     folders.make_folder(top.as_str())?;
     lengths_are_read(&rt, alloc, &mut folders, file.as_str())?;
-    assert_eq!(rt; folders.failures(), 0);
+    assert_eq!(rt; folders.counts().failures, 0);
     folders.remove_folder(top.as_str())?;
     Ok(())
 }
@@ -136,9 +136,9 @@ fn wrong_places_fail<R: Files + Abort + Drop>(
     folders.make_folder(top)?;
     fs::write(rt, file, "hello")?;
     are_no_folders(rt, &mut folders, &[file, below, "\0"]);
-    assert_eq!(rt; folders.failures(), 6);
+    assert_eq!(rt; folders.counts().failures, 6);
     are_no_files(rt, &mut folders, &[absent, below, top, "/dev/null", ""]);
-    assert_eq!(rt; folders.failures(), 11);
+    assert_eq!(rt; folders.counts().failures, 11);
     assert_eq!(rt; length(&mut folders, file), Ok(5));
     folders.remove_folder(top)?;
     Ok(())
@@ -174,6 +174,7 @@ fn link_is_removed<R: Files + Abort, S: Shelf>(
     shelf.make_folder(target)?;
     fs::write(rt, file, "hello")?;
     symlink(rt, target, link)?;
+    assert_eq!(rt; shelf.has_folder(link), Ok(true));
     assert_eq!(rt; shelf.make_folder(link), Ok(()));
     assert_eq!(rt; shelf.remove_folder(link), Ok(()));
     assert_eq!(rt; length(shelf, file), Ok(5));
@@ -195,9 +196,66 @@ fn a_link_is_removed_and_not_what_it_leads_to(rt: HostRuntime) -> Result<(), Fai
         file.as_str(),
         link.as_str(),
     )?;
-    assert_eq!(rt; folders.failures(), 0);
+    assert_eq!(rt; folders.counts().failures, 0);
     folders.remove_folder(top.as_str())?;
     Ok(())
+}
+
+/// A folder is there, what is absent and a file aren't, and below a file nothing can be told.
+fn folders_are_seen<R: Files + Abort + Drop>(
+    rt: &R,
+    alloc: Global,
+    top: &str,
+    file: &str,
+    below: &str,
+) -> Result<(), Fail> {
+    let mut folders = Folders::new(rt, alloc);
+    assert_eq!(rt; folders.has_folder(top), Ok(false));
+    folders.make_folder(top)?;
+    fs::write(rt, file, "hello")?;
+    assert_eq!(rt; folders.has_folder(top), Ok(true));
+    assert_eq!(rt; folders.has_folder(file), Ok(false));
+    assert_eq!(rt; folders.counts().failures, 0);
+    assert_eq!(rt; folders.has_folder(below), Err(ShelfFault::Failed));
+    assert_eq!(rt; folders.counts().failures, 1);
+    assert_eq!(rt; folders.counts().seen, 1);
+    folders.remove_folder(top)?;
+    Ok(())
+}
+
+#[test]
+fn a_folder_is_there_once_it_is_made_and_a_file_is_none(rt: HostRuntime) -> Result<(), Fail> {
+    let alloc = rt.alloc();
+    let top = own_path(&rt, "seen")?;
+    let file = format!(in alloc; "{top}/f")?;
+    let below = format!(in alloc; "{top}/f/x")?;
+    folders_are_seen(&rt, alloc, top.as_str(), file.as_str(), below.as_str())
+}
+
+/// That an abort is asked makes this folder, and to ask again is no fault.
+fn abort_is_asked<R: Files + Abort + Drop>(
+    rt: &R,
+    alloc: Global,
+    places: &Places,
+    asked: &str,
+) -> Result<(), Fail> {
+    let mut folders = Folders::new(rt, alloc);
+    assert_eq!(rt; folders.has_folder(asked), Ok(false));
+    assert_eq!(rt; ask_abort(alloc, &mut folders, places, "j", 1), Ok(()));
+    assert_eq!(rt; folders.has_folder(asked), Ok(true));
+    assert_eq!(rt; ask_abort(alloc, &mut folders, places, "j", 1), Ok(()));
+    assert_eq!(rt; folders.counts().failures, 0);
+    folders.remove_folder(places.work.as_str())?;
+    Ok(())
+}
+
+#[test]
+fn an_abort_is_asked_by_a_folder_beside_the_build(rt: HostRuntime) -> Result<(), Fail> {
+    let alloc = rt.alloc();
+    let work = own_path(&rt, "asked")?;
+    let asked = format!(in alloc; "{work}/j/abort-1")?;
+    let types = String::from_str(alloc, "/t")?;
+    abort_is_asked(&rt, alloc, &Places { types, work }, asked.as_str())
 }
 
 #[test]
@@ -206,28 +264,39 @@ fn an_error_of_the_system_is_a_failure_but_want_of_memory_is_not(
 ) -> Result<(), Fail> {
     let failed = Err(ShelfFault::Failed);
     let no_memory = Err(ShelfFault::NoMemory);
-    for (kind, made, read, removed, failures) in [
+    for (kind, made, read, removed, seen, failures) in [
         (
             ErrorKind::OutOfMemory,
             no_memory,
             ShelfFault::NoMemory,
             no_memory,
+            Err(ShelfFault::NoMemory),
             0,
         ),
-        (ErrorKind::NotFound, failed, ShelfFault::Failed, Ok(()), 2),
+        (
+            ErrorKind::NotFound,
+            failed,
+            ShelfFault::Failed,
+            Ok(()),
+            Ok(false),
+            2,
+        ),
         (
             ErrorKind::PermissionDenied,
             failed,
             ShelfFault::Failed,
             failed,
-            3,
+            Err(ShelfFault::Failed),
+            4,
         ),
     ] {
         let mut folders = Folders::new(Broken(kind), rt.alloc());
         assert_eq!(rt; folders.make_folder("a"), made);
         assert_eq!(rt; length(&mut folders, "a"), Err(read));
         assert_eq!(rt; folders.remove_folder("a"), removed);
-        assert_eq!(rt; folders.failures(), failures);
+        assert_eq!(rt; folders.has_folder("a"), seen);
+        assert_eq!(rt; folders.counts().failures, failures);
+        assert_eq!(rt; folders.counts().seen, 0);
     }
     Ok(())
 }

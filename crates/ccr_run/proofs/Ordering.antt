@@ -7,8 +7,6 @@ use Rattle.clap.specs.declared.error.Error.{Error as LineError}
 use Rattle.clap.specs.declared.error.kind.ErrorKind.TheVariants.{OutOfMemory}
 use Rattle.clap.specs.Values.{kind_of}
 use Rattle.clap.specs.Words.{App, Text, first_value, takes}
-use Rattle.ccr_lines.specs.declared.command.Command.{Command}
-use Rattle.ccr_lines.specs.Commands.{CommandData, command_data}
 use Rattle.ccr_command.specs.declared.options.OptionFault.{OptionFault}
 use Rattle.ccr_command.specs.Numbers.{MOST, in_range, is_numeral, numeral_of, number_of}
 use Rattle.ccr_command.specs.Options.{OptionsData, given_or, from_the_top, options_in}
@@ -17,15 +15,15 @@ use Rattle.ccr_run.specs.declared.order.Misuse.{Misuse}
 use Rattle.ccr_run.specs.declared.order.Misuse.TheVariants.{Line, NoMemory}
 use Rattle.ccr_run.specs.Orders.{IsMisused}
 
--- the command that was named
-pub command_is : (field : Option Command) (command : Command) (named : Option CommandData)
-    → option_map command_data field ≡ named → field ≡ Some command → named ≡ Some (command_data command)
-command_is field command named made is = sym made ∙ ap (λ f. option_map command_data f) is
+-- what was named
+pub some_named : {A B : Type 0} (f : A → B) (field : Option A) (a : A) (named : Option B)
+    → option_map f field ≡ named → field ≡ Some a → named ≡ Some (f a)
+some_named f field a named made is = sym made ∙ ap (λ o. option_map f o) is
 
--- no command was named
-pub no_command : (field : Option Command) (named : Option CommandData)
-    → option_map command_data field ≡ named → field ≡ None → named ≡ None
-no_command field named made is = sym made ∙ ap (λ f. option_map command_data f) is
+-- nothing was named
+pub none_named : {A B : Type 0} (f : A → B) (field : Option A) (named : Option B)
+    → option_map f field ≡ named → field ≡ None → named ≡ None
+none_named f field named made is = sym made ∙ ap (λ o. option_map f o) is
 
 -- the command line doesn't take the words, unless memory was refused
 pub misused_line : (words : List Text) (a : App) (error : LineError) (m : Misuse) → a ≡ line

@@ -1,4 +1,5 @@
 pub mod Asked
+pub mod Aborting
 pub mod Databases
 pub mod Hints
 pub mod Obeyed

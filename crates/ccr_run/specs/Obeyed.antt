@@ -8,6 +8,7 @@ use Rattle.ccr_task.specs.declared.counts.ShelfCounts.{ShelfCounts}
 use Rattle.ccr_run.specs.declared.order.Misuse.{Misuse}
 use Rattle.ccr_run.specs.declared.order.Order.{Order}
 use Rattle.ccr_run.specs.declared.run.Outcome.{Outcome}
+use Rattle.ccr_run.specs.Aborting.{AbortAsked}
 use Rattle.ccr_run.specs.Orders.{IsOrdered, IsMisused}
 use Rattle.ccr_run.specs.Served.{Served}
 use Rattle.ccr_run.specs.Statuses.{exit_status_of, misuse_status}
@@ -35,10 +36,17 @@ pub record IsMisuse (words : List Text) (asked : Option Text) (old new : Text) (
   pub unprinted : new ≡ old
   pub told : IsTold misuse status
 
--- THE STATUS THAT WORDS COME TO, with the database that was opened and the lines that were printed: that of what they
--- order, or of why they order nothing
+-- the words ask for a build to be aborted: no database is opened and no line of a command printed, and what comes of it has
+-- this status
+pub record IsAbort (words : List Text) (asked : Option Text) (old new : Text) (status : ℕ) : Type 0 where
+  pub abort : AbortAsked words status
+  pub unasked : asked ≡ None
+  pub unprinted : new ≡ old
+
+-- THE STATUS THAT WORDS COME TO, with the database that was opened and the lines that were printed: that of the command or
+-- the abort that they order, or of why they order nothing
 abbrev pub Obeyed : {R S T : Type 0} → (R → List Pair) → (S → ShelfCounts) → (T → HistoryData → Type 0)
     → (T → Tally) → (T → HistoryData → Type 0) → List Text → Option Text → Text → Text → Bool → ℕ → Type 0
 Obeyed pairs counts holds tally begins_with words asked old new failed status =
     IsDone pairs counts holds tally begins_with words asked old new failed status
-    ⊎ IsMisuse words asked old new status
+    ⊎ (IsAbort words asked old new status ⊎ IsMisuse words asked old new status)

@@ -2,9 +2,11 @@
 //!
 //! It reads its words, opens the database, has a server do the command, and ends with the status of that. Lines go to
 //! standard output as they come; a refusal, with a hint below it, to standard error. What a command does is said by the
-//! contract of [`Server::command`](ccr_serve::Server::command).
+//! contract of [`Server::command`](ccr_serve::Server::command). That a build be aborted is asked beside the server, and
+//! opens no database.
 #![tactic(auto)]
 
+mod abort;
 mod database;
 mod failure;
 mod found;
@@ -23,6 +25,7 @@ ghost use Rattle.ccr_run.specs.Asked.{asked_by};
 ghost use Rattle.ccr_run.specs.Databases.{begins_with};
 ghost use Rattle.ccr_run.specs.Obeyed.{Obeyed};
 
+use abort::abort_build;
 use ccr_lines::Printed;
 use ccr_process::{Machine, Runner};
 use ccr_storage::Storage;
@@ -31,7 +34,7 @@ use database::Database;
 use found::{is_validation, tell_gates, validate};
 use naming::Naming;
 use opener::Opener;
-use order::{Misuse, order_of};
+use order::{Misuse, Ordered, ordered_by};
 use run::run;
 use sqlite::{FileFrom, FileStore, Start, Unknown};
 use std::io::{ErrorKind, Write};
@@ -71,8 +74,9 @@ fn obey<'a, S: Start, W: Write>(
         (map string_bytes words.now) (asked_by opener.new)
         (out.old.shown ++ out.old.waiting) (out.new.shown ++ out.new.waiting) out.new.failed (exit_status result) }
 {
-    match order_of(rt.alloc(), words) {
-        Ok(order) => {
+    match ordered_by(rt.alloc(), words) {
+        Ok(Ordered::Abort(order)) => abort_build(rt, &order),
+        Ok(Ordered::Command(order)) => {
             let outcome = run(rt, &order, opener, out);
             tell_gates(rt, &order.command, &outcome.end);
             tell(rt, &order, &outcome)

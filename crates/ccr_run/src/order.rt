@@ -3,10 +3,12 @@ ghost use Rattle.std.specs.Prelude.{◌≡◌, ◌≢◌, ◌⊎◌, ◌≤◌, 
 ghost use Rattle.clap.specs.Values.{kind_of};
 ghost use Rattle.clap.specs.declared.error.kind.ErrorKind.TheVariants.{OutOfMemory};
 ghost use Rattle.ccr_proof.specs.declared.proof.TheConstants.{MOST_NODES};
-ghost use Rattle.ccr_run.specs.Orders.{IsMisused, IsOrdered};
+ghost use Rattle.ccr_run.specs.Orders.{budget_of, IsMisused, Orders};
 ghost use Rattle.ccr_run.specs.declared.order.Misuse.TheVariants.{Line, NoMemory};
 
-use ccr_command::{OptionFault, Options, command_line, command_of, options_of};
+use ccr_command::{
+    AbortRequest, OptionFault, Options, abort_of, command_line, command_of, options_of,
+};
 use ccr_lines::Command;
 use clap::Error as LineError;
 use clap::error::ErrorKind;
@@ -19,6 +21,24 @@ pub struct Order<'a> {
     pub options: Options<'a>,
     /// The command.
     pub command: Command,
+}
+
+/// A build that is to be aborted, with the options that the program was given.
+#[derive(Drop)]
+pub struct AbortOrder<'a> {
+    /// The options.
+    pub options: Options<'a>,
+    /// The build.
+    pub build: AbortRequest<'a>,
+}
+
+/// What words order.
+#[derive(Drop)]
+pub enum Ordered<'a> {
+    /// A command, which a server does over the database.
+    Command(Order<'a>),
+    /// That a build be asked to be aborted. No database is opened.
+    Abort(AbortOrder<'a>),
 }
 
 /// Why words order nothing.
@@ -65,11 +85,11 @@ fn misuse_of(error: LineError) -> Misuse
 }
 
 /// What the words order, of which the first is the program's name.
-pub fn order_of<'a>(alloc: Global, words: &'a [String]) -> Result<Order<'a>, Misuse>
-    ensures ordered { IfOk result (IsOrdered (map string_bytes words.now)) }
+pub fn ordered_by<'a>(alloc: Global, words: &'a [String]) -> Result<Ordered<'a>, Misuse>
+    ensures ordered { IfOk result (Orders (map string_bytes words.now)) }
     ensures misused { IfErr result (IsMisused (map string_bytes words.now)) }
-    ensures least { IfOk result (λ order. 1 ≤ order.options.budget) }
-    ensures most { IfOk result (λ order. order.options.budget ≤ MOST_NODES) }
+    ensures least { IfOk result (λ ordered. 1 ≤ budget_of ordered) }
+    ensures most { IfOk result (λ ordered. budget_of ordered ≤ MOST_NODES) }
 {
     let line = command_line(alloc)?;
     let matches = match line.try_get_matches_from(words) {
@@ -80,8 +100,11 @@ pub fn order_of<'a>(alloc: Global, words: &'a [String]) -> Result<Order<'a>, Mis
         Ok(options) => options,
         Err(fault) => return Err(Misuse::Option(fault)),
     };
+    if let Some(build) = abort_of(&matches) {
+        return Ok(Ordered::Abort(AbortOrder { options, build }));
+    }
     match command_of(alloc, &matches)? {
-        Some(command) => Ok(Order { options, command }),
+        Some(command) => Ok(Ordered::Command(Order { options, command })),
         None => Err(Misuse::NoCommand),
     }
 }

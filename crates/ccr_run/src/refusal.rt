@@ -33,7 +33,7 @@ impl fmt::Display for Refusal<'_> {
 }
 
 /// Words without a path, for status 1.
-fn refused<'a>(words: &'static str) -> Refusal<'a>
+pub fn refused<'a>(words: &'static str) -> Refusal<'a>
     ensures { refusal_data result ≡ spec.refused words.now }
 {
     Refusal {
@@ -44,7 +44,7 @@ fn refused<'a>(words: &'static str) -> Refusal<'a>
 }
 
 /// Words without a path, for status 4: disk or memory.
-fn broken<'a>(words: &'static str) -> Refusal<'a>
+pub fn broken<'a>(words: &'static str) -> Refusal<'a>
     ensures { refusal_data result ≡ spec.broken words.now }
 {
     Refusal {

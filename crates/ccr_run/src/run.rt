@@ -39,7 +39,7 @@ pub struct Outcome {
 }
 
 /// The server's two folders.
-fn places_of(alloc: Global, types: &str, work: &str) -> Result<Places, AllocError>
+pub fn places_of(alloc: Global, types: &str, work: &str) -> Result<Places, AllocError>
     ensures types { IfOk result (λ places. string_bytes places.types ≡ types.now) }
     ensures work { IfOk result (λ places. string_bytes places.work ≡ work.now) }
 {

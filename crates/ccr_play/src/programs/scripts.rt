@@ -99,7 +99,16 @@ fn folder_told(alloc: Global, answer: Result<(), ShelfFault>) -> Result<String> 
     }
 }
 
-/// What a shelf answers to one call: `make`, `read`, `remove`, or how many calls failed by `failures`.
+/// Whether a folder is there, in a word.
+fn sight_told(alloc: Global, answer: Result<bool, ShelfFault>) -> Result<String> {
+    match answer {
+        Ok(true) => Ok(String::from_str(alloc, "there")?),
+        Ok(false) => Ok(String::from_str(alloc, "absent")?),
+        Err(fault) => Ok(fault.to_string(alloc)?),
+    }
+}
+
+/// What a shelf answers to one call: `make`, `read`, `remove`, `has`, or what it counts by `failures` and `seen`.
 fn answer_told(alloc: Global, shelf: &mut ShelfScript, call: &str) -> Result<String> {
     match call {
         "make" => folder_told(alloc, shelf.make_folder("a")),
@@ -108,8 +117,13 @@ fn answer_told(alloc: Global, shelf: &mut ShelfScript, call: &str) -> Result<Str
             Ok(bytes) => file_told(alloc, bytes),
             Err(fault) => Ok(fault.to_string(alloc)?),
         },
+        "has" => sight_told(alloc, shelf.has_folder("a")),
+        "seen" => {
+            let seen = shelf.counts().seen;
+            Ok(format!(in alloc; "{seen}")?)
+        }
         _ => {
-            let failures = shelf.failures();
+            let failures = shelf.counts().failures;
             Ok(format!(in alloc; "{failures}")?)
         }
     }
@@ -146,8 +160,22 @@ fn answers_of(alloc: Global, words: &str) -> Result<VecDeque<ShelfAnswer>> {
     Ok(answers)
 }
 
-/// What a shelf with these answers answers to these calls: `ANSWERS | CALLS`, words each.
+/// Whether folders are there, of words: `there`, `absent`, or a fault.
+pub(crate) fn sights_of(alloc: Global, words: &str) -> Result<VecDeque<Result<bool, ShelfFault>>> {
+    let mut sights = VecDeque::new(alloc);
+    for word in words.split_whitespace() {
+        sights.push_back(match word {
+            "there" => Ok(true),
+            "absent" => Ok(false),
+            _ => Err(fault_of(word)),
+        })?;
+    }
+    Ok(sights)
+}
+
+/// What a shelf with these answers answers to these calls: `ANSWERS | CALLS`, or `ANSWERS | CALLS | SIGHTS`, words each.
 pub(super) fn asked(alloc: Global, given: &str) -> Result<String> {
-    let mut shelf = ShelfScript::new(answers_of(alloc, part(given, 0))?);
+    let sights = sights_of(alloc, given.split(" | ").nth(2).unwrap_or(""))?;
+    let mut shelf = ShelfScript::new(answers_of(alloc, part(given, 0))?, sights);
     calls_of(alloc, &mut shelf, part(given, 1))
 }

@@ -42,7 +42,7 @@ struct World {
 impl World {
     fn new(alloc: Global, given: &str) -> Result<World> {
         let runner = Scripted::new(alloc, ends_of(alloc, part(given, 3))?);
-        let shelf = ShelfScript::new(files_of(alloc, part(given, 2))?);
+        let shelf = ShelfScript::new(files_of(alloc, part(given, 2))?, VecDeque::new(alloc));
         let pipeline = pipeline_of(alloc, part(given, 0))?;
         Ok(World {
             places: places(alloc)?,

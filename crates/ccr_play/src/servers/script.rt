@@ -1,6 +1,6 @@
 //! Scripts: how programs end, what folders and files answer, and how many commits are taken.
 
-use crate::programs::end_of;
+use crate::programs::{end_of, sights_of};
 use anyhow::Result;
 use ccr_process::Ended;
 use ccr_task::{ShelfAnswer, ShelfFault};
@@ -12,6 +12,7 @@ use std::collections::VecDeque;
 pub(super) struct Script {
     pub(super) ends: VecDeque<Ended>,
     pub(super) answers: VecDeque<ShelfAnswer>,
+    pub(super) sights: VecDeque<Result<bool, ShelfFault>>,
     pub(super) commits: u32,
 }
 
@@ -21,6 +22,7 @@ impl Script {
         Script {
             ends: VecDeque::new(alloc),
             answers: VecDeque::new(alloc),
+            sights: VecDeque::new(alloc),
             commits: u32::MAX,
         }
     }
@@ -41,6 +43,14 @@ impl Script {
             } else {
                 ShelfAnswer::Fault(ShelfFault::Failed)
             })?;
+        }
+        Ok(())
+    }
+
+    /// Adds whether folders are there, a word each.
+    pub(super) fn add_sights(&mut self, alloc: Global, words: &str) -> Result<()> {
+        for sight in sights_of(alloc, words)? {
+            self.sights.push_back(sight)?;
         }
         Ok(())
     }

@@ -9,5 +9,6 @@ returns c =
     let one = with_command _ _ _ (app_of c.args.line) _ c.in_ok-line.ensures refl c.in_ok-resolve.ensures in
     let two = with_command _ _ _ _ _ c.in_ok-line-2.ensures one c.in_ok-problem.ensures in
     let three = with_command _ _ _ _ _ c.in_ok-line-3.ensures two c.in_ok-trigger_job.ensures in
-    let four = with_command _ _ _ _ _ c.in_ok-line-4.ensures three c.builds.ensures in
-    IfOk-weaker c.subcommand-5.result _ _ (λ made h. with_command _ _ _ _ _ h four c.in_ok-run.ensures) c.subcommand-5.ensures
+    let four = with_command _ _ _ _ _ c.in_ok-line-4.ensures three c.in_ok-abort_build.ensures in
+    let five = with_command _ _ _ _ _ c.in_ok-line-5.ensures four c.builds.ensures in
+    IfOk-weaker c.subcommand-6.result _ _ (λ made h. with_command _ _ _ _ _ h five c.in_ok-run.ensures) c.subcommand-6.ensures

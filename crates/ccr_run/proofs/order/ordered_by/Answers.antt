@@ -3,7 +3,7 @@ use Rattle.clap.specs.Words.{HasMatchesOf, found_of}
 use Rattle.ccr_command.specs.Commands.{command_in}
 use Rattle.ccr_command.specs.Options.{options_data}
 use Rattle.ccr_run.proofs.Ordering.{command_is, no_command, misused_line, budget_ranged}
-use Rattle.ccr_run.proofs.order.order_of.Goals as goal
+use Rattle.ccr_run.proofs.order.ordered_by.Goals as goal
 
 pub returns-in-Some-clause-ordered : goal.returns-in-Some-clause-ordered
 returns-in-Some-clause-ordered c =
