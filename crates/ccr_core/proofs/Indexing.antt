@@ -6,7 +6,7 @@ use Rattle.ccr_history.specs.declared.build.Status.TheVariants.{Errored}
 use Rattle.ccr_history.specs.declared.change.Reported.{Reported}
 use Rattle.ccr_history.specs.Text.{Text}
 use Rattle.ccr_history.specs.Builds.{UsedData, is_of, count_of, new_build, is_succeeded}
-use Rattle.ccr_history.specs.Changes.{build, edited, changed, TakesAll}
+use Rattle.ccr_history.specs.Changes.{build, versions, edited, changed, TakesAll}
 use Rattle.ccr_history.specs.History.{HistoryData, IsHistory}
 use Rattle.ccr_history.proofs.ChangeLaws.{kept}
 use Rattle.ccr_pipeline.specs.Inputs.{inputs}
@@ -18,7 +18,7 @@ use Rattle.ccr_problem.specs.Follows.{MadeLeaves, UnsuccessfulEndLeaves, has_new
 use Rattle.ccr_problem.specs.ProblemOf.{problem_with}
 use Rattle.ccr_problem.proofs.Ends.{map_same}
 use Rattle.ccr_problem.proofs.Newer.{none_newer_than}
-use Rattle.ccr_indexes.specs.Indexes.{problems, AreIndexes, IsBrought}
+use Rattle.ccr_indexes.specs.Indexes.{problems, AreIndexes, AreBefore, IsBrought}
 use Rattle.ccr_steps.specs.declared.outcome.Outcome.{Outcome}
 use Rattle.ccr_core.specs.Builds.{status_of}
 use Rattle.ccr_core.specs.Endings.{report_edits}
@@ -44,6 +44,12 @@ still_reported p h (Some r) xs ys same (before, rules, numbers, is, are) = (befo
 pub reported_so : (p : PipelineData) (h mid : HistoryData) (r : Option Reported) (xs : List IndexValue) → IsHistory h → Changes (report_edits r) h mid → AreIndexes p h xs → AreReported p mid r xs
 reported_so p h mid None xs rules (accepts, is) are = subst (λ y. AreIndexes p y xs) is are
 reported_so p h mid (Some r) xs rules ((takes, numbers), is) are = (h, rules, numbers.0, sym is, are)
+
+-- a report without versions changes nothing
+pub none_reported : (p : PipelineData) (h : HistoryData) (r : Reported) (xs : List IndexValue) → r.versions.items ≡ [] → AreBefore p h r xs → AreIndexes p h xs
+none_reported p h r xs none (before, rules, numbers, is, are) =
+    let same : h ≡ before = is ∙ ap (λ vs. edited (versions r.scope vs) before) none in
+    subst (λ y. AreIndexes p y xs) (sym same) are
 
 -- ---- a build that is made
 pub made_on : MadeLeaves → (p : PipelineData) (h mid : HistoryData) (job : Text) (used : List UsedData) (xs : List IndexValue) → mid ≡ edited (build job used) h → AreIndexes p h xs → AreIndexes p mid xs

@@ -46,6 +46,9 @@ fn follow_report(
     ensures ok { OnOk result (AreIndexes (pipeline_data pipeline.now) history.now indexes.new) }
     ensures err { OnErr result (problems indexes.new ≡ problems indexes.old) }
 {
+    if reported.versions.is_empty() {
+        return Ok(());
+    }
     if reported.versions.len() < MANY_VERSIONS {
         return indexes.add_report(alloc, pipeline, history, reported);
     }
