@@ -1,3 +1,4 @@
+pub mod Asking
 pub mod Finding
 pub mod Kept
 pub mod Ordering

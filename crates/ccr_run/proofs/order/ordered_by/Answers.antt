@@ -1,8 +1,10 @@
 use Rattle.std.proofs.Common.{map, string_bytes, subst}
 use Rattle.clap.specs.Words.{HasMatchesOf, found_of}
+use Rattle.ccr_lines.specs.Commands.{command_data}
+use Rattle.ccr_command.specs.Aborts.{abort_data, abort_in}
 use Rattle.ccr_command.specs.Commands.{command_in}
 use Rattle.ccr_command.specs.Options.{options_data}
-use Rattle.ccr_run.proofs.Ordering.{command_is, no_command, misused_line, budget_ranged}
+use Rattle.ccr_run.proofs.Ordering.{some_named, none_named, misused_line, budget_ranged}
 use Rattle.ccr_run.proofs.order.ordered_by.Goals as goal
 
 pub returns-in-Some-clause-ordered : goal.returns-in-Some-clause-ordered
@@ -10,10 +12,9 @@ returns-in-Some-clause-ordered c =
     let matches =
     subst (λ a. HasMatchesOf a (map string_bytes c.args.words.now) c.in-Ok.matches)
     c.in_ok-line.ensures c.in-Ok.ensures.matches in
-    let command =
-    command_is c.in_ok-command.field-0 c.in-Some.command (command_in c.in-Ok.matches)
-    c.in_ok-command.ensures c.in-Some.is in
-    (c.in-Ok.matches, matches, c.in-Ok-options_of.ensures, command)
+    let build =
+    some_named abort_data c.abort_of.result c.in-Some.build (abort_in c.in-Ok.matches) c.abort_of.ensures c.in-Some.is in
+    (c.in-Ok.matches, matches, c.in-Ok-options_of.ensures, build)
 
 pub returns-in-Some-clause-least : goal.returns-in-Some-clause-least
 returns-in-Some-clause-least c =
@@ -21,6 +22,24 @@ returns-in-Some-clause-least c =
 
 pub returns-in-Some-clause-most : goal.returns-in-Some-clause-most
 returns-in-Some-clause-most c =
+    (budget_ranged (found_of c.in-Ok.matches) (options_data c.in-Ok-options_of.options) c.in-Ok-options_of.ensures).1
+
+pub returns-in-Some-2-clause-ordered : goal.returns-in-Some-2-clause-ordered
+returns-in-Some-2-clause-ordered c =
+    let matches =
+    subst (λ a. HasMatchesOf a (map string_bytes c.args.words.now) c.in-Ok.matches)
+    c.in_ok-line.ensures c.in-Ok.ensures.matches in
+    let command =
+    some_named command_data c.in_ok-command.field-0 c.in-Some.command (command_in c.in-Ok.matches)
+    c.in_ok-command.ensures c.in-Some.is in
+    (c.in-Ok.matches, matches, c.in-Ok-options_of.ensures, command)
+
+pub returns-in-Some-2-clause-least : goal.returns-in-Some-2-clause-least
+returns-in-Some-2-clause-least c =
+    (budget_ranged (found_of c.in-Ok.matches) (options_data c.in-Ok-options_of.options) c.in-Ok-options_of.ensures).0
+
+pub returns-in-Some-2-clause-most : goal.returns-in-Some-2-clause-most
+returns-in-Some-2-clause-most c =
     (budget_ranged (found_of c.in-Ok.matches) (options_data c.in-Ok-options_of.options) c.in-Ok-options_of.ensures).1
 
 pub returns-in-Err-clause-misused : goal.returns-in-Err-clause-misused
@@ -40,6 +59,7 @@ returns-clause-misused c =
     let matches =
     subst (λ a. HasMatchesOf a (map string_bytes c.args.words.now) c.in-Ok.matches)
     c.in_ok-line.ensures c.in-Ok.ensures.matches in
-    let none =
-    no_command c.in_ok-command.field-0 (command_in c.in-Ok.matches) c.in_ok-command.ensures c.in-None.is in
-    (c.in-Ok.matches, matches, none)
+    let no_command =
+    none_named command_data c.in_ok-command.field-0 (command_in c.in-Ok.matches) c.in_ok-command.ensures c.in-None.is in
+    let no_build = none_named abort_data c.abort_of.result (abort_in c.in-Ok.matches) c.abort_of.ensures c.in_default.is in
+    (c.in-Ok.matches, matches, no_command, no_build)
