@@ -29,6 +29,7 @@ pub(crate) struct Ending {
     pub(crate) edits: Vec<Edit>,
 }
 
+/// The status of a build that ended so.
 pub(crate) fn status_of(outcome: Outcome) -> Status
     ensures { result ≡ status_of outcome }
 {
