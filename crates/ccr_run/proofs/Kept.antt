@@ -1,30 +1,42 @@
--- A database that was ours is kept.
-use Rattle.std.proofs.Common.{◌≡◌, inl, inr, Result, Ok, Err, IsTrue, OnOk, OnErr}
-use Rattle.sqlite_trees.specs.declared.store.Store.{Ghosts}
-use Rattle.sqlite.specs.State.{HasCleanDisk}
-use Rattle.sqlite.specs.Held.{Held, state}
-use Rattle.ccr_history.specs.History.{HistoryData, no_history}
+-- A history that the files held is kept.
+use Rattle.std.proofs.Common.{◌≡◌, ◌≤◌, sym, subst, inl, inr, arith, Result, Ok, Err, IsTrue, OnOk, OnErr}
+use Rattle.sqlite_disk.specs.declared.Disk.{Ghosts}
+use Rattle.sqlite_store.specs.declared.store.FileStore.{FileStore}
+use Rattle.sqlite_trees.specs.View.{doubt}
+use Rattle.sqlite_wal.specs.Recovery.{Image}
+use Rattle.sqlite.specs.State.{State, HasCleanDisk}
+use Rattle.sqlite.specs.Held.{Held}
+use Rattle.sqlite.specs.Files.{file_state, IsOpened}
+use Rattle.sqlite.specs.Start.{FindsIn}
+use Rattle.ccr_history.specs.History.{HistoryData, IsHistory, no_history}
 use Rattle.ccr_tables.specs.Contents.{Contents, Holds}
 use Rattle.ccr_tables.specs.Schema.{no_schema}
 use Rattle.ccr_store.specs.Rows.{HasFormat, rows_of}
-use Rattle.ccr_store.specs.StoreData.{StoreData, IsStored, IsKept}
-use Rattle.ccr_run.specs.Databases.{IsOurs}
+use Rattle.ccr_store.specs.StoreData.{StoreData, IsStored}
+use Rattle.ccr_run.specs.Opening.{HoldsHistory}
+use Rattle.ccr_run.proofs.Finding.{nothing_found, tables_found}
 
--- what was adopted and loaded keeps the history, where the database was ours
-pub kept_found : {S : Type 0} (g : Ghosts S) (conn : Held S) (adopted loaded : StoreData S) (h : HistoryData)
-    → (HasCleanDisk (state g adopted.conn) → (state g conn).now.schema ≡ no_schema
-    → IsStored no_history (state g adopted.conn).now
-    × ((state g adopted.conn).committed ≡ (state g adopted.conn).now))
-    → ((these : Contents) → HasCleanDisk (state g adopted.conn) → (state g conn).now ≡ (state g conn).committed
-    → Holds these (state g conn).now → Holds these (state g adopted.conn).now × HasFormat these)
-    → ((these : Contents) → Holds these (state g adopted.conn).now → IsKept g loaded h)
-    → (HasCleanDisk (state g loaded.conn)
-    → HasCleanDisk (state g adopted.conn) × IsTrue (state g adopted.conn).is_open)
-    → IsOurs (state g conn) → IsKept g loaded h
-kept_found g conn adopted loaded h made found kept was (inl blank) clean up =
-    kept (rows_of no_history) (made (was clean).0 blank).0.rows clean up
-kept_found g conn adopted loaded h made found kept was (inr ours) clean up =
-    kept ours.1.0 (found ours.1.0 (was clean).0 ours.0 ours.1.1).0 clean up
+-- a disk that is clean after a call was clean before it
+pub was_clean : (old new : State) → doubt old.is_clean ≤ doubt new.is_clean → HasCleanDisk new → HasCleanDisk old
+was_clean old new less clean = omega (arith, less, clean)
+
+-- the tables that were adopted have the rows of the history that the files held
+pub adopted : {D : Type 0} {g : Ghosts D} (image : Image) (conn : Held (FileStore D g)) (store : StoreData (FileStore D g))
+    → (HasCleanDisk (file_state conn) → IsOpened conn) → (HasCleanDisk (file_state conn) → FindsIn image (file_state conn))
+    → (HasCleanDisk (file_state store.conn) → (file_state conn).now.schema ≡ no_schema
+    → IsStored no_history (file_state store.conn).now × ((file_state store.conn).committed ≡ (file_state store.conn).now))
+    → ((these : Contents) → HasCleanDisk (file_state store.conn) → (file_state conn).now ≡ (file_state conn).committed
+    → Holds these (file_state conn).now → Holds these (file_state store.conn).now × HasFormat these)
+    → doubt (file_state conn).is_clean ≤ doubt (file_state store.conn).is_clean → HasCleanDisk (file_state store.conn)
+    → (h : HistoryData) → HoldsHistory image h → IsStored h (file_state store.conn).now
+adopted image conn store opened finds made found less clean h (inl nothing) =
+    let was = was_clean (file_state conn) (file_state store.conn) less clean in
+    subst (λ (h : HistoryData). IsStored h (file_state store.conn).now) (sym nothing.1)
+    (made clean (nothing_found image conn (opened was) (finds was) nothing.0)).0
+adopted image conn store opened finds made found less clean h (inr tables) =
+    let was = was_clean (file_state conn) (file_state store.conn) less clean in
+    let held = tables_found image conn (opened was) (finds was) tables.trees (rows_of h) tables.found tables.listed tables.rows in
+    record { rules = tables.rules; rows = (found (rows_of h) clean (opened was).0.clean held).0 }
 
 -- what holds after a call on a premise
 pub on_ok_under : {A E : Type 0} (P Q : Type 0) (r : Result A E) → (P → OnOk r Q) → OnOk r (P → Q)

@@ -1,3 +1,5 @@
+pub mod Asking
+pub mod Finding
 pub mod Kept
 pub mod Ordering
 pub mod Serving

@@ -1,10 +1,11 @@
 -- What came of an order, from what its parts say.
-use Rattle.std.proofs.Common.{◌≡◌, ◌∙◌, inl, ℕ, List, [], Result, ap, subst, string_bytes}
+use Rattle.std.proofs.Common.{◌≡◌, refl, ◌∙◌, inl, ℕ, List, [], Bool, not, Option, Some, Result, ap, subst, string_bytes}
 use Rattle.ccr_history.specs.Text.{Text}
 use Rattle.ccr_history.specs.History.{HistoryData}
 use Rattle.ccr_process.specs.Runs.{Pair}
 use Rattle.ccr_task.specs.declared.places.Places.{Places}
 use Rattle.ccr_task.specs.Places.{PlacesData, places_data}
+use Rattle.ccr_task.specs.declared.counts.ShelfCounts.{ShelfCounts}
 use Rattle.ccr_core.specs.Cores.{core_data}
 use Rattle.ccr_core.specs.Resumed.{IsResumed}
 use Rattle.ccr_storage.specs.declared.tally.Tally.{Tally}
@@ -18,7 +19,7 @@ use Rattle.ccr_run.specs.declared.order.Order.{Order}
 use Rattle.ccr_run.specs.declared.run.Outcome.{Outcome}
 use Rattle.ccr_run.specs.Obeyed.{Obeyed}
 use Rattle.ccr_run.specs.Orders.{IsOrdered}
-use Rattle.ccr_run.specs.Served.{Served, Begins, handed_on, places_in}
+use Rattle.ccr_run.specs.Served.{Did, Served, Begins, handed_on, places_in}
 use Rattle.ccr_run.specs.Statuses.{exit_status_of}
 
 abbrev folders : Text → Text → PlacesData
@@ -31,20 +32,36 @@ same_places order p types work =
     ap (λ (t : Text). folders t (string_bytes p.work)) types
     ∙ ap (λ (w : Text). folders order.options.types.now w) work
 
--- a server that has just begun did the command
-pub did : {R S T : Type 0} (pairs : R → List Pair) (failures : S → ℕ) (holds : T → HistoryData → Type 0)
-    (tally : T → Tally) (order : Order) (h : HistoryData) (opened left : Server R S T) (answer : Result ℕ ServeFault)
-    (end : Result ℕ Failure) (old new : Text)
-    → Begins h order.options.budget (view_of pairs failures holds tally opened []) → places_data opened.places ≡ places_in order
+-- a server did the command, whose folders are those of the options
+pub did : {R S T : Type 0} (pairs : R → List Pair) (counts : S → ShelfCounts) (holds : T → HistoryData → Type 0)
+    (tally : T → Tally) (order : Order) (opened left : Server R S T) (answer : Result ℕ ServeFault)
+    (end : Result ℕ Failure) (old new : Text) → places_data opened.places ≡ places_in order
     → CameOf (places_data opened.places) (command_data order.command) answer
-    (view_of pairs failures holds tally opened old) (view_of pairs failures holds tally left new)
-    → end ≡ handed_on answer → Served pairs failures holds tally order end old new
-did pairs failures holds tally order h opened left answer end old new begins same came is =
-    inl (record {
-      history = h;
-      opened = opened;
+    (view_of pairs counts holds tally opened old) (view_of pairs counts holds tally left new)
+    → end ≡ handed_on answer → Did pairs counts holds tally order opened end old new
+did pairs counts holds tally order opened left answer end old new same came is =
+    record {
       left = left;
       answer = answer;
+      came = subst (λ (q : PlacesData). CameOf q (command_data order.command) answer
+          (view_of pairs counts holds tally opened old) (view_of pairs counts holds tally left new)) same came;
+      end_is = is;
+    }
+
+-- a server that has just begun did what was ordered
+pub served : {R S T : Type 0} (pairs : R → List Pair) (counts : S → ShelfCounts) (holds : T → HistoryData → Type 0)
+    (tally : T → Tally) (begins_with : T → HistoryData → Type 0) (order : Order) (storage : T) (h : HistoryData)
+    (opened : Server R S T) (end : Result ℕ Failure) (old new : Text) → begins_with storage h
+    → Begins h order.options.budget (view_of pairs counts holds tally opened [])
+    → Did pairs counts holds tally order opened end old new
+    → Served pairs counts holds tally begins_with order (Some order.options.database.now) end old new
+served pairs counts holds tally begins_with order storage h opened end old new found begins did =
+    inl (record {
+      named = refl;
+      storage = storage;
+      history = h;
+      found = found;
+      opened = opened;
       begins = record {
         ready = record {
           is_open = begins.ready.is_open;
@@ -54,24 +71,17 @@ did pairs failures holds tally order h opened left answer end old new begins sam
         resumed = begins.resumed;
         last = begins.last;
         pairs = begins.pairs;
-        failures = begins.failures;
+        counts = begins.counts;
       };
-      came = subst (λ (q : PlacesData). CameOf q (command_data order.command) answer
-          (view_of pairs failures holds tally opened old) (view_of pairs failures holds tally left new)) same came;
-      end_is = is;
+      did = did;
     })
 
--- what was ordered is done, from where no line was printed
-pub done : {R S T : Type 0} (pairs : R → List Pair) (failures : S → ℕ) (holds : T → HistoryData → Type 0)
-    (tally : T → Tally) (words : List Text) (status : ℕ) (order : Order) (outcome : Outcome) (old lines : Text)
-    → IsOrdered words order → old ≡ [] → Served pairs failures holds tally order outcome.end old lines
-    → status ≡ exit_status_of outcome → Obeyed pairs failures holds tally words status
-done pairs failures holds tally words status order outcome old lines ordered none served is =
-    inl (record {
-      order = order;
-      ordered = ordered;
-      outcome = outcome;
-      lines = lines;
-      served = subst (λ (o : Text). Served pairs failures holds tally order outcome.end o lines) none served;
-      status_is = is;
-    })
+-- what was ordered is done
+pub done : {R S T : Type 0} (pairs : R → List Pair) (counts : S → ShelfCounts) (holds : T → HistoryData → Type 0)
+    (tally : T → Tally) (begins_with : T → HistoryData → Type 0) (words : List Text) (asked : Option Text) (old new : Text)
+    (failed : Bool) (status : ℕ) (order : Order) (outcome : Outcome)
+    → IsOrdered words order → Served pairs counts holds tally begins_with order asked outcome.end old new
+    → outcome.is_printed ≡ not failed → status ≡ exit_status_of outcome
+    → Obeyed pairs counts holds tally begins_with words asked old new failed status
+done pairs counts holds tally begins_with words asked old new failed status order outcome ordered served printed is =
+    inl (record { order = order; ordered = ordered; outcome = outcome; served = served; printed = printed; status_is = is })

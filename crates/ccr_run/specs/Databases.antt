@@ -1,24 +1,25 @@
 -- What the program's storage holds.
-use Rattle.std.specs.Prelude.{◌≡◌, ◌⊎◌}
-use Rattle.sqlite_trees.specs.declared.store.Store.{Ghosts}
-use Rattle.sqlite.specs.State.{State}
-use Rattle.sqlite.specs.Held.{state}
+use Rattle.std.specs.Prelude.{◌≡◌}
+use Rattle.sqlite_disk.specs.declared.Disk.{Ghosts}
+use Rattle.sqlite_store.specs.declared.store.FileStore.{FileStore}
+use Rattle.sqlite_wal.specs.Recovery.{Image}
+use Rattle.sqlite.specs.State.{HasCleanDisk}
+use Rattle.sqlite.specs.Files.{file_state, over_files}
 use Rattle.ccr_history.specs.History.{HistoryData}
-use Rattle.ccr_tables.specs.Contents.{Contents, Holds}
-use Rattle.ccr_tables.specs.Schema.{no_schema}
 use Rattle.ccr_storage.specs.declared.tally.Tally.{Tally}
 use Rattle.ccr_store.specs.StoreData.{IsKept}
+use Rattle.ccr_run.specs.Opening.{HoldsHistory, AreOurs}
 use Rattle.ccr_run.specs.declared.database.Database.{Database}
 
--- a database is ours: it has no tables, or the six tables with rows that are committed
-abbrev pub IsOurs : State → Type 0
-IsOurs db =
-    (db.now.schema ≡ no_schema)
-    ⊎ ((db.now ≡ db.committed) × ((these : Contents) × Holds these db.now))
+module _ {D : Type 0} {g : Ghosts D} where
+  -- WHAT THE STORAGE HOLDS: where the files held a server's history as they were opened, the store keeps the history
+  abbrev pub holds : Image → Database (FileStore D g) → HistoryData → Type 0
+  holds image database h = AreOurs image → IsKept over_files database.store h
 
--- WHAT THE STORAGE HOLDS: where the database was ours when it was found, the store keeps the history
-abbrev pub holds : {S : Type 0} → Ghosts S → Database S → HistoryData → Type 0
-holds g database h = IsOurs (state g database.found.value) → IsKept g database.store h
+  -- THE HISTORY THAT A SERVER BEGINS WITH: the one that the files held, while the disk returns what was written
+  abbrev pub begins_with : Image → Database (FileStore D g) → HistoryData → Type 0
+  begins_with image database h =
+      HasCleanDisk (file_state database.store.conn) → (was : HistoryData) → HoldsHistory image was → h ≡ was
 
 -- WHAT THE STORAGE TELLS OF ITS COMMITS: what the store does
 abbrev pub tally : {S : Type 0} → Database S → Tally

@@ -1,6 +1,8 @@
+pub mod Asked
 pub mod Databases
 pub mod Hints
 pub mod Obeyed
+pub mod Opening
 pub mod Orders
 pub mod Refusals
 pub mod Served

@@ -1,9 +1,10 @@
 -- The status that words come to.
-use Rattle.std.specs.Prelude.{◌≡◌, ◌⊎◌, ℕ, List, []}
+use Rattle.std.specs.Prelude.{◌≡◌, ◌⊎◌, ℕ, List, Bool, not, Option, None}
 use Rattle.ccr_history.specs.Text.{Text}
 use Rattle.ccr_history.specs.History.{HistoryData}
 use Rattle.ccr_process.specs.Runs.{Pair}
 use Rattle.ccr_storage.specs.declared.tally.Tally.{Tally}
+use Rattle.ccr_task.specs.declared.counts.ShelfCounts.{ShelfCounts}
 use Rattle.ccr_run.specs.declared.order.Misuse.{Misuse}
 use Rattle.ccr_run.specs.declared.order.Order.{Order}
 use Rattle.ccr_run.specs.declared.run.Outcome.{Outcome}
@@ -11,23 +12,33 @@ use Rattle.ccr_run.specs.Orders.{IsOrdered, IsMisused}
 use Rattle.ccr_run.specs.Served.{Served}
 use Rattle.ccr_run.specs.Statuses.{exit_status_of, misuse_status}
 
--- the words order something, and what came of it has this status
-pub record IsDone {R S T : Type 0} (pairs : R → List Pair) (failures : S → ℕ)
-    (holds : T → HistoryData → Type 0) (tally : T → Tally) (words : List Text) (status : ℕ) : Type 0 where
+-- the words order something, and what came of it has this status; the outcome says whether a write failed
+pub record IsDone {R S T : Type 0} (pairs : R → List Pair) (counts : S → ShelfCounts)
+    (holds : T → HistoryData → Type 0) (tally : T → Tally) (begins_with : T → HistoryData → Type 0)
+    (words : List Text) (asked : Option Text) (old new : Text) (failed : Bool) (status : ℕ) : Type 0 where
   pub order : Order
   pub ordered : IsOrdered words order
   pub outcome : Outcome
-  pub lines : Text
-  pub served : Served pairs failures holds tally order outcome.end [] lines
+  pub served : Served pairs counts holds tally begins_with order asked outcome.end old new
+  pub printed : outcome.is_printed ≡ not failed
   pub status_is : status ≡ exit_status_of outcome
 
 -- a misuse has its status, or 4 where it can't be told
 abbrev pub IsTold : Misuse → ℕ → Type 0
 IsTold misuse status = (status ≡ misuse_status misuse) ⊎ (status ≡ 4)
 
--- THE STATUS THAT WORDS COME TO: that of what they order, or of why they order nothing
-abbrev pub Obeyed : {R S T : Type 0} → (R → List Pair) → (S → ℕ) → (T → HistoryData → Type 0)
-    → (T → Tally) → List Text → ℕ → Type 0
-Obeyed pairs failures holds tally words status =
-    IsDone pairs failures holds tally words status
-    ⊎ ((misuse : Misuse) × IsMisused words misuse × IsTold misuse status)
+-- the words order nothing: no database is opened and no line printed, and the status says why
+pub record IsMisuse (words : List Text) (asked : Option Text) (old new : Text) (status : ℕ) : Type 0 where
+  pub misuse : Misuse
+  pub misused : IsMisused words misuse
+  pub unasked : asked ≡ None
+  pub unprinted : new ≡ old
+  pub told : IsTold misuse status
+
+-- THE STATUS THAT WORDS COME TO, with the database that was opened and the lines that were printed: that of what they
+-- order, or of why they order nothing
+abbrev pub Obeyed : {R S T : Type 0} → (R → List Pair) → (S → ShelfCounts) → (T → HistoryData → Type 0)
+    → (T → Tally) → (T → HistoryData → Type 0) → List Text → Option Text → Text → Text → Bool → ℕ → Type 0
+Obeyed pairs counts holds tally begins_with words asked old new failed status =
+    IsDone pairs counts holds tally begins_with words asked old new failed status
+    ⊎ IsMisuse words asked old new status

@@ -1,12 +1,15 @@
 -- What came of an order.
-use Rattle.std.specs.Prelude.{◌≡◌, ◌⊎◌, ℕ, List, [], Result, Ok, Err, ⊤}
+use Rattle.std.specs.Prelude.{◌≡◌, ◌⊎◌, ℕ, List, [], Option, Some, None, Result, Ok, Err, ⊤}
 use Rattle.ccr_history.specs.Text.{Text}
 use Rattle.ccr_history.specs.History.{HistoryData}
 use Rattle.ccr_process.specs.Runs.{Pair}
 use Rattle.ccr_task.specs.Places.{PlacesData}
+use Rattle.ccr_task.specs.Shelves.{no_counts}
+use Rattle.ccr_task.specs.declared.counts.ShelfCounts.{ShelfCounts}
 use Rattle.ccr_core.specs.Resumed.{IsResumed}
 use Rattle.ccr_storage.specs.declared.tally.Tally.{Tally}
 use Rattle.ccr_serve.specs.declared.fault.ServeFault.{ServeFault}
+use Rattle.ccr_serve.specs.declared.fault.ServeFault.TheVariants.{NoMemory}
 use Rattle.ccr_serve.specs.declared.server.Server.{Server}
 use Rattle.ccr_serve.specs.Commanding.{CameOf, KeepsFromOpening}
 use Rattle.ccr_lines.specs.Commands.{command_data}
@@ -24,41 +27,54 @@ abbrev pub KeepsFromServing : Failure → Type 0
 KeepsFromServing Locked = ⊤
 KeepsFromServing (Refused fault) = KeepsFromOpening fault
 
-abbrev pub IsUnserved : Result ℕ Failure → Type 0
-IsUnserved (Ok status) = ⊥
-IsUnserved (Err failure) = KeepsFromServing failure
+-- the database that the options name was opened; or none was, for want of memory
+abbrev pub HasAsked : Order → Option Text → Failure → Type 0
+HasAsked order asked failure =
+    (asked ≡ Some order.options.database.now) ⊎ ((asked ≡ None) × (failure ≡ Refused NoMemory))
+
+abbrev pub IsUnserved : Order → Option Text → Result ℕ Failure → Type 0
+IsUnserved order asked (Ok status) = ⊥
+IsUnserved order asked (Err failure) = KeepsFromServing failure × HasAsked order asked failure
 
 -- how a command ended, as the program hands it on: its status, or its refusal
 abbrev pub handed_on : Result ℕ ServeFault → Result ℕ Failure
 handed_on (Ok status) = Ok status
 handed_on (Err fault) = Err (Refused fault)
 
--- a server begins with a history, in which what still ran is cut short: it goes on, and neither ran a program nor had a
--- folder fail
+-- a server begins with a history, in which what still ran is cut short: it goes on, and ran no program, and no folder
+-- failed or was seen
 pub record Begins (h : HistoryData) (budget : ℕ) (v : View) : Type 0 where
   pub ready : IsReady v
   pub resumed : IsResumed h budget v.core
   pub last : v.last ≡ 0
   pub pairs : v.pairs ≡ []
-  pub failures : v.failures ≡ 0
+  pub counts : v.counts ≡ no_counts
 
--- a server was made over a history, and did the command: from one value of it to another, with these lines before and
--- after
-pub record DidCommand {R S T : Type 0} (pairs : R → List Pair) (failures : S → ℕ)
-    (holds : T → HistoryData → Type 0) (tally : T → Tally) (order : Order) (end : Result ℕ Failure) (old new : Text)
-    : Type 0 where
-  pub history : HistoryData
-  pub opened : Server R S T
+-- a server did the command: from one value of it to another, with these lines before and after
+pub record Did {R S T : Type 0} (pairs : R → List Pair) (counts : S → ShelfCounts) (holds : T → HistoryData → Type 0)
+    (tally : T → Tally) (order : Order) (opened : Server R S T) (end : Result ℕ Failure) (old new : Text) : Type 0 where
   pub left : Server R S T
   pub answer : Result ℕ ServeFault
-  pub begins : Begins history order.options.budget (view_of pairs failures holds tally opened old)
   pub came : CameOf (places_in order) (command_data order.command) answer
-      (view_of pairs failures holds tally opened old) (view_of pairs failures holds tally left new)
+      (view_of pairs counts holds tally opened old) (view_of pairs counts holds tally left new)
   pub end_is : end ≡ handed_on answer
 
+-- the database that the options name was opened, and a server was made over the history that was found there, and did
+-- the command
+pub record DidCommand {R S T : Type 0} (pairs : R → List Pair) (counts : S → ShelfCounts)
+    (holds : T → HistoryData → Type 0) (tally : T → Tally) (begins_with : T → HistoryData → Type 0) (order : Order)
+    (asked : Option Text) (end : Result ℕ Failure) (old new : Text) : Type 0 where
+  pub named : asked ≡ Some order.options.database.now
+  pub storage : T
+  pub history : HistoryData
+  pub found : begins_with storage history
+  pub opened : Server R S T
+  pub begins : Begins history order.options.budget (view_of pairs counts holds tally opened old)
+  pub did : Did pairs counts holds tally order opened end old new
+
 -- WHAT CAME OF AN ORDER: a server did the command, or none was made and nothing is printed
-abbrev pub Served : {R S T : Type 0} → (R → List Pair) → (S → ℕ) → (T → HistoryData → Type 0)
-    → (T → Tally) → Order → Result ℕ Failure → Text → Text → Type 0
-Served pairs failures holds tally order end old new =
-    DidCommand pairs failures holds tally order end old new
-    ⊎ (IsUnserved end × (new ≡ old))
+abbrev pub Served : {R S T : Type 0} → (R → List Pair) → (S → ShelfCounts) → (T → HistoryData → Type 0)
+    → (T → Tally) → (T → HistoryData → Type 0) → Order → Option Text → Result ℕ Failure → Text → Text → Type 0
+Served pairs counts holds tally begins_with order asked end old new =
+    DidCommand pairs counts holds tally begins_with order asked end old new
+    ⊎ (IsUnserved order asked end × (new ≡ old))

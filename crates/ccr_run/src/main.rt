@@ -10,13 +10,17 @@ mod failure;
 mod found;
 mod hint;
 mod naming;
+mod opener;
 mod order;
 mod refusal;
 mod run;
 mod tell;
 
-ghost use Rattle.std.specs.Prelude.{map, string_bytes};
+ghost use Rattle.std.specs.Prelude.{◌≡◌, ◌++◌, None, IsSome, map, string_bytes};
 ghost use Rattle.std.specs.Process.{exit_status};
+ghost use Rattle.sqlite_wal.specs.Files.{image_at};
+ghost use Rattle.ccr_run.specs.Asked.{asked_by};
+ghost use Rattle.ccr_run.specs.Databases.{begins_with};
 ghost use Rattle.ccr_run.specs.Obeyed.{Obeyed};
 
 use ccr_lines::Printed;
@@ -26,10 +30,11 @@ use ccr_task::{Folders, Shelf};
 use database::Database;
 use found::{is_validation, tell_gates, validate};
 use naming::Naming;
+use opener::Opener;
 use order::{Misuse, order_of};
 use run::run;
-use sqlite::{File, FileStore};
-use std::io::ErrorKind;
+use sqlite::{FileFrom, FileStore, Start, Unknown};
+use std::io::{ErrorKind, Write};
 use std::process::ExitCode;
 use std::{env, io};
 use tell::{tell, tell_misuse};
@@ -52,16 +57,23 @@ fn words(rt: &HostRuntime) -> Result<Vec<String>, Misuse> {
 }
 
 /// Does what the words order, and tells what came of it: the exit status.
-fn obey<'a>(rt: &'a HostRuntime, words: &[String]) -> ExitCode
-    ensures { Obeyed ⟦<Naming<'a, Machine<&'a HostRuntime>> as Runner>⟧.pairs ⟦<Folders<&'a HostRuntime> as Shelf>⟧.failures
-        ⟦<Database<FileStore<File>> as Storage>⟧.holds
-        ⟦<Database<FileStore<File>> as Storage>⟧.tally
-        (map string_bytes words.now) (exit_status result) }
+fn obey<'a, S: Start, W: Write>(
+    rt: &'a HostRuntime,
+    words: &'a [String],
+    opener: &mut Opener<'a, S>,
+    out: &mut Printed<W>,
+) -> ExitCode
+    requires unopened { IsSome opener.old.start }
+    requires unasked { opener.old.asked ≡ None }
+    ensures { Obeyed ⟦<Naming<'a, Machine<&'a HostRuntime>> as Runner>⟧.pairs ⟦<Folders<&'a HostRuntime> as Shelf>⟧.counts
+        ⟦<Database<FileStore<FileFrom<S>>> as Storage>⟧.holds
+        ⟦<Database<FileStore<FileFrom<S>>> as Storage>⟧.tally (begins_with (image_at S.Start))
+        (map string_bytes words.now) (asked_by opener.new)
+        (out.old.shown ++ out.old.waiting) (out.new.shown ++ out.new.waiting) out.new.failed (exit_status result) }
 {
     match order_of(rt.alloc(), words) {
         Ok(order) => {
-            let mut out = Printed::new(rt.alloc(), io::writer(rt));
-            let outcome = run(rt, &order, &mut out);
+            let outcome = run(rt, &order, opener, out);
             tell_gates(rt, &order.command, &outcome.end);
             tell(rt, &order, &outcome)
         }
@@ -69,10 +81,17 @@ fn obey<'a>(rt: &'a HostRuntime, words: &[String]) -> ExitCode
     }
 }
 
+/// Does what the words order with the files as they are, of which nothing is known.
+fn answer(rt: &HostRuntime, words: &[String]) -> ExitCode {
+    let mut opener = Opener::new(rt, Unknown);
+    let mut out = Printed::new(rt.alloc(), io::writer(rt));
+    obey(rt, words, &mut opener, &mut out)
+}
+
 fn main(rt: HostRuntime) -> ExitCode {
     match words(&rt) {
         Ok(words) if is_validation(&words) => validate(&rt, &words),
-        Ok(words) => obey(&rt, &words),
+        Ok(words) => answer(&rt, &words),
         Err(misuse) => tell_misuse(&rt, &misuse),
     }
 }

@@ -1,18 +1,23 @@
 //! A command is done.
-ghost use Rattle.std.specs.Prelude.{◌≡◌, ◌≤◌, ◌++◌, ℕ, [], Result, false, not, IfOk, IfSome, string_bytes};
-ghost use Rattle.sqlite.specs.Files.{file_state};
-ghost use Rattle.ccr_history.specs.History.{HistoryData};
+ghost use Rattle.std.specs.Prelude.{◌≡◌, ◌≤◌, ◌++◌, ℕ, [], Some, None, Result, false, not, IsSome, IfOk, IfSome, string_bytes};
+ghost use Rattle.sqlite_wal.specs.Files.{image_at};
+ghost use Rattle.sqlite.specs.Files.{file_state, IsOpened};
+ghost use Rattle.sqlite.specs.Start.{FindsIn};
+ghost use Rattle.sqlite.specs.State.{HasCleanDisk};
 ghost use Rattle.ccr_core.specs.Resumed.{IsReadable};
 ghost use Rattle.ccr_proof.specs.declared.proof.TheConstants.{MOST_NODES};
 ghost use Rattle.ccr_task.specs.Places.{places_data};
 ghost use Rattle.ccr_serve.specs.Commanding.{CameOf};
 ghost use Rattle.ccr_lines.specs.Commands.{command_data};
 ghost use Rattle.ccr_serve.specs.Views.{view_of, IsReady};
-ghost use Rattle.ccr_run.specs.Served.{Served, Begins, handed_on, places_in};
+ghost use Rattle.ccr_run.specs.Asked.{asked_by};
+ghost use Rattle.ccr_run.specs.Databases.{begins_with};
+ghost use Rattle.ccr_run.specs.Served.{Did, Served, handed_on, places_in};
 
-use crate::database::{Database, open};
+use crate::database::Database;
 use crate::failure::Failure;
 use crate::naming::Naming;
+use crate::opener::Opener;
 use crate::order::Order;
 use ccr_history::History;
 use ccr_lines::{Command, Lines, Printed};
@@ -20,7 +25,7 @@ use ccr_process::{Machine, Runner};
 use ccr_serve::{ServeFault, Server};
 use ccr_storage::Storage;
 use ccr_task::{Folders, Places, Shelf};
-use sqlite::{Connection, File, FileStore};
+use sqlite::{Connection, FileFrom, FileStore, Start};
 use std::alloc::{AllocError, Global};
 use std::io::Write;
 
@@ -50,9 +55,9 @@ fn command<R: Runner, S: Shelf, T: Storage, W: Write>(
     command: &Command,
     out: &mut Printed<W>,
 ) -> Result<u8, Failure>
-    requires ready { let view = view_of R.pairs S.failures T.holds T.tally in
+    requires ready { let view = view_of R.pairs S.counts T.holds T.tally in
         IsReady (view server.old (out.old.shown ++ out.old.waiting)) }
-    ensures came { let view = view_of R.pairs S.failures T.holds T.tally in
+    ensures came { let view = view_of R.pairs S.counts T.holds T.tally in
         (answer : Result ℕ ServeFault) × (result ≡ handed_on answer)
         × CameOf (places_data server.old.places) (command_data command.now) answer
         (view server.old (out.old.shown ++ out.old.waiting)) (view server.new (out.new.shown ++ out.new.waiting)) }
@@ -63,41 +68,42 @@ fn command<R: Runner, S: Shelf, T: Storage, W: Write>(
     Ok(end?)
 }
 
-/// Has a server do the command, which has just begun.
+/// Has a server do the command.
 fn serve_by<R: Runner + Drop, S: Shelf + Drop, T: Storage + Drop, W: Write>(
     server: Server<R, S, T>,
     order: &Order<'_>,
     out: &mut Printed<W>,
 ) -> Result<u8, Failure>
-    requires begins { (h : HistoryData)
-        × Begins h order.now.options.budget (view_of R.pairs S.failures T.holds T.tally server []) }
+    requires ready { IsReady (view_of R.pairs S.counts T.holds T.tally server []) }
     requires places { places_data server.places ≡ places_in order.now }
-    ensures served { Served R.pairs S.failures T.holds T.tally order.now result
+    ensures did { Did R.pairs S.counts T.holds T.tally order.now server result
         (out.old.shown ++ out.old.waiting) (out.new.shown ++ out.new.waiting) }
-    ensures printed { out.old.waiting ≡ [] → out.new.failed ≡ false → out.new.waiting ≡ [] }
+    ensures printed { out.new.failed ≡ false → out.new.waiting ≡ [] }
 {
     let mut server = server;
     command(&mut server, &order.command, out)
 }
 
 /// Has a server over a database with its history do the command.
-fn serve_history<'a, W: Write>(
+fn serve_history<'a, S: Start, W: Write>(
     rt: &'a HostRuntime,
     order: &Order<'_>,
-    database: Database<FileStore<File>>,
+    database: Database<FileStore<FileFrom<S>>>,
     history: History,
     places: Places,
     out: &mut Printed<W>,
 ) -> Result<u8, Failure>
     requires least { 1 ≤ order.now.options.budget }
     requires most { order.now.options.budget ≤ MOST_NODES }
-    requires holds { ⟦<Database<FileStore<File>> as Storage>⟧.holds database history }
+    requires holds { ⟦<Database<FileStore<FileFrom<S>>> as Storage>⟧.holds database history }
+    requires found { begins_with (image_at S.Start) database history }
     requires readable { IfSome history.text IsReadable }
     requires places { places_data places ≡ places_in order.now }
-    ensures served { Served ⟦<Naming<'a, Machine<&'a HostRuntime>> as Runner>⟧.pairs ⟦<Folders<&'a HostRuntime> as Shelf>⟧.failures
-        ⟦<Database<FileStore<File>> as Storage>⟧.holds
-        ⟦<Database<FileStore<File>> as Storage>⟧.tally
-        order.now result (out.old.shown ++ out.old.waiting) (out.new.shown ++ out.new.waiting) }
+    ensures served { Served ⟦<Naming<'a, Machine<&'a HostRuntime>> as Runner>⟧.pairs ⟦<Folders<&'a HostRuntime> as Shelf>⟧.counts
+        ⟦<Database<FileStore<FileFrom<S>>> as Storage>⟧.holds
+        ⟦<Database<FileStore<FileFrom<S>>> as Storage>⟧.tally (begins_with (image_at S.Start))
+        order.now (Some order.now.options.database.now) result
+        (out.old.shown ++ out.old.waiting) (out.new.shown ++ out.new.waiting) }
     ensures printed { out.old.waiting ≡ [] → out.new.failed ≡ false → out.new.waiting ≡ [] }
 {
     let alloc = rt.alloc();
@@ -110,22 +116,25 @@ fn serve_history<'a, W: Write>(
     }
 }
 
-/// Has a server over a database do the command.
-fn serve_database<'a, W: Write>(
+/// Has a server over a database that was opened do the command.
+fn serve_database<'a, S: Start, W: Write>(
     rt: &'a HostRuntime,
     order: &Order<'_>,
-    conn: Connection<FileStore<File>>,
+    conn: Connection<FileStore<FileFrom<S>>>,
     places: Places,
     out: &mut Printed<W>,
 ) -> Result<u8, Failure>
     requires least { 1 ≤ order.now.options.budget }
     requires most { order.now.options.budget ≤ MOST_NODES }
     requires idle { (file_state conn).in_transaction ≡ false }
+    requires opened { HasCleanDisk (file_state conn) → IsOpened conn }
+    requires found { HasCleanDisk (file_state conn) → FindsIn (image_at S.Start) (file_state conn) }
     requires places { places_data places ≡ places_in order.now }
-    ensures served { Served ⟦<Naming<'a, Machine<&'a HostRuntime>> as Runner>⟧.pairs ⟦<Folders<&'a HostRuntime> as Shelf>⟧.failures
-        ⟦<Database<FileStore<File>> as Storage>⟧.holds
-        ⟦<Database<FileStore<File>> as Storage>⟧.tally
-        order.now result (out.old.shown ++ out.old.waiting) (out.new.shown ++ out.new.waiting) }
+    ensures served { Served ⟦<Naming<'a, Machine<&'a HostRuntime>> as Runner>⟧.pairs ⟦<Folders<&'a HostRuntime> as Shelf>⟧.counts
+        ⟦<Database<FileStore<FileFrom<S>>> as Storage>⟧.holds
+        ⟦<Database<FileStore<FileFrom<S>>> as Storage>⟧.tally (begins_with (image_at S.Start))
+        order.now (Some order.now.options.database.now) result
+        (out.old.shown ++ out.old.waiting) (out.new.shown ++ out.new.waiting) }
     ensures printed { out.old.waiting ≡ [] → out.new.failed ≡ false → out.new.waiting ≡ [] }
 {
     match Database::load(rt.alloc(), conn) {
@@ -135,40 +144,51 @@ fn serve_database<'a, W: Write>(
 }
 
 /// Opens the database, and has a server over it do the command.
-fn serve<'a, W: Write>(
+fn serve<'a, S: Start, W: Write>(
     rt: &'a HostRuntime,
-    order: &Order<'_>,
+    order: &Order<'a>,
+    opener: &mut Opener<'a, S>,
     out: &mut Printed<W>,
 ) -> Result<u8, Failure>
     requires least { 1 ≤ order.now.options.budget }
     requires most { order.now.options.budget ≤ MOST_NODES }
-    ensures served { Served ⟦<Naming<'a, Machine<&'a HostRuntime>> as Runner>⟧.pairs ⟦<Folders<&'a HostRuntime> as Shelf>⟧.failures
-        ⟦<Database<FileStore<File>> as Storage>⟧.holds
-        ⟦<Database<FileStore<File>> as Storage>⟧.tally
-        order.now result (out.old.shown ++ out.old.waiting) (out.new.shown ++ out.new.waiting) }
+    requires unopened { IsSome opener.old.start }
+    requires unasked { opener.old.asked ≡ None }
+    ensures served { Served ⟦<Naming<'a, Machine<&'a HostRuntime>> as Runner>⟧.pairs ⟦<Folders<&'a HostRuntime> as Shelf>⟧.counts
+        ⟦<Database<FileStore<FileFrom<S>>> as Storage>⟧.holds
+        ⟦<Database<FileStore<FileFrom<S>>> as Storage>⟧.tally (begins_with (image_at S.Start))
+        order.now (asked_by opener.new) result (out.old.shown ++ out.old.waiting) (out.new.shown ++ out.new.waiting) }
     ensures printed { out.old.waiting ≡ [] → out.new.failed ≡ false → out.new.waiting ≡ [] }
 {
     let Ok(places) = places_of(rt.alloc(), order.options.types, order.options.work) else {
         return Err(Failure::Refused(ServeFault::NoMemory));
     };
-    match open(rt, order.options.database) {
+    match opener.open(order.options.database) {
         Ok(conn) => serve_database(rt, order, conn, places, out),
         Err(failure) => Err(failure),
     }
 }
 
 /// Does what is ordered. The lines go out as they come.
-pub fn run<'a, W: Write>(rt: &'a HostRuntime, order: &Order<'_>, out: &mut Printed<W>) -> Outcome
+pub fn run<'a, S: Start, W: Write>(
+    rt: &'a HostRuntime,
+    order: &Order<'a>,
+    opener: &mut Opener<'a, S>,
+    out: &mut Printed<W>,
+) -> Outcome
     requires least { 1 ≤ order.now.options.budget }
     requires most { order.now.options.budget ≤ MOST_NODES }
-    ensures served { Served ⟦<Naming<'a, Machine<&'a HostRuntime>> as Runner>⟧.pairs ⟦<Folders<&'a HostRuntime> as Shelf>⟧.failures
-        ⟦<Database<FileStore<File>> as Storage>⟧.holds
-        ⟦<Database<FileStore<File>> as Storage>⟧.tally
-        order.now result.end (out.old.shown ++ out.old.waiting) (out.new.shown ++ out.new.waiting) }
+    requires unopened { IsSome opener.old.start }
+    requires unasked { opener.old.asked ≡ None }
+    ensures served { Served ⟦<Naming<'a, Machine<&'a HostRuntime>> as Runner>⟧.pairs ⟦<Folders<&'a HostRuntime> as Shelf>⟧.counts
+        ⟦<Database<FileStore<FileFrom<S>>> as Storage>⟧.holds
+        ⟦<Database<FileStore<FileFrom<S>>> as Storage>⟧.tally (begins_with (image_at S.Start))
+        order.now (asked_by opener.new) result.end
+        (out.old.shown ++ out.old.waiting) (out.new.shown ++ out.new.waiting) }
     ensures printed { result.is_printed ≡ not out.new.failed }
     ensures whole { out.old.waiting ≡ [] → out.new.failed ≡ false → out.new.waiting ≡ [] }
 {
-    let end = serve(rt, order, out);
+    let end = serve(rt, order, opener, out);
     Outcome {
         end,
         is_printed: !out.has_failed(),

@@ -4,12 +4,12 @@ use Rattle.ccr_run.proofs.run.serve_by.Goals as goal
 
 pub command-requires : goal.command-requires
 command-requires g c =
-    let ready = c.requires.begins.1.ready in
+    let ready = c.requires.ready in
     record { ready = record { is_open = ready.is_open; unfailed = ready.unfailed; holds = ready.holds } }
 
-pub returns-clause-served : goal.returns-clause-served
-returns-clause-served g c =
+pub returns-clause-did : goal.returns-clause-did
+returns-clause-did g c =
     let came = c.command.ensures.came in
-    did g.R.Runner.pairs g.S.Shelf.failures g.T.Storage.holds g.T.Storage.tally c.args.order.now c.requires.begins.0 c.args.server c.command.new.server
+    did g.R.Runner.pairs g.S.Shelf.counts g.T.Storage.holds g.T.Storage.tally c.args.order.now c.args.server c.command.new.server
     came.0 c.command.result (c.args.out.now.shown ++ c.args.out.now.waiting) (c.command.new.out.shown ++ c.command.new.out.waiting)
-    c.requires.begins.1 c.requires.places came.2 came.1
+    c.requires.places came.2 came.1

@@ -1,19 +1,25 @@
-use Rattle.std.proofs.Common.{◌∙◌, ap}
+use Rattle.std.proofs.Common.{◌∙◌, ◌++◌, ap}
+use Rattle.sqlite_wal.specs.Files.{image_at}
 use Rattle.ccr_task.specs.Places.{places_data}
+use Rattle.ccr_task.specs.Shelves.{folders_counts}
+use Rattle.ccr_run.specs.Databases.{holds, tally, begins_with}
+use Rattle.ccr_run.proofs.Serving.{served}
 use Rattle.ccr_run.proofs.run.serve_history.Goals as goal
-
-pub serve_by-requires-clause-begins : goal.serve_by-requires-clause-begins
-serve_by-requires-clause-begins g c =
-    let opened = c.in-Ok.ensures in (
-      c.args.history,
-      record {
-        ready = opened.ready;
-        resumed = opened.resumed;
-        last = opened.nobody;
-        pairs = opened.pairs ∙ c.new-runner.ensures ∙ c.new.ensures;
-        failures = opened.failures ∙ c.new-folders.ensures;
-      },
-    )
 
 pub serve_by-requires-clause-places : goal.serve_by-requires-clause-places
 serve_by-requires-clause-places g c = ap places_data c.in-Ok.ensures.places ∙ c.requires.places
+
+pub returns-in-Ok-clause-served : goal.returns-in-Ok-clause-served
+returns-in-Ok-clause-served g c =
+    let opened = c.in-Ok.ensures in
+    served _ folders_counts (holds (image_at g.S.Start)) tally (begins_with (image_at g.S.Start)) c.args.order.now c.args.database c.args.history
+    c.in-Ok.server c.serve_by.result (c.args.out.now.shown ++ c.args.out.now.waiting) (c.serve_by.new.out.shown ++ c.serve_by.new.out.waiting)
+    c.requires.found
+    (record {
+      ready = opened.ready;
+      resumed = opened.resumed;
+      last = opened.nobody;
+      pairs = opened.pairs ∙ c.new-runner.ensures ∙ c.new.ensures;
+      counts = opened.counts ∙ c.new-folders.ensures;
+    })
+    c.serve_by.ensures.did

@@ -1,18 +1,19 @@
-use Rattle.sqlite.specs.Held.{state}
+use Rattle.sqlite_wal.specs.Files.{image_at}
+use Rattle.sqlite.specs.Files.{over_files}
 use Rattle.ccr_history.specs.Edits.{change_data}
 use Rattle.ccr_history.specs.Changes.{changed}
 use Rattle.ccr_store.specs.StoreData.{IsKept}
-use Rattle.ccr_run.specs.Databases.{IsOurs}
+use Rattle.ccr_run.specs.Opening.{AreOurs}
 use Rattle.ccr_run.proofs.Kept.{on_ok_under, on_err_under}
-use Rattle.ccr_run.proofs.database.DatabaseStorage.commit.Goals as goal
+use Rattle.ccr_run.proofs.database.DatabaseFileStoreFileFromStorage.commit.Goals as goal
 
 pub returns-clause-done : goal.returns-clause-done
 returns-clause-done g c h kept accepts =
-    on_ok_under (IsOurs (state g.S.Store c.args.self.now.found.value))
-    (IsKept g.S.Store c.commit.new.self (changed (change_data c.args.change.now) h)) c.commit.result
+    on_ok_under (AreOurs (image_at g.S.Start))
+    (IsKept over_files c.commit.new.self (changed (change_data c.args.change.now) h)) c.commit.result
     (λ ours. c.commit.ensures.done h (kept ours) accepts)
 
 pub returns-clause-refused : goal.returns-clause-refused
 returns-clause-refused g c h kept =
-    on_err_under (IsOurs (state g.S.Store c.args.self.now.found.value)) (IsKept g.S.Store c.commit.new.self h) c.commit.result
+    on_err_under (AreOurs (image_at g.S.Start)) (IsKept over_files c.commit.new.self h) c.commit.result
     (λ ours. c.commit.ensures.refused h (kept ours))

@@ -1,0 +1,23 @@
+use Rattle.std.proofs.Common.{sym}
+use Rattle.std.proofs.lemmas.Result.{IfOk-weaker}
+use Rattle.sqlite_wal.specs.Files.{image_at}
+use Rattle.ccr_store.specs.Rows.{rows_of}
+use Rattle.ccr_run.proofs.Kept.{adopted}
+use Rattle.ccr_run.proofs.database.Database+FileStore+FileFrom+S.load.Goals as goal
+
+pub returns-in-Ok-clause-holds : goal.returns-in-Ok-clause-holds
+returns-in-Ok-clause-holds g c =
+    IfOk-weaker c.with_history.result _ _
+    (λ loaded it ours clean.
+    it.0 (rows_of ours.0) (adopted (image_at g.S.Start) c.args.conn c.in-Ok.store c.requires.opened c.requires.found c.in-Ok.ensures.made
+    c.in-Ok.ensures.found c.in-Ok.ensures.crash.clean (it.2 clean) ours.0 ours.1).rows clean)
+    c.with_history.ensures.kept
+
+pub returns-in-Ok-clause-begins : goal.returns-in-Ok-clause-begins
+returns-in-Ok-clause-begins g c =
+    IfOk-weaker c.with_history.result _ _
+    (λ loaded it clean h held.
+    let stored = adopted (image_at g.S.Start) c.args.conn c.in-Ok.store c.requires.opened c.requires.found c.in-Ok.ensures.made
+    c.in-Ok.ensures.found c.in-Ok.ensures.crash.clean (it.2 clean) h held in
+    sym (it.1 h clean stored.rules stored.rows))
+    c.with_history.ensures.kept
