@@ -72,6 +72,8 @@ impl<W: Write> Lines for Printed<W> {
     ghost room = { λ p. p.room };
 
     fn make_room(&mut self, bytes: usize) -> Result<(), AllocError> {
+        // For the snapshot of these lines too: handing them out is not to want memory.
+        self.shown.reserve(1)?;
         self.lines.reserve(bytes)
     }
 
@@ -83,6 +85,9 @@ impl<W: Write> Lines for Printed<W> {
         ensures same { self.new.shown ++ self.new.waiting ≡ self.old.shown ++ self.old.waiting }
         ensures shown { self.new.failed ≡ false → self.new.waiting ≡ [] }
     {
+        if self.lines.is_empty() {
+            return;
+        }
         match self.shown.push(Snapshot::of(&self.lines)) {
             Ok(()) => {}
             Err(_) => {

@@ -28,10 +28,7 @@ pub struct Database<D: Alter> {
 
 impl<D: Alter + Drop> Database<D> {
     /// The storage of a store, with the history that it holds.
-    fn with_history(
-        alloc: Global,
-        store: Store<D>,
-    ) -> Result<(Database<D>, History), StoreFault>
+    fn with_history(alloc: Global, store: Store<D>) -> Result<(Database<D>, History), StoreFault>
         ensures kept { IfOk result (λ loaded. ((these : Contents) → Holds these (state D.Store store.conn).now
             → IsKept D.Store loaded.0.store loaded.1)
             × ((h : HistoryData) → HasCleanDisk (state D.Store loaded.0.store.conn) → IsHistory h

@@ -34,7 +34,9 @@ fn of_server(fault: &ServeFault) -> Option<&'static str>
         ServeFault::NoMemory | ServeFault::Store(StoreFault::NoMemory) => Some(
             "what was printed is kept; try again with more memory",
         ),
-        ServeFault::TurnsUsedUp => Some("the next command ends the builds that still run as errored"),
+        ServeFault::TurnsUsedUp => Some(
+            "the next command ends the builds that still run as errored",
+        ),
         _ => None,
     }
 }

@@ -53,10 +53,7 @@ impl<'a, S: Start> Opener<'a, S> {
     ///
     /// `Locked` where another program has it open, and else `Refused` with the store's fault: `NotOurs` where the file is no
     /// database, `NoMemory`, or `Disk`.
-    pub fn open(
-        &mut self,
-        path: &'a str,
-    ) -> Result<Connection<FileStore<FileFrom<S>>>, Failure>
+    pub fn open(&mut self, path: &'a str) -> Result<Connection<FileStore<FileFrom<S>>>, Failure>
         requires { IsSome self.old.start }
         ensures asked { option_map (λ path. path.now) self.new.asked ≡ Some path.now }
         ensures idle { IfOk result (λ conn. (file_state conn).in_transaction ≡ false) }

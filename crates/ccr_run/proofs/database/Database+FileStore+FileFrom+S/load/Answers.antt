@@ -18,6 +18,6 @@ returns-in-Ok-clause-begins g c =
     IfOk-weaker c.with_history.result _ _
     (λ loaded it clean h held.
     let stored = adopted (image_at g.S.Start) c.args.conn c.in-Ok.store c.requires.opened c.requires.found c.in-Ok.ensures.made
-        c.in-Ok.ensures.found c.in-Ok.ensures.crash.clean (it.2 clean) h held in
+    c.in-Ok.ensures.found c.in-Ok.ensures.crash.clean (it.2 clean) h held in
     sym (it.1 h clean stored.rules stored.rows))
     c.with_history.ensures.kept
