@@ -3,27 +3,18 @@
 //! The lines that change a history, from its `pipeline` on, are those of histories. `load` makes their changes in a store in
 //! memory, and, where the program is given a `DATABASE`, in the files `DATABASE-1`, `DATABASE-2` and so on too; such a file is
 //! closed, opened again and loaded once more. It is answered how many lines the history has that was loaded as it was made;
-//! where one wasn't, with both. `stop` makes them over files in memory that stop at each of their calls in turn, and answers how many
-//! stops there were; where one left another history than that before the last change or after it, with what it left.
-//!
-//! `foreign STATEMENTS` makes a database by these, and `spoiled STATEMENTS` one with the six tables and then by these: it is answered how a
-//! store refuses it, and whether its bytes are as they were.
+//! where one wasn't, with both.
 
 mod commits;
-mod foreign;
 mod kept;
 mod lines;
-mod stops;
 mod stored;
 
 use crate::play::Player;
-use crate::words::split;
 use anyhow::{Result, bail};
 use ccr_store::Store;
-use foreign::refusal_told;
 use sqlite::{Connection, File, FileStore};
 use std::alloc::{AllocError, Global};
-use stops::stops_told;
 use stored::{held, keep, time_commits};
 
 /// The lines of the history that is made, and where it is kept besides in memory.
@@ -111,16 +102,10 @@ impl<'r> Stores<'r> {
 
 impl Player for Stores<'_> {
     fn answer_to(&mut self, alloc: Global, line: &str) -> Result<String, AllocError> {
-        let told = match split(line) {
-            ("load", "") => self.load(),
-            ("stop", "") => stops_told(alloc, self.lines.as_str()),
-            ("foreign", statements) => refusal_told(alloc, false, statements),
-            ("spoiled", statements) => refusal_told(alloc, true, statements),
-            _ => {
-                self.add(line)?;
-                Ok(String::new(alloc))
-            }
-        };
-        told.or_else(|error| format!(in alloc; "{error}"))
+        if line == "load" {
+            return self.load().or_else(|error| format!(in alloc; "{error}"));
+        }
+        self.add(line)?;
+        Ok(String::new(alloc))
     }
 }
