@@ -30,8 +30,8 @@ returns-in-Some-2-clause-ordered c =
     subst (λ a. HasMatchesOf a (map string_bytes c.args.words.now) c.in-Ok.matches)
     c.in_ok-line.ensures c.in-Ok.ensures.matches in
     let command =
-    some_named command_data c.in_ok-command.field-0 c.in-Some.command (command_in c.in-Ok.matches)
-    c.in_ok-command.ensures c.in-Some.is in
+    some_named command_data c.in_ok-command.field-0 c.in-Some-2.command (command_in c.in-Ok.matches)
+    c.in_ok-command.ensures c.in-Some-2.is in
     (c.in-Ok.matches, matches, c.in-Ok-options_of.ensures, command)
 
 pub returns-in-Some-2-clause-least : goal.returns-in-Some-2-clause-least
