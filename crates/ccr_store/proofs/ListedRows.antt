@@ -13,7 +13,7 @@ use Rattle.ccr_history.specs.Builds.{BuildData}
 use Rattle.ccr_history.specs.History.{HistoryData}
 use Rattle.ccr_tables.specs.Contents.{Contents}
 use Rattle.ccr_tables.specs.Listing.{IsListed}
-use Rattle.ccr_tables.specs.Pairs.{AreFound}
+use Rattle.ccr_tables.specs.Found.{AreFound}
 use Rattle.ccr_store.specs.Listed.{AreSeen, AreBuilt, HasOther, listed_pairs, ListsSeen, ListsBuilt, KeepsSeen}
 use Rattle.ccr_store.specs.Reordered.{HasSameRows}
 use Rattle.ccr_store.specs.Rows.{meta_rows, scope_rows, version_rows, table_rows, used_row, moved_row, pair_rows, rows_of}
@@ -121,12 +121,12 @@ loaded old h these meta scopes versions builds pairs pins kept first second seen
   pins = found (rows_of h).pins these.pins pins 1 (sym second.held) built.held;
 }
 
--- the pairs that are found are the rows of the table in the order of their key
-pub found_listed : (these : List Row) (found : Option (Vec Row Global)) (pairs : Vec Row Global) → found ≡ Some pairs → AreFound these found → IsListed 4 these pairs.items
-found_listed these found pairs is are =
-    let it = subst (AreFound these) is are in
-    subst (IsListed 4 these) (sym it.2) it.1
+-- what is found of a kind is the rows of the table in the order of their key
+pub found_listed : (Kind : Row → Type 0) (width : ℕ) (these : List Row) (found : Option (Vec Row Global)) (items : Vec Row Global) → found ≡ Some items → AreFound Kind width these found → IsListed width these items.items
+found_listed Kind width these found items is are =
+    let it = subst (AreFound Kind width these) is are in
+    subst (IsListed width these) (sym it.2) it.1
 
-pub found_other : (these : List Row) (found : Option (Vec Row Global)) → ((pairs : Vec Row Global) → found ≡ Some pairs → ⊥) → AreFound these found → HasOther these
-found_other these None none are = are
-found_other these (Some pairs) none are = absurd (none pairs refl)
+pub found_other : (Kind : Row → Type 0) (width : ℕ) (these : List Row) (found : Option (Vec Row Global)) → ((items : Vec Row Global) → found ≡ Some items → ⊥) → AreFound Kind width these found → HasOther Kind width these
+found_other Kind width these None none are = are
+found_other Kind width these (Some items) none are = absurd (none items refl)

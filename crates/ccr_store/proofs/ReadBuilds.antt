@@ -1,5 +1,5 @@
 -- The builds of a history, read from its rows.
-use Rattle.std.proofs.Common.{◌≡◌, ◌≢◌, ℕ, ◌+◌, ◌-◌, ◌<◌, ◌≤◌, ◌^◌, inr, List, [], ◌∷◌, ◌++◌, length, take, drop, get_or, map, Some, None, Bool, true, false, cond, ◌==◌, IsTrue, Less, is_eq, refl, sym, ap, ap₂, ◌∙◌, subst, arith, AllPairs, nat_cmp}
+use Rattle.std.proofs.Common.{◌≡◌, ◌≢◌, ℕ, suc, ◌+◌, ◌-◌, ◌<◌, ◌≤◌, ◌^◌, inr, List, [], ◌∷◌, ◌++◌, length, take, drop, get_or, map, Some, None, Bool, true, false, cond, ◌==◌, IsTrue, Less, slice_get, is_eq, refl, sym, ap, ap₂, ◌∙◌, subst, arith, AllPairs, nat_cmp}
 use Rattle.std.proofs.Common.{rules}
 use Rattle.std.specs.Prelude.{nat_lt, nat_le, IsUtf8}
 use Rattle.std.specs.List.{AllByRecursion}
@@ -9,13 +9,15 @@ use Rattle.std.specs.Str.{bytes_eq}
 use Rattle.std.specs.Cmp.Lexicographic.{slice_cmp}
 use Rattle.std.proofs.lemmas.Bool.{cond_both, cond-false, cond-true, and_parts, and_from, eqb-true, eq-eqb, ltb-true, leb-true}
 use Rattle.std.proofs.lemmas.Bool.Decides.{nat_tests}
-use Rattle.std.proofs.lemmas.List.{take_all, length-take-le}
+use Rattle.std.proofs.lemmas.List.{take_all, length-take, length-take-le}
+use Rattle.std.proofs.lemmas.List.Sums.{count_by-le-length}
 use Rattle.std.proofs.lemmas.List.Elements.{recursion_from_All, All-from_recursion}
 use Rattle.std.proofs.lemmas.List.Kept.{AllPairs-cons}
 use Rattle.std.proofs.lemmas.Map.Text.{is_eq-slice_cmp}
 use Rattle.std.proofs.lemmas.Slice.Eq.{bytes_eq-Decides}
 use Rattle.sqlite_trees.specs.Tree.{IsAscending}
 use Rattle.sqlite_trees.proofs.ListLemmas.{all-append}
+use Rattle.ccr_tables.specs.Builds.{IsBuild as IsBuildRow}
 use Rattle.ccr_tables.specs.Pairs.{IsPair}
 use Rattle.ccr_store.specs.Listed.{listed_pairs}
 use Rattle.sqlite.specs.declared.types.Value.TheVariants.{Text as Words}
@@ -219,3 +221,27 @@ listed_pairs_are ts id (b ∷ bs) room tables rules texts =
     all-append IsPair (map (moved_row id) b.moved ++ map (used_row id) b.used) (listed_pairs (id + 1) bs)
     (all-append IsPair (map (moved_row id) b.moved) (map (used_row id) b.used) (moved_pairs id b.moved low (moved_few ts b tables rules.0)) (used_pairs id b.used low texts.0.1 (used_few ts b tables rules.0)))
     (listed_pairs_are ts (id + 1) bs more tables rules.1 texts.1)
+
+-- ---- a history's rows of builds are builds
+status_few : (s : Status) → status_number s < 2 ^ 32
+status_few Running = omega arith
+status_few Succeeded = omega arith
+status_few Failed = omega arith
+status_few Errored = omega arith
+status_few Aborted = omega arith
+
+each_at : {X : Type 0} (P : X → Type 0) (xs : List X) → ((i : ℕ) (x : X) → slice_get xs i ≡ Some x → P x) → AllByRecursion P xs
+each_at P [] h = tt
+each_at P (x ∷ xs) h = (h 0 x refl, each_at P xs (λ i y e. h (suc i) y e))
+
+pub numbers_few : (bs : List BuildData) → AreNumbered bs → length bs ≤ MOST_BUILDS → AllByRecursion (λ b. b.number < 2 ^ 32) bs
+numbers_few bs numbered few =
+    each_at (λ (b : BuildData). b.number < 2 ^ 32) bs
+    (λ i b at. omega (arith, numbered i b at, count_by-le-length (is_of b.job) (take i bs), length-take i bs, few))
+
+pub build_rows_are : (id : ℕ) (bs : List BuildData) → id + length bs ≤ 2 ^ 32 → AllByRecursion (λ b. b.number < 2 ^ 32) bs → AllByRecursion IsTextBuild bs → AllByRecursion IsBuildRow (build_rows id bs)
+build_rows_are id [] room few texts = tt
+build_rows_are id (b ∷ bs) room few texts =
+    let low : id < 2 ^ 32 = omega (arith, room) in
+    let more : id + 1 + length bs ≤ 2 ^ 32 = omega (arith, room) in
+    ((id, b.job, b.number, status_number b.status, low, texts.0.0, few.0, status_few b.status, refl), build_rows_are (id + 1) bs more few.1 texts.1)

@@ -1,5 +1,5 @@
 -- The rows of a history, as the SELECTs show them.
-use Rattle.std.proofs.Common.{◌≡◌, ℕ, suc, pos, ◌+◌, ◌<◌, ◌≤◌, ◌^◌, List, [], ◌∷◌, ◌++◌, length, map, take, Option, Some, None, Less, nat_cmp, refl, sym, subst, ap₂, ◌∙◌, arith}
+use Rattle.std.proofs.Common.{◌≡◌, ◌⊎◌, inl, inr, ℕ, suc, pos, ◌+◌, ◌<◌, ◌≤◌, ◌^◌, List, [], ◌∷◌, ◌++◌, length, map, take, Option, Some, None, Less, nat_cmp, refl, sym, subst, ap₂, ◌∙◌, arith}
 use Rattle.std.specs.List.{AllByRecursion}
 use Rattle.std.specs.List.Sorted.{IsStrictlySortedBy}
 use Rattle.std.specs.Cmp.Lexicographic.{slice_cmp}
@@ -20,9 +20,10 @@ use Rattle.ccr_history.specs.History.{HistoryData, IsHistory}
 use Rattle.ccr_tables.specs.Listing.{columns_cmp, IsListed}
 use Rattle.ccr_store.specs.Listed.{AreSeen, AreBuilt, HasOther, listed_pairs, ListsSeen, ListsBuilt}
 use Rattle.ccr_store.specs.Rows.{scope_row, scope_rows, version_row, version_rows, table_rows, build_row, build_rows, used_row, moved_row, pair_rows, pin_row, meta_rows, rows_of}
+use Rattle.ccr_tables.specs.Builds.{IsBuild}
 use Rattle.ccr_tables.specs.Pairs.{IsPair}
 use Rattle.ccr_store.specs.Texts.{HasTexts}
-use Rattle.ccr_store.proofs.ReadBuilds.{listed_pairs_are}
+use Rattle.ccr_store.proofs.ReadBuilds.{listed_pairs_are, numbers_few, build_rows_are}
 use Rattle.ccr_store.proofs.ListedRows.{pairs_listed}
 use Rattle.ccr_store.proofs.OneHistory.{Below, At, From, number_below, then_below, text_below, scopes_from, versions_at, places_from, tables_from, builds_from, pairs_up, from_names}
 
@@ -119,8 +120,11 @@ shown_built h builds pairs pins rules built = record {
   held = shown 1 (map pin_row h.pins) pins (pins_key h.pins rules.2.0) built.held;
 }
 
--- each row of a history's pairs is a pair
-pub no_other : (h : HistoryData) → IsHistory h → HasTexts h → HasOther (rows_of h).pairs → ⊥
-no_other h rules texts other =
+-- each row of a history's builds is a build, and each of its pairs a pair
+pub no_other : (h : HistoryData) → IsHistory h → HasTexts h → HasOther IsBuild 1 (rows_of h).builds ⊎ HasOther IsPair 4 (rows_of h).pairs → ⊥
+no_other h rules texts (inl other) =
+    let few : 1 + length h.builds ≤ 2 ^ 32 = omega (arith, rules.1.0) in
+    other.2 (subst (AllByRecursion IsBuild) (sym (shown 1 (build_rows 1 h.builds) other.0 (builds_key 1 h.builds) other.1)) (build_rows_are 1 h.builds few (numbers_few h.builds rules.1.1 rules.1.0) texts.builds))
+no_other h rules texts (inr other) =
     let few : 1 + length h.builds ≤ 2 ^ 32 = omega (arith, rules.1.0) in
     other.2 (subst (AllByRecursion IsPair) (sym (shown_pairs h other.0 rules other.1)) (listed_pairs_are h.tables 1 h.builds few rules.0 rules.1.2 texts.builds))

@@ -6,7 +6,6 @@ use Rattle.ccr_history.specs.Builds.{BuildData}
 use Rattle.ccr_history.specs.History.{HistoryData, no_history}
 use Rattle.ccr_tables.specs.Contents.{Contents}
 use Rattle.ccr_tables.specs.Listing.{IsListed}
-use Rattle.ccr_tables.specs.Pairs.{IsPair}
 use Rattle.ccr_store.specs.Rows.{meta_rows, scope_rows, table_rows, build_rows, used_row, moved_row, pin_row}
 
 -- ---- what the six SELECTs show
@@ -22,9 +21,9 @@ pub record AreBuilt (these : Contents) (builds pairs pins : List Row) : Type 0 w
   pub given : IsListed 4 these.pairs pairs
   pub held : IsListed 1 these.pins pins
 
--- one of the rows of `pairs` is no history's
-abbrev pub HasOther : List Row → Type 0
-HasOther these = (rows : List Row) × IsListed 4 these rows × ¬ AllByRecursion IsPair rows
+-- one of the rows, in the order of so many of their first columns, isn't of the kind that a history's are
+abbrev pub HasOther : (Row → Type 0) → ℕ → List Row → Type 0
+HasOther Kind width these = (rows : List Row) × IsListed width these rows × ¬ AllByRecursion Kind rows
 
 -- ---- what a history's rows are in that order
 -- the pairs of builds with ids from this one up: moved ones first, since the empty input comes before each other

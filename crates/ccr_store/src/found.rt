@@ -1,13 +1,16 @@
 //! The rows that the six tables have.
-ghost use Rattle.std.specs.Prelude.{◌≡◌, ◌≢◌, false, IsTrue, IfOk, IfErr, IfSome, IfNone};
+ghost use Rattle.std.specs.Prelude.{◌≡◌, ◌≢◌, ◌⊎◌, false, IsTrue, IfOk, IfErr, IfSome, IfNone};
 ghost use Rattle.ccr_tables.specs.Cause.{cause_of};
 ghost use Rattle.sqlite.specs.State.{HasCleanDisk};
 ghost use Rattle.sqlite.specs.Held.{state};
+ghost use Rattle.ccr_tables.specs.Builds.{IsBuild};
 ghost use Rattle.ccr_tables.specs.Contents.{Holds};
 ghost use Rattle.ccr_tables.specs.Left.{OnlyReads};
+ghost use Rattle.ccr_tables.specs.Pairs.{IsPair};
 ghost use Rattle.ccr_tables.specs.Schema.{our_schema};
 ghost use Rattle.ccr_store.specs.Listed.{AreSeen, AreBuilt, HasOther};
 
+use ccr_tables::builds::Build;
 use ccr_tables::pairs::Pair;
 use ccr_tables::{Cause, builds, meta, pairs, pins, scopes, versions};
 use sqlite::{Alter, Connection, Error as SqlError, Row};
@@ -24,7 +27,7 @@ pub(crate) struct Seen {
 /// The rows of what was built and pinned, each table in the order of its key.
 #[derive(Drop)]
 pub(crate) struct Built {
-    pub(crate) builds: Vec<Row>,
+    pub(crate) builds: Vec<Build>,
     pub(crate) pairs: Vec<Pair>,
     pub(crate) pins: Vec<Row>,
 }
@@ -50,7 +53,7 @@ pub(crate) fn read_seen<S: Alter>(conn: &mut Connection<S>) -> Result<Seen, SqlE
     })
 }
 
-/// Reads what was built and pinned; `None` where a row of `pairs` is no history's.
+/// Reads what was built and pinned; `None` where a row of `builds` or `pairs` is no history's.
 pub(crate) fn read_built<S: Alter>(
     alloc: Global,
     conn: &mut Connection<S>,
@@ -59,14 +62,17 @@ pub(crate) fn read_built<S: Alter>(
         → Holds these (state S.Store conn.old).now
         → AreBuilt these built.builds.items built.pairs.items built.pins.items)) }
     ensures none { HasCleanDisk (state S.Store conn.new) → IfOk result (λ found. IfNone found ((these : _)
-        → Holds these (state S.Store conn.old).now → HasOther these.pairs)) }
+        → Holds these (state S.Store conn.old).now
+        → HasOther IsBuild 1 these.builds ⊎ HasOther IsPair 4 these.pairs)) }
     ensures reads { OnlyReads (state S.Store conn.old) (state S.Store conn.new) result }
     ensures unrefused { HasCleanDisk (state S.Store conn.new) → (state S.Store conn.old).now.schema ≡ our_schema
         → IfErr result (λ e. cause_of e ≢ Cause.Refused) }
     ensures clean { HasCleanDisk (state S.Store conn.new) → HasCleanDisk (state S.Store conn.old) }
     ensures mode { conn.old.in_transaction ≡ false → conn.new.in_transaction ≡ false }
 {
-    let builds = builds::select(conn)?;
+    let Some(builds) = builds::select(alloc, conn)? else {
+        return Ok(None);
+    };
     let Some(pairs) = pairs::select(alloc, conn)? else {
         return Ok(None);
     };

@@ -9,6 +9,7 @@ ghost use Rattle.ccr_store.specs.Rows.{format_row, meta_rows, scope_row, scope_r
 use crate::columns::{is_blob, is_number, is_text};
 use crate::writes::number_of;
 use ccr_history::{BuildRef, History, Pins, Scope, Version};
+use ccr_tables::builds::Build;
 use ccr_tables::pairs::Pair;
 use sqlite::Row;
 use std::alloc::{AllocError, Global};
@@ -147,20 +148,19 @@ pub(crate) fn are_versions(
 }
 
 // ---- what was built
-#[tactic(auto, using(crate::proofs::ListedRows::four))]
-fn is_build(row: &Row, id: u32, build: &BuildRef<'_>) -> bool
+fn is_build(row: &Build, id: u32, build: &BuildRef<'_>) -> bool
     ensures is { IsTrue result → row.now ≡ build_row id build.now }
     ensures only { row.now ≡ build_row id build.now → IsTrue result }
 {
-    row.column_count() == 4
-        && is_number(row, 0, id)
-        && is_text(row, 1, build.job())
-        && is_number(row, 2, build.number())
-        && is_number(row, 3, number_of(build.status()))
+    let (at, job, number, status) = row.columns();
+    at == id
+        && job == build.job()
+        && number == build.number()
+        && status == number_of(build.status())
 }
 
 /// Whether the rows are those of the builds.
-pub(crate) fn are_builds(rows: &[Row], history: &History) -> bool
+pub(crate) fn are_builds(rows: &[Build], history: &History) -> bool
     ensures is { IsTrue result → rows.now ≡ build_rows 1 history.now.builds }
     ensures only { rows.now ≡ build_rows 1 history.now.builds → IsTrue result }
 {

@@ -25,6 +25,7 @@ use crate::found::{Built, Seen};
 use ccr_history::{History, HistoryFault, Pin, Scope, Status, Used, Version};
 use ccr_pipeline::{ReadFault, read};
 use ccr_storage::StoreFault;
+use ccr_tables::builds::Build;
 use ccr_tables::pairs::Pair;
 use serde_json::Value;
 use sqlite::Row;
@@ -263,7 +264,7 @@ fn end(
 fn end_build(
     alloc: Global,
     history: &mut History,
-    row: &Row,
+    row: &Build,
     job: &str,
     number: u32,
     pairs: &[Pair],
@@ -275,7 +276,7 @@ fn end_build(
         → OrNoMemory (λ _. history.new ≡ record history.old { builds = before ++ b ∷ [] }) result }
     ensures kept { OnOk result (KeepsSeen history.old history.new) }
 {
-    let how = read_column(row, 3)?;
+    let (_, _, _, how) = row.columns();
     if how == 0 {
         return Ok(());
     }
@@ -323,7 +324,7 @@ fn begin_build(
 fn add_build<'a>(
     alloc: Global,
     history: &mut History,
-    row: &Row,
+    row: &Build,
     rest: &'a [Pair],
 ) -> Result<&'a [Pair], StoreFault>
     ensures read { (id : ℕ) (b : BuildData) (bs : List BuildData) → id < 2 ^ 32
@@ -335,19 +336,18 @@ fn add_build<'a>(
     ensures kept { OnOk result (KeepsSeen history.old history.new) }
 {
     history.rules();
-    let id = read_column(row, 0)?;
+    let (id, job, _, _) = row.columns();
     let (here, more) = rest.split_at(pair_count(rest, id));
     let (moved, used) = here.split_at(moved_count(here));
-    let job: String = read_column(row, 1)?;
-    let number = begin_build(alloc, history, job.as_str(), used)?;
-    end_build(alloc, history, row, job.as_str(), number, moved)?;
+    let number = begin_build(alloc, history, job, used)?;
+    end_build(alloc, history, row, job, number, moved)?;
     Ok(more)
 }
 
 fn add_builds(
     alloc: Global,
     history: &mut History,
-    builds: &[Row],
+    builds: &[Build],
     pairs: &[Pair],
 ) -> Result<(), StoreFault>
     ensures read { (bs : List BuildData) → AreBuilds history.old.tables bs

@@ -12,4 +12,5 @@ pub mod Creations
 pub mod InTurn
 pub mod Founding
 pub mod Refusals
+pub mod FoundRows
 pub mod PairRows

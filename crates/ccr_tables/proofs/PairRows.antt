@@ -1,4 +1,4 @@
--- Rows that are pairs.
+-- A query of pairs, row by row.
 use Rattle.std.proofs.Common.{◌≡◌, ◌≢◌, List, [], ◌∷◌, ◌++◌, Option, Some, None, Result, Ok, Err, IfErr, Vec, Global, refl, sym, subst}
 use Rattle.std.specs.Prelude.{IfNone, IsErrAnd, OnErr}
 use Rattle.std.specs.List.{AllByRecursion}
@@ -11,27 +11,9 @@ use Rattle.sqlite.specs.Given.{HasGiven, FailsToAdvance, IsRefused}
 use Rattle.sqlite.proofs.StateLemmas.{survives_then}
 use Rattle.ccr_tables.specs.Cause.{cause_of}
 use Rattle.ccr_tables.specs.declared.cause.Cause.TheVariants.{Refused}
-use Rattle.ccr_tables.specs.Pairs.{IsPair, Are}
+use Rattle.ccr_tables.specs.Found.{Are}
 use Rattle.ccr_tables.proofs.Queries.{survives, pairs_plain}
 use Rattle.ccr_tables.proofs.Texts.{pairs_text}
-
-all_before : (rows : List Row) (r : Row) → AllByRecursion IsPair (rows ++ r ∷ []) → AllByRecursion IsPair rows
-all_before [] r all = tt
-all_before (s ∷ rows) r all = (all.0, all_before rows r all.1)
-
-last_one : (rows : List Row) (r : Row) → AllByRecursion IsPair (rows ++ r ∷ []) → IsPair r
-last_one [] r all = all.0
-last_one (s ∷ rows) r all = last_one rows r all.1
-
--- where one is no pair, one more row changes nothing
-pub still_none : (found : Option (Vec Row Global)) (rows : List Row) (r : Row) → ((pairs : Vec Row Global) → found ≡ Some pairs → ⊥) → Are rows found → ¬ AllByRecursion IsPair (rows ++ r ∷ [])
-still_none None rows r none are all = are (all_before rows r all)
-still_none (Some pairs) rows r none are all = absurd (none pairs refl)
-
--- the last one is no pair
-pub none_now : {X : Type 0} (read : Option X) (rows : List Row) (r : Row) → ((pair : X) → read ≡ Some pair → ⊥) → IfNone read (¬ IsPair r) → ¬ AllByRecursion IsPair (rows ++ r ∷ [])
-none_now None rows r none bad all = bad (last_one rows r all)
-none_now (Some pair) rows r none bad all = absurd (none pair refl)
 
 -- ---- rows as a query gives them
 -- a query that fails on its way fails

@@ -6,4 +6,6 @@ pub mod Left
 pub mod Answered
 pub mod Listing
 pub mod Cause
+pub mod Found
 pub mod Pairs
+pub mod Builds

@@ -7,11 +7,13 @@
 
 pub mod builds;
 mod cause;
+mod columns;
 mod creation;
 pub mod meta;
 pub mod pairs;
 pub mod pins;
 pub mod scopes;
+mod shared_texts;
 mod transaction;
 pub mod versions;
 mod write;

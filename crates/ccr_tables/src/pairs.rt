@@ -1,7 +1,7 @@
 //! The table `pairs`: the used places of each build under their inputs, its moved pairs under the empty input.
 
-ghost use Rattle.std.specs.Prelude.{◌≡◌, ◌≢◌, ◌<◌, ◌++◌, [], ◌∷◌, pos, length, List, false, IsTrue, IfOk, IfErr, IfSome, IfNone};
-ghost use Rattle.sqlite.specs.Order.{Row as RowData, column};
+ghost use Rattle.std.specs.Prelude.{◌≡◌, ◌≢◌, ◌++◌, [], ◌∷◌, pos, List, false, IsTrue, IfOk, IfErr, IfSome, IfNone};
+ghost use Rattle.sqlite.specs.Order.{Row as RowData};
 ghost use Rattle.sqlite.specs.declared.types.Value.TheVariants.{Int, Text};
 ghost use Rattle.sqlite.specs.State.{HasCleanDisk, Survives, ExecutesInside};
 ghost use Rattle.sqlite.specs.Held.{state};
@@ -10,21 +10,24 @@ ghost use Rattle.ccr_tables.specs.Answered.{pair_text};
 ghost use Rattle.ccr_tables.specs.Cause.{cause_of};
 ghost use Rattle.ccr_tables.specs.Contents.{Holds};
 ghost use Rattle.ccr_tables.specs.Left.{OnlyReads};
-ghost use Rattle.ccr_tables.specs.Pairs.{pair, IsPair, Are, AreFound};
+ghost use Rattle.ccr_tables.specs.Found.{Are, AreFound};
+ghost use Rattle.ccr_tables.specs.Pairs.{pair, IsPair};
 ghost use Rattle.ccr_tables.specs.Step.{Alters, Creates};
 ghost use Rattle.ccr_tables.specs.Written.{with_pair};
 
 use crate::cause::Cause;
-use sqlite::types::FromSql;
+use crate::columns::read_column;
+use crate::shared_texts::SharedTexts;
 use sqlite::{Alter, Connection, Error, ErrorCode, Row, Transaction, params};
 use std::alloc::Global;
 use std::marker::Model;
+use std::rc::Rc;
 
 /// A row of `pairs` as a history has it, in less memory than a row of any values. Contracts see the row.
 #[derive(Drop)]
 pub struct Pair {
     build: u32,
-    input: String,
+    input: Rc<String>,
     scope: u32,
     place: u32,
 }
@@ -40,7 +43,7 @@ impl Model for Pair {
 
     ghost coded = { coded_list the_row.coded };
 
-    ghost view = { λ p. pair p.build (string_bytes p.input) p.scope p.place };
+    ghost view = { λ p. pair p.build (string_bytes p.input.value) p.scope p.place };
 }
 
 impl Pair {
@@ -48,26 +51,13 @@ impl Pair {
     pub fn columns(&self) -> (u32, &str, u32, u32)
         ensures { self.now ≡ pair result.0 result.1.now result.2 result.3 }
     {
-        (self.build, self.input.as_str(), self.scope, self.place)
+        let input = self.input.as_ref().as_str();
+        (self.build, input, self.scope, self.place)
     }
 }
 
-/// What a row has in a column; `None` where it has another kind of value there.
-fn read_column<T: FromSql>(row: &Row, at: usize) -> Result<Option<T>, Error>
-    ensures value { IfOk result (λ found. IfSome found (λ x. T.FromSql.reads_as (column row.now at) x)) }
-    ensures none { IfOk result (λ found. IfNone found
-        (at < length row.now → ¬ T.FromSql.is_readable (column row.now at))) }
-    ensures unrefused { IfErr result (λ e. cause_of e ≢ Cause.Refused) }
-{
-    match row.get::<T>(at) {
-        Ok(value) => Ok(Some(value)),
-        Err(error) if Cause::of(&error) == Cause::NoMemory => Err(error),
-        Err(_) => Ok(None),
-    }
-}
-
-/// The row as a pair; `None` where it is none.
-fn read_pair(row: &Row) -> Result<Option<Pair>, Error>
+/// The row as a pair, with its input among the texts; `None` where it is none.
+fn read_pair(texts: &mut SharedTexts, row: &Row) -> Result<Option<Pair>, Error>
     ensures is { IfOk result (λ found. IfSome found (λ it. it ≡ row.now)) }
     ensures none { IfOk result (λ found. IfNone found (¬ IsPair row.now)) }
     ensures unrefused { IfErr result (λ e. cause_of e ≢ Cause.Refused) }
@@ -78,7 +68,7 @@ fn read_pair(row: &Row) -> Result<Option<Pair>, Error>
     let Some(build) = read_column(row, 0)? else {
         return Ok(None);
     };
-    let Some(input) = read_column(row, 1)? else {
+    let Some(input) = read_column::<String>(row, 1)? else {
         return Ok(None);
     };
     let Some(scope) = read_column(row, 2)? else {
@@ -87,6 +77,7 @@ fn read_pair(row: &Row) -> Result<Option<Pair>, Error>
     let Some(place) = read_column(row, 3)? else {
         return Ok(None);
     };
+    let input = texts.shared(input.as_str())?;
     Ok(Some(Pair {
         build,
         input,
@@ -96,14 +87,19 @@ fn read_pair(row: &Row) -> Result<Option<Pair>, Error>
 }
 
 /// The pairs so far, and one more; `None` where one of them is no pair.
-fn with_row(found: Option<Vec<Pair>>, row: &Row) -> Result<Option<Vec<Pair>>, Error>
-    ensures are { IfOk result (λ more. (rows : List RowData) → Are rows found → Are (rows ++ row.now ∷ []) more) }
+fn with_row(
+    found: Option<Vec<Pair>>,
+    texts: &mut SharedTexts,
+    row: &Row,
+) -> Result<Option<Vec<Pair>>, Error>
+    ensures are { IfOk result (λ more. (rows : List RowData)
+        → Are IsPair rows found → Are IsPair (rows ++ row.now ∷ []) more) }
     ensures unrefused { IfErr result (λ e. cause_of e ≢ Cause.Refused) }
 {
     let Some(mut pairs) = found else {
         return Ok(None);
     };
-    let Some(pair) = read_pair(row)? else {
+    let Some(pair) = read_pair(texts, row)? else {
         return Ok(None);
     };
     pairs.push(pair)?;
@@ -154,7 +150,7 @@ pub(crate) fn insert<S: Alter>(
 pub fn select<S: Alter>(alloc: Global, conn: &mut Connection<S>) -> Result<Option<Vec<Pair>>, Error>
     ensures rows { let old = state S.Store conn.old in
         HasCleanDisk (state S.Store conn.new)
-        → IfOk result (λ found. (these : _) → Holds these old.now → AreFound these.pairs found) }
+        → IfOk result (λ found. (these : _) → Holds these old.now → AreFound IsPair 4 these.pairs found) }
     ensures reads { OnlyReads (state S.Store conn.old) (state S.Store conn.new) result }
     ensures clean { HasCleanDisk (state S.Store conn.new) → HasCleanDisk (state S.Store conn.old) }
     ensures unrefused { HasCleanDisk (state S.Store conn.new) → (state S.Store conn.old).now.schema ≡ our_schema
@@ -162,6 +158,7 @@ pub fn select<S: Alter>(alloc: Global, conn: &mut Connection<S>) -> Result<Optio
     ensures mode { conn.old.in_transaction ≡ false → conn.new.in_transaction ≡ false }
 {
     let mut found = Some(Vec::new(alloc));
+    let mut texts = SharedTexts::new(alloc);
     let mut rows = conn.query(
         "SELECT build, input, scope, place FROM pairs ORDER BY build, input, scope, place",
         &[],
@@ -170,7 +167,7 @@ pub fn select<S: Alter>(alloc: Global, conn: &mut Connection<S>) -> Result<Optio
         let Some(row) = rows.next()? else {
             return Ok(found);
         };
-        found = with_row(found, row)?;
+        found = with_row(found, &mut texts, row)?;
     }
     Err(Error::SqliteFailure(ErrorCode::OutOfMemory))
 }

@@ -1,17 +1,26 @@
-use Rattle.std.proofs.Common.{sym, subst}
+use Rattle.std.proofs.Common.{sym, subst, inl, inr}
 use Rattle.sqlite.specs.State.{HasCleanDisk}
 use Rattle.sqlite.specs.Held.{state}
+use Rattle.ccr_tables.specs.Builds.{IsBuild}
 use Rattle.ccr_tables.specs.Contents.{Holds}
+use Rattle.ccr_tables.specs.Pairs.{IsPair}
 use Rattle.ccr_tables.proofs.Queries.{reads_then, reads_on, reads_failed, only_error}
 use Rattle.ccr_store.proofs.ListedRows.{found_listed, found_other}
 use Rattle.ccr_store.proofs.found.read_built.Goals as goal
 
 pub returns-in_default-clause-none : goal.returns-in_default-clause-none
 returns-in_default-clause-none g c clean these holds =
+    inl (found_other IsBuild 1 these.builds c.in_ok-builds.field-0 c.in_default.not-Some (c.in_ok-builds.ensures.rows clean these holds))
+
+pub returns-in_default-clause-reads : goal.returns-in_default-clause-reads
+returns-in_default-clause-reads g c = reads_on (state g.S.Store c.args.conn.now) (state g.S.Store c.select.new.conn) _ _ c.in_ok-builds.ensures.reads
+
+pub returns-in_default-2-clause-none : goal.returns-in_default-2-clause-none
+returns-in_default-2-clause-none g c clean these holds =
     let s1 = state g.S.Store c.select.new.conn in
     let clean1 : HasCleanDisk s1 = c.select-2.ensures.clean clean in
     let holds1 : Holds these s1.now = subst (Holds these) (sym (c.in_ok-builds.ensures.reads.same clean1).0.now_is) holds in
-    found_other these.pairs c.in_ok-pairs.field-0 c.in_default.not-Some (c.in_ok-pairs.ensures.rows clean these holds1)
+    inr (found_other IsPair 4 these.pairs c.in_ok-pairs.field-0 c.in_default-2.not-Some (c.in_ok-pairs.ensures.rows clean these holds1))
 
 pub returns-in_err-pairs-clause-reads : goal.returns-in_err-pairs-clause-reads
 returns-in_err-pairs-clause-reads g c =
@@ -21,8 +30,8 @@ returns-in_err-pairs-clause-reads g c =
     reads_failed s0 s2 _ c.from_residual-in_err-pairs.result (only_error c.from_residual-in_err-pairs.result _ c.from_residual-in_err-pairs.ensures.1)
     (reads_then s0 s1 s2 _ _ c.in_ok-builds.ensures.reads c.in_err-pairs.ensures.reads)
 
-pub returns-in_default-clause-reads : goal.returns-in_default-clause-reads
-returns-in_default-clause-reads g c =
+pub returns-in_default-2-clause-reads : goal.returns-in_default-2-clause-reads
+returns-in_default-2-clause-reads g c =
     let s0 = state g.S.Store c.args.conn.now in
     let s1 = state g.S.Store c.select.new.conn in
     let s2 = state g.S.Store c.select-2.new.conn in
@@ -46,8 +55,8 @@ returns-clause-rows g c clean these holds =
     let holds1 : Holds these s1.now = subst (Holds these) (sym (c.in_ok-builds.ensures.reads.same clean1).0.now_is) holds in
     let holds2 : Holds these s2.now = subst (Holds these) (sym (c.in_ok-pairs.ensures.reads.same clean2).0.now_is) holds1 in
     record {
-      made = c.in_ok-builds.ensures.rows clean1 these holds;
-      given = found_listed these.pairs c.in_ok-pairs.field-0 c.in-Some.pairs c.in-Some.is (c.in_ok-pairs.ensures.rows clean2 these holds1);
+      made = found_listed IsBuild 1 these.builds c.in_ok-builds.field-0 c.in-Some.builds c.in-Some.is (c.in_ok-builds.ensures.rows clean1 these holds);
+      given = found_listed IsPair 4 these.pairs c.in_ok-pairs.field-0 c.in-Some-2.pairs c.in-Some-2.is (c.in_ok-pairs.ensures.rows clean2 these holds1);
       held = c.in_ok-pins.ensures.rows clean these holds2;
     }
 

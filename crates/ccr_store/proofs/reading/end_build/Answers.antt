@@ -10,17 +10,17 @@ use Rattle.ccr_store.proofs.reading.end_build.Goals as goal
 
 pub returns-then-how-eq0-clause-read : goal.returns-then-how-eq0-clause-read
 returns-then-how-eq0-clause-read c id b before tables rules at pairs job number none are =
-    let how : c.in_ok-how.how ≡ status_number b.status = same_number c.in_ok-how.how (status_number b.status) (sym c.in_ok-how.ensures.value ∙ ap (λ (s : Row). column s 3) at) in
+    let how : c.columns-how.result.3 ≡ status_number b.status = same_number c.columns-how.result.3 (status_number b.status) (ap (λ (s : Row). column s 3) (sym c.columns-how.ensures ∙ at)) in
     unended c.args.history.now.tables b before c.args.history.now rules (zero_runs b.status (sym how ∙ c.if-how-eq0.true)) are
 
 pub returns-in_err-moved-clause-read : goal.returns-in_err-moved-clause-read
 returns-in_err-moved-clause-read c id b before tables rules at pairs job number none are =
-    handed_on _ c.from_residual-in_err-moved.result _ c.from_residual-in_err-moved.ensures.1 (c.in_err-moved.ensures id b.moved pairs)
+    handed_on _ c.from_residual.result _ c.from_residual.ensures.1 (c.in_err-moved.ensures id b.moved pairs)
 
 pub returns-clause-read : goal.returns-clause-read
 returns-clause-read c id b before tables rules at pairs job number none are =
     let ts = c.args.history.now.tables in
-    let how : c.in_ok-how.how ≡ status_number b.status = same_number c.in_ok-how.how (status_number b.status) (sym c.in_ok-how.ensures.value ∙ ap (λ (s : Row). column s 3) at) in
+    let how : c.columns-how.result.3 ≡ status_number b.status = same_number c.columns-how.result.3 (status_number b.status) (ap (λ (s : Row). column s 3) (sym c.columns-how.ensures ∙ at)) in
     let over : b.status ≢ Running = λ runs. c.if-how-eq0.false (how ∙ ap status_number runs) in
     let status : c.in-Some.status ≡ b.status = same_Some c.in-Some.status b.status (sym c.in-Some.is ∙ c.end_of.ensures.is b.status over how) in
     let moved = c.deref.ensures.value ∙ c.in_ok-moved.ensures id b.moved pairs in

@@ -1,21 +1,11 @@
-use Rattle.sqlite.specs.Held.{state}
-use Rattle.ccr_tables.specs.Listing.{IsListed}
-use Rattle.ccr_tables.proofs.Lists.{list_builds, each}
-use Rattle.ccr_tables.proofs.Queries.{only_reads, builds_plain}
-use Rattle.ccr_tables.proofs.Refusals.{unrefused_builds}
-use Rattle.ccr_tables.proofs.Texts.{builds_text}
+use Rattle.std.proofs.Common.{List, subst}
+use Rattle.std.proofs.lemmas.Result.{IfOk-weaker}
+use Rattle.sqlite.specs.Order.{Row}
+use Rattle.ccr_tables.specs.Builds.{IsBuild}
+use Rattle.ccr_tables.specs.Found.{Are}
 use Rattle.ccr_tables.proofs.builds.select.Goals as goal
 
 pub returns-clause-rows : goal.returns-clause-rows
 returns-clause-rows g c clean =
-    let old = state g.S.Store c.args.conn.now in
-    let new = state g.S.Store c.query_all.new.self in
-    each old.now (λ these rows. IsListed 1 these.builds rows.items) c.query_all.result (λ these holds. list_builds these old new c.query_all.result holds (c.query_all.ensures.ok clean))
-
-pub returns-clause-reads : goal.returns-clause-reads
-returns-clause-reads g c =
-    only_reads builds_text (state g.S.Store c.args.conn.now) (state g.S.Store c.query_all.new.self) c.query_all.result (builds_plain _) c.query_all.ensures.survives c.query_all.ensures.ok c.query_all.ensures.err
-
-pub returns-clause-unrefused : goal.returns-clause-unrefused
-returns-clause-unrefused g c clean has =
-    unrefused_builds (state g.S.Store c.args.conn.now) (state g.S.Store c.query_all.new.self) c.query_all.result has (c.query_all.ensures.err clean)
+    IfOk-weaker c.builds_of.result _ _
+    (λ found are these holds. (c.in_ok-rows.rows.items, c.in_ok-rows.ensures.rows clean these holds, subst (λ (rows : List Row). Are IsBuild rows found) c.deref.ensures.value are)) c.builds_of.ensures.are

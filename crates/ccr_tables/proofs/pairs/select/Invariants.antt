@@ -3,7 +3,8 @@ use Rattle.sqlite.specs.Order.{Row}
 use Rattle.sqlite.specs.State.{HasCleanDisk, IsUnchanged, Survives, CommitsShowing}
 use Rattle.sqlite.specs.Held.{state}
 use Rattle.sqlite.specs.Given.{HasGiven}
-use Rattle.ccr_tables.specs.Pairs.{Are}
+use Rattle.ccr_tables.specs.Found.{Are}
+use Rattle.ccr_tables.specs.Pairs.{IsPair}
 use Rattle.ccr_tables.proofs.Texts.{pairs_text}
 use Rattle.ccr_tables.proofs.pairs.select.Given as goal
 
@@ -13,4 +14,4 @@ invariant-rows g l =
     let now = state g.S.Store l.rows.conn.now in
     (l.rows.conn.ghost_name ≡ l.initial.rows.conn.ghost_name) × Survives old now (CommitsShowing pairs_text [] old)
     × (l.fn.conn.in_transaction ≡ false → l.rows.conn.now.in_transaction ≡ false)
-    × (HasCleanDisk now → IsUnchanged old now × (given : List Row) × HasGiven g.S.Store pairs_text [] l.rows.conn.now given × Are given l.found)
+    × (HasCleanDisk now → IsUnchanged old now × (given : List Row) × HasGiven g.S.Store pairs_text [] l.rows.conn.now given × Are IsPair given l.found)
