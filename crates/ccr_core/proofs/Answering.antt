@@ -1,12 +1,13 @@
 -- How one build goes on, from the parts that its machine and the history give.
 use Rattle.std.proofs.Common.{◌≡◌, ◌≢◌, ◌⊎◌, inl, inr, ℕ, Bool, true, false, List, [], ◌∷◌, ◌++◌, Option, Some, None, refl, sym, ap, ◌∙◌, subst, append_assoc}
+use Rattle.std.proofs.lemmas.List.{map-append}
 use Rattle.std.specs.Prelude.{IsSomeAnd, option_map}
 use Rattle.std.specs.Option.{option_map_or}
 use Rattle.ccr_history.specs.declared.build.Status.TheVariants as status
 use Rattle.ccr_history.specs.Text.{Text}
 use Rattle.ccr_history.specs.TextMap.{TextMap}
 use Rattle.ccr_history.specs.Tables.{is_table_full}
-use Rattle.ccr_history.specs.Changes.{versions, ended, edited, changed, IsRunning, TakesAll}
+use Rattle.ccr_history.specs.Changes.{EditData, versions, ended, edited, changed, IsRunning, TakesAll}
 use Rattle.ccr_history.specs.History.{HistoryData}
 use Rattle.ccr_pipeline.specs.JobData.{ResourceData}
 use Rattle.ccr_pipeline.specs.Pipelines.{PipelineData}
@@ -24,12 +25,14 @@ use Rattle.ccr_core.specs.declared.pushed.Report.{Report}
 use Rattle.ccr_history.specs.declared.change.Edit.{Edit}
 use Rattle.ccr_history.specs.declared.change.Reported.{Reported}
 use Rattle.ccr_history.specs.declared.change.Edit.TheVariants.{Versions}
-use Rattle.ccr_history.specs.Edits.{edit_data}
+use Rattle.ccr_history.specs.Edits.{edit_data, change_data}
 use Rattle.ccr_core.specs.Builds.{status_of, Settles}
+use Rattle.ccr_core.specs.Edits.{news_in, AreEndEdits, AreMoreEdits, AreNextEdits}
 use Rattle.ccr_core.specs.Endings.{reports, report_edits, IsOver, IsEnding, Stands, end_edits, PairsFit, EndFits, ReportFits}
-use Rattle.ccr_core.specs.Going.{named, CanGoOn, PushIsFull, GoesOn, IsRefused, Changes}
+use Rattle.ccr_core.specs.Going.{named, Waits, CanGoOn, PushIsFull, GoesOn, IsRefused, Changes}
 use Rattle.ccr_core.specs.Kept.{IsAnswer}
 use Rattle.ccr_core.specs.Seen.{pairs_of, report, pushed_by, report_by}
+use Rattle.ccr_core.specs.State.{RunningData}
 use Rattle.ccr_core.proofs.Sound.{pushed_up}
 
 -- ---- what is asked
@@ -161,3 +164,21 @@ is_refused p h old x o ask r f some wants is (inl memory) plan inputs es waits =
 is_refused p h old x o ask r f some wants is (inr (full, over)) plan inputs es (stands, waits) =
     let wanted = subst (λ q. IsWanted inputs plan es (option_map ask_data q)) some (wants plan inputs es stands) in
     inr (full, push_full p h plan inputs es (ask_data ask) x r wanted.0 is over)
+
+-- ---- edits
+-- a report's edit, and then an end's
+pub more_so : (p : PipelineData) (h mid : HistoryData) (told : List EditData) (r : Option Reported) (ends all : List Edit) (b : RunningData) (u : Option Outcome) → all ≡ report_edits r ++ ends → change_data (report_edits r) ≡ news_in h told → mid ≡ changed told h → AreEndEdits p mid b u (change_data ends) → AreMoreEdits p h told b u (change_data all)
+more_so p h mid told r ends all b u is news to are = (
+  change_data ends,
+  subst (λ y. AreEndEdits p y b u (change_data ends)) to are,
+  ap change_data is ∙ map-append edit_data (report_edits r) ends ∙ ap (λ l. l ++ change_data ends) news,
+)
+
+-- those of a build that goes on
+pub next_so : (p : PipelineData) (h : HistoryData) (old new : RunData) (job : Text) (number : ℕ) (x : AnswerData) (u : Option Outcome) (o : Option Ask) (ask : Ask) (r : Option Report) (edits : List EditData) → o ≡ Some ask → ((plan : Tree) (inputs : Chosen) (es : List Exchange) → StandsFor old plan inputs es → IsWanted inputs plan es (option_map ask_data o)) → reports r ≡ report_by p (ask_data ask) x → ((plan : Tree) (inputs : Chosen) (es : List Exchange) → StandsFor old plan inputs es → (a : AskData) × IsNext inputs plan es a × StandsFor new plan inputs (es ++ exchange a x ∷ [])) → ((plan : Tree) (inputs : Chosen) (es : List Exchange) → StandsFor new plan inputs es → AreMoreEdits p h (reports r) (named job number plan inputs es) u edits) → (plan : Tree) (inputs : Chosen) (es : List Exchange) → Waits old plan inputs es → AreNextEdits p h (named job number plan inputs es) x u edits
+next_so p h old new job number x u o ask r edits some wants is fed more plan inputs es (stands, waits) =
+    let wanted = subst (λ q. IsWanted inputs plan es (option_map ask_data q)) some (wants plan inputs es stands) in
+    let (a, next, now) = fed plan inputs es stands in
+    let same = next_one inputs plan es (ask_data ask) a wanted.0 next in
+    let told : reports r ≡ report_by p a x = is ∙ ap (λ c. report_by p c x) same in
+    (a, next, subst (λ l. AreMoreEdits p h l (named job number plan inputs (es ++ exchange a x ∷ [])) u edits) told (more plan inputs (es ++ exchange a x ∷ []) now))

@@ -2,7 +2,7 @@
 use Rattle.std.proofs.Common.{◌≡◌, ◌⊎◌, inl, inr, ℕ, zero, suc, ◌<◌, ◌≤◌, List, [], ◌∷◌, ◌++◌, length, Option, Some, None, Ok, Err, map, get_or, take, drop, set, refl, sym, ap, ◌∙◌, subst, arith}
 use Rattle.std.specs.Prelude.{unwrap_or, IsSomeAnd, IfSome}
 use Rattle.ccr_history.specs.Text.{Text}
-use Rattle.ccr_history.specs.Changes.{changed}
+use Rattle.ccr_history.specs.Changes.{EditData, changed}
 use Rattle.ccr_history.specs.History.{HistoryData}
 use Rattle.ccr_pipeline.specs.Pipelines.{PipelineData}
 use Rattle.ccr_pipeline.specs.Tree.{Tree}
@@ -16,10 +16,11 @@ use Rattle.ccr_core.specs.declared.fault.CoreFault.TheVariants.{NoBuild, NotWant
 use Rattle.ccr_core.specs.declared.reply.Reply.TheVariants.{Goes, Ends}
 use Rattle.ccr_core.specs.Builds.{with_answer}
 use Rattle.ccr_core.specs.Addressed.{AnswerTo, addressed}
+use Rattle.ccr_core.specs.Edits.{AreNextEdits, AreAnswerEdits, AreEditsBy}
 use Rattle.ccr_core.specs.Events.{EventData}
 use Rattle.ccr_core.specs.Faults.{HasOtherTurn, AnswerMeets, MayRefuse}
-use Rattle.ccr_core.specs.Going.{CanGoOn, EndsFit, GoesOn, PushIsFull, IsRefused}
-use Rattle.ccr_core.specs.Holding.{CoreData, name_data, name_index, AreRuns, Stands, IsCore, TakesSaid}
+use Rattle.ccr_core.specs.Going.{named, Waits, CanGoOn, EndsFit, GoesOn, PushIsFull, IsRefused}
+use Rattle.ccr_core.specs.Holding.{CoreData, name_data, name_index, AreRuns, Stands, HasSaidEdits, IsCore, TakesSaid}
 use Rattle.ccr_core.specs.Seen.{report_by}
 use Rattle.ccr_core.specs.State.{State, no_pipeline, pipeline_of, moved_on, running_at, replaced, without}
 use Rattle.ccr_core.specs.Steps.{Step}
@@ -153,6 +154,26 @@ module _ (h : HistoryData) (pl : Option PipelineData) (budget : ℕ) (ns : Names
         (subst (λ i. GoesOn (pipeline_of s) s.history (run_data (get_or rs k d)) i a.number a.given o g r) (sym f.job_is)
         (subst (λ y. GoesOn (pipeline_of s) y (run_data (get_or rs k d)) a.job a.number a.given o g r) st.0
         (subst (λ q. GoesOn q h (run_data (get_or rs k d)) a.job a.number a.given o g r) (pipe s st) goes)))
+
+    -- ---- edits
+    module _ (o : Option Outcome) (edits : List EditData) (are : (plan : Tree) (inputs : Chosen) (es : List Exchange) → Waits (run_data (get_or rs k d)) plan inputs es → AreNextEdits p h (named a.job a.number plan inputs es) a.given o edits) where
+      edits_on : (s : State) → Stands (held h ns rs) s → AreAnswerEdits s a o edits
+      edits_on s st =
+          let f = there s st in (
+            f.b,
+            f.at,
+            subst (λ i. AreNextEdits (pipeline_of s) s.history (named f.b.job i f.b.plan f.b.inputs f.b.exchanges) a.given o edits) (sym f.number_is)
+                (subst (λ i. AreNextEdits (pipeline_of s) s.history (named i a.number f.b.plan f.b.inputs f.b.exchanges) a.given o edits) (sym f.job_is)
+                (subst (λ y. AreNextEdits (pipeline_of s) y (named a.job a.number f.b.plan f.b.inputs f.b.exchanges) a.given o edits) st.0
+                (subst (λ q. AreNextEdits q h (named a.job a.number f.b.plan f.b.inputs f.b.exchanges) a.given o edits) (pipe s st)
+                (are f.b.plan f.b.inputs f.b.exchanges (f.stands, f.waits))))),
+          )
+
+      pub edits_goes : o ≡ None → HasSaidEdits (held h ns rs) a (Ok Goes) edits
+      edits_goes is e said s st = subst (λ q. AreEditsBy s q e Goes edits) (sym said) (subst (λ u. AreAnswerEdits s a u edits) is (edits_on s st))
+
+      pub edits_ends : (u : Outcome) → o ≡ Some u → HasSaidEdits (held h ns rs) a (Ok (Ends u)) edits
+      edits_ends u is e said s st = subst (λ q. AreEditsBy s q e (Ends u) edits) (sym said) (subst (λ v. AreAnswerEdits s a v edits) is (edits_on s st))
 
     module _ (n : ℕ) (has : TurnIs (run_data (get_or rs k d)) n) where
       pub other_turn : IsSomeAnd a.turn (λ turn. n ≡ turn → ⊥) → TakesSaid (held h ns rs) (held h ns rs) a (Err NotWanted)

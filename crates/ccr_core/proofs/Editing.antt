@@ -2,7 +2,7 @@
 use Rattle.std.proofs.Common.{◌≡◌, ◌≢◌, inr, ℕ, ◌==◌, Bool, true, false, List, [], ◌∷◌, length, map, Some, Ok, Err, refl, sym, ap, ◌∙◌, subst, arith}
 use Rattle.std.proofs.lemmas.Bool.{eqb-true}
 use Rattle.ccr_history.specs.Text.{Text}
-use Rattle.ccr_history.specs.Changes.{text, edited, changed, TakesAll}
+use Rattle.ccr_history.specs.Changes.{EditData, text, edited, changed, TakesAll}
 use Rattle.ccr_history.specs.History.{HistoryData}
 use Rattle.ccr_pipeline.specs.Pipelines.{PipelineData}
 use Rattle.ccr_steps.specs.Runs.{RunData}
@@ -11,7 +11,7 @@ use Rattle.ccr_core.specs.declared.reply.Reply.TheVariants.{Set, Restarted}
 use Rattle.ccr_core.specs.Builds.{cut}
 use Rattle.ccr_core.specs.Events.{set_pipeline, restart}
 use Rattle.ccr_core.specs.Faults.{Meets}
-use Rattle.ccr_core.specs.Holding.{CoreData, AreRuns, Stands, IsCore, Takes}
+use Rattle.ccr_core.specs.Holding.{CoreData, AreRuns, Stands, HasEdits, IsCore, Takes}
 use Rattle.ccr_core.specs.Picking.{name_of}
 use Rattle.ccr_core.specs.Resumed.{cut_name}
 use Rattle.ccr_core.specs.State.{RunningData, State, moved_on}
@@ -72,6 +72,9 @@ module _ (c : CoreData) where
       subst (λ l. AreRuns l rs []) (sym none) (subst (λ l. AreRuns [] l []) (sym left) tt),
     ),
   )
+
+pub restart_edits : (c : CoreData) (edits : List EditData) → edits ≡ map cut_name c.names → HasEdits c restart (Ok Restarted) edits
+restart_edits c edits is s st = is ∙ sym (cuts_of c s st)
 
 pub no_length : {X : Type 0} → (xs : List X) → length xs ≡ 0 → xs ≡ []
 no_length [] e = refl

@@ -44,7 +44,7 @@ use Rattle.ccr_core.proofs.Owning.{job_at, answers_more, kept_from, of_build}
 -- ---- builds of a history by their numbers
 module _ (j : Text) (n : ℕ) where
   -- a new build runs: one that has ended was there
-  found_more : (bs : List BuildData) (new c : BuildData) → new.status ≡ Running → c.status ≢ Running → build_of j n (bs ++ new ∷ []) ≡ Some c → build_of j n bs ≡ Some c
+  pub found_more : (bs : List BuildData) (new c : BuildData) → new.status ≡ Running → c.status ≢ Running → build_of j n (bs ++ new ∷ []) ≡ Some c → build_of j n bs ≡ Some c
   found_more [] new c runs done e = by (is_build_of j n new) e
     where
       by : (t : Bool) → cond t (Some new) None ≡ Some c → None ≡ Some c
@@ -58,7 +58,7 @@ module _ (j : Text) (n : ℕ) where
 
   -- a build that is found once one ended is that one, or was there
   module _ (job : Text) (number : ℕ) (st : Status) (mv : List (ℕ × ℕ)) (c : BuildData) where
-    abbrev IsEnded : List BuildData → Type 0
+    abbrev pub IsEnded : List BuildData → Type 0
     IsEnded bs = (j ≡ job) × (n ≡ number) × ((was : BuildData) × (c ≡ ended_build st mv was) × (build_of j n bs ≡ Some was))
 
     end_by : (b : BuildData) (bs : List BuildData) (t u : Bool) → is_build_of job number b ≡ t → is_build_of j n b ≡ u → (build_of j n (with_end job number st mv bs) ≡ Some c → IsEnded bs ⊎ (build_of j n bs ≡ Some c)) → build_of j n (cond t (ended_build st mv b) b ∷ with_end job number st mv bs) ≡ Some c → IsEnded (b ∷ bs) ⊎ (build_of j n (b ∷ bs) ≡ Some c)
@@ -79,13 +79,13 @@ module _ (j : Text) (n : ℕ) where
         by true e = on (more (sym (ap (λ v. cond v (Some (ended_build st mv b)) (build_of j n (with_end job number st mv bs))) us) ∙ e))
         by false e = on (more (sym (ap (λ v. cond v (Some b) (build_of j n (with_end job number st mv bs))) us) ∙ e))
 
-    found_end : (bs : List BuildData) → build_of j n (with_end job number st mv bs) ≡ Some c → IsEnded bs ⊎ (build_of j n bs ≡ Some c)
+    pub found_end : (bs : List BuildData) → build_of j n (with_end job number st mv bs) ≡ Some c → IsEnded bs ⊎ (build_of j n bs ≡ Some c)
     found_end [] e = inr e
     found_end (b ∷ bs) e = end_by b bs (is_build_of job number b) (is_build_of j n b) refl refl (found_end bs) e
 
 -- ---- builds that don't end
 -- where the builds stay, none ends
-none_ends : (before after : State) (c : BuildData) → after.history.builds ≡ before.history.builds → EndsIn before after c → ⊥
+pub none_ends : (before after : State) (c : BuildData) → after.history.builds ≡ before.history.builds → EndsIn before after c → ⊥
 none_ends before after c same (found, done, fresh) = fresh (c, ap (build_of c.job c.number) (sym same) ∙ found, done)
 
 -- ---- only a build that succeeded has passed anything
@@ -107,11 +107,11 @@ abbrev EndsTo : State → List AnswerData → BuildData → State → Type 0
 EndsTo before xs c after = EndsIn before after c → EndsAsMeant after xs c
 
 -- the history once an answer is taken
-abbrev taken : State → AskData → AnswerData → HistoryData
+abbrev pub taken : State → AskData → AnswerData → HistoryData
 taken s a x = changed (report_by (pipeline_of s) a x) s.history
 
 -- the history once a build has ended
-abbrev done_with : PipelineData → RunningData → Outcome → GainsData → HistoryData → HistoryData
+abbrev pub done_with : PipelineData → RunningData → Outcome → GainsData → HistoryData → HistoryData
 done_with p b o g h = edited (ended b.job b.number (status_of o) (pairs_of p h g.moved)) h
 
 -- a build that is found under one number is found under another that is the same
@@ -253,7 +253,7 @@ module _ (s before : State) (es : List EventData) (rs : List Replied) (start : I
   ends_triggered name j r after at room (held, is) c ends = absurd (none_ends before after c (ap (λ y. y.history.builds) is) ends)
 
   -- a build that goes on hasn't ended
-  goes_on : (b : RunningData) (x : AnswerData) (after : State) → Takes before b x None after → after.history.builds ≡ before.history.builds
+  pub goes_on : (b : RunningData) (x : AnswerData) (after : State) → Takes before b x None after → after.history.builds ≡ before.history.builds
   goes_on b x after (a, next, (h, (begins, waits, is), to)) = ap (λ y. y.history.builds) to ∙ ap (λ y. y.builds) is ∙ pushed_builds (pipeline_of before) a x before.history
 
   ends_other : (e : EventData) (r : Reply) (after : State) → ((f : CoreFault) → ¬ MeetsBy before None e f) → DoesBy before None e r after → e ≢ restart → (c : BuildData) → EndsIn before after c → EndsAsMeant after (own c.job c.number (es ++ e ∷ []) (rs ++ Ok r ∷ [])) c

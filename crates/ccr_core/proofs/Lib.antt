@@ -9,8 +9,10 @@ pub mod Keeping
 pub mod Placing
 pub mod Naming
 pub mod Using
+pub mod News
 pub mod Sound
 pub mod Ending
+pub mod Causing
 pub mod Telling
 pub mod Finding
 pub mod Refusing
@@ -28,5 +30,6 @@ pub mod Ordering
 pub mod Answering
 pub mod Rows
 pub mod Making
+pub mod Changing
 pub mod Busying
 pub mod Indexing

@@ -18,6 +18,7 @@ use Rattle.ccr_steps.specs.Runs.{RunData, StandsFor}
 use Rattle.ccr_steps.specs.declared.outcome.Outcome.{Outcome}
 use Rattle.ccr_core.specs.Builds.{Settles, history_with}
 use Rattle.ccr_core.specs.Choices.{used_at, versions_at}
+use Rattle.ccr_core.specs.Edits.{AreBuildEdits}
 use Rattle.ccr_core.specs.Endings.{Stands, end_edits, PairsFit}
 use Rattle.ccr_core.specs.Going.{named, CanMake, IsMade}
 use Rattle.ccr_core.proofs.Answering.{settles_so, pairs_fit, end_taken}
@@ -64,6 +65,16 @@ module _ (p : PipelineData) (h mid after : HistoryData) (j : JobData) (places : 
   made_fits =
       subst (λ y. PairsFit y.tables o pairs) (sym is)
       (pairs_fit p h run o pairs (j.plan, chosen (input_names j.plan) (versions_at p h (inputs j.plan) places), [], there, can.fits) stands)
+
+  -- the edits of both
+  pub made_edits : (all : List EditData) → all ≡ build nm us ∷ end_edits nm n o pairs → AreBuildEdits p h j places all
+  made_edits all e = (
+    o,
+    end_edits j.name (count_of j.name h.builds + 1) o pairs,
+    (pairs, stands j.plan (chosen (input_names j.plan) (versions_at p h (inputs j.plan) places)) [] there, refl),
+    e ∙ ap (λ y. build y us ∷ end_edits y n o pairs) name ∙ ap (λ l. build j.name l ∷ end_edits j.name n o pairs) used
+        ∙ ap (λ m. build j.name (used_at p h (inputs j.plan) places) ∷ end_edits j.name m o pairs) its,
+  )
 
   module _ (to : after ≡ changed (end_edits nm n o pairs) mid) where
     pub made_so : IsMade p h j places n o after run

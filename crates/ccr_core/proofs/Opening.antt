@@ -4,6 +4,7 @@ use Rattle.std.specs.Prelude.{unwrap_or, Result, IfErr, IsErrAnd}
 use Rattle.std.specs.declared.alloc.Global.{Global}
 use Rattle.ccr_history.specs.declared.builds.TheConstants.{MOST_BUILDS}
 use Rattle.ccr_history.specs.Text.{Text}
+use Rattle.ccr_history.specs.Changes.{EditData}
 use Rattle.ccr_history.specs.History.{HistoryData}
 use Rattle.ccr_pipeline.specs.Inputs.{inputs}
 use Rattle.ccr_pipeline.specs.JobData.{JobData}
@@ -22,9 +23,10 @@ use Rattle.ccr_core.specs.declared.reply.Reply.{Reply}
 use Rattle.ccr_core.specs.declared.reply.Reply.TheVariants.{Made, NoneSatisfies, OverBudget, NotNew, Busy}
 use Rattle.ccr_core.specs.Builds.{begun, history_with, Makes}
 use Rattle.ccr_core.specs.Choices.{best, Finds}
+use Rattle.ccr_core.specs.Edits.{AreBuildEdits, AreMadeEdits, AreEdits}
 use Rattle.ccr_core.specs.Faults.{Meets, MayRefuse, IsFree}
 use Rattle.ccr_core.specs.Going.{CanMake, IsMade}
-use Rattle.ccr_core.specs.Holding.{CoreData, name_data, AreRuns, Stands, IsCore, Takes}
+use Rattle.ccr_core.specs.Holding.{CoreData, name_data, AreRuns, Stands, HasEdits, IsCore, Takes}
 use Rattle.ccr_core.specs.Opening.{asked, LacksRoom, IsOpened}
 use Rattle.ccr_core.specs.Picking.{name_of, Picks, IsPicked}
 use Rattle.ccr_core.specs.State.{RunningData, State, no_pipeline, pipeline_of, jobs_of, moved_on}
@@ -98,6 +100,11 @@ pub step_made : (by_command : Bool) (s : State) (name : Text) (j : JobData) (pla
 step_made true s name j places number after free at idle finds news made = (free, (j, at, (idle, (places, finds, made))))
 step_made false s name j places number after free at idle finds (inl is) made = absurd (cc is)
 step_made false s name j places number after free at idle finds (inr news) made = (free, (j, at, (idle, (places, finds, news, made))))
+
+-- ---- edits
+pub asked_edits : (by_command : Bool) (s : State) (name : Text) (r : Reply) (edits : List EditData) → AreMadeEdits s name r edits → AreEdits s (asked by_command name) (Ok r) edits
+asked_edits true s name r edits are = are
+asked_edits false s name r edits are = are
 
 -- ---- faults
 pub free_asked : (by_command : Bool) (s : State) (name : Text) → ¬ (s.pipeline ≡ None) → ¬ (job_of name (jobs_of s) ≡ None) → ¬ (MOST_RUNNING ≤ length s.running) → ¬ (MOST_BUILDS ≤ length s.history.builds) → IsFree s (asked by_command name)
@@ -175,6 +182,12 @@ module _ (c : CoreData) (by_command : Bool) (name : Text) where
                 let here : IsOpened (pipeline_of s) s.history j places number h c.names ms c.runs qs = subst (λ g. IsOpened (pipeline_of s) g j places number h c.names ms c.runs qs) st.0 (subst (λ q. IsOpened q c.history j places number h c.names ms c.runs qs) (pipe s st) opened) in
                 let (after, made, stands) = makes s j places number h c.pipeline c.budget c.names ms c.runs qs st.1 st.2 st.3 here in
                 (after, step_made by_command s name j places number after (free s st) (there s st) idle finds news made, stands)
+
+            pub made_edits : (number : ℕ) (edits : List EditData) → AreBuildEdits p c.history j places edits → HasEdits c (asked by_command name) (Ok (Made number)) edits
+            made_edits number edits are s st =
+                let (idle, finds, news) = is s st in
+                let here : AreBuildEdits (pipeline_of s) s.history j places edits = subst (λ g. AreBuildEdits (pipeline_of s) g j places edits) st.0 (subst (λ q. AreBuildEdits q c.history j places edits) (pipe s st) are) in
+                asked_edits by_command s name (Made number) edits (j, there s st, (places, finds, here))
 
 -- ---- a build that comes to those that run
 map_more : {X Y : Type 0} → (f : X → Y) (xs : List X) (x : X) → map f (xs ++ x ∷ []) ≡ map f xs ++ f x ∷ []

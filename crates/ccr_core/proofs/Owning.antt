@@ -10,7 +10,9 @@ use Rattle.ccr_pipeline.specs.Inputs.{inputs}
 use Rattle.ccr_pipeline.specs.JobData.{JobData}
 use Rattle.ccr_pipeline.specs.Pipelines.{PipelineData}
 use Rattle.ccr_steps.specs.Asks.{AskData, AnswerData, Exchange, exchange}
-use Rattle.ccr_steps.specs.Progress.{Begins, BeginningsDecide, answers}
+use Rattle.ccr_steps.specs.Gains.{no_gains}
+use Rattle.ccr_steps.specs.Means.{Means}
+use Rattle.ccr_steps.specs.Progress.{IsAllowed, Begins, BeginningsDecide, answers}
 use Rattle.ccr_steps.specs.declared.outcome.Outcome.{Outcome}
 use Rattle.ccr_core.specs.declared.fault.CoreFault.{CoreFault}
 use Rattle.ccr_core.specs.declared.fault.CoreFault.TheVariants.{BuildsOpen}
@@ -27,7 +29,7 @@ use Rattle.ccr_core.specs.Seen.{pairs_of, report, report_by}
 use Rattle.ccr_core.specs.Replies.{Replied}
 use Rattle.ccr_core.specs.State.{RunningData, State, pipeline_of, moved_on, with_history, is_run_of, running_at, replaced, without}
 use Rattle.ccr_core.specs.Steps.{with_pipeline, Schedules, Triggers, Answers, DoesBy, Step, Run}
-use Rattle.ccr_core.specs.Told.{HasItsOwn, EachHasItsOwn, RunsAgree}
+use Rattle.ccr_core.specs.Told.{HasItsOwn, EachHasItsOwn, RunsAgree, NoneRunsOn}
 use Rattle.ccr_core.proofs.Counting.{count_new, count_edited, count_changed, fresh}
 use Rattle.ccr_core.proofs.RunningLists.{all_weaker, all_append, id_same, id_refl, id_flip, at_id, IsApart, apart_with, apart_less, apart_more, all_with, all_less, all_at}
 
@@ -289,3 +291,12 @@ runs_agree decide s after t later es fs rs us j n i m b c e d run ran at there p
     let g = of_build t later fs us i m c d ran there in
     (decide b.inputs b.plan b.exchanges c.exchanges h.begins
     (subst (λ y. Begins y b.plan c.exchanges) (sym inputs) (subst (λ y. Begins c.inputs y c.exchanges) (sym plan) g.begins))).whole (h.answered ∙ same ∙ sym g.answered)
+
+pub none_runs_on : BeginningsDecide → NoneRunsOn
+none_runs_on decide s after later es rs j n b xs d f e run at plan inputs same =
+    let h = of_build s after es rs j n b e run at in
+    let meant : Means b.inputs b.plan no_gains f.run.exchanges f.outcome f.gains = subst (λ y. Means y b.plan no_gains f.run.exchanges f.outcome f.gains) (sym inputs) (subst (λ y. Means f.run.inputs y no_gains f.run.exchanges f.outcome f.gains) (sym plan) f.meant) in
+    let whole : IsAllowed b.inputs b.plan f.run.exchanges = (f.outcome, f.gains, meant) in
+    let begins : Begins b.inputs b.plan f.run.exchanges = ([], subst (IsAllowed b.inputs b.plan) (sym (append-nil f.run.exchanges)) whole) in
+    let one : b.exchanges ≡ f.run.exchanges = (decide b.inputs b.plan b.exchanges f.run.exchanges h.begins begins).whole (h.answered ∙ same ∙ sym f.answered) in
+    h.waits (subst (IsAllowed b.inputs b.plan) (sym one) whole)

@@ -1,5 +1,6 @@
 -- Each change that a step makes is one that the history takes.
 use Rattle.std.proofs.Common.{◌≡◌, ◌≢◌, ℕ, ◌+◌, ◌<◌, ◌≤◌, Bool, true, false, cond, ◌||◌, List, [], ◌∷◌, ◌++◌, length, map, Option, Some, None, IsSomeAnd, Ok, Err, bytes_eq, refl, sym, ap, ◌∙◌, subst, arith}
+use Rattle.std.specs.Prelude.{⊤}
 use Rattle.std.specs.List.{AllByRecursion}
 use Rattle.std.specs.Option.{option_map_or}
 use Rattle.std.proofs.lemmas.List.Elements.{recursion_from_All}
@@ -21,7 +22,7 @@ use Rattle.ccr_pipeline.specs.Pipelines.{PipelineData}
 use Rattle.ccr_steps.specs.Asks.{AskData, push, AnswerData, pushed, exchange}
 use Rattle.ccr_steps.specs.Gains.{GainsData, no_gains}
 use Rattle.ccr_steps.specs.Means.{Means}
-use Rattle.ccr_steps.specs.Progress.{IsNext}
+use Rattle.ccr_steps.specs.Progress.{IsAllowed, Begins, IsNext}
 use Rattle.ccr_steps.specs.declared.outcome.Outcome.{Outcome}
 use Rattle.ccr_steps.specs.declared.outcome.Outcome.TheVariants as outcome
 use Rattle.ccr_choice.specs.Satisfies.{Satisfies}
@@ -35,7 +36,8 @@ use Rattle.ccr_core.specs.Choices.{best, Finds, used_at}
 use Rattle.ccr_core.specs.Addressed.{AnswerTo, addressed}
 use Rattle.ccr_core.specs.Events.{EventData, set_pipeline, checked, schedule, trigger, pin, unpin, restart}
 use Rattle.ccr_core.specs.Faults.{PushOverfills, AnswerMeets, MeetsBy}
-use Rattle.ccr_core.specs.Kept.{IsPipeline, IsAnswer, IsEventBy, IsEvent, IsStart, IsTakenTo, EachChangeIsTaken}
+use Rattle.ccr_core.specs.Edits.{AreBuildEdits, AreNextEdits, AreAnswerEdits, AreSaidEdits, AreMadeEdits, AreEditsBy, AreEdits, AreTakenTo, news_in}
+use Rattle.ccr_core.specs.Kept.{IsPipeline, IsAnswer, IsEventBy, IsEvent, IsStart, AreTaken, EachChangeIsTaken}
 use Rattle.ccr_core.specs.Replies.{Replied}
 use Rattle.ccr_core.specs.Seen.{pairs_of, is_used_for, report, Overfills, pushed_by, report_by}
 use Rattle.ccr_core.specs.State.{RunningData, State, pipeline_of, moved_on, with_history, running_at, replaced, without}
@@ -45,6 +47,7 @@ use Rattle.ccr_core.proofs.Counting.{count_edited, fresh}
 use Rattle.ccr_core.proofs.Keeping.{AreKnown, known_start, known_new, known_end, number_known, new_found, found_there, found_other}
 use Rattle.ccr_core.proofs.Moving.{IsPushed, ArePushed, IsGot}
 use Rattle.ccr_core.proofs.Naming.{inputs_named}
+use Rattle.ccr_core.proofs.News.{IsSame, news_report, news_push}
 use Rattle.ccr_core.proofs.Owning.{job_at, none_runs}
 use Rattle.ccr_core.proofs.Placing.{IsKnown, moved_fit}
 use Rattle.ccr_core.proofs.RunningLists.{all_weaker, all_append, all_both, id_flip, IsApart, apart_with, apart_less, apart_more, none_all, all_with, all_less, all_at}
@@ -60,9 +63,10 @@ takes_more : (es fs : List EditData) (h : HistoryData) → TakesAll h es → Tak
 takes_more [] fs h first then = then
 takes_more (e ∷ es) fs h first then = (first.0, takes_more es fs (edited e h) first.1 then)
 
-taken_more : (f g h : HistoryData) → IsTakenTo f g → IsTakenTo g h → IsTakenTo f h
-taken_more f g h (es, first, to) (fs, then, on) =
-    (es ++ fs, takes_more es fs f first (subst (λ y. TakesAll y fs) to then), on ∙ ap (changed fs) to ∙ sym (changed_more es fs f))
+-- changes that come to the same, and then more
+taken_then : (h : HistoryData) (es fs more : List EditData) → IsSame h es fs → TakesAll (changed es h) more → TakesAll h (fs ++ more) × (changed more (changed es h) ≡ changed (fs ++ more) h)
+taken_then h es fs more (takes, same) then =
+    (takes_more fs more h takes (subst (λ y. TakesAll y more) (sym same) then), ap (changed more) (sym same) ∙ sym (changed_more fs more h))
 
 -- ---- what holds of a build that runs
 -- the history has it, running, and its inputs are the versions at the places that it used
@@ -86,10 +90,13 @@ pub record IsSound (s : State) : Type 0 where
   pub apart : IsApart s.running
   pub each : AllByRecursion (IsSoundBuild (pipeline_of s) s.history) s.running
 
--- what a step leaves
-pub record Leaves (before after : State) : Type 0 where
+-- what a step leaves, whose edits are such
+pub record Leaves (E : List EditData → Type 0) (before after : State) : Type 0 where
   pub sound : IsSound after
-  pub taken : IsTakenTo before.history after.history
+  pub taken : (edits : List EditData) × E edits × AreTakenTo before edits after
+
+leaves_as : (E F : List EditData → Type 0) (before after : State) → ((edits : List EditData) → E edits → F edits) → Leaves E before after → Leaves F before after
+leaves_as E F before after on l = record { sound = l.sound; taken = (let (edits, is, to) = l.taken in (edits, on edits is, to)) }
 
 module _ (p : PipelineData) (h : HistoryData) (es : List EditData) where
   pushed_on : (o : Option (Text × TextMap)) → IsPushed (IsKnown p) (IsSeen p h) o → IsPushed (IsKnown p) (IsSeen p (changed es h)) o
@@ -205,18 +212,21 @@ module _ (s : State) (name : Text) (j : JobData) (places : List ℕ) (k : IsSoun
   on_now : (y : RunningData) → IsSoundBuild (pipeline_of s) s.history y → IsSoundBuild (pipeline_of s) (history_with (pipeline_of s) s.history j places) y
   on_now y sy = build_on (pipeline_of s) s.history (build j.name (used_at (pipeline_of s) s.history (inputs j.plan) places) ∷ []) y (λ c found. found_there y.job y.number s.history.builds (new_build j.name (count_of j.name s.history.builds + 1) (used_at (pipeline_of s) s.history (inputs j.plan) places)) c found) sy
 
-  made_open : Leaves s (moved_on s now (s.running ++ b ∷ []))
-  made_open = record {
+  abbrev AreMade : List EditData → Type 0
+  AreMade = AreBuildEdits (pipeline_of s) s.history j places
+
+  made_open : Begins b.inputs b.plan [] → (IsAllowed b.inputs b.plan [] → ⊥) → Leaves AreMade s (moved_on s now (s.running ++ b ∷ []))
+  made_open begins waits = record {
     sound = record {
       piped = k.piped;
       numbers = numbers_now;
       apart = apart_more s.running b k.apart none_there;
       each = all_append (IsSoundBuild (pipeline_of s) now) s.running b (all_weaker on_now s.running k.each) sound_begun;
     };
-    taken = (made_edit ∷ [], (takes_build, tt), refl);
+    taken = (made_edit ∷ [], (None, [], ([], (begins, waits), refl), refl), ((takes_build, tt), refl));
   }
 
-  made_ended : (o : Outcome) (g : GainsData) → Means b.inputs b.plan no_gains [] o g → Leaves s (moved_on s (edited (ended b.job b.number (status_of o) (pairs_of (pipeline_of s) now g.moved)) now) s.running)
+  made_ended : (o : Outcome) (g : GainsData) → Means b.inputs b.plan no_gains [] o g → Leaves AreMade s (moved_on s (edited (ended b.job b.number (status_of o) (pairs_of (pipeline_of s) now g.moved)) now) s.running)
   made_ended o g means =
       let p = pipeline_of s in
       let mv = pairs_of p now g.moved in
@@ -229,12 +239,12 @@ module _ (s : State) (name : Text) (j : JobData) (places : List ℕ) (k : IsSoun
           apart = k.apart;
           each = all_both (λ y sy other. build_on p now (end ∷ []) y (λ c found. found_other y.job y.number b.job b.number (status_of o) mv (id_flip b.job y.job b.number y.number other) now.builds ∙ found) (on_now y sy)) s.running k.each (none_all b.job b.number s.running none_there);
         };
-        taken = (made_edit ∷ end ∷ [], (takes_build, ((is_running now b sound_begun.held, ends_not o, fits), tt)), refl);
+        taken = (made_edit ∷ end ∷ [], (Some o, end ∷ [], (mv, (g, means, refl), refl), refl), ((takes_build, ((is_running now b sound_begun.held, ends_not o, fits), tt)), refl));
       }
 
-  leaves_made : (m : ℕ) (after : State) → Makes s j places m after → Leaves s after
-  leaves_made m after (number, (None, h, (begins, waits, is), to)) = subst (Leaves s) (sym to) (subst (λ y. Leaves s (moved_on s y (s.running ++ b ∷ []))) (sym is) made_open)
-  leaves_made m after (number, (Some o, h, (g, means, is), to)) = subst (Leaves s) (sym to) (subst (λ y. Leaves s (moved_on s y s.running)) (sym is) (made_ended o g means))
+  leaves_made : (m : ℕ) (after : State) → Makes s j places m after → Leaves AreMade s after
+  leaves_made m after (number, (None, h, (begins, waits, is), to)) = subst (Leaves AreMade s) (sym to) (subst (λ y. Leaves AreMade s (moved_on s y (s.running ++ b ∷ []))) (sym is) (made_open begins waits))
+  leaves_made m after (number, (Some o, h, (g, means, is), to)) = subst (Leaves AreMade s) (sym to) (subst (λ y. Leaves AreMade s (moved_on s y s.running)) (sym is) (made_ended o g means))
 
 -- ---- a build is answered
 -- what is pushed is seen then
@@ -284,18 +294,24 @@ module _ (s : State) (job : Text) (number : ℕ) (b : RunningData) (a : AskData)
         by None is = tt
         by (Some (r, v)) is = takes_report s r (v ∷ []) (λ full. room (b, a, r, v, at, next, is, full)) (pushed_up a x r v up is, tt)
 
-    answered_open : Leaves s (moved_on s then (replaced (with_answer b a x) s.running))
-    answered_open = record {
+    abbrev AreNext : Option Outcome → List EditData → Type 0
+    AreNext = AreNextEdits (pipeline_of s) s.history b x
+
+    same : IsSame s.history (report_by (pipeline_of s) a x) (news_in s.history (report_by (pipeline_of s) a x))
+    same = news_push (pipeline_of s) s.history a x takes_push
+
+    answered_open : Begins b.inputs b.plan (b.exchanges ++ exchange a x ∷ []) → (IsAllowed b.inputs b.plan (b.exchanges ++ exchange a x ∷ []) → ⊥) → Leaves (AreNext None) s (moved_on s then (replaced (with_answer b a x) s.running))
+    answered_open begins waits = record {
       sound = record {
         piped = k.piped;
         numbers = numbers_then;
         apart = apart_with (with_answer b a x) s.running k.apart;
         each = all_with (with_answer b a x) (λ y other sy. on_then y sy) sound_answered s.running k.apart k.each;
       };
-      taken = (edits, takes_push, refl);
+      taken = (news_in s.history edits ++ [], (a, next, ([], ([], (begins, waits), refl), refl)), taken_then s.history edits (news_in s.history edits) [] same tt);
     }
 
-    answered_ended : (o : Outcome) (g : GainsData) → Means b.inputs b.plan no_gains (b.exchanges ++ exchange a x ∷ []) o g → Leaves s (moved_on s (edited (ended b.job b.number (status_of o) (pairs_of (pipeline_of s) then g.moved)) then) (without b.job b.number s.running))
+    answered_ended : (o : Outcome) (g : GainsData) → Means b.inputs b.plan no_gains (b.exchanges ++ exchange a x ∷ []) o g → Leaves (AreNext (Some o)) s (moved_on s (edited (ended b.job b.number (status_of o) (pairs_of (pipeline_of s) then g.moved)) then) (without b.job b.number s.running))
     answered_ended o g means =
         let p = pipeline_of s in
         let mv = pairs_of p then g.moved in
@@ -308,14 +324,18 @@ module _ (s : State) (job : Text) (number : ℕ) (b : RunningData) (a : AskData)
             apart = apart_less b.job b.number s.running k.apart;
             each = all_less b.job b.number (λ y other sy. build_on p then (end ∷ []) y (λ c found. found_other y.job y.number b.job b.number (status_of o) mv (id_flip b.job y.job b.number y.number other) then.builds ∙ found) (on_then y sy)) s.running k.apart k.each;
           };
-          taken = taken_more s.history then (edited end then) (edits, takes_push, refl) (end ∷ [], ((is_running then b sound_answered.held, ends_not o, fits), tt), refl);
+          taken = (news_in s.history edits ++ end ∷ [], (a, next, (end ∷ [], (mv, (g, means, refl), refl), refl)), taken_then s.history edits (news_in s.history edits) (end ∷ []) same ((is_running then b sound_answered.held, ends_not o, fits), tt));
         }
 
-leaves_taken : (s : State) (job : Text) (number : ℕ) (b : RunningData) (x : AnswerData) (o : Option Outcome) (after : State) → IsSound s → running_at job number s.running ≡ Some b → ¬ PushOverfills s job number x → IsAnswer x → TakesAnswer s b x o after → Leaves s after
-leaves_taken s job number b x None after k at room up (a, next, (h, (begins, waits, is), to)) =
-    subst (Leaves s) (sym to) (subst (λ y. Leaves s (moved_on s y (replaced (with_answer b a x) s.running))) (sym is) (answered_open s job number b a x k at next room up))
-leaves_taken s job number b x (Some o) after k at room up (a, next, (h, (g, means, is), to)) =
-    subst (Leaves s) (sym to) (subst (λ y. Leaves s (moved_on s y (without b.job b.number s.running))) (sym is) (answered_ended s job number b a x k at next room up o g means))
+leaves_taken : (s : State) (w : AnswerTo) (b : RunningData) (o : Option Outcome) (after : State) → IsSound s → running_at w.job w.number s.running ≡ Some b → ¬ PushOverfills s w.job w.number w.given → IsAnswer w.given → TakesAnswer s b w.given o after → Leaves (AreAnswerEdits s w o) s after
+leaves_taken s w b None after k at room up (a, next, (h, (begins, waits, is), to)) =
+    subst (Leaves (AreAnswerEdits s w None) s) (sym to) (subst (λ y. Leaves (AreAnswerEdits s w None) s (moved_on s y (replaced (with_answer b a w.given) s.running))) (sym is)
+    (leaves_as (AreNextEdits (pipeline_of s) s.history b w.given None) (AreAnswerEdits s w None) s (moved_on s (changed (report_by (pipeline_of s) a w.given) s.history) (replaced (with_answer b a w.given) s.running)) (λ edits are. (b, at, are))
+    (answered_open s w.job w.number b a w.given k at next room up begins waits)))
+leaves_taken s w b (Some o) after k at room up (a, next, (h, (g, means, is), to)) =
+    subst (Leaves (AreAnswerEdits s w (Some o)) s) (sym to) (subst (λ y. Leaves (AreAnswerEdits s w (Some o)) s (moved_on s y (without b.job b.number s.running))) (sym is)
+    (leaves_as (AreNextEdits (pipeline_of s) s.history b w.given (Some o)) (AreAnswerEdits s w (Some o)) s _ (λ edits are. (b, at, are))
+    (answered_ended s w.job w.number b a w.given k at next room up o g means)))
 
 -- ---- a restart
 pub cut_takes : (bs : List RunningData) (h : HistoryData) → IsApart bs → AllByRecursion (λ b. IsRunning b.job b.number h.builds) bs → TakesAll h (map cut bs)
@@ -330,17 +350,23 @@ cut_known [] h known = known
 cut_known (b ∷ bs) h known = cut_known bs (edited (cut b) h) (known_end b.job b.number Errored [] h.builds known)
 
 -- ---- each step
-leaves_same : (s after : State) → IsSound s → after ≡ s → Leaves s after
-leaves_same s after k is = subst (Leaves s) (sym is) (record { sound = k; taken = ([], tt, refl) })
+leaves_same : (E : List EditData → Type 0) (s after : State) → E [] → IsSound s → after ≡ s → Leaves E s after
+leaves_same E s after none k is = subst (Leaves E s) (sym is) (record { sound = k; taken = ([], none, (tt, refl)) })
 
-leaves_scheduled : (s : State) (name : Text) (j : JobData) (r : Reply) (after : State) → IsSound s → job_of name (pipeline_of s).jobs ≡ Some j → ¬ (MOST_BUILDS ≤ length s.history.builds) → Schedules s j r after → Leaves s after
-leaves_scheduled s name j (Made m) after k at room (idle, (places, finds, news, makes)) = leaves_made s name j places k at finds room m after makes
-leaves_scheduled s name j NotNew after k at room (idle, (places, finds, news, is)) = leaves_same s after k is
-leaves_scheduled s name j r after k at room (held, is) = leaves_same s after k is
+-- a build that is made for a job's name
+leaves_named : (s : State) (name : Text) (j : JobData) (places : List ℕ) (m : ℕ) (after : State) → IsSound s → job_of name (pipeline_of s).jobs ≡ Some j → Finds s j.name (best places) → ¬ (MOST_BUILDS ≤ length s.history.builds) → Makes s j places m after → Leaves (AreMadeEdits s name (Made m)) s after
+leaves_named s name j places m after k at finds room makes =
+    leaves_as (AreBuildEdits (pipeline_of s) s.history j places) (AreMadeEdits s name (Made m)) s after (λ edits are. (j, at, (places, finds, are)))
+    (leaves_made s name j places k at finds room m after makes)
 
-leaves_triggered : (s : State) (name : Text) (j : JobData) (r : Reply) (after : State) → IsSound s → job_of name (pipeline_of s).jobs ≡ Some j → ¬ (MOST_BUILDS ≤ length s.history.builds) → Triggers s j r after → Leaves s after
-leaves_triggered s name j (Made m) after k at room (idle, (places, finds, makes)) = leaves_made s name j places k at finds room m after makes
-leaves_triggered s name j r after k at room (held, is) = leaves_same s after k is
+leaves_scheduled : (s : State) (name : Text) (j : JobData) (r : Reply) (after : State) → IsSound s → job_of name (pipeline_of s).jobs ≡ Some j → ¬ (MOST_BUILDS ≤ length s.history.builds) → Schedules s j r after → Leaves (AreMadeEdits s name r) s after
+leaves_scheduled s name j (Made m) after k at room (idle, (places, finds, news, makes)) = leaves_named s name j places m after k at finds room makes
+leaves_scheduled s name j NotNew after k at room (idle, (places, finds, news, is)) = leaves_same (AreMadeEdits s name NotNew) s after refl k is
+leaves_scheduled s name j r after k at room (held, is) = leaves_same (AreMadeEdits s name r) s after refl k is
+
+leaves_triggered : (s : State) (name : Text) (j : JobData) (r : Reply) (after : State) → IsSound s → job_of name (pipeline_of s).jobs ≡ Some j → ¬ (MOST_BUILDS ≤ length s.history.builds) → Triggers s j r after → Leaves (AreMadeEdits s name r) s after
+leaves_triggered s name j (Made m) after k at room (idle, (places, finds, makes)) = leaves_named s name j places m after k at finds room makes
+leaves_triggered s name j r after k at room (held, is) = leaves_same (AreMadeEdits s name r) s after refl k is
 
 set_sound : (s : State) (p : PipelineData) → IsPipeline p → s.running ≡ [] → IsSound s → IsSound (with_pipeline s p)
 set_sound s p piped none k = record {
@@ -350,47 +376,70 @@ set_sound s p piped none k = record {
   each = subst (AllByRecursion (IsSoundBuild p (edited (text p.text) s.history))) (sym none) tt;
 }
 
-leaves_answered : (s : State) (a : AnswerTo) (r : Reply) (after : State) → IsAnswer a.given → IsSound s → ((f : CoreFault) → ¬ AnswerMeets s a f) → Answers s a r after → Leaves s after
-leaves_answered s a Goes after up k free (b, at, takes) = leaves_taken s a.job a.number b a.given None after k at (free TableFull) up takes
-leaves_answered s a (Ends o) after up k free (b, at, takes) = leaves_taken s a.job a.number b a.given (Some o) after k at (free TableFull) up takes
+leaves_answered : (s : State) (a : AnswerTo) (r : Reply) (after : State) → IsAnswer a.given → IsSound s → ((f : CoreFault) → ¬ AnswerMeets s a f) → Answers s a r after → Leaves (AreSaidEdits s a r) s after
+leaves_answered s a Goes after up k free (b, at, takes) = leaves_taken s a b None after k at (free TableFull) up takes
+leaves_answered s a (Ends o) after up k free (b, at, takes) = leaves_taken s a b (Some o) after k at (free TableFull) up takes
 leaves_answered s a r after up k free answers = absurd answers
 
-leaves_other : (s : State) (e : EventData) (r : Reply) (after : State) → IsEventBy None e → IsSound s → ((f : CoreFault) → ¬ MeetsBy s None e f) → DoesBy s None e r after → Leaves s after
+leaves_other : (s : State) (e : EventData) (r : Reply) (after : State) → IsEventBy None e → IsSound s → ((f : CoreFault) → ¬ MeetsBy s None e f) → DoesBy s None e r after → Leaves (AreEditsBy s None e r) s after
 leaves_other s (set_pipeline p) Set after piped k free is =
-    subst (Leaves s) (sym is) (record { sound = set_sound s p piped (none_runs s p free) k; taken = (text p.text ∷ [], (tt, tt), refl) })
+    subst (Leaves (AreEditsBy s None (set_pipeline p) Set) s) (sym is) (record { sound = set_sound s p piped (none_runs s p free) k; taken = (text p.text ∷ [], refl, ((tt, tt), refl)) })
 leaves_other s (checked resource vs) (New n) after up k free (news, is) =
     let edits = report (pipeline_of s) resource vs in
-    subst (Leaves s) (sym is) (record { sound = sound_history s edits (report_builds (pipeline_of s) resource vs s.history) k; taken = (edits, takes_report s resource vs (free TableFull) up, refl) })
+    let same = news_report (pipeline_of s) s.history resource vs (takes_report s resource vs (free TableFull) up) in
+    subst (Leaves (AreEditsBy s None (checked resource vs) (New n)) s) (sym is) (record {
+      sound = sound_history s edits (report_builds (pipeline_of s) resource vs s.history) k;
+      taken = (news_in s.history edits, refl, (same.0, sym same.1));
+    })
 leaves_other s (schedule job) r after up k free (j, at, how) = leaves_scheduled s job j r after k at (free TableFull) how
 leaves_other s (trigger job) r after up k free (j, at, how) = leaves_triggered s job j r after k at (free TableFull) how
 leaves_other s (pin resource p) Pinned after up k free is =
-    subst (Leaves s) (sym is) (record { sound = sound_history s (pin_set resource p ∷ []) refl k; taken = (pin_set resource p ∷ [], (up, tt), refl) })
+    subst (Leaves (AreEditsBy s None (pin resource p) Pinned) s) (sym is) (record { sound = sound_history s (pin_set resource p ∷ []) refl k; taken = (pin_set resource p ∷ [], refl, ((up, tt), refl)) })
 leaves_other s (unpin resource) Unpinned after up k free is =
-    subst (Leaves s) (sym is) (record { sound = sound_history s (pin_cleared resource ∷ []) refl k; taken = (pin_cleared resource ∷ [], (tt, tt), refl) })
+    subst (Leaves (AreEditsBy s None (unpin resource) Unpinned) s) (sym is) (record { sound = sound_history s (pin_cleared resource ∷ []) refl k; taken = (pin_cleared resource ∷ [], refl, ((tt, tt), refl)) })
 leaves_other s restart Restarted after up k free is =
-    subst (Leaves s) (sym is) (record {
+    subst (Leaves (AreEditsBy s None restart Restarted) s) (sym is) (record {
       sound = record { piped = k.piped; numbers = cut_known s.running s.history k.numbers; apart = tt; each = tt };
-      taken = (map cut s.running, cut_takes s.running s.history k.apart (all_weaker (λ b sb. is_running s.history b sb.held) s.running k.each), refl);
+      taken = (map cut s.running, refl, (cut_takes s.running s.history k.apart (all_weaker (λ b sb. is_running s.history b sb.held) s.running k.each), refl));
     })
 leaves_other s e r after up k free does = absurd does
 
-pub leaves_step : (s : State) (e : EventData) (r : Replied) (after : State) → IsEvent e → IsSound s → Step s e r after → Leaves s after
+pub leaves_step : (s : State) (e : EventData) (r : Replied) (after : State) → IsEvent e → IsSound s → Step s e r after → Leaves (AreEdits s e r) s after
 leaves_step s e (Ok r) after up k (free, does) = by (addressed e) up free does
   where
-    by : (o : Option AnswerTo) → IsEventBy o e → ((f : CoreFault) → ¬ MeetsBy s o e f) → DoesBy s o e r after → Leaves s after
+    by : (o : Option AnswerTo) → IsEventBy o e → ((f : CoreFault) → ¬ MeetsBy s o e f) → DoesBy s o e r after → Leaves (AreEditsBy s o e r) s after
     by (Some a) up free answers = leaves_answered s a r after up k free answers
     by None up free other = leaves_other s e r after up k free other
-leaves_step s e (Err f) after up k (may, is) = leaves_same s after k is
+leaves_step s e (Err f) after up k (may, is) = leaves_same (AreEdits s e (Err f)) s after refl k is
 
 -- ---- each run
-pub leaves_run : (s : State) (es : List EventData) (rs : List Replied) (after : State) → AllByRecursion IsEvent es → IsSound s → Run s es rs after → Leaves s after
-leaves_run s [] [] after up k h = leaves_same s after k h
+-- edits of any kind
+abbrev pub Any : List EditData → Type 0
+Any _ = ⊤
+
+pub leaves_run : (s : State) (es : List EventData) (rs : List Replied) (after : State) → AllByRecursion IsEvent es → IsSound s → Run s es rs after → Leaves Any s after
+leaves_run s [] [] after up k h = leaves_same Any s after tt k h
 leaves_run s [] (r ∷ rs) after up k h = absurd h
 leaves_run s (e ∷ es) [] after up k h = absurd h
 leaves_run s (e ∷ es) (r ∷ rs) after up k (mid, step, run) =
-    let first = leaves_step s e r mid up.0 k step in
-    let rest = leaves_run mid es rs after up.1 first.sound run in
-    record { sound = rest.sound; taken = taken_more s.history mid.history after.history first.taken rest.taken }
+    let l = leaves_step s e r mid up.0 k step in
+    let rest = leaves_run mid es rs after up.1 l.sound run in
+    let (fs, are, (first, to)) = l.taken in
+    let (more, any, (then, on)) = rest.taken in
+    record {
+      sound = rest.sound;
+      taken = (fs ++ more, tt, (takes_more fs more s.history first (subst (λ y. TakesAll y more) to then), on ∙ ap (changed more) to ∙ sym (changed_more fs more s.history)));
+    }
+
+taken_run : (s : State) (es : List EventData) (rs : List Replied) (after : State) → AllByRecursion IsEvent es → IsSound s → Run s es rs after → (changes : List (List EditData)) × AreTaken s es rs changes after
+taken_run s [] [] after up k h = ([], h)
+taken_run s [] (r ∷ rs) after up k h = absurd h
+taken_run s (e ∷ es) [] after up k h = absurd h
+taken_run s (e ∷ es) (r ∷ rs) after up k (mid, step, run) =
+    let l = leaves_step s e r mid up.0 k step in
+    let (edits, are, to) = l.taken in
+    let (more, rest) = taken_run mid es rs after up.1 l.sound run in
+    (edits ∷ more, (mid, step, are, to, rest))
 
 pub starts : (s : State) → IsStart s → IsSound s
 starts s start = record {
@@ -402,5 +451,7 @@ starts s start = record {
 
 pub each_change_is_taken : EachChangeIsTaken
 each_change_is_taken s after es rs start up run =
-    let end = leaves_run s es rs after up (starts s start) run in
-    (end.taken, all_weaker (λ b sb. (let (c, found, runs, right, each) = sb.held in (c, found, runs, (each, all_weaker (λ u r. r.1) c.used right)))) after.running end.sound.each)
+    let end = leaves_run s es rs after up (starts s start) run in (
+      taken_run s es rs after up (starts s start) run,
+      all_weaker (λ b sb. (let (c, found, runs, right, each) = sb.held in (c, found, runs, (each, all_weaker (λ u r. r.1) c.used right)))) after.running end.sound.each,
+    )

@@ -1,26 +1,30 @@
 -- What has become of each build.
-use Rattle.std.proofs.Common.{◌≡◌, ◌≢◌, ◌⊎◌, inl, inr, ℕ, ◌==◌, Bool, true, false, cond, ◌&&◌, List, [], ◌∷◌, ◌++◌, Option, Some, None, Ok, Err, bytes_eq, refl, sym, ap, ◌∙◌, subst, append_assoc}
+use Rattle.std.proofs.Common.{◌≡◌, ◌≢◌, ◌⊎◌, inl, inr, ℕ, ◌==◌, Bool, true, false, cond, ◌&&◌, List, [], ◌∷◌, ◌++◌, Option, Some, None, Ok, Err, bytes_eq, refl, sym, ap, ◌∙◌, subst, append-nil, append_assoc}
 use Rattle.std.specs.List.{AllByRecursion}
 use Rattle.ccr_history.specs.declared.build.Status.{Status}
 use Rattle.ccr_history.specs.declared.build.Status.TheVariants.{Running, Succeeded, Failed, Errored, Aborted}
 use Rattle.ccr_history.specs.Text.{Text}
 use Rattle.ccr_history.specs.Builds.{BuildData, build_of}
+use Rattle.ccr_history.specs.Changes.{EditData}
 use Rattle.ccr_steps.specs.Asks.{AnswerData}
 use Rattle.ccr_core.specs.declared.reply.Reply.{Reply}
 use Rattle.ccr_core.specs.declared.reply.Reply.TheVariants.{Goes, Ends}
 use Rattle.ccr_core.specs.Addressed.{AnswerTo, addressed}
+use Rattle.ccr_core.specs.Edits.{AreEdits}
 use Rattle.ccr_core.specs.Events.{EventData, set_pipeline, checked, schedule, trigger, answer, abort, pin, unpin, restart}
-use Rattle.ccr_core.specs.Fates.{HasRestart, HasFate, EachHasItsFate, EndedStays}
+use Rattle.ccr_core.specs.Fates.{Moment, HasFate, EachHasItsFate, EndedStays}
 use Rattle.ccr_core.specs.Kept.{IsEvent, IsStart}
 use Rattle.ccr_core.specs.Own.{said_to, own, own_of}
 use Rattle.ccr_core.specs.Replies.{Replied}
 use Rattle.ccr_core.specs.State.{RunningData, State, pipeline_of, running_at}
 use Rattle.ccr_core.specs.Steps.{Answers, DoesBy, Step, Run}
 use Rattle.ccr_core.specs.Told.{HasEnded, EndsIn, EndsAsMeant}
+use Rattle.ccr_core.proofs.Causing.{caused, ran, none_own}
 use Rattle.ccr_core.proofs.Ending.{each_ends_as_meant, each_is_cut_short}
 use Rattle.ccr_core.proofs.Keeping.{all_stay}
+use Rattle.ccr_core.proofs.Owning.{of_build}
 use Rattle.ccr_core.proofs.RunningLists.{all_append, id_same, at_id, all_at}
-use Rattle.ccr_core.proofs.Sound.{IsSoundBuild, IsSound, Leaves, leaves_step, leaves_run, starts}
+use Rattle.ccr_core.proofs.Sound.{IsSoundBuild, IsSound, Leaves, Any, leaves_step, leaves_run, starts}
 
 -- ---- runs, put together
 run_more : (s mid after : State) (es : List EventData) (rs : List Replied) (e : EventData) (r : Replied) → Run s es rs mid → Step mid e r after → Run s (es ++ e ∷ []) (rs ++ r ∷ []) after
@@ -37,9 +41,9 @@ own_join j n s after (f ∷ es) fs (u ∷ rs) us (mid, step, run) = ap (λ l. ow
 
 -- ---- a build that has ended
 -- what has ended stays so over a step
-step_stays : (s after : State) → Leaves s after → (j : Text) (n : ℕ) (c : BuildData) → build_of j n s.history.builds ≡ Some c → c.status ≢ Running → build_of j n after.history.builds ≡ Some c
-step_stays s after l j n c found done =
-    let (edits, takes, is) = l.taken in
+step_stays : (E : List EditData → Type 0) (s after : State) → Leaves E s after → (j : Text) (n : ℕ) (c : BuildData) → build_of j n s.history.builds ≡ Some c → c.status ≢ Running → build_of j n after.history.builds ≡ Some c
+step_stays E s after l j n c found done =
+    let (edits, are, (takes, is)) = l.taken in
     ap (λ y. build_of j n y.builds) is ∙ all_stay edits s.history takes j n c found done
 
 -- it doesn't run
@@ -80,14 +84,9 @@ owns_none s [] (r ∷ rs) after j n c up k run found done = absurd run
 owns_none s (e ∷ es) [] after j n c up k run found done = absurd run
 owns_none s (e ∷ es) (r ∷ rs) after j n c up k (mid, step, run) found done =
     let l = leaves_step s e r mid up.0 k step in
-    ap (λ l. l ++ own j n es rs) (own_none s e r mid j n c k step found done) ∙ owns_none mid es rs after j n c up.1 l.sound run (step_stays s mid l j n c found done) done
+    ap (λ l. l ++ own j n es rs) (own_none s e r mid j n c k step found done) ∙ owns_none mid es rs after j n c up.1 l.sound run (step_stays (AreEdits s e r) s mid l j n c found done) done
 
 -- ---- how it ended
-restart_there : (es fs : List EventData) → HasRestart (es ++ restart ∷ fs)
-restart_there [] fs = tt
-restart_there (restart ∷ es) fs = tt
-restart_there (e ∷ es) fs = restart_there es fs
-
 -- whether a build has ended
 is_ended : (s : State) (j : Text) (n : ℕ) → HasEnded s j n ⊎ ¬ HasEnded s j n
 is_ended s j n = by (build_of j n s.history.builds) refl
@@ -104,7 +103,7 @@ is_ended s j n = by (build_of j n s.history.builds) refl
     by (Some c) found = on c found c.status refl
 
 module _ (start : State) (begins : IsStart start) where
-  module _ (s mid : State) (es₀ es : List EventData) (rs₀ rs : List Replied) (r : Replied) (up : AllByRecursion IsEvent es₀) (run : Run start es₀ rs₀ s) (c : BuildData) (later : own c.job c.number es rs ≡ []) (ends : EndsIn s mid c) where
+  module _ (s mid after : State) (es₀ es : List EventData) (rs₀ rs : List Replied) (r : Replied) (up : AllByRecursion IsEvent es₀) (run : Run start es₀ rs₀ s) (rest : Run mid es rs after) (c : BuildData) (later : own c.job c.number es rs ≡ []) (ends : EndsIn s mid c) where
     -- the answers that were its own so far are those in all of the run
     own_whole : (e : EventData) → own c.job c.number (es₀ ++ e ∷ []) (rs₀ ++ r ∷ []) ≡ own c.job c.number (es₀ ++ e ∷ es) (rs₀ ++ r ∷ rs)
     own_whole e =
@@ -112,51 +111,99 @@ module _ (start : State) (begins : IsStart start) where
         ∙ ap (λ l. own c.job c.number es₀ rs₀ ++ (own_of c.job c.number e r ++ l)) (sym later)
         ∙ sym (own_join c.job c.number start s es₀ (e ∷ es) rs₀ (r ∷ rs) run)
 
-    meant_here : (e : EventData) → e ≢ restart → Step s e r mid → HasFate (es₀ ++ e ∷ es) (rs₀ ++ r ∷ rs) c
-    meant_here e other step =
-        inl (mid, subst (λ xs. EndsAsMeant mid xs c) (own_whole e) (each_ends_as_meant start s mid es₀ rs₀ e r begins up run step other c ends))
+    -- and so are those before a restart
+    own_before : own c.job c.number es₀ rs₀ ≡ own c.job c.number (es₀ ++ restart ∷ es) (rs₀ ++ r ∷ rs)
+    own_before =
+        sym (append-nil (own c.job c.number es₀ rs₀))
+        ∙ ap (λ l. own c.job c.number es₀ rs₀ ++ l) (sym (ap (λ l. l ++ own c.job c.number es rs) (none_own c.job c.number r) ∙ later))
+        ∙ sym (own_join c.job c.number start s es₀ (restart ∷ es) rs₀ (r ∷ rs) run)
+
+    here : (e : EventData) → Step s e r mid → Moment start after (es₀ ++ e ∷ es) (rs₀ ++ r ∷ rs)
+    here e step = record {
+      first = es₀;
+      event = e;
+      rest = es;
+      first_replies = rs₀;
+      reply = r;
+      rest_replies = rs;
+      events = refl;
+      replies = refl;
+      before = s;
+      then = mid;
+      led = run;
+      step = step;
+      leads = rest;
+    }
+
+    meant_here : (e : EventData) → e ≢ restart → IsSound s → Step s e r mid → HasFate start after (es₀ ++ e ∷ es) (rs₀ ++ r ∷ rs) c
+    unfolding here
+    meant_here e other k step = record {
+      at = here e step;
+      ends = ends;
+      silent = later;
+      cause = inl (
+        caused s k.numbers c e r mid step other ends,
+        subst (λ xs. EndsAsMeant mid xs c) (own_whole e) (each_ends_as_meant start s mid es₀ rs₀ e r begins up run step other c ends),
+      );
+    }
+
+    cut_here : Step s restart r mid → HasFate start after (es₀ ++ restart ∷ es) (rs₀ ++ r ∷ rs) c
+    unfolding here
+    cut_here step =
+        let (status, moved) = each_is_cut_short s mid r step c ends in
+        let (b, at) = ran s mid r c step ends in
+        let own_b = of_build start s es₀ rs₀ c.job c.number b begins.none_runs run at in
+        record {
+          at = here restart step;
+          ends = ends;
+          silent = later;
+          cause = inr (
+            refl,
+            (b, at, record { answered = own_b.answered ∙ own_before; planned = own_b.planned; begins = own_b.begins; waits = own_b.waits }),
+            status,
+            moved,
+          );
+        }
 
     -- a build that ends in a step
-    ends_here : (e : EventData) → Step s e r mid → HasFate (es₀ ++ e ∷ es) (rs₀ ++ r ∷ rs) c
-    ends_here (set_pipeline p) step = meant_here (set_pipeline p) (λ e. cc (e)) step
-    ends_here (checked resource vs) step = meant_here (checked resource vs) (λ e. cc (e)) step
-    ends_here (schedule job) step = meant_here (schedule job) (λ e. cc (e)) step
-    ends_here (trigger job) step = meant_here (trigger job) (λ e. cc (e)) step
-    ends_here (answer job number turn x) step = meant_here (answer job number turn x) (λ e. cc (e)) step
-    ends_here (abort job number) step = meant_here (abort job number) (λ e. cc (e)) step
-    ends_here (pin resource p) step = meant_here (pin resource p) (λ e. cc (e)) step
-    ends_here (unpin resource) step = meant_here (unpin resource) (λ e. cc (e)) step
-    ends_here restart step =
-        let (status, moved) = each_is_cut_short s mid r step c ends in
-        inr (restart_there es₀ es, status, moved)
+    ends_here : (e : EventData) → IsSound s → Step s e r mid → HasFate start after (es₀ ++ e ∷ es) (rs₀ ++ r ∷ rs) c
+    ends_here (set_pipeline p) k step = meant_here (set_pipeline p) (λ e. cc (e)) k step
+    ends_here (checked resource vs) k step = meant_here (checked resource vs) (λ e. cc (e)) k step
+    ends_here (schedule job) k step = meant_here (schedule job) (λ e. cc (e)) k step
+    ends_here (trigger job) k step = meant_here (trigger job) (λ e. cc (e)) k step
+    ends_here (answer job number turn x) k step = meant_here (answer job number turn x) (λ e. cc (e)) k step
+    ends_here (abort job number) k step = meant_here (abort job number) (λ e. cc (e)) k step
+    ends_here (pin resource p) k step = meant_here (pin resource p) (λ e. cc (e)) k step
+    ends_here (unpin resource) k step = meant_here (unpin resource) (λ e. cc (e)) k step
+    ends_here restart k step = cut_here step
 
-  told : (s after : State) (es₀ es : List EventData) (rs₀ rs : List Replied) → AllByRecursion IsEvent es₀ → Run start es₀ rs₀ s → AllByRecursion IsEvent es → IsSound s → Run s es rs after → (c : BuildData) → build_of c.job c.number after.history.builds ≡ Some c → c.status ≢ Running → ¬ HasEnded s c.job c.number → HasFate (es₀ ++ es) (rs₀ ++ rs) c
+  told : (s after : State) (es₀ es : List EventData) (rs₀ rs : List Replied) → AllByRecursion IsEvent es₀ → Run start es₀ rs₀ s → AllByRecursion IsEvent es → IsSound s → Run s es rs after → (c : BuildData) → build_of c.job c.number after.history.builds ≡ Some c → c.status ≢ Running → ¬ HasEnded s c.job c.number → HasFate start after (es₀ ++ es) (rs₀ ++ rs) c
   told s after es₀ [] rs₀ [] before run up k rest c found done fresh = absurd (fresh (c, ap (λ y. build_of c.job c.number y.history.builds) (sym rest) ∙ found, done))
   told s after es₀ [] rs₀ (r ∷ rs) before run up k rest c found done fresh = absurd rest
   told s after es₀ (e ∷ es) rs₀ [] before run up k rest c found done fresh = absurd rest
   told s after es₀ (e ∷ es) rs₀ (r ∷ rs) before run up k (mid, step, rest) c found done fresh =
       by (is_ended mid c.job c.number) (told mid after (es₀ ++ e ∷ []) es (rs₀ ++ r ∷ []) rs (all_append IsEvent es₀ e before up.0) (run_more start s mid es₀ rs₀ e r run step) up.1 (leaves_step s e r mid up.0 k step).sound rest c found done)
     where
-      by : HasEnded mid c.job c.number ⊎ ¬ HasEnded mid c.job c.number → (¬ HasEnded mid c.job c.number → HasFate ((es₀ ++ e ∷ []) ++ es) ((rs₀ ++ r ∷ []) ++ rs) c) → HasFate (es₀ ++ e ∷ es) (rs₀ ++ r ∷ rs) c
-      by (inr open_) more = subst (λ l. HasFate l (rs₀ ++ r ∷ rs) c) (append_assoc es₀ (e ∷ []) es) (subst (λ l. HasFate ((es₀ ++ e ∷ []) ++ es) l c) (append_assoc rs₀ (r ∷ []) rs) (more open_))
+      by : HasEnded mid c.job c.number ⊎ ¬ HasEnded mid c.job c.number → (¬ HasEnded mid c.job c.number → HasFate start after ((es₀ ++ e ∷ []) ++ es) ((rs₀ ++ r ∷ []) ++ rs) c) → HasFate start after (es₀ ++ e ∷ es) (rs₀ ++ r ∷ rs) c
+      by (inr open_) more = subst (λ l. HasFate start after l (rs₀ ++ r ∷ rs) c) (append_assoc es₀ (e ∷ []) es) (subst (λ l. HasFate start after ((es₀ ++ e ∷ []) ++ es) l c) (append_assoc rs₀ (r ∷ []) rs) (more open_))
       by (inl (d, there, over)) more =
           let l = leaves_step s e r mid up.0 k step in
-          let end : build_of c.job c.number after.history.builds ≡ Some d = step_stays mid after (leaves_run mid es rs after up.1 l.sound rest) c.job c.number d there over in
+          let end : build_of c.job c.number after.history.builds ≡ Some d = step_stays Any mid after (leaves_run mid es rs after up.1 l.sound rest) c.job c.number d there over in
           let both : Some d ≡ Some c = sym end ∙ found in
           let same : d ≡ c = cc both in
           let here : build_of c.job c.number mid.history.builds ≡ Some c = there ∙ ap Some same in
-          ends_here s mid es₀ es rs₀ rs r before run c (owns_none mid es rs after c.job c.number c up.1 l.sound rest here done) (here, done, fresh) e step
+          ends_here s mid after es₀ es rs₀ rs r before run rest c (owns_none mid es rs after c.job c.number c up.1 l.sound rest here done) (here, done, fresh) e k step
 
 -- ---- the laws
 pub ended_stay : EndedStays
-ended_stay s after es rs start up run c found done = step_stays s after (leaves_run s es rs after up (starts s start) run) c.job c.number c found done
+ended_stay s after es rs start up run c found done = step_stays Any s after (leaves_run s es rs after up (starts s start) run) c.job c.number c found done
 
 pub each_has_its_fate : EachHasItsFate
 each_has_its_fate s after es rs start up run c found done = by (is_ended s c.job c.number)
   where
-    by : HasEnded s c.job c.number ⊎ ¬ HasEnded s c.job c.number → (build_of c.job c.number s.history.builds ≡ Some c) ⊎ HasFate es rs c
+    by : HasEnded s c.job c.number ⊎ ¬ HasEnded s c.job c.number → (build_of c.job c.number s.history.builds ≡ Some c) ⊎ HasFate s after es rs c
     by (inl (d, there, over)) =
-        let end : build_of c.job c.number after.history.builds ≡ Some d = step_stays s after (leaves_run s es rs after up (starts s start) run) c.job c.number d there over in
+        let end : build_of c.job c.number after.history.builds ≡ Some d = step_stays Any s after (leaves_run s es rs after up (starts s start) run) c.job c.number d there over in
         let both : Some d ≡ Some c = sym end ∙ found in
         let same : d ≡ c = cc both in
         inl (there ∙ ap Some same)

@@ -6,6 +6,7 @@ use Rattle.std.specs.Option.{IfSome}
 use Rattle.std.specs.Str.{bytes_eq}
 use Rattle.std.specs.declared.alloc.Global.{Global}
 use Rattle.ccr_history.specs.Text.{Text}
+use Rattle.ccr_history.specs.Changes.{EditData}
 use Rattle.ccr_history.specs.History.{HistoryData}
 use Rattle.ccr_pipeline.specs.Links.{resource_names}
 use Rattle.ccr_pipeline.specs.Names.{has_name}
@@ -16,6 +17,7 @@ use Rattle.ccr_steps.specs.Progress.{IsAllowed, IsNext}
 use Rattle.ccr_steps.specs.Runs.{RunData, StandsFor, HasTurn}
 use Rattle.ccr_steps.specs.declared.ask.Ask.{Ask}
 use Rattle.ccr_core.specs.Addressed.{AnswerTo, addressed}
+use Rattle.ccr_core.specs.Edits.{AreEdits}
 use Rattle.ccr_core.specs.Events.{EventData}
 use Rattle.ccr_core.specs.Kept.{IsEvent, IsStart}
 use Rattle.ccr_core.specs.Replies.{Replied}
@@ -69,6 +71,14 @@ Takes old new e r = (s : State) → Stands old s → (after : State) × Step s e
 -- A STEP by whatever event says this to a build
 abbrev pub TakesSaid : CoreData → CoreData → AnswerTo → Replied → Type 0
 TakesSaid old new a r = (e : EventData) → addressed e ≡ Some a → Takes old new e r
+
+-- THE CHANGE of a step holds its edits, in each state that the core stood for: these and no others
+abbrev pub HasEdits : CoreData → EventData → Replied → List EditData → Type 0
+HasEdits old e r edits = (s : State) → Stands old s → AreEdits s e r edits
+
+-- THE CHANGE of a step by whatever event says this to a build
+abbrev pub HasSaidEdits : CoreData → AnswerTo → Replied → List EditData → Type 0
+HasSaidEdits old a r edits = (e : EventData) → addressed e ≡ Some a → HasEdits old e r edits
 
 -- what a running build wants: nothing exactly where it doesn't run; else the ask that follows its exchanges, at its
 -- turn

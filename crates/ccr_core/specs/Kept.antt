@@ -1,21 +1,22 @@
 -- What a history takes, over any list of events.
-use Rattle.std.specs.Prelude.{◌≡◌, List, [], Option, Some, None, All, ⊤}
+use Rattle.std.specs.Prelude.{◌≡◌, List, [], ◌∷◌, Option, Some, None, All, ⊤}
 use Rattle.std.specs.List.{AllByRecursion}
 use Rattle.ccr_history.specs.TextMap.{IsAscending}
 use Rattle.ccr_history.specs.declared.build.Status.TheVariants.{Running}
 use Rattle.ccr_history.specs.Builds.{BuildData, build_of}
-use Rattle.ccr_history.specs.Changes.{EditData, changed, TakesAll}
+use Rattle.ccr_history.specs.Changes.{EditData}
 use Rattle.ccr_history.specs.History.{HistoryData, IsHistory}
 use Rattle.ccr_pipeline.specs.Limits.{IsPlan}
 use Rattle.ccr_pipeline.specs.Links.{AreLinked}
 use Rattle.ccr_pipeline.specs.Pipelines.{PipelineData}
 use Rattle.ccr_steps.specs.Asks.{AnswerData, pushed}
 use Rattle.ccr_core.specs.Addressed.{AnswerTo, addressed}
+use Rattle.ccr_core.specs.Edits.{AreEdits, AreTakenTo}
 use Rattle.ccr_core.specs.Events.{EventData, set_pipeline, checked, schedule, trigger, answer, abort, pin, unpin, restart}
 use Rattle.ccr_core.specs.Replies.{Replied}
 use Rattle.ccr_core.specs.Seen.{AreThoseUsed}
 use Rattle.ccr_core.specs.State.{RunningData, State, pipeline_of}
-use Rattle.ccr_core.specs.Steps.{Run}
+use Rattle.ccr_core.specs.Steps.{Step, Run}
 
 -- what every pipeline that was read keeps: its plans keep their limits, and the resources and jobs that they name are
 -- there
@@ -51,9 +52,13 @@ pub record IsStart (s : State) : Type 0 where
   pub pipeline : IsPipeline (pipeline_of s)
   pub none_runs : s.running ≡ []
 
--- the second history is the first after changes, each of which the history takes by then
-abbrev pub IsTakenTo : HistoryData → HistoryData → Type 0
-IsTakenTo before after = (edits : List EditData) × TakesAll before edits × (after ≡ changed edits before)
+-- the steps of these events, one after another, each with its edits: the history takes them by then, and the one after
+-- the step is the one before it, changed by exactly these
+abbrev pub AreTaken : State → List EventData → List Replied → List (List EditData) → State → Type 0
+AreTaken s [] [] [] after = after ≡ s
+AreTaken s (e ∷ es) (r ∷ rs) (edits ∷ more) after =
+    (mid : State) × Step s e r mid × AreEdits s e r edits × AreTakenTo s edits mid × AreTaken mid es rs more after
+AreTaken s es rs more after = ⊥
 
 -- the history has the build as one that runs, and its inputs are the versions at the places that it used
 abbrev pub IsKeptBy : HistoryData → RunningData → Type 0
@@ -68,5 +73,11 @@ abbrev pub EachChangeIsTaken : Type 0
 EachChangeIsTaken =
     (s after : State) (es : List EventData) (rs : List Replied)
     → IsStart s → AllByRecursion IsEvent es → Run s es rs after
-    → IsTakenTo s.history after.history
+    → ((changes : List (List EditData)) × AreTaken s es rs changes after)
     × AllByRecursion (IsKeptBy after.history) after.running
+
+-- A STEP HAS ONE CHANGE: whichever edits are a step's, they are these
+abbrev pub EachChangeIsOne : Type 0
+EachChangeIsOne =
+    (s : State) (e : EventData) (r : Replied) (edits others : List EditData)
+    → AreEdits s e r edits → AreEdits s e r others → edits ≡ others

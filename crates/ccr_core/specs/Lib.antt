@@ -10,6 +10,7 @@ pub mod Builds
 pub mod Steps
 pub mod Own
 pub mod Limits
+pub mod Edits
 pub mod Kept
 pub mod Told
 pub mod Fates

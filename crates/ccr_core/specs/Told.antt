@@ -104,3 +104,12 @@ EndsAgree =
     (e : EndsAsMeant after xs c) (f : EndsAsMeant later ys d)
     → e.run.plan ≡ f.run.plan → e.run.inputs ≡ f.run.inputs → xs ≡ ys
     → (e.run.exchanges ≡ f.run.exchanges) × (e.gains ≡ f.gains) × (c.status ≡ d.status)
+
+-- NO BUILD THAT RUNS has had, of its own, the answers by which another ended as meant, with the same plan and the same
+-- input versions: with them it would have ended too
+abbrev pub NoneRunsOn : Type 0
+NoneRunsOn =
+    (s after later : State) (es : List EventData) (rs : List Replied) (job : Text) (number : ℕ) (b : RunningData)
+    (xs : List AnswerData) (d : BuildData) (f : EndsAsMeant later xs d)
+    → s.running ≡ [] → Run s es rs after → running_at job number after.running ≡ Some b
+    → b.plan ≡ f.run.plan → b.inputs ≡ f.run.inputs → own job number es rs ≡ xs → ⊥

@@ -1,13 +1,13 @@
 //! Answers to what builds asked.
 ghost use Rattle.std.specs.Prelude.{◌≡◌, ◌≢◌, Ok, Err, map, IsTrue, IsFalse, IsSomeAnd, IfOk, IfErr, OnOk, OnErr};
 ghost use Rattle.std.specs.Option.{IfSome};
-ghost use Rattle.ccr_history.specs.Edits.{edit_data};
+ghost use Rattle.ccr_history.specs.Edits.{change_data};
 ghost use Rattle.ccr_steps.specs.Asks.{answer_data};
 ghost use Rattle.ccr_core.specs.Addressed.{answer_to};
 ghost use Rattle.ccr_core.specs.Cores.{core_data};
 ghost use Rattle.ccr_core.specs.Going.{Changes};
 ghost use Rattle.ccr_core.specs.Indexed.{IsIndexed};
-ghost use Rattle.ccr_core.specs.Holding.{IsCore, TakesSaid};
+ghost use Rattle.ccr_core.specs.Holding.{HasSaidEdits, IsCore, TakesSaid};
 ghost use Rattle.ccr_core.specs.Kept.{IsAnswer};
 
 use crate::fault::CoreFault;
@@ -46,6 +46,8 @@ impl Parts {
         ensures step { IfOk result (λ r. TakesSaid (core_data self.old) (core_data self.new)
             (answer_to job.now number turn (answer_data answered)) (Ok r.0)) }
         ensures change { IfOk result (λ r. Changes r.1.items self.old.history self.new.history) }
+        ensures edits { IfOk result (λ r. HasSaidEdits (core_data self.old)
+            (answer_to job.now number turn (answer_data answered)) (Ok r.0) (change_data r.1.items)) }
         ensures refused { IfErr result (λ f. TakesSaid (core_data self.old) (core_data self.old)
             (answer_to job.now number turn (answer_data answered)) (Err f)) }
         ensures unchanged { OnErr result (core_data self.new ≡ core_data self.old) }

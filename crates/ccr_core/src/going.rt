@@ -2,14 +2,15 @@
 ghost use Rattle.std.specs.Prelude.{◌≡◌, ◌⊎◌, ◌<◌, ◌++◌, map, List, vec_len, vec_capacity};
 ghost use Rattle.std.specs.Prelude.{IfOk, IfErr, OnOk, OnErr};
 ghost use Rattle.ccr_history.specs.Changes.{changed, IsRunning};
-ghost use Rattle.ccr_history.specs.Edits.{edit_data};
+ghost use Rattle.ccr_history.specs.Edits.{change_data};
 ghost use Rattle.ccr_pipeline.specs.Pipelines.{pipeline_data};
 ghost use Rattle.ccr_pipeline.specs.Tree.{Tree};
 ghost use Rattle.ccr_steps.specs.Asks.{Chosen, Exchange, answer_data};
 ghost use Rattle.ccr_steps.specs.Runs.{run_data, StandsFor};
 ghost use Rattle.ccr_core.specs.declared.fault.CoreFault.TheVariants.{TableFull, NoMemory};
 ghost use Rattle.ccr_core.specs.Builds.{Settles};
-ghost use Rattle.ccr_core.specs.Going.{CanGoOn, GoesOn, IsRefused, Changes, named};
+ghost use Rattle.ccr_core.specs.Edits.{AreEndEdits, AreMoreEdits, AreNextEdits};
+ghost use Rattle.ccr_core.specs.Going.{CanGoOn, GoesOn, IsRefused, Changes, Waits, named};
 ghost use Rattle.ccr_core.specs.Kept.{IsAnswer};
 ghost use Rattle.ccr_indexes.specs.Indexes.{problems, AreIndexes};
 ghost use Rattle.ccr_core.specs.Indexed.{AreReported};
@@ -44,6 +45,10 @@ fn settle(
         → StandsFor (run_data run.now) plan inputs es
         → Settles (pipeline_data pipeline.now) history.old (named job.now number plan inputs es) r.0 history.new) }
     ensures change { IfOk result (λ r. Changes r.1.items history.old history.new) }
+    ensures edits { IfOk result (λ r. (plan : Tree) (inputs : Chosen) (es : List Exchange)
+        → StandsFor (run_data run.now) plan inputs es
+        → AreEndEdits (pipeline_data pipeline.now) history.old (named job.now number plan inputs es) r.0
+        (change_data r.1.items)) }
     ensures room { IfOk result (λ r. vec_len r.1 < vec_capacity r.1) }
     ensures indexed { OnOk result (AreIndexes (pipeline_data pipeline.now) history.new indexes.new) }
     ensures err { OnErr result (history.new ≡ history.old) }
@@ -91,6 +96,9 @@ fn go_on(
         → Settles (pipeline_data pipeline.now) (changed (reports report) history.old)
         (named job.now number plan inputs es) r.0 history.new) }
     ensures change { IfOk result (λ r. Changes r.1.items history.old history.new) }
+    ensures edits { IfOk result (λ r. (plan : Tree) (inputs : Chosen) (es : List Exchange)
+        → StandsFor (run_data run.now) plan inputs es → AreMoreEdits (pipeline_data pipeline.now) history.old
+        (reports report) (named job.now number plan inputs es) r.0 (change_data r.1.items)) }
     ensures room { OnOk result (IsOver report history.old → ⊥) }
     ensures indexed { AreIndexes (pipeline_data pipeline.now) history.new indexes.new }
     ensures err { OnErr result (history.new ≡ history.old) }
@@ -125,6 +133,9 @@ pub(crate) fn answer_build(
     ensures on { IfOk result (λ r. GoesOn (pipeline_data pipeline.now) history.old (run_data run.old) job.now number
         (answer_data answer) r.0 history.new (run_data run.new)) }
     ensures change { IfOk result (λ r. Changes r.1.items history.old history.new) }
+    ensures edits { IfOk result (λ r. (plan : Tree) (inputs : Chosen) (es : List Exchange)
+        → Waits (run_data run.old) plan inputs es → AreNextEdits (pipeline_data pipeline.now) history.old
+        (named job.now number plan inputs es) (answer_data answer) r.0 (change_data r.1.items)) }
     ensures indexed { AreIndexes (pipeline_data pipeline.now) history.new indexes.new }
     ensures history { OnErr result (history.new ≡ history.old) }
     ensures run { OnErr result (run_data run.new ≡ run_data run.old) }

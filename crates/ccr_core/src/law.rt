@@ -1,9 +1,9 @@
 //! The laws over every list of events.
 ghost use Rattle.ccr_core.specs.Aborting.{AbortIsAnswer, AbortMeetsNoBuild};
 ghost use Rattle.ccr_core.specs.Fates.{EachHasItsFate, EndedStays};
-ghost use Rattle.ccr_core.specs.Kept.{EachChangeIsTaken};
+ghost use Rattle.ccr_core.specs.Kept.{EachChangeIsTaken, EachChangeIsOne};
 ghost use Rattle.ccr_core.specs.Limits.{LimitsAreKept};
-ghost use Rattle.ccr_core.specs.Told.{EachHasItsOwn, EachEndsAsMeant, EachIsCutShort, RunsAgree, EndsAgree};
+ghost use Rattle.ccr_core.specs.Told.{EachHasItsOwn, EachEndsAsMeant, EachIsCutShort, RunsAgree, EndsAgree, NoneRunsOn};
 
 use ccr_steps::{answers_decide, beginnings_decide};
 
@@ -31,8 +31,9 @@ pub fn each_ends_as_meant()
 {}
 
 /// Whatever events come, from a state in which nothing runs: each build that has ended in the history after them had
-/// ended before them, or ended among them as its plan means, by the answers that were its own in all of them, or was
-/// cut short by a restart. What has ended stays as it is.
+/// ended before them, or ended in the step of one of them. Then that event was its own answer or made it, and it ended as
+/// its plan means, by the answers that were its own in all of them; or that event was a restart, while it ran. What has
+/// ended stays as it is.
 ///
 /// It is a law over the definitions alone; nothing runs.
 pub fn each_has_its_fate()
@@ -41,7 +42,8 @@ pub fn each_has_its_fate()
 {}
 
 /// Two runs that give a build the same plan, the same input versions and the same answers of its own give it the same
-/// exchanges, whatever stands between them; if it has ended in both, it ended the same.
+/// exchanges, whatever stands between them; if it has ended in both, it ended the same; and it never runs in one of them
+/// and has ended in the other, unless a restart ended it.
 ///
 /// It is a law over the definitions alone; nothing runs.
 pub fn runs_agree()
@@ -50,6 +52,9 @@ pub fn runs_agree()
 
     // Where it has ended.
     ensures ended { EndsAgree }
+
+    // Not in one of them alone.
+    ensures apart { NoneRunsOn }
 {
     answers_decide();
     beginnings_decide();
@@ -63,15 +68,22 @@ pub fn limits_are_kept()
     ensures { LimitsAreKept }
 {}
 
-/// Whatever events come, from a state in which nothing runs: each change of the history is one that the history takes.
-/// The places that a new build uses are in the tables, one for each input; a build that ends had run; what it moved are
-/// places of the tables, each once; and no table grows past its limit. Each build that runs does so in the history, and
-/// its inputs are the versions at the places that it used there.
+/// Whatever events come, from a state in which nothing runs: each step has one change, a list of edits, which is the one
+/// that [`crate::Core::step`] gives. It is one that the history takes, and the history after the step is the one before it
+/// with exactly these edits. The places that a new build uses are in the tables, one for each input; a build that ends had
+/// run; what it moved are places of the tables, each once; and no table grows past its limit. Each build that runs does so
+/// in the history, and its inputs are the versions at the places that it used there.
 ///
 /// It is a law over the definitions alone; nothing runs.
 pub fn each_change_is_taken()
-    ensures { EachChangeIsTaken }
-{}
+    // Step by step.
+    ensures taken { EachChangeIsTaken }
+
+    // No step has another.
+    ensures one { EachChangeIsOne }
+{
+    answers_decide();
+}
 
 /// An abort of a build that runs is the answer, at its turn, that what it asks was aborted: it has the same replies and
 /// does the same. It meets no fault but `NoBuild`, and that exactly where no such build runs.

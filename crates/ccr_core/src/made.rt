@@ -3,12 +3,13 @@ ghost use Rattle.std.specs.Prelude.{◌≡◌, ◌<◌, ◌+◌, false, length, 
 ghost use Rattle.ccr_history.specs.declared.builds.TheConstants.{MOST_BUILDS};
 ghost use Rattle.ccr_history.specs.Builds.{count_of};
 ghost use Rattle.ccr_history.specs.Changes.{build, edited, AreUsed, IsRunning};
-ghost use Rattle.ccr_history.specs.Edits.{row_of};
+ghost use Rattle.ccr_history.specs.Edits.{change_data, row_of};
 ghost use Rattle.ccr_pipeline.specs.JobData.{job_data};
 ghost use Rattle.ccr_pipeline.specs.Pipelines.{pipeline_data};
 ghost use Rattle.ccr_steps.specs.Runs.{run_data};
 ghost use Rattle.ccr_problem.specs.Follows.{has_newer};
 ghost use Rattle.ccr_indexes.specs.Indexes.{AreIndexes};
+ghost use Rattle.ccr_core.specs.Edits.{AreBuildEdits};
 ghost use Rattle.ccr_core.specs.Going.{CanMake, IsMade, Changes};
 
 use crate::end::{Ending, ending_of, finish};
@@ -92,6 +93,8 @@ pub(crate) fn make_build(
     ensures made { IfOk result (λ m. IsMade (pipeline_data pipeline.now) history.old (job_data job.now) places.now
         m.number m.outcome history.new (run_data m.run)) }
     ensures change { IfOk result (λ m. Changes m.edits.items history.old history.new) }
+    ensures edits { IfOk result (λ m. AreBuildEdits (pipeline_data pipeline.now) history.old (job_data job.now)
+        places.now (change_data m.edits.items)) }
     ensures indexed { AreIndexes (pipeline_data pipeline.now) history.new indexes.new }
     ensures err { OnErr result (history.new ≡ history.old) }
 {

@@ -1,10 +1,11 @@
 //! A build that is made comes to those that run.
 ghost use Rattle.std.specs.Prelude.{◌≡◌, map, IfOk, OnErr};
-ghost use Rattle.ccr_history.specs.Edits.{edit_data};
+ghost use Rattle.ccr_history.specs.Edits.{change_data};
 ghost use Rattle.ccr_pipeline.specs.JobData.{job_data};
 ghost use Rattle.ccr_pipeline.specs.Pipelines.{pipeline_data};
 ghost use Rattle.ccr_steps.specs.Runs.{run_data};
 ghost use Rattle.ccr_indexes.specs.Indexes.{AreIndexes};
+ghost use Rattle.ccr_core.specs.Edits.{AreBuildEdits};
 ghost use Rattle.ccr_core.specs.Going.{CanMake, Changes};
 ghost use Rattle.ccr_core.specs.Holding.{name_data};
 ghost use Rattle.ccr_core.specs.Opening.{IsOpened};
@@ -34,6 +35,8 @@ pub(crate) fn open_build(
         r.0 history.new (map name_data names.old.items) (map name_data names.new.items)
         (map run_data runs.old.items) (map run_data runs.new.items)) }
     ensures change { IfOk result (λ r. Changes r.1.items history.old history.new) }
+    ensures edits { IfOk result (λ r. AreBuildEdits (pipeline_data pipeline.now) history.old (job_data job.now)
+        places.now (change_data r.1.items)) }
     ensures indexed { AreIndexes (pipeline_data pipeline.now) history.new indexes.new }
     ensures history { OnErr result (history.new ≡ history.old) }
     ensures names { OnErr result (names.new.items ≡ names.old.items) }

@@ -1,7 +1,7 @@
 //! Pins by command.
 ghost use Rattle.std.specs.Prelude.{◌≡◌, [], ◌∷◌, Ok, Err, map, option_map, IfOk, IfErr, OnOk, OnErr};
 ghost use Rattle.ccr_history.specs.Changes.{pin_set, pin_cleared, edited};
-ghost use Rattle.ccr_history.specs.Edits.{edit_data, HaveTheirNumbers};
+ghost use Rattle.ccr_history.specs.Edits.{change_data, edit_data, HaveTheirNumbers};
 ghost use Rattle.ccr_history.specs.History.{HistoryData};
 ghost use Rattle.ccr_history.specs.TextMap.{IsAscending};
 ghost use Rattle.ccr_pipeline.specs.Pipelines.{pipeline_data};
@@ -9,7 +9,7 @@ ghost use Rattle.ccr_core.specs.Cores.{core_data};
 ghost use Rattle.ccr_core.specs.Events.{pin, unpin};
 ghost use Rattle.ccr_core.specs.Going.{Changes};
 ghost use Rattle.ccr_core.specs.Indexed.{AreIndexesOf, IsIndexed};
-ghost use Rattle.ccr_core.specs.Holding.{Takes};
+ghost use Rattle.ccr_core.specs.Holding.{HasEdits, Takes};
 ghost use Rattle.ccr_core.specs.Opening.{HasResource, LacksResource};
 
 use crate::change::change_of;
@@ -108,6 +108,8 @@ impl Parts {
         ensures step { IfOk result (λ r. Takes (core_data self.old) (core_data self.new)
             (pin resource.now given) (Ok r.0)) }
         ensures change { IfOk result (λ r. Changes r.1.items self.old.history self.new.history) }
+        ensures edits { IfOk result (λ r. HasEdits (core_data self.old) (pin resource.now given) (Ok r.0)
+            (change_data r.1.items)) }
         ensures refused { IfErr result (λ f. Takes (core_data self.old) (core_data self.old)
             (pin resource.now given) (Err f)) }
         ensures unchanged { OnErr result (core_data self.new ≡ core_data self.old) }
@@ -141,6 +143,8 @@ impl Parts {
         ensures step { IfOk result (λ r. Takes (core_data self.old) (core_data self.new)
             (unpin resource.now) (Ok r.0)) }
         ensures change { IfOk result (λ r. Changes r.1.items self.old.history self.new.history) }
+        ensures edits { IfOk result (λ r. HasEdits (core_data self.old) (unpin resource.now) (Ok r.0)
+            (change_data r.1.items)) }
         ensures refused { IfErr result (λ f. Takes (core_data self.old) (core_data self.old)
             (unpin resource.now) (Err f)) }
         ensures unchanged { OnErr result (core_data self.new ≡ core_data self.old) }

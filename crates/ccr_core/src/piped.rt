@@ -1,7 +1,7 @@
 //! New pipelines.
 ghost use Rattle.std.specs.Prelude.{◌≡◌, [], ◌∷◌, Ok, Err, map, IfOk, IfErr, OnErr};
 ghost use Rattle.ccr_history.specs.Changes.{text};
-ghost use Rattle.ccr_history.specs.Edits.{edit_data, HaveTheirNumbers};
+ghost use Rattle.ccr_history.specs.Edits.{change_data, edit_data, HaveTheirNumbers};
 ghost use Rattle.ccr_history.specs.History.{HistoryData};
 ghost use Rattle.ccr_pipeline.specs.Pipelines.{pipeline_data};
 ghost use Rattle.ccr_indexes.specs.Indexes.{AreIndexes};
@@ -9,7 +9,7 @@ ghost use Rattle.ccr_core.specs.Cores.{core_data};
 ghost use Rattle.ccr_core.specs.Events.{set_pipeline};
 ghost use Rattle.ccr_core.specs.Going.{Changes};
 ghost use Rattle.ccr_core.specs.Indexed.{IsIndexed};
-ghost use Rattle.ccr_core.specs.Holding.{IsCore, Takes};
+ghost use Rattle.ccr_core.specs.Holding.{HasEdits, IsCore, Takes};
 ghost use Rattle.ccr_core.specs.Kept.{IsPipeline};
 
 use crate::change::change_of;
@@ -51,6 +51,8 @@ impl Parts {
         ensures step { IfOk result (λ r. Takes (core_data self.old) (core_data self.new)
             (set_pipeline (pipeline_data pipeline)) (Ok r.0)) }
         ensures change { IfOk result (λ r. Changes r.1.items self.old.history self.new.history) }
+        ensures edits { IfOk result (λ r. HasEdits (core_data self.old) (set_pipeline (pipeline_data pipeline)) (Ok r.0)
+            (change_data r.1.items)) }
         ensures refused { IfErr result (λ f. Takes (core_data self.old) (core_data self.old)
             (set_pipeline (pipeline_data pipeline)) (Err f)) }
         ensures unchanged { OnErr result (core_data self.new ≡ core_data self.old) }

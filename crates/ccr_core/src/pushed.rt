@@ -1,10 +1,12 @@
 //! What an answer to a push reports.
 ghost use Rattle.std.specs.Prelude.{◌≡◌, ◌∷◌, [], ◌⊎◌, IfOk, IfErr, OnOk, OnErr};
 ghost use Rattle.ccr_history.specs.Changes.{changed};
+ghost use Rattle.ccr_history.specs.Edits.{change_data};
 ghost use Rattle.ccr_history.specs.History.{HistoryData, IsHistory};
 ghost use Rattle.ccr_pipeline.specs.Pipelines.{pipeline_data};
 ghost use Rattle.ccr_steps.specs.Asks.{ask_data, answer_data};
 ghost use Rattle.ccr_core.specs.declared.fault.CoreFault.TheVariants.{TableFull, NoMemory};
+ghost use Rattle.ccr_core.specs.Edits.{news_in};
 ghost use Rattle.ccr_core.specs.Kept.{IsAnswer};
 ghost use Rattle.ccr_core.specs.Seen.{report, report_by};
 ghost use Rattle.ccr_core.specs.Endings.{reports, report_edits, IsOver};
@@ -80,6 +82,7 @@ pub(crate) fn append(
 ) -> Result<Option<Reported>, CoreFault>
     ensures ok { OnOk result (history.new ≡ changed (reports report) history.old) }
     ensures change { IfOk result (λ r. Changes (report_edits r) history.old history.new) }
+    ensures edits { IfOk result (λ r. change_data (report_edits r) ≡ news_in history.old (reports report)) }
     ensures fits { OnOk result (IsOver report history.old → ⊥) }
     ensures err { OnErr result (history.new ≡ history.old) }
     ensures refused { IfErr result (λ f. (f ≡ NoMemory) ⊎ ((f ≡ TableFull) × IsOver report history.old)) }

@@ -1,15 +1,17 @@
 //! Reports of checks.
-ghost use Rattle.std.specs.Prelude.{◌≡◌, Ok, Err, map, IfOk, IfErr, OnOk, OnErr};
+ghost use Rattle.std.specs.Prelude.{◌≡◌, [], ◌∷◌, Ok, Err, map, IfOk, IfErr, OnOk, OnErr};
 ghost use Rattle.std.specs.List.{AllByRecursion};
-ghost use Rattle.ccr_history.specs.Edits.{edit_data};
+ghost use Rattle.ccr_history.specs.Changes.{versions};
+ghost use Rattle.ccr_history.specs.Edits.{change_data};
 ghost use Rattle.ccr_history.specs.TextMap.{IsAscending};
 ghost use Rattle.ccr_pipeline.specs.Pipelines.{pipeline_data};
 ghost use Rattle.ccr_indexes.specs.Indexes.{problems, AreIndexes, AreBefore};
 ghost use Rattle.ccr_core.specs.Cores.{core_data};
+ghost use Rattle.ccr_core.specs.Edits.{news_in};
 ghost use Rattle.ccr_core.specs.Events.{checked};
 ghost use Rattle.ccr_core.specs.Going.{Changes};
 ghost use Rattle.ccr_core.specs.Indexed.{IsIndexed};
-ghost use Rattle.ccr_core.specs.Holding.{Takes};
+ghost use Rattle.ccr_core.specs.Holding.{HasEdits, Takes};
 ghost use Rattle.ccr_core.specs.Opening.{IsReported, IsNotReported};
 
 use crate::fault::CoreFault;
@@ -70,6 +72,7 @@ fn append(
     requires { AreIndexes (pipeline_data pipeline.now) history.old indexes.old }
     ensures ok { IfOk result (λ r. IsReported history.old history.new scope seen.items r.0) }
     ensures change { IfOk result (λ r. Changes r.1.items history.old history.new) }
+    ensures edits { IfOk result (λ r. change_data r.1.items ≡ news_in history.old (versions scope seen.items ∷ [])) }
     ensures indexed { AreIndexes (pipeline_data pipeline.now) history.new indexes.new }
     ensures refused { IfErr result (IsNotReported history.old scope seen.items) }
     ensures err { OnErr result (history.new ≡ history.old) }
@@ -106,6 +109,8 @@ impl Parts {
         ensures step { IfOk result (λ r. Takes (core_data self.old) (core_data self.new)
             (checked resource.now seen.items) (Ok r.0)) }
         ensures change { IfOk result (λ r. Changes r.1.items self.old.history self.new.history) }
+        ensures edits { IfOk result (λ r. HasEdits (core_data self.old) (checked resource.now seen.items) (Ok r.0)
+            (change_data r.1.items)) }
         ensures refused { IfErr result (λ f. Takes (core_data self.old) (core_data self.old)
             (checked resource.now seen.items) (Err f)) }
         ensures unchanged { OnErr result (core_data self.new ≡ core_data self.old) }

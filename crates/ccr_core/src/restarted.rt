@@ -1,12 +1,12 @@
 //! Restarts.
 ghost use Rattle.std.specs.Prelude.{◌≡◌, Ok, Err, map, IfOk, IfErr, OnErr};
 ghost use Rattle.ccr_history.specs.Changes.{changed, TakesAll};
-ghost use Rattle.ccr_history.specs.Edits.{edit_data, HaveTheirNumbers};
+ghost use Rattle.ccr_history.specs.Edits.{change_data, edit_data, HaveTheirNumbers};
 ghost use Rattle.ccr_core.specs.Cores.{core_data};
 ghost use Rattle.ccr_core.specs.Events.{restart};
 ghost use Rattle.ccr_core.specs.Going.{Changes};
 ghost use Rattle.ccr_core.specs.Indexed.{IsIndexed};
-ghost use Rattle.ccr_core.specs.Holding.{name_data, IsCore, Takes};
+ghost use Rattle.ccr_core.specs.Holding.{name_data, HasEdits, IsCore, Takes};
 ghost use Rattle.ccr_core.specs.Resumed.{cut_name};
 
 use crate::fault::CoreFault;
@@ -57,6 +57,8 @@ impl Parts {
         requires indexed { IsIndexed self.old }
         ensures step { IfOk result (λ r. Takes (core_data self.old) (core_data self.new) restart (Ok r.0)) }
         ensures change { IfOk result (λ r. Changes r.1.items self.old.history self.new.history) }
+        ensures edits { IfOk result (λ r. HasEdits (core_data self.old) restart (Ok r.0)
+            (change_data r.1.items)) }
         ensures refused { IfErr result (λ f. Takes (core_data self.old) (core_data self.old) restart (Err f)) }
         ensures unchanged { OnErr result (core_data self.new ≡ core_data self.old) }
         ensures budget { self.new.budget ≡ self.old.budget }

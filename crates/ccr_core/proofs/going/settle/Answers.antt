@@ -23,3 +23,7 @@ returns-clause-change c =
       ap (λ l. changed l h) c.in_ok-outcome.ensures.edits ∙ sym c.in_ok-follow.ensures.ok,
     )
     (c.in_ok-outcome.ensures.numbered h c.row_of-row.ensures)
+
+pub returns-clause-edits : goal.returns-clause-edits
+returns-clause-edits c = λ plan inputs es stands.
+    (c.in_ok-outcome.field-0.pairs.items, c.in_ok-outcome.ensures.stands plan inputs es stands, c.in_ok-outcome.ensures.edits)

@@ -13,7 +13,7 @@ use Rattle.ccr_pipeline.specs.Tree.{tree_of}
 use Rattle.ccr_steps.specs.Asks.{chosen}
 use Rattle.ccr_steps.specs.Runs.{run_data, StandsFor}
 use Rattle.ccr_core.specs.Choices.{used_at, versions_at}
-use Rattle.ccr_core.proofs.Making.{versions_each, made_fits, made_so, made_change, made_numbers}
+use Rattle.ccr_core.proofs.Making.{versions_each, made_fits, made_edits, made_so, made_change, made_numbers}
 use Rattle.ccr_core.proofs.Rows.{changes_so}
 use Rattle.ccr_core.proofs.made.make_build.Goals as goal
 
@@ -93,3 +93,20 @@ returns-clause-change c =
     ∙ ap (λ l. build c.as_str-name.result.now c.deref-5.result.now ∷ l) c.in_ok-outcome.ensures.edits)
     (subst (λ n. IsRunning c.as_str-name.result.now n c.add.new.history.builds) (sym c.next_number-number.ensures) c.in_ok-add.ensures.running))
     numbers
+
+pub returns-clause-edits : goal.returns-clause-edits
+returns-clause-edits c =
+    let is = ap (map input_data) c.deref.ensures.value ∙ c.in_ok-inputs.ensures.inputs in
+    let is2 = ap (map input_data) c.deref-2.ensures.value ∙ c.in_ok-inputs.ensures.inputs in
+    let items = rw c.unwrap.ensures at c.insert.ensures.items in
+    made_edits (pipeline_data c.args.pipeline.now) c.args.history.now c.add.new.history c.finish.new.history (job_data c.args.job.now) c.args.places.now c.requires.can (run_data c.in_ok-run.run') c.in_ok-versions.versions.items c.deref-5.result.now c.as_str-name.result.now c.next_number-number.result c.in_ok-outcome.field-0.outcome c.in_ok-outcome.field-0.pairs.items
+    c.as_str-name.ensures.value c.next_number-number.ensures
+    (c.in_ok-versions.ensures ∙ ap (λ l. versions_at (pipeline_data c.args.pipeline.now) c.args.history.now l c.args.places.now) is2)
+    (c.deref-5.ensures.value ∙ c.in_ok-used.ensures ∙ ap (λ l. used_at (pipeline_data c.args.pipeline.now) c.args.history.now l c.args.places.now) is)
+    (subst (λ l. StandsFor (run_data c.in_ok-run.run') (tree_of c.args.job.now.plan.value) (chosen (input_names (tree_of c.args.job.now.plan.value)) l) []) c.deref-3.ensures.value c.in_ok-run.ensures)
+    c.in_ok-outcome.ensures.stands c.in_ok-add.ensures.ok
+    (map edit_data c.insert.new.self.items)
+    (ap (map edit_data) items
+    ∙ ap (λ y. build y c.in_ok-used.used.items ∷ map edit_data c.in_ok-outcome.field-0.edits.items) c.in_ok-copy.ensures.ok
+    ∙ ap (λ l. build c.as_str-name.result.now l ∷ map edit_data c.in_ok-outcome.field-0.edits.items) (sym c.deref-5.ensures.value)
+    ∙ ap (λ l. build c.as_str-name.result.now c.deref-5.result.now ∷ l) c.in_ok-outcome.ensures.edits)

@@ -1,4 +1,4 @@
-use Rattle.std.proofs.Common.{◌≡◌, ◌∙◌, [], length, ap, sym, arith, true}
+use Rattle.std.proofs.Common.{arith}
 use Rattle.ccr_pipeline.specs.Pipelines.{pipeline_data}
 use Rattle.ccr_core.proofs.Editing.{no_length, is_zero}
 use Rattle.ccr_core.proofs.Indexing.{none_reported}

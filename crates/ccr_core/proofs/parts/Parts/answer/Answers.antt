@@ -1,12 +1,15 @@
-use Rattle.std.proofs.Common.{◌≡◌, ◌<◌, length, map, get_or, slice_set, option_map, sym, ap, ◌∙◌, subst, arith}
+use Rattle.std.proofs.Common.{◌≡◌, List, ◌<◌, length, map, get_or, slice_set, option_map, sym, ap, ◌∙◌, subst, arith}
+use Rattle.ccr_history.specs.Edits.{change_data}
 use Rattle.ccr_pipeline.specs.Pipelines.{pipeline_data}
-use Rattle.ccr_steps.specs.Asks.{answer_data}
+use Rattle.ccr_pipeline.specs.Tree.{Tree}
+use Rattle.ccr_steps.specs.Asks.{Chosen, Exchange, answer_data}
 use Rattle.ccr_steps.specs.Runs.{run_data, StandsFor}
 use Rattle.ccr_core.specs.Cores.{core_data}
 use Rattle.ccr_core.specs.Addressed.{answer_to}
-use Rattle.ccr_core.specs.Going.{CanGoOn, GoesOn, IsRefused}
+use Rattle.ccr_core.specs.Edits.{AreNextEdits}
+use Rattle.ccr_core.specs.Going.{named, Waits, CanGoOn, GoesOn, IsRefused}
 use Rattle.ccr_core.specs.Holding.{CoreData, name_data, name_index}
-use Rattle.ccr_core.proofs.Continuing.{TurnIs, bare, none_there, can_answer, other_turn, not_taken, taken_on, taken_to_end, set_same, set_gone}
+use Rattle.ccr_core.proofs.Continuing.{TurnIs, bare, none_there, can_answer, other_turn, not_taken, edits_goes, edits_ends, taken_on, taken_to_end, set_same, set_gone}
 use Rattle.ccr_core.proofs.Choosing.{length_map}
 use Rattle.ccr_core.proofs.Reaching.{paired}
 use Rattle.ccr_core.proofs.parts.Parts.answer.Goals as goal
@@ -68,3 +71,17 @@ returns-in-Err-clause-unchanged c =
     let machines : CoreData = core_data c.args.self.now in
     ap (λ h. record { history = h; pipeline = machines.pipeline; budget = machines.budget; names = machines.names; runs = map run_data (slice_set c.args.self.now.runs.items c.index_of-k.result c.answer_build.new.run) }) c.in-Err.ensures.history
     ∙ ap (λ l. record { history = machines.history; pipeline = machines.pipeline; budget = machines.budget; names = machines.names; runs = l }) (set_same c.args.self.now.runs.items c.index_of-k.result c.index_mut-run.result.now c.answer_build.new.run (c.in-Err.ensures.run ∙ ap run_data c.index_mut-run.ensures.value))
+
+pub returns-in-Some-outcome-clause-edits : goal.returns-in-Some-outcome-clause-edits
+returns-in-Some-outcome-clause-edits c =
+    let at : c.index_of-k.result ≡ name_index c.args.job.now c.args.number (map name_data c.args.self.now.names.items) = c.index_of-k.ensures ∙ ap (λ l. name_index c.args.job.now c.args.number (map name_data l)) c.deref.ensures.value in
+    let lt : c.index_of-k.result < length c.args.self.now.runs.items = omega (arith, c.if-k-len.false, c.len.ensures, c.args.self.now.runs.ok) in
+    let are = subst (λ r. (plan : Tree) (inputs : Chosen) (es : List Exchange) → Waits (run_data r) plan inputs es → AreNextEdits (pipeline_data c.in-Some.pipeline) c.args.self.now.history (named c.args.job.now c.args.number plan inputs es) (answer_data c.args.answered) c.in-Ok.outcome (change_data c.in-Ok.edits.items)) c.index_mut-run.ensures.value c.in-Ok.ensures.edits in
+    edits_ends c.args.self.now.history (option_map pipeline_data c.args.self.now.pipeline) c.args.self.now.budget c.args.self.now.names.items c.args.self.now.runs.items (answer_to c.args.job.now c.args.number c.args.turn (answer_data c.args.answered)) (pipeline_data c.in-Some.pipeline) (ap (option_map pipeline_data) c.in-Some.is) c.index_of-k.result c.index_mut-run.result.now at lt c.in-Ok.outcome (change_data c.in-Ok.edits.items) are c.in-Some-outcome.outcome c.in-Some-outcome.is
+
+pub returns-in-None-clause-edits : goal.returns-in-None-clause-edits
+returns-in-None-clause-edits c =
+    let at : c.index_of-k.result ≡ name_index c.args.job.now c.args.number (map name_data c.args.self.now.names.items) = c.index_of-k.ensures ∙ ap (λ l. name_index c.args.job.now c.args.number (map name_data l)) c.deref.ensures.value in
+    let lt : c.index_of-k.result < length c.args.self.now.runs.items = omega (arith, c.if-k-len.false, c.len.ensures, c.args.self.now.runs.ok) in
+    let are = subst (λ r. (plan : Tree) (inputs : Chosen) (es : List Exchange) → Waits (run_data r) plan inputs es → AreNextEdits (pipeline_data c.in-Some.pipeline) c.args.self.now.history (named c.args.job.now c.args.number plan inputs es) (answer_data c.args.answered) c.in-Ok.outcome (change_data c.in-Ok.edits.items)) c.index_mut-run.ensures.value c.in-Ok.ensures.edits in
+    edits_goes c.args.self.now.history (option_map pipeline_data c.args.self.now.pipeline) c.args.self.now.budget c.args.self.now.names.items c.args.self.now.runs.items (answer_to c.args.job.now c.args.number c.args.turn (answer_data c.args.answered)) (pipeline_data c.in-Some.pipeline) (ap (option_map pipeline_data) c.in-Some.is) c.index_of-k.result c.index_mut-run.result.now at lt c.in-Ok.outcome (change_data c.in-Ok.edits.items) are c.in-None.is

@@ -1,16 +1,18 @@
 use Rattle.std.proofs.Common.{map, option_map, sym, ap, ◌∙◌, subst, arith}
+use Rattle.ccr_history.specs.Edits.{change_data}
 use Rattle.ccr_pipeline.specs.JobData.{job_data}
 use Rattle.ccr_pipeline.specs.Pipelines.{pipeline_data}
 use Rattle.ccr_steps.specs.Runs.{run_data}
 use Rattle.ccr_problem.specs.ProblemOf.{job_of}
 use Rattle.ccr_core.specs.declared.pick.Picked.TheVariants as pick
 use Rattle.ccr_core.specs.Cores.{core_data}
+use Rattle.ccr_core.specs.Edits.{AreBuildEdits}
 use Rattle.ccr_core.specs.Going.{CanMake}
 use Rattle.ccr_core.specs.Holding.{name_data}
 use Rattle.ccr_core.specs.Opening.{IsOpened}
 use Rattle.ccr_core.specs.Picking.{IsPicked}
 use Rattle.ccr_core.proofs.Choosing.{length_map}
-use Rattle.ccr_core.proofs.Opening.{no_room, ends_so, picks, busy, none_satisfies, over_budget, not_new, can, made}
+use Rattle.ccr_core.proofs.Opening.{no_room, ends_so, picks, busy, none_satisfies, over_budget, not_new, can, made, made_edits}
 use Rattle.ccr_core.proofs.Owning.{job_at}
 use Rattle.ccr_core.proofs.parts.Parts.make.Goals as goal
 
@@ -45,3 +47,8 @@ open_build-requires-clause-can c =
 pub returns-in-Ok-open_build-clause-step : goal.returns-in-Ok-open_build-clause-step
 returns-in-Ok-open_build-clause-step c =
     made (core_data c.args.self.now) c.args.by_command c.args.job.now (pipeline_data c.in-Some.pipeline) (ap (option_map pipeline_data) c.in-Some.is) (job_data c.in-Some-job_named.found.now) (ap (job_of c.args.job.now) (sym c.jobs.ensures) ∙ sym c.in-Some-job_named.ensures) (let names = length_map name_data c.args.self.now.names.items in let room = c.in_ok-check_room.ensures.has.0 in omega (arith, names, room, c.len.ensures, c.args.self.now.names.ok)) c.in_ok-check_room.ensures.has.1 c.in-Best.places.items (picks (core_data c.args.self.now) c.args.by_command c.args.job.now (pipeline_data c.in-Some.pipeline) (ap (option_map pipeline_data) c.in-Some.is) (job_data c.in-Some-job_named.found.now) (ap (job_of c.args.job.now) (sym c.jobs.ensures) ∙ sym c.in-Some-job_named.ensures) (let names = length_map name_data c.args.self.now.names.items in let room = c.in_ok-check_room.ensures.has.0 in omega (arith, names, room, c.len.ensures, c.args.self.now.names.ok)) c.in_ok-check_room.ensures.has.1 (pick.Best c.in-Best.places) (subst (IsPicked (pipeline_data c.in-Some.pipeline) c.args.self.now.history c.args.self.now.budget (map name_data c.args.self.now.names.items) (job_data c.in-Some-job_named.found.now) c.args.by_command) c.in-Best.is (subst (λ l. IsPicked (pipeline_data c.in-Some.pipeline) c.args.self.now.history c.args.self.now.budget (map name_data l) (job_data c.in-Some-job_named.found.now) c.args.by_command c.in-Ok.pick) c.deref.ensures.value c.in-Ok.ensures))) c.in-Ok-open_build.number c.open_build.new.history (map name_data c.open_build.new.names.items) (map run_data c.open_build.new.runs.items) (subst (λ l. IsOpened (pipeline_data c.in-Some.pipeline) c.args.self.now.history (job_data c.in-Some-job_named.found.now) l c.in-Ok-open_build.number c.open_build.new.history (map name_data c.args.self.now.names.items) (map name_data c.open_build.new.names.items) (map run_data c.args.self.now.runs.items) (map run_data c.open_build.new.runs.items)) c.deref-in-Best.ensures.value c.in-Ok-open_build.ensures.opened)
+
+pub returns-in-Ok-open_build-clause-edits : goal.returns-in-Ok-open_build-clause-edits
+returns-in-Ok-open_build-clause-edits c =
+    made_edits (core_data c.args.self.now) c.args.by_command c.args.job.now (pipeline_data c.in-Some.pipeline) (ap (option_map pipeline_data) c.in-Some.is) (job_data c.in-Some-job_named.found.now) (ap (job_of c.args.job.now) (sym c.jobs.ensures) ∙ sym c.in-Some-job_named.ensures) (let names = length_map name_data c.args.self.now.names.items in let room = c.in_ok-check_room.ensures.has.0 in omega (arith, names, room, c.len.ensures, c.args.self.now.names.ok)) c.in_ok-check_room.ensures.has.1 c.in-Best.places.items (picks (core_data c.args.self.now) c.args.by_command c.args.job.now (pipeline_data c.in-Some.pipeline) (ap (option_map pipeline_data) c.in-Some.is) (job_data c.in-Some-job_named.found.now) (ap (job_of c.args.job.now) (sym c.jobs.ensures) ∙ sym c.in-Some-job_named.ensures) (let names = length_map name_data c.args.self.now.names.items in let room = c.in_ok-check_room.ensures.has.0 in omega (arith, names, room, c.len.ensures, c.args.self.now.names.ok)) c.in_ok-check_room.ensures.has.1 (pick.Best c.in-Best.places) (subst (IsPicked (pipeline_data c.in-Some.pipeline) c.args.self.now.history c.args.self.now.budget (map name_data c.args.self.now.names.items) (job_data c.in-Some-job_named.found.now) c.args.by_command) c.in-Best.is (subst (λ l. IsPicked (pipeline_data c.in-Some.pipeline) c.args.self.now.history c.args.self.now.budget (map name_data l) (job_data c.in-Some-job_named.found.now) c.args.by_command c.in-Ok.pick) c.deref.ensures.value c.in-Ok.ensures))) c.in-Ok-open_build.number (change_data c.in-Ok-open_build.change.items)
+    (subst (λ l. AreBuildEdits (pipeline_data c.in-Some.pipeline) c.args.self.now.history (job_data c.in-Some-job_named.found.now) l (change_data c.in-Ok-open_build.change.items)) c.deref-in-Best.ensures.value c.in-Ok-open_build.ensures.edits)

@@ -1,5 +1,6 @@
 use Rattle.std.proofs.Common.{map, option_map, sym, ap, ◌∙◌, subst}
 use Rattle.ccr_history.specs.Changes.{changed, TakesAll}
+use Rattle.ccr_history.specs.Edits.{edit_data}
 use Rattle.ccr_steps.specs.Runs.{run_data}
 use Rattle.ccr_core.specs.Cores.{core_data}
 use Rattle.ccr_core.specs.Holding.{name_data}
@@ -8,7 +9,7 @@ use Rattle.ccr_history.specs.History.{HistoryData}
 use Rattle.ccr_pipeline.specs.Pipelines.{pipeline_data}
 use Rattle.ccr_core.specs.Indexed.{AreIndexesOf}
 use Rattle.ccr_core.proofs.Indexing.{cuts_on_of}
-use Rattle.ccr_core.proofs.Editing.{all_taken, restarted_so}
+use Rattle.ccr_core.proofs.Editing.{all_taken, restart_edits, restarted_so}
 use Rattle.ccr_core.proofs.Rows.{changes_so}
 use Rattle.ccr_core.proofs.parts.Parts.restart.Goals as goal
 
@@ -38,3 +39,7 @@ returns-in-Ok-clause-indexed c =
     let is = c.cut_all.ensures ∙ ap (λ l. changed (map cut_name (map name_data l)) h) c.deref-in-Ok.ensures.value in
     subst (λ y. AreIndexesOf o y c.args.self.now.indexes) (sym is)
     (cuts_on_of c.builds_change_problems.ensures.unsuccessful o (map name_data c.args.self.now.names.items) h c.args.self.now.indexes c.rules.ensures (all_taken (core_data c.args.self.now) c.requires.core) c.requires.indexed)
+
+pub returns-in-Ok-clause-edits : goal.returns-in-Ok-clause-edits
+returns-in-Ok-clause-edits c =
+    restart_edits (core_data c.args.self.now) (map edit_data c.in-Ok.change.items) (c.in-Ok.ensures.is ∙ ap (λ l. map cut_name (map name_data l)) c.deref.ensures.value)
