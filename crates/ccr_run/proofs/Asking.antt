@@ -10,8 +10,8 @@ use Rattle.ccr_run.specs.declared.order.Order.{Order}
 use Rattle.ccr_run.specs.Served.{Served}
 
 pub served_as : {R S T : Type 0} (pairs : R → List Pair) (counts : S → ShelfCounts) (holds : T → HistoryData → Type 0)
-    (tally : T → Tally) (begins_with : T → HistoryData → Type 0) (order : Order) (asked named : Option Text)
-    (end : Result ℕ Failure) (old new : Text) → asked ≡ named → Served pairs counts holds tally begins_with order named end old new
-    → Served pairs counts holds tally begins_with order asked end old new
-served_as pairs counts holds tally begins_with order asked named end old new is it =
-    subst (λ (path : Option Text). Served pairs counts holds tally begins_with order path end old new) (sym is) it
+    (leaves : T → List HistoryData → Type 0) (tally : T → Tally) (begins_with : T → HistoryData → Type 0) (order : Order) (asked named : Option Text)
+    (end : Result ℕ Failure) (old new : Text) → asked ≡ named → Served pairs counts holds leaves tally begins_with order named end old new
+    → Served pairs counts holds leaves tally begins_with order asked end old new
+served_as pairs counts holds leaves tally begins_with order asked named end old new is it =
+    subst (λ (path : Option Text). Served pairs counts holds leaves tally begins_with order path end old new) (sym is) it

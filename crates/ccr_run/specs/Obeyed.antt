@@ -15,12 +15,13 @@ use Rattle.ccr_run.specs.Statuses.{exit_status_of, misuse_status}
 
 -- the words order something, and what came of it has this status; the outcome says whether a write failed
 pub record IsDone {R S T : Type 0} (pairs : R → List Pair) (counts : S → ShelfCounts)
-    (holds : T → HistoryData → Type 0) (tally : T → Tally) (begins_with : T → HistoryData → Type 0)
-    (words : List Text) (asked : Option Text) (old new : Text) (failed : Bool) (status : ℕ) : Type 0 where
+    (holds : T → HistoryData → Type 0) (leaves : T → List HistoryData → Type 0) (tally : T → Tally)
+    (begins_with : T → HistoryData → Type 0) (words : List Text) (asked : Option Text) (old new : Text) (failed : Bool)
+    (status : ℕ) : Type 0 where
   pub order : Order
   pub ordered : IsOrdered words order
   pub outcome : Outcome
-  pub served : Served pairs counts holds tally begins_with order asked outcome.end old new
+  pub served : Served pairs counts holds leaves tally begins_with order asked outcome.end old new
   pub printed : outcome.is_printed ≡ not failed
   pub status_is : status ≡ exit_status_of outcome
 
@@ -46,7 +47,8 @@ pub record IsAbort (words : List Text) (asked : Option Text) (old new : Text) (s
 -- THE STATUS THAT WORDS COME TO, with the database that was opened and the lines that were printed: that of the command or
 -- the abort that they order, or of why they order nothing
 abbrev pub Obeyed : {R S T : Type 0} → (R → List Pair) → (S → ShelfCounts) → (T → HistoryData → Type 0)
-    → (T → Tally) → (T → HistoryData → Type 0) → List Text → Option Text → Text → Text → Bool → ℕ → Type 0
-Obeyed pairs counts holds tally begins_with words asked old new failed status =
-    IsDone pairs counts holds tally begins_with words asked old new failed status
+    → (T → List HistoryData → Type 0) → (T → Tally) → (T → HistoryData → Type 0) → List Text → Option Text → Text
+    → Text → Bool → ℕ → Type 0
+Obeyed pairs counts holds leaves tally begins_with words asked old new failed status =
+    IsDone pairs counts holds leaves tally begins_with words asked old new failed status
     ⊎ (IsAbort words asked old new status ⊎ IsMisuse words asked old new status)

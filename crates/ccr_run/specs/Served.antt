@@ -52,29 +52,31 @@ pub record Begins (h : HistoryData) (budget : ℕ) (v : View) : Type 0 where
 
 -- a server did the command: from one value of it to another, with these lines before and after
 pub record Did {R S T : Type 0} (pairs : R → List Pair) (counts : S → ShelfCounts) (holds : T → HistoryData → Type 0)
-    (tally : T → Tally) (order : Order) (opened : Server R S T) (end : Result ℕ Failure) (old new : Text) : Type 0 where
+    (leaves : T → List HistoryData → Type 0) (tally : T → Tally) (order : Order) (opened : Server R S T)
+    (end : Result ℕ Failure) (old new : Text) : Type 0 where
   pub left : Server R S T
   pub answer : Result ℕ ServeFault
   pub came : CameOf (places_in order) (command_data order.command) answer
-      (view_of pairs counts holds tally opened old) (view_of pairs counts holds tally left new)
+      (view_of pairs counts holds leaves tally opened old) (view_of pairs counts holds leaves tally left new)
   pub end_is : end ≡ handed_on answer
 
 -- the database that the options name was opened, and a server was made over the history that was found there, and did
 -- the command
 pub record DidCommand {R S T : Type 0} (pairs : R → List Pair) (counts : S → ShelfCounts)
-    (holds : T → HistoryData → Type 0) (tally : T → Tally) (begins_with : T → HistoryData → Type 0) (order : Order)
-    (asked : Option Text) (end : Result ℕ Failure) (old new : Text) : Type 0 where
+    (holds : T → HistoryData → Type 0) (leaves : T → List HistoryData → Type 0) (tally : T → Tally)
+    (begins_with : T → HistoryData → Type 0) (order : Order) (asked : Option Text) (end : Result ℕ Failure) (old new : Text) : Type 0 where
   pub named : asked ≡ Some order.options.database.now
   pub storage : T
   pub history : HistoryData
   pub found : begins_with storage history
   pub opened : Server R S T
-  pub begins : Begins history order.options.budget (view_of pairs counts holds tally opened old)
-  pub did : Did pairs counts holds tally order opened end old new
+  pub begins : Begins history order.options.budget (view_of pairs counts holds leaves tally opened old)
+  pub did : Did pairs counts holds leaves tally order opened end old new
 
 -- WHAT CAME OF AN ORDER: a server did the command, or none was made and nothing is printed
 abbrev pub Served : {R S T : Type 0} → (R → List Pair) → (S → ShelfCounts) → (T → HistoryData → Type 0)
-    → (T → Tally) → (T → HistoryData → Type 0) → Order → Option Text → Result ℕ Failure → Text → Text → Type 0
-Served pairs counts holds tally begins_with order asked end old new =
-    DidCommand pairs counts holds tally begins_with order asked end old new
+    → (T → List HistoryData → Type 0) → (T → Tally) → (T → HistoryData → Type 0) → Order → Option Text
+    → Result ℕ Failure → Text → Text → Type 0
+Served pairs counts holds leaves tally begins_with order asked end old new =
+    DidCommand pairs counts holds leaves tally begins_with order asked end old new
     ⊎ (IsUnserved order asked end × (new ≡ old))

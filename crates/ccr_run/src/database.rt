@@ -1,5 +1,5 @@
 //! The database as a server's storage.
-ghost use Rattle.std.specs.Prelude.{◌≡◌, false, IsTrue, IfOk, IfSome};
+ghost use Rattle.std.specs.Prelude.{◌≡◌, [], ◌∷◌, false, IsTrue, IfOk, IfSome};
 ghost use Rattle.sqlite_wal.specs.Files.{image_at};
 ghost use Rattle.sqlite.specs.Files.{file_state, IsOpened};
 ghost use Rattle.sqlite.specs.Held.{state};
@@ -8,9 +8,10 @@ ghost use Rattle.sqlite.specs.State.{HasCleanDisk};
 ghost use Rattle.ccr_core.specs.Resumed.{IsReadable};
 ghost use Rattle.ccr_history.specs.History.{HistoryData, IsHistory};
 ghost use Rattle.ccr_tables.specs.Contents.{Contents, Holds};
+ghost use Rattle.ccr_store.specs.Crash.{Leaves};
 ghost use Rattle.ccr_store.specs.Rows.{rows_of};
 ghost use Rattle.ccr_store.specs.StoreData.{IsKept};
-ghost use Rattle.ccr_run.specs.Databases.{holds, begins_with};
+ghost use Rattle.ccr_run.specs.Databases.{holds, leaves, begins_with};
 
 use ccr_history::{Edit, History};
 use ccr_storage::Storage;
@@ -20,7 +21,8 @@ use std::alloc::Global;
 
 /// The history in a database, as a server's storage.
 ///
-/// What it holds is known where the files held a history as they were opened: the six tables with its rows, or nothing.
+/// What it holds, and what a crash leaves, is known where the files held a history as they were opened: the six tables with
+/// its rows, or nothing.
 #[derive(Drop)]
 pub struct Database<D: Alter> {
     store: Store<D>,
@@ -33,7 +35,9 @@ impl<D: Alter + Drop> Database<D> {
             → IsKept D.Store loaded.0.store loaded.1)
             × ((h : HistoryData) → HasCleanDisk (state D.Store loaded.0.store.conn) → IsHistory h
             → Holds (rows_of h) (state D.Store store.conn).now → h ≡ loaded.1)
-            × (HasCleanDisk (state D.Store loaded.0.store.conn) → HasCleanDisk (state D.Store store.conn))) }
+            × (HasCleanDisk (state D.Store loaded.0.store.conn) → HasCleanDisk (state D.Store store.conn))
+            × ((these : Contents) → Holds these (state D.Store store.conn).now
+            → Leaves D.Store loaded.0.store (loaded.1 ∷ []))) }
         ensures readable { IfOk result (λ loaded. IfSome loaded.1.text IsReadable) }
     {
         let mut store = store;
@@ -56,6 +60,7 @@ impl<S: Start> Database<FileStore<FileFrom<S>>> {
         requires opened { HasCleanDisk (file_state conn) → IsOpened conn }
         requires found { HasCleanDisk (file_state conn) → FindsIn (image_at S.Start) (file_state conn) }
         ensures holds { IfOk result (λ loaded. holds (image_at S.Start) loaded.0 loaded.1) }
+        ensures leaves { IfOk result (λ loaded. leaves (image_at S.Start) loaded.0 (loaded.1 ∷ [])) }
         ensures begins { IfOk result (λ loaded. begins_with (image_at S.Start) loaded.0 loaded.1) }
         ensures readable { IfOk result (λ loaded. IfSome loaded.1.text IsReadable) }
     {
@@ -68,9 +73,11 @@ impl<S: Start> Database<FileStore<FileFrom<S>>> {
 
 impl<S: Start> Storage for Database<FileStore<FileFrom<S>>> {
     ghost use Rattle.sqlite_wal.specs.Files.{image_at};
-    ghost use Rattle.ccr_run.specs.Databases.{holds, tally};
+    ghost use Rattle.ccr_run.specs.Databases.{holds, leaves, tally};
 
     ghost holds = { λ database h. holds (image_at S.Start) database h };
+
+    ghost leaves = { λ database hs. leaves (image_at S.Start) database hs };
 
     ghost tally = { tally };
 

@@ -70,6 +70,7 @@ fn obey<'a, S: Start, W: Write>(
     requires unasked { opener.old.asked ≡ None }
     ensures { Obeyed ⟦<Naming<'a, Machine<&'a HostRuntime>> as Runner>⟧.pairs ⟦<Folders<&'a HostRuntime> as Shelf>⟧.counts
         ⟦<Database<FileStore<FileFrom<S>>> as Storage>⟧.holds
+        ⟦<Database<FileStore<FileFrom<S>>> as Storage>⟧.leaves
         ⟦<Database<FileStore<FileFrom<S>>> as Storage>⟧.tally (begins_with (image_at S.Start))
         (map string_bytes words.now) (asked_by opener.new)
         (out.old.shown ++ out.old.waiting) (out.new.shown ++ out.new.waiting) out.new.failed (exit_status result) }

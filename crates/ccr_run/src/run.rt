@@ -1,5 +1,5 @@
 //! A command is done.
-ghost use Rattle.std.specs.Prelude.{◌≡◌, ◌≤◌, ◌++◌, ℕ, [], Some, None, Result, false, not, IsSome, IfOk, IfSome, string_bytes};
+ghost use Rattle.std.specs.Prelude.{◌≡◌, ◌≤◌, ◌++◌, ℕ, [], ◌∷◌, Some, None, Result, false, not, IsSome, IfOk, IfSome, string_bytes};
 ghost use Rattle.sqlite_wal.specs.Files.{image_at};
 ghost use Rattle.sqlite.specs.Files.{file_state, IsOpened};
 ghost use Rattle.sqlite.specs.Start.{FindsIn};
@@ -55,9 +55,9 @@ fn command<R: Runner, S: Shelf, T: Storage, W: Write>(
     command: &Command,
     out: &mut Printed<W>,
 ) -> Result<u8, Failure>
-    requires ready { let view = view_of R.pairs S.counts T.holds T.tally in
+    requires ready { let view = view_of R.pairs S.counts T.holds T.leaves T.tally in
         IsReady (view server.old (out.old.shown ++ out.old.waiting)) }
-    ensures came { let view = view_of R.pairs S.counts T.holds T.tally in
+    ensures came { let view = view_of R.pairs S.counts T.holds T.leaves T.tally in
         (answer : Result ℕ ServeFault) × (result ≡ handed_on answer)
         × CameOf (places_data server.old.places) (command_data command.now) answer
         (view server.old (out.old.shown ++ out.old.waiting)) (view server.new (out.new.shown ++ out.new.waiting)) }
@@ -74,9 +74,9 @@ fn serve_by<R: Runner + Drop, S: Shelf + Drop, T: Storage + Drop, W: Write>(
     order: &Order<'_>,
     out: &mut Printed<W>,
 ) -> Result<u8, Failure>
-    requires ready { IsReady (view_of R.pairs S.counts T.holds T.tally server []) }
+    requires ready { IsReady (view_of R.pairs S.counts T.holds T.leaves T.tally server []) }
     requires places { places_data server.places ≡ places_in order.now }
-    ensures did { Did R.pairs S.counts T.holds T.tally order.now server result
+    ensures did { Did R.pairs S.counts T.holds T.leaves T.tally order.now server result
         (out.old.shown ++ out.old.waiting) (out.new.shown ++ out.new.waiting) }
     ensures printed { out.new.failed ≡ false → out.new.waiting ≡ [] }
 {
@@ -96,11 +96,13 @@ fn serve_history<'a, S: Start, W: Write>(
     requires least { 1 ≤ order.now.options.budget }
     requires most { order.now.options.budget ≤ MOST_NODES }
     requires holds { ⟦<Database<FileStore<FileFrom<S>>> as Storage>⟧.holds database history }
+    requires leaves { ⟦<Database<FileStore<FileFrom<S>>> as Storage>⟧.leaves database (history ∷ []) }
     requires found { begins_with (image_at S.Start) database history }
     requires readable { IfSome history.text IsReadable }
     requires places { places_data places ≡ places_in order.now }
     ensures served { Served ⟦<Naming<'a, Machine<&'a HostRuntime>> as Runner>⟧.pairs ⟦<Folders<&'a HostRuntime> as Shelf>⟧.counts
         ⟦<Database<FileStore<FileFrom<S>>> as Storage>⟧.holds
+        ⟦<Database<FileStore<FileFrom<S>>> as Storage>⟧.leaves
         ⟦<Database<FileStore<FileFrom<S>>> as Storage>⟧.tally (begins_with (image_at S.Start))
         order.now (Some order.now.options.database.now) result
         (out.old.shown ++ out.old.waiting) (out.new.shown ++ out.new.waiting) }
@@ -132,6 +134,7 @@ fn serve_database<'a, S: Start, W: Write>(
     requires places { places_data places ≡ places_in order.now }
     ensures served { Served ⟦<Naming<'a, Machine<&'a HostRuntime>> as Runner>⟧.pairs ⟦<Folders<&'a HostRuntime> as Shelf>⟧.counts
         ⟦<Database<FileStore<FileFrom<S>>> as Storage>⟧.holds
+        ⟦<Database<FileStore<FileFrom<S>>> as Storage>⟧.leaves
         ⟦<Database<FileStore<FileFrom<S>>> as Storage>⟧.tally (begins_with (image_at S.Start))
         order.now (Some order.now.options.database.now) result
         (out.old.shown ++ out.old.waiting) (out.new.shown ++ out.new.waiting) }
@@ -156,6 +159,7 @@ fn serve<'a, S: Start, W: Write>(
     requires unasked { opener.old.asked ≡ None }
     ensures served { Served ⟦<Naming<'a, Machine<&'a HostRuntime>> as Runner>⟧.pairs ⟦<Folders<&'a HostRuntime> as Shelf>⟧.counts
         ⟦<Database<FileStore<FileFrom<S>>> as Storage>⟧.holds
+        ⟦<Database<FileStore<FileFrom<S>>> as Storage>⟧.leaves
         ⟦<Database<FileStore<FileFrom<S>>> as Storage>⟧.tally (begins_with (image_at S.Start))
         order.now (asked_by opener.new) result (out.old.shown ++ out.old.waiting) (out.new.shown ++ out.new.waiting) }
     ensures printed { out.old.waiting ≡ [] → out.new.failed ≡ false → out.new.waiting ≡ [] }
@@ -182,6 +186,7 @@ pub fn run<'a, S: Start, W: Write>(
     requires unasked { opener.old.asked ≡ None }
     ensures served { Served ⟦<Naming<'a, Machine<&'a HostRuntime>> as Runner>⟧.pairs ⟦<Folders<&'a HostRuntime> as Shelf>⟧.counts
         ⟦<Database<FileStore<FileFrom<S>>> as Storage>⟧.holds
+        ⟦<Database<FileStore<FileFrom<S>>> as Storage>⟧.leaves
         ⟦<Database<FileStore<FileFrom<S>>> as Storage>⟧.tally (begins_with (image_at S.Start))
         order.now (asked_by opener.new) result.end
         (out.old.shown ++ out.old.waiting) (out.new.shown ++ out.new.waiting) }

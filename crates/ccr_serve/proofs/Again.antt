@@ -1,5 +1,5 @@
 -- An answer for which there is no room, and errored in its place.
-use Rattle.std.proofs.Common.{◌≡◌, ℕ, false, Result, Ok, Err, IfOk, IfErr, refl, ◌∙◌, subst, inr}
+use Rattle.std.proofs.Common.{◌≡◌, ℕ, false, Result, Ok, Err, IfOk, IfErr, refl, sym, ◌∙◌, subst, inr}
 use Rattle.ccr_history.specs.Text.{Text}
 use Rattle.ccr_steps.specs.Asks.{AnswerData, errored}
 use Rattle.ccr_core.specs.declared.fault.CoreFault.{CoreFault}
@@ -48,6 +48,7 @@ kept_away_again : (e : EventData) (g : CoreFault) (f : ServeFault) (v w n : View
 kept_away_again e g f v w n still full un = record {
   back = back f un.back;
   holds = subst (λ c. n.holds c.history) still un.holds;
+  crash = λ s is. un.crash s (subst (λ c. Stands c s) (sym still) is);
   commits = asked_then false v.tally.commits 0 w.tally.commits 0 n.tally.commits full.commits un.commits;
   rest = else_then v w n full.rest un.rest;
 } where

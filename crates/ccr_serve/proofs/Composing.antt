@@ -5,11 +5,13 @@ use Rattle.ccr_core.specs.Holding.{Stands}
 use Rattle.ccr_core.specs.State.{State}
 use Rattle.ccr_task.specs.declared.counts.ShelfCounts.{ShelfCounts}
 use Rattle.ccr_task.specs.Shelves.{Grew}
+use Rattle.ccr_serve.specs.Crash.{LeavesAt}
 use Rattle.ccr_serve.specs.Items.{World, Item, Done, Serve, Each, Part, Items, Then, pairs_of, lines_of_all}
 use Rattle.ccr_serve.specs.Taken.{taken_in}
 use Rattle.ccr_serve.specs.Views.{View, world_of, IsReady, HasAsked, StandsAt, Called, Calls}
 use Rattle.ccr_serve.proofs.Counted.{grew_none}
 use Rattle.ccr_serve.proofs.Commits.{taken_in-append, rose_none, asked_none, asked_then}
+use Rattle.ccr_serve.proofs.Crash.{leaves_ready}
 
 pub pairs_of-append : (ds es : List Done) → pairs_of (ds ++ es) ≡ pairs_of ds ++ pairs_of es
 pairs_of-append [] es = refl
@@ -59,6 +61,7 @@ module _ (A B : Part) (v0 v1 v2 : View) (s : State) (whole : Bool) where
         ∙ (append_assoc v0.lines (lines_of_all a.dones) (lines_of_all b.dones)
         ∙ ap (λ ls. v0.lines ++ ls) (sym (lines_of_all-append a.dones b.dones))));
     holds = b.holds;
+    crash = b.crash;
     stands = b.stands;
   } where
     both : (whole : Bool) → B a.now b.dones whole b.now
@@ -111,6 +114,7 @@ called_to A B v0 v1 s whole c does = record {
   commits = c.commits;
   lines = c.lines;
   holds = c.holds;
+  crash = c.crash;
   stands = c.stands;
 }
 
@@ -142,6 +146,7 @@ calls_none S v ready s h = record {
   commits = rose_none v.tally.commits;
   lines = sym (append-nil v.lines);
   holds = subst v.holds h.0 ready.holds;
+  crash = leaves_ready v s ready h;
   stands = (ready.is_open, h, refl, refl);
 }
 
@@ -149,9 +154,10 @@ calls_none S v ready s h = record {
 pub calls_cut : (S : Serve) (is : List Item) (old new : View) (lost : List Pair)
     → new.pairs ≡ old.pairs ++ lost → length lost ≤ 1 → HasAsked false old.tally.commits 0 new.tally.commits
     → new.lines ≡ old.lines → new.holds old.core.history
+    → ((s : State) → Stands old.core s → LeavesAt new.closed new.leaves s)
     → ((s : State) → Stands old.core s → StandsAt false new.closed (world_of old s) new)
     → Calls (Items S is) old false new
-calls_cut S is old new lost pairs few commits lines holds stands s h = record {
+calls_cut S is old new lost pairs few commits lines holds crash stands s h = record {
   dones = [];
   now = world_of old s;
   does = ([], is, refl, refl);
@@ -161,6 +167,7 @@ calls_cut S is old new lost pairs few commits lines holds stands s h = record {
   commits = commits;
   lines = lines ∙ sym (append-nil old.lines);
   holds = subst new.holds h.0 holds;
+  crash = crash s h;
   stands = stands s h;
 }
 
@@ -175,7 +182,7 @@ stands_back old new core last counts is_open s h =
 pub calls_back : (S : Serve) (is : List Item) (v : View) → IsReady v → Calls (Items S is) v false v
 calls_back S is v ready =
     calls_cut S is v v [] (sym (append-nil v.pairs)) nil_few (asked_none v.tally.commits) refl ready.holds
-    (stands_back v v refl refl same ready.is_open) where
+    (λ s is. leaves_ready v s ready is) (stands_back v v refl refl same ready.is_open) where
       nil_few : length {A = Pair} [] ≤ 1
       nil_few = omega arith
 

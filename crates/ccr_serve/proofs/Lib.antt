@@ -1,5 +1,6 @@
 mod Counted
 mod Commits
+mod Crash
 mod Launching
 mod GoingRound
 mod Composing

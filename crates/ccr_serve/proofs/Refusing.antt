@@ -22,6 +22,7 @@ use Rattle.ccr_serve.specs.declared.fault.ServeFault.TheVariants as fault
 use Rattle.ccr_serve.proofs.Commits.{rose_none, asked_these}
 use Rattle.ccr_serve.proofs.Counted.{grew_none}
 use Rattle.ccr_serve.proofs.Composing.{calls_back}
+use Rattle.ccr_serve.proofs.Crash.{leaves_ready}
 use Rattle.ccr_serve.proofs.Steps.{after, printed, items_stop, cut_by_memory, none_added}
 
 -- ---- nothing was done
@@ -104,6 +105,7 @@ module _ (places : PlacesData) (c : CommandData) (e : EventData) (f : CoreFault)
     commits = asked_these v.tally.commits 0 n.tally.commits made.commits;
     lines = lines ∙ sym (append-nil v.lines);
     holds = subst n.holds (stands_still s h).0 made.ready.holds;
+    crash = leaves_ready n s made.ready (stands_still s h);
     stands = subst (λ b. StandsAt false b (world_of v s) (printed n l)) (sym made.ready.is_open)
         (stands_still s h, made.rest.last, subst (λ k. Grew v.counts k) (sym made.rest.counts) none);
   }

@@ -18,6 +18,7 @@ use Rattle.ccr_lines.specs.Lines.{lines_of, refused_line, cause_words}
 use Rattle.ccr_lines.specs.declared.cause.Cause.{Cause}
 use Rattle.ccr_task.specs.declared.counts.ShelfCounts.{ShelfCounts}
 use Rattle.ccr_task.specs.Shelves.{Grew}
+use Rattle.ccr_serve.specs.Crash.{LeavesAt}
 use Rattle.ccr_serve.specs.Found.{found, newest, Finds}
 use Rattle.ccr_serve.specs.Found as what_is
 use Rattle.ccr_serve.specs.Items.{World, Item, Done, Serve, Part, Items, Noting}
@@ -30,6 +31,7 @@ use Rattle.ccr_serve.specs.Views.{View, world_of, resources_held, IsReady, HasAs
 use Rattle.ccr_serve.specs.declared.fault.ServeFault.{ServeFault}
 use Rattle.ccr_serve.specs.declared.fault.ServeFault.TheVariants as fault
 use Rattle.ccr_serve.proofs.Commits.{add_none, rose_none, asked_none}
+use Rattle.ccr_serve.proofs.Crash.{leaves_ready}
 
 -- ---- views
 -- a view after launches: the shelf's count, the pairs and what is printed may be others
@@ -40,6 +42,7 @@ after v f p l = record {
   counts = f;
   pairs = p;
   holds = v.holds;
+  leaves = v.leaves;
   tally = v.tally;
   lines = l;
   closed = v.closed;
@@ -54,6 +57,7 @@ ready_after v f p l ready = record {
   is_open = ready.is_open;
   unfailed = ready.unfailed;
   holds = ready.holds;
+  leaves = ready.leaves;
 }
 
 -- ---- parts of which one item was done, or nothing
@@ -82,6 +86,7 @@ calls_did P old new ready each s is = let one = each s is in record {
       one.commits;
   lines = one.lines ∙ ap (λ ls. old.lines ++ ls) (sym (append-nil one.did.lines));
   holds = subst new.holds one.stands.0 ready.holds;
+  crash = leaves_ready new one.state ready one.stands;
   stands = (ready.is_open, one.stands, refl, refl);
 }
 
@@ -92,8 +97,9 @@ MayStop P = (w : World) → P w [] false w
 pub calls_stop : (P : Part) (old new : View) (lost : List Pair) → MayStop P
     → new.pairs ≡ old.pairs ++ lost → length lost ≤ 1 → HasAsked false old.tally.commits 0 new.tally.commits
     → new.lines ≡ old.lines → new.holds old.core.history
+    → ((s : State) → Stands old.core s → LeavesAt new.closed new.leaves s)
     → ((s : State) → Stands old.core s → StandsAt false new.closed (world_of old s) new) → Calls P old false new
-calls_stop P old new lost may pairs few commits lines holds stands s is = record {
+calls_stop P old new lost may pairs few commits lines holds crash stands s is = record {
   dones = [];
   now = world_of old s;
   does = may (world_of old s);
@@ -103,6 +109,7 @@ calls_stop P old new lost may pairs few commits lines holds stands s is = record
   commits = commits;
   lines = lines ∙ sym (append-nil old.lines);
   holds = subst new.holds is.0 holds;
+  crash = crash s is;
   stands = stands s is;
 }
 
@@ -124,7 +131,7 @@ pub cut_by_memory : (P : Part) (v : View) (f : ShelfCounts) (p : List Pair) (l :
     → IsReady v → Grew v.counts f → AddsAtMostOne v.pairs p → l ≡ v.lines → Calls P v false (after v f p l)
 cut_by_memory P v f p l may ready grew adds lines =
     calls_stop P v (after v f p l) adds.0 may adds.1 adds.2 (asked_none v.tally.commits) lines ready.holds
-    (λ s is. stands_back v.closed v (after v f p l) s is refl grew)
+    (λ s is. leaves_ready v s ready is) (λ s is. stands_back v.closed v (after v f p l) s is refl grew)
 
 pub none_added : (p : List Pair) → AddsAtMostOne p p
 none_added p = ([], sym (append-nil p), omega arith)
@@ -154,7 +161,7 @@ pub calls_unmade : (P : Part) (v : View) (f : ShelfCounts) (p : List Pair) (l : 
     → Unmade stop (after v f p l) new → Calls P v false new
 calls_unmade P v f p l new stop may grew adds lines un =
     calls_stop P v new adds.0 may (un.rest.pairs ∙ adds.1) adds.2 un.commits (un.rest.lines ∙ lines) un.holds
-    (λ s is. elim (unmade_back stop (after v f p l) new un) as (λ _. StandsAt false new.closed (world_of v s) new) [
+    un.crash (λ s is. elim (unmade_back stop (after v f p l) new un) as (λ _. StandsAt false new.closed (world_of v s) new) [
       | inl back ↦ stands_back new.closed v new s (subst (λ c. Stands c s) (sym back.0) is) un.rest.last
           (subst (λ n. Grew v.counts n) (sym un.rest.counts) grew)
       | inr closed ↦ stands_closed new.closed v new s closed
@@ -176,6 +183,7 @@ pub unmade_printed : (f : ServeFault) (old new : View) (l m : Text) → m ≡ l 
 unmade_printed f old new l m same un = record {
   back = back f un.back;
   holds = un.holds;
+  crash = un.crash;
   commits = un.commits;
   rest = record { last = un.rest.last; counts = un.rest.counts; pairs = un.rest.pairs; lines = same };
 } where

@@ -60,6 +60,7 @@ served n rank counts lines = record {
   counts = counts;
   pairs = n.pairs;
   holds = n.holds;
+  leaves = n.leaves;
   tally = n.tally;
   lines = lines;
   closed = n.closed;
@@ -133,6 +134,7 @@ module _ (places : PlacesData) (v : View) (looked : ShelfCounts) (job : Text) (n
         is_open = gives.ready.is_open;
         unfailed = gives.ready.unfailed;
         holds = gives.ready.holds;
+        leaves = gives.ready.leaves;
       }) (λ s is.
       let g = gives.takes s is in
       record {
@@ -200,6 +202,7 @@ module _ (places : PlacesData) (v : View) (looked : ShelfCounts) (job : Text) (n
         is_open = made.ready.is_open;
         unfailed = made.ready.unfailed;
         holds = made.ready.holds;
+        leaves = made.ready.leaves;
       }) (λ s is.
       record {
         did = aborted s is (due s is);

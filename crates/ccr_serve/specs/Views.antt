@@ -1,5 +1,5 @@
 -- What a call of the server shows.
-use Rattle.std.specs.Prelude.{◌≡◌, ◌≢◌, ◌≤◌, ◌+◌, ℕ, List, [], ◌++◌, length, nat_lt, Bool, true, false, None, Some, Result, Ok, Err, unwrap_or, ⊤}
+use Rattle.std.specs.Prelude.{◌≡◌, ◌≢◌, ◌≤◌, ◌+◌, ℕ, List, [], ◌∷◌, ◌++◌, length, nat_lt, Bool, true, false, None, Some, Result, Ok, Err, unwrap_or, ⊤}
 use Rattle.ccr_history.specs.Text.{Text}
 use Rattle.ccr_history.specs.History.{HistoryData}
 use Rattle.ccr_pipeline.specs.JobData.{ResourceData, JobData}
@@ -18,31 +18,34 @@ use Rattle.ccr_storage.specs.declared.tally.Tally.{Tally}
 use Rattle.ccr_serve.specs.declared.fault.ServeFault.{ServeFault}
 use Rattle.ccr_serve.specs.declared.fault.ServeFault.TheVariants.{Store, NoMemory, Closed}
 use Rattle.ccr_serve.specs.declared.server.Server.{Server}
+use Rattle.ccr_serve.specs.Crash.{LeavesAt}
 use Rattle.ccr_serve.specs.Items.{World, Done, Part, pairs_of, lines_of_all}
 use Rattle.ccr_serve.specs.Taken.{taken_in, commits_for}
 
 -- what a server holds: its core, the rank of the build served last, what its shelf has counted, what its runner ran,
--- which history its storage holds, the tally of its storage's commits, what it has printed, and whether its storage
--- failed
+-- which history its storage holds, which ones a crash may leave there, the tally of its storage's commits, what it has
+-- printed, and whether its storage failed
 pub record View : Type 1 where
   pub core : CoreData
   pub last : ℕ
   pub counts : ShelfCounts
   pub pairs : List Pair
   pub holds : HistoryData → Type 0
+  pub leaves : List HistoryData → Type 0
   pub tally : Tally
   pub lines : Text
   pub closed : Bool
 
 -- what a server holds that has printed these lines
 abbrev pub view_of : {R S T : Type 0} → (R → List Pair) → (S → ShelfCounts) → (T → HistoryData → Type 0)
-    → (T → Tally) → Server R S T → Text → View
-view_of pairs counts holds tally server lines = record {
+    → (T → List HistoryData → Type 0) → (T → Tally) → Server R S T → Text → View
+view_of pairs counts holds leaves tally server lines = record {
   core = core_data server.core;
   last = server.last;
   counts = counts server.shelf;
   pairs = pairs server.runner;
   holds = holds server.storage;
+  leaves = leaves server.storage;
   tally = tally server.storage;
   lines = lines;
   closed = server.closed;
@@ -56,6 +59,7 @@ with_counts c v = record {
   counts = c;
   pairs = v.pairs;
   holds = v.holds;
+  leaves = v.leaves;
   tally = v.tally;
   lines = v.lines;
   closed = v.closed;
@@ -73,11 +77,13 @@ jobs_held c = (unwrap_or c.pipeline no_pipeline).jobs
 abbrev pub world_of : View → State → World
 world_of v s = record { core = s; last = v.last; counts = v.counts }
 
--- the server goes on: its storage hasn't failed, and no commit of it, and it holds the core's history
+-- the server goes on: its storage hasn't failed, and no commit of it, it holds the core's history, and a crash leaves
+-- that one
 pub record IsReady (v : View) : Type 0 where
   pub is_open : v.closed ≡ false
   pub unfailed : v.tally.fault ≡ None
   pub holds : v.holds v.core.history
+  pub leaves : v.leaves (v.core.history ∷ [])
 
 -- ---- calls
 -- the pairs that answer for no item: none in a whole call, else at most one, that of a program whose answer was lost
@@ -100,8 +106,8 @@ StandsAt false false now new = Stands new.core now.core × (new.last ≡ now.las
 
 -- what a call did from a state: a part, whole or cut short. Its new pairs are those of its items, in order, with none
 -- left over, but for at most one where it was cut short; the storage was asked for a commit of each event that the core
--- took, and for no other, but for at most one where it was cut short; the lines of its items are printed; and the
--- storage holds the history after them
+-- took, and for no other, but for at most one where it was cut short; the lines of its items are printed; the storage
+-- holds the history after them; and a crash leaves that one, or, once the server has closed, that of one event more
 pub record Called (part : Part) (old : View) (s : State) (whole : Bool) (new : View) : Type 0 where
   pub dones : List Done
   pub now : World
@@ -112,6 +118,7 @@ pub record Called (part : Part) (old : View) (s : State) (whole : Bool) (new : V
   pub commits : HasAsked whole old.tally.commits (taken_in dones) new.tally.commits
   pub lines : new.lines ≡ old.lines ++ lines_of_all dones
   pub holds : new.holds now.core.history
+  pub crash : LeavesAt new.closed new.leaves now.core
   pub stands : StandsAt whole new.closed now new
 
 -- WHAT A CALL DID, from each state that the core stood for
@@ -186,9 +193,11 @@ IsBack NoMemory old new = (new.core ≡ old.core) × IsReady new
 IsBack (Store f) old new = IsFailed f new
 IsBack f old new = ⊥
 
--- no event was made, for this fault, and at most one commit was asked for; the storage holds what it held
+-- no event was made, for this fault, and at most one commit was asked for; the storage holds what it held, and a crash
+-- leaves that, or, once the server has closed, the history with the event that was being stored
 pub record Unmade (f : ServeFault) (old new : View) : Type 0 where
   pub back : IsBack f old new
   pub holds : new.holds old.core.history
+  pub crash : (s : State) → Stands old.core s → LeavesAt new.closed new.leaves s
   pub commits : HasAsked false old.tally.commits 0 new.tally.commits
   pub rest : IsElse old new

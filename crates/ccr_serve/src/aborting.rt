@@ -48,13 +48,13 @@ pub(crate) fn take_abort<S: Shelf>(
 impl<R: Runner, S: Shelf, T: Storage> Server<R, S, T> {
     /// Aborts a build that runs: what it asks is answered so.
     fn abort(&mut self, job: String, number: u32) -> Result<Reply, ServeFault>
-        requires ready { let view = view_of R.pairs S.counts T.holds T.tally in IsReady (view self.old []) }
+        requires ready { let view = view_of R.pairs S.counts T.holds T.leaves T.tally in IsReady (view self.old []) }
         requires runs { (s : State) → Stands (core_data self.old.core) s
             → IsSome (running_at (string_bytes job) number s.running) }
-        ensures made { let view = view_of R.pairs S.counts T.holds T.tally in
+        ensures made { let view = view_of R.pairs S.counts T.holds T.leaves T.tally in
             IfOk result (λ reply. Made (abort (string_bytes job) number) (Ok reply)
             (view self.old []) (view self.new [])) }
-        ensures unmade { let view = view_of R.pairs S.counts T.holds T.tally in
+        ensures unmade { let view = view_of R.pairs S.counts T.holds T.leaves T.tally in
             IfErr result (λ fault. Unmade fault (view self.old []) (view self.new [])) }
         ensures places { self.new.places ≡ self.old.places }
     {
@@ -73,22 +73,22 @@ impl<R: Runner, S: Shelf, T: Storage> Server<R, S, T> {
         name: String,
         out: &mut O,
     ) -> Result<(), ServeFault>
-        requires ready { let view = view_of R.pairs S.counts T.holds T.tally in
+        requires ready { let view = view_of R.pairs S.counts T.holds T.leaves T.tally in
             IsReady (view self.old (O.written out.old)) }
         requires due { IsDue (core_data self.old.core) self.old.last (Some due) }
         requires name { string_bytes name ≡ string_bytes due.job }
         requires room { length (string_bytes due.job) + 64 ≤ O.room out.old }
-        ensures served { let view = view_of R.pairs S.counts T.holds T.tally in
+        ensures served { let view = view_of R.pairs S.counts T.holds T.leaves T.tally in
             (before : ShelfCounts) → AbortIsAsked true before (S.counts self.old.shelf)
             → Calls (Items (Serves (places_data self.old.places)) (item.turn ∷ []))
             (with_counts before (view self.old (O.written out.old))) (is_ok result) (view self.new (O.written out.new)) }
-        ensures kept { let view = view_of R.pairs S.counts T.holds T.tally in
+        ensures kept { let view = view_of R.pairs S.counts T.holds T.leaves T.tally in
             OnOk result (IsReady (view self.new (O.written out.new))) }
-        ensures stops { let view = view_of R.pairs S.counts T.holds T.tally in
+        ensures stops { let view = view_of R.pairs S.counts T.holds T.leaves T.tally in
             IfErr result (λ fault. StopsItem fault (view self.new (O.written out.new))) }
-        ensures once { let view = view_of R.pairs S.counts T.holds T.tally in
+        ensures once { let view = view_of R.pairs S.counts T.holds T.leaves T.tally in
             IfOk result (λ _. CommitsOnce (Ok true) (view self.old []) (view self.new [])) }
-        ensures at_most { let view = view_of R.pairs S.counts T.holds T.tally in
+        ensures at_most { let view = view_of R.pairs S.counts T.holds T.leaves T.tally in
             IfErr result (λ fault. CommitsOnce (Err fault) (view self.old []) (view self.new [])) }
         ensures places { self.new.places ≡ self.old.places }
     {

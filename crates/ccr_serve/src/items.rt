@@ -147,16 +147,16 @@ impl<R: Runner, S: Shelf, T: Storage> Server<R, S, T> {
     /// - `NoMemory` where a growth was refused; the program may have run by then.
     /// - `Store` where the storage failed; then the server has closed.
     pub(crate) fn check<O: Lines>(&mut self, name: &str, out: &mut O) -> Result<bool, ServeFault>
-        requires ready { let view = view_of R.pairs S.counts T.holds T.tally in
+        requires ready { let view = view_of R.pairs S.counts T.holds T.leaves T.tally in
             IsReady (view self.old (O.written out.old)) }
         requires there { IsSome (resource_of name.now (resources_held (core_data self.old.core))) }
-        ensures served { let view = view_of R.pairs S.counts T.holds T.tally in
+        ensures served { let view = view_of R.pairs S.counts T.holds T.leaves T.tally in
             Calls (Noting (Items (Serves (places_data self.old.places)) (item.check name.now ∷ []))
             (λ ds. IfOk result (λ good. good ≡ all_taken ds)))
             (view self.old (O.written out.old)) (is_ok result) (view self.new (O.written out.new)) }
-        ensures kept { let view = view_of R.pairs S.counts T.holds T.tally in
+        ensures kept { let view = view_of R.pairs S.counts T.holds T.leaves T.tally in
             OnOk result (IsReady (view self.new (O.written out.new))) }
-        ensures stops { let view = view_of R.pairs S.counts T.holds T.tally in
+        ensures stops { let view = view_of R.pairs S.counts T.holds T.leaves T.tally in
             IfErr result (λ fault. StopsItem fault (view self.new (O.written out.new))) }
         ensures places { self.new.places ≡ self.old.places }
     {
@@ -195,14 +195,14 @@ impl<R: Runner, S: Shelf, T: Storage> Server<R, S, T> {
     /// - `NoMemory` where a growth was refused; then nothing has changed.
     /// - `Store` where the storage failed; then the server has closed.
     pub(crate) fn schedule<O: Lines>(&mut self, name: &str, out: &mut O) -> Result<(), ServeFault>
-        requires ready { let view = view_of R.pairs S.counts T.holds T.tally in
+        requires ready { let view = view_of R.pairs S.counts T.holds T.leaves T.tally in
             IsReady (view self.old (O.written out.old)) }
-        ensures served { let view = view_of R.pairs S.counts T.holds T.tally in
+        ensures served { let view = view_of R.pairs S.counts T.holds T.leaves T.tally in
             Calls (Items (Serves (places_data self.old.places)) (item.schedule name.now ∷ []))
             (view self.old (O.written out.old)) (is_ok result) (view self.new (O.written out.new)) }
-        ensures kept { let view = view_of R.pairs S.counts T.holds T.tally in
+        ensures kept { let view = view_of R.pairs S.counts T.holds T.leaves T.tally in
             OnOk result (IsReady (view self.new (O.written out.new))) }
-        ensures stops { let view = view_of R.pairs S.counts T.holds T.tally in
+        ensures stops { let view = view_of R.pairs S.counts T.holds T.leaves T.tally in
             IfErr result (λ fault. StopsItem fault (view self.new (O.written out.new))) }
         ensures places { self.new.places ≡ self.old.places }
     {

@@ -1,5 +1,5 @@
 //! How a server begins.
-ghost use Rattle.std.specs.Prelude.{◌≡◌, ◌≤◌, [], false, IfOk, IfErr};
+ghost use Rattle.std.specs.Prelude.{◌≡◌, ◌≤◌, [], ◌∷◌, false, IfOk, IfErr};
 ghost use Rattle.std.specs.Option.{IfSome};
 ghost use Rattle.ccr_proof.specs.declared.proof.TheConstants.{MOST_NODES};
 ghost use Rattle.ccr_core.specs.Cores.{core_data};
@@ -32,10 +32,11 @@ impl<R: Runner + Drop, S: Shelf + Drop, T: Storage + Drop> Server<R, S, T> {
         budget: u32,
     ) -> Result<Server<R, S, T>, ServeFault>
         requires holds { T.holds storage history }
+        requires leaves { T.leaves storage (history ∷ []) }
         requires readable { IfSome history.text IsReadable }
         requires least { 1 ≤ budget }
         requires most { budget ≤ MOST_NODES }
-        ensures ready { let view = view_of R.pairs S.counts T.holds T.tally in
+        ensures ready { let view = view_of R.pairs S.counts T.holds T.leaves T.tally in
             IfOk result (λ server. IsReady (view server [])) }
         ensures resumed { IfOk result (λ server. IsResumed history budget (core_data server.core)) }
         ensures nobody { IfOk result (λ server. server.last ≡ 0) }
@@ -44,6 +45,7 @@ impl<R: Runner + Drop, S: Shelf + Drop, T: Storage + Drop> Server<R, S, T> {
         ensures places { IfOk result (λ server. server.places ≡ places) }
         ensures only { IfErr result KeepsFromOpening }
     {
+        history.rules();
         let (core, change) = match Core::resume(alloc, history, budget) {
             Ok(begun) => begun,
             Err(_) => return Err(ServeFault::NoMemory),

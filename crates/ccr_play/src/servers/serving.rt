@@ -38,7 +38,7 @@ impl<W: Write> Model for Serving<W> {
     ghost view = { λ _. tt };
 
     ghost invariant = { λ s. IsKept (view_of (λ told. script_pairs told.script) script_counts
-        (λ _ _. ⊤) (λ unkept. unkept.tally) s.server []) };
+        (λ _ _. ⊤) (λ _ _. ⊤) (λ unkept. unkept.tally) s.server []) };
 }
 
 impl<W: Write + Drop> Serving<W> {

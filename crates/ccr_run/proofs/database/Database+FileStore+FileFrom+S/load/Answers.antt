@@ -13,6 +13,14 @@ returns-in-Ok-clause-holds g c =
     c.in-Ok.ensures.found c.in-Ok.ensures.crash.clean (it.2 clean) ours.0 ours.1).rows clean)
     c.with_history.ensures.kept
 
+pub returns-in-Ok-clause-leaves : goal.returns-in-Ok-clause-leaves
+returns-in-Ok-clause-leaves g c =
+    IfOk-weaker c.with_history.result _ _
+    (λ loaded it ours clean.
+    it.3 (rows_of ours.0) (adopted (image_at g.S.Start) c.args.conn c.in-Ok.store c.requires.opened c.requires.found c.in-Ok.ensures.made
+    c.in-Ok.ensures.found c.in-Ok.ensures.crash.clean (it.2 clean) ours.0 ours.1).rows clean)
+    c.with_history.ensures.kept
+
 pub returns-in-Ok-clause-begins : goal.returns-in-Ok-clause-begins
 returns-in-Ok-clause-begins g c =
     IfOk-weaker c.with_history.result _ _

@@ -17,3 +17,7 @@ pub returns-clause-refused : goal.returns-clause-refused
 returns-clause-refused g c h kept =
     on_err_under (AreOurs (image_at g.S.Start)) (IsKept over_files c.commit.new.self h) c.commit.result
     (λ ours. c.commit.ensures.refused h (kept ours))
+
+pub returns-clause-crash : goal.returns-clause-crash
+returns-clause-crash g c h rules kept before accepts ours =
+    c.commit.ensures.crash h rules (kept ours) (before ours) accepts

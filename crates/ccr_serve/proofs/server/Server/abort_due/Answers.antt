@@ -17,7 +17,7 @@ abort-requires-clause-runs g c s is =
 
 pub returns-clause-served : goal.returns-clause-served
 returns-clause-served g c before asked =
-    let view = view_of g.R.Runner.pairs g.S.Shelf.counts g.T.Storage.holds g.T.Storage.tally in
+    let view = view_of g.R.Runner.pairs g.S.Shelf.counts g.T.Storage.holds g.T.Storage.leaves g.T.Storage.tally in
     let v = with_counts before (view c.args.self.now (g.O.Lines.written c.args.out.now)) in
     let looked = g.S.Shelf.counts c.args.self.now.shelf in
     calls_unmade _ v looked (g.R.Runner.pairs c.args.self.now.runner) (g.O.Lines.written c.args.out.now)
@@ -29,7 +29,7 @@ returns-clause-served g c before asked =
 
 pub returns-in-Ok-clause-served : goal.returns-in-Ok-clause-served
 returns-in-Ok-clause-served g c before asked =
-    let view = view_of g.R.Runner.pairs g.S.Shelf.counts g.T.Storage.holds g.T.Storage.tally in
+    let view = view_of g.R.Runner.pairs g.S.Shelf.counts g.T.Storage.holds g.T.Storage.leaves g.T.Storage.tally in
     let v = with_counts before (view c.args.self.now (g.O.Lines.written c.args.out.now)) in
     let looked = g.S.Shelf.counts c.args.self.now.shelf in
     let name : c.as_str-job.result.now ≡ string_bytes c.args.due.job = c.as_str-job.ensures.value in

@@ -13,7 +13,7 @@ use Rattle.ccr_serve.proofs.server.Server.answer_due.Goals as goal
 
 pub returns-in_default-clause-served : goal.returns-in_default-clause-served
 returns-in_default-clause-served g c before asked =
-    let view = view_of g.R.Runner.pairs g.S.Shelf.counts g.T.Storage.holds g.T.Storage.tally in
+    let view = view_of g.R.Runner.pairs g.S.Shelf.counts g.T.Storage.holds g.T.Storage.leaves g.T.Storage.tally in
     cut_by_memory _ (with_counts before (view c.args.self.now (g.O.Lines.written c.args.out.now)))
     (g.S.Shelf.counts c.answer_wanted.new.shelf) (g.R.Runner.pairs c.answer_wanted.new.runner)
     (g.O.Lines.written c.args.out.now) (items_stop _ _)
@@ -21,6 +21,7 @@ returns-in_default-clause-served g c before asked =
       is_open = c.requires.ready.is_open;
       unfailed = c.requires.ready.unfailed;
       holds = c.requires.ready.holds;
+      leaves = c.requires.ready.leaves;
     })
     (grew_on before (g.S.Shelf.counts c.args.self.now.shelf) (g.S.Shelf.counts c.answer_wanted.new.shelf)
     (grew_asked false before (g.S.Shelf.counts c.args.self.now.shelf) asked) c.answer_wanted.ensures.grew)
@@ -28,7 +29,7 @@ returns-in_default-clause-served g c before asked =
 
 pub returns-clause-served : goal.returns-clause-served
 returns-clause-served g c before asked =
-    let view = view_of g.R.Runner.pairs g.S.Shelf.counts g.T.Storage.holds g.T.Storage.tally in
+    let view = view_of g.R.Runner.pairs g.S.Shelf.counts g.T.Storage.holds g.T.Storage.leaves g.T.Storage.tally in
     let w = c.in-Ok.ensures.ok in
     let v = with_counts before (view c.args.self.now (g.O.Lines.written c.args.out.now)) in
     calls_unmade _ v (g.S.Shelf.counts c.answer_wanted.new.shelf)
@@ -45,7 +46,7 @@ returns-clause-served g c before asked =
 
 pub returns-in-Ok-give-clause-served : goal.returns-in-Ok-give-clause-served
 returns-in-Ok-give-clause-served g c before asked =
-    let view = view_of g.R.Runner.pairs g.S.Shelf.counts g.T.Storage.holds g.T.Storage.tally in
+    let view = view_of g.R.Runner.pairs g.S.Shelf.counts g.T.Storage.holds g.T.Storage.leaves g.T.Storage.tally in
     let v = with_counts before (view c.args.self.now (g.O.Lines.written c.args.out.now)) in
     let looked = g.S.Shelf.counts c.args.self.now.shelf in
     let job = string_bytes c.args.due.job in

@@ -8,14 +8,14 @@ use Rattle.ccr_serve.proofs.server.Server.check.Goals as goal
 
 pub returns-in_default-clause-served : goal.returns-in_default-clause-served
 returns-in_default-clause-served g c =
-    let view = view_of g.R.Runner.pairs g.S.Shelf.counts g.T.Storage.holds g.T.Storage.tally in
+    let view = view_of g.R.Runner.pairs g.S.Shelf.counts g.T.Storage.holds g.T.Storage.leaves g.T.Storage.tally in
     cut_by_memory _ (view c.args.self.now (g.O.Lines.written c.args.out.now)) (g.S.Shelf.counts c.args.self.now.shelf)
     (g.R.Runner.pairs c.args.self.now.runner) (g.O.Lines.written c.begin.new.out) (noting_stop _ _ (λ ds. ds ≡ ds)) c.requires.ready
     (grew_none _) (none_added _) c.begin.ensures.same
 
 pub returns-in_default-find_named-clause-served : goal.returns-in_default-find_named-clause-served
 returns-in_default-find_named-clause-served g c =
-    let view = view_of g.R.Runner.pairs g.S.Shelf.counts g.T.Storage.holds g.T.Storage.tally in
+    let view = view_of g.R.Runner.pairs g.S.Shelf.counts g.T.Storage.holds g.T.Storage.leaves g.T.Storage.tally in
     cut_by_memory _ (view c.args.self.now (g.O.Lines.written c.args.out.now))
     (g.S.Shelf.counts c.find_named.new.shelf) (g.R.Runner.pairs c.find_named.new.runner)
     (g.O.Lines.written c.begin.new.out) (noting_stop _ _ (λ ds. ds ≡ ds)) c.requires.ready c.find_named.ensures.grew
@@ -23,7 +23,7 @@ returns-in_default-find_named-clause-served g c =
 
 pub returns-in-Ok-make-clause-served : goal.returns-in-Ok-make-clause-served
 returns-in-Ok-make-clause-served g c =
-    let view = view_of g.R.Runner.pairs g.S.Shelf.counts g.T.Storage.holds g.T.Storage.tally in
+    let view = view_of g.R.Runner.pairs g.S.Shelf.counts g.T.Storage.holds g.T.Storage.leaves g.T.Storage.tally in
     let o = c.in-Ok-find_named.ensures.ok in
     check_made (places_data c.args.self.now.places) c.args.name.now (string_bytes c.in-Ok.copy) o.0
     (view c.args.self.now (g.O.Lines.written c.args.out.now)) (g.S.Shelf.counts c.find_named.new.shelf)
@@ -38,7 +38,7 @@ returns-in-Ok-make-clause-served g c =
 
 pub returns-in-Err-clause-served : goal.returns-in-Err-clause-served
 returns-in-Err-clause-served g c =
-    let view = view_of g.R.Runner.pairs g.S.Shelf.counts g.T.Storage.holds g.T.Storage.tally in
+    let view = view_of g.R.Runner.pairs g.S.Shelf.counts g.T.Storage.holds g.T.Storage.leaves g.T.Storage.tally in
     let o = c.in-Ok-find_named.ensures.ok in
     let v = view c.args.self.now (g.O.Lines.written c.args.out.now) in
     calls_unmade _ v (g.S.Shelf.counts c.find_named.new.shelf)
@@ -53,7 +53,7 @@ returns-in-Err-clause-served g c =
 
 pub returns-in-Nothing-clause-served : goal.returns-in-Nothing-clause-served
 returns-in-Nothing-clause-served g c =
-    let view = view_of g.R.Runner.pairs g.S.Shelf.counts g.T.Storage.holds g.T.Storage.tally in
+    let view = view_of g.R.Runner.pairs g.S.Shelf.counts g.T.Storage.holds g.T.Storage.leaves g.T.Storage.tally in
     let o = c.in-Ok-find_named.ensures.ok in
     check_found_nothing (places_data c.args.self.now.places) c.args.name.now o.0
     (view c.args.self.now (g.O.Lines.written c.args.out.now)) (g.S.Shelf.counts c.find_named.new.shelf)

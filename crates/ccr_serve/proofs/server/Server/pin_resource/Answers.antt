@@ -11,21 +11,21 @@ use Rattle.ccr_serve.proofs.server.Server.pin_resource.Goals as goal
 
 pub returns-in-Err-clause-came : goal.returns-in-Err-clause-came
 returns-in-Err-clause-came g c =
-    let view = view_of g.R.Runner.pairs g.S.Shelf.counts g.T.Storage.holds g.T.Storage.tally in
+    let view = view_of g.R.Runner.pairs g.S.Shelf.counts g.T.Storage.holds g.T.Storage.leaves g.T.Storage.tally in
     let v = view c.args.self.now (g.O.Lines.written c.args.out.now) in
     lacks (places_data c.args.self.now.places) (pin_resource c.args.name.now c.args.text.now) c.in-Err.fault v v.lines c.requires.ready refl
     c.in-Err.ensures.lacks
 
 pub returns-in-Ok-None-clause-came : goal.returns-in-Ok-None-clause-came
 returns-in-Ok-None-clause-came g c =
-    let view = view_of g.R.Runner.pairs g.S.Shelf.counts g.T.Storage.holds g.T.Storage.tally in
+    let view = view_of g.R.Runner.pairs g.S.Shelf.counts g.T.Storage.holds g.T.Storage.leaves g.T.Storage.tally in
     bad_pin (places_data c.args.self.now.places) c.args.name.now c.args.text.now _
     (view c.args.self.now (g.O.Lines.written c.args.out.now)) c.requires.ready c.in-Ok.ensures.held
     (sym c.in-Ok-None.field-0-is ∙ c.in-Ok-None.ensures)
 
 pub returns-in-Err-pin_of-clause-came : goal.returns-in-Err-pin_of-clause-came
 returns-in-Err-pin_of-clause-came g c =
-    let view = view_of g.R.Runner.pairs g.S.Shelf.counts g.T.Storage.holds g.T.Storage.tally in
+    let view = view_of g.R.Runner.pairs g.S.Shelf.counts g.T.Storage.holds g.T.Storage.leaves g.T.Storage.tally in
     cut_by_memory (Commanded (places_data c.args.self.now.places) (pin_resource c.args.name.now c.args.text.now) 0)
     (view c.args.self.now (g.O.Lines.written c.args.out.now)) (g.S.Shelf.counts c.args.self.now.shelf)
     (g.R.Runner.pairs c.args.self.now.runner) (g.O.Lines.written c.args.out.now)
@@ -34,7 +34,7 @@ returns-in-Err-pin_of-clause-came g c =
 
 pub returns-in_default-clause-came : goal.returns-in_default-clause-came
 returns-in_default-clause-came g c =
-    let view = view_of g.R.Runner.pairs g.S.Shelf.counts g.T.Storage.holds g.T.Storage.tally in
+    let view = view_of g.R.Runner.pairs g.S.Shelf.counts g.T.Storage.holds g.T.Storage.leaves g.T.Storage.tally in
     cut_by_memory (Commanded (places_data c.args.self.now.places) (pin_resource c.args.name.now c.args.text.now) 0)
     (view c.args.self.now (g.O.Lines.written c.args.out.now)) (g.S.Shelf.counts c.args.self.now.shelf)
     (g.R.Runner.pairs c.args.self.now.runner) (g.O.Lines.written c.begin.new.out)
@@ -43,7 +43,7 @@ returns-in_default-clause-came g c =
 
 pub returns-in-Ok-Ok-clause-came : goal.returns-in-Ok-Ok-clause-came
 returns-in-Ok-Ok-clause-came g c =
-    let view = view_of g.R.Runner.pairs g.S.Shelf.counts g.T.Storage.holds g.T.Storage.tally in
+    let view = view_of g.R.Runner.pairs g.S.Shelf.counts g.T.Storage.holds g.T.Storage.leaves g.T.Storage.tally in
     pin_made (places_data c.args.self.now.places) c.args.name.now (string_bytes c.in-Ok-begin.copy) c.args.text.now
     c.in-Ok-Some.pin c.in-Ok-Ok.field-0 c.in-Ok-Ok.field-0-0
     (view c.args.self.now (g.O.Lines.written c.args.out.now)) (view c.make.new.self [])
@@ -53,7 +53,7 @@ returns-in-Ok-Ok-clause-came g c =
 
 pub returns-in-Ok-Err-clause-came : goal.returns-in-Ok-Err-clause-came
 returns-in-Ok-Err-clause-came g c =
-    let view = view_of g.R.Runner.pairs g.S.Shelf.counts g.T.Storage.holds g.T.Storage.tally in
+    let view = view_of g.R.Runner.pairs g.S.Shelf.counts g.T.Storage.holds g.T.Storage.leaves g.T.Storage.tally in
     pin_refused (places_data c.args.self.now.places) c.args.name.now (string_bytes c.in-Ok-begin.copy) c.args.text.now
     c.in-Ok-Some.pin c.in-Ok-Err.field-0 c.in-Ok-Err.fault
     (view c.args.self.now (g.O.Lines.written c.args.out.now)) (view c.make.new.self [])
@@ -62,7 +62,7 @@ returns-in-Ok-Err-clause-came g c =
 
 pub returns-in-Err-make-clause-came : goal.returns-in-Err-make-clause-came
 returns-in-Err-make-clause-came g c =
-    let view = view_of g.R.Runner.pairs g.S.Shelf.counts g.T.Storage.holds g.T.Storage.tally in
+    let view = view_of g.R.Runner.pairs g.S.Shelf.counts g.T.Storage.holds g.T.Storage.leaves g.T.Storage.tally in
     let v = view c.args.self.now (g.O.Lines.written c.args.out.now) in
     let n = view c.make.new.self (g.O.Lines.written c.begin.new.out) in
     came_stopped (places_data c.args.self.now.places) (pin_resource c.args.name.now c.args.text.now)

@@ -9,14 +9,14 @@ use Rattle.ccr_serve.proofs.server.Server.schedule.Goals as goal
 
 pub returns-in_default-clause-served : goal.returns-in_default-clause-served
 returns-in_default-clause-served g c =
-    let view = view_of g.R.Runner.pairs g.S.Shelf.counts g.T.Storage.holds g.T.Storage.tally in
+    let view = view_of g.R.Runner.pairs g.S.Shelf.counts g.T.Storage.holds g.T.Storage.leaves g.T.Storage.tally in
     cut_by_memory _ (view c.args.self.now (g.O.Lines.written c.args.out.now)) (g.S.Shelf.counts c.args.self.now.shelf)
     (g.R.Runner.pairs c.args.self.now.runner) (g.O.Lines.written c.begin.new.out) (items_stop _ _) c.requires.ready
     (grew_none _) (none_added _) c.begin.ensures.same
 
 pub returns-in-Ok-make-clause-served : goal.returns-in-Ok-make-clause-served
 returns-in-Ok-make-clause-served g c =
-    let view = view_of g.R.Runner.pairs g.S.Shelf.counts g.T.Storage.holds g.T.Storage.tally in
+    let view = view_of g.R.Runner.pairs g.S.Shelf.counts g.T.Storage.holds g.T.Storage.leaves g.T.Storage.tally in
     schedule_made (places_data c.args.self.now.places) c.args.name.now (string_bytes c.in-Ok.copy)
     c.in-Ok-make.replied (view c.args.self.now (g.O.Lines.written c.args.out.now)) (view c.make.new.self [])
     (g.O.Lines.written c.begin.new.out) (g.O.Lines.written c.tell_scheduled.new.out) c.in-Ok.ensures.copied
@@ -27,7 +27,7 @@ returns-in-Ok-make-clause-served g c =
 
 pub returns-in-Err-clause-served : goal.returns-in-Err-clause-served
 returns-in-Err-clause-served g c =
-    let view = view_of g.R.Runner.pairs g.S.Shelf.counts g.T.Storage.holds g.T.Storage.tally in
+    let view = view_of g.R.Runner.pairs g.S.Shelf.counts g.T.Storage.holds g.T.Storage.leaves g.T.Storage.tally in
     calls_unmade _ (view c.args.self.now (g.O.Lines.written c.args.out.now)) (g.S.Shelf.counts c.args.self.now.shelf)
     (g.R.Runner.pairs c.args.self.now.runner) (g.O.Lines.written c.begin.new.out)
     (view c.make.new.self (g.O.Lines.written c.begin.new.out)) c.in-Err.fault (items_stop _ _) (grew_none _)

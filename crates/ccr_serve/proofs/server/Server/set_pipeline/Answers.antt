@@ -12,14 +12,14 @@ use Rattle.ccr_serve.proofs.server.Server.set_pipeline.Goals as goal
 
 pub returns-in-Err-clause-came : goal.returns-in-Err-clause-came
 returns-in-Err-clause-came g c =
-    let view = view_of g.R.Runner.pairs g.S.Shelf.counts g.T.Storage.holds g.T.Storage.tally in
+    let view = view_of g.R.Runner.pairs g.S.Shelf.counts g.T.Storage.holds g.T.Storage.leaves g.T.Storage.tally in
     not_read (places_data c.args.self.now.places) c.args.path.now c.in-Err.fault
     (view c.args.self.now (g.O.Lines.written c.args.out.now)) (g.S.Shelf.counts c.read_pipeline.new.shelf)
     c.requires.ready c.in-Err.ensures.err
 
 pub returns-in_default-clause-came : goal.returns-in_default-clause-came
 returns-in_default-clause-came g c =
-    let view = view_of g.R.Runner.pairs g.S.Shelf.counts g.T.Storage.holds g.T.Storage.tally in
+    let view = view_of g.R.Runner.pairs g.S.Shelf.counts g.T.Storage.holds g.T.Storage.leaves g.T.Storage.tally in
     cut_by_memory (Commanded (places_data c.args.self.now.places) (set_pipeline c.args.path.now) 0)
     (view c.args.self.now (g.O.Lines.written c.args.out.now)) (g.S.Shelf.counts c.read_pipeline.new.shelf)
     (g.R.Runner.pairs c.args.self.now.runner) (g.O.Lines.written c.make_pipeline_room.new.out)
@@ -28,7 +28,7 @@ returns-in_default-clause-came g c =
 
 pub returns-in-Ok-Ok-clause-came : goal.returns-in-Ok-Ok-clause-came
 returns-in-Ok-Ok-clause-came g c =
-    let view = view_of g.R.Runner.pairs g.S.Shelf.counts g.T.Storage.holds g.T.Storage.tally in
+    let view = view_of g.R.Runner.pairs g.S.Shelf.counts g.T.Storage.holds g.T.Storage.leaves g.T.Storage.tally in
     set_made (places_data c.args.self.now.places) c.args.path.now (pipeline_data c.in-Ok.pipeline) c.in-Ok-Ok.field-0
     c.in-Ok-Ok.field-0-0 (view c.args.self.now (g.O.Lines.written c.args.out.now)) (view c.make.new.self [])
     (g.S.Shelf.counts c.read_pipeline.new.shelf) (g.O.Lines.written c.make_pipeline_room.new.out)
@@ -37,7 +37,7 @@ returns-in-Ok-Ok-clause-came g c =
 
 pub returns-in-Ok-Err-clause-came : goal.returns-in-Ok-Err-clause-came
 returns-in-Ok-Err-clause-came g c =
-    let view = view_of g.R.Runner.pairs g.S.Shelf.counts g.T.Storage.holds g.T.Storage.tally in
+    let view = view_of g.R.Runner.pairs g.S.Shelf.counts g.T.Storage.holds g.T.Storage.leaves g.T.Storage.tally in
     set_refused (places_data c.args.self.now.places) c.args.path.now (pipeline_data c.in-Ok.pipeline) c.in-Ok-Err.field-0
     c.in-Ok-Err.fault (view c.args.self.now (g.O.Lines.written c.args.out.now)) (view c.make.new.self [])
     (g.S.Shelf.counts c.read_pipeline.new.shelf) (g.O.Lines.written c.make_pipeline_room.new.out)
@@ -45,7 +45,7 @@ returns-in-Ok-Err-clause-came g c =
 
 pub returns-in-Err-make-clause-came : goal.returns-in-Err-make-clause-came
 returns-in-Err-make-clause-came g c =
-    let view = view_of g.R.Runner.pairs g.S.Shelf.counts g.T.Storage.holds g.T.Storage.tally in
+    let view = view_of g.R.Runner.pairs g.S.Shelf.counts g.T.Storage.holds g.T.Storage.leaves g.T.Storage.tally in
     let v = view c.args.self.now (g.O.Lines.written c.args.out.now) in
     let k = g.S.Shelf.counts c.read_pipeline.new.shelf in
     let l = g.O.Lines.written c.make_pipeline_room.new.out in

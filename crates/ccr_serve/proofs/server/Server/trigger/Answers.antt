@@ -13,7 +13,7 @@ use Rattle.ccr_serve.proofs.server.Server.trigger.Goals as goal
 
 pub returns-in_default-clause-came : goal.returns-in_default-clause-came
 returns-in_default-clause-came g c =
-    let view = view_of g.R.Runner.pairs g.S.Shelf.counts g.T.Storage.holds g.T.Storage.tally in
+    let view = view_of g.R.Runner.pairs g.S.Shelf.counts g.T.Storage.holds g.T.Storage.leaves g.T.Storage.tally in
     cut_by_memory (Commanded (places_data c.args.self.now.places) (trigger_job c.args.job.now) 0) (view c.args.self.now (g.O.Lines.written c.args.out.now))
     (g.S.Shelf.counts c.args.self.now.shelf) (g.R.Runner.pairs c.args.self.now.runner)
     (g.O.Lines.written c.begin.new.out) (trigger_stop (places_data c.args.self.now.places) c.args.job.now) c.requires.ready (grew_none _) (none_added _)
@@ -21,7 +21,7 @@ returns-in_default-clause-came g c =
 
 pub returns-in-Ok-replied-clause-replied : goal.returns-in-Ok-replied-clause-replied
 returns-in-Ok-replied-clause-replied g c =
-    let view = view_of g.R.Runner.pairs g.S.Shelf.counts g.T.Storage.holds g.T.Storage.tally in
+    let view = view_of g.R.Runner.pairs g.S.Shelf.counts g.T.Storage.holds g.T.Storage.leaves g.T.Storage.tally in
     trigger_made (places_data c.args.self.now.places) c.args.job.now (string_bytes c.in-Ok.copy) c.in-Ok-make.replied c.in-Ok-replied.reply
     (view c.args.self.now (g.O.Lines.written c.args.out.now)) (view c.make.new.self []) (g.O.Lines.written c.begin.new.out)
     (g.O.Lines.written c.hand_out.new.self) c.in-Ok.ensures.copied c.in-Ok-replied.is c.begin.ensures.same
@@ -32,7 +32,7 @@ returns-in-Ok-replied-clause-replied g c =
 
 pub returns-in-Err-replied-clause-came : goal.returns-in-Err-replied-clause-came
 returns-in-Err-replied-clause-came g c =
-    let view = view_of g.R.Runner.pairs g.S.Shelf.counts g.T.Storage.holds g.T.Storage.tally in
+    let view = view_of g.R.Runner.pairs g.S.Shelf.counts g.T.Storage.holds g.T.Storage.leaves g.T.Storage.tally in
     trigger_refused (places_data c.args.self.now.places) c.args.job.now (string_bytes c.in-Ok.copy) c.in-Ok-make.replied
     c.in-Err-replied.fault (view c.args.self.now (g.O.Lines.written c.args.out.now)) (view c.make.new.self [])
     (g.O.Lines.written c.begin.new.out) c.in-Ok.ensures.copied c.in-Err-replied.is c.begin.ensures.same
@@ -40,7 +40,7 @@ returns-in-Err-replied-clause-came g c =
 
 pub returns-in-Err-clause-came : goal.returns-in-Err-clause-came
 returns-in-Err-clause-came g c =
-    let view = view_of g.R.Runner.pairs g.S.Shelf.counts g.T.Storage.holds g.T.Storage.tally in
+    let view = view_of g.R.Runner.pairs g.S.Shelf.counts g.T.Storage.holds g.T.Storage.leaves g.T.Storage.tally in
     let v = (view c.args.self.now (g.O.Lines.written c.args.out.now)) in
     let n = view c.make.new.self (g.O.Lines.written c.begin.new.out) in
     came_stopped (places_data c.args.self.now.places) (trigger_job c.args.job.now) c.in-Err.fault v n (view c.make.new.self [])

@@ -1,0 +1,22 @@
+-- What a crash leaves of a server.
+use Rattle.std.specs.Prelude.{List, [], ◌∷◌, Bool, true, false, Ok}
+use Rattle.ccr_history.specs.History.{HistoryData}
+use Rattle.ccr_core.specs.declared.reply.Reply.{Reply}
+use Rattle.ccr_core.specs.Events.{EventData}
+use Rattle.ccr_core.specs.State.{State}
+use Rattle.ccr_core.specs.Steps.{Step}
+
+-- the storage failed while an event was being stored, which the core takes in this state: a crash leaves the history
+-- with it, or without it
+pub record IsTorn (leaves : List HistoryData → Type 0) (s : State) : Type 0 where
+  pub event : EventData
+  pub reply : Reply
+  pub next : State
+  pub step : Step s event (Ok reply) next
+  pub either : leaves (next.history ∷ s.history ∷ [])
+
+-- WHAT A CRASH LEAVES once the events that led to this state were acknowledged: while the server goes on, the history of
+-- these events; once it has closed, that one, or the one with one event more
+abbrev pub LeavesAt : Bool → (List HistoryData → Type 0) → State → Type 0
+LeavesAt false leaves s = leaves (s.history ∷ [])
+LeavesAt true leaves s = IsTorn leaves s
