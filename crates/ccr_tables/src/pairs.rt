@@ -1,10 +1,11 @@
 //! The table `pairs`: the used places of each build under their inputs, its moved pairs under the empty input.
 
-ghost use Rattle.std.specs.Prelude.{◌≡◌, ◌≢◌, ◌<◌, ◌++◌, [], ◌∷◌, pos, length, List, false, IsTrue, IfOk, IfErr, IfSome, IfNone};
+ghost use Rattle.std.specs.Prelude.{◌≡◌, ◌≢◌, ◌⊎◌, ◌<◌, ◌++◌, [], ◌∷◌, pos, length, List, false, IsTrue, IfOk, IfErr, IfSome, IfNone};
 ghost use Rattle.sqlite.specs.Order.{Row as RowData, column};
 ghost use Rattle.sqlite.specs.declared.types.Value.TheVariants.{Int, Text};
 ghost use Rattle.sqlite.specs.State.{HasCleanDisk, Survives, ExecutesInside};
 ghost use Rattle.sqlite.specs.Held.{state};
+ghost use Rattle.ccr_tables.specs.Read.{FailedToRead};
 ghost use Rattle.ccr_tables.specs.Schema.{builds_schema, our_schema, pairs_schema};
 ghost use Rattle.ccr_tables.specs.Answered.{pair_text};
 ghost use Rattle.ccr_tables.specs.Cause.{cause_of};
@@ -57,7 +58,7 @@ fn read_column<T: FromSql>(row: &Row, at: usize) -> Result<Option<T>, Error>
     ensures value { IfOk result (λ found. IfSome found (λ x. T.FromSql.reads_as (column row.now at) x)) }
     ensures none { IfOk result (λ found. IfNone found
         (at < length row.now → ¬ T.FromSql.is_readable (column row.now at))) }
-    ensures unrefused { IfErr result (λ e. cause_of e ≢ Cause.Refused) }
+    ensures only { IfErr result (λ e. cause_of e ≡ Cause.NoMemory) }
 {
     match row.get::<T>(at) {
         Ok(value) => Ok(Some(value)),
@@ -70,7 +71,7 @@ fn read_column<T: FromSql>(row: &Row, at: usize) -> Result<Option<T>, Error>
 fn read_pair(row: &Row) -> Result<Option<Pair>, Error>
     ensures is { IfOk result (λ found. IfSome found (λ it. it ≡ row.now)) }
     ensures none { IfOk result (λ found. IfNone found (¬ IsPair row.now)) }
-    ensures unrefused { IfErr result (λ e. cause_of e ≢ Cause.Refused) }
+    ensures only { IfErr result (λ e. cause_of e ≡ Cause.NoMemory) }
 {
     if row.column_count() != 4 {
         return Ok(None);
@@ -98,7 +99,7 @@ fn read_pair(row: &Row) -> Result<Option<Pair>, Error>
 /// The pairs so far, and one more; `None` where one of them is no pair.
 fn with_row(found: Option<Vec<Pair>>, row: &Row) -> Result<Option<Vec<Pair>>, Error>
     ensures are { IfOk result (λ more. (rows : List RowData) → Are rows found → Are (rows ++ row.now ∷ []) more) }
-    ensures unrefused { IfErr result (λ e. cause_of e ≢ Cause.Refused) }
+    ensures only { IfErr result (λ e. cause_of e ≡ Cause.NoMemory) }
 {
     let Some(mut pairs) = found else {
         return Ok(None);
@@ -159,6 +160,8 @@ pub fn select<S: Alter>(alloc: Global, conn: &mut Connection<S>) -> Result<Optio
     ensures clean { HasCleanDisk (state S.Store conn.new) → HasCleanDisk (state S.Store conn.old) }
     ensures unrefused { HasCleanDisk (state S.Store conn.new) → (state S.Store conn.old).now.schema ≡ our_schema
         → IfErr result (λ e. cause_of e ≢ Cause.Refused) }
+    ensures answered { HasCleanDisk (state S.Store conn.new) → IfErr result (λ e. (cause_of e ≡ Cause.NoMemory)
+        ⊎ FailedToRead S.Store (state S.Store conn.old) e) }
     ensures mode { conn.old.in_transaction ≡ false → conn.new.in_transaction ≡ false }
 {
     let mut found = Some(Vec::new(alloc));
