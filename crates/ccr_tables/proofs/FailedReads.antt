@@ -34,10 +34,9 @@ failed_read g old new text (Err e) is fails = record {
 }
 
 -- a read failed after others
-pub failed_later : {S X : Type 0} (g : Ghosts S) (a b : State) (r : Result X Error) → Survives a b (λ _. ⊥)
-    → IfErr r (FailedToRead g b) → IfErr r (FailedToRead g a)
-failed_later g a b (Ok x) kept fails = tt
-failed_later g a b (Err e) kept fails = record {
+pub failed_after : {S : Type 0} (g : Ghosts S) (a b : State) (e : Error) → Survives a b (λ _. ⊥) → FailedToRead g b e
+    → FailedToRead g a e
+failed_after g a b e kept fails = record {
   text = fails.text;
   read = fails.read;
   before = fails.before;
@@ -45,6 +44,11 @@ failed_later g a b (Err e) kept fails = record {
   kept = survives_both a b (state g fails.before) kept fails.kept;
   answered = fails.answered;
 }
+
+pub failed_later : {S X : Type 0} (g : Ghosts S) (a b : State) (r : Result X Error) → Survives a b (λ _. ⊥)
+    → IfErr r (FailedToRead g b) → IfErr r (FailedToRead g a)
+failed_later g a b (Ok x) kept fails = tt
+failed_later g a b (Err e) kept fails = failed_after g a b e kept fails
 
 -- the failure is handed on
 pub failed_on : {S X Y : Type 0} (g : Ghosts S) (old : State) (r : Result X Error) (s : Result Y Error) (e : Error) → r ≡ Err e

@@ -11,6 +11,6 @@ pub mod Changes
 pub mod Creations
 pub mod InTurn
 pub mod Founding
-mod FailedReads
+pub mod FailedReads
 pub mod Refusals
 pub mod PairRows
