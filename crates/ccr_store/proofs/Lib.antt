@@ -17,3 +17,4 @@ pub mod ReadTables
 pub mod ReadBuilds
 pub mod ShownRows
 pub mod Nothing
+mod ReadFaults

@@ -15,6 +15,13 @@ fault_of cause.NoMemory = NoMemory
 fault_of cause.Disk = Disk
 fault_of cause.Interrupted = Interrupted
 
+-- a read that is refused finds other tables
+abbrev pub read_fault_of : Cause → StoreFault
+read_fault_of cause.Refused = NotOurs
+read_fault_of cause.NoMemory = NoMemory
+read_fault_of cause.Disk = Disk
+read_fault_of cause.Interrupted = Interrupted
+
 -- of an open, a file that is no database isn't ours
 abbrev pub open_fault_of : Error → StoreFault
 open_fault_of (SqliteFailure NotADatabase) = NotOurs

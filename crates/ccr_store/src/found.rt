@@ -7,6 +7,7 @@ ghost use Rattle.ccr_tables.specs.Builds.{IsBuild};
 ghost use Rattle.ccr_tables.specs.Contents.{Holds};
 ghost use Rattle.ccr_tables.specs.Left.{OnlyReads};
 ghost use Rattle.ccr_tables.specs.Pairs.{IsPair};
+ghost use Rattle.ccr_tables.specs.Read.{FailedToRead};
 ghost use Rattle.ccr_tables.specs.Schema.{our_schema};
 ghost use Rattle.ccr_store.specs.Listed.{AreSeen, AreBuilt, HasOther};
 
@@ -39,6 +40,8 @@ pub(crate) fn read_seen<S: Alter>(conn: &mut Connection<S>) -> Result<Seen, SqlE
     ensures reads { OnlyReads (state S.Store conn.old) (state S.Store conn.new) result }
     ensures unrefused { HasCleanDisk (state S.Store conn.new) → (state S.Store conn.old).now.schema ≡ our_schema
         → IfErr result (λ e. cause_of e ≢ Cause.Refused) }
+    ensures answered { HasCleanDisk (state S.Store conn.new)
+        → IfErr result (FailedToRead S.Store (state S.Store conn.old)) }
     ensures clean { HasCleanDisk (state S.Store conn.new) → HasCleanDisk (state S.Store conn.old) }
     ensures open { HasCleanDisk (state S.Store conn.new) → IfOk result (λ _. IsTrue (state S.Store conn.old).is_open) }
     ensures mode { conn.old.in_transaction ≡ false → conn.new.in_transaction ≡ false }
@@ -67,6 +70,8 @@ pub(crate) fn read_built<S: Alter>(
     ensures reads { OnlyReads (state S.Store conn.old) (state S.Store conn.new) result }
     ensures unrefused { HasCleanDisk (state S.Store conn.new) → (state S.Store conn.old).now.schema ≡ our_schema
         → IfErr result (λ e. cause_of e ≢ Cause.Refused) }
+    ensures answered { HasCleanDisk (state S.Store conn.new) → IfErr result (λ e. (cause_of e ≡ Cause.NoMemory)
+        ⊎ FailedToRead S.Store (state S.Store conn.old) e) }
     ensures clean { HasCleanDisk (state S.Store conn.new) → HasCleanDisk (state S.Store conn.old) }
     ensures mode { conn.old.in_transaction ≡ false → conn.new.in_transaction ≡ false }
 {

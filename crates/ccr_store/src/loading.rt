@@ -1,5 +1,5 @@
 //! The history whose rows the tables have.
-ghost use Rattle.std.specs.Prelude.{◌≡◌, ◌≢◌, List, false, IsTrue, IfOk, IfErr, IfSome, OnOk};
+ghost use Rattle.std.specs.Prelude.{◌≡◌, ◌≢◌, ◌⊎◌, List, false, IsTrue, IfOk, IfErr, IfSome, OnOk};
 ghost use Rattle.sqlite.specs.Order.{Row};
 ghost use Rattle.sqlite.specs.State.{HasCleanDisk};
 ghost use Rattle.sqlite.specs.Held.{state};
@@ -8,13 +8,14 @@ ghost use Rattle.ccr_storage.specs.declared.fault.StoreFault.TheVariants.{NoMemo
 ghost use Rattle.ccr_tables.specs.Cause.{cause_of};
 ghost use Rattle.ccr_tables.specs.Contents.{Contents, Holds};
 ghost use Rattle.ccr_tables.specs.Left.{OnlyReads};
+ghost use Rattle.ccr_store.specs.Causes.{ComesOfRows, HasReadAnswer};
+ghost use Rattle.ccr_store.specs.Faults as spec;
 ghost use Rattle.ccr_store.specs.Listed.{AreSeen, AreBuilt, ListsSeen, ListsBuilt, KeepsSeen, seen_of};
 ghost use Rattle.ccr_store.specs.Readable.{IsReadable};
 ghost use Rattle.ccr_store.specs.Reordered.{HasSameRows};
 ghost use Rattle.ccr_store.specs.Rows.{HasFormat, rows_of};
 ghost use Rattle.ccr_store.specs.Texts.{HasTexts, OrNoMemory, OrFault};
 
-use crate::fault::fault_of;
 use crate::found::{Built, Seen, read_built, read_seen};
 use crate::matching::{
     are_builds, are_meta, are_pairs, are_pins, are_scopes, are_versions, has_format,
@@ -28,11 +29,25 @@ use std::alloc::{AllocError, Global};
 
 /// The fault of a failed read; a read that is refused finds other tables.
 fn read_fault_of(error: &SqlError) -> StoreFault
-    ensures { result ≡ NotOurs → cause_of error.now ≡ Cause.Refused }
+    ensures exact { result ≡ spec.read_fault_of (cause_of error.now) }
+    ensures refused { result ≡ NotOurs → cause_of error.now ≡ Cause.Refused }
 {
-    match fault_of(error) {
-        StoreFault::Refused => StoreFault::NotOurs,
-        fault => fault,
+    match Cause::of(error) {
+        Cause::Refused => StoreFault::NotOurs,
+        Cause::NoMemory => StoreFault::NoMemory,
+        Cause::Disk => StoreFault::Disk,
+        Cause::Interrupted => StoreFault::Interrupted,
+    }
+}
+
+/// The fault of rows from which no history was made: they are no history's, unless memory was wanted.
+fn rows_fault_of(fault: StoreFault) -> StoreFault
+    ensures comes { ComesOfRows result }
+    ensures memory { fault ≡ NoMemory → result ≡ NoMemory }
+{
+    match fault {
+        StoreFault::NoMemory => StoreFault::NoMemory,
+        _ => StoreFault::NotOurs,
     }
 }
 
@@ -40,6 +55,8 @@ fn read_fault_of(error: &SqlError) -> StoreFault
 pub(crate) fn check_format<S: Alter>(conn: &mut Connection<S>) -> Result<(), StoreFault>
     ensures format { HasCleanDisk (state S.Store conn.new) → OnOk result ((these : Contents)
         → Holds these (state S.Store conn.old).now → HasFormat these) }
+    ensures answered { HasCleanDisk (state S.Store conn.new) → IfErr result (λ fault. ComesOfRows fault
+        ⊎ HasReadAnswer S.Store (state S.Store conn.old) fault) }
     ensures reads { OnlyReads (state S.Store conn.old) (state S.Store conn.new) result }
     ensures clean { HasCleanDisk (state S.Store conn.new) → HasCleanDisk (state S.Store conn.old) }
     ensures open { HasCleanDisk (state S.Store conn.new) → OnOk result (IsTrue (state S.Store conn.old).is_open) }
@@ -89,11 +106,15 @@ fn tables_of(alloc: Global, seen: &Seen) -> Result<History, StoreFault>
     ensures only { (h : HistoryData) → IsHistory h → HasTexts h → IfSome h.text IsReadable
         → ListsSeen h seen.now.meta.items seen.now.scopes.items seen.now.versions.items
         → OrNoMemory (λ history. history ≡ seen_of h) result }
+    ensures comes { IfErr result ComesOfRows }
 {
-    let history = read_tables(alloc, seen)?;
+    let history = match read_tables(alloc, seen) {
+        Ok(history) => history,
+        Err(fault) => return Err(rows_fault_of(fault)),
+    };
     match check_seen(alloc, seen, &history) {
         Ok(()) => Ok(history),
-        Err(fault) => Err(fault),
+        Err(fault) => Err(rows_fault_of(fault)),
     }
 }
 
@@ -106,6 +127,8 @@ fn load_seen<S: Alter>(alloc: Global, conn: &mut Connection<S>) -> Result<Histor
     ensures only { HasCleanDisk (state S.Store conn.new) → (h : HistoryData) → IsHistory h → HasTexts h
         → IfSome h.text IsReadable → Holds (rows_of h) (state S.Store conn.old).now
         → OrFault (λ history. history ≡ seen_of h) result }
+    ensures answered { HasCleanDisk (state S.Store conn.new) → IfErr result (λ fault. ComesOfRows fault
+        ⊎ HasReadAnswer S.Store (state S.Store conn.old) fault) }
     ensures reads { OnlyReads (state S.Store conn.old) (state S.Store conn.new) result }
     ensures clean { HasCleanDisk (state S.Store conn.new) → HasCleanDisk (state S.Store conn.old) }
     ensures open { HasCleanDisk (state S.Store conn.new) → IfOk result (λ _. IsTrue (state S.Store conn.old).is_open) }
@@ -156,11 +179,12 @@ fn history_of(alloc: Global, history: History, built: &Built) -> Result<History,
     ensures only { (h : HistoryData) → IsHistory h → HasTexts h → history ≡ seen_of h
         → ListsBuilt h built.now.builds.items built.now.pairs.items built.now.pins.items
         → IfErr result (λ fault. fault ≡ NoMemory) }
+    ensures comes { IfErr result ComesOfRows }
 {
     let mut history = history;
     match add_built(alloc, &mut history, built) {
         Ok(()) => Ok(history),
-        Err(fault) => Err(fault),
+        Err(fault) => Err(rows_fault_of(fault)),
     }
 }
 
@@ -171,6 +195,8 @@ fn found_in<S: Alter>(alloc: Global, conn: &mut Connection<S>) -> Result<Built, 
         → AreBuilt these built.builds.items built.pairs.items built.pins.items) }
     ensures only { HasCleanDisk (state S.Store conn.new) → (h : HistoryData) → IsHistory h → HasTexts h
         → Holds (rows_of h) (state S.Store conn.old).now → IfErr result (λ fault. fault ≢ NotOurs) }
+    ensures answered { HasCleanDisk (state S.Store conn.new) → IfErr result (λ fault. ComesOfRows fault
+        ⊎ HasReadAnswer S.Store (state S.Store conn.old) fault) }
     ensures reads { OnlyReads (state S.Store conn.old) (state S.Store conn.new) result }
     ensures clean { HasCleanDisk (state S.Store conn.new) → HasCleanDisk (state S.Store conn.old) }
     ensures mode { conn.old.in_transaction ≡ false → conn.new.in_transaction ≡ false }
@@ -198,6 +224,8 @@ fn load_built<S: Alter>(
     ensures only { HasCleanDisk (state S.Store conn.new) → (h : HistoryData) → IsHistory h → HasTexts h
         → history ≡ seen_of h → Holds (rows_of h) (state S.Store conn.old).now
         → IfErr result (λ fault. fault ≢ NotOurs) }
+    ensures answered { HasCleanDisk (state S.Store conn.new) → IfErr result (λ fault. ComesOfRows fault
+        ⊎ HasReadAnswer S.Store (state S.Store conn.old) fault) }
     ensures reads { OnlyReads (state S.Store conn.old) (state S.Store conn.new) result }
     ensures clean { HasCleanDisk (state S.Store conn.new) → HasCleanDisk (state S.Store conn.old) }
     ensures mode { conn.old.in_transaction ≡ false → conn.new.in_transaction ≡ false }
@@ -221,6 +249,8 @@ pub(crate) fn load<S: Alter>(alloc: Global, conn: &mut Connection<S>) -> Result<
     ensures not_ours { HasCleanDisk (state S.Store conn.new) → IfErr result (λ fault. fault ≡ NotOurs
         → (h : HistoryData) → IsHistory h → HasTexts h → IfSome h.text IsReadable
         → ¬ Holds (rows_of h) (state S.Store conn.old).now) }
+    ensures answered { HasCleanDisk (state S.Store conn.new) → IfErr result (λ fault. ComesOfRows fault
+        ⊎ HasReadAnswer S.Store (state S.Store conn.old) fault) }
     ensures open { HasCleanDisk (state S.Store conn.new) → IfOk result (λ _. IsTrue (state S.Store conn.old).is_open) }
     ensures mode { conn.old.in_transaction ≡ false → conn.new.in_transaction ≡ false }
 {

@@ -1,5 +1,5 @@
 //! The history in a database.
-ghost use Rattle.std.specs.Prelude.{◌≡◌, ◌≢◌, ◌↔◌, List, [], ◌∷◌, false, IsTrue, IfOk, IfErr, IfSome, OnOk, OnErr};
+ghost use Rattle.std.specs.Prelude.{◌≡◌, ◌≢◌, ◌⊎◌, ◌↔◌, List, [], ◌∷◌, false, IsTrue, IfOk, IfErr, IfSome, OnOk, OnErr};
 ghost use Rattle.sqlite.specs.State.{HasCleanDisk, IsUnchanged, Survives};
 ghost use Rattle.sqlite.specs.Held.{state};
 ghost use Rattle.sqlite.specs.Steps.{over_memory};
@@ -9,7 +9,7 @@ ghost use Rattle.ccr_history.specs.Changes.{changed};
 ghost use Rattle.ccr_tables.specs.Contents.{Contents, Holds, Keeps, new_contents};
 ghost use Rattle.ccr_tables.specs.Schema.{no_schema};
 ghost use Rattle.ccr_storage.specs.declared.fault.StoreFault.TheVariants.{NoMemory, NotOurs};
-ghost use Rattle.ccr_store.specs.Causes.{HasAnswer};
+ghost use Rattle.ccr_store.specs.Causes.{HasAnswer, HasReadAnswer, ComesOfRows};
 ghost use Rattle.ccr_store.specs.Crash.{IsChangedIn, Leaves};
 ghost use Rattle.ccr_store.specs.Left.{IsAsItWas};
 ghost use Rattle.ccr_store.specs.Readable.{IsReadable};
@@ -214,6 +214,8 @@ impl<S: Alter> Store<S> {
         ensures not_ours { HasCleanDisk (state S.Store self.new.conn) → IfErr result (λ fault. fault ≡ NotOurs
             → (h : HistoryData) → IsHistory h → HasTexts h → IfSome h.text IsReadable
             → ¬ Holds (rows_of h) (state S.Store self.old.conn).now) }
+        ensures answered { HasCleanDisk (state S.Store self.new.conn) → IfErr result (λ fault. ComesOfRows fault
+            ⊎ HasReadAnswer S.Store (state S.Store self.old.conn) fault) }
         ensures kept { IfOk result (λ history. (these : Contents) → Holds these (state S.Store self.old.conn).now
             → IsKept S.Store self.new history) }
         ensures same { let old = state S.Store self.old.conn in

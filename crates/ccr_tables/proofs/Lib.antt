@@ -11,6 +11,7 @@ pub mod Changes
 pub mod Creations
 pub mod InTurn
 pub mod Founding
+pub mod FailedReads
 pub mod Refusals
 pub mod FoundRows
 pub mod PairRows

@@ -14,6 +14,7 @@ use Rattle.sqlite.specs.Source.TheVariants.{Values}
 use Rattle.sqlite.specs.Command.TheVariants.{Insert, InsertOr, Select, Update, Delete}
 use Rattle.sqlite.proofs.Callers.{IsPlain, command_of}
 use Rattle.ccr_tables.specs.Schema.{our_schema}
+pub use Rattle.ccr_tables.specs.Read.{meta_text, scopes_text, versions_text, builds_text, pairs_text, pins_text}
 pub use Rattle.ccr_tables.specs.Answered.{put_meta_text, scope_text, version_text, build_text, set_status_text, pair_text, put_pin_text, remove_pin_text}
 
 -- SELECT project FROM the table in this tree WHERE tests ORDER BY keys
@@ -69,9 +70,6 @@ pub pair_plain : IsPlain (understood our_schema pair_text)
 unfolding understood everything
 pair_plain = (refl, refl)
 
-abbrev pub meta_text : List ℕ
-meta_text = codes "SELECT k, v FROM meta ORDER BY k"
-
 abbrev pub meta_names : List (List ℕ)
 meta_names = codes "k" ∷ codes "v" ∷ []
 
@@ -86,9 +84,6 @@ meta_unlisted = refl
 pub meta_plain : IsPlain (understood our_schema meta_text)
 unfolding understood everything
 meta_plain = (refl, refl)
-
-abbrev pub scopes_text : List ℕ
-scopes_text = codes "SELECT id, resource, kind, source FROM scopes ORDER BY id"
 
 abbrev pub scopes_names : List (List ℕ)
 scopes_names = codes "id" ∷ codes "resource" ∷ codes "kind" ∷ codes "source" ∷ []
@@ -105,9 +100,6 @@ pub scopes_plain : IsPlain (understood our_schema scopes_text)
 unfolding understood everything
 scopes_plain = (refl, refl)
 
-abbrev pub versions_text : List ℕ
-versions_text = codes "SELECT scope, place, body FROM versions ORDER BY scope, place"
-
 abbrev pub versions_names : List (List ℕ)
 versions_names = codes "scope" ∷ codes "place" ∷ codes "body" ∷ []
 
@@ -122,9 +114,6 @@ versions_unlisted = refl
 pub versions_plain : IsPlain (understood our_schema versions_text)
 unfolding understood everything
 versions_plain = (refl, refl)
-
-abbrev pub builds_text : List ℕ
-builds_text = codes "SELECT id, job, number, status FROM builds ORDER BY id"
 
 abbrev pub builds_names : List (List ℕ)
 builds_names = codes "id" ∷ codes "job" ∷ codes "number" ∷ codes "status" ∷ []
@@ -141,9 +130,6 @@ pub builds_plain : IsPlain (understood our_schema builds_text)
 unfolding understood everything
 builds_plain = (refl, refl)
 
-abbrev pub pairs_text : List ℕ
-pairs_text = codes "SELECT build, input, scope, place FROM pairs ORDER BY build, input, scope, place"
-
 abbrev pub pairs_names : List (List ℕ)
 pairs_names = codes "build" ∷ codes "input" ∷ codes "scope" ∷ codes "place" ∷ []
 
@@ -158,9 +144,6 @@ pairs_unlisted = refl
 pub pairs_plain : IsPlain (understood our_schema pairs_text)
 unfolding understood everything
 pairs_plain = (refl, refl)
-
-abbrev pub pins_text : List ℕ
-pins_text = codes "SELECT resource, body FROM pins ORDER BY resource"
 
 abbrev pub pins_names : List (List ℕ)
 pins_names = codes "resource" ∷ codes "body" ∷ []

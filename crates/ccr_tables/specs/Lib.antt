@@ -4,6 +4,7 @@ pub mod Written
 pub mod Step
 pub mod Left
 pub mod Answered
+pub mod Read
 pub mod Listing
 pub mod Cause
 pub mod Found

@@ -1,10 +1,11 @@
 //! The table `builds`: the builds in order of making.
 
-ghost use Rattle.std.specs.Prelude.{◌≡◌, ◌≢◌, ◌++◌, [], ◌∷◌, pos, List, false, IsTrue, IfOk, IfErr, IfSome, IfNone};
+ghost use Rattle.std.specs.Prelude.{◌≡◌, ◌≢◌, ◌⊎◌, ◌++◌, [], ◌∷◌, pos, List, false, IsTrue, IfOk, IfErr, IfSome, IfNone};
 ghost use Rattle.sqlite.specs.Order.{Row as RowData};
 ghost use Rattle.sqlite.specs.declared.types.Value.TheVariants.{Int, Text};
 ghost use Rattle.sqlite.specs.State.{HasCleanDisk, Survives, ExecutesInside};
 ghost use Rattle.sqlite.specs.Held.{state};
+ghost use Rattle.ccr_tables.specs.Read.{FailedToRead};
 ghost use Rattle.ccr_tables.specs.Schema.{builds_schema, our_schema, versions_schema};
 ghost use Rattle.ccr_tables.specs.Answered.{build_text, set_status_text};
 ghost use Rattle.ccr_tables.specs.Builds.{build, IsBuild};
@@ -61,7 +62,7 @@ impl Build {
 fn read_build(texts: &mut SharedTexts, row: &Row) -> Result<Option<Build>, Error>
     ensures is { IfOk result (λ found. IfSome found (λ it. it ≡ row.now)) }
     ensures none { IfOk result (λ found. IfNone found (¬ IsBuild row.now)) }
-    ensures unrefused { IfErr result (λ e. cause_of e ≢ Cause.Refused) }
+    ensures only { IfErr result (λ e. cause_of e ≡ Cause.NoMemory) }
 {
     if row.column_count() != 4 {
         return Ok(None);
@@ -95,7 +96,7 @@ fn with_row(
 ) -> Result<Option<Vec<Build>>, Error>
     ensures are { IfOk result (λ more. (rows : List RowData)
         → Are IsBuild rows found → Are IsBuild (rows ++ row.now ∷ []) more) }
-    ensures unrefused { IfErr result (λ e. cause_of e ≢ Cause.Refused) }
+    ensures only { IfErr result (λ e. cause_of e ≡ Cause.NoMemory) }
 {
     let Some(mut builds) = found else {
         return Ok(None);
@@ -110,7 +111,7 @@ fn with_row(
 /// The rows as builds; `None` where one of them is none.
 fn builds_of(alloc: Global, rows: &[Row]) -> Result<Option<Vec<Build>>, Error>
     ensures are { IfOk result (Are IsBuild rows.now) }
-    ensures unrefused { IfErr result (λ e. cause_of e ≢ Cause.Refused) }
+    ensures only { IfErr result (λ e. cause_of e ≡ Cause.NoMemory) }
 {
     let mut found = Some(Vec::new(alloc));
     let mut texts = SharedTexts::new(alloc);
@@ -191,6 +192,8 @@ fn select_rows<S: Alter>(conn: &mut Connection<S>) -> Result<Vec<Row>, Error>
     ensures clean { HasCleanDisk (state S.Store conn.new) → HasCleanDisk (state S.Store conn.old) }
     ensures unrefused { HasCleanDisk (state S.Store conn.new) → (state S.Store conn.old).now.schema ≡ our_schema
         → IfErr result (λ e. cause_of e ≢ Cause.Refused) }
+    ensures answered { HasCleanDisk (state S.Store conn.new)
+        → IfErr result (FailedToRead S.Store (state S.Store conn.old)) }
     ensures mode { conn.old.in_transaction ≡ false → conn.new.in_transaction ≡ false }
 {
     conn.query_all(
@@ -212,6 +215,8 @@ pub fn select<S: Alter>(
     ensures clean { HasCleanDisk (state S.Store conn.new) → HasCleanDisk (state S.Store conn.old) }
     ensures unrefused { HasCleanDisk (state S.Store conn.new) → (state S.Store conn.old).now.schema ≡ our_schema
         → IfErr result (λ e. cause_of e ≢ Cause.Refused) }
+    ensures answered { HasCleanDisk (state S.Store conn.new)
+        → IfErr result (λ e. (cause_of e ≡ Cause.NoMemory) ⊎ FailedToRead S.Store (state S.Store conn.old) e) }
     ensures mode { conn.old.in_transaction ≡ false → conn.new.in_transaction ≡ false }
 {
     let rows = select_rows(conn)?;

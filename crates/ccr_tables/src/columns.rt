@@ -1,5 +1,5 @@
 //! Columns of a row as a history has them.
-ghost use Rattle.std.specs.Prelude.{◌≢◌, ◌<◌, length, IfOk, IfErr, IfSome, IfNone};
+ghost use Rattle.std.specs.Prelude.{◌≡◌, ◌<◌, length, IfOk, IfErr, IfSome, IfNone};
 ghost use Rattle.sqlite.specs.Order.{column};
 ghost use Rattle.ccr_tables.specs.Cause.{cause_of};
 
@@ -12,7 +12,7 @@ pub(crate) fn read_column<T: FromSql>(row: &Row, at: usize) -> Result<Option<T>,
     ensures value { IfOk result (λ found. IfSome found (λ x. T.FromSql.reads_as (column row.now at) x)) }
     ensures none { IfOk result (λ found. IfNone found
         (at < length row.now → ¬ T.FromSql.is_readable (column row.now at))) }
-    ensures unrefused { IfErr result (λ e. cause_of e ≢ Cause.Refused) }
+    ensures only { IfErr result (λ e. cause_of e ≡ Cause.NoMemory) }
 {
     match row.get::<T>(at) {
         Ok(value) => Ok(Some(value)),

@@ -4,6 +4,7 @@ ghost use Rattle.std.specs.Prelude.{◌≡◌, ◌≢◌, pos, false, IsTrue, If
 ghost use Rattle.sqlite.specs.declared.types.Value.TheVariants.{Int, Blob};
 ghost use Rattle.sqlite.specs.State.{HasCleanDisk, Survives, ExecutesInside};
 ghost use Rattle.sqlite.specs.Held.{state};
+ghost use Rattle.ccr_tables.specs.Read.{FailedToRead};
 ghost use Rattle.ccr_tables.specs.Schema.{meta_schema, no_schema, our_schema};
 ghost use Rattle.ccr_tables.specs.Answered.{put_meta_text};
 ghost use Rattle.ccr_tables.specs.Cause.{cause_of};
@@ -62,6 +63,8 @@ pub fn select<S: Alter>(conn: &mut Connection<S>) -> Result<Vec<Row>, Error>
     ensures open { HasCleanDisk (state S.Store conn.new) → IfOk result (λ _. IsTrue (state S.Store conn.old).is_open) }
     ensures unrefused { HasCleanDisk (state S.Store conn.new) → (state S.Store conn.old).now.schema ≡ our_schema
         → IfErr result (λ e. cause_of e ≢ Cause.Refused) }
+    ensures answered { HasCleanDisk (state S.Store conn.new)
+        → IfErr result (FailedToRead S.Store (state S.Store conn.old)) }
     ensures mode { conn.old.in_transaction ≡ false → conn.new.in_transaction ≡ false }
 {
     conn.query_all("SELECT k, v FROM meta ORDER BY k", &[])

@@ -1,10 +1,11 @@
 //! The table `pairs`: the used places of each build under their inputs, its moved pairs under the empty input.
 
-ghost use Rattle.std.specs.Prelude.{◌≡◌, ◌≢◌, ◌++◌, [], ◌∷◌, pos, List, false, IsTrue, IfOk, IfErr, IfSome, IfNone};
+ghost use Rattle.std.specs.Prelude.{◌≡◌, ◌≢◌, ◌⊎◌, ◌++◌, [], ◌∷◌, pos, List, false, IsTrue, IfOk, IfErr, IfSome, IfNone};
 ghost use Rattle.sqlite.specs.Order.{Row as RowData};
 ghost use Rattle.sqlite.specs.declared.types.Value.TheVariants.{Int, Text};
 ghost use Rattle.sqlite.specs.State.{HasCleanDisk, Survives, ExecutesInside};
 ghost use Rattle.sqlite.specs.Held.{state};
+ghost use Rattle.ccr_tables.specs.Read.{FailedToRead};
 ghost use Rattle.ccr_tables.specs.Schema.{builds_schema, our_schema, pairs_schema};
 ghost use Rattle.ccr_tables.specs.Answered.{pair_text};
 ghost use Rattle.ccr_tables.specs.Cause.{cause_of};
@@ -60,7 +61,7 @@ impl Pair {
 fn read_pair(texts: &mut SharedTexts, row: &Row) -> Result<Option<Pair>, Error>
     ensures is { IfOk result (λ found. IfSome found (λ it. it ≡ row.now)) }
     ensures none { IfOk result (λ found. IfNone found (¬ IsPair row.now)) }
-    ensures unrefused { IfErr result (λ e. cause_of e ≢ Cause.Refused) }
+    ensures only { IfErr result (λ e. cause_of e ≡ Cause.NoMemory) }
 {
     if row.column_count() != 4 {
         return Ok(None);
@@ -94,7 +95,7 @@ fn with_row(
 ) -> Result<Option<Vec<Pair>>, Error>
     ensures are { IfOk result (λ more. (rows : List RowData)
         → Are IsPair rows found → Are IsPair (rows ++ row.now ∷ []) more) }
-    ensures unrefused { IfErr result (λ e. cause_of e ≢ Cause.Refused) }
+    ensures only { IfErr result (λ e. cause_of e ≡ Cause.NoMemory) }
 {
     let Some(mut pairs) = found else {
         return Ok(None);
@@ -155,6 +156,8 @@ pub fn select<S: Alter>(alloc: Global, conn: &mut Connection<S>) -> Result<Optio
     ensures clean { HasCleanDisk (state S.Store conn.new) → HasCleanDisk (state S.Store conn.old) }
     ensures unrefused { HasCleanDisk (state S.Store conn.new) → (state S.Store conn.old).now.schema ≡ our_schema
         → IfErr result (λ e. cause_of e ≢ Cause.Refused) }
+    ensures answered { HasCleanDisk (state S.Store conn.new) → IfErr result (λ e. (cause_of e ≡ Cause.NoMemory)
+        ⊎ FailedToRead S.Store (state S.Store conn.old) e) }
     ensures mode { conn.old.in_transaction ≡ false → conn.new.in_transaction ≡ false }
 {
     let mut found = Some(Vec::new(alloc));

@@ -1,4 +1,4 @@
-use Rattle.std.proofs.Common.{sym, subst, inl, inr}
+use Rattle.std.proofs.Common.{◌≡◌, ◌⊎◌, inl, inr, sym, subst}
 use Rattle.sqlite.specs.State.{HasCleanDisk}
 use Rattle.sqlite.specs.Held.{state}
 use Rattle.ccr_tables.specs.Builds.{IsBuild}
@@ -6,6 +6,11 @@ use Rattle.ccr_tables.specs.Contents.{Holds}
 use Rattle.ccr_tables.specs.Pairs.{IsPair}
 use Rattle.ccr_tables.proofs.Queries.{reads_then, reads_on, reads_failed, only_error}
 use Rattle.ccr_store.proofs.ListedRows.{found_listed, found_other}
+use Rattle.ccr_tables.specs.Cause.{cause_of}
+use Rattle.ccr_tables.specs.declared.cause.Cause.TheVariants.{NoMemory}
+use Rattle.ccr_tables.specs.Read.{FailedToRead}
+use Rattle.ccr_tables.proofs.InTurn.{survives_both}
+use Rattle.ccr_store.proofs.ReadFaults.{err_so, read_after}
 use Rattle.ccr_store.proofs.found.read_built.Goals as goal
 
 pub returns-in_default-clause-none : goal.returns-in_default-clause-none
@@ -67,3 +72,27 @@ returns-clause-reads g c =
     let s2 = state g.S.Store c.select-2.new.conn in
     let s3 = state g.S.Store c.select-3.new.conn in
     reads_on s0 s3 _ _ (reads_then s0 s2 s3 _ _ (reads_then s0 s1 s2 _ _ c.in_ok-builds.ensures.reads c.in_ok-pairs.ensures.reads) c.in_ok-pins.ensures.reads)
+
+pub returns-in_err-builds-clause-answered : goal.returns-in_err-builds-clause-answered
+returns-in_err-builds-clause-answered g c clean =
+    let s0 = state g.S.Store c.args.conn.now in
+    err_so c.from_residual.result (λ e. (cause_of e ≡ NoMemory) ⊎ FailedToRead g.S.Store s0 e) _ c.from_residual.ensures.1
+    (inr (c.in_err-builds.ensures.answered clean))
+
+pub returns-in_err-pairs-clause-answered : goal.returns-in_err-pairs-clause-answered
+returns-in_err-pairs-clause-answered g c clean =
+    let s0 = state g.S.Store c.args.conn.now in
+    let s1 = state g.S.Store c.select.new.conn in
+    err_so c.from_residual-in_err-pairs.result (λ e. (cause_of e ≡ NoMemory) ⊎ FailedToRead g.S.Store s0 e) _
+    c.from_residual-in_err-pairs.ensures.1
+    (read_after g.S.Store s0 s1 _ c.in_ok-builds.ensures.reads.crash (c.in_err-pairs.ensures.answered clean))
+
+pub returns-in_err-pins-clause-answered : goal.returns-in_err-pins-clause-answered
+returns-in_err-pins-clause-answered g c clean =
+    let s0 = state g.S.Store c.args.conn.now in
+    let s1 = state g.S.Store c.select.new.conn in
+    let s2 = state g.S.Store c.select-2.new.conn in
+    err_so c.from_residual-in_err-pins.result (λ e. (cause_of e ≡ NoMemory) ⊎ FailedToRead g.S.Store s0 e) _
+    c.from_residual-in_err-pins.ensures.1
+    (read_after g.S.Store s0 s2 _ (survives_both s0 s1 s2 c.in_ok-builds.ensures.reads.crash c.in_ok-pairs.ensures.reads.crash)
+    (inr (c.in_err-pins.ensures.answered clean)))

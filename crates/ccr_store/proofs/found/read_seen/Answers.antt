@@ -3,6 +3,10 @@ use Rattle.sqlite.specs.State.{HasCleanDisk}
 use Rattle.sqlite.specs.Held.{state}
 use Rattle.ccr_tables.specs.Contents.{Holds}
 use Rattle.ccr_tables.proofs.Queries.{reads_then, reads_on, reads_failed, only_error}
+use Rattle.ccr_tables.specs.Read.{FailedToRead}
+use Rattle.ccr_tables.proofs.FailedReads.{failed_after}
+use Rattle.ccr_tables.proofs.InTurn.{survives_both}
+use Rattle.ccr_store.proofs.ReadFaults.{err_so}
 use Rattle.ccr_store.proofs.found.read_seen.Goals as goal
 
 pub returns-clause-rows : goal.returns-clause-rows
@@ -46,3 +50,19 @@ returns-clause-reads g c =
 
 pub returns-clause-open : goal.returns-clause-open
 returns-clause-open g c clean = c.in_ok-meta.ensures.open (c.select-2.ensures.clean (c.select-3.ensures.clean clean))
+
+pub returns-in_err-scopes-clause-answered : goal.returns-in_err-scopes-clause-answered
+returns-in_err-scopes-clause-answered g c clean =
+    let s0 = state g.S.Store c.args.conn.now in
+    let s1 = state g.S.Store c.select.new.conn in
+    err_so c.from_residual-in_err-scopes.result (FailedToRead g.S.Store s0) _ c.from_residual-in_err-scopes.ensures.1
+    (failed_after g.S.Store s0 s1 _ c.in_ok-meta.ensures.reads.crash (c.in_err-scopes.ensures.answered clean))
+
+pub returns-in_err-versions-clause-answered : goal.returns-in_err-versions-clause-answered
+returns-in_err-versions-clause-answered g c clean =
+    let s0 = state g.S.Store c.args.conn.now in
+    let s1 = state g.S.Store c.select.new.conn in
+    let s2 = state g.S.Store c.select-2.new.conn in
+    err_so c.from_residual-in_err-versions.result (FailedToRead g.S.Store s0) _ c.from_residual-in_err-versions.ensures.1
+    (failed_after g.S.Store s0 s2 _ (survives_both s0 s1 s2 c.in_ok-meta.ensures.reads.crash c.in_ok-scopes.ensures.reads.crash)
+    (c.in_err-versions.ensures.answered clean))

@@ -2,6 +2,7 @@ use Rattle.ccr_store.specs.Rows.{rows_of}
 use Rattle.ccr_store.proofs.ShownRows.{no_other}
 use Rattle.sqlite.specs.Held.{state}
 use Rattle.ccr_tables.proofs.Queries.{reads_on, reads_failed}
+use Rattle.ccr_store.proofs.ReadFaults.{fault_of_read}
 use Rattle.ccr_store.proofs.loading.found_in.Goals as goal
 
 pub returns-in-None-clause-only : goal.returns-in-None-clause-only
@@ -10,7 +11,7 @@ returns-in-None-clause-only g c clean h rules texts holds =
     λ ours. no_other h rules texts (other (rows_of h) holds)
 
 pub returns-in-Err-clause-only : goal.returns-in-Err-clause-only
-returns-in-Err-clause-only g c clean h rules texts holds = λ ours. c.in-Err.ensures.unrefused clean holds.schema (c.read_fault_of.ensures ours)
+returns-in-Err-clause-only g c clean h rules texts holds = λ ours. c.in-Err.ensures.unrefused clean holds.schema (c.read_fault_of.ensures.refused ours)
 
 pub returns-in-Some-clause-rows : goal.returns-in-Some-clause-rows
 returns-in-Some-clause-rows g c clean = rw c.in-Some.is at (c.in-Ok.ensures.rows clean)
@@ -23,3 +24,8 @@ returns-in-None-clause-reads g c = reads_on (state g.S.Store c.args.conn.now) (s
 
 pub returns-in-Err-clause-reads : goal.returns-in-Err-clause-reads
 returns-in-Err-clause-reads g c = reads_failed (state g.S.Store c.args.conn.now) (state g.S.Store c.read_built.new.conn) _ _ tt c.in-Err.ensures.reads
+
+pub returns-in-Err-clause-answered : goal.returns-in-Err-clause-answered
+returns-in-Err-clause-answered g c clean =
+    fault_of_read g.S.Store (state g.S.Store c.args.conn.now) c.in-Err.error c.read_fault_of.result c.read_fault_of.ensures.exact
+    (c.in-Err.ensures.answered clean)

@@ -1,10 +1,12 @@
-use Rattle.std.proofs.Common.{sym, subst}
+use Rattle.std.proofs.Common.{◌⊎◌, sym, subst}
 use Rattle.sqlite.specs.State.{HasCleanDisk}
 use Rattle.sqlite.specs.Held.{state}
 use Rattle.ccr_tables.specs.Contents.{Holds}
 use Rattle.ccr_tables.proofs.Queries.{reads_then}
 use Rattle.ccr_store.specs.Rows.{rows_of}
 use Rattle.ccr_store.proofs.StoreLemmas.{not_ours_read, fault_on, rows_loaded, readable_on}
+use Rattle.ccr_store.specs.Causes.{ComesOfRows, HasReadAnswer}
+use Rattle.ccr_store.proofs.ReadFaults.{err_so, fault_after}
 use Rattle.ccr_store.proofs.loading.load.Goals as goal
 
 pub returns-in_err-history-clause-not_ours : goal.returns-in_err-history-clause-not_ours
@@ -37,3 +39,14 @@ returns-clause-not_ours g c clean =
     (λ h rules texts readable holds.
     let holds_mid : Holds (rows_of h) mid.now = subst (Holds (rows_of h)) (sym (c.in_ok-history.ensures.reads.same clean_mid).0.now_is) holds in
     c.load_built.ensures.only clean h rules texts (c.in_ok-history.ensures.only clean_mid h rules texts readable holds) holds_mid)
+
+pub returns-in_err-history-clause-answered : goal.returns-in_err-history-clause-answered
+returns-in_err-history-clause-answered g c clean =
+    err_so c.from_residual.result
+    (λ fault. ComesOfRows fault ⊎ HasReadAnswer g.S.Store (state g.S.Store c.args.conn.now) fault) _
+    c.from_residual.ensures.1 (c.in_err-history.ensures.answered clean)
+
+pub returns-clause-answered : goal.returns-clause-answered
+returns-clause-answered g c clean =
+    fault_after g.S.Store (state g.S.Store c.args.conn.now) (state g.S.Store c.load_seen.new.conn) c.load_built.result
+    c.in_ok-history.ensures.reads.crash (c.load_built.ensures.answered clean)

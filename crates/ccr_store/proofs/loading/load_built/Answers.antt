@@ -4,6 +4,7 @@ use Rattle.ccr_store.proofs.ShownRows.{shown_built}
 use Rattle.ccr_store.proofs.StoreLemmas.{if_fault}
 use Rattle.sqlite.specs.Held.{state}
 use Rattle.ccr_tables.proofs.Queries.{reads_on, reads_failed}
+use Rattle.ccr_store.proofs.ReadFaults.{fault_of_rows}
 use Rattle.ccr_store.proofs.loading.load_built.Goals as goal
 
 pub returns-in-Ok-clause-rows : goal.returns-in-Ok-clause-rows
@@ -19,3 +20,7 @@ returns-in-Ok-clause-reads g c = reads_on (state g.S.Store c.args.conn.now) (sta
 
 pub returns-in-Err-clause-reads : goal.returns-in-Err-clause-reads
 returns-in-Err-clause-reads g c = reads_failed (state g.S.Store c.args.conn.now) (state g.S.Store c.found_in.new.conn) _ _ tt c.in-Err.ensures.reads
+
+pub returns-in-Ok-clause-answered : goal.returns-in-Ok-clause-answered
+returns-in-Ok-clause-answered g c clean =
+    fault_of_rows g.S.Store (state g.S.Store c.args.conn.now) c.history_of.result c.history_of.ensures.comes

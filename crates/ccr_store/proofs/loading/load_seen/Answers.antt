@@ -4,9 +4,10 @@ use Rattle.ccr_store.specs.Listed.{seen_of}
 use Rattle.ccr_store.specs.Rows.{rows_of}
 use Rattle.ccr_store.proofs.ShownRows.{shown_seen}
 use Rattle.ccr_store.proofs.StoreLemmas.{or_fault}
-use Rattle.std.proofs.Common.{◌≡◌}
+use Rattle.std.proofs.Common.{◌≡◌, inr}
 use Rattle.sqlite.specs.Held.{state}
 use Rattle.ccr_tables.proofs.Queries.{reads_on, reads_failed}
+use Rattle.ccr_store.proofs.ReadFaults.{fault_of_read, fault_of_rows}
 use Rattle.ccr_store.proofs.loading.load_seen.Goals as goal
 
 pub returns-in-Ok-clause-rows : goal.returns-in-Ok-clause-rows
@@ -19,10 +20,19 @@ returns-in-Ok-clause-only g c clean h rules texts readable holds =
     (c.tables_of.ensures.only h rules texts readable (shown_seen h c.in-Ok.seen.meta.items c.in-Ok.seen.scopes.items c.in-Ok.seen.versions.items (c.in-Ok.ensures.rows clean (rows_of h) holds)))
 
 pub returns-in-Err-clause-only : goal.returns-in-Err-clause-only
-returns-in-Err-clause-only g c clean h rules texts readable holds = λ ours. c.in-Err.ensures.unrefused clean holds.schema (c.read_fault_of.ensures ours)
+returns-in-Err-clause-only g c clean h rules texts readable holds = λ ours. c.in-Err.ensures.unrefused clean holds.schema (c.read_fault_of.ensures.refused ours)
 
 pub returns-in-Ok-clause-reads : goal.returns-in-Ok-clause-reads
 returns-in-Ok-clause-reads g c = reads_on (state g.S.Store c.args.conn.now) (state g.S.Store c.read_seen.new.conn) _ _ c.in-Ok.ensures.reads
 
 pub returns-in-Err-clause-reads : goal.returns-in-Err-clause-reads
 returns-in-Err-clause-reads g c = reads_failed (state g.S.Store c.args.conn.now) (state g.S.Store c.read_seen.new.conn) _ _ tt c.in-Err.ensures.reads
+
+pub returns-in-Ok-clause-answered : goal.returns-in-Ok-clause-answered
+returns-in-Ok-clause-answered g c clean =
+    fault_of_rows g.S.Store (state g.S.Store c.args.conn.now) c.tables_of.result c.tables_of.ensures.comes
+
+pub returns-in-Err-clause-answered : goal.returns-in-Err-clause-answered
+returns-in-Err-clause-answered g c clean =
+    fault_of_read g.S.Store (state g.S.Store c.args.conn.now) c.in-Err.error c.read_fault_of.result c.read_fault_of.ensures.exact
+    (inr (c.in-Err.ensures.answered clean))

@@ -1,7 +1,9 @@
+use Rattle.std.proofs.Common.{inl, inr, refl}
 use Rattle.sqlite.specs.Held.{state}
 use Rattle.ccr_tables.specs.Listing.{IsListed}
 use Rattle.ccr_tables.proofs.Lists.{list_builds, each}
 use Rattle.ccr_tables.proofs.Queries.{only_reads, builds_plain}
+use Rattle.ccr_tables.proofs.FailedReads.{failed_read}
 use Rattle.ccr_tables.proofs.Refusals.{unrefused_builds}
 use Rattle.ccr_tables.proofs.Texts.{builds_text}
 use Rattle.ccr_tables.proofs.builds.select_rows.Goals as goal
@@ -19,3 +21,7 @@ returns-clause-reads g c =
 pub returns-clause-unrefused : goal.returns-clause-unrefused
 returns-clause-unrefused g c clean has =
     unrefused_builds (state g.S.Store c.args.conn.now) (state g.S.Store c.query_all.new.self) c.query_all.result has (c.query_all.ensures.err clean)
+
+pub returns-clause-answered : goal.returns-clause-answered
+returns-clause-answered g c clean =
+    failed_read g.S.Store c.args.conn.now c.query_all.new.self builds_text c.query_all.result (inr (inr (inr (inl refl)))) (c.query_all.ensures.err clean)

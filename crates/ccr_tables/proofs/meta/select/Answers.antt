@@ -1,7 +1,9 @@
+use Rattle.std.proofs.Common.{inl, refl}
 use Rattle.sqlite.specs.Held.{state}
 use Rattle.ccr_tables.specs.Listing.{IsListed}
 use Rattle.ccr_tables.proofs.Lists.{list_meta, open_meta, each}
 use Rattle.ccr_tables.proofs.Queries.{only_reads, meta_plain}
+use Rattle.ccr_tables.proofs.FailedReads.{failed_read}
 use Rattle.ccr_tables.proofs.Refusals.{unrefused_meta}
 use Rattle.ccr_tables.proofs.Texts.{meta_text}
 use Rattle.ccr_tables.proofs.meta.select.Goals as goal
@@ -23,3 +25,7 @@ returns-clause-open g c clean =
 pub returns-clause-unrefused : goal.returns-clause-unrefused
 returns-clause-unrefused g c clean has =
     unrefused_meta (state g.S.Store c.args.conn.now) (state g.S.Store c.query_all.new.self) c.query_all.result has (c.query_all.ensures.err clean)
+
+pub returns-clause-answered : goal.returns-clause-answered
+returns-clause-answered g c clean =
+    failed_read g.S.Store c.args.conn.now c.query_all.new.self meta_text c.query_all.result (inl refl) (c.query_all.ensures.err clean)

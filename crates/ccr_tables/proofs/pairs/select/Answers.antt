@@ -1,4 +1,4 @@
-use Rattle.std.proofs.Common.{[], Ok, Result, Option, Vec, Global, refl, sym, ap, subst, ◌∙◌, rules, arith}
+use Rattle.std.proofs.Common.{[], Ok, Result, Option, Vec, Global, inl, inr, refl, sym, ap, subst, ◌∙◌, rules, arith}
 use Rattle.sqlite.specs.Effect.{Database}
 use Rattle.sqlite.specs.declared.error.Error.{Error}
 use Rattle.sqlite.specs.Order.{Row}
@@ -10,6 +10,7 @@ use Rattle.ccr_tables.specs.Left.{OnlyReads}
 use Rattle.ccr_tables.proofs.Lists.{list_pairs}
 use Rattle.ccr_tables.proofs.Queries.{survives, begun_anywhere, pairs_plain, fails_left, unchanged_nothing, nothing_then, only_error, reads_failing, reads_same}
 use Rattle.ccr_tables.proofs.PairRows.{refused_now, fails_given, refused_on, survives_on, shows_on}
+use Rattle.ccr_tables.proofs.FailedReads.{failed_read, failed_later, failed_on}
 use Rattle.ccr_tables.proofs.Refusals.{unrefused_pairs}
 use Rattle.ccr_tables.proofs.Texts.{pairs_text}
 use Rattle.ccr_tables.proofs.pairs.select.Goals as goal
@@ -111,3 +112,22 @@ returns-in_err-found-clause-reads g c =
     reads_same old now c.from_residual-in_err-found.result (survives_on old mid now c.rows.invariant.1 moved.survives)
     (λ late. unchanged_then old mid now (c.rows.invariant.3 (omega (arith, moved.survives.clean))).0 (rw (c.in_ok-row.was) at (moved.same late))) in
     search rules
+
+pub returns-in_err-rows-clause-answered : goal.returns-in_err-rows-clause-answered
+returns-in_err-rows-clause-answered g c clean =
+    let held = refused_now g.S.Store c.args.conn.now c.query.follows.lender-at-none c.query.result c.in_err-rows.field-0.0 c.in_err-rows.was c.query.follows.holds-at-none in
+    failed_on g.S.Store (state g.S.Store c.args.conn.now) c.query.result c.from_residual.result c.in_err-rows.field-0.0 c.in_err-rows.was c.from_residual.ensures.1
+    (failed_read g.S.Store c.args.conn.now c.query.follows.lender-at-none pairs_text c.query.result (inr (inr (inr (inr (inl refl))))) (held.err clean))
+
+pub returns-in_err-row-clause-answered : goal.returns-in_err-row-clause-answered
+returns-in_err-row-clause-answered g c clean =
+    let moved = c.next.follows.holds-at-none in
+    let old = state g.S.Store c.args.conn.now in
+    let mid = state g.S.Store c.rows.rows.conn.now in
+    let now = c.next.follows.lender-at-none.conn.now in
+    let late : HasCleanDisk (state g.S.Store now) = search rules in
+    let was = c.rows.invariant.3 (omega (arith, moved.survives.clean)) in
+    failed_on g.S.Store old c.next.result c.from_residual-in_err-row.result c.in_err-row.field-0.0 c.in_err-row.was c.from_residual-in_err-row.ensures.1
+    (failed_later g.S.Store old mid c.next.result (survives pairs_text old mid (pairs_plain _) c.rows.invariant.1)
+    (failed_read g.S.Store c.rows.rows.conn.now now pairs_text c.next.result (inr (inr (inr (inr (inl refl)))))
+    (fails_given g.S.Store c.rows.rows.conn.now now c.next.result was.1 was.2 (moved.err late))))

@@ -1,7 +1,9 @@
+use Rattle.std.proofs.Common.{inr, refl}
 use Rattle.sqlite.specs.Held.{state}
 use Rattle.ccr_tables.specs.Listing.{IsListed}
 use Rattle.ccr_tables.proofs.Lists.{list_pins, each}
 use Rattle.ccr_tables.proofs.Queries.{only_reads, pins_plain}
+use Rattle.ccr_tables.proofs.FailedReads.{failed_read}
 use Rattle.ccr_tables.proofs.Refusals.{unrefused_pins}
 use Rattle.ccr_tables.proofs.Texts.{pins_text}
 use Rattle.ccr_tables.proofs.pins.select.Goals as goal
@@ -19,3 +21,7 @@ returns-clause-reads g c =
 pub returns-clause-unrefused : goal.returns-clause-unrefused
 returns-clause-unrefused g c clean has =
     unrefused_pins (state g.S.Store c.args.conn.now) (state g.S.Store c.query_all.new.self) c.query_all.result has (c.query_all.ensures.err clean)
+
+pub returns-clause-answered : goal.returns-clause-answered
+returns-clause-answered g c clean =
+    failed_read g.S.Store c.args.conn.now c.query_all.new.self pins_text c.query_all.result (inr (inr (inr (inr (inr refl))))) (c.query_all.ensures.err clean)

@@ -1,10 +1,13 @@
-use Rattle.std.proofs.Common.{◌∙◌, not, sym, ap, subst, inl}
+use Rattle.std.proofs.Common.{◌⊎◌, ◌∙◌, not, sym, ap, subst, inl}
 use Rattle.sqlite.specs.Effect.{Database}
 use Rattle.sqlite.specs.Held.{state}
 use Rattle.ccr_tables.specs.Contents.{Keeps}
 use Rattle.ccr_store.proofs.StoreLemmas.{stored_loaded, reads_store, as_it_was, as_it_was_kept, not_ours_loaded}
 use Rattle.ccr_store.specs.Rows.{rows_of}
 use Rattle.ccr_store.proofs.OneHistory.{one_history}
+use Rattle.ccr_store.specs.Causes.{ComesOfRows, HasReadAnswer}
+use Rattle.ccr_store.specs.StoreData.{StoreData}
+use Rattle.ccr_store.proofs.ReadFaults.{err_so}
 use Rattle.ccr_store.proofs.store.Store.load.Goals as goal
 
 pub returns-clause-stored : goal.returns-clause-stored
@@ -64,3 +67,12 @@ returns-clause-leaves g c these holds clean trees may =
     let was = as_it_was (state g.S.Store c.self.inside.conn) (state g.S.Store c.load.new.conn) settled (c.in_ok-history.ensures.reads.left clean) in
     let now_is = was.now up ∙ settled (was.was_open up) ∙ sym (was.committed up) in
     inl (subst (Keeps (rows_of c.in_ok-history.history)) (ap (λ (d : Database). d.trees) now_is ∙ sym (g.met.S.Store.settled c.load.new.conn.store trees up may)) both.1.rows.rows)
+
+pub returns-in_err-history-clause-answered : goal.returns-in_err-history-clause-answered
+returns-in_err-history-clause-answered g c clean =
+    err_so c.from_residual.result
+    (λ fault. ComesOfRows fault ⊎ HasReadAnswer g.S.Store (state g.S.Store c.args.self.now.conn) fault) _
+    c.from_residual.ensures.1
+    (subst (λ (k : StoreData _). ComesOfRows c.in_err-history.field-0.0
+    ⊎ HasReadAnswer g.S.Store (state g.S.Store k.conn) c.in_err-history.field-0.0) c.self.view_is
+    (c.in_err-history.ensures.answered clean))
