@@ -77,7 +77,7 @@ pub returns-in_err-builds-clause-answered : goal.returns-in_err-builds-clause-an
 returns-in_err-builds-clause-answered g c clean =
     let s0 = state g.S.Store c.args.conn.now in
     err_so c.from_residual.result (λ e. (cause_of e ≡ NoMemory) ⊎ FailedToRead g.S.Store s0 e) _ c.from_residual.ensures.1
-    (inr (c.in_err-builds.ensures.answered clean))
+    (c.in_err-builds.ensures.answered clean)
 
 pub returns-in_err-pairs-clause-answered : goal.returns-in_err-pairs-clause-answered
 returns-in_err-pairs-clause-answered g c clean =
