@@ -51,7 +51,7 @@ pub(crate) fn version_of(alloc: Global, text: &str) -> Result<Version, LineFault
 }
 
 /// Adds an item to a list.
-fn add<T: Drop>(items: &mut Vec<T>, item: T) -> Result<(), AllocError> {
+pub(crate) fn add<T: Drop>(items: &mut Vec<T>, item: T) -> Result<(), AllocError> {
     items.push(item)?;
     Ok(())
 }
