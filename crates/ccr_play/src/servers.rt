@@ -5,9 +5,10 @@
 //!
 //! The script of the next server: `ends WORD ..` (`STATUS`, `STATUS:OUTPUT`, `numbers:COUNT` for a check that found so
 //! many versions, `killed`, `too-long`, `not-started`: how programs end, in turn), `folders N` and `no-folders N` (N
-//! calls for folders are done, or fail), `file TEXT` (a file that is read), `commits N` (the storage fails after N
-//! commits). `open` makes a server over it, with an empty history, types in `/t` and builds in `/w`. Then `round`,
-//! `turn`, and the commands of `ccr_run`, of which `set-pipeline` and tasks read the script's files.
+//! calls for folders are done, or fail), `file TEXT` (a file that is read), `commits N [FAULT]` (the storage fails after
+//! N commits: `refused`, `no-memory`, `interrupted`, `not-ours`, or as a disk where no fault is named). `open` makes a
+//! server over it, with an empty history, types in `/t` and builds in `/w`. Then `round`, `turn`, and the commands of
+//! `ccr_run`, of which `set-pipeline` and tasks read the script's files.
 
 mod script;
 mod serving;
@@ -112,7 +113,7 @@ impl Servers {
             "file" => self.script.add_file(alloc, words)?,
             "folders" => self.script.add_folders(number_of(words), true)?,
             "no-folders" => self.script.add_folders(number_of(words), false)?,
-            "commits" => self.script.commits = number_of(words),
+            "commits" => self.script.fail_after(words)?,
             _ => return Ok(false),
         }
         Ok(true)

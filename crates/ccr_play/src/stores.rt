@@ -4,17 +4,31 @@
 //! memory, and, where the program is given a `DATABASE`, in the files `DATABASE-1`, `DATABASE-2` and so on too; such a file is
 //! closed, opened again and loaded once more. It is answered how many lines the history has that was loaded as it was made;
 //! where one wasn't, with both.
+//!
+//! `stops FRAMES` makes the changes, one a line, over files in memory of which one fails from a call on, at each of its calls in turn,
+//! and the same while all is loaded. A log of FRAMES frames is copied into the database. It is answered how many stops there were; where
+//! one left another history than that before the change that it cut short or after it, with what it left.
+//!
+//! `foreign STATEMENTS` makes a database by these, `spoiled STATEMENTS` one with the six tables and then by these, and `text TEXT` a file
+//! of this text: it is answered how a store refuses it, and whether its bytes are as they were.
 
 mod commits;
+mod files;
+mod foreign;
 mod kept;
 mod lines;
+mod runs;
+mod stops;
 mod stored;
 
 use crate::play::Player;
+use crate::words::{number_of, split};
 use anyhow::{Result, bail};
 use ccr_store::Store;
+use foreign::{Content, refusal_told};
 use sqlite::{Connection, File, FileStore};
 use std::alloc::{AllocError, Global};
+use stops::stops_told;
 use stored::{held, keep, time_commits};
 
 /// The lines of the history that is made, and where it is kept besides in memory.
@@ -98,14 +112,26 @@ impl<'r> Stores<'r> {
         self.lines.push_str(line)?;
         self.lines.push_str("\n")
     }
+
+    /// The answer to a line.
+    fn told(&mut self, alloc: Global, line: &str) -> Result<String> {
+        match split(line) {
+            ("load", "") => self.load(),
+            ("stops", frames) => stops_told(alloc, self.lines.as_str(), number_of(frames)?),
+            ("foreign", statements) => refusal_told(alloc, Content::Foreign(statements)),
+            ("spoiled", statements) => refusal_told(alloc, Content::Spoiled(statements)),
+            ("text", text) => refusal_told(alloc, Content::Text(text)),
+            _ => {
+                self.add(line)?;
+                Ok(String::new(alloc))
+            }
+        }
+    }
 }
 
 impl Player for Stores<'_> {
     fn answer_to(&mut self, alloc: Global, line: &str) -> Result<String, AllocError> {
-        if line == "load" {
-            return self.load().or_else(|error| format!(in alloc; "{error}"));
-        }
-        self.add(line)?;
-        Ok(String::new(alloc))
+        self.told(alloc, line)
+            .or_else(|error| format!(in alloc; "{error}"))
     }
 }

@@ -1,8 +1,10 @@
-//! Scripts: how programs end, what folders and files answer, and how many commits are taken.
+//! Scripts: how programs end, what folders and files answer, how many commits are taken, and how the next one fails.
 
 use crate::programs::{end_of, sights_of};
+use crate::words::{number_of, split};
 use anyhow::Result;
 use ccr_process::Ended;
+use ccr_storage::StoreFault;
 use ccr_task::{ShelfAnswer, ShelfFault};
 use std::alloc::{AllocError, Global};
 use std::collections::VecDeque;
@@ -14,6 +16,18 @@ pub(super) struct Script {
     pub(super) answers: VecDeque<ShelfAnswer>,
     pub(super) sights: VecDeque<Result<bool, ShelfFault>>,
     pub(super) commits: u32,
+    pub(super) fault: StoreFault,
+}
+
+/// The fault that a word names; that of a disk where it names none.
+fn fault_of(word: &str) -> StoreFault {
+    match word {
+        "refused" => StoreFault::Refused,
+        "no-memory" => StoreFault::NoMemory,
+        "interrupted" => StoreFault::Interrupted,
+        "not-ours" => StoreFault::NotOurs,
+        _ => StoreFault::Disk,
+    }
 }
 
 impl Script {
@@ -24,7 +38,16 @@ impl Script {
             answers: VecDeque::new(alloc),
             sights: VecDeque::new(alloc),
             commits: u32::MAX,
+            fault: StoreFault::Disk,
         }
+    }
+
+    /// Has the storage take so many commits, and fail at each later one with the fault that stands behind their number.
+    pub(super) fn fail_after(&mut self, words: &str) -> Result<()> {
+        let (commits, fault) = split(words);
+        self.commits = number_of(commits)?;
+        self.fault = fault_of(fault);
+        Ok(())
     }
 
     /// Adds ends, a word each.

@@ -55,6 +55,7 @@ impl<W: Write + Drop> Serving<W> {
         let shelf = ShelfScript::new(script.answers, script.sights);
         let storage = Unkept {
             commits: script.commits,
+            fault: script.fault,
             tally: Tally::new(),
         };
         let history = History::new(alloc);

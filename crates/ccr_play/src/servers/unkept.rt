@@ -5,10 +5,11 @@ use ccr_history::Edit;
 use ccr_storage::{Storage, StoreFault, Tally};
 use std::alloc::Global;
 
-/// Takes so many commits, and fails as a disk at each later one. It keeps nothing of what it is given.
+/// Takes so many commits, and fails with this fault at each later one. It keeps nothing of what it is given.
 #[derive(Drop)]
 pub(super) struct Unkept {
     pub(super) commits: u32,
+    pub(super) fault: StoreFault,
     pub(super) tally: Tally,
 }
 
@@ -19,7 +20,7 @@ impl Storage for Unkept {
 
     fn commit(&mut self, _alloc: Global, _change: &[Edit]) -> Result<(), StoreFault> {
         let answer = if self.commits == 0 {
-            Err(StoreFault::Disk)
+            Err(self.fault)
         } else {
             self.commits -= 1;
             Ok(())

@@ -70,7 +70,12 @@ impl<S: Storage + Drop> Kept<S> {
     }
 
     /// Makes the change of a line, if it makes one.
-    fn play(&mut self, alloc: Global, pipeline: &mut Option<Pipeline>, line: &str) -> Result<()> {
+    pub(super) fn play(
+        &mut self,
+        alloc: Global,
+        pipeline: &mut Option<Pipeline>,
+        line: &str,
+    ) -> Result<()> {
         let (kind, given) = split(line);
         let (first, rest) = split(given);
         match kind {

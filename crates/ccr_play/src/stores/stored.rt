@@ -12,7 +12,7 @@ use std::alloc::Global;
 use std::time::Instant;
 
 /// All of a history as text: what it holds, and the text of its pipeline.
-fn whole_text(alloc: Global, history: &History) -> Result<String> {
+pub(super) fn whole_text(alloc: Global, history: &History) -> Result<String> {
     let mut whole = text_of(alloc, history)?;
     if let Some(bytes) = history.text() {
         whole.push_str(str::from_utf8(bytes)?)?;

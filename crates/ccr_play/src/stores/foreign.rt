@@ -1,0 +1,134 @@
+//! Databases that hold no history. What refuses them leaves their bytes as they were.
+ghost use Rattle.std.specs.Prelude.{◌≡◌, ◌&&◌, false, IsTrue, IfOk};
+ghost use Rattle.sqlite_disk.specs.Memory.{memory_is_usable};
+
+use super::files::{bytes_of, empty_files, file_of};
+use anyhow::{Result, anyhow, bail};
+use ccr_storage::StoreFault;
+use ccr_store::{Store, open_fault_of, prepare};
+use sqlite::{Connection, FileStore, Files, Options};
+use sqlite_disk::Memory;
+use std::alloc::Global;
+
+/// A connection to a database whose files are in memory.
+type Filed = Connection<FileStore<Memory>>;
+
+/// What a file holds.
+#[derive(Clone, Copy)]
+pub(super) enum Content<'t> {
+    /// A database that these statements make.
+    Foreign(&'t str),
+    /// A database with the six tables of an empty history, to which these statements are given.
+    Spoiled(&'t str),
+    /// This text.
+    Text(&'t str),
+}
+
+// ---- the files
+/// Closes a database.
+fn closed(conn: Filed) -> Result<Files<Memory>> {
+    match conn.close_files() {
+        Ok(files) => Ok(files),
+        Err((error, _)) => Err(error.into()),
+    }
+}
+
+/// Makes the six tables, if they are wanted, and runs statements.
+fn fill(conn: &mut Filed, has_tables: bool, statements: &str) -> Result<()>
+    requires { conn.old.in_transaction ≡ false }
+{
+    if has_tables {
+        prepare(conn)?;
+    }
+    Ok(conn.execute_batch(statements)?)
+}
+
+/// Fills a database and closes it.
+fn filled(conn: Filed, has_tables: bool, statements: &str) -> Result<Files<Memory>>
+    requires { conn.in_transaction ≡ false }
+{
+    let mut conn = conn;
+    fill(&mut conn, has_tables, statements)?;
+    closed(conn)
+}
+
+/// A database in files in memory, made by these statements.
+fn made(alloc: Global, has_tables: bool, statements: &str) -> Result<Files<Memory>> {
+    match Connection::open_files(alloc, empty_files(alloc), Options::new(1)) {
+        Ok(conn) => filled(conn, has_tables, statements),
+        Err((error, _)) => Err(error.into()),
+    }
+}
+
+/// The files of this content.
+fn files_of(alloc: Global, content: Content<'_>) -> Result<Files<Memory>> {
+    match content {
+        Content::Foreign(statements) => made(alloc, false, statements),
+        Content::Spoiled(statements) => made(alloc, true, statements),
+        Content::Text(text) => Ok(Files {
+            log: Memory::new(alloc),
+            db: file_of(alloc, text.as_bytes())?,
+        }),
+    }
+}
+
+// ---- their refusal
+/// Why no history was found, if none was, and the files after that.
+#[derive(Drop)]
+struct Looked {
+    fault: Option<StoreFault>,
+    files: Files<Memory>,
+}
+
+/// Loads the history of a store.
+fn try_store(alloc: Global, store: Store<FileStore<Memory>>) -> Looked {
+    let mut store = store;
+    let fault = store.load(alloc).err();
+    Looked {
+        fault,
+        files: store.into_connection().into_store().close(),
+    }
+}
+
+/// Takes a database, and loads its history.
+fn try_opened(alloc: Global, conn: Filed) -> Looked
+    requires { conn.in_transaction ≡ false }
+{
+    let mut conn = conn;
+    match prepare(&mut conn) {
+        Ok(()) => try_store(alloc, Store::over(conn)),
+        Err(fault) => Looked {
+            fault: Some(fault),
+            files: conn.into_store().close(),
+        },
+    }
+}
+
+/// Opens files, and loads the history in them.
+fn tried(alloc: Global, files: Files<Memory>) -> Result<Looked> {
+    if !files.may_be_used() {
+        bail!("the files can't be used")
+    }
+    match Connection::open_files(alloc, files, Options::new(1)) {
+        Ok(conn) => Ok(try_opened(alloc, conn)),
+        Err((error, left)) => Ok(Looked {
+            fault: Some(open_fault_of(&error)),
+            files: left.into_files(),
+        }),
+    }
+}
+
+/// How a database of this content is refused, and whether its files have the bytes that they had. An error where a history is found.
+pub(super) fn refusal_told(alloc: Global, content: Content<'_>) -> Result<String> {
+    let files = files_of(alloc, content)?;
+    let before = bytes_of(alloc, &files)?;
+    let Looked { fault, files } = tried(alloc, files)?;
+    let after = bytes_of(alloc, &files)?;
+    let fault = fault.ok_or(anyhow!("a history"))?;
+    let change = if before == after {
+        "unchanged"
+    } else {
+        "changed"
+    };
+    Ok(format!(in alloc; "{fault}, {change}")?)
+}
