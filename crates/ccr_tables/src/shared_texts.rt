@@ -1,4 +1,4 @@
-//! SharedTexts that many rows share.
+//! Texts that many rows share.
 ghost use Rattle.std.specs.Prelude.{◌≡◌, IfOk, string_bytes};
 
 use std::alloc::{AllocError, Global};
@@ -7,7 +7,7 @@ use std::rc::Rc;
 /// So many different texts are shared; a further one is kept for its row alone.
 const MOST_SHARED: usize = 64;
 
-/// SharedTexts that rows share, so that each takes memory once.
+/// Texts that rows share, so that each takes memory once.
 #[derive(Drop)]
 pub(crate) struct SharedTexts {
     alloc: Global,
