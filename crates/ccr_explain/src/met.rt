@@ -1,0 +1,68 @@
+//! Whether some choice meets some of the demands.
+
+ghost use Rattle.std.specs.Prelude.{◌≤◌, ◌++◌, All, IfOk};
+ghost use Rattle.ccr_explain.specs.Demand.{IsDemandOf};
+ghost use Rattle.ccr_explain.specs.Cut.{IsTop, IsMet};
+
+use crate::cut::cut_to;
+use crate::demand::Demand;
+use ccr_choice::Problem;
+use ccr_index::build_index;
+use ccr_proof::MOST_NODES;
+use ccr_resolve::{Chosen, choose};
+use std::alloc::{AllocError, Global};
+
+/// Whether some choice meets demands.
+#[derive(Clone, Copy)]
+pub(crate) enum Met {
+    /// Some choice does.
+    Yes,
+    /// No choice does.
+    No,
+    /// The budget didn't suffice to tell.
+    OverBudget,
+}
+
+/// Whether some choice meets these demands of a problem.
+fn are_met(
+    alloc: Global,
+    problem: &Problem,
+    demands: &[Demand],
+    top: u32,
+    budget: u32,
+) -> Result<Met, AllocError>
+    requires top { IsTop problem.now top }
+    requires demands { All (IsDemandOf problem.now) demands.now }
+    requires least { 1 ≤ budget }
+    requires most { budget ≤ MOST_NODES }
+    ensures { IfOk result (IsMet problem.now demands.now budget) }
+{
+    let cut = cut_to(alloc, problem, demands, top)?;
+    let index = build_index(alloc, &cut)?;
+    let chosen = choose(alloc, &index, budget)?;
+    Ok(match chosen {
+        Chosen::Best(_) => Met::Yes,
+        Chosen::Nothing => Met::No,
+        Chosen::OverBudget(_) => Met::OverBudget,
+    })
+}
+
+/// Whether some choice meets the demands of two lists.
+pub(crate) fn are_both_met(
+    alloc: Global,
+    problem: &Problem,
+    first: &[Demand],
+    second: &[Demand],
+    top: u32,
+    budget: u32,
+) -> Result<Met, AllocError>
+    requires top { IsTop problem.now top }
+    requires demands { All (IsDemandOf problem.now) (first.now ++ second.now) }
+    requires least { 1 ≤ budget }
+    requires most { budget ≤ MOST_NODES }
+    ensures { IfOk result (IsMet problem.now (first.now ++ second.now) budget) }
+{
+    let mut demands = Vec::from_slice(alloc, first)?;
+    demands.extend_from_slice(second)?;
+    are_met(alloc, problem, &demands, top, budget)
+}
