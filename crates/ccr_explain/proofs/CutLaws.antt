@@ -1,24 +1,28 @@
 -- A choice satisfies the cut problem exactly where some choice meets the demands.
-use Rattle.std.proofs.Common.{◌≡◌, ◌↔◌, ℕ, zero, suc, ◌+◌, ◌<◌, ◌≤◌, inl, inr, Bool, true, false, ◌==◌, ◌&&◌, cond, List, [], ◌∷◌, length, map, slice_index, slice_index_or, refl, sym, ap, ◌∙◌, subst, arith}
+use Rattle.std.proofs.Common.{◌≡◌, ◌↔◌, ℕ, zero, suc, ◌+◌, ◌<◌, ◌≤◌, inl, inr, Bool, true, false, ◌==◌, ◌&&◌, nat_le, cond, List, [], ◌∷◌, length, map, slice_index, slice_index_or, refl, sym, ap, ◌∙◌, subst, arith}
 use Rattle.std.specs.Prelude.{All, Any, Contains, filter}
 use Rattle.std.specs.List.{list_any, range_with_len}
 use Rattle.std.proofs.lemmas.Bool.{cases_Bool, cases_eq, cond-true, cond-false, and_parts, and_from, eq-eqb, eqb-true, false≢true, false_from_ne_true}
 use Rattle.std.proofs.lemmas.List.{length-map, get_or-map, get_or_default}
 use Rattle.std.proofs.lemmas.List.FromFn.{length-map-range_with_len, get_or-map-range_with_len, length-range_with_len, get_or-range_with_len}
 use Rattle.std.proofs.lemmas.List.Elements.{All-nil, All-contains, All-get_or, Contains-get_or}
-use Rattle.ccr_choice.specs.Problem.{ProblemValue, InputValue, BuildValue, no_input, input_at, builds_at, is_problem}
+use Rattle.ccr_choice.specs.Problem.{ProblemValue, InputValue, BuildValue, no_input, input_at, builds_at, is_problem, scopes_after, are_builds_below}
 use Rattle.ccr_choice.specs.Satisfies.{Satisfies, HasLengths, Moved, IsAllowed, IsSuccessful, HasPassed, HasPassedAll}
 use Rattle.ccr_choice.specs.Optimal.{HasNoChoice}
 use Rattle.ccr_choice.proofs.Bounds.{builds_kept}
 use Rattle.ccr_choice.proofs.Members.{contains_none, contains_first, contains_later, contains_cases, tests_contains, same_number, any_more}
+use Rattle.ccr_choice.specs.Preference.{order_of}
+use Rattle.ccr_resolve.specs.Chosen.{IsChosen}
+use Rattle.ccr_resolve.specs.declared.chosen.Chosen.{Chosen}
+use Rattle.ccr_resolve.specs.declared.chosen.Chosen.TheVariants.{Best, Nothing, OverBudget}
 use Rattle.ccr_explain.specs.declared.demand.Demand.{Demand}
 use Rattle.ccr_explain.specs.declared.demand.Demand.TheVariants.{Allowed, Passed}
 use Rattle.ccr_explain.specs.Demand.{IsDemandOf, Meets, MeetsAll, CanBeMet, ExcludeEachOther}
-use Rattle.ccr_explain.specs.Cut.{is_allowed_of, is_passed_of, jobs_left, order_from, place_in, cut_input, cut_from, order_left, cut_to, IsTop}
+use Rattle.ccr_explain.specs.Cut.{is_allowed_of, is_passed_of, jobs_left, order_from, place_in, cut_input, cut_from, order_left, cut_to, IsTop, met_of, IsMet}
 use Rattle.ccr_explain.proofs.Lists.{contains_map, contains_filter, from_filter}
 use Rattle.ccr_explain.proofs.Orders.{has, has_it, it_has, place_below, place_at}
 use Rattle.ccr_explain.proofs.DemandLaws.{passed_of, passed_each, passed_successful}
-use Rattle.ccr_explain.proofs.CutRules.{builds_places, all_order, order_there, order_within, length_cut}
+use Rattle.ccr_explain.proofs.CutRules.{builds_places, all_order, order_there, order_within, length_cut, product_left}
 
 -- ---- which demands there are, as tests
 is_that_allowed : (i : ℕ) (d : Demand) → (is_allowed_of i d ≡ true) ↔ (d ≡ Allowed i)
@@ -116,7 +120,7 @@ module _ (ds : List Demand) (top : ℕ) (p : ProblemValue) (rules : is_problem p
     allowed_back i within h =
         let among = list_any (is_allowed_of i) ds in
         let e : (input_at q i).places ≡ (input_at p i).places = ap (λ x. x.places) (input_cut i within)
-            ∙ cond-true among (input_at p i).places (range_with_len 1 top) ((allowed_among ds i).1 h) in
+        ∙ cond-true among (input_at p i).places (range_with_len 1 top) ((allowed_among ds i).1 h) in
         let P : List ℕ → Type 0 = λ xs. Contains xs (slice_index places i) in
         subst P e (s.allowed i (omega (arith, within, inputs_cut)))
 
@@ -215,7 +219,9 @@ module _ (ds : List Demand) (top : ℕ) (p : ProblemValue) (rules : is_problem p
     -- a place that has passed a job fits
     moved_between : (j place : ℕ) (scope number : ℕ) → j < length p.jobs → Moved (builds_at p j) number (scope, place) → (1 ≤ place) × (place ≤ top)
     moved_between j place scope number known (k, b, inside, at, (is, has)) =
-        let kept = builds_places _ _ (builds_at p j) (and_parts _ _ (builds_kept p j (builds_at p j) rules known refl)).1 in
+        let scopes = scopes_after 0 p.inputs in
+        let kept = builds_places scopes 1000001 (builds_at p j)
+        (and_parts (nat_le (length (builds_at p j)) 1000000) (are_builds_below scopes 1000001 (builds_at p j)) (builds_kept p j (builds_at p j) rules known refl)).1 in
         let among : Contains (builds_at p j) b = (k, inside, at) in
         let low = All-contains (λ r. (0 < r.1) × (r.1 ≤ 100000)) b.pairs (scope, place) (All-contains (λ c. All (λ r. (0 < r.1) × (r.1 ≤ 100000)) c.pairs) (builds_at p j) b kept among) has in
         let covered = All-get_or (λ bs. All (λ c. All (λ r. r.1 ≤ top) c.pairs) bs) p.jobs j [] known isTop.covers in
@@ -283,10 +289,10 @@ module _ (ds : List Demand) (top : ℕ) (p : ProblemValue) (rules : is_problem p
     passed_all : (i : ℕ) → i < length p.inputs → HasPassedAll q places_on builds_on i
     passed_all i within =
         passed_each q places_on builds_on i (λ n named. (let jobs : (input_at q i).jobs ≡ map (place_in order) (left i) = ap (λ x. x.jobs) (input_cut i within) in
-            let P : List ℕ → Type 0 = λ xs. Contains xs n in
-            let there = subst P jobs named in
-            let inside : there.0 < length (left i) = omega (arith, there.1, length-map (left i) (place_in order)) in
-            passed_number i n within there.0 inside (get_or_default (map (place_in order) (left i)) there.0 0 n there.1 ∙ there.2)))
+        let P : List ℕ → Type 0 = λ xs. Contains xs n in
+        let there = subst P jobs named in
+        let inside : there.0 < length (left i) = omega (arith, there.1, length-map (left i) (place_in order)) in
+        passed_number i n within there.0 inside (get_or_default (map (place_in order) (left i)) there.0 0 n there.1 ∙ there.2)))
 
     pub satisfies_on : Satisfies q places_on builds_on
     satisfies_on = record {
@@ -299,3 +305,10 @@ module _ (ds : List Demand) (top : ℕ) (p : ProblemValue) (rules : is_problem p
   -- where the cut problem has no choice, the demands exclude each other
   pub none_excludes : HasNoChoice q → ExcludeEachOther p ds
   none_excludes no_choice places builds m = no_choice (places_on places builds m) (builds_on places builds m) (satisfies_on places builds m)
+
+-- what is chosen for the cut problem tells whether the demands can be met
+pub chosen_met : (ds : List Demand) (top : ℕ) (p : ProblemValue) → is_problem p ≡ true → IsTop p top → All (IsDemandOf p) ds → (budget : ℕ) (x : Chosen)
+    → IsChosen (order_of (cut_to ds top p)) (cut_to ds top p) budget x → IsMet p ds budget (met_of x)
+chosen_met ds top p rules isTop of_problem budget (Best c) h = met_back ds top p rules isTop of_problem c.places c.builds h.satisfies
+chosen_met ds top p rules isTop of_problem budget Nothing h = none_excludes ds top p rules isTop of_problem h
+chosen_met ds top p rules isTop of_problem budget (OverBudget n) h = omega (arith, h.1.product, product_left ds top p rules)

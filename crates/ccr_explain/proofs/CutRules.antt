@@ -161,7 +161,7 @@ module _ (ds : List Demand) (top : ℕ) (most : top ≤ 100000) (final : List �
       let so = numbered final few order js grown.added front in
       let rest = inputs_cut (n + 1) (next_used s x.scope) next xs (used_after used x.jobs) parts.1 e in
       let there : All (Contains final) js = all_contained (Contains final) js (λ j among. (let P : List ℕ → Type 0 = λ ys. Contains ys j in
-          subst P (sym e) (grown_has j grown (jobs_there order js j among)))) in
+      subst P (sym e) (grown_has j grown (jobs_there order js j among)))) in
       let apart = distinct_left (λ j. list_any (is_passed_of n j) ds) final x.jobs there b.0 in
       let P : ℕ → Type 0 = λ u. are_inputs (next_used s x.scope) u (cut_from ds final top (n + 1) xs) ≡ true in
       let Q : ℕ → Type 0 = λ u. jobs_after u (cut_from ds final top (n + 1) xs) ≡ length final in

@@ -1,14 +1,18 @@
 -- The demands of a problem are all that it asks.
-use Rattle.std.proofs.Common.{◌≡◌, ◌↔◌, ℕ, zero, suc, ◌+◌, ◌<◌, ◌≤◌, inl, inr, true, List, [], ◌∷◌, ◌++◌, length, map, slice_index, slice_index_or, refl, sym, ap, ◌∙◌, subst, arith}
+use Rattle.std.proofs.Common.{◌≡◌, ◌↔◌, ℕ, zero, suc, ◌+◌, ◌<◌, ◌≤◌, inl, inr, true, nat_le, nat_lt, ◌&&◌, List, [], ◌∷◌, ◌++◌, length, map, slice_index, slice_index_or, refl, sym, ap, ◌∙◌, subst, arith}
 use Rattle.std.specs.Prelude.{All, Any, Contains}
 use Rattle.std.proofs.lemmas.Bool.{and_parts, leb-true, cases_eq, cases_lt}
 use Rattle.std.proofs.lemmas.List.{get_or_default}
 use Rattle.std.proofs.lemmas.List.Elements.{All-nil, All-cons, All-append, All-map, All-contains, Contains-append_left, Contains-append_right, Contains-get_or}
-use Rattle.ccr_choice.specs.Problem.{ProblemValue, InputValue, BuildValue, no_input, input_at, builds_at, is_problem, is_input, are_inputs, are_numbered, next_used, used_after, jobs_after}
+use Rattle.ccr_choice.specs.Problem.{ProblemValue, InputValue, BuildValue, no_input, input_at, builds_at, is_problem, is_input, are_inputs, are_distinct, are_numbered, are_places_after, next_used, used_after, jobs_after}
 use Rattle.ccr_choice.specs.Satisfies.{Satisfies, Moved, IsAllowed, IsSuccessful, HasPassed, HasPassedAll}
 use Rattle.ccr_choice.specs.Optimal.{HasNoChoice}
+use Rattle.ccr_choice.specs.Preference.{order_of}
 use Rattle.ccr_choice.proofs.Bounds.{rules_of}
 use Rattle.ccr_choice.proofs.Members.{contains_first, contains_later, any_more}
+use Rattle.ccr_resolve.specs.Chosen.{IsChosen}
+use Rattle.ccr_resolve.specs.declared.chosen.Chosen.{Chosen}
+use Rattle.ccr_resolve.specs.declared.chosen.Chosen.TheVariants.{Nothing}
 use Rattle.ccr_explain.specs.declared.demand.Demand.{Demand}
 use Rattle.ccr_explain.specs.declared.demand.Demand.TheVariants.{Allowed, Passed}
 use Rattle.ccr_explain.specs.Demand.{IsDemandOf, demands_from, demands_of, Meets, MeetsAll, CanBeMet, ExcludeEachOther}
@@ -53,7 +57,7 @@ passed_from n zero m j (x ∷ xs) e within named =
     let same : n ≡ m = omega arith in
     let P : ℕ → Type 0 = λ k. Contains (demands_from n (x ∷ xs)) (Passed k j) in
     subst P same (contains_later (Allowed n) (Passed n j) (map (λ j. Passed n j) x.jobs ++ demands_from (n + 1) xs)
-        (Contains-append_left (map (λ j. Passed n j) x.jobs) (demands_from (n + 1) xs) (Passed n j) (contains_map (λ j. Passed n j) j x.jobs named)))
+    (Contains-append_left (map (λ j. Passed n j) x.jobs) (demands_from (n + 1) xs) (Passed n j) (contains_map (λ j. Passed n j) j x.jobs named)))
 passed_from n (suc i) m j (x ∷ xs) e within named =
     contains_later (Allowed n) (Passed m j) (map (λ j. Passed n j) x.jobs ++ demands_from (n + 1) xs)
     (Contains-append_right (map (λ j. Passed n j) x.jobs) (demands_from (n + 1) xs) (Passed m j) (passed_from (n + 1) i m j xs (omega arith) (omega arith) named))
@@ -61,8 +65,8 @@ passed_from n (suc i) m j (x ∷ xs) e within named =
 pub demands_are : (p : ProblemValue) → All (IsDemandOf p) (demands_of p)
 demands_are p =
     from_each (IsDemandOf p) 0 p.inputs (λ i m e within. (let same : i ≡ m = omega arith in
-        let P : ℕ → Type 0 = λ k. (k < length p.inputs) × ((j : ℕ) → Contains (input_at p i).jobs j → (k < length p.inputs) × Contains (input_at p k).jobs j) in
-        subst P same (within, λ j named. (within, named))))
+    let P : ℕ → Type 0 = λ k. (k < length p.inputs) × ((j : ℕ) → Contains (input_at p i).jobs j → (k < length p.inputs) × Contains (input_at p k).jobs j) in
+    subst P same (within, λ j named. (within, named))))
 
 among_demands : (p : ProblemValue) (d : Demand) → IsDemandOf p d → Contains (demands_of p) d
 among_demands p (Allowed i) h = allowed_from 0 i i p.inputs (omega arith) h
@@ -75,8 +79,8 @@ all_among p ds all = λ k d within. among_demands p (slice_index_or ds k d) (all
 numbered_has : (used : ℕ) (ns : List ℕ) (j : ℕ) → are_numbered used ns ≡ true → used ≤ j → j < used_after used ns → Contains ns j
 numbered_has used [] j h from below = absurd (omega arith)
 numbered_has used (n ∷ ns) j h from below =
-    let parts = and_parts _ _ h in
-    let rest = and_parts _ _ parts.1 in
+    let parts = and_parts (nat_le n used) (nat_lt n 32 && are_numbered (next_used used n) ns) h in
+    let rest = and_parts (nat_lt n 32) (are_numbered (next_used used n) ns) parts.1 in
     elim (cases_eq n j) [
       | inl same ↦ (let P : ℕ → Type 0 = λ k. Contains (n ∷ ns) k in subst P same (contains_first n ns))
       | inr differs ↦ (let low = leb-true n used parts.0 in
@@ -92,9 +96,9 @@ inputs_name : (scopes used : ℕ) (xs : List InputValue) (j : ℕ) → are_input
 inputs_name scopes used [] j h from below = absurd (omega arith)
 inputs_name scopes used (x ∷ xs) j h from below =
     let parts = and_parts (is_input scopes used x) (are_inputs (next_used scopes x.scope) (used_after used x.jobs) xs) h in
-    let one = and_parts _ _ parts.0 in
-    let two = and_parts _ _ one.1 in
-    let numbered = (and_parts _ _ two.1).0 in
+    let one = and_parts (nat_le x.scope scopes) (are_distinct x.jobs && (are_numbered used x.jobs && are_places_after 0 x.places)) parts.0 in
+    let two = and_parts (are_distinct x.jobs) (are_numbered used x.jobs && are_places_after 0 x.places) one.1 in
+    let numbered = (and_parts (are_numbered used x.jobs) (are_places_after 0 x.places) two.1).0 in
     elim (cases_lt j (used_after used x.jobs)) [
       | inl here ↦ record { input = 0; within = omega arith; named = numbered_has used x.jobs j numbered from here }
       | inr later ↦ (let rest = inputs_name (next_used scopes x.scope) (used_after used x.jobs) xs j parts.1 later below in
@@ -152,3 +156,10 @@ pub all_clash : (p : ProblemValue) (ds : List Demand) → is_problem p ≡ true 
 all_clash p ds rules e none =
     let P : List Demand → Type 0 = λ xs. IsClash p xs in
     subst P (sym e) (record { demands = demands_are p; exclude = λ places builds m. none places builds (satisfies_from p rules places builds m) })
+
+-- where nothing is chosen for the problem of an index, there is no choice
+pub nothing_chosen : (p q : ProblemValue) (budget : ℕ) (x : Chosen) → q ≡ p → x ≡ Nothing → IsChosen (order_of q) q budget x → HasNoChoice p
+nothing_chosen p q budget x same is h =
+    let P : Chosen → Type 0 = λ y. IsChosen (order_of q) q budget y in
+    let Q : ProblemValue → Type 0 = λ r. HasNoChoice r in
+    subst Q same (subst P is h)

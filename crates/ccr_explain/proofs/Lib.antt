@@ -5,3 +5,4 @@ pub mod Reducing
 pub mod CutRules
 pub mod CutLaws
 pub mod WhyLaws
+pub mod Steps

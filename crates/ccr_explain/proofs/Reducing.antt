@@ -1,13 +1,17 @@
 -- Leaving out one demand after the other, each tried once.
-use Rattle.std.proofs.Common.{◌≡◌, ℕ, ◌+◌, ◌<◌, ◌≤◌, inl, inr, Bool, true, false, IsTrue, List, [], ◌∷◌, ◌++◌, length, drop, refl, sym, ap, ◌∙◌, subst, arith}
+use Rattle.std.proofs.Common.{◌≡◌, ℕ, ◌+◌, ◌<◌, ◌≤◌, inl, inr, Bool, true, false, IsTrue, List, [], ◌∷◌, ◌++◌, length, drop, get_or, refl, sym, ap, ◌∙◌, subst, arith}
 use Rattle.std.specs.Prelude.{All, Contains, remove}
 use Rattle.std.proofs.lemmas.Bool.{cases_lt, false≢true}
-use Rattle.std.proofs.lemmas.List.{append-nil, append_assoc, length_push, drop_all}
+use Rattle.std.proofs.lemmas.List.{append-nil, append_assoc, length_push, drop_all, drop_more}
 use Rattle.std.proofs.lemmas.List.Elements.{All-contains, Contains-append_left, Contains-append_right, Contains-append_cases}
 use Rattle.ccr_choice.specs.Problem.{ProblemValue}
 use Rattle.ccr_choice.proofs.Members.{contains_later}
 use Rattle.ccr_resolve.specs.Room.{product}
 use Rattle.ccr_explain.specs.declared.demand.Demand.{Demand}
+use Rattle.ccr_explain.specs.declared.demand.Demand.TheVariants.{Allowed}
+use Rattle.ccr_explain.specs.declared.met.Met.{Met}
+use Rattle.ccr_explain.specs.declared.met.Met.TheVariants.{Yes, No, OverBudget}
+use Rattle.ccr_explain.specs.Cut.{IsMet}
 use Rattle.ccr_explain.specs.Demand.{IsDemandOf, CanBeMet, ExcludeEachOther, AreIrreducible}
 use Rattle.ccr_explain.specs.Clash.{IsClash, IsClashWithin}
 use Rattle.ccr_explain.specs.ClashValue.{ClashValue}
@@ -87,3 +91,30 @@ reduced_last p budget kept ds k known end so =
       irreducible = λ is m within. subst Q (ap (λ xs. remove kept m ++ xs) none ∙ append-nil (remove kept m)) (so.needed is m within);
       perhaps_fewer = so.perhaps;
     }
+
+-- ---- one turn
+module _ (p : ProblemValue) (budget k : ℕ) (ds kept first second : List Demand) (known : Bool) (within : k < length ds) (so : IsReduced p budget kept (drop k ds) known)
+    (same : first ≡ kept) (rest : second ≡ drop (k + 1) ds) (met : Met) (told : IsMet p (first ++ second) budget met) where
+  split : IsReduced p budget kept (get_or ds k (Allowed 0) ∷ drop (k + 1) ds) known
+  split = let P : List Demand → Type 0 = λ xs. IsReduced p budget kept xs known in subst P (drop_more ds k (Allowed 0) within) so
+
+  at : (x : Met) → met ≡ x → IsMet p (kept ++ drop (k + 1) ds) budget x
+  at x is =
+      let P : Met → Type 0 = λ y. IsMet p (first ++ second) budget y in
+      let Q : List Demand → Type 0 = λ xs. IsMet p xs budget x in
+      subst Q (ap (λ xs. xs ++ second) same ∙ ap (λ xs. kept ++ xs) rest) (subst P is told)
+
+  pub turn_out : met ≡ No → IsReduced p budget kept (drop (k + 1) ds) known
+  turn_out is = stays_out p budget kept (drop (k + 1) ds) (get_or ds k (Allowed 0)) known split (at No is)
+
+  pub turn_kept : (after : List Demand) (now : Bool) → met ≡ Yes → after ≡ kept ++ get_or ds k (Allowed 0) ∷ [] → now ≡ known → IsReduced p budget after (drop (k + 1) ds) now
+  turn_kept after now is pushed flag =
+      let P : List Demand → Type 0 = λ xs. IsReduced p budget xs (drop (k + 1) ds) now in
+      let Q : Bool → Type 0 = λ b. IsReduced p budget (kept ++ get_or ds k (Allowed 0) ∷ []) (drop (k + 1) ds) b in
+      subst P (sym pushed) (subst Q (sym flag) (is_kept p budget kept (drop (k + 1) ds) (get_or ds k (Allowed 0)) known split (at Yes is)))
+
+  pub turn_open : (after : List Demand) (now : Bool) → met ≡ OverBudget → after ≡ kept ++ get_or ds k (Allowed 0) ∷ [] → now ≡ false → IsReduced p budget after (drop (k + 1) ds) now
+  turn_open after now is pushed flag =
+      let P : List Demand → Type 0 = λ xs. IsReduced p budget xs (drop (k + 1) ds) now in
+      let Q : Bool → Type 0 = λ b. IsReduced p budget (kept ++ get_or ds k (Allowed 0) ∷ []) (drop (k + 1) ds) b in
+      subst P (sym pushed) (subst Q (sym flag) (is_open p budget kept (drop (k + 1) ds) (get_or ds k (Allowed 0)) known split (at OverBudget is)))

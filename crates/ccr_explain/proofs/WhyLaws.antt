@@ -18,7 +18,7 @@ use Rattle.ccr_explain.proofs.DemandLaws.{no_choice, passed_of, passed_each}
 lower_places : (low high : ℕ) (xs : List ℕ) → low ≤ high → are_places_after high xs ≡ true → are_places_after low xs ≡ true
 lower_places low high [] le h = refl
 lower_places low high (x ∷ xs) le h =
-    let parts = and_parts _ _ h in
+    let parts = and_parts (nat_lt high x) (nat_le x 100000 && are_places_after x xs) h in
     and_from _ _ (lt-ltb low x (omega (arith, ltb-true high x parts.0))) parts.1
 
 filtered_places : (test : ℕ → Bool) (low : ℕ) (xs : List ℕ) → are_places_after low xs ≡ true → are_places_after low (filter test xs) ≡ true
@@ -111,9 +111,9 @@ module _ (prefers : Preference) (p : ProblemValue) (places : List ℕ) (i place 
   unfolding HasPassed
   same_passed one other others builds k scope jobs builds_same h =
       passed_each other others builds k (λ j named. (let J : List ℕ → Type 0 = λ xs. Contains xs j in
-          let S : ℕ → Type 0 = λ x. Moved (builds_at one j) (slice_index builds j) (x, slice_index others k) in
-          let B : List (List BuildValue) → Type 0 = λ js. Moved (slice_index_or js j []) (slice_index builds j) ((input_at other k).scope, slice_index others k) in
-          subst B builds_same (subst S scope (passed_of one others builds k j h (subst J (sym jobs) named)))))
+      let S : ℕ → Type 0 = λ x. Moved (builds_at one j) (slice_index builds j) (x, slice_index others k) in
+      let B : List (List BuildValue) → Type 0 = λ js. Moved (slice_index_or js j []) (slice_index builds j) ((input_at other k).scope, slice_index others k) in
+      subst B builds_same (subst S scope (passed_of one others builds k j h (subst J (sym jobs) named)))))
 
   -- where the choice of the question comes from
   taken_places : (others builds : List ℕ) → Satisfies q others builds → (k : ℕ) → k < length p.inputs

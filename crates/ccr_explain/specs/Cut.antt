@@ -5,6 +5,8 @@ use Rattle.ccr_choice.specs.Problem.{ProblemValue, InputValue, BuildValue, build
 use Rattle.ccr_resolve.specs.Room.{product}
 use Rattle.ccr_explain.specs.declared.demand.Demand.{Demand}
 use Rattle.ccr_explain.specs.declared.demand.Demand.TheVariants.{Allowed, Passed}
+use Rattle.ccr_resolve.specs.declared.chosen.Chosen.{Chosen}
+use Rattle.ccr_resolve.specs.declared.chosen.Chosen.TheVariants as chosen
 use Rattle.ccr_explain.specs.declared.met.Met.{Met}
 use Rattle.ccr_explain.specs.declared.met.Met.TheVariants.{Yes, No, OverBudget}
 use Rattle.ccr_explain.specs.Demand.{CanBeMet, ExcludeEachOther}
@@ -68,6 +70,12 @@ pub record IsTop (p : ProblemValue) (top : ℕ) : Type 0 where
   pub least : 1 ≤ top
   pub most : top ≤ 100000
   pub covers : All (λ bs. All (λ b. All (λ q. q.1 ≤ top) b.pairs) bs) p.jobs
+
+-- Whether some choice meets the demands, by what is chosen for the problem cut to them.
+abbrev pub met_of : Chosen → Met
+met_of (chosen.Best c) = Yes
+met_of chosen.Nothing = No
+met_of (chosen.OverBudget n) = OverBudget
 
 -- Whether some choice meets these demands; it is left open only where the budget is less than the product, over the named
 -- jobs, of one plus the number of successful builds.

@@ -29,9 +29,7 @@ pub fn clash(alloc: Global, problem: &Problem, budget: u32) -> Result<Explanatio
         Chosen::OverBudget(budget) => Ok(Explanation::OverBudget(budget)),
         Chosen::Nothing => {
             let demands = demands_of(alloc, problem)?;
-            Ok(Explanation::Clash(reduced(
-                alloc, problem, &demands, budget,
-            )?))
+            Ok(Explanation::Clash(reduced(alloc, problem, &demands, budget)?))
         }
     }
 }

@@ -17,7 +17,8 @@ pub(crate) fn cut_to(
     top: u32,
 ) -> Result<Problem, AllocError>
     requires { IsTop problem.now top }
-    ensures { IfOk result (λ p. p ≡ cut_to demands.now top problem.now) }
+    ensures value { IfOk result (λ p. p ≡ cut_to demands.now top problem.now) }
+    ensures rules { IfOk result (λ p. IsProblem problem.now) }
 {
     let order = order_left(alloc, problem, demands)?;
     let inputs = cut_inputs(alloc, problem, demands, &order, top)?;
@@ -59,9 +60,7 @@ fn top_of_pairs(pairs: &[(u32, u32)], least: u32) -> u32
 {
     let mut top = least;
     for pair in pairs {
-        if top < pair.1 {
-            top = pair.1;
-        }
+        top = top.max(pair.1);
     }
     top
 }
@@ -99,15 +98,12 @@ fn jobs_left(
 }
 
 /// The jobs that inputs must still have passed, in order of first mention.
-fn order_left(
-    alloc: Global,
-    problem: &Problem,
-    demands: &[Demand],
-) -> Result<Vec<u32>, AllocError>
+fn order_left(alloc: Global, problem: &Problem, demands: &[Demand]) -> Result<Vec<u32>, AllocError>
     ensures value { IfOk result (λ order. order.items ≡ order_left demands.now problem.now) }
     ensures few { IfOk result (λ order. length order.items ≤ 32) }
     ensures known { IfOk result
         (λ order. EachIndex order.items (λ k. slice_index order.items k < length problem.now.jobs)) }
+    ensures rules { IfOk result (λ order. IsProblem problem.now) }
 {
     let mut order = Vec::new(alloc);
     for i in 0..problem.inputs().len() {
@@ -170,14 +166,7 @@ fn cut_inputs(
 {
     let mut inputs = Vec::new(alloc);
     for i in 0..problem.inputs().len() {
-        inputs.push(cut_input(
-            alloc,
-            demands,
-            order,
-            top,
-            i,
-            &problem.inputs()[i],
-        )?)?;
+        inputs.push(cut_input(alloc, demands, order, top, i, &problem.inputs()[i])?)?;
     }
     Ok(inputs)
 }
@@ -255,8 +244,15 @@ fn numbers_left(
     ensures { IfOk result (λ left. left.items ≡ map (place_in order.now) (jobs_left demands.now input jobs.now)) }
 {
     let left = jobs_left(alloc, demands, input, jobs)?;
+    numbers_of(alloc, order, &left)
+}
+
+fn numbers_of(alloc: Global, order: &[u32], jobs: &[u32]) -> Result<Vec<u32>, AllocError>
+    requires { length order.now ≤ 32 }
+    ensures { IfOk result (λ numbers. numbers.items ≡ map (place_in order.now) jobs.now) }
+{
     let mut numbers = Vec::new(alloc);
-    for job in &left {
+    for job in jobs {
         numbers.push(place_in(order, *job))?;
     }
     Ok(numbers)
@@ -282,10 +278,7 @@ pub(crate) fn copied_builds(alloc: Global, builds: &[Build]) -> Result<JobBuilds
 {
     let mut copies = Vec::with_capacity(alloc, builds.len())?;
     for build in builds {
-        copies.push(Build::new(
-            build.number(),
-            Vec::from_slice(alloc, build.pairs())?,
-        ))?;
+        copies.push(Build::new(build.number(), Vec::from_slice(alloc, build.pairs())?))?;
     }
     Ok(JobBuilds::new(copies))
 }

@@ -1,6 +1,7 @@
 //! What a problem demands of a choice.
 
 ghost use Rattle.std.specs.Prelude.{◌≡◌, ◌++◌, map, IfOk, OnOk};
+ghost use Rattle.ccr_choice.specs.Problem.{IsProblem};
 ghost use Rattle.ccr_explain.specs.Demand.{demands_of};
 ghost use Rattle.ccr_explain.specs.declared.demand.Demand.TheVariants.{Passed};
 
@@ -19,7 +20,8 @@ pub enum Demand {
 
 /// All demands of a problem, in plan order.
 pub(crate) fn demands_of(alloc: Global, problem: &Problem) -> Result<Vec<Demand>, AllocError>
-    ensures { IfOk result (λ ds. ds.items ≡ demands_of problem.now) }
+    ensures value { IfOk result (λ ds. ds.items ≡ demands_of problem.now) }
+    ensures rules { IfOk result (λ ds. IsProblem problem.now) }
 {
     let mut demands = Vec::new(alloc);
     for i in 0..problem.inputs().len() {

@@ -1,8 +1,11 @@
 //! Whether some choice meets some of the demands.
 
-ghost use Rattle.std.specs.Prelude.{◌≤◌, ◌++◌, All, IfOk};
+ghost use Rattle.std.specs.Prelude.{◌≡◌, ◌≤◌, ◌++◌, All, IfOk};
+ghost use Rattle.ccr_choice.specs.Problem.{IsProblem};
+ghost use Rattle.ccr_choice.specs.Preference.{order_of};
+ghost use Rattle.ccr_resolve.specs.Chosen.{IsChosen};
 ghost use Rattle.ccr_explain.specs.Demand.{IsDemandOf};
-ghost use Rattle.ccr_explain.specs.Cut.{IsTop, IsMet};
+ghost use Rattle.ccr_explain.specs.Cut.{cut_to, met_of, IsTop, IsMet};
 
 use crate::cut::cut_to;
 use crate::demand::Demand;
@@ -23,6 +26,36 @@ pub(crate) enum Met {
     OverBudget,
 }
 
+/// What the resolver chooses for a problem that is cut to these demands.
+fn chosen_of_cut(
+    alloc: Global,
+    problem: &Problem,
+    demands: &[Demand],
+    top: u32,
+    budget: u32,
+) -> Result<Chosen, AllocError>
+    requires top { IsTop problem.now top }
+    requires least { 1 ≤ budget }
+    requires most { budget ≤ MOST_NODES }
+    ensures chosen { let cut = cut_to demands.now top problem.now in IfOk result (IsChosen (order_of cut) cut budget) }
+    ensures rules { IfOk result (λ chosen. IsProblem problem.now) }
+{
+    let cut = cut_to(alloc, problem, demands, top)?;
+    let index = build_index(alloc, &cut)?;
+    choose(alloc, &index, budget)
+}
+
+/// Whether some choice meets the demands, by what is chosen for the problem cut to them.
+fn met_of(chosen: Chosen) -> Met
+    ensures { result ≡ met_of chosen }
+{
+    match chosen {
+        Chosen::Best(_) => Met::Yes,
+        Chosen::Nothing => Met::No,
+        Chosen::OverBudget(_) => Met::OverBudget,
+    }
+}
+
 /// Whether some choice meets these demands of a problem.
 fn are_met(
     alloc: Global,
@@ -37,14 +70,8 @@ fn are_met(
     requires most { budget ≤ MOST_NODES }
     ensures { IfOk result (IsMet problem.now demands.now budget) }
 {
-    let cut = cut_to(alloc, problem, demands, top)?;
-    let index = build_index(alloc, &cut)?;
-    let chosen = choose(alloc, &index, budget)?;
-    Ok(match chosen {
-        Chosen::Best(_) => Met::Yes,
-        Chosen::Nothing => Met::No,
-        Chosen::OverBudget(_) => Met::OverBudget,
-    })
+    let chosen = chosen_of_cut(alloc, problem, demands, top, budget)?;
+    Ok(met_of(chosen))
 }
 
 /// Whether some choice meets the demands of two lists.

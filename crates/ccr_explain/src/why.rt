@@ -1,7 +1,7 @@
 //! Why an input doesn't take a place that is preferred to the one it has.
 
 ghost use Rattle.std.specs.Prelude.{◌≡◌, ◌≢◌, ◌↔◌, ◌+◌, ◌<◌, ◌≤◌, length, slice_index, filter, IsTrue, Ok, IfOk};
-ghost use Rattle.ccr_choice.specs.Problem.{ChoiceValue, input_at};
+ghost use Rattle.ccr_choice.specs.Problem.{ChoiceValue, input_at, IsProblem};
 ghost use Rattle.ccr_choice.specs.Preference.{order_of};
 ghost use Rattle.ccr_choice.specs.Optimal.{IsOptimal};
 ghost use Rattle.ccr_explain.specs.WhyNot.{may_take, narrowed_from, asked, IsWhyNot};
@@ -66,8 +66,9 @@ fn narrowed(
     place: u32,
 ) -> Result<Vec<Input>, AllocError>
     requires { length places.now ≡ length problem.now.inputs }
-    ensures { IfOk result (λ inputs. inputs.items
+    ensures value { IfOk result (λ inputs. inputs.items
         ≡ narrowed_from (may_take (order_of problem.now) places.now input place) 0 problem.now.inputs) }
+    ensures rules { IfOk result (λ inputs. IsProblem problem.now) }
 {
     let mut inputs = Vec::new(alloc);
     for k in 0..problem.inputs().len() {
