@@ -5,6 +5,8 @@ pub mod Lists
 pub mod TableLaws
 pub mod BuildLaws
 pub mod PinLaws
+pub mod PairSets
+pub mod DisabledLaws
 pub mod ChangeLaws
 pub mod PinMaps
 pub mod HistoryLaws
