@@ -21,6 +21,7 @@ pub mod Positions
 pub mod Numbered
 pub mod Sorting
 pub mod OrderlyKept
+pub mod Given
 pub mod Links
 pub mod KeptRows
 pub mod NameLemmas

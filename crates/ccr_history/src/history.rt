@@ -4,6 +4,7 @@ ghost use Rattle.ccr_history.specs.declared.build.Status.TheVariants.{Running};
 ghost use Rattle.ccr_history.specs.TextMap.{TextMap};
 ghost use Rattle.ccr_history.specs.Tables.{versions_of, new_count, is_table_full, scope_number, place_in, at_place, versions_at};
 ghost use Rattle.ccr_history.specs.Builds.{build_of, is_build_of, count_of, positions_of, has_used, HasEnded};
+ghost use Rattle.ccr_history.specs.Newest.{newest_used};
 ghost use Rattle.ccr_history.specs.Orderly.{IsOnly};
 ghost use Rattle.ccr_history.specs.Pairs.{has_pair};
 ghost use Rattle.ccr_history.specs.History.{HistoryData, no_history, IsHistory, has_place};
@@ -400,5 +401,12 @@ impl History {
             ≡ has_used job.now (record { input = input.now; scope = scope; place = place }) self.now.builds }
     {
         self.builds.has_used(job, input, scope, place)
+    }
+
+    /// The place that the newest build of the job, of whatever status, which used this input in this scope had.
+    pub fn newest_used(&self, job: &str, input: &str, scope: u32) -> Option<u32>
+        ensures { result ≡ newest_used job.now input.now scope self.now.builds }
+    {
+        self.builds.newest_used(job, input, scope)
     }
 }
