@@ -42,7 +42,7 @@ problem_text p = text_of (problem_lines p)
 abbrev pub places_on : ℕ → List ℕ → List Word → Option InputValue
 places_on scope jobs (Places ∷ ws) =
     if length (after_numbers ws) == 0
-    then Some (record { scope = scope; places = front_numbers ws; jobs = jobs }) else None
+    then Some (record { scope = scope; places = front_numbers ws; jobs = jobs; after = None }) else None
 places_on scope jobs ws = None
 
 unfoldable pub input_on : List Word → Option InputValue

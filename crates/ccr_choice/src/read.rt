@@ -47,7 +47,7 @@ fn input_on(alloc: Global, words: &[Word]) -> Result<Option<Input>, AllocError>
     if !rest.is_empty() {
         return Ok(None);
     }
-    Ok(Some(Input::new(*scope, jobs, places)))
+    Ok(Some(Input::new(*scope, jobs, None, places)))
 }
 
 fn pairs_on(alloc: Global, words: &[Word]) -> Result<Option<Vec<(u32, u32)>>, AllocError>

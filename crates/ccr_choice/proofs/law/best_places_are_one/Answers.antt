@@ -1,6 +1,6 @@
 use Rattle.std.proofs.Common.{◌∙◌, sym}
 use Rattle.ccr_choice.proofs.BestPlaces.{best_places}
-use Rattle.ccr_choice.proofs.PlainLaws.{is_order}
+use Rattle.ccr_choice.proofs.Orders.{is_order}
 use Rattle.ccr_choice.proofs.PossibleLaws.{are_best, are_only}
 use Rattle.ccr_choice.proofs.law.best_places_are_one.Goals as goal
 
