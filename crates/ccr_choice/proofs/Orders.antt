@@ -1,5 +1,5 @@
 -- The order of each problem is an order, and 0 comes last in it; where no place is kept, better is later.
-use Rattle.std.proofs.Common.{◌≡◌, ◌≢◌, ◌↔◌, ℕ, zero, suc, ◌<◌, ◌≤◌, ◌⊎◌, inl, inr, List, [], ◌∷◌, length, slice_index, Option, Some, None, Bool, true, false, IsTrue, sym, ap, ◌∙◌, refl, arith}
+use Rattle.std.proofs.Common.{◌≡◌, ◌≢◌, ◌↔◌, ℕ, zero, suc, ◌<◌, ◌⊎◌, inl, inr, List, [], ◌∷◌, length, slice_index, Option, Some, None, Bool, true, false, not, IsTrue, sym, ap, ◌∙◌, refl, arith}
 use Rattle.std.proofs.lemmas.Bool.{ltb-true, lt-ltb, le-ltb, cases_lt, cases_eq, cases_Bool, false≢true}
 use Rattle.std.proofs.lemmas.Bool.Decides.{nat_tests}
 use Rattle.ccr_choice.specs.Problem.{ProblemValue, input_at}
@@ -79,6 +79,11 @@ module _ (prefers : ℕ → ℕ → ℕ → Bool) (order : IsOrder prefers) (xs 
       ]
     ],
   )
+
+-- what isn't better, by a test of what is
+pub worse_unless : {B : Type 0} (b : Bool) → IsTrue b ↔ B → IsTrue (not b) ↔ (¬ B)
+worse_unless true tests = (λ h. absurd (cc (h)), λ none. absurd (none (tests.0 refl)))
+worse_unless false tests = (λ h found. absurd (cc (tests.1 found)), λ none. refl)
 
 -- ---- where no place is kept
 better_later : (p : ProblemValue) → ((i : ℕ) → (input_at p i).after ≡ None) → (xs ys : List ℕ) → IsBetter (order_of p) xs ys → IsLater xs ys

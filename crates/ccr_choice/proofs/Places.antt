@@ -1,9 +1,11 @@
 -- The best possible place, from what was found.
-use Rattle.std.proofs.Common.{◌≡◌, ℕ, zero, suc, ◌-◌, ◌<◌, ◌≤◌, List, [], ◌∷◌, length, slice_index, slice_index_or, Bool, true, false, ◌&&◌, inl, inr, ap, ◌∙◌, subst, arith, Option, Some, None, IsTrue}
-use Rattle.std.specs.Prelude.{Contains, IfSome, MatchOption, nat_le}
-use Rattle.std.proofs.lemmas.Bool.{and_parts, ltb-true, cases_lt}
+use Rattle.std.proofs.Common.{◌≡◌, ℕ, zero, suc, ◌-◌, ◌<◌, ◌≤◌, List, [], ◌∷◌, length, get_or, slice_index, slice_index_or, Bool, true, ◌&&◌, inl, inr, refl, sym, ap, ◌∙◌, subst, arith, Option, Some, None}
+use Rattle.std.specs.Prelude.{Contains, IfSome, MatchOption, slice_get, nat_le}
+use Rattle.std.proofs.lemmas.Bool.{and_parts, ltb-true, leb-true, le-leb, cases_lt}
 use Rattle.std.proofs.lemmas.Bool.Decides.{nat_tests}
 use Rattle.std.proofs.lemmas.List.{get_or_default, get_or_read}
+use Rattle.std.proofs.lemmas.Option.{slice_get_within, get_or_from_slice_get, slice_get-get_or}
+use Rattle.std.specs.List.Sorted.{IsPartitionedBy}
 use Rattle.ccr_choice.specs.Problem.{ProblemValue, InputValue, no_input, is_problem, is_input, are_inputs, are_distinct, are_numbered, are_places_after, is_after, next_used, used_after, input_at}
 use Rattle.ccr_choice.specs.Ascending.{AreRising}
 use Rattle.ccr_choice.specs.Preference.{prefers_after, order_of, IsMostPreferred}
@@ -75,6 +77,25 @@ module _ (xs : List ℕ) (rises : AreRising xs) where
       behind : (after : Option ℕ) (y : ℕ) → y ≤ x → IfSome after (λ u. y ≤ u) → prefers_after after y x ≡ true → ⊥
       behind None y le low better = omega (arith, ltb-true x y better, le)
       behind (Some u) y le low better = grind (arith, nat_tests)
+
+  pub last_of : (after : Option ℕ) (o : Option ℕ) → o ≡ slice_get xs (length xs - 1) → ((k : ℕ) → k < length xs → IfSome after (λ u. slice_index xs k ≤ u))
+      → MatchOption o (xs ≡ []) (IsMostPreferred (prefers_after after) xs)
+  last_of after None e low = empty xs e
+    where
+      empty : (ys : List ℕ) → None ≡ slice_get ys (length ys - 1) → ys ≡ []
+      empty [] e = refl
+      empty (y ∷ ys) e = absurd (cc (e, slice_get-get_or (y ∷ ys) (length (y ∷ ys) - 1) 0 (omega arith)))
+  last_of after (Some x) e low =
+      let inside = slice_get_within xs (length xs - 1) x (sym e) in
+      last_most after x low (omega (arith, inside)) (get_or_from_slice_get xs (length xs - 1) x 0 (sym e))
+
+  -- the places up to the one that is kept stand in front
+  pub low_front : (u : ℕ) → IsPartitionedBy (λ x. nat_le x u) xs
+  low_front u i j d le within h =
+      elim (cases_lt i j) [
+        | inl less ↦ (let up = ltb-true _ _ (rises i j d less within) in let few = leb-true (get_or xs j d) u h in le-leb _ _ (omega (arith, up, few)))
+        | inr same ↦ (let e : i ≡ j = omega arith in ap (λ k. nat_le (get_or xs k d) u) e ∙ h)
+      ]
 
   -- else the first above it
   pub first_most : (u at x : ℕ) → ((k : ℕ) → k < at → slice_index xs k ≤ u) → at < length xs → slice_index xs at ≡ x → u < x → IsMostPreferred (prefers_after (Some u)) xs x

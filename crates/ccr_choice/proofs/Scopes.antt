@@ -1,12 +1,13 @@
 -- The pairs of one scope, in a list of pairs that ascends.
-use Rattle.std.proofs.Common.{◌≡◌, ℕ, ◌+◌, ◌<◌, ◌≤◌, inl, inr, List, length, get_or, sym, ap, ap₂, ◌∙◌, arith, IsTrue, ◌||◌, ◌&&◌, ◌==◌, nat_lt, nat_le, true, false, Option, Some, None}
-use Rattle.std.specs.Prelude.{Contains}
+use Rattle.std.proofs.Common.{◌≡◌, ℕ, ◌+◌, ◌<◌, ◌≤◌, inl, inr, List, length, get_or, sym, ap, ap₂, ◌∙◌, arith, Bool, IsTrue, ◌||◌, ◌&&◌, ◌==◌, nat_lt, nat_le, true, false, Option, Some, None}
+use Rattle.std.specs.Prelude.{Contains, MatchOption}
 use Rattle.std.specs.List.Sorted.{IsPartitionedBy, IsPartitionPoint}
 use Rattle.std.proofs.lemmas.Bool.{cases_lt, leb-true, leb-false, le-leb, ltb-true, false≢true}
 use Rattle.std.proofs.lemmas.Bool.Decides.{nat_tests}
 use Rattle.std.proofs.lemmas.List.{get_or_default}
 use Rattle.ccr_choice.specs.Ascending.{is_before, is_up_to, AreAscending}
 use Rattle.ccr_choice.specs.Preference.{prefers_after}
+use Rattle.ccr_choice.specs.Possible.{Reaches}
 use Rattle.ccr_choice.proofs.Lookups.{before_is}
 
 low : (p q : ℕ × ℕ) (scope : ℕ) → is_before p q ≡ true → nat_le q.0 scope ≡ true → nat_le p.0 scope ≡ true
@@ -59,6 +60,11 @@ pub earlier : (scope : ℕ) (q : ℕ × ℕ) (place : ℕ) → q.0 ≡ scope →
 earlier scope q place same b =
     elim (before_is (scope, place) q b) [ inl less ↦ (let e = same in absurd (omega arith)) | inr both ↦ (let less = both.1 in omega arith) ]
 
+-- what isn't preferred to the best so far is reached
+pub reached_unless : (after : Option ℕ) (o : Option ℕ) (x : ℕ) (better : Bool) → MatchOption o (IsTrue better) (λ b. better ≡ prefers_after after x b) → better ≡ false → Reaches (prefers_after after) o x
+reached_unless after None x better h e = absurd (false≢true (sym e ∙ h))
+reached_unless after (Some y) x better h e = λ first. false≢true (sym e ∙ h ∙ first)
+
 -- ---- up to the place that is kept, and above it
 low_pair : (after : Option ℕ) (scope : ℕ) (p q : ℕ × ℕ) → is_before p q ≡ true → is_up_to after scope q ≡ true → is_up_to after scope p ≡ true
 low_pair None scope p q b h = low p q scope b h
@@ -105,6 +111,17 @@ none_below (Some u) scope q place h same le better = numbers q.0 q.1 h same le b
   where
     numbers : (a b : ℕ) → (nat_lt a scope || (a == scope && nat_le b u)) ≡ true → a ≡ scope → place ≤ b → prefers_after (Some u) place b ≡ true → ⊥
     numbers a b h same le better = grind (arith, nat_tests)
+
+-- in the same scope, what stands behind has a later place
+pub later : (scope : ℕ) (q : ℕ × ℕ) (place : ℕ) → q.0 ≡ scope → is_before q (scope, place) ≡ true → q.1 < place
+later scope q place same b =
+    elim (before_is q (scope, place) b) [ inl less ↦ (let e = same in absurd (omega arith)) | inr both ↦ (let less = both.1 in omega arith) ]
+
+-- above the place that is kept, a pair of another scope: no pair of this scope stands there or behind
+pub another_above : (after : Option ℕ) (scope : ℕ) (q : ℕ × ℕ) (place : ℕ) → is_up_to after scope q ≡ false → (q.0 ≡ scope → ⊥) → is_before q (scope, place) ≡ true → ⊥
+another_above after scope q place past other b =
+    let low = scope_above after scope q past in
+    elim (before_is q (scope, place) b) [ inl less ↦ other (omega arith) | inr both ↦ (let e = both.0 in other (omega arith)) ]
 
 -- ---- from one position up, and down to the first
 module _ (xs : List (ℕ × ℕ)) (rises : AreAscending xs) (scope : ℕ) (P R : ℕ → Type 0) (k : ℕ) (inside : k < length xs)

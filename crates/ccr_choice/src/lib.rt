@@ -19,6 +19,7 @@
 mod choice;
 mod dominated;
 mod fault;
+mod format;
 mod law;
 mod order;
 pub mod possible;

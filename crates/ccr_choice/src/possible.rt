@@ -123,7 +123,8 @@ fn is_better(after: Option<u32>, place: u32, best: Option<u32>) -> bool
 /// kept, before those of later scopes.
 fn up_to(after: Option<u32>, pairs: &[(u32, u32)], scope: u32) -> usize
     requires { AreAscending pairs.now }
-    ensures { IsPartitionPoint (λ q. is_up_to after scope q ≡ true) (λ q. is_up_to after scope q ≡ false) pairs.now result }
+    ensures within { result ≤ length pairs.now }
+    ensures parted { IsPartitionPoint (λ q. is_up_to after scope q ≡ true) (λ q. is_up_to after scope q ≡ false) pairs.now result }
 {
     match after {
         Some(kept) => pairs.partition_point(|q| q.0 < scope || (q.0 == scope && q.1 <= kept)),
@@ -239,13 +240,15 @@ fn top_place(after: Option<u32>, places: &[u32]) -> Option<u32>
     requires { AreRising places.now }
     ensures { MatchOption result (places.now ≡ []) (IsMostPreferred (prefers_after after) places.now) }
 {
-    let above = match after {
-        Some(kept) => places.partition_point(|p| *p <= kept),
-        None => places.len(),
-    };
-    match places.get(above) {
-        Some(first) => Some(*first),
+    match after {
         None => places.last().copied(),
+        Some(kept) => {
+            let above = places.partition_point(|p| *p <= kept);
+            match places.get(above) {
+                Some(first) => Some(*first),
+                None => places.last().copied(),
+            }
+        }
     }
 }
 
