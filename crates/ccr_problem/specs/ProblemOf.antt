@@ -1,16 +1,15 @@
 -- The problem of a job: what has to be chosen for its next build, in a pipeline with a history.
-use Rattle.std.specs.Prelude.{◌≡◌, ℕ, List, [], map, find, Option, Some, None, IsSomeAnd}
+use Rattle.std.specs.Prelude.{◌≡◌, ℕ, List, [], map, Option, Some, None, IsSomeAnd}
 use Rattle.std.specs.Option.{option_map_or}
-use Rattle.std.specs.Str.{bytes_eq}
-use Rattle.serde_json.specs.Written.{compact_text}
 use Rattle.ccr_history.specs.Text.{Text}
 use Rattle.ccr_history.specs.TextMap.{TextMap}
-use Rattle.ccr_history.specs.Sources.{source_or_empty}
-use Rattle.ccr_history.specs.Tables.{ScopeData, versions_of, scope_number}
+use Rattle.ccr_history.specs.Tables.{versions_of, scope_number}
 use Rattle.ccr_history.specs.Changes.{pin_of}
 use Rattle.ccr_history.specs.History.{HistoryData}
 use Rattle.ccr_pipeline.specs.Inputs.{InputData, inputs, named_jobs}
-use Rattle.ccr_pipeline.specs.JobData.{ResourceData, JobData}
+use Rattle.ccr_pipeline.specs.JobData.{ResourceData}
+pub use Rattle.ccr_pipeline.specs.JobData.{scope_of}
+pub use Rattle.ccr_pipeline.specs.Named.{resource_of, job_of}
 use Rattle.ccr_pipeline.specs.Pipelines.{PipelineData}
 use Rattle.ccr_pipeline.specs.Tree.{WantedData, latest, every, pinned}
 use Rattle.ccr_choice.specs.Problem.{InputValue, ProblemValue}
@@ -18,15 +17,7 @@ use Rattle.ccr_problem.specs.Numbering.{each_once, number_of}
 use Rattle.ccr_problem.specs.Allowed.{PinsData, allowed_places}
 use Rattle.ccr_problem.specs.Passed.{job_value}
 
--- ---- resources and their scopes
--- the resource of a name; a pipeline has those that its plans name
-abbrev pub resource_of : Text → List ResourceData → Option ResourceData
-resource_of name resources = find (λ r. bytes_eq name r.name) resources
-
--- the scope of a resource's versions: its name, its type, and its source as compact text
-abbrev pub scope_of : ResourceData → ScopeData
-scope_of r = record { resource = r.name; kind = r.kind; source = compact_text (source_or_empty r.source) }
-
+-- ---- resources
 -- the number that the history has for a resource's scope; 0 where it has none
 abbrev pub history_number : PipelineData → HistoryData → Text → ℕ
 history_number p h name = option_map_or (λ r. scope_number (scope_of r) h.tables) (resource_of name p.resources) 0
@@ -71,10 +62,6 @@ problem_with p h is =
     let jobs : List Text = named_jobs [] is in
     let scopes : List ℕ = map (history_number p h) resources in
     record { inputs = map (input_value p h resources jobs) is; jobs = map (job_value h.builds scopes) jobs }
-
--- the job of a name
-abbrev pub job_of : Text → List JobData → Option JobData
-job_of name jobs = find (λ j. bytes_eq name j.name) jobs
 
 -- the pipeline has a job of this name, and the problem is that of its plan's inputs
 abbrev pub IsProblemOf : PipelineData → HistoryData → Text → ProblemValue → Type 0

@@ -10,7 +10,7 @@ ghost use Rattle.ccr_history.specs.Builds.{by_place, build_of, is_succeeded};
 use crate::allowed::places_from;
 use crate::inputs::{named_jobs, pins_of, used_resources};
 use crate::passed::{cut_to, is_succeeded};
-use crate::scopes::{history_numbers, resource_named, scope_of};
+use crate::scopes::history_numbers;
 use ccr_history::{History, Reported};
 use ccr_pipeline::{Input, Job, Pipeline, inputs_of};
 use std::alloc::{AllocError, Global};
@@ -36,11 +36,10 @@ fn input_places(
     ensures { IfOk result (λ v. v.items ≡ new_places (pipeline_data pipeline.now) history.now
         report.now.scope report.now.first report.now.versions.items (input_data input.now)) }
 {
-    let Some(resource) = resource_named(pipeline.resources(), input.resource.as_str()) else {
+    let Some(resource) = pipeline.resource(input.resource.as_str()) else {
         return Ok(Vec::new(alloc));
     };
-    let scope = scope_of(alloc, resource)?;
-    if report.scope != scope {
+    if report.scope != *resource.scope() {
         return Ok(Vec::new(alloc));
     }
     let pins = pins_of(resource, history, input);

@@ -10,7 +10,6 @@ ghost use Rattle.ccr_problem.specs.ProblemOf.{get_pin, pins_of, input_places, in
 
 use crate::allowed::{Pins, places_from};
 use crate::numbering::Numbering;
-use crate::scopes::{resource_named, scope_of};
 use ccr_choice::Input as ChoiceInput;
 use ccr_history::{History, Pin};
 use ccr_pipeline::{Input, Pipeline, Resource, Wanted};
@@ -73,17 +72,16 @@ fn input_places(
     ensures { IfOk result (λ v. v.items
         ≡ input_places (pipeline_data pipeline.now) history.now (input_data input.now)) }
 {
-    let Some(resource) = resource_named(pipeline.resources(), input.resource.as_str()) else {
+    let Some(resource) = pipeline.resource(input.resource.as_str()) else {
         return Ok(Vec::new(alloc));
     };
-    let scope = scope_of(alloc, resource)?;
     // A scope has few versions.
     history.rules();
     places_from(
         alloc,
         1,
         &pins_of(resource, history, input),
-        history.versions(&scope),
+        history.versions(resource.scope()),
     )
 }
 

@@ -22,4 +22,3 @@ pub use coming::{Passed, has_newer, new_places, passed_to};
 pub use fault::ProblemFault;
 pub use law::{builds_change_problems, reports_change_problems};
 pub use problem::{problem_of, problem_of_job};
-pub use scopes::scope_of;

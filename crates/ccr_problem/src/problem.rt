@@ -72,18 +72,6 @@ pub fn problem_of_job(
     problem_with(alloc, pipeline, history, &inputs)
 }
 
-/// The job of a name.
-fn job_named<'p>(jobs: &'p [Job], name: &str) -> Option<&'p Job>
-    ensures { option_map (λ j. job_data j.now) result ≡ job_of name.now (map job_data jobs.now) }
-{
-    for job in jobs {
-        if name == job.name.as_str() {
-            return Some(job);
-        }
-    }
-    None
-}
-
 /// The problem of a job: what has to be chosen for its next build (Concourse: get step, `passed` and `version`; pinning
 /// versions).
 ///
@@ -102,7 +90,7 @@ pub fn problem_of(
     ensures no_job { IsErrOf result ProblemFault.NoJob
         ↔ (has_name (job_names (pipeline_data pipeline.now).jobs) job.now ≡ false) }
 {
-    match job_named(pipeline.jobs(), job) {
+    match pipeline.job(job) {
         Some(job) => Ok(problem_of_job(alloc, pipeline, history, job)?),
         None => Err(ProblemFault::NoJob),
     }

@@ -4,4 +4,4 @@ use Rattle.ccr_problem.proofs.inputs.input_places.Goals as goal
 
 pub places_from-requires : goal.places_from-requires
 places_from-requires c =
-    omega (arith, ap length c.versions.ensures, few_in_history c.args.history.now c.in_ok-scope.scope c.rules.ensures)
+    omega (arith, ap length c.versions.ensures, few_in_history c.args.history.now c.scope.result.now c.rules.ensures)
