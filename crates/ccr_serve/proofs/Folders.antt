@@ -1,0 +1,71 @@
+-- Calls for folders that a shelf does in order, and what a build leaves.
+use Rattle.std.proofs.Common.{◌≡◌, ◌≢◌, ◌++◌, ℕ, List, [], ◌∷◌, Bool, true, false, is_ok, Result, Ok, Err, IfOk, OnErr, refl, sym, ◌∙◌, ap, append_assoc, inl, inr}
+use Rattle.ccr_history.specs.Text.{Text}
+use Rattle.ccr_steps.specs.declared.outcome.Outcome.{Outcome}
+use Rattle.ccr_core.specs.declared.reply.Reply.TheVariants.{Ends}
+use Rattle.ccr_task.specs.Calls.{CallData, FolderCall, has, remove, removing, StopsAt, Does}
+use Rattle.ccr_task.specs.Places.{PlacesData, build_folder, abort_folder}
+use Rattle.ccr_task.specs.declared.fault.ShelfFault.{ShelfFault}
+use Rattle.ccr_task.specs.declared.fault.ShelfFault.TheVariants.{Failed, TooLong, NoMemory}
+use Rattle.ccr_serve.specs.Aborts.{look, is_asked, AbortIsAsked, Looks, Clears}
+
+-- the first call is done, and then the others are done so
+pub does_on : (call : FolderCall) (rest : List FolderCall) (before : List CallData) (r : Result Unit ShelfFault)
+    (after : List CallData) → Does rest (before ++ call (Ok tt) ∷ []) r after → Does (call ∷ rest) before r after
+does_on call rest before (Ok done) after h = h
+does_on call rest before (Err f) after h = inr h
+
+stops : (call : FolderCall) (f : ShelfFault) (before after : List CallData) → f ≢ TooLong
+    → after ≡ before ++ call (Err f) ∷ [] → StopsAt call f before after
+stops call Failed before after other is = is
+stops call TooLong before after other is = absurd (other refl)
+stops call NoMemory before after other is = inr is
+
+-- the first call isn't done
+pub does_not : (call : FolderCall) (rest : List FolderCall) (before : List CallData) (f : ShelfFault)
+    (after : List CallData) → Err {A = Unit} f ≢ Err TooLong → after ≡ before ++ call (Err f) ∷ []
+    → Does (call ∷ rest) before (Err f) after
+does_not call rest before f after other is =
+    inl (stops call f before after (λ e. other (ap (λ g. Err g) e)) is)
+
+-- memory was wanted before the first call
+pub does_nothing : (call : FolderCall) (rest : List FolderCall) (before : List CallData)
+    → Does (call ∷ rest) before (Err NoMemory) before
+does_nothing call rest before = inl (inl refl)
+
+-- the one call is answered so
+pub does_one : (call : FolderCall) (before : List CallData) (r : Result Unit ShelfFault) (after : List CallData)
+    → r ≢ Err TooLong → after ≡ before ++ call r ∷ [] → Does (call ∷ []) before r after
+does_one call before (Ok done) after other is = is
+does_one call before (Err f) after other is = does_not call [] before f after other is
+
+-- ---- aborts
+-- the folder that asks for an abort was there, and its removal was answered so
+pub asked_so : (folder : Text) (r : Result Unit ShelfFault) (before mid after : List CallData)
+    → mid ≡ before ++ has folder (Ok true) ∷ [] → after ≡ mid ++ remove folder r ∷ []
+    → AbortIsAsked folder (is_ok r) before after
+asked_so folder r before mid after first second = (Ok true, r, calls, told r) where
+  calls : after ≡ before ++ has folder (Ok true) ∷ remove folder r ∷ []
+  calls = second
+      ∙ (ap (λ cs. cs ++ remove folder r ∷ []) first
+      ∙ append_assoc before (has folder (Ok true) ∷ []) (remove folder r ∷ []))
+
+  told : (r : Result Unit ShelfFault) → is_ok r ≡ is_asked (Ok true) r
+  told (Ok done) = refl
+  told (Err f) = refl
+
+-- it wasn't there, or that wasn't told
+pub unasked : (folder : Text) (there : Result Bool ShelfFault) (before after : List CallData) → there ≢ Ok true
+    → after ≡ before ++ has folder there ∷ [] → AbortIsAsked folder false before after
+unasked folder (Ok true) before after other is = absurd (other refl)
+unasked folder (Ok false) before after other is = (Ok false, Ok tt, is, refl)
+unasked folder (Err f) before after other is = (Err f, Ok tt, is, refl)
+
+-- what a build that ended leaves was removed, and it was looked for what asks for its abort, unless memory was refused
+pub cleared : {E : Type 0} (places : PlacesData) (job : Text) (number : ℕ) (o : Outcome)
+    (before mid after : List CallData) (removed : Result Unit ShelfFault) (asked : Result Bool E)
+    → Does (removing (build_folder places job number) ∷ []) before removed mid
+    → IfOk asked (λ a. AbortIsAsked (abort_folder places job number) a mid after)
+    → OnErr asked (after ≡ mid) → Clears places job number (Ends o) before after
+cleared places job number o before mid after removed (Ok a) did looked same = (removed, mid, did, inr (a, looked))
+cleared places job number o before mid after removed (Err e) did looked same = (removed, mid, did, inl same)
