@@ -1,5 +1,6 @@
 -- Calls for folders that a shelf does in order, and what a build leaves.
-use Rattle.std.proofs.Common.{◌≡◌, ◌≢◌, ◌++◌, ℕ, List, [], ◌∷◌, Bool, true, false, is_ok, Result, Ok, Err, IfOk, OnErr, refl, sym, ◌∙◌, ap, append_assoc, inl, inr}
+use Rattle.std.proofs.Common.{◌≡◌, ◌≢◌, ◌<◌, ◌+◌, ◌++◌, ℕ, suc, List, [], ◌∷◌, length, drop, get_or, map, Bool, true, false, is_ok, String, string_bytes, Result, Ok, Err, IfOk, OnErr, refl, sym, ◌∙◌, ap, subst, append_assoc, drop-cons, arith, inl, inr}
+use Rattle.std.specs.declared.alloc.Global.{Global}
 use Rattle.ccr_history.specs.Text.{Text}
 use Rattle.ccr_steps.specs.declared.outcome.Outcome.{Outcome}
 use Rattle.ccr_core.specs.declared.reply.Reply.TheVariants.{Ends}
@@ -38,6 +39,40 @@ pub does_one : (call : FolderCall) (before : List CallData) (r : Result Unit She
     → r ≢ Err TooLong → after ≡ before ++ call r ∷ [] → Does (call ∷ []) before r after
 does_one call before (Ok done) after other is = is
 does_one call before (Err f) after other is = does_not call [] before f after other is
+
+-- ---- a folder for each of these names
+module _ (f : Text → FolderCall) (names : List (String Global)) (i : ℕ) (x : String Global) (lt : i < length names) (is : x ≡ get_or names i x) where
+  abbrev these : ℕ → List FolderCall
+  these k = map f (map string_bytes (drop k names))
+
+  one_more : suc i ≡ i + 1
+  one_more = omega arith
+
+  next : drop i names ≡ x ∷ drop (i + 1) names
+  next = drop-cons names i x lt
+      ∙ (ap (λ y. y ∷ drop (suc i) names) (sym is) ∙ ap (λ k. x ∷ drop k names) one_more)
+
+  -- that of the next name is made
+  pub name_done : (before mid after : List CallData) (r : Result Unit ShelfFault)
+      → mid ≡ before ++ f (string_bytes x) (Ok tt) ∷ [] → Does (these (i + 1)) mid r after
+      → Does (these i) before r after
+  name_done before mid after r called h =
+      subst (λ ns. Does (map f (map string_bytes ns)) before r after) (sym next)
+      (does_on (f (string_bytes x)) (these (i + 1)) before r after
+      (subst (λ cs. Does (these (i + 1)) cs r after) called h))
+
+  -- that of the next name isn't made
+  pub name_not : (before after : List CallData) (g : ShelfFault) → Err {A = Unit} g ≢ Err TooLong
+      → after ≡ before ++ f (string_bytes x) (Err g) ∷ [] → Does (these i) before (Err g) after
+  name_not before after g other called =
+      subst (λ ns. Does (map f (map string_bytes ns)) before (Err g) after) (sym next)
+      (does_not (f (string_bytes x)) (these (i + 1)) before g after other called)
+
+  -- memory was wanted before that
+  pub name_nothing : (before : List CallData) → Does (these i) before (Err NoMemory) before
+  name_nothing before =
+      subst (λ ns. Does (map f (map string_bytes ns)) before (Err NoMemory) before) (sym next)
+      (does_nothing (f (string_bytes x)) (these (i + 1)) before)
 
 -- ---- aborts
 -- the folder that asks for an abort was there, and its removal was answered so

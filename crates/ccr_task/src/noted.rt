@@ -36,7 +36,10 @@ impl Noted {
         ensures { self.new.calls.list ≡ self.old.calls.list ++ call_data call.now ∷ [] }
     {
         let counts = ShelfCounts {
-            failures: self.counts.failures.saturating_add(u64::from(call.is_failed())),
+            failures: self
+                .counts
+                .failures
+                .saturating_add(u64::from(call.is_failed())),
             seen: self.counts.seen.saturating_add(u64::from(call.is_seen())),
         };
         *self = Noted {
