@@ -2,13 +2,26 @@
 use Rattle.std.proofs.Common.{◌≡◌, ◌≢◌, ◌<◌, ◌+◌, ◌++◌, ℕ, suc, List, [], ◌∷◌, length, drop, get_or, map, Bool, true, false, is_ok, String, string_bytes, Result, Ok, Err, IfOk, OnErr, refl, sym, ◌∙◌, ap, subst, append_assoc, drop-cons, arith, inl, inr}
 use Rattle.std.specs.declared.alloc.Global.{Global}
 use Rattle.ccr_history.specs.Text.{Text}
+use Rattle.ccr_steps.specs.Asks.{ask_data}
+use Rattle.ccr_steps.specs.declared.ask.Ask.{Ask}
+use Rattle.ccr_steps.specs.declared.ask.Ask.TheVariants.{Fetch, Push, ReadConfig, RunTask}
 use Rattle.ccr_steps.specs.declared.outcome.Outcome.{Outcome}
 use Rattle.ccr_core.specs.declared.reply.Reply.TheVariants.{Ends}
-use Rattle.ccr_task.specs.Calls.{CallData, FolderCall, has, remove, removing, StopsAt, Does}
+use Rattle.ccr_task.specs.Calls.{CallData, FolderCall, make, has, remove, making, removing, StopsAt, Does}
 use Rattle.ccr_task.specs.Places.{PlacesData, build_folder, abort_folder}
 use Rattle.ccr_task.specs.declared.fault.ShelfFault.{ShelfFault}
 use Rattle.ccr_task.specs.declared.fault.ShelfFault.TheVariants.{Failed, TooLong, NoMemory}
+use Rattle.ccr_serve.specs.Asked.{ask_folders}
 use Rattle.ccr_serve.specs.Aborts.{look, is_asked, AbortIsAsked, Looks, Clears}
+
+-- the folder was made at a path that is another's equal
+pub made_at : (before after : List CallData) (r : Result Unit ShelfFault) (p q : Text)
+    → after ≡ before ++ make p r ∷ [] → p ≡ q → after ≡ before ++ make q r ∷ []
+made_at before after r p q called same = called ∙ ap (λ t. before ++ make t r ∷ []) same
+
+-- the path of what lies at a place under a name, as texts that are each other's equals
+pub path_of : (place : Text → Text) (p path t name : Text) → p ≡ path → path ≡ place t → t ≡ name → p ≡ place name
+path_of place p path t name first second third = first ∙ (second ∙ ap place third)
 
 -- the first call is done, and then the others are done so
 pub does_on : (call : FolderCall) (rest : List FolderCall) (before : List CallData) (r : Result Unit ShelfFault)
@@ -24,7 +37,8 @@ stops call NoMemory before after other is = inr is
 
 -- the first call isn't done
 pub does_not : (call : FolderCall) (rest : List FolderCall) (before : List CallData) (f : ShelfFault)
-    (after : List CallData) → Err {A = Unit} f ≢ Err TooLong → after ≡ before ++ call (Err f) ∷ []
+    (after : List CallData) → ◌≢◌ {A = Result Unit ShelfFault} (Err f) (Err TooLong)
+    → after ≡ before ++ call (Err f) ∷ []
     → Does (call ∷ rest) before (Err f) after
 does_not call rest before f after other is =
     inl (stops call f before after (λ e. other (ap (λ g. Err g) e)) is)
@@ -62,8 +76,8 @@ module _ (f : Text → FolderCall) (names : List (String Global)) (i : ℕ) (x :
       (subst (λ cs. Does (these (i + 1)) cs r after) called h))
 
   -- that of the next name isn't made
-  pub name_not : (before after : List CallData) (g : ShelfFault) → Err {A = Unit} g ≢ Err TooLong
-      → after ≡ before ++ f (string_bytes x) (Err g) ∷ [] → Does (these i) before (Err g) after
+  pub name_not : (before after : List CallData) (g : ShelfFault)
+      → ◌≢◌ {A = Result Unit ShelfFault} (Err g) (Err TooLong) → after ≡ before ++ f (string_bytes x) (Err g) ∷ [] → Does (these i) before (Err g) after
   name_not before after g other called =
       subst (λ ns. Does (map f (map string_bytes ns)) before (Err g) after) (sym next)
       (does_not (f (string_bytes x)) (these (i + 1)) before g after other called)
@@ -73,6 +87,41 @@ module _ (f : Text → FolderCall) (names : List (String Global)) (i : ℕ) (x :
   name_nothing before =
       subst (λ ns. Does (map f (map string_bytes ns)) before (Err NoMemory) before) (sym next)
       (does_nothing (f (string_bytes x)) (these (i + 1)) before)
+
+-- ---- the folders of an ask that fetches nothing
+module _ (build : Text) (ask : Ask) (other : (artifact resource version params : _) → ask ≢ Fetch artifact resource version params) where
+  -- memory was wanted before the first
+  pub ask_nothing : (before : List CallData) → Does (ask_folders build (ask_data ask)) before (Err NoMemory) before
+  ask_nothing before = by ask other where
+    by : (a : Ask) → ((artifact resource version params : _) → a ≢ Fetch artifact resource version params)
+        → Does (ask_folders build (ask_data a)) before (Err NoMemory) before
+    by (Fetch artifact resource version params) isnt = absurd (isnt artifact resource version params refl)
+    by (Push artifact resource params) isnt = does_nothing (making build) [] before
+    by (ReadConfig file) isnt = does_nothing (making build) [] before
+    by (RunTask config env) isnt = does_nothing (making build) _ before
+
+  -- the build's folder isn't made
+  pub ask_not : (before after : List CallData) (f : ShelfFault)
+      → ◌≢◌ {A = Result Unit ShelfFault} (Err f) (Err TooLong) → after ≡ before ++ make build (Err f) ∷ []
+      → Does (ask_folders build (ask_data ask)) before (Err f) after
+  ask_not before after f fault called = by ask other where
+    by : (a : Ask) → ((artifact resource version params : _) → a ≢ Fetch artifact resource version params)
+        → Does (ask_folders build (ask_data a)) before (Err f) after
+    by (Fetch artifact resource version params) isnt = absurd (isnt artifact resource version params refl)
+    by (Push artifact resource params) isnt = does_not (making build) [] before f after fault called
+    by (ReadConfig file) isnt = does_not (making build) [] before f after fault called
+    by (RunTask config env) isnt = does_not (making build) _ before f after fault called
+
+  -- the build's folder is made, and there is no other
+  pub ask_done : (before after : List CallData) → ((config env : _) → ask ≢ RunTask config env)
+      → after ≡ before ++ make build (Ok tt) ∷ [] → Does (ask_folders build (ask_data ask)) before (Ok tt) after
+  ask_done before after no_task called = by ask other no_task where
+    by : (a : Ask) → ((artifact resource version params : _) → a ≢ Fetch artifact resource version params)
+        → ((config env : _) → a ≢ RunTask config env) → Does (ask_folders build (ask_data a)) before (Ok tt) after
+    by (Fetch artifact resource version params) isnt nor = absurd (isnt artifact resource version params refl)
+    by (Push artifact resource params) isnt nor = called
+    by (ReadConfig file) isnt nor = called
+    by (RunTask config env) isnt nor = absurd (nor config env refl)
 
 -- ---- aborts
 -- the folder that asks for an abort was there, and its removal was answered so
@@ -88,13 +137,6 @@ asked_so folder r before mid after first second = (Ok true, r, calls, told r) wh
   told : (r : Result Unit ShelfFault) → is_ok r ≡ is_asked (Ok true) r
   told (Ok done) = refl
   told (Err f) = refl
-
--- it wasn't there, or that wasn't told
-pub unasked : (folder : Text) (there : Result Bool ShelfFault) (before after : List CallData) → there ≢ Ok true
-    → after ≡ before ++ has folder there ∷ [] → AbortIsAsked folder false before after
-unasked folder (Ok true) before after other is = absurd (other refl)
-unasked folder (Ok false) before after other is = (Ok false, Ok tt, is, refl)
-unasked folder (Err f) before after other is = (Err f, Ok tt, is, refl)
 
 -- what a build that ended leaves was removed, and it was looked for what asks for its abort, unless memory was refused
 pub cleared : {E : Type 0} (places : PlacesData) (job : Text) (number : ℕ) (o : Outcome)

@@ -20,12 +20,12 @@ use Rattle.ccr_serve.specs.Pairs.{BeginsLaunch}
 -- ---- what comes before a program
 -- the calls for folders before the program of an ask, of a build in this folder: a fetch finds the artifact's folder made
 -- anew, with the folders above it; a push and a task find the build's folder, and a task those of its outputs, made where
--- they weren't there (Concourse: get step; put step; task config, outputs)
+-- they weren't there; an ask for a file starts no program (Concourse: get step; put step; task config, outputs)
 abbrev pub ask_folders : Text → AskData → List FolderCall
 ask_folders build (fetch artifact resource version params) =
     removing (below build artifact) ∷ making (below build artifact) ∷ []
 ask_folders build (push artifact resource params) = making build ∷ []
-ask_folders build (read_config file) = []
+ask_folders build (read_config file) = making build ∷ []
 ask_folders build (run_task config env) = making build ∷ map (λ output. making (below build output)) config.outputs
 
 -- ---- answers

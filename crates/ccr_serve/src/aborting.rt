@@ -40,7 +40,8 @@ pub(crate) fn take_abort<S: Shelf>(
     let folder = places.abort_folder(alloc, job, number)?;
     match shelf.has_folder(folder.as_str()) {
         Ok(true) => Ok(shelf.remove_folder(folder.as_str()).is_ok()),
-        Ok(false) | Err(_) => Ok(false),
+        Ok(false) => Ok(false),
+        Err(_) => Ok(false),
     }
 }
 
