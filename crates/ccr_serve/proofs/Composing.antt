@@ -87,16 +87,13 @@ module _ (A B : Part) (v0 v1 v2 : View) (s : State) (whole : Bool) where
         ∙ ap (λ ps. v0.pairs ++ ps)
         (ap (λ o. pairs_of a.dones ++ option_to_list o) a.few ∙ append-nil (pairs_of a.dones))
 
-    abbrev lost : List Pair
-    lost = option_to_list b.now.lost
-
-    pairs : v2.pairs ≡ v0.pairs ++ (pairs_of (a.dones ++ b.dones) ++ lost)
+    pairs : v2.pairs ≡ v0.pairs ++ (pairs_of (a.dones ++ b.dones) ++ option_to_list b.now.lost)
     pairs = b.pairs
-        ∙ (ap (λ ps. ps ++ (pairs_of b.dones ++ lost)) first
-        ∙ (append_assoc v0.pairs (pairs_of a.dones) (pairs_of b.dones ++ lost)
+        ∙ (ap (λ ps. ps ++ (pairs_of b.dones ++ option_to_list b.now.lost)) first
+        ∙ (append_assoc v0.pairs (pairs_of a.dones) (pairs_of b.dones ++ option_to_list b.now.lost)
         ∙ ap (λ ps. v0.pairs ++ ps)
-        (sym (append_assoc (pairs_of a.dones) (pairs_of b.dones) lost)
-        ∙ ap (λ ps. ps ++ lost) (sym (pairs_of-append a.dones b.dones)))))
+        (sym (append_assoc (pairs_of a.dones) (pairs_of b.dones) (option_to_list b.now.lost))
+        ∙ ap (λ ps. ps ++ option_to_list b.now.lost) (sym (pairs_of-append a.dones b.dones)))))
 
 -- one call after another is a call of both
 pub calls_then : (A B : Part) (v0 v1 v2 : View) (whole : Bool)
