@@ -1,4 +1,4 @@
-mod Counted
+mod Folders
 mod Commits
 mod Crash
 mod Launching
@@ -8,6 +8,7 @@ mod Loops
 mod RoundParts
 mod Ending
 mod Staying
+mod Begun
 mod Steps
 mod Ends
 mod Rounds
@@ -22,4 +23,5 @@ mod Ranks
 mod Nexts
 mod Wants
 mod Turning
+mod Cutting
 mod Again

@@ -1,5 +1,5 @@
 -- What is shown: a command prints lines, and does nothing else.
-use Rattle.std.proofs.Common.{◌≡◌, ℕ, [], None, unwrap_or, Ok, Err, refl, sym, subst, append-nil}
+use Rattle.std.proofs.Common.{◌≡◌, ℕ, [], None, unwrap_or, Ok, Err, refl, sym, subst, append-nil, inl}
 use Rattle.ccr_history.specs.Text.{Text}
 use Rattle.ccr_task.specs.Places.{PlacesData}
 use Rattle.ccr_core.specs.Holding.{CoreData, Stands}
@@ -12,8 +12,7 @@ use Rattle.ccr_serve.specs.Items.{Done}
 use Rattle.ccr_serve.specs.Views.{View, world_of, IsReady}
 use Rattle.ccr_serve.specs.declared.fault.ServeFault.TheVariants as fault
 use Rattle.ccr_serve.proofs.Commits.{rose_none}
-use Rattle.ccr_serve.proofs.Counted.{grew_none}
-use Rattle.ccr_serve.proofs.Steps.{printed, ready_after, calls_did, MayStop, cut_by_memory, none_added}
+use Rattle.ccr_serve.proofs.Steps.{printed, ready_after, calls_did, MayStop, cut_at_once}
 
 -- what is shown of a core is shown of the states that it stands for
 shown_at : (what : ShownData) (c : CoreData) (s : State) (status : ℕ) (lines : Text) → Stands c s
@@ -28,7 +27,7 @@ shown_at what c s status lines is h =
 pub shown_so : (places : PlacesData) (what : ShownData) (status : ℕ) (v : View) (l : Text) → IsReady v
     → Showing what v.core (Ok status) v.lines l → CameOf places (shows what) (Ok status) v (printed v l)
 shown_so places what status v l ready x =
-    calls_did (Commanded places (shows what) status) v (printed v l) (ready_after v v.counts v.pairs l ready)
+    calls_did (Commanded places (shows what) status) v (printed v l) (ready_after v v.calls v.pairs l ready)
     (λ s is. record {
       did = did;
       state = s;
@@ -54,11 +53,10 @@ shown_so places what status v l ready x =
       did = record { pair = None; event = None; lines = x.1.0 }
 
 show_stop : (places : PlacesData) (what : ShownData) → MayStop (Commanded places (shows what) 0)
-show_stop places what w = ([], _, refl, refl)
+show_stop places what w = ([], _, refl, w, refl, inl refl)
 
 -- memory was wanted: nothing is shown
 pub shown_nothing : (places : PlacesData) (what : ShownData) (v : View) (l : Text) → IsReady v → l ≡ v.lines
     → CameOf places (shows what) (Err fault.NoMemory) v (printed v l)
 shown_nothing places what v l ready same =
-    cut_by_memory (Commanded places (shows what) 0) v v.counts v.pairs l (show_stop places what) ready (grew_none v.counts)
-    (none_added v.pairs) same
+    cut_at_once (Commanded places (shows what) 0) v l (show_stop places what) ready same

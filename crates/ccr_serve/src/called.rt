@@ -29,14 +29,14 @@ impl<R: Runner, S: Shelf, T: Storage> Server<R, S, T> {
     /// Early ends: `NoMemory` where a growth was refused, and the server goes on; `Store` where the storage failed, and
     /// the server has closed; `Closed` where it had closed before, and nothing is done.
     pub fn command<O: Lines>(&mut self, command: &Command, out: &mut O) -> Result<u8, ServeFault>
-        requires kept { let view = view_of R.pairs S.counts T.holds T.leaves T.tally in
+        requires kept { let view = view_of R.pairs S.calls T.holds T.leaves T.tally in
             IsKept (view self.old (O.written out.old)) }
-        ensures came { let view = view_of R.pairs S.counts T.holds T.leaves T.tally in self.old.closed ≡ false
+        ensures came { let view = view_of R.pairs S.calls T.holds T.leaves T.tally in self.old.closed ≡ false
             → CameOf (places_data self.old.places) (command_data command.now) result
             (view self.old (O.written out.old)) (view self.new (O.written out.new)) }
         ensures closed { self.old.closed ≡ true
             → (result ≡ Err Closed) × (self.new ≡ self.old) × (out.new ≡ out.old) }
-        ensures kept { let view = view_of R.pairs S.counts T.holds T.leaves T.tally in
+        ensures kept { let view = view_of R.pairs S.calls T.holds T.leaves T.tally in
             Ends result (view self.new (O.written out.new)) }
         ensures places { self.new.places ≡ self.old.places }
     {
@@ -67,14 +67,14 @@ impl<R: Runner, S: Shelf, T: Storage> Server<R, S, T> {
     ///
     /// Early ends: `NoMemory`, `Store` and `Closed` as at a command, and no other.
     pub fn round<O: Lines>(&mut self, out: &mut O) -> Result<(), ServeFault>
-        requires kept { let view = view_of R.pairs S.counts T.holds T.leaves T.tally in
+        requires kept { let view = view_of R.pairs S.calls T.holds T.leaves T.tally in
             IsKept (view self.old (O.written out.old)) }
-        ensures served { let view = view_of R.pairs S.counts T.holds T.leaves T.tally in self.old.closed ≡ false
+        ensures served { let view = view_of R.pairs S.calls T.holds T.leaves T.tally in self.old.closed ≡ false
             → Calls (Round (places_data self.old.places))
             (view self.old (O.written out.old)) (is_ok result) (view self.new (O.written out.new)) }
         ensures closed { self.old.closed ≡ true
             → (result ≡ Err Closed) × (self.new ≡ self.old) × (out.new ≡ out.old) }
-        ensures kept { let view = view_of R.pairs S.counts T.holds T.leaves T.tally in
+        ensures kept { let view = view_of R.pairs S.calls T.holds T.leaves T.tally in
             EndsItems result (view self.new (O.written out.new)) }
         ensures places { self.new.places ≡ self.old.places }
     {
@@ -89,17 +89,17 @@ impl<R: Runner, S: Shelf, T: Storage> Server<R, S, T> {
     ///
     /// Early ends: `NoMemory`, `Store` and `Closed` as at a command, and no other.
     pub fn turn<O: Lines>(&mut self, out: &mut O) -> Result<bool, ServeFault>
-        requires kept { let view = view_of R.pairs S.counts T.holds T.leaves T.tally in
+        requires kept { let view = view_of R.pairs S.calls T.holds T.leaves T.tally in
             IsKept (view self.old (O.written out.old)) }
-        ensures served { let view = view_of R.pairs S.counts T.holds T.leaves T.tally in self.old.closed ≡ false
+        ensures served { let view = view_of R.pairs S.calls T.holds T.leaves T.tally in self.old.closed ≡ false
             → Calls (Items (Serves (places_data self.old.places)) (item.turn ∷ []))
             (view self.old (O.written out.old)) (is_ok result) (view self.new (O.written out.new)) }
         ensures some { IfOk result (λ served. served ≡ is_running (core_data self.old.core)) }
-        ensures once { let view = view_of R.pairs S.counts T.holds T.leaves T.tally in
+        ensures once { let view = view_of R.pairs S.calls T.holds T.leaves T.tally in
             CommitsOnce result (view self.old []) (view self.new []) }
         ensures closed { self.old.closed ≡ true
             → (result ≡ Err Closed) × (self.new ≡ self.old) × (out.new ≡ out.old) }
-        ensures kept { let view = view_of R.pairs S.counts T.holds T.leaves T.tally in
+        ensures kept { let view = view_of R.pairs S.calls T.holds T.leaves T.tally in
             EndsItems result (view self.new (O.written out.new)) }
         ensures places { self.new.places ≡ self.old.places }
     {

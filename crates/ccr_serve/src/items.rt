@@ -5,15 +5,14 @@ ghost use Rattle.ccr_history.specs.History.{HistoryData};
 ghost use Rattle.ccr_pipeline.specs.JobData.{ResourceData};
 ghost use Rattle.ccr_problem.specs.ProblemOf.{resource_of};
 ghost use Rattle.ccr_process.specs.Runs.{Pair};
-ghost use Rattle.ccr_task.specs.Shelves.{Grew};
 ghost use Rattle.ccr_task.specs.Places.{places_data};
 ghost use Rattle.ccr_core.specs.Cores.{core_data};
 ghost use Rattle.ccr_core.specs.Events as event;
 ghost use Rattle.ccr_lines.specs.Lines.{lines_of};
-ghost use Rattle.ccr_serve.specs.Found.{found_data, newest, Finds};
+ghost use Rattle.ccr_serve.specs.Found.{found_data, newest, Finds, BeginsFind};
 ghost use Rattle.ccr_serve.specs.Items.{Items, Noting};
 ghost use Rattle.ccr_serve.specs.Items as item;
-ghost use Rattle.ccr_serve.specs.Pairs.{Adds, AddsAtMostOne};
+ghost use Rattle.ccr_serve.specs.Pairs.{Adds};
 ghost use Rattle.ccr_serve.specs.Serving.{Serves};
 ghost use Rattle.ccr_serve.specs.Taken.{all_taken};
 ghost use Rattle.ccr_serve.specs.Views.{view_of, resources_held, Calls, IsReady, StopsItem};
@@ -78,9 +77,12 @@ fn find_named<R: Runner, S: Shelf>(
         × (resource_of name.now (resources_held (core_data core.now)) ≡ Some one)
         × Adds (R.pairs runner.old) pair (R.pairs runner.new)
         × Finds (places_data places.now) one (newest one (core_data core.now).history)
-        (S.counts shelf.old) (S.counts shelf.new) pair (found_data f)) }
-    ensures err { OnErr result (AddsAtMostOne (R.pairs runner.old) (R.pairs runner.new)) }
-    ensures grew { Grew (S.counts shelf.old) (S.counts shelf.new) }
+        (S.calls shelf.old) (S.calls shelf.new) pair (found_data f)) }
+    ensures err { OnErr result ((one : ResourceData) × (lost : Option Pair)
+        × (resource_of name.now (resources_held (core_data core.now)) ≡ Some one)
+        × Adds (R.pairs runner.old) lost (R.pairs runner.new)
+        × BeginsFind (places_data places.now) one (newest one (core_data core.now).history)
+        (S.calls shelf.old) (S.calls shelf.new) lost) }
 {
     let pipeline = core.pipeline().unwrap();
     let resource = resource_named(pipeline.resources(), name).unwrap();
@@ -147,16 +149,16 @@ impl<R: Runner, S: Shelf, T: Storage> Server<R, S, T> {
     /// - `NoMemory` where a growth was refused; the program may have run by then.
     /// - `Store` where the storage failed; then the server has closed.
     pub(crate) fn check<O: Lines>(&mut self, name: &str, out: &mut O) -> Result<bool, ServeFault>
-        requires ready { let view = view_of R.pairs S.counts T.holds T.leaves T.tally in
+        requires ready { let view = view_of R.pairs S.calls T.holds T.leaves T.tally in
             IsReady (view self.old (O.written out.old)) }
         requires there { IsSome (resource_of name.now (resources_held (core_data self.old.core))) }
-        ensures served { let view = view_of R.pairs S.counts T.holds T.leaves T.tally in
+        ensures served { let view = view_of R.pairs S.calls T.holds T.leaves T.tally in
             Calls (Noting (Items (Serves (places_data self.old.places)) (item.check name.now ∷ []))
             (λ ds. IfOk result (λ good. good ≡ all_taken ds)))
             (view self.old (O.written out.old)) (is_ok result) (view self.new (O.written out.new)) }
-        ensures kept { let view = view_of R.pairs S.counts T.holds T.leaves T.tally in
+        ensures kept { let view = view_of R.pairs S.calls T.holds T.leaves T.tally in
             OnOk result (IsReady (view self.new (O.written out.new))) }
-        ensures stops { let view = view_of R.pairs S.counts T.holds T.leaves T.tally in
+        ensures stops { let view = view_of R.pairs S.calls T.holds T.leaves T.tally in
             IfErr result (λ fault. StopsItem fault (view self.new (O.written out.new))) }
         ensures places { self.new.places ≡ self.old.places }
     {
@@ -195,14 +197,14 @@ impl<R: Runner, S: Shelf, T: Storage> Server<R, S, T> {
     /// - `NoMemory` where a growth was refused; then nothing has changed.
     /// - `Store` where the storage failed; then the server has closed.
     pub(crate) fn schedule<O: Lines>(&mut self, name: &str, out: &mut O) -> Result<(), ServeFault>
-        requires ready { let view = view_of R.pairs S.counts T.holds T.leaves T.tally in
+        requires ready { let view = view_of R.pairs S.calls T.holds T.leaves T.tally in
             IsReady (view self.old (O.written out.old)) }
-        ensures served { let view = view_of R.pairs S.counts T.holds T.leaves T.tally in
+        ensures served { let view = view_of R.pairs S.calls T.holds T.leaves T.tally in
             Calls (Items (Serves (places_data self.old.places)) (item.schedule name.now ∷ []))
             (view self.old (O.written out.old)) (is_ok result) (view self.new (O.written out.new)) }
-        ensures kept { let view = view_of R.pairs S.counts T.holds T.leaves T.tally in
+        ensures kept { let view = view_of R.pairs S.calls T.holds T.leaves T.tally in
             OnOk result (IsReady (view self.new (O.written out.new))) }
-        ensures stops { let view = view_of R.pairs S.counts T.holds T.leaves T.tally in
+        ensures stops { let view = view_of R.pairs S.calls T.holds T.leaves T.tally in
             IfErr result (λ fault. StopsItem fault (view self.new (O.written out.new))) }
         ensures places { self.new.places ≡ self.old.places }
     {

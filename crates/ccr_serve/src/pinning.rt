@@ -41,14 +41,14 @@ impl<R: Runner, S: Shelf, T: Storage> Server<R, S, T> {
         text: &str,
         out: &mut O,
     ) -> Result<u8, ServeFault>
-        requires ready { let view = view_of R.pairs S.counts T.holds T.leaves T.tally in
+        requires ready { let view = view_of R.pairs S.calls T.holds T.leaves T.tally in
             IsReady (view self.old (O.written out.old)) }
-        ensures came { let view = view_of R.pairs S.counts T.holds T.leaves T.tally in
+        ensures came { let view = view_of R.pairs S.calls T.holds T.leaves T.tally in
             CameOf (places_data self.old.places) (pin_resource name.now text.now) result
             (view self.old (O.written out.old)) (view self.new (O.written out.new)) }
-        ensures kept { let view = view_of R.pairs S.counts T.holds T.leaves T.tally in
+        ensures kept { let view = view_of R.pairs S.calls T.holds T.leaves T.tally in
             OnOk result (IsReady (view self.new (O.written out.new))) }
-        ensures stops { let view = view_of R.pairs S.counts T.holds T.leaves T.tally in
+        ensures stops { let view = view_of R.pairs S.calls T.holds T.leaves T.tally in
             IfErr result (λ fault. Stops fault (view self.new (O.written out.new))) }
         ensures places { self.new.places ≡ self.old.places }
     {
@@ -81,14 +81,14 @@ impl<R: Runner, S: Shelf, T: Storage> Server<R, S, T> {
         name: &str,
         out: &mut O,
     ) -> Result<u8, ServeFault>
-        requires ready { let view = view_of R.pairs S.counts T.holds T.leaves T.tally in
+        requires ready { let view = view_of R.pairs S.calls T.holds T.leaves T.tally in
             IsReady (view self.old (O.written out.old)) }
-        ensures came { let view = view_of R.pairs S.counts T.holds T.leaves T.tally in
+        ensures came { let view = view_of R.pairs S.calls T.holds T.leaves T.tally in
             CameOf (places_data self.old.places) (unpin_resource name.now) result
             (view self.old (O.written out.old)) (view self.new (O.written out.new)) }
-        ensures kept { let view = view_of R.pairs S.counts T.holds T.leaves T.tally in
+        ensures kept { let view = view_of R.pairs S.calls T.holds T.leaves T.tally in
             OnOk result (IsReady (view self.new (O.written out.new))) }
-        ensures stops { let view = view_of R.pairs S.counts T.holds T.leaves T.tally in
+        ensures stops { let view = view_of R.pairs S.calls T.holds T.leaves T.tally in
             IfErr result (λ fault. Stops fault (view self.new (O.written out.new))) }
         ensures places { self.new.places ≡ self.old.places }
     {

@@ -35,6 +35,6 @@ returns-in-Ok-clause-ok g c =
       answers = subst
           (λ p. Answers (places_data c.args.places.now) (unwrap_or p no_pipeline).resources
           (build_folder (places_data c.args.places.now) c.args.job.now c.args.number) (ask_data c.unwrap-turn.result.1)
-          (g.S.Shelf.counts c.args.shelf.now) (g.S.Shelf.counts c.answer_to.new.shelf) o.0 (answer_data c.in-Ok.answered))
+          (g.S.Shelf.calls c.args.shelf.now) (g.S.Shelf.calls c.answer_to.new.shelf) o.0 (answer_data c.in-Ok.answered))
           (ap (λ q. option_map pipeline_data (option_copied q)) (sym c.unwrap-pipeline.ensures) ∙ c.pipeline.ensures) o.2;
     }

@@ -6,7 +6,7 @@ use Rattle.ccr_serve.proofs.server.Server.go_rounds.Given as goal
 
 abbrev pub invariant-loop-round : goal.invariant-loop-round
 invariant-loop-round g l =
-    let view = view_of g.R.Runner.pairs g.S.Shelf.counts g.T.Storage.holds g.T.Storage.leaves g.T.Storage.tally in
+    let view = view_of g.R.Runner.pairs g.S.Shelf.calls g.T.Storage.holds g.T.Storage.leaves g.T.Storage.tally in
     record {
       served : Calls (Rounds (places_data l.fn.self.places) l._round)
           (view l.fn.self (g.O.Lines.written l.fn.out)) true (view l.self (g.O.Lines.written l.out));

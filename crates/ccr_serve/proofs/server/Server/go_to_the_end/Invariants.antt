@@ -6,7 +6,7 @@ use Rattle.ccr_serve.proofs.server.Server.go_to_the_end.Given as goal
 
 abbrev pub invariant-loop-turn : goal.invariant-loop-turn
 invariant-loop-turn g l =
-    let view = view_of g.R.Runner.pairs g.S.Shelf.counts g.T.Storage.holds g.T.Storage.leaves g.T.Storage.tally in
+    let view = view_of g.R.Runner.pairs g.S.Shelf.calls g.T.Storage.holds g.T.Storage.leaves g.T.Storage.tally in
     record {
       served : Calls (Turns (places_data l.fn.self.places) l._turn)
           (view l.fn.self (g.O.Lines.written l.fn.out)) true (view l.self (g.O.Lines.written l.out));

@@ -7,7 +7,7 @@ use Rattle.ccr_serve.proofs.server.Server.schedule_each.Given as goal
 
 abbrev pub invariant-loop-name : goal.invariant-loop-name
 invariant-loop-name g l =
-    let view = view_of g.R.Runner.pairs g.S.Shelf.counts g.T.Storage.holds g.T.Storage.leaves g.T.Storage.tally in
+    let view = view_of g.R.Runner.pairs g.S.Shelf.calls g.T.Storage.holds g.T.Storage.leaves g.T.Storage.tally in
     record {
       served : Calls (Items (Serves (places_data l.fn.self.places))
           (map (λ name. schedule (string_bytes name)) (take l.name-index l.names)))

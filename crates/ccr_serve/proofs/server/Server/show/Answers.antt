@@ -11,14 +11,14 @@ use Rattle.ccr_serve.proofs.server.Server.show.Goals as goal
 
 pub returns-in-Ok-clause-came : goal.returns-in-Ok-clause-came
 returns-in-Ok-clause-came g c =
-    let view = view_of g.R.Runner.pairs g.S.Shelf.counts g.T.Storage.holds g.T.Storage.leaves g.T.Storage.tally in
+    let view = view_of g.R.Runner.pairs g.S.Shelf.calls g.T.Storage.holds g.T.Storage.leaves g.T.Storage.tally in
     shown_so (places_data c.args.self.now.places) (shown_data c.args.what) c.in-Ok.status
     (view c.args.self.now (g.O.Lines.written c.args.out.now)) (g.O.Lines.written c.show.new.out) c.requires.ready
     c.in-Ok.ensures
 
 pub returns-in-Err-Lacks-clause-came : goal.returns-in-Err-Lacks-clause-came
 returns-in-Err-Lacks-clause-came g c =
-    let view = view_of g.R.Runner.pairs g.S.Shelf.counts g.T.Storage.holds g.T.Storage.leaves g.T.Storage.tally in
+    let view = view_of g.R.Runner.pairs g.S.Shelf.calls g.T.Storage.holds g.T.Storage.leaves g.T.Storage.tally in
     let needed = needs (shown_data c.args.what) in
     lacks (places_data c.args.self.now.places) (shows (shown_data c.args.what)) c.in-Err-Lacks.fault
     (view c.args.self.now (g.O.Lines.written c.args.out.now)) (g.O.Lines.written c.show.new.out) c.requires.ready
@@ -28,7 +28,7 @@ returns-in-Err-Lacks-clause-came g c =
 
 pub returns-in-Err-NoMemory-clause-came : goal.returns-in-Err-NoMemory-clause-came
 returns-in-Err-NoMemory-clause-came g c =
-    let view = view_of g.R.Runner.pairs g.S.Shelf.counts g.T.Storage.holds g.T.Storage.leaves g.T.Storage.tally in
+    let view = view_of g.R.Runner.pairs g.S.Shelf.calls g.T.Storage.holds g.T.Storage.leaves g.T.Storage.tally in
     shown_nothing (places_data c.args.self.now.places) (shown_data c.args.what)
     (view c.args.self.now (g.O.Lines.written c.args.out.now)) (g.O.Lines.written c.show.new.out) c.requires.ready
     c.in-Err-NoMemory.ensures.1
