@@ -2,3 +2,4 @@ mod Cores
 mod Printing
 mod Showing
 mod Telling
+mod Together

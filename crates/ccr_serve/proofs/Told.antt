@@ -21,7 +21,8 @@ use Rattle.ccr_core.specs.State.{State, no_pipeline, resources_of}
 use Rattle.ccr_core.specs.Steps.{Step}
 use Rattle.ccr_lines.specs.Lines.{line, lines_of, pipeline_lines}
 use Rattle.ccr_task.specs.declared.counts.ShelfCounts.{ShelfCounts}
-use Rattle.ccr_serve.specs.Commanding.{pin_in, HasResource, Commanded, IsRefused, CameOf}
+use Rattle.ccr_lines.specs.Needs.{pin_in}
+use Rattle.ccr_serve.specs.Commanding.{HasResource, Commanded, IsRefused, CameOf}
 use Rattle.ccr_lines.specs.Commands.{set_pipeline, pin_resource, unpin_resource}
 use Rattle.ccr_serve.specs.Items.{World, Done}
 use Rattle.ccr_serve.specs.Reads.{KeepsFromReading}

@@ -1,7 +1,7 @@
 use Rattle.std.proofs.Common.{◌∙◌, ap, Err}
 use Rattle.ccr_pipeline.specs.Pipelines.{pipeline_data}
 use Rattle.ccr_lines.proofs.Showing.{there}
-use Rattle.ccr_lines.proofs.shows.problem_in.Goals as goal
+use Rattle.ccr_lines.proofs.problem.problem_in.Goals as goal
 
 pub unreachable-requires : goal.unreachable-requires
 unreachable-requires c =
