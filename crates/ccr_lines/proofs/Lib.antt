@@ -1,3 +1,4 @@
+mod Certifying
 mod Cores
 mod Printing
 mod Showing
