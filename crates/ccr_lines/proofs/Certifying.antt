@@ -20,15 +20,15 @@ pub accepted_so : (p : ProblemValue) (given : Proof) (bytes first second : Text)
     → IsAcceptedOf p given 0 bytes
 accepted_so p given bytes first second is_problem is_proof accepted a b joined =
     (refl, text, λ said judged. text_accepted bytes said given.claim whole judged) where
-  text : bytes ≡ problem_text p ++ proof_text given.claim (tree_of given.tree)
-  text = joined ∙ (ap (λ x. x ++ second) a ∙ ap (λ y. problem_text p ++ y) b)
+      text : bytes ≡ problem_text p ++ proof_text given.claim (tree_of given.tree)
+      text = joined ∙ (ap (λ x. x ++ second) a ∙ ap (λ y. problem_text p ++ y) b)
 
-  whole : IsAcceptedText bytes given.claim
-  whole = record {
-    problem = p;
-    tree = tree_of given.tree;
-    is_problem = is_problem;
-    is_proof = is_proof;
-    accepted = accepted;
-    text = text;
-  }
+      whole : IsAcceptedText bytes given.claim
+      whole = record {
+        problem = p;
+        tree = tree_of given.tree;
+        is_problem = is_problem;
+        is_proof = is_proof;
+        accepted = accepted;
+        text = text;
+      }

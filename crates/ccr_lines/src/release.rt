@@ -331,7 +331,15 @@ fn push_all_together(
         return Ok(());
     };
     let inputs = inputs_in_plan(alloc, pipeline, build.job())?;
-    push_each_together(alloc, text, history, pipeline.jobs(), &inputs, build, before)
+    push_each_together(
+        alloc,
+        text,
+        history,
+        pipeline.jobs(),
+        &inputs,
+        build,
+        before,
+    )
 }
 
 /// How a build stands, what it took, through which of the first builds that had gone together, and what it moved.

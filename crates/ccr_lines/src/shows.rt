@@ -94,11 +94,7 @@ fn versions_text(alloc: Global, versions: &[Version]) -> Result<String, AllocErr
 }
 
 /// The versions of a resource's scope, each with its place.
-fn table_text(
-    alloc: Global,
-    history: &History,
-    resource: &Resource,
-) -> Result<String, AllocError>
+fn table_text(alloc: Global, history: &History, resource: &Resource) -> Result<String, AllocError>
     ensures { IfOk result (λ text. string_bytes text
         ≡ lines_from 1 (versions_of (scope_of (resource_data resource.now)) history.now.tables)) }
 {

@@ -55,7 +55,12 @@ fn push_resource(
     text.push_str(" ")?;
     text.push_str(buffer.format(history.versions(&scope).len()))?;
     text.push_str(" versions")?;
-    push_pin(alloc, text, " pinned by pipeline ", resource.version.as_ref())?;
+    push_pin(
+        alloc,
+        text,
+        " pinned by pipeline ",
+        resource.version.as_ref(),
+    )?;
     push_pin(alloc, text, " pinned ", history.pin(resource.name.as_str()))?;
     text.push_str("\n")
 }
