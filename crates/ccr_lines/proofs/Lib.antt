@@ -1,5 +1,6 @@
 mod Certifying
 mod Cores
+mod Listing
 mod Printing
 mod Showing
 mod Telling
