@@ -1,13 +1,14 @@
 -- What is shown of what a core holds.
 use Rattle.std.proofs.Common.{◌≡◌, ◌+◌, ◌++◌, ◌∷◌, [], ℕ, List, take, drop, slice_get, Option, Some, None, unwrap_or, refl, sym, ◌∙◌, ap, subst}
-use Rattle.std.specs.Prelude.{IsSome, IsSomeAnd}
+use Rattle.std.specs.Prelude.{IsSome, IsSomeAnd, IfSome}
+use Rattle.std.proofs.lemmas.Bool.{false≢true}
 use Rattle.std.proofs.lemmas.List.{take-append-drop}
 use Rattle.ccr_history.specs.Text.{Text}
 use Rattle.ccr_history.specs.TextMap.{TextMap}
 use Rattle.ccr_history.specs.Builds.{BuildData, build_of}
 use Rattle.ccr_history.specs.History.{HistoryData}
 use Rattle.ccr_history.specs.Tables.{versions_of}
-use Rattle.ccr_pipeline.specs.JobData.{ResourceData}
+use Rattle.ccr_pipeline.specs.JobData.{ResourceData, JobData}
 use Rattle.ccr_pipeline.specs.Pipelines.{PipelineData}
 use Rattle.ccr_problem.specs.ProblemOf.{resource_of, job_of, scope_of}
 use Rattle.ccr_core.specs.Holding.{CoreData}
@@ -99,3 +100,15 @@ release_made c job number k b h lines at there held told = (
     ),
   ),
 )
+
+-- ---- a job's index
+-- a job that the pipeline has isn't lacking
+pub has_index : (o : Option PipelineData) (p : PipelineData) (job : Text) → o ≡ Some p → IsSome (job_of job p.jobs)
+    → IfSome o (λ q. job_of job q.jobs ≡ None) → ⊥
+has_index None p job set there lacks = absurd (cc)
+has_index (Some q) p job set there lacks =
+    let same : q ≡ p = cc in
+    absurd (not_both (job_of job p.jobs) there (subst (λ x. job_of job x.jobs ≡ None) same lacks)) where
+      not_both : (found : Option JobData) → IsSome found → found ≡ None → ⊥
+      not_both None some none = absurd (false≢true some)
+      not_both (Some j) some none = absurd (cc)

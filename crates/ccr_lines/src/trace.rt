@@ -1,7 +1,10 @@
 //! Where a version went: the builds that took or moved it.
-ghost use Rattle.std.specs.Prelude.{◌≡◌, ◌++◌, string_bytes, IfOk, IfErr, OnOk};
+ghost use Rattle.std.specs.Prelude.{◌≡◌, ◌++◌, false, string_bytes, IfOk, IfErr, OnOk};
 ghost use Rattle.std.specs.List.{list_any};
+ghost use Rattle.std.specs.Option.{option_map_or};
 ghost use Rattle.ccr_history.specs.Builds.{is_succeeded};
+ghost use Rattle.ccr_history.specs.Tables.{at_place, versions_at};
+ghost use Rattle.ccr_history.specs.TextMap.{meets};
 ghost use Rattle.ccr_core.specs.Cores.{core_data};
 ghost use Rattle.ccr_lines.specs.Shown.{needs, IsMade, IsUnshown};
 ghost use Rattle.ccr_lines.specs.Shown as spec;
@@ -16,16 +19,25 @@ use ccr_history::{BuildRef, History, Pin, Status};
 use itoa::Buffer;
 use std::alloc::{AllocError, Global};
 
+/// Whether the version at a place of the scope of this number meets the pin.
+fn meets_at(history: &History, pin: &Pin, scope: u32, place: u32) -> bool
+    ensures { result ≡ option_map_or (λ v. meets v pin.now)
+        (at_place place (versions_at scope history.now.tables)) false }
+{
+    match history.version_at(scope, place) {
+        Some(version) => version.meets(pin),
+        None => false,
+    }
+}
+
 /// Whether at a place of the scope of this number is a version of the resource that meets the pin.
 fn is_sought(history: &History, resource: &str, pin: &Pin, scope: u32, place: u32) -> bool
     ensures { result ≡ is_sought history.now.tables resource.now pin.now scope place }
 {
-    if resource != resource_at(history, scope) {
-        return false;
-    }
-    match history.version_at(scope, place) {
-        Some(version) => version.meets(pin),
-        None => false,
+    if resource == resource_at(history, scope) {
+        meets_at(history, pin, scope, place)
+    } else {
+        false
     }
 }
 
