@@ -1,8 +1,8 @@
 //! The command that a command line names.
-ghost use Rattle.std.specs.Prelude.{◌≡◌, IfOk, codes, option_map, string_bytes};
+ghost use Rattle.std.specs.Prelude.{◌≡◌, Some, IfOk, codes, option_map, string_bytes};
 ghost use Rattle.clap.specs.Words.{first_of, found_of, rows_of};
 ghost use Rattle.ccr_lines.specs.Commands.{command_data};
-ghost use Rattle.ccr_command.specs.Commands.{pin_named, run_named, command_named, command_in};
+ghost use Rattle.ccr_command.specs.Commands.{pin_named, run_named, build_named, trace_named, command_named, command_in};
 
 use crate::number::number_of;
 use ccr_lines::Command;
@@ -46,6 +46,44 @@ fn run_of(values: &ArgMatches<'_>) -> Option<Command>
     }
 }
 
+/// The build of a job's name and a number as it was typed, which is to be shown; None where the number is out of its range.
+fn numbered(job: String, number: &str) -> Option<Command>
+    ensures { option_map command_data result ≡ build_named (Some (string_bytes job)) (Some number.now) }
+{
+    match number_of(number) {
+        Some(number) => Some(Command::Build(job, number)),
+        None => None,
+    }
+}
+
+/// The build of these values, which is to be shown; None where one is absent or out of its range.
+fn build_of(alloc: Global, values: &ArgMatches<'_>) -> Result<Option<Command>, AllocError>
+    ensures { IfOk result (λ command. option_map command_data command
+        ≡ build_named (first_of (codes "JOB") (rows_of (found_of values.now)))
+        (first_of (codes "N") (rows_of (found_of values.now)))) }
+{
+    let job = value_of(alloc, values, "JOB")?;
+    let number = value_of(alloc, values, "N")?;
+    match (job, number) {
+        (Some(job), Some(number)) => Ok(numbered(job, number.as_str())),
+        _ => Ok(None),
+    }
+}
+
+/// The version of these values, whose builds are to be shown; None where one is absent.
+fn trace_of(alloc: Global, values: &ArgMatches<'_>) -> Result<Option<Command>, AllocError>
+    ensures { IfOk result (λ command. option_map command_data command
+        ≡ trace_named (first_of (codes "NAME") (rows_of (found_of values.now)))
+        (first_of (codes "JSON") (rows_of (found_of values.now)))) }
+{
+    let resource = value_of(alloc, values, "NAME")?;
+    let pin = value_of(alloc, values, "JSON")?;
+    match (resource, pin) {
+        (Some(resource), Some(pin)) => Ok(Some(Command::Trace(resource, pin))),
+        _ => Ok(None),
+    }
+}
+
 /// The command that a word names, with its values.
 fn named(alloc: Global, word: &str, values: &ArgMatches<'_>) -> Result<Option<Command>, AllocError>
     ensures { IfOk result (λ command.
@@ -62,6 +100,12 @@ fn named(alloc: Global, word: &str, values: &ArgMatches<'_>) -> Result<Option<Co
         "trigger-job" => Ok(value_of(alloc, values, "JOB")?.map(Command::TriggerJob)),
         "builds" => Ok(Some(Command::Builds)),
         "run" => Ok(run_of(values)),
+        "certify" => Ok(value_of(alloc, values, "JOB")?.map(Command::Certify)),
+        "build" => build_of(alloc, values),
+        "trace" => trace_of(alloc, values),
+        "get-pipeline" => Ok(Some(Command::GetPipeline)),
+        "resources" => Ok(Some(Command::Resources)),
+        "jobs" => Ok(Some(Command::Jobs)),
         _ => Ok(None),
     }
 }

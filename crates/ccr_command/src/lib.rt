@@ -26,6 +26,7 @@ mod near;
 mod never;
 mod number;
 mod options;
+mod reading;
 mod usage;
 mod vars;
 

@@ -1,13 +1,14 @@
 //! The command line, with its help.
 ghost use Rattle.std.specs.Prelude.{◌≡◌, IfOk};
 ghost use Rattle.clap.specs.Words.{app_of};
-ghost use Rattle.ccr_command.specs.Usage.{program, options_line, with_all, resource_commands, job_commands, line};
+ghost use Rattle.ccr_command.specs.Usage.{program, options_line, with_all, resource_commands, job_commands, reading_commands, line};
 
 use crate::argument::{as_number, optional, required};
 use crate::commands::{
     abort_build, builds, check_resource, pin_resource, problem, resolve, resource_versions, run,
     set_pipeline, trigger_job, unpin_resource,
 };
+use crate::reading::{build, certify, get_pipeline, jobs, resources, trace};
 use clap::Command;
 use std::alloc::{AllocError, Global};
 
@@ -96,8 +97,20 @@ fn with_job_commands<'a>(alloc: Global, line: Command<'a>) -> Result<Command<'a>
     line.subcommand(run(alloc)?)
 }
 
+/// The same with the commands that only read.
+fn with_reading_commands<'a>(alloc: Global, line: Command<'a>) -> Result<Command<'a>, AllocError>
+    ensures { IfOk result (λ made. app_of made ≡ with_all (app_of line.entry) reading_commands) }
+{
+    let line = line.subcommand(get_pipeline(alloc))?;
+    let line = line.subcommand(resources(alloc))?;
+    let line = line.subcommand(jobs(alloc))?;
+    let line = line.subcommand(build(alloc)?)?;
+    let line = line.subcommand(trace(alloc)?)?;
+    line.subcommand(certify(alloc)?)
+}
+
 /// The program's command line: `ccr_run --db FILE [--types DIR] [--work DIR] [--budget N] COMMAND`, with the help of the
-/// program and of each of its eleven commands.
+/// program and of each of its seventeen commands.
 ///
 /// The only error is that a growth of memory was refused.
 pub fn command_line<'a>(alloc: Global) -> Result<Command<'a>, AllocError>
@@ -105,5 +118,6 @@ pub fn command_line<'a>(alloc: Global) -> Result<Command<'a>, AllocError>
 {
     let line = with_options(alloc)?;
     let line = with_resource_commands(alloc, line)?;
-    with_job_commands(alloc, line)
+    let line = with_job_commands(alloc, line)?;
+    with_reading_commands(alloc, line)
 }

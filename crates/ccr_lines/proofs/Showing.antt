@@ -1,14 +1,11 @@
 -- What a command shows, line by line.
-use Rattle.std.proofs.Common.{◌≡◌, ◌≤◌, ◌<◌, ◌+◌, ◌++◌, ◌∷◌, [], suc, List, ℕ, length, take, flat_map, codes, decimal, Option, Some, None, Bool, true, false, slice_get, get_or, refl, sym, ◌∙◌, ap, append_assoc, append-nil, add-zero, arith}
-use Rattle.std.specs.List.{sum_by}
+use Rattle.std.proofs.Common.{◌≡◌, ◌≤◌, ◌<◌, ◌+◌, ◌++◌, ◌∷◌, [], zero, suc, List, ℕ, length, take, drop, flat_map, codes, decimal, Option, Some, None, Bool, true, false, slice_get, get_or, refl, sym, ◌∙◌, ap, append_assoc, append-nil, add-zero, arith}
 use Rattle.std.specs.Prelude.{IsSome}
 use Rattle.std.proofs.lemmas.Bool.{false≢true}
 use Rattle.std.proofs.lemmas.List.{take_more, flat_map_more, length-take-le}
-use Rattle.std.proofs.lemmas.List.Sums.{sum_by_push, sum_by-take-le}
 use Rattle.std.proofs.lemmas.Option.{slice_get_within, get_or_from_slice_get}
 use Rattle.ccr_history.specs.Text.{Text}
 use Rattle.ccr_history.specs.TextMap.{TextMap, key_text}
-use Rattle.ccr_history.specs.Builds.{BuildData}
 use Rattle.ccr_pipeline.specs.JobData.{JobData}
 use Rattle.ccr_pipeline.specs.Links.{job_names}
 use Rattle.ccr_pipeline.specs.Names.{has_name}
@@ -18,31 +15,9 @@ use Rattle.ccr_lines.specs.Lines.{line}
 use Rattle.ccr_lines.specs.Shown.{lines_from}
 
 -- ---- one more of a list
-one_more : {X : Type 0} (xs : List X) (k : ℕ) (x : X) → slice_get xs k ≡ Some x → take (k + 1) xs ≡ take k xs ++ x ∷ []
+pub one_more : {X : Type 0} (xs : List X) (k : ℕ) (x : X) → slice_get xs k ≡ Some x → take (k + 1) xs ≡ take k xs ++ x ∷ []
 one_more xs k x at =
     take_more xs k x (slice_get_within xs k x at) ∙ ap (λ y. take k xs ++ y ∷ []) (get_or_from_slice_get xs k x x at)
-
--- what it adds to a sum
-sum_more : {X : Type 0} (f : X → ℕ) (xs : List X) (k : ℕ) (x : X) → slice_get xs k ≡ Some x
-    → sum_by f (take (k + 1) xs) ≡ sum_by f (take k xs) + f x
-sum_more f xs k x at = ap (λ ys. sum_by f ys) (one_more xs k x at) ∙ sum_by_push f (take k xs) x
-
--- the room that is counted for a build
-pub room_counted : (bs : List BuildData) (k : ℕ) (b : BuildData) (old mid new job : ℕ) → slice_get bs k ≡ Some b
-    → job ≡ length b.job → old ≡ sum_by (λ x. length x.job + 22) (take k bs) → mid ≡ old + job → new ≡ mid + 22
-    → new ≡ sum_by (λ x. length x.job + 22) (take (k + 1) bs)
-room_counted bs k b old mid new job at j o m n = omega (arith, sum_more (λ x. length x.job + 22) bs k b at, j, o, m, n)
-
--- there is room for it
-pub room_for : {X : Type 0} (f : X → ℕ) (xs : List X) (k : ℕ) (x : X) (start room : ℕ) → slice_get xs k ≡ Some x
-    → sum_by f xs ≤ start → start ≤ room + sum_by f (take k xs) → f x ≤ room
-room_for f xs k x start room at enough left =
-    omega (arith, sum_more f xs k x at, sum_by-take-le f xs (k + 1))
-
--- and for the others behind it
-pub room_left : {X : Type 0} (f : X → ℕ) (xs : List X) (k : ℕ) (x : X) (start room next : ℕ) → slice_get xs k ≡ Some x
-    → start ≤ room + sum_by f (take k xs) → room ≤ next + f x → start ≤ next + sum_by f (take (k + 1) xs)
-room_left f xs k x start room next at left took = omega (arith, sum_more f xs k x at)
 
 -- its line comes to the lines
 pub lines_more : {X : Type 0} (f : X → List ℕ) (xs : List X) (k : ℕ) (x : X) (start old new : List ℕ)
@@ -51,6 +26,15 @@ pub lines_more : {X : Type 0} (f : X → List ℕ) (xs : List X) (k : ℕ) (x : 
 lines_more f xs k x start old new at o n =
     n ∙ (ap (λ t. t ++ f x) o ∙ (flat_map_more f start (take k xs) x
     ∙ ap (λ ys. start ++ flat_map f ys) (sym (one_more xs k x at))))
+
+-- what is left from there on
+pub drop_there : {X : Type 0} (xs : List X) (k : ℕ) (x : X) → slice_get xs k ≡ Some x → drop k xs ≡ x ∷ drop (k + 1) xs
+drop_there [] zero x e = absurd (cc (e))
+drop_there [] (suc k) x e = absurd (cc (e))
+drop_there (y ∷ ys) zero x e = let one : y ≡ x = cc (e) in ap (λ z. z ∷ ys) one
+drop_there (y ∷ ys) (suc k) x e =
+    let n : suc k + 1 ≡ suc (k + 1) = omega arith in
+    drop_there ys k x e ∙ ap (λ m. x ∷ drop m (y ∷ ys)) (sym n)
 
 -- ---- versions
 version_line : ℕ → TextMap → Text

@@ -17,10 +17,22 @@ pub enum Command {
     Resolve(String),
     /// The problem of the next build of the job of this name is shown.
     Problem(String),
+    /// Both are shown in one text, which the checker accepts.
+    Certify(String),
     /// A build of the job of this name is made, and run to its end.
     TriggerJob(String),
     /// All builds are shown.
     Builds,
+    /// The job's build of this number is shown: what it took and moved.
+    Build(String, u32),
+    /// The builds are shown that took or moved a version of the resource of this name that meets this JSON text.
+    Trace(String, String),
+    /// The text of the pipeline is shown.
+    GetPipeline,
+    /// The resources of the pipeline are shown.
+    Resources,
+    /// The jobs of the pipeline are shown.
+    Jobs,
     /// So many rounds are run, from 1 to 1,000,000, and then all builds to their ends.
     Run(u32),
 }

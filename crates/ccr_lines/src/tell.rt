@@ -96,8 +96,21 @@ pub fn tell_full<O: Lines>(out: &mut O, resource: &str)
 
 // ---- builds
 
+/// How a build stands, in a word.
+pub(crate) fn word_of(status: Status) -> &'static str
+    ensures { result.now ≡ status_word status }
+{
+    match status {
+        Status::Running => "running",
+        Status::Succeeded => "succeeded",
+        Status::Failed => "failed",
+        Status::Errored => "errored",
+        Status::Aborted => "aborted",
+    }
+}
+
 /// Writes a job's build with a word.
-pub(crate) fn tell_build<O: Lines>(out: &mut O, job: &str, number: u32, word: &str)
+fn tell_build<O: Lines>(out: &mut O, job: &str, number: u32, word: &str)
     requires { length job.now + (length word.now + 13) ≤ O.room out.old }
     ensures told { O.written out.new ≡ O.written out.old ++ build_line job.now number word.now }
     ensures left { O.room out.old ≤ O.room out.new + (length job.now + (length word.now + 13)) }

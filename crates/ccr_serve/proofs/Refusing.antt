@@ -49,20 +49,24 @@ refused_after places c f v k l ready lines why = record {
 
 -- what the command needs isn't there
 pub lacks : (places : PlacesData) (c : CommandData) (f : CoreFault) (v : View) (l : Text) → IsReady v → l ≡ v.lines
-    → Lacks (need_of c) v.core.pipeline f → CameOf places c (Err (fault.Core f)) v (printed v l)
+    → Lacks (need_of c) v.core.pipeline v.core.history f → CameOf places c (Err (fault.Core f)) v (printed v l)
 lacks places c f v l ready lines is = by f is where
   refuses : (f : CoreFault) → ((s : State) → Stands v.core s → IsRefused c (fault.Core f) s v.calls v.calls)
       → CameOf places c (Err (fault.Core f)) v (printed v l)
   refuses f why = refused_after places c (fault.Core f) v v.calls l ready lines why
 
-  by : (f : CoreFault) → Lacks (need_of c) v.core.pipeline f → CameOf places c (Err (fault.Core f)) v (printed v l)
-  by core_fault.NoPipeline h =
-      refuses core_fault.NoPipeline (λ s stands. (subst (λ p. Lacks (need_of c) p core_fault.NoPipeline) stands.1 h, refl))
-  by core_fault.NoResource h =
-      refuses core_fault.NoResource (λ s stands. (subst (λ p. Lacks (need_of c) p core_fault.NoResource) stands.1 h, refl))
-  by core_fault.NoJob h =
-      refuses core_fault.NoJob (λ s stands. (subst (λ p. Lacks (need_of c) p core_fault.NoJob) stands.1 h, refl))
-  by core_fault.NoBuild h = absurd h
+  -- it isn't there in the states that the core stands for
+  moved : (s : State) (f : CoreFault) → Stands v.core s → Lacks (need_of c) v.core.pipeline v.core.history f
+      → Lacks (need_of c) s.pipeline s.history f
+  moved s f stands h =
+      subst (λ x. Lacks (need_of c) s.pipeline x f) stands.0
+      (subst (λ p. Lacks (need_of c) p v.core.history f) stands.1 h)
+
+  by : (f : CoreFault) → Lacks (need_of c) v.core.pipeline v.core.history f → CameOf places c (Err (fault.Core f)) v (printed v l)
+  by core_fault.NoPipeline h = refuses core_fault.NoPipeline (λ s stands. (moved s core_fault.NoPipeline stands h, refl))
+  by core_fault.NoResource h = refuses core_fault.NoResource (λ s stands. (moved s core_fault.NoResource stands h, refl))
+  by core_fault.NoJob h = refuses core_fault.NoJob (λ s stands. (moved s core_fault.NoJob stands h, refl))
+  by core_fault.NoBuild h = refuses core_fault.NoBuild (λ s stands. (moved s core_fault.NoBuild stands h, refl))
   by core_fault.BuildsOpen h = absurd h
   by core_fault.NotWanted h = absurd h
   by core_fault.TooManyOpen h = absurd h

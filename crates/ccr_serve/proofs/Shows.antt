@@ -5,13 +5,14 @@ use Rattle.ccr_task.specs.Places.{PlacesData}
 use Rattle.ccr_core.specs.Holding.{CoreData, Stands}
 use Rattle.ccr_core.specs.State.{State, no_pipeline, pipeline_of}
 use Rattle.ccr_lines.specs.Commands.{shows}
-use Rattle.ccr_lines.specs.Needs.{IsMet}
+use Rattle.ccr_lines.specs.Needs.{IsMet, LacksPin}
 use Rattle.ccr_lines.specs.Shown.{ShownData, needs, IsShown, Showing}
 use Rattle.ccr_serve.specs.Commanding.{Commanded, CameOf}
 use Rattle.ccr_serve.specs.Items.{Done}
 use Rattle.ccr_serve.specs.Views.{View, world_of, IsReady}
 use Rattle.ccr_serve.specs.declared.fault.ServeFault.TheVariants as fault
 use Rattle.ccr_serve.proofs.Commits.{rose_none}
+use Rattle.ccr_serve.proofs.Refusing.{refused_after}
 use Rattle.ccr_serve.proofs.Steps.{printed, ready_after, calls_did, MayStop, cut_at_once}
 
 -- what is shown of a core is shown of the states that it stands for
@@ -43,7 +44,7 @@ shown_so places what status v l ready x =
           },
           refl,
         ),
-        subst (λ p. IsMet (needs what) p) is.1 x.0,
+        subst (λ h. IsMet (needs what) s.pipeline h) is.0 (subst (λ p. IsMet (needs what) p v.core.history) is.1 x.0),
       );
       pairs = sym (append-nil v.pairs);
       commits = rose_none v.tally.commits;
@@ -54,6 +55,13 @@ shown_so places what status v l ready x =
 
 show_stop : (places : PlacesData) (what : ShownData) → MayStop (Commanded places (shows what) 0)
 show_stop places what w = ([], _, refl, w, refl, inl refl)
+
+-- the text of a pin spells none: nothing is shown
+pub shown_unpinned : (places : PlacesData) (what : ShownData) (v : View) (l : Text) → IsReady v → l ≡ v.lines
+    → LacksPin (needs what) v.core.pipeline → CameOf places (shows what) (Err fault.BadPin) v (printed v l)
+shown_unpinned places what v l ready same bad =
+    refused_after places (shows what) fault.BadPin v v.calls l ready same
+    (λ s is. (subst (λ p. LacksPin (needs what) p) is.1 bad, refl))
 
 -- memory was wanted: nothing is shown
 pub shown_nothing : (places : PlacesData) (what : ShownData) (v : View) (l : Text) → IsReady v → l ≡ v.lines

@@ -23,7 +23,8 @@ use Rattle.ccr_lines.specs.Lines.{line, lines_of, pipeline_lines}
 use Rattle.ccr_task.specs.Calls.{CallData}
 use Rattle.ccr_task.specs.Calls as shelf
 use Rattle.ccr_task.specs.declared.fault.ShelfFault.{ShelfFault}
-use Rattle.ccr_serve.specs.Commanding.{pin_in, HasResource, called, Commanded, IsRead, IsRefused, CameOf}
+use Rattle.ccr_lines.specs.Needs.{pin_in}
+use Rattle.ccr_serve.specs.Commanding.{HasResource, called, Commanded, IsRead, IsRefused, CameOf}
 use Rattle.ccr_lines.specs.Commands.{set_pipeline, pin_resource, unpin_resource}
 use Rattle.ccr_serve.specs.Items.{World, tell, Done, Part, Items}
 use Rattle.ccr_serve.specs.Reads.{KeepsFromReading}

@@ -1,8 +1,7 @@
 -- What commands do, and how they are refused.
-use Rattle.std.specs.Prelude.{◌≡◌, ◌≢◌, ◌⊎◌, ℕ, List, [], ◌∷◌, ◌++◌, true, false, Option, Some, None, IsSome, option_and_then, codes, string_bytes, Result, Ok, Err, ⊤}
-use Rattle.serde_json.specs.Read.{read as json}
+use Rattle.std.specs.Prelude.{◌≡◌, ◌≢◌, ◌⊎◌, ℕ, List, [], ◌∷◌, ◌++◌, true, false, Option, Some, None, IsSome, codes, string_bytes, Result, Ok, Err, ⊤}
 use Rattle.ccr_history.specs.Text.{Text}
-use Rattle.ccr_history.specs.TextMap.{TextMap, text_map_of}
+use Rattle.ccr_history.specs.TextMap.{TextMap}
 use Rattle.ccr_history.specs.Builds.{BuildData, build_of}
 use Rattle.ccr_history.specs.History.{HistoryData}
 use Rattle.ccr_history.specs.declared.build.Status.{Status}
@@ -18,14 +17,14 @@ use Rattle.ccr_task.specs.Calls.{CallData}
 use Rattle.ccr_task.specs.Calls as shelf
 use Rattle.ccr_task.specs.declared.fault.ShelfFault.{ShelfFault}
 use Rattle.ccr_task.specs.declared.fault.ShelfFault.TheVariants as shelf_fault
-use Rattle.ccr_core.specs.declared.fault.CoreFault.TheVariants.{NoPipeline, NoJob, NoResource, BuildsOpen, TooManyOpen, TableFull}
+use Rattle.ccr_core.specs.declared.fault.CoreFault.TheVariants.{NoPipeline, NoJob, NoResource, NoBuild, BuildsOpen, TooManyOpen, TableFull}
 use Rattle.ccr_core.specs.declared.reply.Reply.{Reply}
 use Rattle.ccr_core.specs.declared.reply.Reply.TheVariants.{New, Made, OverBudget}
 use Rattle.ccr_core.specs.Events as event
 use Rattle.ccr_core.specs.Faults.{IsFirstFault}
 use Rattle.ccr_core.specs.Holding.{Stands}
 use Rattle.ccr_core.specs.State.{State, resources_of, jobs_of}
-use Rattle.ccr_lines.specs.Needs.{IsMet, Lacks}
+use Rattle.ccr_lines.specs.Needs.{pin_in, IsMet, Lacks, LacksPin}
 use Rattle.ccr_lines.specs.Shown.{needs}
 use Rattle.ccr_serve.specs.declared.fault.ServeFault.{ServeFault}
 use Rattle.ccr_serve.specs.declared.fault.ServeFault.TheVariants.{Core, Store, Read, File, BadPin, NoMemory, TurnsUsedUp}
@@ -42,11 +41,7 @@ KeepsFromOpening NoMemory = ⊤
 KeepsFromOpening (Store f) = ⊤
 KeepsFromOpening f = ⊥
 
--- ---- what is named
--- the pin that a text spells, if it spells one
-abbrev pub pin_in : Text → Option TextMap
-pin_in text = option_and_then text_map_of (json text)
-
+-- ---- what is needed
 abbrev pub HasResource : State → Text → Type 0
 HasResource s name = IsSome (resource_of name (resources_of s))
 
@@ -61,7 +56,7 @@ IsFit (pin_resource resource pin) s = HasResource s resource × IsSome (pin_in p
 IsFit (unpin_resource resource) s = HasResource s resource
 IsFit (trigger_job job) s = HasJob s job
 IsFit (run rounds) s = IsSome s.pipeline
-IsFit (shows what) s = IsMet (needs what) s.pipeline
+IsFit (shows what) s = IsMet (needs what) s.pipeline s.history
 
 -- ---- statuses
 -- the first event was replied so
@@ -163,9 +158,10 @@ IsReadFault path f before after =
 -- a command is refused so, with the shelf's calls before and after: no pipeline comes first, then an unknown name, then a
 -- bad pin, and then what keeps the event away. Only a pipeline's file is read before; else the shelf isn't called
 abbrev pub IsRefused : CommandData → ServeFault → State → List CallData → List CallData → Type 0
-IsRefused c (Core NoPipeline) s before after = Lacks (need_of c) s.pipeline NoPipeline × (after ≡ before)
-IsRefused c (Core NoResource) s before after = Lacks (need_of c) s.pipeline NoResource × (after ≡ before)
-IsRefused c (Core NoJob) s before after = Lacks (need_of c) s.pipeline NoJob × (after ≡ before)
+IsRefused c (Core NoPipeline) s before after = Lacks (need_of c) s.pipeline s.history NoPipeline × (after ≡ before)
+IsRefused c (Core NoResource) s before after = Lacks (need_of c) s.pipeline s.history NoResource × (after ≡ before)
+IsRefused c (Core NoJob) s before after = Lacks (need_of c) s.pipeline s.history NoJob × (after ≡ before)
+IsRefused c (Core NoBuild) s before after = Lacks (need_of c) s.pipeline s.history NoBuild × (after ≡ before)
 IsRefused (set_pipeline file) (Core BuildsOpen) s before after =
     (s.running ≢ []) × ((bytes : List ℕ) × IsRead file (Ok bytes) before after)
 IsRefused (trigger_job job) (Core TooManyOpen) s before after =
@@ -176,6 +172,7 @@ IsRefused (set_pipeline file) (Read f) s before after = IsReadFault file f befor
 IsRefused (set_pipeline file) File s before after = IsRead file (Err shelf_fault.Failed) before after
 IsRefused (pin_resource resource pin) BadPin s before after =
     HasResource s resource × (pin_in pin ≡ None) × (after ≡ before)
+IsRefused (shows what) BadPin s before after = LacksPin (needs what) s.pipeline × (after ≡ before)
 IsRefused c f s before after = ⊥
 
 -- a command was refused with this fault: but for the calls of its shelf nothing was done, and no commit was asked for

@@ -57,8 +57,16 @@ impl<R: Runner, S: Shelf, T: Storage> Server<R, S, T> {
             Command::UnpinResource(resource) => self.unpin_resource(resource.as_str(), out),
             Command::Resolve(job) => self.show(Shown::Proof(job.as_str()), out),
             Command::Problem(job) => self.show(Shown::Problem(job.as_str()), out),
+            Command::Certify(job) => self.show(Shown::Certificate(job.as_str()), out),
             Command::TriggerJob(job) => self.trigger_job(job.as_str(), out),
             Command::Builds => self.show(Shown::Builds, out),
+            Command::Build(job, number) => self.show(Shown::Build(job.as_str(), *number), out),
+            Command::Trace(resource, pin) => {
+                self.show(Shown::Trace(resource.as_str(), pin.as_str()), out)
+            }
+            Command::GetPipeline => self.show(Shown::Pipeline, out),
+            Command::Resources => self.show(Shown::Resources, out),
+            Command::Jobs => self.show(Shown::Jobs, out),
             Command::Run(rounds) => self.run(*rounds, out),
         }
     }

@@ -30,6 +30,7 @@ impl<R: Runner, S: Shelf, T: Storage> Server<R, S, T> {
         match show(self.alloc, out, what, &self.core) {
             Ok(status) => Ok(status),
             Err(ShowFault::Lacks(fault)) => Err(ServeFault::Core(fault)),
+            Err(ShowFault::BadPin) => Err(ServeFault::BadPin),
             Err(ShowFault::NoMemory) => Err(ServeFault::NoMemory),
         }
     }
