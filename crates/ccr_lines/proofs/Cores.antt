@@ -3,13 +3,12 @@ use Rattle.std.proofs.Common.{◌≡◌, ◌++◌, ℕ, Some, Ok, unwrap_or, ref
 use Rattle.std.specs.Prelude.{IsSome, IsSomeAnd}
 use Rattle.ccr_history.specs.Text.{Text}
 use Rattle.ccr_history.specs.History.{HistoryData}
-use Rattle.ccr_history.specs.Tables.{versions_of}
 use Rattle.ccr_pipeline.specs.JobData.{ResourceData}
 use Rattle.ccr_pipeline.specs.Pipelines.{PipelineData}
 use Rattle.ccr_problem.specs.ProblemOf.{resource_of, job_of, scope_of}
 use Rattle.ccr_core.specs.Holding.{CoreData}
 use Rattle.ccr_core.specs.State.{no_pipeline}
-use Rattle.ccr_lines.specs.Shown.{builds, versions, problem, proof, builds_lines, lines_from, IsProblemShown, IsProofShown, Showing}
+use Rattle.ccr_lines.specs.Shown.{builds, versions, problem, proof, builds_lines, scope_lines, IsProblemShown, IsProofShown, Showing}
 
 abbrev pipeline_held : CoreData → PipelineData
 pipeline_held c = unwrap_or c.pipeline no_pipeline
@@ -21,17 +20,17 @@ builds_shown c h old new held told =
 
 pub versions_shown : (c : CoreData) (name : Text) (r : ResourceData) (h : HistoryData) (old new : Text)
     → resource_of name (pipeline_held c).resources ≡ Some r → h ≡ c.history
-    → new ≡ old ++ lines_from 1 (versions_of (scope_of r) h.tables) → Showing (versions name) c (Ok 0) old new
+    → new ≡ old ++ scope_lines (scope_of r) h → Showing (versions name) c (Ok 0) old new
 versions_shown c name r h old new there held told = (
   subst (λ o. IsSome o) (sym there) refl,
   (
     lines_of_it r,
     (refl, subst (λ o. IsSomeAnd o (λ x. lines_of_it r ≡ lines_of_it x)) (sym there) refl),
-    told ∙ ap (λ x. old ++ lines_from 1 (versions_of (scope_of r) x.tables)) held,
+    told ∙ ap (λ x. old ++ scope_lines (scope_of r) x) held,
   ),
 ) where
   lines_of_it : ResourceData → Text
-  lines_of_it x = lines_from 1 (versions_of (scope_of x) c.history.tables)
+  lines_of_it x = scope_lines (scope_of x) c.history
 
 -- of a core with this pipeline, which has the job
 module _ (c : CoreData) (job : Text) (p : PipelineData) (h : HistoryData) (old new : Text)

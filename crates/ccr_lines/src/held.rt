@@ -7,7 +7,6 @@ ghost use Rattle.ccr_core.specs.Cores.{core_data};
 ghost use Rattle.ccr_core.specs.State.{no_pipeline};
 ghost use Rattle.ccr_lines.specs.Needs.{Lacks, a_resource, a_job};
 
-use crate::named::{job_named, resource_named};
 use ccr_core::{Core, CoreFault};
 use ccr_pipeline::{Pipeline, Resource};
 
@@ -20,7 +19,7 @@ pub fn resource_held<'c>(core: &'c Core, name: &str) -> Result<&'c Resource, Cor
     let Some(pipeline) = core.pipeline() else {
         return Err(CoreFault::NoPipeline);
     };
-    match resource_named(pipeline.resources(), name) {
+    match pipeline.resource(name) {
         Some(resource) => Ok(resource),
         None => Err(CoreFault::NoResource),
     }
@@ -35,7 +34,7 @@ pub(crate) fn pipeline_with_job<'c>(core: &'c Core, name: &str) -> Result<&'c Pi
     let Some(pipeline) = core.pipeline() else {
         return Err(CoreFault::NoPipeline);
     };
-    match job_named(pipeline.jobs(), name) {
+    match pipeline.job(name) {
         Some(_) => Ok(pipeline),
         None => Err(CoreFault::NoJob),
     }

@@ -12,7 +12,6 @@ mod cause;
 mod command;
 mod held;
 mod lines;
-mod named;
 mod printed;
 mod shown;
 mod shows;
@@ -22,11 +21,10 @@ pub use cause::Cause;
 pub use command::Command;
 pub use held::resource_held;
 pub use lines::Lines;
-pub use named::resource_named;
 pub use printed::Printed;
 pub use shown::{ShowFault, Shown};
 pub use shows::show;
 pub use tell::{
-    pipeline_room, tell_cause, tell_end, tell_full, tell_job, tell_new, tell_pinned, tell_pipeline,
-    tell_refused_job, tell_unpinned,
+    pipeline_room, tell_cause, tell_disabled, tell_enabled, tell_end, tell_full, tell_job, tell_new, tell_pinned,
+    tell_pipeline, tell_refused_job, tell_unpinned,
 };

@@ -2,7 +2,6 @@
 ghost use Rattle.std.specs.Prelude.{◌≡◌, ◌+◌, ◌*◌, ◌<◌, ◌≤◌, ◌++◌, ◌∷◌, [], length, codes, decimal, string_bytes, IfOk, IfSome, OnOk, OnErr, IsSome};
 ghost use Rattle.std.specs.List.{sum_by};
 ghost use Rattle.ccr_history.specs.Text.{Text};
-ghost use Rattle.ccr_history.specs.Tables.{versions_of};
 ghost use Rattle.ccr_history.specs.TextMap.{key_text};
 ghost use Rattle.ccr_pipeline.specs.JobData.{resource_data};
 ghost use Rattle.ccr_pipeline.specs.Pipelines.{pipeline_data};
@@ -10,7 +9,7 @@ ghost use Rattle.ccr_problem.specs.ProblemOf.{job_of, scope_of, IsProblemOf};
 ghost use Rattle.ccr_core.specs.Cores.{core_data};
 ghost use Rattle.ccr_proof.specs.declared.proof.TheConstants.{MOST_NODES};
 ghost use Rattle.ccr_lines.specs.Lines.{line, build_line, status_word};
-ghost use Rattle.ccr_lines.specs.Shown.{shown_data, builds_lines, lines_from, IsProblemShown, IsProofShown, IsTextOf, Showing};
+ghost use Rattle.ccr_lines.specs.Shown.{shown_data, builds_lines, disabled_word, scope_lines, IsProblemShown, IsProofShown, IsTextOf, Showing};
 ghost use Rattle.ccr_lines.specs.Shown as spec;
 
 use crate::held::{pipeline_with_job, resource_held};
@@ -19,10 +18,10 @@ use crate::shown::{ShowFault, Shown};
 use crate::tell::tell_build;
 use ccr_choice::{Problem, write_problem};
 use ccr_core::Core;
-use ccr_history::{BuildRef, History, Status, Version};
+use ccr_history::{BuildRef, History, Scope, Status, Version};
 use ccr_index::build_index;
 use ccr_pipeline::{Pipeline, Resource};
-use ccr_problem::{ProblemFault, problem_of, scope_of};
+use ccr_problem::{ProblemFault, problem_of};
 use ccr_proof::write_proof;
 use ccr_resolve::{Answer, resolve};
 use itoa::Buffer;
@@ -111,27 +110,35 @@ fn show_builds<O: Lines>(out: &mut O, core: &Core) -> Result<u8, ShowFault>
 fn push_version(
     alloc: Global,
     text: &mut String,
-    place: usize,
+    place: u32,
     version: &Version,
+    is_disabled: bool,
 ) -> Result<(), AllocError>
     ensures { OnOk result (string_bytes text.new ≡ string_bytes text.old
-        ++ line (decimal place ∷ codes " " ∷ key_text version.now ∷ [])) }
+        ++ line (decimal place ∷ codes " " ∷ key_text version.now ∷ disabled_word is_disabled)) }
 {
     let mut buffer = Buffer::new();
     let key = version.key(alloc)?;
     text.push_str(buffer.format(place))?;
     text.push_str(" ")?;
     text.push_str(key.as_str())?;
+    if is_disabled {
+        text.push_str(" disabled")?;
+    }
     text.push_str("\n")
 }
 
-/// The lines of versions, whose places count from 1.
-fn versions_text(alloc: Global, versions: &[Version]) -> Result<String, AllocError>
-    ensures { IfOk result (λ text. string_bytes text ≡ lines_from 1 versions.now) }
+/// The lines of a scope's versions, whose places count from 1.
+fn versions_text(alloc: Global, history: &History, scope: &Scope) -> Result<String, AllocError>
+    ensures { IfOk result (λ text. string_bytes text ≡ scope_lines scope.now history.now) }
 {
+    // A scope has few versions.
+    history.rules();
+    let number = history.scope_number(scope);
     let mut text = String::new(alloc);
-    for (k, version) in versions.iter().enumerate() {
-        push_version(alloc, &mut text, k + 1, version)?;
+    for (k, version) in history.versions(scope).iter().enumerate() {
+        let place = k as u32 + 1;
+        push_version(alloc, &mut text, place, version, history.is_disabled(number, place))?;
     }
     Ok(text)
 }
@@ -144,11 +151,10 @@ fn show_table<O: Lines>(
     resource: &Resource,
 ) -> Result<(), AllocError>
     ensures shown { OnOk result (O.written out.new ≡ O.written out.old
-        ++ lines_from 1 (versions_of (scope_of (resource_data resource.now)) history.now.tables)) }
+        ++ scope_lines (scope_of (resource_data resource.now)) history.now) }
     ensures refused { OnErr result (O.written out.new ≡ O.written out.old) }
 {
-    let scope = scope_of(alloc, resource)?;
-    let text = versions_text(alloc, history.versions(&scope))?;
+    let text = versions_text(alloc, history, resource.scope())?;
     show_text(out, text.as_str())
 }
 
