@@ -7,7 +7,6 @@ use Rattle.ccr_history.specs.Text.{Text}
 use Rattle.ccr_history.specs.TextMap.{TextMap}
 use Rattle.ccr_history.specs.Builds.{BuildData, build_of}
 use Rattle.ccr_history.specs.History.{HistoryData}
-use Rattle.ccr_history.specs.Tables.{versions_of}
 use Rattle.ccr_pipeline.specs.JobData.{ResourceData, JobData}
 use Rattle.ccr_pipeline.specs.Pipelines.{PipelineData}
 use Rattle.ccr_problem.specs.ProblemOf.{resource_of, job_of, scope_of}
@@ -19,7 +18,7 @@ use Rattle.ccr_lines.specs.Needs.{a_resource, a_pin, pin_in, Lacks}
 use Rattle.ccr_lines.specs.Releases.{AreMadeBefore, release_lines}
 use Rattle.ccr_lines.specs.Traces.{trace_lines}
 use Rattle.ccr_lines.proofs.Showing.{drop_there}
-use Rattle.ccr_lines.specs.Shown.{ShownData, builds, versions, build, trace, builds_lines, lines_from, IsShown, IsMade}
+use Rattle.ccr_lines.specs.Shown.{ShownData, builds, versions, build, trace, builds_lines, scope_lines, IsShown, IsMade}
 
 abbrev pipeline_held : CoreData → PipelineData
 pipeline_held c = unwrap_or c.pipeline no_pipeline
@@ -45,12 +44,12 @@ module _ (c : CoreData) (p : PipelineData) (h : HistoryData) (set : c.pipeline �
 -- the versions of a resource that is there
 pub versions_made : (c : CoreData) (name : Text) (r : ResourceData) (h : HistoryData) (lines : Text)
     → resource_of name (pipeline_held c).resources ≡ Some r → h ≡ c.history
-    → lines ≡ lines_from 1 (versions_of (scope_of r) h.tables) → IsMade (versions name) c 0 lines
+    → lines ≡ scope_lines (scope_of r) h → IsMade (versions name) c 0 lines
 versions_made c name r h lines there held told = (
   subst (λ o. IsSome o) (sym there) refl,
   refl,
-  subst (λ o. IsSomeAnd o (λ x. lines ≡ lines_from 1 (versions_of (scope_of x) c.history.tables))) (sym there)
-      (told ∙ ap (λ x. lines_from 1 (versions_of (scope_of r) x.tables)) held),
+  subst (λ o. IsSomeAnd o (λ x. lines ≡ scope_lines (scope_of x) c.history)) (sym there)
+      (told ∙ ap (λ x. scope_lines (scope_of r) x) held),
 )
 
 -- the builds of a version, of a resource that is there, that meets the pin of a text

@@ -12,7 +12,7 @@ use Rattle.ccr_pipeline.specs.Names.{has_name}
 use Rattle.ccr_problem.specs.ProblemOf.{job_of}
 use Rattle.ccr_problem.proofs.Jobs.{named}
 use Rattle.ccr_lines.specs.Lines.{line}
-use Rattle.ccr_lines.specs.Shown.{lines_from}
+use Rattle.ccr_lines.specs.Shown.{lines_from, disabled_word}
 
 -- ---- one more of a list
 pub one_more : {X : Type 0} (xs : List X) (k : ℕ) (x : X) → slice_get xs k ≡ Some x → take (k + 1) xs ≡ take k xs ++ x ∷ []
@@ -37,32 +37,35 @@ drop_there (y ∷ ys) (suc k) x e =
     drop_there ys k x e ∙ ap (λ m. x ∷ drop m (y ∷ ys)) (sym n)
 
 -- ---- versions
-version_line : ℕ → TextMap → Text
-version_line place v = line (decimal place ∷ codes " " ∷ key_text v ∷ [])
+-- where this test says which places are disabled
+module _ (off : ℕ → Bool) where
+  version_line : ℕ → TextMap → Text
+  version_line place v = line (decimal place ∷ codes " " ∷ key_text v ∷ disabled_word (off place))
 
--- one version more at the end
-versions_more : (place : ℕ) (vs : List TextMap) (v : TextMap)
-    → lines_from place (vs ++ v ∷ []) ≡ lines_from place vs ++ version_line (place + length vs) v
-unfolding version_line
-versions_more place [] v =
-    append-nil (version_line place v) ∙ ap (λ n. version_line n v) (sym (add-zero place))
-versions_more place (w ∷ ws) v =
-    let same : place + 1 + length ws ≡ place + suc (length ws) = omega arith in
-    ap (λ t. version_line place w ++ t) (versions_more (place + 1) ws v)
-    ∙ (sym (append_assoc (version_line place w) (lines_from (place + 1) ws) (version_line (place + 1 + length ws) v))
-    ∙ ap (λ n. (version_line place w ++ lines_from (place + 1) ws) ++ version_line n v) same)
+  -- one version more at the end
+  versions_more : (place : ℕ) (vs : List TextMap) (v : TextMap)
+      → lines_from off place (vs ++ v ∷ []) ≡ lines_from off place vs ++ version_line (place + length vs) v
+  unfolding version_line
+  versions_more place [] v =
+      append-nil (version_line place v) ∙ ap (λ n. version_line n v) (sym (add-zero place))
+  versions_more place (w ∷ ws) v =
+      let same : place + 1 + length ws ≡ place + suc (length ws) = omega arith in
+      ap (λ t. version_line place w ++ t) (versions_more (place + 1) ws v)
+      ∙ (sym (append_assoc (version_line place w) (lines_from off (place + 1) ws) (version_line (place + 1 + length ws) v))
+      ∙ ap (λ n. (version_line place w ++ lines_from off (place + 1) ws) ++ version_line n v) same)
 
--- its line comes to the lines
-pub version_told : (vs : List TextMap) (k : ℕ) (v : TextMap) (old new : List ℕ) → k < length vs → get_or vs k v ≡ v
-    → old ≡ lines_from 1 (take k vs) → new ≡ old ++ line (decimal (k + 1) ∷ codes " " ∷ key_text v ∷ [])
-    → new ≡ lines_from 1 (take (k + 1) vs)
-unfolding version_line
-version_told vs k v old new within at o n =
-    let place : 1 + length (take k vs) ≡ k + 1 = omega (arith, length-take-le k vs) in
-    n ∙ (ap (λ t. t ++ version_line (k + 1) v) o
-    ∙ (ap (λ m. lines_from 1 (take k vs) ++ version_line m v) (sym place)
-    ∙ (sym (versions_more 1 (take k vs) v)
-    ∙ ap (λ ws. lines_from 1 ws) (ap (λ w. take k vs ++ w ∷ []) (sym at) ∙ sym (take_more vs k v within)))))
+  -- its line comes to the lines
+  pub version_told : (vs : List TextMap) (k : ℕ) (v : TextMap) (old new : List ℕ) → k < length vs → get_or vs k v ≡ v
+      → old ≡ lines_from off 1 (take k vs)
+      → new ≡ old ++ line (decimal (k + 1) ∷ codes " " ∷ key_text v ∷ disabled_word (off (k + 1)))
+      → new ≡ lines_from off 1 (take (k + 1) vs)
+  unfolding version_line
+  version_told vs k v old new within at o n =
+      let place : 1 + length (take k vs) ≡ k + 1 = omega (arith, length-take-le k vs) in
+      n ∙ (ap (λ t. t ++ version_line (k + 1) v) o
+      ∙ (ap (λ m. lines_from off 1 (take k vs) ++ version_line m v) (sym place)
+      ∙ (sym (versions_more 1 (take k vs) v)
+      ∙ ap (λ ws. lines_from off 1 ws) (ap (λ w. take k vs ++ w ∷ []) (sym at) ∙ sym (take_more vs k v within)))))
 
 -- ---- jobs
 named_in : (name : Text) (js : List JobData) (found : Option JobData) → job_of name js ≡ found → IsSome found

@@ -12,6 +12,8 @@ pub data CommandData : Type 0 where
   check_resource : (resource : Text) → CommandData
   pin_resource : (resource pin : Text) → CommandData
   unpin_resource : (resource : Text) → CommandData
+  disable_version : (resource : Text) (place : ℕ) → CommandData
+  enable_version : (resource : Text) (place : ℕ) → CommandData
   trigger_job : (job : Text) → CommandData
   run : (rounds : ℕ) → CommandData
   shows : (what : ShownData) → CommandData
@@ -23,6 +25,8 @@ command_data (command.CheckResource resource) = check_resource (string_bytes res
 command_data (command.ResourceVersions resource) = shows (versions (string_bytes resource))
 command_data (command.PinResource resource pin) = pin_resource (string_bytes resource) (string_bytes pin)
 command_data (command.UnpinResource resource) = unpin_resource (string_bytes resource)
+command_data (command.DisableResourceVersion resource place) = disable_version (string_bytes resource) place
+command_data (command.EnableResourceVersion resource place) = enable_version (string_bytes resource) place
 command_data (command.Resolve job) = shows (proof (string_bytes job))
 command_data (command.Problem job) = shows (problem (string_bytes job))
 command_data (command.TriggerJob job) = trigger_job (string_bytes job)
@@ -41,6 +45,8 @@ need_of (set_pipeline file) = no_need
 need_of (check_resource resource) = a_resource resource
 need_of (pin_resource resource pin) = a_resource resource
 need_of (unpin_resource resource) = a_resource resource
+need_of (disable_version resource place) = a_resource resource
+need_of (enable_version resource place) = a_resource resource
 need_of (trigger_job job) = a_job job
 need_of (run rounds) = a_pipeline
 need_of (shows what) = needs what

@@ -1,8 +1,9 @@
 -- What a command shows. Each line ends with a line feed.
-use Rattle.std.specs.Prelude.{◌≡◌, ℕ, ◌+◌, List, [], ◌∷◌, ◌++◌, flat_map, codes, decimal, IsSomeAnd, Option, unwrap_or, Result, Ok, Err, ⊤}
+use Rattle.std.specs.Prelude.{◌≡◌, ℕ, ◌+◌, List, [], ◌∷◌, ◌++◌, flat_map, codes, decimal, Bool, true, false, IsSomeAnd, Option, unwrap_or, Result, Ok, Err, ⊤}
 use Rattle.ccr_history.specs.Text.{Text}
 use Rattle.ccr_history.specs.TextMap.{TextMap, key_text}
-use Rattle.ccr_history.specs.Tables.{versions_of}
+use Rattle.ccr_history.specs.Pairs.{has_pair}
+use Rattle.ccr_history.specs.Tables.{ScopeData, versions_of, scope_number}
 use Rattle.ccr_history.specs.History.{HistoryData}
 use Rattle.ccr_pipeline.specs.Pipelines.{PipelineData}
 use Rattle.ccr_choice.specs.Preference.{order_of}
@@ -71,15 +72,28 @@ needs (trace resource pin) = a_pin resource pin
 abbrev pub builds_lines : HistoryData → Text
 builds_lines h = flat_map (λ b. build_line b.job b.number (status_word b.status)) h.builds
 
--- the key of each version after its place, which counts from the one given
-abbrev pub lines_from : ℕ → List TextMap → Text
-lines_from place [] = []
-lines_from place (v ∷ vs) = line (decimal place ∷ codes " " ∷ key_text v ∷ []) ++ lines_from (place + 1) vs
+-- the word behind the key of a version, where it is disabled
+abbrev pub disabled_word : Bool → List Text
+disabled_word true = codes " disabled" ∷ []
+disabled_word false = []
+
+-- the key of each version after its place, which counts from the one given, and a word where the test says that it is
+-- disabled
+abbrev pub lines_from : (ℕ → Bool) → ℕ → List TextMap → Text
+lines_from is_disabled place [] = []
+lines_from is_disabled place (v ∷ vs) =
+    line (decimal place ∷ codes " " ∷ key_text v ∷ disabled_word (is_disabled place))
+    ++ lines_from is_disabled (place + 1) vs
+
+-- the versions of a scope, each with its place
+abbrev pub scope_lines : ScopeData → HistoryData → Text
+scope_lines s h =
+    lines_from (λ place. has_pair (scope_number s h.tables, place) h.disabled) 1 (versions_of s h.tables)
 
 -- the versions of a resource of the pipeline
 abbrev pub IsVersionsShown : PipelineData → HistoryData → Text → Text → Type 0
 IsVersionsShown p h resource lines =
-    IsSomeAnd (resource_of resource p.resources) (λ r. lines ≡ lines_from 1 (versions_of (scope_of r) h.tables))
+    IsSomeAnd (resource_of resource p.resources) (λ r. lines ≡ scope_lines (scope_of r) h)
 
 -- the problem of a job's next build
 abbrev pub IsProblemShown : PipelineData → HistoryData → Text → Text → Type 0

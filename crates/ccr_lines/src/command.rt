@@ -13,6 +13,10 @@ pub enum Command {
     PinResource(String, String),
     /// The pin by command of the resource of this name is taken away.
     UnpinResource(String),
+    /// The version at this place, from 1 to 100,000, of the resource of this name is disabled.
+    DisableResourceVersion(String, u32),
+    /// The version at this place, from 1 to 100,000, of the resource of this name is enabled again.
+    EnableResourceVersion(String, u32),
     /// The choice for the next build of the job of this name is shown, with its proof.
     Resolve(String),
     /// The problem of the next build of the job of this name is shown.

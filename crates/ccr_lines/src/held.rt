@@ -7,7 +7,6 @@ ghost use Rattle.ccr_core.specs.Cores.{core_data};
 ghost use Rattle.ccr_core.specs.State.{no_pipeline};
 ghost use Rattle.ccr_lines.specs.Needs.{Lacks, a_pipeline, a_resource, a_job, pin_in};
 
-use crate::named::{job_named, resource_named};
 use ccr_core::{Core, CoreFault};
 use ccr_history::{HistoryFault, Pin};
 use ccr_pipeline::{Pipeline, Resource};
@@ -34,7 +33,7 @@ pub fn resource_held<'c>(core: &'c Core, name: &str) -> Result<&'c Resource, Cor
     let Some(pipeline) = core.pipeline() else {
         return Err(CoreFault::NoPipeline);
     };
-    match resource_named(pipeline.resources(), name) {
+    match pipeline.resource(name) {
         Some(resource) => Ok(resource),
         None => Err(CoreFault::NoResource),
     }
@@ -49,7 +48,7 @@ pub(crate) fn pipeline_with_job<'c>(core: &'c Core, name: &str) -> Result<&'c Pi
     let Some(pipeline) = core.pipeline() else {
         return Err(CoreFault::NoPipeline);
     };
-    match job_named(pipeline.jobs(), name) {
+    match pipeline.job(name) {
         Some(_) => Ok(pipeline),
         None => Err(CoreFault::NoJob),
     }

@@ -12,7 +12,6 @@ ghost use Rattle.ccr_lines.specs.Releases.{key_at, resource_at, place_line, took
 ghost use Rattle.ccr_lines.specs.Shown.{needs, IsMade, IsUnshown};
 ghost use Rattle.ccr_lines.specs.Shown as spec;
 
-use crate::named::job_named;
 use crate::shown::ShowFault;
 use crate::shows::push_build;
 use ccr_core::{Core, CoreFault};
@@ -280,7 +279,7 @@ fn inputs_in_plan(alloc: Global, pipeline: &Pipeline, job: &str) -> Result<Vec<I
     ensures { IfOk result (λ inputs.
         map input_data inputs.items ≡ inputs_in_plan (pipeline_data pipeline.now) job.now) }
 {
-    match job_named(pipeline.jobs(), job) {
+    match pipeline.job(job) {
         Some(job) => inputs_of(alloc, job),
         None => Ok(Vec::new(alloc)),
     }

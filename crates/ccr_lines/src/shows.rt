@@ -1,12 +1,11 @@
 //! What commands show.
 ghost use Rattle.std.specs.Prelude.{◌≡◌, ◌++◌, ◌∷◌, [], flat_map, codes, decimal, string_bytes, IfOk, IfErr, OnOk, OnErr};
-ghost use Rattle.ccr_history.specs.Tables.{versions_of};
 ghost use Rattle.ccr_history.specs.TextMap.{key_text};
 ghost use Rattle.ccr_pipeline.specs.JobData.{resource_data};
 ghost use Rattle.ccr_problem.specs.ProblemOf.{scope_of};
 ghost use Rattle.ccr_core.specs.Cores.{core_data};
 ghost use Rattle.ccr_lines.specs.Lines.{line, build_line, status_word};
-ghost use Rattle.ccr_lines.specs.Shown.{shown_data, builds_lines, lines_from, needs, IsMade, IsUnshown, Showing};
+ghost use Rattle.ccr_lines.specs.Shown.{shown_data, builds_lines, disabled_word, scope_lines, needs, IsMade, IsUnshown, Showing};
 ghost use Rattle.ccr_lines.specs.Shown as spec;
 
 use crate::certificate::certificate_made;
@@ -19,9 +18,8 @@ use crate::standing::{jobs_made, resources_made};
 use crate::tell::word_of;
 use crate::trace::trace_made;
 use ccr_core::Core;
-use ccr_history::{BuildRef, History, Version};
+use ccr_history::{BuildRef, History, Scope, Version};
 use ccr_pipeline::Resource;
-use ccr_problem::scope_of;
 use itoa::Buffer;
 use std::alloc::{AllocError, Global};
 
@@ -68,38 +66,44 @@ fn builds_made(alloc: Global, core: &Core) -> Result<(u8, Vec<u8>), ShowFault>
 fn push_version(
     alloc: Global,
     text: &mut String,
-    place: usize,
+    place: u32,
     version: &Version,
+    is_disabled: bool,
 ) -> Result<(), AllocError>
     ensures { OnOk result (string_bytes text.new ≡ string_bytes text.old
-        ++ line (decimal place ∷ codes " " ∷ key_text version.now ∷ [])) }
+        ++ line (decimal place ∷ codes " " ∷ key_text version.now ∷ disabled_word is_disabled)) }
 {
     let mut buffer = Buffer::new();
     let key = version.key(alloc)?;
     text.push_str(buffer.format(place))?;
     text.push_str(" ")?;
     text.push_str(key.as_str())?;
+    if is_disabled {
+        text.push_str(" disabled")?;
+    }
     text.push_str("\n")
 }
 
-/// The lines of versions, whose places count from 1.
-fn versions_text(alloc: Global, versions: &[Version]) -> Result<String, AllocError>
-    ensures { IfOk result (λ text. string_bytes text ≡ lines_from 1 versions.now) }
+/// The lines of a scope's versions, each with its place.
+fn versions_text(alloc: Global, history: &History, scope: &Scope) -> Result<String, AllocError>
+    ensures { IfOk result (λ text. string_bytes text ≡ scope_lines scope.now history.now) }
 {
+    // A scope has few versions.
+    history.rules();
+    let number = history.scope_number(scope);
     let mut text = String::new(alloc);
-    for (k, version) in versions.iter().enumerate() {
-        push_version(alloc, &mut text, k + 1, version)?;
+    for (k, version) in history.versions(scope).iter().enumerate() {
+        let place = k as u32 + 1;
+        push_version(alloc, &mut text, place, version, history.is_disabled(number, place))?;
     }
     Ok(text)
 }
 
 /// The versions of a resource's scope, each with its place.
 fn table_text(alloc: Global, history: &History, resource: &Resource) -> Result<String, AllocError>
-    ensures { IfOk result (λ text. string_bytes text
-        ≡ lines_from 1 (versions_of (scope_of (resource_data resource.now)) history.now.tables)) }
+    ensures { IfOk result (λ text. string_bytes text ≡ scope_lines (scope_of (resource_data resource.now)) history.now) }
 {
-    let scope = scope_of(alloc, resource)?;
-    versions_text(alloc, history.versions(&scope))
+    versions_text(alloc, history, resource.scope())
 }
 
 /// What is shown of the versions of the resource of this name.

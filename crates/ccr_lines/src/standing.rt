@@ -14,7 +14,6 @@ use crate::tell::word_of;
 use ccr_core::Core;
 use ccr_history::{History, Pin};
 use ccr_pipeline::{Job, Pipeline, Resource};
-use ccr_problem::scope_of;
 use itoa::Buffer;
 use std::alloc::{AllocError, Global};
 
@@ -47,13 +46,12 @@ fn push_resource(
     ensures { OnOk result (string_bytes text.new ≡ string_bytes text.old
         ++ resource_line history.now (resource_data resource.now)) }
 {
-    let scope = scope_of(alloc, resource)?;
     let mut buffer = Buffer::new();
     text.push_str(resource.name.as_str())?;
     text.push_str(" ")?;
     text.push_str(resource.kind.as_str())?;
     text.push_str(" ")?;
-    text.push_str(buffer.format(history.versions(&scope).len()))?;
+    text.push_str(buffer.format(history.versions(resource.scope()).len()))?;
     text.push_str(" versions")?;
     push_pin(
         alloc,

@@ -23,7 +23,7 @@ use crate::server::Server;
 use ccr_core::{Core, CoreFault, Event, Reply};
 use ccr_history::History;
 use ccr_lines::{
-    Lines, resource_named, tell_cause, tell_full, tell_job, tell_new, tell_refused_job,
+    Lines, tell_cause, tell_full, tell_job, tell_new, tell_refused_job,
 };
 use ccr_process::Runner;
 use ccr_storage::Storage;
@@ -85,7 +85,7 @@ fn find_named<R: Runner, S: Shelf>(
         (S.calls shelf.old) (S.calls shelf.new) lost) }
 {
     let pipeline = core.pipeline().unwrap();
-    let resource = resource_named(pipeline.resources(), name).unwrap();
+    let resource = pipeline.resource(name).unwrap();
     find(alloc, runner, shelf, places, resource, core.history())
 }
 
