@@ -5,7 +5,7 @@ use Rattle.clap.specs.declared.builder.command.Command.TheViews.{out-Command}
 use Rattle.clap.specs.declared.builder.value_parser.ValueParser.TheVariants.{Signed}
 use Rattle.clap.specs.Words.{App, Rule, Shape, Text, new_rule, shape_of, with_subcommand}
 use Rattle.clap.specs.Simple.{new_shape}
-use Rattle.ccr_command.specs.Numbers.{MOST}
+use Rattle.ccr_command.specs.Numbers.{MOST, MOST_PLACE}
 
 -- ---- arguments
 -- one that has to be there, without a name before it
@@ -28,6 +28,10 @@ optional_rule id default = record (option_rule id) { defaults = default ∷ [] }
 abbrev pub as_number : Rule → Rule
 as_number a = record a { parser = Some (Signed (pos 1) (pos MOST)) }
 
+-- the same, which is a number from 1 to the highest place
+abbrev pub as_place : Rule → Rule
+as_place a = record a { parser = Some (Signed (pos 1) (pos MOST_PLACE)) }
+
 -- ---- commands
 -- a command with these arguments
 abbrev pub command_shape : Text → List Rule → Shape
@@ -45,6 +49,10 @@ resource_commands =
     ∷ command_shape (codes "resource-versions") (value_rule (codes "NAME") ∷ [])
     ∷ command_shape (codes "pin-resource") (value_rule (codes "NAME") ∷ value_rule (codes "JSON") ∷ [])
     ∷ command_shape (codes "unpin-resource") (value_rule (codes "NAME") ∷ [])
+    ∷ command_shape (codes "disable-resource-version")
+    (value_rule (codes "NAME") ∷ as_place (value_rule (codes "PLACE")) ∷ [])
+    ∷ command_shape (codes "enable-resource-version")
+    (value_rule (codes "NAME") ∷ as_place (value_rule (codes "PLACE")) ∷ [])
     ∷ []
 
 -- the commands for jobs and builds

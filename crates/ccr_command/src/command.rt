@@ -1,10 +1,10 @@
 //! The command that a command line names.
 ghost use Rattle.std.specs.Prelude.{◌≡◌, Some, IfOk, codes, option_map, string_bytes};
 ghost use Rattle.clap.specs.Words.{first_of, found_of, rows_of};
-ghost use Rattle.ccr_lines.specs.Commands.{command_data};
-ghost use Rattle.ccr_command.specs.Commands.{pin_named, run_named, build_named, trace_named, command_named, command_in};
+ghost use Rattle.ccr_lines.specs.Commands.{command_data, disable_version, enable_version};
+ghost use Rattle.ccr_command.specs.Commands.{pin_named, place_named, run_named, build_named, trace_named, command_named, command_in};
 
-use crate::number::number_of;
+use crate::number::{number_of, place_of};
 use ccr_lines::Command;
 use clap::ArgMatches;
 use std::alloc::{AllocError, Global};
@@ -29,6 +29,56 @@ fn pin_of(alloc: Global, values: &ArgMatches<'_>) -> Result<Option<Command>, All
     let pin = value_of(alloc, values, "JSON")?;
     match (resource, pin) {
         (Some(resource), Some(pin)) => Ok(Some(Command::PinResource(resource, pin))),
+        _ => Ok(None),
+    }
+}
+
+/// The command that disables a version at a place as it was typed; None where the place is out of its range.
+fn disabled(resource: String, place: &str) -> Option<Command>
+    ensures { option_map command_data result
+        ≡ place_named disable_version (Some (string_bytes resource)) (Some place.now) }
+{
+    match place_of(place) {
+        Some(place) => Some(Command::DisableResourceVersion(resource, place)),
+        None => None,
+    }
+}
+
+/// The command that disables the version of these values; None where one is absent or out of its range.
+fn disable_of(alloc: Global, values: &ArgMatches<'_>) -> Result<Option<Command>, AllocError>
+    ensures { IfOk result (λ command. option_map command_data command
+        ≡ place_named disable_version (first_of (codes "NAME") (rows_of (found_of values.now)))
+        (first_of (codes "PLACE") (rows_of (found_of values.now)))) }
+{
+    let resource = value_of(alloc, values, "NAME")?;
+    let place = value_of(alloc, values, "PLACE")?;
+    match (resource, place) {
+        (Some(resource), Some(place)) => Ok(disabled(resource, place.as_str())),
+        _ => Ok(None),
+    }
+}
+
+/// The command that enables a version at a place as it was typed; None where the place is out of its range.
+fn enabled(resource: String, place: &str) -> Option<Command>
+    ensures { option_map command_data result
+        ≡ place_named enable_version (Some (string_bytes resource)) (Some place.now) }
+{
+    match place_of(place) {
+        Some(place) => Some(Command::EnableResourceVersion(resource, place)),
+        None => None,
+    }
+}
+
+/// The command that enables the version of these values; None where one is absent or out of its range.
+fn enable_of(alloc: Global, values: &ArgMatches<'_>) -> Result<Option<Command>, AllocError>
+    ensures { IfOk result (λ command. option_map command_data command
+        ≡ place_named enable_version (first_of (codes "NAME") (rows_of (found_of values.now)))
+        (first_of (codes "PLACE") (rows_of (found_of values.now)))) }
+{
+    let resource = value_of(alloc, values, "NAME")?;
+    let place = value_of(alloc, values, "PLACE")?;
+    match (resource, place) {
+        (Some(resource), Some(place)) => Ok(enabled(resource, place.as_str())),
         _ => Ok(None),
     }
 }
@@ -95,6 +145,8 @@ fn named(alloc: Global, word: &str, values: &ArgMatches<'_>) -> Result<Option<Co
         "resource-versions" => Ok(value_of(alloc, values, "NAME")?.map(Command::ResourceVersions)),
         "pin-resource" => pin_of(alloc, values),
         "unpin-resource" => Ok(value_of(alloc, values, "NAME")?.map(Command::UnpinResource)),
+        "disable-resource-version" => disable_of(alloc, values),
+        "enable-resource-version" => enable_of(alloc, values),
         "resolve" => Ok(value_of(alloc, values, "JOB")?.map(Command::Resolve)),
         "problem" => Ok(value_of(alloc, values, "JOB")?.map(Command::Problem)),
         "trigger-job" => Ok(value_of(alloc, values, "JOB")?.map(Command::TriggerJob)),

@@ -29,6 +29,7 @@ mod options;
 mod reading;
 mod usage;
 mod vars;
+mod versions;
 
 pub use abort::{AbortRequest, abort_of};
 pub use command::command_of;

@@ -9,6 +9,7 @@ use crate::commands::{
     set_pipeline, trigger_job, unpin_resource,
 };
 use crate::reading::{build, certify, get_pipeline, jobs, resources, trace};
+use crate::versions::{disable_resource_version, enable_resource_version};
 use clap::Command;
 use std::alloc::{AllocError, Global};
 
@@ -82,7 +83,9 @@ fn with_resource_commands<'a>(alloc: Global, line: Command<'a>) -> Result<Comman
     let line = line.subcommand(check_resource(alloc)?)?;
     let line = line.subcommand(resource_versions(alloc)?)?;
     let line = line.subcommand(pin_resource(alloc)?)?;
-    line.subcommand(unpin_resource(alloc)?)
+    let line = line.subcommand(unpin_resource(alloc)?)?;
+    let line = line.subcommand(disable_resource_version(alloc)?)?;
+    line.subcommand(enable_resource_version(alloc)?)
 }
 
 /// The same with the commands for jobs and builds.
@@ -110,7 +113,7 @@ fn with_reading_commands<'a>(alloc: Global, line: Command<'a>) -> Result<Command
 }
 
 /// The program's command line: `ccr_run --db FILE [--types DIR] [--work DIR] [--budget N] COMMAND`, with the help of the
-/// program and of each of its seventeen commands.
+/// program and of each of its nineteen commands.
 ///
 /// The only error is that a growth of memory was refused.
 pub fn command_line<'a>(alloc: Global) -> Result<Command<'a>, AllocError>

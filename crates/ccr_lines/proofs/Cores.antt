@@ -74,6 +74,7 @@ lacks_for_pin name text p h fault.BuildsOpen lacks = lacks
 lacks_for_pin name text p h fault.NotWanted lacks = lacks
 lacks_for_pin name text p h fault.TooManyOpen lacks = lacks
 lacks_for_pin name text p h fault.TableFull lacks = lacks
+lacks_for_pin name text p h fault.NoVersion lacks = lacks
 lacks_for_pin name text p h fault.NoMemory lacks = lacks
 
 -- ---- a build

@@ -32,6 +32,6 @@ pub use printed::Printed;
 pub use shown::{ShowFault, Shown};
 pub use shows::show;
 pub use tell::{
-    pipeline_room, tell_cause, tell_disabled, tell_enabled, tell_end, tell_full, tell_job, tell_new, tell_pinned,
-    tell_pipeline, tell_refused_job, tell_unpinned,
+    pipeline_room, tell_cause, tell_disabled, tell_enabled, tell_end, tell_full, tell_job,
+    tell_new, tell_pinned, tell_pipeline, tell_refused_job, tell_unpinned,
 };

@@ -94,7 +94,13 @@ fn versions_text(alloc: Global, history: &History, scope: &Scope) -> Result<Stri
     let mut text = String::new(alloc);
     for (k, version) in history.versions(scope).iter().enumerate() {
         let place = k as u32 + 1;
-        push_version(alloc, &mut text, place, version, history.is_disabled(number, place))?;
+        push_version(
+            alloc,
+            &mut text,
+            place,
+            version,
+            history.is_disabled(number, place),
+        )?;
     }
     Ok(text)
 }

@@ -53,6 +53,14 @@ fn command_of(alloc: Global, kind: &str, words: &str) -> Result<Option<Command>,
             Command::PinResource(resource, String::from_str(alloc, pin)?)
         }
         "unpin-resource" => Command::UnpinResource(name),
+        "disable-resource-version" => {
+            let (resource, place) = split(words);
+            Command::DisableResourceVersion(String::from_str(alloc, resource)?, number_of(place))
+        }
+        "enable-resource-version" => {
+            let (resource, place) = split(words);
+            Command::EnableResourceVersion(String::from_str(alloc, resource)?, number_of(place))
+        }
         "resolve" => Command::Resolve(name),
         "problem" => Command::Problem(name),
         "certify" => Command::Certify(name),

@@ -17,6 +17,7 @@ mod Triggering
 mod Standing
 mod Refusing
 mod Told
+mod Switched
 mod CheckStatus
 mod Shows
 mod Ranks

@@ -71,6 +71,7 @@ lacks places c f v l ready lines is = by f is where
   by core_fault.NotWanted h = absurd h
   by core_fault.TooManyOpen h = absurd h
   by core_fault.TableFull h = absurd h
+  by core_fault.NoVersion h = absurd h
   by core_fault.NoMemory h = absurd h
 
 -- ---- what the core refused

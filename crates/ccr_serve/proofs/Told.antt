@@ -40,20 +40,20 @@ same_reply : (e : EventData) (o : Option (EventData × Replied)) (q r : Replied)
     → q ≡ r
 same_reply e o q r is also = ap (λ p. option_map_or (λ made. made.1) p q) (sym is ∙ also)
 
-taken : (e : EventData) (r : Replied) (w u : World) (d : Done) → Tells e w d u → d.event ≡ Some (e, r)
+pub taken : (e : EventData) (r : Replied) (w u : World) (d : Done) → Tells e w d u → d.event ≡ Some (e, r)
     → Step w.core e r u.core
 taken e r w u d tells made =
     subst (λ q. Step w.core e q u.core) (same_reply e d.event tells.makes.reply r tells.makes.event made)
     tells.makes.step
 
 -- the lines are those of the event in each state after it
-told_lines : (e : EventData) (r : Replied) (a : State) (words old l m : Text) → l ≡ old → m ≡ l ++ words
+pub told_lines : (e : EventData) (r : Replied) (a : State) (words old l m : Text) → l ≡ old → m ≡ l ++ words
     → words ≡ lines_of e r a.history → m ≡ old ++ lines_of e r a.history
 told_lines e r a words old l m same told are =
     told ∙ (ap (λ ls. ls ++ words) same ∙ ap (λ ls. old ++ ls) are)
 
 -- an event is another's equal, and so is its reply
-made_so : (d e : EventData) (q r : Replied) (v n : View) → d ≡ e → q ≡ r → Made d q (printed v []) n
+pub made_so : (d e : EventData) (q r : Replied) (v n : View) → d ≡ e → q ≡ r → Made d q (printed v []) n
     → Made e r (printed v []) n
 made_so d e q r v n same is made =
     subst (λ x. Made x r (printed v []) n) same (subst (λ y. Made d y (printed v []) n) is made)

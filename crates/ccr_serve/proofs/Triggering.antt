@@ -73,6 +73,7 @@ refused_so job core_fault.BuildsOpen s before after same first = absurd first.0
 refused_so job core_fault.NotWanted s before after same first = absurd first.0
 refused_so job core_fault.TooManyOpen s before after same first = (first, same)
 refused_so job core_fault.TableFull s before after same first = (first, same)
+refused_so job core_fault.NoVersion s before after same first = absurd first.0
 refused_so job core_fault.NoMemory s before after same first = absurd first.0
 
 -- the core refused to trigger a job

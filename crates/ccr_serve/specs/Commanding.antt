@@ -17,7 +17,7 @@ use Rattle.ccr_task.specs.Calls.{CallData}
 use Rattle.ccr_task.specs.Calls as shelf
 use Rattle.ccr_task.specs.declared.fault.ShelfFault.{ShelfFault}
 use Rattle.ccr_task.specs.declared.fault.ShelfFault.TheVariants as shelf_fault
-use Rattle.ccr_core.specs.declared.fault.CoreFault.TheVariants.{NoPipeline, NoJob, NoResource, NoBuild, BuildsOpen, TooManyOpen, TableFull}
+use Rattle.ccr_core.specs.declared.fault.CoreFault.TheVariants.{NoPipeline, NoJob, NoResource, NoBuild, BuildsOpen, TooManyOpen, TableFull, NoVersion}
 use Rattle.ccr_core.specs.declared.reply.Reply.{Reply}
 use Rattle.ccr_core.specs.declared.reply.Reply.TheVariants.{New, Made, OverBudget}
 use Rattle.ccr_core.specs.Events as event
@@ -28,7 +28,7 @@ use Rattle.ccr_lines.specs.Needs.{pin_in, IsMet, Lacks, LacksPin}
 use Rattle.ccr_lines.specs.Shown.{needs}
 use Rattle.ccr_serve.specs.declared.fault.ServeFault.{ServeFault}
 use Rattle.ccr_serve.specs.declared.fault.ServeFault.TheVariants.{Core, Store, Read, File, BadPin, NoMemory, TurnsUsedUp}
-use Rattle.ccr_lines.specs.Commands.{CommandData, set_pipeline, check_resource, pin_resource, unpin_resource, trigger_job, run, shows, need_of}
+use Rattle.ccr_lines.specs.Commands.{CommandData, set_pipeline, check_resource, pin_resource, unpin_resource, disable_version, enable_version, trigger_job, run, shows, need_of}
 use Rattle.ccr_serve.specs.Items.{World, check, tell, show, Done, Each, Part, Items, Then}
 use Rattle.ccr_serve.specs.Runs.{Rounds, UsedUp, Run, TriggerAndRun}
 use Rattle.ccr_serve.specs.Serving.{Serves}
@@ -54,6 +54,8 @@ IsFit (set_pipeline file) s = ⊤
 IsFit (check_resource resource) s = HasResource s resource
 IsFit (pin_resource resource pin) s = HasResource s resource × IsSome (pin_in pin)
 IsFit (unpin_resource resource) s = HasResource s resource
+IsFit (disable_version resource place) s = HasResource s resource
+IsFit (enable_version resource place) s = HasResource s resource
 IsFit (trigger_job job) s = HasJob s job
 IsFit (run rounds) s = IsSome s.pipeline
 IsFit (shows what) s = IsMet (needs what) s.pipeline s.history
@@ -119,6 +121,10 @@ Consists places (check_resource resource) status =
 Consists places (pin_resource resource pin) status = Such (λ old ds new. status ≡ 0) (Pins places resource pin)
 Consists places (unpin_resource resource) status =
     Such (λ old ds new. status ≡ 0) (Items (Serves places) (tell (event.unpin resource) ∷ []))
+Consists places (disable_version resource place) status =
+    Such (λ old ds new. status ≡ 0) (Items (Serves places) (tell (event.disable resource place) ∷ []))
+Consists places (enable_version resource place) status =
+    Such (λ old ds new. status ≡ 0) (Items (Serves places) (tell (event.enable resource place) ∷ []))
 Consists places (trigger_job job) status =
     Such (λ old ds new. (r : Reply) × IsFirstReply ds r × (status ≡ trigger_status job r new.core.history))
     (TriggerAndRun places job)
@@ -168,6 +174,10 @@ IsRefused (trigger_job job) (Core TooManyOpen) s before after =
     IsFirstFault s (event.trigger job) TooManyOpen × (after ≡ before)
 IsRefused (trigger_job job) (Core TableFull) s before after =
     IsFirstFault s (event.trigger job) TableFull × (after ≡ before)
+IsRefused (disable_version resource place) (Core NoVersion) s before after =
+    IsFirstFault s (event.disable resource place) NoVersion × (after ≡ before)
+IsRefused (enable_version resource place) (Core NoVersion) s before after =
+    IsFirstFault s (event.enable resource place) NoVersion × (after ≡ before)
 IsRefused (set_pipeline file) (Read f) s before after = IsReadFault file f before after
 IsRefused (set_pipeline file) File s before after = IsRead file (Err shelf_fault.Failed) before after
 IsRefused (pin_resource resource pin) BadPin s before after =

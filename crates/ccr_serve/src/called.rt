@@ -55,6 +55,12 @@ impl<R: Runner, S: Shelf, T: Storage> Server<R, S, T> {
                 self.pin_resource(resource.as_str(), pin.as_str(), out)
             }
             Command::UnpinResource(resource) => self.unpin_resource(resource.as_str(), out),
+            Command::DisableResourceVersion(resource, place) => {
+                self.disable_version(resource.as_str(), *place, out)
+            }
+            Command::EnableResourceVersion(resource, place) => {
+                self.enable_version(resource.as_str(), *place, out)
+            }
             Command::Resolve(job) => self.show(Shown::Proof(job.as_str()), out),
             Command::Problem(job) => self.show(Shown::Problem(job.as_str()), out),
             Command::Certify(job) => self.show(Shown::Certificate(job.as_str()), out),

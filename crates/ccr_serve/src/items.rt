@@ -22,9 +22,7 @@ use crate::found::{Found, find};
 use crate::server::Server;
 use ccr_core::{Core, CoreFault, Event, Reply};
 use ccr_history::History;
-use ccr_lines::{
-    Lines, tell_cause, tell_full, tell_job, tell_new, tell_refused_job,
-};
+use ccr_lines::{Lines, tell_cause, tell_full, tell_job, tell_new, tell_refused_job};
 use ccr_process::Runner;
 use ccr_storage::Storage;
 use ccr_task::{Places, Shelf};
@@ -109,6 +107,8 @@ fn tell_checked<O: Lines>(out: &mut O, resource: &str, replied: &Result<Reply, C
             | Reply::Ends(_)
             | Reply::Pinned
             | Reply::Unpinned
+            | Reply::Disabled
+            | Reply::Enabled
             | Reply::Restarted,
         )
         | Err(
@@ -119,6 +119,7 @@ fn tell_checked<O: Lines>(out: &mut O, resource: &str, replied: &Result<Reply, C
             | CoreFault::BuildsOpen
             | CoreFault::NotWanted
             | CoreFault::TooManyOpen
+            | CoreFault::NoVersion
             | CoreFault::NoMemory,
         ) => {}
     }

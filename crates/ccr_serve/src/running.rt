@@ -48,6 +48,8 @@ fn status_of_reply(job: &str, reply: Reply, history: &History) -> u8
         | Reply::Ends(_)
         | Reply::Pinned
         | Reply::Unpinned
+        | Reply::Disabled
+        | Reply::Enabled
         | Reply::Restarted => 1,
     }
 }
