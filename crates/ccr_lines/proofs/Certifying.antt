@@ -1,5 +1,5 @@
 -- What is shown for the checker, the checker accepts.
-use Rattle.std.proofs.Common.{◌≡◌, ◌++◌, ℕ, List, refl, ◌∙◌, ap}
+use Rattle.std.proofs.Common.{◌≡◌, ◌++◌, refl, ◌∙◌, ap}
 use Rattle.ccr_history.specs.Text.{Text}
 use Rattle.ccr_choice.specs.Preference.{order_of}
 use Rattle.ccr_choice.specs.Problem.{ProblemValue, IsProblem}

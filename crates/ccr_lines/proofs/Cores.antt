@@ -1,81 +1,29 @@
 -- What is shown of what a core holds.
-use Rattle.std.proofs.Common.{◌≡◌, ◌+◌, ◌++◌, ◌∷◌, [], ℕ, List, take, drop, slice_get, Option, Some, None, unwrap_or, refl, sym, ◌∙◌, ap, subst}
-use Rattle.std.specs.Prelude.{IsSome, IsSomeAnd, IfSome}
-use Rattle.std.proofs.lemmas.Bool.{false≢true}
+use Rattle.std.proofs.Common.{◌≡◌, ◌+◌, ◌++◌, ◌∷◌, List, ℕ, take, drop, map, flat_map, slice_get, Result, Option, Some, unwrap_or, refl, sym, ◌∙◌, ap, subst}
+use Rattle.std.specs.Prelude.{IsSome, IfOk}
 use Rattle.std.proofs.lemmas.List.{take-append-drop}
+use Rattle.std.proofs.lemmas.List.Folds.{flat_map-map}
+use Rattle.std.specs.declared.alloc.AllocError.{AllocError}
 use Rattle.ccr_history.specs.Text.{Text}
-use Rattle.ccr_history.specs.TextMap.{TextMap}
 use Rattle.ccr_history.specs.Builds.{BuildData, build_of}
 use Rattle.ccr_history.specs.History.{HistoryData}
-use Rattle.ccr_pipeline.specs.JobData.{ResourceData, JobData}
+use Rattle.ccr_pipeline.specs.JobData.{resource_data, JobData}
 use Rattle.ccr_pipeline.specs.Pipelines.{PipelineData}
-use Rattle.ccr_problem.specs.ProblemOf.{resource_of, job_of, scope_of}
+use Rattle.ccr_pipeline.specs.declared.resource.Resource.{Resource}
 use Rattle.ccr_core.specs.Holding.{CoreData}
 use Rattle.ccr_core.specs.State.{no_pipeline}
-use Rattle.ccr_core.specs.declared.fault.CoreFault.{CoreFault}
-use Rattle.ccr_core.specs.declared.fault.CoreFault.TheVariants as fault
-use Rattle.ccr_lines.specs.Needs.{a_resource, a_pin, pin_in, Lacks}
-use Rattle.ccr_lines.specs.Releases.{AreMadeBefore, release_lines}
-use Rattle.ccr_lines.specs.Traces.{trace_lines}
+use Rattle.ccr_lines.specs.Outlooks.{HasOutlook}
+use Rattle.ccr_lines.specs.Releases.{release_lines}
+use Rattle.ccr_lines.specs.Shown.{build, resources, IsMade}
+use Rattle.ccr_lines.specs.Standing.{resource_line, resources_lines}
+use Rattle.ccr_lines.specs.declared.outlook.Outlook.{Outlook}
 use Rattle.ccr_lines.proofs.Showing.{drop_there}
-use Rattle.ccr_lines.specs.Shown.{ShownData, builds, versions, build, trace, builds_lines, scope_lines, IsShown, IsMade}
 
-abbrev pipeline_held : CoreData → PipelineData
-pipeline_held c = unwrap_or c.pipeline no_pipeline
-
--- of a core with this pipeline and this history
-module _ (c : CoreData) (p : PipelineData) (h : HistoryData) (set : c.pipeline ≡ Some p) (held : h ≡ c.history) where
-  is_held : p ≡ pipeline_held c
-  is_held = sym (ap (λ o. unwrap_or o no_pipeline) set)
-
-  pub is_set : IsSome c.pipeline
-  is_set = subst (λ o. IsSome o) (sym set) refl
-
-  pub has_job : (job : Text) → IsSome (job_of job p.jobs) → IsSome (job_of job (pipeline_held c).jobs)
-  has_job job there = subst (λ q. IsSome (job_of job q.jobs)) is_held there
-
-  pub shown_in : (what : ShownData) (b status : ℕ) (lines : Text) → b ≡ c.budget → IsShown what p h b status lines
-      → IsShown what (pipeline_held c) c.history c.budget status lines
-  shown_in what b status lines budget is =
-      subst (λ n. IsShown what (pipeline_held c) c.history n status lines) budget
-      (subst (λ q. IsShown what q c.history b status lines) is_held
-      (subst (λ x. IsShown what p x b status lines) held is))
-
--- the versions of a resource that is there
-pub versions_made : (c : CoreData) (name : Text) (r : ResourceData) (h : HistoryData) (lines : Text)
-    → resource_of name (pipeline_held c).resources ≡ Some r → h ≡ c.history
-    → lines ≡ scope_lines (scope_of r) h → IsMade (versions name) c 0 lines
-versions_made c name r h lines there held told = (
-  subst (λ o. IsSome o) (sym there) refl,
-  refl,
-  subst (λ o. IsSomeAnd o (λ x. lines ≡ scope_lines (scope_of x) c.history)) (sym there)
-      (told ∙ ap (λ x. scope_lines (scope_of r) x) held),
-)
-
--- the builds of a version, of a resource that is there, that meets the pin of a text
-pub trace_made : (c : CoreData) (name text : Text) (r : ResourceData) (pin : TextMap) (h : HistoryData) (lines : Text)
-    → resource_of name (pipeline_held c).resources ≡ Some r → Some pin ≡ pin_in text → h ≡ c.history
-    → lines ≡ trace_lines h name pin → IsMade (trace name text) c 0 lines
-trace_made c name text r pin h lines there spelled held told = (
-  (subst (λ o. IsSome o) (sym there) refl, subst (λ o. IsSome o) spelled refl),
-  refl,
-  subst (λ o. IsSomeAnd o (λ p. lines ≡ trace_lines c.history name p)) spelled
-      (told ∙ ap (λ x. trace_lines x name pin) held),
-)
-
--- a resource is lacking, for its pin too
-pub lacks_for_pin : (name text : Text) (p : Option PipelineData) (h : HistoryData) (f : CoreFault)
-    → Lacks (a_resource name) p h f → Lacks (a_pin name text) p h f
-lacks_for_pin name text p h fault.NoPipeline lacks = lacks
-lacks_for_pin name text p h fault.NoResource lacks = lacks
-lacks_for_pin name text p h fault.NoJob lacks = lacks
-lacks_for_pin name text p h fault.NoBuild lacks = lacks
-lacks_for_pin name text p h fault.BuildsOpen lacks = lacks
-lacks_for_pin name text p h fault.NotWanted lacks = lacks
-lacks_for_pin name text p h fault.TooManyOpen lacks = lacks
-lacks_for_pin name text p h fault.TableFull lacks = lacks
-lacks_for_pin name text p h fault.NoVersion lacks = lacks
-lacks_for_pin name text p h fault.NoMemory lacks = lacks
+-- the outlook by a history and a budget is that by those that are the same
+pub outlook_of_same : (p : PipelineData) (h : HistoryData) (b : ℕ) (j : JobData) (g : HistoryData) (n : ℕ)
+    (r : Result Outlook AllocError) → g ≡ h → n ≡ b → IfOk r (HasOutlook p g n j) → IfOk r (HasOutlook p h b j)
+outlook_of_same p h b j g n r same budget has =
+    subst (λ m. IfOk r (HasOutlook p h m j)) budget (subst (λ x. IfOk r (HasOutlook p x n j)) same has)
 
 -- ---- a build
 -- those in front of it were made before
@@ -84,31 +32,36 @@ made_before : (bs : List BuildData) (k : ℕ) (b : BuildData) → slice_get bs k
 made_before bs k b at =
     sym (take-append-drop k bs) ∙ ap (λ ds. take k bs ++ ds) (drop_there bs k b at)
 
-pub release_made : (c : CoreData) (job : Text) (number k : ℕ) (b : BuildData) (h : HistoryData) (lines : Text)
-    → slice_get c.history.builds k ≡ Some b → build_of job number c.history.builds ≡ Some b → h ≡ c.history
-    → lines ≡ release_lines (pipeline_held c) h.tables (take k h.builds) b → IsMade (build job number) c 0 lines
-release_made c job number k b h lines at there held told = (
-  subst (λ o. IsSome o) (sym there) refl,
-  refl,
+pub release_made : (c : CoreData) (job : Text) (number k : ℕ) (b : BuildData) (h : HistoryData) (o : Option PipelineData)
+    (lines : Text) → slice_get c.history.builds k ≡ Some b → build_of job number c.history.builds ≡ Some b
+    → h ≡ c.history → o ≡ c.pipeline
+    → lines ≡ release_lines (unwrap_or o no_pipeline) h.tables (take k h.builds) b → IsMade (build job number) c 0 lines
+release_made c job number k b h o lines at there held set told = (
+  subst (λ x. IsSome x) (sym there) refl,
   (
-    b,
+    refl,
     (
+      b,
       take k c.history.builds,
       there,
       (drop (k + 1) c.history.builds, made_before c.history.builds k b at),
-      told ∙ ap (λ x. release_lines (pipeline_held c) x.tables (take k x.builds) b) held,
+      told ∙ (ap (λ x. release_lines (unwrap_or o no_pipeline) x.tables (take k x.builds) b) held
+          ∙ ap (λ x. release_lines (unwrap_or x no_pipeline) c.history.tables (take k c.history.builds) b) set),
     ),
   ),
 )
 
--- ---- a job's index
--- a job that the pipeline has isn't lacking
-pub has_index : (o : Option PipelineData) (p : PipelineData) (job : Text) → o ≡ Some p → IsSome (job_of job p.jobs)
-    → IfSome o (λ q. job_of job q.jobs ≡ None) → ⊥
-has_index None p job set there lacks = absurd (cc)
-has_index (Some q) p job set there lacks =
-    let same : q ≡ p = cc in
-    absurd (not_both (job_of job p.jobs) there (subst (λ x. job_of job x.jobs ≡ None) same lacks)) where
-      not_both : (found : Option JobData) → IsSome found → found ≡ None → ⊥
-      not_both None some none = absurd (false≢true some)
-      not_both (Some j) some none = absurd (cc)
+-- ---- resources
+pub resources_made : (c : CoreData) (p : PipelineData) (h : HistoryData) (rs : List Resource) (lines : Text)
+    → c.pipeline ≡ Some p → h ≡ c.history → map resource_data rs ≡ p.resources
+    → lines ≡ flat_map (λ r. resource_line h (resource_data r)) rs → IsMade resources c 0 lines
+resources_made c p h rs lines set held same told = (
+  subst (λ o. IsSome o) (sym set) refl,
+  (
+    refl,
+    told
+        ∙ (sym (flat_map-map (λ r. resource_line h r) resource_data rs)
+        ∙ (ap (λ xs. flat_map (λ r. resource_line h r) xs) same
+        ∙ (ap (λ x. resources_lines p x) held ∙ ap (λ o. resources_lines (unwrap_or o no_pipeline) c.history) (sym set)))),
+  ),
+)

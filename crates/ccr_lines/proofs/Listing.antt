@@ -19,17 +19,14 @@ jobs_more : (p : PipelineData) (h : HistoryData) (budget : ℕ) (js : List JobDa
     → AreJobsShown p h budget js lines → HasOutlook p h budget j o
     → AreJobsShown p h budget (js ++ j ∷ []) (lines ++ job_state h j o)
 jobs_more p h budget [] lines j o none has =
-    (o, ([], has, refl, ap (λ t. t ++ job_state h j o) none ∙ sym (append-nil (job_state h j o))))
-jobs_more p h budget (k ∷ ks) lines j o shown has =
-    let first = job_state h k shown.0 in (
-      shown.0,
-      (
-        shown.1.0 ++ job_state h j o,
-        shown.1.1,
-        jobs_more p h budget ks shown.1.0 j o shown.1.2 has,
-        ap (λ t. t ++ job_state h j o) shown.1.3 ∙ append_assoc first shown.1.0 (job_state h j o),
-      ),
-    )
+    (o, [], has, refl, ap (λ t. t ++ job_state h j o) none ∙ sym (append-nil (job_state h j o)))
+jobs_more p h budget (k ∷ ks) lines j o shown has = (
+  shown.0,
+  shown.1 ++ job_state h j o,
+  shown.2,
+  jobs_more p h budget ks shown.1 j o shown.3 has,
+  ap (λ t. t ++ job_state h j o) shown.4 ∙ append_assoc (job_state h k shown.0) shown.1 (job_state h j o),
+)
 
 -- its line comes to the lines
 pub jobs_told : (p : PipelineData) (h : HistoryData) (budget : ℕ) (js : List Job) (k : ℕ) (j : Job) (o : Outlook)

@@ -1,5 +1,6 @@
 -- What a command shows, line by line.
-use Rattle.std.proofs.Common.{◌≡◌, ◌≤◌, ◌<◌, ◌+◌, ◌++◌, ◌∷◌, [], zero, suc, List, ℕ, length, take, drop, flat_map, codes, decimal, Option, Some, None, Bool, true, false, slice_get, get_or, refl, sym, ◌∙◌, ap, append_assoc, append-nil, add-zero, arith}
+use Rattle.std.proofs.Common.{◌≡◌, ◌<◌, ◌+◌, ◌++◌, ◌∷◌, [], zero, suc, List, ℕ, length, take, drop, flat_map, codes, decimal, Option, Some, None, Bool, true, false, ◌||◌, slice_get, get_or, refl, sym, ◌∙◌, ap, append_assoc, append-nil, add-zero, arith}
+use Rattle.std.specs.List.{list_any}
 use Rattle.std.specs.Prelude.{IsSome}
 use Rattle.std.proofs.lemmas.Bool.{false≢true}
 use Rattle.std.proofs.lemmas.List.{take_more, flat_map_more, length-take-le}
@@ -35,6 +36,20 @@ drop_there (y ∷ ys) zero x e = let one : y ≡ x = cc (e) in ap (λ z. z ∷ y
 drop_there (y ∷ ys) (suc k) x e =
     let n : suc k + 1 ≡ suc (k + 1) = omega arith in
     drop_there ys k x e ∙ ap (λ m. x ∷ drop m (y ∷ ys)) (sym n)
+
+-- one of a list that passes a test
+pub any_here : {X : Type 0} (test : X → Bool) (xs : List X) (k : ℕ) (x : X) → slice_get xs k ≡ Some x → test x ≡ true
+    → list_any test (drop k xs) ≡ list_any test xs → true ≡ list_any test xs
+any_here test xs k x at is rest =
+    sym (ap (λ b. b || list_any test (drop (k + 1) xs)) is)
+    ∙ (sym (ap (λ ys. list_any test ys) (drop_there xs k x at)) ∙ rest)
+
+-- and one that doesn't
+pub any_on : {X : Type 0} (test : X → Bool) (xs : List X) (k : ℕ) (x : X) → slice_get xs k ≡ Some x → test x ≡ false
+    → list_any test (drop k xs) ≡ list_any test xs → list_any test (drop (k + 1) xs) ≡ list_any test xs
+any_on test xs k x at is rest =
+    sym (ap (λ b. b || list_any test (drop (k + 1) xs)) is)
+    ∙ (sym (ap (λ ys. list_any test ys) (drop_there xs k x at)) ∙ rest)
 
 -- ---- versions
 -- where this test says which places are disabled

@@ -1,5 +1,5 @@
 -- What a build took and moved, and the earlier builds through which that went together.
-use Rattle.std.specs.Prelude.{◌≡◌, ℕ, List, [], ◌∷◌, ◌++◌, reverse, flat_map, Bool, ◌&&◌, ◌==◌, if◌then◌else◌, Option, Some, None, find, unwrap_or, option_map, codes, decimal}
+use Rattle.std.specs.Prelude.{◌≡◌, ℕ, List, [], ◌∷◌, ◌++◌, reverse, flat_map, Bool, ◌&&◌, ◌==◌, if◌then◌else◌, Option, Some, None, find, option_map, codes, decimal}
 use Rattle.std.specs.List.{list_any, list_all}
 use Rattle.std.specs.Option.{option_map_or}
 use Rattle.std.specs.Str.{bytes_eq}
@@ -9,7 +9,6 @@ use Rattle.ccr_history.specs.Tables.{TableData, at_place, versions_at}
 use Rattle.ccr_history.specs.Builds.{UsedData, BuildData, is_of, build_of, passed_pairs}
 use Rattle.ccr_history.specs.History.{HistoryData}
 use Rattle.ccr_pipeline.specs.Inputs.{InputData, inputs}
-use Rattle.ccr_pipeline.specs.JobData.{JobData}
 use Rattle.ccr_pipeline.specs.Names.{has_name}
 use Rattle.ccr_pipeline.specs.Pipelines.{PipelineData}
 use Rattle.ccr_problem.specs.ProblemOf.{job_of}
@@ -61,15 +60,15 @@ passed_all pairs b = list_all (λ p. list_any (is_pair p) (passed_pairs b)) pair
 abbrev pub newest_together : Text → List (ℕ × ℕ) → List BuildData → Option BuildData
 newest_together job pairs builds = find (λ b. is_of job b && passed_all pairs b) (reverse builds)
 
--- the build of a job that shows that pairs passed it together; or that there is none
-abbrev pub witness_line : Text → Option BuildData → Text
-witness_line job (Some b) = line (codes "together " ∷ job ∷ codes " " ∷ decimal b.number ∷ [])
+-- the number of the build of a job that shows that pairs passed it together; or that there is none
+abbrev pub witness_line : Text → Option ℕ → Text
+witness_line job (Some number) = line (codes "together " ∷ job ∷ codes " " ∷ decimal number ∷ [])
 witness_line job None = line (codes "no build of " ∷ job ∷ codes " moved them together" ∷ [])
 
 -- the same of pairs that have to have passed the job, with a build that was made before; nothing where there are none
 abbrev pub together_line : Text → List (ℕ × ℕ) → List BuildData → Text
 together_line job [] before = []
-together_line job (p ∷ ps) before = witness_line job (newest_together job (p ∷ ps) before)
+together_line job (p ∷ ps) before = witness_line job (option_map (λ b. b.number) (newest_together job (p ∷ ps) before))
 
 -- the inputs that a job has in a pipeline; none where it has no such job
 abbrev pub inputs_in_plan : PipelineData → Text → List InputData

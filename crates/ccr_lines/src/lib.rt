@@ -21,6 +21,7 @@ mod shown;
 mod shows;
 mod standing;
 mod tell;
+mod texts;
 mod trace;
 
 pub use cause::Cause;

@@ -1,5 +1,5 @@
 //! What the next build of a job would be.
-ghost use Rattle.std.specs.Prelude.{◌≡◌, ◌≤◌, ◌++◌, Some, map, string_bytes, IsSome, IfOk, OnOk};
+ghost use Rattle.std.specs.Prelude.{◌≡◌, ◌≤◌, ◌++◌, Some, map, codes, decimal, string_bytes, IsSome, IfOk, OnOk};
 ghost use Rattle.ccr_pipeline.specs.Inputs.{input_data};
 ghost use Rattle.ccr_pipeline.specs.JobData.{job_data};
 ghost use Rattle.ccr_pipeline.specs.Pipelines.{pipeline_data};
@@ -111,6 +111,16 @@ pub(crate) fn outlook_of(
     }
 }
 
+/// Adds that the search needs more nodes than this budget.
+fn push_budget(text: &mut String, budget: u32) -> Result<(), AllocError>
+    ensures { OnOk result (string_bytes text.new ≡ string_bytes text.old ++ (codes "over budget " ++ decimal budget)) }
+{
+    let mut buffer = Buffer::new();
+    text.push_str("over budget ")?;
+    text.push_str(buffer.format(budget))?;
+    Ok(())
+}
+
 /// Adds an outlook in words.
 pub(crate) fn push_outlook(text: &mut String, outlook: Outlook) -> Result<(), AllocError>
     ensures { OnOk result (string_bytes text.new ≡ string_bytes text.old ++ outlook_words outlook) }
@@ -120,10 +130,6 @@ pub(crate) fn push_outlook(text: &mut String, outlook: Outlook) -> Result<(), Al
         Outlook::NothingNew => text.push_str("nothing new"),
         Outlook::ByCommandOnly => text.push_str("by command only"),
         Outlook::NoneSatisfies => text.push_str("none satisfies"),
-        Outlook::OverBudget(budget) => {
-            let mut buffer = Buffer::new();
-            text.push_str("over budget ")?;
-            text.push_str(buffer.format(budget))
-        }
+        Outlook::OverBudget(budget) => push_budget(text, budget),
     }
 }

@@ -1,5 +1,5 @@
 //! What a build took and moved, and the earlier builds through which that went together.
-ghost use Rattle.std.specs.Prelude.{◌≡◌, ◌<◌, ◌≤◌, ◌++◌, ◌&&◌, [], Some, if◌then◌else◌, length, map, take, flat_map, slice_get, option_map, option_copied, unwrap_or, string_bytes, IfOk, IfErr, OnOk};
+ghost use Rattle.std.specs.Prelude.{◌≡◌, ◌<◌, ◌≤◌, ◌++◌, ◌&&◌, ◌∷◌, [], Some, if◌then◌else◌, length, map, take, flat_map, slice_get, option_map, option_copied, unwrap_or, string_bytes, IfOk, IfErr, OnOk};
 ghost use Rattle.std.specs.List.{list_any};
 ghost use Rattle.ccr_history.specs.Builds.{is_of, passed_pairs};
 ghost use Rattle.ccr_pipeline.specs.Inputs.{input_data};
@@ -8,12 +8,13 @@ ghost use Rattle.ccr_pipeline.specs.Names.{has_name};
 ghost use Rattle.ccr_pipeline.specs.Pipelines.{pipeline_data};
 ghost use Rattle.ccr_core.specs.Cores.{core_data};
 ghost use Rattle.ccr_core.specs.State.{no_pipeline};
-ghost use Rattle.ccr_lines.specs.Releases.{key_at, resource_at, place_line, took_line, moved_line, is_pair, pairs_for, pairs_naming, passed_all, newest_together, together_line, inputs_in_plan, together_lines, release_lines};
+ghost use Rattle.ccr_lines.specs.Releases.{key_at, resource_at, place_line, took_line, moved_line, is_pair, pairs_for, pairs_naming, passed_all, newest_together, witness_line, together_line, inputs_in_plan, together_lines, release_lines};
 ghost use Rattle.ccr_lines.specs.Shown.{needs, IsMade, IsUnshown};
 ghost use Rattle.ccr_lines.specs.Shown as spec;
 
 use crate::shown::ShowFault;
 use crate::shows::push_build;
+use crate::texts::push_line;
 use ccr_core::{Core, CoreFault};
 use ccr_history::{BuildRef, History, Status};
 use ccr_pipeline::{Input, Job, Pipeline, inputs_of};
@@ -32,21 +33,14 @@ pub(crate) fn resource_at(history: &History, scope: u32) -> &str
     }
 }
 
-/// Adds the key of the version at a place of the scope of this number.
-fn push_key(
-    alloc: Global,
-    text: &mut String,
-    history: &History,
-    scope: u32,
-    place: u32,
-) -> Result<(), AllocError>
-    ensures { OnOk result (string_bytes text.new ≡ string_bytes text.old ++ key_at history.now.tables scope place) }
+/// The key of the version at a place of the scope of this number.
+fn key_at(alloc: Global, history: &History, scope: u32, place: u32) -> Result<String, AllocError>
+    ensures { IfOk result (λ key. string_bytes key ≡ key_at history.now.tables scope place) }
 {
-    let Some(version) = history.version_at(scope, place) else {
-        return Ok(());
-    };
-    let key = version.key(alloc)?;
-    text.push_str(key.as_str())
+    match history.version_at(scope, place) {
+        Some(version) => version.key(alloc),
+        None => Ok(String::new(alloc)),
+    }
 }
 
 /// Adds the line of a place with its version, behind a word and a name.
@@ -63,14 +57,19 @@ fn push_place(
         ++ place_line word.now name.now history.now.tables scope place) }
 {
     let mut buffer = Buffer::new();
-    text.push_str(word)?;
-    text.push_str(" ")?;
-    text.push_str(name)?;
-    text.push_str(" ")?;
-    text.push_str(buffer.format(place))?;
-    text.push_str(" ")?;
-    push_key(alloc, text, history, scope, place)?;
-    text.push_str("\n")
+    let key = key_at(alloc, history, scope, place)?;
+    push_line(
+        text,
+        &[
+            word,
+            " ",
+            name,
+            " ",
+            buffer.format(place),
+            " ",
+            key.as_str(),
+        ],
+    )
 }
 
 /// What a build took for its input at an index, which is below the number of its inputs: the input's name, the scope and
@@ -122,6 +121,17 @@ fn push_moved(
 
 // ---- what went together
 
+/// Adds a pair, if it is to be.
+fn push_if(pairs: &mut Vec<(u32, u32)>, is: bool, pair: (u32, u32)) -> Result<(), AllocError>
+    ensures { OnOk result (pairs.new.items
+        ≡ (if is then pairs.old.items ++ pair ∷ [] else pairs.old.items)) }
+{
+    if is {
+        pairs.push(pair)?;
+    }
+    Ok(())
+}
+
 /// Adds what a build took for the input of this name.
 fn push_pairs_for(
     pairs: &mut Vec<(u32, u32)>,
@@ -132,9 +142,7 @@ fn push_pairs_for(
 {
     for k in 0..build.used_count() {
         let (name, scope, place) = used_at(build, k);
-        if input == name {
-            pairs.push((scope, place))?;
-        }
+        push_if(pairs, input == name, (scope, place))?;
     }
     Ok(())
 }
@@ -246,7 +254,21 @@ fn newest_together(history: &History, job: &str, pairs: &[(u32, u32)], before: u
     newest
 }
 
-/// Adds what a job's build shows of pairs that have to have passed the job: nothing where there are none.
+/// Adds the number of the build of a job that shows that pairs passed it together, or that there is none.
+fn push_witness(text: &mut String, job: &str, number: Option<u32>) -> Result<(), AllocError>
+    ensures { OnOk result (string_bytes text.new ≡ string_bytes text.old ++ witness_line job.now number) }
+{
+    match number {
+        Some(number) => {
+            let mut buffer = Buffer::new();
+            push_line(text, &["together ", job, " ", buffer.format(number)])
+        }
+        None => push_line(text, &["no build of ", job, " moved them together"]),
+    }
+}
+
+/// Adds which of the first builds shows that pairs, which have to have passed a job, passed it together: nothing where there
+/// are none.
 fn push_together(
     text: &mut String,
     history: &History,
@@ -261,17 +283,7 @@ fn push_together(
     if pairs.is_empty() {
         return Ok(());
     }
-    let Some(number) = newest_together(history, job, pairs, before) else {
-        text.push_str("no build of ")?;
-        text.push_str(job)?;
-        return text.push_str(" moved them together\n");
-    };
-    let mut buffer = Buffer::new();
-    text.push_str("together ")?;
-    text.push_str(job)?;
-    text.push_str(" ")?;
-    text.push_str(buffer.format(number))?;
-    text.push_str("\n")
+    push_witness(text, job, newest_together(history, job, pairs, before))
 }
 
 /// The inputs that a job has in a pipeline; none where it has no such job.
@@ -338,7 +350,8 @@ fn push_all_together(
         &inputs,
         build,
         before,
-    )
+    )?;
+    Ok(())
 }
 
 /// How a build stands, what it took, through which of the first builds that had gone together, and what it moved.

@@ -11,6 +11,7 @@ use crate::held::pipeline_held;
 use crate::outlook::{Outlook, outlook_of, push_outlook};
 use crate::shown::ShowFault;
 use crate::tell::word_of;
+use crate::texts::push_line;
 use ccr_core::Core;
 use ccr_history::{History, Pin};
 use ccr_pipeline::{Job, Pipeline, Resource};
@@ -19,21 +20,17 @@ use std::alloc::{AllocError, Global};
 
 // ---- resources
 
-/// Adds these words and a pin, if there is one.
-fn push_pin(
-    alloc: Global,
-    text: &mut String,
-    words: &str,
-    pin: Option<&Pin>,
-) -> Result<(), AllocError>
-    ensures { OnOk result (string_bytes text.new ≡ string_bytes text.old ++ pin_words words.now (option_copied pin.entry)) }
+/// These words and a pin, if there is one.
+fn pin_words(alloc: Global, words: &str, pin: Option<&Pin>) -> Result<String, AllocError>
+    ensures { IfOk result (λ text. string_bytes text ≡ pin_words words.now (option_copied pin.entry)) }
 {
-    let Some(pin) = pin else {
-        return Ok(());
-    };
-    let key = pin.text(alloc)?;
-    text.push_str(words)?;
-    text.push_str(key.as_str())
+    let mut text = String::new(alloc);
+    if let Some(pin) = pin {
+        let key = pin.text(alloc)?;
+        text.push_str(words)?;
+        text.push_str(key.as_str())?;
+    }
+    Ok(text)
 }
 
 /// Adds the line of a resource.
@@ -46,21 +43,21 @@ fn push_resource(
     ensures { OnOk result (string_bytes text.new ≡ string_bytes text.old
         ++ resource_line history.now (resource_data resource.now)) }
 {
+    let name = resource.name.as_str();
+    let by_pipeline = pin_words(alloc, " pinned by pipeline ", resource.version.as_ref())?;
+    let by_command = pin_words(alloc, " pinned ", history.pin(name))?;
     let mut buffer = Buffer::new();
-    text.push_str(resource.name.as_str())?;
-    text.push_str(" ")?;
-    text.push_str(resource.kind.as_str())?;
-    text.push_str(" ")?;
-    text.push_str(buffer.format(history.versions(resource.scope()).len()))?;
-    text.push_str(" versions")?;
-    push_pin(
-        alloc,
-        text,
-        " pinned by pipeline ",
-        resource.version.as_ref(),
-    )?;
-    push_pin(alloc, text, " pinned ", history.pin(resource.name.as_str()))?;
-    text.push_str("\n")
+    let parts = [
+        name,
+        " ",
+        resource.kind.as_str(),
+        " ",
+        buffer.format(history.versions(resource.scope()).len()),
+        " versions",
+        by_pipeline.as_str(),
+        by_command.as_str(),
+    ];
+    push_line(text, &parts)
 }
 
 /// The lines of resources.

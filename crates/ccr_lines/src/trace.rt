@@ -1,19 +1,21 @@
 //! Where a version went: the builds that took or moved it.
-ghost use Rattle.std.specs.Prelude.{◌≡◌, ◌++◌, false, string_bytes, IfOk, IfErr, OnOk};
+ghost use Rattle.std.specs.Prelude.{◌≡◌, ◌++◌, ◌∷◌, [], false, codes, decimal, string_bytes, IfOk, IfErr, OnOk};
 ghost use Rattle.std.specs.List.{list_any};
 ghost use Rattle.std.specs.Option.{option_map_or};
 ghost use Rattle.ccr_history.specs.Builds.{is_succeeded};
 ghost use Rattle.ccr_history.specs.Tables.{at_place, versions_at};
 ghost use Rattle.ccr_history.specs.TextMap.{meets};
 ghost use Rattle.ccr_core.specs.Cores.{core_data};
+ghost use Rattle.ccr_lines.specs.Lines.{line};
 ghost use Rattle.ccr_lines.specs.Shown.{needs, IsMade, IsUnshown};
 ghost use Rattle.ccr_lines.specs.Shown as spec;
-ghost use Rattle.ccr_lines.specs.Traces.{is_sought, has_taken, has_moved, trace_words, trace_line, trace_lines};
+ghost use Rattle.ccr_lines.specs.Traces.{is_sought, has_taken, took_word, moved_word, went_line, went_line_if, trace_line, trace_lines};
 
 use crate::held::{pin_of, resource_held};
 use crate::release::{resource_at, used_at};
 use crate::shown::ShowFault;
 use crate::tell::word_of;
+use crate::texts::push_line;
 use ccr_core::Core;
 use ccr_history::{BuildRef, History, Pin, Status};
 use itoa::Buffer;
@@ -76,25 +78,76 @@ fn is_succeeded(status: Status) -> bool
     }
 }
 
-/// Adds what became of a version in a build.
-fn push_words(
-    text: &mut String,
-    taken: bool,
-    moved: bool,
-    succeeded: bool,
-) -> Result<(), AllocError>
-    ensures { OnOk result (string_bytes text.new ≡ string_bytes text.old ++ trace_words taken moved succeeded) }
+/// That a version was taken.
+fn took_word(took: bool) -> &'static str
+    ensures { result.now ≡ took_word took }
 {
-    if taken {
-        text.push_str(" took")?;
-    }
+    if took { " took" } else { "" }
+}
+
+/// That a version was moved: it passed the job only if the build succeeded.
+fn moved_word(moved: bool, succeeded: bool) -> &'static str
+    ensures { result.now ≡ moved_word moved succeeded }
+{
     if !moved {
-        return Ok(());
+        return "";
     }
-    if succeeded {
-        text.push_str(" passed")
+    if succeeded { " passed" } else { " moved" }
+}
+
+/// Adds a job's build with these words.
+fn push_words<'a>(
+    text: &mut String,
+    job: &'a str,
+    number: u32,
+    status: &'a str,
+    took: &'a str,
+    moved: &'a str,
+) -> Result<(), AllocError>
+    ensures { OnOk result (string_bytes text.new ≡ string_bytes text.old
+        ++ line (job.now ∷ codes " " ∷ decimal number ∷ codes " " ∷ status.now ∷ took.now ∷ moved.now ∷ [])) }
+{
+    let mut buffer = Buffer::new();
+    push_line(
+        text,
+        &[job, " ", buffer.format(number), " ", status, took, moved],
+    )
+}
+
+/// Adds a build with what became of a version there.
+fn push_went(
+    text: &mut String,
+    build: &BuildRef<'_>,
+    took: bool,
+    moved: bool,
+) -> Result<(), AllocError>
+    ensures { OnOk result (string_bytes text.new ≡ string_bytes text.old ++ went_line build.now took moved) }
+{
+    let status = build.status();
+    let moved = moved_word(moved, is_succeeded(status));
+    push_words(
+        text,
+        build.job(),
+        build.number(),
+        word_of(status),
+        took_word(took),
+        moved,
+    )
+}
+
+/// Adds a build that took or moved a version; nothing of any other.
+fn push_went_if(
+    text: &mut String,
+    build: &BuildRef<'_>,
+    took: bool,
+    moved: bool,
+) -> Result<(), AllocError>
+    ensures { OnOk result (string_bytes text.new ≡ string_bytes text.old ++ went_line_if build.now took moved) }
+{
+    if took || moved {
+        push_went(text, build, took, moved)
     } else {
-        text.push_str(" moved")
+        Ok(())
     }
 }
 
@@ -109,19 +162,9 @@ fn push_trace(
     ensures { OnOk result (string_bytes text.new ≡ string_bytes text.old
         ++ trace_line history.now.tables resource.now pin.now build.now) }
 {
-    let taken = has_taken(history, resource, pin, build);
+    let took = has_taken(history, resource, pin, build);
     let moved = has_sought(history, resource, pin, build.moved());
-    if !taken && !moved {
-        return Ok(());
-    }
-    let mut buffer = Buffer::new();
-    text.push_str(build.job())?;
-    text.push_str(" ")?;
-    text.push_str(buffer.format(build.number()))?;
-    text.push_str(" ")?;
-    text.push_str(word_of(build.status()))?;
-    push_words(text, taken, moved, is_succeeded(build.status()))?;
-    text.push_str("\n")
+    push_went_if(text, build, took, moved)
 }
 
 /// The lines of the builds that took or moved a version of the resource that meets the pin.

@@ -6,5 +6,5 @@ use Rattle.ccr_lines.proofs.release.push_taken.Goals as goal
 pub loop-k-preserved : goal.loop-k-preserved
 loop-k-preserved c =
     lines_more (λ u. took_line c.args.history.now.tables u) c.args.build.now.used c.loop-k.k _
-    (string_bytes c.args.text.now) (string_bytes c.loop-k.text) (string_bytes c.push_place.new.text) c.used_at.ensures
+    (string_bytes c.args.text.now) (string_bytes c.loop-k.text) (string_bytes c.push_place.new.text) c.used_at-scope.ensures
     c.loop-k.invariant c.in_ok-push_place.ensures
