@@ -32,6 +32,7 @@ use std::alloc::{AllocError, Global};
 fn show_text<O: Lines>(out: &mut O, text: &str) -> Result<(), AllocError>
     ensures shown { OnOk result (O.written out.new ≡ O.written out.old ++ text.now) }
     ensures refused { OnErr result (O.written out.new ≡ O.written out.old) }
+    ensures waiting { O.waiting out.old ≡ [] → O.waiting out.new ≡ [] }
 {
     out.make_room(text.len())?;
     out.add(text.as_bytes());
@@ -90,7 +91,8 @@ fn show_each_build<O: Lines>(out: &mut O, history: &History)
 
 /// Shows how each build of a core's history stands, in order of making.
 fn show_builds<O: Lines>(out: &mut O, core: &Core) -> Result<u8, ShowFault>
-    ensures { Showing spec.builds (core_data core.now) result (O.written out.old) (O.written out.new) }
+    ensures shows { Showing spec.builds (core_data core.now) result (O.written out.old) (O.written out.new) }
+    ensures waiting { O.waiting out.old ≡ [] → O.waiting out.new ≡ [] }
 {
     let history = core.history();
     let Some(room) = builds_room(history) else {
@@ -146,6 +148,7 @@ fn show_table<O: Lines>(
     ensures shown { OnOk result (O.written out.new ≡ O.written out.old
         ++ lines_from 1 (versions_of (scope_of (resource_data resource.now)) history.now.tables)) }
     ensures refused { OnErr result (O.written out.new ≡ O.written out.old) }
+    ensures waiting { O.waiting out.old ≡ [] → O.waiting out.new ≡ [] }
 {
     let scope = scope_of(alloc, resource)?;
     let text = versions_text(alloc, history.versions(&scope))?;
@@ -159,7 +162,8 @@ fn show_versions<O: Lines>(
     core: &Core,
     name: &str,
 ) -> Result<u8, ShowFault>
-    ensures { Showing (spec.versions name.now) (core_data core.now) result (O.written out.old) (O.written out.new) }
+    ensures shows { Showing (spec.versions name.now) (core_data core.now) result (O.written out.old) (O.written out.new) }
+    ensures waiting { O.waiting out.old ≡ [] → O.waiting out.new ≡ [] }
 {
     let resource = match resource_held(core, name) {
         Ok(resource) => resource,
@@ -203,6 +207,7 @@ fn write_problem_of<O: Lines>(
         × IsProblemShown (pipeline_data pipeline.now) history.now job.now lines
         × (O.written out.new ≡ O.written out.old ++ lines)) }
     ensures refused { OnErr result (O.written out.new ≡ O.written out.old) }
+    ensures waiting { O.waiting out.old ≡ [] → O.waiting out.new ≡ [] }
 {
     let problem = problem_in(alloc, pipeline, history, job)?;
     let text = write_problem(alloc, &problem)?;
@@ -216,7 +221,8 @@ fn show_problem<O: Lines>(
     core: &Core,
     job: &str,
 ) -> Result<u8, ShowFault>
-    ensures { Showing (spec.problem job.now) (core_data core.now) result (O.written out.old) (O.written out.new) }
+    ensures shows { Showing (spec.problem job.now) (core_data core.now) result (O.written out.old) (O.written out.new) }
+    ensures waiting { O.waiting out.old ≡ [] → O.waiting out.new ≡ [] }
 {
     let pipeline = match pipeline_with_job(core, job) {
         Ok(pipeline) => pipeline,
@@ -256,6 +262,7 @@ fn write_proof_of<O: Lines>(
         × IsProofShown (pipeline_data pipeline.now) history.now budget job.now status lines
         × (O.written out.new ≡ O.written out.old ++ lines)) }
     ensures refused { OnErr result (O.written out.new ≡ O.written out.old) }
+    ensures waiting { O.waiting out.old ≡ [] → O.waiting out.new ≡ [] }
 {
     let problem = problem_in(alloc, pipeline, history, job)?;
     let index = build_index(alloc, &problem)?;
@@ -267,7 +274,8 @@ fn write_proof_of<O: Lines>(
 
 /// Shows the proof of the choice for the next build of the job of this name, or that there is none.
 fn show_proof<O: Lines>(alloc: Global, out: &mut O, core: &Core, job: &str) -> Result<u8, ShowFault>
-    ensures { Showing (spec.proof job.now) (core_data core.now) result (O.written out.old) (O.written out.new) }
+    ensures shows { Showing (spec.proof job.now) (core_data core.now) result (O.written out.old) (O.written out.new) }
+    ensures waiting { O.waiting out.old ≡ [] → O.waiting out.new ≡ [] }
 {
     // What a core keeps says that its budget is one that a search takes.
     core.rules();
@@ -292,7 +300,8 @@ pub fn show<O: Lines>(
     what: Shown<'_>,
     core: &Core,
 ) -> Result<u8, ShowFault>
-    ensures { Showing (shown_data what.entry) (core_data core.now) result (O.written out.old) (O.written out.new) }
+    ensures shows { Showing (shown_data what.entry) (core_data core.now) result (O.written out.old) (O.written out.new) }
+    ensures waiting { O.waiting out.old ≡ [] → O.waiting out.new ≡ [] }
 {
     match what {
         Shown::Builds => show_builds(out, core),

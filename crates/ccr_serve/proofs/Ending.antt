@@ -6,7 +6,7 @@ use Rattle.ccr_core.specs.State.{RunningData}
 use Rattle.ccr_history.specs.Text.{Text}
 use Rattle.ccr_steps.specs.Runs.{RunData}
 use Rattle.ccr_task.specs.Places.{PlacesData}
-use Rattle.ccr_serve.specs.Items.{World, Item, turn, Done, Each, IsCut, Part, Items, Then}
+use Rattle.ccr_serve.specs.Items.{World, turn, Done, Each, IsCut, Part, Items, Then}
 use Rattle.ccr_serve.specs.Runs.{AllMade, TurnsMade, MOST_TURNS, ToTheEnd, UsedUp, TurnsTo}
 use Rattle.ccr_serve.specs.Serving.{DoesItem, Serves}
 use Rattle.ccr_serve.specs.Views.{View, world_of, IsReady, Calls}
@@ -58,23 +58,22 @@ module _ (places : PlacesData) (makes : MakesEvents places) where
   one_turn false old runs [] new ([], rest, is, mid, e, cut) = let le : 0 ≤ 1 = omega arith in
       (0, le, mid, (e, tt), subst (λ js. IsCut (Serves places) js mid new) (sym is) cut)
   one_turn false old runs (d ∷ ds) new ([], rest, is, mid, e, cut) = absurd e
-  one_turn false old runs ds new (x ∷ [], rest, is, mid, e, cut) = let le : 1 ≤ 1 = omega arith in
-      (
-        1,
-        le,
-        mid,
-        one_made old runs ds mid (subst (λ y. Each (Serves places) (y ∷ []) old ds mid) (sym (same is)) e),
-        none_begun (subst (λ js. IsCut (Serves places) js mid new) (none is) cut),
-      ) where
-        same : turn ∷ [] ≡ x ∷ rest → turn ≡ x
-        same h = cc h
+  one_turn false old runs ds new (x ∷ [], rest, is, mid, e, cut) = let le : 1 ≤ 1 = omega arith in (
+    1,
+    le,
+    mid,
+    one_made old runs ds mid (subst (λ y. Each (Serves places) (y ∷ []) old ds mid) (sym (same is)) e),
+    none_begun (subst (λ js. IsCut (Serves places) js mid new) (none is) cut),
+  ) where
+    same : turn ∷ [] ≡ x ∷ rest → turn ≡ x
+    same h = cc h
 
-        none : turn ∷ [] ≡ x ∷ rest → rest ≡ []
-        none h = cc h
+    none : turn ∷ [] ≡ x ∷ rest → rest ≡ []
+    none h = cc h
 
-        none_begun : IsCut (Serves places) [] mid new → IsCut (Serves places) (turn ∷ []) mid new
-        none_begun (inl same) = inl same
-        none_begun (inr begun) = absurd begun
+    none_begun : IsCut (Serves places) [] mid new → IsCut (Serves places) (turn ∷ []) mid new
+    none_begun (inl same) = inl same
+    none_begun (inr begun) = absurd begun
   one_turn false old runs ds new (x ∷ y ∷ xs, rest, is, mid, e, cut) = absurd (cc is)
 
   several : (n m : ℕ) (old mid new : World) (ds es : List Done) → TurnsMade places n old ds mid

@@ -24,15 +24,14 @@ pub items_then : (S : Serve) (is js : List Item) (whole : Bool) (old : World) (d
 items_then S is js true old ds new h =
     subst (λ es. Each S (is ++ js) old es new) (sym h.joined)
     (each-append S is js old h.mid new h.front h.back h.first h.second)
-items_then S is js false old ds new (inl h) =
-    (
-      h.0,
-      h.1 ++ js,
-      ap (λ xs. xs ++ js) h.2 ∙ append_assoc h.0 h.1 js,
-      h.3,
-      h.4,
-      cut_longer S h.1 js h.3 new h.5,
-    )
+items_then S is js false old ds new (inl h) = (
+  h.0,
+  h.1 ++ js,
+  ap (λ xs. xs ++ js) h.2 ∙ append_assoc h.0 h.1 js,
+  h.3,
+  h.4,
+  cut_longer S h.1 js h.3 new h.5,
+)
 items_then S is js false old ds new (inr h) = let b = h.second in (
   is ++ b.0,
   b.1,

@@ -3,8 +3,8 @@ use Rattle.ccr_core.specs.Cores.{core_data}
 use Rattle.ccr_lines.proofs.Cores.{problem_shown}
 use Rattle.ccr_lines.proofs.shows.show_problem.Goals as goal
 
-pub returns-in-Ok-write_problem_of : goal.returns-in-Ok-write_problem_of
-returns-in-Ok-write_problem_of g c =
+pub returns-in-Ok-write_problem_of-clause-shows : goal.returns-in-Ok-write_problem_of-clause-shows
+returns-in-Ok-write_problem_of-clause-shows g c =
     problem_shown (core_data c.args.core.now) c.args.job.now (pipeline_data c.in-Ok.pipeline.now)
     c.history.result.now (g.O.Lines.written c.args.out.now) (g.O.Lines.written c.write_problem_of.new.out)
     c.in-Ok.ensures.held c.in-Ok.ensures.there c.history.ensures c.in-Ok-write_problem_of.ensures.shown

@@ -1,12 +1,11 @@
-use Rattle.std.proofs.Common.{◌≡◌, ◌∙◌, ◌++◌, [], ◌∷◌, Bool, false, Ok, Err, ap, refl}
+use Rattle.std.proofs.Common.{◌∙◌, ◌++◌, [], ◌∷◌, Bool, false, Ok, Err, ap, refl}
 use Rattle.ccr_history.specs.Text.{Text}
 use Rattle.ccr_task.specs.Calls.{has}
 use Rattle.ccr_serve.proofs.aborting.take_abort.Goals as goal
 
 pub returns-in-Ok-false-clause-asked : goal.returns-in-Ok-false-clause-asked
 returns-in-Ok-false-clause-asked g c =
-    let before = g.S.Shelf.calls c.args.shelf.now in
-    (
+    let before = g.S.Shelf.calls c.args.shelf.now in (
       Ok false,
       Ok tt,
       c.in-Ok-false.ensures.called
@@ -17,8 +16,7 @@ returns-in-Ok-false-clause-asked g c =
 
 pub returns-clause-asked : goal.returns-clause-asked
 returns-clause-asked g c =
-    let before = g.S.Shelf.calls c.args.shelf.now in
-    (
+    let before = g.S.Shelf.calls c.args.shelf.now in (
       Err c.in-Err.field-0,
       Ok tt,
       c.in-Err.ensures.called

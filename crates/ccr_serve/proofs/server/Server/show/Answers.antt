@@ -14,7 +14,7 @@ returns-in-Ok-clause-came g c =
     let view = view_of g.R.Runner.pairs g.S.Shelf.calls g.T.Storage.holds g.T.Storage.leaves g.T.Storage.tally in
     shown_so (places_data c.args.self.now.places) (shown_data c.args.what) c.in-Ok.status
     (view c.args.self.now (g.O.Lines.written c.args.out.now)) (g.O.Lines.written c.show.new.out) c.requires.ready
-    c.in-Ok.ensures
+    c.in-Ok.ensures.shows
 
 pub returns-in-Err-Lacks-clause-came : goal.returns-in-Err-Lacks-clause-came
 returns-in-Err-Lacks-clause-came g c =
@@ -22,13 +22,13 @@ returns-in-Err-Lacks-clause-came g c =
     let needed = needs (shown_data c.args.what) in
     lacks (places_data c.args.self.now.places) (shows (shown_data c.args.what)) c.in-Err-Lacks.fault
     (view c.args.self.now (g.O.Lines.written c.args.out.now)) (g.O.Lines.written c.show.new.out) c.requires.ready
-    c.in-Err-Lacks.ensures.1
+    c.in-Err-Lacks.ensures.shows.1
     (subst (λ (why : ShowFault). IsUnshown needed (core_data c.args.self.now.core).pipeline why)
-    c.in-Err-Lacks.field-0-is c.in-Err-Lacks.ensures.0)
+    c.in-Err-Lacks.field-0-is c.in-Err-Lacks.ensures.shows.0)
 
 pub returns-in-Err-NoMemory-clause-came : goal.returns-in-Err-NoMemory-clause-came
 returns-in-Err-NoMemory-clause-came g c =
     let view = view_of g.R.Runner.pairs g.S.Shelf.calls g.T.Storage.holds g.T.Storage.leaves g.T.Storage.tally in
     shown_nothing (places_data c.args.self.now.places) (shown_data c.args.what)
     (view c.args.self.now (g.O.Lines.written c.args.out.now)) (g.O.Lines.written c.show.new.out) c.requires.ready
-    c.in-Err-NoMemory.ensures.1
+    c.in-Err-NoMemory.ensures.shows.1
