@@ -165,6 +165,7 @@ fn made(alloc: Global, what: Shown<'_>, core: &Core) -> Result<(u8, Vec<u8>), Sh
 fn write<O: Lines>(out: &mut O, bytes: &[u8]) -> Result<(), AllocError>
     ensures shown { OnOk result (O.written out.new ≡ O.written out.old ++ bytes.now) }
     ensures refused { OnErr result (O.written out.new ≡ O.written out.old) }
+    ensures waiting { O.waiting out.old ≡ [] → O.waiting out.new ≡ [] }
 {
     out.make_room(bytes.len())?;
     out.add(bytes);
@@ -181,7 +182,8 @@ pub fn show<O: Lines>(
     what: Shown<'_>,
     core: &Core,
 ) -> Result<u8, ShowFault>
-    ensures { Showing (shown_data what.entry) (core_data core.now) result (O.written out.old) (O.written out.new) }
+    ensures shows { Showing (shown_data what.entry) (core_data core.now) result (O.written out.old) (O.written out.new) }
+    ensures waiting { O.waiting out.old ≡ [] → O.waiting out.new ≡ [] }
 {
     let (status, bytes) = match made(alloc, what, core) {
         Ok(made) => made,

@@ -1,10 +1,8 @@
 -- Parts of calls, one after another.
 use Rattle.std.proofs.Common.{◌≡◌, ◌++◌, ℕ, List, [], ◌∷◌, Bool, true, false, Option, None, option_to_list, refl, sym, ◌∙◌, ap, subst, append-nil, append_assoc, inl, inr}
 use Rattle.ccr_process.specs.Runs.{Pair}
-use Rattle.ccr_core.specs.Holding.{Stands}
 use Rattle.ccr_core.specs.State.{State}
 use Rattle.ccr_task.specs.Calls.{CallData}
-use Rattle.ccr_serve.specs.Crash.{LeavesAt}
 use Rattle.ccr_serve.specs.Items.{World, Item, Done, Serve, Each, Part, Items, Then, pairs_of, lines_of_all}
 use Rattle.ccr_serve.specs.Taken.{taken_in}
 use Rattle.ccr_serve.specs.Views.{View, world_of, IsReady, HasAsked, StandsAt, Called, Calls}

@@ -1,19 +1,19 @@
 -- Turns that were cut short.
-use Rattle.std.proofs.Common.{◌≡◌, ◌++◌, ℕ, List, [], ◌∷◌, Bool, true, false, Option, Some, None, unwrap_or, refl, sym, ap, subst}
+use Rattle.std.proofs.Common.{◌≡◌, ℕ, List, [], ◌∷◌, Bool, true, false, Option, Some, None, unwrap_or, refl, sym, ap, subst}
 use Rattle.ccr_history.specs.Text.{Text}
 use Rattle.ccr_process.specs.Runs.{Pair}
 use Rattle.ccr_steps.specs.Asks.{ask_data, AnswerData}
 use Rattle.ccr_task.specs.Calls.{CallData}
 use Rattle.ccr_task.specs.Places.{PlacesData, build_folder, abort_folder}
 use Rattle.ccr_core.specs.Holding.{IsAsked, Stands}
-use Rattle.ccr_core.specs.State.{RunningData, State, no_pipeline, resources_of}
+use Rattle.ccr_core.specs.State.{State, no_pipeline, resources_of}
 use Rattle.ccr_core.proofs.RunningLists.{at_id}
 use Rattle.ccr_serve.specs.Aborts.{AbortIsAsked}
 use Rattle.ccr_serve.specs.Asked.{BeginsAnswer}
 use Rattle.ccr_serve.specs.Due.{IsTurnOf, AnswersWant, BeginsWant}
 use Rattle.ccr_serve.specs.Items.{Items}
 use Rattle.ccr_serve.specs.Items as item
-use Rattle.ccr_serve.specs.Serving.{BeginsAsk, BeginsOn, BeginsTurn, BeginsBuild, Serves}
+use Rattle.ccr_serve.specs.Serving.{BeginsOn, BeginsTurn, BeginsBuild, Serves}
 use Rattle.ccr_serve.specs.Views.{View, world_of, resources_held, IsReady, Unmade, Calls}
 use Rattle.ccr_serve.specs.declared.fault.ServeFault.{ServeFault}
 use Rattle.ccr_serve.proofs.Begun.{answer_begun}

@@ -6,7 +6,7 @@ use Rattle.ccr_core.specs.State.{RunningData}
 use Rattle.ccr_history.specs.Text.{Text}
 use Rattle.ccr_steps.specs.Runs.{RunData}
 use Rattle.ccr_task.specs.Places.{PlacesData}
-use Rattle.ccr_serve.specs.Items.{World, Item, turn, Done, Each, IsCut, Part, Items, Then}
+use Rattle.ccr_serve.specs.Items.{World, turn, Done, Each, IsCut, Part, Items, Then}
 use Rattle.ccr_serve.specs.Runs.{AllMade, TurnsMade, MOST_TURNS, ToTheEnd, UsedUp, TurnsTo}
 use Rattle.ccr_serve.specs.Serving.{DoesItem, Serves}
 use Rattle.ccr_serve.specs.Views.{View, world_of, IsReady, Calls}

@@ -1,5 +1,5 @@
 -- Calls for folders that a shelf does in order, and what a build leaves.
-use Rattle.std.proofs.Common.{◌≡◌, ◌≢◌, ◌<◌, ◌+◌, ◌++◌, ℕ, suc, List, [], ◌∷◌, length, drop, get_or, map, Bool, true, false, is_ok, String, string_bytes, Result, Ok, Err, IfOk, OnErr, refl, sym, ◌∙◌, ap, subst, append_assoc, drop-cons, arith, inl, inr}
+use Rattle.std.proofs.Common.{◌≡◌, ◌≢◌, ◌<◌, ◌+◌, ◌++◌, ℕ, suc, List, [], ◌∷◌, length, drop, get_or, map, Bool, true, is_ok, String, string_bytes, Result, Ok, Err, IfOk, OnErr, refl, sym, ◌∙◌, ap, subst, append_assoc, drop-cons, arith, inl, inr}
 use Rattle.std.specs.declared.alloc.Global.{Global}
 use Rattle.ccr_history.specs.Text.{Text}
 use Rattle.ccr_steps.specs.Asks.{ask_data}
@@ -12,7 +12,7 @@ use Rattle.ccr_task.specs.Places.{PlacesData, build_folder, abort_folder}
 use Rattle.ccr_task.specs.declared.fault.ShelfFault.{ShelfFault}
 use Rattle.ccr_task.specs.declared.fault.ShelfFault.TheVariants.{Failed, TooLong, NoMemory}
 use Rattle.ccr_serve.specs.Asked.{ask_folders}
-use Rattle.ccr_serve.specs.Aborts.{look, is_asked, AbortIsAsked, Looks, Clears}
+use Rattle.ccr_serve.specs.Aborts.{is_asked, AbortIsAsked, Clears}
 
 -- the folder was made at a path that is another's equal
 pub made_at : (before after : List CallData) (r : Result Unit ShelfFault) (p q : Text)

@@ -1,5 +1,5 @@
 -- Items that were done, and items that were cut short.
-use Rattle.std.proofs.Common.{◌≡◌, ◌≤◌, ◌++◌, ◌⊎◌, ◌&&◌, List, [], ◌∷◌, length, Bool, true, false, is_ok, Option, Some, None, option_to_list, unwrap_or, Ok, Err, refl, sym, ◌∙◌, ap, subst, append-nil, arith, inl, inr}
+use Rattle.std.proofs.Common.{◌≡◌, ◌++◌, ◌⊎◌, ◌&&◌, List, [], ◌∷◌, Bool, true, false, is_ok, Option, Some, None, option_to_list, unwrap_or, Ok, Err, refl, sym, ◌∙◌, ap, subst, append-nil, inl, inr}
 use Rattle.std.proofs.lemmas.Bool.{false≢true}
 use Rattle.std.specs.Option.{option_map_or}
 use Rattle.ccr_history.specs.Text.{Text}

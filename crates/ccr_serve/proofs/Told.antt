@@ -29,7 +29,7 @@ use Rattle.ccr_lines.specs.Commands.{set_pipeline, pin_resource, unpin_resource}
 use Rattle.ccr_serve.specs.Items.{World, tell, Done, Part, Items}
 use Rattle.ccr_serve.specs.Reads.{KeepsFromReading}
 use Rattle.ccr_serve.specs.Serving.{Tells, Serves}
-use Rattle.ccr_serve.specs.Views.{View, with_calls, resources_held, IsReady, Called, Calls, Made}
+use Rattle.ccr_serve.specs.Views.{View, with_calls, resources_held, IsReady, Calls, Made}
 use Rattle.ccr_serve.specs.declared.fault.ServeFault.{ServeFault}
 use Rattle.ccr_serve.specs.declared.fault.ServeFault.TheVariants as fault
 use Rattle.ccr_serve.proofs.Refusing.{some_if, refused_at_once, refused_after, refused_by_core}

@@ -5,7 +5,7 @@ use Rattle.ccr_history.specs.Text.{Text}
 use Rattle.ccr_pipeline.specs.JobData.{ResourceData}
 use Rattle.ccr_steps.specs.Asks.{AskData, fetch, push, read_config, run_task, AnswerData, errored}
 use Rattle.ccr_process.specs.declared.launch.Launch.{Launch}
-use Rattle.ccr_process.specs.Launches.{LaunchData, launch_data}
+use Rattle.ccr_process.specs.Launches.{launch_data}
 use Rattle.ccr_process.specs.Runs.{Pair}
 use Rattle.ccr_protocol.specs.declared.fault.RequestFault.{RequestFault}
 use Rattle.ccr_protocol.specs.declared.fault.RequestFault.TheVariants.{TooLong, NoMemory}

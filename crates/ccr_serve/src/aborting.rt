@@ -93,6 +93,7 @@ impl<R: Runner, S: Shelf, T: Storage> Server<R, S, T> {
         ensures at_most { let view = view_of R.pairs S.calls T.holds T.leaves T.tally in
             IfErr result (λ fault. CommitsOnce (Err fault) (view self.old []) (view self.new [])) }
         ensures places { self.new.places ≡ self.old.places }
+        ensures waiting { O.waiting out.old ≡ [] → O.waiting out.new ≡ [] }
     {
         match self.abort(name, due.number) {
             Ok(reply) => {

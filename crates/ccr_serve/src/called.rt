@@ -39,6 +39,7 @@ impl<R: Runner, S: Shelf, T: Storage> Server<R, S, T> {
         ensures kept { let view = view_of R.pairs S.calls T.holds T.leaves T.tally in
             Ends result (view self.new (O.written out.new)) }
         ensures places { self.new.places ≡ self.old.places }
+        ensures waiting { O.waiting out.old ≡ [] → O.waiting out.new ≡ [] }
     {
         if self.closed {
             return Err(ServeFault::Closed);
@@ -91,6 +92,7 @@ impl<R: Runner, S: Shelf, T: Storage> Server<R, S, T> {
         ensures kept { let view = view_of R.pairs S.calls T.holds T.leaves T.tally in
             EndsItems result (view self.new (O.written out.new)) }
         ensures places { self.new.places ≡ self.old.places }
+        ensures waiting { O.waiting out.old ≡ [] → O.waiting out.new ≡ [] }
     {
         if self.closed {
             return Err(ServeFault::Closed);
@@ -116,6 +118,7 @@ impl<R: Runner, S: Shelf, T: Storage> Server<R, S, T> {
         ensures kept { let view = view_of R.pairs S.calls T.holds T.leaves T.tally in
             EndsItems result (view self.new (O.written out.new)) }
         ensures places { self.new.places ≡ self.old.places }
+        ensures waiting { O.waiting out.old ≡ [] → O.waiting out.new ≡ [] }
     {
         if self.closed {
             return Err(ServeFault::Closed);

@@ -1,5 +1,5 @@
 //! Versions that are disabled and enabled.
-ghost use Rattle.std.specs.Prelude.{◌≡◌, IfErr, OnOk};
+ghost use Rattle.std.specs.Prelude.{◌≡◌, IfErr, OnOk, []};
 ghost use Rattle.ccr_task.specs.Places.{places_data};
 ghost use Rattle.ccr_serve.specs.Commanding.{CameOf};
 ghost use Rattle.ccr_lines.specs.Commands.{disable_version, enable_version};
@@ -32,6 +32,7 @@ impl<R: Runner, S: Shelf, T: Storage> Server<R, S, T> {
         ensures stops { let view = view_of R.pairs S.calls T.holds T.leaves T.tally in
             IfErr result (λ fault. Stops fault (view self.new (O.written out.new))) }
         ensures places { self.new.places ≡ self.old.places }
+        ensures waiting { O.waiting out.old ≡ [] → O.waiting out.new ≡ [] }
     {
         let Ok(copy) = begin(self.alloc, name, line_room(name), out) else {
             return Err(ServeFault::NoMemory);
@@ -64,6 +65,7 @@ impl<R: Runner, S: Shelf, T: Storage> Server<R, S, T> {
         ensures stops { let view = view_of R.pairs S.calls T.holds T.leaves T.tally in
             IfErr result (λ fault. Stops fault (view self.new (O.written out.new))) }
         ensures places { self.new.places ≡ self.old.places }
+        ensures waiting { O.waiting out.old ≡ [] → O.waiting out.new ≡ [] }
     {
         let Ok(copy) = begin(self.alloc, name, line_room(name), out) else {
             return Err(ServeFault::NoMemory);

@@ -1,5 +1,5 @@
 //! Turns until no build runs.
-ghost use Rattle.std.specs.Prelude.{◌≡◌, true, false, IfOk, IfErr, OnOk, OnErr};
+ghost use Rattle.std.specs.Prelude.{◌≡◌, true, false, IfOk, IfErr, OnOk, OnErr, []};
 ghost use Rattle.ccr_task.specs.Places.{places_data};
 ghost use Rattle.ccr_serve.specs.Runs.{ToTheEnd, TurnsTo};
 ghost use Rattle.ccr_serve.specs.Views.{view_of, Calls, IsReady, StopsItem};
@@ -33,6 +33,7 @@ impl<R: Runner, S: Shelf, T: Storage> Server<R, S, T> {
         ensures stops { let view = view_of R.pairs S.calls T.holds T.leaves T.tally in
             IfErr result (λ fault. StopsItem fault (view self.new (O.written out.new))) }
         ensures places { self.new.places ≡ self.old.places }
+        ensures waiting { O.waiting out.old ≡ [] → O.waiting out.new ≡ [] }
     {
         for _turn in 0..MOST_TURNS {
             if self.core.running().is_empty() {

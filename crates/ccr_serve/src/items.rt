@@ -39,6 +39,7 @@ pub(crate) fn begin<O: Lines>(
     ensures copied { IfOk result (λ copy. string_bytes copy ≡ name.now) }
     ensures room { OnOk result (IsSomeAnd room (λ bytes. bytes ≤ O.room out.new)) }
     ensures same { O.written out.new ≡ O.written out.old }
+    ensures waiting { O.waiting out.new ≡ O.waiting out.old }
 {
     let Some(bytes) = room else {
         return Err(AllocError);
@@ -90,8 +91,9 @@ fn find_named<R: Runner, S: Shelf>(
 /// Writes the lines of a check's event.
 fn tell_checked<O: Lines>(out: &mut O, resource: &str, replied: &Result<Reply, CoreFault>)
     requires { length resource.now + 64 ≤ O.room out.old }
-    ensures { (vs : List TextMap) (h : HistoryData)
+    ensures told { (vs : List TextMap) (h : HistoryData)
         → O.written out.new ≡ O.written out.old ++ lines_of (event.checked resource.now vs) replied.now h }
+    ensures shown { O.waiting out.new ≡ [] }
 {
     match replied {
         Ok(Reply::New(new)) => tell_new(out, resource, *new),
@@ -134,7 +136,8 @@ fn tell_scheduled<O: Lines>(
     history: &History,
 )
     requires { 2 * length job.now + 64 ≤ O.room out.old }
-    ensures { O.written out.new ≡ O.written out.old ++ lines_of (event.schedule job.now) replied history.now }
+    ensures told { O.written out.new ≡ O.written out.old ++ lines_of (event.schedule job.now) replied history.now }
+    ensures shown { O.waiting out.new ≡ [] }
 {
     match replied {
         Ok(reply) => tell_job(out, job, reply, history),
@@ -162,6 +165,7 @@ impl<R: Runner, S: Shelf, T: Storage> Server<R, S, T> {
         ensures stops { let view = view_of R.pairs S.calls T.holds T.leaves T.tally in
             IfErr result (λ fault. StopsItem fault (view self.new (O.written out.new))) }
         ensures places { self.new.places ≡ self.old.places }
+        ensures waiting { O.waiting out.old ≡ [] → O.waiting out.new ≡ [] }
     {
         let Ok(copy) = begin(self.alloc, name, line_room(name), out) else {
             return Err(ServeFault::NoMemory);
@@ -208,6 +212,7 @@ impl<R: Runner, S: Shelf, T: Storage> Server<R, S, T> {
         ensures stops { let view = view_of R.pairs S.calls T.holds T.leaves T.tally in
             IfErr result (λ fault. StopsItem fault (view self.new (O.written out.new))) }
         ensures places { self.new.places ≡ self.old.places }
+        ensures waiting { O.waiting out.old ≡ [] → O.waiting out.new ≡ [] }
     {
         let Ok(copy) = begin(self.alloc, name, job_room(name), out) else {
             return Err(ServeFault::NoMemory);

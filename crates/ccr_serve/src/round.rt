@@ -1,5 +1,5 @@
 //! Rounds: checks, schedules, and turns.
-ghost use Rattle.std.specs.Prelude.{◌≡◌, map, replicate, string_bytes, is_ok, IfErr, OnOk};
+ghost use Rattle.std.specs.Prelude.{◌≡◌, map, replicate, string_bytes, is_ok, IfErr, OnOk, []};
 ghost use Rattle.ccr_task.specs.Places.{places_data};
 ghost use Rattle.ccr_core.specs.Cores.{core_data};
 ghost use Rattle.ccr_serve.specs.Items.{Items};
@@ -30,6 +30,7 @@ impl<R: Runner, S: Shelf, T: Storage> Server<R, S, T> {
         ensures stops { let view = view_of R.pairs S.calls T.holds T.leaves T.tally in
             IfErr result (λ fault. StopsItem fault (view self.new (O.written out.new))) }
         ensures places { self.new.places ≡ self.old.places }
+        ensures waiting { O.waiting out.old ≡ [] → O.waiting out.new ≡ [] }
     {
         for name in names {
             // What a core keeps says that a check leaves its pipeline.
@@ -55,6 +56,7 @@ impl<R: Runner, S: Shelf, T: Storage> Server<R, S, T> {
         ensures stops { let view = view_of R.pairs S.calls T.holds T.leaves T.tally in
             IfErr result (λ fault. StopsItem fault (view self.new (O.written out.new))) }
         ensures places { self.new.places ≡ self.old.places }
+        ensures waiting { O.waiting out.old ≡ [] → O.waiting out.new ≡ [] }
     {
         for name in names {
             match self.schedule(name.as_str(), out) {
@@ -77,6 +79,7 @@ impl<R: Runner, S: Shelf, T: Storage> Server<R, S, T> {
         ensures stops { let view = view_of R.pairs S.calls T.holds T.leaves T.tally in
             IfErr result (λ fault. StopsItem fault (view self.new (O.written out.new))) }
         ensures places { self.new.places ≡ self.old.places }
+        ensures waiting { O.waiting out.old ≡ [] → O.waiting out.new ≡ [] }
     {
         for _turn in 0..count {
             match self.take_turn(out) {
@@ -103,6 +106,7 @@ impl<R: Runner, S: Shelf, T: Storage> Server<R, S, T> {
         ensures stops { let view = view_of R.pairs S.calls T.holds T.leaves T.tally in
             IfErr result (λ fault. StopsItem fault (view self.new (O.written out.new))) }
         ensures places { self.new.places ≡ self.old.places }
+        ensures waiting { O.waiting out.old ≡ [] → O.waiting out.new ≡ [] }
     {
         let Ok(names) = names_held(self.alloc, &self.core) else {
             return Err(ServeFault::NoMemory);
@@ -131,6 +135,7 @@ impl<R: Runner, S: Shelf, T: Storage> Server<R, S, T> {
         ensures stops { let view = view_of R.pairs S.calls T.holds T.leaves T.tally in
             IfErr result (λ fault. StopsItem fault (view self.new (O.written out.new))) }
         ensures places { self.new.places ≡ self.old.places }
+        ensures waiting { O.waiting out.old ≡ [] → O.waiting out.new ≡ [] }
     {
         for _round in 0..count {
             match self.go_round(out) {

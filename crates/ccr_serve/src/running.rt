@@ -74,6 +74,7 @@ impl<R: Runner, S: Shelf, T: Storage> Server<R, S, T> {
         ensures stops { let view = view_of R.pairs S.calls T.holds T.leaves T.tally in
             IfErr result (λ fault. Stops fault (view self.new (O.written out.new))) }
         ensures places { self.new.places ≡ self.old.places }
+        ensures waiting { O.waiting out.old ≡ [] → O.waiting out.new ≡ [] }
     {
         let Ok(copy) = begin(self.alloc, job, job_room(job), out) else {
             return Err(ServeFault::NoMemory);
@@ -103,6 +104,7 @@ impl<R: Runner, S: Shelf, T: Storage> Server<R, S, T> {
         ensures stops { let view = view_of R.pairs S.calls T.holds T.leaves T.tally in
             IfErr result (λ fault. Stops fault (view self.new (O.written out.new))) }
         ensures places { self.new.places ≡ self.old.places }
+        ensures waiting { O.waiting out.old ≡ [] → O.waiting out.new ≡ [] }
     {
         let reply = match self.trigger(job, out) {
             Ok(reply) => reply,
@@ -131,6 +133,7 @@ impl<R: Runner, S: Shelf, T: Storage> Server<R, S, T> {
         ensures stops { let view = view_of R.pairs S.calls T.holds T.leaves T.tally in
             IfErr result (λ fault. Stops fault (view self.new (O.written out.new))) }
         ensures places { self.new.places ≡ self.old.places }
+        ensures waiting { O.waiting out.old ≡ [] → O.waiting out.new ≡ [] }
     {
         match self.core.pipeline() {
             Some(_) => {}

@@ -1,5 +1,5 @@
 //! Sets a pipeline.
-ghost use Rattle.std.specs.Prelude.{◌≡◌, ◌++◌, ◌≤◌, ℕ, List, unwrap_or, IfOk, IfErr, OnOk, IsSomeAnd, Ok, Err};
+ghost use Rattle.std.specs.Prelude.{◌≡◌, ◌++◌, ◌≤◌, ℕ, List, unwrap_or, IfOk, IfErr, OnOk, IsSomeAnd, Ok, Err, []};
 ghost use Rattle.ccr_pipeline.specs.Pipelines.{pipeline_data, IsPipelineOf};
 ghost use Rattle.ccr_pipeline.specs.Reading.{pipeline_faults, IsReading};
 ghost use Rattle.ccr_history.specs.Text.{Text};
@@ -61,6 +61,7 @@ fn read_pipeline<S: Shelf>(alloc: Global, shelf: &mut S, path: &str) -> Result<P
 fn make_pipeline_room<O: Lines>(pipeline: &Pipeline, out: &mut O) -> Result<(), AllocError>
     ensures room { OnOk result (lines_room (pipeline_data pipeline.now) ≤ O.room out.new) }
     ensures same { O.written out.new ≡ O.written out.old }
+    ensures waiting { O.waiting out.new ≡ O.waiting out.old }
 {
     match pipeline_room(pipeline) {
         Some(bytes) => out.make_room(bytes),
@@ -71,8 +72,9 @@ fn make_pipeline_room<O: Lines>(pipeline: &Pipeline, out: &mut O) -> Result<(), 
 /// Writes the lines of the pipeline that was set.
 fn tell_set<O: Lines>(out: &mut O, core: &Core)
     requires { IsSomeAnd (core_data core.now).pipeline (λ p. lines_room p ≤ O.room out.old) }
-    ensures { O.written out.new ≡ O.written out.old
+    ensures told { O.written out.new ≡ O.written out.old
         ++ pipeline_lines (unwrap_or (core_data core.now).pipeline no_pipeline) }
+    ensures shown { O.waiting out.new ≡ [] }
 {
     if let Some(pipeline) = core.pipeline() {
         tell_pipeline(out, pipeline);
@@ -98,6 +100,7 @@ impl<R: Runner, S: Shelf, T: Storage> Server<R, S, T> {
         ensures stops { let view = view_of R.pairs S.calls T.holds T.leaves T.tally in
             IfErr result (λ fault. Stops fault (view self.new (O.written out.new))) }
         ensures places { self.new.places ≡ self.old.places }
+        ensures waiting { O.waiting out.old ≡ [] → O.waiting out.new ≡ [] }
     {
         let pipeline = match read_pipeline(self.alloc, &mut self.shelf, path) {
             Ok(pipeline) => pipeline,

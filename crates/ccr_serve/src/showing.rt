@@ -1,5 +1,5 @@
 //! What commands show.
-ghost use Rattle.std.specs.Prelude.{◌≡◌, IfErr, OnOk};
+ghost use Rattle.std.specs.Prelude.{◌≡◌, IfErr, OnOk, []};
 ghost use Rattle.ccr_task.specs.Places.{places_data};
 ghost use Rattle.ccr_lines.specs.Commands.{shows};
 ghost use Rattle.ccr_lines.specs.Shown.{shown_data};
@@ -26,6 +26,7 @@ impl<R: Runner, S: Shelf, T: Storage> Server<R, S, T> {
         ensures stops { let view = view_of R.pairs S.calls T.holds T.leaves T.tally in
             IfErr result (λ fault. Stops fault (view self.new (O.written out.new))) }
         ensures places { self.new.places ≡ self.old.places }
+        ensures waiting { O.waiting out.old ≡ [] → O.waiting out.new ≡ [] }
     {
         match show(self.alloc, out, what, &self.core) {
             Ok(status) => Ok(status),

@@ -39,6 +39,7 @@ fn begin_turn<O: Lines>(
     ensures other { IfOk result (λ names. string_bytes names.1 ≡ job.now) }
     ensures room { OnOk result (length job.now + 64 ≤ O.room out.new) }
     ensures same { O.written out.new ≡ O.written out.old }
+    ensures waiting { O.waiting out.new ≡ O.waiting out.old }
 {
     let one = begin(alloc, job, line_room(job), out)?;
     let other = String::from_str(alloc, job)?;
@@ -123,6 +124,7 @@ impl<R: Runner, S: Shelf, T: Storage> Server<R, S, T> {
         ensures at_most { let view = view_of R.pairs S.calls T.holds T.leaves T.tally in
             IfErr result (λ fault. CommitsOnce (Err fault) (view self.old []) (view self.new [])) }
         ensures places { self.new.places ≡ self.old.places }
+        ensures waiting { O.waiting out.old ≡ [] → O.waiting out.new ≡ [] }
     {
         let job = due.job.as_str();
         let Ok((turn, answered)) = answer_wanted(
@@ -171,6 +173,7 @@ impl<R: Runner, S: Shelf, T: Storage> Server<R, S, T> {
         ensures at_most { let view = view_of R.pairs S.calls T.holds T.leaves T.tally in
             IfErr result (λ fault. CommitsOnce (Err fault) (view self.old []) (view self.new [])) }
         ensures places { self.new.places ≡ self.old.places }
+        ensures waiting { O.waiting out.old ≡ [] → O.waiting out.new ≡ [] }
     {
         let job = due.job.as_str();
         let Ok(names) = begin_turn(self.alloc, job, out) else {
@@ -210,6 +213,7 @@ impl<R: Runner, S: Shelf, T: Storage> Server<R, S, T> {
         ensures once { let view = view_of R.pairs S.calls T.holds T.leaves T.tally in
             CommitsOnce result (view self.old []) (view self.new []) }
         ensures places { self.new.places ≡ self.old.places }
+        ensures waiting { O.waiting out.old ≡ [] → O.waiting out.new ≡ [] }
     {
         let due = match due_build(self.alloc, &self.core, self.last) {
             Ok(Some(due)) => due,

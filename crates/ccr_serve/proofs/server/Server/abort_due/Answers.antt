@@ -1,4 +1,4 @@
-use Rattle.std.proofs.Common.{◌≡◌, ◌++◌, [], Ok, true, IsSome, is_some, ap, refl, string_bytes, subst, sym}
+use Rattle.std.proofs.Common.{◌≡◌, ◌++◌, [], Ok, IsSome, is_some, ap, refl, string_bytes, subst, sym}
 use Rattle.ccr_task.specs.Places.{places_data}
 use Rattle.ccr_core.specs.Events.{abort}
 use Rattle.ccr_core.specs.State.{running_at}

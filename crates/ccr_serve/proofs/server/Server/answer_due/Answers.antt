@@ -1,4 +1,4 @@
-use Rattle.std.proofs.Common.{◌≡◌, ◌++◌, [], Ok, false, refl, string_bytes, subst}
+use Rattle.std.proofs.Common.{◌≡◌, ◌++◌, [], Ok, refl, string_bytes, subst}
 use Rattle.ccr_steps.specs.Asks.{answer_data}
 use Rattle.ccr_task.specs.Places.{places_data}
 use Rattle.ccr_core.specs.Events.{answer}

@@ -34,7 +34,7 @@ returns-in-Ok-make-clause-served g c =
     (subst (λ f. Finds (places_data c.args.self.now.places) o.0 (newest o.0 c.args.self.now.core.history)
     (g.S.Shelf.calls c.args.self.now.shelf) (g.S.Shelf.calls c.find_named.new.shelf) o.1 (found_data f))
     c.in-Versions.is o.4)
-    c.in-Ok-make.ensures.made (c.tell_checked.ensures c.in-Versions.versions.items c.make.new.self.core.history)
+    c.in-Ok-make.ensures.made (c.tell_checked.ensures.told c.in-Versions.versions.items c.make.new.self.core.history)
     c.is_ok.ensures.value
 
 pub returns-in-Err-clause-served : goal.returns-in-Err-clause-served
@@ -68,4 +68,4 @@ returns-in-Nothing-clause-served g c =
     (subst (λ f. Finds (places_data c.args.self.now.places) o.0 (newest o.0 c.args.self.now.core.history)
     (g.S.Shelf.calls c.args.self.now.shelf) (g.S.Shelf.calls c.find_named.new.shelf) o.1 (found_data f))
     c.in-Nothing.is o.4)
-    (c.hand_out.ensures ∙ c.tell_cause.ensures)
+    (c.hand_out.ensures.same ∙ c.tell_cause.ensures)

@@ -18,6 +18,7 @@ loop-name-init g c =
       ready = c.requires.ready;
       pipeline = refl;
       places = refl;
+      waiting = λ none. none;
     }
 
 pub check-requires-clause-there : goal.check-requires-clause-there
@@ -43,6 +44,7 @@ loop-name-preserved g c =
           (unnoted _ _ (view c.loop-name.self (g.O.Lines.written c.loop-name.out))
           (view c.check.new.self (g.O.Lines.written c.check.new.out)) true c.in-Ok.ensures.served) ∙ c.loop-name.invariant.pipeline;
       places = c.in-Ok.ensures.places ∙ c.loop-name.invariant.places;
+      waiting = λ none. c.in-Ok.ensures.waiting (c.loop-name.invariant.waiting none);
     }
 
 pub returns-in-Err-clause-served : goal.returns-in-Err-clause-served

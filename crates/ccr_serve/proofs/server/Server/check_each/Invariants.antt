@@ -1,4 +1,4 @@
-use Rattle.std.proofs.Common.{◌≡◌, true, map, take, string_bytes}
+use Rattle.std.proofs.Common.{◌≡◌, [], true, map, take, string_bytes}
 use Rattle.ccr_core.specs.Cores.{core_data}
 use Rattle.ccr_task.specs.Places.{places_data}
 use Rattle.ccr_serve.specs.Items.{Items, check}
@@ -16,4 +16,5 @@ invariant-loop-name g l =
       ready : IsReady (view l.self (g.O.Lines.written l.out));
       pipeline : (core_data l.self.core).pipeline ≡ (core_data l.fn.self.core).pipeline;
       places : l.self.places ≡ l.fn.self.places;
+      waiting : g.O.Lines.waiting l.fn.out ≡ [] → g.O.Lines.waiting l.out ≡ [];
     }

@@ -21,7 +21,7 @@ returns-in-Ok-Ok-clause-came g c =
     disable_made (places_data c.args.self.now.places) c.args.name.now (string_bytes c.in-Ok.copy) c.args.place c.in-Ok-Ok.field-0
     c.in-Ok-Ok.field-0-0 (view c.args.self.now (g.O.Lines.written c.args.out.now)) (view c.make.new.self [])
     (g.O.Lines.written c.begin.new.out) (g.O.Lines.written c.hand_out.new.self) c.in-Ok.ensures.copied
-    c.in-Ok-Ok.field-0-is c.begin.ensures.same c.in-Ok-Ok.ensures.made (c.hand_out.ensures ∙ c.tell_disabled.ensures)
+    c.in-Ok-Ok.field-0-is c.begin.ensures.same c.in-Ok-Ok.ensures.made (c.hand_out.ensures.same ∙ c.tell_disabled.ensures)
 
 pub returns-in-Ok-Err-clause-came : goal.returns-in-Ok-Err-clause-came
 returns-in-Ok-Err-clause-came g c =

@@ -15,6 +15,7 @@ loop-round-init g c =
           (view c.args.self.now (g.O.Lines.written c.args.out.now)) c.requires.ready;
       ready = c.requires.ready;
       places = refl;
+      waiting = λ none. none;
     }
 
 pub loop-round-preserved : goal.loop-round-preserved
@@ -27,6 +28,7 @@ loop-round-preserved g c =
           (view c.go_round.new.self (g.O.Lines.written c.go_round.new.out))) (ap places_data c.loop-round.invariant.places) c.in-Ok.ensures.served);
       ready = c.in-Ok.ensures.kept;
       places = c.in-Ok.ensures.places ∙ c.loop-round.invariant.places;
+      waiting = λ none. c.in-Ok.ensures.waiting (c.loop-round.invariant.waiting none);
     }
 
 pub returns-in-Err-clause-served : goal.returns-in-Err-clause-served

@@ -17,6 +17,7 @@ loop-turn-init g c =
       served = end_begins (places_data c.args.self.now.places) (view c.args.self.now (g.O.Lines.written c.args.out.now)) c.requires.ready;
       ready = c.requires.ready;
       places = refl;
+      waiting = λ none. none;
     }
 
 pub loop-turn-preserved : goal.loop-turn-preserved
@@ -32,6 +33,7 @@ loop-turn-preserved g c =
           (ap places_data c.loop-turn.invariant.places) c.in-Ok.ensures.served);
       ready = c.in-Ok.ensures.kept;
       places = c.in-Ok.ensures.places ∙ c.loop-turn.invariant.places;
+      waiting = λ none. c.in-Ok.ensures.waiting (c.loop-turn.invariant.waiting none);
     }
 
 pub returns-then-is_empty-clause-served : goal.returns-then-is_empty-clause-served

@@ -1,4 +1,4 @@
-use Rattle.std.proofs.Common.{◌≡◌, true}
+use Rattle.std.proofs.Common.{◌≡◌, [], true}
 use Rattle.ccr_task.specs.Places.{places_data}
 use Rattle.ccr_serve.specs.Views.{view_of, Calls, IsReady}
 use Rattle.ccr_serve.proofs.Ending.{Turns}
@@ -12,4 +12,5 @@ invariant-loop-turn g l =
           (view l.fn.self (g.O.Lines.written l.fn.out)) true (view l.self (g.O.Lines.written l.out));
       ready : IsReady (view l.self (g.O.Lines.written l.out));
       places : l.self.places ≡ l.fn.self.places;
+      waiting : g.O.Lines.waiting l.fn.out ≡ [] → g.O.Lines.waiting l.out ≡ [];
     }

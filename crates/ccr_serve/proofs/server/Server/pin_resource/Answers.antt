@@ -44,7 +44,7 @@ returns-in-Ok-Ok-clause-came g c =
     (view c.args.self.now (g.O.Lines.written c.args.out.now)) (view c.make.new.self [])
     (g.O.Lines.written c.begin.new.out) (g.O.Lines.written c.hand_out.new.self) c.in-Ok-begin.ensures.copied
     (sym c.in-Ok-Some.field-0-is ∙ c.in-Ok-Some.ensures) c.in-Ok-Ok.field-0-is c.begin.ensures.same
-    c.in-Ok-Ok.ensures.made (c.hand_out.ensures ∙ c.tell_pinned.ensures)
+    c.in-Ok-Ok.ensures.made (c.hand_out.ensures.same ∙ c.tell_pinned.ensures)
 
 pub returns-in-Ok-Err-clause-came : goal.returns-in-Ok-Err-clause-came
 returns-in-Ok-Err-clause-came g c =

@@ -15,6 +15,7 @@ loop-name-init g c =
           (view c.args.self.now (g.O.Lines.written c.args.out.now)) c.requires.ready;
       ready = c.requires.ready;
       places = refl;
+      waiting = λ none. none;
     }
 
 pub loop-name-preserved : goal.loop-name-preserved
@@ -29,6 +30,7 @@ loop-name-preserved g c =
           c.in-Ok.ensures.served;
       ready = c.in-Ok.ensures.kept;
       places = c.in-Ok.ensures.places ∙ c.loop-name.invariant.places;
+      waiting = λ none. c.in-Ok.ensures.waiting (c.loop-name.invariant.waiting none);
     }
 
 pub returns-in-Err-clause-served : goal.returns-in-Err-clause-served

@@ -1,4 +1,4 @@
-use Rattle.std.proofs.Common.{◌≡◌, true, map, take, string_bytes}
+use Rattle.std.proofs.Common.{◌≡◌, [], true, map, take, string_bytes}
 use Rattle.ccr_task.specs.Places.{places_data}
 use Rattle.ccr_serve.specs.Items.{Items, schedule}
 use Rattle.ccr_serve.specs.Serving.{Serves}
@@ -14,4 +14,5 @@ invariant-loop-name g l =
           (view l.fn.self (g.O.Lines.written l.fn.out)) true (view l.self (g.O.Lines.written l.out));
       ready : IsReady (view l.self (g.O.Lines.written l.out));
       places : l.self.places ≡ l.fn.self.places;
+      waiting : g.O.Lines.waiting l.fn.out ≡ [] → g.O.Lines.waiting l.out ≡ [];
     }

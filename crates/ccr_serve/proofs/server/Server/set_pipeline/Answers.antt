@@ -33,7 +33,7 @@ returns-in-Ok-Ok-clause-came g c =
     c.in-Ok-Ok.field-0-0 (view c.args.self.now (g.O.Lines.written c.args.out.now)) (view c.make.new.self [])
     (g.S.Shelf.calls c.read_pipeline.new.shelf) (g.O.Lines.written c.make_pipeline_room.new.out)
     (g.O.Lines.written c.tell_set.new.out) c.in-Ok.ensures.ok c.in-Ok-Ok.field-0-is
-    c.make_pipeline_room.ensures.same c.in-Ok-Ok.ensures.made c.tell_set.ensures
+    c.make_pipeline_room.ensures.same c.in-Ok-Ok.ensures.made c.tell_set.ensures.told
 
 pub returns-in-Ok-Err-clause-came : goal.returns-in-Ok-Err-clause-came
 returns-in-Ok-Err-clause-came g c =

@@ -16,6 +16,7 @@ loop-turn-init g c =
           (view c.args.self.now (g.O.Lines.written c.args.out.now)) c.requires.ready;
       ready = c.requires.ready;
       places = refl;
+      waiting = λ none. none;
     }
 
 pub loop-turn-preserved : goal.loop-turn-preserved
@@ -29,6 +30,7 @@ loop-turn-preserved g c =
           (ap places_data c.loop-turn.invariant.places) c.in-Ok.ensures.served);
       ready = c.in-Ok.ensures.kept;
       places = c.in-Ok.ensures.places ∙ c.loop-turn.invariant.places;
+      waiting = λ none. c.in-Ok.ensures.waiting (c.loop-turn.invariant.waiting none);
     }
 
 pub returns-in-Err-clause-served : goal.returns-in-Err-clause-served

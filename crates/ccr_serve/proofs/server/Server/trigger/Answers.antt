@@ -24,7 +24,7 @@ returns-in-Ok-replied-clause-replied g c =
     (view c.args.self.now (g.O.Lines.written c.args.out.now)) (view c.make.new.self []) (g.O.Lines.written c.begin.new.out)
     (g.O.Lines.written c.hand_out.new.self) c.in-Ok.ensures.copied c.in-Ok-replied.is c.begin.ensures.same
     c.in-Ok-make.ensures.made
-    (c.hand_out.ensures ∙ (c.tell_job.ensures
+    (c.hand_out.ensures.same ∙ (c.tell_job.ensures
     ∙ ap (λ h. g.O.Lines.written c.begin.new.out ++ lines_of (event.trigger c.args.job.now) (Ok c.in-Ok-replied.reply) h)
     c.history.ensures))
 
