@@ -66,13 +66,18 @@ job_commands =
     ∷ command_shape (codes "run") (as_number (required_rule (codes "rounds")) ∷ [])
     ∷ []
 
--- the commands that only read
-abbrev pub reading_commands : List Shape
-reading_commands =
+-- the commands that show the pipeline, and how its resources and jobs stand
+abbrev pub standing_commands : List Shape
+standing_commands =
     command_shape (codes "get-pipeline") []
     ∷ command_shape (codes "resources") []
     ∷ command_shape (codes "jobs") []
-    ∷ command_shape (codes "build") (value_rule (codes "JOB") ∷ as_number (value_rule (codes "N")) ∷ [])
+    ∷ []
+
+-- the commands that show what builds took, and what the next one would
+abbrev pub release_commands : List Shape
+release_commands =
+    command_shape (codes "build") (value_rule (codes "JOB") ∷ as_number (value_rule (codes "N")) ∷ [])
     ∷ command_shape (codes "trace") (value_rule (codes "NAME") ∷ value_rule (codes "JSON") ∷ [])
     ∷ command_shape (codes "certify") (value_rule (codes "JOB") ∷ [])
     ∷ []
@@ -102,4 +107,5 @@ with_all a (s ∷ ss) = with_all (with_subcommand a s) ss
 
 -- THE COMMAND LINE: the options, and then one of the commands
 abbrev pub line : App
-line = with_all (with_all (with_all options_line resource_commands) job_commands) reading_commands
+line =
+    with_all (with_all (with_all (with_all options_line resource_commands) job_commands) standing_commands) release_commands

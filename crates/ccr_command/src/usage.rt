@@ -1,7 +1,7 @@
 //! The command line, with its help.
 ghost use Rattle.std.specs.Prelude.{◌≡◌, IfOk};
 ghost use Rattle.clap.specs.Words.{app_of};
-ghost use Rattle.ccr_command.specs.Usage.{program, options_line, with_all, resource_commands, job_commands, reading_commands, line};
+ghost use Rattle.ccr_command.specs.Usage.{program, options_line, with_all, resource_commands, job_commands, standing_commands, release_commands, line};
 
 use crate::argument::{as_number, optional, required};
 use crate::commands::{
@@ -100,13 +100,19 @@ fn with_job_commands<'a>(alloc: Global, line: Command<'a>) -> Result<Command<'a>
     line.subcommand(run(alloc)?)
 }
 
-/// The same with the commands that only read.
-fn with_reading_commands<'a>(alloc: Global, line: Command<'a>) -> Result<Command<'a>, AllocError>
-    ensures { IfOk result (λ made. app_of made ≡ with_all (app_of line.entry) reading_commands) }
+/// The same with the commands that show the pipeline, and how its resources and jobs stand.
+fn with_standing_commands<'a>(alloc: Global, line: Command<'a>) -> Result<Command<'a>, AllocError>
+    ensures { IfOk result (λ made. app_of made ≡ with_all (app_of line.entry) standing_commands) }
 {
     let line = line.subcommand(get_pipeline(alloc))?;
     let line = line.subcommand(resources(alloc))?;
-    let line = line.subcommand(jobs(alloc))?;
+    line.subcommand(jobs(alloc))
+}
+
+/// The same with the commands that show what builds took, and what the next one would.
+fn with_release_commands<'a>(alloc: Global, line: Command<'a>) -> Result<Command<'a>, AllocError>
+    ensures { IfOk result (λ made. app_of made ≡ with_all (app_of line.entry) release_commands) }
+{
     let line = line.subcommand(build(alloc)?)?;
     let line = line.subcommand(trace(alloc)?)?;
     line.subcommand(certify(alloc)?)
@@ -122,5 +128,6 @@ pub fn command_line<'a>(alloc: Global) -> Result<Command<'a>, AllocError>
     let line = with_options(alloc)?;
     let line = with_resource_commands(alloc, line)?;
     let line = with_job_commands(alloc, line)?;
-    with_reading_commands(alloc, line)
+    let line = with_standing_commands(alloc, line)?;
+    with_release_commands(alloc, line)
 }
