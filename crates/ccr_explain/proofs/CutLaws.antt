@@ -18,7 +18,7 @@ use Rattle.ccr_resolve.specs.declared.chosen.Chosen.TheVariants.{Best, Nothing, 
 use Rattle.ccr_explain.specs.declared.demand.Demand.{Demand}
 use Rattle.ccr_explain.specs.declared.demand.Demand.TheVariants.{Allowed, Passed}
 use Rattle.ccr_explain.specs.Demand.{IsDemandOf, Meets, MeetsAll, CanBeMet, ExcludeEachOther}
-use Rattle.ccr_explain.specs.Cut.{is_allowed_of, is_passed_of, jobs_left, order_from, place_in, cut_input, cut_from, order_left, cut_to, IsTop, met_of, IsMet}
+use Rattle.ccr_explain.specs.Cut.{is_allowed_of, is_passed_of, jobs_left, order_from, place_in, cut_input, cut_from, order_left, cut_to, IsTop, IsChosenOfCut, met_of, IsMet}
 use Rattle.ccr_explain.proofs.Lists.{contains_map, contains_filter, from_filter}
 use Rattle.ccr_explain.proofs.Orders.{has, has_it, it_has, place_below, place_at}
 use Rattle.ccr_explain.proofs.DemandLaws.{passed_of, passed_each, passed_successful}
@@ -58,7 +58,7 @@ cut_at ds order top n zero m (x ∷ xs) e within =
     let same : n ≡ m = omega arith in ap (λ k. cut_input ds order top k x) same
 cut_at ds order top n (suc i) m (x ∷ xs) e within = cut_at ds order top (n + 1) i m xs (omega arith) (omega arith)
 
-module _ (ds : List Demand) (top : ℕ) (p : ProblemValue) (rules : is_problem p ≡ true) (isTop : IsTop p top) (of_problem : All (IsDemandOf p) ds) where
+module _ (ds : List Demand) (top : ℕ) (p : ProblemValue) (rules : is_problem p ≡ true) (isTop : IsTop p (order_left ds p) top) (of_problem : All (IsDemandOf p) ds) where
   abbrev order : List ℕ
   order = order_left ds p
 
@@ -217,24 +217,25 @@ module _ (ds : List Demand) (top : ℕ) (p : ProblemValue) (rules : is_problem p
         ]
 
     -- a place that has passed a job fits
-    moved_between : (j place : ℕ) (scope number : ℕ) → j < length p.jobs → Moved (builds_at p j) number (scope, place) → (1 ≤ place) × (place ≤ top)
-    moved_between j place scope number known (k, b, inside, at, (is, has)) =
+    moved_between : (j place : ℕ) (scope number : ℕ) → Contains order j → Moved (builds_at p j) number (scope, place) → (1 ≤ place) × (place ≤ top)
+    moved_between j place scope number there (k, b, inside, at, (is, has)) =
+        let known = All-contains (λ n. n < length p.jobs) order j (order_within ds p rules) there in
         let scopes = scopes_after 0 p.inputs in
         let kept = builds_places scopes 1000001 (builds_at p j)
         (and_parts (nat_le (length (builds_at p j)) 1000000) (are_builds_below scopes 1000001 (builds_at p j)) (builds_kept p j (builds_at p j) rules known refl)).1 in
         let among : Contains (builds_at p j) b = (k, inside, at) in
         let low = All-contains (λ r. (0 < r.1) × (r.1 ≤ 100000)) b.pairs (scope, place) (All-contains (λ c. All (λ r. (0 < r.1) × (r.1 ≤ 100000)) c.pairs) (builds_at p j) b kept among) has in
-        let covered = All-get_or (λ bs. All (λ c. All (λ r. r.1 ≤ top) c.pairs) bs) p.jobs j [] known isTop.covers in
+        let covered = All-contains (λ n. All (λ c. All (λ r. r.1 ≤ top) c.pairs) (builds_at p n)) order j isTop.covers there in
         let high = All-contains (λ r. r.1 ≤ top) b.pairs (scope, place) (All-contains (λ c. All (λ r. r.1 ≤ top) c.pairs) (builds_at p j) b covered among) has in
         (omega (arith, low.0), high)
 
-    passed_fits : (i j : ℕ) → i < length p.inputs → j < length p.jobs → HasPassed p places builds i j → fits i ≡ true
+    passed_fits : (i j : ℕ) → i < length p.inputs → Contains order j → HasPassed p places builds i j → fits i ≡ true
     unfolding fits HasPassed
-    passed_fits i j within known h =
+    passed_fits i j within there h =
         elim (cases_Bool (list_any (is_allowed_of i) ds)) [
           | inl holds ↦ demanded_fits i within holds
           | inr free ↦ (let P : List ℕ → Type 0 = λ xs. Contains xs (slice_index places i) in
-              let between = moved_between j (slice_index places i) (input_at p i).scope (slice_index builds j) known h in
+              let between = moved_between j (slice_index places i) (input_at p i).scope (slice_index builds j) there h in
               it_has (input_at q i).places (slice_index places i)
               (subst P (sym (places_free i within free)) (range_has 1 top (slice_index places i) between.0 (omega (arith, between.1)))))
         ]
@@ -270,10 +271,9 @@ module _ (ds : List Demand) (top : ℕ) (p : ProblemValue) (rules : is_problem p
         let n = place_in order j in
         let there = left_there i j within h in
         let below = place_below order j there in
-        let known = All-contains (λ k. k < length p.jobs) order j (order_within ds p rules) there in
         let now = passed_left i j h in
         let number : slice_index builds_on n ≡ slice_index builds j = build_at_job n below ∙ ap (slice_index builds) (place_at order j there) in
-        let place : slice_index places_on i ≡ slice_index places i = place_at_input i within ∙ cond-true (fits i) (slice_index places i) 1 (passed_fits i j within known now) in
+        let place : slice_index places_on i ≡ slice_index places i = place_at_input i within ∙ cond-true (fits i) (slice_index places i) 1 (passed_fits i j within there now) in
         let B : List BuildValue → Type 0 = λ bs. Moved bs (slice_index builds j) ((input_at p i).scope, slice_index places i) in
         let S : ℕ → Type 0 = λ x. Moved (builds_at q n) (slice_index builds j) (x, slice_index places i) in
         let N : ℕ → Type 0 = λ x. Moved (builds_at q n) x ((input_at q i).scope, slice_index places i) in
@@ -307,8 +307,12 @@ module _ (ds : List Demand) (top : ℕ) (p : ProblemValue) (rules : is_problem p
   none_excludes no_choice places builds m = no_choice (places_on places builds m) (builds_on places builds m) (satisfies_on places builds m)
 
 -- what is chosen for the cut problem tells whether the demands can be met
-pub chosen_met : (ds : List Demand) (top : ℕ) (p : ProblemValue) → is_problem p ≡ true → IsTop p top → All (IsDemandOf p) ds → (budget : ℕ) (x : Chosen)
-    → IsChosen (order_of (cut_to ds top p)) (cut_to ds top p) budget x → IsMet p ds budget (met_of x)
-chosen_met ds top p rules isTop of_problem budget (Best c) h = met_back ds top p rules isTop of_problem c.places c.builds h.satisfies
-chosen_met ds top p rules isTop of_problem budget Nothing h = none_excludes ds top p rules isTop of_problem h
-chosen_met ds top p rules isTop of_problem budget (OverBudget n) h = omega (arith, h.1.product, product_left ds top p rules)
+pub chosen_met : (ds : List Demand) (p : ProblemValue) → is_problem p ≡ true → All (IsDemandOf p) ds → (budget : ℕ) (x : Chosen) → IsChosenOfCut ds p budget x → IsMet p ds budget (met_of x)
+chosen_met ds p rules of_problem budget x h =
+    let P : ProblemValue → Type 0 = λ q. IsChosen (order_of q) q budget x in
+    told h.is_cut.top h.is_cut.is_top x (subst P h.is_cut.is h.chosen)
+  where
+    told : (top : ℕ) → IsTop p (order_left ds p) top → (y : Chosen) → IsChosen (order_of (cut_to ds top p)) (cut_to ds top p) budget y → IsMet p ds budget (met_of y)
+    told top isTop (Best c) h = met_back ds top p rules isTop of_problem c.places c.builds h.satisfies
+    told top isTop Nothing h = none_excludes ds top p rules isTop of_problem h
+    told top isTop (OverBudget n) h = omega (arith, h.1.product, product_left ds top p rules)

@@ -11,7 +11,7 @@ use Rattle.ccr_choice.proofs.Numbering.{named_below}
 use Rattle.ccr_choice.proofs.Members.{contains_none, contains_first, contains_later}
 use Rattle.ccr_resolve.specs.Room.{product}
 use Rattle.ccr_explain.specs.declared.demand.Demand.{Demand}
-use Rattle.ccr_explain.specs.Cut.{is_allowed_of, is_passed_of, jobs_left, with_job, with_jobs, order_from, place_in, cut_input, cut_from, order_left, cut_to, IsTop}
+use Rattle.ccr_explain.specs.Cut.{is_allowed_of, is_passed_of, jobs_left, with_job, with_jobs, order_from, place_in, cut_input, cut_from, order_left, cut_to}
 use Rattle.ccr_explain.proofs.Lists.{all_contained, from_filter}
 use Rattle.ccr_explain.proofs.Orders.{has, has_it, Grows, grows_none, grows_twice, grown_has, grows_jobs, jobs_there, all_jobs, Distinct, none, distinct_jobs, few_distinct, product_within, distinct_left, place_below, place_front, place_new}
 
@@ -182,12 +182,12 @@ builds_left p rules (j ∷ order) all =
     (builds_left p rules order (All-tail (λ k. k < length p.jobs) j order all))
 
 -- a problem that is cut is a problem
-pub cut_rules : (ds : List Demand) (top : ℕ) (p : ProblemValue) → is_problem p ≡ true → IsTop p top → is_problem (cut_to ds top p) ≡ true
+pub cut_rules : (ds : List Demand) (top : ℕ) (p : ProblemValue) → is_problem p ≡ true → top ≤ 100000 → is_problem (cut_to ds top p) ≡ true
 unfolding cut_to order_left
-cut_rules ds top p rules isTop =
+cut_rules ds top p rules most =
     let r = rules_of p rules in
     let order = order_left ds p in
-    let so = inputs_cut ds top isTop.most order (order_few ds p rules) 0 0 [] p.inputs 0 r.inputs refl in
+    let so = inputs_cut ds top most order (order_few ds p rules) 0 0 [] p.inputs 0 r.inputs refl in
     let inputs = cut_from ds order top 0 p.inputs in
     let P : ℕ → Type 0 = λ s. list_all (are_builds s) (map (builds_at p) order) ≡ true in
     and_from _ _ (le-leb (length inputs) 32 (omega (arith, length_cut ds order top 0 p.inputs, r.few_inputs)))

@@ -5,6 +5,8 @@ use Rattle.ccr_choice.specs.Problem.{ProblemValue, InputValue, BuildValue, build
 use Rattle.ccr_resolve.specs.Room.{product}
 use Rattle.ccr_explain.specs.declared.demand.Demand.{Demand}
 use Rattle.ccr_explain.specs.declared.demand.Demand.TheVariants.{Allowed, Passed}
+use Rattle.ccr_choice.specs.Preference.{order_of}
+use Rattle.ccr_resolve.specs.Chosen.{IsChosen}
 use Rattle.ccr_resolve.specs.declared.chosen.Chosen.{Chosen}
 use Rattle.ccr_resolve.specs.declared.chosen.Chosen.TheVariants as chosen
 use Rattle.ccr_explain.specs.declared.met.Met.{Met}
@@ -65,11 +67,23 @@ cut_to ds top p = record {
   jobs = map (builds_at p) (order_left ds p);
 }
 
--- No build has a pair of a place above the top one.
-pub record IsTop (p : ProblemValue) (top : ℕ) : Type 0 where
+-- No build of these jobs has a pair of a place above the top one.
+pub record IsTop (p : ProblemValue) (order : List ℕ) (top : ℕ) : Type 0 where
   pub least : 1 ≤ top
   pub most : top ≤ 100000
-  pub covers : All (λ bs. All (λ b. All (λ q. q.1 ≤ top) b.pairs) bs) p.jobs
+  pub covers : All (λ j. All (λ b. All (λ q. q.1 ≤ top) b.pairs) (builds_at p j)) order
+
+-- The problem is the one that is cut to these demands, with some top place.
+pub record IsCutTo (ds : List Demand) (p q : ProblemValue) : Type 0 where
+  pub top : ℕ
+  pub is_top : IsTop p (order_left ds p) top
+  pub is : q ≡ cut_to ds top p
+
+-- What is chosen is what is chosen for the problem cut to these demands.
+pub record IsChosenOfCut (ds : List Demand) (p : ProblemValue) (budget : ℕ) (x : Chosen) : Type 0 where
+  pub cut : ProblemValue
+  pub is_cut : IsCutTo ds p cut
+  pub chosen : IsChosen (order_of cut) cut budget x
 
 -- Whether some choice meets the demands, by what is chosen for the problem cut to them.
 abbrev pub met_of : Chosen → Met

@@ -2,37 +2,40 @@
 
 ghost use Rattle.std.specs.Prelude.{◌≡◌, ◌==◌, ◌<◌, ◌≤◌, ◌++◌, if◌then◌else◌, length, map, All, EachIndex, slice_index, IfOk, OnOk};
 ghost use Rattle.std.specs.List.{list_any, range_with_len};
-ghost use Rattle.ccr_choice.specs.Problem.{builds_at, input_at, IsProblem};
-ghost use Rattle.ccr_explain.specs.Cut.{is_allowed_of, is_passed_of, jobs_left, with_job, with_jobs, place_in, cut_input, cut_from, order_left, cut_to, IsTop};
+ghost use Rattle.ccr_choice.specs.Problem.{builds_at, IsProblem};
+ghost use Rattle.ccr_explain.specs.Cut.{is_allowed_of, is_passed_of, jobs_left, with_job, with_jobs, place_in, cut_input, cut_from, order_left, IsTop, IsCutTo};
 
+use crate::copies::copied_builds;
 use crate::demand::Demand;
 use ccr_choice::{Build, Input, JobBuilds, Problem};
 use std::alloc::{AllocError, Global};
 
-/// The problem cut to these demands. An input without the demand of its allowed places may take any place up to `top`.
+/// The problem of these inputs and the jobs of a problem, cut to these demands. An input without the demand of its allowed places may
+/// take any place up to a top one.
 pub(crate) fn cut_to(
     alloc: Global,
+    inputs: &[Input],
     problem: &Problem,
     demands: &[Demand],
-    top: u32,
 ) -> Result<Problem, AllocError>
-    requires { IsTop problem.now top }
-    ensures value { IfOk result (λ p. p ≡ cut_to demands.now top problem.now) }
-    ensures rules { IfOk result (λ p. IsProblem problem.now) }
+    requires { IsProblem (record problem.now { inputs = inputs.now }) }
+    ensures { IfOk result (IsCutTo demands.now (record problem.now { inputs = inputs.now })) }
 {
-    let order = order_left(alloc, problem, demands)?;
-    let inputs = cut_inputs(alloc, problem, demands, &order, top)?;
-    let jobs = copied_jobs(alloc, problem, &order)?;
+    let order = order_left(alloc, inputs, problem, demands)?;
+    let top = top_place(problem, &order);
+    let inputs = cut_inputs(alloc, inputs, demands, &order, top)?;
+    let jobs = jobs_of(alloc, problem, &order)?;
     Ok(Problem::new(inputs, jobs))
 }
 
-/// The greatest place of a pair, at least 1.
-pub(crate) fn top_place(problem: &Problem) -> u32
-    ensures { IsTop problem.now result }
+/// The greatest place of a pair of these jobs, at least 1.
+fn top_place(problem: &Problem, order: &[u32]) -> u32
+    requires { EachIndex order.now (λ k. slice_index order.now k < length problem.now.jobs) }
+    ensures { IsTop problem.now order.now result }
 {
     let mut top = 1;
-    for j in 0..problem.jobs().len() {
-        top = top_of_builds(problem.builds(j), top);
+    for job in order {
+        top = top_of_builds(problem.builds(*job as usize), top);
     }
     top
 }
@@ -98,16 +101,23 @@ fn jobs_left(
 }
 
 /// The jobs that inputs must still have passed, in order of first mention.
-fn order_left(alloc: Global, problem: &Problem, demands: &[Demand]) -> Result<Vec<u32>, AllocError>
-    ensures value { IfOk result (λ order. order.items ≡ order_left demands.now problem.now) }
+fn order_left(
+    alloc: Global,
+    inputs: &[Input],
+    problem: &Problem,
+    demands: &[Demand],
+) -> Result<Vec<u32>, AllocError>
+    requires { IsProblem (record problem.now { inputs = inputs.now }) }
+    ensures value { IfOk result
+        (λ order. order.items ≡ order_left demands.now (record problem.now { inputs = inputs.now })) }
     ensures few { IfOk result (λ order. length order.items ≤ 32) }
     ensures known { IfOk result
         (λ order. EachIndex order.items (λ k. slice_index order.items k < length problem.now.jobs)) }
-    ensures rules { IfOk result (λ order. IsProblem problem.now) }
 {
+    let _ = problem;
     let mut order = Vec::new(alloc);
-    for i in 0..problem.inputs().len() {
-        let jobs = jobs_left(alloc, demands, i, problem.named(i))?;
+    for i in 0..inputs.len() {
+        let jobs = jobs_left(alloc, demands, i, inputs[i].jobs())?;
         add_jobs(&mut order, &jobs)?;
     }
     Ok(order)
@@ -156,19 +166,19 @@ fn place_in(order: &[u32], job: u32) -> u32
 
 fn cut_inputs(
     alloc: Global,
-    problem: &Problem,
+    inputs: &[Input],
     demands: &[Demand],
     order: &[u32],
     top: u32,
 ) -> Result<Vec<Input>, AllocError>
     requires { length order.now ≤ 32 }
-    ensures { IfOk result (λ inputs. inputs.items ≡ cut_from demands.now order.now top 0 problem.now.inputs) }
+    ensures { IfOk result (λ cut. cut.items ≡ cut_from demands.now order.now top 0 inputs.now) }
 {
-    let mut inputs = Vec::new(alloc);
-    for i in 0..problem.inputs().len() {
-        inputs.push(cut_input(alloc, demands, order, top, i, &problem.inputs()[i])?)?;
+    let mut cut = Vec::new(alloc);
+    for i in 0..inputs.len() {
+        cut.push(cut_input(alloc, demands, order, top, i, &inputs[i])?)?;
     }
-    Ok(inputs)
+    Ok(cut)
 }
 
 /// Input `number` with what is left of its demands.
@@ -258,11 +268,7 @@ fn numbers_of(alloc: Global, order: &[u32], jobs: &[u32]) -> Result<Vec<u32>, Al
     Ok(numbers)
 }
 
-fn copied_jobs(
-    alloc: Global,
-    problem: &Problem,
-    order: &[u32],
-) -> Result<Vec<JobBuilds>, AllocError>
+fn jobs_of(alloc: Global, problem: &Problem, order: &[u32]) -> Result<Vec<JobBuilds>, AllocError>
     requires { EachIndex order.now (λ k. slice_index order.now k < length problem.now.jobs) }
     ensures { IfOk result (λ jobs. jobs.items ≡ map (builds_at problem.now) order.now) }
 {
@@ -271,14 +277,4 @@ fn copied_jobs(
         jobs.push(copied_builds(alloc, problem.builds(*job as usize))?)?;
     }
     Ok(jobs)
-}
-
-pub(crate) fn copied_builds(alloc: Global, builds: &[Build]) -> Result<JobBuilds, AllocError>
-    ensures { IfOk result (λ copy. copy ≡ builds.now) }
-{
-    let mut copies = Vec::with_capacity(alloc, builds.len())?;
-    for build in builds {
-        copies.push(Build::new(build.number(), Vec::from_slice(alloc, build.pairs())?))?;
-    }
-    Ok(JobBuilds::new(copies))
 }
