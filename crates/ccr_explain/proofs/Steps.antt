@@ -1,8 +1,8 @@
 -- One turn of a loop, and its end.
-use Rattle.std.proofs.Common.{◌≡◌, ℕ, zero, suc, ◌+◌, ◌<◌, ◌≤◌, Bool, true, List, [], ◌∷◌, ◌++◌, length, map, take, drop, get_or, slice_index_or, max, Result, Ok, Err, refl, sym, ap, ◌∙◌, subst, arith}
+use Rattle.std.proofs.Common.{◌≡◌, ◌↔◌, ◌==◌, inl, inr, IsTrue, false, ℕ, zero, suc, ◌+◌, ◌<◌, ◌≤◌, Bool, true, List, [], ◌∷◌, ◌++◌, length, map, take, drop, get_or, slice_index_or, max, Result, Ok, Err, refl, sym, ap, ◌∙◌, subst, arith}
 use Rattle.std.specs.Prelude.{All, Contains, IfOk}
-use Rattle.std.specs.List.{range_with_len}
-use Rattle.std.proofs.lemmas.Bool.{and_parts}
+use Rattle.std.specs.List.{list_any, range_with_len}
+use Rattle.std.proofs.lemmas.Bool.{and_parts, cases_Bool, false_from_ne_true, false≢true}
 use Rattle.std.proofs.lemmas.List.{append-nil, append_assoc, take_all, drop_more, drop_all, get_or_default}
 use Rattle.std.proofs.lemmas.List.Elements.{All-same, All-contains, All-cons, All-append, All-map, All-more, All-weaker}
 use Rattle.ccr_choice.specs.Problem.{ProblemValue, InputValue, BuildValue, no_input, input_at, builds_at, is_problem, are_builds}
@@ -19,8 +19,9 @@ use Rattle.ccr_choice.specs.Problem.{ChoiceValue}
 use Rattle.ccr_explain.specs.Demand.{IsDemandOf, demands_from}
 use Rattle.ccr_explain.specs.Clash.{IsClash, IsExplanation}
 use Rattle.ccr_explain.specs.WhyNot.{Takes, CannotTake, may_take, narrowed_from, asked, IsWhyNot}
-use Rattle.ccr_explain.specs.Cut.{order_from, order_left, cut_from, cut_to, IsMet}
+use Rattle.ccr_explain.specs.Cut.{order_from, order_left, cut_from, builds_from, inputs_cut, cut_to, IsMet}
 use Rattle.ccr_explain.proofs.Lists.{all_contained}
+use Rattle.ccr_explain.proofs.Orders.{has_it, it_has}
 use Rattle.ccr_explain.proofs.CutRules.{builds_places}
 use Rattle.ccr_explain.proofs.WhyLaws.{asked_rules, takes_of, clash_shows, better_costs}
 
@@ -79,13 +80,27 @@ places_more n xs ys e f =
     let last : 1 + n ≡ n + 1 = omega arith in
     f ∙ ap (λ zs. zs ++ (n + 1) ∷ []) e ∙ sym (ap (λ k. range_with_len 1 k) one ∙ range_more 1 n ∙ ap (λ k. range_with_len 1 n ++ k ∷ []) last)
 
-pub cut_is : (ds : List Demand) (top : ℕ) (p : ProblemValue) (order once twice : List ℕ) (inputs : List InputValue) (jobs : List (List BuildValue)) → order ≡ order_left ds p → once ≡ order → twice ≡ order
-    → inputs ≡ cut_from ds once top 0 p.inputs → jobs ≡ map (builds_at p) twice → record { inputs = inputs; jobs = jobs } ≡ cut_to ds top p
-unfolding cut_to
-cut_is ds top p order once twice inputs jobs is first second one other =
+pub cut_is : (ds : List Demand) (top : ℕ) (p : ProblemValue) (order once twice : List ℕ) (inputs kept : List InputValue) (jobs : List (List BuildValue)) → order ≡ order_left ds p → once ≡ order → twice ≡ order
+    → inputs ≡ cut_from ds once top 0 p.inputs → kept ≡ inputs → jobs ≡ builds_from p kept 0 twice → record { inputs = inputs; jobs = jobs } ≡ cut_to ds top p
+unfolding cut_to inputs_cut
+cut_is ds top p order once twice inputs kept jobs is first second one same other =
+    let all : inputs ≡ cut_from ds (order_left ds p) top 0 p.inputs = one ∙ ap (λ o. cut_from ds o top 0 p.inputs) (first ∙ is) in
     let f : List InputValue → ProblemValue = λ xs. record { inputs = xs; jobs = jobs } in
     let g : List (List BuildValue) → ProblemValue = λ js. record { inputs = cut_from ds (order_left ds p) top 0 p.inputs; jobs = js } in
-    ap f (one ∙ ap (λ o. cut_from ds o top 0 p.inputs) (first ∙ is)) ∙ ap g (other ∙ ap (map (builds_at p)) (second ∙ is))
+    ap f all ∙ ap g (other ∙ ap (λ o. builds_from p kept 0 o) (second ∙ is) ∙ ap (λ xs. builds_from p xs 0 (order_left ds p)) (same ∙ all))
+
+pub inputs_are : (ds : List Demand) (top : ℕ) (p : ProblemValue) (order once : List ℕ) (inputs kept : List InputValue) → order ≡ order_left ds p → once ≡ order
+    → inputs ≡ cut_from ds once top 0 p.inputs → kept ≡ inputs → kept ≡ inputs_cut ds top p
+unfolding inputs_cut
+inputs_are ds top p order once inputs kept is first one same = same ∙ one ∙ ap (λ o. cut_from ds o top 0 p.inputs) (first ∙ is)
+
+-- a test that a fact decides is that of a list
+pub same_test : (b : Bool) (x : ℕ) (xs : List ℕ) → (IsTrue b ↔ Contains xs x) → b ≡ list_any (λ m. m == x) xs
+same_test b x xs decides =
+    elim (cases_Bool b) [
+      | inl holds ↦ holds ∙ sym (it_has xs x (decides.0 holds))
+      | inr fails ↦ fails ∙ sym (false_from_ne_true (list_any (λ m. m == x) xs) (λ h. false≢true (sym fails ∙ decides.1 (has_it xs x h))))
+    ]
 
 -- ---- the demands
 pub demands_more : (i : ℕ) (xs : List InputValue) (x : InputValue) (ds more : List Demand) → i < length xs → x ≡ slice_index_or xs i x

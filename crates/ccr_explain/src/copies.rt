@@ -29,14 +29,20 @@ pub(crate) fn copied_jobs(alloc: Global, problem: &Problem) -> Result<Vec<JobBui
     Ok(copies)
 }
 
-/// These builds once more.
-pub(crate) fn copied_builds(alloc: Global, builds: &[Build]) -> Result<JobBuilds, AllocError>
+fn copied_builds(alloc: Global, builds: &[Build]) -> Result<JobBuilds, AllocError>
     ensures { IfOk result (λ copy. copy ≡ builds.now) }
 {
     let mut copies = Vec::with_capacity(alloc, builds.len())?;
     for build in builds {
-        let pairs = Vec::from_slice(alloc, build.pairs())?;
-        copies.push(Build::new(build.number(), pairs))?;
+        copies.push(copied_build(alloc, build)?)?;
     }
     Ok(JobBuilds::new(copies))
+}
+
+/// This build once more.
+pub(crate) fn copied_build(alloc: Global, build: &Build) -> Result<Build, AllocError>
+    ensures { IfOk result (λ copy. copy ≡ build.now) }
+{
+    let pairs = Vec::from_slice(alloc, build.pairs())?;
+    Ok(Build::new(build.number(), pairs))
 }

@@ -1,12 +1,14 @@
 //! A problem cut to some of its demands.
 
-ghost use Rattle.std.specs.Prelude.{◌≡◌, ◌==◌, ◌<◌, ◌≤◌, ◌++◌, if◌then◌else◌, length, map, All, EachIndex, slice_index, IfOk, OnOk};
+ghost use Rattle.std.specs.Prelude.{◌≡◌, ◌==◌, ◌<◌, ◌≤◌, ◌++◌, if◌then◌else◌, length, map, filter, All, EachIndex, slice_index, IfOk, OnOk};
 ghost use Rattle.std.specs.List.{list_any, range_with_len};
 ghost use Rattle.ccr_choice.specs.Problem.{builds_at, IsProblem};
-ghost use Rattle.ccr_explain.specs.Cut.{is_allowed_of, is_passed_of, jobs_left, with_job, with_jobs, place_in, cut_input, cut_from, order_left, IsTop, IsCutTo};
+ghost use Rattle.ccr_explain.specs.Cut.{is_allowed_of, is_passed_of, jobs_left, with_job, with_jobs, place_in, top_for, cut_input, cut_from, has_place_of, is_of_use, builds_from, order_left, IsTop, IsCutTo};
+ghost use Rattle.ccr_choice.specs.Ascending.{AreRising};
 
-use crate::copies::copied_builds;
+use crate::copies::copied_build;
 use crate::demand::Demand;
+use ccr_choice::possible::has_place;
 use ccr_choice::{Build, Input, JobBuilds, Problem};
 use std::alloc::{AllocError, Global};
 
@@ -24,7 +26,7 @@ pub(crate) fn cut_to(
     let order = order_left(alloc, inputs, problem, demands)?;
     let top = top_place(problem, &order);
     let inputs = cut_inputs(alloc, inputs, demands, &order, top)?;
-    let jobs = jobs_of(alloc, problem, &order)?;
+    let jobs = jobs_of(alloc, problem, &inputs, &order)?;
     Ok(Problem::new(inputs, jobs))
 }
 
@@ -193,9 +195,20 @@ fn cut_input(
     requires { length order.now ≤ 32 }
     ensures { IfOk result (λ x. x ≡ cut_input demands.now order.now top number input.now) }
 {
-    let places = places_left(alloc, demands, top, number, input.places())?;
-    let jobs = numbers_left(alloc, demands, order, number, input.jobs())?;
-    Ok(Input::new(input.scope(), jobs, places))
+    let jobs = jobs_left(alloc, demands, number, input.jobs())?;
+    let numbers = numbers_of(alloc, order, &jobs)?;
+    let places = places_left(alloc, demands, top_for(&jobs, top), number, input.places())?;
+    Ok(Input::new(input.scope(), numbers, places))
+}
+
+/// How far the places go of an input that may take any.
+fn top_for(jobs: &[u32], top: u32) -> u32
+    ensures { result ≡ top_for jobs.now top }
+{
+    match jobs {
+        [] => 1,
+        [_, ..] => top,
+    }
 }
 
 fn is_allowed_of(demand: &Demand, input: usize) -> bool
@@ -242,21 +255,7 @@ fn places_to(alloc: Global, top: u32) -> Result<Vec<u32>, AllocError>
     Ok(places)
 }
 
-/// The jobs that are left of these, by their new numbers.
-fn numbers_left(
-    alloc: Global,
-    demands: &[Demand],
-    order: &[u32],
-    input: usize,
-    jobs: &[u32],
-) -> Result<Vec<u32>, AllocError>
-    requires { length order.now ≤ 32 }
-    ensures { IfOk result (λ left. left.items ≡ map (place_in order.now) (jobs_left demands.now input jobs.now)) }
-{
-    let left = jobs_left(alloc, demands, input, jobs)?;
-    numbers_of(alloc, order, &left)
-}
-
+/// These jobs by their new numbers.
 fn numbers_of(alloc: Global, order: &[u32], jobs: &[u32]) -> Result<Vec<u32>, AllocError>
     requires { length order.now ≤ 32 }
     ensures { IfOk result (λ numbers. numbers.items ≡ map (place_in order.now) jobs.now) }
@@ -268,13 +267,69 @@ fn numbers_of(alloc: Global, order: &[u32], jobs: &[u32]) -> Result<Vec<u32>, Al
     Ok(numbers)
 }
 
-fn jobs_of(alloc: Global, problem: &Problem, order: &[u32]) -> Result<Vec<JobBuilds>, AllocError>
-    requires { EachIndex order.now (λ k. slice_index order.now k < length problem.now.jobs) }
-    ensures { IfOk result (λ jobs. jobs.items ≡ map (builds_at problem.now) order.now) }
+/// The builds of these jobs that are of use to the cut inputs.
+fn jobs_of(
+    alloc: Global,
+    problem: &Problem,
+    inputs: &[Input],
+    order: &[u32],
+) -> Result<Vec<JobBuilds>, AllocError>
+    requires few { length order.now ≤ 32 }
+    requires known { EachIndex order.now (λ k. slice_index order.now k < length problem.now.jobs) }
+    requires rising { All (λ x. AreRising x.places) inputs.now }
+    ensures { IfOk result (λ jobs. jobs.items ≡ builds_from problem.now inputs.now 0 order.now) }
 {
     let mut jobs = Vec::new(alloc);
-    for job in order {
-        jobs.push(copied_builds(alloc, problem.builds(*job as usize))?)?;
+    for n in 0..order.len() {
+        let builds = problem.builds(order[n] as usize);
+        jobs.push(useful_builds(alloc, inputs, n as u32, builds)?)?;
     }
     Ok(jobs)
+}
+
+fn useful_builds(
+    alloc: Global,
+    inputs: &[Input],
+    job: u32,
+    builds: &[Build],
+) -> Result<JobBuilds, AllocError>
+    requires { All (λ x. AreRising x.places) inputs.now }
+    ensures { IfOk result (λ useful. useful ≡ filter (is_of_use inputs.now job) builds.now) }
+{
+    let mut useful = Vec::new(alloc);
+    for build in builds {
+        if is_of_use(inputs, job, build) {
+            useful.push(copied_build(alloc, build)?)?;
+        }
+    }
+    Ok(JobBuilds::new(useful))
+}
+
+/// Whether each of these inputs that names job `job` can have one of its places with a build.
+fn is_of_use(inputs: &[Input], job: u32, build: &Build) -> bool
+    requires { All (λ x. AreRising x.places) inputs.now }
+    ensures { result ≡ is_of_use inputs.now job build.now }
+{
+    for input in inputs {
+        if is_among(input.jobs(), job) && !has_place_of(input, build.pairs()) {
+            return false;
+        }
+    }
+    true
+}
+
+fn has_place_of(input: &Input, pairs: &[(u32, u32)]) -> bool
+    requires { AreRising input.now.places }
+    ensures { result ≡ has_place_of input.now pairs.now }
+{
+    pairs
+        .iter()
+        .any(|r| r.0 == input.scope() && is_place_of(input, r.1))
+}
+
+fn is_place_of(input: &Input, place: u32) -> bool
+    requires { AreRising input.now.places }
+    ensures { result ≡ list_any (λ y. y == place) input.now.places }
+{
+    has_place(input.places(), place)
 }
