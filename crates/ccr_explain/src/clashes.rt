@@ -1,15 +1,15 @@
 //! Why a problem has no choice.
 
-ghost use Rattle.std.specs.Prelude.{◌≡◌, ◌≤◌, IfOk};
+ghost use Rattle.std.specs.Prelude.{◌≡◌, ◌≤◌, IfOk, IfSome};
 ghost use Rattle.ccr_choice.specs.Problem.{IsProblem};
 ghost use Rattle.ccr_choice.specs.Preference.{order_of};
 ghost use Rattle.ccr_resolve.specs.Chosen.{IsChosen};
-ghost use Rattle.ccr_explain.specs.Clash.{IsExplanation};
+ghost use Rattle.ccr_explain.specs.Clash.{IsClash, IsExplanation};
 
 use crate::copies::{copied_inputs, copied_jobs};
-use crate::demand::demands_of;
+use crate::demand::{Demand, demands_of};
 use crate::explanation::Explanation;
-use crate::grown::grown;
+use crate::grown::few_demands;
 use crate::reduced::reduced;
 use ccr_choice::{Input, Problem};
 use ccr_index::build_index;
@@ -19,31 +19,33 @@ use std::alloc::{AllocError, Global};
 
 /// Demands of a problem that exclude each other, and of which none can be left out; or the best choice, if one satisfies.
 ///
-/// Each call of the resolver has the budget, from 1 to 1,000,000, and there are at most as many calls as inputs and demands
-/// together. Where the budget doesn't suffice for one of them, the clash is one all the same, but says that perhaps fewer demands
-/// exclude each other. The only error is out of memory.
+/// Each call of the resolver has the budget, from 1 to 1,000,000, and there are at most twice as many calls as demands,
+/// and one where there are none. Where the budget doesn't suffice for one of them, the clash is one all the same, but says that
+/// perhaps fewer demands exclude each other. The only error is out of memory.
 pub fn clash(alloc: Global, problem: &Problem, budget: u32) -> Result<Explanation, AllocError>
     requires least { 1 ≤ budget }
     requires most { budget ≤ MOST_NODES }
     ensures { IfOk result (IsExplanation (order_of problem.now) problem.now budget) }
 {
-    explained(alloc, problem.inputs(), problem, 0, budget)
+    let inputs = problem.inputs();
+    let few = few_demands(alloc, inputs, problem, budget)?;
+    explained(alloc, inputs, problem, few, budget)
 }
 
-/// The same of the problem of these inputs and the jobs of a problem. Clashes of input `first` are looked for first.
+/// The same of the problem of these inputs and the jobs of a problem, by a few demands that exclude each other, or else by all.
 pub(crate) fn explained(
     alloc: Global,
     inputs: &[Input],
     problem: &Problem,
-    first: usize,
+    few: Option<Vec<Demand>>,
     budget: u32,
 ) -> Result<Explanation, AllocError>
     requires rules { IsProblem (record problem.now { inputs = inputs.now }) }
+    requires few { IfSome few (λ ds. IsClash (record problem.now { inputs = inputs.now }) ds.items) }
     requires least { 1 ≤ budget }
     requires most { budget ≤ MOST_NODES }
     ensures { let p = record problem.now { inputs = inputs.now } in IfOk result (IsExplanation (order_of p) p budget) }
 {
-    let few = grown(alloc, inputs, problem, first, budget)?;
     match few {
         None => explained_whole(alloc, inputs, problem, budget),
         Some(demands) => {

@@ -7,9 +7,9 @@
 //!
 //! What a demand, a clash and a place that can't be taken are, is said of problems and choices alone (`specs/Demand.antt`,
 //! `specs/Clash.antt`, `specs/WhyNot.antt`). The resolver is called on the problem cut to some of its demands; no definition
-//! speaks of that. The demands of one input are tried first, then those of its neighbors with them, until they exclude each other.
-//! Then each demand is left out in turn, and stays out if the others still exclude each other. So the resolver is called at most once
-//! for each input and once for each demand.
+//! speaks of that. First a few inputs are looked for whose demands exclude each other: one input alone, else one with those that name
+//! a job in common with it, and so on. Then each demand is left out in turn, and stays out if the others still exclude each other. So
+//! the resolver is called at most twice as often as there are demands.
 #![tactic(auto)]
 
 mod clashes;

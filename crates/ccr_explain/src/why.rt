@@ -8,6 +8,7 @@ ghost use Rattle.ccr_explain.specs.WhyNot.{may_take, asked, IsWhyNot};
 
 use crate::clashes::explained;
 use crate::explanation::Explanation;
+use crate::grown::grown;
 use ccr_choice::{Choice, Input, Problem};
 use ccr_proof::MOST_NODES;
 use std::alloc::{AllocError, Global};
@@ -38,7 +39,8 @@ pub fn why_not(
         → (other : ChoiceValue) → result ≢ Ok (Explanation.Fits other) }
 {
     let asked = narrowed(alloc, problem, &choice.places, input, place)?;
-    explained(alloc, &asked, problem, input, budget)
+    let few = grown(alloc, &asked, problem, input, budget)?;
+    explained(alloc, &asked, problem, few, budget)
 }
 
 /// The inputs of the problem in which input `input` takes a place and no input before it gets worse.
