@@ -19,6 +19,7 @@ use Rattle.ccr_history.proofs.Lists.{pairs_head, pairs_tail}
 use Rattle.ccr_pipeline.specs.Inputs.{InputData}
 use Rattle.ccr_pipeline.specs.Pipelines.{PipelineData}
 use Rattle.ccr_choice.specs.Problem.{is_after}
+use Rattle.ccr_problem.specs.Follows.{place_taken}
 use Rattle.ccr_problem.specs.ProblemOf.{history_number, takes_every, input_after}
 use Rattle.ccr_problem.proofs.Names.{same_text}
 use Rattle.ccr_problem.proofs.Pairs.{few_places}
@@ -87,6 +88,17 @@ after_kept p h own i rules = by (takes_every i.wanted)
     by true =
         after_is h.tables (history_number p h i.resource) rules.0.2 (newest_used own i.name (history_number p h i.resource) h.builds)
         (newest_placed h.tables own i.name (history_number p h i.resource) h.builds rules.1.2)
+    by false = refl
+
+-- so does the place that a build used
+pub taken_kept : (p : PipelineData) (h : HistoryData) (used : List UsedData) (i : InputData) → IsHistory h → AllByRecursion (IsUsed h.tables) used → is_after (place_taken p h used i) ≡ true
+taken_kept p h used i rules each = by (takes_every i.wanted)
+  where
+    by : (t : Bool) → is_after (cond t (last_given (place_if_at i.name (history_number p h i.resource)) used) None) ≡ true
+    by true =
+        after_is h.tables (history_number p h i.resource) rules.0.2 (last_given (place_if_at i.name (history_number p h i.resource)) used)
+        (given_holds (place_if_at i.name (history_number p h i.resource)) (IsUsed h.tables) (λ n. IsTrue (has_place h.tables (history_number p h i.resource) n))
+        (used_placed h.tables i.name i.name (history_number p h i.resource)) used each)
     by false = refl
 
 -- ---- a build that ends keeps what it used
