@@ -18,3 +18,5 @@ pub mod ReadBuilds
 pub mod ShownRows
 pub mod Nothing
 mod ReadFaults
+pub mod EnabledRows
+pub mod ReadDisabled

@@ -363,6 +363,46 @@ fn add_builds(
     Ok(())
 }
 
+// ---- what is disabled
+/// Disables the place of a row, if the tables have it.
+fn disable(history: &mut History, row: &Pair) -> Result<(), StoreFault>
+    ensures read { (p : ℕ × ℕ) → IsTrue (has_place history.old.tables p.0 p.1) → row.now ≡ moved_row 0 p
+        → OrNoMemory (λ _. history.new ≡ edited (disabled p.0 p.1) history.old) result }
+    ensures kept { OnOk result (KeepsSeen history.old history.new) }
+    ensures builds { OnOk result (history.new.builds ≡ history.old.builds) }
+{
+    let (_, _, scope, place) = row.columns();
+    if !history.has_place(scope, place) {
+        return Err(StoreFault::NotOurs);
+    }
+    history.disable_place(scope, place)?;
+    Ok(())
+}
+
+fn disable_all(history: &mut History, rows: &[Pair]) -> Result<(), StoreFault>
+    ensures read { (ps : List (ℕ × ℕ)) → AreDisabled history.old.tables ps → history.old.disabled ≡ []
+        → rows.now ≡ disabled_rows ps → OrNoMemory (λ _. history.new ≡ record history.old { disabled = ps }) result }
+    ensures kept { OnOk result (KeepsSeen history.old history.new) }
+{
+    for row in rows {
+        disable(history, row)?;
+    }
+    Ok(())
+}
+
+/// Disables the places of the rows of build 0, and gives the rows behind them.
+fn add_disabled<'a>(history: &mut History, rows: &'a [Pair]) -> Result<&'a [Pair], StoreFault>
+    ensures read { (ps : List (ℕ × ℕ)) (bs : List BuildData) → AreDisabled history.old.tables ps
+        → history.old.disabled ≡ [] → rows.now ≡ disabled_rows ps ++ listed_pairs 1 bs
+        → OrNoMemory (λ more. (more.now ≡ listed_pairs 1 bs)
+        × (history.new ≡ record history.old { disabled = ps })) result }
+    ensures kept { OnOk result (KeepsSeen history.old history.new) }
+{
+    let (front, more) = rows.split_at(pair_count(rows, 0));
+    disable_all(history, front)?;
+    Ok(more)
+}
+
 // ---- what was set
 #[tactic(auto, using(crate::proofs::ReadRows::map_again))]
 fn read_pin(alloc: Global, row: &Row) -> Result<Pin, StoreFault>
@@ -409,7 +449,7 @@ fn add_text(history: &mut History, row: &Row) -> Result<(), StoreFault>
 }
 
 fn read_text(history: &mut History, meta: &[Row]) -> Result<(), StoreFault>
-    ensures { (t : Option (List ℕ)) → history.old.text ≡ None → meta.now ≡ meta_rows t
+    ensures { (format : Format) (t : Option (List ℕ)) → history.old.text ≡ None → meta.now ≡ meta_rows format t
         → OrNoMemory (λ _. history.new ≡ record history.old { text = t }) result }
 {
     match meta {
@@ -436,7 +476,7 @@ pub(crate) fn check_text(alloc: Global, text: Option<&[u8]>) -> Result<(), Store
 /// Sets the text and adds the tables of the history that has these rows, if there is one.
 fn add_seen(alloc: Global, history: &mut History, seen: &Seen) -> Result<(), StoreFault>
     ensures { history.old ≡ no_history → (h : HistoryData) → IsHistory h → HasTexts h
-        → ListsSeen h seen.now.meta.items seen.now.scopes.items seen.now.versions.items
+        → (format : Format) → ListsSeen format h seen.now.meta.items seen.now.scopes.items seen.now.versions.items
         → OrNoMemory (λ _. history.new ≡ seen_of h) result }
 {
     read_text(history, &seen.meta)?;
@@ -446,7 +486,7 @@ fn add_seen(alloc: Global, history: &mut History, seen: &Seen) -> Result<(), Sto
 /// What was set and seen of the history that has these rows, if there is one. Whether it has them is for the caller to see.
 pub(crate) fn read_tables(alloc: Global, seen: &Seen) -> Result<History, StoreFault>
     ensures { (h : HistoryData) → IsHistory h → HasTexts h
-        → ListsSeen h seen.now.meta.items seen.now.scopes.items seen.now.versions.items
+        → (format : Format) → ListsSeen format h seen.now.meta.items seen.now.scopes.items seen.now.versions.items
         → OrNoMemory (λ history. history ≡ seen_of h) result }
 {
     let mut history = History::new(alloc);
@@ -456,7 +496,7 @@ pub(crate) fn read_tables(alloc: Global, seen: &Seen) -> Result<History, StoreFa
     }
 }
 
-/// Adds the builds and pins of the history that has these rows, if there is one. Whether it has them is for the caller to
+/// Adds the builds, disabled places and pins of the history that has these rows, if there is one. Whether it has them is for the caller to
 /// see.
 pub(crate) fn read_builds(
     alloc: Global,
@@ -468,6 +508,7 @@ pub(crate) fn read_builds(
         → OrNoMemory (λ _. history.new ≡ h) result }
     ensures kept { OnOk result (KeepsSeen history.old history.new) }
 {
-    add_builds(alloc, history, &built.builds, &built.pairs)?;
+    let pairs = add_disabled(history, &built.pairs)?;
+    add_builds(alloc, history, &built.builds, pairs)?;
     add_pins(alloc, history, &built.pins)
 }
