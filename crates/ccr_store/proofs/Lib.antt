@@ -20,3 +20,5 @@ pub mod Nothing
 mod ReadFaults
 pub mod EnabledRows
 pub mod ReadDisabled
+pub mod RaisedRows
+pub mod Taking

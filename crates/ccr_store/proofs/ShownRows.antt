@@ -119,8 +119,8 @@ shown_seen f h meta scopes versions seen = record {
   reported = shown 2 (table_rows 1 h.tables) versions (tables_key 1 h.tables) seen.reported;
 }
 
-pub shown_built : (h : HistoryData) (builds pairs pins : List Row) → IsHistory h → AreBuilt (rows_of h) builds pairs pins → ListsBuilt h builds pairs pins
-shown_built h builds pairs pins rules built = record {
+pub shown_built : (f : Format) (h : HistoryData) (builds pairs pins : List Row) → IsHistory h → AreBuilt (rows_in f h) builds pairs pins → ListsBuilt h builds pairs pins
+shown_built f h builds pairs pins rules built = record {
   made = shown 1 (build_rows 1 h.builds) builds (builds_key 1 h.builds) built.made;
   given = shown_pairs h pairs rules built.given;
   held = shown 1 (map pin_row h.pins) pins (pins_key h.pins rules.2.0) built.held;
@@ -137,8 +137,8 @@ all_pairs h rules texts =
     let few : 1 + length h.builds ≤ 2 ^ 32 = omega (arith, rules.1.0) in
     all-append IsPair (disabled_rows h.disabled) (listed_pairs 1 h.builds) (disabled_are h.tables h.disabled rules.0 rules.3.1) (listed_pairs_are h.tables 1 h.builds few rules.0 rules.1.2 texts.builds)
 
-pub no_other : (h : HistoryData) → IsHistory h → HasTexts h → HasOther IsBuild 1 (rows_of h).builds ⊎ HasOther IsPair 4 (rows_of h).pairs → ⊥
-no_other h rules texts (inl other) =
+pub no_other : (f : Format) (h : HistoryData) → IsHistory h → HasTexts h → HasOther IsBuild 1 (rows_in f h).builds ⊎ HasOther IsPair 4 (rows_in f h).pairs → ⊥
+no_other f h rules texts (inl other) =
     other.2 (subst (AllByRecursion IsBuild) (sym (shown 1 (build_rows 1 h.builds) other.0 (builds_key 1 h.builds) other.1)) (all_builds h rules texts))
-no_other h rules texts (inr other) =
+no_other f h rules texts (inr other) =
     other.2 (subst (AllByRecursion IsPair) (sym (shown_pairs h other.0 rules other.1)) (all_pairs h rules texts))

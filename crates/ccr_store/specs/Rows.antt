@@ -3,6 +3,7 @@ use Rattle.std.specs.Prelude.{◌≡◌, pos, ℕ, ◌+◌, [], ◌∷◌, ◌++
 use Rattle.sqlite.specs.declared.types.Value.TheVariants.{Int, Text as Words, Blob}
 use Rattle.sqlite.specs.Order.{Row}
 use Rattle.ccr_tables.specs.Contents.{Contents}
+use Rattle.ccr_tables.specs.Written.{with_meta}
 use Rattle.ccr_history.specs.declared.build.Status.{Status}
 use Rattle.ccr_history.specs.declared.build.Status.TheVariants.{Running, Succeeded, Failed, Errored, Aborted}
 use Rattle.ccr_history.specs.Text.{Text}
@@ -115,6 +116,15 @@ rows_in f h = record {
 -- THE ROWS OF A HISTORY, in the format that is written
 abbrev pub rows_of : HistoryData → Contents
 rows_of = rows_in Two
+
+-- contents of the first format, in the second: row 1 of `meta` has its number
+abbrev pub raised : Contents → Contents
+raised these = with_meta 1 (format_text Two) these
+
+-- contents of a format, in the second
+abbrev pub in_second : Format → Contents → Contents
+in_second One these = raised these
+in_second Two these = these
 
 -- a format has room for the history: the first has none for disabled places
 abbrev pub Fits : Format → HistoryData → Type 0

@@ -2,6 +2,7 @@
 use Rattle.std.specs.Prelude.{◌≡◌, ◌⊎◌, List, ◌∷◌, IfSome, map}
 use Rattle.sqlite.specs.Effect.{Database}
 use Rattle.sqlite.specs.Order.{Row}
+use Rattle.sqlite.specs.State.{State, IsUnchanged}
 use Rattle.ccr_history.specs.History.{HistoryData, IsHistory}
 use Rattle.ccr_tables.specs.Read.{meta_text, scopes_text, versions_text, builds_text, pairs_text, pins_text}
 use Rattle.ccr_tables.specs.Shown.{Shows}
@@ -10,6 +11,7 @@ use Rattle.ccr_store.specs.Readable.{IsReadable}
 use Rattle.ccr_store.specs.Rows.{Fits, format_row, meta_rows, scope_rows, table_rows, build_rows, pin_row}
 use Rattle.ccr_store.specs.Texts.{HasTexts}
 use Rattle.ccr_store.specs.declared.format.Format.{Format}
+use Rattle.ccr_store.specs.declared.format.Format.TheVariants.{One, Two}
 
 -- ---- the answers to the six reads
 -- SQLite answers these rows to the reads of what was set and seen
@@ -88,3 +90,10 @@ ShowsFormat f db = (rows : List Row) × Shows meta_text db rows × BeginsWith f 
 -- it answers rows that begin with no format's
 abbrev pub ShowsNoFormat : Database → Type 0
 ShowsNoFormat db = (rows : List Row) × Shows meta_text db rows × ((f : Format) → ¬ BeginsWith f rows)
+
+-- A DATABASE WITH TABLES IS TAKEN: it has the number of the second format, and nothing has changed; or it has that of the
+-- first, and SQLite showed a history in it before it was written over
+abbrev pub IsTaken : State → State → Type 0
+IsTaken old new =
+    (ShowsFormat Two old.now × IsUnchanged old new)
+    ⊎ (ShowsFormat One old.now × (h : HistoryData) × IsHistory h × Fits One h × ShowsHistory One h old.now)

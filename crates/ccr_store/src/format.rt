@@ -1,6 +1,8 @@
 //! The formats of a database.
-ghost use Rattle.std.specs.Prelude.{◌≡◌};
-ghost use Rattle.ccr_store.specs.Rows.{format_text};
+ghost use Rattle.std.specs.Prelude.{◌≡◌, ◌↔◌, IsTrue};
+ghost use Rattle.ccr_store.specs.Rows.{format_text, Fits};
+
+use ccr_history::History;
 
 /// How a history stands in the six tables.
 #[derive(Clone, Copy, Debug, PartialEq, Eq)]
@@ -19,6 +21,16 @@ impl Format {
         match self {
             Format::One => b"1",
             Format::Two => b"2",
+        }
+    }
+
+    /// Whether the format has room for a history.
+    pub(crate) fn fits(self, history: &History) -> bool
+        ensures { IsTrue result ↔ Fits self history.now }
+    {
+        match self {
+            Format::One => history.disabled().is_empty(),
+            Format::Two => true,
         }
     }
 }

@@ -1,5 +1,5 @@
 //! A history, made of rows by its own calls.
-ghost use Rattle.std.specs.Prelude.{◌≡◌, ◌≢◌, ◌+◌, ◌^◌, ◌<◌, ◌≤◌, ◌++◌, ℕ, List, [], ◌∷◌, pos, length, map, false, Option, None, Some, IfSome, IfErr, OnOk, IsUtf8, option_copied};
+ghost use Rattle.std.specs.Prelude.{◌≡◌, ◌≢◌, ◌+◌, ◌^◌, ◌<◌, ◌≤◌, ◌++◌, ℕ, List, [], ◌∷◌, pos, length, map, false, IsTrue, Option, None, Some, IfSome, IfErr, OnOk, IsUtf8, option_copied};
 ghost use Rattle.std.specs.List.{AllByRecursion};
 ghost use Rattle.sqlite.specs.declared.types.Value.TheVariants.{Int, Text};
 ghost use Rattle.sqlite.specs.Order.{Row as RowData, column};
@@ -8,8 +8,8 @@ ghost use Rattle.serde_json.specs.View.{view};
 ghost use Rattle.ccr_history.specs.TextMap.{TextMap, members_of, key_text};
 ghost use Rattle.ccr_history.specs.Tables.{ScopeData, TableData, is_scope, is_table_full};
 ghost use Rattle.ccr_history.specs.Builds.{UsedData, BuildData, new_build, build_of, count_of};
-ghost use Rattle.ccr_history.specs.History.{HistoryData, IsHistory, IsTable, IsBuild, AreTables, AreBuilds, ArePins, no_history};
-ghost use Rattle.ccr_history.specs.Changes.{versions, build, ended, pin_set, text, edited, AreUsed, AreMoved, IsRunning};
+ghost use Rattle.ccr_history.specs.History.{HistoryData, IsHistory, IsTable, IsBuild, AreTables, AreBuilds, ArePins, AreDisabled, has_place, no_history};
+ghost use Rattle.ccr_history.specs.Changes.{versions, build, ended, pin_set, disabled, text, edited, AreUsed, AreMoved, IsRunning};
 ghost use Rattle.ccr_history.specs.declared.build.Status.{Status as StatusData};
 ghost use Rattle.ccr_history.specs.declared.build.Status.TheVariants.{Running};
 ghost use Rattle.ccr_history.specs.declared.table.TheConstants.{MOST_SCOPES};
@@ -17,7 +17,8 @@ ghost use Rattle.ccr_history.specs.declared.builds.TheConstants.{MOST_BUILDS};
 ghost use Rattle.ccr_storage.specs.declared.fault.StoreFault.TheVariants.{NoMemory, NotOurs};
 ghost use Rattle.ccr_store.specs.Listed.{listed_pairs, ListsSeen, ListsBuilt, KeepsSeen, seen_of};
 ghost use Rattle.ccr_store.specs.Readable.{IsReadable};
-ghost use Rattle.ccr_store.specs.Rows.{meta_rows, text_row, scope_row, scope_rows, version_rows, table_rows, status_number, build_row, build_rows, used_row, moved_row, pin_row};
+ghost use Rattle.ccr_store.specs.Rows.{meta_rows, text_row, scope_row, scope_rows, version_rows, table_rows, status_number, build_row, build_rows, used_row, moved_row, disabled_rows, pin_row};
+ghost use Rattle.ccr_store.specs.declared.format.Format.{Format};
 ghost use Rattle.ccr_store.specs.Texts.{IsSpelled, IsTextTable, IsTextBuild, IsTextPin, HasTexts, OrNoMemory};
 
 use crate::columns::{has_no_input, is_number, is_of, read_column};
