@@ -34,12 +34,6 @@ use Rattle.ccr_serve.specs.Serving.{Serves}
 use Rattle.ccr_storage.specs.Counts.{RoseBy}
 use Rattle.ccr_serve.specs.Views.{View, Calls}
 
--- a server isn't opened for want of memory, or because its storage failed
-abbrev pub KeepsFromOpening : ServeFault → Type 0
-KeepsFromOpening NoMemory = ⊤
-KeepsFromOpening (Store f) = ⊤
-KeepsFromOpening f = ⊥
-
 -- ---- what is named
 -- the pin that a text spells, if it spells one
 abbrev pub pin_in : Text → Option TextMap
