@@ -11,7 +11,7 @@ use Rattle.ccr_tables.specs.Schema.{no_schema}
 use Rattle.ccr_store.specs.Causes.{IsLetGo, IsUnread}
 
 -- a database was taken: one without tables has those of a new one since, and another is as it was
-pub record IsTaken (old new : State) : Type 0 where
+pub record WasTaken (old new : State) : Type 0 where
   pub made : HasCleanDisk new → old.now.schema ≡ no_schema → Holds new_contents new.now
   pub same : HasCleanDisk new → old.now.schema ≢ no_schema → IsUnchanged old new
 
@@ -21,4 +21,4 @@ pub record IsUnfound {S : Type 0} (g : Ghosts S) (image : Image) (fault : StoreF
   pub conn : Held S
   pub found : HasCleanDisk (state g conn) → FindsIn image (state g conn)
   pub cause : IsLetGo g (state g conn) fault
-      ⊎ ((taken : Held S) × IsTaken (state g conn) (state g taken) × IsUnread g (state g taken) fault)
+      ⊎ ((taken : Held S) × WasTaken (state g conn) (state g taken) × IsUnread g (state g taken) fault)
