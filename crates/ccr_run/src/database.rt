@@ -69,7 +69,7 @@ impl<S: Start> Database<FileStore<FileFrom<S>>> {
         ensures readable { IfOk result (λ loaded. IfSome loaded.1.text IsReadable) }
         ensures unfound { IfErr result (IsUnfound ⟦<FileStore<FileFrom<S>> as Trees>⟧ (image_at S.Start)) }
     {
-        match Store::adopt(conn) {
+        match Store::adopt(alloc, conn) {
             Ok(store) => Database::with_history(alloc, store),
             Err(fault) => Err(fault),
         }

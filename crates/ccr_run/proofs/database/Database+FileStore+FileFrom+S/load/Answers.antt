@@ -35,7 +35,7 @@ returns-in-Ok-clause-begins g c =
 pub returns-in-Ok-clause-unfound : goal.returns-in-Ok-clause-unfound
 returns-in-Ok-clause-unfound g c =
     unfound_later over_files (image_at g.S.Start) c.args.conn c.in-Ok.store.conn c.with_history.result c.requires.found
-    (record { made = λ clean blank. (c.in-Ok.ensures.made clean blank).0.rows; same = λ clean other. (c.in-Ok.ensures.taken clean other).1 })
+    (record { made = λ clean blank. (c.in-Ok.ensures.made clean blank).0.rows; taken = λ clean other. c.in-Ok.ensures.taken clean other })
     c.with_history.ensures.unread
 
 pub returns-in-Err-clause-unfound : goal.returns-in-Err-clause-unfound
