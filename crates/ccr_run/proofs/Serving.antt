@@ -8,6 +8,7 @@ use Rattle.ccr_task.specs.Places.{PlacesData, places_data}
 use Rattle.ccr_task.specs.Calls.{CallData}
 use Rattle.ccr_core.specs.Cores.{core_data}
 use Rattle.ccr_core.specs.Resumed.{IsResumed}
+use Rattle.ccr_storage.specs.declared.fault.StoreFault.{StoreFault}
 use Rattle.ccr_storage.specs.declared.tally.Tally.{Tally}
 use Rattle.ccr_serve.specs.declared.fault.ServeFault.{ServeFault}
 use Rattle.ccr_serve.specs.declared.server.Server.{Server}
@@ -50,13 +51,13 @@ did pairs calls holds leaves tally order opened left answer end old new same cam
 
 -- a server that has just begun did what was ordered
 pub served : {R S T : Type 0} (pairs : R → List Pair) (calls : S → List CallData) (holds : T → HistoryData → Type 0)
-    (leaves : T → List HistoryData → Type 0) (tally : T → Tally) (begins_with : T → HistoryData → Type 0) (order : Order)
+    (leaves : T → List HistoryData → Type 0) (tally : T → Tally) (begins_with : T → HistoryData → Type 0) (unfound : StoreFault → Type 0) (order : Order)
     (storage : T) (h : HistoryData)
     (opened : Server R S T) (end : Result ℕ Failure) (old new : Text) → begins_with storage h
     → Begins h order.options.budget (view_of pairs calls holds leaves tally opened [])
     → Did pairs calls holds leaves tally order opened end old new
-    → Served pairs calls holds leaves tally begins_with order (Some order.options.database.now) end old new
-served pairs calls holds leaves tally begins_with order storage h opened end old new found begins did =
+    → Served pairs calls holds leaves tally begins_with unfound order (Some order.options.database.now) end old new
+served pairs calls holds leaves tally begins_with unfound order storage h opened end old new found begins did =
     inl (record {
       named = refl;
       storage = storage;
@@ -80,10 +81,10 @@ served pairs calls holds leaves tally begins_with order storage h opened end old
 
 -- what was ordered is done
 pub done : {R S T : Type 0} (pairs : R → List Pair) (calls : S → List CallData) (holds : T → HistoryData → Type 0)
-    (leaves : T → List HistoryData → Type 0) (tally : T → Tally) (begins_with : T → HistoryData → Type 0)
+    (leaves : T → List HistoryData → Type 0) (tally : T → Tally) (begins_with : T → HistoryData → Type 0) (unfound : StoreFault → Type 0)
     (words : List Text) (asked : Option Text) (old new : Text) (failed : Bool) (status : ℕ) (order : Order) (outcome : Outcome)
-    → IsOrdered words order → Served pairs calls holds leaves tally begins_with order asked outcome.end old new
+    → IsOrdered words order → Served pairs calls holds leaves tally begins_with unfound order asked outcome.end old new
     → outcome.is_printed ≡ not failed → status ≡ exit_status_of outcome
-    → Obeyed pairs calls holds leaves tally begins_with words asked old new failed status
-done pairs calls holds leaves tally begins_with words asked old new failed status order outcome ordered served printed is =
+    → Obeyed pairs calls holds leaves tally begins_with unfound words asked old new failed status
+done pairs calls holds leaves tally begins_with unfound words asked old new failed status order outcome ordered served printed is =
     inl (record { order = order; ordered = ordered; outcome = outcome; served = served; printed = printed; status_is = is })

@@ -12,6 +12,7 @@ ghost use Rattle.ccr_lines.specs.Commands.{command_data};
 ghost use Rattle.ccr_serve.specs.Views.{view_of, IsReady};
 ghost use Rattle.ccr_run.specs.Asked.{asked_by};
 ghost use Rattle.ccr_run.specs.Databases.{begins_with};
+ghost use Rattle.ccr_run.specs.Unfound.{IsUnfound};
 ghost use Rattle.ccr_run.specs.Served.{Did, Served, handed_on, places_in};
 
 use crate::database::Database;
@@ -22,10 +23,11 @@ use crate::order::Order;
 use ccr_history::History;
 use ccr_lines::{Command, Lines, Printed};
 use ccr_process::{Machine, Runner};
-use ccr_serve::{ServeFault, Server};
+use ccr_serve::{ServeFault, Server, Unopened};
 use ccr_storage::Storage;
 use ccr_task::{Folders, Places, Shelf};
 use sqlite::{Connection, FileFrom, FileStore, Start};
+use sqlite_trees::store::Store as Trees;
 use std::alloc::{AllocError, Global};
 use std::io::Write;
 
@@ -104,6 +106,7 @@ fn serve_history<'a, S: Start, W: Write>(
         ⟦<Database<FileStore<FileFrom<S>>> as Storage>⟧.holds
         ⟦<Database<FileStore<FileFrom<S>>> as Storage>⟧.leaves
         ⟦<Database<FileStore<FileFrom<S>>> as Storage>⟧.tally (begins_with (image_at S.Start))
+        (IsUnfound ⟦<FileStore<FileFrom<S>> as Trees>⟧ (image_at S.Start))
         order.now (Some order.now.options.database.now) result
         (out.old.shown ++ out.old.waiting) (out.new.shown ++ out.new.waiting) }
     ensures printed { out.old.waiting ≡ [] → out.new.failed ≡ false → out.new.waiting ≡ [] }
@@ -114,7 +117,7 @@ fn serve_history<'a, S: Start, W: Write>(
     let budget = order.options.budget;
     match Server::open(alloc, runner, folders, database, history, places, budget) {
         Ok(server) => serve_by(server, order, out),
-        Err(fault) => Err(Failure::from(fault)),
+        Err(Unopened { fault, storage: _ }) => Err(Failure::Refused(fault)),
     }
 }
 
@@ -136,6 +139,7 @@ fn serve_database<'a, S: Start, W: Write>(
         ⟦<Database<FileStore<FileFrom<S>>> as Storage>⟧.holds
         ⟦<Database<FileStore<FileFrom<S>>> as Storage>⟧.leaves
         ⟦<Database<FileStore<FileFrom<S>>> as Storage>⟧.tally (begins_with (image_at S.Start))
+        (IsUnfound ⟦<FileStore<FileFrom<S>> as Trees>⟧ (image_at S.Start))
         order.now (Some order.now.options.database.now) result
         (out.old.shown ++ out.old.waiting) (out.new.shown ++ out.new.waiting) }
     ensures printed { out.old.waiting ≡ [] → out.new.failed ≡ false → out.new.waiting ≡ [] }
@@ -161,6 +165,7 @@ fn serve<'a, S: Start, W: Write>(
         ⟦<Database<FileStore<FileFrom<S>>> as Storage>⟧.holds
         ⟦<Database<FileStore<FileFrom<S>>> as Storage>⟧.leaves
         ⟦<Database<FileStore<FileFrom<S>>> as Storage>⟧.tally (begins_with (image_at S.Start))
+        (IsUnfound ⟦<FileStore<FileFrom<S>> as Trees>⟧ (image_at S.Start))
         order.now (asked_by opener.new) result (out.old.shown ++ out.old.waiting) (out.new.shown ++ out.new.waiting) }
     ensures printed { out.old.waiting ≡ [] → out.new.failed ≡ false → out.new.waiting ≡ [] }
 {
@@ -188,6 +193,7 @@ pub fn run<'a, S: Start, W: Write>(
         ⟦<Database<FileStore<FileFrom<S>>> as Storage>⟧.holds
         ⟦<Database<FileStore<FileFrom<S>>> as Storage>⟧.leaves
         ⟦<Database<FileStore<FileFrom<S>>> as Storage>⟧.tally (begins_with (image_at S.Start))
+        (IsUnfound ⟦<FileStore<FileFrom<S>> as Trees>⟧ (image_at S.Start))
         order.now (asked_by opener.new) result.end
         (out.old.shown ++ out.old.waiting) (out.new.shown ++ out.new.waiting) }
     ensures printed { result.is_printed ≡ not out.new.failed }

@@ -35,12 +35,6 @@ use Rattle.ccr_serve.specs.Serving.{Serves}
 use Rattle.ccr_storage.specs.Counts.{RoseBy}
 use Rattle.ccr_serve.specs.Views.{View, with_calls, Calls}
 
--- a server isn't opened for want of memory, or because its storage failed
-abbrev pub KeepsFromOpening : ServeFault → Type 0
-KeepsFromOpening NoMemory = ⊤
-KeepsFromOpening (Store f) = ⊤
-KeepsFromOpening f = ⊥
-
 -- ---- what is needed
 abbrev pub HasResource : State → Text → Type 0
 HasResource s name = IsSome (resource_of name (resources_of s))

@@ -35,4 +35,5 @@ mod wanted;
 
 pub use fault::ServeFault;
 pub use law::turns_go_round;
+pub use open::Unopened;
 pub use server::Server;

@@ -11,7 +11,7 @@ use crate::programs::places;
 use ccr_history::History;
 use ccr_lines::{Command, Printed};
 use ccr_process::Scripted;
-use ccr_serve::{ServeFault, Server};
+use ccr_serve::{ServeFault, Server, Unopened};
 use ccr_storage::Tally;
 use ccr_task::ShelfScript;
 use std::alloc::Global;
@@ -59,8 +59,10 @@ impl<W: Write + Drop> Serving<W> {
             tally: Tally::new(),
         };
         let history = History::new(alloc);
-        let server = Server::open(alloc, runner, shelf, storage, history, places, BUDGET)?;
-        Ok(Serving { server })
+        match Server::open(alloc, runner, shelf, storage, history, places, BUDGET) {
+            Ok(server) => Ok(Serving { server }),
+            Err(Unopened { fault, storage: _ }) => Err(fault),
+        }
     }
 
     /// Does a command.

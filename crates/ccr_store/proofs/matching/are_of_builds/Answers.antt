@@ -3,7 +3,7 @@ use Rattle.std.proofs.lemmas.List.{drop_all}
 use Rattle.sqlite.specs.Order.{Row}
 use Rattle.ccr_store.specs.Listed.{listed_pairs}
 use Rattle.ccr_store.proofs.ListedRows.{pairs_step, drop_at}
-use Rattle.ccr_store.proofs.matching.are_pairs.Goals as goal
+use Rattle.ccr_store.proofs.matching.are_of_builds.Goals as goal
 
 pub loop-index-preserved : goal.loop-index-preserved
 loop-index-preserved c =

@@ -1,6 +1,6 @@
 use Rattle.std.proofs.Common.{◌≡◌, ◌+◌, drop}
 use Rattle.ccr_store.specs.Listed.{listed_pairs}
-use Rattle.ccr_store.proofs.matching.are_pairs.Given as goal
+use Rattle.ccr_store.proofs.matching.are_of_builds.Given as goal
 
 abbrev pub invariant-loop-index : goal.invariant-loop-index
 invariant-loop-index l = record {
