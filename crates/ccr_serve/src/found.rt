@@ -11,7 +11,6 @@ ghost use Rattle.ccr_serve.specs.Pairs.{Adds};
 use ccr_history::{History, Version};
 use ccr_lines::Cause;
 use ccr_pipeline::Resource;
-use ccr_problem::scope_of;
 use ccr_process::{Ended, Runner};
 use ccr_protocol::{ReplyFault, RequestFault, read_check};
 use ccr_task::{Places, Shelf, ShelfFault, check_launch};
@@ -68,15 +67,10 @@ fn found_by(alloc: Global, end: Ended) -> Result<Found, AllocError>
 }
 
 /// The version of a resource with the greatest place, if there is one.
-fn newest_of<'h>(
-    alloc: Global,
-    history: &'h History,
-    resource: &Resource,
-) -> Result<Option<&'h Version>, AllocError>
-    ensures { IfOk result (λ version. option_copied version ≡ newest (resource_data resource.now) history.now) }
+fn newest_of<'h>(history: &'h History, resource: &Resource) -> Option<&'h Version>
+    ensures { option_copied result ≡ newest (resource_data resource.now) history.now }
 {
-    let scope = scope_of(alloc, resource)?;
-    Ok(history.versions(&scope).last())
+    history.versions(resource.scope()).last()
 }
 
 /// Checks a resource, which is told its newest version: the folder of all builds is made, the one program is run, and
@@ -99,11 +93,7 @@ pub(crate) fn find<R: Runner, S: Shelf>(
         × BeginsFind (places_data places.now) (resource_data resource.now)
         (newest (resource_data resource.now) history.now) (S.calls shelf.old) (S.calls shelf.new) lost) }
 {
-    let version = match newest_of(alloc, history, resource) {
-        Ok(version) => version,
-        Err(error) => return Err(error),
-    };
-    let launch = match check_launch(alloc, places, resource, version) {
+    let launch = match check_launch(alloc, places, resource, newest_of(history, resource)) {
         Ok(launch) => launch,
         Err(RequestFault::TooLong) => return Ok(Found::Nothing(Cause::RequestTooLong)),
         Err(RequestFault::NoMemory) => return Err(AllocError),

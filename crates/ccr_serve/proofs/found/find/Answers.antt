@@ -15,11 +15,11 @@ use Rattle.ccr_serve.proofs.found.find.Goals as goal
 pub returns-clause-ok : goal.returns-clause-ok
 returns-clause-ok g c =
     found_after (places_data c.args.places.now) (resource_data c.args.resource.now)
-    (option_copied c.in-Ok.version) (newest (resource_data c.args.resource.now) c.args.history.now)
+    (option_copied c.newest_of.result) (newest (resource_data c.args.resource.now) c.args.history.now)
     (g.S.Shelf.calls c.args.shelf.now) (g.S.Shelf.calls c.make_folder.new.self)
     (g.R.Runner.pairs c.args.runner.now) (g.R.Runner.pairs c.run.new.self)
     (launch_data c.in-Ok-check_launch.launch) (end_data c.run.result)
-    c.in-Ok.ensures c.run.ensures c.in-Ok-check_launch.ensures.0
+    c.newest_of.ensures c.run.ensures c.in-Ok-check_launch.ensures.0
     (made_at (g.S.Shelf.calls c.args.shelf.now) (g.S.Shelf.calls c.make_folder.new.self) (Ok tt) c.as_str.result.now
     (string_bytes c.args.places.now.work) c.in-Ok-make_folder.ensures.called c.as_str.ensures.value)
     c.found_by.result c.in-Ok-check_launch.ensures.1 c.found_by.ensures
@@ -27,23 +27,14 @@ returns-clause-ok g c =
 pub returns-clause-err : goal.returns-clause-err
 returns-clause-err g c =
     found_lost (places_data c.args.places.now) (resource_data c.args.resource.now)
-    (option_copied c.in-Ok.version) (newest (resource_data c.args.resource.now) c.args.history.now)
+    (option_copied c.newest_of.result) (newest (resource_data c.args.resource.now) c.args.history.now)
     (g.S.Shelf.calls c.args.shelf.now) (g.S.Shelf.calls c.make_folder.new.self)
     (g.R.Runner.pairs c.args.runner.now) (g.R.Runner.pairs c.run.new.self)
     (launch_data c.in-Ok-check_launch.launch) (end_data c.run.result)
-    c.in-Ok.ensures c.run.ensures c.in-Ok-check_launch.ensures.0
+    c.newest_of.ensures c.run.ensures c.in-Ok-check_launch.ensures.0
     (made_at (g.S.Shelf.calls c.args.shelf.now) (g.S.Shelf.calls c.make_folder.new.self) (Ok tt) c.as_str.result.now
     (string_bytes c.args.places.now.work) c.in-Ok-make_folder.ensures.called c.as_str.ensures.value)
     c.found_by.result
-
-pub returns-in-Err-clause-err : goal.returns-in-Err-clause-err
-returns-in-Err-clause-err g c =
-    none_lost (check_folders (places_data c.args.places.now))
-    (λ l. l ≡ check_launch (places_data c.args.places.now) (resource_data c.args.resource.now)
-    (newest (resource_data c.args.resource.now) c.args.history.now))
-    (g.S.Shelf.calls c.args.shelf.now) (g.S.Shelf.calls c.args.shelf.now) (g.R.Runner.pairs c.args.runner.now)
-    (Err NoMemory)
-    (does_nothing (making (string_bytes c.args.places.now.work)) [] (g.S.Shelf.calls c.args.shelf.now))
 
 pub returns-in-Err-NoMemory-clause-err : goal.returns-in-Err-NoMemory-clause-err
 returns-in-Err-NoMemory-clause-err g c =
