@@ -1,5 +1,5 @@
 -- Rows of the first format, in the second.
-use Rattle.std.proofs.Common.{◌≡◌, ◌⊎◌, inl, inr, pos, List, [], ◌∷◌, Option, Some, None, true, false, not, cond, is_eq, refl, sym, ap, subst, ◌∙◌, IsPermutation}
+use Rattle.std.proofs.Common.{◌≡◌, ◌⊎◌, inl, inr, pos, ℕ, List, [], ◌∷◌, Option, Some, None, true, false, not, cond, is_eq, refl, sym, ap, subst, ◌∙◌, arith, IsPermutation}
 use Rattle.std.specs.List.{AllByRecursion}
 use Rattle.std.proofs.lemmas.List.Sorted.{IsPermutation-refl}
 use Rattle.sqlite.specs.declared.types.Value.TheVariants.{Int, Blob}
@@ -26,13 +26,21 @@ IsOf f r = (r ≡ format_row f) ⊎ (column r 0 ≡ Int (pos 2))
 
 meta_of : (f : Format) (t : Option Text) → AllByRecursion (IsOf f) (meta_rows f t)
 meta_of f None = (inl refl, tt)
-meta_of f (Some t) = (inl refl, inr refl, tt)
+meta_of f (Some t) = (inl refl, (inr refl, tt))
+
+abbrev number_in : Row → List ℕ
+number_in (a ∷ Blob t ∷ r) = t
+number_in _ = []
+
+abbrev first_in : List ℕ → ℕ
+first_in [] = 0
+first_in (n ∷ ns) = n
 
 same_row : (f k : Format) → format_row f ≡ format_row k → f ≡ k
 same_row One One e = refl
 same_row Two Two e = refl
-same_row One Two e = absurd (let bad = e in cc)
-same_row Two One e = absurd (let bad = e in cc)
+same_row One Two e = absurd (let bad : 49 ≡ 50 = ap (λ r. first_in (number_in r)) e in omega arith)
+same_row Two One e = absurd (let bad : 50 ≡ 49 = ap (λ r. first_in (number_in r)) e in omega arith)
 
 -- a history's rows are of one format
 pub one_format : (f k : Format) (h : HistoryData) → HasFormat f (rows_in k h) → f ≡ k

@@ -1,5 +1,5 @@
 -- A database is taken, step by step.
-use Rattle.std.proofs.Common.{◌≡◌, ◌≢◌, ◌⊎◌, inl, inr, List, [], ◌∷◌, Result, Ok, Err, IfErr, OnOk, OnErr, Unit, refl, sym, subst, ap, ◌∙◌, arith, IsTrue}
+use Rattle.std.proofs.Common.{◌≡◌, ◌≢◌, ◌⊎◌, inl, inr, List, [], ◌∷◌, Result, Ok, Err, IfErr, sym, subst, ◌∙◌, arith, IsTrue}
 use Rattle.std.specs.Prelude.{IsErrAnd}
 use Rattle.sqlite_trees.specs.declared.store.Store.{Ghosts}
 use Rattle.sqlite.specs.declared.error.Error.{Error}

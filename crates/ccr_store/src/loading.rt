@@ -90,7 +90,11 @@ fn are_seen(
         → IfOk result IsTrue }
 {
     let has_versions = are_versions(alloc, &seen.versions, history)?;
-    Ok(has_versions && are_meta(&seen.meta, format, history.text()) && are_scopes(&seen.scopes, history))
+    Ok(
+        has_versions
+            && are_meta(&seen.meta, format, history.text())
+            && are_scopes(&seen.scopes, history),
+    )
 }
 
 /// `NotOurs` where the rows aren't those of the history's text and tables, or no pipeline can be read from its text.

@@ -8,8 +8,8 @@ ghost use Rattle.ccr_store.specs.Listed.{listed_pairs, history_pairs};
 ghost use Rattle.ccr_store.specs.Shown.{BeginsWith};
 ghost use Rattle.ccr_store.specs.Rows.{meta_rows, scope_row, scope_rows, version_rows, table_rows, build_row, build_rows, used_row, moved_row, pin_row};
 
-use crate::format::Format;
 use crate::columns::{is_blob, is_number, is_text};
+use crate::format::Format;
 use crate::writes::number_of;
 use ccr_history::{BuildRef, History, Pins, Scope, Version};
 use ccr_tables::builds::Build;

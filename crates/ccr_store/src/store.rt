@@ -139,7 +139,7 @@ pub fn prepare<S: Alter>(alloc: Global, conn: &mut Connection<S>) -> Result<(), 
 impl<S: Alter> Model for Store<S> {
     ghost use Rattle.std.specs.Prelude.{◌≡◌, false};
     ghost use Rattle.ccr_store.specs.declared.format.Format.{Format as FormatData};
-ghost use Rattle.ccr_store.specs.StoreData.{StoreData, store_code};
+    ghost use Rattle.ccr_store.specs.StoreData.{StoreData, store_code};
 
     ghost Value = { StoreData S };
 

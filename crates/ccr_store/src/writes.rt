@@ -167,11 +167,7 @@ fn write_disabled(
 }
 
 /// Writes that a place is enabled, if it wasn't.
-fn write_enabled(
-    alloc: Global,
-    place: &Switched,
-    writes: &mut Vec<Write>,
-) -> Result<(), StoreFault>
+fn write_enabled(alloc: Global, place: &Switched, writes: &mut Vec<Write>) -> Result<(), StoreFault>
     ensures ok { OnOk result (map write_data writes.new.items
         ≡ map write_data writes.old.items ++ edit_writes (edits.Enabled place.now)) }
     ensures only { IfErr result (λ fault. fault ≡ NoMemory) }
