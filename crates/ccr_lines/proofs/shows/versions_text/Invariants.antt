@@ -1,6 +1,6 @@
 use Rattle.std.proofs.Common.{◌≡◌, take, string_bytes}
 use Rattle.ccr_history.specs.Pairs.{has_pair}
-use Rattle.ccr_history.specs.Tables.{scope_number}
+use Rattle.ccr_history.specs.Tables.{scope_number, versions_of}
 use Rattle.ccr_lines.specs.Shown.{lines_from}
 use Rattle.ccr_lines.proofs.shows.versions_text.Given as goal
 
