@@ -14,6 +14,8 @@ use Rattle.ccr_history.specs.History.{HistoryData}
 use Rattle.ccr_tables.specs.Contents.{Contents}
 use Rattle.ccr_tables.specs.Listing.{IsListed}
 use Rattle.ccr_tables.specs.Found.{AreFound}
+use Rattle.ccr_tables.specs.Shown.{Shows, ShowsOfKind, ShowsOther}
+use Rattle.sqlite.specs.Effect.{Database}
 use Rattle.ccr_store.specs.Listed.{AreSeen, AreBuilt, HasOther, listed_pairs, ListsSeen, ListsBuilt, KeepsSeen}
 use Rattle.ccr_store.specs.Reordered.{HasSameRows}
 use Rattle.ccr_store.specs.Rows.{meta_rows, scope_rows, version_rows, table_rows, used_row, moved_row, pair_rows, rows_of}
@@ -130,3 +132,12 @@ found_listed Kind width these found items is are =
 pub found_other : (Kind : Row → Type 0) (width : ℕ) (these : List Row) (found : Option (Vec Row Global)) → ((items : Vec Row Global) → found ≡ Some items → ⊥) → AreFound Kind width these found → HasOther Kind width these
 found_other Kind width these None none are = are
 found_other Kind width these (Some items) none are = absurd (none items refl)
+
+pub shown_found : (Kind : Row → Type 0) (text : List ℕ) (db : Database) (found : Option (Vec Row Global)) (items : Vec Row Global) → found ≡ Some items → ShowsOfKind Kind text db found → Shows text db items.items
+shown_found Kind text db found items is are =
+    let it = subst (ShowsOfKind Kind text db) is are in
+    subst (Shows text db) (sym it.2) it.1
+
+pub shown_other : (Kind : Row → Type 0) (text : List ℕ) (db : Database) (found : Option (Vec Row Global)) → ((items : Vec Row Global) → found ≡ Some items → ⊥) → ShowsOfKind Kind text db found → ShowsOther Kind text db
+shown_other Kind text db None none are = are
+shown_other Kind text db (Some items) none are = absurd (none items refl)

@@ -121,10 +121,18 @@ shown_built h builds pairs pins rules built = record {
 }
 
 -- each row of a history's builds is a build, and each of its pairs a pair
+pub all_builds : (h : HistoryData) → IsHistory h → HasTexts h → AllByRecursion IsBuild (build_rows 1 h.builds)
+all_builds h rules texts =
+    let few : 1 + length h.builds ≤ 2 ^ 32 = omega (arith, rules.1.0) in
+    build_rows_are 1 h.builds few (numbers_few h.builds rules.1.1 rules.1.0) texts.builds
+
+pub all_pairs : (h : HistoryData) → IsHistory h → HasTexts h → AllByRecursion IsPair (listed_pairs 1 h.builds)
+all_pairs h rules texts =
+    let few : 1 + length h.builds ≤ 2 ^ 32 = omega (arith, rules.1.0) in
+    listed_pairs_are h.tables 1 h.builds few rules.0 rules.1.2 texts.builds
+
 pub no_other : (h : HistoryData) → IsHistory h → HasTexts h → HasOther IsBuild 1 (rows_of h).builds ⊎ HasOther IsPair 4 (rows_of h).pairs → ⊥
 no_other h rules texts (inl other) =
-    let few : 1 + length h.builds ≤ 2 ^ 32 = omega (arith, rules.1.0) in
-    other.2 (subst (AllByRecursion IsBuild) (sym (shown 1 (build_rows 1 h.builds) other.0 (builds_key 1 h.builds) other.1)) (build_rows_are 1 h.builds few (numbers_few h.builds rules.1.1 rules.1.0) texts.builds))
+    other.2 (subst (AllByRecursion IsBuild) (sym (shown 1 (build_rows 1 h.builds) other.0 (builds_key 1 h.builds) other.1)) (all_builds h rules texts))
 no_other h rules texts (inr other) =
-    let few : 1 + length h.builds ≤ 2 ^ 32 = omega (arith, rules.1.0) in
-    other.2 (subst (AllByRecursion IsPair) (sym (shown_pairs h other.0 rules other.1)) (listed_pairs_are h.tables 1 h.builds few rules.0 rules.1.2 texts.builds))
+    other.2 (subst (AllByRecursion IsPair) (sym (shown_pairs h other.0 rules other.1)) (all_pairs h rules texts))

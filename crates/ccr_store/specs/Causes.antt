@@ -1,19 +1,26 @@
 -- Why a call of the store fails.
-use Rattle.std.specs.Prelude.{◌≡◌, List, map, ⊤}
+use Rattle.std.specs.Prelude.{◌≡◌, ◌≢◌, ◌⊎◌, List, map, ⊤}
 use Rattle.sqlite_trees.specs.declared.store.Store.{Ghosts}
 use Rattle.sqlite.specs.declared.error.Error.{Error}
-use Rattle.sqlite.specs.State.{State}
+use Rattle.sqlite.specs.Held.{Held, state}
+use Rattle.sqlite.specs.State.{State, HasCleanDisk, Survives}
 use Rattle.ccr_history.specs.declared.change.Edit.{Edit}
 use Rattle.ccr_storage.specs.declared.fault.StoreFault.{StoreFault}
 use Rattle.ccr_storage.specs.declared.fault.StoreFault.TheVariants.{NoMemory, NotOurs}
 use Rattle.ccr_tables.specs.Answered.{IsAnswered}
 use Rattle.ccr_tables.specs.Cause.{cause_of}
+use Rattle.ccr_tables.specs.Contents.{Keeps, new_contents}
+use Rattle.ccr_tables.specs.Created.{IsUnmade, WasRefused}
 use Rattle.ccr_tables.specs.Read.{FailedToRead}
+use Rattle.ccr_tables.specs.Schema.{no_schema}
 use Rattle.ccr_tables.specs.declared.write.Write.{Write}
 use Rattle.ccr_store.specs.Faults.{fault_of, read_fault_of}
+use Rattle.ccr_store.specs.Left.{IsAsItWas}
+use Rattle.ccr_store.specs.Shown.{ShowsNone, ShowsOtherFormat}
 use Rattle.ccr_store.specs.WriteData.{write_data}
 use Rattle.ccr_store.specs.Writes.{change_writes}
 
+-- ---- a commit
 -- SQLITE ANSWERED SO: an error that is this fault, to one of the writes of these edits or at the end of the transaction
 -- with all of them
 pub record HasAnswer {S : Type 0} (g : Ghosts S) (es : List Edit) (old : State) (fault : StoreFault) : Type 0 where
@@ -23,6 +30,7 @@ pub record HasAnswer {S : Type 0} (g : Ghosts S) (es : List Edit) (old : State) 
   pub fault_is : fault ≡ fault_of (cause_of error)
   pub answered : IsAnswered g writes old error
 
+-- ---- a load
 -- want of memory, or rows that no history has, for which SQLite need not fail
 abbrev pub ComesOfRows : StoreFault → Type 0
 ComesOfRows NoMemory = ⊤
@@ -34,3 +42,40 @@ pub record HasReadAnswer {S : Type 0} (g : Ghosts S) (old : State) (fault : Stor
   pub error : Error
   pub fault_is : fault ≡ read_fault_of (cause_of error)
   pub failed : FailedToRead g old error
+
+module _ {S : Type 0} (g : Ghosts S) (old : State) where
+  -- WHY A LOAD FAILS: memory was wanted; or SQLite shows no history; or it answered so to a read
+  abbrev pub IsUnloaded : StoreFault → Type 0
+  IsUnloaded fault = (fault ≡ NoMemory) ⊎ (((fault ≡ NotOurs) × ShowsNone old.now) ⊎ HasReadAnswer g old fault)
+
+  -- A HISTORY ISN'T LOADED, as the connection is when it is let go: there is a cause, and nothing was written
+  pub record IsUnread (fault : StoreFault) : Type 0 where
+    pub end : Held S
+    pub cause : HasCleanDisk (state g end) → IsUnloaded fault
+    pub left : HasCleanDisk (state g end) → IsAsItWas old (state g end)
+    pub crash : Survives old (state g end) (λ _. ⊥)
+
+  -- ---- a database that is taken
+  -- a database without tables doesn't get them: SQLite answered so as they were made, or refused one of the statements
+  abbrev pub IsUnbegun : StoreFault → Type 0
+  IsUnbegun fault =
+      ((error : Error) × (fault ≡ fault_of (cause_of error)) × IsUnmade g old error)
+      ⊎ ((fault ≡ NotOurs) × WasRefused g old)
+
+  -- other tables aren't taken: SQLite shows that they haven't the number of the format, or it answered so to the read
+  abbrev pub IsForeign : StoreFault → Type 0
+  IsForeign fault = ((fault ≡ NotOurs) × ShowsOtherFormat old.now) ⊎ HasReadAnswer g old fault
+
+  -- WHY A DATABASE ISN'T TAKEN
+  abbrev pub IsUntaken : StoreFault → Type 0
+  IsUntaken fault =
+      ((old.now.schema ≡ no_schema) × IsUnbegun fault) ⊎ ((old.now.schema ≢ no_schema) × IsForeign fault)
+
+  -- A DATABASE ISN'T TAKEN, as its connection is when it is let go: there is a cause; the tables are as they were; and a
+  -- crash leaves what it left before, or the tables of a new database, unless the answer is that it isn't ours
+  pub record IsLetGo (fault : StoreFault) : Type 0 where
+    pub end : Held S
+    pub cause : HasCleanDisk (state g end) → IsUntaken fault
+    pub left : HasCleanDisk (state g end) → IsAsItWas old (state g end)
+    pub crash : Survives old (state g end) (λ trees. (old.now.schema ≡ no_schema) × Keeps new_contents trees)
+    pub not_ours : fault ≡ NotOurs → Survives old (state g end) (λ _. ⊥)

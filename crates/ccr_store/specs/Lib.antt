@@ -5,6 +5,7 @@ pub mod Reordered
 pub mod StoreData
 pub mod Crash
 pub mod Causes
+pub mod Shown
 pub mod Faults
 pub mod Listed
 pub mod Left

@@ -7,9 +7,11 @@ ghost use Rattle.ccr_tables.specs.Builds.{IsBuild};
 ghost use Rattle.ccr_tables.specs.Contents.{Holds};
 ghost use Rattle.ccr_tables.specs.Left.{OnlyReads};
 ghost use Rattle.ccr_tables.specs.Pairs.{IsPair};
-ghost use Rattle.ccr_tables.specs.Read.{FailedToRead};
+ghost use Rattle.ccr_tables.specs.Read.{FailedToRead, builds_text, pairs_text};
+ghost use Rattle.ccr_tables.specs.Shown.{ShowsOther};
 ghost use Rattle.ccr_tables.specs.Schema.{our_schema};
 ghost use Rattle.ccr_store.specs.Listed.{AreSeen, AreBuilt, HasOther};
+ghost use Rattle.ccr_store.specs.Shown.{ShowsSeen, ShowsBuilt};
 
 use ccr_tables::builds::Build;
 use ccr_tables::pairs::Pair;
@@ -37,6 +39,8 @@ pub(crate) struct Built {
 pub(crate) fn read_seen<S: Alter>(conn: &mut Connection<S>) -> Result<Seen, SqlError>
     ensures rows { HasCleanDisk (state S.Store conn.new) → IfOk result (λ seen. (these : _)
         → Holds these (state S.Store conn.old).now → AreSeen these seen.meta.items seen.scopes.items seen.versions.items) }
+    ensures shown { HasCleanDisk (state S.Store conn.new) → IfOk result (λ seen.
+        ShowsSeen (state S.Store conn.old).now seen.meta.items seen.scopes.items seen.versions.items) }
     ensures reads { OnlyReads (state S.Store conn.old) (state S.Store conn.new) result }
     ensures unrefused { HasCleanDisk (state S.Store conn.new) → (state S.Store conn.old).now.schema ≡ our_schema
         → IfErr result (λ e. cause_of e ≢ Cause.Refused) }
@@ -67,6 +71,10 @@ pub(crate) fn read_built<S: Alter>(
     ensures none { HasCleanDisk (state S.Store conn.new) → IfOk result (λ found. IfNone found ((these : _)
         → Holds these (state S.Store conn.old).now
         → HasOther IsBuild 1 these.builds ⊎ HasOther IsPair 4 these.pairs)) }
+    ensures shown { HasCleanDisk (state S.Store conn.new) → IfOk result (λ found. IfSome found (λ built.
+        ShowsBuilt (state S.Store conn.old).now built.builds.items built.pairs.items built.pins.items)) }
+    ensures other { HasCleanDisk (state S.Store conn.new) → IfOk result (λ found. IfNone found
+        (ShowsOther IsBuild builds_text (state S.Store conn.old).now ⊎ ShowsOther IsPair pairs_text (state S.Store conn.old).now)) }
     ensures reads { OnlyReads (state S.Store conn.old) (state S.Store conn.new) result }
     ensures unrefused { HasCleanDisk (state S.Store conn.new) → (state S.Store conn.old).now.schema ≡ our_schema
         → IfErr result (λ e. cause_of e ≢ Cause.Refused) }

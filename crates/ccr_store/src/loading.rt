@@ -1,5 +1,5 @@
 //! The history whose rows the tables have.
-ghost use Rattle.std.specs.Prelude.{◌≡◌, ◌≢◌, ◌⊎◌, List, false, IsTrue, IfOk, IfErr, IfSome, OnOk};
+ghost use Rattle.std.specs.Prelude.{◌≡◌, ◌≢◌, List, false, IsTrue, IfOk, IfErr, IfSome, OnOk};
 ghost use Rattle.sqlite.specs.Order.{Row};
 ghost use Rattle.sqlite.specs.State.{HasCleanDisk};
 ghost use Rattle.sqlite.specs.Held.{state};
@@ -8,12 +8,13 @@ ghost use Rattle.ccr_storage.specs.declared.fault.StoreFault.TheVariants.{NoMemo
 ghost use Rattle.ccr_tables.specs.Cause.{cause_of};
 ghost use Rattle.ccr_tables.specs.Contents.{Contents, Holds};
 ghost use Rattle.ccr_tables.specs.Left.{OnlyReads};
-ghost use Rattle.ccr_store.specs.Causes.{ComesOfRows, HasReadAnswer};
+ghost use Rattle.ccr_store.specs.Causes.{ComesOfRows, IsUnloaded, IsForeign};
 ghost use Rattle.ccr_store.specs.Faults as spec;
 ghost use Rattle.ccr_store.specs.Listed.{AreSeen, AreBuilt, ListsSeen, ListsBuilt, KeepsSeen, seen_of};
 ghost use Rattle.ccr_store.specs.Readable.{IsReadable};
 ghost use Rattle.ccr_store.specs.Reordered.{HasSameRows};
 ghost use Rattle.ccr_store.specs.Rows.{HasFormat, rows_of};
+ghost use Rattle.ccr_store.specs.Shown.{ShowsFormat, ShowsBuilt, ShowsHistory, IsSeenOf};
 ghost use Rattle.ccr_store.specs.Texts.{HasTexts, OrNoMemory, OrFault};
 
 use crate::found::{Built, Seen, read_built, read_seen};
@@ -55,8 +56,9 @@ fn rows_fault_of(fault: StoreFault) -> StoreFault
 pub(crate) fn check_format<S: Alter>(conn: &mut Connection<S>) -> Result<(), StoreFault>
     ensures format { HasCleanDisk (state S.Store conn.new) → OnOk result ((these : Contents)
         → Holds these (state S.Store conn.old).now → HasFormat these) }
-    ensures answered { HasCleanDisk (state S.Store conn.new) → IfErr result (λ fault. ComesOfRows fault
-        ⊎ HasReadAnswer S.Store (state S.Store conn.old) fault) }
+    ensures shown { HasCleanDisk (state S.Store conn.new) → OnOk result (ShowsFormat (state S.Store conn.old).now) }
+    ensures answered { HasCleanDisk (state S.Store conn.new)
+        → IfErr result (IsForeign S.Store (state S.Store conn.old)) }
     ensures reads { OnlyReads (state S.Store conn.old) (state S.Store conn.new) result }
     ensures clean { HasCleanDisk (state S.Store conn.new) → HasCleanDisk (state S.Store conn.old) }
     ensures open { HasCleanDisk (state S.Store conn.new) → OnOk result (IsTrue (state S.Store conn.old).is_open) }
@@ -127,8 +129,10 @@ fn load_seen<S: Alter>(alloc: Global, conn: &mut Connection<S>) -> Result<Histor
     ensures only { HasCleanDisk (state S.Store conn.new) → (h : HistoryData) → IsHistory h → HasTexts h
         → IfSome h.text IsReadable → Holds (rows_of h) (state S.Store conn.old).now
         → OrFault (λ history. history ≡ seen_of h) result }
-    ensures answered { HasCleanDisk (state S.Store conn.new) → IfErr result (λ fault. ComesOfRows fault
-        ⊎ HasReadAnswer S.Store (state S.Store conn.old) fault) }
+    ensures seen { HasCleanDisk (state S.Store conn.new)
+        → IfOk result (λ history. IsSeenOf (state S.Store conn.old).now history) }
+    ensures answered { HasCleanDisk (state S.Store conn.new)
+        → IfErr result (IsUnloaded S.Store (state S.Store conn.old)) }
     ensures reads { OnlyReads (state S.Store conn.old) (state S.Store conn.new) result }
     ensures clean { HasCleanDisk (state S.Store conn.new) → HasCleanDisk (state S.Store conn.old) }
     ensures open { HasCleanDisk (state S.Store conn.new) → IfOk result (λ _. IsTrue (state S.Store conn.old).is_open) }
@@ -195,8 +199,10 @@ fn found_in<S: Alter>(alloc: Global, conn: &mut Connection<S>) -> Result<Built, 
         → AreBuilt these built.builds.items built.pairs.items built.pins.items) }
     ensures only { HasCleanDisk (state S.Store conn.new) → (h : HistoryData) → IsHistory h → HasTexts h
         → Holds (rows_of h) (state S.Store conn.old).now → IfErr result (λ fault. fault ≢ NotOurs) }
-    ensures answered { HasCleanDisk (state S.Store conn.new) → IfErr result (λ fault. ComesOfRows fault
-        ⊎ HasReadAnswer S.Store (state S.Store conn.old) fault) }
+    ensures shown { HasCleanDisk (state S.Store conn.new) → IfOk result (λ built.
+        ShowsBuilt (state S.Store conn.old).now built.builds.items built.pairs.items built.pins.items) }
+    ensures answered { HasCleanDisk (state S.Store conn.new)
+        → IfErr result (IsUnloaded S.Store (state S.Store conn.old)) }
     ensures reads { OnlyReads (state S.Store conn.old) (state S.Store conn.new) result }
     ensures clean { HasCleanDisk (state S.Store conn.new) → HasCleanDisk (state S.Store conn.old) }
     ensures mode { conn.old.in_transaction ≡ false → conn.new.in_transaction ≡ false }
@@ -224,8 +230,10 @@ fn load_built<S: Alter>(
     ensures only { HasCleanDisk (state S.Store conn.new) → (h : HistoryData) → IsHistory h → HasTexts h
         → history ≡ seen_of h → Holds (rows_of h) (state S.Store conn.old).now
         → IfErr result (λ fault. fault ≢ NotOurs) }
-    ensures answered { HasCleanDisk (state S.Store conn.new) → IfErr result (λ fault. ComesOfRows fault
-        ⊎ HasReadAnswer S.Store (state S.Store conn.old) fault) }
+    ensures shown { HasCleanDisk (state S.Store conn.new) → IfOk result (λ it. (builds pairs pins : List Row)
+        × ShowsBuilt (state S.Store conn.old).now builds pairs pins × ListsBuilt it builds pairs pins) }
+    ensures answered { HasCleanDisk (state S.Store conn.new) → IsSeenOf (state S.Store conn.old).now history
+        → IfErr result (IsUnloaded S.Store (state S.Store conn.old)) }
     ensures reads { OnlyReads (state S.Store conn.old) (state S.Store conn.new) result }
     ensures clean { HasCleanDisk (state S.Store conn.new) → HasCleanDisk (state S.Store conn.old) }
     ensures mode { conn.old.in_transaction ≡ false → conn.new.in_transaction ≡ false }
@@ -249,8 +257,10 @@ pub(crate) fn load<S: Alter>(alloc: Global, conn: &mut Connection<S>) -> Result<
     ensures not_ours { HasCleanDisk (state S.Store conn.new) → IfErr result (λ fault. fault ≡ NotOurs
         → (h : HistoryData) → IsHistory h → HasTexts h → IfSome h.text IsReadable
         → ¬ Holds (rows_of h) (state S.Store conn.old).now) }
-    ensures answered { HasCleanDisk (state S.Store conn.new) → IfErr result (λ fault. ComesOfRows fault
-        ⊎ HasReadAnswer S.Store (state S.Store conn.old) fault) }
+    ensures shown { HasCleanDisk (state S.Store conn.new)
+        → IfOk result (λ history. ShowsHistory history (state S.Store conn.old).now) }
+    ensures answered { HasCleanDisk (state S.Store conn.new)
+        → IfErr result (IsUnloaded S.Store (state S.Store conn.old)) }
     ensures open { HasCleanDisk (state S.Store conn.new) → IfOk result (λ _. IsTrue (state S.Store conn.old).is_open) }
     ensures mode { conn.old.in_transaction ≡ false → conn.new.in_transaction ≡ false }
 {

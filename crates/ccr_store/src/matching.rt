@@ -4,7 +4,8 @@ ghost use Rattle.sqlite.specs.declared.types.Value.TheVariants.{Int, Text, Blob}
 ghost use Rattle.sqlite.specs.Order.{Row as RowData};
 ghost use Rattle.ccr_history.specs.declared.table.TheConstants.{MOST_VERSIONS};
 ghost use Rattle.ccr_store.specs.Listed.{listed_pairs};
-ghost use Rattle.ccr_store.specs.Rows.{format_row, meta_rows, scope_row, scope_rows, version_rows, table_rows, build_row, build_rows, used_row, moved_row, pin_row};
+ghost use Rattle.ccr_store.specs.Shown.{IsOurFormat};
+ghost use Rattle.ccr_store.specs.Rows.{meta_rows, scope_row, scope_rows, version_rows, table_rows, build_row, build_rows, used_row, moved_row, pin_row};
 
 use crate::columns::{is_blob, is_number, is_text};
 use crate::writes::number_of;
@@ -25,7 +26,8 @@ fn is_meta(row: &Row, key: u32, bytes: &[u8]) -> bool
 
 /// Whether the first row is that of the format.
 pub(crate) fn has_format(rows: &[Row]) -> bool
-    ensures { IsTrue result → (more : List RowData) × (rows.now ≡ format_row ∷ more) }
+    ensures is { IsTrue result → IsOurFormat rows.now }
+    ensures only { IsOurFormat rows.now → IsTrue result }
 {
     match rows {
         [format, ..] => is_meta(format, 1, b"1"),

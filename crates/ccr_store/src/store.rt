@@ -1,5 +1,5 @@
 //! The history in a database.
-ghost use Rattle.std.specs.Prelude.{◌≡◌, ◌≢◌, ◌⊎◌, ◌↔◌, List, [], ◌∷◌, false, IsTrue, IfOk, IfErr, IfSome, OnOk, OnErr};
+ghost use Rattle.std.specs.Prelude.{◌≡◌, ◌≢◌, ◌↔◌, List, [], ◌∷◌, false, IsTrue, IfOk, IfErr, IfSome, OnOk, OnErr};
 ghost use Rattle.sqlite.specs.State.{HasCleanDisk, IsUnchanged, Survives};
 ghost use Rattle.sqlite.specs.Held.{state};
 ghost use Rattle.sqlite.specs.Steps.{over_memory};
@@ -9,12 +9,13 @@ ghost use Rattle.ccr_history.specs.Changes.{changed};
 ghost use Rattle.ccr_tables.specs.Contents.{Contents, Holds, Keeps, new_contents};
 ghost use Rattle.ccr_tables.specs.Schema.{no_schema};
 ghost use Rattle.ccr_storage.specs.declared.fault.StoreFault.TheVariants.{NoMemory, NotOurs};
-ghost use Rattle.ccr_store.specs.Causes.{HasAnswer, HasReadAnswer, ComesOfRows};
+ghost use Rattle.ccr_store.specs.Causes.{HasAnswer, IsUnloaded, IsUntaken, IsLetGo};
 ghost use Rattle.ccr_store.specs.Crash.{IsChangedIn, Leaves};
 ghost use Rattle.ccr_store.specs.Left.{IsAsItWas};
 ghost use Rattle.ccr_store.specs.Readable.{IsReadable};
 ghost use Rattle.ccr_store.specs.Reordered.{HasSameRows};
 ghost use Rattle.ccr_store.specs.Rows.{HasFormat, rows_of};
+ghost use Rattle.ccr_store.specs.Shown.{ShowsFormat, ShowsHistory};
 ghost use Rattle.ccr_store.specs.StoreData.{IsStored, IsKept};
 ghost use Rattle.ccr_store.specs.Texts.{HasTexts};
 ghost use Rattle.ccr_store.specs.Writes.{change_writes};
@@ -58,6 +59,11 @@ pub fn prepare<S: Alter>(conn: &mut Connection<S>) -> Result<(), StoreFault>
         let new = state S.Store conn.new in
         (these : Contents) → HasCleanDisk new → Holds these old.now
         → OnOk result (Holds these new.now × HasFormat these) }
+    ensures taken { let old = state S.Store conn.old in
+        let new = state S.Store conn.new in
+        HasCleanDisk new → old.now.schema ≢ no_schema → OnOk result (ShowsFormat old.now × IsUnchanged old new) }
+    ensures answered { HasCleanDisk (state S.Store conn.new)
+        → IfErr result (IsUntaken S.Store (state S.Store conn.old)) }
     ensures left { let old = state S.Store conn.old in
         let new = state S.Store conn.new in
         HasCleanDisk new → OnErr result (IsAsItWas old new) }
@@ -121,6 +127,10 @@ impl<S: Alter + Drop> Store<S> {
             let new = state S.Store store.conn in
             (these : Contents) → HasCleanDisk new → old.now ≡ old.committed → Holds these old.now
             → Holds these new.now × HasFormat these) }
+        ensures taken { IfOk result (λ store. let old = state S.Store conn in
+            let new = state S.Store store.conn in
+            HasCleanDisk new → old.now.schema ≢ no_schema → ShowsFormat old.now × IsUnchanged old new) }
+        ensures answered { IfErr result (IsLetGo S.Store (state S.Store conn)) }
         ensures crash { IfOk result (λ store. let old = state S.Store conn in
             Survives old (state S.Store store.conn) (λ trees. (old.now.schema ≡ no_schema) × Keeps new_contents trees)) }
     {
@@ -214,8 +224,10 @@ impl<S: Alter> Store<S> {
         ensures not_ours { HasCleanDisk (state S.Store self.new.conn) → IfErr result (λ fault. fault ≡ NotOurs
             → (h : HistoryData) → IsHistory h → HasTexts h → IfSome h.text IsReadable
             → ¬ Holds (rows_of h) (state S.Store self.old.conn).now) }
-        ensures answered { HasCleanDisk (state S.Store self.new.conn) → IfErr result (λ fault. ComesOfRows fault
-            ⊎ HasReadAnswer S.Store (state S.Store self.old.conn) fault) }
+        ensures shown { HasCleanDisk (state S.Store self.new.conn)
+            → IfOk result (λ history. ShowsHistory history (state S.Store self.old.conn).now) }
+        ensures answered { HasCleanDisk (state S.Store self.new.conn)
+            → IfErr result (IsUnloaded S.Store (state S.Store self.old.conn)) }
         ensures kept { IfOk result (λ history. (these : Contents) → Holds these (state S.Store self.old.conn).now
             → IsKept S.Store self.new history) }
         ensures same { let old = state S.Store self.old.conn in

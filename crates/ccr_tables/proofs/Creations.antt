@@ -1,5 +1,5 @@
 -- What the CREATE TABLEs do.
-use Rattle.std.proofs.Common.{◌≡◌, ℕ, List, [], codes, IfOk, false, None, Ok, Err, Result, inl, inr, refl, sym, ap, subst, ◌∙◌}
+use Rattle.std.proofs.Common.{◌≡◌, ℕ, List, [], IfOk, false, None, Ok, Err, Result, inl, inr, refl, sym, ap, subst, ◌∙◌}
 use Rattle.std.specs.List.{AllByRecursion}
 use Rattle.sqlite.specs.Table.{Table}
 use Rattle.sqlite.specs.Schema.{Schema}
@@ -14,6 +14,7 @@ use Rattle.sqlite.specs.Effect.{Database}
 use Rattle.sqlite.specs.State.{State, Writes, Executes, ExecutesIn, ExecutesInside}
 use Rattle.sqlite.proofs.Callers.{IsPlain, command_of, statement_of, runs_as}
 use Rattle.ccr_tables.specs.Schema.{no_schema, meta_schema, scopes_schema, versions_schema, builds_schema, pairs_schema, our_schema, meta, scopes, versions, builds, pairs, pins}
+use Rattle.ccr_tables.specs.Created.{meta_text, scopes_text, versions_text, builds_text, pairs_text, pins_text}
 use Rattle.ccr_tables.specs.Step.{IsBare, Creates}
 use Rattle.ccr_tables.proofs.Inserts.{went, same_value, unchanged_keeps, back_keeps}
 
@@ -45,9 +46,6 @@ module _ (text : List ℕ) (schema : Schema) (table : Table) (is : command_of (u
   bares adds old new (Err e) (inl h) = record { kept = elim h.1 [ inl same ↦ unchanged_keeps old new same | inr back ↦ back_keeps old new back ]; made = tt }
   bares adds old new (Err e) (inr h) = record { kept = unchanged_keeps old new h.2; made = tt }
 
-abbrev pub meta_text : List ℕ
-meta_text = codes "CREATE TABLE meta(k INTEGER PRIMARY KEY, v BLOB NOT NULL)"
-
 meta_meaning : (command_of (understood no_schema meta_text) ≡ CreateTable) × (statement_of meta_text (understood no_schema meta_text) ≡ meta_text) × (table_defined_by meta_text ≡ Ok meta) × (lacks_sequence meta_schema ≡ false)
 unfolding understood everything
 meta_meaning = (refl, refl, refl, refl)
@@ -69,9 +67,6 @@ unfolding ExecutesIn
 no_second_meta old new (Ok count) has h = subst (λ x. IfOk x (λ _. ⊥)) (ap (λ s. understood s meta_text) (sym has) ∙ h.0.1.is) meta_taken
 no_second_meta old new (Err e) has h = tt
 
-abbrev pub scopes_text : List ℕ
-scopes_text = codes "CREATE TABLE scopes(id INTEGER PRIMARY KEY, resource TEXT NOT NULL,\n  kind TEXT NOT NULL, source TEXT NOT NULL, UNIQUE(resource, kind, source))"
-
 scopes_meaning : (command_of (understood meta_schema scopes_text) ≡ CreateTable) × (statement_of scopes_text (understood meta_schema scopes_text) ≡ scopes_text) × (table_defined_by scopes_text ≡ Ok scopes) × (lacks_sequence scopes_schema ≡ false)
 unfolding understood everything
 scopes_meaning = (refl, refl, refl, refl)
@@ -82,9 +77,6 @@ scopes_plain = (refl, refl)
 
 pub create_scopes : (old new : State) (r : Result ℕ Error) → ExecutesInside 0 scopes_text [] old new r → Creates meta_schema scopes_schema old new r
 create_scopes = bares scopes_text meta_schema scopes scopes_meaning.0 scopes_meaning.1 scopes_plain scopes_meaning.2 scopes_meaning.3 (λ old new bare empty keeps. (keeps.0 ∙ bare.1.0, (empty, tt)))
-
-abbrev pub versions_text : List ℕ
-versions_text = codes "CREATE TABLE versions(scope INTEGER NOT NULL, place INTEGER NOT NULL,\n  body TEXT NOT NULL, PRIMARY KEY(scope, place), UNIQUE(scope, body))"
 
 versions_meaning : (command_of (understood scopes_schema versions_text) ≡ CreateTable) × (statement_of versions_text (understood scopes_schema versions_text) ≡ versions_text) × (table_defined_by versions_text ≡ Ok versions) × (lacks_sequence versions_schema ≡ false)
 unfolding understood everything
@@ -97,9 +89,6 @@ versions_plain = (refl, refl)
 pub create_versions : (old new : State) (r : Result ℕ Error) → ExecutesInside 0 versions_text [] old new r → Creates scopes_schema versions_schema old new r
 create_versions = bares versions_text scopes_schema versions versions_meaning.0 versions_meaning.1 versions_plain versions_meaning.2 versions_meaning.3 (λ old new bare empty keeps. (keeps.0 ∙ bare.1.0, (keeps.1.0 ∙ bare.1.1.0, (empty, tt))))
 
-abbrev pub builds_text : List ℕ
-builds_text = codes "CREATE TABLE builds(id INTEGER PRIMARY KEY, job TEXT NOT NULL,\n  number INTEGER NOT NULL, status INTEGER NOT NULL, UNIQUE(job, number))"
-
 builds_meaning : (command_of (understood versions_schema builds_text) ≡ CreateTable) × (statement_of builds_text (understood versions_schema builds_text) ≡ builds_text) × (table_defined_by builds_text ≡ Ok builds) × (lacks_sequence builds_schema ≡ false)
 unfolding understood everything
 builds_meaning = (refl, refl, refl, refl)
@@ -111,9 +100,6 @@ builds_plain = (refl, refl)
 pub create_builds : (old new : State) (r : Result ℕ Error) → ExecutesInside 0 builds_text [] old new r → Creates versions_schema builds_schema old new r
 create_builds = bares builds_text versions_schema builds builds_meaning.0 builds_meaning.1 builds_plain builds_meaning.2 builds_meaning.3 (λ old new bare empty keeps. (keeps.0 ∙ bare.1.0, (keeps.1.0 ∙ bare.1.1.0, (keeps.1.1.0 ∙ bare.1.1.1.0, (empty, tt)))))
 
-abbrev pub pairs_text : List ℕ
-pairs_text = codes "CREATE TABLE pairs(build INTEGER NOT NULL, input TEXT NOT NULL,\n  scope INTEGER NOT NULL, place INTEGER NOT NULL,\n  PRIMARY KEY(build, input, scope, place))"
-
 pairs_meaning : (command_of (understood builds_schema pairs_text) ≡ CreateTable) × (statement_of pairs_text (understood builds_schema pairs_text) ≡ pairs_text) × (table_defined_by pairs_text ≡ Ok pairs) × (lacks_sequence pairs_schema ≡ false)
 unfolding understood everything
 pairs_meaning = (refl, refl, refl, refl)
@@ -124,9 +110,6 @@ pairs_plain = (refl, refl)
 
 pub create_pairs : (old new : State) (r : Result ℕ Error) → ExecutesInside 0 pairs_text [] old new r → Creates builds_schema pairs_schema old new r
 create_pairs = bares pairs_text builds_schema pairs pairs_meaning.0 pairs_meaning.1 pairs_plain pairs_meaning.2 pairs_meaning.3 (λ old new bare empty keeps. (keeps.0 ∙ bare.1.0, (keeps.1.0 ∙ bare.1.1.0, (keeps.1.1.0 ∙ bare.1.1.1.0, (keeps.1.1.1.0 ∙ bare.1.1.1.1.0, (empty, tt))))))
-
-abbrev pub pins_text : List ℕ
-pins_text = codes "CREATE TABLE pins(resource TEXT PRIMARY KEY, body TEXT NOT NULL)"
 
 pins_meaning : (command_of (understood pairs_schema pins_text) ≡ CreateTable) × (statement_of pins_text (understood pairs_schema pins_text) ≡ pins_text) × (table_defined_by pins_text ≡ Ok pins) × (lacks_sequence our_schema ≡ false)
 unfolding understood everything

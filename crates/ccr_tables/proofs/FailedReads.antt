@@ -1,5 +1,5 @@
 -- Reads that failed.
-use Rattle.std.proofs.Common.{◌≡◌, ℕ, List, [], Result, Ok, Err, IfErr, refl, sym, subst, arith, inl, inr, ◌⊎◌}
+use Rattle.std.proofs.Common.{◌≡◌, ℕ, List, [], Result, Ok, Err, IfErr, refl, sym, subst, ◌∙◌, arith, inl, inr, ◌⊎◌}
 use Rattle.std.specs.Prelude.{IsErrAnd}
 use Rattle.sqlite_trees.specs.declared.store.Store.{Ghosts}
 use Rattle.sqlite.specs.declared.error.Error.{Error}
@@ -10,7 +10,7 @@ use Rattle.ccr_tables.specs.declared.cause.Cause.TheVariants.{NoMemory}
 use Rattle.ccr_tables.specs.Read.{IsRead, FailedToRead}
 use Rattle.ccr_tables.proofs.InTurn.{survives_both}
 
-survives_itself : (s : State) → Survives s s (λ _. ⊥)
+pub survives_itself : (s : State) → Survives s s (λ _. ⊥)
 survives_itself s = record {
   clean = omega arith;
   shield = λ it. it;
@@ -29,26 +29,28 @@ failed_read g old new text (Err e) is fails = record {
   read = is;
   before = old;
   after = new;
+  same = refl;
   kept = survives_itself (state g old);
   answered = fails;
 }
 
 -- a read failed after others
-pub failed_after : {S : Type 0} (g : Ghosts S) (a b : State) (e : Error) → Survives a b (λ _. ⊥) → FailedToRead g b e
+pub failed_after : {S : Type 0} (g : Ghosts S) (a b : State) (e : Error) → b.now ≡ a.now → Survives a b (λ _. ⊥) → FailedToRead g b e
     → FailedToRead g a e
-failed_after g a b e kept fails = record {
+failed_after g a b e same kept fails = record {
   text = fails.text;
   read = fails.read;
   before = fails.before;
   after = fails.after;
+  same = fails.same ∙ same;
   kept = survives_both a b (state g fails.before) kept fails.kept;
   answered = fails.answered;
 }
 
-pub failed_later : {S X : Type 0} (g : Ghosts S) (a b : State) (r : Result X Error) → Survives a b (λ _. ⊥)
+pub failed_later : {S X : Type 0} (g : Ghosts S) (a b : State) (r : Result X Error) → b.now ≡ a.now → Survives a b (λ _. ⊥)
     → IfErr r (FailedToRead g b) → IfErr r (FailedToRead g a)
-failed_later g a b (Ok x) kept fails = tt
-failed_later g a b (Err e) kept fails = failed_after g a b e kept fails
+failed_later g a b (Ok x) same kept fails = tt
+failed_later g a b (Err e) same kept fails = failed_after g a b e same kept fails
 
 -- the failure is handed on
 pub failed_on : {S X Y : Type 0} (g : Ghosts S) (old : State) (r : Result X Error) (s : Result Y Error) (e : Error) → r ≡ Err e

@@ -15,3 +15,5 @@ pub mod FailedReads
 pub mod Refusals
 pub mod FoundRows
 pub mod PairRows
+pub mod ShownRows
+pub mod Created

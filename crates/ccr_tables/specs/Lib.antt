@@ -5,6 +5,8 @@ pub mod Step
 pub mod Left
 pub mod Answered
 pub mod Read
+pub mod Shown
+pub mod Created
 pub mod Listing
 pub mod Cause
 pub mod Found

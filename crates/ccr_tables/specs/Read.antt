@@ -31,11 +31,12 @@ IsRead text =
     ⊎ ((text ≡ pairs_text) ⊎ (text ≡ pins_text)))))
 
 -- ---- what was answered
--- SQLITE ANSWERED THIS ERROR TO A READ of one of the tables, before which nothing was written
+-- SQLITE ANSWERED THIS ERROR TO A READ of one of the tables as they were, before which nothing was written
 pub record FailedToRead {S : Type 0} (g : Ghosts S) (old : State) (e : Error) : Type 0 where
   pub text : List ℕ
   pub read : IsRead text
   pub before : Held S
   pub after : Held S
+  pub same : (state g before).now ≡ old.now
   pub kept : Survives old (state g before) (λ _. ⊥)
   pub answered : FailsToQuery text [] (state g before) (state g after) e

@@ -5,7 +5,9 @@ ghost use Rattle.sqlite.specs.Order.{Row as RowData};
 ghost use Rattle.sqlite.specs.declared.types.Value.TheVariants.{Int, Text};
 ghost use Rattle.sqlite.specs.State.{HasCleanDisk, Survives, ExecutesInside};
 ghost use Rattle.sqlite.specs.Held.{state};
-ghost use Rattle.ccr_tables.specs.Read.{FailedToRead};
+ghost use Rattle.ccr_tables.specs.Created as created;
+ghost use Rattle.ccr_tables.specs.Read.{FailedToRead, builds_text};
+ghost use Rattle.ccr_tables.specs.Shown.{Shows, ShowsOfKind};
 ghost use Rattle.ccr_tables.specs.Schema.{builds_schema, our_schema, versions_schema};
 ghost use Rattle.ccr_tables.specs.Answered.{build_text, set_status_text};
 ghost use Rattle.ccr_tables.specs.Builds.{build, IsBuild};
@@ -127,6 +129,10 @@ pub(crate) fn create<S: Alter>(tx: &mut Transaction<'_, S>) -> Result<usize, Err
     ensures step { let old = state S.Store tx.old.conn.now in
         let new = state S.Store tx.new.conn.now in
         HasCleanDisk new → IsTrue old.in_transaction → Creates versions_schema builds_schema old new result }
+    ensures answered { let old = state S.Store tx.old.conn.now in
+        let new = state S.Store tx.new.conn.now in
+        HasCleanDisk new → IsTrue old.in_transaction
+        → IfErr result (λ e. ExecutesInside 0 created.builds_text [] old new (Err e)) }
     ensures survives { Survives (state S.Store tx.old.conn.now) (state S.Store tx.new.conn.now) (λ _. ⊥) }
 {
     tx.execute(
@@ -188,6 +194,8 @@ fn select_rows<S: Alter>(conn: &mut Connection<S>) -> Result<Vec<Row>, Error>
     ensures rows { let old = state S.Store conn.old in
         HasCleanDisk (state S.Store conn.new)
         → IfOk result (λ rows. (these : _) → Holds these old.now → IsListed 1 these.builds rows.items) }
+    ensures shown { HasCleanDisk (state S.Store conn.new)
+        → IfOk result (λ rows. Shows builds_text (state S.Store conn.old).now rows.items) }
     ensures reads { OnlyReads (state S.Store conn.old) (state S.Store conn.new) result }
     ensures clean { HasCleanDisk (state S.Store conn.new) → HasCleanDisk (state S.Store conn.old) }
     ensures unrefused { HasCleanDisk (state S.Store conn.new) → (state S.Store conn.old).now.schema ≡ our_schema
@@ -211,6 +219,8 @@ pub fn select<S: Alter>(
     ensures rows { let old = state S.Store conn.old in
         HasCleanDisk (state S.Store conn.new)
         → IfOk result (λ found. (these : _) → Holds these old.now → AreFound IsBuild 1 these.builds found) }
+    ensures shown { HasCleanDisk (state S.Store conn.new)
+        → IfOk result (ShowsOfKind IsBuild builds_text (state S.Store conn.old).now) }
     ensures reads { OnlyReads (state S.Store conn.old) (state S.Store conn.new) result }
     ensures clean { HasCleanDisk (state S.Store conn.new) → HasCleanDisk (state S.Store conn.old) }
     ensures unrefused { HasCleanDisk (state S.Store conn.new) → (state S.Store conn.old).now.schema ≡ our_schema

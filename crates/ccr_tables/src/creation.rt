@@ -1,10 +1,11 @@
 //! A new database.
 
-ghost use Rattle.std.specs.Prelude.{◌≡◌, ◌≢◌, false, IsTrue, IfOk, IfErr};
+ghost use Rattle.std.specs.Prelude.{◌≡◌, ◌≢◌, false, IsTrue, IfOk, IfErr, OnOk};
 ghost use Rattle.sqlite.specs.State.{HasCleanDisk, KeepsCommit, Survives};
 ghost use Rattle.sqlite.specs.Held.{state};
 ghost use Rattle.ccr_tables.specs.Cause.{cause_of};
 ghost use Rattle.ccr_tables.specs.Contents.{Holds, Keeps, new_contents};
+ghost use Rattle.ccr_tables.specs.Created.{FailedAtFirst, IsUnmade, WasRefused};
 ghost use Rattle.ccr_tables.specs.Schema.{no_schema, meta_schema, our_schema};
 ghost use Rattle.ccr_tables.specs.Step.{Creates, Founds, IsBare};
 
@@ -28,6 +29,9 @@ fn create_tables<S: Alter>(tx: &mut Transaction<'_, S>) -> Result<(), Error>
     ensures step { let old = state S.Store tx.old.conn.now in
         let new = state S.Store tx.new.conn.now in
         HasCleanDisk new → IsTrue old.in_transaction → Creates meta_schema our_schema old new result }
+    ensures answered { let old = state S.Store tx.old.conn.now in
+        HasCleanDisk (state S.Store tx.new.conn.now) → IsTrue old.in_transaction
+        → IfErr result (FailedAtFirst S.Store old) }
     ensures survives { Survives (state S.Store tx.old.conn.now) (state S.Store tx.new.conn.now) (λ _. ⊥) }
 {
     scopes::create(tx)?;
@@ -43,6 +47,9 @@ fn create_all<S: Alter>(tx: &mut Transaction<'_, S>) -> Result<(), Error>
     ensures step { let old = state S.Store tx.old.conn.now in
         let new = state S.Store tx.new.conn.now in
         HasCleanDisk new → IsTrue old.in_transaction → Founds meta_schema old new result }
+    ensures answered { let old = state S.Store tx.old.conn.now in
+        HasCleanDisk (state S.Store tx.new.conn.now) → IsTrue old.in_transaction
+        → IfErr result (FailedAtFirst S.Store old) }
     ensures survives { Survives (state S.Store tx.old.conn.now) (state S.Store tx.new.conn.now) (λ _. ⊥) }
 {
     create_tables(tx)?;
@@ -55,6 +62,8 @@ fn if_refused(error: Error, otherwise: Creation) -> Result<Creation, Error>
     requires { otherwise ≢ Creation.Made }
     ensures ok { IfOk result (λ it. it ≢ Creation.Made) }
     ensures err { IfErr result (λ e. cause_of e ≢ Cause.Refused) }
+    ensures same { IfErr result (λ e. e ≡ error) }
+    ensures refused { OnOk result (cause_of error ≡ Cause.Refused) }
 {
     if Cause::of(&error) == Cause::Refused {
         Ok(otherwise)
@@ -72,6 +81,12 @@ fn create_rest<S: Alter>(tx: &mut Transaction<'_, S>) -> Result<Creation, Error>
         let new = state S.Store tx.new.conn.now in
         HasCleanDisk new → IsTrue old.in_transaction → result ≡ Ok Creation.Made
         → IsTrue new.in_transaction × (IsBare meta_schema old.now → Holds new_contents new.now) }
+    ensures answered { let old = state S.Store tx.old.conn.now in
+        HasCleanDisk (state S.Store tx.new.conn.now) → IsTrue old.in_transaction
+        → IfErr result (FailedAtFirst S.Store old) }
+    ensures refusal { let old = state S.Store tx.old.conn.now in
+        HasCleanDisk (state S.Store tx.new.conn.now) → IsTrue old.in_transaction
+        → IfOk result (λ it. it ≢ Creation.Made → WasRefused S.Store old) }
     ensures survives { Survives (state S.Store tx.old.conn.now) (state S.Store tx.new.conn.now) (λ _. ⊥) }
 {
     match create_all(tx) {
@@ -92,6 +107,12 @@ fn create_in<S: Alter>(tx: &mut Transaction<'_, S>) -> Result<Creation, Error>
     ensures taken { let old = state S.Store tx.old.conn.now in
         HasCleanDisk (state S.Store tx.new.conn.now) → IsTrue old.in_transaction
         → old.now.schema ≡ our_schema → result ≢ Ok Creation.Made }
+    ensures answered { let old = state S.Store tx.old.conn.now in
+        HasCleanDisk (state S.Store tx.new.conn.now) → IsTrue old.in_transaction
+        → IfErr result (FailedAtFirst S.Store old) }
+    ensures refusal { let old = state S.Store tx.old.conn.now in
+        HasCleanDisk (state S.Store tx.new.conn.now) → IsTrue old.in_transaction
+        → IfOk result (λ it. it ≢ Creation.Made → WasRefused S.Store old) }
     ensures survives { Survives (state S.Store tx.old.conn.now) (state S.Store tx.new.conn.now) (λ _. ⊥) }
 {
     match meta::create(tx) {
@@ -117,6 +138,10 @@ pub fn create<S: Alter>(conn: &mut Connection<S>) -> Result<Creation, Error>
     ensures was_open { let old = state S.Store conn.old in
         let new = state S.Store conn.new in
         HasCleanDisk new → IsTrue new.is_open → result ≢ Ok Creation.Made → IsTrue old.is_open }
+    ensures answered { HasCleanDisk (state S.Store conn.new)
+        → IfErr result (IsUnmade S.Store (state S.Store conn.old)) }
+    ensures refusal { HasCleanDisk (state S.Store conn.new)
+        → IfOk result (λ it. it ≢ Creation.Made → WasRefused S.Store (state S.Store conn.old)) }
     ensures crash { let old = state S.Store conn.old in
         Survives old (state S.Store conn.new) (λ trees. old.now.schema ≡ no_schema → Keeps new_contents trees) }
     ensures refused { IfOk result (λ it. it ≢ Creation.Made

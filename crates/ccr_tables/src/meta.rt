@@ -4,7 +4,9 @@ ghost use Rattle.std.specs.Prelude.{◌≡◌, ◌≢◌, pos, false, IsTrue, If
 ghost use Rattle.sqlite.specs.declared.types.Value.TheVariants.{Int, Blob};
 ghost use Rattle.sqlite.specs.State.{HasCleanDisk, Survives, ExecutesInside};
 ghost use Rattle.sqlite.specs.Held.{state};
-ghost use Rattle.ccr_tables.specs.Read.{FailedToRead};
+ghost use Rattle.ccr_tables.specs.Created as created;
+ghost use Rattle.ccr_tables.specs.Read.{FailedToRead, meta_text};
+ghost use Rattle.ccr_tables.specs.Shown.{Shows};
 ghost use Rattle.ccr_tables.specs.Schema.{meta_schema, no_schema, our_schema};
 ghost use Rattle.ccr_tables.specs.Answered.{put_meta_text};
 ghost use Rattle.ccr_tables.specs.Cause.{cause_of};
@@ -26,6 +28,10 @@ pub(crate) fn create<S: Alter>(tx: &mut Transaction<'_, S>) -> Result<usize, Err
     ensures taken { let old = state S.Store tx.old.conn.now in
         HasCleanDisk (state S.Store tx.new.conn.now) → IsTrue old.in_transaction
         → old.now.schema ≡ our_schema → IfOk result (λ _. ⊥) }
+    ensures answered { let old = state S.Store tx.old.conn.now in
+        let new = state S.Store tx.new.conn.now in
+        HasCleanDisk new → IsTrue old.in_transaction
+        → IfErr result (λ e. ExecutesInside 0 created.meta_text [] old new (Err e)) }
     ensures survives { Survives (state S.Store tx.old.conn.now) (state S.Store tx.new.conn.now) (λ _. ⊥) }
 {
     tx.execute(
@@ -58,6 +64,8 @@ pub fn select<S: Alter>(conn: &mut Connection<S>) -> Result<Vec<Row>, Error>
     ensures rows { let old = state S.Store conn.old in
         HasCleanDisk (state S.Store conn.new)
         → IfOk result (λ rows. (these : _) → Holds these old.now → IsListed 1 these.meta rows.items) }
+    ensures shown { HasCleanDisk (state S.Store conn.new)
+        → IfOk result (λ rows. Shows meta_text (state S.Store conn.old).now rows.items) }
     ensures reads { OnlyReads (state S.Store conn.old) (state S.Store conn.new) result }
     ensures clean { HasCleanDisk (state S.Store conn.new) → HasCleanDisk (state S.Store conn.old) }
     ensures open { HasCleanDisk (state S.Store conn.new) → IfOk result (λ _. IsTrue (state S.Store conn.old).is_open) }

@@ -5,7 +5,9 @@ ghost use Rattle.sqlite.specs.Order.{Row as RowData};
 ghost use Rattle.sqlite.specs.declared.types.Value.TheVariants.{Int, Text};
 ghost use Rattle.sqlite.specs.State.{HasCleanDisk, Survives, ExecutesInside};
 ghost use Rattle.sqlite.specs.Held.{state};
-ghost use Rattle.ccr_tables.specs.Read.{FailedToRead};
+ghost use Rattle.ccr_tables.specs.Created as created;
+ghost use Rattle.ccr_tables.specs.Read.{FailedToRead, pairs_text};
+ghost use Rattle.ccr_tables.specs.Shown.{ShowsOfKind};
 ghost use Rattle.ccr_tables.specs.Schema.{builds_schema, our_schema, pairs_schema};
 ghost use Rattle.ccr_tables.specs.Answered.{pair_text};
 ghost use Rattle.ccr_tables.specs.Cause.{cause_of};
@@ -113,6 +115,10 @@ pub(crate) fn create<S: Alter>(tx: &mut Transaction<'_, S>) -> Result<usize, Err
     ensures step { let old = state S.Store tx.old.conn.now in
         let new = state S.Store tx.new.conn.now in
         HasCleanDisk new → IsTrue old.in_transaction → Creates builds_schema pairs_schema old new result }
+    ensures answered { let old = state S.Store tx.old.conn.now in
+        let new = state S.Store tx.new.conn.now in
+        HasCleanDisk new → IsTrue old.in_transaction
+        → IfErr result (λ e. ExecutesInside 0 created.pairs_text [] old new (Err e)) }
     ensures survives { Survives (state S.Store tx.old.conn.now) (state S.Store tx.new.conn.now) (λ _. ⊥) }
 {
     tx.execute(
@@ -152,6 +158,8 @@ pub fn select<S: Alter>(alloc: Global, conn: &mut Connection<S>) -> Result<Optio
     ensures rows { let old = state S.Store conn.old in
         HasCleanDisk (state S.Store conn.new)
         → IfOk result (λ found. (these : _) → Holds these old.now → AreFound IsPair 4 these.pairs found) }
+    ensures shown { HasCleanDisk (state S.Store conn.new)
+        → IfOk result (ShowsOfKind IsPair pairs_text (state S.Store conn.old).now) }
     ensures reads { OnlyReads (state S.Store conn.old) (state S.Store conn.new) result }
     ensures clean { HasCleanDisk (state S.Store conn.new) → HasCleanDisk (state S.Store conn.old) }
     ensures unrefused { HasCleanDisk (state S.Store conn.new) → (state S.Store conn.old).now.schema ≡ our_schema

@@ -4,7 +4,9 @@ ghost use Rattle.std.specs.Prelude.{◌≡◌, pos, false, IsTrue, IfOk, ◌≢�
 ghost use Rattle.sqlite.specs.declared.types.Value.TheVariants.{Text};
 ghost use Rattle.sqlite.specs.State.{HasCleanDisk, Survives, ExecutesInside};
 ghost use Rattle.sqlite.specs.Held.{state};
-ghost use Rattle.ccr_tables.specs.Read.{FailedToRead};
+ghost use Rattle.ccr_tables.specs.Created as created;
+ghost use Rattle.ccr_tables.specs.Read.{FailedToRead, pins_text};
+ghost use Rattle.ccr_tables.specs.Shown.{Shows};
 ghost use Rattle.ccr_tables.specs.Schema.{our_schema, pairs_schema};
 ghost use Rattle.ccr_tables.specs.Answered.{put_pin_text, remove_pin_text};
 ghost use Rattle.ccr_tables.specs.Cause.{cause_of};
@@ -23,6 +25,10 @@ pub(crate) fn create<S: Alter>(tx: &mut Transaction<'_, S>) -> Result<usize, Err
     ensures step { let old = state S.Store tx.old.conn.now in
         let new = state S.Store tx.new.conn.now in
         HasCleanDisk new → IsTrue old.in_transaction → Creates pairs_schema our_schema old new result }
+    ensures answered { let old = state S.Store tx.old.conn.now in
+        let new = state S.Store tx.new.conn.now in
+        HasCleanDisk new → IsTrue old.in_transaction
+        → IfErr result (λ e. ExecutesInside 0 created.pins_text [] old new (Err e)) }
     ensures survives { Survives (state S.Store tx.old.conn.now) (state S.Store tx.new.conn.now) (λ _. ⊥) }
 {
     tx.execute(
@@ -75,6 +81,8 @@ pub fn select<S: Alter>(conn: &mut Connection<S>) -> Result<Vec<Row>, Error>
     ensures rows { let old = state S.Store conn.old in
         HasCleanDisk (state S.Store conn.new)
         → IfOk result (λ rows. (these : _) → Holds these old.now → IsListed 1 these.pins rows.items) }
+    ensures shown { HasCleanDisk (state S.Store conn.new)
+        → IfOk result (λ rows. Shows pins_text (state S.Store conn.old).now rows.items) }
     ensures reads { OnlyReads (state S.Store conn.old) (state S.Store conn.new) result }
     ensures clean { HasCleanDisk (state S.Store conn.new) → HasCleanDisk (state S.Store conn.old) }
     ensures unrefused { HasCleanDisk (state S.Store conn.new) → (state S.Store conn.old).now.schema ≡ our_schema

@@ -1,14 +1,17 @@
-use Rattle.std.proofs.Common.{◌≡◌, ◌⊎◌, inl, inr, sym, subst}
+use Rattle.std.proofs.Common.{◌≡◌, ◌⊎◌, List, inl, inr, sym, subst, ◌∙◌}
+use Rattle.sqlite.specs.Effect.{Database}
+use Rattle.sqlite.specs.Order.{Row}
 use Rattle.sqlite.specs.State.{HasCleanDisk}
 use Rattle.sqlite.specs.Held.{state}
 use Rattle.ccr_tables.specs.Builds.{IsBuild}
 use Rattle.ccr_tables.specs.Contents.{Holds}
 use Rattle.ccr_tables.specs.Pairs.{IsPair}
 use Rattle.ccr_tables.proofs.Queries.{reads_then, reads_on, reads_failed, only_error}
-use Rattle.ccr_store.proofs.ListedRows.{found_listed, found_other}
+use Rattle.ccr_store.proofs.ListedRows.{found_listed, found_other, shown_found, shown_other}
 use Rattle.ccr_tables.specs.Cause.{cause_of}
 use Rattle.ccr_tables.specs.declared.cause.Cause.TheVariants.{NoMemory}
-use Rattle.ccr_tables.specs.Read.{FailedToRead}
+use Rattle.ccr_tables.specs.Read.{FailedToRead, builds_text, pairs_text, pins_text}
+use Rattle.ccr_tables.specs.Shown.{Shows, ShowsOther}
 use Rattle.ccr_tables.proofs.InTurn.{survives_both}
 use Rattle.ccr_store.proofs.ReadFaults.{err_so, read_after}
 use Rattle.ccr_store.proofs.found.read_built.Goals as goal
@@ -85,7 +88,7 @@ returns-in_err-pairs-clause-answered g c clean =
     let s1 = state g.S.Store c.select.new.conn in
     err_so c.from_residual-in_err-pairs.result (λ e. (cause_of e ≡ NoMemory) ⊎ FailedToRead g.S.Store s0 e) _
     c.from_residual-in_err-pairs.ensures.1
-    (read_after g.S.Store s0 s1 _ c.in_ok-builds.ensures.reads.crash (c.in_err-pairs.ensures.answered clean))
+    (read_after g.S.Store s0 s1 _ (c.in_ok-builds.ensures.reads.same (c.select-2.ensures.clean clean)).0.now_is c.in_ok-builds.ensures.reads.crash (c.in_err-pairs.ensures.answered clean))
 
 pub returns-in_err-pins-clause-answered : goal.returns-in_err-pins-clause-answered
 returns-in_err-pins-clause-answered g c clean =
@@ -94,5 +97,35 @@ returns-in_err-pins-clause-answered g c clean =
     let s2 = state g.S.Store c.select-2.new.conn in
     err_so c.from_residual-in_err-pins.result (λ e. (cause_of e ≡ NoMemory) ⊎ FailedToRead g.S.Store s0 e) _
     c.from_residual-in_err-pins.ensures.1
-    (read_after g.S.Store s0 s2 _ (survives_both s0 s1 s2 c.in_ok-builds.ensures.reads.crash c.in_ok-pairs.ensures.reads.crash)
+    (read_after g.S.Store s0 s2 _
+    ((c.in_ok-pairs.ensures.reads.same (c.select-3.ensures.clean clean)).0.now_is ∙ (c.in_ok-builds.ensures.reads.same (c.select-2.ensures.clean (c.select-3.ensures.clean clean))).0.now_is)
+    (survives_both s0 s1 s2 c.in_ok-builds.ensures.reads.crash c.in_ok-pairs.ensures.reads.crash)
     (inr (c.in_err-pins.ensures.answered clean)))
+
+pub returns-in_default-clause-other : goal.returns-in_default-clause-other
+returns-in_default-clause-other g c clean =
+    let s0 = state g.S.Store c.args.conn.now in
+    inl (shown_other IsBuild builds_text s0.now c.in_ok-builds.field-0 c.in_default.not-Some (c.in_ok-builds.ensures.shown clean))
+
+pub returns-in_default-2-clause-other : goal.returns-in_default-2-clause-other
+returns-in_default-2-clause-other g c clean =
+    let s1 = state g.S.Store c.select.new.conn in
+    let clean1 : HasCleanDisk s1 = c.select-2.ensures.clean clean in
+    inr (subst (λ (d : Database). ShowsOther IsPair pairs_text d) (c.in_ok-builds.ensures.reads.same clean1).0.now_is
+    (shown_other IsPair pairs_text s1.now c.in_ok-pairs.field-0 c.in_default-2.not-Some (c.in_ok-pairs.ensures.shown clean)))
+
+pub returns-clause-shown : goal.returns-clause-shown
+returns-clause-shown g c clean =
+    let s0 = state g.S.Store c.args.conn.now in
+    let s1 = state g.S.Store c.select.new.conn in
+    let s2 = state g.S.Store c.select-2.new.conn in
+    let clean2 : HasCleanDisk s2 = c.select-3.ensures.clean clean in
+    let clean1 : HasCleanDisk s1 = c.select-2.ensures.clean clean2 in
+    let same1 = (c.in_ok-builds.ensures.reads.same clean1).0.now_is in
+    let same2 = (c.in_ok-pairs.ensures.reads.same clean2).0.now_is ∙ same1 in
+    record {
+      made = shown_found IsBuild builds_text s0.now c.in_ok-builds.field-0 c.in-Some.builds c.in-Some.is (c.in_ok-builds.ensures.shown clean1);
+      given = subst (λ (d : Database). Shows pairs_text d c.in-Some-2.pairs.items) same1
+          (shown_found IsPair pairs_text s1.now c.in_ok-pairs.field-0 c.in-Some-2.pairs c.in-Some-2.is (c.in_ok-pairs.ensures.shown clean2));
+      held = subst (λ (d : Database). Shows pins_text d c.in_ok-pins.pins.items) same2 (c.in_ok-pins.ensures.shown clean);
+    }

@@ -1,8 +1,9 @@
+use Rattle.std.proofs.Common.{inl, inr, refl}
 use Rattle.ccr_store.specs.Rows.{rows_of}
 use Rattle.ccr_store.proofs.ShownRows.{no_other}
 use Rattle.sqlite.specs.Held.{state}
 use Rattle.ccr_tables.proofs.Queries.{reads_on, reads_failed}
-use Rattle.ccr_store.proofs.ReadFaults.{fault_of_read}
+use Rattle.ccr_store.proofs.ReadFaults.{fault_of_read, others_of_none}
 use Rattle.ccr_store.proofs.loading.found_in.Goals as goal
 
 pub returns-in-None-clause-only : goal.returns-in-None-clause-only
@@ -29,3 +30,10 @@ pub returns-in-Err-clause-answered : goal.returns-in-Err-clause-answered
 returns-in-Err-clause-answered g c clean =
     fault_of_read g.S.Store (state g.S.Store c.args.conn.now) c.in-Err.error c.read_fault_of.result c.read_fault_of.ensures.exact
     (c.in-Err.ensures.answered clean)
+
+pub returns-in-Some-clause-shown : goal.returns-in-Some-clause-shown
+returns-in-Some-clause-shown g c clean = rw c.in-Some.is at (c.in-Ok.ensures.shown clean)
+
+pub returns-in-None-clause-answered : goal.returns-in-None-clause-answered
+returns-in-None-clause-answered g c clean =
+    inr (inl (refl, others_of_none (state g.S.Store c.args.conn.now).now (rw c.in-None.is at (c.in-Ok.ensures.other clean))))

@@ -1,12 +1,14 @@
-use Rattle.std.proofs.Common.{◌⊎◌, sym, subst}
+use Rattle.std.proofs.Common.{sym, subst}
+use Rattle.sqlite.specs.Effect.{Database}
 use Rattle.sqlite.specs.State.{HasCleanDisk}
 use Rattle.sqlite.specs.Held.{state}
 use Rattle.ccr_tables.specs.Contents.{Holds}
 use Rattle.ccr_tables.proofs.Queries.{reads_then}
 use Rattle.ccr_store.specs.Rows.{rows_of}
 use Rattle.ccr_store.proofs.StoreLemmas.{not_ours_read, fault_on, rows_loaded, readable_on}
-use Rattle.ccr_store.specs.Causes.{ComesOfRows, HasReadAnswer}
-use Rattle.ccr_store.proofs.ReadFaults.{err_so, fault_after}
+use Rattle.ccr_store.specs.Causes.{IsUnloaded}
+use Rattle.ccr_store.specs.Shown.{IsSeenOf}
+use Rattle.ccr_store.proofs.ReadFaults.{err_so, fault_after, history_shown}
 use Rattle.ccr_store.proofs.loading.load.Goals as goal
 
 pub returns-in_err-history-clause-not_ours : goal.returns-in_err-history-clause-not_ours
@@ -43,10 +45,20 @@ returns-clause-not_ours g c clean =
 pub returns-in_err-history-clause-answered : goal.returns-in_err-history-clause-answered
 returns-in_err-history-clause-answered g c clean =
     err_so c.from_residual.result
-    (λ fault. ComesOfRows fault ⊎ HasReadAnswer g.S.Store (state g.S.Store c.args.conn.now) fault) _
+    (IsUnloaded g.S.Store (state g.S.Store c.args.conn.now)) _
     c.from_residual.ensures.1 (c.in_err-history.ensures.answered clean)
 
 pub returns-clause-answered : goal.returns-clause-answered
 returns-clause-answered g c clean =
-    fault_after g.S.Store (state g.S.Store c.args.conn.now) (state g.S.Store c.load_seen.new.conn) c.load_built.result
-    c.in_ok-history.ensures.reads.crash (c.load_built.ensures.answered clean)
+    let mid = state g.S.Store c.load_seen.new.conn in
+    let clean_mid : HasCleanDisk mid = c.load_built.ensures.clean clean in
+    let same = (c.in_ok-history.ensures.reads.same clean_mid).0.now_is in
+    fault_after g.S.Store (state g.S.Store c.args.conn.now) mid c.load_built.result same
+    c.in_ok-history.ensures.reads.crash (c.load_built.ensures.answered clean (subst (λ (d : Database). IsSeenOf d c.in_ok-history.history) (sym same) (c.in_ok-history.ensures.seen clean_mid)))
+
+pub returns-clause-shown : goal.returns-clause-shown
+returns-clause-shown g c clean =
+    let mid = state g.S.Store c.load_seen.new.conn in
+    let clean_mid : HasCleanDisk mid = c.load_built.ensures.clean clean in
+    history_shown (state g.S.Store c.args.conn.now).now mid.now c.in_ok-history.history c.load_built.result (c.in_ok-history.ensures.reads.same clean_mid).0.now_is
+    (c.in_ok-history.ensures.seen clean_mid) c.load_built.ensures.kept (c.load_built.ensures.shown clean)

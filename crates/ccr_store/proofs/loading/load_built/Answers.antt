@@ -4,7 +4,7 @@ use Rattle.ccr_store.proofs.ShownRows.{shown_built}
 use Rattle.ccr_store.proofs.StoreLemmas.{if_fault}
 use Rattle.sqlite.specs.Held.{state}
 use Rattle.ccr_tables.proofs.Queries.{reads_on, reads_failed}
-use Rattle.ccr_store.proofs.ReadFaults.{fault_of_rows}
+use Rattle.ccr_store.proofs.ReadFaults.{unbuilt}
 use Rattle.ccr_store.proofs.loading.load_built.Goals as goal
 
 pub returns-in-Ok-clause-rows : goal.returns-in-Ok-clause-rows
@@ -22,5 +22,13 @@ pub returns-in-Err-clause-reads : goal.returns-in-Err-clause-reads
 returns-in-Err-clause-reads g c = reads_failed (state g.S.Store c.args.conn.now) (state g.S.Store c.found_in.new.conn) _ _ tt c.in-Err.ensures.reads
 
 pub returns-in-Ok-clause-answered : goal.returns-in-Ok-clause-answered
-returns-in-Ok-clause-answered g c clean =
-    fault_of_rows g.S.Store (state g.S.Store c.args.conn.now) c.history_of.result c.history_of.ensures.comes
+returns-in-Ok-clause-answered g c clean seen =
+    unbuilt g.S.Store (state g.S.Store c.args.conn.now) c.args.history c.history_of.result c.in-Ok.built.builds.items c.in-Ok.built.pairs.items c.in-Ok.built.pins.items seen (c.in-Ok.ensures.shown clean)
+    c.history_of.ensures.only c.history_of.ensures.comes
+
+pub returns-in-Ok-clause-shown : goal.returns-in-Ok-clause-shown
+returns-in-Ok-clause-shown g c clean =
+    IfOk-weaker c.history_of.result _ _ (λ it lists. (c.in-Ok.built.builds.items, c.in-Ok.built.pairs.items, c.in-Ok.built.pins.items, c.in-Ok.ensures.shown clean, lists)) c.history_of.ensures.rows
+
+pub returns-in-Err-clause-answered : goal.returns-in-Err-clause-answered
+returns-in-Err-clause-answered g c clean seen = c.in-Err.ensures.answered clean

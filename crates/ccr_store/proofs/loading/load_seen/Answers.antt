@@ -7,7 +7,7 @@ use Rattle.ccr_store.proofs.StoreLemmas.{or_fault}
 use Rattle.std.proofs.Common.{◌≡◌, inr}
 use Rattle.sqlite.specs.Held.{state}
 use Rattle.ccr_tables.proofs.Queries.{reads_on, reads_failed}
-use Rattle.ccr_store.proofs.ReadFaults.{fault_of_read, fault_of_rows}
+use Rattle.ccr_store.proofs.ReadFaults.{fault_of_read, unseen, seen_shown}
 use Rattle.ccr_store.proofs.loading.load_seen.Goals as goal
 
 pub returns-in-Ok-clause-rows : goal.returns-in-Ok-clause-rows
@@ -30,7 +30,12 @@ returns-in-Err-clause-reads g c = reads_failed (state g.S.Store c.args.conn.now)
 
 pub returns-in-Ok-clause-answered : goal.returns-in-Ok-clause-answered
 returns-in-Ok-clause-answered g c clean =
-    fault_of_rows g.S.Store (state g.S.Store c.args.conn.now) c.tables_of.result c.tables_of.ensures.comes
+    unseen g.S.Store (state g.S.Store c.args.conn.now) (λ h (history : HistoryData). history ≡ seen_of h) c.tables_of.result c.in-Ok.seen.meta.items c.in-Ok.seen.scopes.items c.in-Ok.seen.versions.items (c.in-Ok.ensures.shown clean)
+    c.tables_of.ensures.only c.tables_of.ensures.comes
+
+pub returns-in-Ok-clause-seen : goal.returns-in-Ok-clause-seen
+returns-in-Ok-clause-seen g c clean =
+    seen_shown (state g.S.Store c.args.conn.now).now c.tables_of.result c.in-Ok.seen.meta.items c.in-Ok.seen.scopes.items c.in-Ok.seen.versions.items (c.in-Ok.ensures.shown clean) c.tables_of.ensures.rows c.tables_of.ensures.only
 
 pub returns-in-Err-clause-answered : goal.returns-in-Err-clause-answered
 returns-in-Err-clause-answered g c clean =

@@ -18,3 +18,8 @@ returns-in_err-rows-clause-answered g c clean =
 
 pub returns-clause-answered : goal.returns-clause-answered
 returns-clause-answered g c clean = IfErr-weaker c.builds_of.result _ _ (λ e out. inl out) c.builds_of.ensures.only
+
+pub returns-clause-shown : goal.returns-clause-shown
+returns-clause-shown g c clean =
+    IfOk-weaker c.builds_of.result _ _
+    (λ found are. (c.in_ok-rows.rows.items, c.in_ok-rows.ensures.shown clean, subst (λ (rows : List Row). Are IsBuild rows found) c.deref.ensures.value are)) c.builds_of.ensures.are

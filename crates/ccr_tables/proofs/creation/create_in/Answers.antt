@@ -1,8 +1,11 @@
-use Rattle.std.proofs.Common.{arith}
+use Rattle.std.proofs.Common.{arith, [], inl, refl}
 use Rattle.sqlite.specs.State.{HasCleanDisk}
 use Rattle.sqlite.specs.Held.{state}
 use Rattle.ccr_tables.proofs.InTurn.{keeps_then, survives_both}
 use Rattle.ccr_tables.proofs.Founding.{not_made}
+use Rattle.ccr_tables.specs.Created.{meta_text}
+use Rattle.ccr_tables.proofs.FailedReads.{survives_itself}
+use Rattle.ccr_tables.proofs.Created.{first_failed, first_after, refusal_after, refusal_on, failed_otherwise}
 use Rattle.ccr_tables.proofs.creation.create_in.Goals as goal
 
 pub returns-in-Ok-clause-kept : goal.returns-in-Ok-clause-kept
@@ -41,3 +44,31 @@ returns-in-Ok-clause-taken g c clean inside has made =
 
 pub returns-in-Err-clause-taken : goal.returns-in-Err-clause-taken
 returns-in-Err-clause-taken g c clean inside has made = not_made _ c.if_refused.ensures.ok made
+
+pub returns-in-Ok-clause-answered : goal.returns-in-Ok-clause-answered
+returns-in-Ok-clause-answered g c clean inside =
+    let s0 = state g.S.Store c.args.tx.now.conn.now in
+    let s1 = state g.S.Store c.create.new.tx.conn.now in
+    let clean1 : HasCleanDisk s1 = omega (arith, c.create_rest.ensures.survives.clean) in
+    let first = c.in-Ok.ensures.step clean1 inside in
+    first_after g.S.Store s0 s1 c.create_rest.result c.create.ensures.survives (c.create_rest.ensures.answered clean first.made.0)
+
+pub returns-in-Ok-clause-refusal : goal.returns-in-Ok-clause-refusal
+returns-in-Ok-clause-refusal g c clean inside =
+    let s0 = state g.S.Store c.args.tx.now.conn.now in
+    let s1 = state g.S.Store c.create.new.tx.conn.now in
+    let clean1 : HasCleanDisk s1 = omega (arith, c.create_rest.ensures.survives.clean) in
+    let first = c.in-Ok.ensures.step clean1 inside in
+    refusal_after g.S.Store s0 s1 c.create_rest.result c.create.ensures.survives (c.create_rest.ensures.refusal clean first.made.0)
+
+pub returns-in-Err-clause-answered : goal.returns-in-Err-clause-answered
+returns-in-Err-clause-answered g c clean inside =
+    let s0 = state g.S.Store c.args.tx.now.conn.now in
+    failed_otherwise g.S.Store s0 _ c.if_refused.result c.if_refused.ensures.same
+    (first_failed g.S.Store s0 c.args.tx.now.conn.now c.create.new.tx.conn.now meta_text [] _ (inl (inl refl, refl)) (survives_itself s0) (c.in-Err.ensures.answered clean inside))
+
+pub returns-in-Err-clause-refusal : goal.returns-in-Err-clause-refusal
+returns-in-Err-clause-refusal g c clean inside =
+    let s0 = state g.S.Store c.args.tx.now.conn.now in
+    refusal_on g.S.Store s0 _ c.if_refused.result c.if_refused.ensures.refused
+    (first_failed g.S.Store s0 c.args.tx.now.conn.now c.create.new.tx.conn.now meta_text [] _ (inl (inl refl, refl)) (survives_itself s0) (c.in-Err.ensures.answered clean inside))

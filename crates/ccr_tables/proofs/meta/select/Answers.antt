@@ -6,6 +6,7 @@ use Rattle.ccr_tables.proofs.Queries.{only_reads, meta_plain}
 use Rattle.ccr_tables.proofs.FailedReads.{failed_read}
 use Rattle.ccr_tables.proofs.Refusals.{unrefused_meta}
 use Rattle.ccr_tables.proofs.Texts.{meta_text}
+use Rattle.ccr_tables.proofs.ShownRows.{shown_text}
 use Rattle.ccr_tables.proofs.meta.select.Goals as goal
 
 pub returns-clause-rows : goal.returns-clause-rows
@@ -29,3 +30,7 @@ returns-clause-unrefused g c clean has =
 pub returns-clause-answered : goal.returns-clause-answered
 returns-clause-answered g c clean =
     failed_read g.S.Store c.args.conn.now c.query_all.new.self meta_text c.query_all.result (inl refl) (c.query_all.ensures.err clean)
+
+pub returns-clause-shown : goal.returns-clause-shown
+returns-clause-shown g c clean =
+    shown_text meta_text (state g.S.Store c.args.conn.now) (state g.S.Store c.query_all.new.self) c.query_all.result (meta_plain _) (c.query_all.ensures.ok clean)

@@ -7,12 +7,14 @@ use Rattle.sqlite.specs.Held.{state}
 use Rattle.sqlite.proofs.Callers.{unchanged_then}
 use Rattle.ccr_tables.specs.Contents.{Holds}
 use Rattle.ccr_tables.specs.Left.{OnlyReads}
+use Rattle.ccr_tables.specs.Shown.{Shows}
 use Rattle.ccr_tables.proofs.Lists.{list_pairs}
 use Rattle.ccr_tables.proofs.Queries.{survives, begun_anywhere, pairs_plain, fails_left, unchanged_nothing, nothing_then, only_error, reads_failing, reads_same}
 use Rattle.ccr_tables.proofs.PairRows.{refused_now, fails_given, refused_on, survives_on, shows_on}
 use Rattle.ccr_tables.proofs.FailedReads.{failed_read, failed_later, failed_on}
 use Rattle.ccr_tables.proofs.Refusals.{unrefused_pairs}
 use Rattle.ccr_tables.proofs.Texts.{pairs_text}
+use Rattle.ccr_tables.proofs.ShownRows.{shows_text}
 use Rattle.ccr_tables.proofs.pairs.select.Goals as goal
 
 pub returns-in_err-rows-clause-unrefused : goal.returns-in_err-rows-clause-unrefused
@@ -128,6 +130,18 @@ returns-in_err-row-clause-answered g c clean =
     let late : HasCleanDisk (state g.S.Store now) = search rules in
     let was = c.rows.invariant.3 (omega (arith, moved.survives.clean)) in
     failed_on g.S.Store old c.next.result c.from_residual-in_err-row.result c.in_err-row.field-0.0 c.in_err-row.was c.from_residual-in_err-row.ensures.1
-    (failed_later g.S.Store old mid c.next.result (survives pairs_text old mid (pairs_plain _) c.rows.invariant.1)
+    (failed_later g.S.Store old mid c.next.result was.0.0.now_is (survives pairs_text old mid (pairs_plain _) c.rows.invariant.1)
     (failed_read g.S.Store c.rows.rows.conn.now now pairs_text c.next.result (inr (inr (inr (inr (inl refl)))))
     (fails_given g.S.Store c.rows.rows.conn.now now c.next.result was.1 was.2 (moved.err late))))
+
+pub returns-in_default-clause-shown : goal.returns-in_default-clause-shown
+returns-in_default-clause-shown g c clean =
+    let moved = c.next.follows.holds-at-none in
+    let now = c.next.follows.lender-at-none.conn.now in
+    let late : HasCleanDisk (state g.S.Store now) = search rules in
+    let was = c.rows.invariant.3 (omega (arith, moved.survives.clean)) in
+    let shown = (rw (c.in_ok-row.was, c.in_default.is) at (moved.ok late)) pairs_text [] was.1 was.2 in (
+      was.1,
+      subst (λ (db : Database). Shows pairs_text db was.1) was.0.0.now_is (shows_text pairs_text (state g.S.Store c.rows.rows.conn.now) (state g.S.Store now) was.1 (pairs_plain _) shown),
+      was.3,
+    )

@@ -6,6 +6,7 @@ use Rattle.ccr_tables.proofs.Queries.{only_reads, pins_plain}
 use Rattle.ccr_tables.proofs.FailedReads.{failed_read}
 use Rattle.ccr_tables.proofs.Refusals.{unrefused_pins}
 use Rattle.ccr_tables.proofs.Texts.{pins_text}
+use Rattle.ccr_tables.proofs.ShownRows.{shown_text}
 use Rattle.ccr_tables.proofs.pins.select.Goals as goal
 
 pub returns-clause-rows : goal.returns-clause-rows
@@ -25,3 +26,7 @@ returns-clause-unrefused g c clean has =
 pub returns-clause-answered : goal.returns-clause-answered
 returns-clause-answered g c clean =
     failed_read g.S.Store c.args.conn.now c.query_all.new.self pins_text c.query_all.result (inr (inr (inr (inr (inr refl))))) (c.query_all.ensures.err clean)
+
+pub returns-clause-shown : goal.returns-clause-shown
+returns-clause-shown g c clean =
+    shown_text pins_text (state g.S.Store c.args.conn.now) (state g.S.Store c.query_all.new.self) c.query_all.result (pins_plain _) (c.query_all.ensures.ok clean)

@@ -6,6 +6,7 @@ use Rattle.ccr_tables.proofs.Queries.{only_reads, scopes_plain}
 use Rattle.ccr_tables.proofs.FailedReads.{failed_read}
 use Rattle.ccr_tables.proofs.Refusals.{unrefused_scopes}
 use Rattle.ccr_tables.proofs.Texts.{scopes_text}
+use Rattle.ccr_tables.proofs.ShownRows.{shown_text}
 use Rattle.ccr_tables.proofs.scopes.select.Goals as goal
 
 pub returns-clause-rows : goal.returns-clause-rows
@@ -25,3 +26,7 @@ returns-clause-unrefused g c clean has =
 pub returns-clause-answered : goal.returns-clause-answered
 returns-clause-answered g c clean =
     failed_read g.S.Store c.args.conn.now c.query_all.new.self scopes_text c.query_all.result (inr (inl refl)) (c.query_all.ensures.err clean)
+
+pub returns-clause-shown : goal.returns-clause-shown
+returns-clause-shown g c clean =
+    shown_text scopes_text (state g.S.Store c.args.conn.now) (state g.S.Store c.query_all.new.self) c.query_all.result (scopes_plain _) (c.query_all.ensures.ok clean)

@@ -6,6 +6,7 @@ use Rattle.ccr_tables.proofs.Queries.{only_reads, versions_plain}
 use Rattle.ccr_tables.proofs.FailedReads.{failed_read}
 use Rattle.ccr_tables.proofs.Refusals.{unrefused_versions}
 use Rattle.ccr_tables.proofs.Texts.{versions_text}
+use Rattle.ccr_tables.proofs.ShownRows.{shown_text}
 use Rattle.ccr_tables.proofs.versions.select.Goals as goal
 
 pub returns-clause-rows : goal.returns-clause-rows
@@ -25,3 +26,7 @@ returns-clause-unrefused g c clean has =
 pub returns-clause-answered : goal.returns-clause-answered
 returns-clause-answered g c clean =
     failed_read g.S.Store c.args.conn.now c.query_all.new.self versions_text c.query_all.result (inr (inr (inl refl))) (c.query_all.ensures.err clean)
+
+pub returns-clause-shown : goal.returns-clause-shown
+returns-clause-shown g c clean =
+    shown_text versions_text (state g.S.Store c.args.conn.now) (state g.S.Store c.query_all.new.self) c.query_all.result (versions_plain _) (c.query_all.ensures.ok clean)

@@ -1,4 +1,7 @@
-use Rattle.std.proofs.Common.{sym}
+use Rattle.std.proofs.Common.{sym, ap, Err}
+use Rattle.sqlite.specs.Held.{state}
+use Rattle.ccr_store.specs.Causes.{IsLetGo}
+use Rattle.ccr_store.proofs.ReadFaults.{err_so}
 use Rattle.ccr_history.proofs.ChangeLaws.{none_is_history}
 use Rattle.ccr_store.proofs.store.Store.adopt.Goals as goal
 
@@ -14,3 +17,17 @@ returns-clause-kept g c = λ blank clean up.
 
 pub returns-clause-found : goal.returns-clause-found
 returns-clause-found g c = λ these clean settled holds. c.in_ok-prepare.ensures.found these clean holds
+
+pub returns-clause-taken : goal.returns-clause-taken
+returns-clause-taken g c = λ clean other. c.in_ok-prepare.ensures.taken clean other
+
+pub returns-in_err-prepare-clause-answered : goal.returns-in_err-prepare-clause-answered
+returns-in_err-prepare-clause-answered g c =
+    err_so c.from_residual.result (IsLetGo g.S.Store (state g.S.Store c.args.conn)) _ c.from_residual.ensures.1
+    (record {
+      end = c.prepare.new.conn;
+      cause = λ clean. c.in_err-prepare.ensures.answered clean;
+      left = λ clean. c.in_err-prepare.ensures.left clean;
+      crash = c.in_err-prepare.ensures.crash;
+      not_ours = λ ours. c.in_err-prepare.ensures.not_ours (ap Err ours);
+    })

@@ -1,11 +1,12 @@
-use Rattle.std.proofs.Common.{◌⊎◌, ◌∙◌, not, sym, ap, subst, inl}
+use Rattle.std.proofs.Common.{◌∙◌, not, sym, ap, subst, inl}
 use Rattle.sqlite.specs.Effect.{Database}
 use Rattle.sqlite.specs.Held.{state}
 use Rattle.ccr_tables.specs.Contents.{Keeps}
 use Rattle.ccr_store.proofs.StoreLemmas.{stored_loaded, reads_store, as_it_was, as_it_was_kept, not_ours_loaded}
 use Rattle.ccr_store.specs.Rows.{rows_of}
 use Rattle.ccr_store.proofs.OneHistory.{one_history}
-use Rattle.ccr_store.specs.Causes.{ComesOfRows, HasReadAnswer}
+use Rattle.ccr_store.specs.Causes.{IsUnloaded}
+use Rattle.ccr_store.specs.Shown.{ShowsHistory}
 use Rattle.ccr_store.specs.StoreData.{StoreData}
 use Rattle.ccr_store.proofs.ReadFaults.{err_so}
 use Rattle.ccr_store.proofs.store.Store.load.Goals as goal
@@ -70,9 +71,11 @@ returns-clause-leaves g c these holds clean trees may =
 
 pub returns-in_err-history-clause-answered : goal.returns-in_err-history-clause-answered
 returns-in_err-history-clause-answered g c clean =
-    err_so c.from_residual.result
-    (λ fault. ComesOfRows fault ⊎ HasReadAnswer g.S.Store (state g.S.Store c.args.self.now.conn) fault) _
+    err_so c.from_residual.result (IsUnloaded g.S.Store (state g.S.Store c.args.self.now.conn)) _
     c.from_residual.ensures.1
-    (subst (λ (k : StoreData _). ComesOfRows c.in_err-history.field-0.0
-    ⊎ HasReadAnswer g.S.Store (state g.S.Store k.conn) c.in_err-history.field-0.0) c.self.view_is
+    (subst (λ (k : StoreData _). IsUnloaded g.S.Store (state g.S.Store k.conn) c.in_err-history.field-0.0) c.self.view_is
     (c.in_err-history.ensures.answered clean))
+
+pub returns-clause-shown : goal.returns-clause-shown
+returns-clause-shown g c clean =
+    subst (λ (k : StoreData _). ShowsHistory c.in_ok-history.history (state g.S.Store k.conn).now) c.self.view_is (c.in_ok-history.ensures.shown clean)

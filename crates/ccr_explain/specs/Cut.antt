@@ -1,0 +1,85 @@
+-- A problem cut to some of its demands, so that the resolver can be asked. No public contract names these.
+use Rattle.std.specs.Prelude.{◌≡◌, ℕ, suc, ◌+◌, ◌<◌, ◌≤◌, List, [], ◌∷◌, ◌++◌, map, filter, Bool, false, ◌&&◌, ◌==◌, if◌then◌else◌, All}
+use Rattle.std.specs.List.{list_any, range_with_len}
+use Rattle.ccr_choice.specs.Problem.{ProblemValue, InputValue, BuildValue, builds_at}
+use Rattle.ccr_resolve.specs.Room.{product}
+use Rattle.ccr_explain.specs.declared.demand.Demand.{Demand}
+use Rattle.ccr_explain.specs.declared.demand.Demand.TheVariants.{Allowed, Passed}
+use Rattle.ccr_resolve.specs.declared.chosen.Chosen.{Chosen}
+use Rattle.ccr_resolve.specs.declared.chosen.Chosen.TheVariants as chosen
+use Rattle.ccr_explain.specs.declared.met.Met.{Met}
+use Rattle.ccr_explain.specs.declared.met.Met.TheVariants.{Yes, No, OverBudget}
+use Rattle.ccr_explain.specs.Demand.{CanBeMet, ExcludeEachOther}
+
+-- Whether a demand is that of the allowed places of input i.
+abbrev pub is_allowed_of : ℕ → Demand → Bool
+is_allowed_of i (Allowed n) = n == i
+is_allowed_of i (Passed n m) = false
+
+-- Whether a demand is that of input i for job j.
+abbrev pub is_passed_of : ℕ → ℕ → Demand → Bool
+is_passed_of i j (Allowed n) = false
+is_passed_of i j (Passed n m) = n == i && m == j
+
+-- The jobs among these that input i must still have passed.
+abbrev pub jobs_left : List Demand → ℕ → List ℕ → List ℕ
+jobs_left ds i js = filter (λ j. list_any (is_passed_of i j) ds) js
+
+-- ---- the jobs that are left, in order of first mention
+abbrev pub with_job : List ℕ → ℕ → List ℕ
+with_job order j = if list_any (λ m. m == j) order then order else order ++ j ∷ []
+
+abbrev pub with_jobs : List ℕ → List ℕ → List ℕ
+with_jobs order [] = order
+with_jobs order (j ∷ js) = with_jobs (with_job order j) js
+
+abbrev pub order_from : List Demand → ℕ → List ℕ → List InputValue → List ℕ
+order_from ds i order [] = order
+order_from ds i order (x ∷ xs) = order_from ds (i + 1) (with_jobs order (jobs_left ds i x.jobs)) xs
+
+-- How many jobs stand before this one.
+abbrev pub place_in : List ℕ → ℕ → ℕ
+place_in [] j = 0
+place_in (m ∷ ms) j = if m == j then 0 else suc (place_in ms j)
+
+-- ---- the cut
+-- Input i with what is left of its demands: where its allowed places aren't, it may take any place up to a top one.
+abbrev pub cut_input : List Demand → List ℕ → ℕ → ℕ → InputValue → InputValue
+cut_input ds order top i x = record x {
+  places = if list_any (is_allowed_of i) ds then x.places else range_with_len 1 top;
+  jobs = map (place_in order) (jobs_left ds i x.jobs);
+}
+
+abbrev pub cut_from : List Demand → List ℕ → ℕ → ℕ → List InputValue → List InputValue
+cut_from ds order top i [] = []
+cut_from ds order top i (x ∷ xs) = cut_input ds order top i x ∷ cut_from ds order top (i + 1) xs
+
+-- The jobs that are left, in order of first mention.
+unfoldable pub order_left : List Demand → ProblemValue → List ℕ
+order_left ds p = order_from ds 0 [] p.inputs
+
+-- The problem cut to these demands.
+unfoldable pub cut_to : List Demand → ℕ → ProblemValue → ProblemValue
+cut_to ds top p = record {
+  inputs = cut_from ds (order_left ds p) top 0 p.inputs;
+  jobs = map (builds_at p) (order_left ds p);
+}
+
+-- No build has a pair of a place above the top one.
+pub record IsTop (p : ProblemValue) (top : ℕ) : Type 0 where
+  pub least : 1 ≤ top
+  pub most : top ≤ 100000
+  pub covers : All (λ bs. All (λ b. All (λ q. q.1 ≤ top) b.pairs) bs) p.jobs
+
+-- Whether some choice meets the demands, by what is chosen for the problem cut to them.
+abbrev pub met_of : Chosen → Met
+met_of (chosen.Best c) = Yes
+met_of chosen.Nothing = No
+met_of (chosen.OverBudget n) = OverBudget
+
+-- Whether some choice meets these demands; it is left open only where the budget is less than the product, over the named
+-- jobs, of one plus the number of successful builds.
+abbrev pub IsMet : ProblemValue → List Demand → ℕ → Met → Type 0
+IsMet p ds budget Yes = CanBeMet p ds
+IsMet p ds budget No = ExcludeEachOther p ds
+IsMet p ds budget OverBudget = budget < product p.jobs

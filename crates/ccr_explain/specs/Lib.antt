@@ -1,0 +1,5 @@
+pub mod Demand
+pub mod ClashValue
+pub mod Clash
+pub mod WhyNot
+pub mod Cut

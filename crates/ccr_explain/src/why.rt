@@ -1,0 +1,128 @@
+//! Why an input doesn't take a place that is preferred to the one it has.
+
+ghost use Rattle.std.specs.Prelude.{◌≡◌, ◌≢◌, ◌↔◌, ◌+◌, ◌<◌, ◌≤◌, length, slice_index, filter, IsTrue, Ok, IfOk};
+ghost use Rattle.ccr_choice.specs.Problem.{ChoiceValue, input_at, IsProblem};
+ghost use Rattle.ccr_choice.specs.Preference.{order_of};
+ghost use Rattle.ccr_choice.specs.Optimal.{IsOptimal};
+ghost use Rattle.ccr_explain.specs.WhyNot.{may_take, narrowed_from, asked, IsWhyNot};
+
+use crate::clashes::clash;
+use crate::cut::copied_builds;
+use crate::explanation::Explanation;
+use ccr_choice::{Choice, Input, JobBuilds, Problem};
+use ccr_proof::MOST_NODES;
+use std::alloc::{AllocError, Global};
+
+/// Why an input can't take a place without an input before it getting worse than in a choice: the clash of the problem in which
+/// the input takes this place alone, and each input before it none of its allowed places that is worse than the choice's. Or a
+/// choice that takes the place so; there is none where the choice is optimal and the place is preferred to the one that the input
+/// has.
+///
+/// In the clash, the demand of the input's allowed places reads: it takes the place, which is allowed. That of an input before
+/// it reads: it takes an allowed place that is no worse. The calls of the resolver and the budget are those of [`clash`].
+pub fn why_not(
+    alloc: Global,
+    problem: &Problem,
+    choice: &Choice,
+    input: usize,
+    place: u32,
+    budget: u32,
+) -> Result<Explanation, AllocError>
+    requires input { input < length problem.now.inputs }
+    requires place_each { length choice.now.places ≡ length problem.now.inputs }
+    requires least { 1 ≤ budget }
+    requires most { budget ≤ MOST_NODES }
+    ensures shown { IfOk result
+        (IsWhyNot (order_of problem.now) problem.now choice.now.places input place budget) }
+    ensures not_of_the_best { IsOptimal (order_of problem.now) problem.now choice.now.places choice.now.builds
+        → IsTrue (order_of problem.now input place (slice_index choice.now.places input))
+        → (other : ChoiceValue) → result ≢ Ok (Explanation.Fits other) }
+{
+    let asked = asked(alloc, problem, &choice.places, input, place)?;
+    clash(alloc, &asked, budget)
+}
+
+/// The problem in which input `input` takes a place and no input before it gets worse.
+fn asked(
+    alloc: Global,
+    problem: &Problem,
+    places: &[u32],
+    input: usize,
+    place: u32,
+) -> Result<Problem, AllocError>
+    requires { length places.now ≡ length problem.now.inputs }
+    ensures { IfOk result (λ p. p ≡ asked (order_of problem.now) problem.now places.now input place) }
+{
+    let inputs = narrowed(alloc, problem, places, input, place)?;
+    let jobs = all_jobs(alloc, problem)?;
+    Ok(Problem::new(inputs, jobs))
+}
+
+fn narrowed(
+    alloc: Global,
+    problem: &Problem,
+    places: &[u32],
+    input: usize,
+    place: u32,
+) -> Result<Vec<Input>, AllocError>
+    requires { length places.now ≡ length problem.now.inputs }
+    ensures value { IfOk result (λ inputs. inputs.items
+        ≡ narrowed_from (may_take (order_of problem.now) places.now input place) 0 problem.now.inputs) }
+    ensures rules { IfOk result (λ inputs. IsProblem problem.now) }
+{
+    let mut inputs = Vec::new(alloc);
+    for k in 0..problem.inputs().len() {
+        let allowed = may_take_of(alloc, problem, places, input, place, k)?;
+        let jobs = Vec::from_slice(alloc, problem.named(k))?;
+        inputs.push(Input::new(problem.inputs()[k].scope(), jobs, allowed))?;
+    }
+    Ok(inputs)
+}
+
+/// The allowed places of input `k` that it may take.
+fn may_take_of(
+    alloc: Global,
+    problem: &Problem,
+    places: &[u32],
+    input: usize,
+    place: u32,
+    k: usize,
+) -> Result<Vec<u32>, AllocError>
+    requires within { k < length problem.now.inputs }
+    requires place_each { length places.now ≡ length problem.now.inputs }
+    ensures { IfOk result (λ v. v.items
+        ≡ filter (may_take (order_of problem.now) places.now input place k) (input_at problem.now k).places) }
+{
+    let now = places[k];
+    problem.inputs()[k]
+        .places()
+        .iter()
+        .copied()
+        .filter(|x| {
+            if k < input {
+                !is_preferred(problem, k, now, *x)
+            } else {
+                k != input || *x == place
+            }
+        })
+        .collect(alloc)
+}
+
+/// Whether the first of two places of an input is preferred to the second.
+fn is_preferred(problem: &Problem, input: usize, place: u32, other: u32) -> bool
+    ensures { result ≡ order_of problem.now input place other }
+{
+    let _ = problem;
+    let _ = input;
+    other < place
+}
+
+fn all_jobs(alloc: Global, problem: &Problem) -> Result<Vec<JobBuilds>, AllocError>
+    ensures { IfOk result (λ jobs. jobs.items ≡ problem.now.jobs) }
+{
+    let mut jobs = Vec::new(alloc);
+    for job in problem.jobs() {
+        jobs.push(copied_builds(alloc, job.builds())?)?;
+    }
+    Ok(jobs)
+}
