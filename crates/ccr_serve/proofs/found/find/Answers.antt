@@ -18,11 +18,11 @@ returns-clause-ok g c =
     (option_copied c.newest_of.result) (newest (resource_data c.args.resource.now) c.args.history.now)
     (g.S.Shelf.calls c.args.shelf.now) (g.S.Shelf.calls c.make_folder.new.self)
     (g.R.Runner.pairs c.args.runner.now) (g.R.Runner.pairs c.run.new.self)
-    (launch_data c.in-Ok-check_launch.launch) (end_data c.run.result)
-    c.newest_of.ensures c.run.ensures c.in-Ok-check_launch.ensures.0
+    (launch_data c.in-Ok.launch) (end_data c.run.result)
+    c.newest_of.ensures c.run.ensures c.in-Ok.ensures.0
     (made_at (g.S.Shelf.calls c.args.shelf.now) (g.S.Shelf.calls c.make_folder.new.self) (Ok tt) c.as_str.result.now
     (string_bytes c.args.places.now.work) c.in-Ok-make_folder.ensures.called c.as_str.ensures.value)
-    c.found_by.result c.in-Ok-check_launch.ensures.1 c.found_by.ensures
+    c.found_by.result c.in-Ok.ensures.1 c.found_by.ensures
 
 pub returns-clause-err : goal.returns-clause-err
 returns-clause-err g c =
@@ -30,8 +30,8 @@ returns-clause-err g c =
     (option_copied c.newest_of.result) (newest (resource_data c.args.resource.now) c.args.history.now)
     (g.S.Shelf.calls c.args.shelf.now) (g.S.Shelf.calls c.make_folder.new.self)
     (g.R.Runner.pairs c.args.runner.now) (g.R.Runner.pairs c.run.new.self)
-    (launch_data c.in-Ok-check_launch.launch) (end_data c.run.result)
-    c.newest_of.ensures c.run.ensures c.in-Ok-check_launch.ensures.0
+    (launch_data c.in-Ok.launch) (end_data c.run.result)
+    c.newest_of.ensures c.run.ensures c.in-Ok.ensures.0
     (made_at (g.S.Shelf.calls c.args.shelf.now) (g.S.Shelf.calls c.make_folder.new.self) (Ok tt) c.as_str.result.now
     (string_bytes c.args.places.now.work) c.in-Ok-make_folder.ensures.called c.as_str.ensures.value)
     c.found_by.result
