@@ -8,7 +8,7 @@ use ccr_pipeline::Pipeline;
 use std::alloc::{AllocError, Global};
 
 /// The number that the history has for a resource's scope, or 0.
-fn history_number(pipeline: &Pipeline, history: &History, name: &str) -> u32
+pub(crate) fn history_number(pipeline: &Pipeline, history: &History, name: &str) -> u32
     ensures { result ≡ history_number (pipeline_data pipeline.now) history.now name.now }
 {
     match pipeline.resource(name) {

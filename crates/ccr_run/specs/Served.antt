@@ -6,8 +6,7 @@ use Rattle.ccr_history.specs.Text.{Text}
 use Rattle.ccr_history.specs.History.{HistoryData}
 use Rattle.ccr_process.specs.Runs.{Pair}
 use Rattle.ccr_task.specs.Places.{PlacesData}
-use Rattle.ccr_task.specs.Shelves.{no_counts}
-use Rattle.ccr_task.specs.declared.counts.ShelfCounts.{ShelfCounts}
+use Rattle.ccr_task.specs.Calls.{CallData}
 use Rattle.ccr_core.specs.Resumed.{IsResumed}
 use Rattle.ccr_storage.specs.declared.fault.StoreFault.{StoreFault}
 use Rattle.ccr_storage.specs.declared.tally.Tally.{Tally}
@@ -62,28 +61,28 @@ abbrev pub handed_on : Result ℕ ServeFault → Result ℕ Failure
 handed_on (Ok status) = Ok status
 handed_on (Err fault) = Err (Refused fault)
 
--- a server begins with a history, in which what still ran is cut short: it goes on, and ran no program, and no folder
--- failed or was seen
+-- a server begins with a history, in which what still ran is cut short: it goes on, and ran no program, and its shelf was
+-- asked for nothing
 pub record Begins (h : HistoryData) (budget : ℕ) (v : View) : Type 0 where
   pub ready : IsReady v
   pub resumed : IsResumed h budget v.core
   pub last : v.last ≡ 0
   pub pairs : v.pairs ≡ []
-  pub counts : v.counts ≡ no_counts
+  pub calls : v.calls ≡ []
 
 -- a server did the command: from one value of it to another, with these lines before and after
-pub record Did {R S T : Type 0} (pairs : R → List Pair) (counts : S → ShelfCounts) (holds : T → HistoryData → Type 0)
+pub record Did {R S T : Type 0} (pairs : R → List Pair) (calls : S → List CallData) (holds : T → HistoryData → Type 0)
     (leaves : T → List HistoryData → Type 0) (tally : T → Tally) (order : Order) (opened : Server R S T)
     (end : Result ℕ Failure) (old new : Text) : Type 0 where
   pub left : Server R S T
   pub answer : Result ℕ ServeFault
   pub came : CameOf (places_in order) (command_data order.command) answer
-      (view_of pairs counts holds leaves tally opened old) (view_of pairs counts holds leaves tally left new)
+      (view_of pairs calls holds leaves tally opened old) (view_of pairs calls holds leaves tally left new)
   pub end_is : end ≡ handed_on answer
 
 -- the database that the options name was opened, and a server was made over the history that was found there, and did
 -- the command
-pub record DidCommand {R S T : Type 0} (pairs : R → List Pair) (counts : S → ShelfCounts)
+pub record DidCommand {R S T : Type 0} (pairs : R → List Pair) (calls : S → List CallData)
     (holds : T → HistoryData → Type 0) (leaves : T → List HistoryData → Type 0) (tally : T → Tally)
     (begins_with : T → HistoryData → Type 0) (order : Order) (asked : Option Text) (end : Result ℕ Failure) (old new : Text) : Type 0 where
   pub named : asked ≡ Some order.options.database.now
@@ -91,8 +90,8 @@ pub record DidCommand {R S T : Type 0} (pairs : R → List Pair) (counts : S →
   pub history : HistoryData
   pub found : begins_with storage history
   pub opened : Server R S T
-  pub begins : Begins history order.options.budget (view_of pairs counts holds leaves tally opened old)
-  pub did : Did pairs counts holds leaves tally order opened end old new
+  pub begins : Begins history order.options.budget (view_of pairs calls holds leaves tally opened old)
+  pub did : Did pairs calls holds leaves tally order opened end old new
 
 -- no server is made, for a cause, and nothing is printed
 pub record IsUnserved {T : Type 0} (holds : T → HistoryData → Type 0) (leaves : T → List HistoryData → Type 0)
@@ -105,9 +104,9 @@ pub record IsUnserved {T : Type 0} (holds : T → HistoryData → Type 0) (leave
   pub unprinted : new ≡ old
 
 -- WHAT CAME OF AN ORDER: a server did the command, or none was made
-abbrev pub Served : {R S T : Type 0} → (R → List Pair) → (S → ShelfCounts) → (T → HistoryData → Type 0)
+abbrev pub Served : {R S T : Type 0} → (R → List Pair) → (S → List CallData) → (T → HistoryData → Type 0)
     → (T → List HistoryData → Type 0) → (T → Tally) → (T → HistoryData → Type 0) → (StoreFault → Type 0) → Order
     → Option Text → Result ℕ Failure → Text → Text → Type 0
-Served pairs counts holds leaves tally begins_with unfound order asked end old new =
-    DidCommand pairs counts holds leaves tally begins_with order asked end old new
+Served pairs calls holds leaves tally begins_with unfound order asked end old new =
+    DidCommand pairs calls holds leaves tally begins_with order asked end old new
     ⊎ IsUnserved holds leaves tally begins_with unfound order asked end old new

@@ -19,6 +19,9 @@ fn of_server(fault: &ServeFault) -> Option<&'static str>
         ServeFault::Core(CoreFault::NoJob) | ServeFault::Core(CoreFault::NoResource) => {
             Some("names are those of the pipeline that was set last")
         }
+        ServeFault::Core(CoreFault::NoVersion) => {
+            Some("resource-versions NAME shows which places there are")
+        }
         ServeFault::Read(ReadFault::NotJson(_)) => Some(
             "YAML isn't read; fly get-pipeline --json prints a pipeline as JSON",
         ),

@@ -70,7 +70,7 @@ fn obey<'a, S: Start, W: Write>(
 ) -> ExitCode
     requires unopened { IsSome opener.old.start }
     requires unasked { opener.old.asked ≡ None }
-    ensures { Obeyed ⟦<Naming<'a, Machine<&'a HostRuntime>> as Runner>⟧.pairs ⟦<Folders<&'a HostRuntime> as Shelf>⟧.counts
+    ensures { Obeyed ⟦<Naming<'a, Machine<&'a HostRuntime>> as Runner>⟧.pairs ⟦<Folders<&'a HostRuntime> as Shelf>⟧.calls
         ⟦<Database<FileStore<FileFrom<S>>> as Storage>⟧.holds
         ⟦<Database<FileStore<FileFrom<S>>> as Storage>⟧.leaves
         ⟦<Database<FileStore<FileFrom<S>>> as Storage>⟧.tally (begins_with (image_at S.Start))

@@ -57,9 +57,9 @@ fn command<R: Runner, S: Shelf, T: Storage, W: Write>(
     command: &Command,
     out: &mut Printed<W>,
 ) -> Result<u8, Failure>
-    requires ready { let view = view_of R.pairs S.counts T.holds T.leaves T.tally in
+    requires ready { let view = view_of R.pairs S.calls T.holds T.leaves T.tally in
         IsReady (view server.old (out.old.shown ++ out.old.waiting)) }
-    ensures came { let view = view_of R.pairs S.counts T.holds T.leaves T.tally in
+    ensures came { let view = view_of R.pairs S.calls T.holds T.leaves T.tally in
         (answer : Result ℕ ServeFault) × (result ≡ handed_on answer)
         × CameOf (places_data server.old.places) (command_data command.now) answer
         (view server.old (out.old.shown ++ out.old.waiting)) (view server.new (out.new.shown ++ out.new.waiting)) }
@@ -76,9 +76,9 @@ fn serve_by<R: Runner + Drop, S: Shelf + Drop, T: Storage + Drop, W: Write>(
     order: &Order<'_>,
     out: &mut Printed<W>,
 ) -> Result<u8, Failure>
-    requires ready { IsReady (view_of R.pairs S.counts T.holds T.leaves T.tally server []) }
+    requires ready { IsReady (view_of R.pairs S.calls T.holds T.leaves T.tally server []) }
     requires places { places_data server.places ≡ places_in order.now }
-    ensures did { Did R.pairs S.counts T.holds T.leaves T.tally order.now server result
+    ensures did { Did R.pairs S.calls T.holds T.leaves T.tally order.now server result
         (out.old.shown ++ out.old.waiting) (out.new.shown ++ out.new.waiting) }
     ensures printed { out.new.failed ≡ false → out.new.waiting ≡ [] }
 {
@@ -102,7 +102,7 @@ fn serve_history<'a, S: Start, W: Write>(
     requires found { begins_with (image_at S.Start) database history }
     requires readable { IfSome history.text IsReadable }
     requires places { places_data places ≡ places_in order.now }
-    ensures served { Served ⟦<Naming<'a, Machine<&'a HostRuntime>> as Runner>⟧.pairs ⟦<Folders<&'a HostRuntime> as Shelf>⟧.counts
+    ensures served { Served ⟦<Naming<'a, Machine<&'a HostRuntime>> as Runner>⟧.pairs ⟦<Folders<&'a HostRuntime> as Shelf>⟧.calls
         ⟦<Database<FileStore<FileFrom<S>>> as Storage>⟧.holds
         ⟦<Database<FileStore<FileFrom<S>>> as Storage>⟧.leaves
         ⟦<Database<FileStore<FileFrom<S>>> as Storage>⟧.tally (begins_with (image_at S.Start))
@@ -135,7 +135,7 @@ fn serve_database<'a, S: Start, W: Write>(
     requires opened { HasCleanDisk (file_state conn) → IsOpened conn }
     requires found { HasCleanDisk (file_state conn) → FindsIn (image_at S.Start) (file_state conn) }
     requires places { places_data places ≡ places_in order.now }
-    ensures served { Served ⟦<Naming<'a, Machine<&'a HostRuntime>> as Runner>⟧.pairs ⟦<Folders<&'a HostRuntime> as Shelf>⟧.counts
+    ensures served { Served ⟦<Naming<'a, Machine<&'a HostRuntime>> as Runner>⟧.pairs ⟦<Folders<&'a HostRuntime> as Shelf>⟧.calls
         ⟦<Database<FileStore<FileFrom<S>>> as Storage>⟧.holds
         ⟦<Database<FileStore<FileFrom<S>>> as Storage>⟧.leaves
         ⟦<Database<FileStore<FileFrom<S>>> as Storage>⟧.tally (begins_with (image_at S.Start))
@@ -161,7 +161,7 @@ fn serve<'a, S: Start, W: Write>(
     requires most { order.now.options.budget ≤ MOST_NODES }
     requires unopened { IsSome opener.old.start }
     requires unasked { opener.old.asked ≡ None }
-    ensures served { Served ⟦<Naming<'a, Machine<&'a HostRuntime>> as Runner>⟧.pairs ⟦<Folders<&'a HostRuntime> as Shelf>⟧.counts
+    ensures served { Served ⟦<Naming<'a, Machine<&'a HostRuntime>> as Runner>⟧.pairs ⟦<Folders<&'a HostRuntime> as Shelf>⟧.calls
         ⟦<Database<FileStore<FileFrom<S>>> as Storage>⟧.holds
         ⟦<Database<FileStore<FileFrom<S>>> as Storage>⟧.leaves
         ⟦<Database<FileStore<FileFrom<S>>> as Storage>⟧.tally (begins_with (image_at S.Start))
@@ -189,7 +189,7 @@ pub fn run<'a, S: Start, W: Write>(
     requires most { order.now.options.budget ≤ MOST_NODES }
     requires unopened { IsSome opener.old.start }
     requires unasked { opener.old.asked ≡ None }
-    ensures served { Served ⟦<Naming<'a, Machine<&'a HostRuntime>> as Runner>⟧.pairs ⟦<Folders<&'a HostRuntime> as Shelf>⟧.counts
+    ensures served { Served ⟦<Naming<'a, Machine<&'a HostRuntime>> as Runner>⟧.pairs ⟦<Folders<&'a HostRuntime> as Shelf>⟧.calls
         ⟦<Database<FileStore<FileFrom<S>>> as Storage>⟧.holds
         ⟦<Database<FileStore<FileFrom<S>>> as Storage>⟧.leaves
         ⟦<Database<FileStore<FileFrom<S>>> as Storage>⟧.tally (begins_with (image_at S.Start))

@@ -13,6 +13,7 @@ mod aborting;
 mod answer;
 mod called;
 mod checking;
+mod disabling;
 mod due;
 mod end;
 mod ended;

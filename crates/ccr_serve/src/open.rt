@@ -45,12 +45,12 @@ impl<R: Runner + Drop, S: Shelf + Drop, T: Storage + Drop> Server<R, S, T> {
         requires readable { IfSome history.text IsReadable }
         requires least { 1 ≤ budget }
         requires most { budget ≤ MOST_NODES }
-        ensures ready { let view = view_of R.pairs S.counts T.holds T.leaves T.tally in
+        ensures ready { let view = view_of R.pairs S.calls T.holds T.leaves T.tally in
             IfOk result (λ server. IsReady (view server [])) }
         ensures resumed { IfOk result (λ server. IsResumed history budget (core_data server.core)) }
         ensures nobody { IfOk result (λ server. server.last ≡ 0) }
         ensures pairs { IfOk result (λ server. R.pairs server.runner ≡ R.pairs runner) }
-        ensures counts { IfOk result (λ server. S.counts server.shelf ≡ S.counts shelf) }
+        ensures calls { IfOk result (λ server. S.calls server.shelf ≡ S.calls shelf) }
         ensures places { IfOk result (λ server. server.places ≡ places) }
         ensures only { IfErr result (λ it.
             KeepsFromOpening T.holds T.leaves T.tally history storage it.storage it.fault) }

@@ -1,7 +1,7 @@
 //! A server over a script.
 ghost use Rattle.std.specs.Prelude.{⊤};
 ghost use Rattle.ccr_process.specs.Runs.{script_pairs};
-ghost use Rattle.ccr_task.specs.Shelves.{script_counts};
+ghost use Rattle.ccr_task.specs.Shelves.{script_calls};
 ghost use Rattle.ccr_serve.specs.Views.{view_of, IsKept};
 
 use super::script::Script;
@@ -30,14 +30,14 @@ pub(super) struct Serving<W: Write> {
 impl<W: Write> Model for Serving<W> {
     ghost use Rattle.std.specs.Prelude.{[], ⊤};
     ghost use Rattle.ccr_process.specs.Runs.{script_pairs};
-    ghost use Rattle.ccr_task.specs.Shelves.{script_counts};
+    ghost use Rattle.ccr_task.specs.Shelves.{script_calls};
     ghost use Rattle.ccr_serve.specs.Views.{view_of, IsKept};
 
     ghost Value = { ⊤ };
 
     ghost view = { λ _. tt };
 
-    ghost invariant = { λ s. IsKept (view_of (λ told. script_pairs told.script) script_counts
+    ghost invariant = { λ s. IsKept (view_of (λ told. script_pairs told.script) script_calls
         (λ _ _. ⊤) (λ _ _. ⊤) (λ unkept. unkept.tally) s.server []) };
 }
 

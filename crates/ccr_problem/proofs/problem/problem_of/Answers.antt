@@ -1,4 +1,4 @@
-use Rattle.std.proofs.Common.{◌≡◌, ◌∙◌, ap, map, sym, refl, Some, None, true}
+use Rattle.std.proofs.Common.{◌≡◌, ◌∙◌, map, sym, refl, Some, None, true}
 use Rattle.std.proofs.lemmas.Bool.{false≢true}
 use Rattle.std.proofs.lemmas.Result.{err_from_is_err_and}
 use Rattle.ccr_pipeline.specs.JobData.{job_data}
