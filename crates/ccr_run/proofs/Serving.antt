@@ -1,5 +1,5 @@
 -- What came of an order, from what its parts say.
-use Rattle.std.proofs.Common.{◌≡◌, refl, ◌∙◌, inl, ℕ, List, [], Bool, not, Option, Some, Result, ap, subst, string_bytes}
+use Rattle.std.proofs.Common.{◌≡◌, refl, ◌∙◌, inl, inr, ℕ, List, [], Bool, not, Option, Some, Result, Err, ap, subst, string_bytes}
 use Rattle.ccr_history.specs.Text.{Text}
 use Rattle.ccr_history.specs.History.{HistoryData}
 use Rattle.ccr_process.specs.Runs.{Pair}
@@ -20,7 +20,7 @@ use Rattle.ccr_run.specs.declared.order.Order.{Order}
 use Rattle.ccr_run.specs.declared.run.Outcome.{Outcome}
 use Rattle.ccr_run.specs.Obeyed.{Obeyed}
 use Rattle.ccr_run.specs.Orders.{IsOrdered}
-use Rattle.ccr_run.specs.Served.{Did, Served, Begins, handed_on, places_in}
+use Rattle.ccr_run.specs.Served.{Did, Served, HasAsked, KeepsFromServing, Begins, handed_on, places_in}
 use Rattle.ccr_run.specs.Statuses.{exit_status_of}
 
 abbrev folders : Text → Text → PlacesData
@@ -78,6 +78,15 @@ served pairs calls holds leaves tally begins_with unfound order storage h opened
       };
       did = did;
     })
+
+-- no server was made, and nothing is printed
+pub unserved : {R S T : Type 0} (pairs : R → List Pair) (calls : S → List CallData) (holds : T → HistoryData → Type 0)
+    (leaves : T → List HistoryData → Type 0) (tally : T → Tally) (begins_with : T → HistoryData → Type 0) (unfound : StoreFault → Type 0)
+    (order : Order) (asked : Option Text) (failure : Failure) (old : Text) → HasAsked order asked failure
+    → KeepsFromServing holds leaves tally begins_with unfound failure
+    → Served pairs calls holds leaves tally begins_with unfound order asked (Err failure) old old
+unserved pairs calls holds leaves tally begins_with unfound order asked failure old named cause =
+    inr (record { failure = failure; end_is = refl; cause = cause; named = named; unprinted = refl })
 
 -- what was ordered is done
 pub done : {R S T : Type 0} (pairs : R → List Pair) (calls : S → List CallData) (holds : T → HistoryData → Type 0)

@@ -26,7 +26,7 @@ use Rattle.ccr_history.specs.declared.build.Status.TheVariants.{Running, Succeed
 use Rattle.ccr_history.proofs.Lists.{pairs_head, pairs_tail}
 use Rattle.ccr_store.specs.Listed.{listed_pairs, history_pairs}
 use Rattle.ccr_history.specs.TextMap.{TextMap, key_text}
-use Rattle.ccr_store.specs.Rows.{scope_row, scope_rows, version_row, version_rows, table_rows, build_row, build_rows, used_row, moved_row, disabled_rows, pair_rows, pin_row, meta_rows, status_number, rows_of}
+use Rattle.ccr_store.specs.Rows.{scope_row, scope_rows, version_row, version_rows, table_rows, build_row, build_rows, used_row, moved_row, disabled_rows, pin_row, meta_rows, status_number, rows_of}
 use Rattle.ccr_store.specs.Reordered.{HasSameRows}
 use Rattle.ccr_store.specs.declared.format.Format.TheVariants.{Two}
 use Rattle.ccr_store.proofs.ListedRows.{all_pairs_listed}

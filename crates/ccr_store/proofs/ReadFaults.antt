@@ -17,12 +17,12 @@ use Rattle.ccr_tables.specs.Pairs.{IsPair}
 use Rattle.ccr_tables.specs.Read.{FailedToRead, meta_text, scopes_text, versions_text, builds_text, pairs_text, pins_text}
 use Rattle.ccr_tables.specs.Shown.{Shows, ShowsOther}
 use Rattle.ccr_tables.proofs.FailedReads.{failed_after}
-use Rattle.ccr_store.specs.Causes.{ComesOfRows, HasReadAnswer, IsUnloaded, IsForeign}
+use Rattle.ccr_store.specs.Causes.{ComesOfRows, IsUnloaded, IsForeign}
 use Rattle.ccr_store.specs.Faults.{read_fault_of}
 use Rattle.ccr_store.specs.Listed.{ListsSeen, ListsBuilt, KeepsSeen, history_pairs, seen_of}
 use Rattle.ccr_store.specs.Readable.{IsReadable}
 use Rattle.ccr_store.specs.Rows.{Fits, meta_rows, scope_rows, table_rows, build_rows, pin_row}
-use Rattle.ccr_store.specs.Shown.{ShowsSeen, ShowsBuilt, ShowsHistory, ShowsNone, IsSeenOf, IsServable, NoneHasBuilds, NoneHasPairs}
+use Rattle.ccr_store.specs.Shown.{ShowsSeen, ShowsBuilt, ShowsHistory, ShowsNone, IsSeenOf}
 use Rattle.ccr_store.specs.Texts.{HasTexts, OrNoMemory}
 use Rattle.ccr_store.specs.declared.format.Format.{Format}
 use Rattle.ccr_store.proofs.ShownRows.{all_builds, all_pairs}

@@ -1,11 +1,10 @@
 -- A database is taken, step by step.
-use Rattle.std.proofs.Common.{◌≡◌, ◌≢◌, ◌⊎◌, inl, inr, List, [], ◌∷◌, Result, Ok, Err, IfErr, sym, subst, ◌∙◌, arith, IsTrue}
-use Rattle.std.specs.Prelude.{IsErrAnd}
+use Rattle.std.proofs.Common.{◌≡◌, ◌≢◌, ◌⊎◌, inl, inr, [], ◌∷◌, Result, Ok, Err, IfErr, sym, subst, ◌∙◌, arith, IsTrue}
 use Rattle.sqlite_trees.specs.declared.store.Store.{Ghosts}
 use Rattle.sqlite.specs.declared.error.Error.{Error}
 use Rattle.sqlite.specs.Effect.{Database}
 use Rattle.sqlite.specs.Held.{state}
-use Rattle.sqlite.specs.State.{State, HasCleanDisk, Survives, IsUnchanged}
+use Rattle.sqlite.specs.State.{State, HasCleanDisk, Survives}
 use Rattle.sqlite.specs.Tree.{Trees}
 use Rattle.sqlite.proofs.StateLemmas.{survives_weaker, survives_then}
 use Rattle.ccr_storage.specs.declared.fault.StoreFault.{StoreFault}
@@ -15,13 +14,12 @@ use Rattle.ccr_tables.specs.Cause.{cause_of}
 use Rattle.ccr_tables.specs.declared.cause.Cause.{Cause}
 use Rattle.ccr_tables.specs.declared.cause.Cause.TheVariants as cause
 use Rattle.ccr_tables.specs.Contents.{Contents, Holds, Keeps, new_contents}
-use Rattle.ccr_tables.specs.Left.{OnlyReads}
 use Rattle.ccr_tables.specs.Schema.{no_schema}
 use Rattle.ccr_tables.specs.Step.{Turns, IsLeftBy}
 use Rattle.ccr_tables.specs.Written.{all_written}
 use Rattle.ccr_tables.specs.declared.write.Write.TheVariants as write
 use Rattle.ccr_tables.proofs.InTurn.{survives_both}
-use Rattle.ccr_store.specs.Causes.{IsBegun, IsUnloaded, IsUnraised}
+use Rattle.ccr_store.specs.Causes.{IsBegun, IsUnraised}
 use Rattle.ccr_store.specs.Faults.{fault_of}
 use Rattle.ccr_store.specs.Left.{IsAsItWas}
 use Rattle.ccr_store.specs.Rows.{raised}

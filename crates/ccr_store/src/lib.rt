@@ -8,6 +8,7 @@
 #![tactic(auto)]
 
 mod columns;
+mod disabled;
 mod fault;
 mod format;
 mod found;

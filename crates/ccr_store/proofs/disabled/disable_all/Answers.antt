@@ -2,8 +2,8 @@ use Rattle.std.proofs.Common.{take, ◌+◌, ◌∙◌, sym, subst, List, IsTrue
 use Rattle.ccr_history.specs.Tables.{TableData}
 use Rattle.ccr_history.specs.History.{has_place}
 use Rattle.ccr_store.proofs.ReadRows.{handed_on}
-use Rattle.ccr_store.proofs.ReadDisabled.{disabled_read, disabled_set, disabled_whole}
-use Rattle.ccr_store.proofs.reading.disable_all.Goals as goal
+use Rattle.ccr_store.proofs.ReadDisabled.{disabled_read, disabled_set}
+use Rattle.ccr_store.proofs.disabled.disable_all.Goals as goal
 
 pub returns-in_err-disable-clause-read : goal.returns-in_err-disable-clause-read
 returns-in_err-disable-clause-read c ps rules none same =

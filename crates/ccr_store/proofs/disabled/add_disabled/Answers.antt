@@ -1,10 +1,10 @@
-use Rattle.std.proofs.Common.{◌+◌, refl}
+use Rattle.std.proofs.Common.{refl}
 use Rattle.ccr_store.specs.Listed.{listed_pairs}
 use Rattle.ccr_store.specs.Rows.{disabled_rows}
 use Rattle.ccr_store.proofs.OneHistory.{disabled_at, pairs_from}
 use Rattle.ccr_store.proofs.ReadRows.{handed_on, split}
 use Rattle.ccr_store.proofs.ReadTables.{here_at, not_at}
-use Rattle.ccr_store.proofs.reading.add_disabled.Goals as goal
+use Rattle.ccr_store.proofs.disabled.add_disabled.Goals as goal
 
 pub returns-in_err-disable_all-clause-read : goal.returns-in_err-disable_all-clause-read
 returns-in_err-disable_all-clause-read c ps bs rules none same =

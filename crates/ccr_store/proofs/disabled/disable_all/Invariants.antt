@@ -2,7 +2,7 @@ use Rattle.std.proofs.Common.{◌≡◌, ℕ, List, [], take}
 use Rattle.ccr_history.specs.History.{AreDisabled}
 use Rattle.ccr_store.specs.Listed.{KeepsSeen}
 use Rattle.ccr_store.specs.Rows.{disabled_rows}
-use Rattle.ccr_store.proofs.reading.disable_all.Given as goal
+use Rattle.ccr_store.proofs.disabled.disable_all.Given as goal
 
 abbrev pub invariant-loop-row : goal.invariant-loop-row
 invariant-loop-row l = record {
