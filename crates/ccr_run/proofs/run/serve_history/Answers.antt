@@ -27,8 +27,8 @@ returns-in-Ok-clause-served g c =
     })
     c.serve_by.ensures.did
 
-pub returns-in-Err-clause-served : goal.returns-in-Err-clause-served
-returns-in-Err-clause-served g c =
+pub returns-clause-served : goal.returns-clause-served
+returns-clause-served g c =
     unserved _ folders_calls (holds (image_at g.S.Start)) (leaves (image_at g.S.Start)) tally (begins_with (image_at g.S.Start)) (IsUnfound over_files (image_at g.S.Start)) c.args.order.now
     (Some c.args.order.now.options.database.now) (Refused c.in-Err.fault) (c.args.out.now.shown ++ c.args.out.now.waiting) (inl refl)
     (inr (inr (inr (record {
