@@ -54,5 +54,6 @@ pub use law::{
 };
 pub use limit::MOST_RUNNING;
 pub use machine::Core;
+pub use pick::has_news;
 pub use reply::Reply;
 pub use wanted::wants_are_answered;

@@ -1,5 +1,5 @@
 -- Lines that are printed as they are handed out.
-use Rattle.std.specs.Prelude.{◌≡◌, ℕ, List, [], ◌∷◌, ◌++◌, Bool, true, false, Option, Vec}
+use Rattle.std.specs.Prelude.{◌≡◌, ℕ, List, [], ◌∷◌, ◌++◌, Bool, false, Option, Vec}
 use Rattle.std.specs.Io.KnownBytes.{Appends}
 use Rattle.std.specs.declared.alloc.Global.{Global}
 use Rattle.std.specs.declared.snapshot.Snapshot.{Snapshot}
@@ -13,6 +13,11 @@ pub record PrintedData : Type 0 where
   pub failed : Bool
   pub before : Option (List ℕ)
   pub holds : Option (List ℕ)
+
+-- what waits to be handed out: what is written and wasn't, unless a write failed
+abbrev pub still_waiting : Bool → List ℕ → List ℕ
+still_waiting true lines = []
+still_waiting false lines = lines
 
 -- these parts, one after another
 abbrev pub all_of : List (Snapshot (Vec ℕ Global)) → List ℕ

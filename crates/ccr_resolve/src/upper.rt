@@ -77,6 +77,14 @@ pub(crate) fn first_empty(index: &Index, upper: &BestPlaces) -> Option<u32>
     None
 }
 
+/// Whether the first place is preferred to the second at input `input`.
+fn prefers(index: &Index, input: usize, place: u32, other: u32) -> bool
+    requires { input < length index.now.problem.inputs }
+    ensures { result ≡ order_of index.now.problem input place other }
+{
+    is_preferred(index.input(input).after(), place, other)
+}
+
 /// Whether the best places are better than these: at the first input where they differ, as far as there are such, the place is
 /// preferred.
 pub(crate) fn is_better(index: &Index, upper: &BestPlaces, places: &[u32]) -> bool
@@ -87,7 +95,7 @@ pub(crate) fn is_better(index: &Index, upper: &BestPlaces, places: &[u32]) -> bo
     let both = index.input_count().min(places.len());
     for i in 0..both {
         if upper[i] != places[i] {
-            return is_preferred(index.input(i).after(), upper[i], places[i]);
+            return prefers(index, i, upper[i], places[i]);
         }
     }
     false

@@ -1,5 +1,5 @@
 //! A history, made of rows by its own calls.
-ghost use Rattle.std.specs.Prelude.{◌≡◌, ◌≢◌, ◌+◌, ◌^◌, ◌<◌, ◌≤◌, ◌++◌, ℕ, List, [], ◌∷◌, pos, length, map, false, Option, None, Some, IfSome, IfErr, OnOk, IsUtf8, option_copied};
+ghost use Rattle.std.specs.Prelude.{◌≡◌, ◌≢◌, ◌+◌, ◌^◌, ◌<◌, ◌≤◌, ◌++◌, ℕ, List, [], ◌∷◌, pos, length, map, false, IsTrue, Option, None, Some, IfSome, IfErr, OnOk, IsUtf8, option_copied};
 ghost use Rattle.std.specs.List.{AllByRecursion};
 ghost use Rattle.sqlite.specs.declared.types.Value.TheVariants.{Int, Text};
 ghost use Rattle.sqlite.specs.Order.{Row as RowData, column};
@@ -8,8 +8,8 @@ ghost use Rattle.serde_json.specs.View.{view};
 ghost use Rattle.ccr_history.specs.TextMap.{TextMap, members_of, key_text};
 ghost use Rattle.ccr_history.specs.Tables.{ScopeData, TableData, is_scope, is_table_full};
 ghost use Rattle.ccr_history.specs.Builds.{UsedData, BuildData, new_build, build_of, count_of};
-ghost use Rattle.ccr_history.specs.History.{HistoryData, IsHistory, IsTable, IsBuild, AreTables, AreBuilds, ArePins, no_history};
-ghost use Rattle.ccr_history.specs.Changes.{versions, build, ended, pin_set, text, edited, AreUsed, AreMoved, IsRunning};
+ghost use Rattle.ccr_history.specs.History.{HistoryData, IsHistory, IsTable, IsBuild, AreTables, AreBuilds, ArePins, AreDisabled, has_place, no_history};
+ghost use Rattle.ccr_history.specs.Changes.{versions, build, ended, pin_set, disabled, text, edited, AreUsed, AreMoved, IsRunning};
 ghost use Rattle.ccr_history.specs.declared.build.Status.{Status as StatusData};
 ghost use Rattle.ccr_history.specs.declared.build.Status.TheVariants.{Running};
 ghost use Rattle.ccr_history.specs.declared.table.TheConstants.{MOST_SCOPES};
@@ -17,7 +17,8 @@ ghost use Rattle.ccr_history.specs.declared.builds.TheConstants.{MOST_BUILDS};
 ghost use Rattle.ccr_storage.specs.declared.fault.StoreFault.TheVariants.{NoMemory, NotOurs};
 ghost use Rattle.ccr_store.specs.Listed.{listed_pairs, ListsSeen, ListsBuilt, KeepsSeen, seen_of};
 ghost use Rattle.ccr_store.specs.Readable.{IsReadable};
-ghost use Rattle.ccr_store.specs.Rows.{meta_rows, text_row, scope_row, scope_rows, version_rows, table_rows, status_number, build_row, build_rows, used_row, moved_row, pin_row};
+ghost use Rattle.ccr_store.specs.Rows.{meta_rows, text_row, scope_row, scope_rows, version_rows, table_rows, status_number, build_row, build_rows, used_row, moved_row, disabled_rows, pin_row};
+ghost use Rattle.ccr_store.specs.declared.format.Format.{Format};
 ghost use Rattle.ccr_store.specs.Texts.{IsSpelled, IsTextTable, IsTextBuild, IsTextPin, HasTexts, OrNoMemory};
 
 use crate::columns::{has_no_input, is_number, is_of, read_column};
@@ -363,6 +364,46 @@ fn add_builds(
     Ok(())
 }
 
+// ---- what is disabled
+/// Disables the place of a row, if the tables have it.
+fn disable(history: &mut History, row: &Pair) -> Result<(), StoreFault>
+    ensures read { (p : ℕ × ℕ) → IsTrue (has_place history.old.tables p.0 p.1) → row.now ≡ moved_row 0 p
+        → OrNoMemory (λ _. history.new ≡ edited (disabled p.0 p.1) history.old) result }
+    ensures kept { OnOk result (KeepsSeen history.old history.new) }
+    ensures builds { OnOk result (history.new.builds ≡ history.old.builds) }
+{
+    let (_, _, scope, place) = row.columns();
+    if !history.has_place(scope, place) {
+        return Err(StoreFault::NotOurs);
+    }
+    history.disable_place(scope, place)?;
+    Ok(())
+}
+
+fn disable_all(history: &mut History, rows: &[Pair]) -> Result<(), StoreFault>
+    ensures read { (ps : List (ℕ × ℕ)) → AreDisabled history.old.tables ps → history.old.disabled ≡ []
+        → rows.now ≡ disabled_rows ps → OrNoMemory (λ _. history.new ≡ record history.old { disabled = ps }) result }
+    ensures kept { OnOk result (KeepsSeen history.old history.new) }
+{
+    for row in rows {
+        disable(history, row)?;
+    }
+    Ok(())
+}
+
+/// Disables the places of the rows of build 0, and gives the rows behind them.
+fn add_disabled<'a>(history: &mut History, rows: &'a [Pair]) -> Result<&'a [Pair], StoreFault>
+    ensures read { (ps : List (ℕ × ℕ)) (bs : List BuildData) → AreDisabled history.old.tables ps
+        → history.old.disabled ≡ [] → rows.now ≡ disabled_rows ps ++ listed_pairs 1 bs
+        → OrNoMemory (λ more. (more.now ≡ listed_pairs 1 bs)
+        × (history.new ≡ record history.old { disabled = ps })) result }
+    ensures kept { OnOk result (KeepsSeen history.old history.new) }
+{
+    let (front, more) = rows.split_at(pair_count(rows, 0));
+    disable_all(history, front)?;
+    Ok(more)
+}
+
 // ---- what was set
 #[tactic(auto, using(crate::proofs::ReadRows::map_again))]
 fn read_pin(alloc: Global, row: &Row) -> Result<Pin, StoreFault>
@@ -409,7 +450,7 @@ fn add_text(history: &mut History, row: &Row) -> Result<(), StoreFault>
 }
 
 fn read_text(history: &mut History, meta: &[Row]) -> Result<(), StoreFault>
-    ensures { (t : Option (List ℕ)) → history.old.text ≡ None → meta.now ≡ meta_rows t
+    ensures { (format : Format) (t : Option (List ℕ)) → history.old.text ≡ None → meta.now ≡ meta_rows format t
         → OrNoMemory (λ _. history.new ≡ record history.old { text = t }) result }
 {
     match meta {
@@ -436,7 +477,7 @@ pub(crate) fn check_text(alloc: Global, text: Option<&[u8]>) -> Result<(), Store
 /// Sets the text and adds the tables of the history that has these rows, if there is one.
 fn add_seen(alloc: Global, history: &mut History, seen: &Seen) -> Result<(), StoreFault>
     ensures { history.old ≡ no_history → (h : HistoryData) → IsHistory h → HasTexts h
-        → ListsSeen h seen.now.meta.items seen.now.scopes.items seen.now.versions.items
+        → (format : Format) → ListsSeen format h seen.now.meta.items seen.now.scopes.items seen.now.versions.items
         → OrNoMemory (λ _. history.new ≡ seen_of h) result }
 {
     read_text(history, &seen.meta)?;
@@ -446,7 +487,7 @@ fn add_seen(alloc: Global, history: &mut History, seen: &Seen) -> Result<(), Sto
 /// What was set and seen of the history that has these rows, if there is one. Whether it has them is for the caller to see.
 pub(crate) fn read_tables(alloc: Global, seen: &Seen) -> Result<History, StoreFault>
     ensures { (h : HistoryData) → IsHistory h → HasTexts h
-        → ListsSeen h seen.now.meta.items seen.now.scopes.items seen.now.versions.items
+        → (format : Format) → ListsSeen format h seen.now.meta.items seen.now.scopes.items seen.now.versions.items
         → OrNoMemory (λ history. history ≡ seen_of h) result }
 {
     let mut history = History::new(alloc);
@@ -456,7 +497,7 @@ pub(crate) fn read_tables(alloc: Global, seen: &Seen) -> Result<History, StoreFa
     }
 }
 
-/// Adds the builds and pins of the history that has these rows, if there is one. Whether it has them is for the caller to
+/// Adds the builds, disabled places and pins of the history that has these rows, if there is one. Whether it has them is for the caller to
 /// see.
 pub(crate) fn read_builds(
     alloc: Global,
@@ -468,6 +509,7 @@ pub(crate) fn read_builds(
         → OrNoMemory (λ _. history.new ≡ h) result }
     ensures kept { OnOk result (KeepsSeen history.old history.new) }
 {
-    add_builds(alloc, history, &built.builds, &built.pairs)?;
+    let pairs = add_disabled(history, &built.pairs)?;
+    add_builds(alloc, history, &built.builds, pairs)?;
     add_pins(alloc, history, &built.pins)
 }

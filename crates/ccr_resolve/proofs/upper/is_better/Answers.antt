@@ -1,7 +1,7 @@
 use Rattle.std.proofs.Common.{◌≡◌, ◌≢◌, ◌<◌, ◌≤◌, ℕ, length, take, slice_index, ap, sym, ◌∙◌, arith}
 use Rattle.std.proofs.lemmas.Bool.{false≢true}
 use Rattle.std.proofs.lemmas.List.{get_or-take, length-take-le}
-use Rattle.ccr_choice.specs.Preference.{order_of, prefers_after}
+use Rattle.ccr_choice.specs.Preference.{order_of}
 use Rattle.ccr_choice.proofs.Orders.{is_order, same_bounded, first_decides}
 use Rattle.ccr_resolve.proofs.upper.is_better.Goals as goal
 
@@ -19,9 +19,7 @@ returns-then-upper-i-clause-value c =
     let at : (k : ℕ) → k < n → slice_index xs k ≡ slice_index upper k = λ k within. get_or-take n upper k 0 within in
     let differs : slice_index xs i ≢ slice_index places i = λ e. c.if-upper-i.true (sym (at i inside) ∙ e) in
     let decided = first_decides (order_of p) (is_order p) xs places i (λ k less. at k (omega (arith, less, inside)) ∙ c.loop-i.invariant k less) (omega (arith, inside, length-take-le n upper wide)) reached differs in
-    let kept = c.after.ensures ∙ ap (λ x. x.after) c.input.ensures.value in
-    let tested : c.is_preferred.result ≡ order_of p i (slice_index xs i) (slice_index places i) =
-    c.is_preferred.ensures ∙ ap (λ o. prefers_after o (slice_index upper i) (slice_index places i)) kept ∙ ap (λ x. order_of p i x (slice_index places i)) (sym (at i inside)) in
+    let tested : c.prefers.result ≡ order_of p i (slice_index xs i) (slice_index places i) = c.prefers.ensures ∙ ap (λ x. order_of p i x (slice_index places i)) (sym (at i inside)) in
     (λ t. decided.0 (sym tested ∙ t), λ h. tested ∙ decided.1 h)
 
 pub returns-clause-value : goal.returns-clause-value

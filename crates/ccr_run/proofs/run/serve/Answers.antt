@@ -1,6 +1,6 @@
 use Rattle.std.proofs.Common.{◌++◌, Some}
 use Rattle.sqlite_wal.specs.Files.{image_at}
-use Rattle.ccr_task.specs.Shelves.{folders_counts}
+use Rattle.ccr_task.specs.Shelves.{folders_calls}
 use Rattle.ccr_run.specs.Asked.{asked_by}
 use Rattle.ccr_run.specs.Databases.{holds, leaves, tally, begins_with}
 use Rattle.ccr_run.proofs.Asking.{served_as}
@@ -12,7 +12,7 @@ serve_database-requires-clause-places g c = same_places c.args.order.now c.in-Ok
 
 pub returns-in-Ok-open-clause-served : goal.returns-in-Ok-open-clause-served
 returns-in-Ok-open-clause-served g c =
-    served_as _ folders_counts (holds (image_at g.S.Start)) (leaves (image_at g.S.Start)) tally (begins_with (image_at g.S.Start)) c.args.order.now
+    served_as _ folders_calls (holds (image_at g.S.Start)) (leaves (image_at g.S.Start)) tally (begins_with (image_at g.S.Start)) c.args.order.now
     (asked_by c.open.new.self) (Some c.args.order.now.options.database.now) c.serve_database.result
     (c.args.out.now.shown ++ c.args.out.now.waiting) (c.serve_database.new.out.shown ++ c.serve_database.new.out.waiting)
     c.open.ensures.asked c.serve_database.ensures.served

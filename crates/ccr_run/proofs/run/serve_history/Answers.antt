@@ -1,7 +1,7 @@
 use Rattle.std.proofs.Common.{◌∙◌, ◌++◌, ap}
 use Rattle.sqlite_wal.specs.Files.{image_at}
 use Rattle.ccr_task.specs.Places.{places_data}
-use Rattle.ccr_task.specs.Shelves.{folders_counts}
+use Rattle.ccr_task.specs.Shelves.{folders_calls}
 use Rattle.ccr_run.specs.Databases.{holds, leaves, tally, begins_with}
 use Rattle.ccr_run.proofs.Serving.{served}
 use Rattle.ccr_run.proofs.run.serve_history.Goals as goal
@@ -12,7 +12,7 @@ serve_by-requires-clause-places g c = ap places_data c.in-Ok.ensures.places ∙ 
 pub returns-in-Ok-clause-served : goal.returns-in-Ok-clause-served
 returns-in-Ok-clause-served g c =
     let opened = c.in-Ok.ensures in
-    served _ folders_counts (holds (image_at g.S.Start)) (leaves (image_at g.S.Start)) tally (begins_with (image_at g.S.Start)) c.args.order.now c.args.database c.args.history
+    served _ folders_calls (holds (image_at g.S.Start)) (leaves (image_at g.S.Start)) tally (begins_with (image_at g.S.Start)) c.args.order.now c.args.database c.args.history
     c.in-Ok.server c.serve_by.result (c.args.out.now.shown ++ c.args.out.now.waiting) (c.serve_by.new.out.shown ++ c.serve_by.new.out.waiting)
     c.requires.found
     (record {
@@ -20,6 +20,6 @@ returns-in-Ok-clause-served g c =
       resumed = opened.resumed;
       last = opened.nobody;
       pairs = opened.pairs ∙ c.new-runner.ensures ∙ c.new.ensures;
-      counts = opened.counts ∙ c.new-folders.ensures;
+      calls = opened.calls ∙ c.new-folders.ensures;
     })
     c.serve_by.ensures.did
