@@ -21,6 +21,8 @@ mod grown;
 mod law;
 mod met;
 mod reduced;
+#[cfg(test)]
+mod rows;
 mod why;
 
 pub use clashes::clash;
