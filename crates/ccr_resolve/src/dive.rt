@@ -66,7 +66,7 @@ fn first_input(index: &Index, job: usize) -> Option<usize>
 }
 
 /// The input by whose best place builds of a job are looked for: of those that name the job and have a kept place, the one whose best
-/// place the fewest builds have, as far as they are looked at; else the first that names the job.
+/// place the fewest builds have, where these are fewer than are looked at; else the first that names the job.
 fn guide(
     alloc: Global,
     index: &Index,
@@ -77,12 +77,12 @@ fn guide(
     ensures { IfOk result (λ found. IfSome found (λ i. i < length index.now.problem.inputs)) }
 {
     let mut guide = first_input(index, job);
-    let mut fewest = usize::MAX;
+    let mut fewest = LOOKED_AT;
     for i in 0..index.input_count() {
         let input = index.input(i);
         if input.after().is_some() && names(index, i, job) {
             let mut builds = Vec::new(alloc);
-            add_builds_with(&mut builds, rows, input.scope(), upper[i], LOOKED_AT)?;
+            add_builds_with(&mut builds, rows, input.scope(), upper[i], fewest)?;
             if builds.len() < fewest {
                 guide = Some(i);
                 fewest = builds.len();
