@@ -65,6 +65,33 @@ fn first_input(index: &Index, job: usize) -> Option<usize>
     None
 }
 
+/// The input by whose best place builds of a job are looked for: of those that name the job and have a kept place, the one whose best
+/// place the fewest builds have, where these are fewer than are looked at; else the first that names the job.
+fn guide(
+    alloc: Global,
+    index: &Index,
+    upper: &BestPlaces,
+    job: usize,
+    rows: &JobRows,
+) -> Result<Option<usize>, AllocError>
+    ensures { IfOk result (λ found. IfSome found (λ i. i < length index.now.problem.inputs)) }
+{
+    let mut guide = first_input(index, job);
+    let mut fewest = LOOKED_AT;
+    for i in 0..index.input_count() {
+        let input = index.input(i);
+        if input.after().is_some() && names(index, i, job) {
+            let mut builds = Vec::new(alloc);
+            add_builds_with(&mut builds, rows, input.scope(), upper[i], fewest)?;
+            if builds.len() < fewest {
+                guide = Some(i);
+                fewest = builds.len();
+            }
+        }
+    }
+    Ok(guide)
+}
+
 /// The place that is preferred next after this one, of those from 1 to the last one; 0 where there is none.
 fn next_place(after: Option<u32>, last: u32, place: u32) -> u32 {
     match after {
@@ -95,7 +122,7 @@ fn add_builds_from(
     Ok(())
 }
 
-/// The builds of a job to look at: those with the best places of the first input that names it.
+/// The builds of a job to look at: those with the best places of one input that names it.
 fn looked_at(
     alloc: Global,
     index: &Index,
@@ -107,15 +134,15 @@ fn looked_at(
     ensures { IfOk result (λ builds. All (λ k. k < length rows.now.builds) builds.items) }
 {
     let mut builds = Vec::new(alloc);
-    let Some(input) = first_input(index, job) else {
+    let Some(input) = guide(alloc, index, upper, job, rows)? else {
         return Ok(builds);
     };
-    let first = index.input(input);
+    let sought = index.input(input);
     match fixed_pairs(index, fixed, input) {
         Some(pairs) => {
-            add_builds_with_any(&mut builds, rows, first.scope(), pairs, LOOKED_AT)?;
+            add_builds_with_any(&mut builds, rows, sought.scope(), pairs, LOOKED_AT)?;
         }
-        None => add_builds_from(&mut builds, rows, first, upper[input])?,
+        None => add_builds_from(&mut builds, rows, sought, upper[input])?,
     }
     Ok(builds)
 }
