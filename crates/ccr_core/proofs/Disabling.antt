@@ -1,28 +1,23 @@
 -- A place that is disabled or enabled.
-use Rattle.std.proofs.Common.{◌≡◌, inr, ℕ, ◌<◌, Bool, true, false, IsTrue, List, [], ◌∷◌, map, Option, Some, None, Ok, Err, refl, sym, ap, ◌∙◌, subst, arith}
+use Rattle.std.proofs.Common.{◌≡◌, ℕ, Bool, true, Option, Some, None, Ok, refl, sym, ap, ◌∙◌}
 use Rattle.std.specs.Prelude.{unwrap_or}
 use Rattle.std.specs.Option.{option_map_or}
 use Rattle.std.proofs.lemmas.Bool.{false≢true}
-use Rattle.ccr_history.specs.declared.change.Edit.{Edit}
 use Rattle.ccr_history.specs.Text.{Text}
 use Rattle.ccr_history.specs.Tables.{ScopeData, scope_number}
-use Rattle.ccr_history.specs.Changes.{EditData, disabled, enabled, edited, changed, TakesAll}
-use Rattle.ccr_history.specs.Edits.{edit_data, HaveTheirNumbers}
+use Rattle.ccr_history.specs.Changes.{disabled, enabled, edited}
 use Rattle.ccr_history.specs.History.{HistoryData, has_place}
 use Rattle.ccr_pipeline.specs.JobData.{ResourceData}
 use Rattle.ccr_pipeline.specs.Pipelines.{PipelineData}
 use Rattle.ccr_problem.specs.ProblemOf.{resource_of, scope_of}
 use Rattle.ccr_core.specs.declared.fault.CoreFault.{CoreFault}
-use Rattle.ccr_core.specs.declared.fault.CoreFault.TheVariants.{NoPipeline, NoJob, NoResource, NoBuild, BuildsOpen, NotWanted, TooManyOpen, TableFull, NoMemory, NoVersion}
 use Rattle.ccr_core.specs.declared.reply.Reply.TheVariants.{Disabled, Enabled}
-use Rattle.ccr_core.specs.Events.{EventData, disable, enable}
-use Rattle.ccr_core.specs.Faults.{PlaceMeets, Meets, fault_number, MayRefuse}
-use Rattle.ccr_core.specs.Going.{Changes}
-use Rattle.ccr_core.specs.Holding.{CoreData, Stands, HasEdits, Takes}
-use Rattle.ccr_core.specs.Opening.{HasVersion, LacksVersion}
+use Rattle.ccr_core.specs.Events.{disable, enable}
+use Rattle.ccr_core.specs.Faults.{PlaceMeets}
+use Rattle.ccr_core.specs.Holding.{CoreData, Stands, Takes}
+use Rattle.ccr_core.specs.Opening.{HasVersion}
 use Rattle.ccr_core.specs.State.{State, no_pipeline, resources_of, scope_in, with_history}
-use Rattle.ccr_core.proofs.Refusing.{none_met, none_before, refuses}
-use Rattle.ccr_core.proofs.Rows.{changes_so}
+use Rattle.ccr_core.proofs.Refusing.{none_met}
 
 -- ---- a resource of the pipeline
 module _ (c : CoreData) (name : Text) (place : ℕ) (p : PipelineData) (piped : c.pipeline ≡ Some p) (s : State) (st : Stands c s) where
