@@ -5,7 +5,7 @@ use Rattle.std.specs.List.{list_any, list_all, range_with_len}
 use Rattle.std.proofs.lemmas.Bool.{cases_Bool, cond-true, cond-false, and_parts, and_from, leb-true, le-leb, ltb-true, lt-ltb, eq-eqb, eqb-true, ne_eqb}
 use Rattle.std.proofs.lemmas.List.{append_assoc, length-append, length-map, length_push}
 use Rattle.std.proofs.lemmas.List.Elements.{All-nil, All-cons, All-head, All-tail, All-contains, All-get_or, All-from_get_or, Contains-get_or}
-use Rattle.ccr_choice.specs.Problem.{ProblemValue, InputValue, BuildValue, no_input, input_at, builds_at, next_used, used_after, scopes_after, jobs_after, are_numbered, are_distinct, are_places_after, are_pairs_after, is_input, are_inputs, is_build, are_builds_below, are_builds, is_problem}
+use Rattle.ccr_choice.specs.Problem.{ProblemValue, InputValue, BuildValue, no_input, input_at, builds_at, next_used, used_after, scopes_after, jobs_after, are_numbered, are_distinct, are_places_after, are_pairs_after, is_after, is_input, are_inputs, is_build, are_builds_below, are_builds, is_problem}
 use Rattle.ccr_choice.proofs.Bounds.{Rules, rules_of, builds_kept}
 use Rattle.ccr_choice.proofs.Numbering.{named_below}
 use Rattle.std.proofs.Math.Nat.{mul-le-mul_left, mul-le-mul_right}
@@ -171,6 +171,7 @@ module _ (ds : List Demand) (top : ℕ) (least : 1 ≤ top) (most : top ≤ 1000
       let a = and_parts _ _ parts.0 in
       let b = and_parts _ _ a.1 in
       let c = and_parts _ _ b.1 in
+      let d = and_parts (is_after x.after) (are_places_after 0 x.places) c.1 in
       let js = jobs_left ds n x.jobs in
       let next = with_jobs order js in
       let grown = grows_order ds (n + 1) next xs in
@@ -183,7 +184,7 @@ module _ (ds : List Demand) (top : ℕ) (least : 1 ≤ top) (most : top ≤ 1000
       let P : ℕ → Type 0 = λ u. are_inputs (next_used s x.scope) u (cut_from ds final top (n + 1) xs) ≡ true in
       let Q : ℕ → Type 0 = λ u. jobs_after u (cut_from ds final top (n + 1) xs) ≡ length final in
       record {
-        inputs = and_from _ _ (and_from _ _ a.0 (and_from _ _ apart (and_from _ _ so.numbered (places_cut n x c.1)))) (subst P (sym so.used) rest.inputs);
+        inputs = and_from _ _ (and_from _ _ a.0 (and_from _ _ apart (and_from _ _ so.numbered (and_from _ _ d.0 (places_cut n x d.1))))) (subst P (sym so.used) rest.inputs);
         jobs = subst Q (sym so.used) rest.jobs;
         scopes = rest.scopes;
       }
@@ -241,10 +242,11 @@ inputs_rise : (s used : ℕ) (xs : List InputValue) → are_inputs s used xs ≡
 inputs_rise s used [] h = All-nil (λ x. AreRising x.places)
 inputs_rise s used (x ∷ xs) h =
     let parts = and_parts (is_input s used x) (are_inputs (next_used s x.scope) (used_after used x.jobs) xs) h in
-    let one = and_parts (nat_le x.scope s) (are_distinct x.jobs && (are_numbered used x.jobs && are_places_after 0 x.places)) parts.0 in
-    let two = and_parts (are_distinct x.jobs) (are_numbered used x.jobs && are_places_after 0 x.places) one.1 in
-    let three = and_parts (are_numbered used x.jobs) (are_places_after 0 x.places) two.1 in
-    All-cons (λ y. AreRising y.places) x xs (places_rise x.places 0 three.1) (inputs_rise (next_used s x.scope) (used_after used x.jobs) xs parts.1)
+    let one = and_parts (nat_le x.scope s) (are_distinct x.jobs && (are_numbered used x.jobs && (is_after x.after && are_places_after 0 x.places))) parts.0 in
+    let two = and_parts (are_distinct x.jobs) (are_numbered used x.jobs && (is_after x.after && are_places_after 0 x.places)) one.1 in
+    let three = and_parts (are_numbered used x.jobs) (is_after x.after && are_places_after 0 x.places) two.1 in
+    let four = and_parts (is_after x.after) (are_places_after 0 x.places) three.1 in
+    All-cons (λ y. AreRising y.places) x xs (places_rise x.places 0 four.1) (inputs_rise (next_used s x.scope) (used_after used x.jobs) xs parts.1)
 
 -- the places of each cut input ascend
 pub cut_rises : (ds : List Demand) (top : ℕ) (p : ProblemValue) (xs : List InputValue) → is_problem p ≡ true → 1 ≤ top → top ≤ 100000 → xs ≡ inputs_cut ds top p → All (λ x. AreRising x.places) xs

@@ -8,7 +8,7 @@ use Rattle.std.proofs.lemmas.List.Elements.{All-same, All-contains, All-cons, Al
 use Rattle.ccr_choice.specs.Problem.{ProblemValue, InputValue, BuildValue, no_input, input_at, builds_at, is_problem, are_builds}
 use Rattle.ccr_choice.specs.Preference.{Preference, order_of, IsOrder}
 use Rattle.ccr_choice.specs.Optimal.{IsOptimal}
-use Rattle.ccr_choice.proofs.PlainLaws.{is_order}
+use Rattle.ccr_choice.proofs.Orders.{is_order}
 use Rattle.ccr_explain.specs.declared.demand.Demand.{Demand}
 use Rattle.ccr_explain.specs.declared.demand.Demand.TheVariants.{Allowed, Passed}
 use Rattle.ccr_explain.specs.declared.met.Met.{Met}

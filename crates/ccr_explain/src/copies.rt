@@ -13,7 +13,7 @@ pub(crate) fn copied_inputs(alloc: Global, inputs: &[Input]) -> Result<Vec<Input
     for input in inputs {
         let jobs = Vec::from_slice(alloc, input.jobs())?;
         let places = Vec::from_slice(alloc, input.places())?;
-        copies.push(Input::new(input.scope(), jobs, places))?;
+        copies.push(Input::new(input.scope(), jobs, input.after(), places))?;
     }
     Ok(copies)
 }

@@ -198,7 +198,7 @@ fn cut_input(
     let jobs = jobs_left(alloc, demands, number, input.jobs())?;
     let numbers = numbers_of(alloc, order, &jobs)?;
     let places = places_left(alloc, demands, top_for(&jobs, top), number, input.places())?;
-    Ok(Input::new(input.scope(), numbers, places))
+    Ok(Input::new(input.scope(), numbers, input.after(), places))
 }
 
 /// How far the places go of an input that may take any.

@@ -60,7 +60,8 @@ fn narrowed(
     for k in 0..problem.inputs().len() {
         let jobs = Vec::from_slice(alloc, problem.named(k))?;
         let places = may_take_of(alloc, problem, places, input, place, k)?;
-        inputs.push(Input::new(problem.inputs()[k].scope(), jobs, places))?;
+        let whole = &problem.inputs()[k];
+        inputs.push(Input::new(whole.scope(), jobs, whole.after(), places))?;
     }
     Ok(inputs)
 }
@@ -98,7 +99,5 @@ fn may_take_of(
 fn is_preferred(problem: &Problem, input: usize, place: u32, other: u32) -> bool
     ensures { result ≡ order_of problem.now input place other }
 {
-    let _ = problem;
-    let _ = input;
-    other < place
+    ccr_choice::is_preferred(problem.after(input), place, other)
 }
