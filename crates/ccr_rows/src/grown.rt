@@ -12,7 +12,11 @@ fn have_same_rows(one: &Index, other: &Index) -> bool {
     }
     for i in 0..one.input_count() {
         let (x, y) = (one.input(i), other.input(i));
-        if x.scope() != y.scope() || x.places() != y.places() || x.jobs() != y.jobs() || x.after() != y.after() {
+        if x.scope() != y.scope()
+            || x.places() != y.places()
+            || x.jobs() != y.jobs()
+            || x.after() != y.after()
+        {
             return false;
         }
     }

@@ -1,4 +1,4 @@
-use Rattle.std.proofs.Common.{◌∙◌, ◌++◌, ap, Some, inl, inr, refl}
+use Rattle.std.proofs.Common.{◌∙◌, ◌++◌, ap, sym, Some, inl, inr, refl}
 use Rattle.sqlite_wal.specs.Files.{image_at}
 use Rattle.sqlite.specs.Files.{over_files}
 use Rattle.ccr_task.specs.Places.{places_data}
@@ -35,8 +35,8 @@ returns-clause-served g c =
       storage = c.args.database;
       history = c.args.history;
       found = c.requires.found;
-      left = c.in-Err.storage;
-      fault = c.in-Err.fault;
+      left = c.in-Err.field-0.storage;
+      fault = c.in-Err.field-0.fault;
       keeps = c.in-Err.ensures.only;
-      failure_is = refl;
+      failure_is = sym (ap (λ f. Refused f) c.in-Err.fault-is);
     }))))
