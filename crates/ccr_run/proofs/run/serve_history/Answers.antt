@@ -1,4 +1,4 @@
-use Rattle.std.proofs.Common.{◌∙◌, ◌++◌, ap, sym, Some, inl, inr, refl}
+use Rattle.std.proofs.Common.{◌∙◌, ◌++◌, ap, Some, inl, inr, refl}
 use Rattle.sqlite_wal.specs.Files.{image_at}
 use Rattle.sqlite.specs.Files.{over_files}
 use Rattle.ccr_task.specs.Places.{places_data}
@@ -30,7 +30,7 @@ returns-in-Ok-clause-served g c =
 pub returns-clause-served : goal.returns-clause-served
 returns-clause-served g c =
     unserved _ folders_calls (holds (image_at g.S.Start)) (leaves (image_at g.S.Start)) tally (begins_with (image_at g.S.Start)) (IsUnfound over_files (image_at g.S.Start)) c.args.order.now
-    (Some c.args.order.now.options.database.now) (Refused c.in-Err.fault) (c.args.out.now.shown ++ c.args.out.now.waiting) (inl refl)
+    (Some c.args.order.now.options.database.now) (Refused c.in-Err.field-0.fault) (c.args.out.now.shown ++ c.args.out.now.waiting) (inl refl)
     (inr (inr (inr (record {
       storage = c.args.database;
       history = c.args.history;
@@ -38,5 +38,5 @@ returns-clause-served g c =
       left = c.in-Err.field-0.storage;
       fault = c.in-Err.field-0.fault;
       keeps = c.in-Err.ensures.only;
-      failure_is = sym (ap (λ f. Refused f) c.in-Err.fault-is);
+      failure_is = refl;
     }))))
