@@ -22,7 +22,7 @@ use Rattle.ccr_proof.specs.ProofText.{ProofRefusal, proof_text, proof_in, IsProo
 use Rattle.ccr_proof.specs.Refutes.{IsAccepted}
 use Rattle.ccr_proof.specs.Tree.{Tree}
 use Rattle.ccr_proof.specs.Words.{proof_fault_words, proof_refusal_words}
-use Rattle.ccr_choice.proofs.PlainLaws.{is_order}
+use Rattle.ccr_choice.proofs.Orders.{is_order}
 use Rattle.ccr_proof.proofs.ProofLaws.{proof_text_again}
 use Rattle.ccr_proof.proofs.Sound.{accepted_right}
 use Rattle.ccr_check.specs.declared.fault.CheckFault.TheVariants.{BadChoice}

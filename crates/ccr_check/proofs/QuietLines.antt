@@ -54,6 +54,7 @@ word_quiet word.Problem more is h = refl
 word_quiet word.Inputs more is h = refl
 word_quiet word.Jobs more is h = refl
 word_quiet word.Builds more is h = refl
+word_quiet word.After more is h = absurd h
 word_quiet word.Places more is h = absurd h
 word_quiet word.Pairs more is h = absurd h
 word_quiet word.Proof more is h = absurd h

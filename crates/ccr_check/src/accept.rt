@@ -29,7 +29,8 @@ fn bound_of<'a>(problem: &Problem, claim: &'a Claim) -> Result<Option<&'a [u32]>
 }
 
 /// Accepts a proof exactly where it is one: the choice that the claim names satisfies, and the tree refutes what is
-/// better than its places, in the plain order; where the claim is that there is none, the tree refutes everything.
+/// better than its places, in the order of the problem; where the claim is that there is none, the tree refutes
+/// everything.
 ///
 /// Else the first fault: BadChoice with what is said of the choice; then the first node in preorder, counted from 0,
 /// whose own test fails, which comes before its children's. The check takes no memory, and no recursion is more than 33
@@ -38,7 +39,7 @@ pub fn check(problem: &Problem, proof: &Proof) -> Result<(), CheckFault>
     ensures exact { IsOk result
         ↔ IsAccepted (order_of problem.now) problem.now proof.now.claim (tree_of proof.now.tree) }
 
-    // Accepted means right: no choice that satisfies has later places, or none satisfies.
+    // Accepted means right: no choice that satisfies has better places, or none satisfies.
     ensures right { OnOk result (IsRight (order_of problem.now) problem.now proof.now.claim) }
     ensures first { IfErr result (IsFault (order_of problem.now) problem.now proof.now.claim (tree_of proof.now.tree)) }
 {

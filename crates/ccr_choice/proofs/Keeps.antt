@@ -1,11 +1,12 @@
 -- What is read keeps the rules of a problem.
-use Rattle.std.proofs.Common.{◌≡◌, ℕ, zero, suc, List, [], ◌∷◌, length, Bool, true, false, cond, ◌&&◌, nat_le, Option, Some, None, Result, Ok, Err, IsTrue, ap, ◌∙◌, ◌≤◌, refl, sym, arith, eq-eqb}
+use Rattle.std.proofs.Common.{◌≡◌, ℕ, zero, suc, List, [], ◌∷◌, length, Bool, true, false, cond, not, ◌&&◌, ◌||◌, ◌==◌, nat_le, Option, Some, None, Result, Ok, Err, IsTrue, ap, ◌∙◌, ◌≤◌, refl, sym, arith, eq-eqb}
+use Rattle.std.specs.Prelude.{is_some}
 use Rattle.std.specs.List.{list_all}
-use Rattle.std.proofs.lemmas.Bool.{and_from, le-leb}
+use Rattle.std.proofs.lemmas.Bool.{and_parts, and_from, le-leb}
 use Rattle.ccr_choice.specs.declared.text.word.Word.{Word}
 use Rattle.ccr_choice.specs.Problem.{InputValue, BuildValue, ProblemValue, is_input, are_inputs, is_build, are_builds, are_builds_below, jobs_after, scopes_after, is_problem}
 use Rattle.ccr_choice.specs.Reading.{◌>>=◌, keep_if, or_broken, one_line, next_many}
-use Rattle.ccr_choice.specs.ProblemText.{next_counts, input_on, build_on, next_input, next_build, next_inputs, next_builds, next_job, next_jobs, build_count, builds_number, problem_head, input_count, job_count, next_problem}
+use Rattle.ccr_choice.specs.ProblemText.{format_of, is_input_in, next_counts, input_on, build_on, next_input, next_build, next_inputs, next_builds, next_job, next_jobs, build_count, builds_number, problem_head, input_count, job_count, next_problem}
 
 pub bind_ok : {A B E : Type 0} (r : Result A E) (f : A → Result B E) (y : B) → (r >>= f) ≡ Ok y → (x : A) × (r ≡ Ok x) × (f x ≡ Ok y)
 bind_ok (Ok x) f y h = (x, refl, h)
@@ -48,16 +49,18 @@ one_kept test rule (l ∷ ls) x h =
     let e : (b.0, ls) ≡ x = cc in
     ap (λ p. test p.0) (sym e) ∙ kept test (rule l) b.0 (or_ok _ ls b.0 b.1)
 
-pub inputs_are : (s : ℕ × ℕ) (is : List InputValue) → all_along (λ used i. is_input used.0 used.1 i) next_counts s is ≡ are_inputs s.0 s.1 is
-inputs_are s [] = refl
-inputs_are s (i ∷ is) = ap (λ b. is_input s.0 s.1 i && b) (inputs_are (next_counts s i) is)
+inputs_are : (format : ℕ) (s : ℕ × ℕ) (is : List InputValue) → all_along (is_input_in format) next_counts s is ≡ true → are_inputs s.0 s.1 is ≡ true
+inputs_are format s [] h = refl
+inputs_are format s (i ∷ is) h =
+    let a = and_parts (is_input_in format s i) (all_along (is_input_in format) next_counts (next_counts s i) is) h in
+    and_from (is_input s.0 s.1 i) _ (and_parts (format == 2 || not (is_some i.after)) (is_input s.0 s.1 i) a.0).1 (inputs_are format (next_counts s i) is a.1)
 
-pub inputs_keep : (n : ℕ) (ls : List (List Word)) (x : List InputValue × List (List Word)) → next_inputs n ls ≡ Ok x
+pub inputs_keep : (format n : ℕ) (ls : List (List Word)) (x : List InputValue × List (List Word)) → next_inputs format n ls ≡ Ok x
     → (are_inputs 0 0 x.0 ≡ true) × (length x.0 ≡ n)
 unfolding next_inputs next_input
-inputs_keep n ls x h =
-    let k = many_keeps next_input next_counts (λ used i. is_input used.0 used.1 i) (λ s ls x h. one_kept (is_input s.0 s.1) input_on ls x h) n (0, 0) ls x h in
-    (sym (inputs_are (0, 0) x.0) ∙ k.0, k.1)
+inputs_keep format n ls x h =
+    let k = many_keeps (next_input format) next_counts (is_input_in format) (λ s ls x h. one_kept (is_input_in format s) input_on ls x h) n (0, 0) ls x h in
+    (inputs_are format (0, 0) x.0 k.0, k.1)
 
 pub builds_are : (scopes high : ℕ) (bs : List BuildValue) → all_along (is_build scopes) (λ high b. b.number) high bs ≡ are_builds_below scopes high bs
 builds_are scopes high [] = refl
@@ -89,22 +92,22 @@ jobs_keep scopes n ls x h =
     let k = many_keeps next_job (λ s builds. s) are_builds job_keeps n scopes ls x h in
     (sym (jobs_are scopes x.0) ∙ k.0, k.1)
 
-pub problem_keeps : (inputs jobs : ℕ) (a b : List (List Word)) (is : List InputValue) (rest : List (List Word)) (js : List (List BuildValue)) (after : List (List Word))
-    → inputs ≤ 32 → next_inputs inputs a ≡ Ok (is, rest) → jobs ≡ jobs_after 0 is → next_jobs (scopes_after 0 is) jobs b ≡ Ok (js, after)
+pub problem_keeps : (format inputs jobs : ℕ) (a b : List (List Word)) (is : List InputValue) (rest : List (List Word)) (js : List (List BuildValue)) (after : List (List Word))
+    → inputs ≤ 32 → next_inputs format inputs a ≡ Ok (is, rest) → jobs ≡ jobs_after 0 is → next_jobs (scopes_after 0 is) jobs b ≡ Ok (js, after)
     → IsTrue (is_problem (record { inputs = is; jobs = js }))
-problem_keeps inputs jobs a b is rest js after few i mentioned j =
-    let front = inputs_keep inputs a (is, rest) i in
+problem_keeps format inputs jobs a b is rest js after few i mentioned j =
+    let front = inputs_keep format inputs a (is, rest) i in
     let back = jobs_keep (scopes_after 0 is) jobs b (js, after) j in
     and_from _ _ (le-leb _ _ (omega (arith, front.1, few))) (and_from _ _ front.0 (and_from _ _ (eq-eqb _ _ (back.1 ∙ mentioned)) back.0))
 
 -- the parts of a problem that are read one after the other
-pub problem_read : (ls r1 r2 r3 r4 r5 : List (List Word)) (k n m scopes jobs : ℕ) (is : List InputValue) (js : List (List BuildValue)) (p : ProblemValue)
-    → one_line problem_head ls ≡ Ok (k, r1) → one_line input_count r1 ≡ Ok (n, r2) → next_inputs n r2 ≡ Ok (is, r3)
-    → scopes ≡ scopes_after 0 is → jobs ≡ jobs_after 0 is
-    → one_line (job_count jobs) r3 ≡ Ok (m, r4) → next_jobs scopes m r4 ≡ Ok (js, r5) → p ≡ record { inputs = is; jobs = js }
+pub problem_read : (ls r1 r2 r3 r4 r5 : List (List Word)) (k n m scopes jobs : ℕ) (written : Bool) (is : List InputValue) (js : List (List BuildValue)) (p : ProblemValue)
+    → one_line problem_head ls ≡ Ok (k, r1) → one_line input_count r1 ≡ Ok (n, r2) → next_inputs k n r2 ≡ Ok (is, r3)
+    → scopes ≡ scopes_after 0 is → jobs ≡ jobs_after 0 is → written ≡ (k == format_of is)
+    → one_line (job_count written jobs) r3 ≡ Ok (m, r4) → next_jobs scopes m r4 ≡ Ok (js, r5) → p ≡ record { inputs = is; jobs = js }
     → next_problem ls ≡ Ok (p, r5)
 unfolding next_problem
-problem_read ls r1 r2 r3 r4 r5 k n m scopes jobs is js p head count inputs s j job builds e =
-    let job' = rw j at job in
+problem_read ls r1 r2 r3 r4 r5 k n m scopes jobs written is js p head count inputs s j told job builds e =
+    let job' = rw (told, j) at job in
     let builds' = rw s at builds in
     rw e (rw head (rw count (rw inputs (rw job' (rw builds' refl)))))

@@ -14,7 +14,7 @@ pub mod ReadLaws
 pub mod Members
 pub mod BestPlaces
 pub mod PossibleLaws
-pub mod PlainLaws
+pub mod Orders
 pub mod Places
 pub mod Lookups
 pub mod Scopes

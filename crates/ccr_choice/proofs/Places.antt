@@ -1,42 +1,32 @@
 -- The best possible place, from what was found.
-use Rattle.std.proofs.Common.{◌≡◌, ◌≢◌, ℕ, zero, suc, ◌-◌, ◌<◌, ◌≤◌, List, [], ◌∷◌, length, slice_index, slice_index_or, Bool, true, false, ◌&&◌, inl, inr, refl, sym, ap, ◌∙◌, subst, arith, Option, Some, None}
-use Rattle.std.specs.Prelude.{Contains, EachIndex, IfSome, slice_get, nat_le}
-use Rattle.std.proofs.lemmas.Bool.{and_parts, ltb-true, lt-ltb, cases_lt}
+use Rattle.std.proofs.Common.{◌≡◌, ℕ, zero, suc, ◌-◌, ◌<◌, ◌≤◌, List, [], ◌∷◌, length, get_or, slice_index, slice_index_or, Bool, true, ◌&&◌, inl, inr, refl, sym, ap, ◌∙◌, subst, arith, Option, Some, None}
+use Rattle.std.specs.Prelude.{Contains, IfSome, MatchOption, slice_get, nat_le}
+use Rattle.std.proofs.lemmas.Bool.{and_parts, ltb-true, leb-true, le-leb, cases_lt}
+use Rattle.std.proofs.lemmas.Bool.Decides.{nat_tests}
 use Rattle.std.proofs.lemmas.List.{get_or_default, get_or_read}
 use Rattle.std.proofs.lemmas.Option.{slice_get_within, get_or_from_slice_get, slice_get-get_or}
-use Rattle.ccr_choice.specs.Problem.{ProblemValue, InputValue, no_input, is_problem, is_input, are_inputs, are_distinct, are_numbered, are_places_after, next_used, used_after, input_at}
-use Rattle.ccr_choice.proofs.Bounds.{rules_of}
-use Rattle.ccr_choice.specs.Preference.{plain, IsBetter}
+use Rattle.std.specs.List.Sorted.{IsPartitionedBy}
+use Rattle.ccr_choice.specs.Problem.{ProblemValue, InputValue, no_input, is_problem, is_input, are_inputs, are_distinct, are_numbered, are_places_after, is_after, next_used, used_after, input_at}
+use Rattle.ccr_choice.specs.Ascending.{AreRising}
+use Rattle.ccr_choice.specs.Preference.{prefers_after, order_of, IsMostPreferred}
 use Rattle.ccr_choice.specs.Assignment.{Assignment}
-use Rattle.ccr_choice.specs.Possible.{CanHavePassed, IsPossible, IsBestPossible}
-use Rattle.ccr_choice.specs.Table.{Reaches}
+use Rattle.ccr_choice.specs.Possible.{IsPossible, IsBestPossible, Reaches}
+use Rattle.ccr_choice.proofs.Bounds.{rules_of}
+use Rattle.ccr_choice.proofs.Members.{contains_none}
 
 -- what is possible, and reaches each possible place, is the best
-pub best_reached : (p : ProblemValue) (a : Assignment) (i : ℕ) (o : Option ℕ) → IfSome o (IsPossible p a i) → ((place : ℕ) → IsPossible p a i place → Reaches o place) → IsBestPossible plain p a i o
-best_reached p a i None possible reached = reached
-best_reached p a i (Some x) possible reached = (possible, λ place h better. let low = reached place h in let high : x < place = ltb-true x place better in omega (arith, low, high))
-
-places_above : (low : ℕ) (xs : List ℕ) → are_places_after low xs ≡ true → (k : ℕ) → k < length xs → low < slice_index xs k
-places_above low [] h k within = absurd (omega arith)
-places_above low (x ∷ xs) h zero within = ltb-true low x (and_parts _ _ h).0
-places_above low (x ∷ xs) h (suc k) within =
-    let a = and_parts _ _ h in
-    let rest = places_above x xs (and_parts _ _ a.1).1 k (omega arith) in
-    omega (arith, rest, ltb-true low x a.0)
-
-places_ascend : (low : ℕ) (xs : List ℕ) → are_places_after low xs ≡ true → (k m : ℕ) → k ≤ m → m < length xs → slice_index xs k ≤ slice_index xs m
-places_ascend low [] h k m le within = absurd (omega arith)
-places_ascend low (x ∷ xs) h zero zero le within = omega arith
-places_ascend low (x ∷ xs) h zero (suc m) le within = omega (arith, places_above x xs (and_parts _ _ (and_parts _ _ h).1).1 m (omega arith))
-places_ascend low (x ∷ xs) h (suc k) zero le within = absurd (omega arith)
-places_ascend low (x ∷ xs) h (suc k) (suc m) le within = places_ascend x xs (and_parts _ _ (and_parts _ _ h).1).1 k m (omega arith) (omega arith)
+pub best_reached : (prefers : ℕ → ℕ → ℕ → Bool) (p : ProblemValue) (a : Assignment) (i : ℕ) (o : Option ℕ) → IfSome o (IsPossible p a i)
+    → ((place : ℕ) → IsPossible p a i place → Reaches (prefers i) o place) → IsBestPossible prefers p a i o
+best_reached prefers p a i None possible reached = reached
+best_reached prefers p a i (Some x) possible reached = (possible, reached)
 
 one_places : (scopes jobs : ℕ) (x : InputValue) → is_input scopes jobs x ≡ true → are_places_after 0 x.places ≡ true
 one_places scopes jobs x h =
     let last : Bool = are_places_after 0 x.places in
-    let a = and_parts (nat_le x.scope scopes) (are_distinct x.jobs && (are_numbered jobs x.jobs && last)) h in
-    let b = and_parts (are_distinct x.jobs) (are_numbered jobs x.jobs && last) a.1 in
-    (and_parts (are_numbered jobs x.jobs) last b.1).1
+    let kept : Bool = is_after x.after && last in
+    let a = and_parts (nat_le x.scope scopes) (are_distinct x.jobs && (are_numbered jobs x.jobs && kept)) h in
+    let b = and_parts (are_distinct x.jobs) (are_numbered jobs x.jobs && kept) a.1 in
+    (and_parts (is_after x.after) last (and_parts (are_numbered jobs x.jobs) kept b.1).1).1
 
 input_places : (scopes jobs : ℕ) (is : List InputValue) → are_inputs scopes jobs is ≡ true → (i : ℕ) → i < length is → are_places_after 0 (slice_index_or is i no_input).places ≡ true
 input_places scopes jobs [] h i within = absurd (omega arith)
@@ -54,81 +44,71 @@ input_is p is i x e within at =
     let same : x ≡ slice_index_or p.inputs i x = at ∙ ap (λ ys. slice_index_or ys i x) e in
     get_or_read p.inputs i x within same no_input
 
--- where no job is named, the last allowed place is the best
-pub last_best : (p : ProblemValue) (a : Assignment) (i : ℕ) (xs : List ℕ) (o : Option ℕ) → is_problem p ≡ true → i < length p.inputs → (input_at p i).jobs ≡ []
-    → xs ≡ (input_at p i).places → o ≡ slice_get xs (length xs - 1) → IsBestPossible plain p a i o
-last_best p a i xs o rules within free same at = best_reached p a i o (possible o at) (reached o at)
-  where
-    each : (pair : ℕ × ℕ) → EachIndex (input_at p i).jobs (λ k. CanHavePassed p a pair (slice_index (input_at p i).jobs k))
-    each pair k inside = absurd (omega (arith, inside, ap length free))
+-- the most preferred allowed place is the best, where it is possible
+pub top_best : (p : ProblemValue) (a : Assignment) (i : ℕ) (o : Option ℕ) → MatchOption o ((input_at p i).places ≡ []) (IsMostPreferred (order_of p i) (input_at p i).places)
+    → IfSome o (IsPossible p a i) → IsBestPossible (order_of p) p a i o
+top_best p a i None none possible = λ place h. contains_none place (let P : List ℕ → Type 0 = λ xs. Contains xs place in subst P none h.allowed)
+top_best p a i (Some x) most possible = (possible, λ place h better. most.none_before place h.allowed better)
 
-    possible : (o : Option ℕ) → o ≡ slice_get xs (length xs - 1) → IfSome o (IsPossible p a i)
-    possible None e = tt
-    possible (Some x) e =
-        let inside : length xs - 1 < length xs = slice_get_within xs (length xs - 1) x (sym e) in
-        let among : Contains xs x = (length xs - 1, inside, get_or_from_slice_get xs (length xs - 1) x x (sym e)) in
-        let P : List ℕ → Type 0 = λ ys. Contains ys x in
-        record { allowed = subst P same among; passed = each ((input_at p i).scope, x) }
+-- where no job is named, each allowed place is possible
+pub free_possible : (p : ProblemValue) (a : Assignment) (i : ℕ) (o : Option ℕ) → (input_at p i).jobs ≡ [] → MatchOption o ((input_at p i).places ≡ []) (IsMostPreferred (order_of p i) (input_at p i).places)
+    → IfSome o (IsPossible p a i)
+free_possible p a i None free top = tt
+free_possible p a i (Some x) free top = record { allowed = top.among; passed = λ k inside. absurd (omega (arith, inside, ap length free)) }
 
-    reached : (o : Option ℕ) → o ≡ slice_get xs (length xs - 1) → (place : ℕ) → IsPossible p a i place → Reaches o place
-    reached o e place h = found o e (let P : List ℕ → Type 0 = λ ys. Contains ys place in subst P (sym same) h.allowed)
-      where
-        found : (o : Option ℕ) → o ≡ slice_get xs (length xs - 1) → Contains xs place → Reaches o place
-        found None e (k, inside, at) = absurd (cc (e, slice_get-get_or xs (length xs - 1) 0 (omega arith)))
-        found (Some x) e (k, inside, at) =
-            let rule = ap (are_places_after 0) same ∙ places_kept p i rules within in
-            let last : slice_index xs (length xs - 1) ≡ x = get_or_from_slice_get xs (length xs - 1) x 0 (sym e) in
-            let here : slice_index xs k ≡ place = get_or_default xs k 0 place inside ∙ at in
-            omega (arith, places_ascend 0 xs rule k (length xs - 1) (omega arith) (omega arith), last, here)
+-- ---- the most preferred of places that ascend
+module _ (xs : List ℕ) (rises : AreRising xs) where
+  rises_to : (k m : ℕ) → k ≤ m → m < length xs → slice_index xs k ≤ slice_index xs m
+  rises_to k m le within =
+      elim (cases_lt k m) [
+        | inl less ↦ omega (arith, ltb-true _ _ (rises k m 0 less within))
+        | inr same ↦ (let e : k ≡ m = omega arith in omega (arith, ap (slice_index xs) e))
+      ]
 
--- a possible place that is the last allowed one is the best
-pub top_best : (p : ProblemValue) (a : Assignment) (i : ℕ) (xs : List ℕ) (o : Option ℕ) → is_problem p ≡ true → i < length p.inputs → xs ≡ (input_at p i).places
-    → (x : ℕ) × (o ≡ Some x) × (slice_get xs (length xs - 1) ≡ Some x) → IfSome o (IsPossible p a i) → IsBestPossible plain p a i o
-top_best p a i xs o rules within same (x, is, last) possible = best_reached p a i o possible (λ place h. let P : Option ℕ → Type 0 = λ best. Reaches best place in subst P (sym is) (below place h.allowed))
-  where
-    below : (place : ℕ) → Contains (input_at p i).places place → place ≤ x
-    below place among =
-        let P : List ℕ → Type 0 = λ ys. Contains ys place in
-        let here = subst P (sym same) among in
-        let rule = ap (are_places_after 0) same ∙ places_kept p i rules within in
-        let end : slice_index xs (length xs - 1) ≡ x = get_or_from_slice_get xs (length xs - 1) x 0 last in
-        let found : slice_index xs here.0 ≡ place = get_or_default xs here.0 0 place here.1 ∙ here.2 in
-        let inside : here.0 < length xs = here.1 in
-        omega (arith, places_ascend 0 xs rule here.0 (length xs - 1) (omega arith) (omega arith), end, found)
+  -- where none is kept, or none lies above it, the last one
+  pub last_most : (after : Option ℕ) (x : ℕ) → ((k : ℕ) → k < length xs → IfSome after (λ u. slice_index xs k ≤ u)) → 0 < length xs → slice_index xs (length xs - 1) ≡ x → IsMostPreferred (prefers_after after) xs x
+  last_most after x low some last = record {
+    among = (length xs - 1, omega arith, get_or_default xs (length xs - 1) x 0 (omega arith) ∙ last);
+    none_before = λ other (k, within, at) better. behind after (slice_index xs k)
+        (let up = rises_to k (length xs - 1) (omega arith) (omega arith) in omega (arith, up, last)) (low k within)
+        (ap (λ y. prefers_after after y x) (get_or_default xs k 0 other within ∙ at) ∙ better);
+  }
+    where
+      behind : (after : Option ℕ) (y : ℕ) → y ≤ x → IfSome after (λ u. y ≤ u) → prefers_after after y x ≡ true → ⊥
+      behind None y le low better = omega (arith, ltb-true x y better, le)
+      behind (Some u) y le low better = grind (arith, nat_tests)
 
--- ---- the best places against a bound
-pub same_bounded : (best bound : List ℕ) (n : ℕ) → ((k : ℕ) → k < n → slice_index best k ≡ slice_index bound k) → ((k : ℕ) → k < length best → k < length bound → k < n) → ¬ IsBetter plain best bound
-same_bounded best bound n same all h =
-    let less : slice_index bound h.first < slice_index best h.first = ltb-true _ _ h.preferred in
-    let e = same h.first (all h.first h.within h.reached) in
-    omega (arith, less, e)
+  pub last_of : (after : Option ℕ) (o : Option ℕ) → o ≡ slice_get xs (length xs - 1) → ((k : ℕ) → k < length xs → IfSome after (λ u. slice_index xs k ≤ u))
+      → MatchOption o (xs ≡ []) (IsMostPreferred (prefers_after after) xs)
+  last_of after None e low = empty xs e
+    where
+      empty : (ys : List ℕ) → None ≡ slice_get ys (length ys - 1) → ys ≡ []
+      empty [] e = refl
+      empty (y ∷ ys) e = absurd (cc (e, slice_get-get_or (y ∷ ys) (length (y ∷ ys) - 1) 0 (omega arith)))
+  last_of after (Some x) e low =
+      let inside = slice_get_within xs (length xs - 1) x (sym e) in
+      last_most after x low (omega (arith, inside)) (get_or_from_slice_get xs (length xs - 1) x 0 (sym e))
 
--- the first place that differs decides
-pub first_decides : (best bound : List ℕ) (n x : ℕ) → ((k : ℕ) → k < n → slice_index best k ≡ slice_index bound k) → n < length best → n < length bound → x ≡ slice_index best n → x ≢ slice_index bound n
-    → (b : Bool) → (b ≡ true → x < slice_index bound n) → (b ≡ false → slice_index bound n ≤ x) → (b ≡ true → ¬ IsBetter plain best bound) × (¬ IsBetter plain best bound → b ≡ true)
-first_decides best bound n x same within reached at differs b low high = (λ t. worse (low t), λ none. right b high none)
-  where
-    worse : x < slice_index bound n → ¬ IsBetter plain best bound
-    worse less h =
-        let more : slice_index bound h.first < slice_index best h.first = ltb-true _ _ h.preferred in
-        elim (cases_lt h.first n) [
-          | inl before ↦ (let e = same h.first before in omega (arith, more, e))
-          | inr after ↦ elim (cases_lt n h.first) [
-            | inl beyond ↦ (let e = h.same_before n beyond in absurd (differs (at ∙ e)))
-            | inr not_beyond ↦ (let now : h.first ≡ n = omega arith in omega (arith, more, less, at, ap (slice_index best) now, ap (slice_index bound) now))
-          ]
-        ]
+  -- the places up to the one that is kept stand in front
+  pub low_front : (u : ℕ) → IsPartitionedBy (λ x. nat_le x u) xs
+  low_front u i j d le within h =
+      elim (cases_lt i j) [
+        | inl less ↦ (let up = ltb-true _ _ (rises i j d less within) in let few = leb-true (get_or xs j d) u h in le-leb _ _ (omega (arith, up, few)))
+        | inr same ↦ (let e : i ≡ j = omega arith in ap (λ k. nat_le (get_or xs k d) u) e ∙ h)
+      ]
 
-    right : (b : Bool) → (b ≡ false → slice_index bound n ≤ x) → ¬ IsBetter plain best bound → b ≡ true
-    right true high none = refl
-    right false high none =
-        let le = high refl in
-        let less : slice_index bound n < slice_index best n = strict (slice_index bound n) x le differs at in
-        absurd (none (record { first = n; within = within; reached = reached; same_before = same; preferred = lt-ltb _ _ less }))
-      where
-        strict : (u v : ℕ) → u ≤ v → v ≢ u → v ≡ slice_index best n → u < slice_index best n
-        strict u v le ne e =
-            elim (cases_lt u v) [
-              | inl less ↦ omega (arith, less, e)
-              | inr more ↦ absurd (ne (omega arith))
-            ]
+  -- else the first above it
+  pub first_most : (u at x : ℕ) → ((k : ℕ) → k < at → slice_index xs k ≤ u) → at < length xs → slice_index xs at ≡ x → u < x → IsMostPreferred (prefers_after (Some u)) xs x
+  first_most u at x low within is above = record {
+    among = (at, within, get_or_default xs at x 0 within ∙ is);
+    none_before = λ other (k, inside, here) better. elim (cases_lt k at) [
+      | inl before ↦ (let le = low k before in below (slice_index xs k) le (ap (λ y. prefers_after (Some u) y x) (get_or_default xs k 0 other inside ∙ here) ∙ better))
+      | inr reached ↦ (let le = rises_to at k (omega arith) inside in more (slice_index xs k) (omega (arith, le, is)) (ap (λ y. prefers_after (Some u) y x) (get_or_default xs k 0 other inside ∙ here) ∙ better))
+    ];
+  }
+    where
+      below : (y : ℕ) → y ≤ u → prefers_after (Some u) y x ≡ true → ⊥
+      below y le better = grind (arith, nat_tests)
+
+      more : (y : ℕ) → x ≤ y → prefers_after (Some u) y x ≡ true → ⊥
+      more y le better = grind (arith, nat_tests)

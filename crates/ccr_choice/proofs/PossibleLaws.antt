@@ -3,7 +3,7 @@ use Rattle.std.proofs.Common.{◌≡◌, ◌↔◌, ℕ, zero, suc, ◌+◌, ◌
 use Rattle.std.specs.Prelude.{Contains, Any, MatchOption, unwrap_or}
 use Rattle.std.proofs.lemmas.Bool.{and_parts, and_from, cases_Bool, cond-true, cond-false, cases_eq, false≢true}
 use Rattle.ccr_choice.specs.Problem.{ProblemValue, BuildValue, InputValue, input_at, builds_at}
-use Rattle.ccr_choice.specs.Preference.{Preference, IsOrder, IsBetter}
+use Rattle.ccr_choice.specs.Preference.{Preference, IsOrder, IsBetter, IsMostPreferred}
 use Rattle.ccr_choice.specs.Assignment.{Assignment}
 use Rattle.ccr_choice.specs.Possible.{CanHavePassed, IsPossible, IsBestPossible, IsBestPlace, AreBestPlaces, AreBoundedBy}
 use Rattle.ccr_choice.proofs.BestPlaces.{has_pair, passes, is_possible, preferred_of, most_preferred, best_possible, best_place, best_places_from, best_places}
@@ -45,45 +45,40 @@ module _ (prefers : Preference) (order : IsOrder prefers) (i : ℕ) where
             | inr e ↦ absurd (cc (h, cond-false (prefers i y x) (Some y) (Some x) e))
           ]
 
-  -- the most preferred one is one of them, and none of them is preferred to it
-  pub record IsMostPreferred (xs : List ℕ) (x : ℕ) : Type 0 where
-    pub among : Contains xs x
-    pub above : (y : ℕ) → Contains xs y → prefers i y x ≡ true → ⊥
-
-  preferred_step : (x : ℕ) (xs : List ℕ) (o : Option ℕ) (v : ℕ) → (o ≡ None → xs ≡ []) → ((w : ℕ) → o ≡ Some w → IsMostPreferred xs w)
-      → preferred_of (prefers i) x o ≡ Some v → IsMostPreferred (x ∷ xs) v
+  preferred_step : (x : ℕ) (xs : List ℕ) (o : Option ℕ) (v : ℕ) → (o ≡ None → xs ≡ []) → ((w : ℕ) → o ≡ Some w → IsMostPreferred (prefers i) xs w)
+      → preferred_of (prefers i) x o ≡ Some v → IsMostPreferred (prefers i) (x ∷ xs) v
   preferred_step x xs None v none some h =
       let same : x ≡ v = cc (h) in
-      let P : ℕ → Type 0 = λ n. IsMostPreferred (x ∷ xs) n in
+      let P : ℕ → Type 0 = λ n. IsMostPreferred (prefers i) (x ∷ xs) n in
       let Q : List ℕ → Type 0 = λ ys. Contains ys x → ⊥ in
       subst P same (record {
         among = contains_first x xs;
-        above = λ y among better. elim (contains_cases x y xs among) [
+        none_before = λ y among better. elim (contains_cases x y xs among) [
           | inl e ↦ absurd (false≢true (sym (order.irreflexive i x) ∙ ap (λ n. prefers i n x) e ∙ better))
           | inr e ↦ absurd (contains_none y (let R : List ℕ → Type 0 = λ ys. Contains ys y in subst R (none refl) e))
         ];
       })
   preferred_step x xs (Some w) v none some h =
       let rest = some w refl in
-      let P : ℕ → Type 0 = λ n. IsMostPreferred (x ∷ xs) n in
+      let P : ℕ → Type 0 = λ n. IsMostPreferred (prefers i) (x ∷ xs) n in
       elim (cases_Bool (prefers i w x)) [
         | inl wins ↦ let same : w ≡ v = cc (h, cond-true (prefers i w x) (Some w) (Some x) wins) in
             subst P same (record {
               among = contains_later x w xs rest.among;
-              above = λ y among better. elim (contains_cases x y xs among) [
+              none_before = λ y among better. elim (contains_cases x y xs among) [
                 | inl e ↦ absurd (false≢true (sym (order.irreflexive i x) ∙ order.transitive i x w x (ap (λ n. prefers i n w) e ∙ better) wins))
-                | inr e ↦ rest.above y e better
+                | inr e ↦ rest.none_before y e better
               ];
             })
         | inr loses ↦ let same : x ≡ v = cc (h, cond-false (prefers i w x) (Some w) (Some x) loses) in
             subst P same (record {
               among = contains_first x xs;
-              above = λ y among better. elim (contains_cases x y xs among) [
+              none_before = λ y among better. elim (contains_cases x y xs among) [
                 | inl e ↦ absurd (false≢true (sym (order.irreflexive i x) ∙ ap (λ n. prefers i n x) e ∙ better))
                 | inr e ↦ elim (cases_eq y w) [
                   | inl same ↦ absurd (false≢true (sym loses ∙ ap (λ n. prefers i n x) (sym same) ∙ better))
                   | inr differs ↦ elim (order.total i y w differs) [
-                    | inl k ↦ rest.above y e k
+                    | inl k ↦ rest.none_before y e k
                     | inr k ↦ absurd (false≢true (sym loses ∙ order.transitive i w y x k better))
                   ]
                 ]
@@ -91,7 +86,7 @@ module _ (prefers : Preference) (order : IsOrder prefers) (i : ℕ) where
             })
       ]
 
-  pub most_preferred_is : (xs : List ℕ) (v : ℕ) → most_preferred (prefers i) xs ≡ Some v → IsMostPreferred xs v
+  pub most_preferred_is : (xs : List ℕ) (v : ℕ) → most_preferred (prefers i) xs ≡ Some v → IsMostPreferred (prefers i) xs v
   most_preferred_is [] v h = absurd (cc (h))
   most_preferred_is (x ∷ xs) v h = preferred_step x xs (most_preferred (prefers i) xs) v (none_preferred xs) (λ w e. most_preferred_is xs w e) h
 
@@ -132,7 +127,7 @@ best_from prefers order p a i None e = λ place h.
     contains_none place (subst P (none_preferred prefers order i _ e) (possible_kept p a i place h))
 best_from prefers order p a i (Some x) e =
     let most = most_preferred_is prefers order i _ x e in
-    ((tests_possible p a i x).0 (contains_filter (is_possible p a i) (input_at p i).places x most.among).1, λ place h better. most.above place (possible_kept p a i place h) better)
+    ((tests_possible p a i x).0 (contains_filter (is_possible p a i) (input_at p i).places x most.among).1, λ place h better. most.none_before place (possible_kept p a i place h) better)
 
 pub best_is : (prefers : Preference) → IsOrder prefers → (p : ProblemValue) (a : Assignment) (i : ℕ) → IsBestPossible prefers p a i (best_possible prefers p a i)
 best_is prefers order p a i = best_from prefers order p a i _ refl

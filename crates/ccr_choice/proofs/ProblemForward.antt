@@ -1,23 +1,23 @@
 -- A problem is read from the first line to the last.
 use Rattle.std.proofs.Common.{◌≡◌, ℕ, ◌+◌, ◌-◌, List, length, Bool, true, false, cond, ◌==◌, Ok, Err, refl}
 use Rattle.ccr_choice.specs.declared.text.word.Word.{Word}
-use Rattle.ccr_choice.specs.Problem.{InputValue, BuildValue, ProblemValue, is_input, is_build, scopes_after, jobs_after}
+use Rattle.ccr_choice.specs.Problem.{InputValue, BuildValue, ProblemValue, is_build, scopes_after, jobs_after}
 use Rattle.ccr_choice.specs.Reading.{bad_line, trailing, Read, ◌>>=◌, keep_if, one_line, whole, IsFirstBad}
-use Rattle.ccr_choice.specs.ProblemText.{input_on, build_on, next_counts, next_input, next_build, next_inputs, next_builds, next_job, next_jobs, problem_head, input_count, job_count, build_count, next_problem, problem_in}
+use Rattle.ccr_choice.specs.ProblemText.{format_of, is_input_in, input_on, build_on, next_counts, next_input, next_build, next_inputs, next_builds, next_job, next_jobs, problem_head, input_count, job_count, build_count, next_problem, problem_in}
 use Rattle.ccr_choice.proofs.Forward.{IsForward, forward_bind, forward_done, forward_line, forward_many}
 use Rattle.ccr_choice.proofs.BadLines.{bad_there, bad_back}
 
-forward_input : (used : ℕ × ℕ) → IsForward (λ k. k) (next_input used)
+forward_input : (format : ℕ) (used : ℕ × ℕ) → IsForward (λ k. k) (next_input format used)
 unfolding next_input input_on
-forward_input used = forward_line (λ l. keep_if (is_input used.0 used.1) (input_on l)) refl
+forward_input format used = forward_line (λ l. keep_if (is_input_in format used) (input_on l)) refl
 
 forward_build : (scopes high : ℕ) → IsForward (λ k. k) (next_build scopes high)
 unfolding next_build build_on
 forward_build scopes high = forward_line (λ l. keep_if (is_build scopes high) (build_on l)) refl
 
-forward_inputs : (n : ℕ) → IsForward (λ k. k) (next_inputs n)
+forward_inputs : (format n : ℕ) → IsForward (λ k. k) (next_inputs format n)
 unfolding next_inputs
-forward_inputs n = forward_many next_input next_counts forward_input n (0, 0)
+forward_inputs format n = forward_many (next_input format) next_counts (forward_input format) n (0, 0)
 
 forward_builds : (scopes n : ℕ) → IsForward (λ k. k) (next_builds scopes n)
 unfolding next_builds
@@ -35,29 +35,30 @@ forward_jobs scopes n = forward_many next_job (λ s builds. s) forward_job n sco
 abbrev after_jobs : List InputValue → ℕ → List (List Word) → Read ProblemValue
 after_jobs is n ls = next_jobs (scopes_after 0 is) n ls >>= λ builds. Ok (record { inputs = is; jobs = builds.0 }, builds.1)
 
-abbrev after_inputs : List InputValue → List (List Word) → Read ProblemValue
-after_inputs is ls = one_line (job_count (jobs_after 0 is)) ls >>= λ jobs. after_jobs is jobs.0 jobs.1
+abbrev after_inputs : ℕ → List InputValue → List (List Word) → Read ProblemValue
+after_inputs format is ls = one_line (job_count (format == format_of is) (jobs_after 0 is)) ls >>= λ jobs. after_jobs is jobs.0 jobs.1
 
-abbrev after_count : ℕ → List (List Word) → Read ProblemValue
-after_count n ls = next_inputs n ls >>= λ inputs. after_inputs inputs.0 inputs.1
+abbrev after_count : ℕ → ℕ → List (List Word) → Read ProblemValue
+after_count format n ls = next_inputs format n ls >>= λ inputs. after_inputs format inputs.0 inputs.1
 
 abbrev after_head : ℕ → List (List Word) → Read ProblemValue
-after_head n ls = one_line input_count ls >>= λ count. after_count count.0 count.1
+after_head format ls = one_line input_count ls >>= λ count. after_count format count.0 count.1
 
 forward_after_jobs : (is : List InputValue) (n : ℕ) → IsForward (λ k. k) (after_jobs is n)
 forward_after_jobs is n =
     let made : List (List BuildValue) → ProblemValue = λ js. record { inputs = is; jobs = js } in
     forward_bind (λ k. k) (next_jobs (scopes_after 0 is) n) (λ js ls. Ok (made js, ls)) (λ js. forward_done (λ k. k) (made js)) (forward_jobs (scopes_after 0 is) n)
 
-forward_after_inputs : (is : List InputValue) → IsForward (λ k. k) (after_inputs is)
-forward_after_inputs is =
-    forward_bind (λ k. k) (one_line (job_count (jobs_after 0 is))) (after_jobs is) (forward_after_jobs is) (forward_line (job_count (jobs_after 0 is)) refl)
+forward_after_inputs : (format : ℕ) (is : List InputValue) → IsForward (λ k. k) (after_inputs format is)
+forward_after_inputs format is =
+    let line = job_count (format == format_of is) (jobs_after 0 is) in
+    forward_bind (λ k. k) (one_line line) (after_jobs is) (forward_after_jobs is) (forward_line line refl)
 
-forward_after_count : (n : ℕ) → IsForward (λ k. k) (after_count n)
-forward_after_count n = forward_bind (λ k. k) (next_inputs n) after_inputs forward_after_inputs (forward_inputs n)
+forward_after_count : (format n : ℕ) → IsForward (λ k. k) (after_count format n)
+forward_after_count format n = forward_bind (λ k. k) (next_inputs format n) (after_inputs format) (forward_after_inputs format) (forward_inputs format n)
 
-forward_after_head : (n : ℕ) → IsForward (λ k. k) (after_head n)
-forward_after_head n = forward_bind (λ k. k) (one_line input_count) after_count forward_after_count (forward_line input_count refl)
+forward_after_head : (format : ℕ) → IsForward (λ k. k) (after_head format)
+forward_after_head format = forward_bind (λ k. k) (one_line input_count) (after_count format) (forward_after_count format) (forward_line input_count refl)
 
 forward_problem : IsForward (λ k. k) next_problem
 unfolding next_problem

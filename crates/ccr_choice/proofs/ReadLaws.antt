@@ -1,14 +1,15 @@
 -- The laws of a problem's text: what is read is written so, what is written so is read, and no text begins another.
-use Rattle.std.proofs.Common.{◌≡◌, ℕ, ◌+◌, ◌^◌, ◌<◌, ◌≤◌, List, [], ◌∷◌, ◌++◌, length, map, true, Result, Ok, Err, IfOk, ap, ◌∙◌, refl, sym, arith}
-use Rattle.std.specs.List.{flat_map, list_all, AllByRecursion}
+use Rattle.std.proofs.Common.{◌≡◌, ℕ, ◌+◌, ◌^◌, ◌<◌, ◌≤◌, List, [], ◌∷◌, ◌++◌, length, map, Bool, true, false, cond, Option, Some, None, Result, Ok, Err, IfOk, ap, ◌∙◌, refl, sym, arith}
+use Rattle.std.specs.Prelude.{is_some}
+use Rattle.std.specs.List.{flat_map, list_all, list_any, AllByRecursion}
 use Rattle.std.proofs.lemmas.Bool.{and_parts, ltb-true, leb-true}
 use Rattle.ccr_choice.specs.declared.text.word.Word.{Word}
 use Rattle.ccr_choice.specs.declared.fault.ProblemFault.{ProblemFault}
 use Rattle.ccr_choice.specs.declared.fault.ProblemFault.TheVariants.{BadLine, Trailing, NoMemory}
-use Rattle.ccr_choice.specs.Problem.{InputValue, BuildValue, ProblemValue, IsProblem, is_problem, is_input, are_inputs, are_builds, are_builds_below, are_numbered, are_places_after, are_pairs_after, next_used, used_after, scopes_after}
+use Rattle.ccr_choice.specs.Problem.{InputValue, BuildValue, ProblemValue, IsProblem, is_problem, is_after, is_input, are_inputs, are_builds, are_builds_below, are_numbered, are_places_after, are_pairs_after, next_used, used_after, scopes_after}
 use Rattle.ccr_choice.specs.Text.{IsWord, lines_of}
 use Rattle.ccr_choice.specs.Reading.{Refusal, bad_line, trailing, whole, number_words}
-use Rattle.ccr_choice.specs.ProblemText.{pair_words, input_line, build_line, job_lines, problem_lines, problem_text, next_problem, problem_in, IsRead, IsReadAs, NothingFollows}
+use Rattle.ccr_choice.specs.ProblemText.{format_of, after_words, pair_words, input_line, build_line, job_lines, problem_lines, problem_text, next_problem, problem_in, IsRead, IsReadAs, NothingFollows}
 use Rattle.ccr_choice.proofs.Texts.{IsLine}
 use Rattle.ccr_choice.proofs.Formats.{IsFormat, text_read, text_found, text_again, text_alone}
 use Rattle.ccr_choice.proofs.Bounds.{rules_of, next_used-more}
@@ -42,13 +43,19 @@ small_places low (n ∷ ns) h =
     let few : n ≤ 100000 = leb-true _ _ b.0 in
     (omega (arith, few), small_places n ns b.1)
 
+after_spelled : (after : Option ℕ) (ws : List Word) → is_after after ≡ true → AllByRecursion IsWord ws → AllByRecursion IsWord (after_words after ++ ws)
+after_spelled None ws h k = k
+after_spelled (Some u) ws h k = let few : u ≤ 100000 = leb-true _ _ (and_parts _ _ h).1 in (tt, (omega (arith, few), k))
+
 input_spelled : (scopes jobs : ℕ) (i : InputValue) → scopes ≤ 64 → is_input scopes jobs i ≡ true → IsLine (input_line i)
 input_spelled scopes jobs i few h =
     let a = and_parts _ _ h in
     let b = and_parts _ _ a.1 in
     let c = and_parts _ _ b.1 in
+    let d = and_parts _ _ c.1 in
     let low : i.scope ≤ scopes = leb-true _ _ a.0 in
-    (omega arith, (omega (arith, low, few), (tt, spelled_numbers i.jobs _ (small_jobs jobs i.jobs c.0) (tt, spelled_last i.places (small_places 0 i.places c.1)))))
+    let places = spelled_last i.places (small_places 0 i.places d.1) in
+    (omega arith, (omega (arith, low, few), (tt, spelled_numbers i.jobs _ (small_jobs jobs i.jobs c.0) (after_spelled i.after _ d.0 (tt, places)))))
 
 inputs_spelled : (scopes jobs : ℕ) (is : List InputValue) (ls : List (List Word)) → scopes + length is ≤ 64 → are_inputs scopes jobs is ≡ true
     → AllByRecursion IsLine ls → AllByRecursion IsLine (map input_line is ++ ls)
@@ -90,10 +97,17 @@ jobs_spelled scopes (j ∷ js) few h =
     let small : length j ≤ 1000000 = leb-true _ _ b.0 in
     ((omega arith, (tt, (omega (arith, small), tt))), builds_spelled scopes 1000001 j (flat_map job_lines js) few (omega arith) b.1 (jobs_spelled scopes js few a.1))
 
+small_format : (is : List InputValue) → format_of is < 2 ^ 32
+small_format is = pick (list_any (λ i. is_some i.after) is)
+  where
+    pick : (b : Bool) → cond b 2 1 < 2 ^ 32
+    pick true = omega arith
+    pick false = omega arith
+
 pub problem_spelled : (p : ProblemValue) → is_problem p ≡ true → AllByRecursion IsLine (problem_lines p)
 problem_spelled p h =
     let r = rules_of p h in (
-      (omega arith, (tt, (omega arith, tt))),
+      (omega arith, (tt, (small_format p.inputs, tt))),
       (
         (omega arith, (tt, (omega (arith, r.few_inputs), tt))),
         inputs_spelled 0 0 p.inputs _ (omega (arith, r.few_inputs)) r.inputs

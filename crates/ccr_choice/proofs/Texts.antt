@@ -10,7 +10,7 @@ use Rattle.std.proofs.lemmas.List.Elements.{All-from_recursion}
 use Rattle.std.proofs.lemmas.List.Splits.{join_with_byte-slice_split, slice_split_at, slice_split_none, length-slice_split}
 use Rattle.std.proofs.lemmas.Fmt.{digits_decimal}
 use Rattle.ccr_choice.specs.declared.text.word.Word.{Word}
-use Rattle.ccr_choice.specs.declared.text.word.Word.TheVariants.{Number, Problem, Inputs, Jobs, Places, Builds, Pairs, Proof, Best, Nothing, Job, Empty, Bounded, Same, Other}
+use Rattle.ccr_choice.specs.declared.text.word.Word.TheVariants.{Number, Problem, Inputs, Jobs, After, Places, Builds, Pairs, Proof, Best, Nothing, Job, Empty, Bounded, Same, Other}
 use Rattle.ccr_choice.specs.Text.{spelled, IsWord, word_of, words_of, line_text, text_of, lines_from, unended, lines_of}
 use Rattle.ccr_choice.proofs.Cuts.{lines_step}
 use Rattle.ccr_choice.proofs.Words.{own, word_found, word_again, IsFit, word_fits}
@@ -43,6 +43,7 @@ blank_clear (Number n) h = digits_clear 32 (decimal n) (omega arith) (digits_dec
 blank_clear Problem h = refl
 blank_clear Inputs h = refl
 blank_clear Jobs h = refl
+blank_clear After h = refl
 blank_clear Places h = refl
 blank_clear Builds h = refl
 blank_clear Pairs h = refl
@@ -100,6 +101,7 @@ feed_clear (Number n) h = digits_clear 10 (decimal n) (omega arith) (digits_deci
 feed_clear Problem h = refl
 feed_clear Inputs h = refl
 feed_clear Jobs h = refl
+feed_clear After h = refl
 feed_clear Places h = refl
 feed_clear Builds h = refl
 feed_clear Pairs h = refl

@@ -1,14 +1,15 @@
 -- A problem's lines, both ways.
-use Rattle.std.proofs.Common.{◌≡◌, ℕ, zero, suc, ◌≤◌, List, [], ◌∷◌, ◌++◌, length, map, Bool, true, false, cond, ◌==◌, nat_le, Option, Some, None, option_and_then, Result, Ok, ap, ◌∙◌, refl, sym, append_assoc}
-use Rattle.std.specs.List.{flat_map, list_all}
-use Rattle.std.proofs.lemmas.Bool.{and_parts, eqb-true, leb-true}
+use Rattle.std.proofs.Common.{◌≡◌, ℕ, zero, suc, ◌≤◌, List, [], ◌∷◌, ◌++◌, length, map, Bool, true, false, cond, not, ◌&&◌, ◌||◌, ◌==◌, ◌≢◌, inl, inr, arith, nat_le, Option, Some, None, option_and_then, Result, Ok, ap, ◌∙◌, refl, sym, append_assoc}
+use Rattle.std.specs.Prelude.{is_some}
+use Rattle.std.specs.List.{flat_map, list_all, list_any}
+use Rattle.std.proofs.lemmas.Bool.{and_parts, and_from, or_left, or_right, eqb-true, eq-eqb, leb-true, cases_eq, cases_Bool, cond-true, cond-false}
 use Rattle.std.proofs.lemmas.List.Concat.{flat_map_single}
 use Rattle.ccr_choice.specs.declared.text.word.Word.{Word}
 use Rattle.ccr_choice.specs.declared.text.word.Word.TheVariants.{Number, Problem, Inputs, Jobs, Builds, Pairs}
 use Rattle.ccr_choice.specs.Problem.{InputValue, BuildValue, ProblemValue, is_input, is_build, are_builds, are_builds_below, are_inputs, jobs_after, scopes_after, is_problem}
 use Rattle.ccr_choice.specs.Reading.{◌>>=◌, keep_if, or_broken, one_line, next_many}
-use Rattle.ccr_choice.specs.ProblemText.{next_counts, pair_words, input_line, build_line, job_lines, problem_lines, pairs_on, input_on, build_on, next_input, next_build, next_inputs, next_builds, next_job, next_jobs, next_problem, problem_head, input_count, job_count, build_count, problem_number, inputs_number, jobs_number, builds_number}
-use Rattle.ccr_choice.proofs.Keeps.{bind_ok, all_along, or_ok, one_kept, builds_keep, inputs_keep, jobs_keep, inputs_are, builds_are, jobs_are, problem_keeps, problem_read}
+use Rattle.ccr_choice.specs.ProblemText.{format_of, is_input_in, next_counts, pair_words, input_line, build_line, job_lines, problem_lines, pairs_on, input_on, build_on, next_input, next_build, next_inputs, next_builds, next_job, next_jobs, next_problem, problem_head, input_count, job_count, build_count, problem_number, inputs_number, jobs_number, builds_number}
+use Rattle.ccr_choice.proofs.Keeps.{bind_ok, all_along, or_ok, one_kept, builds_keep, inputs_keep, jobs_keep, builds_are, jobs_are, problem_keeps, problem_read}
 use Rattle.ccr_choice.proofs.Found.{input_again, input_found}
 
 pub pairs_again : (ps : List (ℕ × ℕ)) → pairs_on (pair_words ps) ≡ Some ps
@@ -85,12 +86,44 @@ many_found item next lines each (suc n) s ls xs h =
     ∙ ap (λ p. flat_map lines p.0 ++ p.1) e
 
 -- ---- the parts of a problem
-pub inputs_again : (is : List InputValue) (rest : List (List Word)) → are_inputs 0 0 is ≡ true → next_inputs (length is) (map input_line is ++ rest) ≡ Ok (is, rest)
+-- inputs keep the rules of their own format
+inputs_in : (format : ℕ) (s : ℕ × ℕ) (is : List InputValue) → (format ≡ 1 → list_any (λ i. is_some i.after) is ≡ false) → (format ≢ 1 → format ≡ 2)
+    → are_inputs s.0 s.1 is ≡ true → all_along (is_input_in format) next_counts s is ≡ true
+inputs_in format s [] plain other h = refl
+inputs_in format s (i ∷ is) plain other h =
+    let a = and_parts (is_input s.0 s.1 i) (are_inputs (next_counts s i).0 (next_counts s i).1 is) h in
+    let none : format ≡ 1 → (is_some i.after ≡ false) × (list_any (λ i. is_some i.after) is ≡ false) = λ e. or_none (is_some i.after) _ (plain e) in
+    and_from _ _ (and_from _ _ (elim (cases_eq format 1) [
+      | inl e ↦ or_right (format == 2) (not (is_some i.after)) (ap not (none e).0)
+      | inr e ↦ or_left (format == 2) (not (is_some i.after)) (eq-eqb format 2 (other e))
+    ]) a.0) (inputs_in format (next_counts s i) is (λ e. (none e).1) other a.1)
+  where
+    or_none : (a b : Bool) → (a || b) ≡ false → (a ≡ false) × (b ≡ false)
+    or_none true b h = absurd (cc (h))
+    or_none false b h = (refl, h)
+
+formatted : (is : List InputValue) → are_inputs 0 0 is ≡ true → all_along (is_input_in (format_of is)) next_counts (0, 0) is ≡ true
+formatted is h =
+    elim (cases_Bool (list_any (λ i. is_some i.after) is)) [
+      | inl e ↦ (let two : format_of is ≡ 2 = cond-true _ 2 1 e in inputs_in (format_of is) (0, 0) is (λ one. absurd (omega (arith, one, two))) (λ ne. two) h)
+      | inr e ↦ (let one : format_of is ≡ 1 = cond-false _ 2 1 e in inputs_in (format_of is) (0, 0) is (λ same. e) (λ ne. absurd (ne one)) h)
+    ]
+
+known_format : (is : List InputValue) → (format_of is == 1 || format_of is == 2) ≡ true
+known_format is = pick (list_any (λ i. is_some i.after) is)
+  where
+    pick : (b : Bool) → (cond b 2 1 == 1 || cond b 2 1 == 2) ≡ true
+    pick true = refl
+    pick false = refl
+
+pub inputs_again : (is : List InputValue) (rest : List (List Word)) → are_inputs 0 0 is ≡ true
+    → next_inputs (format_of is) (length is) (map input_line is ++ rest) ≡ Ok (is, rest)
 unfolding next_inputs next_input
 inputs_again is rest h =
-    ap (λ ls. next_many next_input next_counts (length is) (0, 0) (ls ++ rest)) (sym (flat_map_single input_line is))
-    ∙ many_again next_input next_counts (λ used i. is_input used.0 used.1 i) (λ i. input_line i ∷ [])
-    (λ s x rest t. one_again (is_input s.0 s.1) input_on (input_line x) x rest (input_again x) t) (0, 0) is rest (inputs_are (0, 0) is ∙ h)
+    let format : ℕ = format_of is in
+    ap (λ ls. next_many (next_input format) next_counts (length is) (0, 0) (ls ++ rest)) (sym (flat_map_single input_line is))
+    ∙ many_again (next_input format) next_counts (is_input_in format) (λ i. input_line i ∷ [])
+    (λ s x rest t. one_again (is_input_in format s) input_on (input_line x) x rest (input_again x) t) (0, 0) is rest (formatted is h)
 
 pub builds_again : (scopes : ℕ) (bs : List BuildValue) (rest : List (List Word)) → are_builds_below scopes 1000001 bs ≡ true → next_builds scopes (length bs) (map build_line bs ++ rest) ≡ Ok (bs, rest)
 unfolding next_builds next_build
@@ -118,14 +151,21 @@ problem_again p rest h =
     let c = and_parts (length p.jobs == jobs_after 0 p.inputs) (list_all (are_builds (scopes_after 0 p.inputs)) p.jobs) b.1 in
     let back = flat_map job_lines p.jobs in
     let line : List Word = Jobs ∷ Number (length p.jobs) ∷ [] in
-    problem_read (problem_lines p ++ rest) _ _ (line ∷ (back ++ rest)) (back ++ rest) rest 1 (length p.inputs) (length p.jobs) _ _ p.inputs p.jobs p
-    (one_again (λ n. n == 1) problem_number (Problem ∷ Number 1 ∷ []) 1 _ refl refl)
+    let format : ℕ = format_of p.inputs in
+    let written : Bool = format == format in
+    let same : written ≡ true = eq-eqb format format refl in
+    let front : List (List Word) = map input_line p.inputs ++ (line ∷ back) ++ rest in
+    problem_read (problem_lines p ++ rest) ((Inputs ∷ Number (length p.inputs) ∷ []) ∷ front) front (line ∷ (back ++ rest)) (back ++ rest) rest format (length p.inputs) (length p.jobs) _ _ written p.inputs p.jobs p
+    (one_again (λ n. n == 1 || n == 2) problem_number (Problem ∷ Number format ∷ []) format _ refl (known_format p.inputs))
     (one_again (λ n. nat_le n 32) inputs_number (Inputs ∷ Number (length p.inputs) ∷ []) (length p.inputs) _ refl a.0)
-    (ap (next_inputs (length p.inputs)) (append_assoc (map input_line p.inputs) (line ∷ back) rest) ∙ inputs_again p.inputs (line ∷ (back ++ rest)) b.0)
-    refl refl
-    (one_again (λ n. n == jobs_after 0 p.inputs) jobs_number line (length p.jobs) (back ++ rest) refl c.0)
+    (ap (next_inputs format (length p.inputs)) (append_assoc (map input_line p.inputs) (line ∷ back) rest) ∙ inputs_again p.inputs (line ∷ (back ++ rest)) b.0)
+    refl refl refl
+    (one_again (λ n. written && n == jobs_after 0 p.inputs) jobs_number line (length p.jobs) (back ++ rest) refl (and_from _ _ same c.0))
     (jobs_again (scopes_after 0 p.inputs) p.jobs rest c.1)
     refl
+
+ok_same : {A E : Type 0} (x y : A) → ◌≡◌ {A = Result A E} (Ok x) (Ok y) → x ≡ y
+ok_same x y h = cc
 
 problem_line : (l : List Word) (n : ℕ) → problem_number l ≡ Some n → l ≡ Problem ∷ Number n ∷ []
 problem_line (Problem ∷ Number m ∷ []) n h = let e : m ≡ n = cc in ap (λ k. Problem ∷ Number k ∷ []) e
@@ -147,10 +187,10 @@ builds_line (Builds ∷ Number m ∷ []) n h = let e : m ≡ n = cc in ap (λ k.
 builds_line [] n h = cc
 builds_line (w ∷ ws) n h = cc
 
-inputs_found : (n : ℕ) (ls : List (List Word)) (x : List InputValue × List (List Word)) → next_inputs n ls ≡ Ok x → ls ≡ map input_line x.0 ++ x.1
+inputs_found : (format n : ℕ) (ls : List (List Word)) (x : List InputValue × List (List Word)) → next_inputs format n ls ≡ Ok x → ls ≡ map input_line x.0 ++ x.1
 unfolding next_inputs next_input
-inputs_found n ls x h =
-    many_found next_input next_counts (λ i. input_line i ∷ []) (λ s ls y k. one_found (is_input s.0 s.1) input_on input_line input_found ls y k) n (0, 0) ls x h
+inputs_found format n ls x h =
+    many_found (next_input format) next_counts (λ i. input_line i ∷ []) (λ s ls y k. one_found (is_input_in format s) input_on input_line input_found ls y k) n (0, 0) ls x h
     ∙ ap (λ vs. vs ++ x.1) (flat_map_single input_line x.0)
 
 builds_found : (scopes n : ℕ) (ls : List (List Word)) (x : List BuildValue × List (List Word)) → next_builds scopes n ls ≡ Ok x → ls ≡ map build_line x.0 ++ x.1
@@ -176,20 +216,22 @@ unfolding next_problem
 problem_found ls x h =
     let b1 = bind_ok (one_line problem_head ls) _ x h in
     let b2 = bind_ok (one_line input_count b1.0.1) _ x b1.2 in
-    let b3 = bind_ok (next_inputs b2.0.0 b2.0.1) _ x b2.2 in
-    let b4 = bind_ok (one_line (job_count (jobs_after 0 b3.0.0)) b3.0.1) _ x b3.2 in
+    let b3 = bind_ok (next_inputs b1.0.0 b2.0.0 b2.0.1) _ x b2.2 in
+    let written : Bool = b1.0.0 == format_of b3.0.0 in
+    let jobs : ℕ = jobs_after 0 b3.0.0 in
+    let b4 = bind_ok (one_line (job_count written jobs) b3.0.1) _ x b3.2 in
     let b5 = bind_ok (next_jobs (scopes_after 0 b3.0.0) b4.0.0 b4.0.1) _ x b4.2 in
-    let one : b1.0.0 ≡ 1 = eqb-true _ _ (one_kept (λ n. n == 1) problem_number ls b1.0 b1.1) in
-    let made : (record { inputs = b3.0.0; jobs = b5.0.0 }, b5.0.1) ≡ x = cc in
-    one_found (λ n. n == 1) problem_number (λ n. Problem ∷ Number n ∷ []) problem_line ls b1.0 b1.1
-    ∙ ap (λ n. (Problem ∷ Number n ∷ []) ∷ b1.0.1) one
-    ∙ ap (λ r. (Problem ∷ Number 1 ∷ []) ∷ r)
+    let told = and_parts written (b4.0.0 == jobs) (one_kept (λ n. written && n == jobs) jobs_number b3.0.1 b4.0 b4.1) in
+    let made : (record { inputs = b3.0.0; jobs = b5.0.0 }, b5.0.1) ≡ x = ok_same _ x b5.2 in
+    one_found (λ n. n == 1 || n == 2) problem_number (λ n. Problem ∷ Number n ∷ []) problem_line ls b1.0 b1.1
+    ∙ ap (λ n. (Problem ∷ Number n ∷ []) ∷ b1.0.1) (eqb-true _ _ told.0)
+    ∙ ap (λ r. (Problem ∷ Number (format_of b3.0.0) ∷ []) ∷ r)
     (one_found (λ n. nat_le n 32) inputs_number (λ n. Inputs ∷ Number n ∷ []) inputs_line b1.0.1 b2.0 b2.1
-    ∙ ap (λ n. (Inputs ∷ Number n ∷ []) ∷ b2.0.1) (sym (inputs_keep b2.0.0 b2.0.1 b3.0 b3.1).1)
+    ∙ ap (λ n. (Inputs ∷ Number n ∷ []) ∷ b2.0.1) (sym (inputs_keep b1.0.0 b2.0.0 b2.0.1 b3.0 b3.1).1)
     ∙ ap (λ r. (Inputs ∷ Number (length b3.0.0) ∷ []) ∷ r)
-    (inputs_found b2.0.0 b2.0.1 b3.0 b3.1
+    (inputs_found b1.0.0 b2.0.0 b2.0.1 b3.0 b3.1
     ∙ ap (λ r. map input_line b3.0.0 ++ r)
-    (one_found (λ n. n == jobs_after 0 b3.0.0) jobs_number (λ n. Jobs ∷ Number n ∷ []) jobs_line b3.0.1 b4.0 b4.1
+    (one_found (λ n. written && n == jobs) jobs_number (λ n. Jobs ∷ Number n ∷ []) jobs_line b3.0.1 b4.0 b4.1
     ∙ ap (λ n. (Jobs ∷ Number n ∷ []) ∷ b4.0.1) (sym (jobs_keep (scopes_after 0 b3.0.0) b4.0.0 b4.0.1 b5.0 b5.1).1)
     ∙ ap (λ r. (Jobs ∷ Number (length b5.0.0) ∷ []) ∷ r) (jobs_found (scopes_after 0 b3.0.0) b4.0.0 b4.0.1 b5.0 b5.1))
     ∙ sym (append_assoc (map input_line b3.0.0) ((Jobs ∷ Number (length b5.0.0) ∷ []) ∷ flat_map job_lines b5.0.0) b5.0.1)))
@@ -201,10 +243,12 @@ unfolding next_problem
 problem_kept ls x h =
     let b1 = bind_ok (one_line problem_head ls) _ x h in
     let b2 = bind_ok (one_line input_count b1.0.1) _ x b1.2 in
-    let b3 = bind_ok (next_inputs b2.0.0 b2.0.1) _ x b2.2 in
-    let b4 = bind_ok (one_line (job_count (jobs_after 0 b3.0.0)) b3.0.1) _ x b3.2 in
+    let b3 = bind_ok (next_inputs b1.0.0 b2.0.0 b2.0.1) _ x b2.2 in
+    let written : Bool = b1.0.0 == format_of b3.0.0 in
+    let jobs : ℕ = jobs_after 0 b3.0.0 in
+    let b4 = bind_ok (one_line (job_count written jobs) b3.0.1) _ x b3.2 in
     let b5 = bind_ok (next_jobs (scopes_after 0 b3.0.0) b4.0.0 b4.0.1) _ x b4.2 in
     let few : b2.0.0 ≤ 32 = leb-true _ _ (one_kept (λ n. nat_le n 32) inputs_number b1.0.1 b2.0 b2.1) in
-    let counted : b4.0.0 ≡ jobs_after 0 b3.0.0 = eqb-true _ _ (one_kept (λ n. n == jobs_after 0 b3.0.0) jobs_number b3.0.1 b4.0 b4.1) in
-    let made : (record { inputs = b3.0.0; jobs = b5.0.0 }, b5.0.1) ≡ x = cc in
-    ap (λ y. is_problem y.0) (sym made) ∙ problem_keeps b2.0.0 b4.0.0 b2.0.1 b4.0.1 b3.0.0 b3.0.1 b5.0.0 b5.0.1 few b3.1 counted b5.1
+    let told = and_parts written (b4.0.0 == jobs) (one_kept (λ n. written && n == jobs) jobs_number b3.0.1 b4.0 b4.1) in
+    let made : (record { inputs = b3.0.0; jobs = b5.0.0 }, b5.0.1) ≡ x = ok_same _ x b5.2 in
+    ap (λ y. is_problem y.0) (sym made) ∙ problem_keeps b1.0.0 b2.0.0 b4.0.0 b2.0.1 b4.0.1 b3.0.0 b3.0.1 b5.0.0 b5.0.1 few b3.1 (eqb-true _ _ told.1) b5.1

@@ -9,7 +9,7 @@ use Rattle.std.proofs.lemmas.Slice.Eq.{bytes_eq-Decides}
 use Rattle.std.proofs.lemmas.Str.Parse.{IsNumeralModel, numerals_by_fold}
 use Rattle.std.proofs.lemmas.Fmt.{decimal-digits_value, digits_decimal, digits_value-decimal, decimal_nonempty, first_decimal, decimal_digit}
 use Rattle.ccr_choice.specs.declared.text.word.Word.{Word}
-use Rattle.ccr_choice.specs.declared.text.word.Word.TheVariants.{Number, Problem, Inputs, Jobs, Places, Builds, Pairs, Proof, Best, Nothing, Job, Empty, Bounded, Same, Other}
+use Rattle.ccr_choice.specs.declared.text.word.Word.TheVariants.{Number, Problem, Inputs, Jobs, After, Places, Builds, Pairs, Proof, Best, Nothing, Job, Empty, Bounded, Same, Other}
 use Rattle.ccr_choice.specs.Text.{spelled, IsWord, value_after, number_of, keyword_of, number_or_keyword, word_of}
 
 abbrev pub read_on : ℕ → List ℕ → ℕ
@@ -94,6 +94,7 @@ keyword_found bs w h known =
     key_step P bs (codes "problem") Problem w _ h (λ e. (e, tt)) (λ h.
     key_step P bs (codes "inputs") Inputs w _ h (λ e. (e, tt)) (λ h.
     key_step P bs (codes "jobs") Jobs w _ h (λ e. (e, tt)) (λ h.
+    key_step P bs (codes "after") After w _ h (λ e. (e, tt)) (λ h.
     key_step P bs (codes "places") Places w _ h (λ e. (e, tt)) (λ h.
     key_step P bs (codes "builds") Builds w _ h (λ e. (e, tt)) (λ h.
     key_step P bs (codes "pairs") Pairs w _ h (λ e. (e, tt)) (λ h.
@@ -104,7 +105,7 @@ keyword_found bs w h known =
     key_step P bs (codes "empty") Empty w _ h (λ e. (e, tt)) (λ h.
     key_step P bs (codes "bounded") Bounded w _ h (λ e. (e, tt)) (λ h.
     key_step P bs (codes "same") Same w _ h (λ e. (e, tt)) (λ h.
-    absurd (known (sym h)))))))))))))))
+    absurd (known (sym h))))))))))))))))
 
 from_number : (bs : List ℕ) (o : Option ℕ) (w : Word) → number_of bs ≡ o → number_or_keyword o bs ≡ w → w ≢ Other → (bs ≡ spelled w) × IsWord w
 from_number bs (Some n) w e h known =
@@ -123,6 +124,7 @@ word_again (Number n) h = ap (λ o. number_or_keyword o (decimal n)) (number_aga
 word_again Problem h = refl
 word_again Inputs h = refl
 word_again Jobs h = refl
+word_again After h = refl
 word_again Places h = refl
 word_again Builds h = refl
 word_again Pairs h = refl
@@ -145,6 +147,7 @@ fit_known (Number n) h = h (λ e. cc)
 fit_known Problem h = tt
 fit_known Inputs h = tt
 fit_known Jobs h = tt
+fit_known After h = tt
 fit_known Places h = tt
 fit_known Builds h = tt
 fit_known Pairs h = tt

@@ -1,5 +1,5 @@
 -- Which places an input can have under a partial assignment, and which of them is the best.
-use Rattle.std.specs.Prelude.{◌≡◌, ℕ, ◌<◌, List, length, Option, MatchOption, unwrap_or, IsTrue, slice_index, Contains, Any, EachIndex}
+use Rattle.std.specs.Prelude.{◌≡◌, ℕ, ◌<◌, List, length, Bool, Option, MatchOption, IsSomeAnd, unwrap_or, IsTrue, slice_index, Contains, Any, EachIndex}
 use Rattle.ccr_choice.specs.Problem.{ProblemValue, input_at, builds_at}
 use Rattle.ccr_choice.specs.Preference.{Preference, IsBetter}
 use Rattle.ccr_choice.specs.Assignment.{Assignment}
@@ -23,6 +23,10 @@ abbrev pub IsBestPossible : Preference → ProblemValue → Assignment → ℕ �
 IsBestPossible prefers p a i best = MatchOption best
     ((place : ℕ) → ¬ IsPossible p a i place)
     (λ x. IsPossible p a i x × ((place : ℕ) → IsPossible p a i place → ¬ IsTrue (prefers i place x)))
+
+-- There is a best so far, and this place isn't preferred to it.
+abbrev pub Reaches : (ℕ → ℕ → Bool) → Option ℕ → ℕ → Type 0
+Reaches prefers best place = IsSomeAnd best (λ x. ¬ IsTrue (prefers place x))
 
 -- The best place of input i: the best possible one, or 0 where none is possible.
 abbrev pub IsBestPlace : Preference → ProblemValue → Assignment → ℕ → ℕ → Type 0

@@ -1,13 +1,15 @@
 -- What a problem and a choice are, without where they lie in memory, and the rules that every problem keeps.
-use Rattle.std.specs.Prelude.{ℕ, ◌+◌, List, [], ◌∷◌, length, slice_index_or, Bool, true, not, ◌&&◌, ◌||◌, ◌==◌, nat_lt, nat_le, IsTrue, if◌then◌else◌}
+use Rattle.std.specs.Prelude.{ℕ, ◌+◌, List, [], ◌∷◌, Option, Some, None, length, slice_index_or, Bool, true, not, ◌&&◌, ◌||◌, ◌==◌, nat_lt, nat_le, IsTrue, if◌then◌else◌}
 use Rattle.std.specs.List.{list_any, list_all}
 use Rattle.ccr_choice.specs.declared.problem.TheConstants.{MOST_INPUTS, MOST_JOBS, MOST_PLACES, MOST_BUILDS}
 
--- An input: the scope of its versions, its allowed places there, and the jobs that its version must have passed.
+-- An input: the scope of its versions, its allowed places there, the jobs that its version must have passed, and the
+-- place that is kept of the newest build which used it, if one is: the places after that one come first.
 pub record InputValue : Type 0 where
   pub scope : ℕ
   pub places : List ℕ
   pub jobs : List ℕ
+  pub after : Option ℕ
 
 -- A successful build: its number, and the pairs of scope and place that passed its job with it.
 pub record BuildValue : Type 0 where
@@ -25,7 +27,7 @@ pub record ChoiceValue : Type 0 where
   pub builds : List ℕ
 
 abbrev pub no_input : InputValue
-no_input = record { scope = 0; places = []; jobs = [] }
+no_input = record { scope = 0; places = []; jobs = []; after = None }
 
 -- Input i, the first being input 0.
 abbrev pub input_at : ProblemValue → ℕ → InputValue
@@ -68,11 +70,17 @@ are_pairs_after scopes scope place (p ∷ ps) =
     (nat_lt scope p.0 || (scope == p.0 && nat_lt place p.1))
     && (nat_lt p.0 scopes && (nat_lt 0 p.1 && (nat_le p.1 MOST_PLACES && are_pairs_after scopes p.0 p.1 ps)))
 
+-- A place that is kept is one from 1 to the greatest place; it needn't be allowed.
+abbrev pub is_after : Option ℕ → Bool
+is_after None = true
+is_after (Some u) = nat_lt 0 u && nat_le u MOST_PLACES
+
 -- An input's scope is one that was mentioned before or the next one; so are its jobs, none of them twice; its places
 -- ascend.
 abbrev pub is_input : ℕ → ℕ → InputValue → Bool
 is_input scopes jobs i =
-    nat_le i.scope scopes && (are_distinct i.jobs && (are_numbered jobs i.jobs && are_places_after 0 i.places))
+    nat_le i.scope scopes
+    && (are_distinct i.jobs && (are_numbered jobs i.jobs && (is_after i.after && are_places_after 0 i.places)))
 
 -- Each input keeps the rules, given what the inputs before it mention.
 abbrev pub are_inputs : ℕ → ℕ → List InputValue → Bool

@@ -1,10 +1,10 @@
 -- The text of a problem: how it is written, and how it is read from the first line to the last.
-use Rattle.std.specs.Prelude.{◌≡◌, ℕ, ◌+◌, List, [], ◌∷◌, ◌++◌, length, map, nat_le, Option, Some, None, option_and_then, Result, Ok, Err, ◌==◌, if◌then◌else◌}
-use Rattle.std.specs.List.{flat_map}
+use Rattle.std.specs.Prelude.{◌≡◌, ℕ, ◌+◌, List, [], ◌∷◌, ◌++◌, length, map, nat_le, Option, Some, None, is_some, option_and_then, Result, Ok, Err, Bool, not, ◌&&◌, ◌||◌, ◌==◌, if◌then◌else◌}
+use Rattle.std.specs.List.{flat_map, list_any}
 use Rattle.ccr_choice.specs.declared.text.word.Word.{Word}
-use Rattle.ccr_choice.specs.declared.text.word.Word.TheVariants.{Number, Problem, Inputs, Jobs, Places, Builds, Pairs}
+use Rattle.ccr_choice.specs.declared.text.word.Word.TheVariants.{Number, Problem, Inputs, Jobs, After, Places, Builds, Pairs}
 use Rattle.ccr_choice.specs.declared.problem.TheConstants.{MOST_INPUTS, MOST_BUILDS}
-use Rattle.ccr_choice.specs.declared.read.TheConstants.{PROBLEM_FORMAT}
+use Rattle.ccr_choice.specs.declared.format.TheConstants.{PLAIN_FORMAT, AFTER_FORMAT}
 use Rattle.ccr_choice.specs.declared.fault.ProblemFault.{ProblemFault}
 use Rattle.ccr_choice.specs.declared.fault.ProblemFault.TheVariants.{BadLine, Trailing, NoMemory}
 use Rattle.ccr_choice.specs.Problem.{InputValue, BuildValue, ProblemValue, IsProblem, next_used, used_after, is_input, is_build, scopes_after, jobs_after}
@@ -16,9 +16,15 @@ abbrev pub pair_words : List (ℕ × ℕ) → List Word
 pair_words [] = []
 pair_words (p ∷ ps) = Number p.0 ∷ Number p.1 ∷ pair_words ps
 
--- `S jobs J.. places P..`
+-- `after U`, where a place is kept
+abbrev pub after_words : Option ℕ → List Word
+after_words None = []
+after_words (Some u) = After ∷ Number u ∷ []
+
+-- `S jobs J.. places P..`, or `S jobs J.. after U places P..` where a place is kept
 abbrev pub input_line : InputValue → List Word
-input_line i = Number i.scope ∷ Jobs ∷ (number_words i.jobs ++ Places ∷ number_words i.places)
+input_line i =
+    Number i.scope ∷ Jobs ∷ (number_words i.jobs ++ (after_words i.after ++ Places ∷ number_words i.places))
 
 -- `N pairs S P S P ..`
 abbrev pub build_line : BuildValue → List Word
@@ -28,10 +34,14 @@ build_line b = Number b.number ∷ Pairs ∷ pair_words b.pairs
 abbrev pub job_lines : List BuildValue → List (List Word)
 job_lines bs = (Builds ∷ Number (length bs) ∷ []) ∷ map build_line bs
 
--- `problem 1`, `inputs N`, a line for each input, `jobs M`, and the lines of each job
+-- The format in which inputs are written: 2 where a place is kept for one of them, and else 1.
+abbrev pub format_of : List InputValue → ℕ
+format_of is = if list_any (λ i. is_some i.after) is then AFTER_FORMAT else PLAIN_FORMAT
+
+-- `problem 1` or `problem 2`, `inputs N`, a line for each input, `jobs M`, and the lines of each job
 abbrev pub problem_lines : ProblemValue → List (List Word)
 problem_lines p =
-    (Problem ∷ Number PROBLEM_FORMAT ∷ []) ∷ (Inputs ∷ Number (length p.inputs) ∷ []) ∷
+    (Problem ∷ Number (format_of p.inputs) ∷ []) ∷ (Inputs ∷ Number (length p.inputs) ∷ []) ∷
     (map input_line p.inputs ++ (Jobs ∷ Number (length p.jobs) ∷ []) ∷ flat_map job_lines p.jobs)
 
 -- The one text of a problem.
@@ -39,14 +49,20 @@ abbrev pub problem_text : ProblemValue → List ℕ
 problem_text p = text_of (problem_lines p)
 
 -- ---- what a line says
-abbrev pub places_on : ℕ → List ℕ → List Word → Option InputValue
-places_on scope jobs (Places ∷ ws) =
+-- the place that is kept, if the words begin with it, and the words behind it
+abbrev pub after_on : List Word → Option ℕ × List Word
+after_on (After ∷ Number u ∷ ws) = (Some u, ws)
+after_on ws = (None, ws)
+
+abbrev pub places_on : ℕ → List ℕ → Option ℕ → List Word → Option InputValue
+places_on scope jobs after (Places ∷ ws) =
     if length (after_numbers ws) == 0
-    then Some (record { scope = scope; places = front_numbers ws; jobs = jobs }) else None
-places_on scope jobs ws = None
+    then Some (record { scope = scope; places = front_numbers ws; jobs = jobs; after = after }) else None
+places_on scope jobs after ws = None
 
 unfoldable pub input_on : List Word → Option InputValue
-input_on (Number scope ∷ Jobs ∷ ws) = places_on scope (front_numbers ws) (after_numbers ws)
+input_on (Number scope ∷ Jobs ∷ ws) =
+    places_on scope (front_numbers ws) (after_on (after_numbers ws)).0 (after_on (after_numbers ws)).1
 input_on ws = None
 
 abbrev pub pairs_on : List Word → Option (List (ℕ × ℕ))
@@ -76,13 +92,14 @@ builds_number ws = None
 
 -- ---- reading, a line being bad where it says nothing or breaks a rule of problems
 abbrev pub problem_head : List Word → Option ℕ
-problem_head ws = keep_if (λ n. n == PROBLEM_FORMAT) (problem_number ws)
+problem_head ws = keep_if (λ n. n == PLAIN_FORMAT || n == AFTER_FORMAT) (problem_number ws)
 
 abbrev pub input_count : List Word → Option ℕ
 input_count ws = keep_if (λ n. nat_le n MOST_INPUTS) (inputs_number ws)
 
-abbrev pub job_count : ℕ → List Word → Option ℕ
-job_count mentioned ws = keep_if (λ n. n == mentioned) (jobs_number ws)
+-- so many jobs as are mentioned, behind inputs that are written in this format
+abbrev pub job_count : Bool → ℕ → List Word → Option ℕ
+job_count written mentioned ws = keep_if (λ n. written && n == mentioned) (jobs_number ws)
 
 abbrev pub build_count : List Word → Option ℕ
 build_count ws = keep_if (λ n. nat_le n MOST_BUILDS) (builds_number ws)
@@ -91,15 +108,19 @@ build_count ws = keep_if (λ n. nat_le n MOST_BUILDS) (builds_number ws)
 abbrev pub next_counts : ℕ × ℕ → InputValue → ℕ × ℕ
 next_counts used i = (next_used used.0 i.scope, used_after used.1 i.jobs)
 
-unfoldable pub next_input : ℕ × ℕ → List (List Word) → Read InputValue
-next_input used = one_line (λ l. keep_if (is_input used.0 used.1) (input_on l))
+-- in format 1 no place is kept
+abbrev pub is_input_in : ℕ → ℕ × ℕ → InputValue → Bool
+is_input_in format used i = (format == AFTER_FORMAT || not (is_some i.after)) && is_input used.0 used.1 i
+
+unfoldable pub next_input : ℕ → ℕ × ℕ → List (List Word) → Read InputValue
+next_input format used = one_line (λ l. keep_if (is_input_in format used) (input_on l))
 
 unfoldable pub next_build : ℕ → ℕ → List (List Word) → Read BuildValue
 next_build scopes high = one_line (λ l. keep_if (is_build scopes high) (build_on l))
 
 -- so many inputs
-unfoldable pub next_inputs : ℕ → List (List Word) → Read (List InputValue)
-next_inputs n = next_many next_input next_counts n (0, 0)
+unfoldable pub next_inputs : ℕ → ℕ → List (List Word) → Read (List InputValue)
+next_inputs format n = next_many (next_input format) next_counts n (0, 0)
 
 -- so many builds of one job
 unfoldable pub next_builds : ℕ → ℕ → List (List Word) → Read (List BuildValue)
@@ -119,8 +140,8 @@ unfoldable pub next_problem : List (List Word) → Read ProblemValue
 next_problem ls = do
   head ← one_line problem_head ls
   count ← one_line input_count head.1
-  inputs ← next_inputs count.0 count.1
-  jobs ← one_line (job_count (jobs_after 0 inputs.0)) inputs.1
+  inputs ← next_inputs head.0 count.0 count.1
+  jobs ← one_line (job_count (head.0 == format_of inputs.0) (jobs_after 0 inputs.0)) inputs.1
   builds ← next_jobs (scopes_after 0 inputs.0) jobs.0 jobs.1
   Ok (record { inputs = inputs.0; jobs = builds.0 }, builds.1)
 

@@ -1,5 +1,5 @@
 -- The table in which the checker keeps a partial assignment.
-use Rattle.std.specs.Prelude.{◌≤◌, ℕ, zero, suc, List, Option, None, slice_index, slice_get, IsSomeAnd}
+use Rattle.std.specs.Prelude.{ℕ, zero, suc, List, Option, None, slice_index, slice_get}
 use Rattle.ccr_choice.specs.Problem.{ProblemValue, BuildValue, builds_at}
 use Rattle.ccr_choice.specs.Assignment.{Assignment}
 
@@ -12,7 +12,3 @@ build_of builds (suc k) = slice_get builds k
 -- The assignment that a table stands for.
 abbrev pub assigned : ProblemValue → List ℕ → Assignment
 assigned p table j = build_of (builds_at p j) (slice_index table j)
-
--- There is a place, and it is this one or a later one.
-abbrev pub Reaches : Option ℕ → ℕ → Type 0
-Reaches best place = IsSomeAnd best (λ x. place ≤ x)

@@ -5,7 +5,7 @@ use Rattle.std.specs.Str.{bytes_eq}
 use Rattle.std.specs.Fmt.{decimal}
 use Rattle.std.specs.Char.{is_ascii_digit}
 use Rattle.ccr_choice.specs.declared.text.word.Word.{Word}
-use Rattle.ccr_choice.specs.declared.text.word.Word.TheVariants.{Number, Problem, Inputs, Jobs, Places, Builds, Pairs, Proof, Best, Nothing, Job, Empty, Bounded, Same, Other}
+use Rattle.ccr_choice.specs.declared.text.word.Word.TheVariants.{Number, Problem, Inputs, Jobs, After, Places, Builds, Pairs, Proof, Best, Nothing, Job, Empty, Bounded, Same, Other}
 
 -- ---- writing
 -- How a word is spelled: a number in decimal digits without a leading zero, a keyword by its name.
@@ -14,6 +14,7 @@ spelled (Number n) = decimal n
 spelled Problem = codes "problem"
 spelled Inputs = codes "inputs"
 spelled Jobs = codes "jobs"
+spelled After = codes "after"
 spelled Places = codes "places"
 spelled Builds = codes "builds"
 spelled Pairs = codes "pairs"
@@ -58,6 +59,7 @@ keyword_of bs =
     if bytes_eq bs (codes "problem") then Problem else
     (if bytes_eq bs (codes "inputs") then Inputs else
     (if bytes_eq bs (codes "jobs") then Jobs else
+    (if bytes_eq bs (codes "after") then After else
     (if bytes_eq bs (codes "places") then Places else
     (if bytes_eq bs (codes "builds") then Builds else
     (if bytes_eq bs (codes "pairs") then Pairs else
@@ -67,7 +69,7 @@ keyword_of bs =
     (if bytes_eq bs (codes "job") then Job else
     (if bytes_eq bs (codes "empty") then Empty else
     (if bytes_eq bs (codes "bounded") then Bounded else
-    (if bytes_eq bs (codes "same") then Same else Other))))))))))))
+    (if bytes_eq bs (codes "same") then Same else Other)))))))))))))
 
 abbrev pub number_or_keyword : Option ℕ → List ℕ → Word
 number_or_keyword (Some n) bs = Number n

@@ -1,6 +1,6 @@
 //! Laws over the definitions alone: what best places are, what a dominating build can do, and that a problem has one text.
 
-ghost use Rattle.std.specs.Prelude.{◌≡◌, ◌<◌, ◌↔◌, ◌++◌, ℕ, List, [], length, slice_index, slice_set, Contains, Ok, Err};
+ghost use Rattle.std.specs.Prelude.{◌≡◌, ◌<◌, ◌↔◌, ◌++◌, ℕ, List, [], length, slice_index, slice_set, Contains, IsTrue, Ok, Err};
 ghost use Rattle.ccr_choice.specs.Reading.{bad_line, IsFirstBad};
 ghost use Rattle.ccr_choice.specs.Problem.{ProblemValue, BuildValue, builds_at, IsProblem};
 ghost use Rattle.ccr_choice.specs.Satisfies.{Satisfies};
@@ -21,6 +21,7 @@ pub fn best_places_are_one()
         → (p : ProblemValue) (a : Assignment) (places others : List ℕ)
         → AreBestPlaces prefers p a places → AreBestPlaces prefers p a others → places ≡ others }
     ensures order { (p : ProblemValue) → IsOrder (order_of p) }
+    ensures last { (p : ProblemValue) (i place : ℕ) → 0 < place → IsTrue (order_of p i place 0) }
 {}
 
 /// A choice that satisfies with a dominated build still satisfies, with the same places, where the build that dominates

@@ -19,6 +19,7 @@
 mod choice;
 mod dominated;
 mod fault;
+mod format;
 mod law;
 mod order;
 pub mod possible;
@@ -36,7 +37,7 @@ pub use law::{
     bad_line_of_a_problem_is_the_first, best_places_are_one, dominating_build_takes_the_place,
     problem_has_one_text,
 };
-pub use order::later;
+pub use order::{is_preferred, later, preferred};
 pub use problem::{
     Build, Input, JobBuilds, MOST_BUILDS, MOST_INPUTS, MOST_JOBS, MOST_PLACES, Problem,
 };

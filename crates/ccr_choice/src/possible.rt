@@ -1,13 +1,15 @@
 //! Possible places, and the best of them, under a table of fixed builds.
 
-ghost use Rattle.std.specs.Prelude.{◌≡◌, ◌<◌, ◌≤◌, ◌-◌, ◌↔◌, ℕ, [], Some, length, slice_get, IsTrue, IfSome, MatchOption, Contains, All, Any};
+ghost use Rattle.std.specs.Prelude.{◌≡◌, ◌<◌, ◌≤◌, ◌↔◌, ℕ, [], true, false, length, slice_index_or, IsTrue, IfSome, MatchOption, Contains, All, Any};
+ghost use Rattle.std.specs.List.Sorted.{IsPartitionPoint};
 ghost use Rattle.std.specs.Option.{option_copied};
 ghost use Rattle.ccr_choice.specs.Problem.{input_at};
-ghost use Rattle.ccr_choice.specs.Preference.{order_of};
-ghost use Rattle.ccr_choice.specs.Possible.{CanHavePassed, IsPossible, IsBestPossible, AreBoundedBy};
-ghost use Rattle.ccr_choice.specs.Ascending.{AreAscending, AreRising};
-ghost use Rattle.ccr_choice.specs.Table.{assigned, Reaches};
+ghost use Rattle.ccr_choice.specs.Preference.{prefers_after, order_of, IsMostPreferred};
+ghost use Rattle.ccr_choice.specs.Possible.{CanHavePassed, IsPossible, IsBestPossible, AreBoundedBy, Reaches};
+ghost use Rattle.ccr_choice.specs.Ascending.{AreAscending, AreRising, is_up_to};
+ghost use Rattle.ccr_choice.specs.Table.{assigned};
 
+use crate::order::is_preferred;
 use crate::problem::{Build, MOST_JOBS, Problem};
 
 /// For each named job 0 where it is free, else one more than the position of its fixed build among its successful
@@ -108,17 +110,108 @@ fn sources<'a>(problem: &'a Problem, fixed: &Fixed, input: usize) -> Option<&'a 
 }
 
 /// Whether a place is preferred to the best so far.
-fn is_better(place: u32, best: Option<u32>) -> bool
-    ensures { IsTrue result ↔ ¬ Reaches best place }
+fn is_better(after: Option<u32>, place: u32, best: Option<u32>) -> bool
+    ensures { MatchOption best (IsTrue result) (λ b. result ≡ prefers_after after place b) }
 {
     match best {
         None => true,
-        Some(b) => b < place,
+        Some(b) => is_preferred(after, place, b),
     }
 }
 
-/// The best of `best` and the possible places among a build's pairs. It goes down from the last pair of the input's
-/// scope, and ends at the first place that is possible, or no better than `best`.
+/// How many of the pairs stand before those of this scope whose places lie above the one that is kept; where none is
+/// kept, before those of later scopes.
+fn up_to(after: Option<u32>, pairs: &[(u32, u32)], scope: u32) -> usize
+    requires { AreAscending pairs.now }
+    ensures within { result ≤ length pairs.now }
+    ensures parted { IsPartitionPoint (λ q. is_up_to after scope q ≡ true) (λ q. is_up_to after scope q ≡ false) pairs.now result }
+{
+    match after {
+        Some(kept) => pairs.partition_point(|q| q.0 < scope || (q.0 == scope && q.1 <= kept)),
+        None => pairs.partition_point(|q| q.0 <= scope),
+    }
+}
+
+/// The best of `best` and the possible places among a build's pairs from position `from` on, which lie above the place
+/// that is kept. It goes up from there, and ends at the first place that is possible, or not preferred to `best`.
+fn best_above(
+    problem: &Problem,
+    fixed: &Fixed,
+    input: usize,
+    pairs: &[(u32, u32)],
+    from: usize,
+    best: Option<u32>,
+) -> Option<u32>
+    requires input { input < length problem.now.inputs }
+    requires ascending { AreAscending pairs.now }
+    requires within { from ≤ length pairs.now }
+    requires above { (k : ℕ) → from ≤ k → k < length pairs.now
+        → is_up_to (input_at problem.now input).after (input_at problem.now input).scope
+        (slice_index_or pairs.now k (0, 0)) ≡ false }
+    requires possible { IfSome best (IsPossible problem.now (assigned problem.now fixed.now) input) }
+    ensures possible { IfSome result (IsPossible problem.now (assigned problem.now fixed.now) input) }
+    ensures kept { (place : ℕ) → Reaches (order_of problem.now input) best place
+        → Reaches (order_of problem.now input) result place }
+    ensures reached { (place k : ℕ) → IsPossible problem.now (assigned problem.now fixed.now) input place
+        → from ≤ k → k < length pairs.now
+        → slice_index_or pairs.now k (0, 0) ≡ ((input_at problem.now input).scope, place)
+        → Reaches (order_of problem.now input) result place }
+{
+    let inputs = problem.inputs();
+    let scope = inputs[input].scope();
+    let after = inputs[input].after();
+    for k in from..pairs.len() {
+        let (at, place) = pairs[k];
+        if at != scope || !is_better(after, place, best) {
+            return best;
+        }
+        if is_possible(problem, fixed, input, place) {
+            return Some(place);
+        }
+    }
+    best
+}
+
+/// The best of `best` and the possible places among a build's pairs before position `to`, which lie up to the place that
+/// is kept. It goes down from there, and ends at the first place that is possible, or not preferred to `best`.
+fn best_below(
+    problem: &Problem,
+    fixed: &Fixed,
+    input: usize,
+    pairs: &[(u32, u32)],
+    to: usize,
+    best: Option<u32>,
+) -> Option<u32>
+    requires input { input < length problem.now.inputs }
+    requires ascending { AreAscending pairs.now }
+    requires within { to ≤ length pairs.now }
+    requires below { (k : ℕ) → k < to
+        → is_up_to (input_at problem.now input).after (input_at problem.now input).scope
+        (slice_index_or pairs.now k (0, 0)) ≡ true }
+    requires possible { IfSome best (IsPossible problem.now (assigned problem.now fixed.now) input) }
+    ensures possible { IfSome result (IsPossible problem.now (assigned problem.now fixed.now) input) }
+    ensures kept { (place : ℕ) → Reaches (order_of problem.now input) best place
+        → Reaches (order_of problem.now input) result place }
+    ensures reached { (place k : ℕ) → IsPossible problem.now (assigned problem.now fixed.now) input place
+        → k < to → slice_index_or pairs.now k (0, 0) ≡ ((input_at problem.now input).scope, place)
+        → Reaches (order_of problem.now input) result place }
+{
+    let inputs = problem.inputs();
+    let scope = inputs[input].scope();
+    let after = inputs[input].after();
+    for k in (0..to).rev() {
+        let (at, place) = pairs[k];
+        if at != scope || !is_better(after, place, best) {
+            return best;
+        }
+        if is_possible(problem, fixed, input, place) {
+            return Some(place);
+        }
+    }
+    best
+}
+
+/// The best of `best` and the possible places among a build's pairs, looked at in the order in which they are preferred.
 fn best_in(
     problem: &Problem,
     fixed: &Fixed,
@@ -130,35 +223,43 @@ fn best_in(
     requires ascending { AreAscending pairs.now }
     requires possible { IfSome best (IsPossible problem.now (assigned problem.now fixed.now) input) }
     ensures possible { IfSome result (IsPossible problem.now (assigned problem.now fixed.now) input) }
-    ensures kept { (place : ℕ) → Reaches best place → Reaches result place }
+    ensures kept { (place : ℕ) → Reaches (order_of problem.now input) best place
+        → Reaches (order_of problem.now input) result place }
     ensures reached { (place : ℕ) → IsPossible problem.now (assigned problem.now fixed.now) input place
-        → Contains pairs.now ((input_at problem.now input).scope, place) → Reaches result place }
+        → Contains pairs.now ((input_at problem.now input).scope, place)
+        → Reaches (order_of problem.now input) result place }
 {
-    let scope = problem.inputs()[input].scope();
-    let end = pairs.partition_point(|q| q.0 <= scope);
-    for k in (0..end).rev() {
-        let (at, place) = pairs[k];
-        if at != scope || !is_better(place, best) {
-            return best;
-        }
-        if is_possible(problem, fixed, input, place) {
-            return Some(place);
-        }
-    }
-    best
+    let inputs = problem.inputs();
+    let middle = up_to(inputs[input].after(), pairs, inputs[input].scope());
+    let above = best_above(problem, fixed, input, pairs, middle, best);
+    best_below(problem, fixed, input, pairs, middle, above)
 }
 
-/// Whether the best so far is the greatest allowed place.
-fn is_last(best: Option<u32>, places: &[u32]) -> bool
-    ensures { IsTrue result ↔ ((x : ℕ) × (best ≡ Some x) × (slice_get places.now (length places.now - 1) ≡ Some x)) }
+/// The most preferred of places that ascend: the first above the one that is kept, else the last.
+fn top_place(after: Option<u32>, places: &[u32]) -> Option<u32>
+    requires { AreRising places.now }
+    ensures { MatchOption result (places.now ≡ []) (IsMostPreferred (prefers_after after) places.now) }
 {
-    let Some(place) = best else {
-        return false;
-    };
-    match places.last() {
-        Some(last) => *last == place,
-        None => false,
+    match after {
+        None => places.last().copied(),
+        Some(kept) => {
+            let above = places.partition_point(|p| *p <= kept);
+            match places.get(above) {
+                Some(first) => Some(*first),
+                None => places.last().copied(),
+            }
+        }
     }
+}
+
+/// The most preferred allowed place of input `input`.
+fn top_allowed(problem: &Problem, input: usize) -> Option<u32>
+    requires { input < length problem.now.inputs }
+    ensures { MatchOption result ((input_at problem.now input).places ≡ [])
+        (IsMostPreferred (order_of problem.now input) (input_at problem.now input).places) }
+{
+    let inputs = problem.inputs();
+    top_place(inputs[input].after(), inputs[input].places())
 }
 
 /// The best possible place of input `input`, where each possible one has passed with one of these builds.
@@ -169,24 +270,24 @@ fn best_among(problem: &Problem, fixed: &Fixed, input: usize, builds: &[Build]) 
     requires ascending { All (λ b. AreAscending b.pairs) builds.now }
     ensures { IsBestPossible (order_of problem.now) problem.now (assigned problem.now fixed.now) input result }
 {
-    let places = problem.inputs()[input].places();
+    let top = top_allowed(problem, input);
     let mut best = None;
     for build in builds {
         best = best_in(problem, fixed, input, build.pairs(), best);
-        if is_last(best, places) {
+        if best == top {
             return best;
         }
     }
     best
 }
 
-/// The greatest allowed place of input `input`, which names no job.
-fn last_place(problem: &Problem, fixed: &Fixed, input: usize) -> Option<u32>
+/// The best possible place of input `input`, which names no job: the most preferred allowed one.
+fn best_allowed(problem: &Problem, fixed: &Fixed, input: usize) -> Option<u32>
     requires input { input < length problem.now.inputs }
     requires free { (input_at problem.now input).jobs ≡ [] }
     ensures { IsBestPossible (order_of problem.now) problem.now (assigned problem.now fixed.now) input result }
 {
-    problem.inputs()[input].places().last().copied()
+    top_allowed(problem, input)
 }
 
 /// The best possible place of input `input`, or None where it has none.
@@ -196,7 +297,7 @@ pub fn best_possible(problem: &Problem, fixed: &Fixed, input: usize) -> Option<u
 {
     match sources(problem, fixed, input) {
         Some(builds) => best_among(problem, fixed, input, builds),
-        None => last_place(problem, fixed, input),
+        None => best_allowed(problem, fixed, input),
     }
 }
 
@@ -209,7 +310,7 @@ pub fn is_bounded(problem: &Problem, fixed: &Fixed, bound: &[u32]) -> bool
     for i in 0..both {
         let best = best_possible(problem, fixed, i).unwrap_or(0);
         if best != bound[i] {
-            return best < bound[i];
+            return !is_preferred(problem.after(i), best, bound[i]);
         }
     }
     true

@@ -11,12 +11,14 @@ pub const MOST_PLACES: u32 = 100_000;
 /// The greatest number of a build, and how many builds a job has at the most; numbers begin at 1.
 pub const MOST_BUILDS: u32 = 1_000_000;
 
-/// An input of a job: its scope, its allowed places and the jobs that its version must have passed.
+/// An input of a job: its scope, its allowed places, the jobs that its version must have passed, and for an input that
+/// takes every version the place that the newest build which used it had.
 #[derive(Drop)]
 pub struct Input {
     scope: u32,
     places: Vec<u32>,
     jobs: Vec<u32>,
+    after: Option<u32>,
 }
 
 impl Model for Input {
@@ -24,7 +26,7 @@ impl Model for Input {
 
     ghost Value = { InputValue };
 
-    ghost view = { λ a. record { scope = a.scope; places = a.places.items; jobs = a.jobs.items } };
+    ghost view = { λ a. record { scope = a.scope; places = a.places.items; jobs = a.jobs.items; after = a.after } };
 }
 
 /// A successful build of a job, with the pairs of scope and place that passed the job with it.
@@ -60,8 +62,8 @@ impl Model for JobBuilds {
 /// The inputs of a job in plan order, and for each named job its successful builds, newest first.
 ///
 /// Every problem keeps the rules of its text (`specs/Problem.antt`): at most 32 inputs and 32 named jobs; scopes and
-/// jobs numbered in order of first mention; places from 1 to 100,000 and pairs strictly ascending; build numbers from 1
-/// to 1,000,000 strictly descending.
+/// jobs numbered in order of first mention; places from 1 to 100,000, allowed ones and pairs strictly ascending; build
+/// numbers from 1 to 1,000,000 strictly descending.
 #[derive(Drop)]
 pub struct Problem {
     inputs: Vec<Input>,
@@ -83,13 +85,14 @@ ghost use Rattle.ccr_choice.specs.Problem.{are_builds, builds_at, input_at, scop
 
 impl Input {
     /// An input of these parts.
-    pub fn new(scope: u32, jobs: Vec<u32>, places: Vec<u32>) -> Self
-        ensures { result ≡ record { scope = scope; places = places.items; jobs = jobs.items } }
+    pub fn new(scope: u32, jobs: Vec<u32>, after: Option<u32>, places: Vec<u32>) -> Self
+        ensures { result ≡ record { scope = scope; places = places.items; jobs = jobs.items; after = after } }
     {
         Input {
             scope,
             places,
             jobs,
+            after,
         }
     }
 
@@ -112,6 +115,14 @@ impl Input {
         ensures { result.now ≡ self.now.jobs }
     {
         &self.jobs
+    }
+
+    /// The place that is kept of the newest build which used this input in this scope, from 1; it needn't be allowed
+    /// (Concourse: get step, `version: every`). None where no such build was made, and for every other input.
+    pub fn after(&self) -> Option<u32>
+        ensures { result ≡ self.now.after }
+    {
+        self.after
     }
 }
 
@@ -188,6 +199,16 @@ impl Problem {
         ensures below { EachIndex result.now (λ k. slice_index result.now k < length self.now.jobs) }
     {
         self.inputs()[input].jobs()
+    }
+
+    /// The place that is kept for input `input`. None where none is, or where there is no such input.
+    pub fn after(&self, input: usize) -> Option<u32>
+        ensures { result ≡ (input_at self.now input).after }
+    {
+        match self.inputs().get(input) {
+            Some(found) => found.after(),
+            None => None,
+        }
     }
 
     /// The successful builds of named job `job`, newest first.

@@ -1,19 +1,17 @@
 //! Reading a problem from its text, from the first line to the last.
 
-ghost use Rattle.std.specs.Prelude.{◌≡◌, ◌+◌, ◌≤◌, Some, length, IfOk};
+ghost use Rattle.std.specs.Prelude.{◌≡◌, ◌+◌, ◌≤◌, ◌==◌, Some, length, IfOk};
 ghost use Rattle.std.specs.Option.{option_map};
 ghost use Rattle.ccr_choice.specs.Problem.{ProblemValue, IsProblem, used_after, scopes_after, jobs_after};
 ghost use Rattle.ccr_choice.specs.Reading.{one_line, Gives};
-ghost use Rattle.ccr_choice.specs.ProblemText.{input_on, pairs_on, build_on, next_input, next_build, next_inputs, next_builds, next_job, next_jobs, problem_head, input_count, job_count, build_count, next_problem, problem_in, problem_text, IsRead, IsReadAs, NothingFollows};
+ghost use Rattle.ccr_choice.specs.ProblemText.{format_of, after_on, input_on, pairs_on, build_on, next_input, next_build, next_inputs, next_builds, next_job, next_jobs, problem_head, input_count, job_count, build_count, next_problem, problem_in, problem_text, IsRead, IsReadAs, NothingFollows};
 
 use crate::fault::ProblemFault;
+use crate::format::{AFTER_FORMAT, PLAIN_FORMAT, format_of};
 use crate::problem::{Build, Input, JobBuilds, MOST_BUILDS, MOST_INPUTS, Problem};
 use crate::rules::{is_build, jobs_after_input, next_used};
 use crate::text::{Line, Lines, Stop, Word, front_numbers};
 use std::alloc::{AllocError, Global};
-
-/// The version of the format.
-pub(crate) const PROBLEM_FORMAT: u32 = 1;
 
 /// The next line, which must be there.
 fn next_line(alloc: Global, lines: &mut Lines<'_>) -> Result<Line, Stop>
@@ -32,6 +30,17 @@ fn bad_line(lines: &Lines<'_>) -> Stop
     Stop::Left(lines.count() + 1)
 }
 
+/// The place that is kept, if the words begin with it, and the words after it.
+fn after_on(words: &[Word]) -> (Option<u32>, &[Word])
+    ensures kept { result.0 ≡ (after_on words.now).0 }
+    ensures behind { result.1.now ≡ (after_on words.now).1 }
+{
+    match words {
+        [Word::After, Word::Number(kept), rest @ ..] => (Some(*kept), rest),
+        _ => (None, words),
+    }
+}
+
 #[tactic(auto, unfolding(crate::specs::ProblemText::input_on))]
 fn input_on(alloc: Global, words: &[Word]) -> Result<Option<Input>, AllocError>
     ensures { IfOk result (λ o. o ≡ input_on words.now) }
@@ -40,6 +49,7 @@ fn input_on(alloc: Global, words: &[Word]) -> Result<Option<Input>, AllocError>
         return Ok(None);
     };
     let (jobs, rest) = front_numbers(alloc, rest)?;
+    let (after, rest) = after_on(rest);
     let [Word::Places, rest @ ..] = rest else {
         return Ok(None);
     };
@@ -47,7 +57,7 @@ fn input_on(alloc: Global, words: &[Word]) -> Result<Option<Input>, AllocError>
     if !rest.is_empty() {
         return Ok(None);
     }
-    Ok(Some(Input::new(*scope, jobs, places)))
+    Ok(Some(Input::new(*scope, jobs, after, places)))
 }
 
 fn pairs_on(alloc: Global, words: &[Word]) -> Result<Option<Vec<(u32, u32)>>, AllocError>
@@ -82,17 +92,21 @@ fn build_on(alloc: Global, words: &[Word]) -> Result<Option<Build>, AllocError>
 #[tactic(auto, unfolding(crate::specs::ProblemText::next_input))]
 fn next_input(
     alloc: Global,
+    format: u32,
     scopes: u32,
     jobs: u32,
     lines: &mut Lines<'_>,
 ) -> Result<(Input, u32), Stop>
-    ensures read { Gives (λ x. (x.0, lines.new)) result (next_input (scopes, jobs) lines.old) }
+    ensures read { Gives (λ x. (x.0, lines.new)) result (next_input format (scopes, jobs) lines.old) }
     ensures counted { IfOk result (λ x. x.1 ≡ used_after jobs x.0.jobs) }
 {
     let line = next_line(alloc, lines)?;
     let Some(input) = input_on(alloc, line.words())? else {
         return Err(bad_line(lines));
     };
+    if format != AFTER_FORMAT && input.after().is_some() {
+        return Err(bad_line(lines));
+    }
     let Some(jobs) = jobs_after_input(scopes, jobs, &input) else {
         return Err(bad_line(lines));
     };
@@ -113,33 +127,42 @@ fn next_build(alloc: Global, scopes: u32, high: u32, lines: &mut Lines<'_>) -> R
     Ok(build)
 }
 
-/// The inputs, with how many scopes and jobs they mention.
+/// The inputs, with how many scopes and jobs they mention, and whether the format that was announced is theirs.
 #[derive(Drop)]
 struct Inputs {
     inputs: Vec<Input>,
     scopes: u32,
     jobs: u32,
+    written: bool,
 }
 
-fn next_inputs(alloc: Global, count: u32, lines: &mut Lines<'_>) -> Result<Inputs, Stop>
+fn next_inputs(
+    alloc: Global,
+    format: u32,
+    count: u32,
+    lines: &mut Lines<'_>,
+) -> Result<Inputs, Stop>
     requires { count ≤ MOST_INPUTS }
-    ensures read { Gives (λ x. (x.inputs.items, lines.new)) result (next_inputs count lines.old) }
+    ensures read { Gives (λ x. (x.inputs.items, lines.new)) result (next_inputs format count lines.old) }
     ensures scopes { IfOk result (λ x. x.scopes ≡ scopes_after 0 x.inputs.items) }
     ensures jobs { IfOk result (λ x. x.jobs ≡ jobs_after 0 x.inputs.items) }
+    ensures written { IfOk result (λ x. x.written ≡ (format == format_of x.inputs.items)) }
 {
     let mut inputs = Vec::new(alloc);
     let mut scopes: u32 = 0;
     let mut jobs: u32 = 0;
     for _ in 0..count {
-        let (input, after) = next_input(alloc, scopes, jobs, lines)?;
+        let (input, after) = next_input(alloc, format, scopes, jobs, lines)?;
         jobs = after;
         scopes = next_used(scopes, input.scope());
         inputs.push(input)?;
     }
+    let written = format == format_of(&inputs);
     Ok(Inputs {
         inputs,
         scopes,
         jobs,
+        written,
     })
 }
 
@@ -186,13 +209,13 @@ fn next_jobs(
     Ok(jobs)
 }
 
-/// The line `problem 1`.
+/// The line `problem 1` or `problem 2`.
 fn head(alloc: Global, lines: &mut Lines<'_>) -> Result<u32, Stop>
     ensures { Gives (λ x. (x, lines.new)) result (one_line problem_head lines.old) }
 {
     let line = next_line(alloc, lines)?;
     match line.words() {
-        [Word::Problem, Word::Number(n)] if *n == PROBLEM_FORMAT => Ok(*n),
+        [Word::Problem, Word::Number(n)] if *n == PLAIN_FORMAT || *n == AFTER_FORMAT => Ok(*n),
         _ => Err(bad_line(lines)),
     }
 }
@@ -209,14 +232,19 @@ fn input_count(alloc: Global, lines: &mut Lines<'_>) -> Result<u32, Stop>
     }
 }
 
-/// The line `jobs M`, where so many jobs were mentioned.
-fn job_count(alloc: Global, mentioned: u32, lines: &mut Lines<'_>) -> Result<u32, Stop>
-    ensures read { Gives (λ x. (x, lines.new)) result (one_line (job_count mentioned) lines.old) }
+/// The line `jobs M`, where so many jobs were mentioned, and the format that was announced is that of the inputs.
+fn job_count(
+    alloc: Global,
+    written: bool,
+    mentioned: u32,
+    lines: &mut Lines<'_>,
+) -> Result<u32, Stop>
+    ensures read { Gives (λ x. (x, lines.new)) result (one_line (job_count written mentioned) lines.old) }
     ensures same { IfOk result (λ x. x ≡ mentioned) }
 {
     let line = next_line(alloc, lines)?;
     match line.words() {
-        [Word::Jobs, Word::Number(n)] if *n == mentioned => Ok(*n),
+        [Word::Jobs, Word::Number(n)] if written && *n == mentioned => Ok(*n),
         _ => Err(bad_line(lines)),
     }
 }
@@ -238,10 +266,10 @@ fn next_problem(alloc: Global, lines: &mut Lines<'_>) -> Result<Problem, Stop>
     ensures read { Gives (λ x. (x, lines.new)) result (next_problem lines.old) }
     ensures kept { IfOk result IsProblem }
 {
-    let _head = head(alloc, lines)?;
+    let format = head(alloc, lines)?;
     let count = input_count(alloc, lines)?;
-    let front = next_inputs(alloc, count, lines)?;
-    let count = job_count(alloc, front.jobs, lines)?;
+    let front = next_inputs(alloc, format, count, lines)?;
+    let count = job_count(alloc, front.written, front.jobs, lines)?;
     let jobs = next_jobs(alloc, front.scopes, count, lines)?;
     Ok(Problem::new(front.inputs, jobs))
 }

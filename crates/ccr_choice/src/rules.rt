@@ -1,7 +1,7 @@
 //! The rules of a problem, one value at a time.
 
 ghost use Rattle.std.specs.Prelude.{◌≡◌, ◌<◌, Some, None, if◌then◌else◌};
-ghost use Rattle.ccr_choice.specs.Problem.{next_used, used_after, are_numbered, are_distinct, are_places_after, are_pairs_after, is_input, is_build};
+ghost use Rattle.ccr_choice.specs.Problem.{next_used, used_after, are_numbered, are_distinct, are_places_after, are_pairs_after, is_after, is_input, is_build};
 
 use crate::problem::{Build, Input, MOST_JOBS, MOST_PLACES};
 
@@ -80,6 +80,16 @@ pub(crate) fn are_pairs(scopes: u32, pairs: &[(u32, u32)]) -> bool
     true
 }
 
+/// Whether a place that is kept is one, from 1 to the greatest.
+fn is_after(after: Option<u32>) -> bool
+    ensures { result ≡ is_after after }
+{
+    match after {
+        None => true,
+        Some(kept) => 0 < kept && kept <= MOST_PLACES,
+    }
+}
+
 /// How many jobs are mentioned after an input, if it keeps the rules.
 pub(crate) fn jobs_after_input(scopes: u32, jobs: u32, input: &Input) -> Option<u32>
     ensures { result ≡ (if is_input scopes jobs input.now then Some (used_after jobs input.now.jobs) else None) }
@@ -87,11 +97,11 @@ pub(crate) fn jobs_after_input(scopes: u32, jobs: u32, input: &Input) -> Option<
     if input.scope() > scopes || !are_distinct(input.jobs()) {
         return None;
     }
-    let after = numbered(jobs, input.jobs())?;
-    if !are_places(input.places()) {
+    let mentioned = numbered(jobs, input.jobs())?;
+    if !is_after(input.after()) || !are_places(input.places()) {
         return None;
     }
-    Some(after)
+    Some(mentioned)
 }
 
 /// Whether a build keeps the rules, where the build before it has the number `high`.

@@ -4,12 +4,23 @@ ghost use Rattle.std.specs.Prelude.{◌≡◌, ◌<◌, ◌≤◌, ◌++◌, ◌
 ghost use Rattle.std.specs.List.{flat_map, AllByRecursion};
 ghost use Rattle.ccr_choice.specs.declared.text.word.Word.TheVariants.{Number};
 ghost use Rattle.ccr_choice.specs.Text.{line_text, text_of};
-ghost use Rattle.ccr_choice.specs.ProblemText.{input_line, build_line, job_lines, problem_text, problem_in};
+ghost use Rattle.ccr_choice.specs.ProblemText.{after_words, input_line, build_line, job_lines, problem_text, problem_in};
 
+use crate::format::format_of;
 use crate::problem::{Build, Input, JobBuilds, MOST_BUILDS, Problem};
-use crate::read::PROBLEM_FORMAT;
 use crate::text::{Word, push_numbers, put_line};
 use std::alloc::{AllocError, Global};
+
+/// Adds `after` and the place that is kept, if one is.
+fn push_after(words: &mut Vec<Word>, after: Option<u32>) -> Result<(), AllocError>
+    ensures { OnOk result (words.new.items ≡ words.old.items ++ after_words after) }
+{
+    if let Some(kept) = after {
+        words.push(Word::After)?;
+        words.push(Word::Number(kept))?;
+    }
+    Ok(())
+}
 
 fn input_words(alloc: Global, input: &Input) -> Result<Vec<Word>, AllocError>
     ensures { IfOk result (λ v. v.items ≡ input_line input.now) }
@@ -18,6 +29,7 @@ fn input_words(alloc: Global, input: &Input) -> Result<Vec<Word>, AllocError>
     words.push(Word::Number(input.scope()))?;
     words.push(Word::Jobs)?;
     push_numbers(&mut words, input.jobs())?;
+    push_after(&mut words, input.after())?;
     words.push(Word::Places)?;
     push_numbers(&mut words, input.places())?;
     Ok(words)
@@ -98,7 +110,7 @@ pub fn write_problem(alloc: Global, problem: &Problem) -> Result<String, AllocEr
     let inputs = problem.inputs();
     let jobs = problem.jobs();
     let mut out = String::new(alloc);
-    put_count(&mut out, Word::Problem, PROBLEM_FORMAT)?;
+    put_count(&mut out, Word::Problem, format_of(inputs))?;
     put_count(&mut out, Word::Inputs, inputs.len() as u32)?;
     put_inputs(alloc, &mut out, inputs)?;
     put_count(&mut out, Word::Jobs, jobs.len() as u32)?;

@@ -1,20 +1,35 @@
 -- The command that a command line names.
-use Rattle.std.specs.Prelude.{List, Option, Some, None, option_map, option_and_then, codes, if◌then◌else◌}
+use Rattle.std.specs.Prelude.{ℕ, List, Option, Some, None, option_map, option_and_then, codes, if◌then◌else◌}
 use Rattle.std.specs.Str.{bytes_eq}
 use Rattle.clap.specs.declared.parser.matches.ArgMatches.{ArgMatches}
 use Rattle.clap.specs.Words.{Row, Text, first_of, subcommand_rows_of}
-use Rattle.ccr_lines.specs.Commands.{CommandData, set_pipeline, check_resource, pin_resource, unpin_resource, trigger_job, run, shows}
-use Rattle.ccr_lines.specs.Shown.{versions, problem, proof, builds}
-use Rattle.ccr_command.specs.Numbers.{number_of}
+use Rattle.ccr_lines.specs.Commands.{CommandData, set_pipeline, check_resource, pin_resource, unpin_resource, disable_version, enable_version, trigger_job, run, shows}
+use Rattle.ccr_lines.specs.Shown.{versions, problem, proof, certificate, builds, build, trace, pipeline, resources, jobs}
+use Rattle.ccr_command.specs.Numbers.{number_of, place_of}
 
 -- a pin of a resource, where both its arguments have a value
 abbrev pub pin_named : Option Text → Option Text → Option CommandData
 pin_named (Some resource) (Some pin) = Some (pin_resource resource pin)
 pin_named _ _ = None
 
+-- what is made of a resource and a place, where both arguments have a value and the place is in its range
+abbrev pub place_named : (Text → ℕ → CommandData) → Option Text → Option Text → Option CommandData
+place_named make (Some resource) (Some place) = option_map (make resource) (place_of place)
+place_named make _ _ = None
+
 -- a run of so many rounds, where their number is in its range
 abbrev pub run_named : Option Text → Option CommandData
 run_named rounds = option_map run (option_and_then number_of rounds)
+
+-- a build that is shown, where both its arguments have a value and its number is in its range
+abbrev pub build_named : Option Text → Option Text → Option CommandData
+build_named (Some job) (Some number) = option_map (λ n. shows (build job n)) (number_of number)
+build_named _ _ = None
+
+-- a version whose builds are shown, where both its arguments have a value
+abbrev pub trace_named : Option Text → Option Text → Option CommandData
+trace_named (Some resource) (Some pin) = Some (shows (trace resource pin))
+trace_named _ _ = None
 
 -- the command that a word names, with the first value of each of its arguments; none where there is no such command, or
 -- where a value is absent or out of its range
@@ -26,11 +41,21 @@ command_named word values =
     then option_map (λ resource. shows (versions resource)) (first_of (codes "NAME") values)
     else if bytes_eq word (codes "pin-resource") then pin_named (first_of (codes "NAME") values) (first_of (codes "JSON") values)
     else if bytes_eq word (codes "unpin-resource") then option_map unpin_resource (first_of (codes "NAME") values)
+    else if bytes_eq word (codes "disable-resource-version")
+    then place_named disable_version (first_of (codes "NAME") values) (first_of (codes "PLACE") values)
+    else if bytes_eq word (codes "enable-resource-version")
+    then place_named enable_version (first_of (codes "NAME") values) (first_of (codes "PLACE") values)
     else if bytes_eq word (codes "resolve") then option_map (λ job. shows (proof job)) (first_of (codes "JOB") values)
     else if bytes_eq word (codes "problem") then option_map (λ job. shows (problem job)) (first_of (codes "JOB") values)
     else if bytes_eq word (codes "trigger-job") then option_map trigger_job (first_of (codes "JOB") values)
     else if bytes_eq word (codes "builds") then Some (shows builds)
     else if bytes_eq word (codes "run") then run_named (first_of (codes "rounds") values)
+    else if bytes_eq word (codes "certify") then option_map (λ job. shows (certificate job)) (first_of (codes "JOB") values)
+    else if bytes_eq word (codes "build") then build_named (first_of (codes "JOB") values) (first_of (codes "N") values)
+    else if bytes_eq word (codes "trace") then trace_named (first_of (codes "NAME") values) (first_of (codes "JSON") values)
+    else if bytes_eq word (codes "get-pipeline") then Some (shows pipeline)
+    else if bytes_eq word (codes "resources") then Some (shows resources)
+    else if bytes_eq word (codes "jobs") then Some (shows jobs)
     else None
 
 -- THE COMMAND THAT MATCHES NAME: that of their subcommand and its values

@@ -1,11 +1,15 @@
 -- Numbers as they are typed.
-use Rattle.std.specs.Prelude.{ℕ, List, length, Bool, Option, Some, None, ◌&&◌, nat_lt, nat_le, if◌then◌else◌}
+use Rattle.std.specs.Prelude.{ℕ, List, length, Bool, Option, Some, None, option_and_then, ◌&&◌, nat_lt, nat_le, if◌then◌else◌}
 use Rattle.std.specs.Str.{all_ascii_digits}
 use Rattle.std.specs.Str.Parse.{digits_value, without_leading_plus}
 
 -- the highest number that is taken: of rounds, and as a budget
 abbrev pub MOST : ℕ
 MOST = 1000000
+
+-- the highest place of a version that is taken
+abbrev pub MOST_PLACE : ℕ
+MOST_PLACE = 100000
 
 -- the number, where it is one from 1 to the highest
 abbrev pub in_range : ℕ → Option ℕ
@@ -22,3 +26,7 @@ numeral_of ds = if is_numeral ds then in_range (digits_value 10 ds) else None
 -- THE NUMBER THAT A TEXT WRITES in decimal digits, where a plus may stand first, if it is in the range
 abbrev pub number_of : List ℕ → Option ℕ
 number_of text = numeral_of (without_leading_plus text)
+
+-- THE PLACE THAT A TEXT WRITES: a number so, if it isn't above the highest place
+abbrev pub place_of : List ℕ → Option ℕ
+place_of text = option_and_then (λ n. if nat_le n MOST_PLACE then Some n else None) (number_of text)

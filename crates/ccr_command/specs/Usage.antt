@@ -5,7 +5,7 @@ use Rattle.clap.specs.declared.builder.command.Command.TheViews.{out-Command}
 use Rattle.clap.specs.declared.builder.value_parser.ValueParser.TheVariants.{Signed}
 use Rattle.clap.specs.Words.{App, Rule, Shape, Text, new_rule, shape_of, with_subcommand}
 use Rattle.clap.specs.Simple.{new_shape}
-use Rattle.ccr_command.specs.Numbers.{MOST}
+use Rattle.ccr_command.specs.Numbers.{MOST, MOST_PLACE}
 
 -- ---- arguments
 -- one that has to be there, without a name before it
@@ -28,6 +28,10 @@ optional_rule id default = record (option_rule id) { defaults = default ∷ [] }
 abbrev pub as_number : Rule → Rule
 as_number a = record a { parser = Some (Signed (pos 1) (pos MOST)) }
 
+-- the same, which is a number from 1 to the highest place
+abbrev pub as_place : Rule → Rule
+as_place a = record a { parser = Some (Signed (pos 1) (pos MOST_PLACE)) }
+
 -- ---- commands
 -- a command with these arguments
 abbrev pub command_shape : Text → List Rule → Shape
@@ -45,6 +49,10 @@ resource_commands =
     ∷ command_shape (codes "resource-versions") (value_rule (codes "NAME") ∷ [])
     ∷ command_shape (codes "pin-resource") (value_rule (codes "NAME") ∷ value_rule (codes "JSON") ∷ [])
     ∷ command_shape (codes "unpin-resource") (value_rule (codes "NAME") ∷ [])
+    ∷ command_shape (codes "disable-resource-version")
+    (value_rule (codes "NAME") ∷ as_place (value_rule (codes "PLACE")) ∷ [])
+    ∷ command_shape (codes "enable-resource-version")
+    (value_rule (codes "NAME") ∷ as_place (value_rule (codes "PLACE")) ∷ [])
     ∷ []
 
 -- the commands for jobs and builds
@@ -56,6 +64,22 @@ job_commands =
     ∷ command_shape (codes "abort-build") (value_rule (codes "JOB") ∷ as_number (value_rule (codes "N")) ∷ [])
     ∷ command_shape (codes "builds") []
     ∷ command_shape (codes "run") (as_number (required_rule (codes "rounds")) ∷ [])
+    ∷ []
+
+-- the commands that show the pipeline, and how its resources and jobs stand
+abbrev pub standing_commands : List Shape
+standing_commands =
+    command_shape (codes "get-pipeline") []
+    ∷ command_shape (codes "resources") []
+    ∷ command_shape (codes "jobs") []
+    ∷ []
+
+-- the commands that show what builds took, and what the next one would
+abbrev pub release_commands : List Shape
+release_commands =
+    command_shape (codes "build") (value_rule (codes "JOB") ∷ as_number (value_rule (codes "N")) ∷ [])
+    ∷ command_shape (codes "trace") (value_rule (codes "NAME") ∷ value_rule (codes "JSON") ∷ [])
+    ∷ command_shape (codes "certify") (value_rule (codes "JOB") ∷ [])
     ∷ []
 
 -- ---- the line
@@ -83,4 +107,5 @@ with_all a (s ∷ ss) = with_all (with_subcommand a s) ss
 
 -- THE COMMAND LINE: the options, and then one of the commands
 abbrev pub line : App
-line = with_all (with_all options_line resource_commands) job_commands
+line =
+    with_all (with_all (with_all (with_all options_line resource_commands) job_commands) standing_commands) release_commands

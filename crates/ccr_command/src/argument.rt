@@ -1,7 +1,7 @@
 //! The arguments of a command line.
 ghost use Rattle.std.specs.Prelude.{◌≡◌, false};
 ghost use Rattle.clap.specs.Words.{rule_of};
-ghost use Rattle.ccr_command.specs.Usage.{value_rule, option_rule, required_rule, optional_rule, as_number};
+ghost use Rattle.ccr_command.specs.Usage.{value_rule, option_rule, required_rule, optional_rule, as_number, as_place};
 
 use clap::{Arg, value_parser};
 use std::alloc::Global;
@@ -50,4 +50,12 @@ pub(crate) fn as_number<'a>(argument: Arg<'a>) -> Arg<'a>
     ensures local { result.global ≡ argument.entry.global }
 {
     argument.value_parser(value_parser!(u32).range(1..1_000_001))
+}
+
+/// The same argument, of which the value is a number from 1 to 100,000.
+pub(crate) fn as_place<'a>(argument: Arg<'a>) -> Arg<'a>
+    ensures rule { rule_of result ≡ as_place (rule_of argument.entry) }
+    ensures local { result.global ≡ argument.entry.global }
+{
+    argument.value_parser(value_parser!(u32).range(1..100_001))
 }

@@ -1,10 +1,10 @@
 //! The command that a command line names.
-ghost use Rattle.std.specs.Prelude.{◌≡◌, IfOk, codes, option_map, string_bytes};
+ghost use Rattle.std.specs.Prelude.{◌≡◌, Some, IfOk, codes, option_map, string_bytes};
 ghost use Rattle.clap.specs.Words.{first_of, found_of, rows_of};
-ghost use Rattle.ccr_lines.specs.Commands.{command_data};
-ghost use Rattle.ccr_command.specs.Commands.{pin_named, run_named, command_named, command_in};
+ghost use Rattle.ccr_lines.specs.Commands.{command_data, disable_version, enable_version};
+ghost use Rattle.ccr_command.specs.Commands.{pin_named, place_named, run_named, build_named, trace_named, command_named, command_in};
 
-use crate::number::number_of;
+use crate::number::{number_of, place_of};
 use ccr_lines::Command;
 use clap::ArgMatches;
 use std::alloc::{AllocError, Global};
@@ -33,6 +33,56 @@ fn pin_of(alloc: Global, values: &ArgMatches<'_>) -> Result<Option<Command>, All
     }
 }
 
+/// The command that disables a version at a place as it was typed; None where the place is out of its range.
+fn disabled(resource: String, place: &str) -> Option<Command>
+    ensures { option_map command_data result
+        ≡ place_named disable_version (Some (string_bytes resource)) (Some place.now) }
+{
+    match place_of(place) {
+        Some(place) => Some(Command::DisableResourceVersion(resource, place)),
+        None => None,
+    }
+}
+
+/// The command that disables the version of these values; None where one is absent or out of its range.
+fn disable_of(alloc: Global, values: &ArgMatches<'_>) -> Result<Option<Command>, AllocError>
+    ensures { IfOk result (λ command. option_map command_data command
+        ≡ place_named disable_version (first_of (codes "NAME") (rows_of (found_of values.now)))
+        (first_of (codes "PLACE") (rows_of (found_of values.now)))) }
+{
+    let resource = value_of(alloc, values, "NAME")?;
+    let place = value_of(alloc, values, "PLACE")?;
+    match (resource, place) {
+        (Some(resource), Some(place)) => Ok(disabled(resource, place.as_str())),
+        _ => Ok(None),
+    }
+}
+
+/// The command that enables a version at a place as it was typed; None where the place is out of its range.
+fn enabled(resource: String, place: &str) -> Option<Command>
+    ensures { option_map command_data result
+        ≡ place_named enable_version (Some (string_bytes resource)) (Some place.now) }
+{
+    match place_of(place) {
+        Some(place) => Some(Command::EnableResourceVersion(resource, place)),
+        None => None,
+    }
+}
+
+/// The command that enables the version of these values; None where one is absent or out of its range.
+fn enable_of(alloc: Global, values: &ArgMatches<'_>) -> Result<Option<Command>, AllocError>
+    ensures { IfOk result (λ command. option_map command_data command
+        ≡ place_named enable_version (first_of (codes "NAME") (rows_of (found_of values.now)))
+        (first_of (codes "PLACE") (rows_of (found_of values.now)))) }
+{
+    let resource = value_of(alloc, values, "NAME")?;
+    let place = value_of(alloc, values, "PLACE")?;
+    match (resource, place) {
+        (Some(resource), Some(place)) => Ok(enabled(resource, place.as_str())),
+        _ => Ok(None),
+    }
+}
+
 /// The run of so many rounds; None where their number is absent or out of its range.
 fn run_of(values: &ArgMatches<'_>) -> Option<Command>
     ensures { option_map command_data result ≡ run_named (first_of (codes "rounds") (rows_of (found_of values.now))) }
@@ -43,6 +93,44 @@ fn run_of(values: &ArgMatches<'_>) -> Option<Command>
             None => None,
         },
         None => None,
+    }
+}
+
+/// The build of a job's name and a number as it was typed, which is to be shown; None where the number is out of its range.
+fn numbered(job: String, number: &str) -> Option<Command>
+    ensures { option_map command_data result ≡ build_named (Some (string_bytes job)) (Some number.now) }
+{
+    match number_of(number) {
+        Some(number) => Some(Command::Build(job, number)),
+        None => None,
+    }
+}
+
+/// The build of these values, which is to be shown; None where one is absent or out of its range.
+fn build_of(alloc: Global, values: &ArgMatches<'_>) -> Result<Option<Command>, AllocError>
+    ensures { IfOk result (λ command. option_map command_data command
+        ≡ build_named (first_of (codes "JOB") (rows_of (found_of values.now)))
+        (first_of (codes "N") (rows_of (found_of values.now)))) }
+{
+    let job = value_of(alloc, values, "JOB")?;
+    let number = value_of(alloc, values, "N")?;
+    match (job, number) {
+        (Some(job), Some(number)) => Ok(numbered(job, number.as_str())),
+        _ => Ok(None),
+    }
+}
+
+/// The version of these values, whose builds are to be shown; None where one is absent.
+fn trace_of(alloc: Global, values: &ArgMatches<'_>) -> Result<Option<Command>, AllocError>
+    ensures { IfOk result (λ command. option_map command_data command
+        ≡ trace_named (first_of (codes "NAME") (rows_of (found_of values.now)))
+        (first_of (codes "JSON") (rows_of (found_of values.now)))) }
+{
+    let resource = value_of(alloc, values, "NAME")?;
+    let pin = value_of(alloc, values, "JSON")?;
+    match (resource, pin) {
+        (Some(resource), Some(pin)) => Ok(Some(Command::Trace(resource, pin))),
+        _ => Ok(None),
     }
 }
 
@@ -57,11 +145,19 @@ fn named(alloc: Global, word: &str, values: &ArgMatches<'_>) -> Result<Option<Co
         "resource-versions" => Ok(value_of(alloc, values, "NAME")?.map(Command::ResourceVersions)),
         "pin-resource" => pin_of(alloc, values),
         "unpin-resource" => Ok(value_of(alloc, values, "NAME")?.map(Command::UnpinResource)),
+        "disable-resource-version" => disable_of(alloc, values),
+        "enable-resource-version" => enable_of(alloc, values),
         "resolve" => Ok(value_of(alloc, values, "JOB")?.map(Command::Resolve)),
         "problem" => Ok(value_of(alloc, values, "JOB")?.map(Command::Problem)),
         "trigger-job" => Ok(value_of(alloc, values, "JOB")?.map(Command::TriggerJob)),
         "builds" => Ok(Some(Command::Builds)),
         "run" => Ok(run_of(values)),
+        "certify" => Ok(value_of(alloc, values, "JOB")?.map(Command::Certify)),
+        "build" => build_of(alloc, values),
+        "trace" => trace_of(alloc, values),
+        "get-pipeline" => Ok(Some(Command::GetPipeline)),
+        "resources" => Ok(Some(Command::Resources)),
+        "jobs" => Ok(Some(Command::Jobs)),
         _ => Ok(None),
     }
 }

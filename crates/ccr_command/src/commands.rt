@@ -7,7 +7,12 @@ use clap::Command;
 use std::alloc::{AllocError, Global};
 
 /// A command without arguments, with what it does in a line, and with the rest of its help.
-fn command<'a>(alloc: Global, name: &'a str, about: &'a str, more: &'a str) -> Command<'a>
+pub(crate) fn command<'a>(
+    alloc: Global,
+    name: &'a str,
+    about: &'a str,
+    more: &'a str,
+) -> Command<'a>
     ensures { IsCommand name.now [] result }
 {
     Command::new(alloc, name).about(about).after_help(more)

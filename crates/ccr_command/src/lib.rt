@@ -26,8 +26,10 @@ mod near;
 mod never;
 mod number;
 mod options;
+mod reading;
 mod usage;
 mod vars;
+mod versions;
 
 pub use abort::{AbortRequest, abort_of};
 pub use command::command_of;

@@ -1,9 +1,11 @@
 //! Numbers as they are typed.
 ghost use Rattle.std.specs.Prelude.{◌≡◌};
-ghost use Rattle.ccr_command.specs.Numbers.{in_range, number_of};
+ghost use Rattle.ccr_command.specs.Numbers.{in_range, number_of, place_of};
 
 /// The highest number that is taken: of rounds, and as a budget.
 const MOST: u32 = 1_000_000;
+/// The highest place of a version that is taken.
+const MOST_PLACE: u32 = 100_000;
 
 /// The number, where it is one from 1 to the highest.
 fn in_range(number: u32) -> Option<u32>
@@ -23,5 +25,17 @@ pub(crate) fn number_of(text: &str) -> Option<u32>
     match text.parse::<u32>() {
         Ok(number) => in_range(number),
         Err(_) => None,
+    }
+}
+
+/// The place of a version that a text writes; None where it is no number from 1 to 100,000.
+pub(crate) fn place_of(text: &str) -> Option<u32>
+    ensures { result ≡ place_of text.now }
+{
+    let place = number_of(text)?;
+    if place <= MOST_PLACE {
+        Some(place)
+    } else {
+        None
     }
 }

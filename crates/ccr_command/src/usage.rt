@@ -1,13 +1,15 @@
 //! The command line, with its help.
 ghost use Rattle.std.specs.Prelude.{◌≡◌, IfOk};
 ghost use Rattle.clap.specs.Words.{app_of};
-ghost use Rattle.ccr_command.specs.Usage.{program, options_line, with_all, resource_commands, job_commands, line};
+ghost use Rattle.ccr_command.specs.Usage.{program, options_line, with_all, resource_commands, job_commands, standing_commands, release_commands, line};
 
 use crate::argument::{as_number, optional, required};
 use crate::commands::{
     abort_build, builds, check_resource, pin_resource, problem, resolve, resource_versions, run,
     set_pipeline, trigger_job, unpin_resource,
 };
+use crate::reading::{build, certify, get_pipeline, jobs, resources, trace};
+use crate::versions::{disable_resource_version, enable_resource_version};
 use clap::Command;
 use std::alloc::{AllocError, Global};
 
@@ -81,7 +83,9 @@ fn with_resource_commands<'a>(alloc: Global, line: Command<'a>) -> Result<Comman
     let line = line.subcommand(check_resource(alloc)?)?;
     let line = line.subcommand(resource_versions(alloc)?)?;
     let line = line.subcommand(pin_resource(alloc)?)?;
-    line.subcommand(unpin_resource(alloc)?)
+    let line = line.subcommand(unpin_resource(alloc)?)?;
+    let line = line.subcommand(disable_resource_version(alloc)?)?;
+    line.subcommand(enable_resource_version(alloc)?)
 }
 
 /// The same with the commands for jobs and builds.
@@ -96,8 +100,26 @@ fn with_job_commands<'a>(alloc: Global, line: Command<'a>) -> Result<Command<'a>
     line.subcommand(run(alloc)?)
 }
 
+/// The same with the commands that show the pipeline, and how its resources and jobs stand.
+fn with_standing_commands<'a>(alloc: Global, line: Command<'a>) -> Result<Command<'a>, AllocError>
+    ensures { IfOk result (λ made. app_of made ≡ with_all (app_of line.entry) standing_commands) }
+{
+    let line = line.subcommand(get_pipeline(alloc))?;
+    let line = line.subcommand(resources(alloc))?;
+    line.subcommand(jobs(alloc))
+}
+
+/// The same with the commands that show what builds took, and what the next one would.
+fn with_release_commands<'a>(alloc: Global, line: Command<'a>) -> Result<Command<'a>, AllocError>
+    ensures { IfOk result (λ made. app_of made ≡ with_all (app_of line.entry) release_commands) }
+{
+    let line = line.subcommand(build(alloc)?)?;
+    let line = line.subcommand(trace(alloc)?)?;
+    line.subcommand(certify(alloc)?)
+}
+
 /// The program's command line: `ccr_run --db FILE [--types DIR] [--work DIR] [--budget N] COMMAND`, with the help of the
-/// program and of each of its eleven commands.
+/// program and of each of its nineteen commands.
 ///
 /// The only error is that a growth of memory was refused.
 pub fn command_line<'a>(alloc: Global) -> Result<Command<'a>, AllocError>
@@ -105,5 +127,7 @@ pub fn command_line<'a>(alloc: Global) -> Result<Command<'a>, AllocError>
 {
     let line = with_options(alloc)?;
     let line = with_resource_commands(alloc, line)?;
-    with_job_commands(alloc, line)
+    let line = with_job_commands(alloc, line)?;
+    let line = with_standing_commands(alloc, line)?;
+    with_release_commands(alloc, line)
 }

@@ -4,7 +4,7 @@ use Rattle.ccr_history.specs.Text.{Text}
 use Rattle.ccr_steps.specs.Asks.{AskData, fetch, push, read_config, run_task, aborted}
 use Rattle.ccr_steps.specs.Runs.{HasTurn}
 use Rattle.ccr_core.specs.declared.fault.CoreFault.{CoreFault}
-use Rattle.ccr_core.specs.declared.fault.CoreFault.TheVariants.{NoPipeline, NoJob, NoResource, NoBuild, BuildsOpen, NotWanted, TooManyOpen, TableFull, NoMemory}
+use Rattle.ccr_core.specs.declared.fault.CoreFault.TheVariants.{NoPipeline, NoJob, NoResource, NoBuild, BuildsOpen, NotWanted, TooManyOpen, TableFull, NoMemory, NoVersion}
 use Rattle.ccr_core.specs.declared.reply.Reply.{Reply}
 use Rattle.ccr_core.specs.declared.reply.Reply.TheVariants.{Goes, Ends}
 use Rattle.ccr_core.specs.Aborting.{AbortIsAnswer, AbortMeetsNoBuild}
@@ -41,6 +41,7 @@ module _ (s : State) (job : Text) (number : ℕ) where
   met TooManyOpen m = absurd m
   met TableFull m = absurd (fills_nothing s job number m)
   met NoMemory m = absurd m
+  met NoVersion m = absurd m
 
   meets : (f : CoreFault) → (f ≡ NoBuild) × (running_at job number s.running ≡ None) → Meets s (abort job number) f
   meets f (is, none) = subst (Meets s (abort job number)) (sym is) none
@@ -57,6 +58,7 @@ module _ (s : State) (job : Text) (number : ℕ) where
     to TooManyOpen m = m
     to TableFull m = m
     to NoMemory m = m
+    to NoVersion m = m
 
     from : (f : CoreFault) → Meets s (answer job number turn aborted) f → Meets s (abort job number) f
     from NoPipeline m = m
@@ -71,6 +73,7 @@ module _ (s : State) (job : Text) (number : ℕ) where
     from TooManyOpen m = m
     from TableFull m = m
     from NoMemory m = m
+    from NoVersion m = m
 
     answers_to : (r : Reply) (after : State) → Answers s (answer_to job number None aborted) r after → Answers s (answer_to job number (Some turn) aborted) r after
     answers_to Goes after does = does

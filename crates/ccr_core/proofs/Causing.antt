@@ -10,12 +10,12 @@ use Rattle.ccr_pipeline.specs.JobData.{JobData}
 use Rattle.ccr_steps.specs.Asks.{AnswerData}
 use Rattle.ccr_steps.specs.declared.outcome.Outcome.{Outcome}
 use Rattle.ccr_core.specs.declared.reply.Reply.{Reply}
-use Rattle.ccr_core.specs.declared.reply.Reply.TheVariants.{Set, New, Made, NotNew, Goes, Ends, Pinned, Unpinned, Restarted}
+use Rattle.ccr_core.specs.declared.reply.Reply.TheVariants.{Set, New, Made, NotNew, Goes, Ends, Pinned, Unpinned, Disabled, Enabled, Restarted}
 use Rattle.ccr_problem.specs.ProblemOf.{job_of}
 use Rattle.ccr_core.specs.Addressed.{AnswerTo, addressed}
 use Rattle.ccr_core.specs.Builds.{status_of, history_with, Makes, Takes, cut}
 use Rattle.ccr_core.specs.Choices.{used_at}
-use Rattle.ccr_core.specs.Events.{EventData, set_pipeline, checked, schedule, trigger, pin, unpin, restart}
+use Rattle.ccr_core.specs.Events.{EventData, set_pipeline, checked, schedule, trigger, pin, unpin, disable, enable, restart}
 use Rattle.ccr_core.specs.Fates.{EndsByAnswer, EndsAsMade}
 use Rattle.ccr_core.specs.Own.{own_of}
 use Rattle.ccr_core.specs.Replies.{Replied}
@@ -95,6 +95,8 @@ module _ (before : State) (known : AreKnown before.history.builds before.history
   other (trigger job) r after (j, at, how) ne ends = triggered job j r after at how ends
   other (pin resource p) Pinned after is ne ends = absurd (none_ends before after c (ap (λ y. y.history.builds) is) ends)
   other (unpin resource) Unpinned after is ne ends = absurd (none_ends before after c (ap (λ y. y.history.builds) is) ends)
+  other (disable resource place) Disabled after is ne ends = absurd (none_ends before after c (ap (λ y. y.history.builds) is) ends)
+  other (enable resource place) Enabled after is ne ends = absurd (none_ends before after c (ap (λ y. y.history.builds) is) ends)
   other restart r after does ne ends = absurd (ne refl)
   other e r after does ne ends = absurd does
 

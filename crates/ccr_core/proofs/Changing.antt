@@ -1,6 +1,7 @@
 -- A step has one change.
-use Rattle.std.proofs.Common.{◌≡◌, ◌⊎◌, inl, inr, ℕ, ◌<◌, ◌≤◌, List, [], ◌∷◌, ◌++◌, length, Option, Some, None, IsSomeAnd, Ok, Err, refl, sym, ap, ◌∙◌, subst, arith}
-use Rattle.std.proofs.lemmas.Bool.{cases_lt}
+use Rattle.std.proofs.Common.{◌≡◌, ◌⊎◌, inl, inr, ℕ, zero, suc, ◌<◌, ◌≤◌, Bool, slice_index, List, [], ◌∷◌, ◌++◌, length, Option, Some, None, IsSomeAnd, Ok, Err, refl, sym, ap, ◌∙◌, subst, arith}
+use Rattle.std.proofs.lemmas.Bool.{cases_lt, cases_eq}
+use Rattle.std.proofs.lemmas.List.{same_lists, get_or_default}
 use Rattle.ccr_history.specs.Text.{Text}
 use Rattle.ccr_history.specs.Changes.{EditData, build, ended, changed}
 use Rattle.ccr_history.specs.History.{HistoryData}
@@ -11,11 +12,10 @@ use Rattle.ccr_steps.specs.Asks.{AnswerData}
 use Rattle.ccr_steps.specs.Gains.{GainsData}
 use Rattle.ccr_steps.specs.Progress.{AnswersDecide}
 use Rattle.ccr_steps.specs.declared.outcome.Outcome.{Outcome}
-use Rattle.ccr_choice.specs.Later.{IsLater}
 use Rattle.ccr_choice.specs.Optimal.{IsOptimal}
-use Rattle.ccr_choice.specs.Preference.{plain}
+use Rattle.ccr_choice.specs.Preference.{order_of, IsOrder, IsBetter}
 use Rattle.ccr_choice.specs.Problem.{ProblemValue}
-use Rattle.ccr_choice.proofs.PlainLaws.{later_better}
+use Rattle.ccr_choice.proofs.Orders.{is_order}
 use Rattle.ccr_problem.specs.ProblemOf.{job_of, problem_with}
 use Rattle.ccr_core.specs.declared.reply.Reply.{Reply}
 use Rattle.ccr_core.specs.declared.reply.Reply.TheVariants.{Made, Goes, Ends}
@@ -23,7 +23,7 @@ use Rattle.ccr_core.specs.Addressed.{AnswerTo, addressed}
 use Rattle.ccr_core.specs.Builds.{status_of, begun, history_with, with_answer}
 use Rattle.ccr_core.specs.Choices.{best, Finds, used_at}
 use Rattle.ccr_core.specs.Edits.{news_in, AreEndEdits, AreBuildEdits, AreMoreEdits, AreNextEdits, AreAnswerEdits, AreSaidEdits, AreMadeEdits, AreEditsBy}
-use Rattle.ccr_core.specs.Events.{EventData, set_pipeline, checked, schedule, trigger, pin, unpin, restart}
+use Rattle.ccr_core.specs.Events.{EventData, set_pipeline, checked, schedule, trigger, pin, unpin, disable, enable, restart}
 use Rattle.ccr_core.specs.Kept.{EachChangeIsOne}
 use Rattle.ccr_core.specs.Seen.{report_by, pairs_of}
 use Rattle.ccr_core.specs.State.{RunningData, State, pipeline_of}
@@ -31,31 +31,39 @@ use Rattle.ccr_core.proofs.Answering.{next_one}
 use Rattle.ccr_core.proofs.Owning.{job_at}
 
 -- ---- the places of an optimal choice
--- of two lists as long, of which none is later than the other, both are one
-same_lists : (xs ys : List ℕ) → length xs ≡ length ys → ¬ IsLater xs ys → ¬ IsLater ys xs → xs ≡ ys
-same_lists [] [] len one two = refl
-same_lists [] (y ∷ ys) len one two = absurd (omega (arith, len))
-same_lists (x ∷ xs) [] len one two = absurd (omega (arith, len))
-same_lists (x ∷ xs) (y ∷ ys) len one two =
-    by (cases_lt y x) (cases_lt x y) (λ same. same_lists xs ys (omega (arith, len)) (λ later. one (inr (same, later))) (λ later. two (inr (sym same, later))))
-  where
-    by : (y < x) ⊎ (x ≤ y) → (x < y) ⊎ (y ≤ x) → (x ≡ y → xs ≡ ys) → x ∷ xs ≡ y ∷ ys
-    by (inl less) any rest = absurd (one (inl less))
-    by (inr most) (inl less) rest = absurd (two (inl less))
-    by (inr most) (inr least) rest =
-        let same : x ≡ y = omega (arith, most, least) in
-        ap (λ z. z ∷ xs) same ∙ ap (λ l. y ∷ l) (rest same)
+-- of two lists as long, of which none is better than the other, both are one
+module _ (prefers : ℕ → ℕ → ℕ → Bool) (order : IsOrder prefers) (xs ys : List ℕ) (len : length xs ≡ length ys) (one : ¬ IsBetter prefers xs ys) (two : ¬ IsBetter prefers ys xs) where
+  agree : (n : ℕ) → n ≤ length xs → (k : ℕ) → k < n → slice_index xs k ≡ slice_index ys k
+  agree zero most k less = absurd (omega (arith, less))
+  agree (suc n) most k less = by (cases_lt k n) (agree n (omega (arith, most)))
+    where
+      last : ((m : ℕ) → m < n → slice_index xs m ≡ slice_index ys m) → slice_index xs n ≡ slice_index ys n
+      last before = elim (cases_eq (slice_index xs n) (slice_index ys n)) [
+        | inl same ↦ same
+        | inr differs ↦ elim (order.total n (slice_index xs n) (slice_index ys n) differs) [
+          | inl first ↦ absurd (one (record { first = n; within = omega (arith, most); reached = omega (arith, most, len); same_before = before; preferred = first }))
+          | inr first ↦ absurd (two (record { first = n; within = omega (arith, most, len); reached = omega (arith, most); same_before = λ m lt. sym (before m lt); preferred = first }))
+        ]
+      ]
 
-one_optimal : (p : ProblemValue) (xs ys builds others : List ℕ) → IsOptimal plain p xs builds → IsOptimal plain p ys others → xs ≡ ys
+      by : (k < n) ⊎ (n ≤ k) → ((m : ℕ) → m < n → slice_index xs m ≡ slice_index ys m) → slice_index xs k ≡ slice_index ys k
+      by (inl lt) before = before k lt
+      by (inr le) before = let at : k ≡ n = omega (arith, le, less) in subst (λ m. slice_index xs m ≡ slice_index ys m) (sym at) (last before)
+
+  one_list : xs ≡ ys
+  one_list = same_lists xs ys len (λ k d within.
+      get_or_default xs k d 0 within ∙ agree (length xs) (omega arith) k within ∙ sym (get_or_default ys k d 0 (omega (arith, within, len))))
+
+one_optimal : (p : ProblemValue) (xs ys builds others : List ℕ) → IsOptimal (order_of p) p xs builds → IsOptimal (order_of p) p ys others → xs ≡ ys
 one_optimal p xs ys builds others x y =
-    same_lists xs ys (x.satisfies.lengths.place_each ∙ sym y.satisfies.lengths.place_each)
-    (λ later. y.none_better xs builds x.satisfies (later_better xs ys later)) (λ later. x.none_better ys others y.satisfies (later_better ys xs later))
+    one_list (order_of p) (is_order p) xs ys (x.satisfies.lengths.place_each ∙ sym y.satisfies.lengths.place_each)
+    (λ better. y.none_better xs builds x.satisfies better) (λ better. x.none_better ys others y.satisfies better)
 
 one_best : (s : State) (j : JobData) (xs ys : List ℕ) → job_of j.name (pipeline_of s).jobs ≡ Some j → Finds s j.name (best xs) → Finds s j.name (best ys) → xs ≡ ys
 one_best s j xs ys at (p, is, (builds, x)) (q, iq, (others, y)) =
-    let first : p ≡ problem_with (pipeline_of s) s.history (inputs j.plan) = subst (λ o. IsSomeAnd o (λ i. p ≡ problem_with (pipeline_of s) s.history (inputs i.plan))) at is in
-    let second : q ≡ problem_with (pipeline_of s) s.history (inputs j.plan) = subst (λ o. IsSomeAnd o (λ i. q ≡ problem_with (pipeline_of s) s.history (inputs i.plan))) at iq in
-    one_optimal p xs ys builds others x (subst (λ z. IsOptimal plain z ys others) (second ∙ sym first) y)
+    let first : p ≡ problem_with (pipeline_of s) s.history j.name (inputs j.plan) = subst (λ o. IsSomeAnd o (λ i. p ≡ problem_with (pipeline_of s) s.history i.name (inputs i.plan))) at is in
+    let second : q ≡ problem_with (pipeline_of s) s.history j.name (inputs j.plan) = subst (λ o. IsSomeAnd o (λ i. q ≡ problem_with (pipeline_of s) s.history i.name (inputs i.plan))) at iq in
+    one_optimal p xs ys builds others x (subst (λ z. IsOptimal (order_of z) z ys others) (second ∙ sym first) y)
 
 -- ---- ends
 module _ (decide : AnswersDecide) where
@@ -113,6 +121,8 @@ module _ (decide : AnswersDecide) where
   one_by s None (trigger job) r es fs x y = one_made s job r es fs x y
   one_by s None (pin resource p) r es fs x y = x ∙ sym y
   one_by s None (unpin resource) r es fs x y = x ∙ sym y
+  one_by s None (disable resource place) r es fs x y = x ∙ sym y
+  one_by s None (enable resource place) r es fs x y = x ∙ sym y
   one_by s None restart r es fs x y = x ∙ sym y
   one_by s None e r es fs x y = absurd x
 

@@ -1,5 +1,5 @@
 -- What is chosen for a build was seen.
-use Rattle.std.proofs.Common.{◌≡◌, ℕ, zero, suc, ◌+◌, ◌-◌, ◌<◌, ◌≤◌, Bool, true, false, cond, ◌||◌, IsTrue, List, [], ◌∷◌, length, map, filter, get_or, AllPairs, Contains, Option, Some, None, bytes_eq, refl, sym, ap, ◌∙◌, subst, arith}
+use Rattle.std.proofs.Common.{◌≡◌, ℕ, zero, suc, ◌+◌, ◌-◌, ◌<◌, ◌≤◌, Bool, true, false, not, cond, ◌||◌, IsTrue, List, [], ◌∷◌, length, map, filter, get_or, AllPairs, Contains, Option, Some, None, bytes_eq, refl, sym, ap, ◌∙◌, subst, arith}
 use Rattle.std.specs.Prelude.{slice_index, slice_index_or, ◌≢◌}
 use Rattle.std.specs.List.{AllByRecursion, IsDistinct, enumerate_from}
 use Rattle.std.specs.Option.{option_map_or}
@@ -19,8 +19,8 @@ use Rattle.ccr_choice.specs.Problem.{ProblemValue, no_input, input_at}
 use Rattle.ccr_choice.specs.Satisfies.{Satisfies, IsAllowed}
 use Rattle.ccr_steps.specs.Asks.{Chosen, chosen, version_of}
 use Rattle.ccr_steps.specs.Gains.{MovedData}
-use Rattle.ccr_problem.specs.Allowed.{PinsData, meets_all, allowed_places}
-use Rattle.ccr_problem.specs.ProblemOf.{resource_of, scope_of, history_number, pins_of, input_places, used_resources, input_value, problem_with}
+use Rattle.ccr_problem.specs.Allowed.{PinsData, meets_all, places_from, allowed_places}
+use Rattle.ccr_problem.specs.ProblemOf.{resource_of, scope_of, history_number, pins_of, is_disabled_at, input_places, used_resources, input_value, problem_with}
 use Rattle.ccr_core.specs.Choices.{used_at, versions_at}
 use Rattle.ccr_core.specs.Seen.{version_at}
 use Rattle.ccr_core.proofs.Moving.{moved_of, IsGot}
@@ -52,10 +52,11 @@ all_map P f [] h = tt
 all_map P f (x ∷ xs) h = (h.0, all_map P f xs h.1)
 
 -- an allowed place is one of a version
-allowed_is : (pins : PinsData) (vs : List TextMap) (n : ℕ) → Contains (allowed_places pins vs) n → (1 ≤ n) × (n ≤ length vs)
-allowed_is pins vs n (k, lt, is) =
+allowed_is : (pins : PinsData) (disabled : ℕ → Bool) (vs : List TextMap) (n : ℕ) → Contains (allowed_places pins disabled vs) n → (1 ≤ n) × (n ≤ length vs)
+allowed_is pins disabled vs n (k, lt, is) =
     let each = all_map (λ m. (1 ≤ m) × (m < 1 + length vs)) (λ (x : ℕ × TextMap). x.0) (filter (λ x. meets_all pins x.1) (enumerate_from 1 vs)) (all_filter (λ y. (1 ≤ y.0) × (y.0 < 1 + length vs)) (λ x. meets_all pins x.1) (enumerate_from 1 vs) (numbered_up 1 vs)) in
-    let (low, high) = subst (λ m. (1 ≤ m) × (m < 1 + length vs)) is (all_index (λ m. (1 ≤ m) × (m < 1 + length vs)) (allowed_places pins vs) k n each lt) in
+    let left = all_filter (λ m. (1 ≤ m) × (m < 1 + length vs)) (λ m. not (disabled m)) (places_from 1 pins vs) each in
+    let (low, high) = subst (λ m. (1 ≤ m) × (m < 1 + length vs)) is (all_index (λ m. (1 ≤ m) × (m < 1 + length vs)) (allowed_places pins disabled vs) k n left lt) in
     (low, omega (arith, high))
 
 -- the place is one of a version of the input's resource
@@ -72,16 +73,16 @@ ArePlaced p h (i ∷ is) [] = ⊥
 placed_one : (p : PipelineData) (h : HistoryData) (i : InputData) (n : ℕ) → Contains (input_places p h i) n → IsPlaced p h i n
 placed_one p h i n c = by (resource_of i.resource p.resources) refl c
   where
-    by : (o : Option ResourceData) → resource_of i.resource p.resources ≡ o → Contains (option_map_or (λ r. allowed_places (pins_of r h i) (versions_of (scope_of r) h.tables)) o []) n → IsPlaced p h i n
+    by : (o : Option ResourceData) → resource_of i.resource p.resources ≡ o → Contains (option_map_or (λ r. allowed_places (pins_of r h i) (is_disabled_at h (scope_number (scope_of r) h.tables)) (versions_of (scope_of r) h.tables)) o []) n → IsPlaced p h i n
     by None at (k, lt, is) = absurd (omega (arith, lt))
-    by (Some x) at c = let (low, high) = allowed_is (pins_of x h i) (versions_of (scope_of x) h.tables) n c in (x, at, low, high)
+    by (Some x) at c = let (low, high) = allowed_is (pins_of x h i) (is_disabled_at h (scope_number (scope_of x) h.tables)) (versions_of (scope_of x) h.tables) n c in (x, at, low, high)
 
-placed_each : (p : PipelineData) (h : HistoryData) (rs js : List Text) (is : List InputData) (ns : List ℕ) → length ns ≡ length is → ((k : ℕ) → k < length is → Contains (slice_index_or (map (input_value p h rs js) is) k no_input).places (slice_index ns k)) → ArePlaced p h is ns
-placed_each p h rs js [] [] e each = tt
-placed_each p h rs js [] (n ∷ ns) e each = absurd (omega (arith, e))
-placed_each p h rs js (i ∷ is) [] e each = absurd (omega (arith, e))
-placed_each p h rs js (i ∷ is) (n ∷ ns) e each =
-    (placed_one p h i n (each zero (omega arith)), placed_each p h rs js is ns (omega (arith, e)) (λ k lt. each (suc k) (omega (arith, lt))))
+placed_each : (p : PipelineData) (h : HistoryData) (own : Text) (rs js : List Text) (is : List InputData) (ns : List ℕ) → length ns ≡ length is → ((k : ℕ) → k < length is → Contains (slice_index_or (map (input_value p h own rs js) is) k no_input).places (slice_index ns k)) → ArePlaced p h is ns
+placed_each p h own rs js [] [] e each = tt
+placed_each p h own rs js [] (n ∷ ns) e each = absurd (omega (arith, e))
+placed_each p h own rs js (i ∷ is) [] e each = absurd (omega (arith, e))
+placed_each p h own rs js (i ∷ is) (n ∷ ns) e each =
+    (placed_one p h i n (each zero (omega arith)), placed_each p h own rs js is ns (omega (arith, e)) (λ k lt. each (suc k) (omega (arith, lt))))
 
 allowed_at : (q : ProblemValue) (places : List ℕ) (i : ℕ) → IsAllowed q places i → Contains (input_at q i).places (slice_index places i)
 unfolding IsAllowed
@@ -92,10 +93,10 @@ length_map f [] = refl
 length_map f (x ∷ xs) = let e = length_map f xs in omega (arith, e)
 
 -- the places of a choice that satisfies the problem of inputs are theirs
-pub satisfied_placed : (p : PipelineData) (h : HistoryData) (is : List InputData) (places builds : List ℕ) → Satisfies (problem_with p h is) places builds → ArePlaced p h is places
-satisfied_placed p h is places builds s =
-    let e = length_map (input_value p h (used_resources is) _) is in
-    placed_each p h (used_resources is) _ is places (s.lengths.place_each ∙ e) (λ k lt. allowed_at (problem_with p h is) places k (s.allowed k (omega (arith, e, lt))))
+pub satisfied_placed : (p : PipelineData) (h : HistoryData) (own : Text) (is : List InputData) (places builds : List ℕ) → Satisfies (problem_with p h own is) places builds → ArePlaced p h is places
+satisfied_placed p h own is places builds s =
+    let e = length_map (input_value p h own (used_resources is) _) is in
+    placed_each p h own (used_resources is) _ is places (s.lengths.place_each ∙ e) (λ k lt. allowed_at (problem_with p h own is) places k (s.allowed k (omega (arith, e, lt))))
 
 -- ---- versions at places
 has_at : (vs : List TextMap) (k : ℕ) → k < length vs → has_version vs (slice_index_or vs k []) ≡ true

@@ -41,7 +41,7 @@ TurnIs r n = (plan : Tree) (inputs : Chosen) (es : List Exchange) → StandsFor 
 module _ (s : State) (e : EventData) (a : AnswerTo) (said : addressed e ≡ Some a) where
   -- ---- refusals
   pub refuses_none : running_at a.job a.number s.running ≡ None → MayRefuse s e NoBuild
-  refuses_none none = refused_as s e a NoBuild said none (none_before (AnswerMeets s a) 4 (λ _ h. h) (λ _ h. h) (λ _ h. h) (λ lt _. absurd (omega (arith, lt))) (λ lt _. absurd (omega (arith, lt))) (λ lt _. absurd (omega (arith, lt))) (λ lt _. absurd (omega (arith, lt))) (λ lt _. absurd (omega (arith, lt))) (λ lt _. absurd (omega (arith, lt))))
+  refuses_none none = refused_as s e a NoBuild said none (none_before (AnswerMeets s a) 4 (λ _ h. h) (λ _ h. h) (λ _ h. h) (λ _ h. h) (λ lt _. absurd (omega (arith, lt))) (λ lt _. absurd (omega (arith, lt))) (λ lt _. absurd (omega (arith, lt))) (λ lt _. absurd (omega (arith, lt))) (λ lt _. absurd (omega (arith, lt))) (λ lt _. absurd (omega (arith, lt))))
 
   module _ (ns : Names) (rs : List BuildRun) (k : ℕ) (d : BuildRun) (f : Found a.job a.number ns rs s.running k d) where
     there_is : ¬ AnswerMeets s a NoBuild
@@ -49,7 +49,7 @@ module _ (s : State) (e : EventData) (a : AnswerTo) (said : addressed e ≡ Some
 
     pub refuses_turn : (n : ℕ) → TurnIs (run_data (get_or rs k d)) n → IsSomeAnd a.turn (λ turn. n ≡ turn → ⊥) → MayRefuse s e NotWanted
     refuses_turn n has ne =
-        refused_as s e a NotWanted said (by a.turn ne) (none_before (AnswerMeets s a) 6 (λ _ h. h) (λ _ h. h) (λ _ h. h) (λ _. there_is) (λ _ h. h) (λ lt _. absurd (omega (arith, lt))) (λ lt _. absurd (omega (arith, lt))) (λ lt _. absurd (omega (arith, lt))) (λ lt _. absurd (omega (arith, lt))))
+        refused_as s e a NotWanted said (by a.turn ne) (none_before (AnswerMeets s a) 6 (λ _ h. h) (λ _ h. h) (λ _ h. h) (λ _ h. h) (λ _. there_is) (λ _ h. h) (λ lt _. absurd (omega (arith, lt))) (λ lt _. absurd (omega (arith, lt))) (λ lt _. absurd (omega (arith, lt))) (λ lt _. absurd (omega (arith, lt))))
       where
         by : (o : Option ℕ) → IsSomeAnd o (λ turn. n ≡ turn → ⊥) → IsSomeAnd o (HasOtherTurn s a.job a.number)
         by None other = other
@@ -75,14 +75,14 @@ module _ (s : State) (e : EventData) (a : AnswerTo) (said : addressed e ≡ Some
       push_over (asked, resource, v, next, pushed, full) = (f.b, asked, resource, v, f.at, next, pushed, full)
 
       pub refuses_full : PushIsFull (pipeline_of s) s.history f.b.plan f.b.inputs f.b.exchanges a.given → MayRefuse s e TableFull
-      refuses_full full = refused_as s e a TableFull said (push_over full) (none_before (AnswerMeets s a) 8 (λ _ h. h) (λ _ h. h) (λ _ h. h) (λ _. there_is) (λ _ h. h) (λ _. no_other_turn) (λ _ h. h) (λ lt _. absurd (omega (arith, lt))) (λ lt _. absurd (omega (arith, lt))))
+      refuses_full full = refused_as s e a TableFull said (push_over full) (none_before (AnswerMeets s a) 8 (λ _ h. h) (λ _ h. h) (λ _ h. h) (λ _ h. h) (λ _. there_is) (λ _ h. h) (λ _. no_other_turn) (λ _ h. h) (λ lt _. absurd (omega (arith, lt))) (λ lt _. absurd (omega (arith, lt))))
 
       pub refuses_so : (g : CoreFault) → (g ≡ NoMemory) ⊎ ((g ≡ TableFull) × PushIsFull (pipeline_of s) s.history f.b.plan f.b.inputs f.b.exchanges a.given) → MayRefuse s e g
       refuses_so g (inl is) = inl is
       refuses_so g (inr (is, full)) = subst (MayRefuse s e) (sym is) (refuses_full full)
 
       free : (PushIsFull (pipeline_of s) s.history f.b.plan f.b.inputs f.b.exchanges a.given → ⊥) → (g : CoreFault) → ¬ AnswerMeets s a g
-      free room = none_met (AnswerMeets s a) (λ h. h) (λ h. h) (λ h. h) there_is (λ h. h) no_other_turn (λ h. h) (λ over. room (push_full over)) (λ h. h)
+      free room = none_met (AnswerMeets s a) (λ h. h) (λ h. h) (λ h. h) (λ h. h) there_is (λ h. h) no_other_turn (λ h. h) (λ over. room (push_full over)) (λ h. h)
 
       -- ---- answers
       module _ (pl : Option PipelineData) (budget : ℕ) where

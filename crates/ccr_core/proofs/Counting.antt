@@ -6,7 +6,7 @@ use Rattle.std.proofs.lemmas.Slice.Eq.{bytes_eq-Decides}
 use Rattle.ccr_history.specs.declared.build.Status.{Status}
 use Rattle.ccr_history.specs.Text.{Text}
 use Rattle.ccr_history.specs.Builds.{UsedData, BuildData, is_of, is_build_of, count_of, new_build, ended as ended_build, with_build, with_end}
-use Rattle.ccr_history.specs.Changes.{EditData, text, versions, build, ended, pin_set, pin_cleared, edited, changed}
+use Rattle.ccr_history.specs.Changes.{EditData, text, versions, build, ended, pin_set, pin_cleared, disabled, enabled, edited, changed}
 use Rattle.ccr_history.specs.History.{HistoryData}
 use Rattle.ccr_core.specs.State.{RunningData, is_run_of, running_at}
 use Rattle.ccr_core.proofs.RunningLists.{id_same}
@@ -49,6 +49,8 @@ count_edited j (build job used) h =
 count_edited j (ended job n st mv) h = let e = count_end j job n st mv h.builds in omega (arith, e)
 count_edited j (pin_set resource p) h = omega arith
 count_edited j (pin_cleared resource) h = omega arith
+count_edited j (disabled scope place) h = omega arith
+count_edited j (enabled scope place) h = omega arith
 
 pub count_changed : (j : Text) (es : List EditData) (h : HistoryData) → count_of j h.builds ≤ count_of j (changed es h).builds
 count_changed j [] h = omega arith

@@ -36,13 +36,13 @@ module _ (c : CoreData) where
   none_stands (n ∷ ns) bs are = absurd are
 
   pub builds_open : (p : PipelineData) → (c.runs ≢ []) → Takes c c (set_pipeline p) (Err BuildsOpen)
-  builds_open p some = refuses c (set_pipeline p) BuildsOpen (λ s st. inr ((λ none. some (none_left c.names c.runs (subst (AreRuns c.names c.runs) none st.3))), none_before (Meets s (set_pipeline p)) 5 (λ _ h. h) (λ _ h. h) (λ _ h. h) (λ _ h. h) (λ lt _. absurd (omega (arith, lt))) (λ lt _. absurd (omega (arith, lt))) (λ lt _. absurd (omega (arith, lt))) (λ lt _. absurd (omega (arith, lt))) (λ lt _. absurd (omega (arith, lt)))))
+  builds_open p some = refuses c (set_pipeline p) BuildsOpen (λ s st. inr ((λ none. some (none_left c.names c.runs (subst (AreRuns c.names c.runs) none st.3))), none_before (Meets s (set_pipeline p)) 5 (λ _ h. h) (λ _ h. h) (λ _ h. h) (λ _ h. h) (λ _ h. h) (λ lt _. absurd (omega (arith, lt))) (λ lt _. absurd (omega (arith, lt))) (λ lt _. absurd (omega (arith, lt))) (λ lt _. absurd (omega (arith, lt))) (λ lt _. absurd (omega (arith, lt)))))
 
   pub piped_so : (p : PipelineData) (g : HistoryData) → c.runs ≡ [] → g ≡ edited (text p.text) c.history → Takes c (record { history = g; pipeline = Some p; budget = c.budget; names = c.names; runs = c.runs }) (set_pipeline p) (Ok Set)
   piped_so p g none is s st =
       let idle : s.running ≡ [] = none_stands c.names s.running (subst (λ rs. AreRuns c.names rs s.running) none st.3) in (
         with_pipeline s p,
-        (none_met (Meets s (set_pipeline p)) (λ h. h) (λ h. h) (λ h. h) (λ h. h) (λ some. some idle) (λ h. h) (λ h. h) (λ h. h) (λ h. h), refl),
+        (none_met (Meets s (set_pipeline p)) (λ h. h) (λ h. h) (λ h. h) (λ h. h) (λ h. h) (λ some. some idle) (λ h. h) (λ h. h) (λ h. h) (λ h. h), refl),
         (is ∙ ap (edited (text p.text)) st.0, refl, st.2, st.3),
       )
 
@@ -64,7 +64,7 @@ module _ (c : CoreData) where
   pub restarted_so : (g : HistoryData) (ms : List (Text × ℕ)) (rs : List RunData) → g ≡ changed (map cut_name c.names) c.history → ms ≡ [] → rs ≡ [] → Takes c (record { history = g; pipeline = c.pipeline; budget = c.budget; names = ms; runs = rs }) restart (Ok Restarted)
   restarted_so g ms rs is none left s st = (
     moved_on s (changed (map cut s.running) s.history) [],
-    (none_met (Meets s restart) (λ h. h) (λ h. h) (λ h. h) (λ h. h) (λ h. h) (λ h. h) (λ h. h) (λ h. h) (λ h. h), refl),
+    (none_met (Meets s restart) (λ h. h) (λ h. h) (λ h. h) (λ h. h) (λ h. h) (λ h. h) (λ h. h) (λ h. h) (λ h. h) (λ h. h), refl),
     (
       is ∙ ap (changed (map cut_name c.names)) st.0 ∙ ap (λ es. changed es s.history) (sym (cuts_of s st)),
       st.1,

@@ -20,12 +20,12 @@ use Rattle.ccr_steps.specs.declared.outcome.Outcome.TheVariants as outcome
 use Rattle.ccr_core.specs.declared.fault.CoreFault.{CoreFault}
 use Rattle.ccr_core.specs.declared.fault.CoreFault.TheVariants.{TableFull}
 use Rattle.ccr_core.specs.declared.reply.Reply.{Reply}
-use Rattle.ccr_core.specs.declared.reply.Reply.TheVariants.{Set, New, Made, NotNew, Goes, Ends, Pinned, Unpinned, Restarted}
+use Rattle.ccr_core.specs.declared.reply.Reply.TheVariants.{Set, New, Made, NotNew, Goes, Ends, Pinned, Unpinned, Disabled, Enabled, Restarted}
 use Rattle.ccr_problem.specs.ProblemOf.{job_of}
 use Rattle.ccr_core.specs.Builds.{status_of, Settles, begun, history_with, with_made, Makes, with_answer, Takes, cut}
 use Rattle.ccr_core.specs.Choices.{best, Finds, used_at}
 use Rattle.ccr_core.specs.Addressed.{AnswerTo, addressed}
-use Rattle.ccr_core.specs.Events.{EventData, set_pipeline, checked, schedule, trigger, pin, unpin, restart}
+use Rattle.ccr_core.specs.Events.{EventData, set_pipeline, checked, schedule, trigger, pin, unpin, disable, enable, restart}
 use Rattle.ccr_core.specs.Faults.{MeetsBy}
 use Rattle.ccr_core.specs.Own.{said_to, own, own_of}
 use Rattle.ccr_core.specs.Kept.{IsEvent, IsStart}
@@ -263,6 +263,8 @@ module _ (s before : State) (es : List EventData) (rs : List Replied) (start : I
   ends_other (trigger job) r after free (j, at, how) ne c ends = ends_triggered job j r after at (free TableFull) how c ends
   ends_other (pin resource p) Pinned after free is ne c ends = absurd (none_ends before after c (ap (λ y. y.history.builds) is) ends)
   ends_other (unpin resource) Unpinned after free is ne c ends = absurd (none_ends before after c (ap (λ y. y.history.builds) is) ends)
+  ends_other (disable resource place) Disabled after free is ne c ends = absurd (none_ends before after c (ap (λ y. y.history.builds) is) ends)
+  ends_other (enable resource place) Enabled after free is ne c ends = absurd (none_ends before after c (ap (λ y. y.history.builds) is) ends)
   ends_other restart r after free does ne c ends = absurd (ne refl)
   ends_other e r after free does ne c ends = absurd does
 

@@ -14,7 +14,7 @@ use Rattle.ccr_pipeline.specs.JobData.{JobData}
 use Rattle.ccr_pipeline.specs.Pipelines.{PipelineData}
 use Rattle.ccr_choice.specs.Problem.{BuildValue}
 use Rattle.ccr_index.specs.Index.{IndexValue}
-use Rattle.ccr_problem.specs.Follows.{MadeLeaves, UnsuccessfulEndLeaves, has_newer}
+use Rattle.ccr_problem.specs.Follows.{UnsuccessfulEndLeaves, has_newer}
 use Rattle.ccr_problem.specs.ProblemOf.{problem_with}
 use Rattle.ccr_problem.proofs.Ends.{map_same}
 use Rattle.ccr_problem.proofs.Newer.{none_newer_than}
@@ -52,11 +52,6 @@ none_reported p h r xs none (before, rules, numbers, is, are) =
     subst (λ y. AreIndexes p y xs) (sym same) are
 
 -- ---- a build that is made
-pub made_on : MadeLeaves → (p : PipelineData) (h mid : HistoryData) (job : Text) (used : List UsedData) (xs : List IndexValue) → mid ≡ edited (build job used) h → AreIndexes p h xs → AreIndexes p mid xs
-made_on leaves p h mid job used xs is are =
-    subst (λ y. AreIndexes p y xs) (sym is)
-    (are ∙ sym (map_same (λ (j : JobData). problem_with p (edited (build job used) h) (inputs j.plan)) (λ j. problem_with p h (inputs j.plan)) p.jobs (λ j. leaves p h (inputs j.plan) job used)))
-
 counted_by : (b : Bool) (n : ℕ) → n + cond b 1 0 ≤ n + 1
 counted_by true n = omega arith
 counted_by false n = omega arith
@@ -87,7 +82,7 @@ pub cuts_on : UnsuccessfulEndLeaves → (p : PipelineData) (ns : List (Text × �
 cuts_on leaves p [] h xs rules takes are = are
 cuts_on leaves p (n ∷ ns) h xs rules (take, takes) are =
     cuts_on leaves p ns (edited (cut_name n) h) xs (kept (cut_name n) h rules take) takes
-    (are ∙ sym (map_same (λ (j : JobData). problem_with p (edited (cut_name n) h) (inputs j.plan)) (λ j. problem_with p h (inputs j.plan)) p.jobs (λ j. leaves p h (inputs j.plan) n.0 n.1 Errored [] rules take.0 refl)))
+    (are ∙ sym (map_same (λ (j : JobData). problem_with p (edited (cut_name n) h) j.name (inputs j.plan)) (λ j. problem_with p h j.name (inputs j.plan)) p.jobs (λ j. leaves p h j.name (inputs j.plan) n.0 n.1 Errored [] rules take.0 refl)))
 
 pub cuts_on_of : UnsuccessfulEndLeaves → (o : Option PipelineData) (ns : List (Text × ℕ)) (h : HistoryData) (xs : List IndexValue) → IsHistory h → TakesAll h (map cut_name ns) → AreIndexesOf o h xs → AreIndexesOf o (changed (map cut_name ns) h) xs
 cuts_on_of leaves None ns h xs rules takes are = are

@@ -7,7 +7,7 @@ use Rattle.ccr_history.specs.declared.build.Status.{Status}
 use Rattle.ccr_history.specs.Text.{Text}
 use Rattle.ccr_history.specs.Builds.{UsedData, BuildData, is_of, is_build_of, count_of, build_of, new_build, ended as ended_build, with_build, with_end}
 use Rattle.ccr_history.specs.declared.build.Status.TheVariants.{Running}
-use Rattle.ccr_history.specs.Changes.{EditData, text, versions, build, ended, pin_set, pin_cleared, edited, changed, IsRunning, Takes, TakesAll}
+use Rattle.ccr_history.specs.Changes.{EditData, text, versions, build, ended, pin_set, pin_cleared, disabled, enabled, edited, changed, IsRunning, Takes, TakesAll}
 use Rattle.ccr_history.specs.History.{HistoryData, AreNumbered}
 use Rattle.ccr_core.proofs.Counting.{count_cons, count_new, count_end}
 use Rattle.ccr_core.proofs.RunningLists.{all_weaker, all_append, id_same, id_refl}
@@ -137,6 +137,8 @@ ended_stays (ended job number st mv) h takes j n c found done = by (bytes_eq j j
         absurd (done (ap (λ y. y.status) same ∙ runs))
 ended_stays (pin_set resource p) h takes j n c found done = found
 ended_stays (pin_cleared resource) h takes j n c found done = found
+ended_stays (disabled scope place) h takes j n c found done = found
+ended_stays (enabled scope place) h takes j n c found done = found
 
 pub all_stay : (es : List EditData) (h : HistoryData) → TakesAll h es → (j : Text) (n : ℕ) (c : BuildData) → build_of j n h.builds ≡ Some c → c.status ≢ Running → build_of j n (changed es h).builds ≡ Some c
 all_stay [] h takes j n c found done = found

@@ -33,3 +33,4 @@ pub mod Making
 pub mod Changing
 pub mod Busying
 pub mod Indexing
+pub mod Disabling

@@ -16,12 +16,12 @@ use Rattle.ccr_core.specs.declared.fault.CoreFault.{CoreFault}
 use Rattle.ccr_core.specs.declared.fault.CoreFault.TheVariants.{TooManyOpen}
 use Rattle.ccr_core.specs.declared.limit.TheConstants.{MOST_RUNNING}
 use Rattle.ccr_core.specs.declared.reply.Reply.{Reply}
-use Rattle.ccr_core.specs.declared.reply.Reply.TheVariants.{Set, New, Made, NotNew, Goes, Ends, Pinned, Unpinned, Restarted}
+use Rattle.ccr_core.specs.declared.reply.Reply.TheVariants.{Set, New, Made, NotNew, Goes, Ends, Pinned, Unpinned, Disabled, Enabled, Restarted}
 use Rattle.ccr_problem.specs.ProblemOf.{job_of}
 use Rattle.ccr_core.specs.Builds.{begun, with_made, Makes, with_answer, with_answered, Takes, cut}
 use Rattle.ccr_core.specs.Busy.{limit_of, running_of, has_reached, share, is_shut_out, is_busy}
 use Rattle.ccr_core.specs.Addressed.{AnswerTo, addressed}
-use Rattle.ccr_core.specs.Events.{EventData, set_pipeline, checked, schedule, trigger, pin, unpin, restart}
+use Rattle.ccr_core.specs.Events.{EventData, set_pipeline, checked, schedule, trigger, pin, unpin, disable, enable, restart}
 use Rattle.ccr_core.specs.Faults.{MeetsBy}
 use Rattle.ccr_core.specs.Limits.{IsWithin, Runs, IsLimited, LimitsAreKept}
 use Rattle.ccr_core.specs.Replies.{Replied}
@@ -246,6 +246,8 @@ limited_other s (schedule job) r after l free (j, at, how) = limited_scheduled s
 limited_other s (trigger job) r after l free (j, at, how) = limited_triggered s job j r after l at (free TooManyOpen) how
 limited_other s (pin resource p) Pinned after l free is = subst IsLimited (sym is) (limited_history s _ l)
 limited_other s (unpin resource) Unpinned after l free is = subst IsLimited (sym is) (limited_history s _ l)
+limited_other s (disable resource place) Disabled after l free is = subst IsLimited (sym is) (limited_history s _ l)
+limited_other s (enable resource place) Enabled after l free is = subst IsLimited (sym is) (limited_history s _ l)
 limited_other s restart Restarted after l free is = subst IsLimited (sym is) (limited_none (moved_on s (changed (map cut s.running) s.history) []) refl)
 limited_other s e r after l free does = absurd does
 

@@ -33,13 +33,13 @@ versions_each p h (i ∷ is) (n ∷ ns) e = let more = versions_each p h is ns (
 
 -- a new build runs
 pub new_runs : (h mid : HistoryData) (job : Text) (used : List UsedData) → IsHistory h → mid ≡ edited (build job used) h → IsRunning job (count_of job h.builds + 1) mid.builds
-new_runs h mid job used (tables, (few, numbered, each), pins) is =
+new_runs h mid job used (tables, (few, numbered, each), pins, disabled) is =
     subst (λ y. IsRunning job (count_of job h.builds + 1) y.builds) (sym is)
     (new_build job (count_of job h.builds + 1) used, new_found job used h.builds (known_start h.builds numbered), refl)
 
 -- it has the row behind all others
 pub new_row : (h mid : HistoryData) (job : Text) (used : List UsedData) → IsHistory h → mid ≡ edited (build job used) h → length h.builds + 1 ≡ row_of job (count_of job h.builds + 1) mid.builds
-new_row h mid job used (tables, (few, numbered, each), pins) is =
+new_row h mid job used (tables, (few, numbered, each), pins, disabled) is =
     row_new job used h.builds (known_start h.builds numbered) ∙ sym (ap (λ (y : HistoryData). row_of job (count_of job h.builds + 1) y.builds) is)
 
 -- the edits of a new build, and of its end, carry their numbers

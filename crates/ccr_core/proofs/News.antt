@@ -89,7 +89,7 @@ news_one h s vs takes =
     let same = news_reported s vs h.tables in
     let full : is_table_full s (new_to (versions_of s h.tables) vs) h.tables ≡ is_table_full s vs h.tables = ap (λ ts. nat_lt MOST_VERSIONS (length (versions_of s ts)) || nat_lt MOST_SCOPES (length ts)) same in (
       ((full ∙ takes.0.0, news_all IsAscending (versions_of s h.tables) vs takes.0.1), tt),
-      ap (λ ts. record { tables = ts; builds = h.builds; pins = h.pins; text = h.text }) same,
+      ap (λ ts. record { tables = ts; builds = h.builds; pins = h.pins; disabled = h.disabled; text = h.text }) same,
     )
 
 pub news_report : (p : PipelineData) (h : HistoryData) (resource : Text) (vs : List TextMap) → TakesAll h (report p resource vs) → IsSame h (report p resource vs) (news_in h (report p resource vs))

@@ -15,7 +15,7 @@ use Rattle.ccr_steps.specs.declared.build.BuildRun.{BuildRun}
 use Rattle.ccr_steps.specs.declared.outcome.Outcome.{Outcome}
 use Rattle.ccr_problem.specs.ProblemOf.{job_of}
 use Rattle.ccr_core.specs.declared.fault.CoreFault.{CoreFault}
-use Rattle.ccr_core.specs.declared.fault.CoreFault.TheVariants.{NoPipeline, NoJob, NoResource, NoBuild, BuildsOpen, NotWanted, TooManyOpen, TableFull, NoMemory}
+use Rattle.ccr_core.specs.declared.fault.CoreFault.TheVariants.{NoPipeline, NoJob, NoResource, NoBuild, BuildsOpen, NotWanted, TooManyOpen, TableFull, NoMemory, NoVersion}
 use Rattle.ccr_core.specs.declared.limit.TheConstants.{MOST_RUNNING}
 use Rattle.ccr_core.specs.declared.pick.Picked.{Picked}
 use Rattle.ccr_core.specs.declared.pick.Picked.TheVariants as pick
@@ -108,16 +108,16 @@ asked_edits false s name r edits are = are
 
 -- ---- faults
 pub free_asked : (by_command : Bool) (s : State) (name : Text) → ¬ (s.pipeline ≡ None) → ¬ (job_of name (jobs_of s) ≡ None) → ¬ (MOST_RUNNING ≤ length s.running) → ¬ (MOST_BUILDS ≤ length s.history.builds) → IsFree s (asked by_command name)
-free_asked true s name piped job few room = none_met (Meets s (asked true name)) piped job (λ h. h) (λ h. h) (λ h. h) (λ h. h) few room (λ h. h)
-free_asked false s name piped job few room = none_met (Meets s (asked false name)) piped job (λ h. h) (λ h. h) (λ h. h) (λ h. h) few room (λ h. h)
+free_asked true s name piped job few room = none_met (Meets s (asked true name)) (λ h. h) piped job (λ h. h) (λ h. h) (λ h. h) (λ h. h) few room (λ h. h)
+free_asked false s name piped job few room = none_met (Meets s (asked false name)) (λ h. h) piped job (λ h. h) (λ h. h) (λ h. h) (λ h. h) few room (λ h. h)
 
 pub refuses_open : (by_command : Bool) (s : State) (name : Text) → ¬ (s.pipeline ≡ None) → ¬ (job_of name (jobs_of s) ≡ None) → MOST_RUNNING ≤ length s.running → MayRefuse s (asked by_command name) TooManyOpen
-refuses_open true s name piped job many = inr (many, none_before (Meets s (asked true name)) 7 (λ _. piped) (λ _. job) (λ _ h. h) (λ _ h. h) (λ _ h. h) (λ _ h. h) (λ lt _. absurd (omega (arith, lt))) (λ lt _. absurd (omega (arith, lt))) (λ lt _. absurd (omega (arith, lt))))
-refuses_open false s name piped job many = inr (many, none_before (Meets s (asked false name)) 7 (λ _. piped) (λ _. job) (λ _ h. h) (λ _ h. h) (λ _ h. h) (λ _ h. h) (λ lt _. absurd (omega (arith, lt))) (λ lt _. absurd (omega (arith, lt))) (λ lt _. absurd (omega (arith, lt))))
+refuses_open true s name piped job many = inr (many, none_before (Meets s (asked true name)) 7 (λ _ h. h) (λ _. piped) (λ _. job) (λ _ h. h) (λ _ h. h) (λ _ h. h) (λ _ h. h) (λ lt _. absurd (omega (arith, lt))) (λ lt _. absurd (omega (arith, lt))) (λ lt _. absurd (omega (arith, lt))))
+refuses_open false s name piped job many = inr (many, none_before (Meets s (asked false name)) 7 (λ _ h. h) (λ _. piped) (λ _. job) (λ _ h. h) (λ _ h. h) (λ _ h. h) (λ _ h. h) (λ lt _. absurd (omega (arith, lt))) (λ lt _. absurd (omega (arith, lt))) (λ lt _. absurd (omega (arith, lt))))
 
 pub refuses_room : (by_command : Bool) (s : State) (name : Text) → ¬ (s.pipeline ≡ None) → ¬ (job_of name (jobs_of s) ≡ None) → ¬ (MOST_RUNNING ≤ length s.running) → MOST_BUILDS ≤ length s.history.builds → MayRefuse s (asked by_command name) TableFull
-refuses_room true s name piped job few many = inr (many, none_before (Meets s (asked true name)) 8 (λ _. piped) (λ _. job) (λ _ h. h) (λ _ h. h) (λ _ h. h) (λ _ h. h) (λ _. few) (λ lt _. absurd (omega (arith, lt))) (λ lt _. absurd (omega (arith, lt))))
-refuses_room false s name piped job few many = inr (many, none_before (Meets s (asked false name)) 8 (λ _. piped) (λ _. job) (λ _ h. h) (λ _ h. h) (λ _ h. h) (λ _ h. h) (λ _. few) (λ lt _. absurd (omega (arith, lt))) (λ lt _. absurd (omega (arith, lt))))
+refuses_room true s name piped job few many = inr (many, none_before (Meets s (asked true name)) 8 (λ _ h. h) (λ _. piped) (λ _. job) (λ _ h. h) (λ _ h. h) (λ _ h. h) (λ _ h. h) (λ _. few) (λ lt _. absurd (omega (arith, lt))) (λ lt _. absurd (omega (arith, lt))))
+refuses_room false s name piped job few many = inr (many, none_before (Meets s (asked false name)) 8 (λ _ h. h) (λ _. piped) (λ _. job) (λ _ h. h) (λ _ h. h) (λ _ h. h) (λ _ h. h) (λ _. few) (λ lt _. absurd (omega (arith, lt))) (λ lt _. absurd (omega (arith, lt))))
 
 -- ---- what the parts of a core do at a schedule or a trigger
 module _ (c : CoreData) (by_command : Bool) (name : Text) where
@@ -224,6 +224,7 @@ no_room c by_command name p piped j at running NoBuild same lacks = absurd lacks
 no_room c by_command name p piped j at running BuildsOpen same lacks = absurd lacks
 no_room c by_command name p piped j at running NotWanted same lacks = absurd lacks
 no_room c by_command name p piped j at running NoMemory same lacks = absurd lacks
+no_room c by_command name p piped j at running NoVersion same lacks = absurd lacks
 
 pub ends_so : {X : Type 0} → (P : CoreFault → Type 0) → (r : Result X CoreFault) (f : CoreFault) → IsErrAnd r (λ e. e ≡ f) → P f → IfErr r P
 ends_so P (Ok x) f is h = tt

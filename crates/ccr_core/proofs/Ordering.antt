@@ -11,11 +11,11 @@ use Rattle.ccr_pipeline.specs.JobData.{JobData}
 use Rattle.ccr_steps.specs.Asks.{AnswerData}
 use Rattle.ccr_steps.specs.declared.outcome.Outcome.{Outcome}
 use Rattle.ccr_core.specs.declared.reply.Reply.{Reply}
-use Rattle.ccr_core.specs.declared.reply.Reply.TheVariants.{Set, New, Made, NotNew, Goes, Ends, Pinned, Unpinned, Restarted}
+use Rattle.ccr_core.specs.declared.reply.Reply.TheVariants.{Set, New, Made, NotNew, Goes, Ends, Pinned, Unpinned, Disabled, Enabled, Restarted}
 use Rattle.ccr_core.specs.Builds.{begun, history_with, Makes, with_answer, Takes as TakesAnswer}
 use Rattle.ccr_core.specs.Choices.{used_at}
 use Rattle.ccr_core.specs.Addressed.{AnswerTo, addressed}
-use Rattle.ccr_core.specs.Events.{EventData, set_pipeline, checked, schedule, trigger, pin, unpin, restart}
+use Rattle.ccr_core.specs.Events.{EventData, set_pipeline, checked, schedule, trigger, pin, unpin, disable, enable, restart}
 use Rattle.ccr_core.specs.Holding.{CoreData, IsCore}
 use Rattle.ccr_core.specs.Kept.{IsEvent}
 use Rattle.ccr_core.specs.Picking.{name_of}
@@ -161,6 +161,8 @@ module _ (s : State) (ordered : IsOrdered s) where
   ordered_other (trigger job) r after known (j, at, how) = ordered_triggered j r after known how
   ordered_other (pin resource p) Pinned after known is = subst IsOrdered (sym is) ordered
   ordered_other (unpin resource) Unpinned after known is = subst IsOrdered (sym is) ordered
+  ordered_other (disable resource place) Disabled after known is = subst IsOrdered (sym is) ordered
+  ordered_other (enable resource place) Enabled after known is = subst IsOrdered (sym is) ordered
   ordered_other restart Restarted after known is = subst IsOrdered (sym is) tt
   ordered_other e r after known does = absurd does
 

@@ -4,7 +4,7 @@ use Rattle.std.specs.List.{AllByRecursion}
 use Rattle.std.proofs.lemmas.Slice.Eq.{bytes_eq-Decides}
 use Rattle.ccr_history.specs.Text.{Text}
 use Rattle.ccr_history.specs.Builds.{BuildData, count_of}
-use Rattle.ccr_history.specs.Changes.{build, ended, pin_set, pin_cleared, edited, changed}
+use Rattle.ccr_history.specs.Changes.{build, ended, pin_set, pin_cleared, disabled, enabled, edited, changed}
 use Rattle.ccr_history.specs.History.{HistoryData}
 use Rattle.ccr_pipeline.specs.Inputs.{inputs}
 use Rattle.ccr_pipeline.specs.JobData.{JobData}
@@ -17,17 +17,17 @@ use Rattle.ccr_steps.specs.declared.outcome.Outcome.{Outcome}
 use Rattle.ccr_core.specs.declared.fault.CoreFault.{CoreFault}
 use Rattle.ccr_core.specs.declared.fault.CoreFault.TheVariants.{BuildsOpen}
 use Rattle.ccr_core.specs.declared.reply.Reply.{Reply}
-use Rattle.ccr_core.specs.declared.reply.Reply.TheVariants.{Set, New, Made, NotNew, Goes, Ends, Pinned, Unpinned, Restarted}
+use Rattle.ccr_core.specs.declared.reply.Reply.TheVariants.{Set, New, Made, NotNew, Goes, Ends, Pinned, Unpinned, Disabled, Enabled, Restarted}
 use Rattle.ccr_problem.specs.ProblemOf.{job_of}
 use Rattle.ccr_core.specs.Builds.{status_of, Settles, begun, history_with, with_made, Makes, with_answer, with_answered, Takes, cut}
 use Rattle.ccr_core.specs.Choices.{used_at}
 use Rattle.ccr_core.specs.Addressed.{AnswerTo, addressed}
-use Rattle.ccr_core.specs.Events.{EventData, set_pipeline, checked, schedule, trigger, pin, unpin, restart}
+use Rattle.ccr_core.specs.Events.{EventData, set_pipeline, checked, schedule, trigger, pin, unpin, disable, enable, restart}
 use Rattle.ccr_core.specs.Faults.{MeetsBy, IsFree}
 use Rattle.ccr_core.specs.Own.{said_to, own, own_of}
 use Rattle.ccr_core.specs.Seen.{pairs_of, report, report_by}
 use Rattle.ccr_core.specs.Replies.{Replied}
-use Rattle.ccr_core.specs.State.{RunningData, State, pipeline_of, moved_on, with_history, is_run_of, running_at, replaced, without}
+use Rattle.ccr_core.specs.State.{RunningData, State, pipeline_of, moved_on, with_history, is_run_of, running_at, replaced, without, scope_in}
 use Rattle.ccr_core.specs.Steps.{with_pipeline, Schedules, Triggers, Answers, DoesBy, Step, Run}
 use Rattle.ccr_core.specs.Told.{HasItsOwn, EachHasItsOwn, RunsAgree, NoneRunsOn}
 use Rattle.ccr_core.proofs.Counting.{count_new, count_edited, count_changed, fresh}
@@ -239,6 +239,8 @@ other_kept past s (schedule job) r after k free (j, at, how) = scheduled_kept pa
 other_kept past s (trigger job) r after k free (j, at, how) = triggered_kept past s job j r after k at how
 other_kept past s (pin resource p) Pinned after k free is = subst (IsKept past) (sym is) (kept_on past s (edited (pin_set resource p) s.history) (λ j. count_edited j (pin_set resource p) s.history) k)
 other_kept past s (unpin resource) Unpinned after k free is = subst (IsKept past) (sym is) (kept_on past s (edited (pin_cleared resource) s.history) (λ j. count_edited j (pin_cleared resource) s.history) k)
+other_kept past s (disable resource place) Disabled after k free is = subst (IsKept past) (sym is) (kept_on past s (edited (disabled (scope_in s resource) place) s.history) (λ j. count_edited j (disabled (scope_in s resource) place) s.history) k)
+other_kept past s (enable resource place) Enabled after k free is = subst (IsKept past) (sym is) (kept_on past s (edited (enabled (scope_in s resource) place) s.history) (λ j. count_edited j (enabled (scope_in s resource) place) s.history) k)
 other_kept past s restart Restarted after k free is = subst (IsKept past) (sym is) (cut_kept past s k)
 other_kept past s e r after k free does = absurd does
 

@@ -7,7 +7,7 @@ use Rattle.std.proofs.lemmas.Slice.Eq.{bytes_eq-Decides}
 use Rattle.ccr_history.specs.Text.{Text}
 use Rattle.ccr_history.specs.TextMap.{TextMap, key_text}
 use Rattle.ccr_history.specs.Tables.{ScopeData, TableData, is_scope, is_version, has_version, with_version, with_versions, with_report, reported, versions_of, scope_number, place_in}
-use Rattle.ccr_history.specs.Changes.{EditData, text, versions, build, ended, pin_set, pin_cleared, edited, changed}
+use Rattle.ccr_history.specs.Changes.{EditData, text, versions, build, ended, pin_set, pin_cleared, disabled, enabled, edited, changed}
 use Rattle.ccr_history.specs.History.{HistoryData, places_at, has_place}
 use Rattle.ccr_pipeline.specs.JobData.{ResourceData}
 use Rattle.ccr_pipeline.specs.Pipelines.{PipelineData}
@@ -96,6 +96,8 @@ has_edited s v (build job used) h e = e
 has_edited s v (ended job number st mv) h e = e
 has_edited s v (pin_set resource p) h e = e
 has_edited s v (pin_cleared resource) h e = e
+has_edited s v (disabled scope place) h e = e
+has_edited s v (enabled scope place) h e = e
 
 pub has_changed : (s : ScopeData) (v : TextMap) (es : List EditData) (h : HistoryData) → has_version (versions_of s h.tables) v ≡ true → has_version (versions_of s (changed es h).tables) v ≡ true
 has_changed s v [] h e = e

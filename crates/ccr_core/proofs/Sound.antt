@@ -1,5 +1,5 @@
 -- Each change that a step makes is one that the history takes.
-use Rattle.std.proofs.Common.{◌≡◌, ◌≢◌, ℕ, ◌+◌, ◌<◌, ◌≤◌, Bool, true, false, cond, ◌||◌, List, [], ◌∷◌, ◌++◌, length, map, Option, Some, None, IsSomeAnd, Ok, Err, bytes_eq, refl, sym, ap, ◌∙◌, subst, arith}
+use Rattle.std.proofs.Common.{◌≡◌, ◌≢◌, ℕ, ◌+◌, ◌<◌, ◌≤◌, Bool, true, false, cond, ◌||◌, List, [], ◌∷◌, ◌++◌, length, map, Option, Some, None, IsSomeAnd, Ok, Err, bytes_eq, refl, sym, ap, ◌∙◌, subst, arith, IsTrue}
 use Rattle.std.specs.Prelude.{⊤}
 use Rattle.std.specs.List.{AllByRecursion}
 use Rattle.std.specs.Option.{option_map_or}
@@ -10,8 +10,8 @@ use Rattle.ccr_history.specs.Text.{Text}
 use Rattle.ccr_history.specs.TextMap.{TextMap, IsAscending}
 use Rattle.ccr_history.specs.Tables.{has_version, versions_of, is_table_full}
 use Rattle.ccr_history.specs.Builds.{BuildData, count_of, build_of, new_build}
-use Rattle.ccr_history.specs.Changes.{EditData, text, versions, build, ended, pin_set, pin_cleared, edited, changed, IsRunning, Takes, TakesAll}
-use Rattle.ccr_history.specs.History.{HistoryData}
+use Rattle.ccr_history.specs.Changes.{EditData, text, versions, build, ended, pin_set, pin_cleared, disabled, enabled, edited, changed, IsRunning, Takes, TakesAll}
+use Rattle.ccr_history.specs.History.{HistoryData, has_place}
 use Rattle.ccr_pipeline.specs.Inputs.{inputs}
 use Rattle.ccr_pipeline.specs.JobData.{ResourceData, JobData}
 use Rattle.ccr_pipeline.specs.Kinds.{is_name}
@@ -27,20 +27,20 @@ use Rattle.ccr_steps.specs.declared.outcome.Outcome.{Outcome}
 use Rattle.ccr_steps.specs.declared.outcome.Outcome.TheVariants as outcome
 use Rattle.ccr_choice.specs.Satisfies.{Satisfies}
 use Rattle.ccr_core.specs.declared.fault.CoreFault.{CoreFault}
-use Rattle.ccr_core.specs.declared.fault.CoreFault.TheVariants.{TableFull}
+use Rattle.ccr_core.specs.declared.fault.CoreFault.TheVariants.{TableFull, NoVersion}
 use Rattle.ccr_core.specs.declared.reply.Reply.{Reply}
-use Rattle.ccr_core.specs.declared.reply.Reply.TheVariants.{Set, New, Made, NotNew, Goes, Ends, Pinned, Unpinned, Restarted}
+use Rattle.ccr_core.specs.declared.reply.Reply.TheVariants.{Set, New, Made, NotNew, Goes, Ends, Pinned, Unpinned, Disabled, Enabled, Restarted}
 use Rattle.ccr_problem.specs.ProblemOf.{resource_of, scope_of, job_of, problem_with}
 use Rattle.ccr_core.specs.Builds.{status_of, begun, history_with, Makes, with_answer, Takes as TakesAnswer, cut}
 use Rattle.ccr_core.specs.Choices.{best, Finds, used_at}
 use Rattle.ccr_core.specs.Addressed.{AnswerTo, addressed}
-use Rattle.ccr_core.specs.Events.{EventData, set_pipeline, checked, schedule, trigger, pin, unpin, restart}
+use Rattle.ccr_core.specs.Events.{EventData, set_pipeline, checked, schedule, trigger, pin, unpin, disable, enable, restart}
 use Rattle.ccr_core.specs.Faults.{PushOverfills, AnswerMeets, MeetsBy}
 use Rattle.ccr_core.specs.Edits.{AreBuildEdits, AreNextEdits, AreAnswerEdits, AreSaidEdits, AreMadeEdits, AreEditsBy, AreEdits, AreTakenTo, news_in}
 use Rattle.ccr_core.specs.Kept.{IsPipeline, IsAnswer, IsEventBy, IsEvent, IsStart, AreTaken, EachChangeIsTaken}
 use Rattle.ccr_core.specs.Replies.{Replied}
 use Rattle.ccr_core.specs.Seen.{pairs_of, is_used_for, report, Overfills, pushed_by, report_by}
-use Rattle.ccr_core.specs.State.{RunningData, State, pipeline_of, moved_on, with_history, running_at, replaced, without}
+use Rattle.ccr_core.specs.State.{RunningData, State, pipeline_of, moved_on, with_history, running_at, replaced, without, scope_in}
 use Rattle.ccr_core.specs.Steps.{with_pipeline, Schedules, Triggers, Answers, DoesBy, Step, Run}
 use Rattle.ccr_core.proofs.Choosing.{IsSeen, ArePlaced, satisfied_placed, chosen_seen, are_used}
 use Rattle.ccr_core.proofs.Counting.{count_edited, fresh}
@@ -164,8 +164,8 @@ module _ (s : State) (name : Text) (j : JobData) (places : List ℕ) (k : IsSoun
   pub placed : ArePlaced (pipeline_of s) s.history (inputs j.plan) places
   placed =
       let (problem, is, (builds, optimal)) = finds in
-      let same : problem ≡ problem_with (pipeline_of s) s.history (inputs j.plan) = subst (λ o. IsSomeAnd o (λ i. problem ≡ problem_with (pipeline_of s) s.history (inputs i.plan))) (job_at name (pipeline_of s).jobs j at) is in
-      satisfied_placed (pipeline_of s) s.history (inputs j.plan) places builds (subst (λ q. Satisfies q places builds) same optimal.satisfies)
+      let same : problem ≡ problem_with (pipeline_of s) s.history j.name (inputs j.plan) = subst (λ o. IsSomeAnd o (λ i. problem ≡ problem_with (pipeline_of s) s.history i.name (inputs i.plan))) (job_at name (pipeline_of s).jobs j at) is in
+      satisfied_placed (pipeline_of s) s.history j.name (inputs j.plan) places builds (subst (λ q. Satisfies q places builds) same optimal.satisfies)
 
   plan_kept : IsPlan j.plan
   plan_kept = job_has (λ i. IsPlan i.plan) name (pipeline_of s).jobs j (recursion_from_All (λ i. IsPlan i.plan) (pipeline_of s).jobs k.piped.plans) at
@@ -381,6 +381,14 @@ leaves_answered s a Goes after up k free (b, at, takes) = leaves_taken s a b Non
 leaves_answered s a (Ends o) after up k free (b, at, takes) = leaves_taken s a b (Some o) after k at (free TableFull) up takes
 leaves_answered s a r after up k free answers = absurd answers
 
+-- a place that isn't lacking is there
+place_there : (s : State) (resource : Text) (place : ℕ) → ¬ (has_place s.history.tables (scope_in s resource) place ≡ false) → IsTrue (has_place s.history.tables (scope_in s resource) place)
+place_there s resource place there = by (has_place s.history.tables (scope_in s resource) place) there
+  where
+    by : (b : Bool) → ¬ (b ≡ false) → b ≡ true
+    by true h = refl
+    by false h = absurd (h refl)
+
 leaves_other : (s : State) (e : EventData) (r : Reply) (after : State) → IsEventBy None e → IsSound s → ((f : CoreFault) → ¬ MeetsBy s None e f) → DoesBy s None e r after → Leaves (AreEditsBy s None e r) s after
 leaves_other s (set_pipeline p) Set after piped k free is =
     subst (Leaves (AreEditsBy s None (set_pipeline p) Set) s) (sym is) (record { sound = set_sound s p piped (none_runs s p free) k; taken = (text p.text ∷ [], refl, ((tt, tt), refl)) })
@@ -397,6 +405,18 @@ leaves_other s (pin resource p) Pinned after up k free is =
     subst (Leaves (AreEditsBy s None (pin resource p) Pinned) s) (sym is) (record { sound = sound_history s (pin_set resource p ∷ []) refl k; taken = (pin_set resource p ∷ [], refl, ((up, tt), refl)) })
 leaves_other s (unpin resource) Unpinned after up k free is =
     subst (Leaves (AreEditsBy s None (unpin resource) Unpinned) s) (sym is) (record { sound = sound_history s (pin_cleared resource ∷ []) refl k; taken = (pin_cleared resource ∷ [], refl, ((tt, tt), refl)) })
+leaves_other s (disable resource place) Disabled after up k free is =
+    let edit : EditData = disabled (scope_in s resource) place in
+    subst (Leaves (AreEditsBy s None (disable resource place) Disabled) s) (sym is) (record {
+      sound = sound_history s (edit ∷ []) refl k;
+      taken = (edit ∷ [], refl, ((place_there s resource place (free NoVersion), tt), refl));
+    })
+leaves_other s (enable resource place) Enabled after up k free is =
+    let edit : EditData = enabled (scope_in s resource) place in
+    subst (Leaves (AreEditsBy s None (enable resource place) Enabled) s) (sym is) (record {
+      sound = sound_history s (edit ∷ []) refl k;
+      taken = (edit ∷ [], refl, ((place_there s resource place (free NoVersion), tt), refl));
+    })
 leaves_other s restart Restarted after up k free is =
     subst (Leaves (AreEditsBy s None restart Restarted) s) (sym is) (record {
       sound = record { piped = k.piped; numbers = cut_known s.running s.history k.numbers; apart = tt; each = tt };

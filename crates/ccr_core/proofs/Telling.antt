@@ -11,7 +11,7 @@ use Rattle.ccr_core.specs.declared.reply.Reply.{Reply}
 use Rattle.ccr_core.specs.declared.reply.Reply.TheVariants.{Goes, Ends}
 use Rattle.ccr_core.specs.Addressed.{AnswerTo, addressed}
 use Rattle.ccr_core.specs.Edits.{AreEdits}
-use Rattle.ccr_core.specs.Events.{EventData, set_pipeline, checked, schedule, trigger, answer, abort, pin, unpin, restart}
+use Rattle.ccr_core.specs.Events.{EventData, set_pipeline, checked, schedule, trigger, answer, abort, pin, unpin, disable, enable, restart}
 use Rattle.ccr_core.specs.Fates.{Moment, HasFate, EachHasItsFate, EndedStays}
 use Rattle.ccr_core.specs.Kept.{IsEvent, IsStart}
 use Rattle.ccr_core.specs.Own.{said_to, own, own_of}
@@ -175,6 +175,8 @@ module _ (start : State) (begins : IsStart start) where
     ends_here (abort job number) k step = meant_here (abort job number) (λ e. cc (e)) k step
     ends_here (pin resource p) k step = meant_here (pin resource p) (λ e. cc (e)) k step
     ends_here (unpin resource) k step = meant_here (unpin resource) (λ e. cc (e)) k step
+    ends_here (disable resource place) k step = meant_here (disable resource place) (λ e. cc (e)) k step
+    ends_here (enable resource place) k step = meant_here (enable resource place) (λ e. cc (e)) k step
     ends_here restart k step = cut_here step
 
   told : (s after : State) (es₀ es : List EventData) (rs₀ rs : List Replied) → AllByRecursion IsEvent es₀ → Run start es₀ rs₀ s → AllByRecursion IsEvent es → IsSound s → Run s es rs after → (c : BuildData) → build_of c.job c.number after.history.builds ≡ Some c → c.status ≢ Running → ¬ HasEnded s c.job c.number → HasFate start after (es₀ ++ es) (rs₀ ++ rs) c

@@ -11,7 +11,7 @@ use Rattle.std.proofs.lemmas.Slice.Eq.{bytes_eq-Decides}
 use Rattle.ccr_history.specs.TextMap.{TextMap}
 use Rattle.ccr_history.specs.Tables.{ScopeData, TableData, is_scope, has_version, with_version, with_versions, with_report, reported, versions_of, scope_number}
 use Rattle.ccr_history.specs.Builds.{UsedData, with_used, by_input}
-use Rattle.ccr_history.specs.Changes.{EditData, text, versions, build, ended, pin_set, pin_cleared, edited, changed}
+use Rattle.ccr_history.specs.Changes.{EditData, text, versions, build, ended, pin_set, pin_cleared, disabled, enabled, edited, changed}
 use Rattle.ccr_history.specs.History.{HistoryData, places_at}
 use Rattle.ccr_pipeline.specs.Inputs.{InputData}
 use Rattle.ccr_pipeline.specs.Pipelines.{PipelineData}
@@ -91,6 +91,8 @@ at_edited (build job used) h n k at = (at, refl)
 at_edited (ended job number st mv) h n k at = (at, refl)
 at_edited (pin_set resource p) h n k at = (at, refl)
 at_edited (pin_cleared resource) h n k at = (at, refl)
+at_edited (disabled scope place) h n k at = (at, refl)
+at_edited (enabled scope place) h n k at = (at, refl)
 
 pub at_changed : (es : List EditData) (h : HistoryData) (n k : ℕ) → IsAt h.tables n k → StaysAt h.tables (changed es h).tables n k
 at_changed [] h n k at = (at, refl)

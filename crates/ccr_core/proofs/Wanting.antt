@@ -5,7 +5,7 @@ use Rattle.ccr_steps.specs.Asks.{AnswerData}
 use Rattle.ccr_steps.specs.Runs.{RunData, HasTurn}
 use Rattle.ccr_steps.specs.declared.ask.Ask.{Ask}
 use Rattle.ccr_core.specs.declared.fault.CoreFault.{CoreFault}
-use Rattle.ccr_core.specs.declared.fault.CoreFault.TheVariants.{NoPipeline, NoJob, NoResource, NoBuild, BuildsOpen, NotWanted, TooManyOpen, TableFull, NoMemory}
+use Rattle.ccr_core.specs.declared.fault.CoreFault.TheVariants.{NoPipeline, NoJob, NoResource, NoBuild, BuildsOpen, NotWanted, TooManyOpen, TableFull, NoMemory, NoVersion}
 use Rattle.ccr_core.specs.Events.{answer}
 use Rattle.ccr_core.specs.Faults.{Meets, MayRefuse}
 use Rattle.ccr_core.specs.Holding.{AreRuns, IsAsked}
@@ -56,6 +56,7 @@ module _ (s : State) (job : Text) (number turn : ℕ) (x : AnswerData) (b : Runn
   met TooManyOpen m = absurd m
   met TableFull m = inl refl
   met NoMemory m = absurd m
+  met NoVersion m = absurd m
 
   refused_so : (f : CoreFault) → MayRefuse s (answer job number turn x) f → (f ≡ TableFull) ⊎ (f ≡ NoMemory)
   refused_so f (inl is) = inr is

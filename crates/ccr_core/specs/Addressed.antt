@@ -2,7 +2,7 @@
 use Rattle.std.specs.Prelude.{ℕ, Option, Some, None}
 use Rattle.ccr_history.specs.Text.{Text}
 use Rattle.ccr_steps.specs.Asks.{AnswerData, aborted}
-use Rattle.ccr_core.specs.Events.{EventData, set_pipeline, checked, schedule, trigger, answer, abort, pin, unpin, restart}
+use Rattle.ccr_core.specs.Events.{EventData, set_pipeline, checked, schedule, trigger, answer, abort, pin, unpin, disable, enable, restart}
 
 -- an answer to the job's build of this number: to what it asked at a turn, or, where no turn is named, to what it asks
 pub record AnswerTo : Type 0 where
@@ -28,4 +28,6 @@ addressed (answer job number turn x) = Some (answer_to job number (Some turn) x)
 addressed (abort job number) = Some (answer_to job number None aborted)
 addressed (pin resource p) = None
 addressed (unpin resource) = None
+addressed (disable resource place) = None
+addressed (enable resource place) = None
 addressed restart = None

@@ -3,7 +3,7 @@ use Rattle.std.specs.Prelude.{◌≡◌, ℕ, List, [], ◌∷◌, ◌++◌, map
 use Rattle.ccr_history.specs.Text.{Text}
 use Rattle.ccr_history.specs.TextMap.{TextMap}
 use Rattle.ccr_history.specs.Tables.{has_version, versions_of}
-use Rattle.ccr_history.specs.Changes.{EditData, text, versions, build, ended, pin_set, pin_cleared, changed, TakesAll}
+use Rattle.ccr_history.specs.Changes.{EditData, text, versions, build, ended, pin_set, pin_cleared, disabled, enabled, changed, TakesAll}
 use Rattle.ccr_history.specs.History.{HistoryData}
 use Rattle.ccr_pipeline.specs.Inputs.{inputs}
 use Rattle.ccr_pipeline.specs.JobData.{JobData}
@@ -18,10 +18,10 @@ use Rattle.ccr_core.specs.Addressed.{AnswerTo, addressed}
 use Rattle.ccr_core.specs.Builds.{begun, history_with, with_answer, cut}
 use Rattle.ccr_core.specs.Choices.{best, Finds, used_at}
 use Rattle.ccr_core.specs.Endings.{IsEnding, end_edits}
-use Rattle.ccr_core.specs.Events.{EventData, set_pipeline, checked, schedule, trigger, answer, abort, pin, unpin, restart}
+use Rattle.ccr_core.specs.Events.{EventData, set_pipeline, checked, schedule, trigger, answer, abort, pin, unpin, disable, enable, restart}
 use Rattle.ccr_core.specs.Replies.{Replied}
 use Rattle.ccr_core.specs.Seen.{report, report_by}
-use Rattle.ccr_core.specs.State.{RunningData, State, pipeline_of, jobs_of, running_at}
+use Rattle.ccr_core.specs.State.{RunningData, State, pipeline_of, jobs_of, running_at, scope_in}
 
 -- ---- reports
 -- those of the versions that a list lacks, each once, in order
@@ -37,6 +37,8 @@ with_news h (build job used) = build job used
 with_news h (ended job number status moved) = ended job number status moved
 with_news h (pin_set resource p) = pin_set resource p
 with_news h (pin_cleared resource) = pin_cleared resource
+with_news h (disabled scope place) = disabled scope place
+with_news h (enabled scope place) = enabled scope place
 
 -- what a report changes, with the versions alone that are new
 abbrev pub news_in : HistoryData → List EditData → List EditData
@@ -100,6 +102,8 @@ AreEditsBy s None (answer job number turn x) r edits = ⊥
 AreEditsBy s None (abort job number) r edits = ⊥
 AreEditsBy s None (pin resource p) r edits = edits ≡ pin_set resource p ∷ []
 AreEditsBy s None (unpin resource) r edits = edits ≡ pin_cleared resource ∷ []
+AreEditsBy s None (disable resource place) r edits = edits ≡ disabled (scope_in s resource) place ∷ []
+AreEditsBy s None (enable resource place) r edits = edits ≡ enabled (scope_in s resource) place ∷ []
 AreEditsBy s None restart r edits = edits ≡ map cut s.running
 
 -- THE EDITS OF A STEP: these and no others, in this order. A refusal has none.

@@ -1,5 +1,5 @@
 -- Which fault an event meets.
-use Rattle.std.specs.Prelude.{◌≡◌, ◌≢◌, ◌⊎◌, ℕ, ◌≤◌, ◌<◌, [], ◌∷◌, List, length, Option, Some, None, IsSomeAnd}
+use Rattle.std.specs.Prelude.{◌≡◌, ◌≢◌, ◌⊎◌, ℕ, ◌≤◌, ◌<◌, [], ◌∷◌, List, false, length, Option, Some, None, IsSomeAnd}
 use Rattle.ccr_history.specs.Text.{Text}
 use Rattle.ccr_history.specs.TextMap.{TextMap}
 use Rattle.ccr_history.specs.declared.builds.TheConstants.{MOST_BUILDS}
@@ -7,12 +7,13 @@ use Rattle.ccr_steps.specs.Asks.{AskData, AnswerData}
 use Rattle.ccr_steps.specs.Progress.{IsNext}
 use Rattle.ccr_steps.specs.Runs.{HasTurn}
 use Rattle.ccr_core.specs.declared.fault.CoreFault.{CoreFault}
-use Rattle.ccr_core.specs.declared.fault.CoreFault.TheVariants.{NoPipeline, NoJob, NoResource, NoBuild, BuildsOpen, NotWanted, TooManyOpen, TableFull, NoMemory}
+use Rattle.ccr_core.specs.declared.fault.CoreFault.TheVariants.{NoPipeline, NoJob, NoResource, NoBuild, BuildsOpen, NotWanted, TooManyOpen, TableFull, NoMemory, NoVersion}
 use Rattle.ccr_core.specs.declared.limit.TheConstants.{MOST_RUNNING}
 use Rattle.ccr_problem.specs.ProblemOf.{resource_of, job_of}
 use Rattle.ccr_core.specs.Addressed.{AnswerTo, addressed}
-use Rattle.ccr_core.specs.Events.{EventData, set_pipeline, checked, schedule, trigger, answer, abort, pin, unpin, restart}
-use Rattle.ccr_core.specs.State.{RunningData, State, resources_of, jobs_of, running_at}
+use Rattle.ccr_core.specs.Events.{EventData, set_pipeline, checked, schedule, trigger, answer, abort, pin, unpin, disable, enable, restart}
+use Rattle.ccr_history.specs.History.{has_place}
+use Rattle.ccr_core.specs.State.{RunningData, State, resources_of, jobs_of, running_at, scope_in}
 use Rattle.ccr_core.specs.Seen.{Overfills, pushed_by}
 
 -- the build is to be answered at another turn
@@ -38,6 +39,11 @@ abbrev pub ResourceMeets : State → Text → CoreFault → Type 0
 ResourceMeets s resource NoPipeline = s.pipeline ≡ None
 ResourceMeets s resource NoResource = resource_of resource (resources_of s) ≡ None
 ResourceMeets s resource f = ⊥
+
+-- a place of a resource's table is named
+abbrev pub PlaceMeets : State → Text → ℕ → CoreFault → Type 0
+PlaceMeets s resource place NoVersion = has_place s.history.tables (scope_in s resource) place ≡ false
+PlaceMeets s resource place f = ResourceMeets s resource f
 
 -- versions of a resource are reported
 abbrev pub ReportMeets : State → Text → List TextMap → CoreFault → Type 0
@@ -70,6 +76,8 @@ MeetsBy s None (answer job number turn x) f = ⊥
 MeetsBy s None (abort job number) f = ⊥
 MeetsBy s None (pin resource p) f = ResourceMeets s resource f
 MeetsBy s None (unpin resource) f = ResourceMeets s resource f
+MeetsBy s None (disable resource place) f = PlaceMeets s resource place f
+MeetsBy s None (enable resource place) f = PlaceMeets s resource place f
 MeetsBy s None restart f = ⊥
 
 -- the event meets the fault; out of memory is no fault of an event
@@ -87,6 +95,7 @@ fault_number NotWanted = 6
 fault_number TooManyOpen = 7
 fault_number TableFull = 8
 fault_number NoMemory = 9
+fault_number NoVersion = 10
 
 -- of the faults that the event meets it is the one with the least number
 abbrev pub IsFirstFault : State → EventData → CoreFault → Type 0

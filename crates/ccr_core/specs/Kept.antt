@@ -12,7 +12,7 @@ use Rattle.ccr_pipeline.specs.Pipelines.{PipelineData}
 use Rattle.ccr_steps.specs.Asks.{AnswerData, pushed}
 use Rattle.ccr_core.specs.Addressed.{AnswerTo, addressed}
 use Rattle.ccr_core.specs.Edits.{AreEdits, AreTakenTo}
-use Rattle.ccr_core.specs.Events.{EventData, set_pipeline, checked, schedule, trigger, answer, abort, pin, unpin, restart}
+use Rattle.ccr_core.specs.Events.{EventData, set_pipeline, checked, schedule, trigger, answer, abort, pin, unpin, disable, enable, restart}
 use Rattle.ccr_core.specs.Replies.{Replied}
 use Rattle.ccr_core.specs.Seen.{AreThoseUsed}
 use Rattle.ccr_core.specs.State.{RunningData, State, pipeline_of}
@@ -40,6 +40,8 @@ IsEventBy None (answer job number turn x) = ⊥
 IsEventBy None (abort job number) = ⊥
 IsEventBy None (pin resource p) = IsAscending p
 IsEventBy None (unpin resource) = ⊤
+IsEventBy None (disable resource place) = ⊤
+IsEventBy None (enable resource place) = ⊤
 IsEventBy None restart = ⊤
 
 -- what every event keeps: a pipeline was read, and versions and pins have their keys in order

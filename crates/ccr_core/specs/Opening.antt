@@ -1,18 +1,18 @@
 -- What the parts of a core do at an event.
-use Rattle.std.specs.Prelude.{◌≡◌, ◌⊎◌, ℕ, ◌<◌, ◌≤◌, Bool, true, false, List, [], ◌∷◌, ◌++◌, length, Option, Some, None}
+use Rattle.std.specs.Prelude.{◌≡◌, ◌⊎◌, ℕ, ◌<◌, ◌≤◌, Bool, true, false, List, [], ◌∷◌, ◌++◌, length, Option, Some, None, IsTrue}
 use Rattle.ccr_history.specs.declared.builds.TheConstants.{MOST_BUILDS}
 use Rattle.ccr_history.specs.Text.{Text}
 use Rattle.ccr_history.specs.TextMap.{TextMap}
-use Rattle.ccr_history.specs.Tables.{ScopeData, new_count, is_table_full}
+use Rattle.ccr_history.specs.Tables.{ScopeData, new_count, is_table_full, scope_number}
 use Rattle.ccr_history.specs.Changes.{versions, edited}
-use Rattle.ccr_history.specs.History.{HistoryData}
+use Rattle.ccr_history.specs.History.{HistoryData, has_place}
 use Rattle.ccr_pipeline.specs.JobData.{ResourceData, JobData}
 use Rattle.ccr_pipeline.specs.Pipelines.{PipelineData}
 use Rattle.ccr_steps.specs.Runs.{RunData}
 use Rattle.ccr_steps.specs.declared.outcome.Outcome.{Outcome}
-use Rattle.ccr_problem.specs.ProblemOf.{resource_of}
+use Rattle.ccr_problem.specs.ProblemOf.{resource_of, scope_of}
 use Rattle.ccr_core.specs.declared.fault.CoreFault.{CoreFault}
-use Rattle.ccr_core.specs.declared.fault.CoreFault.TheVariants.{NoPipeline, NoResource, TooManyOpen, TableFull, NoMemory}
+use Rattle.ccr_core.specs.declared.fault.CoreFault.TheVariants.{NoPipeline, NoResource, TooManyOpen, TableFull, NoMemory, NoVersion}
 use Rattle.ccr_core.specs.declared.limit.TheConstants.{MOST_RUNNING}
 use Rattle.ccr_core.specs.Events.{EventData, schedule, trigger}
 use Rattle.ccr_core.specs.Going.{IsMade}
@@ -55,6 +55,19 @@ abbrev pub LacksResource : CoreData → Text → CoreFault → Type 0
 LacksResource c name NoPipeline = c.pipeline ≡ None
 LacksResource c name NoResource = (p : PipelineData) × (c.pipeline ≡ Some p) × (resource_of name p.resources ≡ None)
 LacksResource c name f = ⊥
+
+-- the pipeline has a resource of this name, this is its scope, and the scope's table has this place
+abbrev pub HasVersion : CoreData → Text → (place : ℕ) → ScopeData → Type 0
+HasVersion c name place scope =
+    (p : PipelineData) × (r : ResourceData) × (c.pipeline ≡ Some p) × (resource_of name p.resources ≡ Some r)
+    × (scope ≡ scope_of r) × IsTrue (has_place c.history.tables (scope_number scope c.history.tables) place)
+
+-- why there is no such place in the table of a resource of this name; no other fault says so
+abbrev pub LacksVersion : CoreData → Text → ℕ → CoreFault → Type 0
+LacksVersion c name place NoVersion =
+    (p : PipelineData) × (r : ResourceData) × (c.pipeline ≡ Some p) × (resource_of name p.resources ≡ Some r)
+    × (has_place c.history.tables (scope_number (scope_of r) c.history.tables) place ≡ false)
+LacksVersion c name place f = LacksResource c name f
 
 -- a report of versions of a scope: the history after it, and how many were new
 abbrev pub IsReported : HistoryData → HistoryData → ScopeData → List TextMap → ℕ → Type 0

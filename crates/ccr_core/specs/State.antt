@@ -6,6 +6,7 @@ use Rattle.ccr_history.specs.History.{HistoryData}
 use Rattle.ccr_pipeline.specs.JobData.{ResourceData, JobData}
 use Rattle.ccr_pipeline.specs.Pipelines.{PipelineData}
 use Rattle.ccr_pipeline.specs.Tree.{Tree}
+use Rattle.ccr_problem.specs.ProblemOf.{history_number}
 use Rattle.ccr_steps.specs.Asks.{Chosen, Exchange}
 
 -- a build that runs: its job and number, its plan and the versions of its inputs, and the exchanges that it has had
@@ -38,6 +39,10 @@ resources_of s = (pipeline_of s).resources
 -- the jobs of the pipeline
 abbrev pub jobs_of : State → List JobData
 jobs_of s = (pipeline_of s).jobs
+
+-- the number that the history has for the scope of the resource of a name; 0 where it has none
+abbrev pub scope_in : State → Text → ℕ
+scope_in s resource = history_number (pipeline_of s) s.history resource
 
 -- the state with this history and these builds that run; pipeline and budget stay
 abbrev pub moved_on : State → HistoryData → List RunningData → State

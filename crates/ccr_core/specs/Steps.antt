@@ -1,21 +1,21 @@
 -- The core as a machine: which answer an event may have in a state, and the state after it.
 use Rattle.std.specs.Prelude.{◌≡◌, ℕ, Bool, true, false, List, [], ◌∷◌, map, Option, Some, None, Ok, Err}
-use Rattle.ccr_history.specs.Changes.{text, pin_set, pin_cleared, edited, changed}
+use Rattle.ccr_history.specs.Changes.{text, pin_set, pin_cleared, disabled, enabled, edited, changed}
 use Rattle.ccr_pipeline.specs.Inputs.{inputs}
 use Rattle.ccr_pipeline.specs.JobData.{JobData}
 use Rattle.ccr_pipeline.specs.Pipelines.{PipelineData}
 use Rattle.ccr_core.specs.declared.reply.Reply.{Reply}
-use Rattle.ccr_core.specs.declared.reply.Reply.TheVariants.{Set, New, Made, NoneSatisfies, OverBudget, NotNew, Busy, Goes, Ends, Pinned, Unpinned, Restarted}
+use Rattle.ccr_core.specs.declared.reply.Reply.TheVariants.{Set, New, Made, NoneSatisfies, OverBudget, NotNew, Busy, Goes, Ends, Pinned, Unpinned, Disabled, Enabled, Restarted}
 use Rattle.ccr_problem.specs.ProblemOf.{job_of}
 use Rattle.ccr_core.specs.Addressed.{AnswerTo, addressed}
 use Rattle.ccr_core.specs.Busy.{is_busy}
 use Rattle.ccr_core.specs.Builds.{Makes, Takes, cut}
 use Rattle.ccr_core.specs.Choices.{best, nothing, over_budget, Finds, used_at, is_new}
-use Rattle.ccr_core.specs.Events.{EventData, set_pipeline, checked, schedule, trigger, answer, abort, pin, unpin, restart}
+use Rattle.ccr_core.specs.Events.{EventData, set_pipeline, checked, schedule, trigger, answer, abort, pin, unpin, disable, enable, restart}
 use Rattle.ccr_core.specs.Faults.{MayRefuse, IsFree}
 use Rattle.ccr_core.specs.Replies.{Replied}
 use Rattle.ccr_core.specs.Seen.{report, news_of}
-use Rattle.ccr_core.specs.State.{RunningData, State, pipeline_of, jobs_of, moved_on, with_history, running_at}
+use Rattle.ccr_core.specs.State.{RunningData, State, pipeline_of, jobs_of, moved_on, with_history, running_at, scope_in}
 
 -- ---- the steps
 -- the text of a new pipeline is kept; tables, builds and pins stay
@@ -87,6 +87,12 @@ DoesBy s None (pin resource p) Pinned after = after ≡ with_history s (edited (
 DoesBy s None (pin resource p) r after = ⊥
 DoesBy s None (unpin resource) Unpinned after = after ≡ with_history s (edited (pin_cleared resource) s.history)
 DoesBy s None (unpin resource) r after = ⊥
+DoesBy s None (disable resource place) Disabled after =
+    after ≡ with_history s (edited (disabled (scope_in s resource) place) s.history)
+DoesBy s None (disable resource place) r after = ⊥
+DoesBy s None (enable resource place) Enabled after =
+    after ≡ with_history s (edited (enabled (scope_in s resource) place) s.history)
+DoesBy s None (enable resource place) r after = ⊥
 DoesBy s None restart Restarted after = after ≡ moved_on s (changed (map cut s.running) s.history) []
 DoesBy s None restart r after = ⊥
 

@@ -29,6 +29,11 @@ pub enum Event {
     Pin(String, ccr_history::Pin),
     /// The pin by command of the resource of this name is taken away. `NoPipeline`, `NoResource`.
     Unpin(String),
+    /// The place of the table of the resource of this name is disabled: no input takes its version until it is enabled
+    /// again. `NoPipeline`, `NoResource`; `NoVersion` where the table has no such place.
+    Disable(String, u32),
+    /// The place of the table of the resource of this name is enabled. Refused as `Disable` is.
+    Enable(String, u32),
     /// Each running build is errored, with nothing moved.
     Restart,
 }

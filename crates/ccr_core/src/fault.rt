@@ -32,6 +32,9 @@ pub enum CoreFault {
     /// There would be more than 100,000 versions in a scope, 1,000,000 scopes or 1,000,000 builds.
     #[error("table full")]
     TableFull,
+    /// The resource's table has no such place.
+    #[error("no such version")]
+    NoVersion,
     /// Out of memory.
     #[error("out of memory")]
     NoMemory,

@@ -1,7 +1,8 @@
 //! The server without the world: events in, replies and changes of the history out.
 //!
 //! The core knows a history, a pipeline, and the builds that run. An [`Event`] is one atomic step: a new pipeline, what
-//! a check found, a build that is to be made, an answer to what a build asked, an abort of a build, a pin, or a restart.
+//! a check found, a build that is to be made, an answer to what a build asked, an abort of a build, a pin, a version that
+//! is disabled or enabled, or a restart.
 //! It is answered by a [`Reply`], or refused with a [`CoreFault`], and then nothing changes.
 //!
 //! What the core does is a relation on states: from a state, an event may have a reply and lead to another state. A run
@@ -16,6 +17,7 @@
 mod answered;
 mod busy;
 mod change;
+mod disabled;
 mod end;
 mod event;
 mod fault;
@@ -52,5 +54,6 @@ pub use law::{
 };
 pub use limit::MOST_RUNNING;
 pub use machine::Core;
+pub use pick::has_news;
 pub use reply::Reply;
 pub use wanted::wants_are_answered;

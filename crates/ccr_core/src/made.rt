@@ -1,5 +1,6 @@
 //! One build that is made, and the history with it.
-ghost use Rattle.std.specs.Prelude.{◌≡◌, ◌<◌, ◌+◌, false, length, IfOk, OnOk, OnErr};
+ghost use Rattle.std.specs.Prelude.{◌≡◌, ◌<◌, ◌+◌, ℕ, List, Option, false, length, IfOk, OnOk, OnErr};
+ghost use Rattle.ccr_choice.specs.Problem.{BuildValue};
 ghost use Rattle.ccr_history.specs.declared.builds.TheConstants.{MOST_BUILDS};
 ghost use Rattle.ccr_history.specs.Builds.{count_of};
 ghost use Rattle.ccr_history.specs.Changes.{build, edited, AreUsed, IsRunning};
@@ -8,7 +9,7 @@ ghost use Rattle.ccr_pipeline.specs.JobData.{job_data};
 ghost use Rattle.ccr_pipeline.specs.Pipelines.{pipeline_data};
 ghost use Rattle.ccr_steps.specs.Runs.{run_data};
 ghost use Rattle.ccr_problem.specs.Follows.{has_newer};
-ghost use Rattle.ccr_indexes.specs.Indexes.{AreIndexes};
+ghost use Rattle.ccr_indexes.specs.Indexes.{AreIndexes, HaveRoom};
 ghost use Rattle.ccr_core.specs.Edits.{AreBuildEdits};
 ghost use Rattle.ccr_core.specs.Going.{CanMake, IsMade, Changes};
 
@@ -18,7 +19,6 @@ use crate::used::{used_at, versions_at};
 use ccr_history::{Edit, History, Made, Used};
 use ccr_indexes::Indexes;
 use ccr_pipeline::{Job, Pipeline, inputs_of};
-use ccr_problem::builds_change_problems;
 use ccr_steps::{BuildRun, Outcome, start};
 use std::alloc::{AllocError, Global};
 
@@ -48,30 +48,30 @@ fn next_row(history: &History) -> u32
     history.build_count() as u32 + 1
 }
 
-/// Adds a build for which there is room; the indexes stay. Where memory is refused, nothing changes.
+/// Adds a build for which there is room, in the history and in the indexes. Where memory is refused, nothing changes.
 fn add(
     alloc: Global,
     pipeline: &Pipeline,
     history: &mut History,
-    indexes: &Indexes,
+    indexes: &mut Indexes,
     job: &str,
     used: &[Used],
 ) -> Result<(), AllocError>
     requires room { length history.old.builds < MOST_BUILDS }
     requires used { AreUsed history.old.tables used.now }
-    requires indexed { AreIndexes (pipeline_data pipeline.now) history.old indexes.now }
+    requires indexed { AreIndexes (pipeline_data pipeline.now) history.old indexes.old }
     ensures ok { OnOk result (history.new ≡ edited (build job.now used.now) history.old) }
     ensures running { OnOk result (IsRunning job.now (count_of job.now history.old.builds + 1) history.new.builds) }
     ensures row { OnOk result (length history.old.builds + 1
         ≡ row_of job.now (count_of job.now history.old.builds + 1) history.new.builds) }
     ensures newest { OnOk result (has_newer job.now (count_of job.now history.old.builds + 1) history.new.builds
         ≡ false) }
-    ensures indexed { OnOk result (AreIndexes (pipeline_data pipeline.now) history.new indexes.now) }
+    ensures indexed { AreIndexes (pipeline_data pipeline.now) history.new indexes.new }
+    ensures spare { (brought : List (Option (ℕ × BuildValue))) → HaveRoom brought indexes.old → HaveRoom brought indexes.new }
     ensures err { OnErr result (history.new ≡ history.old) }
 {
-    builds_change_problems();
     history.rules();
-    match history.add_build(alloc, job, used) {
+    match indexes.make(alloc, pipeline, history, job, used) {
         Ok(_) => Ok(()),
         // There is room: only memory is refused.
         Err(_) => Err(AllocError),

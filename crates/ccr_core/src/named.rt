@@ -6,7 +6,6 @@ ghost use Rattle.ccr_problem.specs.ProblemOf.{resource_of, job_of, scope_of};
 
 use ccr_history::Scope;
 use ccr_pipeline::{Job, Pipeline, Resource};
-use ccr_problem::scope_of;
 use std::alloc::{AllocError, Global};
 
 /// The resource of a name.
@@ -44,7 +43,7 @@ pub(crate) fn scope_named(
         ≡ option_map scope_of (resource_of name.now (pipeline_data pipeline.now).resources)) }
 {
     match resource_named(pipeline.resources(), name) {
-        Some(resource) => Ok(Some(scope_of(alloc, resource)?)),
+        Some(resource) => Ok(Some(resource.scope().copy()?)),
         None => Ok(None),
     }
 }

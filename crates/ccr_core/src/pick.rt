@@ -34,8 +34,9 @@ pub(crate) enum Picked {
     Best(Vec<u32>),
 }
 
-/// Whether there is something new for a job at these places.
-fn has_news(
+/// Whether there is something new for a job at these places: one of its inputs with `trigger` has a place that it had in no
+/// earlier build of the job. The only error is out of memory.
+pub fn has_news(
     alloc: Global,
     pipeline: &Pipeline,
     history: &History,

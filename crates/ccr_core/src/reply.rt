@@ -29,6 +29,10 @@ pub enum Reply {
     Pinned,
     /// To `Unpin`, also where there was no pin.
     Unpinned,
+    /// To `Disable`, also where the place was disabled.
+    Disabled,
+    /// To `Enable`, also where the place was enabled.
+    Enabled,
     /// To `Restart`.
     Restarted,
 }

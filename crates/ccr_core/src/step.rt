@@ -45,6 +45,8 @@ impl Parts {
             }
             Event::Pin(resource, pin) => self.pin(alloc, resource.as_str(), pin),
             Event::Unpin(resource) => self.unpin(alloc, resource.as_str()),
+            Event::Disable(resource, place) => self.disable(alloc, resource.as_str(), place),
+            Event::Enable(resource, place) => self.enable(alloc, resource.as_str(), place),
             Event::Restart => self.restart(alloc),
         }
     }

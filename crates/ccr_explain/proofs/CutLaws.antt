@@ -1,16 +1,18 @@
 -- A choice satisfies the cut problem exactly where some choice meets the demands.
-use Rattle.std.proofs.Common.{◌≡◌, ◌↔◌, ℕ, zero, suc, ◌+◌, ◌<◌, ◌≤◌, inl, inr, Bool, true, false, ◌==◌, ◌&&◌, nat_le, cond, List, [], ◌∷◌, length, map, slice_index, slice_index_or, refl, sym, ap, ◌∙◌, subst, arith}
+use Rattle.std.proofs.Common.{◌≡◌, ◌↔◌, ℕ, zero, suc, ◌+◌, ◌<◌, ◌≤◌, inl, inr, Bool, true, false, not, ◌==◌, ◌&&◌, ◌||◌, nat_le, cond, List, [], ◌∷◌, length, map, slice_index, slice_index_or, refl, sym, ap, ◌∙◌, subst, arith}
 use Rattle.std.specs.Prelude.{All, Any, Contains, filter}
-use Rattle.std.specs.List.{list_any, range_with_len}
-use Rattle.std.proofs.lemmas.Bool.{cases_Bool, cases_eq, cond-true, cond-false, and_parts, and_from, eq-eqb, eqb-true, false≢true, false_from_ne_true}
+use Rattle.std.specs.List.{list_any, list_all, range_with_len}
+use Rattle.std.proofs.lemmas.Bool.{cases_Bool, cases_eq, cond-true, cond-false, and_parts, and_from, or_left, or_right, not_from_false, eq-eqb, eqb-true, false≢true, false_from_ne_true}
 use Rattle.std.proofs.lemmas.List.{length-map, get_or-map, get_or_default}
 use Rattle.std.proofs.lemmas.List.FromFn.{length-map-range_with_len, get_or-map-range_with_len, length-range_with_len, get_or-range_with_len}
+use Rattle.std.proofs.lemmas.List.Recursion.{and_from_places}
 use Rattle.std.proofs.lemmas.List.Elements.{All-nil, All-contains, All-get_or, Contains-get_or}
 use Rattle.ccr_choice.specs.Problem.{ProblemValue, InputValue, BuildValue, no_input, input_at, builds_at, is_problem, scopes_after, are_builds_below}
 use Rattle.ccr_choice.specs.Satisfies.{Satisfies, HasLengths, Moved, IsAllowed, IsSuccessful, HasPassed, HasPassedAll}
 use Rattle.ccr_choice.specs.Optimal.{HasNoChoice}
 use Rattle.ccr_choice.proofs.Bounds.{builds_kept}
-use Rattle.ccr_choice.proofs.Members.{contains_none, contains_first, contains_later, contains_cases, tests_contains, same_number, any_more}
+use Rattle.ccr_choice.proofs.Members.{contains_none, contains_first, contains_later, contains_cases, tests_contains, same_number, any_of, any_more}
+use Rattle.ccr_choice.proofs.Exchange.{build_at}
 use Rattle.ccr_choice.specs.Preference.{order_of}
 use Rattle.ccr_resolve.specs.Chosen.{IsChosen}
 use Rattle.ccr_resolve.specs.declared.chosen.Chosen.{Chosen}
@@ -18,11 +20,11 @@ use Rattle.ccr_resolve.specs.declared.chosen.Chosen.TheVariants.{Best, Nothing, 
 use Rattle.ccr_explain.specs.declared.demand.Demand.{Demand}
 use Rattle.ccr_explain.specs.declared.demand.Demand.TheVariants.{Allowed, Passed}
 use Rattle.ccr_explain.specs.Demand.{IsDemandOf, Meets, MeetsAll, CanBeMet, ExcludeEachOther}
-use Rattle.ccr_explain.specs.Cut.{is_allowed_of, is_passed_of, jobs_left, order_from, place_in, cut_input, cut_from, order_left, cut_to, IsTop, met_of, IsMet}
-use Rattle.ccr_explain.proofs.Lists.{contains_map, contains_filter, from_filter}
+use Rattle.ccr_explain.specs.Cut.{is_allowed_of, is_passed_of, jobs_left, order_from, place_in, top_for, cut_input, cut_from, has_place_of, is_of_use, builds_from, order_left, inputs_cut, cut_to, IsTop, IsChosenOfCut, met_of, IsMet}
+use Rattle.ccr_explain.proofs.Lists.{any_contained, contains_map, contains_filter, from_filter}
 use Rattle.ccr_explain.proofs.Orders.{has, has_it, it_has, place_below, place_at}
 use Rattle.ccr_explain.proofs.DemandLaws.{passed_of, passed_each, passed_successful}
-use Rattle.ccr_explain.proofs.CutRules.{builds_places, all_order, order_there, order_within, length_cut, product_left}
+use Rattle.ccr_explain.proofs.CutRules.{builds_places, all_order, order_there, order_within, length_cut, length_builds, product_left}
 
 -- ---- which demands there are, as tests
 is_that_allowed : (i : ℕ) (d : Demand) → (is_allowed_of i d ≡ true) ↔ (d ≡ Allowed i)
@@ -58,7 +60,31 @@ cut_at ds order top n zero m (x ∷ xs) e within =
     let same : n ≡ m = omega arith in ap (λ k. cut_input ds order top k x) same
 cut_at ds order top n (suc i) m (x ∷ xs) e within = cut_at ds order top (n + 1) i m xs (omega arith) (omega arith)
 
-module _ (ds : List Demand) (top : ℕ) (p : ProblemValue) (rules : is_problem p ≡ true) (isTop : IsTop p top) (of_problem : All (IsDemandOf p) ds) where
+builds_from_at : (p : ProblemValue) (xs : List InputValue) (n i m : ℕ) (order : List ℕ) → n + i ≡ m → i < length order
+    → slice_index_or (builds_from p xs n order) i [] ≡ filter (is_of_use xs m) (builds_at p (slice_index order i))
+builds_from_at p xs n i m [] e within = absurd (omega arith)
+builds_from_at p xs n zero m (j ∷ order) e within =
+    let same : n ≡ m = omega arith in ap (λ k. filter (is_of_use xs k) (builds_at p j)) same
+builds_from_at p xs n (suc i) m (j ∷ order) e within = builds_from_at p xs (n + 1) i m order (omega arith) (omega arith)
+
+-- where a job is left, any place up to the top one may be taken
+top_left : (top : ℕ) (js : List ℕ) (j : ℕ) → Contains js j → top_for js top ≡ top
+top_left top [] j h = absurd (contains_none j h)
+top_left top (m ∷ js) j h = refl
+
+top_least : (top : ℕ) (js : List ℕ) → 1 ≤ top → 1 ≤ top_for js top
+top_least top [] least = omega arith
+top_least top (m ∷ js) least = least
+
+-- what some builds moved, all of them did
+moved_filter : (test : BuildValue → Bool) (bs : List BuildValue) (number : ℕ) (pair : ℕ × ℕ) → Moved (filter test bs) number pair → Moved bs number pair
+moved_filter test bs number pair (k, b, within, at, both) =
+    any_of (λ c. (c.number ≡ number) × Contains c.pairs pair) b bs (from_filter test b bs (k, within, at)).0 both
+
+all_true : (test : InputValue → Bool) (xs : List InputValue) → ((i : ℕ) → i < length xs → test (slice_index_or xs i no_input) ≡ true) → list_all test xs ≡ true
+all_true test xs each = and_from_places (list_all test) test refl (λ x ys. refl) xs no_input each
+
+module _ (ds : List Demand) (top : ℕ) (p : ProblemValue) (rules : is_problem p ≡ true) (isTop : IsTop p (order_left ds p) top) (of_problem : All (IsDemandOf p) ds) where
   abbrev order : List ℕ
   order = order_left ds p
 
@@ -70,20 +96,20 @@ module _ (ds : List Demand) (top : ℕ) (p : ProblemValue) (rules : is_problem p
 
   -- the parts of the cut problem
   input_cut : (i : ℕ) → i < length p.inputs → input_at q i ≡ cut_input ds order top i (input_at p i)
-  unfolding cut_to
+  unfolding cut_to inputs_cut
   input_cut i within = cut_at ds order top 0 i i p.inputs (omega arith) within
 
-  inputs_cut : length q.inputs ≡ length p.inputs
-  unfolding cut_to
-  inputs_cut = length_cut ds order top 0 p.inputs
+  inputs_long : length q.inputs ≡ length p.inputs
+  unfolding cut_to inputs_cut
+  inputs_long = length_cut ds order top 0 p.inputs
 
-  jobs_cut : length q.jobs ≡ length order
+  jobs_long : length q.jobs ≡ length order
   unfolding cut_to
-  jobs_cut = length-map order (builds_at p)
+  jobs_long = length_builds p q.inputs 0 order
 
-  builds_cut : (n : ℕ) → n < length order → builds_at q n ≡ builds_at p (slice_index order n)
+  builds_cut : (n : ℕ) → n < length order → builds_at q n ≡ filter (is_of_use q.inputs n) (builds_at p (slice_index order n))
   unfolding cut_to
-  builds_cut n within = get_or-map (builds_at p) order n 0 [] within
+  builds_cut n within = builds_from_at p q.inputs 0 n n order (omega arith) within
 
   -- what is left is demanded, and has its place
   left_demanded : (i j : ℕ) → Contains (left i) j → Contains ds (Passed i j)
@@ -97,10 +123,11 @@ module _ (ds : List Demand) (top : ℕ) (p : ProblemValue) (rules : is_problem p
   left_there i j within h = order_there ds 0 i i [] p.inputs j (omega arith) within h
 
   -- the builds of a job under its new number
-  builds_of : (i j : ℕ) → i < length p.inputs → Contains (left i) j → builds_at q (place_in order j) ≡ builds_at p j
+  builds_of : (i j : ℕ) → i < length p.inputs → Contains (left i) j → builds_at q (place_in order j) ≡ filter (is_of_use q.inputs (place_in order j)) (builds_at p j)
   builds_of i j within h =
       let there = left_there i j within h in
-      builds_cut (place_in order j) (place_below order j there) ∙ ap (builds_at p) (place_at order j there)
+      let n = place_in order j in
+      builds_cut n (place_below order j there) ∙ ap (λ m. filter (is_of_use q.inputs n) (builds_at p m)) (place_at order j there)
 
   -- ---- from the cut problem to the demands
   module _ (places builds : List ℕ) (s : Satisfies q places builds) where
@@ -120,9 +147,9 @@ module _ (ds : List Demand) (top : ℕ) (p : ProblemValue) (rules : is_problem p
     allowed_back i within h =
         let among = list_any (is_allowed_of i) ds in
         let e : (input_at q i).places ≡ (input_at p i).places = ap (λ x. x.places) (input_cut i within)
-        ∙ cond-true among (input_at p i).places (range_with_len 1 top) ((allowed_among ds i).1 h) in
+        ∙ cond-true among (input_at p i).places (range_with_len 1 (top_for (left i) top)) ((allowed_among ds i).1 h) in
         let P : List ℕ → Type 0 = λ xs. Contains xs (slice_index places i) in
-        subst P e (s.allowed i (omega (arith, within, inputs_cut)))
+        subst P e (s.allowed i (omega (arith, within, inputs_long)))
 
     passed_back : (i j : ℕ) → i < length p.inputs → j < length p.jobs → Contains (left i) j → HasPassed p places builds_back i j
     unfolding HasPassed
@@ -131,11 +158,12 @@ module _ (ds : List Demand) (top : ℕ) (p : ProblemValue) (rules : is_problem p
         let jobs : (input_at q i).jobs ≡ map (place_in order) (left i) = ap (λ x. x.jobs) (input_cut i within) in
         let J : List ℕ → Type 0 = λ xs. Contains xs n in
         let named : Contains (input_at q i).jobs n = subst J (sym jobs) (contains_map (place_in order) j (left i) h) in
-        let now : HasPassed q places builds i n = passed_of q places builds i n (s.passed i (omega (arith, within, inputs_cut))) named in
+        let now : HasPassed q places builds i n = passed_of q places builds i n (s.passed i (omega (arith, within, inputs_long))) named in
         let B : List BuildValue → Type 0 = λ bs. Moved bs (slice_index builds n) ((input_at q i).scope, slice_index places i) in
         let S : ℕ → Type 0 = λ x. Moved (builds_at p j) (slice_index builds n) (x, slice_index places i) in
         let N : ℕ → Type 0 = λ x. Moved (builds_at p j) x ((input_at p i).scope, slice_index places i) in
-        subst N (sym (back_at j known)) (subst S (ap (λ x. x.scope) (input_cut i within)) (subst B (builds_of i j within h) now))
+        let all = moved_filter (is_of_use q.inputs n) (builds_at p j) (slice_index builds n) ((input_at q i).scope, slice_index places i) (subst B (builds_of i j within h) now) in
+        subst N (sym (back_at j known)) (subst S (ap (λ x. x.scope) (input_cut i within)) all)
 
     one_met : (d : Demand) → IsDemandOf p d → Contains ds d → Meets p places builds_back d
     one_met (Allowed i) h among = allowed_back i h among
@@ -149,7 +177,7 @@ module _ (ds : List Demand) (top : ℕ) (p : ProblemValue) (rules : is_problem p
       places = places;
       builds = builds_back;
       meets = record {
-        lengths = record { place_each = s.lengths.place_each ∙ inputs_cut; build_each = long };
+        lengths = record { place_each = s.lengths.place_each ∙ inputs_long; build_each = long };
         each = λ k d within. one_met (slice_index_or ds k d) (of_problem k d within) (Contains-get_or ds k d within);
       };
     }
@@ -190,10 +218,10 @@ module _ (ds : List Demand) (top : ℕ) (p : ProblemValue) (rules : is_problem p
 
     -- the places of the cut input
     places_kept : (i : ℕ) → i < length p.inputs → list_any (is_allowed_of i) ds ≡ true → (input_at q i).places ≡ (input_at p i).places
-    places_kept i within holds = ap (λ x. x.places) (input_cut i within) ∙ cond-true (list_any (is_allowed_of i) ds) (input_at p i).places (range_with_len 1 top) holds
+    places_kept i within holds = ap (λ x. x.places) (input_cut i within) ∙ cond-true (list_any (is_allowed_of i) ds) (input_at p i).places (range_with_len 1 (top_for (left i) top)) holds
 
-    places_free : (i : ℕ) → i < length p.inputs → list_any (is_allowed_of i) ds ≡ false → (input_at q i).places ≡ range_with_len 1 top
-    places_free i within fails = ap (λ x. x.places) (input_cut i within) ∙ cond-false (list_any (is_allowed_of i) ds) (input_at p i).places (range_with_len 1 top) fails
+    places_free : (i : ℕ) → i < length p.inputs → list_any (is_allowed_of i) ds ≡ false → (input_at q i).places ≡ range_with_len 1 (top_for (left i) top)
+    places_free i within fails = ap (λ x. x.places) (input_cut i within) ∙ cond-false (list_any (is_allowed_of i) ds) (input_at p i).places (range_with_len 1 (top_for (left i) top)) fails
 
     -- where the allowed places are demanded, the choice's place fits
     demanded_fits : (i : ℕ) → i < length p.inputs → list_any (is_allowed_of i) ds ≡ true → fits i ≡ true
@@ -212,31 +240,32 @@ module _ (ds : List Demand) (top : ℕ) (p : ProblemValue) (rules : is_problem p
           | inr fails ↦ subst P (sym (place_at_input i within ∙ cond-false (fits i) (slice_index places i) 1 fails)) (elim (cases_Bool (list_any (is_allowed_of i) ds)) [
             | inl holds ↦ absurd (false≢true (sym fails ∙ demanded_fits i within holds))
             | inr free ↦ (let Q : List ℕ → Type 0 = λ ys. Contains ys 1 in
-                subst Q (sym (places_free i within free)) (range_has 1 top 1 (omega arith) (omega (arith, isTop.least))))
+                subst Q (sym (places_free i within free)) (range_has 1 (top_for (left i) top) 1 (omega arith) (omega (arith, top_least top (left i) isTop.least))))
           ])
         ]
 
     -- a place that has passed a job fits
-    moved_between : (j place : ℕ) (scope number : ℕ) → j < length p.jobs → Moved (builds_at p j) number (scope, place) → (1 ≤ place) × (place ≤ top)
-    moved_between j place scope number known (k, b, inside, at, (is, has)) =
+    moved_between : (j place : ℕ) (scope number : ℕ) → Contains order j → Moved (builds_at p j) number (scope, place) → (1 ≤ place) × (place ≤ top)
+    moved_between j place scope number there (k, b, inside, at, (is, has)) =
+        let known = All-contains (λ n. n < length p.jobs) order j (order_within ds p rules) there in
         let scopes = scopes_after 0 p.inputs in
         let kept = builds_places scopes 1000001 (builds_at p j)
         (and_parts (nat_le (length (builds_at p j)) 1000000) (are_builds_below scopes 1000001 (builds_at p j)) (builds_kept p j (builds_at p j) rules known refl)).1 in
         let among : Contains (builds_at p j) b = (k, inside, at) in
         let low = All-contains (λ r. (0 < r.1) × (r.1 ≤ 100000)) b.pairs (scope, place) (All-contains (λ c. All (λ r. (0 < r.1) × (r.1 ≤ 100000)) c.pairs) (builds_at p j) b kept among) has in
-        let covered = All-get_or (λ bs. All (λ c. All (λ r. r.1 ≤ top) c.pairs) bs) p.jobs j [] known isTop.covers in
+        let covered = All-contains (λ n. All (λ c. All (λ r. r.1 ≤ top) c.pairs) (builds_at p n)) order j isTop.covers there in
         let high = All-contains (λ r. r.1 ≤ top) b.pairs (scope, place) (All-contains (λ c. All (λ r. r.1 ≤ top) c.pairs) (builds_at p j) b covered among) has in
         (omega (arith, low.0), high)
 
-    passed_fits : (i j : ℕ) → i < length p.inputs → j < length p.jobs → HasPassed p places builds i j → fits i ≡ true
+    passed_fits : (i j : ℕ) → i < length p.inputs → Contains (left i) j → HasPassed p places builds i j → fits i ≡ true
     unfolding fits HasPassed
-    passed_fits i j within known h =
+    passed_fits i j within left_over h =
         elim (cases_Bool (list_any (is_allowed_of i) ds)) [
           | inl holds ↦ demanded_fits i within holds
           | inr free ↦ (let P : List ℕ → Type 0 = λ xs. Contains xs (slice_index places i) in
-              let between = moved_between j (slice_index places i) (input_at p i).scope (slice_index builds j) known h in
+              let between = moved_between j (slice_index places i) (input_at p i).scope (slice_index builds j) (left_there i j within left_over) h in
               it_has (input_at q i).places (slice_index places i)
-              (subst P (sym (places_free i within free)) (range_has 1 top (slice_index places i) between.0 (omega (arith, between.1)))))
+              (subst P (sym (places_free i within free)) (range_has 1 (top_for (left i) top) (slice_index places i) between.0 (omega (arith, between.1, top_left top (left i) j left_over)))))
         ]
 
     -- each job that is left has a build, which some input demands
@@ -254,15 +283,70 @@ module _ (ds : List Demand) (top : ℕ) (p : ProblemValue) (rules : is_problem p
     passed_left : (i j : ℕ) → Contains (left i) j → HasPassed p places builds i j
     passed_left i j h = met (Passed i j) (left_demanded i j h)
 
+    -- the build that was chosen for a job is of use
+    has_it_too : (i j : ℕ) (pair : ℕ × ℕ) (b : BuildValue) → j < length p.jobs → Contains (builds_at p j) b → b.number ≡ slice_index builds j → Moved (builds_at p j) (slice_index builds j) pair
+        → (input_at q i).scope ≡ pair.0 → list_any (λ y. y == pair.1) (input_at q i).places ≡ true → has_place_of (input_at q i) b.pairs ≡ true
+    has_it_too i j pair b known among number (k, c, there, at, both) scope fine =
+        let same : c ≡ b = build_at p rules j c b known (k, there, at) among (both.0 ∙ sym number) in
+        let P : BuildValue → Type 0 = λ d. Contains d.pairs pair in
+        any_contained (λ r. r.0 == (input_at q i).scope && list_any (λ y. y == r.1) (input_at q i).places) pair b.pairs (subst P same both.1)
+        (and_from _ _ (eq-eqb pair.0 (input_at q i).scope (sym scope)) fine)
+
+    use_of : (n i : ℕ) (b : BuildValue) → n < length order → i < length p.inputs → Contains (builds_at p (slice_index order n)) b → b.number ≡ slice_index builds (slice_index order n)
+        → Contains (left i) (slice_index order n) → has_place_of (input_at q i) b.pairs ≡ true
+    unfolding HasPassed fits
+    use_of n i b inside within among number h =
+        let j = slice_index order n in
+        let pair : ℕ × ℕ = ((input_at p i).scope, slice_index places i) in
+        let passed = passed_left i j h in
+        let fine : list_any (λ y. y == slice_index places i) (input_at q i).places ≡ true = passed_fits i j within h passed in
+        let known = All-get_or (λ k. k < length p.jobs) order n 0 inside (order_within ds p rules) in
+        has_it_too i j pair b known among number passed (ap (λ y. y.scope) (input_cut i within)) fine
+
+    one_use : (n i : ℕ) (b : BuildValue) → n < length order → i < length p.inputs → Contains (builds_at p (slice_index order n)) b → b.number ≡ slice_index builds (slice_index order n)
+        → Contains (input_at q i).jobs n → has_place_of (input_at q i) b.pairs ≡ true
+    one_use n i b inside within among number named =
+        let jobs : (input_at q i).jobs ≡ map (place_in order) (left i) = ap (λ x. x.jobs) (input_cut i within) in
+        let P : List ℕ → Type 0 = λ xs. Contains xs n in
+        let there = subst P jobs named in
+        let k = there.0 in
+        let low : k < length (left i) = omega (arith, there.1, length-map (left i) (place_in order)) in
+        let j = slice_index (left i) k in
+        let one : Contains (left i) j = Contains-get_or (left i) k 0 low in
+        let e : place_in order j ≡ n = sym (get_or-map (place_in order) (left i) k 0 0 low) ∙ get_or_default (map (place_in order) (left i)) k 0 n there.1 ∙ there.2 in
+        let same : j ≡ slice_index order n = sym (place_at order j (left_there i j within one)) ∙ ap (slice_index order) e in
+        let Q : ℕ → Type 0 = λ m. Contains (left i) m in
+        use_of n i b inside within among number (subst Q same one)
+
+    of_use : (n : ℕ) (b : BuildValue) → n < length order → Contains (builds_at p (slice_index order n)) b → b.number ≡ slice_index builds (slice_index order n) → is_of_use q.inputs n b ≡ true
+    of_use n b inside among number =
+        all_true (λ x. not (list_any (λ m. m == n) x.jobs) || has_place_of x b.pairs) q.inputs (λ i below. (let within : i < length p.inputs = omega (arith, below, inputs_long) in
+        let x = input_at q i in
+        let named = list_any (λ m. m == n) x.jobs in
+        elim (cases_Bool named) [
+          | inr fails ↦ or_left (not named) (has_place_of x b.pairs) (not_from_false named fails)
+          | inl holds ↦ or_right (not named) (has_place_of x b.pairs) (one_use n i b inside within among number (has_it x.jobs n holds))
+        ]))
+
+    -- what was moved with the chosen build of a job, is moved with it in the cut problem
+    moved_on : (n j : ℕ) (pair : ℕ × ℕ) → n < length order → slice_index order n ≡ j → Moved (builds_at p j) (slice_index builds j) pair → Moved (builds_at q n) (slice_index builds j) pair
+    moved_on n j pair inside same (k, b, within, at, both) =
+        let J : ℕ → Type 0 = λ m. Contains (builds_at p m) b × (b.number ≡ slice_index builds m) in
+        let here = subst J (sym same) ((k, within, at), both.0) in
+        let B : List BuildValue → Type 0 = λ bs. Moved bs (slice_index builds j) pair in
+        subst B (sym (builds_cut n inside)) (any_of (λ c. (c.number ≡ slice_index builds j) × Contains c.pairs pair) b (filter (is_of_use q.inputs n) (builds_at p (slice_index order n)))
+        (contains_filter (is_of_use q.inputs n) b (builds_at p (slice_index order n)) here.0 (of_use n b inside here.0 here.1)) both)
+
     successful_on : (n : ℕ) → n < length order → IsSuccessful q builds_on n
-    unfolding IsSuccessful
+    unfolding HasPassed IsSuccessful
     successful_on n within =
         let j = slice_index order n in
         let by = All-get_or IsLeft order n 0 within each_left in
-        let now : IsSuccessful p builds j = passed_successful p places builds by.input j (passed_left by.input j by.left) in
-        let B : List BuildValue → Type 0 = λ bs. Any (λ b. b.number ≡ slice_index builds j) bs in
+        let pair : ℕ × ℕ = ((input_at p by.input).scope, slice_index places by.input) in
+        let now : Moved (builds_at q n) (slice_index builds j) pair = moved_on n j pair within refl (passed_left by.input j by.left) in
         let N : ℕ → Type 0 = λ x. Any (λ b. b.number ≡ x) (builds_at q n) in
-        subst N (sym (build_at_job n within)) (subst B (sym (builds_cut n within)) now)
+        subst N (sym (build_at_job n within))
+        (any_more (λ b. (b.number ≡ slice_index builds j) × Contains b.pairs pair) (λ b. b.number ≡ slice_index builds j) (builds_at q n) (λ b both. both.0) now)
 
     passed_on : (i j : ℕ) → i < length p.inputs → Contains (left i) j → HasPassed q places_on builds_on i (place_in order j)
     unfolding HasPassed pick fits
@@ -270,15 +354,14 @@ module _ (ds : List Demand) (top : ℕ) (p : ProblemValue) (rules : is_problem p
         let n = place_in order j in
         let there = left_there i j within h in
         let below = place_below order j there in
-        let known = All-contains (λ k. k < length p.jobs) order j (order_within ds p rules) there in
-        let now = passed_left i j h in
+        let passed = passed_left i j h in
+        let now = moved_on n j ((input_at p i).scope, slice_index places i) below (place_at order j there) passed in
         let number : slice_index builds_on n ≡ slice_index builds j = build_at_job n below ∙ ap (slice_index builds) (place_at order j there) in
-        let place : slice_index places_on i ≡ slice_index places i = place_at_input i within ∙ cond-true (fits i) (slice_index places i) 1 (passed_fits i j within known now) in
-        let B : List BuildValue → Type 0 = λ bs. Moved bs (slice_index builds j) ((input_at p i).scope, slice_index places i) in
+        let place : slice_index places_on i ≡ slice_index places i = place_at_input i within ∙ cond-true (fits i) (slice_index places i) 1 (passed_fits i j within h passed) in
         let S : ℕ → Type 0 = λ x. Moved (builds_at q n) (slice_index builds j) (x, slice_index places i) in
         let N : ℕ → Type 0 = λ x. Moved (builds_at q n) x ((input_at q i).scope, slice_index places i) in
         let L : ℕ → Type 0 = λ x. Moved (builds_at q n) (slice_index builds_on n) ((input_at q i).scope, x) in
-        subst L (sym place) (subst N (sym number) (subst S (sym (ap (λ x. x.scope) (input_cut i within))) (subst B (sym (builds_of i j within h)) now)))
+        subst L (sym place) (subst N (sym number) (subst S (sym (ap (λ x. x.scope) (input_cut i within))) now))
 
     passed_number : (i n : ℕ) → i < length p.inputs → (k : ℕ) → k < length (left i) → slice_index (map (place_in order) (left i)) k ≡ n → HasPassed q places_on builds_on i n
     passed_number i n within k inside e =
@@ -296,10 +379,10 @@ module _ (ds : List Demand) (top : ℕ) (p : ProblemValue) (rules : is_problem p
 
     pub satisfies_on : Satisfies q places_on builds_on
     satisfies_on = record {
-      lengths = record { place_each = places_long ∙ sym inputs_cut; build_each = builds_long ∙ sym jobs_cut };
-      allowed = λ i within. allowed_on i (omega (arith, within, inputs_cut));
-      successful = λ n within. successful_on n (omega (arith, within, jobs_cut));
-      passed = λ i within. passed_all i (omega (arith, within, inputs_cut));
+      lengths = record { place_each = places_long ∙ sym inputs_long; build_each = builds_long ∙ sym jobs_long };
+      allowed = λ i within. allowed_on i (omega (arith, within, inputs_long));
+      successful = λ n within. successful_on n (omega (arith, within, jobs_long));
+      passed = λ i within. passed_all i (omega (arith, within, inputs_long));
     }
 
   -- where the cut problem has no choice, the demands exclude each other
@@ -307,8 +390,12 @@ module _ (ds : List Demand) (top : ℕ) (p : ProblemValue) (rules : is_problem p
   none_excludes no_choice places builds m = no_choice (places_on places builds m) (builds_on places builds m) (satisfies_on places builds m)
 
 -- what is chosen for the cut problem tells whether the demands can be met
-pub chosen_met : (ds : List Demand) (top : ℕ) (p : ProblemValue) → is_problem p ≡ true → IsTop p top → All (IsDemandOf p) ds → (budget : ℕ) (x : Chosen)
-    → IsChosen (order_of (cut_to ds top p)) (cut_to ds top p) budget x → IsMet p ds budget (met_of x)
-chosen_met ds top p rules isTop of_problem budget (Best c) h = met_back ds top p rules isTop of_problem c.places c.builds h.satisfies
-chosen_met ds top p rules isTop of_problem budget Nothing h = none_excludes ds top p rules isTop of_problem h
-chosen_met ds top p rules isTop of_problem budget (OverBudget n) h = omega (arith, h.1.product, product_left ds top p rules)
+pub chosen_met : (ds : List Demand) (p : ProblemValue) → is_problem p ≡ true → All (IsDemandOf p) ds → (budget : ℕ) (x : Chosen) → IsChosenOfCut ds p budget x → IsMet p ds budget (met_of x)
+chosen_met ds p rules of_problem budget x h =
+    let P : ProblemValue → Type 0 = λ q. IsChosen (order_of q) q budget x in
+    told h.is_cut.top h.is_cut.is_top x (subst P h.is_cut.is h.chosen)
+  where
+    told : (top : ℕ) → IsTop p (order_left ds p) top → (y : Chosen) → IsChosen (order_of (cut_to ds top p)) (cut_to ds top p) budget y → IsMet p ds budget (met_of y)
+    told top isTop (Best c) h = met_back ds top p rules isTop of_problem c.places c.builds h.satisfies
+    told top isTop Nothing h = none_excludes ds top p rules isTop of_problem h
+    told top isTop (OverBudget n) h = omega (arith, h.1.product, product_left ds top p rules)

@@ -1,21 +1,28 @@
 -- A problem that is cut keeps the rules of problems.
-use Rattle.std.proofs.Common.{◌≡◌, ◌≢◌, ℕ, zero, suc, ◌+◌, ◌<◌, ◌≤◌, inl, inr, Bool, true, false, ◌==◌, nat_lt, nat_le, cond, List, [], ◌∷◌, ◌++◌, length, map, slice_index, slice_index_or, refl, sym, ap, ◌∙◌, subst, arith}
+use Rattle.std.proofs.Common.{◌≡◌, ◌≢◌, ℕ, zero, suc, ◌+◌, ◌*◌, ◌<◌, ◌≤◌, inl, inr, Bool, true, false, ◌==◌, ◌&&◌, nat_lt, nat_le, cond, List, [], ◌∷◌, ◌++◌, length, map, slice_index, slice_index_or, refl, sym, ap, ◌∙◌, subst, arith}
 use Rattle.std.specs.Prelude.{All, Contains, EachIndex, filter}
 use Rattle.std.specs.List.{list_any, list_all, range_with_len}
 use Rattle.std.proofs.lemmas.Bool.{cases_Bool, cond-true, cond-false, and_parts, and_from, leb-true, le-leb, ltb-true, lt-ltb, eq-eqb, eqb-true, ne_eqb}
 use Rattle.std.proofs.lemmas.List.{append_assoc, length-append, length-map, length_push}
 use Rattle.std.proofs.lemmas.List.Elements.{All-nil, All-cons, All-head, All-tail, All-contains, All-get_or, All-from_get_or, Contains-get_or}
-use Rattle.ccr_choice.specs.Problem.{ProblemValue, InputValue, BuildValue, no_input, input_at, builds_at, next_used, used_after, scopes_after, jobs_after, are_numbered, are_distinct, are_places_after, are_pairs_after, is_input, are_inputs, is_build, are_builds_below, are_builds, is_problem}
+use Rattle.ccr_choice.specs.Problem.{ProblemValue, InputValue, BuildValue, no_input, input_at, builds_at, next_used, used_after, scopes_after, jobs_after, are_numbered, are_distinct, are_places_after, are_pairs_after, is_after, is_input, are_inputs, is_build, are_builds_below, are_builds, is_problem}
 use Rattle.ccr_choice.proofs.Bounds.{Rules, rules_of, builds_kept}
 use Rattle.ccr_choice.proofs.Numbering.{named_below}
+use Rattle.std.proofs.Math.Nat.{mul-le-mul_left, mul-le-mul_right}
+use Rattle.ccr_choice.specs.Ascending.{AreRising}
+use Rattle.ccr_choice.proofs.Lookups.{places_rise}
 use Rattle.ccr_choice.proofs.Members.{contains_none, contains_first, contains_later}
 use Rattle.ccr_resolve.specs.Room.{product}
 use Rattle.ccr_explain.specs.declared.demand.Demand.{Demand}
-use Rattle.ccr_explain.specs.Cut.{is_allowed_of, is_passed_of, jobs_left, with_job, with_jobs, order_from, place_in, cut_input, cut_from, order_left, cut_to, IsTop}
-use Rattle.ccr_explain.proofs.Lists.{all_contained, from_filter}
+use Rattle.ccr_explain.specs.Cut.{is_allowed_of, is_passed_of, jobs_left, with_job, with_jobs, order_from, place_in, top_for, cut_input, cut_from, is_of_use, builds_from, order_left, inputs_cut, cut_to}
+use Rattle.ccr_explain.proofs.Lists.{length_filter, all_contained, from_filter}
 use Rattle.ccr_explain.proofs.Orders.{has, has_it, Grows, grows_none, grows_twice, grown_has, grows_jobs, jobs_there, all_jobs, Distinct, none, distinct_jobs, few_distinct, product_within, distinct_left, place_below, place_front, place_new}
 
 -- ---- places
+top_for-le : (top : ℕ) (js : List ℕ) → 1 ≤ top → top_for js top ≤ top
+top_for-le top [] least = least
+top_for-le top (j ∷ js) least = omega arith
+
 pub range_places : (low a n : ℕ) → low < a → a + n ≤ 100001 → are_places_after low (range_with_len a n) ≡ true
 range_places low a zero above most = refl
 range_places low a (suc n) above most =
@@ -90,9 +97,17 @@ order_known ds p order rules e =
     let P : List ℕ → Type 0 = λ xs. EachIndex xs (λ k. slice_index xs k < length p.jobs) in
     subst P (sym e) (λ k within. All-get_or (λ j. j < length p.jobs) (order_left ds p) k 0 within (order_within ds p rules))
 
+fewer_product : (p : ProblemValue) (xs : List InputValue) (n : ℕ) (order : List ℕ) → product (builds_from p xs n order) ≤ product (map (builds_at p) order)
+fewer_product p xs n [] = omega arith
+fewer_product p xs n (j ∷ order) =
+    let kept = filter (is_of_use xs n) (builds_at p j) in
+    let less : 1 + length kept ≤ 1 + length (builds_at p j) = omega (arith, length_filter (is_of_use xs n) (builds_at p j)) in
+    omega (arith, mul-le-mul_left (1 + length kept) (fewer_product p xs (n + 1) order), mul-le-mul_right (product (map (builds_at p) order)) less)
+
 pub product_left : (ds : List Demand) (top : ℕ) (p : ProblemValue) → is_problem p ≡ true → product (cut_to ds top p).jobs ≤ product p.jobs
 unfolding cut_to order_left
-product_left ds top p rules = product_within p.jobs (order_left ds p) (distinct_order ds 0 [] p.inputs none) (order_within ds p rules)
+product_left ds top p rules =
+    omega (arith, fewer_product p (inputs_cut ds top p) 0 (order_left ds p), product_within p.jobs (order_left ds p) (distinct_order ds 0 [] p.inputs none) (order_within ds p rules))
 
 -- ---- the new numbers
 module _ (final : List ℕ) (few : length final ≤ 32) where
@@ -137,36 +152,39 @@ pub record AreCut (ds : List Demand) (top : ℕ) (final : List ℕ) (n s : ℕ) 
   pub jobs : jobs_after (length order) (cut_from ds final top n xs) ≡ length final
   pub scopes : scopes_after s (cut_from ds final top n xs) ≡ scopes_after s xs
 
-module _ (ds : List Demand) (top : ℕ) (most : top ≤ 100000) (final : List ℕ) (few : length final ≤ 32) where
+module _ (ds : List Demand) (top : ℕ) (least : 1 ≤ top) (most : top ≤ 100000) (final : List ℕ) (few : length final ≤ 32) where
   places_cut : (n : ℕ) (x : InputValue) → are_places_after 0 x.places ≡ true → are_places_after 0 (cut_input ds final top n x).places ≡ true
   places_cut n x h =
       let P : List ℕ → Type 0 = λ ys. are_places_after 0 ys ≡ true in
       let left = list_any (is_allowed_of n) ds in
+      let far = top_for (jobs_left ds n x.jobs) top in
       elim (cases_Bool left) [
-        | inl holds ↦ subst P (sym (cond-true left x.places (range_with_len 1 top) holds)) h
-        | inr fails ↦ subst P (sym (cond-false left x.places (range_with_len 1 top) fails)) (range_places 0 1 top (omega arith) (omega arith))
+        | inl holds ↦ subst P (sym (cond-true left x.places (range_with_len 1 far) holds)) h
+        | inr fails ↦ subst P (sym (cond-false left x.places (range_with_len 1 far) fails))
+            (range_places 0 1 far (omega arith) (omega (arith, top_for-le top (jobs_left ds n x.jobs) least)))
       ]
 
-  pub inputs_cut : (n s : ℕ) (order : List ℕ) (xs : List InputValue) (used : ℕ) → are_inputs s used xs ≡ true → final ≡ order_from ds n order xs → AreCut ds top final n s order xs
-  inputs_cut n s order [] used h e = record { inputs = refl; jobs = sym (ap length e); scopes = refl }
-  inputs_cut n s order (x ∷ xs) used h e =
+  pub cut_so : (n s : ℕ) (order : List ℕ) (xs : List InputValue) (used : ℕ) → are_inputs s used xs ≡ true → final ≡ order_from ds n order xs → AreCut ds top final n s order xs
+  cut_so n s order [] used h e = record { inputs = refl; jobs = sym (ap length e); scopes = refl }
+  cut_so n s order (x ∷ xs) used h e =
       let parts = and_parts (is_input s used x) (are_inputs (next_used s x.scope) (used_after used x.jobs) xs) h in
       let a = and_parts _ _ parts.0 in
       let b = and_parts _ _ a.1 in
       let c = and_parts _ _ b.1 in
+      let d = and_parts (is_after x.after) (are_places_after 0 x.places) c.1 in
       let js = jobs_left ds n x.jobs in
       let next = with_jobs order js in
       let grown = grows_order ds (n + 1) next xs in
       let front : final ≡ next ++ grown.added = e ∙ grown.is in
       let so = numbered final few order js grown.added front in
-      let rest = inputs_cut (n + 1) (next_used s x.scope) next xs (used_after used x.jobs) parts.1 e in
+      let rest = cut_so (n + 1) (next_used s x.scope) next xs (used_after used x.jobs) parts.1 e in
       let there : All (Contains final) js = all_contained (Contains final) js (λ j among. (let P : List ℕ → Type 0 = λ ys. Contains ys j in
       subst P (sym e) (grown_has j grown (jobs_there order js j among)))) in
       let apart = distinct_left (λ j. list_any (is_passed_of n j) ds) final x.jobs there b.0 in
       let P : ℕ → Type 0 = λ u. are_inputs (next_used s x.scope) u (cut_from ds final top (n + 1) xs) ≡ true in
       let Q : ℕ → Type 0 = λ u. jobs_after u (cut_from ds final top (n + 1) xs) ≡ length final in
       record {
-        inputs = and_from _ _ (and_from _ _ a.0 (and_from _ _ apart (and_from _ _ so.numbered (places_cut n x c.1)))) (subst P (sym so.used) rest.inputs);
+        inputs = and_from _ _ (and_from _ _ a.0 (and_from _ _ apart (and_from _ _ so.numbered (and_from _ _ d.0 (places_cut n x d.1))))) (subst P (sym so.used) rest.inputs);
         jobs = subst Q (sym so.used) rest.jobs;
         scopes = rest.scopes;
       }
@@ -175,22 +193,78 @@ pub length_cut : (ds : List Demand) (order : List ℕ) (top n : ℕ) (xs : List 
 length_cut ds order top n [] = refl
 length_cut ds order top n (x ∷ xs) = ap (λ k. suc k) (length_cut ds order top (n + 1) xs)
 
-builds_left : (p : ProblemValue) → is_problem p ≡ true → (order : List ℕ) → All (λ j. j < length p.jobs) order → list_all (are_builds (scopes_after 0 p.inputs)) (map (builds_at p) order) ≡ true
-builds_left p rules [] all = refl
-builds_left p rules (j ∷ order) all =
-    and_from _ _ (builds_kept p j (builds_at p j) rules (All-head (λ k. k < length p.jobs) j order all) refl)
-    (builds_left p rules order (All-tail (λ k. k < length p.jobs) j order all))
+pub length_builds : (p : ProblemValue) (xs : List InputValue) (n : ℕ) (order : List ℕ) → length (builds_from p xs n order) ≡ length order
+length_builds p xs n [] = refl
+length_builds p xs n (j ∷ order) = ap (λ k. suc k) (length_builds p xs (n + 1) order)
+
+lower_builds : (scopes low high : ℕ) (bs : List BuildValue) → low ≤ high → are_builds_below scopes low bs ≡ true → are_builds_below scopes high bs ≡ true
+lower_builds scopes low high [] le h = refl
+lower_builds scopes low high (b ∷ bs) le h =
+    let parts = and_parts (is_build scopes low b) (are_builds_below scopes b.number bs) h in
+    let one = and_parts (nat_lt 0 b.number) (nat_lt b.number low && are_pairs_after scopes 0 0 b.pairs) parts.0 in
+    let two = and_parts (nat_lt b.number low) (are_pairs_after scopes 0 0 b.pairs) one.1 in
+    and_from _ _ (and_from _ _ one.0 (and_from _ _ (lt-ltb b.number high (omega (arith, ltb-true b.number low two.0))) two.1)) parts.1
+
+filtered_below : (test : BuildValue → Bool) (scopes high : ℕ) (bs : List BuildValue) → are_builds_below scopes high bs ≡ true → are_builds_below scopes high (filter test bs) ≡ true
+filtered_below test scopes high [] h = refl
+filtered_below test scopes high (b ∷ bs) h =
+    let parts = and_parts (is_build scopes high b) (are_builds_below scopes b.number bs) h in
+    let one = and_parts (nat_lt 0 b.number) (nat_lt b.number high && are_pairs_after scopes 0 0 b.pairs) parts.0 in
+    let two = and_parts (nat_lt b.number high) (are_pairs_after scopes 0 0 b.pairs) one.1 in
+    let rest = filtered_below test scopes b.number bs parts.1 in
+    let P : List BuildValue → Type 0 = λ cs. are_builds_below scopes high cs ≡ true in
+    elim (cases_Bool (test b)) [
+      | inl holds ↦ subst P (sym (cond-true (test b) (b ∷ filter test bs) (filter test bs) holds)) (and_from _ _ parts.0 rest)
+      | inr fails ↦ subst P (sym (cond-false (test b) (b ∷ filter test bs) (filter test bs) fails))
+          (lower_builds scopes b.number high (filter test bs) (omega (arith, ltb-true b.number high two.0)) rest)
+    ]
+
+filtered_builds : (test : BuildValue → Bool) (scopes : ℕ) (bs : List BuildValue) → are_builds scopes bs ≡ true → are_builds scopes (filter test bs) ≡ true
+filtered_builds test scopes bs h =
+    let parts = and_parts (nat_le (length bs) 1000000) (are_builds_below scopes 1000001 bs) h in
+    and_from _ _ (le-leb (length (filter test bs)) 1000000 (omega (arith, length_filter test bs, leb-true (length bs) 1000000 parts.0)))
+    (filtered_below test scopes 1000001 bs parts.1)
+
+builds_left : (p : ProblemValue) → is_problem p ≡ true → (xs : List InputValue) (n : ℕ) (order : List ℕ) → All (λ j. j < length p.jobs) order
+    → list_all (are_builds (scopes_after 0 p.inputs)) (builds_from p xs n order) ≡ true
+builds_left p rules xs n [] all = refl
+builds_left p rules xs n (j ∷ order) all =
+    let kept = builds_kept p j (builds_at p j) rules (All-head (λ k. k < length p.jobs) j order all) refl in
+    and_from _ _ (filtered_builds (is_of_use xs n) (scopes_after 0 p.inputs) (builds_at p j) kept)
+    (builds_left p rules xs (n + 1) order (All-tail (λ k. k < length p.jobs) j order all))
+
+-- ---- the whole
+inputs_so : (ds : List Demand) (top : ℕ) (p : ProblemValue) → is_problem p ≡ true → 1 ≤ top → top ≤ 100000 → AreCut ds top (order_left ds p) 0 0 [] p.inputs
+unfolding order_left
+inputs_so ds top p rules least most = cut_so ds top least most (order_left ds p) (order_few ds p rules) 0 0 [] p.inputs 0 (rules_of p rules).inputs refl
+
+inputs_rise : (s used : ℕ) (xs : List InputValue) → are_inputs s used xs ≡ true → All (λ x. AreRising x.places) xs
+inputs_rise s used [] h = All-nil (λ x. AreRising x.places)
+inputs_rise s used (x ∷ xs) h =
+    let parts = and_parts (is_input s used x) (are_inputs (next_used s x.scope) (used_after used x.jobs) xs) h in
+    let one = and_parts (nat_le x.scope s) (are_distinct x.jobs && (are_numbered used x.jobs && (is_after x.after && are_places_after 0 x.places))) parts.0 in
+    let two = and_parts (are_distinct x.jobs) (are_numbered used x.jobs && (is_after x.after && are_places_after 0 x.places)) one.1 in
+    let three = and_parts (are_numbered used x.jobs) (is_after x.after && are_places_after 0 x.places) two.1 in
+    let four = and_parts (is_after x.after) (are_places_after 0 x.places) three.1 in
+    All-cons (λ y. AreRising y.places) x xs (places_rise x.places 0 four.1) (inputs_rise (next_used s x.scope) (used_after used x.jobs) xs parts.1)
+
+-- the places of each cut input ascend
+pub cut_rises : (ds : List Demand) (top : ℕ) (p : ProblemValue) (xs : List InputValue) → is_problem p ≡ true → 1 ≤ top → top ≤ 100000 → xs ≡ inputs_cut ds top p → All (λ x. AreRising x.places) xs
+unfolding inputs_cut
+cut_rises ds top p xs rules least most e =
+    let P : List InputValue → Type 0 = λ ys. All (λ x. AreRising x.places) ys in
+    subst P (sym e) (inputs_rise 0 0 (cut_from ds (order_left ds p) top 0 p.inputs) (inputs_so ds top p rules least most).inputs)
 
 -- a problem that is cut is a problem
-pub cut_rules : (ds : List Demand) (top : ℕ) (p : ProblemValue) → is_problem p ≡ true → IsTop p top → is_problem (cut_to ds top p) ≡ true
-unfolding cut_to order_left
-cut_rules ds top p rules isTop =
+pub cut_rules : (ds : List Demand) (top : ℕ) (p : ProblemValue) → is_problem p ≡ true → 1 ≤ top → top ≤ 100000 → is_problem (cut_to ds top p) ≡ true
+unfolding cut_to inputs_cut
+cut_rules ds top p rules least most =
     let r = rules_of p rules in
     let order = order_left ds p in
-    let so = inputs_cut ds top isTop.most order (order_few ds p rules) 0 0 [] p.inputs 0 r.inputs refl in
+    let so = inputs_so ds top p rules least most in
     let inputs = cut_from ds order top 0 p.inputs in
-    let P : ℕ → Type 0 = λ s. list_all (are_builds s) (map (builds_at p) order) ≡ true in
+    let P : ℕ → Type 0 = λ s. list_all (are_builds s) (builds_from p inputs 0 order) ≡ true in
     and_from _ _ (le-leb (length inputs) 32 (omega (arith, length_cut ds order top 0 p.inputs, r.few_inputs)))
     (and_from _ _ so.inputs
-    (and_from _ _ (eq-eqb (length (map (builds_at p) order)) (jobs_after 0 inputs) (length-map order (builds_at p) ∙ sym so.jobs))
-    (subst P (sym so.scopes) (builds_left p rules order (order_within ds p rules)))))
+    (and_from _ _ (eq-eqb (length (builds_from p inputs 0 order)) (jobs_after 0 inputs) (length_builds p inputs 0 order ∙ sym so.jobs))
+    (subst P (sym so.scopes) (builds_left p rules inputs 0 order (order_within ds p rules)))))

@@ -4,7 +4,7 @@ use Rattle.std.specs.Prelude.{All, Any, Contains}
 use Rattle.std.proofs.lemmas.Bool.{and_parts, leb-true, cases_eq, cases_lt}
 use Rattle.std.proofs.lemmas.List.{get_or_default}
 use Rattle.std.proofs.lemmas.List.Elements.{All-nil, All-cons, All-append, All-map, All-contains, Contains-append_left, Contains-append_right, Contains-get_or}
-use Rattle.ccr_choice.specs.Problem.{ProblemValue, InputValue, BuildValue, no_input, input_at, builds_at, is_problem, is_input, are_inputs, are_distinct, are_numbered, are_places_after, next_used, used_after, jobs_after}
+use Rattle.ccr_choice.specs.Problem.{ProblemValue, InputValue, BuildValue, no_input, input_at, builds_at, is_problem, is_after, is_input, are_inputs, are_distinct, are_numbered, are_places_after, next_used, used_after, jobs_after}
 use Rattle.ccr_choice.specs.Satisfies.{Satisfies, Moved, IsAllowed, IsSuccessful, HasPassed, HasPassedAll}
 use Rattle.ccr_choice.specs.Optimal.{HasNoChoice}
 use Rattle.ccr_choice.specs.Preference.{order_of}
@@ -96,9 +96,9 @@ inputs_name : (scopes used : ℕ) (xs : List InputValue) (j : ℕ) → are_input
 inputs_name scopes used [] j h from below = absurd (omega arith)
 inputs_name scopes used (x ∷ xs) j h from below =
     let parts = and_parts (is_input scopes used x) (are_inputs (next_used scopes x.scope) (used_after used x.jobs) xs) h in
-    let one = and_parts (nat_le x.scope scopes) (are_distinct x.jobs && (are_numbered used x.jobs && are_places_after 0 x.places)) parts.0 in
-    let two = and_parts (are_distinct x.jobs) (are_numbered used x.jobs && are_places_after 0 x.places) one.1 in
-    let numbered = (and_parts (are_numbered used x.jobs) (are_places_after 0 x.places) two.1).0 in
+    let one = and_parts (nat_le x.scope scopes) (are_distinct x.jobs && (are_numbered used x.jobs && (is_after x.after && are_places_after 0 x.places))) parts.0 in
+    let two = and_parts (are_distinct x.jobs) (are_numbered used x.jobs && (is_after x.after && are_places_after 0 x.places)) one.1 in
+    let numbered = (and_parts (are_numbered used x.jobs) (is_after x.after && are_places_after 0 x.places) two.1).0 in
     elim (cases_lt j (used_after used x.jobs)) [
       | inl here ↦ record { input = 0; within = omega arith; named = numbered_has used x.jobs j numbered from here }
       | inr later ↦ (let rest = inputs_name (next_used scopes x.scope) (used_after used x.jobs) xs j parts.1 later below in

@@ -1,6 +1,8 @@
 -- What a list contains that is made of another, and a list with one element left out.
-use Rattle.std.proofs.Common.{◌≡◌, ℕ, zero, suc, ◌<◌, inl, inr, Bool, true, false, cond, List, [], ◌∷◌, ◌++◌, length, map, refl, sym, ap, ◌∙◌, subst, arith}
+use Rattle.std.proofs.Common.{◌≡◌, ℕ, zero, suc, ◌<◌, ◌≤◌, inl, inr, Bool, true, false, cond, List, [], ◌∷◌, ◌++◌, length, map, refl, sym, ap, ◌∙◌, subst, arith}
 use Rattle.std.specs.Prelude.{All, Contains, filter, remove}
+use Rattle.std.specs.List.{list_any}
+use Rattle.std.proofs.lemmas.List.Folds.{list_any_at}
 use Rattle.std.proofs.lemmas.Bool.{cases_Bool, cond-true, cond-false, false≢true}
 use Rattle.std.proofs.lemmas.List.{length-map, get_or-map}
 use Rattle.std.proofs.lemmas.List.Elements.{All-nil, All-cons}
@@ -38,6 +40,19 @@ from_filter {X} test x (y ∷ xs) h =
       | inr fails ↦ (let rest = from_filter test x xs (subst P (cond-false (test y) (y ∷ filter test xs) (filter test xs) fails) h) in
           (contains_later y x xs rest.0, rest.1))
     ]
+
+pub length_filter : {X : Type 0} (test : X → Bool) (xs : List X) → length (filter test xs) ≤ length xs
+length_filter test [] = omega arith
+length_filter test (x ∷ xs) =
+    let rest = length_filter test xs in
+    elim (cases_Bool (test x)) [
+      | inl holds ↦ omega (arith, rest, ap length (cond-true (test x) (x ∷ filter test xs) (filter test xs) holds))
+      | inr fails ↦ omega (arith, rest, ap length (cond-false (test x) (x ∷ filter test xs) (filter test xs) fails))
+    ]
+
+-- an element that passes is found
+pub any_contained : {X : Type 0} (test : X → Bool) (x : X) (xs : List X) → Contains xs x → test x ≡ true → list_any test xs ≡ true
+any_contained test x xs (k, within, at) passes = list_any_at test xs k x within (ap test at ∙ passes)
 
 -- what holds of each element holds of all
 pub all_contained : {X : Type 0} (P : X → Type 0) (xs : List X) → ((x : X) → Contains xs x → P x) → All P xs

@@ -1,25 +1,29 @@
 -- One turn of a loop, and its end.
-use Rattle.std.proofs.Common.{◌≡◌, ℕ, zero, suc, ◌+◌, ◌<◌, ◌≤◌, Bool, true, List, [], ◌∷◌, ◌++◌, length, map, take, drop, get_or, slice_index_or, max, Result, Ok, Err, refl, sym, ap, ◌∙◌, subst, arith}
-use Rattle.std.specs.Prelude.{All, IfOk}
-use Rattle.std.specs.List.{range_with_len}
-use Rattle.std.proofs.lemmas.Bool.{and_parts}
-use Rattle.std.proofs.lemmas.List.{append_assoc, take_all, drop_more, drop_all}
-use Rattle.std.proofs.lemmas.List.Elements.{All-same, All-contains, All-more, All-weaker}
-use Rattle.ccr_choice.specs.Problem.{ProblemValue, InputValue, BuildValue, no_input, builds_at, is_problem, are_builds}
+use Rattle.std.proofs.Common.{◌≡◌, ◌↔◌, ◌==◌, inl, inr, IsTrue, false, ℕ, zero, suc, ◌+◌, ◌<◌, ◌≤◌, Bool, true, List, [], ◌∷◌, ◌++◌, length, map, take, drop, get_or, slice_index_or, max, Result, Ok, Err, refl, sym, ap, ◌∙◌, subst, arith}
+use Rattle.std.specs.Prelude.{All, Contains, IfOk}
+use Rattle.std.specs.List.{list_any, range_with_len}
+use Rattle.std.proofs.lemmas.Bool.{and_parts, cases_Bool, false_from_ne_true, false≢true}
+use Rattle.std.proofs.lemmas.List.{append-nil, append_assoc, take_all, drop_more, drop_all, get_or_default}
+use Rattle.std.proofs.lemmas.List.Elements.{All-same, All-contains, All-cons, All-append, All-map, All-more, All-weaker}
+use Rattle.ccr_choice.specs.Problem.{ProblemValue, InputValue, BuildValue, no_input, input_at, builds_at, is_problem, are_builds}
 use Rattle.ccr_choice.specs.Preference.{Preference, order_of, IsOrder}
 use Rattle.ccr_choice.specs.Optimal.{IsOptimal}
-use Rattle.ccr_choice.proofs.PlainLaws.{is_order}
+use Rattle.ccr_choice.proofs.Orders.{is_order}
 use Rattle.ccr_explain.specs.declared.demand.Demand.{Demand}
 use Rattle.ccr_explain.specs.declared.demand.Demand.TheVariants.{Allowed, Passed}
+use Rattle.ccr_explain.specs.declared.met.Met.{Met}
+use Rattle.ccr_explain.specs.declared.met.Met.TheVariants.{No}
 use Rattle.ccr_explain.specs.declared.explanation.Explanation.{Explanation}
 use Rattle.ccr_explain.specs.declared.explanation.Explanation.TheVariants.{Clash, Fits, OverBudget}
 use Rattle.ccr_choice.specs.Problem.{ChoiceValue}
-use Rattle.ccr_explain.specs.Demand.{demands_from}
-use Rattle.ccr_explain.specs.Clash.{IsExplanation}
-use Rattle.ccr_explain.specs.WhyNot.{Takes, CannotTake, asked, IsWhyNot}
-use Rattle.ccr_explain.specs.Cut.{order_from, order_left, cut_from, cut_to}
+use Rattle.ccr_explain.specs.Demand.{IsDemandOf, demands_from}
+use Rattle.ccr_explain.specs.Clash.{IsClash, IsExplanation}
+use Rattle.ccr_explain.specs.WhyNot.{Takes, CannotTake, may_take, narrowed_from, asked, IsWhyNot}
+use Rattle.ccr_explain.specs.Cut.{order_from, order_left, cut_from, builds_from, inputs_cut, cut_to, IsMet}
+use Rattle.ccr_explain.proofs.Lists.{all_contained}
+use Rattle.ccr_explain.proofs.Orders.{has_it, it_has}
 use Rattle.ccr_explain.proofs.CutRules.{builds_places}
-use Rattle.ccr_explain.proofs.WhyLaws.{takes_of, clash_shows, better_costs}
+use Rattle.ccr_explain.proofs.WhyLaws.{asked_rules, takes_of, clash_shows, better_costs}
 
 pub all_taken : {X : Type 0} (P : X → Type 0) (xs : List X) (i : ℕ) → length xs ≤ i → All P (take i xs) → All P xs
 all_taken P xs i end all = All-same P xs (take i xs) (sym (take_all i xs end)) all
@@ -44,12 +48,15 @@ builds_more bs i a b c ps within up is same here all =
     let P : BuildValue → Type 0 = Below b in
     All-more P bs i c within (All-weaker (Below a) P (weaker a b up) (take i bs) all) (subst P is (All-same (λ q. q.1 ≤ b) c.pairs ps (sym same) here))
 
-pub jobs_more : (js : List (List BuildValue)) (i a b : ℕ) (bs : List BuildValue) → i < length js → a ≤ b → bs ≡ slice_index_or js i [] → All (Below b) bs
-    → All (All (Below a)) (take i js) → All (All (Below b)) (take (i + 1) js)
-jobs_more js i a b bs within up is here all =
-    All-more (All (Below b)) js i [] within
-    (All-weaker (All (Below a)) (All (Below b)) (λ ds h. All-weaker (Below a) (Below b) (weaker a b up) ds h) (take i js) all)
-    (All-same (Below b) (slice_index_or js i []) bs (sym is) here)
+abbrev pub JobBelow : ProblemValue → ℕ → ℕ → Type 0
+JobBelow p top j = All (Below top) (builds_at p j)
+
+pub jobs_more : (p : ProblemValue) (order : List ℕ) (i a b : ℕ) (bs : List BuildValue) → i < length order → a ≤ b → bs ≡ builds_at p (get_or order i 0) → All (Below b) bs
+    → All (JobBelow p a) (take i order) → All (JobBelow p b) (take (i + 1) order)
+jobs_more p order i a b bs within up is here all =
+    All-more (JobBelow p b) order i 0 within
+    (All-weaker (JobBelow p a) (JobBelow p b) (λ j h. All-weaker (Below a) (Below b) (weaker a b up) (builds_at p j) h) (take i order) all)
+    (All-same (Below b) (builds_at p (get_or order i 0)) bs (sym is) here)
 
 pub kept_places : (scopes : ℕ) (bs : List BuildValue) → are_builds scopes bs ≡ true → All (Below 100000) bs
 kept_places scopes bs kept =
@@ -58,12 +65,10 @@ kept_places scopes bs kept =
     bs (builds_places _ _ bs (and_parts _ _ kept).1)
 
 -- ---- the cut
-pub order_is : (ds : List Demand) (p : ProblemValue) (xs : List InputValue) (i : ℕ) (order : List ℕ) → xs ≡ p.inputs → length xs ≤ i
+pub order_is : (ds : List Demand) (p : ProblemValue) (i : ℕ) (order : List ℕ) → length p.inputs ≤ i
     → order_from ds i order (drop i p.inputs) ≡ order_from ds 0 [] p.inputs → order ≡ order_left ds p
 unfolding order_left
-order_is ds p xs i order same end e =
-    let none : drop i p.inputs ≡ [] = drop_all i p.inputs (omega (arith, end, ap length same)) in
-    sym (ap (λ ys. order_from ds i order ys) none) ∙ e
+order_is ds p i order end e = sym (ap (λ ys. order_from ds i order ys) (drop_all i p.inputs end)) ∙ e
 
 range_more : (a n : ℕ) → range_with_len a (suc n) ≡ range_with_len a n ++ (a + n) ∷ []
 range_more a zero = ap (λ k. k ∷ []) (omega arith)
@@ -75,26 +80,70 @@ places_more n xs ys e f =
     let last : 1 + n ≡ n + 1 = omega arith in
     f ∙ ap (λ zs. zs ++ (n + 1) ∷ []) e ∙ sym (ap (λ k. range_with_len 1 k) one ∙ range_more 1 n ∙ ap (λ k. range_with_len 1 n ++ k ∷ []) last)
 
-pub cut_is : (ds : List Demand) (top : ℕ) (p : ProblemValue) (order once twice : List ℕ) (inputs : List InputValue) (jobs : List (List BuildValue)) → order ≡ order_left ds p → once ≡ order → twice ≡ order
-    → inputs ≡ cut_from ds once top 0 p.inputs → jobs ≡ map (builds_at p) twice → record { inputs = inputs; jobs = jobs } ≡ cut_to ds top p
-unfolding cut_to
-cut_is ds top p order once twice inputs jobs is first second one other =
+pub cut_is : (ds : List Demand) (top : ℕ) (p : ProblemValue) (order once twice : List ℕ) (inputs kept : List InputValue) (jobs : List (List BuildValue)) → order ≡ order_left ds p → once ≡ order → twice ≡ order
+    → inputs ≡ cut_from ds once top 0 p.inputs → kept ≡ inputs → jobs ≡ builds_from p kept 0 twice → record { inputs = inputs; jobs = jobs } ≡ cut_to ds top p
+unfolding cut_to inputs_cut
+cut_is ds top p order once twice inputs kept jobs is first second one same other =
+    let all : inputs ≡ cut_from ds (order_left ds p) top 0 p.inputs = one ∙ ap (λ o. cut_from ds o top 0 p.inputs) (first ∙ is) in
     let f : List InputValue → ProblemValue = λ xs. record { inputs = xs; jobs = jobs } in
     let g : List (List BuildValue) → ProblemValue = λ js. record { inputs = cut_from ds (order_left ds p) top 0 p.inputs; jobs = js } in
-    ap f (one ∙ ap (λ o. cut_from ds o top 0 p.inputs) (first ∙ is)) ∙ ap g (other ∙ ap (map (builds_at p)) (second ∙ is))
+    ap f all ∙ ap g (other ∙ ap (λ o. builds_from p kept 0 o) (second ∙ is) ∙ ap (λ xs. builds_from p xs 0 (order_left ds p)) (same ∙ all))
+
+pub inputs_are : (ds : List Demand) (top : ℕ) (p : ProblemValue) (order once : List ℕ) (inputs kept : List InputValue) → order ≡ order_left ds p → once ≡ order
+    → inputs ≡ cut_from ds once top 0 p.inputs → kept ≡ inputs → kept ≡ inputs_cut ds top p
+unfolding inputs_cut
+inputs_are ds top p order once inputs kept is first one same = same ∙ one ∙ ap (λ o. cut_from ds o top 0 p.inputs) (first ∙ is)
+
+-- a test that a fact decides is that of a list
+pub same_test : (b : Bool) (x : ℕ) (xs : List ℕ) → (IsTrue b ↔ Contains xs x) → b ≡ list_any (λ m. m == x) xs
+same_test b x xs decides =
+    elim (cases_Bool b) [
+      | inl holds ↦ holds ∙ sym (it_has xs x (decides.0 holds))
+      | inr fails ↦ fails ∙ sym (false_from_ne_true (list_any (λ m. m == x) xs) (λ h. false≢true (sym fails ∙ decides.1 (has_it xs x h))))
+    ]
 
 -- ---- the demands
-pub demands_more : (i : ℕ) (xs : List InputValue) (ds one two : List Demand) (js : List ℕ) → i < length xs → one ≡ ds ++ Allowed i ∷ [] → two ≡ one ++ map (λ j. Passed i j) js
-    → js ≡ (slice_index_or xs i no_input).jobs → two ++ demands_from (i + 1) (drop (i + 1) xs) ≡ ds ++ demands_from i (drop i xs)
-demands_more i xs ds one two js within first second named =
+pub demands_more : (i : ℕ) (xs : List InputValue) (x : InputValue) (ds more : List Demand) → i < length xs → x ≡ slice_index_or xs i x
+    → more ≡ ds ++ Allowed i ∷ map (λ j. Passed i j) x.jobs → more ++ demands_from (i + 1) (drop (i + 1) xs) ≡ ds ++ demands_from i (drop i xs)
+demands_more i xs x ds more within is added =
     let rest = demands_from (i + 1) (drop (i + 1) xs) in
-    let these : List ℕ → List Demand = λ ns. map (λ j. Passed i j) ns in
-    ap (λ ys. ys ++ rest) (second ∙ ap (λ ys. ys ++ these js) first ∙ ap (λ ns. (ds ++ Allowed i ∷ []) ++ these ns) named)
-    ∙ append_assoc (ds ++ Allowed i ∷ []) (these (slice_index_or xs i no_input).jobs) rest
-    ∙ append_assoc ds (Allowed i ∷ []) (these (slice_index_or xs i no_input).jobs ++ rest)
+    let f : InputValue → List Demand = λ y. ds ++ Allowed i ∷ (map (λ j. Passed i j) y.jobs ++ rest) in
+    ap (λ ys. ys ++ rest) added
+    ∙ append_assoc ds (Allowed i ∷ map (λ j. Passed i j) x.jobs) rest
+    ∙ ap f (is ∙ get_or_default xs i x no_input within)
     ∙ sym (ap (λ ys. ds ++ demands_from i ys) (drop_more xs i no_input within))
 
+-- the demands of one more input are demands of the problem
+pub demands_pushed : (xs : List InputValue) (js : List (List BuildValue)) (i : ℕ) (x : InputValue) (ds more : List Demand) → i < length xs → x ≡ slice_index_or xs i x
+    → more ≡ ds ++ Allowed i ∷ map (λ j. Passed i j) x.jobs
+    → All (IsDemandOf (record { inputs = xs; jobs = js })) ds → All (IsDemandOf (record { inputs = xs; jobs = js })) more
+demands_pushed xs js i x ds more within is added all =
+    let p : ProblemValue = record { inputs = xs; jobs = js } in
+    let same : x ≡ input_at p i = is ∙ get_or_default xs i x no_input within in
+    let P : List Demand → Type 0 = λ ys. All (IsDemandOf p) ys in
+    let J : InputValue → Type 0 = λ y. All (λ j. (i < length xs) × Contains y.jobs j) x.jobs in
+    subst P (sym added) (All-append (IsDemandOf p) ds (Allowed i ∷ map (λ j. Passed i j) x.jobs) all
+    (All-cons (IsDemandOf p) (Allowed i) (map (λ j. Passed i j) x.jobs) within
+    (All-map (IsDemandOf p) (λ j. Passed i j) x.jobs (subst J same (all_contained (λ j. (i < length xs) × Contains x.jobs j) x.jobs (λ j h. (within, h)))))))
+
+-- demands that no choice meets are a clash
+pub none_met : (p : ProblemValue) (ds tried : List Demand) (budget : ℕ) (met : Met) → All (IsDemandOf p) ds → tried ≡ ds → IsMet p tried budget met → met ≡ No → IsClash p ds
+none_met p ds tried budget met all same told is =
+    let P : Met → Type 0 = λ x. IsMet p tried budget x in
+    let Q : List Demand → Type 0 = λ xs. IsMet p xs budget No in
+    record { demands = all; exclude = subst Q same (subst P is told) }
+
 -- ---- the question
+pub asked_at_last : (p : ProblemValue) (places : List ℕ) (i place k : ℕ) (xs : List InputValue) → is_problem p ≡ true → length p.inputs ≤ k
+    → xs ++ narrowed_from (may_take (order_of p) places i place) k (drop k p.inputs) ≡ narrowed_from (may_take (order_of p) places i place) 0 p.inputs
+    → is_problem (record p { inputs = xs }) ≡ true
+asked_at_last p places i place k xs rules end e =
+    let may = may_take (order_of p) places i place in
+    let f : List InputValue → ProblemValue = λ ys. record p { inputs = ys } in
+    let same : xs ≡ narrowed_from may 0 p.inputs = sym (ap (λ ys. xs ++ narrowed_from may k ys) (drop_all k p.inputs end) ∙ append-nil xs) ∙ e in
+    let P : ProblemValue → Type 0 = λ q. is_problem q ≡ true in
+    subst P (sym (ap f same)) (asked_rules (order_of p) p places i place rules)
+
 pub why_shown : (p q : ProblemValue) (places : List ℕ) (i place budget : ℕ) (e : Explanation) → i < length p.inputs → q ≡ asked (order_of p) p places i place
     → IsExplanation (order_of q) q budget e → IsWhyNot (order_of p) p places i place budget e
 why_shown p q places i place budget e inside same h =

@@ -3,7 +3,7 @@ use Rattle.std.proofs.Common.{◌≡◌, ◌≢◌, ℕ, zero, suc, ◌+◌, ◌
 use Rattle.std.specs.Prelude.{Contains, filter}
 use Rattle.std.specs.List.{list_all}
 use Rattle.std.proofs.lemmas.Bool.{cases_Bool, cases_eq, cases_lt, cond-true, cond-false, and_parts, and_from, leb-true, le-leb, ltb-true, lt-ltb, le-ltb, eqb-true, eq-eqb, ne_eqb, not-true, not_from_false, false_from_ne_true, false≢true}
-use Rattle.ccr_choice.specs.Problem.{ProblemValue, InputValue, BuildValue, no_input, input_at, builds_at, next_used, used_after, scopes_after, jobs_after, are_distinct, are_numbered, are_places_after, is_input, are_inputs, are_builds, is_problem}
+use Rattle.ccr_choice.specs.Problem.{ProblemValue, InputValue, BuildValue, no_input, input_at, builds_at, next_used, used_after, scopes_after, jobs_after, are_distinct, are_numbered, are_places_after, is_after, is_input, are_inputs, are_builds, is_problem}
 use Rattle.ccr_choice.specs.Satisfies.{Satisfies, Moved, IsAllowed, IsSuccessful, HasPassed, HasPassedAll}
 use Rattle.ccr_choice.specs.Optimal.{IsOptimal, HasNoChoice}
 use Rattle.ccr_choice.specs.Preference.{Preference, IsOrder, IsBetter}
@@ -43,12 +43,13 @@ narrowed_rules : (may : ℕ → ℕ → Bool) (k s used : ℕ) (xs : List InputV
 narrowed_rules may k s used [] h = record { inputs = refl; jobs = refl; scopes = refl }
 narrowed_rules may k s used (x ∷ xs) h =
     let parts = and_parts (is_input s used x) (are_inputs (next_used s x.scope) (used_after used x.jobs) xs) h in
-    let a = and_parts (nat_le x.scope s) (are_distinct x.jobs && (are_numbered used x.jobs && are_places_after 0 x.places)) parts.0 in
-    let b = and_parts (are_distinct x.jobs) (are_numbered used x.jobs && are_places_after 0 x.places) a.1 in
-    let c = and_parts (are_numbered used x.jobs) (are_places_after 0 x.places) b.1 in
+    let a = and_parts (nat_le x.scope s) (are_distinct x.jobs && (are_numbered used x.jobs && (is_after x.after && are_places_after 0 x.places))) parts.0 in
+    let b = and_parts (are_distinct x.jobs) (are_numbered used x.jobs && (is_after x.after && are_places_after 0 x.places)) a.1 in
+    let c = and_parts (are_numbered used x.jobs) (is_after x.after && are_places_after 0 x.places) b.1 in
+    let d = and_parts (is_after x.after) (are_places_after 0 x.places) c.1 in
     let rest = narrowed_rules may (k + 1) (next_used s x.scope) (used_after used x.jobs) xs parts.1 in
     record {
-      inputs = and_from _ _ (and_from _ _ a.0 (and_from _ _ b.0 (and_from _ _ c.0 (filtered_places (may k) 0 x.places c.1)))) rest.inputs;
+      inputs = and_from _ _ (and_from _ _ a.0 (and_from _ _ b.0 (and_from _ _ c.0 (and_from _ _ d.0 (filtered_places (may k) 0 x.places d.1))))) rest.inputs;
       jobs = rest.jobs;
       scopes = rest.scopes;
     }

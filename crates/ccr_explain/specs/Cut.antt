@@ -1,10 +1,12 @@
 -- A problem cut to some of its demands, so that the resolver can be asked. No public contract names these.
-use Rattle.std.specs.Prelude.{◌≡◌, ℕ, suc, ◌+◌, ◌<◌, ◌≤◌, List, [], ◌∷◌, ◌++◌, map, filter, Bool, false, ◌&&◌, ◌==◌, if◌then◌else◌, All}
-use Rattle.std.specs.List.{list_any, range_with_len}
+use Rattle.std.specs.Prelude.{◌≡◌, ℕ, suc, ◌+◌, ◌<◌, ◌≤◌, List, [], ◌∷◌, ◌++◌, map, filter, Bool, false, not, ◌&&◌, ◌||◌, ◌==◌, if◌then◌else◌, All}
+use Rattle.std.specs.List.{list_any, list_all, range_with_len}
 use Rattle.ccr_choice.specs.Problem.{ProblemValue, InputValue, BuildValue, builds_at}
 use Rattle.ccr_resolve.specs.Room.{product}
 use Rattle.ccr_explain.specs.declared.demand.Demand.{Demand}
 use Rattle.ccr_explain.specs.declared.demand.Demand.TheVariants.{Allowed, Passed}
+use Rattle.ccr_choice.specs.Preference.{order_of}
+use Rattle.ccr_resolve.specs.Chosen.{IsChosen}
 use Rattle.ccr_resolve.specs.declared.chosen.Chosen.{Chosen}
 use Rattle.ccr_resolve.specs.declared.chosen.Chosen.TheVariants as chosen
 use Rattle.ccr_explain.specs.declared.met.Met.{Met}
@@ -43,10 +45,15 @@ place_in [] j = 0
 place_in (m ∷ ms) j = if m == j then 0 else suc (place_in ms j)
 
 -- ---- the cut
--- Input i with what is left of its demands: where its allowed places aren't, it may take any place up to a top one.
+-- How far the places of an input go that may take any: to the top one, or to the first where it needn't have passed a job.
+abbrev pub top_for : List ℕ → ℕ → ℕ
+top_for [] top = 1
+top_for (j ∷ js) top = top
+
+-- Input i with what is left of its demands: where its allowed places aren't, it may take any place.
 abbrev pub cut_input : List Demand → List ℕ → ℕ → ℕ → InputValue → InputValue
 cut_input ds order top i x = record x {
-  places = if list_any (is_allowed_of i) ds then x.places else range_with_len 1 top;
+  places = if list_any (is_allowed_of i) ds then x.places else range_with_len 1 (top_for (jobs_left ds i x.jobs) top);
   jobs = map (place_in order) (jobs_left ds i x.jobs);
 }
 
@@ -58,18 +65,47 @@ cut_from ds order top i (x ∷ xs) = cut_input ds order top i x ∷ cut_from ds 
 unfoldable pub order_left : List Demand → ProblemValue → List ℕ
 order_left ds p = order_from ds 0 [] p.inputs
 
+-- One of these pairs has the scope of the input and one of its places.
+abbrev pub has_place_of : InputValue → List (ℕ × ℕ) → Bool
+has_place_of x pairs = list_any (λ r. r.0 == x.scope && list_any (λ y. y == r.1) x.places) pairs
+
+-- A build of job n is of use to these inputs: each of them that names the job can have one of its places with it.
+abbrev pub is_of_use : List InputValue → ℕ → BuildValue → Bool
+is_of_use xs n b = list_all (λ x. not (list_any (λ m. m == n) x.jobs) || has_place_of x b.pairs) xs
+
+-- The builds that are of use, of these jobs with the numbers from n on.
+abbrev pub builds_from : ProblemValue → List InputValue → ℕ → List ℕ → List (List BuildValue)
+builds_from p xs n [] = []
+builds_from p xs n (j ∷ js) = filter (is_of_use xs n) (builds_at p j) ∷ builds_from p xs (n + 1) js
+
+-- The inputs of the problem cut to these demands.
+unfoldable pub inputs_cut : List Demand → ℕ → ProblemValue → List InputValue
+inputs_cut ds top p = cut_from ds (order_left ds p) top 0 p.inputs
+
 -- The problem cut to these demands.
 unfoldable pub cut_to : List Demand → ℕ → ProblemValue → ProblemValue
 cut_to ds top p = record {
-  inputs = cut_from ds (order_left ds p) top 0 p.inputs;
-  jobs = map (builds_at p) (order_left ds p);
+  inputs = inputs_cut ds top p;
+  jobs = builds_from p (inputs_cut ds top p) 0 (order_left ds p);
 }
 
--- No build has a pair of a place above the top one.
-pub record IsTop (p : ProblemValue) (top : ℕ) : Type 0 where
+-- No build of these jobs has a pair of a place above the top one.
+pub record IsTop (p : ProblemValue) (order : List ℕ) (top : ℕ) : Type 0 where
   pub least : 1 ≤ top
   pub most : top ≤ 100000
-  pub covers : All (λ bs. All (λ b. All (λ q. q.1 ≤ top) b.pairs) bs) p.jobs
+  pub covers : All (λ j. All (λ b. All (λ q. q.1 ≤ top) b.pairs) (builds_at p j)) order
+
+-- The problem is the one that is cut to these demands, with some top place.
+pub record IsCutTo (ds : List Demand) (p q : ProblemValue) : Type 0 where
+  pub top : ℕ
+  pub is_top : IsTop p (order_left ds p) top
+  pub is : q ≡ cut_to ds top p
+
+-- What is chosen is what is chosen for the problem cut to these demands.
+pub record IsChosenOfCut (ds : List Demand) (p : ProblemValue) (budget : ℕ) (x : Chosen) : Type 0 where
+  pub cut : ProblemValue
+  pub is_cut : IsCutTo ds p cut
+  pub chosen : IsChosen (order_of cut) cut budget x
 
 -- Whether some choice meets the demands, by what is chosen for the problem cut to them.
 abbrev pub met_of : Chosen → Met

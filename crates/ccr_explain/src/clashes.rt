@@ -1,13 +1,17 @@
 //! Why a problem has no choice.
 
-ghost use Rattle.std.specs.Prelude.{◌≤◌, IfOk};
+ghost use Rattle.std.specs.Prelude.{◌≡◌, ◌≤◌, IfOk, IfSome};
+ghost use Rattle.ccr_choice.specs.Problem.{IsProblem};
 ghost use Rattle.ccr_choice.specs.Preference.{order_of};
-ghost use Rattle.ccr_explain.specs.Clash.{IsExplanation};
+ghost use Rattle.ccr_resolve.specs.Chosen.{IsChosen};
+ghost use Rattle.ccr_explain.specs.Clash.{IsClash, IsExplanation};
 
-use crate::demand::demands_of;
+use crate::copies::{copied_inputs, copied_jobs};
+use crate::demand::{Demand, demands_of};
 use crate::explanation::Explanation;
+use crate::grown::few_demands;
 use crate::reduced::reduced;
-use ccr_choice::Problem;
+use ccr_choice::{Input, Problem};
 use ccr_index::build_index;
 use ccr_proof::MOST_NODES;
 use ccr_resolve::{Chosen, choose};
@@ -15,21 +19,80 @@ use std::alloc::{AllocError, Global};
 
 /// Demands of a problem that exclude each other, and of which none can be left out; or the best choice, if one satisfies.
 ///
-/// Each call of the resolver has the budget, from 1 to 1,000,000. There is one call for the problem, and where no choice
-/// satisfies, one for each of its demands. Where the budget doesn't suffice for one of these, the clash is one all the same,
-/// but says that perhaps fewer exclude each other. The only error is out of memory.
+/// Each call of the resolver has the budget, from 1 to 1,000,000, and there are at most twice as many calls as demands,
+/// and one where there are none. Where the budget doesn't suffice for one of them, the clash is one all the same, but says that
+/// perhaps fewer demands exclude each other. The only error is out of memory.
 pub fn clash(alloc: Global, problem: &Problem, budget: u32) -> Result<Explanation, AllocError>
     requires least { 1 ≤ budget }
     requires most { budget ≤ MOST_NODES }
     ensures { IfOk result (IsExplanation (order_of problem.now) problem.now budget) }
 {
-    let index = build_index(alloc, problem)?;
-    match choose(alloc, &index, budget)? {
+    let inputs = problem.inputs();
+    let few = few_demands(alloc, inputs, problem, budget)?;
+    explained(alloc, inputs, problem, few, budget)
+}
+
+/// The same of the problem of these inputs and the jobs of a problem, by a few demands that exclude each other, or else by all.
+pub(crate) fn explained(
+    alloc: Global,
+    inputs: &[Input],
+    problem: &Problem,
+    few: Option<Vec<Demand>>,
+    budget: u32,
+) -> Result<Explanation, AllocError>
+    requires rules { IsProblem (record problem.now { inputs = inputs.now }) }
+    requires few { IfSome few (λ ds. IsClash (record problem.now { inputs = inputs.now }) ds.items) }
+    requires least { 1 ≤ budget }
+    requires most { budget ≤ MOST_NODES }
+    ensures { let p = record problem.now { inputs = inputs.now } in IfOk result (IsExplanation (order_of p) p budget) }
+{
+    match few {
+        None => explained_whole(alloc, inputs, problem, budget),
+        Some(demands) => {
+            let clash = reduced(alloc, inputs, problem, &demands, budget)?;
+            Ok(Explanation::Clash(clash))
+        }
+    }
+}
+
+/// The same, by all inputs at once.
+fn explained_whole(
+    alloc: Global,
+    inputs: &[Input],
+    problem: &Problem,
+    budget: u32,
+) -> Result<Explanation, AllocError>
+    requires rules { IsProblem (record problem.now { inputs = inputs.now }) }
+    requires least { 1 ≤ budget }
+    requires most { budget ≤ MOST_NODES }
+    ensures { let p = record problem.now { inputs = inputs.now } in IfOk result (IsExplanation (order_of p) p budget) }
+{
+    match chosen_of_whole(alloc, inputs, problem, budget)? {
         Chosen::Best(choice) => Ok(Explanation::Fits(choice)),
         Chosen::OverBudget(budget) => Ok(Explanation::OverBudget(budget)),
         Chosen::Nothing => {
-            let demands = demands_of(alloc, problem)?;
-            Ok(Explanation::Clash(reduced(alloc, problem, &demands, budget)?))
+            let demands = demands_of(alloc, inputs)?;
+            let clash = reduced(alloc, inputs, problem, &demands, budget)?;
+            Ok(Explanation::Clash(clash))
         }
     }
+}
+
+/// What the resolver chooses for the problem of these inputs and the jobs of a problem.
+fn chosen_of_whole(
+    alloc: Global,
+    inputs: &[Input],
+    problem: &Problem,
+    budget: u32,
+) -> Result<Chosen, AllocError>
+    requires rules { IsProblem (record problem.now { inputs = inputs.now }) }
+    requires least { 1 ≤ budget }
+    requires most { budget ≤ MOST_NODES }
+    ensures { let p = record problem.now { inputs = inputs.now } in IfOk result (IsChosen (order_of p) p budget) }
+{
+    let inputs = copied_inputs(alloc, inputs)?;
+    let jobs = copied_jobs(alloc, problem)?;
+    let whole = Problem::new(inputs, jobs);
+    let index = build_index(alloc, &whole)?;
+    choose(alloc, &index, budget)
 }

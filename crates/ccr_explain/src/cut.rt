@@ -1,38 +1,43 @@
 //! A problem cut to some of its demands.
 
-ghost use Rattle.std.specs.Prelude.{◌≡◌, ◌==◌, ◌<◌, ◌≤◌, ◌++◌, if◌then◌else◌, length, map, All, EachIndex, slice_index, IfOk, OnOk};
+ghost use Rattle.std.specs.Prelude.{◌≡◌, ◌==◌, ◌<◌, ◌≤◌, ◌++◌, if◌then◌else◌, length, map, filter, All, EachIndex, slice_index, IfOk, OnOk};
 ghost use Rattle.std.specs.List.{list_any, range_with_len};
-ghost use Rattle.ccr_choice.specs.Problem.{builds_at, input_at, IsProblem};
-ghost use Rattle.ccr_explain.specs.Cut.{is_allowed_of, is_passed_of, jobs_left, with_job, with_jobs, place_in, cut_input, cut_from, order_left, cut_to, IsTop};
+ghost use Rattle.ccr_choice.specs.Problem.{builds_at, IsProblem};
+ghost use Rattle.ccr_explain.specs.Cut.{is_allowed_of, is_passed_of, jobs_left, with_job, with_jobs, place_in, top_for, cut_input, cut_from, has_place_of, is_of_use, builds_from, order_left, IsTop, IsCutTo};
+ghost use Rattle.ccr_choice.specs.Ascending.{AreRising};
 
+use crate::copies::copied_build;
 use crate::demand::Demand;
+use ccr_choice::possible::has_place;
 use ccr_choice::{Build, Input, JobBuilds, Problem};
 use std::alloc::{AllocError, Global};
 
-/// The problem cut to these demands. An input without the demand of its allowed places may take any place up to `top`.
+/// The problem of these inputs and the jobs of a problem, cut to these demands. An input without the demand of its allowed places may
+/// take any place up to a top one.
 pub(crate) fn cut_to(
     alloc: Global,
+    inputs: &[Input],
     problem: &Problem,
     demands: &[Demand],
-    top: u32,
 ) -> Result<Problem, AllocError>
-    requires { IsTop problem.now top }
-    ensures value { IfOk result (λ p. p ≡ cut_to demands.now top problem.now) }
-    ensures rules { IfOk result (λ p. IsProblem problem.now) }
+    requires { IsProblem (record problem.now { inputs = inputs.now }) }
+    ensures { IfOk result (IsCutTo demands.now (record problem.now { inputs = inputs.now })) }
 {
-    let order = order_left(alloc, problem, demands)?;
-    let inputs = cut_inputs(alloc, problem, demands, &order, top)?;
-    let jobs = copied_jobs(alloc, problem, &order)?;
+    let order = order_left(alloc, inputs, problem, demands)?;
+    let top = top_place(problem, &order);
+    let inputs = cut_inputs(alloc, inputs, demands, &order, top)?;
+    let jobs = jobs_of(alloc, problem, &inputs, &order)?;
     Ok(Problem::new(inputs, jobs))
 }
 
-/// The greatest place of a pair, at least 1.
-pub(crate) fn top_place(problem: &Problem) -> u32
-    ensures { IsTop problem.now result }
+/// The greatest place of a pair of these jobs, at least 1.
+fn top_place(problem: &Problem, order: &[u32]) -> u32
+    requires { EachIndex order.now (λ k. slice_index order.now k < length problem.now.jobs) }
+    ensures { IsTop problem.now order.now result }
 {
     let mut top = 1;
-    for j in 0..problem.jobs().len() {
-        top = top_of_builds(problem.builds(j), top);
+    for job in order {
+        top = top_of_builds(problem.builds(*job as usize), top);
     }
     top
 }
@@ -98,16 +103,23 @@ fn jobs_left(
 }
 
 /// The jobs that inputs must still have passed, in order of first mention.
-fn order_left(alloc: Global, problem: &Problem, demands: &[Demand]) -> Result<Vec<u32>, AllocError>
-    ensures value { IfOk result (λ order. order.items ≡ order_left demands.now problem.now) }
+fn order_left(
+    alloc: Global,
+    inputs: &[Input],
+    problem: &Problem,
+    demands: &[Demand],
+) -> Result<Vec<u32>, AllocError>
+    requires { IsProblem (record problem.now { inputs = inputs.now }) }
+    ensures value { IfOk result
+        (λ order. order.items ≡ order_left demands.now (record problem.now { inputs = inputs.now })) }
     ensures few { IfOk result (λ order. length order.items ≤ 32) }
     ensures known { IfOk result
         (λ order. EachIndex order.items (λ k. slice_index order.items k < length problem.now.jobs)) }
-    ensures rules { IfOk result (λ order. IsProblem problem.now) }
 {
+    let _ = problem;
     let mut order = Vec::new(alloc);
-    for i in 0..problem.inputs().len() {
-        let jobs = jobs_left(alloc, demands, i, problem.named(i))?;
+    for i in 0..inputs.len() {
+        let jobs = jobs_left(alloc, demands, i, inputs[i].jobs())?;
         add_jobs(&mut order, &jobs)?;
     }
     Ok(order)
@@ -156,19 +168,19 @@ fn place_in(order: &[u32], job: u32) -> u32
 
 fn cut_inputs(
     alloc: Global,
-    problem: &Problem,
+    inputs: &[Input],
     demands: &[Demand],
     order: &[u32],
     top: u32,
 ) -> Result<Vec<Input>, AllocError>
     requires { length order.now ≤ 32 }
-    ensures { IfOk result (λ inputs. inputs.items ≡ cut_from demands.now order.now top 0 problem.now.inputs) }
+    ensures { IfOk result (λ cut. cut.items ≡ cut_from demands.now order.now top 0 inputs.now) }
 {
-    let mut inputs = Vec::new(alloc);
-    for i in 0..problem.inputs().len() {
-        inputs.push(cut_input(alloc, demands, order, top, i, &problem.inputs()[i])?)?;
+    let mut cut = Vec::new(alloc);
+    for i in 0..inputs.len() {
+        cut.push(cut_input(alloc, demands, order, top, i, &inputs[i])?)?;
     }
-    Ok(inputs)
+    Ok(cut)
 }
 
 /// Input `number` with what is left of its demands.
@@ -183,9 +195,20 @@ fn cut_input(
     requires { length order.now ≤ 32 }
     ensures { IfOk result (λ x. x ≡ cut_input demands.now order.now top number input.now) }
 {
-    let places = places_left(alloc, demands, top, number, input.places())?;
-    let jobs = numbers_left(alloc, demands, order, number, input.jobs())?;
-    Ok(Input::new(input.scope(), jobs, places))
+    let jobs = jobs_left(alloc, demands, number, input.jobs())?;
+    let numbers = numbers_of(alloc, order, &jobs)?;
+    let places = places_left(alloc, demands, top_for(&jobs, top), number, input.places())?;
+    Ok(Input::new(input.scope(), numbers, input.after(), places))
+}
+
+/// How far the places go of an input that may take any.
+fn top_for(jobs: &[u32], top: u32) -> u32
+    ensures { result ≡ top_for jobs.now top }
+{
+    match jobs {
+        [] => 1,
+        [_, ..] => top,
+    }
 }
 
 fn is_allowed_of(demand: &Demand, input: usize) -> bool
@@ -232,21 +255,7 @@ fn places_to(alloc: Global, top: u32) -> Result<Vec<u32>, AllocError>
     Ok(places)
 }
 
-/// The jobs that are left of these, by their new numbers.
-fn numbers_left(
-    alloc: Global,
-    demands: &[Demand],
-    order: &[u32],
-    input: usize,
-    jobs: &[u32],
-) -> Result<Vec<u32>, AllocError>
-    requires { length order.now ≤ 32 }
-    ensures { IfOk result (λ left. left.items ≡ map (place_in order.now) (jobs_left demands.now input jobs.now)) }
-{
-    let left = jobs_left(alloc, demands, input, jobs)?;
-    numbers_of(alloc, order, &left)
-}
-
+/// These jobs by their new numbers.
 fn numbers_of(alloc: Global, order: &[u32], jobs: &[u32]) -> Result<Vec<u32>, AllocError>
     requires { length order.now ≤ 32 }
     ensures { IfOk result (λ numbers. numbers.items ≡ map (place_in order.now) jobs.now) }
@@ -258,27 +267,69 @@ fn numbers_of(alloc: Global, order: &[u32], jobs: &[u32]) -> Result<Vec<u32>, Al
     Ok(numbers)
 }
 
-fn copied_jobs(
+/// The builds of these jobs that are of use to the cut inputs.
+fn jobs_of(
     alloc: Global,
     problem: &Problem,
+    inputs: &[Input],
     order: &[u32],
 ) -> Result<Vec<JobBuilds>, AllocError>
-    requires { EachIndex order.now (λ k. slice_index order.now k < length problem.now.jobs) }
-    ensures { IfOk result (λ jobs. jobs.items ≡ map (builds_at problem.now) order.now) }
+    requires few { length order.now ≤ 32 }
+    requires known { EachIndex order.now (λ k. slice_index order.now k < length problem.now.jobs) }
+    requires rising { All (λ x. AreRising x.places) inputs.now }
+    ensures { IfOk result (λ jobs. jobs.items ≡ builds_from problem.now inputs.now 0 order.now) }
 {
     let mut jobs = Vec::new(alloc);
-    for job in order {
-        jobs.push(copied_builds(alloc, problem.builds(*job as usize))?)?;
+    for n in 0..order.len() {
+        let builds = problem.builds(order[n] as usize);
+        jobs.push(useful_builds(alloc, inputs, n as u32, builds)?)?;
     }
     Ok(jobs)
 }
 
-pub(crate) fn copied_builds(alloc: Global, builds: &[Build]) -> Result<JobBuilds, AllocError>
-    ensures { IfOk result (λ copy. copy ≡ builds.now) }
+fn useful_builds(
+    alloc: Global,
+    inputs: &[Input],
+    job: u32,
+    builds: &[Build],
+) -> Result<JobBuilds, AllocError>
+    requires { All (λ x. AreRising x.places) inputs.now }
+    ensures { IfOk result (λ useful. useful ≡ filter (is_of_use inputs.now job) builds.now) }
 {
-    let mut copies = Vec::with_capacity(alloc, builds.len())?;
+    let mut useful = Vec::new(alloc);
     for build in builds {
-        copies.push(Build::new(build.number(), Vec::from_slice(alloc, build.pairs())?))?;
+        if is_of_use(inputs, job, build) {
+            useful.push(copied_build(alloc, build)?)?;
+        }
     }
-    Ok(JobBuilds::new(copies))
+    Ok(JobBuilds::new(useful))
+}
+
+/// Whether each of these inputs that names job `job` can have one of its places with a build.
+fn is_of_use(inputs: &[Input], job: u32, build: &Build) -> bool
+    requires { All (λ x. AreRising x.places) inputs.now }
+    ensures { result ≡ is_of_use inputs.now job build.now }
+{
+    for input in inputs {
+        if is_among(input.jobs(), job) && !has_place_of(input, build.pairs()) {
+            return false;
+        }
+    }
+    true
+}
+
+fn has_place_of(input: &Input, pairs: &[(u32, u32)]) -> bool
+    requires { AreRising input.now.places }
+    ensures { result ≡ has_place_of input.now pairs.now }
+{
+    pairs
+        .iter()
+        .any(|r| r.0 == input.scope() && is_place_of(input, r.1))
+}
+
+fn is_place_of(input: &Input, place: u32) -> bool
+    requires { AreRising input.now.places }
+    ensures { result ≡ list_any (λ y. y == place) input.now.places }
+{
+    has_place(input.places(), place)
 }

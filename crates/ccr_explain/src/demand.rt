@@ -1,16 +1,16 @@
 //! What a problem demands of a choice.
 
-ghost use Rattle.std.specs.Prelude.{◌≡◌, ◌++◌, map, IfOk, OnOk};
-ghost use Rattle.ccr_choice.specs.Problem.{IsProblem};
-ghost use Rattle.ccr_explain.specs.Demand.{demands_of};
-ghost use Rattle.ccr_explain.specs.declared.demand.Demand.TheVariants.{Passed};
+ghost use Rattle.std.specs.Prelude.{◌≡◌, ◌∷◌, ◌++◌, ℕ, List, map, All, IfOk, OnOk};
+ghost use Rattle.ccr_choice.specs.Problem.{BuildValue};
+ghost use Rattle.ccr_explain.specs.Demand.{demands_from, IsDemandOf};
+ghost use Rattle.ccr_explain.specs.declared.demand.Demand.TheVariants.{Allowed, Passed};
 
-use ccr_choice::Problem;
+use ccr_choice::Input;
 use std::alloc::{AllocError, Global};
 
 /// A demand that a problem makes of a choice. Inputs are counted from 0 in plan order, named jobs from 0 in order of first
 /// mention.
-#[derive(Clone, Copy, Debug)]
+#[derive(Clone, Copy, Debug, PartialEq, Eq)]
 pub enum Demand {
     /// This input takes one of its allowed places.
     Allowed(usize),
@@ -18,25 +18,43 @@ pub enum Demand {
     Passed(usize, usize),
 }
 
-/// All demands of a problem, in plan order.
-pub(crate) fn demands_of(alloc: Global, problem: &Problem) -> Result<Vec<Demand>, AllocError>
-    ensures value { IfOk result (λ ds. ds.items ≡ demands_of problem.now) }
-    ensures rules { IfOk result (λ ds. IsProblem problem.now) }
+/// All demands of these inputs, in plan order.
+pub(crate) fn demands_of(alloc: Global, inputs: &[Input]) -> Result<Vec<Demand>, AllocError>
+    ensures { IfOk result (λ ds. ds.items ≡ demands_from 0 inputs.now) }
 {
     let mut demands = Vec::new(alloc);
-    for i in 0..problem.inputs().len() {
-        demands.push(Demand::Allowed(i))?;
-        add_passed(&mut demands, i, problem.named(i))?;
+    for i in 0..inputs.len() {
+        add_demands(&mut demands, i, &inputs[i])?;
     }
     Ok(demands)
 }
 
-/// Adds the demands of input `input` for these jobs.
-fn add_passed(demands: &mut Vec<Demand>, input: usize, jobs: &[u32]) -> Result<(), AllocError>
-    ensures { OnOk result (demands.new.items ≡ demands.old.items ++ map (λ j. Passed input j) jobs.now) }
+/// The demands of some of these inputs, in plan order.
+pub(crate) fn demands_of_some(
+    alloc: Global,
+    inputs: &[Input],
+    some: &[usize],
+) -> Result<Vec<Demand>, AllocError>
+    ensures { IfOk result (λ ds. (jobs : List (List BuildValue))
+        → All (IsDemandOf (record { inputs = inputs.now; jobs = jobs })) ds.items) }
 {
-    for job in jobs {
-        demands.push(Demand::Passed(input, *job as usize))?;
+    let mut demands = Vec::new(alloc);
+    for i in 0..inputs.len() {
+        if some.contains(&i) {
+            add_demands(&mut demands, i, &inputs[i])?;
+        }
+    }
+    Ok(demands)
+}
+
+/// Adds the demands of input `number`.
+fn add_demands(demands: &mut Vec<Demand>, number: usize, input: &Input) -> Result<(), AllocError>
+    ensures { OnOk result (demands.new.items
+        ≡ demands.old.items ++ Allowed number ∷ map (λ j. Passed number j) input.now.jobs) }
+{
+    demands.push(Demand::Allowed(number))?;
+    for job in input.jobs() {
+        demands.push(Demand::Passed(number, *job as usize))?;
     }
     Ok(())
 }

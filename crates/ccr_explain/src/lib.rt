@@ -7,17 +7,22 @@
 //!
 //! What a demand, a clash and a place that can't be taken are, is said of problems and choices alone (`specs/Demand.antt`,
 //! `specs/Clash.antt`, `specs/WhyNot.antt`). The resolver is called on the problem cut to some of its demands; no definition
-//! speaks of that. Each demand is left out in turn, and stays out if the others still exclude each other: one call of the
-//! resolver for each demand, and one for the whole problem.
+//! speaks of that. First a few inputs are looked for whose demands exclude each other: one input alone, else one with those that name
+//! a job in common with it, and so on. Then each demand is left out in turn, and stays out if the others still exclude each other. So
+//! the resolver is called at most twice as often as there are demands.
 #![tactic(auto)]
 
 mod clashes;
+mod copies;
 mod cut;
 mod demand;
 mod explanation;
+mod grown;
 mod law;
 mod met;
 mod reduced;
+#[cfg(test)]
+mod rows;
 mod why;
 
 pub use clashes::clash;

@@ -2,14 +2,12 @@
 
 ghost use Rattle.std.specs.Prelude.{◌≡◌, ◌≤◌, ◌++◌, All, IfOk};
 ghost use Rattle.ccr_choice.specs.Problem.{IsProblem};
-ghost use Rattle.ccr_choice.specs.Preference.{order_of};
-ghost use Rattle.ccr_resolve.specs.Chosen.{IsChosen};
 ghost use Rattle.ccr_explain.specs.Demand.{IsDemandOf};
-ghost use Rattle.ccr_explain.specs.Cut.{cut_to, met_of, IsTop, IsMet};
+ghost use Rattle.ccr_explain.specs.Cut.{met_of, IsChosenOfCut, IsMet};
 
 use crate::cut::cut_to;
 use crate::demand::Demand;
-use ccr_choice::Problem;
+use ccr_choice::{Input, Problem};
 use ccr_index::build_index;
 use ccr_proof::MOST_NODES;
 use ccr_resolve::{Chosen, choose};
@@ -26,21 +24,20 @@ pub(crate) enum Met {
     OverBudget,
 }
 
-/// What the resolver chooses for a problem that is cut to these demands.
+/// What the resolver chooses for the problem cut to these demands.
 fn chosen_of_cut(
     alloc: Global,
+    inputs: &[Input],
     problem: &Problem,
     demands: &[Demand],
-    top: u32,
     budget: u32,
 ) -> Result<Chosen, AllocError>
-    requires top { IsTop problem.now top }
+    requires rules { IsProblem (record problem.now { inputs = inputs.now }) }
     requires least { 1 ≤ budget }
     requires most { budget ≤ MOST_NODES }
-    ensures chosen { let cut = cut_to demands.now top problem.now in IfOk result (IsChosen (order_of cut) cut budget) }
-    ensures rules { IfOk result (λ chosen. IsProblem problem.now) }
+    ensures { IfOk result (IsChosenOfCut demands.now (record problem.now { inputs = inputs.now }) budget) }
 {
-    let cut = cut_to(alloc, problem, demands, top)?;
+    let cut = cut_to(alloc, inputs, problem, demands)?;
     let index = build_index(alloc, &cut)?;
     choose(alloc, &index, budget)
 }
@@ -56,40 +53,40 @@ fn met_of(chosen: Chosen) -> Met
     }
 }
 
-/// Whether some choice meets these demands of a problem.
-fn are_met(
+/// Whether some choice meets these demands of the problem of these inputs and the jobs of a problem.
+pub(crate) fn are_met(
     alloc: Global,
+    inputs: &[Input],
     problem: &Problem,
     demands: &[Demand],
-    top: u32,
     budget: u32,
 ) -> Result<Met, AllocError>
-    requires top { IsTop problem.now top }
-    requires demands { All (IsDemandOf problem.now) demands.now }
+    requires rules { IsProblem (record problem.now { inputs = inputs.now }) }
+    requires demands { All (IsDemandOf (record problem.now { inputs = inputs.now })) demands.now }
     requires least { 1 ≤ budget }
     requires most { budget ≤ MOST_NODES }
-    ensures { IfOk result (IsMet problem.now demands.now budget) }
+    ensures { IfOk result (IsMet (record problem.now { inputs = inputs.now }) demands.now budget) }
 {
-    let chosen = chosen_of_cut(alloc, problem, demands, top, budget)?;
+    let chosen = chosen_of_cut(alloc, inputs, problem, demands, budget)?;
     Ok(met_of(chosen))
 }
 
 /// Whether some choice meets the demands of two lists.
 pub(crate) fn are_both_met(
     alloc: Global,
+    inputs: &[Input],
     problem: &Problem,
     first: &[Demand],
     second: &[Demand],
-    top: u32,
     budget: u32,
 ) -> Result<Met, AllocError>
-    requires top { IsTop problem.now top }
-    requires demands { All (IsDemandOf problem.now) (first.now ++ second.now) }
+    requires rules { IsProblem (record problem.now { inputs = inputs.now }) }
+    requires demands { All (IsDemandOf (record problem.now { inputs = inputs.now })) (first.now ++ second.now) }
     requires least { 1 ≤ budget }
     requires most { budget ≤ MOST_NODES }
-    ensures { IfOk result (IsMet problem.now (first.now ++ second.now) budget) }
+    ensures { IfOk result (IsMet (record problem.now { inputs = inputs.now }) (first.now ++ second.now) budget) }
 {
     let mut demands = Vec::from_slice(alloc, first)?;
     demands.extend_from_slice(second)?;
-    are_met(alloc, problem, &demands, top, budget)
+    are_met(alloc, inputs, problem, &demands, budget)
 }

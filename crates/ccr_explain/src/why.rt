@@ -4,12 +4,12 @@ ghost use Rattle.std.specs.Prelude.{◌≡◌, ◌≢◌, ◌↔◌, ◌+◌, �
 ghost use Rattle.ccr_choice.specs.Problem.{ChoiceValue, input_at, IsProblem};
 ghost use Rattle.ccr_choice.specs.Preference.{order_of};
 ghost use Rattle.ccr_choice.specs.Optimal.{IsOptimal};
-ghost use Rattle.ccr_explain.specs.WhyNot.{may_take, narrowed_from, asked, IsWhyNot};
+ghost use Rattle.ccr_explain.specs.WhyNot.{may_take, asked, IsWhyNot};
 
-use crate::clashes::clash;
-use crate::cut::copied_builds;
+use crate::clashes::explained;
 use crate::explanation::Explanation;
-use ccr_choice::{Choice, Input, JobBuilds, Problem};
+use crate::grown::grown;
+use ccr_choice::{Choice, Input, Problem};
 use ccr_proof::MOST_NODES;
 use std::alloc::{AllocError, Global};
 
@@ -19,7 +19,7 @@ use std::alloc::{AllocError, Global};
 /// has.
 ///
 /// In the clash, the demand of the input's allowed places reads: it takes the place, which is allowed. That of an input before
-/// it reads: it takes an allowed place that is no worse. The calls of the resolver and the budget are those of [`clash`].
+/// it reads: it takes an allowed place that is no worse. The calls of the resolver and the budget are those of [`crate::clash`].
 pub fn why_not(
     alloc: Global,
     problem: &Problem,
@@ -38,26 +38,12 @@ pub fn why_not(
         → IsTrue (order_of problem.now input place (slice_index choice.now.places input))
         → (other : ChoiceValue) → result ≢ Ok (Explanation.Fits other) }
 {
-    let asked = asked(alloc, problem, &choice.places, input, place)?;
-    clash(alloc, &asked, budget)
+    let asked = narrowed(alloc, problem, &choice.places, input, place)?;
+    let few = grown(alloc, &asked, problem, input, budget)?;
+    explained(alloc, &asked, problem, few, budget)
 }
 
-/// The problem in which input `input` takes a place and no input before it gets worse.
-fn asked(
-    alloc: Global,
-    problem: &Problem,
-    places: &[u32],
-    input: usize,
-    place: u32,
-) -> Result<Problem, AllocError>
-    requires { length places.now ≡ length problem.now.inputs }
-    ensures { IfOk result (λ p. p ≡ asked (order_of problem.now) problem.now places.now input place) }
-{
-    let inputs = narrowed(alloc, problem, places, input, place)?;
-    let jobs = all_jobs(alloc, problem)?;
-    Ok(Problem::new(inputs, jobs))
-}
-
+/// The inputs of the problem in which input `input` takes a place and no input before it gets worse.
 fn narrowed(
     alloc: Global,
     problem: &Problem,
@@ -66,15 +52,16 @@ fn narrowed(
     place: u32,
 ) -> Result<Vec<Input>, AllocError>
     requires { length places.now ≡ length problem.now.inputs }
-    ensures value { IfOk result (λ inputs. inputs.items
-        ≡ narrowed_from (may_take (order_of problem.now) places.now input place) 0 problem.now.inputs) }
-    ensures rules { IfOk result (λ inputs. IsProblem problem.now) }
+    ensures value { IfOk result (λ inputs. record problem.now { inputs = inputs.items }
+        ≡ asked (order_of problem.now) problem.now places.now input place) }
+    ensures rules { IfOk result (λ inputs. IsProblem (record problem.now { inputs = inputs.items })) }
 {
     let mut inputs = Vec::new(alloc);
     for k in 0..problem.inputs().len() {
-        let allowed = may_take_of(alloc, problem, places, input, place, k)?;
         let jobs = Vec::from_slice(alloc, problem.named(k))?;
-        inputs.push(Input::new(problem.inputs()[k].scope(), jobs, allowed))?;
+        let places = may_take_of(alloc, problem, places, input, place, k)?;
+        let whole = &problem.inputs()[k];
+        inputs.push(Input::new(whole.scope(), jobs, whole.after(), places))?;
     }
     Ok(inputs)
 }
@@ -112,17 +99,5 @@ fn may_take_of(
 fn is_preferred(problem: &Problem, input: usize, place: u32, other: u32) -> bool
     ensures { result ≡ order_of problem.now input place other }
 {
-    let _ = problem;
-    let _ = input;
-    other < place
-}
-
-fn all_jobs(alloc: Global, problem: &Problem) -> Result<Vec<JobBuilds>, AllocError>
-    ensures { IfOk result (λ jobs. jobs.items ≡ problem.now.jobs) }
-{
-    let mut jobs = Vec::new(alloc);
-    for job in problem.jobs() {
-        jobs.push(copied_builds(alloc, job.builds())?)?;
-    }
-    Ok(jobs)
+    ccr_choice::is_preferred(problem.after(input), place, other)
 }

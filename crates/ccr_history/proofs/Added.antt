@@ -1,6 +1,8 @@
 -- What a call on builds leaves: a refusal the same builds, an Ok one more or one that ended.
 use Rattle.std.proofs.Common.{◌≡◌, ◌≢◌, ℕ, zero, suc, ◌+◌, ◌<◌, ◌≤◌, List, [], ◌∷◌, ◌++◌, map, length, set, slice_get, Bool, true, false, ◌||◌, Some, None, refl, sym, ap, ◌∙◌, subst, arith, AllPairs, Result, Ok, Err, OnErr}
 use Rattle.std.specs.List.{AllByRecursion, list_any}
+use Rattle.std.specs.Map.{lookup}
+use Rattle.std.specs.Option.{option_or}
 use Rattle.std.specs.Str.{bytes_eq}
 use Rattle.std.proofs.lemmas.List.{length-map}
 use Rattle.std.proofs.lemmas.List.Sums.{count_by-le-length}
@@ -8,10 +10,12 @@ use Rattle.ccr_history.specs.declared.builds.TheConstants.{MOST_BUILDS}
 use Rattle.ccr_history.specs.declared.build.Status.{Status}
 use Rattle.ccr_history.specs.declared.build.Status.TheVariants.{Running, Succeeded, Failed, Errored, Aborted}
 use Rattle.ccr_history.specs.declared.used_row.UsedRow.{UsedRow}
+use Rattle.ccr_history.specs.declared.used_row.InputScope.{InputScope}
 use Rattle.ccr_history.specs.Text.{Text}
 use Rattle.ccr_history.specs.Names.{AreApart, HasMore}
 use Rattle.ccr_history.specs.Builds.{UsedData, BuildData, is_of, is_build_of, is_running, count_of, build_of, by_input, by_place, with_build, with_end}
-use Rattle.ccr_history.specs.Rows.{RowData, JobData, used_data, build_data, builds_data, new_row, ended_row, is_same, is_row_of, IsLinked, HasOneMore}
+use Rattle.ccr_history.specs.Rows.{RowData, JobData, used_data, build_data, builds_data, new_row, ended_row, is_same, is_row_of, is_input_scope, row_if_at, IsLinked, HasOneMore}
+use Rattle.ccr_history.specs.Newest.{last_given}
 use Rattle.ccr_history.specs.Orderly.{AreOrderly, IsOnly}
 use Rattle.ccr_history.proofs.Positions.{length-positions}
 use Rattle.ccr_history.proofs.Numbered.{build_of-only}
@@ -53,14 +57,15 @@ pub added_well : (jobs inputs : List Text) (rows rows' : List RowData) (kept : L
     → IsLinked jobs inputs rows kept → AreOrderly (builds_data jobs inputs rows) → length rows < MOST_BUILDS → AllPairs (λ u v. bytes_eq u.input v.input ≡ false) given → AreApart jobs
     → slice_get jobs job ≡ Some name → slice_get kept job ≡ Some d → AllByRecursion (λ u. u.input < length inputs) used → map (used_data inputs) used ≡ by_input given
     → d'.at ≡ d.at ++ length rows ∷ [] → ((u : UsedRow) → list_any (is_same u) d'.used ≡ (list_any (is_same u) d.used || list_any (is_same u) used))
+    → ((s : InputScope) → lookup (is_input_scope s) d'.newest ≡ option_or (last_given (row_if_at s) used) (lookup (is_input_scope s) d.newest))
     → n ≡ length d.at + 1 → rows' ≡ rows ++ new_row job n used ∷ []
     → IsLinked jobs inputs rows' (set kept job d') × AreOrderly (builds_data jobs inputs rows') × (builds_data jobs inputs rows' ≡ with_build name given (builds_data jobs inputs rows))
-added_well jobs inputs rows rows' kept job n used d d' name given linked orderly few once apart at kept_at named same positions_more used_more number is =
+added_well jobs inputs rows rows' kept job n used d d' name given linked orderly few once apart at kept_at named same positions_more used_more newer number is =
     let counted : n ≡ count_of name (builds_data jobs inputs rows) + 1 = number ∙ ap (λ m. m + 1) (next_number jobs inputs rows kept job d name linked apart at kept_at) in
     let builds : builds_data jobs inputs rows' ≡ with_build name given (builds_data jobs inputs rows) =
     ap (builds_data jobs inputs) is ∙ builds_data-push jobs inputs rows job n used name given at same counted in (
       subst (λ l. IsLinked jobs inputs l (set kept job d')) (sym is)
-          (IsLinked-push jobs inputs rows kept job n used d d' linked (slice_get_within jobs job name at) named kept_at positions_more used_more),
+          (IsLinked-push jobs inputs rows kept job n used d d' linked (slice_get_within jobs job name at) named kept_at positions_more used_more newer),
       subst AreOrderly (sym builds) (AreOrderly-with_build name given (builds_data jobs inputs rows) (omega (arith, few, length-map rows (build_data jobs inputs))) once orderly),
       builds,
     )

@@ -9,7 +9,8 @@ use Rattle.ccr_history.specs.Tables.{TableData}
 use Rattle.ccr_history.specs.Builds.{UsedData}
 use Rattle.ccr_history.specs.History.{IsUsed, has_place}
 use Rattle.ccr_history.specs.Changes.{AreUsed, AreMoved}
-use Rattle.ccr_history.specs.Conditions.{are_apart, is_same_input, is_same_pair, is_used_in, are_used, are_moved}
+use Rattle.ccr_history.specs.Pairs.{is_same_pair}
+use Rattle.ccr_history.specs.Conditions.{are_apart, is_same_input, is_used_in, are_used, are_moved}
 use Rattle.ccr_history.proofs.Lists.{pairs_none, pairs_head, pairs_tail}
 
 all_decides : {X : Type 0} (p : X → Bool) (P : X → Type 0) → ((x : X) → Decides (p x) (P x)) → (xs : List X) → Decides (list_all p xs) (AllByRecursion P xs)

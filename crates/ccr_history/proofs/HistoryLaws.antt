@@ -9,7 +9,7 @@ use Rattle.ccr_history.specs.Text.{Text}
 use Rattle.ccr_history.specs.TextMap.{TextMap}
 use Rattle.ccr_history.specs.Tables.{ScopeData, TableData, reported}
 use Rattle.ccr_history.specs.Builds.{UsedData, BuildData, with_build, with_end}
-use Rattle.ccr_history.specs.History.{AreTables, AreBuilds, ArePins}
+use Rattle.ccr_history.specs.History.{AreTables, AreBuilds, ArePins, AreDisabled}
 use Rattle.ccr_history.specs.Changes.{AreUsed, AreMoved}
 use Rattle.ccr_history.proofs.TableLaws.{places_kept}
 use Rattle.ccr_history.proofs.BuildLaws.{build_kept, end_kept, builds_kept}
@@ -39,9 +39,10 @@ builds_ended r ts bs cs job number status moved rules over given ok err =
     settled r (AreBuilds ts) bs cs (with_end job number status moved bs) ok err rules (λ _. end_kept ts job number status moved bs rules over given)
 
 -- what equals the parts of a history are those of one
-pub same_history : (ts us : List TableData) (bs cs : List BuildData) (ps qs : List (Text × TextMap)) → us ≡ ts → cs ≡ bs → qs ≡ ps
-    → AreTables ts × AreBuilds ts bs × ArePins ps → AreTables us × AreBuilds us cs × ArePins qs
-same_history ts us bs cs ps qs tables builds pins h =
-    subst (λ (l : List TableData). AreTables l × AreBuilds l cs × ArePins qs) (sym tables)
-    (subst (λ (l : List BuildData). AreTables ts × AreBuilds ts l × ArePins qs) (sym builds)
-    (subst (λ (l : List (Text × TextMap)). AreTables ts × AreBuilds ts bs × ArePins l) (sym pins) h))
+pub same_history : (ts us : List TableData) (bs cs : List BuildData) (ps qs : List (Text × TextMap)) (ds es : List (ℕ × ℕ)) → us ≡ ts → cs ≡ bs → qs ≡ ps → es ≡ ds
+    → AreTables ts × AreBuilds ts bs × ArePins ps × AreDisabled ts ds → AreTables us × AreBuilds us cs × ArePins qs × AreDisabled us es
+same_history ts us bs cs ps qs ds es tables builds pins disabled h =
+    subst (λ (l : List TableData). AreTables l × AreBuilds l cs × ArePins qs × AreDisabled l es) (sym tables)
+    (subst (λ (l : List BuildData). AreTables ts × AreBuilds ts l × ArePins qs × AreDisabled ts es) (sym builds)
+    (subst (λ (l : List (Text × TextMap)). AreTables ts × AreBuilds ts bs × ArePins l × AreDisabled ts es) (sym pins)
+    (subst (λ (l : List (ℕ × ℕ)). AreTables ts × AreBuilds ts bs × ArePins ps × AreDisabled ts l) (sym disabled) h)))

@@ -5,6 +5,8 @@ pub mod Lists
 pub mod TableLaws
 pub mod BuildLaws
 pub mod PinLaws
+pub mod PairSets
+pub mod DisabledLaws
 pub mod ChangeLaws
 pub mod PinMaps
 pub mod HistoryLaws
@@ -19,6 +21,7 @@ pub mod Positions
 pub mod Numbered
 pub mod Sorting
 pub mod OrderlyKept
+pub mod Given
 pub mod Links
 pub mod KeptRows
 pub mod NameLemmas

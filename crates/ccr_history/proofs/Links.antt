@@ -1,6 +1,8 @@
 -- Rows, and what is kept beside them.
-use Rattle.std.proofs.Common.{◌≡◌, ℕ, zero, suc, ◌+◌, ◌<◌, ◌≤◌, ◌⊎◌, ◌==◌, List, [], ◌∷◌, ◌++◌, map, length, slice_get, set, Bool, true, false, cond, ◌&&◌, ◌||◌, Some, refl, sym, ap, ap₂, ◌∙◌, subst, inl, inr, ⊎_elim, arith, append-nil}
+use Rattle.std.proofs.Common.{◌≡◌, ℕ, zero, suc, ◌+◌, ◌<◌, ◌≤◌, ◌⊎◌, ◌==◌, List, [], ◌∷◌, ◌++◌, map, length, slice_get, set, Bool, true, false, cond, ◌&&◌, ◌||◌, Option, Some, None, refl, sym, ap, ap₂, ◌∙◌, subst, inl, inr, ⊎_elim, arith, append-nil}
 use Rattle.std.specs.List.{AllByRecursion, list_any}
+use Rattle.std.specs.Map.{lookup}
+use Rattle.std.specs.Option.{option_or}
 use Rattle.std.specs.Str.{bytes_eq}
 use Rattle.std.proofs.lemmas.Bool.{cases_order, cases_eq, eq-eqb, ne_eqb, eqb-true, false_from_ne_true, false≢true, or_parts, and_left, and_right}
 use Rattle.std.proofs.lemmas.List.{length-set, length-append, get_or_append_left, map-set, map_push}
@@ -10,14 +12,17 @@ use Rattle.std.proofs.lemmas.Slice.Eq.{bytes_eq-Decides}
 use Rattle.ccr_history.specs.declared.build.Status.{Status}
 use Rattle.ccr_history.specs.declared.build.Status.TheVariants.{Running}
 use Rattle.ccr_history.specs.declared.used_row.UsedRow.{UsedRow}
+use Rattle.ccr_history.specs.declared.used_row.InputScope.{InputScope}
 use Rattle.ccr_history.specs.Text.{Text}
 use Rattle.ccr_history.specs.Names.{has_name, name_at, AreApart, HasMore}
 use Rattle.ccr_history.specs.Builds.{UsedData, BuildData, is_of, is_build_of, count_of, new_build, with_build, by_input, by_place, ended, with_end, positions, positions_of, is_used, has_used}
-use Rattle.ccr_history.specs.Rows.{RowData, JobData, used_data, build_data, builds_data, new_row, ended_row, is_same, is_row_of, has_used_row, IsNamed, KeepsJob, IsLinked, HasOneMore}
+use Rattle.ccr_history.specs.Newest.{last_given, place_if_at, place_used, newest_used}
+use Rattle.ccr_history.specs.Rows.{RowData, JobData, no_job, used_data, build_data, builds_data, new_row, ended_row, is_same, is_row_of, has_used_row, is_input_scope, row_if_at, row_used, IsNamed, KeepsJob, IsLinked, HasOneMore}
 use Rattle.ccr_history.specs.Orderly.{IsOnly}
 use Rattle.ccr_history.proofs.Positions.{positions-push, positions-agree, any-agree, same_answers, answers-set, positions-none, any-none}
 use Rattle.ccr_history.proofs.Numbered.{slice_get_push, map_only}
 use Rattle.ccr_history.proofs.Lists.{each_weaker, each_push}
+use Rattle.ccr_history.proofs.Given.{last_given-push, given-agree, given-none}
 
 all-set : {X : Type 0} (P : X → Type 0) (xs : List X) (i : ℕ) (y : X) → P y → AllByRecursion P xs → AllByRecursion P (set xs i y)
 all-set P [] i y h all = tt
@@ -76,12 +81,14 @@ IsNamed-more jobs jobs' inputs inputs' p q r named =
     (omega (arith, named.0), each_weaker (λ u. u.input < inputs) (λ u. u.input < inputs') (λ u lt. omega (arith, lt)) r.used named.1)
 
 -- a job whose number no row has
-KeepsJob-none : (rows : List RowData) (job : ℕ) → AllByRecursion (λ r. r.job < job) rows → KeepsJob rows job (record { at = []; used = [] })
+KeepsJob-none : (rows : List RowData) (job : ℕ) → AllByRecursion (λ r. r.job < job) rows → KeepsJob rows job no_job
 KeepsJob-none rows job all =
     let others = each_weaker (λ r. r.job < job) (λ r. is_row_of job r ≡ false) (λ r lt. ne_eqb job r.job (λ e. omega (arith, lt))) rows all in (
       sym (positions-none (is_row_of job) rows others),
       λ u. sym (any-none (λ r. is_row_of job r && list_any (is_same u) r.used) rows
           (each_weaker (λ r. is_row_of job r ≡ false) (λ r. (is_row_of job r && list_any (is_same u) r.used) ≡ false) (λ r e. and_left _ _ e) rows others)),
+      λ s. sym (given-none (row_used job s) rows
+          (each_weaker (λ r. is_row_of job r ≡ false) (λ r. row_used job s r ≡ None) (λ r e. ap (λ b. cond b (last_given (row_if_at s) r.used) None) e) rows others)),
     )
 
 pub IsLinked-more : (jobs jobs' inputs inputs' : List Text) (rows : List RowData) (kept kept' : List JobData) → IsLinked jobs inputs rows kept
@@ -93,7 +100,7 @@ IsLinked-more jobs jobs' inputs inputs' rows kept kept' linked more_jobs more_in
       keeps = λ job d e. by job d e one;
     }
   where
-    new : (job : ℕ) (d : JobData) → ((job < length kept) × (slice_get kept job ≡ Some d)) ⊎ ((job ≡ length kept) × (record { at = []; used = [] } ≡ d)) → KeepsJob rows job d
+    new : (job : ℕ) (d : JobData) → ((job < length kept) × (slice_get kept job ≡ Some d)) ⊎ ((job ≡ length kept) × (no_job ≡ d)) → KeepsJob rows job d
     new job d (inl h) = linked.keeps job d h.1
     new job d (inr h) =
         subst (KeepsJob rows job) h.1 (KeepsJob-none rows job
@@ -101,12 +108,13 @@ IsLinked-more jobs jobs' inputs inputs' rows kept kept' linked more_jobs more_in
 
     by : (job : ℕ) (d : JobData) → slice_get kept' job ≡ Some d → HasOneMore kept kept' → KeepsJob rows job d
     by job d e (inl same) = linked.keeps job d (ap (λ l. slice_get l job) (sym same) ∙ e)
-    by job d e (inr more) = new job d (slice_get_push kept (record { at = []; used = [] }) job d (ap (λ l. slice_get l job) (sym more) ∙ e))
+    by job d e (inr more) = new job d (slice_get_push kept no_job job d (ap (λ l. slice_get l job) (sym more) ∙ e))
 
 -- ---- one more build
 KeepsJob-push : (rows : List RowData) (job n : ℕ) (used : List UsedRow) (d d' : JobData) → KeepsJob rows job d → d'.at ≡ d.at ++ length rows ∷ []
-    → ((u : UsedRow) → list_any (is_same u) d'.used ≡ (list_any (is_same u) d.used || list_any (is_same u) used)) → KeepsJob (rows ++ new_row job n used ∷ []) job d'
-KeepsJob-push rows job n used d d' keeps at more =
+    → ((u : UsedRow) → list_any (is_same u) d'.used ≡ (list_any (is_same u) d.used || list_any (is_same u) used))
+    → ((s : InputScope) → lookup (is_input_scope s) d'.newest ≡ option_or (last_given (row_if_at s) used) (lookup (is_input_scope s) d.newest)) → KeepsJob (rows ++ new_row job n used ∷ []) job d'
+KeepsJob-push rows job n used d d' keeps at more newer =
     let r = new_row job n used in
     let own : is_row_of job r ≡ true = eq-eqb job job refl in (
       at ∙ ap (λ l. l ++ length rows ∷ []) keeps.0
@@ -115,6 +123,9 @@ KeepsJob-push rows job n used d d' keeps at more =
       λ u. more u ∙ ap (λ b. b || list_any (is_same u) used) (keeps.1 u)
           ∙ ap (λ b. has_used_row job u rows || b) (last (list_any (is_same u) used) ∙ ap (λ b. (b && list_any (is_same u) used) || false) (sym own))
           ∙ sym (list_any-append (λ r. is_row_of job r && list_any (is_same u) r.used) rows (r ∷ [])),
+      λ s. newer s ∙ ap (option_or (last_given (row_if_at s) used)) (keeps.2 s)
+          ∙ ap (λ b. option_or (cond b (last_given (row_if_at s) used) None) (last_given (row_used job s) rows)) (sym own)
+          ∙ sym (last_given-push (row_used job s) rows r),
     )
   where
     last : (b : Bool) → b ≡ ((true && b) || false)
@@ -131,6 +142,9 @@ KeepsJob-push_other rows job other n used d apart keeps =
       λ u. keeps.1 u ∙ last (has_used_row other u rows)
           ∙ ap (λ b. has_used_row other u rows || ((b && list_any (is_same u) used) || false)) (sym not_own)
           ∙ sym (list_any-append (λ r. is_row_of other r && list_any (is_same u) r.used) rows (r ∷ [])),
+      λ s. keeps.2 s
+          ∙ ap (λ b. option_or (cond b (last_given (row_if_at s) used) None) (last_given (row_used other s) rows)) (sym not_own)
+          ∙ sym (last_given-push (row_used other s) rows r),
     )
   where
     last : (b : Bool) → b ≡ (b || false)
@@ -140,8 +154,9 @@ KeepsJob-push_other rows job other n used d apart keeps =
 pub IsLinked-push : (jobs inputs : List Text) (rows : List RowData) (kept : List JobData) (job n : ℕ) (used : List UsedRow) (d d' : JobData) → IsLinked jobs inputs rows kept
     → job < length jobs → AllByRecursion (λ u. u.input < length inputs) used → slice_get kept job ≡ Some d → d'.at ≡ d.at ++ length rows ∷ []
     → ((u : UsedRow) → list_any (is_same u) d'.used ≡ (list_any (is_same u) d.used || list_any (is_same u) used))
+    → ((s : InputScope) → lookup (is_input_scope s) d'.newest ≡ option_or (last_given (row_if_at s) used) (lookup (is_input_scope s) d.newest))
     → IsLinked jobs inputs (rows ++ new_row job n used ∷ []) (set kept job d')
-IsLinked-push jobs inputs rows kept job n used d d' linked named inputs_named at positions_more used_more =
+IsLinked-push jobs inputs rows kept job n used d d' linked named inputs_named at positions_more used_more newer =
     record {
       named = each_push (IsNamed (length jobs) (length inputs)) rows (new_row job n used) linked.named (named, inputs_named);
       enough = omega (arith, length-set kept job d', linked.enough);
@@ -151,7 +166,7 @@ IsLinked-push jobs inputs rows kept job n used d d' linked named inputs_named at
     by : (j : ℕ) (e : JobData) → ((j ≡ job) × (d' ≡ e)) ⊎ ((j ≡ job → ⊥) × (slice_get kept j ≡ Some e)) → KeepsJob (rows ++ new_row job n used ∷ []) j e
     by j e (inl h) =
         subst (λ i. KeepsJob (rows ++ new_row job n used ∷ []) i e) (sym h.0)
-        (subst (KeepsJob (rows ++ new_row job n used ∷ []) job) h.1 (KeepsJob-push rows job n used d d' (linked.keeps job d at) positions_more used_more))
+        (subst (KeepsJob (rows ++ new_row job n used ∷ []) job) h.1 (KeepsJob-push rows job n used d d' (linked.keeps job d at) positions_more used_more newer))
     by j e (inr h) = KeepsJob-push_other rows job j n used e h.0 (linked.keeps j e h.1)
 
 -- the builds with one more
@@ -177,6 +192,8 @@ IsLinked-end jobs inputs rows kept i status moved r linked at =
             keeps.0 ∙ sym (positions-agree (is_row_of job) (is_row_of job) (set rows i (ended_row status moved r)) rows (answers-set (is_row_of job) rows i r (ended_row status moved r) at refl)),
             λ u. keeps.1 u ∙ sym (any-agree (λ s. is_row_of job s && list_any (is_same u) s.used) (λ s. is_row_of job s && list_any (is_same u) s.used) (set rows i (ended_row status moved r)) rows
                 (answers-set (λ s. is_row_of job s && list_any (is_same u) s.used) rows i r (ended_row status moved r) at refl)),
+            λ s. keeps.2 s ∙ sym (given-agree (row_used job s) (row_used job s) (set rows i (ended_row status moved r)) rows
+                (answers-set (row_used job s) rows i r (ended_row status moved r) at refl)),
           );
     }
 
@@ -213,8 +230,8 @@ no_number (t ∷ ts) name none zero lt = (or_parts _ _ none).0
 no_number (t ∷ ts) name none (suc m) lt = no_number ts name (or_parts _ _ none).1 m (omega arith)
 
 module _ (jobs inputs : List Text) (rows : List RowData) (kept : List JobData) (linked : IsLinked jobs inputs rows kept) where
-  -- a test of builds, as a test of rows
-  answers : (p : BuildData → Bool) (q : RowData → Bool) → ((r : RowData) → IsNamed (length jobs) (length inputs) r → p (build_data jobs inputs r) ≡ q r) → map p (builds_data jobs inputs rows) ≡ map q rows
+  -- what is asked of builds, as it is asked of rows
+  answers : {Y : Type 0} (p : BuildData → Y) (q : RowData → Y) → ((r : RowData) → IsNamed (length jobs) (length inputs) r → p (build_data jobs inputs r) ≡ q r) → map p (builds_data jobs inputs rows) ≡ map q rows
   answers p q same =
       map-map p (build_data jobs inputs) rows
       ∙ same_answers (λ r. p (build_data jobs inputs r)) q rows
@@ -267,3 +284,38 @@ module _ (jobs inputs : List Text) (rows : List RowData) (kept : List JobData) (
       each [] all = refl
       each (w ∷ ws) all =
           Rattle.std.proofs.lemmas.Bool.or_from _ _ (and_left _ _ (no_number inputs u.input none w.input all.0)) (each ws all.1)
+
+  -- for an input in a scope, the place that a job's newest build had is the one that is kept
+  pub newest_kept : AreApart jobs → AreApart inputs → (name input : Text) (job : ℕ) (s : InputScope) (d : JobData)
+      → slice_get jobs job ≡ Some name → slice_get inputs s.input ≡ Some input → slice_get kept job ≡ Some d
+      → lookup (is_input_scope s) d.newest ≡ newest_used name input s.scope (builds_data jobs inputs rows)
+  newest_kept apart apart_inputs name input job s d at input_at kept_at =
+      (linked.keeps job d kept_at).2 s
+      ∙ sym (given-agree (place_used name input s.scope) (row_used job s) (builds_data jobs inputs rows) rows
+      (answers _ _ (λ r named. ap₂ (λ b o. cond b o None) (same_number jobs apart job name at r.job named.0) (each r.used named.1))))
+    where
+      each : (us : List UsedRow) → AllByRecursion (λ w. w.input < length inputs) us → last_given (place_if_at input s.scope) (map (used_data inputs) us) ≡ last_given (row_if_at s) us
+      each [] all = refl
+      each (w ∷ ws) all =
+          ap₂ option_or (each ws all.1) (ap (λ b. cond (b && s.scope == w.scope) (Some w.place) None) (same_number inputs apart_inputs s.input input input_at w.input all.0))
+
+  pub newest_absent_job : (name input : Text) (scope : ℕ) → has_name jobs name ≡ false → newest_used name input scope (builds_data jobs inputs rows) ≡ None
+  newest_absent_job name input scope none =
+      given-agree (place_used name input scope) (λ _. None) (builds_data jobs inputs rows) rows
+      (answers _ (λ _. None) (λ r named. ap (λ b. cond b (last_given (place_if_at input scope) (map (used_data inputs) r.used)) None) (no_number jobs name none r.job named.0)))
+      ∙ given-none (λ _. None) rows (each_weaker (IsNamed (length jobs) (length inputs)) (λ _. (let o : Option ℕ = None in o) ≡ None) (λ _ _. refl) rows linked.named)
+
+  pub newest_absent_input : (name input : Text) (scope : ℕ) → has_name inputs input ≡ false → newest_used name input scope (builds_data jobs inputs rows) ≡ None
+  newest_absent_input name input scope none =
+      given-agree (place_used name input scope) (λ _. None) (builds_data jobs inputs rows) rows
+      (answers _ (λ _. None) (λ r named. ap (λ o. cond (bytes_eq name (name_at jobs r.job)) o None) (each r.used named.1) ∙ either (bytes_eq name (name_at jobs r.job))))
+      ∙ given-none (λ _. None) rows (each_weaker (IsNamed (length jobs) (length inputs)) (λ _. (let o : Option ℕ = None in o) ≡ None) (λ _ _. refl) rows linked.named)
+    where
+      either : (b : Bool) → cond b (let o : Option ℕ = None in o) None ≡ None
+      either true = refl
+      either false = refl
+
+      each : (us : List UsedRow) → AllByRecursion (λ w. w.input < length inputs) us → last_given (place_if_at input scope) (map (used_data inputs) us) ≡ None
+      each [] all = refl
+      each (w ∷ ws) all =
+          ap₂ option_or (each ws all.1) (ap (λ b. cond (b && scope == w.scope) (Some w.place) None) (no_number inputs input none w.input all.0))

@@ -34,12 +34,12 @@ pub any_by_answers : {X : Type 0} (p : X → Bool) (xs : List X) → list_any p 
 any_by_answers p [] = refl
 any_by_answers p (x ∷ xs) = ap (λ b. p x || b) (any_by_answers p xs)
 
-pub same_answers : {X : Type 0} (p q : X → Bool) (xs : List X) → AllByRecursion (λ x. p x ≡ q x) xs → map p xs ≡ map q xs
+pub same_answers : {X Y : Type 0} (p q : X → Y) (xs : List X) → AllByRecursion (λ x. p x ≡ q x) xs → map p xs ≡ map q xs
 same_answers p q [] all = refl
 same_answers p q (x ∷ xs) all = ap (λ b. b ∷ map p xs) all.0 ∙ ap (λ l. q x ∷ l) (same_answers p q xs all.1)
 
 -- an element in the place of one that the test answers alike
-pub answers-set : {X : Type 0} (p : X → Bool) (xs : List X) (i : ℕ) (x y : X) → slice_get xs i ≡ Some x → p y ≡ p x → map p (set xs i y) ≡ map p xs
+pub answers-set : {X Y : Type 0} (p : X → Y) (xs : List X) (i : ℕ) (x y : X) → slice_get xs i ≡ Some x → p y ≡ p x → map p (set xs i y) ≡ map p xs
 answers-set {X = X} p xs i x y at same =
     map-set p xs i y ∙ ap (set (map p xs) i) (same ∙ ap p (sym (get_or_from_slice_get xs i x x at))) ∙ again xs i
   where

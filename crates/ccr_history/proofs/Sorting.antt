@@ -140,7 +140,7 @@ rises-by_input used apart =
 abbrev pub place_cmp : ℕ × ℕ → ℕ × ℕ → Ordering
 place_cmp p q = ordering_then (nat_cmp p.0 q.0) (nat_cmp p.1 q.1)
 
-before_is : (p q : ℕ × ℕ) → is_before p q ≡ is_lt (place_cmp p q)
+pub before_is : (p q : ℕ × ℕ) → is_before p q ≡ is_lt (place_cmp p q)
 before_is p q = grind (arith, nat_tests)
 
 with_moved_inserts : IsInsertion place_cmp with_moved
@@ -156,10 +156,10 @@ with_moved_inserts = record { none = λ p. refl; more = λ p q qs. by p q qs (is
     by p q qs true e = inl (not_gt _ (sym (before_is p q) ∙ e), ap (λ b. cond b (p ∷ q ∷ qs) (q ∷ with_moved p qs)) e)
     by p q qs false e = inr (sym (before_is p q) ∙ e, ap (λ b. cond b (p ∷ q ∷ qs) (q ∷ with_moved p qs)) e)
 
-place_total : IsTotalOrder place_cmp
+pub place_total : IsTotalOrder place_cmp
 place_total = then_total (on_total (λ (p : ℕ × ℕ). p.0) nat_cmp_total) (on_total (λ (p : ℕ × ℕ). p.1) nat_cmp_total)
 
-place_exact : (p q : ℕ × ℕ) → place_cmp p q ≡ Equal → p ≡ q
+pub place_exact : (p q : ℕ × ℕ) → place_cmp p q ≡ Equal → p ≡ q
 place_exact = exact_pairs nat_cmp nat_cmp exact_unsigned exact_unsigned
 
 distinct_pairs : (pairs : List (ℕ × ℕ)) → AllPairs (λ p q. p ≢ q) pairs → IsDistinct (eq_by_cmp place_cmp) pairs

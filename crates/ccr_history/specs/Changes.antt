@@ -12,9 +12,10 @@ use Rattle.ccr_history.specs.Text.{Text}
 use Rattle.ccr_history.specs.TextMap.{TextMap, IsAscending}
 use Rattle.ccr_history.specs.Tables.{ScopeData, TableData, reported, is_table_full}
 use Rattle.ccr_history.specs.Builds.{UsedData, BuildData, build_of, with_build, with_end}
+use Rattle.ccr_history.specs.Pairs.{with_pair, without_pair}
 use Rattle.ccr_history.specs.History.{HistoryData, IsUsed, has_place}
 
--- a named change, with the arguments of its call
+-- a named change, with the arguments of its call; a scope by its number, but in a report, which may be its first
 pub data EditData : Type 0 where
   text : Text → EditData
   versions : ScopeData → List TextMap → EditData
@@ -22,6 +23,8 @@ pub data EditData : Type 0 where
   ended : Text → ℕ → Status → List (ℕ × ℕ) → EditData
   pin_set : Text → TextMap → EditData
   pin_cleared : Text → EditData
+  disabled : ℕ → ℕ → EditData
+  enabled : ℕ → ℕ → EditData
 
 -- the pins, with this one in place of one that the resource has
 abbrev pub with_pin : Text → TextMap → List (Text × TextMap) → List (Text × TextMap)
@@ -38,17 +41,64 @@ pin_of resource (p ∷ ps) = if bytes_eq resource p.0 then Some p.1 else pin_of 
 
 -- the history after a change: the part that it names is new, the others stay
 abbrev pub edited : EditData → HistoryData → HistoryData
-edited (text t) h = record { tables = h.tables; builds = h.builds; pins = h.pins; text = Some t }
+edited (text t) h =
+    record { tables = h.tables; builds = h.builds; pins = h.pins; disabled = h.disabled; text = Some t }
 edited (versions scope vs) h =
-    record { tables = reported scope vs h.tables; builds = h.builds; pins = h.pins; text = h.text }
+    record {
+      tables = reported scope vs h.tables;
+      builds = h.builds;
+      pins = h.pins;
+      disabled = h.disabled;
+      text = h.text;
+    }
 edited (build job used) h =
-    record { tables = h.tables; builds = with_build job used h.builds; pins = h.pins; text = h.text }
+    record {
+      tables = h.tables;
+      builds = with_build job used h.builds;
+      pins = h.pins;
+      disabled = h.disabled;
+      text = h.text;
+    }
 edited (ended job number status moved) h =
-    record { tables = h.tables; builds = with_end job number status moved h.builds; pins = h.pins; text = h.text }
+    record {
+      tables = h.tables;
+      builds = with_end job number status moved h.builds;
+      pins = h.pins;
+      disabled = h.disabled;
+      text = h.text;
+    }
 edited (pin_set resource pin) h =
-    record { tables = h.tables; builds = h.builds; pins = with_pin resource pin h.pins; text = h.text }
+    record {
+      tables = h.tables;
+      builds = h.builds;
+      pins = with_pin resource pin h.pins;
+      disabled = h.disabled;
+      text = h.text;
+    }
 edited (pin_cleared resource) h =
-    record { tables = h.tables; builds = h.builds; pins = without_pin resource h.pins; text = h.text }
+    record {
+      tables = h.tables;
+      builds = h.builds;
+      pins = without_pin resource h.pins;
+      disabled = h.disabled;
+      text = h.text;
+    }
+edited (disabled scope place) h =
+    record {
+      tables = h.tables;
+      builds = h.builds;
+      pins = h.pins;
+      disabled = with_pair (scope, place) h.disabled;
+      text = h.text;
+    }
+edited (enabled scope place) h =
+    record {
+      tables = h.tables;
+      builds = h.builds;
+      pins = h.pins;
+      disabled = without_pair (scope, place) h.disabled;
+      text = h.text;
+    }
 
 -- the history after changes, the first of them first
 abbrev pub changed : List EditData → HistoryData → HistoryData
@@ -79,6 +129,8 @@ Takes h (ended job number status moved) =
     IsRunning job number h.builds × (status ≢ Running) × AreMoved h.tables moved
 Takes h (pin_set resource pin) = IsAscending pin
 Takes h (pin_cleared resource) = ⊤
+Takes h (disabled scope place) = IsTrue (has_place h.tables scope place)
+Takes h (enabled scope place) = IsTrue (has_place h.tables scope place)
 
 -- each change is one that the history takes by then
 abbrev pub TakesAll : HistoryData → List EditData → Type 0

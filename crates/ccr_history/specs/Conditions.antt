@@ -4,6 +4,7 @@ use Rattle.std.specs.List.{list_any, list_all}
 use Rattle.std.specs.Str.{bytes_eq}
 use Rattle.ccr_history.specs.Tables.{TableData}
 use Rattle.ccr_history.specs.Builds.{UsedData}
+use Rattle.ccr_history.specs.Pairs.{is_same_pair}
 use Rattle.ccr_history.specs.History.{has_place}
 
 -- no element of the list is the same as a later one
@@ -14,10 +15,6 @@ are_apart same (x ∷ xs) = not (list_any (same x) xs) && are_apart same xs
 -- the two used places are of one input
 abbrev pub is_same_input : UsedData → UsedData → Bool
 is_same_input u v = bytes_eq u.input v.input
-
--- the two pairs are one
-abbrev pub is_same_pair : ℕ × ℕ → ℕ × ℕ → Bool
-is_same_pair p q = p.0 == q.0 && p.1 == q.1
 
 -- the used place is of an input with a name, and one of the tables
 abbrev pub is_used_in : List TableData → UsedData → Bool

@@ -11,18 +11,20 @@ use Rattle.ccr_history.specs.Text.{Text}
 use Rattle.ccr_history.specs.TextMap.{TextMap, IsAscending}
 use Rattle.ccr_history.specs.Tables.{TableData, is_scope, is_version}
 use Rattle.ccr_history.specs.Builds.{UsedData, BuildData, is_before, count_of}
+use Rattle.ccr_history.specs.Pairs.{ArePairs}
 
--- a history: the version tables, the builds in order of making, the pins by command of resources, and the pipeline's
--- text, if one was set
+-- a history: the version tables, the builds in order of making, the pins by command of resources, the disabled places,
+-- pairs of scope and place, and the pipeline's text, if one was set
 pub record HistoryData : Type 0 where
   pub tables : List TableData
   pub builds : List BuildData
   pub pins : List (Text × TextMap)
+  pub disabled : List (ℕ × ℕ)
   pub text : Option Text
 
 -- nothing seen, nothing built
 abbrev pub no_history : HistoryData
-no_history = record { tables = []; builds = []; pins = []; text = None }
+no_history = record { tables = []; builds = []; pins = []; disabled = []; text = None }
 
 -- ---- the rules
 -- a table has versions, none of them twice and not too many, each with its keys in ascending order
@@ -78,6 +80,10 @@ abbrev pub ArePins : List (Text × TextMap) → Type 0
 ArePins pins =
     IsStrictlySortedBy (slice_cmp nat_cmp) (map (λ p. p.0) pins) × AllByRecursion (λ p. IsAscending p.1) pins
 
+-- the disabled places are places of the tables, each once, by scope and place
+abbrev pub AreDisabled : List TableData → List (ℕ × ℕ) → Type 0
+AreDisabled tables disabled = ArePairs disabled × AllByRecursion (λ p. IsTrue (has_place tables p.0 p.1)) disabled
+
 -- what every history keeps
 abbrev pub IsHistory : HistoryData → Type 0
-IsHistory h = AreTables h.tables × AreBuilds h.tables h.builds × ArePins h.pins
+IsHistory h = AreTables h.tables × AreBuilds h.tables h.builds × ArePins h.pins × AreDisabled h.tables h.disabled

@@ -10,6 +10,8 @@ pub mod Tables
 pub mod Keys
 pub mod Names
 pub mod Builds
+pub mod Newest
+pub mod Pairs
 pub mod Rows
 pub mod History
 pub mod Orderly

@@ -1,12 +1,15 @@
 -- How builds are kept: each a row, with numbers in place of the names of its job and its inputs.
-use Rattle.std.specs.Prelude.{◌≡◌, ℕ, ◌+◌, ◌<◌, ◌≤◌, List, [], ◌∷◌, ◌++◌, ◌⊎◌, map, take, drop, length, slice_get, Bool, ◌&&◌, ◌==◌, Some}
+use Rattle.std.specs.Prelude.{◌≡◌, ℕ, ◌+◌, ◌<◌, ◌≤◌, List, [], ◌∷◌, ◌++◌, ◌⊎◌, map, take, drop, length, slice_get, Bool, ◌&&◌, ◌==◌, if◌then◌else◌, Option, Some, None}
 use Rattle.std.specs.List.{AllByRecursion, list_any}
+use Rattle.std.specs.Map.{lookup}
 use Rattle.ccr_history.specs.declared.build.Status.{Status}
 use Rattle.ccr_history.specs.declared.build.Status.TheVariants.{Running}
 use Rattle.ccr_history.specs.declared.used_row.UsedRow.{UsedRow}
+use Rattle.ccr_history.specs.declared.used_row.InputScope.{InputScope}
 use Rattle.ccr_history.specs.Text.{Text}
 use Rattle.ccr_history.specs.Names.{name_at}
 use Rattle.ccr_history.specs.Builds.{UsedData, BuildData, positions}
+use Rattle.ccr_history.specs.Newest.{last_given}
 
 -- a build, its job by number
 pub record RowData : Type 0 where
@@ -31,10 +34,16 @@ pub record RowsData : Type 0 where
   pub room : ℕ
   pub places : ℕ
 
--- what is kept of a job: the positions of its builds, and each place that one of them used
+-- what is kept of a job: the positions of its builds, each place that one of them used, and for an input in a scope the
+-- place that the newest of them had
 pub record JobData : Type 0 where
   pub at : List ℕ
   pub used : List UsedRow
+  pub newest : List (InputScope × ℕ)
+
+-- nothing is kept of a job without builds
+abbrev pub no_job : JobData
+no_job = record { at = []; used = []; newest = [] }
 
 -- ---- what is kept as rows
 -- a build with its used places
@@ -92,15 +101,28 @@ is_row_of job r = job == r.job
 abbrev pub has_used_row : ℕ → UsedRow → List RowData → Bool
 has_used_row job u rows = list_any (λ r. is_row_of job r && list_any (is_same u) r.used) rows
 
+-- the two are one input in one scope
+abbrev pub is_input_scope : InputScope → InputScope → Bool
+is_input_scope s t = s.input == t.input && s.scope == t.scope
+
+-- the place of a used place, if it is one of this input in this scope
+abbrev pub row_if_at : InputScope → UsedRow → Option ℕ
+row_if_at s u = if s.input == u.input && s.scope == u.scope then Some u.place else None
+
+-- the place that a row used for this input in this scope, if it is a build of the job and used one
+abbrev pub row_used : ℕ → InputScope → RowData → Option ℕ
+row_used job s r = if is_row_of job r then last_given (row_if_at s) r.used else None
+
 -- the job and the inputs of a row have names
 abbrev pub IsNamed : (jobs inputs : ℕ) → RowData → Type 0
 IsNamed jobs inputs r = (r.job < jobs) × AllByRecursion (λ u. u.input < inputs) r.used
 
--- each build of the job is kept, and each place that one of them used
+-- each build of the job is kept, each place that one of them used, and the newest one of each input in each scope
 abbrev pub KeepsJob : List RowData → ℕ → JobData → Type 0
 KeepsJob rows job kept =
     (kept.at ≡ positions (is_row_of job) rows)
     × ((u : UsedRow) → list_any (is_same u) kept.used ≡ has_used_row job u rows)
+    × ((s : InputScope) → lookup (is_input_scope s) kept.newest ≡ last_given (row_used job s) rows)
 
 -- the rows have names, and of each job its builds are kept
 pub record IsLinked (jobs inputs : List Text) (rows : List RowData) (kept : List JobData) : Type 0 where
@@ -110,4 +132,4 @@ pub record IsLinked (jobs inputs : List Text) (rows : List RowData) (kept : List
 
 -- the second has what is kept of the same jobs, and of at most one more, which has no builds
 abbrev pub HasOneMore : List JobData → List JobData → Type 0
-HasOneMore kept more = (more ≡ kept) ⊎ (more ≡ kept ++ record { at = []; used = [] } ∷ [])
+HasOneMore kept more = (more ≡ kept) ⊎ (more ≡ kept ++ no_job ∷ [])

@@ -6,6 +6,7 @@ ghost use Rattle.ccr_history.specs.declared.build.Status.TheVariants.{Running};
 ghost use Rattle.ccr_history.specs.Names.{AreApart, HasMore};
 ghost use Rattle.ccr_history.specs.Rows.{used_data, HasOneMore};
 ghost use Rattle.ccr_history.specs.Builds.{positions_of, count_of, build_of, is_build_of, by_input, has_used, with_build, with_end, HasEnded};
+ghost use Rattle.ccr_history.specs.Newest.{newest_used};
 ghost use Rattle.ccr_history.specs.Orderly.{AreOrderly, IsOnly};
 ghost use Rattle.ccr_history.specs.Changes.{IsRunning};
 ghost use Rattle.ccr_history.specs.Faults.{is_fault_of_add, is_fault_of_end};
@@ -16,7 +17,7 @@ use crate::fault::HistoryFault;
 use crate::job_builds::JobBuilds;
 use crate::names::Names;
 use crate::rows::Rows;
-use crate::used_row::{UsedRow, used_rows};
+use crate::used_row::{InputScope, UsedRow, used_rows};
 use std::alloc::{AllocError, Global};
 use std::marker::Model;
 
@@ -25,8 +26,9 @@ pub const MOST_BUILDS: usize = 1_000_000;
 
 /// The builds of a history.
 ///
-/// A build keeps numbers in place of the names of its job and its inputs. Each job keeps the positions of its builds and
-/// the places that they used. So a build is added, ended and found in a time that doesn't grow with the history.
+/// A build keeps numbers in place of the names of its job and its inputs. Each job keeps the positions of its builds, the
+/// places that they used, and the newest of these for each input in each scope. So a build is added, ended and found in a
+/// time that doesn't grow with the history.
 #[derive(Drop)]
 pub(crate) struct Builds {
     made: Rows,
@@ -199,6 +201,16 @@ impl Builds {
             scope,
             place,
         })
+    }
+
+    /// The place that the newest build of the job which used this input in this scope had.
+    pub(crate) fn newest_used(&self, job: &str, input: &str, scope: u32) -> Option<u32>
+        ensures { result ≡ newest_used job.now input.now scope self.now }
+    {
+        let job = self.jobs.find(job)?;
+        let input = self.inputs.find(input)?;
+        let kept = &self.of_jobs[job as usize];
+        kept.newest_used(InputScope { input, scope })
     }
 
     /// Where the job's build of this number is, if it runs.

@@ -48,6 +48,17 @@ pub struct Ended {
     pub moved: Vec<(u32, u32)>,
 }
 
+/// A place of a scope's table that was disabled or enabled.
+#[derive(Clone, Copy)]
+pub struct Switched {
+    /// The scope's number, from 1 in order of making.
+    pub scope: u32,
+    /// The place of the version in its scope, from 1 in order of first report.
+    pub place: u32,
+    /// Whether this changed anything: it wasn't so before.
+    pub is_changed: bool,
+}
+
 /// One change of a history, with the numbers that the history gave it.
 #[derive(Drop)]
 pub enum Edit {
@@ -63,6 +74,10 @@ pub enum Edit {
     PinSet(String, Pin),
     /// The pin by command of this resource is cleared.
     PinCleared(String),
+    /// This place is disabled.
+    Disabled(Switched),
+    /// This place is enabled.
+    Enabled(Switched),
 }
 
 /// What one event changes: its edits, the first to be made first.

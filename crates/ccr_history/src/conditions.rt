@@ -4,7 +4,8 @@ ghost use Rattle.std.specs.Bool.{Decides};
 ghost use Rattle.ccr_history.specs.Changes.{AreUsed, AreMoved};
 ghost use Rattle.std.specs.List.{list_any, list_all};
 ghost use Rattle.ccr_history.specs.History.{has_place};
-ghost use Rattle.ccr_history.specs.Conditions.{are_apart, is_same_input, is_same_pair, is_used_in, are_used, are_moved};
+ghost use Rattle.ccr_history.specs.Pairs.{is_same_pair};
+ghost use Rattle.ccr_history.specs.Conditions.{are_apart, is_same_input, is_used_in, are_used, are_moved};
 
 use crate::build::Used;
 use crate::history::History;

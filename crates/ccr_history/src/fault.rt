@@ -29,6 +29,9 @@ pub enum HistoryFault {
     /// The build has ended already.
     #[error("already ended")]
     AlreadyEnded,
+    /// The scope's table has no such place.
+    #[error("no such version")]
+    NoVersion,
 }
 
 impl From<AllocError> for HistoryFault {

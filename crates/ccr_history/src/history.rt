@@ -1,18 +1,21 @@
 //! Histories: what has been seen, what was built, and what is set.
-ghost use Rattle.std.specs.Prelude.{◌≡◌, ◌≢◌, ◌↔◌, ◌⊎◌, ◌+◌, List, length, slice_get, false, None, is_some, option_map, option_copied, IsTrue, IsOk, IsErrOf, IfOk, IfErr, IfSome, IfNone, OnOk, OnErr};
+ghost use Rattle.std.specs.Prelude.{◌≡◌, ◌≢◌, ◌↔◌, ◌⊎◌, ◌+◌, List, length, slice_get, false, None, is_some, not, option_map, option_copied, IsTrue, IsOk, IsErrOf, IfOk, IfErr, IfSome, IfNone, OnOk, OnErr};
 ghost use Rattle.ccr_history.specs.declared.build.Status.TheVariants.{Running};
 ghost use Rattle.ccr_history.specs.TextMap.{TextMap};
 ghost use Rattle.ccr_history.specs.Tables.{versions_of, new_count, is_table_full, scope_number, place_in, at_place, versions_at};
 ghost use Rattle.ccr_history.specs.Builds.{build_of, is_build_of, count_of, positions_of, has_used, HasEnded};
+ghost use Rattle.ccr_history.specs.Newest.{newest_used};
 ghost use Rattle.ccr_history.specs.Orderly.{IsOnly};
+ghost use Rattle.ccr_history.specs.Pairs.{has_pair};
 ghost use Rattle.ccr_history.specs.History.{HistoryData, no_history, IsHistory, has_place};
-ghost use Rattle.ccr_history.specs.Changes.{text, versions, build, ended, pin_set, pin_cleared, edited, pin_of, AreUsed, AreMoved, IsRunning};
+ghost use Rattle.ccr_history.specs.Changes.{text, versions, build, ended, pin_set, pin_cleared, disabled, enabled, edited, pin_of, AreUsed, AreMoved, IsRunning};
 ghost use Rattle.ccr_history.specs.Faults.{is_fault_of_report, is_fault_of_add, is_fault_of_end};
 
 use crate::build::{Status, Used};
 use crate::build_ref::BuildRef;
 use crate::builds::{Builds, MOST_BUILDS};
 use crate::fault::HistoryFault;
+use crate::pair_set::PairSet;
 use crate::pin::Pin;
 use crate::pins::Pins;
 use crate::scope::Scope;
@@ -32,6 +35,7 @@ pub struct History {
     tables: Tables,
     builds: Builds,
     pins: Pins,
+    disabled: PairSet,
     text: Option<Vec<u8>>,
 }
 
@@ -45,6 +49,7 @@ impl Model for History {
       tables = h.tables;
       builds = h.builds;
       pins = h.pins;
+      disabled = h.disabled;
       text = option_map (λ t. t.items) h.text;
     } };
 
@@ -52,6 +57,7 @@ impl Model for History {
       tables = h.tables;
       builds = h.builds;
       pins = h.pins;
+      disabled = h.disabled;
       text = option_map (λ t. t.items) h.text;
     }) };
 }
@@ -66,6 +72,7 @@ impl History {
             tables: Tables::new(alloc),
             builds: Builds::new(alloc),
             pins: Pins::new(alloc),
+            disabled: PairSet::new(alloc),
             text: None,
         }
     }
@@ -200,6 +207,26 @@ impl History {
         self.text = Some(bytes);
     }
 
+    /// Disables a place of the scope of this number, as `disable` does: whether it wasn't disabled before.
+    ///
+    /// The caller gives a place of the tables. `AllocError` if out of memory.
+    pub fn disable_place(&mut self, number: u32, place: u32) -> Result<bool, AllocError>
+        requires { IsTrue (has_place self.old.tables number place) }
+        ensures ok { OnOk result (self.new ≡ edited (disabled number place) self.old) }
+        ensures is_changed { IfOk result (λ b. b ≡ not (has_pair (number, place) self.old.disabled)) }
+        ensures err { OnErr result (self.new ≡ self.old) }
+    {
+        self.disabled.add((number, place))
+    }
+
+    /// Enables a place of the scope of this number: whether it was disabled before. It takes no memory.
+    pub(crate) fn enable_place(&mut self, number: u32, place: u32) -> bool
+        ensures enabled { self.new ≡ edited (enabled number place) self.old }
+        ensures is_changed { result ≡ has_pair (number, place) self.old.disabled }
+    {
+        self.disabled.remove((number, place))
+    }
+
     /// A copy of the history.
     pub fn copy(&self, alloc: Global) -> Result<History, AllocError>
         ensures { IfOk result (λ history. history ≡ self.now) }
@@ -212,6 +239,7 @@ impl History {
             tables: self.tables.copy()?,
             builds: self.builds.copy(alloc)?,
             pins: self.pins.copy(alloc)?,
+            disabled: self.disabled.copy(alloc)?,
             text,
         })
     }
@@ -308,6 +336,20 @@ impl History {
         self.tables.has_place(number, place)
     }
 
+    /// Whether this place of the scope of this number is disabled.
+    pub fn is_disabled(&self, number: u32, place: u32) -> bool
+        ensures { result ≡ has_pair (number, place) self.now.disabled }
+    {
+        self.disabled.has((number, place))
+    }
+
+    /// The disabled places, pairs of scope and place in ascending order.
+    pub fn disabled(&self) -> &[(u32, u32)]
+        ensures { result.now ≡ self.now.disabled }
+    {
+        self.disabled.as_slice()
+    }
+
     /// How many builds there are, of all jobs.
     pub fn build_count(&self) -> usize
         ensures is { result ≡ length self.now.builds }
@@ -359,5 +401,12 @@ impl History {
             ≡ has_used job.now (record { input = input.now; scope = scope; place = place }) self.now.builds }
     {
         self.builds.has_used(job, input, scope, place)
+    }
+
+    /// The place that the newest build of the job, of whatever status, which used this input in this scope had.
+    pub fn newest_used(&self, job: &str, input: &str, scope: u32) -> Option<u32>
+        ensures { result ≡ newest_used job.now input.now scope self.now.builds }
+    {
+        self.builds.newest_used(job, input, scope)
     }
 }

@@ -1,7 +1,7 @@
 //! What has been seen of the resources, what was built, and what is set: histories.
 //!
-//! A [`History`] holds a table of versions for each scope, the builds in order of making, the pins by command and the
-//! pipeline's text. Clauses see it as a record of these, without where they lie in memory, which keeps the rules of
+//! A [`History`] holds a table of versions for each scope, the builds in order of making, the pins by command, the
+//! disabled places and the pipeline's text. Clauses see it as a record of these, without where they lie in memory, which keeps the rules of
 //! `IsHistory`. Each call that changes a history gives the named change of it, an [`Edit`]; a [`Change`] is a list of
 //! edits, in the order in which they are made.
 //!
@@ -14,8 +14,8 @@
 //!
 //! A refused call changes nothing. A JSON value that is no version is refused: `NotObject` where it is no object,
 //! `VersionNotText` where a field isn't a text. A history has its limits, `TableFull` and `BuildsFull`, and refuses to
-//! end a build that isn't there, `NoBuild`, or that doesn't run, `AlreadyEnded`. `NoMemory` comes only where a growth was
-//! refused.
+//! end a build that isn't there, `NoBuild`, or that doesn't run, `AlreadyEnded`. A place that its table lacks is neither
+//! disabled nor enabled, `NoVersion`. `NoMemory` comes only where a growth was refused.
 #![tactic(auto)]
 
 mod build;
@@ -30,12 +30,14 @@ mod key_text;
 mod law;
 mod names;
 mod object;
+mod pair_set;
 mod pin;
 mod pins;
 mod reported;
 mod row;
 mod rows;
 mod scope;
+mod switched;
 mod table;
 mod tables;
 mod used_row;
@@ -44,7 +46,7 @@ mod version;
 pub use build::{Status, Used};
 pub use build_ref::BuildRef;
 pub use builds::MOST_BUILDS;
-pub use change::{Change, Edit, Ended, Made, Reported};
+pub use change::{Change, Edit, Ended, Made, Reported, Switched};
 pub use fault::HistoryFault;
 pub use history::History;
 pub use law::changes_keep_histories;

@@ -17,6 +17,13 @@ pub(crate) struct UsedRow {
     pub(crate) place: u32,
 }
 
+/// An input, by number, in a scope.
+#[derive(Clone, Copy, PartialEq, Eq, Hash)]
+pub(crate) struct InputScope {
+    pub(crate) input: u32,
+    pub(crate) scope: u32,
+}
+
 /// Where a used place of this input goes among those that are sorted by input name.
 fn place_of(rows: &[UsedRow], inputs: &Names, name: &str) -> usize
     requires { AllByRecursion (λ u. u.input < length inputs.now) rows.now }

@@ -1,4 +1,4 @@
--- What is looked up under a table of fixed builds, what is the same where nothing is fixed, and counts.
+-- What is looked up under a table of fixed builds, what is the same where nothing is fixed, the best place there, and counts.
 use Rattle.std.proofs.Common.{◌≡◌, ◌≢◌, ℕ, zero, suc, ◌+◌, ◌<◌, ◌≤◌, List, [], ◌∷◌, ◌++◌, length, slice_index, slice_index_or, inl, inr, refl, sym, ap, ◌∙◌, subst, arith, true, Option, Some, None}
 use Rattle.std.specs.Prelude.{EachIndex, Contains, Any, MatchOption, slice_get, unwrap_or}
 use Rattle.std.specs.Option.{option_map}
@@ -7,14 +7,15 @@ use Rattle.std.proofs.lemmas.List.{get_or_default, get_or_past}
 use Rattle.std.proofs.lemmas.Option.{slice_get_past, slice_get-get_or}
 use mathlib.Core.Path.{fun_ext}
 use Rattle.ccr_choice.specs.Problem.{ProblemValue, BuildValue, is_problem, are_places_after, input_at, builds_at}
-use Rattle.ccr_choice.specs.Preference.{plain}
+use Rattle.ccr_choice.specs.Preference.{Preference, order_of}
 use Rattle.ccr_choice.specs.Assignment.{Assignment, nothing_fixed}
 use Rattle.ccr_choice.specs.Possible.{IsPossible, IsBestPossible, IsBestPlace}
 use Rattle.ccr_choice.specs.Table.{assigned, build_of}
-use Rattle.ccr_choice.proofs.Lookups.{places_rise}
 use Rattle.ccr_choice.proofs.Places.{places_kept}
 use Rattle.ccr_index.specs.Rows.{no_build, numbered}
+use Rattle.ccr_index.specs.Ranks.{ranked, AreRankedOf}
 use Rattle.ccr_index.specs.Index.{HasPassed, IsCount, fixed_by}
+use Rattle.ccr_index.proofs.RankLaws.{IsAt, ranked_below, none_left, none_preferred}
 
 -- ---- a fixed build
 pub fixed_some : (p : ProblemValue) (table : List ℕ) (job k : ℕ) (bs : List BuildValue) → bs ≡ builds_at p job → slice_index table job ≡ suc k → k < length bs
@@ -70,18 +71,18 @@ module _ (p : ProblemValue) (a : Assignment) (i : ℕ) (free : EachIndex (input_
   }
 
   -- it has the best place that it has where nothing is fixed
-  pub best_free : (place : ℕ) → IsBestPlace plain p nothing_fixed i place → IsBestPlace plain p a i place
-  best_free place best = (best.0, moved best.0 best.1, best.2)
+  pub best_free : (prefers : Preference) (place : ℕ) → IsBestPlace prefers p nothing_fixed i place → IsBestPlace prefers p a i place
+  best_free prefers place best = (best.0, moved best.0 best.1, best.2)
     where
-      moved : (o : Option ℕ) → IsBestPossible plain p nothing_fixed i o → IsBestPossible plain p a i o
+      moved : (o : Option ℕ) → IsBestPossible prefers p nothing_fixed i o → IsBestPossible prefers p a i o
       moved None is = λ q h. is q (possible_free q h)
       moved (Some x) is = (possible_still x is.0, λ q h. is.1 q (possible_free q h))
 
 -- a best place is a possible one, or 0 where none is
-pub best_some : (p : ProblemValue) (a : Assignment) (i place : ℕ) → IsBestPlace plain p a i place → place ≢ 0 → (q : ℕ) × IsPossible p a i q
-best_some p a i place best other = found best.0 best.1 best.2
+pub best_some : (prefers : Preference) (p : ProblemValue) (a : Assignment) (i place : ℕ) → IsBestPlace prefers p a i place → place ≢ 0 → (q : ℕ) × IsPossible p a i q
+best_some prefers p a i place best other = found best.0 best.1 best.2
   where
-    found : (o : Option ℕ) → IsBestPossible plain p a i o → place ≡ unwrap_or o 0 → (q : ℕ) × IsPossible p a i q
+    found : (o : Option ℕ) → IsBestPossible prefers p a i o → place ≡ unwrap_or o 0 → (q : ℕ) × IsPossible p a i q
     found None is e = absurd (other e)
     found (Some x) is e = (x, is.0)
 
@@ -101,45 +102,45 @@ not_zero p i place rules inside (k, within, at) =
     omega (arith, first, get_or_default (input_at p i).places k 0 place within ∙ at)
 
 -- so where the best place is 0, none is possible
-pub best_zero : (p : ProblemValue) (a : Assignment) (i place : ℕ) → is_problem p ≡ true → i < length p.inputs → IsBestPlace plain p a i place → place ≡ 0 → (q : ℕ) → IsPossible p a i q → ⊥
-best_zero p a i place rules inside best zero' q h = found best.0 best.1 best.2
+pub best_zero : (prefers : Preference) (p : ProblemValue) (a : Assignment) (i place : ℕ) → is_problem p ≡ true → i < length p.inputs → IsBestPlace prefers p a i place → place ≡ 0 → (q : ℕ) → IsPossible p a i q → ⊥
+best_zero prefers p a i place rules inside best zero' q h = found best.0 best.1 best.2
   where
-    found : (o : Option ℕ) → IsBestPossible plain p a i o → place ≡ unwrap_or o 0 → ⊥
+    found : (o : Option ℕ) → IsBestPossible prefers p a i o → place ≡ unwrap_or o 0 → ⊥
     found None is e = is q h
     found (Some x) is e = let more = not_zero p i x rules inside is.0.allowed in omega (arith, more, e, zero')
 
--- ---- the greatest place that has passed, from the last one down
-module _ (p : ProblemValue) (i : ℕ) (rules : is_problem p ≡ true) (inside : i < length p.inputs) where
-  pub last_passed : (k : ℕ) → k < length (input_at p i).places → HasPassed p nothing_fixed i (slice_index (input_at p i).places k)
-      → ((m : ℕ) → k + 1 ≤ m → m < length (input_at p i).places → HasPassed p nothing_fixed i (slice_index (input_at p i).places m) → ⊥)
-      → IsBestPlace plain p nothing_fixed i (slice_index (input_at p i).places k)
-  last_passed k within passed none =
-      let xs = (input_at p i).places in
-      let x = slice_index xs k in
-      (Some x, (record { allowed = (k, within, get_or_default xs k x 0 within); passed = passed }, λ q h better. above q h better h.allowed), refl)
-    where
-      above : (q : ℕ) → IsPossible p nothing_fixed i q → plain i q (slice_index (input_at p i).places k) ≡ true → Contains (input_at p i).places q → ⊥
-      above q h better (m, in', at) =
-          let xs = (input_at p i).places in
-          let more : slice_index xs k < q = ltb-true _ _ better in
-          let here : slice_index xs m ≡ q = get_or_default xs m 0 q in' ∙ at in
-          elim (cases_lt k m) [
-            | inl beyond ↦ (let P : ℕ → Type 0 = λ y. HasPassed p nothing_fixed i y in none m (omega arith) in' (subst P (sym here) h.passed))
-            | inr reached ↦ elim (cases_lt m k) [
-              | inl before ↦ (let rise = ltb-true _ _ (places_rise xs 0 (places_kept p i rules inside) m k 0 before within) in omega (arith, rise, more, here))
-              | inr not_before ↦ (let now : m ≡ k = omega arith in omega (arith, more, here, ap (slice_index xs) now))
-            ]
-          ]
+-- ---- the first place that has passed, from the most preferred one on
+module _ (p : ProblemValue) (i above to : ℕ) (ranks : AreRankedOf (input_at p i).after (input_at p i).places above to) where
+  at : (q : ℕ) → Contains (input_at p i).places q
+      → IsAt (slice_index (input_at p i).places) (λ m. m < to) above to (input_at p i).after ranks.1 (HasPassed p nothing_fixed i) q
+  at q (m, within, here) =
+      let inside : m < to = omega (arith, within, ranks.0) in
+      record { position = m; within = inside; counts = inside; here = get_or_default (input_at p i).places m 0 q within ∙ here }
 
-  pub none_passed : ((m : ℕ) → m < length (input_at p i).places → HasPassed p nothing_fixed i (slice_index (input_at p i).places m) → ⊥) → IsBestPlace plain p nothing_fixed i 0
-  none_passed none = (None, λ q h. lacks q h h.allowed, refl)
-    where
-      lacks : (q : ℕ) → IsPossible p nothing_fixed i q → Contains (input_at p i).places q → ⊥
-      lacks q h (m, in', at) =
-          let xs = (input_at p i).places in
-          let here : slice_index xs m ≡ q = get_or_default xs m 0 q in' ∙ at in
-          let P : ℕ → Type 0 = λ y. HasPassed p nothing_fixed i y in
-          none m in' (subst P (sym here) h.passed)
+  pub first_passed : (r : ℕ) → r < to → HasPassed p nothing_fixed i (slice_index (input_at p i).places (ranked above to r))
+      → ((s : ℕ) → s < r → HasPassed p nothing_fixed i (slice_index (input_at p i).places (ranked above to s)) → ⊥)
+      → IsBestPlace (order_of p) p nothing_fixed i (slice_index (input_at p i).places (ranked above to r))
+  first_passed r within passed none =
+      let xs = (input_at p i).places in
+      let k = ranked above to r in
+      let x = slice_index xs k in
+      let below : k < to = ranked_below above to r ranks.1.split within in
+      let inside : k < length xs = omega (arith, below, ranks.0) in (
+        Some x,
+        (
+          record { allowed = (k, inside, get_or_default xs k x 0 inside); passed = passed },
+          λ q h better. none_preferred (slice_index xs) (λ m. m < to) above to (input_at p i).after ranks.1 (HasPassed p nothing_fixed i) r (λ s less counts h'. none s less h') within below q h.passed (at q h.allowed) better,
+        ),
+        refl,
+      )
+
+  pub none_passed : (r : ℕ) → to ≤ r → ((s : ℕ) → s < r → HasPassed p nothing_fixed i (slice_index (input_at p i).places (ranked above to s)) → ⊥)
+      → IsBestPlace (order_of p) p nothing_fixed i 0
+  none_passed r all none = (
+    None,
+    λ q h. none_left (slice_index (input_at p i).places) (λ m. m < to) above to (input_at p i).after ranks.1 (HasPassed p nothing_fixed i) r (λ s less counts h'. none s less h') all q h.passed (at q h.allowed),
+    refl,
+  )
 
 -- ---- counts
 pub count_yes : {X : Type 0} (P : X → Type 0) (xs : List X) (x : X) (n : ℕ) → IsCount P xs n → P x → IsCount P (xs ++ x ∷ []) (n + 1)

@@ -1,14 +1,15 @@
 -- What is possible where nothing is fixed, once a job has one more build.
-use Rattle.std.proofs.Common.{◌≡◌, ◌≢◌, ℕ, ◌<◌, ◌≤◌, ◌⊎◌, List, [], ◌∷◌, length, slice_index, true, inl, inr, refl, sym, ◌∙◌, subst, arith, Option, Some, None}
+use Rattle.std.proofs.Common.{◌≡◌, ◌≢◌, ℕ, ◌<◌, ◌⊎◌, List, [], ◌∷◌, length, slice_index, true, inl, inr, refl, sym, ap, ◌∙◌, subst, Option, Some, None}
 use Rattle.std.specs.Prelude.{Any, Contains, unwrap_or}
-use Rattle.std.proofs.lemmas.Bool.{cases_Bool, cases_eq, cases_lt, ltb-true, lt-ltb, false≢true}
+use Rattle.std.proofs.lemmas.Bool.{cases_Bool, cases_eq, false≢true}
 use Rattle.std.proofs.lemmas.List.{get_or-set_same, get_or-set_other}
 use Rattle.ccr_choice.specs.Problem.{ProblemValue, BuildValue, is_problem, input_at, builds_at}
-use Rattle.ccr_choice.specs.Preference.{plain}
+use Rattle.ccr_choice.specs.Preference.{order_of}
 use Rattle.ccr_choice.specs.Assignment.{nothing_fixed}
 use Rattle.ccr_choice.specs.Possible.{IsPossible, IsBestPossible, IsBestPlace}
 use Rattle.ccr_choice.proofs.BestPlaces.{has_pair}
 use Rattle.ccr_choice.proofs.Members.{any_first, any_later, any_cases}
+use Rattle.ccr_choice.proofs.Orders.{is_order, before_zero}
 use Rattle.ccr_choice.proofs.PossibleLaws.{tests_pair}
 use Rattle.ccr_index.specs.Index.{with_new_build, IsPossibleWith}
 use Rattle.ccr_index.proofs.BestLaws.{not_zero}
@@ -71,46 +72,43 @@ module _ (p : ProblemValue) (job : ℕ) (b : BuildValue) (i : ℕ) (inside : job
         | inr lacks ↦ inl (record { allowed = h.allowed; passed = λ k within. was pair (slice_index (input_at p i).jobs k) (λ c. false≢true (sym lacks ∙ test.1 c)) (h.passed k within) })
       ]
 
-  module _ (top : ℕ) (is : IsBestPlace plain p nothing_fixed i top) where
-    low : (o : Option ℕ) → IsBestPossible plain p nothing_fixed i o → (place : ℕ) → IsPossible p nothing_fixed i place → place ≤ unwrap_or o 0
-    low None best place h = absurd (best place h)
-    low (Some x) best place h = elim (cases_lt x place) [ inl less ↦ absurd (best.1 place h (lt-ltb x place less)) | inr le ↦ le ]
-
-    -- no possible place was above the best one
-    at_most : (place : ℕ) → IsPossible p nothing_fixed i place → place ≤ top
-    at_most place h = omega (arith, is.2, low is.0 is.1 place h)
+  module _ (top : ℕ) (is : IsBestPlace (order_of p) p nothing_fixed i top) where
+    -- nothing that was possible is preferred to the best place
+    was_behind : (o : Option ℕ) → top ≡ unwrap_or o 0 → IsBestPossible (order_of p) p nothing_fixed i o → (place : ℕ) → IsPossible p nothing_fixed i place → order_of p i place top ≡ true → ⊥
+    was_behind None e best place h better = best place h
+    was_behind (Some x) e best place h better = best.1 place h (ap (order_of p i place) (sym e) ∙ better)
 
     -- the best place stays, where the new build has no better one
-    pub top_stays : is_problem p ≡ true → i < length p.inputs → ((place : ℕ) → IsPossibleWith p job i place → Contains b.pairs ((input_at p i).scope, place) → place ≤ top)
-        → IsBestPlace plain (with_new_build p job b) nothing_fixed i top
+    pub top_stays : is_problem p ≡ true → i < length p.inputs
+        → ((place : ℕ) → IsPossibleWith p job i place → Contains b.pairs ((input_at p i).scope, place) → order_of p i place top ≡ true → ⊥)
+        → IsBestPlace (order_of p) (with_new_build p job b) nothing_fixed i top
     top_stays rules within none = (is.0, best is.0 is.2 is.1, is.2)
       where
-        best : (o : Option ℕ) → top ≡ unwrap_or o 0 → IsBestPossible plain p nothing_fixed i o → IsBestPossible plain (with_new_build p job b) nothing_fixed i o
+        best : (o : Option ℕ) → top ≡ unwrap_or o 0 → IsBestPossible (order_of p) p nothing_fixed i o → IsBestPossible (order_of p) (with_new_build p job b) nothing_fixed i o
         best None e old = λ place h. elim (parts place h) [
           | inl was ↦ old place was
-          | inr new ↦ omega (arith, e, none place new.1 new.0, not_zero p i place rules within new.1.allowed)
+          | inr new ↦ none place new.1 new.0 (ap (order_of p i place) e ∙ before_zero (input_at p i).after place (not_zero p i place rules within new.1.allowed))
         ]
         best (Some x) e old = (
           kept x old.0,
           λ place h better. elim (parts place h) [
             | inl was ↦ old.1 place was better
-            | inr new ↦ (let more : x < place = ltb-true x place better in omega (arith, e, more, none place new.1 new.0))
+            | inr new ↦ none place new.1 new.0 (ap (order_of p i place) e ∙ better)
           ],
         )
 
     -- the new build's best place is the best, where it is better
-    pub top_rises : (x : ℕ) → top < x → Contains b.pairs ((input_at p i).scope, x) → IsPossibleWith p job i x
-        → ((place : ℕ) → IsPossibleWith p job i place → Contains b.pairs ((input_at p i).scope, place) → place ≤ x) → IsBestPlace plain (with_new_build p job b) nothing_fixed i x
-    top_rises x less has possible none = (
+    pub top_rises : (x : ℕ) → order_of p i x top ≡ true → Contains b.pairs ((input_at p i).scope, x) → IsPossibleWith p job i x
+        → ((place : ℕ) → IsPossibleWith p job i place → Contains b.pairs ((input_at p i).scope, place) → order_of p i place x ≡ true → ⊥)
+        → IsBestPlace (order_of p) (with_new_build p job b) nothing_fixed i x
+    top_rises x first has possible none = (
       Some x,
       (
         made x has possible,
-        λ place h better.
-            let more : x < place = ltb-true x place better in
-            elim (parts place h) [
-              | inl was ↦ omega (arith, less, more, at_most place was)
-              | inr new ↦ omega (arith, more, none place new.1 new.0)
-            ],
+        λ place h better. elim (parts place h) [
+          | inl was ↦ was_behind is.0 is.2 is.1 place was ((is_order p).transitive i place x top better first)
+          | inr new ↦ none place new.1 new.0 better
+        ],
       ),
       refl,
     )

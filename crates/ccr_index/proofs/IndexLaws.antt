@@ -5,7 +5,7 @@ use Rattle.std.proofs.lemmas.Bool.{and_parts, cases_Bool, cases_lt, cond-true, c
 use Rattle.std.proofs.lemmas.List.{get_or-map, get_or_read, length-map, length-set, map-set, get_or-set_same, get_or-set_other, get_or_default, get_or_append_left, length-append}
 use Rattle.std.proofs.Math.Seq.{map-set_same, get_or-append_seam}
 use Rattle.std.proofs.lemmas.List.Elements.{All-set, All-cons, All-nil}
-use Rattle.ccr_choice.specs.Problem.{ProblemValue, InputValue, BuildValue, no_input, IsProblem, is_problem, is_input, is_build, are_inputs, are_numbered, are_distinct, next_used, used_after, are_builds, are_builds_below, are_pairs_after, are_places_after, scopes_after, input_at, builds_at}
+use Rattle.ccr_choice.specs.Problem.{ProblemValue, InputValue, BuildValue, no_input, IsProblem, is_problem, is_input, is_after, is_build, are_inputs, are_numbered, are_distinct, next_used, used_after, are_builds, are_builds_below, are_pairs_after, are_places_after, scopes_after, input_at, builds_at}
 use Rattle.ccr_choice.specs.Dominated.{IsNamedIn}
 use Rattle.ccr_choice.proofs.Members.{any_first, any_later, any_cases}
 use Rattle.ccr_choice.proofs.Bounds.{rules_of, builds_kept}
@@ -13,9 +13,9 @@ use Rattle.ccr_choice.proofs.Numbering.{named_in}
 use Rattle.ccr_choice.proofs.Places.{places_kept}
 use Rattle.ccr_choice.specs.Ascending.{is_before, AreAscending, AreRising}
 use Rattle.ccr_choice.proofs.Lookups.{before_is, pairs_ascend, places_rise}
-use Rattle.ccr_index.specs.Rows.{InputRowsValue, JobRowsValue, no_build, with_place, AreDescending}
+use Rattle.ccr_index.specs.Rows.{InputRowsValue, JobRowsValue, no_build, with_place, with_kept, AreDescending}
 use Rattle.ccr_index.specs.Alike.{does_count, AreCounted}
-use Rattle.ccr_index.specs.Index.{IndexValue, problem_in, AreTops, IsIndex, with_version, with_new_build, left_after}
+use Rattle.ccr_index.specs.Index.{IndexValue, problem_in, AreTops, IsIndex, with_version, with_after, with_new_build, left_after}
 
 -- ---- an element
 no_rows : InputRowsValue
@@ -117,6 +117,12 @@ version_in inputs jobs i place x e =
     let P : List InputValue → ProblemValue = λ is. record { inputs = is; jobs = map (λ r. r.builds) jobs } in
     ap P (map-set (λ y. y.input) inputs i x ∙ ap (slice_set (map (λ y. y.input) inputs) i) e)
 
+pub after_in : (inputs : List InputRowsValue) (jobs : List JobRowsValue) (i place : ℕ) (x : InputRowsValue) → x.input ≡ with_kept (input_at (problem_in inputs jobs) i) place
+    → problem_in (slice_set inputs i x) jobs ≡ with_after (problem_in inputs jobs) i place
+after_in inputs jobs i place x e =
+    let P : List InputValue → ProblemValue = λ is. record { inputs = is; jobs = map (λ r. r.builds) jobs } in
+    ap P (map-set (λ y. y.input) inputs i x ∙ ap (slice_set (map (λ y. y.input) inputs) i) e)
+
 pub build_in : (inputs : List InputRowsValue) (jobs : List JobRowsValue) (j : ℕ) (b : BuildValue) (r : JobRowsValue) → r.builds ≡ b ∷ builds_at (problem_in inputs jobs) j
     → problem_in inputs (slice_set jobs j r) ≡ with_new_build (problem_in inputs jobs) j b
 build_in inputs jobs j b r e =
@@ -148,15 +154,16 @@ any_back P (x ∷ xs) (suc i) y f h =
       | inr more ↦ any_later P x xs (any_back P xs i y (λ d within. f d (omega (arith, within))) more)
     ]
 
--- a further place changes none
-counted_raised : (xs : List InputValue) (ss : List (List Bool)) (i place : ℕ) (y : InputValue) → y ≡ with_place (slice_index_or xs i no_input) place → AreCounted xs ss → AreCounted (slice_set xs i y) ss
-counted_raised xs ss i place y e is j scope within =
+-- an input of the same scope and jobs in place of another changes none
+counted_set : (xs : List InputValue) (ss : List (List Bool)) (i : ℕ) (y : InputValue) → y.scope ≡ (slice_index_or xs i no_input).scope → y.jobs ≡ (slice_index_or xs i no_input).jobs
+    → AreCounted xs ss → AreCounted (slice_set xs i y) ss
+counted_set xs ss i y scopes jobs is j scope within =
     let P : InputValue → Type 0 = λ z. (z.scope ≡ scope) × Contains z.jobs j in
-    let Q : InputValue → Type 0 = λ z. (z.scope ≡ scope) × Contains z.jobs j in
-    let same : (d : InputValue) → i < length xs → slice_index_or xs i no_input ≡ get_or xs i d = λ d inside. get_or_default xs i no_input d inside in (
-      λ t. any_kept P xs i y (λ d inside h. subst P (sym e) (subst Q (sym (same d inside)) h)) ((is j scope within).0 t),
-      λ h. (is j scope within).1 (any_back P xs i y (λ d inside k. subst Q (same d inside) (subst P e k)) h),
-    )
+    let C : List ℕ → Type 0 = λ js. Contains js j in
+    let same : (d : InputValue) → i < length xs → slice_index_or xs i no_input ≡ get_or xs i d = λ d inside. get_or_default xs i no_input d inside in
+    let to : (d : InputValue) → i < length xs → P (get_or xs i d) → P y = λ d inside h. let old = subst P (sym (same d inside)) h in (scopes ∙ old.0, subst C (sym jobs) old.1) in
+    let from : (d : InputValue) → i < length xs → P y → P (get_or xs i d) = λ d inside h. subst P (same d inside) (sym scopes ∙ h.0, subst C jobs h.1) in
+    (λ t. any_kept P xs i y to ((is j scope within).0 t), λ h. (is j scope within).1 (any_back P xs i y from h))
 
 -- a further job with its own
 pub counted_push : (xs : List InputValue) (ss : List (List Bool)) (s : List Bool) → AreCounted xs ss
@@ -177,8 +184,19 @@ pub index_raised : (inputs : List InputRowsValue) (jobs : List JobRowsValue) (to
 index_raised inputs jobs tops tops' places pairs left i place x is e room le best = record {
   tops = (let P : ProblemValue → Type 0 = λ p. AreTops p tops' in subst P (sym (version_in inputs jobs i place x e)) best);
   counted = (let P : List InputValue → Type 0 = λ xs. AreCounted xs (map (λ r. r.scopes) jobs) in
-      subst P (sym (map-set (λ y. y.input) inputs i x)) (counted_raised (map (λ y. y.input) inputs) (map (λ r. r.scopes) jobs) i place x.input e is.counted));
+      subst P (sym (map-set (λ y. y.input) inputs i x)) (counted_set (map (λ y. y.input) inputs) (map (λ r. r.scopes) jobs) i x.input (ap (λ (y : InputValue). y.scope) e) (ap (λ (y : InputValue). y.jobs) e) is.counted));
   places = All-set (λ y. left ≤ y.spare) inputs i x room (less_places inputs places left le is.places);
+  pairs = is.pairs;
+}
+
+-- an index with a place kept for input i
+pub index_after : (inputs : List InputRowsValue) (jobs : List JobRowsValue) (tops tops' : List ℕ) (places pairs i place : ℕ) (d x : InputRowsValue) → IsIndex inputs jobs tops places pairs → i < length inputs
+    → x.input ≡ with_kept (input_at (problem_in inputs jobs) i) place → x.spare ≡ (get_or inputs i d).spare → AreTops (with_after (problem_in inputs jobs) i place) tops' → IsIndex (slice_set inputs i x) jobs tops' places pairs
+index_after inputs jobs tops tops' places pairs i place d x is inside e room best = record {
+  tops = (let P : ProblemValue → Type 0 = λ p. AreTops p tops' in subst P (sym (after_in inputs jobs i place x e)) best);
+  counted = (let P : List InputValue → Type 0 = λ xs. AreCounted xs (map (λ r. r.scopes) jobs) in
+      subst P (sym (map-set (λ y. y.input) inputs i x)) (counted_set (map (λ y. y.input) inputs) (map (λ r. r.scopes) jobs) i x.input (ap (λ (y : InputValue). y.scope) e) (ap (λ (y : InputValue). y.jobs) e) is.counted));
+  places = All-set (λ y. places ≤ y.spare) inputs i x (let old = is.places i d inside in omega (arith, old, room)) is.places;
   pairs = is.pairs;
 }
 
@@ -319,6 +337,14 @@ version_value inputs jobs n m i place left x v e added same =
     let Q : ℕ → IndexValue = λ k. record { problem = with_version (problem_in inputs jobs) i place; spare_places = k; spare_pairs = m } in
     ap P (version_in inputs jobs i place x added) ∙ ap Q same ∙ ap To e
 
+pub after_value : (inputs : List InputRowsValue) (jobs : List JobRowsValue) (n m : ℕ) (i place : ℕ) (x : InputRowsValue) (v : IndexValue) → viewed inputs jobs n m ≡ v
+    → x.input ≡ with_kept (input_at (problem_in inputs jobs) i) place
+    → viewed (slice_set inputs i x) jobs n m ≡ record { problem = with_after v.problem i place; spare_places = v.spare_places; spare_pairs = v.spare_pairs }
+after_value inputs jobs n m i place x v e kept =
+    let To : IndexValue → IndexValue = λ w. record { problem = with_after w.problem i place; spare_places = w.spare_places; spare_pairs = w.spare_pairs } in
+    let P : ProblemValue → IndexValue = λ q. record { problem = q; spare_places = n; spare_pairs = m } in
+    ap P (after_in inputs jobs i place x kept) ∙ ap To e
+
 pub build_value : (inputs : List InputRowsValue) (jobs : List JobRowsValue) (n m : ℕ) (j added left : ℕ) (b : BuildValue) (r : JobRowsValue) (v : IndexValue) → viewed inputs jobs n m ≡ v
     → r.builds ≡ b ∷ builds_at (problem_in inputs jobs) j → left ≡ left_after m added
     → viewed inputs (slice_set jobs j r) n left ≡ record { problem = with_new_build v.problem j b; spare_places = v.spare_places; spare_pairs = left_after v.spare_pairs added }
@@ -356,7 +382,7 @@ scope_below : (scopes jobs : ℕ) (is : List InputValue) → are_inputs scopes j
 scope_below scopes jobs [] h k within = absurd (omega arith)
 scope_below scopes jobs (i ∷ is) h zero within =
     let a = and_parts (is_input scopes jobs i) (are_inputs (next_used scopes i.scope) (used_after jobs i.jobs) is) h in
-    let b = and_parts (nat_le i.scope scopes) (are_distinct i.jobs && (are_numbered jobs i.jobs && are_places_after 0 i.places)) a.0 in
+    let b = and_parts (nat_le i.scope scopes) (are_distinct i.jobs && (are_numbered jobs i.jobs && (is_after i.after && are_places_after 0 i.places))) a.0 in
     let low = next_low scopes i.scope (leb-true _ _ b.0) in
     omega (arith, low, after_more (next_used scopes i.scope) is)
 scope_below scopes jobs (i ∷ is) h (suc k) within =

@@ -3,7 +3,7 @@ use Rattle.std.proofs.Common.{◌≡◌, ℕ, zero, suc, ◌+◌, ◌<◌, ◌�
 use Rattle.std.specs.List.{list_all}
 use Rattle.std.proofs.lemmas.Bool.{and_parts, and_from, lt-ltb, le-leb, ltb-true, leb-true}
 use Rattle.std.proofs.lemmas.List.{length-set}
-use Rattle.ccr_choice.specs.Problem.{ProblemValue, InputValue, BuildValue, no_input, is_problem, is_input, is_build, are_inputs, are_distinct, are_numbered, are_places_after, are_builds, are_builds_below, are_pairs_after, next_used, used_after, scopes_after, jobs_after, input_at, builds_at}
+use Rattle.ccr_choice.specs.Problem.{ProblemValue, InputValue, BuildValue, no_input, is_problem, is_input, is_after, is_build, are_inputs, are_distinct, are_numbered, are_places_after, are_builds, are_builds_below, are_pairs_after, next_used, used_after, scopes_after, jobs_after, input_at, builds_at}
 use Rattle.ccr_choice.proofs.Bounds.{rules_of, builds_kept}
 use Rattle.ccr_index.specs.Rows.{no_build, with_place, last_after}
 use Rattle.ccr_index.specs.Index.{with_version, with_new_build}
@@ -28,11 +28,13 @@ inputs_more : (is : List InputValue) (i place s j : ℕ) → i < length is → l
 inputs_more [] i place s j within less most h = absurd (omega arith)
 inputs_more (y ∷ ys) zero place s j within less most h =
     let a = and_parts (is_input s j y) (are_inputs (next_used s y.scope) (used_after j y.jobs) ys) h in
-    let b = and_parts (nat_le y.scope s) (are_distinct y.jobs && (are_numbered j y.jobs && are_places_after 0 y.places)) a.0 in
-    let c = and_parts (are_distinct y.jobs) (are_numbered j y.jobs && are_places_after 0 y.places) b.1 in
-    let d = and_parts (are_numbered j y.jobs) (are_places_after 0 y.places) c.1 in
+    let rest = is_after y.after && are_places_after 0 y.places in
+    let b = and_parts (nat_le y.scope s) (are_distinct y.jobs && (are_numbered j y.jobs && rest)) a.0 in
+    let c = and_parts (are_distinct y.jobs) (are_numbered j y.jobs && rest) b.1 in
+    let d = and_parts (are_numbered j y.jobs) rest c.1 in
+    let e = and_parts (is_after y.after) (are_places_after 0 y.places) d.1 in
     and_from (is_input s j (with_place y place)) _
-    (and_from (nat_le y.scope s) _ b.0 (and_from (are_distinct y.jobs) _ c.0 (and_from (are_numbered j y.jobs) _ d.0 (places_more 0 y.places place d.1 less most)))) a.1
+    (and_from (nat_le y.scope s) _ b.0 (and_from (are_distinct y.jobs) _ c.0 (and_from (are_numbered j y.jobs) _ d.0 (and_from (is_after y.after) _ e.0 (places_more 0 y.places place e.1 less most))))) a.1
 inputs_more (y ∷ ys) (suc i) place s j within less most h =
     let a = and_parts (is_input s j y) (are_inputs (next_used s y.scope) (used_after j y.jobs) ys) h in
     and_from (is_input s j y) _ a.0 (inputs_more ys i place (next_used s y.scope) (used_after j y.jobs) (omega arith) less most a.1)
@@ -76,9 +78,11 @@ inputs_less [] i place s j within h = absurd (omega (arith, within))
 inputs_less (y ∷ ys) zero place s j within h =
     let z = with_place y place in
     let a = and_parts (is_input s j z) (are_inputs (next_used s y.scope) (used_after j y.jobs) ys) h in
-    let b = and_parts (nat_le y.scope s) (are_distinct y.jobs && (are_numbered j y.jobs && are_places_after 0 z.places)) a.0 in
-    let c = and_parts (are_distinct y.jobs) (are_numbered j y.jobs && are_places_after 0 z.places) b.1 in
-    places_less 0 y.places place (and_parts (are_numbered j y.jobs) (are_places_after 0 z.places) c.1).1
+    let rest = is_after y.after && are_places_after 0 z.places in
+    let b = and_parts (nat_le y.scope s) (are_distinct y.jobs && (are_numbered j y.jobs && rest)) a.0 in
+    let c = and_parts (are_distinct y.jobs) (are_numbered j y.jobs && rest) b.1 in
+    let d = and_parts (are_numbered j y.jobs) rest c.1 in
+    places_less 0 y.places place (and_parts (is_after y.after) (are_places_after 0 z.places) d.1).1
 inputs_less (y ∷ ys) (suc i) place s j within h =
     let rest = slice_set ys i (with_place (slice_index_or ys i no_input) place) in
     inputs_less ys i place (next_used s y.scope) (used_after j y.jobs) (omega (arith, within))

@@ -1,34 +1,25 @@
 -- What is possible where nothing is fixed, once an input has one more allowed place, the last.
-use Rattle.std.proofs.Common.{◌≡◌, ◌≢◌, ℕ, ◌<◌, ◌⊎◌, List, [], ◌∷◌, ◌++◌, length, slice_index, slice_set, true, inl, inr, refl, sym, ap, ◌∙◌, subst, arith, Option, Some, None}
-use Rattle.std.specs.Prelude.{Contains, EachIndex}
-use Rattle.std.proofs.lemmas.Bool.{cases_eq, ltb-true}
-use Rattle.std.proofs.lemmas.List.{get_or-set_same, get_or-set_other, length-set, length-append, get_or_append_left}
+use Rattle.std.proofs.Common.{◌≡◌, ℕ, ◌<◌, ◌⊎◌, [], ◌∷◌, length, slice_index, true, inl, inr, refl, sym, ap, ◌∙◌, subst, Option, Some, None}
+use Rattle.std.specs.Prelude.{Contains, EachIndex, unwrap_or}
+use Rattle.std.proofs.lemmas.Bool.{false≢true}
 use Rattle.std.proofs.lemmas.List.Elements.{Contains-append_left, Contains-append_right, Contains-append_cases}
-use Rattle.std.proofs.Math.Seq.{get_or-append_seam}
-use Rattle.ccr_choice.specs.Problem.{ProblemValue, InputValue, no_input, is_problem, are_places_after, input_at}
-use Rattle.ccr_choice.specs.Preference.{plain}
+use Rattle.ccr_choice.specs.Problem.{ProblemValue, InputValue, input_at}
+use Rattle.ccr_choice.specs.Preference.{order_of, prefers_after}
 use Rattle.ccr_choice.specs.Assignment.{nothing_fixed}
 use Rattle.ccr_choice.specs.Possible.{CanHavePassed, IsPossible, IsBestPossible, IsBestPlace}
-use Rattle.ccr_choice.proofs.Lookups.{places_rise}
 use Rattle.ccr_choice.proofs.Members.{contains_none, contains_first, contains_cases}
-use Rattle.ccr_choice.proofs.Places.{places_kept}
-use Rattle.ccr_index.specs.Index.{AreTops, HasPassed, with_version}
+use Rattle.ccr_choice.proofs.Orders.{is_order, before_zero}
+use Rattle.ccr_index.specs.Index.{HasPassed, with_version}
+use Rattle.ccr_index.specs.Rows.{with_place}
+use Rattle.ccr_index.proofs.InputLaws as input
 
-module _ (p : ProblemValue) (i place : ℕ) (inside : i < length p.inputs) (rules : is_problem (with_version p i place) ≡ true) where
-  here : input_at (with_version p i place) i ≡ record { scope = (input_at p i).scope; places = (input_at p i).places ++ place ∷ []; jobs = (input_at p i).jobs }
-  here = get_or-set_same p.inputs i _ no_input inside
+module _ (p : ProblemValue) (i place : ℕ) (inside : i < length p.inputs) where
+  here : input_at (with_version p i place) i ≡ with_place (input_at p i) place
+  here = input.here p i (with_place (input_at p i) place) inside
 
-  there : (k : ℕ) → k ≢ i → input_at (with_version p i place) k ≡ input_at p k
-  there k other = get_or-set_other p.inputs i k _ no_input other
-
-  -- the new place is the greatest
-  greatest : (q : ℕ) → Contains (input_at p i).places q → q < place
-  greatest q (k, within, at) =
-      let xs = (input_at p i).places in
-      let kept : are_places_after 0 (xs ++ place ∷ []) ≡ true =
-      ap (λ (x : InputValue). are_places_after 0 x.places) (sym here) ∙ places_kept (with_version p i place) i rules (omega (arith, inside, length-set p.inputs i (record { scope = (input_at p i).scope; places = xs ++ place ∷ []; jobs = (input_at p i).jobs }))) in
-      let less = ltb-true _ _ (places_rise (xs ++ place ∷ []) 0 kept k (length xs) q within (omega (arith, length-append xs (place ∷ [])))) in
-      omega (arith, less, get_or_append_left xs (place ∷ []) q k within ∙ at, get_or-append_seam xs place [] q)
+  -- its order is the same
+  same_order : (x y : ℕ) → order_of (with_version p i place) i x y ≡ order_of p i x y
+  same_order x y = ap (λ (z : InputValue). prefers_after z.after x y) here
 
   kept : (q : ℕ) → IsPossible p nothing_fixed i q → IsPossible (with_version p i place) nothing_fixed i q
   kept q h =
@@ -55,66 +46,35 @@ module _ (p : ProblemValue) (i place : ℕ) (inside : i < length p.inputs) (rule
         ]
       ]
 
-  -- a place that has passed is the best one
-  pub best_new : HasPassed p nothing_fixed i place → IsBestPlace plain (with_version p i place) nothing_fixed i place
-  best_new h = (
-    Some place,
-    (
-      made h,
-      λ q possible better.
-          let more : place < q = ltb-true place q better in
-          elim (parts q possible) [
-            | inl old ↦ (let less = greatest q old.allowed in omega (arith, more, less))
-            | inr new ↦ omega (arith, more, new.0)
+  module _ (top : ℕ) (was : IsBestPlace (order_of p) p nothing_fixed i top) where
+    -- a place that has passed and is preferred to the best one is the best one
+    pub best_new : order_of p i place top ≡ true → HasPassed p nothing_fixed i place → IsBestPlace (order_of (with_version p i place)) (with_version p i place) nothing_fixed i place
+    best_new first h = (Some place, (made h, λ q possible better. none q possible (sym (same_order q place) ∙ better)), refl)
+      where
+        old : (o : Option ℕ) → top ≡ unwrap_or o 0 → IsBestPossible (order_of p) p nothing_fixed i o → (q : ℕ) → IsPossible p nothing_fixed i q → order_of p i q top ≡ true → ⊥
+        old None e best q h better = best q h
+        old (Some x) e best q h better = best.1 q h (ap (order_of p i q) (sym e) ∙ better)
+
+        none : (q : ℕ) → IsPossible (with_version p i place) nothing_fixed i q → order_of p i q place ≡ true → ⊥
+        none q possible better =
+            elim (parts q possible) [
+              | inl possible' ↦ old was.0 was.2 was.1 q possible' ((is_order p).transitive i q place top better first)
+              | inr new ↦ false≢true (sym ((is_order p).irreflexive i place) ∙ ap (λ n. order_of p i n place) (sym new.0) ∙ better)
+            ]
+
+    -- else the best one stays
+    pub best_old : (0 < place) → (order_of p i place top ≡ true → HasPassed p nothing_fixed i place → ⊥) → IsBestPlace (order_of (with_version p i place)) (with_version p i place) nothing_fixed i top
+    best_old some lacks = (was.0, best was.0 was.2 was.1, was.2)
+      where
+        best : (o : Option ℕ) → top ≡ unwrap_or o 0 → IsBestPossible (order_of p) p nothing_fixed i o → IsBestPossible (order_of (with_version p i place)) (with_version p i place) nothing_fixed i o
+        best None e old = λ q h. elim (parts q h) [
+          | inl possible ↦ old q possible
+          | inr new ↦ lacks (ap (order_of p i place) e ∙ before_zero (input_at p i).after place some) new.1
+        ]
+        best (Some x) e old = (
+          kept x old.0,
+          λ q h better. elim (parts q h) [
+            | inl possible ↦ old.1 q possible (sym (same_order q x) ∙ better)
+            | inr new ↦ lacks (ap (order_of p i place) e ∙ ap (λ n. order_of p i n x) (sym new.0) ∙ sym (same_order q x) ∙ better) new.1
           ],
-    ),
-    refl,
-  )
-
-  -- else the best one stays
-  pub best_old : (HasPassed p nothing_fixed i place → ⊥) → (top : ℕ) → IsBestPlace plain p nothing_fixed i top → IsBestPlace plain (with_version p i place) nothing_fixed i top
-  best_old lacks top was = (was.0, best was.0 was.1, was.2)
-    where
-      best : (o : Option ℕ) → IsBestPossible plain p nothing_fixed i o → IsBestPossible plain (with_version p i place) nothing_fixed i o
-      best None old = λ q h. elim (parts q h) [ inl was ↦ old q was | inr new ↦ lacks new.1 ]
-      best (Some x) old = (kept x old.0, λ q h better. elim (parts q h) [ inl was ↦ old.1 q was better | inr new ↦ lacks new.1 ])
-
-  -- and that of each other input
-  best_other : (k : ℕ) → k ≢ i → (top : ℕ) → IsBestPlace plain p nothing_fixed k top → IsBestPlace plain (with_version p i place) nothing_fixed k top
-  best_other k other top was = (was.0, best was.0 was.1, was.2)
-    where
-      to : (q : ℕ) → IsPossible p nothing_fixed k q → IsPossible (with_version p i place) nothing_fixed k q
-      to q h =
-          let P : InputValue → Type 0 = λ x. Contains x.places q in
-          let R : InputValue → Type 0 = λ x. EachIndex x.jobs (λ m. CanHavePassed p nothing_fixed (x.scope, q) (slice_index x.jobs m)) in
-          record { allowed = subst P (sym (there k other)) h.allowed; passed = subst R (sym (there k other)) h.passed }
-
-      from : (q : ℕ) → IsPossible (with_version p i place) nothing_fixed k q → IsPossible p nothing_fixed k q
-      from q h =
-          let P : InputValue → Type 0 = λ x. Contains x.places q in
-          let R : InputValue → Type 0 = λ x. EachIndex x.jobs (λ m. CanHavePassed p nothing_fixed (x.scope, q) (slice_index x.jobs m)) in
-          record { allowed = subst P (there k other) h.allowed; passed = subst R (there k other) h.passed }
-
-      best : (o : Option ℕ) → IsBestPossible plain p nothing_fixed k o → IsBestPossible plain (with_version p i place) nothing_fixed k o
-      best None old = λ q h. old q (from q h)
-      best (Some x) old = (to x old.0, λ q h. old.1 q (from q h))
-
-  counted : length (with_version p i place).inputs ≡ length p.inputs
-  counted = length-set p.inputs i _
-
-  -- so the best places are these, with that of the input written anew
-  pub tops_written : (tops : List ℕ) (top : ℕ) → AreTops p tops → IsBestPlace plain (with_version p i place) nothing_fixed i top → AreTops (with_version p i place) (slice_set tops i top)
-  tops_written tops top is best = record {
-    rules = rules;
-    few = omega (arith, counted, is.few);
-    long = length-set tops i top ∙ is.long;
-    best = λ k within. elim (cases_eq k i) [
-      | inl same ↦ (let now : i < length tops = omega (arith, inside, is.few, is.long) in
-          let written : slice_index (slice_set tops i top) i ≡ top = get_or-set_same tops i top 0 now in
-          let P : ℕ → Type 0 = λ n. IsBestPlace plain (with_version p i place) nothing_fixed n (slice_index (slice_set tops i top) n) in
-          let Q : ℕ → Type 0 = λ v. IsBestPlace plain (with_version p i place) nothing_fixed i v in
-          subst P (sym same) (subst Q (sym written) best))
-      | inr other ↦ (let Q : ℕ → Type 0 = λ v. IsBestPlace plain (with_version p i place) nothing_fixed k v in
-          subst Q (sym (get_or-set_other tops i k top 0 other)) (best_other k other (slice_index tops k) (is.best k (omega (arith, within, counted)))))
-    ];
-  }
+        )

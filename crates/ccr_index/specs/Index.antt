@@ -5,7 +5,7 @@ use Rattle.ccr_choice.specs.Preference.{order_of}
 use Rattle.ccr_choice.specs.Assignment.{Assignment, nothing_fixed, with_build}
 use Rattle.ccr_choice.specs.Possible.{CanHavePassed, IsPossible, IsBestPlace}
 use Rattle.ccr_index.specs.Alike.{AreCounted}
-use Rattle.ccr_index.specs.Rows.{InputRowsValue, JobRowsValue, with_place, numbered}
+use Rattle.ccr_index.specs.Rows.{InputRowsValue, JobRowsValue, with_place, with_kept, numbered}
 
 -- A problem, with how many further places each input, and how many further pairs and builds each job, has room for.
 pub record IndexValue : Type 0 where
@@ -32,10 +32,14 @@ pub record IsIndex (inputs : List InputRowsValue) (jobs : List JobRowsValue) (be
   pub places : All (λ x. n ≤ x.spare) inputs
   pub pairs : All (λ r. m ≤ r.spare) jobs
 
--- ---- the problems with a row added
+-- ---- the problems with a row added, or with a place kept
 -- The problem with one more allowed place, the last, of input i.
 abbrev pub with_version : ProblemValue → ℕ → ℕ → ProblemValue
 with_version p i place = record { inputs = slice_set p.inputs i (with_place (input_at p i) place); jobs = p.jobs }
+
+-- The problem with this place kept for input i, in place of any that was.
+abbrev pub with_after : ProblemValue → ℕ → ℕ → ProblemValue
+with_after p i place = record { inputs = slice_set p.inputs i (with_kept (input_at p i) place); jobs = p.jobs }
 
 -- The problem with one more build, the newest, of job j.
 abbrev pub with_new_build : ProblemValue → ℕ → BuildValue → ProblemValue

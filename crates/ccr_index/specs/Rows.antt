@@ -15,7 +15,11 @@ pub record InputRowsValue : Type 0 where
 
 -- The input with one more allowed place, the last.
 abbrev pub with_place : InputValue → ℕ → InputValue
-with_place x place = record { scope = x.scope; places = x.places ++ place ∷ []; jobs = x.jobs }
+with_place x place = record { scope = x.scope; places = x.places ++ place ∷ []; jobs = x.jobs; after = x.after }
+
+-- The input with this place kept: those above it come first.
+abbrev pub with_kept : InputValue → ℕ → InputValue
+with_kept x place = record { scope = x.scope; places = x.places; jobs = x.jobs; after = Some place }
 
 -- The last of these numbers, or the one given where there is none.
 abbrev pub last_after : ℕ → List ℕ → ℕ

@@ -10,6 +10,7 @@ ghost use Rattle.ccr_choice.specs.Table.{assigned};
 ghost use Rattle.ccr_index.specs.Index.{fixed_by, HasPassed, LeavesPlaces, IsViableCount};
 
 use crate::index::Index;
+use crate::ranks::ranks_in;
 use ccr_choice::MOST_JOBS;
 use ccr_choice::possible::{Fixed, has_pair, has_place};
 
@@ -24,7 +25,7 @@ pub(crate) fn names(jobs: &[u32], job: usize) -> bool
 }
 
 impl Index {
-    /// The greatest possible place of input `input` while these builds are fixed, or 0 where it has none.
+    /// The most preferred possible place of input `input` while these builds are fixed, or 0 where it has none.
     pub fn greatest(&self, input: usize, fixed: &FixedBuilds) -> u32
         requires { input < length self.now.problem.inputs }
         ensures { let p = self.now.problem in IsBestPlace (order_of p) p (fixed_by p fixed.now) input result }
@@ -151,7 +152,7 @@ impl Index {
         None
     }
 
-    /// The best possible place among a build's pairs, of which each possible one is one.
+    /// The best possible place among a build's pairs, of which each possible one is one. The first one that is found is the best.
     fn best_in(&self, input: usize, fixed: &Fixed, pairs: &[(u32, u32)]) -> Option<u32>
         requires input { input < length self.now.problem.inputs }
         requires ascending { AreAscending pairs.now }
@@ -159,10 +160,11 @@ impl Index {
             → Contains pairs.now ((input_at self.now.problem input).scope, place) }
         ensures { let p = self.now.problem in IsBestPossible (order_of p) p (assigned p fixed.now) input result }
     {
-        let scope = self.input(input).scope();
-        let end = pairs.partition_point(|q| q.0 <= scope);
-        for k in (0..end).rev() {
-            let (at, place) = pairs[k];
+        let rows = self.input(input);
+        let scope = rows.scope();
+        let ranks = ranks_in(rows.after(), pairs, scope);
+        for rank in 0..ranks.to {
+            let (at, place) = pairs[ranks.position(rank)];
             if at != scope {
                 return None;
             }

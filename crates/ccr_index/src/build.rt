@@ -13,6 +13,7 @@ use crate::alike::Scopes;
 use crate::best::names;
 use crate::index::Index;
 use crate::input::InputRows;
+use crate::ranks::ranks_of;
 use crate::rows::JobRows;
 use ccr_choice::{Build, MOST_INPUTS, Problem};
 use std::alloc::{AllocError, Global};
@@ -90,16 +91,19 @@ fn tops_of(problem: &Problem, jobs: &[JobRows]) -> [u32; MOST_INPUTS as usize]
     tops
 }
 
-/// The greatest allowed place of input `input` that each job named there has a build with, or 0.
+/// The most preferred allowed place of input `input` that each job named there has a build with, or 0.
 fn top_of(problem: &Problem, jobs: &[JobRows], input: usize) -> u32
     requires input { input < length problem.now.inputs }
     requires jobs { map (λ r. r.builds) jobs.now ≡ problem.now.jobs }
     ensures { IsBestPlace (order_of problem.now) problem.now nothing_fixed input result }
 {
-    let places = problem.inputs()[input].places();
-    for k in (0..places.len()).rev() {
-        if have_seen(problem, jobs, input, places[k]) {
-            return places[k];
+    let rows = &problem.inputs()[input];
+    let places = rows.places();
+    let ranks = ranks_of(rows.after(), places);
+    for rank in 0..ranks.to {
+        let place = places[ranks.position(rank)];
+        if have_seen(problem, jobs, input, place) {
+            return place;
         }
     }
     0

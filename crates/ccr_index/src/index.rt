@@ -9,11 +9,11 @@ ghost use Rattle.ccr_choice.specs.Ascending.{AreAscending, AreRising};
 ghost use Rattle.ccr_choice.specs.Dominated.{IsNamedIn};
 ghost use Rattle.ccr_index.specs.Rows.{AreDescending};
 ghost use Rattle.ccr_index.specs.Alike.{does_count, AreCounted};
-ghost use Rattle.ccr_index.specs.Index.{problem_in, AreTops, with_version, with_new_build, left_after};
+ghost use Rattle.ccr_index.specs.Index.{problem_in, AreTops, with_version, with_after, with_new_build, left_after};
 
 use crate::input::InputRows;
 use crate::rows::JobRows;
-use ccr_choice::MOST_INPUTS;
+use ccr_choice::{MOST_INPUTS, MOST_PLACES};
 use std::alloc::AllocError;
 use std::marker::Model;
 
@@ -106,7 +106,7 @@ impl Index {
         &self.jobs[job]
     }
 
-    /// The greatest possible place of input `input` where nothing is fixed, or 0.
+    /// The most preferred possible place of input `input` where nothing is fixed, or 0.
     pub fn top(&self, input: usize) -> u32
         requires { input < length self.now.problem.inputs }
         ensures { IsBestPlace (order_of self.now.problem) self.now.problem nothing_fixed input result }
@@ -155,6 +155,23 @@ impl Index {
         self.tops[input] = top;
         self.spare_places = left;
         Ok(())
+    }
+
+    /// Keeps a place for input `input`, that of a build which used it, in place of any that was kept: the places above it now come
+    /// first (Concourse: get step, `version: every`). It takes no memory.
+    pub fn set_after(&mut self, input: usize, place: u32)
+        requires input { input < length self.old.problem.inputs }
+        requires some { 0 < place }
+        requires most { place ≤ MOST_PLACES }
+        ensures { self.new ≡ record {
+          problem = with_after self.old.problem input place;
+          spare_places = self.old.spare_places;
+          spare_pairs = self.old.spare_pairs;
+        } }
+    {
+        let first = self.top_after(input, place);
+        self.inputs[input].keep(place);
+        self.tops[input] = first;
     }
 
     /// Adds a build of named job `job`, with its pairs of scope and place, that is newer than all others.

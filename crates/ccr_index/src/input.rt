@@ -1,18 +1,19 @@
 //! An input of a problem, with room for further places.
 
 ghost use Rattle.std.specs.Prelude.{◌≡◌, ◌+◌, ◌<◌, ◌≤◌, [], ◌∷◌, ◌++◌, IfOk, OnOk, IsOk};
-ghost use Rattle.ccr_index.specs.Rows.{with_place};
+ghost use Rattle.ccr_index.specs.Rows.{with_place, with_kept};
 
 use ccr_choice::Input;
 use std::alloc::{AllocError, Global};
 use std::marker::Model;
 
-/// An input: its scope, its allowed places, and the jobs that it names.
+/// An input: its scope, its allowed places, the jobs that it names, and the place that is kept for it, if one is.
 #[derive(Drop)]
 pub struct InputRows {
     scope: u32,
     places: Vec<u32>,
     jobs: Vec<u32>,
+    after: Option<u32>,
 }
 
 impl Model for InputRows {
@@ -22,7 +23,7 @@ impl Model for InputRows {
     ghost Value = { InputRowsValue };
 
     ghost view = { λ a. record {
-      input = record { scope = a.scope; places = a.places.items; jobs = a.jobs.items };
+      input = record { scope = a.scope; places = a.places.items; jobs = a.jobs.items; after = a.after };
       spare = vec_capacity a.places - vec_len a.places;
     } };
 }
@@ -38,6 +39,7 @@ impl InputRows {
             scope: input.scope(),
             places,
             jobs,
+            after: input.after(),
         })
     }
 
@@ -60,6 +62,22 @@ impl InputRows {
         ensures { result.now ≡ self.now.input.jobs }
     {
         &self.jobs
+    }
+
+    /// The place that is kept of the newest build which used the input: the places above it come first (Concourse: get step,
+    /// `version: every`). None where the last allowed place comes first.
+    pub fn after(&self) -> Option<u32>
+        ensures { result ≡ self.now.input.after }
+    {
+        self.after
+    }
+
+    /// Keeps a place.
+    pub(crate) fn keep(&mut self, place: u32)
+        ensures input { self.new.input ≡ with_kept self.old.input place }
+        ensures spare { self.new.spare ≡ self.old.spare }
+    {
+        self.after = Some(place);
     }
 
     /// Makes room for so many places.

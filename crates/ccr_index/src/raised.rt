@@ -1,4 +1,4 @@
-//! The best places where nothing is fixed, once a place or a build is added.
+//! The best places where nothing is fixed, once a place or a build is added, or a place is kept.
 
 ghost use Rattle.std.specs.Prelude.{◌<◌, ◌↔◌, ℕ, length, IsTrue};
 ghost use Rattle.ccr_choice.specs.Problem.{IsProblem};
@@ -6,11 +6,12 @@ ghost use Rattle.ccr_choice.specs.Preference.{order_of};
 ghost use Rattle.ccr_choice.specs.Assignment.{nothing_fixed};
 ghost use Rattle.ccr_choice.specs.Possible.{IsBestPlace};
 ghost use Rattle.ccr_choice.specs.Ascending.{AreAscending};
-ghost use Rattle.ccr_index.specs.Index.{AreTops, with_version, with_new_build, IsTopWith, IsPossibleWith};
+ghost use Rattle.ccr_index.specs.Index.{AreTops, with_version, with_after, with_new_build, IsTopWith, IsPossibleWith};
 
 use crate::index::Index;
+use crate::ranks::{ranks_in, ranks_of};
 use ccr_choice::possible::has_place;
-use ccr_choice::{MOST_INPUTS, MOST_JOBS};
+use ccr_choice::{MOST_INPUTS, MOST_JOBS, is_preferred};
 
 impl Index {
     /// The best place of input `input`, once it has one more allowed place, the last.
@@ -19,11 +20,29 @@ impl Index {
         requires rules { IsProblem (with_version self.now.problem input place) }
         ensures { let after = with_version self.now.problem input place in IsBestPlace (order_of after) after nothing_fixed input result }
     {
-        if self.has_passed(input, &[0; MOST_JOBS as usize], place) {
+        let top = self.top(input);
+        let is_first = is_preferred(self.input(input).after(), place, top);
+        if is_first && self.has_passed(input, &[0; MOST_JOBS as usize], place) {
             place
         } else {
-            self.top(input)
+            top
         }
+    }
+
+    /// The best place of input `input`, once this place is kept for it.
+    pub(crate) fn top_after(&self, input: usize, kept: u32) -> u32
+        requires { input < length self.now.problem.inputs }
+        ensures { let after = with_after self.now.problem input kept in IsBestPlace (order_of after) after nothing_fixed input result }
+    {
+        let places = self.input(input).places();
+        let ranks = ranks_of(Some(kept), places);
+        for rank in 0..ranks.to {
+            let place = places[ranks.position(rank)];
+            if self.has_passed(input, &[0; MOST_JOBS as usize], place) {
+                return place;
+            }
+        }
+        0
     }
 
     /// The best place of each input, once job `job` has one more build, with these pairs.
@@ -49,11 +68,12 @@ impl Index {
         ensures { (number : ℕ) → IsTopWith self.now.problem job number pairs.now input result }
     {
         let top = self.top(input);
-        let scope = self.input(input).scope();
-        let end = pairs.partition_point(|q| q.0 <= scope);
-        for k in (0..end).rev() {
-            let (at, place) = pairs[k];
-            if at != scope || place <= top {
+        let rows = self.input(input);
+        let (scope, after) = (rows.scope(), rows.after());
+        let ranks = ranks_in(after, pairs, scope);
+        for rank in 0..ranks.to {
+            let (at, place) = pairs[ranks.position(rank)];
+            if at != scope || !is_preferred(after, place, top) {
                 return top;
             }
             if self.is_possible_with(input, place, job) {

@@ -10,8 +10,7 @@ use Rattle.ccr_history.specs.Text.{Text}
 use Rattle.ccr_history.specs.History.{HistoryData}
 use Rattle.ccr_pipeline.specs.Inputs.{inputs, are_few}
 use Rattle.ccr_pipeline.specs.JobData.{JobData, job_data}
-use Rattle.ccr_pipeline.specs.Pipelines.{PipelineData, pipeline_data}
-use Rattle.ccr_pipeline.specs.declared.pipeline.Pipeline.{Pipeline}
+use Rattle.ccr_pipeline.specs.Pipelines.{PipelineData}
 use Rattle.ccr_pipeline.specs.declared.resource.Job.{Job}
 use Rattle.ccr_choice.specs.Problem.{ProblemValue}
 use Rattle.ccr_index.specs.Index.{IndexValue}
@@ -35,19 +34,19 @@ mapped_at f xs k x d at = get_or-map f xs k x d (slice_get_within xs k x at) ∙
 
 module _ (p : PipelineData) (h : HistoryData) (xs : List IndexValue) where
   abbrev F : JobData → ProblemValue
-  F j = problem_with p h (inputs j.plan)
+  F j = problem_with p h j.name (inputs j.plan)
 
   pub as_many : AreIndexes p h xs → length xs ≡ length p.jobs
   as_many are = sym (length-map xs (λ x. x.problem)) ∙ ap length are ∙ length-map p.jobs F
 
   -- each index is that of the job at its position
-  pub index_at : AreIndexes p h xs → (k : ℕ) (j : JobData) (d : IndexValue) → slice_get p.jobs k ≡ Some j → (get_or xs k d).problem ≡ problem_with p h (inputs j.plan)
+  pub index_at : AreIndexes p h xs → (k : ℕ) (j : JobData) (d : IndexValue) → slice_get p.jobs k ≡ Some j → (get_or xs k d).problem ≡ problem_with p h j.name (inputs j.plan)
   index_at are k j d at =
       let within : k < length xs = omega (arith, as_many are, slice_get_within p.jobs k j at) in
       sym (get_or-map (λ x. x.problem) xs k d no_problem within) ∙ ap (λ l. get_or l k no_problem) are ∙ mapped_at F p.jobs k j no_problem at
 
   -- where each is, they are all
-  pub from_each : length xs ≡ length p.jobs → ((k : ℕ) (j : JobData) (d : IndexValue) → slice_get p.jobs k ≡ Some j → (get_or xs k d).problem ≡ problem_with p h (inputs j.plan)) → AreIndexes p h xs
+  pub from_each : length xs ≡ length p.jobs → ((k : ℕ) (j : JobData) (d : IndexValue) → slice_get p.jobs k ≡ Some j → (get_or xs k d).problem ≡ problem_with p h j.name (inputs j.plan)) → AreIndexes p h xs
   from_each many each =
       let left = length-map xs (λ x. x.problem) in
       let right = length-map p.jobs F in
@@ -103,7 +102,7 @@ module _ (p : PipelineData) (h : HistoryData) (xs : List IndexValue) (are : AreI
   of_job_so x here =
       let there = some_at p.jobs k (omega (arith, slice_get_within xs k x here, as_many p h xs are)) in
       let job : job_of name p.jobs ≡ Some there.0 = sym found ∙ there.1 in
-      subst (λ o. IsSomeAnd o (λ j. x.problem ≡ problem_with p h (inputs j.plan))) (sym job)
+      subst (λ o. IsSomeAnd o (λ j. x.problem ≡ problem_with p h j.name (inputs j.plan))) (sym job)
       (ap (λ (y : IndexValue). y.problem) (sym (get_or_from_slice_get xs k x x here)) ∙ index_at p h xs are k there.0 x there.1)
 
   -- where none stands there, there is no such job

@@ -1,6 +1,5 @@
 -- What the end of a build does to indexes.
-use Rattle.std.proofs.Common.{◌≡◌, ℕ, suc, ◌+◌, ◌<◌, ◌≤◌, List, [], ◌∷◌, length, map, get_or, slice_get, slice_index_or, Bool, true, false, not, ◌||◌, cond, Option, Some, None, refl, sym, ap, ap₂, ◌∙◌, subst, arith}
-use Rattle.std.specs.List.{position_or_len, list_any}
+use Rattle.std.proofs.Common.{◌≡◌, ℕ, suc, ◌+◌, ◌<◌, List, [], ◌∷◌, length, map, slice_get, slice_index_or, Bool, true, false, not, ◌||◌, cond, Option, Some, None, refl, sym, ap₂, ◌∙◌, subst, arith}
 use Rattle.std.specs.Str.{bytes_eq}
 use Rattle.std.proofs.lemmas.Bool.{false≢true}
 use Rattle.std.proofs.lemmas.List.{length-map}
@@ -15,9 +14,9 @@ use Rattle.ccr_pipeline.specs.Inputs.{InputData, inputs, named_jobs, are_few}
 use Rattle.ccr_pipeline.specs.JobData.{JobData}
 use Rattle.ccr_pipeline.specs.Names.{has_name}
 use Rattle.ccr_pipeline.specs.Pipelines.{PipelineData}
-use Rattle.ccr_choice.specs.Problem.{BuildValue, ProblemValue, IsProblem}
+use Rattle.ccr_choice.specs.Problem.{BuildValue, IsProblem}
 use Rattle.ccr_index.specs.Index.{IndexValue}
-use Rattle.ccr_problem.specs.Follows.{UnsuccessfulEndLeaves, SuccessAdds, has_newer, passed_to, with_passed}
+use Rattle.ccr_problem.specs.Follows.{UnsuccessfulEndLeaves, SuccessAdds, has_newer, with_passed}
 use Rattle.ccr_problem.specs.Numbering.{number_of}
 use Rattle.ccr_problem.specs.Passed.{cut_to, job_value}
 use Rattle.ccr_problem.specs.ProblemOf.{history_number, used_resources, problem_with}
@@ -42,20 +41,20 @@ module _ (p : PipelineData) (h : HistoryData) (job : Text) (number : ℕ) (statu
   over = edited (ended job number status moved) h
 
   -- the problem afterwards is the one before with what was brought to it
-  follows : (is : List InputData) → problem_with p over is ≡ with_passed (problem_with p h is) (brought_to p h is job number status moved)
-  follows is = by status newest
+  follows : (own : Text) (is : List InputData) → problem_with p over own is ≡ with_passed (problem_with p h own is) (brought_to p h is job number status moved)
+  follows own is = by status newest
     where
       by : (s : Status) → (is_succeeded s ≡ true → has_newer job number h.builds ≡ false)
-          → problem_with p (edited (ended job number s moved) h) is ≡ with_passed (problem_with p h is) (brought_to p h is job number s moved)
-      by Succeeded new = adds p h is job number moved rules running (new refl)
-      by Running new = fails p h is job number Running moved rules running refl
-      by Failed new = fails p h is job number Failed moved rules running refl
-      by Errored new = fails p h is job number Errored moved rules running refl
-      by Aborted new = fails p h is job number Aborted moved rules running refl
+          → problem_with p (edited (ended job number s moved) h) own is ≡ with_passed (problem_with p h own is) (brought_to p h is job number s moved)
+      by Succeeded new = adds p h own is job number moved rules running (new refl)
+      by Running new = fails p h own is job number Running moved rules running refl
+      by Failed new = fails p h own is job number Failed moved rules running refl
+      by Errored new = fails p h own is job number Errored moved rules running refl
+      by Aborted new = fails p h own is job number Aborted moved rules running refl
 
   -- it keeps its rules
-  takes : (is : List InputData) → are_few is ≡ true → IsHistory over → CanTake (brought_to p h is job number status moved) (problem_with p h is)
-  takes is few kept = by (is_succeeded status) (has_name (named_jobs [] is) job) refl (subst IsProblem (follows is) (problem_kept p over is kept few))
+  takes : (own : Text) (is : List InputData) → are_few is ≡ true → IsHistory over → CanTake (brought_to p h is job number status moved) (problem_with p h own is)
+  takes own is few kept = by (is_succeeded status) (has_name (named_jobs [] is) job) refl (subst IsProblem (follows own is) (problem_kept p over own is kept few))
     where
       names : List Text
       names = named_jobs [] is
@@ -63,8 +62,8 @@ module _ (p : PipelineData) (h : HistoryData) (job : Text) (number : ℕ) (statu
       it : ℕ × BuildValue
       it = (number_of names job, record { number = number; pairs = cut_to (map (history_number p h) (used_resources is)) (by_place moved) })
 
-      by : (s n : Bool) → has_name names job ≡ n → IsProblem (with_passed (problem_with p h is) (cond s (cond n (Some it) None) None))
-          → CanTake (cond s (cond n (Some it) None) None) (problem_with p h is)
+      by : (s n : Bool) → has_name names job ≡ n → IsProblem (with_passed (problem_with p h own is) (cond s (cond n (Some it) None) None))
+          → CanTake (cond s (cond n (Some it) None) None) (problem_with p h own is)
       by true true e kept =
           let all = length-map names (job_value h.builds (map (history_number p h) (used_resources is))) in
           let low = below names job e in
@@ -78,7 +77,7 @@ module _ (p : PipelineData) (h : HistoryData) (job : Text) (number : ℕ) (statu
       let found = some_at p.jobs k (omega (arith, within, as_many p h xs are)) in
       let is : List InputData = inputs (found.0).plan in
       subst (λ q. CanTake (slice_index_or bs k None) q) (sym (index_at p h xs are k found.0 d found.1))
-      (subst (λ o. CanTake o (problem_with p h is)) (sym (brought k found.0 found.1)) (takes is (few k found.0 found.1) kept))
+      (subst (λ o. CanTake o (problem_with p h (found.0).name is)) (sym (brought k found.0 found.1)) (takes (found.0).name is (few k found.0 found.1) kept))
 
   pub ends_so : (bs : List (Option (ℕ × BuildValue))) (xs ys : List IndexValue) → AreIndexes p h xs → IsBrought p h job number status moved bs → length ys ≡ length xs
       → ((k : ℕ) (d : IndexValue) → k < length xs → (slice_index_or ys k d).problem ≡ with_passed (slice_index_or xs k d).problem (slice_index_or bs k None))
@@ -86,4 +85,4 @@ module _ (p : PipelineData) (h : HistoryData) (job : Text) (number : ℕ) (statu
   ends_so bs xs ys are brought many each =
       from_each p over ys (many ∙ as_many p h xs are) (λ k j d at.
       let within : k < length xs = omega (arith, as_many p h xs are, slice_get_within p.jobs k j at) in
-      each k d within ∙ ap₂ with_passed (index_at p h xs are k j d at) (brought k j at) ∙ sym (follows (inputs j.plan)))
+      each k d within ∙ ap₂ with_passed (index_at p h xs are k j d at) (brought k j at) ∙ sym (follows j.name (inputs j.plan)))

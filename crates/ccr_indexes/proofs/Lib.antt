@@ -3,3 +3,4 @@ mod Places
 mod Each
 mod Ends
 mod Reports
+mod Takings

@@ -1,5 +1,5 @@
 -- Places that come behind those of an input.
-use Rattle.std.proofs.Common.{◌≡◌, ℕ, zero, suc, ◌+◌, ◌<◌, ◌≤◌, List, [], ◌∷◌, ◌++◌, length, take, drop, set, get_or, slice_index_or, slice_set, true, ◌&&◌, nat_lt, nat_le, refl, sym, ap, ap₂, ◌∙◌, subst, arith, append_assoc}
+use Rattle.std.proofs.Common.{◌≡◌, ℕ, zero, suc, ◌+◌, ◌<◌, ◌≤◌, List, [], ◌∷◌, ◌++◌, length, take, drop, slice_index_or, slice_set, true, ◌&&◌, nat_lt, nat_le, refl, sym, ap, ◌∙◌, arith, append_assoc}
 use Rattle.std.proofs.lemmas.Bool.{and_parts, ltb-true, leb-true}
 use Rattle.std.proofs.lemmas.List.{append-nil, get_or-set_same, set-set, set-get_or}
 use Rattle.ccr_choice.specs.Problem.{InputValue, ProblemValue, no_input, input_at, are_places_after, IsProblem}
@@ -35,14 +35,14 @@ module _ (q : ProblemValue) (i : ℕ) (inside : i < length q.inputs) where
   more_next n ns =
       let x = input_at q i in
       let here : input_at (with_version q i n) i ≡ with_place x n = get_or-set_same q.inputs i (with_place x n) no_input inside in
-      let all : grown (with_place x n) ns ≡ grown x (n ∷ ns) = ap {B = InputValue} (λ ps. record { scope = x.scope; places = ps; jobs = x.jobs }) (append_assoc x.places (n ∷ []) ns) in
+      let all : grown (with_place x n) ns ≡ grown x (n ∷ ns) = ap {B = InputValue} (λ ps. record { scope = x.scope; places = ps; jobs = x.jobs; after = x.after }) (append_assoc x.places (n ∷ []) ns) in
       ap {B = ProblemValue} (λ xs. record { inputs = xs; jobs = q.jobs })
       (set-set q.inputs i (with_place x n) (grown (input_at (with_version q i n) i) ns) ∙ ap (λ y. slice_set q.inputs i y) (ap (λ y. grown y ns) here ∙ all))
 
   pub more_none : with_more q i [] ≡ q
   more_none =
       let x = input_at q i in
-      let same : grown x [] ≡ x = ap {B = InputValue} (λ ps. record { scope = x.scope; places = ps; jobs = x.jobs }) (append-nil x.places) in
+      let same : grown x [] ≡ x = ap {B = InputValue} (λ ps. record { scope = x.scope; places = ps; jobs = x.jobs; after = x.after }) (append-nil x.places) in
       ap {B = ProblemValue} (λ xs. record { inputs = xs; jobs = q.jobs }) (ap (λ y. slice_set q.inputs i y) same ∙ set-get_or q.inputs i no_input)
 
   pub last_more : (n : ℕ) → last_after 0 (input_at (with_version q i n) i).places ≡ n

@@ -1,26 +1,21 @@
 -- What a report does to indexes.
-use Rattle.std.proofs.Common.{◌≡◌, ℕ, ◌+◌, ◌<◌, ◌≤◌, List, [], length, map, get_or, slice_get, slice_index_or, Some, true, refl, sym, ap, ap₂, ◌∙◌, subst, arith}
+use Rattle.std.proofs.Common.{◌≡◌, ℕ, ◌+◌, ◌≤◌, List, length, map, get_or, slice_get, Some, sym, ap, ap₂, ◌∙◌, arith}
 use Rattle.std.proofs.lemmas.List.{length-map}
-use Rattle.std.proofs.lemmas.Option.{slice_get_within}
-use Rattle.ccr_history.specs.Changes.{versions, edited}
-use Rattle.ccr_history.specs.Edits.{AreNew, edit_data, HasItsNumbers}
 use Rattle.ccr_history.specs.History.{HistoryData, IsHistory}
 use Rattle.ccr_history.specs.Tables.{versions_of}
-use Rattle.ccr_history.specs.declared.change.Edit.TheVariants.{Versions}
 use Rattle.ccr_history.specs.declared.change.Reported.{Reported}
 use Rattle.ccr_history.proofs.NewVersions.{new_alone}
-use Rattle.ccr_pipeline.specs.Inputs.{InputData, inputs, are_few}
+use Rattle.ccr_pipeline.specs.Inputs.{InputData, inputs}
 use Rattle.ccr_pipeline.specs.JobData.{JobData}
 use Rattle.ccr_pipeline.specs.Pipelines.{PipelineData}
-use Rattle.ccr_choice.specs.Problem.{ProblemValue, IsProblem}
+use Rattle.ccr_choice.specs.Problem.{ProblemValue}
 use Rattle.ccr_index.specs.Index.{IndexValue}
 use Rattle.ccr_problem.specs.Follows.{ReportAdds, new_places}
 use Rattle.ccr_problem.specs.ProblemOf.{problem_with}
-use Rattle.ccr_problem.proofs.Kept.{problem_kept}
 use Rattle.ccr_problem.proofs.Places.{few_in_history}
-use Rattle.ccr_indexes.specs.Indexes.{AreIndexes, AreBefore}
+use Rattle.ccr_indexes.specs.Indexes.{AreBefore}
 use Rattle.ccr_indexes.specs.Passing.{with_news}
-use Rattle.ccr_indexes.proofs.Each.{some_at, mapped_at, as_many, index_at, from_each}
+use Rattle.ccr_indexes.proofs.Each.{as_many, index_at}
 
 -- a report of a history has places that a table has room for
 pub few_news : (p : PipelineData) (h : HistoryData) (r : Reported) (xs : List IndexValue) → AreBefore p h r xs → IsHistory h → r.first + length r.versions.items ≤ 100001
@@ -39,16 +34,16 @@ module _ (p : PipelineData) (h : HistoryData) (r : Reported) (xs : List IndexVal
   news_many = as_many p is_before.0 xs is_before.4
 
   -- the index of a job, with what comes to it, is that of the problem after the report
-  pub news_at : (k : ℕ) (j : JobData) (d : IndexValue) → slice_get p.jobs k ≡ Some j → with_news (get_or xs k d).problem (News j) ≡ problem_with p h (inputs j.plan)
+  pub news_at : (k : ℕ) (j : JobData) (d : IndexValue) → slice_get p.jobs k ≡ Some j → with_news (get_or xs k d).problem (News j) ≡ problem_with p h j.name (inputs j.plan)
   news_at k j d at =
       let before : HistoryData = is_before.0 in
       let is : List InputData = inputs j.plan in
       let first : r.first ≡ length (versions_of r.scope before.tables) + 1 = (is_before.2).2 in
       let was = index_at p before xs is_before.4 k j d at in
-      let all = adds p before is r.scope r.versions.items is_before.1 (is_before.2).3 in
+      let all = adds p before j.name is r.scope r.versions.items is_before.1 (is_before.2).3 in
       let same : News j ≡ map (new_places p before r.scope (length (versions_of r.scope before.tables) + 1) r.versions.items) is =
       ap (λ (x : HistoryData). map (new_places p x r.scope r.first r.versions.items) is) is_before.3 ∙ ap (λ n. map (new_places p before r.scope n r.versions.items) is) first in
-      ap₂ with_news was same ∙ sym all ∙ ap (λ (x : HistoryData). problem_with p x is) (sym is_before.3)
+      ap₂ with_news was same ∙ sym all ∙ ap (λ (x : HistoryData). problem_with p x j.name is) (sym is_before.3)
 
   -- of what comes to a job, something comes to each input
   pub news_each : (k : ℕ) (j : JobData) (d : IndexValue) → slice_get p.jobs k ≡ Some j → length (News j) ≡ length (get_or xs k d).problem.inputs

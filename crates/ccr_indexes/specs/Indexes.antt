@@ -1,5 +1,5 @@
 -- The indexes of a pipeline's jobs, and what comes to them.
-use Rattle.std.specs.Prelude.{◌≡◌, ℕ, ◌+◌, ◌<◌, ◌≤◌, List, [], ◌∷◌, length, map, slice_get, slice_index_or, Option, Some, None, if◌then◌else◌, ⊤, true, false}
+use Rattle.std.specs.Prelude.{◌≡◌, ℕ, ◌+◌, ◌<◌, ◌≤◌, List, length, map, slice_get, slice_index_or, Option, Some, None, if◌then◌else◌, ⊤}
 use Rattle.ccr_history.specs.declared.build.Status.{Status}
 use Rattle.ccr_history.specs.Text.{Text}
 use Rattle.ccr_history.specs.Builds.{is_succeeded}
@@ -11,14 +11,14 @@ use Rattle.ccr_history.specs.declared.change.Reported.{Reported}
 use Rattle.ccr_pipeline.specs.Inputs.{InputData, inputs}
 use Rattle.ccr_pipeline.specs.JobData.{JobData}
 use Rattle.ccr_pipeline.specs.Pipelines.{PipelineData}
-use Rattle.ccr_choice.specs.Problem.{BuildValue, ProblemValue, IsProblem}
+use Rattle.ccr_choice.specs.Problem.{BuildValue, ProblemValue}
 use Rattle.ccr_index.specs.Index.{IndexValue}
-use Rattle.ccr_problem.specs.Follows.{passed_to, with_passed}
+use Rattle.ccr_problem.specs.Follows.{passed_to}
 use Rattle.ccr_problem.specs.ProblemOf.{problem_with}
 
 -- the problem of each job of a pipeline, in order
 abbrev pub problems_of : PipelineData → HistoryData → List ProblemValue
-problems_of p h = map (λ j. problem_with p h (inputs j.plan)) p.jobs
+problems_of p h = map (λ j. problem_with p h j.name (inputs j.plan)) p.jobs
 
 -- the problems that indexes stand for
 abbrev pub problems : List IndexValue → List ProblemValue

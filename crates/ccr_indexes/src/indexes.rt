@@ -1,12 +1,13 @@
 //! The indexes of a pipeline's jobs.
-ghost use Rattle.std.specs.Prelude.{◌≡◌, ◌≢◌, ◌<◌, ℕ, List, Option, [], None, true, false, length, map, option_map, slice_get, slice_index_or, IfOk, IfSome, IfNone, OnOk, OnErr};
+ghost use Rattle.std.specs.Prelude.{◌≡◌, ◌≢◌, ◌+◌, ◌<◌, ℕ, List, Option, [], None, true, false, length, map, option_map, slice_get, slice_index_or, IfOk, IfSome, IfNone, OnOk, OnErr, IsErrOf};
 ghost use Rattle.std.specs.List.{position_or_len};
 ghost use Rattle.std.specs.Option.{option_copied};
 ghost use Rattle.std.specs.Str.{bytes_eq};
-ghost use Rattle.ccr_history.specs.Builds.{is_succeeded};
-ghost use Rattle.ccr_history.specs.Changes.{ended, edited, AreMoved, IsRunning};
+ghost use Rattle.ccr_history.specs.Builds.{is_succeeded, count_of};
+ghost use Rattle.ccr_history.specs.Changes.{build, ended, edited, AreUsed, AreMoved, IsRunning};
 ghost use Rattle.ccr_choice.specs.Problem.{BuildValue};
 ghost use Rattle.ccr_history.specs.declared.build.Status.TheVariants.{Running};
+ghost use Rattle.ccr_history.specs.declared.builds.TheConstants.{MOST_BUILDS};
 ghost use Rattle.ccr_index.specs.Index.{IndexValue};
 ghost use Rattle.ccr_pipeline.specs.Inputs.{inputs};
 ghost use Rattle.ccr_pipeline.specs.Pipelines.{pipeline_data};
@@ -18,7 +19,8 @@ ghost use Rattle.ccr_indexes.specs.Passing.{CanAllTake};
 
 use crate::brought::Brought;
 use crate::news::{follow, news_of};
-use ccr_history::{History, Reported, Status};
+use crate::taken::{keep_all, taken_of};
+use ccr_history::{History, HistoryFault, Reported, Status, Used};
 use ccr_index::{Index, build_index};
 use ccr_pipeline::{Job, Pipeline};
 use ccr_problem::{Passed, builds_change_problems, problem_of_job, reports_change_problems};
@@ -178,6 +180,36 @@ impl Indexes {
         reports_change_problems();
         let news = news_of(alloc, pipeline, history, report)?;
         follow(&mut self.of_jobs, &news)
+    }
+
+    /// Makes a build of the job of a name, in the history and in the indexes, and gives its number: to the inputs of the
+    /// job that take every version come the places that the build used for them.
+    ///
+    /// The caller gives each input once, by a name that isn't empty, with a place of the tables. Where it is refused, as
+    /// `History::add_build` refuses it, nothing changes.
+    pub fn make(
+        &mut self,
+        alloc: Global,
+        pipeline: &Pipeline,
+        history: &mut History,
+        job: &str,
+        used: &[Used],
+    ) -> Result<u32, HistoryFault>
+        requires indexed { AreIndexes (pipeline_data pipeline.now) history.old self.old }
+        requires used { AreUsed history.old.tables used.now }
+        ensures ok { OnOk result (history.new ≡ edited (build job.now used.now) history.old) }
+        ensures number { IfOk result (λ n. n ≡ count_of job.now history.old.builds + 1) }
+        ensures full { IsErrOf result HistoryFault.BuildsFull → length history.old.builds ≡ MOST_BUILDS }
+        ensures err { OnErr result (history.new ≡ history.old) }
+        ensures indexed { AreIndexes (pipeline_data pipeline.now) history.new self.new }
+        ensures room { (brought : List (Option (ℕ × BuildValue))) → HaveRoom brought self.old → HaveRoom brought self.new }
+    {
+        builds_change_problems();
+        history.rules();
+        let taken = taken_of(alloc, pipeline, history, job, used)?;
+        let number = history.add_build(alloc, job, used)?;
+        keep_all(&mut self.of_jobs, &taken);
+        Ok(number)
     }
 
     /// Ends a build, in the history and in the indexes. It takes no memory.

@@ -1,71 +1,67 @@
 -- What is shown of what a core holds.
-use Rattle.std.proofs.Common.{◌≡◌, ◌++◌, ℕ, Some, Ok, unwrap_or, refl, sym, ◌∙◌, ap, subst}
-use Rattle.std.specs.Prelude.{IsSome, IsSomeAnd}
+use Rattle.std.proofs.Common.{◌≡◌, ◌+◌, ◌++◌, ◌∷◌, List, ℕ, take, drop, map, flat_map, slice_get, Result, Option, Some, unwrap_or, refl, sym, ◌∙◌, ap, subst}
+use Rattle.std.specs.Prelude.{IsSome, IfOk}
+use Rattle.std.proofs.lemmas.List.{take-append-drop}
+use Rattle.std.proofs.lemmas.List.Folds.{flat_map-map}
+use Rattle.std.specs.declared.alloc.AllocError.{AllocError}
 use Rattle.ccr_history.specs.Text.{Text}
+use Rattle.ccr_history.specs.Builds.{BuildData, build_of}
 use Rattle.ccr_history.specs.History.{HistoryData}
-use Rattle.ccr_history.specs.Tables.{versions_of}
-use Rattle.ccr_pipeline.specs.JobData.{ResourceData}
+use Rattle.ccr_pipeline.specs.JobData.{resource_data, JobData}
 use Rattle.ccr_pipeline.specs.Pipelines.{PipelineData}
-use Rattle.ccr_problem.specs.ProblemOf.{resource_of, job_of, scope_of}
+use Rattle.ccr_pipeline.specs.declared.resource.Resource.{Resource}
 use Rattle.ccr_core.specs.Holding.{CoreData}
 use Rattle.ccr_core.specs.State.{no_pipeline}
-use Rattle.ccr_lines.specs.Shown.{builds, versions, problem, proof, builds_lines, lines_from, IsProblemShown, IsProofShown, Showing}
+use Rattle.ccr_lines.specs.Outlooks.{HasOutlook}
+use Rattle.ccr_lines.specs.Releases.{release_lines}
+use Rattle.ccr_lines.specs.Shown.{build, resources, IsMade}
+use Rattle.ccr_lines.specs.Standing.{resource_line, resources_lines}
+use Rattle.ccr_lines.specs.declared.outlook.Outlook.{Outlook}
+use Rattle.ccr_lines.proofs.Showing.{drop_there}
 
-abbrev pipeline_held : CoreData → PipelineData
-pipeline_held c = unwrap_or c.pipeline no_pipeline
+-- the outlook by a history and a budget is that by those that are the same
+pub outlook_of_same : (p : PipelineData) (h : HistoryData) (b : ℕ) (j : JobData) (g : HistoryData) (n : ℕ)
+    (r : Result Outlook AllocError) → g ≡ h → n ≡ b → IfOk r (HasOutlook p g n j) → IfOk r (HasOutlook p h b j)
+outlook_of_same p h b j g n r same budget has =
+    subst (λ m. IfOk r (HasOutlook p h m j)) budget (subst (λ x. IfOk r (HasOutlook p x n j)) same has)
 
-pub builds_shown : (c : CoreData) (h : HistoryData) (old new : Text) → h ≡ c.history → new ≡ old ++ builds_lines h
-    → Showing builds c (Ok 0) old new
-builds_shown c h old new held told =
-    (tt, (builds_lines c.history, (refl, refl), told ∙ ap (λ x. old ++ builds_lines x) held))
+-- ---- a build
+-- those in front of it were made before
+made_before : (bs : List BuildData) (k : ℕ) (b : BuildData) → slice_get bs k ≡ Some b
+    → bs ≡ take k bs ++ b ∷ drop (k + 1) bs
+made_before bs k b at =
+    sym (take-append-drop k bs) ∙ ap (λ ds. take k bs ++ ds) (drop_there bs k b at)
 
-pub versions_shown : (c : CoreData) (name : Text) (r : ResourceData) (h : HistoryData) (old new : Text)
-    → resource_of name (pipeline_held c).resources ≡ Some r → h ≡ c.history
-    → new ≡ old ++ lines_from 1 (versions_of (scope_of r) h.tables) → Showing (versions name) c (Ok 0) old new
-versions_shown c name r h old new there held told = (
-  subst (λ o. IsSome o) (sym there) refl,
+pub release_made : (c : CoreData) (job : Text) (number k : ℕ) (b : BuildData) (h : HistoryData) (o : Option PipelineData)
+    (lines : Text) → slice_get c.history.builds k ≡ Some b → build_of job number c.history.builds ≡ Some b
+    → h ≡ c.history → o ≡ c.pipeline
+    → lines ≡ release_lines (unwrap_or o no_pipeline) h.tables (take k h.builds) b → IsMade (build job number) c 0 lines
+release_made c job number k b h o lines at there held set told = (
+  subst (λ x. IsSome x) (sym there) refl,
   (
-    lines_of_it r,
-    (refl, subst (λ o. IsSomeAnd o (λ x. lines_of_it r ≡ lines_of_it x)) (sym there) refl),
-    told ∙ ap (λ x. old ++ lines_from 1 (versions_of (scope_of r) x.tables)) held,
-  ),
-) where
-  lines_of_it : ResourceData → Text
-  lines_of_it x = lines_from 1 (versions_of (scope_of x) c.history.tables)
-
--- of a core with this pipeline, which has the job
-module _ (c : CoreData) (job : Text) (p : PipelineData) (h : HistoryData) (old new : Text)
-    (set : c.pipeline ≡ Some p) (there : IsSome (job_of job p.jobs)) (held : h ≡ c.history) where
-  is_held : p ≡ pipeline_held c
-  is_held = sym (ap (λ o. unwrap_or o no_pipeline) set)
-
-  met : IsSome (job_of job (pipeline_held c).jobs)
-  met = subst (λ q. IsSome (job_of job q.jobs)) is_held there
-
-  pub problem_shown : (lines : Text) × IsProblemShown p h job lines × (new ≡ old ++ lines)
-      → Showing (problem job) c (Ok 0) old new
-  problem_shown x = (
-    met,
+    refl,
     (
-      x.0,
-      (
-        refl,
-        subst (λ q. IsProblemShown q c.history job x.0) is_held (subst (λ y. IsProblemShown p y job x.0) held x.1),
-      ),
-      x.2,
+      b,
+      take k c.history.builds,
+      there,
+      (drop (k + 1) c.history.builds, made_before c.history.builds k b at),
+      told ∙ (ap (λ x. release_lines (unwrap_or o no_pipeline) x.tables (take k x.builds) b) held
+          ∙ ap (λ x. release_lines (unwrap_or x no_pipeline) c.history.tables (take k c.history.builds) b) set),
     ),
-  )
+  ),
+)
 
-  module _ (b status : ℕ) (budget : b ≡ c.budget) where
-    pub proof_shown : (lines : Text) × IsProofShown p h b job status lines × (new ≡ old ++ lines)
-        → Showing (proof job) c (Ok status) old new
-    proof_shown x = (
-      met,
-      (
-        x.0,
-        subst (λ n. IsProofShown (pipeline_held c) c.history n job status x.0) budget
-            (subst (λ q. IsProofShown q c.history b job status x.0) is_held
-            (subst (λ y. IsProofShown p y b job status x.0) held x.1)),
-        x.2,
-      ),
-    )
+-- ---- resources
+pub resources_made : (c : CoreData) (p : PipelineData) (h : HistoryData) (rs : List Resource) (lines : Text)
+    → c.pipeline ≡ Some p → h ≡ c.history → map resource_data rs ≡ p.resources
+    → lines ≡ flat_map (λ r. resource_line h (resource_data r)) rs → IsMade resources c 0 lines
+resources_made c p h rs lines set held same told = (
+  subst (λ o. IsSome o) (sym set) refl,
+  (
+    refl,
+    told
+        ∙ (sym (flat_map-map (λ r. resource_line h r) resource_data rs)
+        ∙ (ap (λ xs. flat_map (λ r. resource_line h r) xs) same
+        ∙ (ap (λ x. resources_lines p x) held ∙ ap (λ o. resources_lines (unwrap_or o no_pipeline) c.history) (sym set)))),
+  ),
+)

@@ -1,4 +1,7 @@
+mod Certifying
 mod Cores
+mod Listing
 mod Printing
 mod Showing
 mod Telling
+mod Together

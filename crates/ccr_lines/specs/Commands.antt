@@ -4,7 +4,7 @@ use Rattle.ccr_history.specs.Text.{Text}
 use Rattle.ccr_lines.specs.declared.command.Command.{Command}
 use Rattle.ccr_lines.specs.declared.command.Command.TheVariants as command
 use Rattle.ccr_lines.specs.Needs.{Need, no_need, a_pipeline, a_resource, a_job}
-use Rattle.ccr_lines.specs.Shown.{ShownData, versions, problem, proof, builds, needs}
+use Rattle.ccr_lines.specs.Shown.{ShownData, versions, problem, proof, certificate, builds, build, trace, pipeline, resources, jobs, needs}
 
 -- a command with its arguments; one that changes nothing shows something
 pub data CommandData : Type 0 where
@@ -12,6 +12,8 @@ pub data CommandData : Type 0 where
   check_resource : (resource : Text) → CommandData
   pin_resource : (resource pin : Text) → CommandData
   unpin_resource : (resource : Text) → CommandData
+  disable_version : (resource : Text) (place : ℕ) → CommandData
+  enable_version : (resource : Text) (place : ℕ) → CommandData
   trigger_job : (job : Text) → CommandData
   run : (rounds : ℕ) → CommandData
   shows : (what : ShownData) → CommandData
@@ -23,10 +25,18 @@ command_data (command.CheckResource resource) = check_resource (string_bytes res
 command_data (command.ResourceVersions resource) = shows (versions (string_bytes resource))
 command_data (command.PinResource resource pin) = pin_resource (string_bytes resource) (string_bytes pin)
 command_data (command.UnpinResource resource) = unpin_resource (string_bytes resource)
+command_data (command.DisableResourceVersion resource place) = disable_version (string_bytes resource) place
+command_data (command.EnableResourceVersion resource place) = enable_version (string_bytes resource) place
 command_data (command.Resolve job) = shows (proof (string_bytes job))
 command_data (command.Problem job) = shows (problem (string_bytes job))
 command_data (command.TriggerJob job) = trigger_job (string_bytes job)
+command_data (command.Certify job) = shows (certificate (string_bytes job))
 command_data command.Builds = shows builds
+command_data (command.Build job number) = shows (build (string_bytes job) number)
+command_data (command.Trace resource pin) = shows (trace (string_bytes resource) (string_bytes pin))
+command_data command.GetPipeline = shows pipeline
+command_data command.Resources = shows resources
+command_data command.Jobs = shows jobs
 command_data (command.Run rounds) = run rounds
 
 -- what has to be there for a command
@@ -35,6 +45,8 @@ need_of (set_pipeline file) = no_need
 need_of (check_resource resource) = a_resource resource
 need_of (pin_resource resource pin) = a_resource resource
 need_of (unpin_resource resource) = a_resource resource
+need_of (disable_version resource place) = a_resource resource
+need_of (enable_version resource place) = a_resource resource
 need_of (trigger_job job) = a_job job
 need_of (run rounds) = a_pipeline
 need_of (shows what) = needs what

@@ -1,5 +1,10 @@
+pub mod Certificates
 pub mod Commands
 pub mod Lines
 pub mod Needs
+pub mod Outlooks
 pub mod Printed
+pub mod Releases
 pub mod Shown
+pub mod Standing
+pub mod Traces

@@ -10,9 +10,9 @@ use Rattle.ccr_pipeline.specs.Pipelines.{PipelineData}
 use Rattle.ccr_core.specs.declared.fault.CoreFault.{CoreFault}
 use Rattle.ccr_core.specs.declared.fault.CoreFault.TheVariants.{TooManyOpen, TableFull}
 use Rattle.ccr_core.specs.declared.reply.Reply.{Reply}
-use Rattle.ccr_core.specs.declared.reply.Reply.TheVariants.{Set, New, Made, NoneSatisfies, OverBudget, NotNew, Busy, Goes, Ends, Pinned, Unpinned, Restarted}
+use Rattle.ccr_core.specs.declared.reply.Reply.TheVariants.{Set, New, Made, NoneSatisfies, OverBudget, NotNew, Busy, Goes, Ends, Pinned, Unpinned, Disabled, Enabled, Restarted}
 use Rattle.ccr_core.specs.Builds.{status_of}
-use Rattle.ccr_core.specs.Events.{EventData, set_pipeline, checked, schedule, trigger, answer, abort, pin, unpin, restart}
+use Rattle.ccr_core.specs.Events.{EventData, set_pipeline, checked, schedule, trigger, answer, abort, pin, unpin, disable, enable, restart}
 use Rattle.ccr_core.specs.Replies.{Replied}
 use Rattle.ccr_lines.specs.declared.cause.Cause.{Cause}
 use Rattle.ccr_lines.specs.declared.cause.Cause.TheVariants as cause
@@ -93,6 +93,8 @@ job_lines job Goes h = []
 job_lines job (Ends o) h = []
 job_lines job Pinned h = []
 job_lines job Unpinned h = []
+job_lines job Disabled h = []
+job_lines job Enabled h = []
 job_lines job Restarted h = []
 
 -- what is printed of a job whose schedule is refused
@@ -100,6 +102,11 @@ abbrev pub refused_job_lines : Text → CoreFault → Text
 refused_job_lines job TooManyOpen = job_line job (codes "too many builds open" ∷ [])
 refused_job_lines job TableFull = job_line job (codes "table full" ∷ [])
 refused_job_lines job f = []
+
+-- ---- versions
+-- what is printed of a place of a resource
+abbrev pub place_line : Text → Text → ℕ → Text
+place_line word resource place = line (word ∷ resource ∷ codes " " ∷ decimal place ∷ [])
 
 -- ---- events
 -- WHAT IS PRINTED of an event with its reply, and with the history after it
@@ -121,4 +128,8 @@ lines_of (pin resource p) (Ok Pinned) h = line (codes "pinned " ∷ resource ∷
 lines_of (pin resource p) r h = []
 lines_of (unpin resource) (Ok Unpinned) h = line (codes "unpinned " ∷ resource ∷ [])
 lines_of (unpin resource) r h = []
+lines_of (disable resource place) (Ok Disabled) h = place_line (codes "disabled ") resource place
+lines_of (disable resource place) r h = []
+lines_of (enable resource place) (Ok Enabled) h = place_line (codes "enabled ") resource place
+lines_of (enable resource place) r h = []
 lines_of restart r h = []

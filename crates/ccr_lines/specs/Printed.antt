@@ -14,6 +14,11 @@ pub record PrintedData : Type 0 where
   pub before : Option (List ℕ)
   pub holds : Option (List ℕ)
 
+-- what waits to be handed out: what is written and wasn't, unless a write failed
+abbrev pub still_waiting : Bool → List ℕ → List ℕ
+still_waiting true lines = []
+still_waiting false lines = lines
+
 -- these parts, one after another
 abbrev pub all_of : List (Snapshot (Vec ℕ Global)) → List ℕ
 all_of [] = []

@@ -1,8 +1,9 @@
 -- What a command shows. Each line ends with a line feed.
-use Rattle.std.specs.Prelude.{◌≡◌, ℕ, ◌+◌, List, [], ◌∷◌, ◌++◌, flat_map, codes, decimal, IsSomeAnd, Option, unwrap_or, Result, Ok, Err, ⊤}
+use Rattle.std.specs.Prelude.{◌≡◌, ℕ, ◌+◌, List, [], ◌∷◌, ◌++◌, flat_map, codes, decimal, Bool, true, false, IsSomeAnd, Option, unwrap_or, Result, Ok, Err, ⊤}
 use Rattle.ccr_history.specs.Text.{Text}
 use Rattle.ccr_history.specs.TextMap.{TextMap, key_text}
-use Rattle.ccr_history.specs.Tables.{versions_of}
+use Rattle.ccr_history.specs.Pairs.{has_pair}
+use Rattle.ccr_history.specs.Tables.{ScopeData, versions_of, scope_number}
 use Rattle.ccr_history.specs.History.{HistoryData}
 use Rattle.ccr_pipeline.specs.Pipelines.{PipelineData}
 use Rattle.ccr_choice.specs.Preference.{order_of}
@@ -21,14 +22,25 @@ use Rattle.ccr_lines.specs.declared.shown.Shown.TheVariants as value
 use Rattle.ccr_lines.specs.declared.shown.ShowFault.{ShowFault}
 use Rattle.ccr_lines.specs.declared.shown.ShowFault.TheVariants as why
 use Rattle.ccr_lines.specs.Lines.{line, build_line, status_word}
-use Rattle.ccr_lines.specs.Needs.{Need, no_need, a_resource, a_job, IsMet, Lacks}
+use Rattle.ccr_lines.specs.Needs.{Need, no_need, a_pipeline, a_resource, a_job, a_pin, a_build, pin_in, IsMet, Lacks, LacksPin}
+use Rattle.ccr_lines.specs.Standing.{resources_lines, AreJobsShown}
+use Rattle.ccr_lines.specs.Releases.{IsReleaseShown}
+use Rattle.ccr_lines.specs.Traces.{trace_lines}
+use Rattle.ccr_lines.specs.Certificates.{IsCertificateShown}
 
--- all builds, the versions of a resource, the problem of a job's next build, or the proof of the choice for it
+-- all builds, the versions of a resource, the problem of a job's next build, the proof of the choice for it, or both in one
+-- text; the pipeline's text, its resources, its jobs; a build, or the builds that a version went through
 pub data ShownData : Type 0 where
   builds : ShownData
   versions : (resource : Text) → ShownData
   problem : (job : Text) → ShownData
   proof : (job : Text) → ShownData
+  certificate : (job : Text) → ShownData
+  pipeline : ShownData
+  resources : ShownData
+  jobs : ShownData
+  build : (job : Text) (number : ℕ) → ShownData
+  trace : (resource pin : Text) → ShownData
 
 -- what a value of the program's type stands for
 abbrev pub shown_data : Shown → ShownData
@@ -36,6 +48,12 @@ shown_data value.Builds = builds
 shown_data (value.Versions resource) = versions resource.now
 shown_data (value.Problem job) = problem job.now
 shown_data (value.Proof job) = proof job.now
+shown_data (value.Certificate job) = certificate job.now
+shown_data value.Pipeline = pipeline
+shown_data value.Resources = resources
+shown_data value.Jobs = jobs
+shown_data (value.Build job number) = build job.now number
+shown_data (value.Trace resource pin) = trace resource.now pin.now
 
 -- what has to be there for it to be shown
 abbrev pub needs : ShownData → Need
@@ -43,20 +61,39 @@ needs builds = no_need
 needs (versions resource) = a_resource resource
 needs (problem job) = a_job job
 needs (proof job) = a_job job
+needs (certificate job) = a_job job
+needs pipeline = a_pipeline
+needs resources = a_pipeline
+needs jobs = a_pipeline
+needs (build job number) = a_build job number
+needs (trace resource pin) = a_pin resource pin
 
 -- how each build stands, in order of making
 abbrev pub builds_lines : HistoryData → Text
 builds_lines h = flat_map (λ b. build_line b.job b.number (status_word b.status)) h.builds
 
--- the key of each version after its place, which counts from the one given
-abbrev pub lines_from : ℕ → List TextMap → Text
-lines_from place [] = []
-lines_from place (v ∷ vs) = line (decimal place ∷ codes " " ∷ key_text v ∷ []) ++ lines_from (place + 1) vs
+-- the word behind the key of a version, where it is disabled
+abbrev pub disabled_word : Bool → List Text
+disabled_word true = codes " disabled" ∷ []
+disabled_word false = []
+
+-- the key of each version after its place, which counts from the one given, and a word where the test says that it is
+-- disabled
+abbrev pub lines_from : (ℕ → Bool) → ℕ → List TextMap → Text
+lines_from is_disabled place [] = []
+lines_from is_disabled place (v ∷ vs) =
+    line (decimal place ∷ codes " " ∷ key_text v ∷ disabled_word (is_disabled place))
+    ++ lines_from is_disabled (place + 1) vs
+
+-- the versions of a scope, each with its place
+abbrev pub scope_lines : ScopeData → HistoryData → Text
+scope_lines s h =
+    lines_from (λ place. has_pair (scope_number s h.tables, place) h.disabled) 1 (versions_of s h.tables)
 
 -- the versions of a resource of the pipeline
 abbrev pub IsVersionsShown : PipelineData → HistoryData → Text → Text → Type 0
 IsVersionsShown p h resource lines =
-    IsSomeAnd (resource_of resource p.resources) (λ r. lines ≡ lines_from 1 (versions_of (scope_of r) h.tables))
+    IsSomeAnd (resource_of resource p.resources) (λ r. lines ≡ scope_lines (scope_of r) h)
 
 -- the problem of a job's next build
 abbrev pub IsProblemShown : PipelineData → HistoryData → Text → Text → Type 0
@@ -74,23 +111,40 @@ IsProofShown p h budget job status lines =
     (q : ProblemValue) × (a : Answer) × IsProblemOf p h job q × IsAnswer (order_of q) q budget a
     × IsTextOf a status lines
 
+-- the builds that a version of a resource went through, which meets the pin that a text spells
+abbrev pub IsTraceShown : HistoryData → Text → Text → Text → Type 0
+IsTraceShown h resource pin lines = IsSomeAnd (pin_in pin) (λ p. lines ≡ trace_lines h resource p)
+
 -- WHAT IS SHOWN, in a pipeline with a history and a budget, and with which status
 abbrev pub IsShown : ShownData → PipelineData → HistoryData → ℕ → ℕ → Text → Type 0
 IsShown builds p h budget status lines = (status ≡ 0) × (lines ≡ builds_lines h)
 IsShown (versions resource) p h budget status lines = (status ≡ 0) × IsVersionsShown p h resource lines
 IsShown (problem job) p h budget status lines = (status ≡ 0) × IsProblemShown p h job lines
 IsShown (proof job) p h budget status lines = IsProofShown p h budget job status lines
+IsShown (certificate job) p h budget status lines = IsCertificateShown p h budget job status lines
+IsShown pipeline p h budget status lines = (status ≡ 0) × (lines ≡ p.text)
+IsShown resources p h budget status lines = (status ≡ 0) × (lines ≡ resources_lines p h)
+IsShown jobs p h budget status lines = (status ≡ 0) × AreJobsShown p h budget p.jobs lines
+IsShown (build job number) p h budget status lines = (status ≡ 0) × IsReleaseShown p h job number lines
+IsShown (trace resource pin) p h budget status lines = (status ≡ 0) × IsTraceShown h resource pin lines
 
--- why nothing is shown that has this need: it isn't met; or out of memory
-abbrev pub IsUnshown : Need → Option PipelineData → ShowFault → Type 0
-IsUnshown n p (why.Lacks fault) = Lacks n p fault
-IsUnshown n p why.NoMemory = ⊤
+-- why nothing is shown that has this need: it isn't met, as the fault says; the text of a pin spells none; or out of memory
+abbrev pub IsUnshown : Need → Option PipelineData → HistoryData → ShowFault → Type 0
+IsUnshown n p h (why.Lacks fault) = Lacks n p h fault
+IsUnshown n p h why.BadPin = LacksPin n p
+IsUnshown n p h why.NoMemory = ⊤
+
+-- WHAT IS MADE OF A CORE to be shown: what it needs is there, and these are the lines, with the status
+abbrev pub IsMade : ShownData → CoreData → ℕ → Text → Type 0
+IsMade what c status lines =
+    IsMet (needs what) c.pipeline c.history
+    × IsShown what (unwrap_or c.pipeline no_pipeline) c.history c.budget status lines
 
 -- WHAT COMES OF SHOWING IT from what a core holds, with all lines before and after: what it needs is there and it is
 -- shown, or nothing is
 abbrev pub Showing : ShownData → CoreData → Result ℕ ShowFault → Text → Text → Type 0
 Showing what c (Ok status) old new =
-    IsMet (needs what) c.pipeline
+    IsMet (needs what) c.pipeline c.history
     × ((lines : Text) × IsShown what (unwrap_or c.pipeline no_pipeline) c.history c.budget status lines
     × (new ≡ old ++ lines))
-Showing what c (Err fault) old new = IsUnshown (needs what) c.pipeline fault × (new ≡ old)
+Showing what c (Err fault) old new = IsUnshown (needs what) c.pipeline c.history fault × (new ≡ old)

@@ -13,14 +13,30 @@ pub enum Command {
     PinResource(String, String),
     /// The pin by command of the resource of this name is taken away.
     UnpinResource(String),
+    /// The version at this place, from 1 to 100,000, of the resource of this name is disabled.
+    DisableResourceVersion(String, u32),
+    /// The version at this place, from 1 to 100,000, of the resource of this name is enabled again.
+    EnableResourceVersion(String, u32),
     /// The choice for the next build of the job of this name is shown, with its proof.
     Resolve(String),
     /// The problem of the next build of the job of this name is shown.
     Problem(String),
+    /// Both are shown in one text, which the checker accepts.
+    Certify(String),
     /// A build of the job of this name is made, and run to its end.
     TriggerJob(String),
     /// All builds are shown.
     Builds,
+    /// The job's build of this number is shown: what it took and moved.
+    Build(String, u32),
+    /// The builds are shown that took or moved a version of the resource of this name that meets this JSON text.
+    Trace(String, String),
+    /// The text of the pipeline is shown.
+    GetPipeline,
+    /// The resources of the pipeline are shown.
+    Resources,
+    /// The jobs of the pipeline are shown.
+    Jobs,
     /// So many rounds are run, from 1 to 1,000,000, and then all builds to their ends.
     Run(u32),
 }

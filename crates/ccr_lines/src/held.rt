@@ -1,26 +1,39 @@
-//! What a core's pipeline has under a name.
+//! What a core has that is named.
 ghost use Rattle.std.specs.Prelude.{◌≡◌, IfOk, IfErr, IsSome, Some, unwrap_or};
 ghost use Rattle.ccr_pipeline.specs.JobData.{resource_data};
 ghost use Rattle.ccr_pipeline.specs.Pipelines.{pipeline_data};
 ghost use Rattle.ccr_problem.specs.ProblemOf.{resource_of, job_of};
 ghost use Rattle.ccr_core.specs.Cores.{core_data};
 ghost use Rattle.ccr_core.specs.State.{no_pipeline};
-ghost use Rattle.ccr_lines.specs.Needs.{Lacks, a_resource, a_job};
+ghost use Rattle.ccr_lines.specs.Needs.{Lacks, a_pipeline, a_resource, a_job, pin_in};
 
-use crate::named::{job_named, resource_named};
 use ccr_core::{Core, CoreFault};
+use ccr_history::{HistoryFault, Pin};
 use ccr_pipeline::{Pipeline, Resource};
+use serde_json::Value;
+use std::alloc::{AllocError, Global};
+
+/// The pipeline; or why there is none.
+pub(crate) fn pipeline_held(core: &Core) -> Result<&Pipeline, CoreFault>
+    ensures held { IfOk result (λ p. (core_data core.now).pipeline ≡ Some (pipeline_data p.now)) }
+    ensures lacks { let c = core_data core.now in IfErr result (Lacks a_pipeline c.pipeline c.history) }
+{
+    match core.pipeline() {
+        Some(pipeline) => Ok(pipeline),
+        None => Err(CoreFault::NoPipeline),
+    }
+}
 
 /// The resource of a name; or why there is none.
 pub fn resource_held<'c>(core: &'c Core, name: &str) -> Result<&'c Resource, CoreFault>
     ensures held { IfOk result (λ r. resource_of name.now (unwrap_or (core_data core.now).pipeline no_pipeline).resources
         ≡ Some (resource_data r.now)) }
-    ensures lacks { IfErr result (Lacks (a_resource name.now) (core_data core.now).pipeline) }
+    ensures lacks { let c = core_data core.now in IfErr result (Lacks (a_resource name.now) c.pipeline c.history) }
 {
     let Some(pipeline) = core.pipeline() else {
         return Err(CoreFault::NoPipeline);
     };
-    match resource_named(pipeline.resources(), name) {
+    match pipeline.resource(name) {
         Some(resource) => Ok(resource),
         None => Err(CoreFault::NoResource),
     }
@@ -30,13 +43,29 @@ pub fn resource_held<'c>(core: &'c Core, name: &str) -> Result<&'c Resource, Cor
 pub(crate) fn pipeline_with_job<'c>(core: &'c Core, name: &str) -> Result<&'c Pipeline, CoreFault>
     ensures held { IfOk result (λ p. (core_data core.now).pipeline ≡ Some (pipeline_data p.now)) }
     ensures there { IfOk result (λ p. IsSome (job_of name.now (pipeline_data p.now).jobs)) }
-    ensures lacks { IfErr result (Lacks (a_job name.now) (core_data core.now).pipeline) }
+    ensures lacks { let c = core_data core.now in IfErr result (Lacks (a_job name.now) c.pipeline c.history) }
 {
     let Some(pipeline) = core.pipeline() else {
         return Err(CoreFault::NoPipeline);
     };
-    match job_named(pipeline.jobs(), name) {
+    match pipeline.job(name) {
         Some(_) => Ok(pipeline),
         None => Err(CoreFault::NoJob),
+    }
+}
+
+/// The pin that a JSON text spells, if it spells one. The only error is out of memory.
+pub fn pin_of(alloc: Global, text: &str) -> Result<Option<Pin>, AllocError>
+    ensures { IfOk result (λ pin. pin ≡ pin_in text.now) }
+{
+    let value = match Value::from_str(alloc, text) {
+        Ok(value) => value,
+        Err(error) if error.is_memory() => return Err(AllocError),
+        Err(_) => return Ok(None),
+    };
+    match Pin::from_value(alloc, &value) {
+        Ok(pin) => Ok(Some(pin)),
+        Err(HistoryFault::NotObject | HistoryFault::VersionNotText) => Ok(None),
+        Err(_) => Err(AllocError),
     }
 }

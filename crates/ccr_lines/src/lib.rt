@@ -9,24 +9,30 @@
 #![tactic(auto)]
 
 mod cause;
+mod certificate;
 mod command;
 mod held;
 mod lines;
-mod named;
+mod outlook;
 mod printed;
+mod problem;
+mod release;
 mod shown;
 mod shows;
+mod standing;
 mod tell;
+mod texts;
+mod trace;
 
 pub use cause::Cause;
 pub use command::Command;
-pub use held::resource_held;
+pub use held::{pin_of, resource_held};
 pub use lines::Lines;
-pub use named::resource_named;
+pub use outlook::Outlook;
 pub use printed::Printed;
 pub use shown::{ShowFault, Shown};
 pub use shows::show;
 pub use tell::{
-    pipeline_room, tell_cause, tell_end, tell_full, tell_job, tell_new, tell_pinned, tell_pipeline,
-    tell_refused_job, tell_unpinned,
+    pipeline_room, tell_cause, tell_disabled, tell_enabled, tell_end, tell_full, tell_job,
+    tell_new, tell_pinned, tell_pipeline, tell_refused_job, tell_unpinned,
 };

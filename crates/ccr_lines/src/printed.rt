@@ -66,8 +66,11 @@ impl<W: Write> Printed<W> {
 
 impl<W: Write> Lines for Printed<W> {
     ghost use Rattle.std.specs.Prelude.{◌≡◌, ◌++◌, [], false};
+    ghost use Rattle.ccr_lines.specs.Printed.{still_waiting};
 
     ghost written = { λ p. p.shown ++ p.waiting };
+
+    ghost waiting = { λ p. still_waiting p.failed p.waiting };
 
     ghost room = { λ p. p.room };
 
@@ -83,7 +86,8 @@ impl<W: Write> Lines for Printed<W> {
 
     fn hand_out(&mut self)
         ensures same { self.new.shown ++ self.new.waiting ≡ self.old.shown ++ self.old.waiting }
-        ensures shown { self.new.failed ≡ false → self.new.waiting ≡ [] }
+        ensures whole { self.new.failed ≡ false → self.new.waiting ≡ [] }
+        ensures shown { still_waiting self.new.failed self.new.waiting ≡ [] }
     {
         if self.lines.is_empty() {
             return;

@@ -1,6 +1,9 @@
 //! What commands show.
+ghost use Rattle.std.specs.Prelude.{◌≡◌};
+ghost use Rattle.ccr_lines.specs.declared.shown.ShowFault.TheVariants.{NoMemory};
 
 use ccr_core::CoreFault;
+use std::alloc::AllocError;
 
 /// What a command shows that changes nothing. A name is that of a resource or a job, as it was typed.
 #[derive(Clone, Copy)]
@@ -13,13 +16,35 @@ pub enum Shown<'a> {
     Problem(&'a str),
     /// The proof of the choice for the next build of the job of this name, or that there is none.
     Proof(&'a str),
+    /// Both in one text, which the checker accepts.
+    Certificate(&'a str),
+    /// The text of the pipeline, as it was set.
+    Pipeline,
+    /// The resources of the pipeline, with their versions counted and their pins.
+    Resources,
+    /// The jobs of the pipeline, with their newest builds, and what their next builds would be.
+    Jobs,
+    /// The job's build of this number: what it took and moved, and through which builds that went together before.
+    Build(&'a str, u32),
+    /// The builds that took or moved a version of the resource of this name that meets this JSON text.
+    Trace(&'a str, &'a str),
 }
 
 /// Why nothing is shown.
 #[derive(Clone, Copy, Debug, PartialEq, Eq)]
 pub enum ShowFault {
-    /// No pipeline was set, or it has no resource or job of this name.
+    /// No pipeline was set, it has no resource or job of this name, or the job has no build of this number.
     Lacks(CoreFault),
+    /// A pin's text is no JSON object of texts.
+    BadPin,
     /// Out of memory.
     NoMemory,
+}
+
+impl From<AllocError> for ShowFault {
+    ghost from_gives = { λ error fault. fault ≡ NoMemory };
+
+    fn from(_error: AllocError) -> ShowFault {
+        ShowFault::NoMemory
+    }
 }

@@ -1,108 +1,63 @@
 //! What commands show.
-ghost use Rattle.std.specs.Prelude.{◌≡◌, ◌+◌, ◌*◌, ◌<◌, ◌≤◌, ◌++◌, ◌∷◌, [], length, codes, decimal, string_bytes, IfOk, IfSome, OnOk, OnErr, IsSome};
-ghost use Rattle.std.specs.List.{sum_by};
-ghost use Rattle.ccr_history.specs.Text.{Text};
-ghost use Rattle.ccr_history.specs.Tables.{versions_of};
+ghost use Rattle.std.specs.Prelude.{◌≡◌, ◌++◌, ◌∷◌, [], flat_map, codes, decimal, string_bytes, IfOk, IfErr, OnOk, OnErr};
 ghost use Rattle.ccr_history.specs.TextMap.{key_text};
 ghost use Rattle.ccr_pipeline.specs.JobData.{resource_data};
-ghost use Rattle.ccr_pipeline.specs.Pipelines.{pipeline_data};
-ghost use Rattle.ccr_problem.specs.ProblemOf.{job_of, scope_of, IsProblemOf};
+ghost use Rattle.ccr_problem.specs.ProblemOf.{scope_of};
 ghost use Rattle.ccr_core.specs.Cores.{core_data};
-ghost use Rattle.ccr_proof.specs.declared.proof.TheConstants.{MOST_NODES};
 ghost use Rattle.ccr_lines.specs.Lines.{line, build_line, status_word};
-ghost use Rattle.ccr_lines.specs.Shown.{shown_data, builds_lines, lines_from, IsProblemShown, IsProofShown, IsTextOf, Showing};
+ghost use Rattle.ccr_lines.specs.Shown.{shown_data, builds_lines, disabled_word, scope_lines, needs, IsMade, IsUnshown, Showing};
 ghost use Rattle.ccr_lines.specs.Shown as spec;
 
-use crate::held::{pipeline_with_job, resource_held};
+use crate::certificate::certificate_made;
+use crate::held::{pipeline_held, resource_held};
 use crate::lines::Lines;
+use crate::problem::{problem_made, proof_made};
+use crate::release::release_made;
 use crate::shown::{ShowFault, Shown};
-use crate::tell::tell_build;
-use ccr_choice::{Problem, write_problem};
+use crate::standing::{jobs_made, resources_made};
+use crate::tell::word_of;
+use crate::trace::trace_made;
 use ccr_core::Core;
-use ccr_history::{BuildRef, History, Status, Version};
-use ccr_index::build_index;
-use ccr_pipeline::{Pipeline, Resource};
-use ccr_problem::{ProblemFault, problem_of, scope_of};
-use ccr_proof::write_proof;
-use ccr_resolve::{Answer, resolve};
+use ccr_history::{BuildRef, History, Scope, Version};
+use ccr_pipeline::Resource;
 use itoa::Buffer;
 use std::alloc::{AllocError, Global};
 
-/// Writes a text of whole lines.
-fn show_text<O: Lines>(out: &mut O, text: &str) -> Result<(), AllocError>
-    ensures shown { OnOk result (O.written out.new ≡ O.written out.old ++ text.now) }
-    ensures refused { OnErr result (O.written out.new ≡ O.written out.old) }
-{
-    out.make_room(text.len())?;
-    out.add(text.as_bytes());
-    out.hand_out();
-    Ok(())
-}
-
 // ---- builds
 
-/// How a build stands, in a word.
-fn word_of(status: Status) -> &'static str
-    ensures word { result.now ≡ status_word status }
-    ensures short { length result.now ≤ 9 }
+/// Adds how a build stands.
+pub(crate) fn push_build(text: &mut String, build: &BuildRef<'_>) -> Result<(), AllocError>
+    ensures { OnOk result (string_bytes text.new ≡ string_bytes text.old
+        ++ build_line build.now.job build.now.number (status_word build.now.status)) }
 {
-    match status {
-        Status::Running => "running",
-        Status::Succeeded => "succeeded",
-        Status::Failed => "failed",
-        Status::Errored => "errored",
-        Status::Aborted => "aborted",
-    }
+    let mut buffer = Buffer::new();
+    text.push_str(build.job())?;
+    text.push_str(" ")?;
+    text.push_str(buffer.format(build.number()))?;
+    text.push_str(" ")?;
+    text.push_str(word_of(build.status()))?;
+    text.push_str("\n")
 }
 
-/// Writes how a build stands.
-fn show_build<O: Lines>(out: &mut O, build: &BuildRef<'_>)
-    requires { length build.now.job + 22 ≤ O.room out.old }
-    ensures told { O.written out.new ≡ O.written out.old
-        ++ build_line build.now.job build.now.number (status_word build.now.status) }
-    ensures left { O.room out.old ≤ O.room out.new + (length build.now.job + 22) }
+/// How each build stands, in order of making.
+fn builds_text(alloc: Global, history: &History) -> Result<String, AllocError>
+    ensures { IfOk result (λ text. string_bytes text ≡ builds_lines history.now) }
 {
-    tell_build(out, build.job(), build.number(), word_of(build.status()));
-}
-
-/// For how many bytes the lines of all builds need room; None where no number tells it.
-fn builds_room(history: &History) -> Option<usize>
-    ensures { IfSome result (λ room. sum_by (λ b. length b.job + 22) history.now.builds ≤ room) }
-{
-    let mut room: usize = 0;
+    let mut text = String::new(alloc);
     for k in 0..history.build_count() {
         let build = history.build_at(k).unwrap();
-        room = room.checked_add(build.job().len())?.checked_add(22)?;
+        push_build(&mut text, &build)?;
     }
-    Some(room)
+    Ok(text)
 }
 
-/// Writes how each build stands.
-fn show_each_build<O: Lines>(out: &mut O, history: &History)
-    requires { sum_by (λ b. length b.job + 22) history.now.builds ≤ O.room out.old }
-    ensures { O.written out.new ≡ O.written out.old ++ builds_lines history.now }
+/// What is shown of all builds of a core's history.
+fn builds_made(alloc: Global, core: &Core) -> Result<(u8, Vec<u8>), ShowFault>
+    ensures made { IfOk result (λ r. IsMade spec.builds (core_data core.now) r.0 r.1.items) }
+    ensures unshown { let c = core_data core.now in IfErr result (IsUnshown (needs spec.builds) c.pipeline c.history) }
 {
-    for k in 0..history.build_count() {
-        let build = history.build_at(k).unwrap();
-        show_build(out, &build);
-    }
-}
-
-/// Shows how each build of a core's history stands, in order of making.
-fn show_builds<O: Lines>(out: &mut O, core: &Core) -> Result<u8, ShowFault>
-    ensures { Showing spec.builds (core_data core.now) result (O.written out.old) (O.written out.new) }
-{
-    let history = core.history();
-    let Some(room) = builds_room(history) else {
-        return Err(ShowFault::NoMemory);
-    };
-    match out.make_room(room) {
-        Ok(()) => {}
-        Err(_) => return Err(ShowFault::NoMemory),
-    }
-    show_each_build(out, history);
-    out.hand_out();
-    Ok(0)
+    let text = builds_text(alloc, core.history())?;
+    Ok((0, text.into_bytes()))
 }
 
 // ---- versions
@@ -111,193 +66,131 @@ fn show_builds<O: Lines>(out: &mut O, core: &Core) -> Result<u8, ShowFault>
 fn push_version(
     alloc: Global,
     text: &mut String,
-    place: usize,
+    place: u32,
     version: &Version,
+    is_disabled: bool,
 ) -> Result<(), AllocError>
     ensures { OnOk result (string_bytes text.new ≡ string_bytes text.old
-        ++ line (decimal place ∷ codes " " ∷ key_text version.now ∷ [])) }
+        ++ line (decimal place ∷ codes " " ∷ key_text version.now ∷ disabled_word is_disabled)) }
 {
     let mut buffer = Buffer::new();
     let key = version.key(alloc)?;
     text.push_str(buffer.format(place))?;
     text.push_str(" ")?;
     text.push_str(key.as_str())?;
+    if is_disabled {
+        text.push_str(" disabled")?;
+    }
     text.push_str("\n")
 }
 
-/// The lines of versions, whose places count from 1.
-fn versions_text(alloc: Global, versions: &[Version]) -> Result<String, AllocError>
-    ensures { IfOk result (λ text. string_bytes text ≡ lines_from 1 versions.now) }
+/// The lines of a scope's versions, each with its place.
+fn versions_text(alloc: Global, history: &History, scope: &Scope) -> Result<String, AllocError>
+    ensures { IfOk result (λ text. string_bytes text ≡ scope_lines scope.now history.now) }
 {
+    // A scope has few versions.
+    history.rules();
+    let number = history.scope_number(scope);
     let mut text = String::new(alloc);
-    for (k, version) in versions.iter().enumerate() {
-        push_version(alloc, &mut text, k + 1, version)?;
+    for (k, version) in history.versions(scope).iter().enumerate() {
+        let place = k as u32 + 1;
+        push_version(
+            alloc,
+            &mut text,
+            place,
+            version,
+            history.is_disabled(number, place),
+        )?;
     }
     Ok(text)
 }
 
-/// Shows the versions of a resource's scope, each with its place.
-fn show_table<O: Lines>(
-    alloc: Global,
-    out: &mut O,
-    history: &History,
-    resource: &Resource,
-) -> Result<(), AllocError>
-    ensures shown { OnOk result (O.written out.new ≡ O.written out.old
-        ++ lines_from 1 (versions_of (scope_of (resource_data resource.now)) history.now.tables)) }
-    ensures refused { OnErr result (O.written out.new ≡ O.written out.old) }
+/// The versions of a resource's scope, each with its place.
+fn table_text(alloc: Global, history: &History, resource: &Resource) -> Result<String, AllocError>
+    ensures { IfOk result (λ text. string_bytes text ≡ scope_lines (scope_of (resource_data resource.now)) history.now) }
 {
-    let scope = scope_of(alloc, resource)?;
-    let text = versions_text(alloc, history.versions(&scope))?;
-    show_text(out, text.as_str())
+    versions_text(alloc, history, resource.scope())
 }
 
-/// Shows the versions of the resource of this name.
-fn show_versions<O: Lines>(
-    alloc: Global,
-    out: &mut O,
-    core: &Core,
-    name: &str,
-) -> Result<u8, ShowFault>
-    ensures { Showing (spec.versions name.now) (core_data core.now) result (O.written out.old) (O.written out.new) }
+/// What is shown of the versions of the resource of this name.
+fn versions_made(alloc: Global, core: &Core, name: &str) -> Result<(u8, Vec<u8>), ShowFault>
+    ensures made { IfOk result (λ r. IsMade (spec.versions name.now) (core_data core.now) r.0 r.1.items) }
+    ensures unshown { let c = core_data core.now in
+        IfErr result (IsUnshown (needs (spec.versions name.now)) c.pipeline c.history) }
 {
     let resource = match resource_held(core, name) {
         Ok(resource) => resource,
         Err(fault) => return Err(ShowFault::Lacks(fault)),
     };
-    match show_table(alloc, out, core.history(), resource) {
-        Ok(()) => Ok(0),
-        Err(_) => Err(ShowFault::NoMemory),
-    }
+    let text = table_text(alloc, core.history(), resource)?;
+    Ok((0, text.into_bytes()))
 }
 
-// ---- problems and proofs
+// ---- the pipeline
 
-/// The problem of a job that the pipeline has.
-fn problem_in(
-    alloc: Global,
-    pipeline: &Pipeline,
-    history: &History,
-    job: &str,
-) -> Result<Problem, AllocError>
-    requires { IsSome (job_of job.now (pipeline_data pipeline.now).jobs) }
-    ensures { IfOk result (IsProblemOf (pipeline_data pipeline.now) history.now job.now) }
+/// What is shown of a core's pipeline: the bytes that it was read from.
+fn pipeline_made(alloc: Global, core: &Core) -> Result<(u8, Vec<u8>), ShowFault>
+    ensures made { IfOk result (λ r. IsMade spec.pipeline (core_data core.now) r.0 r.1.items) }
+    ensures unshown { let c = core_data core.now in IfErr result (IsUnshown (needs spec.pipeline) c.pipeline c.history) }
 {
-    match problem_of(alloc, pipeline, history, job) {
-        Ok(problem) => Ok(problem),
-        Err(ProblemFault::NoJob) => unreachable!(),
-        Err(ProblemFault::NoMemory) => Err(AllocError),
-    }
-}
-
-/// Writes the problem of a job's next build. The pipeline has the job.
-fn write_problem_of<O: Lines>(
-    alloc: Global,
-    out: &mut O,
-    pipeline: &Pipeline,
-    history: &History,
-    job: &str,
-) -> Result<(), AllocError>
-    requires { IsSome (job_of job.now (pipeline_data pipeline.now).jobs) }
-    ensures shown { OnOk result ((lines : Text)
-        × IsProblemShown (pipeline_data pipeline.now) history.now job.now lines
-        × (O.written out.new ≡ O.written out.old ++ lines)) }
-    ensures refused { OnErr result (O.written out.new ≡ O.written out.old) }
-{
-    let problem = problem_in(alloc, pipeline, history, job)?;
-    let text = write_problem(alloc, &problem)?;
-    show_text(out, text.as_str())
-}
-
-/// Shows the problem of the next build of the job of this name.
-fn show_problem<O: Lines>(
-    alloc: Global,
-    out: &mut O,
-    core: &Core,
-    job: &str,
-) -> Result<u8, ShowFault>
-    ensures { Showing (spec.problem job.now) (core_data core.now) result (O.written out.old) (O.written out.new) }
-{
-    let pipeline = match pipeline_with_job(core, job) {
-        Ok(pipeline) => pipeline,
-        Err(fault) => return Err(ShowFault::Lacks(fault)),
-    };
-    match write_problem_of(alloc, out, pipeline, core.history(), job) {
-        Ok(()) => Ok(0),
-        Err(_) => Err(ShowFault::NoMemory),
-    }
-}
-
-/// The proof of an answer, with status 0; no text where the budget is over, with status 3.
-fn answer_text(alloc: Global, answer: &Answer) -> Result<(u8, String), AllocError>
-    ensures { IfOk result (λ r. IsTextOf answer.now r.0 (string_bytes r.1)) }
-{
-    match answer {
-        Answer::Best(proof) => Ok((0, write_proof(alloc, proof)?)),
-        Answer::Nothing(proof) => Ok((0, write_proof(alloc, proof)?)),
-        Answer::OverBudget(_) => Ok((3, String::new(alloc))),
-    }
-}
-
-/// Writes the proof of the choice for a job's next build, or that there is none: status 0, or 3 with nothing written
-/// where a proof of more than `budget` nodes, from 1 to 1,000,000, would be needed. The pipeline has the job.
-fn write_proof_of<O: Lines>(
-    alloc: Global,
-    out: &mut O,
-    pipeline: &Pipeline,
-    history: &History,
-    job: &str,
-    budget: u32,
-) -> Result<u8, AllocError>
-    requires least { 1 ≤ budget }
-    requires most { budget ≤ MOST_NODES }
-    requires there { IsSome (job_of job.now (pipeline_data pipeline.now).jobs) }
-    ensures shown { IfOk result (λ status. (lines : Text)
-        × IsProofShown (pipeline_data pipeline.now) history.now budget job.now status lines
-        × (O.written out.new ≡ O.written out.old ++ lines)) }
-    ensures refused { OnErr result (O.written out.new ≡ O.written out.old) }
-{
-    let problem = problem_in(alloc, pipeline, history, job)?;
-    let index = build_index(alloc, &problem)?;
-    let answer = resolve(alloc, &problem, &index, budget)?;
-    let (status, text) = answer_text(alloc, &answer)?;
-    show_text(out, text.as_str())?;
-    Ok(status)
-}
-
-/// Shows the proof of the choice for the next build of the job of this name, or that there is none.
-fn show_proof<O: Lines>(alloc: Global, out: &mut O, core: &Core, job: &str) -> Result<u8, ShowFault>
-    ensures { Showing (spec.proof job.now) (core_data core.now) result (O.written out.old) (O.written out.new) }
-{
-    // What a core keeps says that its budget is one that a search takes.
-    core.rules();
-    let pipeline = match pipeline_with_job(core, job) {
-        Ok(pipeline) => pipeline,
-        Err(fault) => return Err(ShowFault::Lacks(fault)),
-    };
-    match write_proof_of(alloc, out, pipeline, core.history(), job, core.budget()) {
-        Ok(status) => Ok(status),
-        Err(_) => Err(ShowFault::NoMemory),
+    match pipeline_held(core) {
+        Ok(pipeline) => Ok((0, Vec::from_slice(alloc, pipeline.text())?)),
+        Err(fault) => Err(ShowFault::Lacks(fault)),
     }
 }
 
 // ---- all that is shown
 
+/// What is shown of what the core holds: the status, and the lines; or why nothing is.
+fn made(alloc: Global, what: Shown<'_>, core: &Core) -> Result<(u8, Vec<u8>), ShowFault>
+    ensures made { IfOk result (λ r. IsMade (shown_data what.entry) (core_data core.now) r.0 r.1.items) }
+    ensures unshown { let c = core_data core.now in
+        IfErr result (IsUnshown (needs (shown_data what.entry)) c.pipeline c.history) }
+{
+    match what {
+        Shown::Builds => builds_made(alloc, core),
+        Shown::Versions(resource) => versions_made(alloc, core, resource),
+        Shown::Problem(job) => problem_made(alloc, core, job),
+        Shown::Proof(job) => proof_made(alloc, core, job),
+        Shown::Certificate(job) => certificate_made(alloc, core, job),
+        Shown::Pipeline => pipeline_made(alloc, core),
+        Shown::Resources => resources_made(alloc, core),
+        Shown::Jobs => jobs_made(alloc, core),
+        Shown::Build(job, number) => release_made(alloc, core, job, number),
+        Shown::Trace(resource, pin) => trace_made(alloc, core, resource, pin),
+    }
+}
+
+/// Writes these bytes.
+fn write<O: Lines>(out: &mut O, bytes: &[u8]) -> Result<(), AllocError>
+    ensures shown { OnOk result (O.written out.new ≡ O.written out.old ++ bytes.now) }
+    ensures refused { OnErr result (O.written out.new ≡ O.written out.old) }
+    ensures waiting { O.waiting out.old ≡ [] → O.waiting out.new ≡ [] }
+{
+    out.make_room(bytes.len())?;
+    out.add(bytes);
+    out.hand_out();
+    Ok(())
+}
+
 /// Shows it, from what the core holds: status 0, or 3 with nothing written where a search would go over the budget.
 ///
-/// `Lacks` where what it needs isn't there, and `NoMemory` if out of memory; nothing is written then.
+/// `Lacks` and `BadPin` where what it needs isn't there, and `NoMemory` if out of memory; nothing is written then.
 pub fn show<O: Lines>(
     alloc: Global,
     out: &mut O,
     what: Shown<'_>,
     core: &Core,
 ) -> Result<u8, ShowFault>
-    ensures { Showing (shown_data what.entry) (core_data core.now) result (O.written out.old) (O.written out.new) }
+    ensures shows { Showing (shown_data what.entry) (core_data core.now) result (O.written out.old) (O.written out.new) }
+    ensures waiting { O.waiting out.old ≡ [] → O.waiting out.new ≡ [] }
 {
-    match what {
-        Shown::Builds => show_builds(out, core),
-        Shown::Versions(resource) => show_versions(alloc, out, core, resource),
-        Shown::Problem(job) => show_problem(alloc, out, core, job),
-        Shown::Proof(job) => show_proof(alloc, out, core, job),
+    let (status, bytes) = match made(alloc, what, core) {
+        Ok(made) => made,
+        Err(fault) => return Err(fault),
+    };
+    match write(out, &bytes) {
+        Ok(()) => Ok(status),
+        Err(_) => Err(ShowFault::NoMemory),
     }
 }

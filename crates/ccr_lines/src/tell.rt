@@ -3,7 +3,7 @@ ghost use Rattle.std.specs.Prelude.{◌≡◌, ◌+◌, ◌*◌, ◌<◌, ◌≤
 ghost use Rattle.std.specs.List.{sum_by};
 ghost use Rattle.ccr_core.specs.Builds.{status_of};
 ghost use Rattle.ccr_pipeline.specs.Pipelines.{pipeline_data};
-ghost use Rattle.ccr_lines.specs.Lines.{line, check_line, refused_line, cause_words, build_line, end_word_line, status_word, job_line, job_lines, refused_job_lines, pipeline_lines};
+ghost use Rattle.ccr_lines.specs.Lines.{line, check_line, refused_line, cause_words, build_line, end_word_line, status_word, job_line, job_lines, refused_job_lines, place_line, pipeline_lines};
 
 use crate::cause::Cause;
 use crate::lines::Lines;
@@ -96,8 +96,21 @@ pub fn tell_full<O: Lines>(out: &mut O, resource: &str)
 
 // ---- builds
 
+/// How a build stands, in a word.
+pub(crate) fn word_of(status: Status) -> &'static str
+    ensures { result.now ≡ status_word status }
+{
+    match status {
+        Status::Running => "running",
+        Status::Succeeded => "succeeded",
+        Status::Failed => "failed",
+        Status::Errored => "errored",
+        Status::Aborted => "aborted",
+    }
+}
+
 /// Writes a job's build with a word.
-pub(crate) fn tell_build<O: Lines>(out: &mut O, job: &str, number: u32, word: &str)
+fn tell_build<O: Lines>(out: &mut O, job: &str, number: u32, word: &str)
     requires { length job.now + (length word.now + 13) ≤ O.room out.old }
     ensures told { O.written out.new ≡ O.written out.old ++ build_line job.now number word.now }
     ensures left { O.room out.old ≤ O.room out.new + (length job.now + (length word.now + 13)) }
@@ -179,6 +192,8 @@ pub fn tell_job<O: Lines>(out: &mut O, job: &str, reply: Reply, history: &Histor
         | Reply::Ends(_)
         | Reply::Pinned
         | Reply::Unpinned
+        | Reply::Disabled
+        | Reply::Enabled
         | Reply::Restarted => {}
     }
 }
@@ -197,6 +212,7 @@ pub fn tell_refused_job<O: Lines>(out: &mut O, job: &str, fault: CoreFault)
         | CoreFault::NoBuild
         | CoreFault::BuildsOpen
         | CoreFault::NotWanted
+        | CoreFault::NoVersion
         | CoreFault::NoMemory => {}
     }
 }
@@ -217,6 +233,34 @@ pub fn tell_unpinned<O: Lines>(out: &mut O, resource: &str)
     ensures { O.written out.new ≡ O.written out.old ++ line (codes "unpinned " ∷ resource.now ∷ []) }
 {
     tell_line(out, &["unpinned ", resource]);
+}
+
+// ---- versions
+
+/// Writes a word with a place of a resource.
+fn tell_place<O: Lines>(out: &mut O, word: &str, resource: &str, place: u32)
+    requires room { length resource.now + 64 ≤ O.room out.old }
+    requires short { length word.now ≤ 16 }
+    ensures { O.written out.new ≡ O.written out.old ++ place_line word.now resource.now place }
+{
+    let mut buffer = Buffer::new();
+    tell_line(out, &[word, resource, " ", buffer.format(place)]);
+}
+
+/// Writes that the version at a place of a resource was disabled.
+pub fn tell_disabled<O: Lines>(out: &mut O, resource: &str, place: u32)
+    requires { length resource.now + 64 ≤ O.room out.old }
+    ensures { O.written out.new ≡ O.written out.old ++ place_line (codes "disabled ") resource.now place }
+{
+    tell_place(out, "disabled ", resource, place);
+}
+
+/// Writes that the version at a place of a resource was enabled again.
+pub fn tell_enabled<O: Lines>(out: &mut O, resource: &str, place: u32)
+    requires { length resource.now + 64 ≤ O.room out.old }
+    ensures { O.written out.new ≡ O.written out.old ++ place_line (codes "enabled ") resource.now place }
+{
+    tell_place(out, "enabled ", resource, place);
 }
 
 // ---- pipelines

@@ -2,9 +2,11 @@
 use Rattle.std.specs.Prelude.{ℕ, Bool, List, Option, map, option_map, string_bytes}
 use Rattle.serde_json.specs.Data.{Data}
 use Rattle.ccr_history.specs.ObjectData.{object_data}
+use Rattle.ccr_history.specs.Tables.{ScopeData}
 use Rattle.ccr_history.specs.TextMap.{TextMap}
 use Rattle.ccr_pipeline.specs.declared.resource.Resource.{Resource}
 use Rattle.ccr_pipeline.specs.declared.resource.Job.{Job}
+use Rattle.ccr_pipeline.specs.Scopes.{scope_with}
 use Rattle.ccr_pipeline.specs.Tree.{Text, Tree, tree_of}
 
 -- what a resource holds: what it and its type are called, its source, and the pin that the pipeline sets
@@ -22,6 +24,10 @@ resource_data r = record {
   source = option_map object_data r.source;
   version = r.version;
 }
+
+-- the scope that a resource's versions belong to: its name, its type, and its source as compact text
+abbrev pub scope_of : ResourceData → ScopeData
+scope_of r = scope_with r.name r.kind r.source
 
 -- what a job holds: its name and plan, and how many of its builds may run beside one another
 pub record JobData : Type 0 where

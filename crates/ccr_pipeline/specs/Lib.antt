@@ -7,6 +7,7 @@ pub mod Objects
 pub mod Places
 pub mod StepRules
 pub mod Tree
+pub mod Scopes
 pub mod Meaning
 pub mod Steps
 pub mod Inputs
@@ -14,6 +15,7 @@ pub mod Plans
 pub mod Limits
 pub mod Breaches
 pub mod JobData
+pub mod Named
 pub mod Links
 pub mod JobRules
 pub mod Unknown

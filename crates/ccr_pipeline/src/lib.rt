@@ -36,6 +36,7 @@ mod read_job;
 mod reader;
 mod resource;
 mod schema;
+mod scope;
 mod step;
 mod task;
 mod unknown;

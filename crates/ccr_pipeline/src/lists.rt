@@ -25,6 +25,7 @@ use crate::object::check_object;
 use crate::place::Place;
 use crate::resource::Resource;
 use crate::schema::{NESTED, Schema};
+use crate::scope::scope_with;
 use crate::unused::push_keys;
 use serde_json::Value;
 use std::alloc::{AllocError, Global};
@@ -70,11 +71,15 @@ fn resource(alloc: Global, value: &Value) -> Result<Resource, AllocError>
     requires { IsResource (view value.now) }
     ensures { IfOk result (λ r. resource_data r ≡ resource_from (view value.now)) }
 {
+    let name = text(alloc, value, "name")?;
+    let kind = text(alloc, value, "type")?;
+    let source = object(value, "source")?;
     Ok(Resource {
-        name: text(alloc, value, "name")?,
-        kind: text(alloc, value, "type")?,
-        source: object(value, "source")?,
+        scope: scope_with(alloc, name.as_str(), kind.as_str(), &source)?,
         version: pin(alloc, value, "version")?,
+        name,
+        kind,
+        source,
     })
 }
 

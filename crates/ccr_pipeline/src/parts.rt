@@ -1,6 +1,7 @@
 //! The parts of a pipeline.
-ghost use Rattle.std.specs.Prelude.{◌≡◌, map, string_bytes};
+ghost use Rattle.std.specs.Prelude.{◌≡◌, map, option_map, string_bytes};
 ghost use Rattle.ccr_pipeline.specs.JobData.{resource_data, job_data};
+ghost use Rattle.ccr_pipeline.specs.Named.{resource_of, job_of};
 ghost use Rattle.ccr_pipeline.specs.Pipelines.{pipeline_data};
 
 use crate::pipeline::Pipeline;
@@ -19,6 +20,31 @@ impl Pipeline {
         ensures { map job_data result.now ≡ (pipeline_data self.now).jobs }
     {
         &self.jobs
+    }
+
+    /// The resource of a name, if there is one.
+    pub fn resource(&self, name: &str) -> Option<&Resource>
+        ensures { option_map (λ r. resource_data r.now) result
+            ≡ resource_of name.now (pipeline_data self.now).resources }
+    {
+        for resource in &self.resources {
+            if name == resource.name.as_str() {
+                return Some(resource);
+            }
+        }
+        None
+    }
+
+    /// The job of a name, if there is one.
+    pub fn job(&self, name: &str) -> Option<&Job>
+        ensures { option_map (λ j. job_data j.now) result ≡ job_of name.now (pipeline_data self.now).jobs }
+    {
+        for job in &self.jobs {
+            if name == job.name.as_str() {
+                return Some(job);
+            }
+        }
+        None
     }
 
     /// The bytes that the pipeline was read from.

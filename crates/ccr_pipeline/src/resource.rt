@@ -1,13 +1,15 @@
 //! Resources and jobs.
-ghost use Rattle.std.specs.Prelude.{IsTrue, ◌&&◌, string_bytes};
+ghost use Rattle.std.specs.Prelude.{◌≡◌, IsTrue, ◌&&◌, option_map, string_bytes};
+ghost use Rattle.ccr_history.specs.ObjectData.{object_data};
 ghost use Rattle.ccr_pipeline.specs.Inputs.{are_few, inputs};
 ghost use Rattle.ccr_pipeline.specs.Kinds.{is_name};
 ghost use Rattle.ccr_pipeline.specs.Limits.{IsShallow, TriesFit, TriesFit-prop, IsWellNamed, HasDistinctInputs};
+ghost use Rattle.ccr_pipeline.specs.Scopes.{scope_with};
 ghost use Rattle.std.proofs.Props.{props};
 ghost use Rattle.ccr_pipeline.specs.Tree.{tree_of};
 
 use crate::step::Step;
-use ccr_history::{Object, Pin};
+use ccr_history::{Object, Pin, Scope};
 use std::rc::Rc;
 
 /// A resource (Concourse: resources).
@@ -21,6 +23,9 @@ pub struct Resource {
     pub source: Option<Object>,
     /// The pin that the pipeline sets.
     pub version: Option<Pin>,
+    pub(crate) scope: Scope,
+    // Its scope is that of its name, type and source.
+    pub ghost scoped: { scope ≡ scope_with (string_bytes name) (string_bytes kind) (option_map object_data source) },
     // What it and its type are called may be a name.
     pub ghost well_named: { IsTrue (is_name (string_bytes name) && is_name (string_bytes kind)) },
 }

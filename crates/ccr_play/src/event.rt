@@ -47,6 +47,22 @@ fn pin(alloc: Global, given: &str) -> Result<Event, LineFault> {
     Ok(Event::Pin(name_of(alloc, resource)?, pin))
 }
 
+/// A resource and a place, as an event has them.
+fn place_of(alloc: Global, given: &str) -> Result<(String, u32), LineFault> {
+    let (resource, place) = split(given);
+    Ok((name_of(alloc, resource)?, number_of(place)?))
+}
+
+fn disable(alloc: Global, given: &str) -> Result<Event, LineFault> {
+    let (resource, place) = place_of(alloc, given)?;
+    Ok(Event::Disable(resource, place))
+}
+
+fn enable(alloc: Global, given: &str) -> Result<Event, LineFault> {
+    let (resource, place) = place_of(alloc, given)?;
+    Ok(Event::Enable(resource, place))
+}
+
 /// The event that a line tells by its first word and by what stands behind it.
 pub(crate) fn event_of(alloc: Global, kind: &str, given: &str) -> Result<Event, LineFault> {
     match kind {
@@ -59,6 +75,8 @@ pub(crate) fn event_of(alloc: Global, kind: &str, given: &str) -> Result<Event, 
         "abort" => abort(alloc, given),
         "pin" => pin(alloc, given),
         "unpin" => Ok(Event::Unpin(name_of(alloc, given)?)),
+        "disable" => disable(alloc, given),
+        "enable" => enable(alloc, given),
         "restart" => Ok(Event::Restart),
         _ => Err(LineFault::NoSuchLine),
     }

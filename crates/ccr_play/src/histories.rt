@@ -5,7 +5,7 @@
 //! `fill RESOURCE N` reports the versions `{"n":"1"}` to `{"n":"N"}`; `place RESOURCE JSON` asks for a version's place.
 //! `build JOB INPUT=SCOPE.PLACE ..` makes a build; `end JOB NUMBER STATUS SCOPE.PLACE ..` ends one; `failed JOB N` makes N builds
 //! and ends them as failed; `used JOB INPUT SCOPE.PLACE` asks whether a build of the job used this place.
-//! `pin RESOURCE JSON`, `unpin RESOURCE`. `problem JOB` prints the problem of a job, `resolve JOB BUDGET` its proof.
+//! `pin RESOURCE JSON`, `unpin RESOURCE`, `disable RESOURCE PLACE`, `enable RESOURCE PLACE`. `problem JOB` prints the problem of a job, `resolve JOB BUDGET` its proof.
 //! `history` prints the history; `copy` goes on with a copy of it.
 //! `grow BUILDS JOBS PLACES`, `more JOB SCOPE PLACE COUNT` and `extend RESOURCE FIRST COUNT` make large histories, for benchmarks.
 
@@ -94,6 +94,8 @@ impl Histories {
             "used" => self.used(alloc, first, rest),
             "pin" => self.pinned(alloc, first, rest),
             "unpin" => self.unpinned(alloc, first),
+            "disable" => self.disabled(alloc, first, rest),
+            "enable" => self.enabled(alloc, first, rest),
             "problem" => self.problem(alloc, first),
             "resolve" => self.resolved(alloc, first, rest),
             "grow" | "more" | "extend" => self.grown(alloc, kind, first, rest),
@@ -124,8 +126,8 @@ impl Histories {
     }
 
     /// The scope of a resource of the pipeline.
-    fn scope(&self, alloc: Global, name: &str) -> Result<Scope> {
-        Ok(scope_in(alloc, self.pipeline()?, name)?)
+    fn scope(&self, name: &str) -> Result<Scope> {
+        Ok(scope_in(self.pipeline()?, name)?)
     }
 
     fn reported(&mut self, alloc: Global, name: &str, text: &str) -> Result<String> {
@@ -139,7 +141,7 @@ impl Histories {
     }
 
     fn append(&mut self, alloc: Global, name: &str, versions: &[Version]) -> Result<String> {
-        let scope = self.scope(alloc, name)?;
+        let scope = self.scope(name)?;
         let mut text = room(alloc)?;
         let new = self.history.append_versions(alloc, &scope, versions)?;
         write!(text, "{new} new")?;
@@ -147,7 +149,7 @@ impl Histories {
     }
 
     fn tried(&mut self, alloc: Global, name: &str, text: &str) -> Result<String> {
-        let scope = self.scope(alloc, name)?;
+        let scope = self.scope(name)?;
         let versions = versions_of(alloc, text)?;
         let new = taken_back(alloc, &mut self.history, scope, &versions)?;
         Ok(format!(in alloc; "{new} taken back")?)
@@ -157,7 +159,7 @@ impl Histories {
     fn grown(&mut self, alloc: Global, kind: &str, first: &str, rest: &str) -> Result<String> {
         let (second, rest) = rest.split_once(" ").ok_or(anyhow!("no second number"))?;
         if kind == "extend" {
-            let scope = self.scope(alloc, first)?;
+            let scope = self.scope(first)?;
             let new = extend(
                 alloc,
                 &mut self.history,
@@ -192,7 +194,7 @@ impl Histories {
     }
 
     fn place(&self, alloc: Global, name: &str, text: &str) -> Result<String> {
-        let scope = self.scope(alloc, name)?;
+        let scope = self.scope(name)?;
         let version = version_of(alloc, text)?;
         let place = self.history.place_of(&scope, &version);
         Ok(format!(in alloc; "{place}")?)
@@ -250,6 +252,22 @@ impl Histories {
         let mut text = room(alloc)?;
         let had = self.history.clear_pin(name);
         text.push_str(if had { "unpinned" } else { "no pin" })?;
+        Ok(text)
+    }
+
+    fn disabled(&mut self, alloc: Global, name: &str, text: &str) -> Result<String> {
+        let place = number_of(text)?;
+        let scope = self.scope(name)?;
+        let text = String::from_str(alloc, "disabled")?;
+        self.history.disable(&scope, place)?;
+        Ok(text)
+    }
+
+    fn enabled(&mut self, alloc: Global, name: &str, text: &str) -> Result<String> {
+        let place = number_of(text)?;
+        let scope = self.scope(name)?;
+        let text = String::from_str(alloc, "enabled")?;
+        self.history.enable(&scope, place)?;
         Ok(text)
     }
 

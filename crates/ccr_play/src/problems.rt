@@ -3,7 +3,8 @@
 //! A text is given in one line, with `\n` where a line of it ends. `problem TEXT`, `claim TEXT` and `proof TEXT` read one, and write it
 //! again. `judge TEXT` is what the checker says of a text, and its status. `example TEXT` reads a problem that lines behind it speak of:
 //! `judge-behind TEXT` is `judge` of the example with a text behind it, `satisfies PLACES / BUILDS` what is said of a choice,
-//! `check TEXT` of a proof, and `resolve BUDGET` finds the best choice. `later PLACES / PLACES` compares two lists.
+//! `check TEXT` of a proof, and `resolve BUDGET` finds the best choice. `later PLACES / PLACES` compares two lists, and
+//! `preferred PLACES / PLACES` compares them in the order of the example.
 ghost use Rattle.std.specs.Prelude.{◌≤◌};
 ghost use Rattle.ccr_proof.specs.Claim.{IsClaim};
 
@@ -11,7 +12,7 @@ use crate::play::Player;
 use crate::words::{number_of, split};
 use anyhow::{Result, anyhow};
 use ccr_check::{CheckFault, check, judge};
-use ccr_choice::{Choice, Problem, later, read_problem, satisfies, write_problem};
+use ccr_choice::{Choice, Problem, later, preferred, read_problem, satisfies, write_problem};
 use ccr_index::build_index;
 use ccr_proof::{Claim, Proof, count, read_claim, read_proof, write_claim, write_proof};
 use ccr_resolve::{Answer, resolve};
@@ -125,6 +126,17 @@ fn compared(alloc: Global, given: &str) -> Result<String> {
     Ok(String::from_str(alloc, word)?)
 }
 
+/// Whether the first of two lists is preferred.
+fn weighed(alloc: Global, problem: &Problem, given: &str) -> Result<String> {
+    let (first, second) = lists_of(alloc, given)?;
+    let word = if preferred(problem, &first, &second) {
+        "preferred"
+    } else {
+        "not preferred"
+    };
+    Ok(String::from_str(alloc, word)?)
+}
+
 /// What is said of a choice.
 fn said(alloc: Global, problem: &Problem, given: &str) -> Result<String> {
     let (places, builds) = lists_of(alloc, given)?;
@@ -207,6 +219,7 @@ fn asked(alloc: Global, example: &str, kind: &str, text: &str) -> Result<String>
     match kind {
         "satisfies" => said(alloc, &problem, text),
         "check" => checked(alloc, &problem, text),
+        "preferred" => weighed(alloc, &problem, text),
         "resolve" => resolved(alloc, &problem, text),
         _ => Err(anyhow!("no such line")),
     }

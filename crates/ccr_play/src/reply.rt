@@ -21,6 +21,8 @@ pub(crate) fn push_reply(text: &mut String, reply: Reply) -> Result<(), AllocErr
         Reply::Ends(outcome) => write!(text, "Ends {}", outcome_name(outcome)),
         Reply::Pinned => text.push_str("Pinned"),
         Reply::Unpinned => text.push_str("Unpinned"),
+        Reply::Disabled => text.push_str("Disabled"),
+        Reply::Enabled => text.push_str("Enabled"),
         Reply::Restarted => text.push_str("Restarted"),
     }
 }
@@ -36,6 +38,7 @@ pub(crate) fn fault_name(fault: CoreFault) -> &'static str {
         CoreFault::NotWanted => "NotWanted",
         CoreFault::TooManyOpen => "TooManyOpen",
         CoreFault::TableFull => "TableFull",
+        CoreFault::NoVersion => "NoVersion",
         CoreFault::NoMemory => "NoMemory",
     }
 }

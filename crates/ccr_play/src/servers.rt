@@ -53,10 +53,31 @@ fn command_of(alloc: Global, kind: &str, words: &str) -> Result<Option<Command>,
             Command::PinResource(resource, String::from_str(alloc, pin)?)
         }
         "unpin-resource" => Command::UnpinResource(name),
+        "disable-resource-version" => {
+            let (resource, place) = split(words);
+            Command::DisableResourceVersion(String::from_str(alloc, resource)?, number_of(place))
+        }
+        "enable-resource-version" => {
+            let (resource, place) = split(words);
+            Command::EnableResourceVersion(String::from_str(alloc, resource)?, number_of(place))
+        }
         "resolve" => Command::Resolve(name),
         "problem" => Command::Problem(name),
+        "certify" => Command::Certify(name),
         "trigger-job" => Command::TriggerJob(name),
         "builds" => Command::Builds,
+        "build" => {
+            let (job, number) = split(words);
+            Command::Build(String::from_str(alloc, job)?, number_of(number))
+        }
+        "trace" => {
+            let (resource, pin) = split(words);
+            let resource = String::from_str(alloc, resource)?;
+            Command::Trace(resource, String::from_str(alloc, pin)?)
+        }
+        "get-pipeline" => Command::GetPipeline,
+        "resources" => Command::Resources,
+        "jobs" => Command::Jobs,
         "run" => Command::Run(number_of(words)),
         _ => return Ok(None),
     }))

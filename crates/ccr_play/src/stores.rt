@@ -43,7 +43,7 @@ pub(crate) struct Stores<'r> {
 /// The store in the database of this file.
 fn opened(rt: &HostRuntime, path: &str) -> Result<Store<FileStore<File>>> {
     let conn = Connection::open(rt, path)?;
-    Ok(Store::adopt(conn)?)
+    Ok(Store::adopt(rt.alloc(), conn)?)
 }
 
 fn keep_in_file(rt: &HostRuntime, path: &str, lines: &str) -> Result<String> {

@@ -5,7 +5,6 @@ ghost use Rattle.ccr_history.specs.declared.build.Status.TheVariants.{Running};
 use crate::fault::LineFault;
 use ccr_history::{HistoryFault, Pin, Scope, Status, Used, Version};
 use ccr_pipeline::Pipeline;
-use ccr_problem::scope_of;
 use ccr_steps::Outcome;
 use serde_json::Value;
 use std::alloc::{AllocError, Global};
@@ -138,13 +137,9 @@ pub(crate) fn used_places(alloc: Global, words: &str) -> Result<Vec<Used>, LineF
 }
 
 /// The scope of a resource of a pipeline.
-pub(crate) fn scope_in(alloc: Global, pipeline: &Pipeline, name: &str) -> Result<Scope, LineFault> {
-    match pipeline
-        .resources()
-        .iter()
-        .find(|resource| resource.name.as_str() == name)
-    {
-        Some(resource) => Ok(scope_of(alloc, resource)?),
+pub(crate) fn scope_in(pipeline: &Pipeline, name: &str) -> Result<Scope, LineFault> {
+    match pipeline.resource(name) {
+        Some(resource) => Ok(resource.scope().copy()?),
         None => Err(LineFault::NoResource),
     }
 }

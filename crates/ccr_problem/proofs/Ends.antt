@@ -1,7 +1,8 @@
 -- What builds that are made or end do to the problem of inputs.
-use Rattle.std.proofs.Common.{◌≡◌, ℕ, suc, ◌+◌, ◌<◌, ◌≤◌, List, [], ◌∷◌, ◌++◌, length, map, reverse, take, Bool, true, false, cond, not, ◌||◌, ◌&&◌, ◌==◌, nat_lt, slice_set, slice_index_or, refl, sym, ap, ap₂, ◌∙◌, subst, arith, append_assoc, Option, Some, None}
+use Rattle.std.proofs.Common.{◌≡◌, ℕ, suc, ◌+◌, ◌<◌, ◌≤◌, List, [], ◌∷◌, ◌++◌, length, map, reverse, take, Bool, true, false, cond, not, ◌||◌, ◌&&◌, ◌==◌, nat_lt, slice_set, slice_index_or, refl, sym, ap, ap₂, ◌∙◌, subst, arith, append_assoc, Option, Some, None, AllPairs}
 use Rattle.std.specs.Prelude.{filter, slice_get}
 use Rattle.std.specs.List.{AllByRecursion}
+use Rattle.std.specs.Option.{option_or}
 use Rattle.std.specs.Str.{bytes_eq}
 use Rattle.std.proofs.lemmas.Bool.{and_parts, and_from, or_parts, lt-ltb, eqb-true, false≢true}
 use Rattle.std.proofs.lemmas.List.{reverse-append, append-nil, take_at}
@@ -9,16 +10,19 @@ use Rattle.std.proofs.lemmas.List.Sums.{sum_by_push}
 use Rattle.ccr_history.specs.declared.build.Status.{Status}
 use Rattle.ccr_history.specs.declared.build.Status.TheVariants.{Running, Succeeded}
 use Rattle.ccr_history.specs.Text.{Text}
-use Rattle.ccr_history.specs.Builds.{BuildData, is_of, is_build_of, count_of, build_of, new_build, ended, with_end, is_succeeded, by_place}
+use Rattle.ccr_history.specs.Newest.{last_given, place_if_at, newest_used}
+use Rattle.ccr_history.specs.Changes.{build, ended as ended_edit, edited}
+use Rattle.ccr_history.specs.Builds.{UsedData, BuildData, is_of, is_build_of, count_of, build_of, new_build, ended, with_end, is_succeeded, by_place}
 use Rattle.ccr_history.specs.History.{HistoryData, AreNumbered}
 use Rattle.ccr_pipeline.specs.Inputs.{InputData, named_jobs}
 use Rattle.ccr_pipeline.specs.Names.{has_name, with_names}
 use Rattle.ccr_pipeline.specs.Pipelines.{PipelineData}
 use Rattle.ccr_choice.specs.Problem.{InputValue, BuildValue, ProblemValue}
-use Rattle.ccr_problem.specs.Follows.{MadeLeaves, UnsuccessfulEndLeaves, SuccessAdds, has_newer, with_passed}
+use Rattle.ccr_problem.specs.Follows.{MadeBrings, UnsuccessfulEndLeaves, SuccessAdds, place_made, with_afters, has_newer, with_passed}
 use Rattle.ccr_problem.specs.Numbering.{number_of}
 use Rattle.ccr_problem.specs.Passed.{cut_to, build_value, job_value}
-use Rattle.ccr_problem.specs.ProblemOf.{history_number, used_resources, input_value, problem_with}
+use Rattle.ccr_problem.specs.ProblemOf.{history_number, used_resources, takes_every, input_after, input_value, problem_with}
+use Rattle.ccr_problem.proofs.Afters.{newest_ended, newest_made}
 use Rattle.ccr_problem.proofs.Builds.{chosen, chosen_by, at_seam}
 use Rattle.ccr_problem.proofs.Names.{AreApart, apart, same_text, same_self}
 
@@ -26,11 +30,6 @@ use Rattle.ccr_problem.proofs.Names.{AreApart, apart, same_text, same_self}
 pub map_same : {X Y : Type 0} (f g : X → Y) (xs : List X) → ((x : X) → f x ≡ g x) → map f xs ≡ map g xs
 map_same f g [] same = refl
 map_same f g (x ∷ xs) same = ap₂ (λ y ys. y ∷ ys) (same x) (map_same f g xs same)
-
--- the problem, where each named job has these builds
-abbrev with_jobs : PipelineData → HistoryData → List InputData → (Text → List BuildValue) → ProblemValue
-with_jobs p h is values =
-    record { inputs = map (input_value p h (used_resources is) (named_jobs [] is)) is; jobs = map values (named_jobs [] is) }
 
 abbrev scopes_of : PipelineData → HistoryData → List InputData → List ℕ
 scopes_of p h is = map (history_number p h) (used_resources is)
@@ -44,10 +43,36 @@ made_chosen : (job : Text) (bs : List BuildData) (x : BuildData) → is_succeede
 made_chosen job bs x e =
     chosen_by job (is_of job x) false bs x refl e ∙ ap (λ ys. chosen job bs ++ ys) (none_by (is_of job x) x) ∙ append-nil (chosen job bs)
 
-pub made_leaves : MadeLeaves
-made_leaves p h is job used =
+-- what an input with a further place is
+after_by : (every own : Bool) (taken before : Option ℕ)
+    → cond every (option_or (cond own taken None) before) None ≡ option_or (cond own (cond every taken None) None) (cond every before None)
+after_by true true taken before = refl
+after_by true false taken before = refl
+after_by false true taken before = refl
+after_by false false taken before = refl
+
+module _ (p : PipelineData) (h : HistoryData) (own job : Text) (used : List UsedData) (once : AllPairs (λ u v. bytes_eq u.input v.input ≡ false) used) where
+  abbrev made : HistoryData
+  made = edited (build job used) h
+
+  after_made : (i : InputData) → input_after p made own i ≡ option_or (place_made p h job used own i) (input_after p h own i)
+  after_made i =
+      let scope : ℕ = history_number p h i.resource in
+      ap (λ o. cond (takes_every i.wanted) o None) (newest_made i.name scope own job (count_of job h.builds + 1) used h.builds once)
+      ∙ after_by (takes_every i.wanted) (bytes_eq own job) (last_given (place_if_at i.name scope) used) (newest_used own i.name scope h.builds)
+
+  inputs_made : (resources jobs : List Text) (is : List InputData)
+      → map (input_value p made own resources jobs) is ≡ with_afters (map (input_value p h own resources jobs) is) (map (place_made p h job used own) is)
+  inputs_made resources jobs [] = refl
+  inputs_made resources jobs (i ∷ is) =
+      let x : InputValue = input_value p h own resources jobs i in
+      ap₂ {C = List InputValue} (λ o xs. record { scope = x.scope; places = x.places; jobs = x.jobs; after = o } ∷ xs) (after_made i) (inputs_made resources jobs is)
+
+pub made_brings : MadeBrings
+made_brings p h own is job used once =
     let x = new_build job (count_of job h.builds + 1) used in
-    ap (λ js. record { inputs = (problem_with p h is).inputs; jobs = js })
+    ap₂ {C = ProblemValue} (λ xs js. record { inputs = xs; jobs = js })
+    (inputs_made p h own job used once (used_resources is) (named_jobs [] is) is)
     (map_same (job_value (h.builds ++ x ∷ []) (scopes_of p h is)) (job_value h.builds (scopes_of p h is)) (named_jobs [] is)
     (λ name. ap (λ bs. map (build_value (scopes_of p h is)) (reverse bs)) (made_chosen name h.builds x refl)))
 
@@ -166,9 +191,22 @@ module _ (job : Text) (number : ℕ) (status : Status) (moved : List (ℕ × ℕ
   end_same name bs it numbered is runs fails =
       same_chosen name it bs (only it bs (rises job bs numbered) is) (λ d. (ap is_succeeded runs, fails d))
 
+-- the inputs stay, since the build keeps what it used
+inputs_ended : (p : PipelineData) (h : HistoryData) (own job : Text) (number : ℕ) (status : Status) (moved : List (ℕ × ℕ)) (resources jobs : List Text) (is : List InputData)
+    → map (input_value p (edited (ended_edit job number status moved) h) own resources jobs) is ≡ map (input_value p h own resources jobs) is
+inputs_ended p h own job number status moved resources jobs is =
+    map_same (input_value p (edited (ended_edit job number status moved) h) own resources jobs) (input_value p h own resources jobs) is each
+  where
+    each : (i : InputData) → input_value p (edited (ended_edit job number status moved) h) own resources jobs i ≡ input_value p h own resources jobs i
+    each i =
+        let x : InputValue = input_value p h own resources jobs i in
+        ap {B = InputValue} (λ o. record { scope = x.scope; places = x.places; jobs = x.jobs; after = cond (takes_every i.wanted) o None })
+        (newest_ended own i.name (history_number p h i.resource) job number status moved h.builds)
+
 pub unsuccessful_end_leaves : UnsuccessfulEndLeaves
-unsuccessful_end_leaves p h is job number status moved rules (it, found, runs) fails =
-    ap (λ js. record { inputs = (problem_with p h is).inputs; jobs = js })
+unsuccessful_end_leaves p h own is job number status moved rules (it, found, runs) fails =
+    ap₂ {C = ProblemValue} (λ xs js. record { inputs = xs; jobs = js })
+    (inputs_ended p h own job number status moved (used_resources is) (named_jobs [] is) is)
     (map_same (job_value (with_end job number status moved h.builds) (scopes_of p h is)) (job_value h.builds (scopes_of p h is)) (named_jobs [] is)
     (λ name. ap (λ bs. map (build_value (scopes_of p h is)) (reverse bs)) (end_same job number status moved name h.builds it rules.1.1 found runs (λ _. fails))))
 
@@ -282,13 +320,12 @@ named_apart names [] h = h
 named_apart names (i ∷ is) h = named_apart (with_names names i.passed) is (apart names i.passed h)
 
 pub success_adds : SuccessAdds
-success_adds p h is job number moved rules (it, found, runs) none =
+success_adds p h who is job number moved rules (it, found, runs) none =
     let scopes = scopes_of p h is in
     let b : BuildValue = record { number = number; pairs = cut_to scopes (by_place moved) } in
     let f : Text → List BuildValue = job_value h.builds scopes in
     let g : Text → List BuildValue = job_value (with_end job number Succeeded moved h.builds) scopes in
     let names = named_jobs [] is in
-    let inputs : List InputValue = (problem_with p h is).inputs in
     let up = rises job h.builds rules.1.1 in
     let own : g job ≡ b ∷ f job =
     ap (λ bs. map (build_value scopes) (reverse bs)) (last job number moved it h.builds up found runs none)
@@ -297,8 +334,9 @@ success_adds p h is job number moved rules (it, found, runs) none =
     let others : (name : Text) → bytes_eq name job ≡ false → g name ≡ f name = λ name other.
     ap (λ bs. map (build_value scopes) (reverse bs))
     (end_same job number Succeeded moved name h.builds it rules.1.1 found runs (λ same. absurd (false≢true (sym other ∙ ap (bytes_eq name) (own_job h.builds found) ∙ same)))) in
-    ap (λ js. record { inputs = inputs; jobs = js }) (put_all job b f g own others names (named_apart [] is tt))
-    ∙ by (has_name names job) (number_of names job) b (problem_with p h is)
+    ap₂ {C = ProblemValue} (λ xs js. record { inputs = xs; jobs = js })
+    (inputs_ended p h who job number Succeeded moved (used_resources is) names is) (put_all job b f g own others names (named_apart [] is tt))
+    ∙ by (has_name names job) (number_of names job) b (problem_with p h who is)
   where
     numbered_by : (t : Bool) (c : BuildData) (rest : Option BuildData) → is_build_of job number c ≡ t → cond t (Some c) rest ≡ Some it → (rest ≡ Some it → (is_build_of job number it ≡ true)) → is_build_of job number it ≡ true
     numbered_by true c rest e is rec = let same : c ≡ it = cc in ap (is_build_of job number) (sym same) ∙ e

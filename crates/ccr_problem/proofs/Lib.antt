@@ -1,7 +1,9 @@
 pub mod Names
 pub mod Numbers
+pub mod Enabled
 pub mod Places
 pub mod Pairs
+pub mod Afters
 pub mod Builds
 pub mod Kept
 pub mod Jobs

@@ -34,7 +34,7 @@ places_by : (b : Bool) (n m : ℕ) → n ≤ 100000 → m ≤ 100000 → cond b 
 places_by true n m few more = few
 places_by false n m few more = more
 
-few_places : (ts : List TableData) (n : ℕ) → AllByRecursion IsTable ts → places_at ts n ≤ 100000
+pub few_places : (ts : List TableData) (n : ℕ) → AllByRecursion IsTable ts → places_at ts n ≤ 100000
 few_places [] n each = omega arith
 few_places (t ∷ ts) n each = places_by (n == 1) (length t.versions) (places_at ts (n - 1)) each.0.1 (few_places ts (n - 1) each.1)
 

@@ -1,17 +1,19 @@
 -- What a report of versions does to the problem of inputs.
-use Rattle.std.proofs.Common.{◌≡◌, ℕ, suc, ◌+◌, ◌-◌, ◌<◌, ◌≤◌, ◌⊎◌, inl, inr, List, [], ◌∷◌, ◌++◌, length, map, reverse, Bool, true, false, cond, ◌==◌, IsTrue, refl, sym, ap, ap₂, ◌∙◌, subst, arith, Option, Some, None}
+use Rattle.std.proofs.Common.{◌≡◌, ℕ, suc, ◌+◌, ◌-◌, ◌<◌, ◌≤◌, ◌⊎◌, inl, inr, List, [], ◌∷◌, ◌++◌, length, map, reverse, Bool, true, false, cond, not, ◌==◌, IsTrue, refl, sym, ap, ap₂, ◌∙◌, subst, arith, Option, Some, None}
 use Rattle.std.specs.Prelude.{filter, nat_lt, nat_le}
 use Rattle.std.specs.List.{AllByRecursion, enumerate_from}
 use Rattle.std.specs.Option.{option_map_or}
 use Rattle.std.proofs.lemmas.Bool.{and_parts, ltb-true, leb-true, eqb-true, ne_eqb}
 use Rattle.std.proofs.lemmas.List.{append-nil, reverse-append}
+use Rattle.std.proofs.lemmas.List.Elements.{filter-append}
 use Rattle.ccr_history.specs.Text.{Text}
 use Rattle.ccr_history.specs.TextMap.{TextMap}
 use Rattle.ccr_history.specs.Builds.{BuildData, is_of, is_succeeded, passed_pairs}
 use Rattle.ccr_history.specs.Tables.{ScopeData, TableData, is_scope, with_versions, with_report, reported, versions_of, scope_number}
 use Rattle.ccr_history.specs.Changes.{versions, edited}
 use Rattle.ccr_history.specs.Edits.{AreNew}
-use Rattle.ccr_history.specs.History.{HistoryData, IsBuild, places_at, has_place}
+use Rattle.ccr_history.specs.History.{HistoryData, IsBuild, IsHistory, places_at, has_place}
+use Rattle.ccr_history.specs.Newest.{newest_used}
 use Rattle.ccr_history.specs.Keys.{scope_equiv}
 use Rattle.ccr_history.proofs.TableLaws.{versions_of-with_report}
 use Rattle.ccr_pipeline.specs.Inputs.{InputData, named_jobs}
@@ -20,9 +22,10 @@ use Rattle.ccr_pipeline.specs.Pipelines.{PipelineData}
 use Rattle.ccr_choice.specs.Problem.{InputValue, BuildValue, ProblemValue}
 use Rattle.ccr_problem.specs.Allowed.{PinsData, meets_all, places_from, allowed_places}
 use Rattle.ccr_problem.specs.Follows.{ReportAdds, new_places, with_places}
-use Rattle.ccr_problem.specs.Numbering.{number_of}
 use Rattle.ccr_problem.specs.Passed.{places_in, build_value, job_value}
-use Rattle.ccr_problem.specs.ProblemOf.{resource_of, scope_of, history_number, used_resources, pins_of, input_places, input_value}
+use Rattle.ccr_problem.specs.ProblemOf.{resource_of, scope_of, history_number, used_resources, pins_of, is_disabled_at, input_places, takes_every, input_after, input_value}
+use Rattle.ccr_problem.proofs.Afters.{newest_none}
+use Rattle.ccr_problem.proofs.Enabled.{filter_same, none_disabled_in, behind_enabled, places_of_scope}
 use Rattle.ccr_problem.proofs.Builds.{chosen}
 use Rattle.ccr_problem.proofs.Ends.{map_same, step_by}
 use Rattle.ccr_problem.proofs.Names.{same_text}
@@ -77,40 +80,14 @@ places_append n pins (v ∷ vs) ws =
     by true rest = ap (λ ns. n ∷ ns) rest
     by false rest = rest
 
-module _ (p : PipelineData) (h : HistoryData) (scope : ScopeData) (vs : List TextMap) (new : AreNew (versions_of scope h.tables) vs) where
+module _ (p : PipelineData) (h : HistoryData) (rules : IsHistory h) (scope : ScopeData) (vs : List TextMap) (new : AreNew (versions_of scope h.tables) vs) where
   abbrev after : HistoryData
   after = edited (versions scope vs) h
 
   abbrev first : ℕ
   first = length (versions_of scope h.tables) + 1
 
-  grown_by : (b : Bool) (s : ScopeData) (pins : PinsData) → is_scope scope s ≡ b
-      → allowed_places pins (versions_of s (reported scope vs h.tables)) ≡ allowed_places pins (versions_of s h.tables) ++ cond b (places_from first pins vs) []
-  grown_by true s pins e =
-      let same = same_scope scope s e in
-      subst (λ z. allowed_places pins (versions_of z (reported scope vs h.tables)) ≡ allowed_places pins (versions_of z h.tables) ++ places_from first pins vs) same
-      (ap (allowed_places pins) (own_reported scope vs h.tables new) ∙ places_append 1 pins (versions_of scope h.tables) vs)
-  grown_by false s pins e =
-      ap (allowed_places pins) (other_reported scope s vs h.tables e) ∙ sym (append-nil (allowed_places pins (versions_of s h.tables)))
-
-  places_grow : (i : InputData) → input_places p after i ≡ input_places p h i ++ new_places p h scope first vs i
-  places_grow i = by (resource_of i.resource p.resources)
-    where
-      by : (o : Option ResourceData)
-          → option_map_or (λ r. allowed_places (pins_of r after i) (versions_of (scope_of r) after.tables)) o []
-          ≡ option_map_or (λ r. allowed_places (pins_of r h i) (versions_of (scope_of r) h.tables)) o []
-          ++ option_map_or (λ r. cond (is_scope scope (scope_of r)) (places_from first (pins_of r h i) vs) []) o []
-      by None = refl
-      by (Some r) = grown_by (is_scope scope (scope_of r)) (scope_of r) (pins_of r h i) refl
-
-  inputs_grow : (resources jobs : List Text) (is : List InputData)
-      → map (input_value p after resources jobs) is ≡ with_places (map (input_value p h resources jobs) is) (map (new_places p h scope first vs) is)
-  inputs_grow resources jobs [] = refl
-  inputs_grow resources jobs (i ∷ is) =
-      ap₂ {C = List InputValue} (λ ns xs. record { scope = number_of resources i.resource; places = ns; jobs = (input_value p h resources jobs i).jobs } ∷ xs)
-      (places_grow i) (inputs_grow resources jobs is)
-
-  -- ---- the builds stay
+  -- ---- numbers
   -- the number of a scope stays, or it had none and has the next
   abbrev IsNumbered : ℕ → ℕ → ℕ → Type 0
   IsNumbered many n m = (m ≡ n) ⊎ ((n ≡ 0) × (m ≡ many + 1))
@@ -154,6 +131,70 @@ module _ (p : PipelineData) (h : HistoryData) (scope : ScopeData) (vs : List Tex
       let less : (length (t ∷ ts) + 1) - 1 ≡ length ts + 1 = omega arith in
       ap (λ c. cond c (length t.versions) (places_at ts ((length (t ∷ ts) + 1) - 1))) past ∙ ap (places_at ts) less ∙ none_past ts
 
+  -- ---- the inputs grow
+  disabled_stays : (n m : ℕ) → IsNumbered (length h.tables) n m → (place : ℕ) → is_disabled_at h m place ≡ is_disabled_at h n place
+  disabled_stays n m (inl same) place = ap (λ k. is_disabled_at h k place) same
+  disabled_stays n m (inr (none, next)) place =
+      let past : places_at h.tables m ≡ 0 = ap (places_at h.tables) next ∙ none_past h.tables in
+      let first : places_at h.tables n ≡ 0 = ap (places_at h.tables) none ∙ none_first h.tables in
+      none_disabled_in h.tables h.disabled rules.3.1 m place past ∙ sym (none_disabled_in h.tables h.disabled rules.3.1 n place first)
+
+  after_stays : (own input : Text) (n m : ℕ) → IsNumbered (length h.tables) n m → newest_used own input m h.builds ≡ newest_used own input n h.builds
+  after_stays own input n m (inl same) = ap (λ k. newest_used own input k h.builds) same
+  after_stays own input n m (inr (none, next)) =
+      newest_none h.tables own input m h.builds rules.1.2 (ap (places_at h.tables) next ∙ none_past h.tables)
+      ∙ sym (newest_none h.tables own input n h.builds rules.1.2 (ap (places_at h.tables) none ∙ none_first h.tables))
+
+  grown_by : (b : Bool) (s : ScopeData) (pins : PinsData) → is_scope scope s ≡ b
+      → allowed_places pins (is_disabled_at h (scope_number s h.tables)) (versions_of s (reported scope vs h.tables))
+      ≡ allowed_places pins (is_disabled_at h (scope_number s h.tables)) (versions_of s h.tables) ++ cond b (places_from first pins vs) []
+  grown_by true s pins e = subst (λ z. allowed_places pins (is_disabled_at h (scope_number z h.tables)) (versions_of z (reported scope vs h.tables))
+      ≡ allowed_places pins (is_disabled_at h (scope_number z h.tables)) (versions_of z h.tables) ++ places_from first pins vs) (same_scope scope s e) own
+    where
+      own : allowed_places pins (is_disabled_at h (scope_number scope h.tables)) (versions_of scope (reported scope vs h.tables))
+          ≡ allowed_places pins (is_disabled_at h (scope_number scope h.tables)) (versions_of scope h.tables) ++ places_from first pins vs
+      own =
+          let test : ℕ → Bool = λ n. not (is_disabled_at h (scope_number scope h.tables) n) in
+          let behind : places_at h.tables (scope_number scope h.tables) < first = omega (arith, places_of_scope scope h.tables) in
+          ap (allowed_places pins (is_disabled_at h (scope_number scope h.tables))) (own_reported scope vs h.tables new)
+          ∙ ap (filter test) (places_append 1 pins (versions_of scope h.tables) vs)
+          ∙ filter-append test (places_from 1 pins (versions_of scope h.tables)) (places_from first pins vs)
+          ∙ ap (λ ns. filter test (places_from 1 pins (versions_of scope h.tables)) ++ ns) (behind_enabled h.tables h.disabled rules.3.1 (scope_number scope h.tables) first pins vs behind)
+  grown_by false s pins e =
+      ap (allowed_places pins (is_disabled_at h (scope_number s h.tables))) (other_reported scope s vs h.tables e)
+      ∙ sym (append-nil (allowed_places pins (is_disabled_at h (scope_number s h.tables)) (versions_of s h.tables)))
+
+  places_grow : (i : InputData) → input_places p after i ≡ input_places p h i ++ new_places p h scope first vs i
+  places_grow i = by (resource_of i.resource p.resources)
+    where
+      by : (o : Option ResourceData)
+          → option_map_or (λ r. allowed_places (pins_of r after i) (is_disabled_at after (scope_number (scope_of r) after.tables)) (versions_of (scope_of r) after.tables)) o []
+          ≡ option_map_or (λ r. allowed_places (pins_of r h i) (is_disabled_at h (scope_number (scope_of r) h.tables)) (versions_of (scope_of r) h.tables)) o []
+          ++ option_map_or (λ r. cond (is_scope scope (scope_of r)) (places_from first (pins_of r h i) vs) []) o []
+      by None = refl
+      by (Some r) =
+          let s : ScopeData = scope_of r in
+          filter_same (λ n. not (is_disabled_at h (scope_number s after.tables) n)) (λ n. not (is_disabled_at h (scope_number s h.tables) n))
+          (places_from 1 (pins_of r h i) (versions_of s after.tables))
+          (λ n. ap not (disabled_stays (scope_number s h.tables) (scope_number s after.tables) (numbered s vs) n))
+          ∙ grown_by (is_scope scope s) s (pins_of r h i) refl
+
+  input_stays : (own : Text) (i : InputData) → input_after p after own i ≡ input_after p h own i
+  input_stays own i = ap (λ o. cond (takes_every i.wanted) o None) (by (resource_of i.resource p.resources))
+    where
+      by : (o : Option ResourceData) → newest_used own i.name (option_map_or (λ r. scope_number (scope_of r) after.tables) o 0) h.builds ≡ newest_used own i.name (option_map_or (λ r. scope_number (scope_of r) h.tables) o 0) h.builds
+      by None = refl
+      by (Some r) = after_stays own i.name (scope_number (scope_of r) h.tables) (scope_number (scope_of r) after.tables) (numbered (scope_of r) vs)
+
+  inputs_grow : (own : Text) (resources jobs : List Text) (is : List InputData)
+      → map (input_value p after own resources jobs) is ≡ with_places (map (input_value p h own resources jobs) is) (map (new_places p h scope first vs) is)
+  inputs_grow own resources jobs [] = refl
+  inputs_grow own resources jobs (i ∷ is) =
+      let x : InputValue = input_value p h own resources jobs i in
+      ap₂ {C = List InputValue} (λ (here : List ℕ × Option ℕ) xs. record { scope = x.scope; places = here.0; jobs = x.jobs; after = here.1 } ∷ xs)
+      (ap₂ (λ ns o. (ns, o)) (places_grow i) (input_stays own i)) (inputs_grow own resources jobs is)
+
+  -- ---- the builds stay
   abbrev AllPlaced : List (ℕ × ℕ) → Type 0
   AllPlaced pairs = AllByRecursion (λ q. IsTrue (has_place h.tables q.0 q.1)) pairs
 
@@ -233,10 +274,10 @@ module _ (p : PipelineData) (h : HistoryData) (scope : ScopeData) (vs : List Tex
     chosen_stay job bs each = turned (chosen job bs) (among job bs each)
 
 pub report_adds : ReportAdds
-report_adds p h is scope vs rules new =
+report_adds p h own is scope vs rules new =
     let resources = used_resources is in
     let jobs = named_jobs [] is in
     ap₂ {C = ProblemValue} (λ xs js. record { inputs = xs; jobs = js })
-    (inputs_grow p h scope vs new resources jobs is)
+    (inputs_grow p h rules scope vs new own resources jobs is)
     (map_same (job_value h.builds (map (history_number p (edited (versions scope vs) h)) resources)) (job_value h.builds (map (history_number p h) resources)) jobs
-    (λ name. chosen_stay p h scope vs new resources name h.builds rules.1.2))
+    (λ name. chosen_stay p h rules scope vs new resources name h.builds rules.1.2))

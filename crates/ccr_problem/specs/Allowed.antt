@@ -1,5 +1,5 @@
 -- Which versions an input may take.
-use Rattle.std.specs.Prelude.{ℕ, List, map, filter, Bool, true, ◌&&◌, Option, Some, None}
+use Rattle.std.specs.Prelude.{ℕ, List, map, filter, not, Bool, true, ◌&&◌, Option, Some, None}
 use Rattle.std.specs.List.{enumerate_from}
 use Rattle.ccr_history.specs.TextMap.{TextMap, meets}
 
@@ -23,6 +23,7 @@ meets_all pins v = meets_if pins.by_resource v && (meets_if pins.by_get v && mee
 abbrev pub places_from : ℕ → PinsData → List TextMap → List ℕ
 places_from first pins versions = map (λ x. x.0) (filter (λ x. meets_all pins x.1) (enumerate_from first versions))
 
--- the places of the versions that meet all of the pins, ascending; places begin at 1
-abbrev pub allowed_places : PinsData → List TextMap → List ℕ
-allowed_places pins versions = places_from 1 pins versions
+-- the places that an input may take, ascending: of the versions that meet all of the pins, but for those that are
+-- disabled; places begin at 1
+abbrev pub allowed_places : PinsData → (disabled : ℕ → Bool) → List TextMap → List ℕ
+allowed_places pins disabled versions = filter (λ n. not (disabled n)) (places_from 1 pins versions)

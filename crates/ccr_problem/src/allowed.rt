@@ -2,9 +2,10 @@
 ghost use Rattle.std.specs.Prelude.{◌≡◌, ◌≤◌, ◌+◌, length, IfOk};
 ghost use Rattle.std.specs.Option.{option_copied};
 ghost use Rattle.ccr_history.specs.TextMap.{meets};
-ghost use Rattle.ccr_problem.specs.Allowed.{meets_if, meets_all, places_from};
+ghost use Rattle.ccr_problem.specs.Allowed.{meets_if, meets_all, places_from, allowed_places};
+ghost use Rattle.ccr_problem.specs.ProblemOf.{is_disabled_at};
 
-use ccr_history::{Pin, Version};
+use ccr_history::{History, Pin, Version};
 use std::alloc::{AllocError, Global};
 use std::marker::Model;
 
@@ -66,6 +67,29 @@ pub(crate) fn places_from(
     for (before, version) in versions.iter().enumerate() {
         if pins.are_met_by(version) {
             places.push(first + before as u32)?;
+        }
+    }
+    Ok(places)
+}
+
+/// The places that an input may take, ascending: of versions of the scope of this number those that meet all of the pins
+/// and aren't disabled (Concourse: disabled versions).
+pub(crate) fn allowed_places(
+    alloc: Global,
+    pins: &Pins<'_>,
+    history: &History,
+    scope: u32,
+    versions: &[Version],
+) -> Result<Vec<u32>, AllocError>
+    requires { length versions.now ≤ 100000 }
+    ensures { IfOk result (λ v. v.items
+        ≡ allowed_places pins.now (is_disabled_at history.now scope) versions.now) }
+{
+    let mut places = Vec::new(alloc);
+    for (before, version) in versions.iter().enumerate() {
+        let place = before as u32 + 1;
+        if pins.are_met_by(version) && !history.is_disabled(scope, place) {
+            places.push(place)?;
         }
     }
     Ok(places)

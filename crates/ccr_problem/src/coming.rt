@@ -3,15 +3,16 @@ ghost use Rattle.std.specs.Prelude.{◌≡◌, ◌≢◌, ◌+◌, ◌≤◌, fa
 ghost use Rattle.ccr_pipeline.specs.Inputs.{input_data, inputs};
 ghost use Rattle.ccr_pipeline.specs.Pipelines.{pipeline_data};
 ghost use Rattle.ccr_pipeline.specs.Tree.{tree_of};
-ghost use Rattle.ccr_problem.specs.Follows.{has_newer, new_places, passed_to};
+ghost use Rattle.ccr_problem.specs.Follows.{has_newer, new_places, passed_to, place_taken};
+ghost use Rattle.ccr_history.specs.Newest.{last_given, place_if_at};
 ghost use Rattle.std.specs.Option.{option_map_or};
 ghost use Rattle.ccr_history.specs.Builds.{by_place, build_of, is_succeeded};
 
 use crate::allowed::places_from;
-use crate::inputs::{named_jobs, pins_of, used_resources};
+use crate::inputs::{named_jobs, pins_of, takes_every, used_resources};
 use crate::passed::{cut_to, is_succeeded};
-use crate::scopes::{history_numbers, resource_named, scope_of};
-use ccr_history::{History, Reported};
+use crate::scopes::{history_number, history_numbers};
+use ccr_history::{History, Reported, Used};
 use ccr_pipeline::{Input, Job, Pipeline, inputs_of};
 use std::alloc::{AllocError, Global};
 
@@ -36,11 +37,10 @@ fn input_places(
     ensures { IfOk result (λ v. v.items ≡ new_places (pipeline_data pipeline.now) history.now
         report.now.scope report.now.first report.now.versions.items (input_data input.now)) }
 {
-    let Some(resource) = resource_named(pipeline.resources(), input.resource.as_str()) else {
+    let Some(resource) = pipeline.resource(input.resource.as_str()) else {
         return Ok(Vec::new(alloc));
     };
-    let scope = scope_of(alloc, resource)?;
-    if report.scope != scope {
+    if report.scope != *resource.scope() {
         return Ok(Vec::new(alloc));
     }
     let pins = pins_of(resource, history, input);
@@ -68,6 +68,62 @@ pub fn new_places(
     let mut places = Vec::new(alloc);
     for input in &inputs {
         places.push(input_places(alloc, pipeline, history, report, input)?)?;
+    }
+    Ok(places)
+}
+
+/// The place of a used place, if it is one of an input in a scope.
+fn place_if_at(one: &Used, input: &str, scope: u32) -> Option<u32>
+    ensures { result ≡ place_if_at input.now scope one.now }
+{
+    if input == one.input.as_str() && scope == one.scope {
+        Some(one.place)
+    } else {
+        None
+    }
+}
+
+/// The last of these places that is one of an input in a scope.
+fn last_used(used: &[Used], input: &str, scope: u32) -> Option<u32>
+    ensures { result ≡ last_given (place_if_at input.now scope) used.now }
+{
+    let mut place = None;
+    for one in used {
+        place = place_if_at(one, input, scope).or(place);
+    }
+    place
+}
+
+/// The place that a build used for an input of its job, if the input takes every version.
+fn place_taken(pipeline: &Pipeline, history: &History, used: &[Used], input: &Input) -> Option<u32>
+    ensures { result
+        ≡ place_taken (pipeline_data pipeline.now) history.now used.now (input_data input.now) }
+{
+    if !takes_every(&input.wanted) {
+        return None;
+    }
+    let scope = history_number(pipeline, history, input.resource.as_str());
+    last_used(used, input.name.as_str(), scope)
+}
+
+/// The places that a build of a job used for the job's inputs, in plan order: for each that takes every version
+/// (Concourse: get step, `version: every`).
+///
+/// Of the history it reads the numbers of scopes alone. The only error is out of memory.
+pub fn places_taken(
+    alloc: Global,
+    pipeline: &Pipeline,
+    history: &History,
+    used: &[Used],
+    job: &Job,
+) -> Result<Vec<Option<u32>>, AllocError>
+    ensures { IfOk result (λ v. v.items
+        ≡ map (place_taken (pipeline_data pipeline.now) history.now used.now) (inputs (tree_of job.now.plan.value))) }
+{
+    let inputs = inputs_of(alloc, job)?;
+    let mut places = Vec::new(alloc);
+    for input in &inputs {
+        places.push(place_taken(pipeline, history, used, input))?;
     }
     Ok(places)
 }

@@ -6,11 +6,11 @@ ghost use Rattle.ccr_pipeline.specs.JobData.{resource_data};
 ghost use Rattle.ccr_pipeline.specs.Pipelines.{pipeline_data};
 ghost use Rattle.ccr_pipeline.specs.Tree.{wanted_data};
 ghost use Rattle.ccr_problem.specs.Numbering.{each_once, number_of};
-ghost use Rattle.ccr_problem.specs.ProblemOf.{get_pin, pins_of, input_places, input_value, used_resources};
+ghost use Rattle.ccr_problem.specs.ProblemOf.{get_pin, pins_of, input_places, input_after, input_value, takes_every, used_resources};
 
-use crate::allowed::{Pins, places_from};
+use crate::allowed::{Pins, allowed_places};
 use crate::numbering::Numbering;
-use crate::scopes::{resource_named, scope_of};
+use crate::scopes::history_number;
 use ccr_choice::Input as ChoiceInput;
 use ccr_history::{History, Pin};
 use ccr_pipeline::{Input, Pipeline, Resource, Wanted};
@@ -38,7 +38,7 @@ pub(crate) fn named_jobs(alloc: Global, inputs: &[Input]) -> Result<Numbering, A
     Ok(jobs)
 }
 
-/// The pin that a get sets, if it sets one. Of `every` it says nothing: any version may be taken.
+/// The pin that a get sets, if it sets one; `every` allows any version.
 fn get_pin(wanted: &Wanted) -> Option<&Pin>
     ensures { option_copied result ≡ get_pin (wanted_data wanted.now) }
 {
@@ -73,18 +73,41 @@ fn input_places(
     ensures { IfOk result (λ v. v.items
         ≡ input_places (pipeline_data pipeline.now) history.now (input_data input.now)) }
 {
-    let Some(resource) = resource_named(pipeline.resources(), input.resource.as_str()) else {
+    let Some(resource) = pipeline.resource(input.resource.as_str()) else {
         return Ok(Vec::new(alloc));
     };
-    let scope = scope_of(alloc, resource)?;
     // A scope has few versions.
     history.rules();
-    places_from(
+    let pins = pins_of(resource, history, input);
+    let scope = history.scope_number(resource.scope());
+    allowed_places(
         alloc,
-        1,
-        &pins_of(resource, history, input),
-        history.versions(&scope),
+        &pins,
+        history,
+        scope,
+        history.versions(resource.scope()),
     )
+}
+
+/// Whether an input takes every version, one after the other (Concourse: get step, `version: every`).
+pub(crate) fn takes_every(wanted: &Wanted) -> bool
+    ensures { result ≡ takes_every (wanted_data wanted.now) }
+{
+    match wanted {
+        Wanted::Every => true,
+        Wanted::Latest | Wanted::Pinned(_) => false,
+    }
+}
+
+/// The place after which an input of a job prefers others, if there is one.
+fn input_after(pipeline: &Pipeline, history: &History, own: &str, input: &Input) -> Option<u32>
+    ensures { result ≡ input_after (pipeline_data pipeline.now) history.now own.now (input_data input.now) }
+{
+    if !takes_every(&input.wanted) {
+        return None;
+    }
+    let scope = history_number(pipeline, history, input.resource.as_str());
+    history.newest_used(own, input.name.as_str(), scope)
 }
 
 /// The numbers of names.
@@ -122,6 +145,7 @@ fn input_value(
     alloc: Global,
     pipeline: &Pipeline,
     history: &History,
+    own: &str,
     resources: &Numbering,
     jobs: &Numbering,
     input: &Input,
@@ -129,19 +153,21 @@ fn input_value(
     requires few_resources { length resources.now ≤ 32 }
     requires few_jobs { length jobs.now ≤ 32 }
     ensures { IfOk result (λ v. v ≡ input_value (pipeline_data pipeline.now) history.now
-        resources.now jobs.now (input_data input.now)) }
+        own.now resources.now jobs.now (input_data input.now)) }
 {
     let scope = resources.number(input.resource.as_str());
     let passed = passed_numbers(alloc, jobs, &input.passed)?;
     let places = input_places(alloc, pipeline, history, input)?;
-    Ok(ChoiceInput::new(scope, passed, places))
+    let after = input_after(pipeline, history, own, input);
+    Ok(ChoiceInput::new(scope, passed, after, places))
 }
 
-/// The inputs, where these resources and jobs are numbered.
+/// The inputs of a job, where these resources and jobs are numbered.
 pub(crate) fn input_values(
     alloc: Global,
     pipeline: &Pipeline,
     history: &History,
+    own: &str,
     resources: &Numbering,
     jobs: &Numbering,
     inputs: &[Input],
@@ -149,11 +175,11 @@ pub(crate) fn input_values(
     requires few_resources { length resources.now ≤ 32 }
     requires few_jobs { length jobs.now ≤ 32 }
     ensures { IfOk result (λ v. v.items ≡ map (input_value (pipeline_data pipeline.now) history.now
-        resources.now jobs.now) (map input_data inputs.now)) }
+        own.now resources.now jobs.now) (map input_data inputs.now)) }
 {
     let mut values = Vec::new(alloc);
     for input in inputs {
-        values.push(input_value(alloc, pipeline, history, resources, jobs, input)?)?;
+        values.push(input_value(alloc, pipeline, history, own, resources, jobs, input)?)?;
     }
     Ok(values)
 }

@@ -18,8 +18,7 @@ mod passed;
 mod problem;
 mod scopes;
 
-pub use coming::{Passed, has_newer, new_places, passed_to};
+pub use coming::{Passed, has_newer, new_places, passed_to, places_taken};
 pub use fault::ProblemFault;
 pub use law::{builds_change_problems, reports_change_problems};
 pub use problem::{problem_of, problem_of_job};
-pub use scopes::scope_of;

@@ -40,16 +40,17 @@ fn problem_with(
     alloc: Global,
     pipeline: &Pipeline,
     history: &History,
+    own: &str,
     inputs: &[Input],
 ) -> Result<Problem, AllocError>
     requires { IsTrue (are_few (map input_data inputs.now)) }
     ensures { IfOk result (λ p. p
-        ≡ problem_with (pipeline_data pipeline.now) history.now (map input_data inputs.now)) }
+        ≡ problem_with (pipeline_data pipeline.now) history.now own.now (map input_data inputs.now)) }
 {
     let resources = used_resources(alloc, inputs)?;
     let jobs = named_jobs(alloc, inputs)?;
     let scopes = history_numbers(alloc, pipeline, history, resources.names())?;
-    let values = input_values(alloc, pipeline, history, &resources, &jobs, inputs)?;
+    let values = input_values(alloc, pipeline, history, own, &resources, &jobs, inputs)?;
     let builds = builds_of_jobs(alloc, history, &scopes, jobs.names())?;
     // What a history keeps makes this keep the rules of a problem.
     history.rules();
@@ -66,29 +67,18 @@ pub fn problem_of_job(
     job: &Job,
 ) -> Result<Problem, AllocError>
     ensures { IfOk result (λ p. p
-        ≡ problem_with (pipeline_data pipeline.now) history.now (inputs (tree_of job.now.plan.value))) }
+        ≡ problem_with (pipeline_data pipeline.now) history.now (string_bytes job.now.name)
+        (inputs (tree_of job.now.plan.value))) }
 {
     let inputs = inputs_of(alloc, job)?;
-    problem_with(alloc, pipeline, history, &inputs)
+    problem_with(alloc, pipeline, history, job.name.as_str(), &inputs)
 }
 
-/// The job of a name.
-fn job_named<'p>(jobs: &'p [Job], name: &str) -> Option<&'p Job>
-    ensures { option_map (λ j. job_data j.now) result ≡ job_of name.now (map job_data jobs.now) }
-{
-    for job in jobs {
-        if name == job.name.as_str() {
-            return Some(job);
-        }
-    }
-    None
-}
-
-/// The problem of a job: what has to be chosen for its next build (Concourse: get step, `passed` and `version`; pinning
-/// versions).
+/// The problem of a job: what has to be chosen for its next build (Concourse: get step, `passed` and `version`; pinning and
+/// disabling versions).
 ///
-/// Its inputs are those of the job's plan, in plan order. Scopes and named jobs are numbered in order of first mention.
-/// `version: every` is taken as `latest`. It takes a time that grows with the versions in the inputs' scopes and with the
+/// Its inputs are those of the job's plan, in plan order. Scopes and named jobs are numbered in order of first mention. An
+/// input with `version: every` keeps the place that the newest build of the job which used it had. It takes a time that grows with the versions in the inputs' scopes and with the
 /// builds of the named jobs, whatever else the history has.
 ///
 /// `NoJob` exactly where the pipeline has no such job; `NoMemory` if out of memory.
@@ -102,7 +92,7 @@ pub fn problem_of(
     ensures no_job { IsErrOf result ProblemFault.NoJob
         ↔ (has_name (job_names (pipeline_data pipeline.now).jobs) job.now ≡ false) }
 {
-    match job_named(pipeline.jobs(), job) {
+    match pipeline.job(job) {
         Some(job) => Ok(problem_of_job(alloc, pipeline, history, job)?),
         None => Err(ProblemFault::NoJob),
     }

@@ -13,7 +13,7 @@ use Rattle.ccr_choice.proofs.BestPlaces.{best_places}
 use Rattle.ccr_proof.specs.Refutes.{HasNoPlace}
 use Rattle.ccr_choice.specs.Table.{build_of, assigned}
 use Rattle.ccr_choice.proofs.Members.{any_of}
-use Rattle.ccr_choice.proofs.PlainLaws.{is_order}
+use Rattle.ccr_choice.proofs.Orders.{is_order}
 use Rattle.ccr_choice.proofs.PossibleLaws.{are_only}
 use Rattle.ccr_choice.proofs.TableLaws.{build_among}
 use Rattle.ccr_resolve.specs.Search.{number_or_0, numbers_of, IsFull, FixesKnown}

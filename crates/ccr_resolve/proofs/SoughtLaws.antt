@@ -15,7 +15,7 @@ use Rattle.ccr_choice.specs.Table.{assigned}
 use Rattle.ccr_choice.specs.Dominated.{IsDominated}
 use Rattle.ccr_choice.proofs.Exchange.{other_satisfies}
 use Rattle.ccr_choice.proofs.Members.{tests_contains, same_number}
-use Rattle.ccr_choice.proofs.PlainLaws.{is_order}
+use Rattle.ccr_choice.proofs.Orders.{is_order}
 use Rattle.ccr_choice.proofs.TableLaws.{table_set, table_empty}
 use Rattle.ccr_proof.specs.Tree.{Tree, bounded}
 use Rattle.ccr_proof.specs.Refutes.{HasNoPlace, IsBounded, Refutes}

@@ -8,10 +8,9 @@ use Rattle.ccr_choice.specs.Problem.{ProblemValue, BuildValue, ChoiceValue, is_p
 use Rattle.ccr_choice.specs.Preference.{order_of, IsBetter}
 use Rattle.ccr_choice.specs.Assignment.{Assignment, nothing_fixed, with_build}
 use Rattle.ccr_choice.specs.Possible.{IsPossible, IsBestPossible, IsBestPlace, AreBestPlaces, AreBoundedBy}
-use Rattle.ccr_choice.specs.Later.{IsLater}
 use Rattle.ccr_choice.specs.Table.{assigned}
 use Rattle.ccr_choice.proofs.BestPlaces.{best_places}
-use Rattle.ccr_choice.proofs.PlainLaws.{is_order, better_later, later_better}
+use Rattle.ccr_choice.proofs.Orders.{is_order}
 use Rattle.ccr_choice.proofs.PossibleLaws.{are_only, bounded_by, best_place_is, best_places_at}
 use Rattle.ccr_proof.specs.Refutes.{HasNoPlace}
 use Rattle.ccr_index.proofs.BestLaws.{best_some, best_zero}
@@ -23,10 +22,10 @@ use Rattle.ccr_resolve.proofs.Path.{better_irreflexive, known_of, path_possible,
 module _ (p : ProblemValue) (a : Assignment) (upper : List ℕ) (best : AreUpper p a upper) where
   -- ---- inputs without a place
   pub empty_at : is_problem p ≡ true → (i : ℕ) → i < length p.inputs → slice_index upper i ≡ 0 → HasNoPlace p a i
-  empty_at rules i within zero' = (within, λ q h. best_zero p a i (slice_index upper i) rules within (best i within) zero' q h)
+  empty_at rules i within zero' = (within, λ q h. best_zero (order_of p) p a i (slice_index upper i) rules within (best i within) zero' q h)
 
   pub place_at : (i : ℕ) → slice_index upper i ≢ 0 → HasNoPlace p a i → ⊥
-  place_at i other h = let some = best_some p a i (slice_index upper i) (best i h.0) other in h.1 some.0 some.1
+  place_at i other h = let some = best_some (order_of p) p a i (slice_index upper i) (best i h.0) other in h.1 some.0 some.1
 
   -- ---- as a list
   pub are_upper : length p.inputs ≤ length upper → AreBestPlaces (order_of p) p a (take (length p.inputs) upper)
@@ -44,15 +43,12 @@ module _ (p : ProblemValue) (a : Assignment) (upper : List ℕ) (best : AreUpper
   upper_at i within = best_place_is (order_of p) (is_order p) p a i (slice_index upper i) (best i within) ∙ sym (best_places_at (order_of p) p a i within)
 
   -- ---- bounds
-  pub no_later : length p.inputs ≤ length upper → (bound : List ℕ) → (IsLater (take (length p.inputs) upper) bound → ⊥) ↔ AreBoundedBy (order_of p) p a bound
-  no_later wide bound =
-      let xs = take (length p.inputs) upper in
+  pub none_better : length p.inputs ≤ length upper → (bound : List ℕ) → (IsBetter (order_of p) (take (length p.inputs) upper) bound → ⊥) ↔ AreBoundedBy (order_of p) p a bound
+  none_better wide bound =
       let same = upper_only wide in
       let P : List ℕ → Type 0 = λ ys. IsBetter (order_of p) ys bound in
-      let both = bounded_by (order_of p) (is_order p) p a bound in (
-        λ h. both.0 (λ better. h (better_later xs bound (subst P (sym same) better))),
-        λ h later. both.1 h (subst P same (later_better xs bound later)),
-      )
+      let both = bounded_by (order_of p) (is_order p) p a bound in
+      (λ h. both.0 (λ better. h (subst P (sym same) better)), λ h better. both.1 h (subst P same better))
 
 -- ---- one more fixed build
 module _ (p : ProblemValue) (a c : Assignment) (i : ℕ) (same : EachIndex (input_at p i).jobs (λ k. a (slice_index (input_at p i).jobs k) ≡ c (slice_index (input_at p i).jobs k))) where

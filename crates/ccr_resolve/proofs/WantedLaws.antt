@@ -1,24 +1,25 @@
 -- Which builds can be part of a choice that is better than the one found.
-use Rattle.std.proofs.Common.{◌≡◌, ◌≢◌, ◌↔◌, ℕ, ◌+◌, ◌-◌, ◌<◌, ◌≤◌, inl, inr, true, ◌==◌, List, [], ◌∷◌, ◌++◌, length, length-append, All, drop, slice_index, slice_index_or, slice_set, refl, sym, ap, ◌∙◌, subst, arith, Option, Some, None}
+use Rattle.std.proofs.Common.{◌≡◌, ◌≢◌, ◌↔◌, ℕ, ◌+◌, ◌-◌, ◌<◌, ◌≤◌, ◌⊎◌, inl, inr, true, ◌==◌, List, [], ◌∷◌, ◌++◌, length, length-append, All, drop, slice_index, slice_index_or, slice_set, refl, sym, ap, ◌∙◌, subst, arith, Option, Some, None}
 use Rattle.std.specs.Prelude.{Contains, Any, MatchOption, unwrap_or, slice_get}
-use Rattle.std.proofs.lemmas.Bool.{cases_Bool, cases_lt, cond-true, cond-false, eq-eqb, eqb-true, ltb-true, lt-ltb}
+use Rattle.std.proofs.lemmas.Bool.{cases_Bool, cases_lt, cond-true, cond-false, eq-eqb, eqb-true, false≢true}
 use Rattle.std.proofs.lemmas.List.{get_or_default, get_or-drop, length-drop}
 use Rattle.std.proofs.lemmas.List.Elements.{All-contains, All-append, All-cons, All-nil, Contains-append_left, Contains-append_right}
 use Rattle.std.proofs.lemmas.Option.{get_or_from_slice_get}
 use Rattle.ccr_choice.specs.Problem.{ProblemValue, BuildValue, is_problem, input_at, builds_at}
 use Rattle.ccr_choice.specs.Satisfies.{Satisfies}
-use Rattle.ccr_choice.specs.Preference.{plain, order_of, IsBetter}
+use Rattle.ccr_choice.specs.Preference.{Preference, IsOrder, order_of, prefers_after, IsBetter}
 use Rattle.ccr_choice.specs.Assignment.{Assignment, Agrees, with_build}
 use Rattle.ccr_choice.specs.Possible.{CanHavePassed, IsPossible, IsBestPossible, IsBestPlace}
 use Rattle.ccr_choice.specs.Table.{build_of, assigned}
 use Rattle.ccr_choice.proofs.Members.{contains_first}
-use Rattle.ccr_choice.proofs.PlainLaws.{is_order}
+use Rattle.ccr_choice.proofs.Orders.{is_order}
 use Rattle.ccr_choice.proofs.TableLaws.{table_set}
 use Rattle.ccr_proof.proofs.Sound.{AreKnown, place_possible}
 use Rattle.ccr_index.specs.Rows.{no_build, last_with}
 use Rattle.ccr_index.proofs.RowLaws.{last_within, last_has, none_newer}
 use Rattle.ccr_resolve.specs.Search.{AreUpper}
-use Rattle.ccr_resolve.specs.Sought.{IsRuledOut, AreDistinct, HasAll, HasAllOf, AreWanted, AreSources, IsSplit, IsSplitOnce}
+use Rattle.ccr_resolve.specs.declared.spans.Span.{Span}
+use Rattle.ccr_resolve.specs.Sought.{IsRuledOut, AreDistinct, HasAll, HasAllOf, IsInSpan, span_place, AreWanted, AreSources, IsSplit, IsSplitOnce}
 use Rattle.ccr_resolve.proofs.Path.{known_of}
 
 -- ---- from a build with a pair to the next older one
@@ -108,27 +109,61 @@ walk_next bs pair last next build list list' old most so some e is pushed room =
 pub walk_end : (bs : List BuildValue) (pair : ℕ × ℕ) (last : ℕ) (list old : List ℕ) (most : ℕ) → IsWalked bs pair last list old most → last ≡ 0 → HasAll bs pair list
 walk_end bs pair last list old most so e = λ k within h. so.done k (omega (arith, within, e)) h
 
--- one place after the other, from the last one down
-pub places_next : (bs : List BuildValue) (scope to step : ℕ) (list list' : List ℕ) → ((place : ℕ) → place ≤ to → to < place + step → HasAll bs (scope, place) list) → ((k : ℕ) → Contains list k → Contains list' k)
-    → step ≤ to → HasAll bs (scope, to - step) list' → (place : ℕ) → place ≤ to → to < place + (step + 1) → HasAll bs (scope, place) list'
-places_next bs scope to step list list' all kept le new place below reached =
-    elim (cases_lt to (place + step)) [
-      | inl old ↦ (λ k within h. kept k (all place below old k within h))
-      | inr last ↦ (let now : to - step ≡ place = omega (arith, last, reached, le) in
-          let P : ℕ → Type 0 = λ n. HasAll bs (scope, n) list' in subst P now new)
+-- one place of a span after the other
+pub span_next : (bs : List BuildValue) (scope : ℕ) (span : Span) (step : ℕ) (list list' : List ℕ) → ((s : ℕ) → s < step → HasAll bs (scope, span_place span s) list) → ((k : ℕ) → Contains list k → Contains list' k)
+    → HasAll bs (scope, span_place span step) list' → (s : ℕ) → s < step + 1 → HasAll bs (scope, span_place span s) list'
+span_next bs scope span step list list' all kept new s less =
+    elim (cases_lt s step) [
+      | inl early ↦ (λ k within h. kept k (all s early k within h))
+      | inr late ↦ (let now : step ≡ s = omega (arith, late, less) in
+          let P : ℕ → Type 0 = λ n. HasAll bs (scope, span_place span n) list' in subst P now new)
     ]
 
-pub places_end : (bs bs' : List BuildValue) (scope scope' from to step most : ℕ) (list : List ℕ) → bs ≡ bs' → scope ≡ scope' → All (λ k. k < length bs) list → length list ≤ most → most ≤ length bs
-    → ((place : ℕ) → place ≤ to → to < place + step → HasAll bs (scope, place) list) → to < from + step → AreWanted bs' scope' from to list
-places_end bs bs' scope scope' from to step most list e f within few fits all last =
-    let made : AreWanted bs scope from to list = record {
-      few = omega (arith, few, fits);
-      within = within;
-      all = λ place reached below. all place below (omega (arith, reached, last));
-    } in
-    let P : List BuildValue → Type 0 = λ xs. AreWanted xs scope' from to list in
-    let Q : ℕ → Type 0 = λ n. AreWanted bs n from to list in
-    subst P e (subst Q f made)
+-- the step at which a place stands
+step_of : (span : Span) (place : ℕ) → IsInSpan span place → (s : ℕ) × (s < span.to + 1 - span.from) × (span_place span s ≡ place)
+step_of span place h =
+    elim (cases_Bool span.is_rising) [
+      | inl up ↦ (place - span.from, omega (arith, h.0, h.1), cond-true span.is_rising (span.from + (place - span.from)) (span.to - (place - span.from)) up ∙ back span.from place h.0)
+      | inr down ↦ (span.to - place, omega (arith, h.0, h.1), cond-false span.is_rising (span.from + (span.to - place)) (span.to - (span.to - place)) down ∙ twice span.to place h.1)
+    ]
+  where
+    back : (from place : ℕ) → from ≤ place → from + (place - from) ≡ place
+    back from place le = omega arith
+
+    twice : (to place : ℕ) → place ≤ to → to - (to - place) ≡ place
+    twice to place le = omega arith
+
+pub span_end : (bs : List BuildValue) (scope : ℕ) (span : Span) (step : ℕ) (list : List ℕ) → ((s : ℕ) → s < step → HasAll bs (scope, span_place span s) list) → span.to + 1 - span.from ≤ step
+    → (place : ℕ) → IsInSpan span place → HasAll bs (scope, place) list
+span_end bs scope span step list all last place h =
+    let at = step_of span place h in
+    let P : ℕ → Type 0 = λ n. HasAll bs (scope, n) list in
+    let early : at.0 < step = (let less = at.1 in omega (arith, less, last)) in
+    subst P at.2 (all at.0 early)
+
+-- both spans
+pub wanted_both : (p : ProblemValue) (job i found best : ℕ) (bs : List BuildValue) (scope : ℕ) (one two : Span) (first list : List ℕ) (after : Option ℕ) (places : List ℕ) (most : ℕ)
+    → bs ≡ builds_at p job → scope ≡ (input_at p i).scope → after ≡ (input_at p i).after → places ≡ (input_at p i).places
+    → ((place : ℕ) → Contains places place → (prefers_after after found place ≡ true → ⊥) → (prefers_after after place best ≡ true → ⊥) → IsInSpan one place ⊎ IsInSpan two place)
+    → ((place : ℕ) → IsInSpan one place → HasAll bs (scope, place) first) → ((k : ℕ) → Contains first k → Contains list k)
+    → ((place : ℕ) → IsInSpan two place → HasAll bs (scope, place) list)
+    → All (λ k. k < length bs) list → length list ≤ most → most ≤ length bs → AreWanted p job i found best list
+wanted_both p job i found best bs scope one two first list after places most e f g h spans in_one kept in_two within few fits =
+    let B : List BuildValue → Type 0 = λ xs. All (λ k. k < length xs) list in
+    record {
+      few = omega (arith, few, fits, ap length e);
+      within = subst B e within;
+      all = λ place allowed low high.
+          let C : List ℕ → Type 0 = λ ys. Contains ys place in
+          let H : List BuildValue → ℕ → Type 0 = λ xs s. HasAll xs (s, place) list in
+          let here : HasAll bs (scope, place) list = elim (spans place (subst C (sym h) allowed) (λ t. low (ap (λ o. prefers_after o found place) (sym g) ∙ t)) (λ t. high (ap (λ o. prefers_after o place best) (sym g) ∙ t))) [
+            | inl a ↦ (λ k inside has. kept k (in_one place a k inside has))
+            | inr b ↦ in_two place b
+          ] in
+          let P : List BuildValue → Type 0 = λ xs. H xs scope in
+          let Q : ℕ → Type 0 = λ s. H (builds_at p job) s in
+          subst Q f (subst P e here);
+    }
 
 -- all builds of a job
 pub full_split : (p : ProblemValue) (table : List ℕ) (best : Option (List ℕ)) (job : ℕ) (list : List ℕ) → job < length p.jobs → slice_index table job ≡ 0
@@ -151,28 +186,23 @@ full_split p table best job list inside free long each = record {
     }
 
 -- ---- the places that a better choice can have
-no_better_of : (p : ProblemValue) (a : Assignment) (i place upper : ℕ) (o : Option ℕ) → IsBestPossible plain p a i o → upper ≡ unwrap_or o 0 → IsPossible p a i place → place ≤ upper
-no_better_of p a i place upper None best e h = absurd (best place h)
-no_better_of p a i place upper (Some x) best e h =
-    elim (cases_lt x place) [
-      | inl more ↦ absurd (best.1 place h (lt-ltb x place more))
-      | inr le ↦ omega (arith, le, e)
-    ]
+no_better_of : (p : ProblemValue) (a : Assignment) (i place upper : ℕ) (o : Option ℕ) → IsBestPossible (order_of p) p a i o → upper ≡ unwrap_or o 0 → IsPossible p a i place → order_of p i place upper ≡ true → ⊥
+no_better_of p a i place upper None best e h better = best place h
+no_better_of p a i place upper (Some x) best e h better = best.1 place h (ap (order_of p i place) (sym e) ∙ better)
 
-no_better : (p : ProblemValue) (a : Assignment) (i place upper : ℕ) → IsBestPlace plain p a i upper → IsPossible p a i place → place ≤ upper
+no_better : (p : ProblemValue) (a : Assignment) (i place upper : ℕ) → IsBestPlace (order_of p) p a i upper → IsPossible p a i place → order_of p i place upper ≡ true → ⊥
 no_better p a i place upper best h = no_better_of p a i place upper best.0 best.1 best.2 h
 
-reaches : (places best upper : List ℕ) (i : ℕ) → IsBetter plain places best → ((y : ℕ) → y < i → slice_index upper y ≡ slice_index best y) → ((y : ℕ) → y ≤ i → slice_index places y ≤ slice_index upper y)
-    → slice_index best i ≤ slice_index places i
-reaches places best upper i h same low =
-    let more : slice_index best h.first < slice_index places h.first = ltb-true _ _ h.preferred in
+reaches : (prefers : Preference) → IsOrder prefers → (places best upper : List ℕ) (i : ℕ) → IsBetter prefers places best → ((y : ℕ) → y < i → slice_index upper y ≡ slice_index best y)
+    → ((y : ℕ) → y ≤ i → prefers y (slice_index places y) (slice_index upper y) ≡ true → ⊥) → prefers i (slice_index best i) (slice_index places i) ≡ true → ⊥
+reaches prefers order places best upper i h same low worse =
     elim (cases_lt i h.first) [
-      | inl before ↦ omega (arith, h.same_before i before)
+      | inl before ↦ false≢true (sym (order.irreflexive i (slice_index best i)) ∙ ap (prefers i (slice_index best i)) (sym (h.same_before i before)) ∙ worse)
       | inr reached ↦ elim (cases_lt h.first i) [
-        | inl less ↦ (let top = low h.first (omega (arith, less)) in absurd (omega (arith, more, top, same h.first less)))
+        | inl less ↦ low h.first (omega (arith, less)) (ap (prefers h.first (slice_index places h.first)) (same h.first less) ∙ h.preferred)
         | inr at ↦ (let now : h.first ≡ i = omega (arith, reached, at) in
-            let P : ℕ → Type 0 = λ n. slice_index best n < slice_index places n in
-            let less : P i = subst P now more in omega (arith, less))
+            let P : ℕ → Type 0 = λ n. prefers n (slice_index places n) (slice_index best n) ≡ true in
+            false≢true (sym (order.irreflexive i (slice_index best i)) ∙ order.transitive i _ _ _ worse (subst P now h.preferred)))
       ]
     ]
 
@@ -222,12 +252,13 @@ module _ (p : ProblemValue) (rules : is_problem p ≡ true) (table : List ℕ) (
 
   -- few builds have a place from the one found to the best
   module _ (upper best list : List ℕ) (uppers : AreUpper p (assigned p table) upper) (same : (y : ℕ) → y < i → slice_index upper y ≡ slice_index best y)
-      (wanted : AreWanted (builds_at p j) (input_at p i).scope (slice_index best i) (slice_index upper i) list) where
+      (wanted : AreWanted p j i (slice_index best i) (slice_index upper i) list) where
     wanted_out : (k : ℕ) (b : BuildValue) → k < length (builds_at p j) → slice_get (builds_at p j) k ≡ Some b → (Contains list k → ⊥) → IsRuledOut (order_of p) p (Some best) (with_build (assigned p table) j b)
     wanted_out k b within got out = λ places builds sat agrees better.
-        let low : (y : ℕ) → y ≤ i → slice_index places y ≤ slice_index upper y = λ y le.
+        let low : (y : ℕ) → y ≤ i → order_of p y (slice_index places y) (slice_index upper y) ≡ true → ⊥ = λ y le.
         no_better p (assigned p table) y (slice_index places y) (slice_index upper y) (uppers y (omega (arith, le, inside))) (possible b places builds sat agrees y (omega (arith, le, inside))) in
-        out (in_list k b within got places builds list sat agrees (wanted.all (slice_index places i) (reaches places best upper i better same low) (low i (omega arith))))
+        let allowed = (possible b places builds sat agrees i inside).allowed in
+        out (in_list k b within got places builds list sat agrees (wanted.all (slice_index places i) allowed (reaches (order_of p) (is_order p) places best upper i better same low) (low i (omega arith))))
 
     pub wanted_split : j < length p.jobs → IsSplit p table (Some best) j list
     wanted_split within = record { inside = within; free = free; few = wanted.few; within = wanted.within; left_out = wanted_out }

@@ -1,5 +1,5 @@
 -- What the search without a proof gives. No public contract names these.
-use Rattle.std.specs.Prelude.{◌≡◌, ◌≢◌, ℕ, ◌+◌, ◌<◌, ◌≤◌, List, length, Bool, true, false, Option, Some, None, slice_index, slice_index_or, slice_get, All, Contains}
+use Rattle.std.specs.Prelude.{◌≡◌, ◌≢◌, ℕ, ◌+◌, ◌-◌, ◌<◌, ◌≤◌, List, length, Bool, true, false, Option, Some, None, slice_index, slice_index_or, slice_get, IsTrue, All, Contains, if◌then◌else◌}
 use Rattle.ccr_choice.specs.Problem.{ProblemValue, BuildValue, ChoiceValue, input_at, builds_at}
 use Rattle.ccr_choice.specs.Satisfies.{Satisfies}
 use Rattle.ccr_choice.specs.Preference.{Preference, order_of, IsBetter}
@@ -7,6 +7,7 @@ use Rattle.ccr_choice.specs.Assignment.{Assignment, Agrees, with_build}
 use Rattle.ccr_choice.specs.Possible.{IsPossible}
 use Rattle.ccr_choice.specs.Table.{assigned}
 use Rattle.ccr_index.specs.Rows.{no_build}
+use Rattle.ccr_resolve.specs.declared.spans.Span.{Span}
 use Rattle.ccr_resolve.specs.Kinds.{kinds_from}
 use Rattle.ccr_resolve.specs.Search.{places_of, FoundSatisfies, free_kinds, IsNoWorse}
 
@@ -50,11 +51,21 @@ HasAllOf builds scope pairs list = (place : ℕ) → Contains pairs (scope, plac
 abbrev pub AreSources : ProblemValue → Assignment → ℕ → List (ℕ × ℕ) → Type 0
 AreSources p a i pairs = (place : ℕ) → IsPossible p a i place → Contains pairs ((input_at p i).scope, place)
 
--- Positions of builds, with all that have one of these places of a scope.
-pub record AreWanted (builds : List BuildValue) (scope from to : ℕ) (list : List ℕ) : Type 0 where
-  pub few : length list ≤ length builds
-  pub within : All (λ k. k < length builds) list
-  pub all : (place : ℕ) → from ≤ place → place ≤ to → HasAll builds (scope, place) list
+-- The place is one of a span.
+abbrev pub IsInSpan : Span → ℕ → Type 0
+IsInSpan span place = (span.from ≤ place) × (place ≤ span.to)
+
+-- The place of a span at this step, from 0.
+abbrev pub span_place : Span → ℕ → ℕ
+span_place span step = if span.is_rising then span.from + step else span.to - step
+
+-- Positions of builds of a job, with all that have an allowed place of input i to which the one found isn't preferred, and which
+-- isn't preferred to the best one.
+pub record AreWanted (p : ProblemValue) (job i found best : ℕ) (list : List ℕ) : Type 0 where
+  pub few : length list ≤ length (builds_at p job)
+  pub within : All (λ k. k < length (builds_at p job)) list
+  pub all : (place : ℕ) → Contains (input_at p i).places place → ¬ IsTrue (order_of p i found place) → ¬ IsTrue (order_of p i place best)
+      → HasAll (builds_at p job) ((input_at p i).scope, place) list
 
 -- A free job, and positions of its builds: each build that is left out is ruled out.
 pub record IsSplit (p : ProblemValue) (table : List ℕ) (best : Option (List ℕ)) (job : ℕ) (list : List ℕ) : Type 0 where

@@ -8,18 +8,18 @@ ghost use Rattle.ccr_resolve.specs.Search.{AreUpper, FixesKnown, FoundSatisfies}
 
 use crate::choice::full_choice;
 use crate::pick::first_free;
-use crate::upper::{BestPlaces, first_empty, is_closed, lowered, names};
+use crate::upper::{BestPlaces, first_empty, is_better, is_closed, lowered, names};
 use crate::wanted::{add_builds_with, add_builds_with_any, fixed_pairs};
 use ccr_choice::possible::Fixed;
-use ccr_choice::{Choice, MOST_JOBS, later};
-use ccr_index::{Index, JobRows};
+use ccr_choice::{Choice, MOST_JOBS};
+use ccr_index::{Index, InputRows, JobRows};
 use std::alloc::{AllocError, Global};
 
 /// How many boxes are looked at in all, at the most.
 const MOST_BOXES: u32 = 2_000;
 /// How many of a job's builds are looked at in a box.
 const LOOKED_AT: usize = 32;
-/// How many places, from the best one down, are tried for them.
+/// How many places, from the best one on, are tried for them.
 const PLACES: u32 = 256;
 /// How many of them are gone into.
 const GONE_INTO: usize = 16;
@@ -65,26 +65,64 @@ fn first_input(index: &Index, job: usize) -> Option<usize>
     None
 }
 
-/// Adds the positions of builds with the best places of a scope, from this one down.
+/// The input by whose best place builds of a job are looked for: of those that name the job and have a kept place, the one whose best
+/// place the fewest builds have, where these are fewer than are looked at; else the first that names the job.
+fn guide(
+    alloc: Global,
+    index: &Index,
+    upper: &BestPlaces,
+    job: usize,
+    rows: &JobRows,
+) -> Result<Option<usize>, AllocError>
+    ensures { IfOk result (λ found. IfSome found (λ i. i < length index.now.problem.inputs)) }
+{
+    let mut guide = first_input(index, job);
+    let mut fewest = LOOKED_AT;
+    for i in 0..index.input_count() {
+        let input = index.input(i);
+        if input.after().is_some() && names(index, i, job) {
+            let mut builds = Vec::new(alloc);
+            add_builds_with(&mut builds, rows, input.scope(), upper[i], fewest)?;
+            if builds.len() < fewest {
+                guide = Some(i);
+                fewest = builds.len();
+            }
+        }
+    }
+    Ok(guide)
+}
+
+/// The place that is preferred next after this one, of those from 1 to the last one; 0 where there is none.
+fn next_place(after: Option<u32>, last: u32, place: u32) -> u32 {
+    match after {
+        Some(kept) if kept < place => { if place < last { place + 1 } else { kept } }
+        _ => place.saturating_sub(1),
+    }
+}
+
+/// Adds the positions of builds with the best places of an input, from this one on.
 fn add_builds_from(
     builds: &mut Vec<usize>,
     rows: &JobRows,
-    scope: u32,
+    input: &InputRows,
     top: u32,
 ) -> Result<(), AllocError>
     requires within { All (λ k. k < length rows.now.builds) builds.old.items }
     requires few { length builds.old.items ≤ LOOKED_AT }
     ensures { All (λ k. k < length rows.now.builds) builds.new.items }
 {
-    for step in 0..top.min(PLACES) {
-        if add_builds_with(builds, rows, scope, top - step, LOOKED_AT)? {
+    let last = input.places().last().copied().unwrap_or(0);
+    let mut place = top;
+    for _ in 0..PLACES {
+        if place == 0 || add_builds_with(builds, rows, input.scope(), place, LOOKED_AT)? {
             return Ok(());
         }
+        place = next_place(input.after(), last, place);
     }
     Ok(())
 }
 
-/// The builds of a job to look at: those with the best places of the first input that names it.
+/// The builds of a job to look at: those with the best places of one input that names it.
 fn looked_at(
     alloc: Global,
     index: &Index,
@@ -96,15 +134,15 @@ fn looked_at(
     ensures { IfOk result (λ builds. All (λ k. k < length rows.now.builds) builds.items) }
 {
     let mut builds = Vec::new(alloc);
-    let Some(input) = first_input(index, job) else {
+    let Some(input) = guide(alloc, index, upper, job, rows)? else {
         return Ok(builds);
     };
-    let scope = index.input(input).scope();
+    let sought = index.input(input);
     match fixed_pairs(index, fixed, input) {
         Some(pairs) => {
-            add_builds_with_any(&mut builds, rows, scope, pairs, LOOKED_AT)?;
+            add_builds_with_any(&mut builds, rows, sought.scope(), pairs, LOOKED_AT)?;
         }
-        None => add_builds_from(&mut builds, rows, scope, upper[input])?,
+        None => add_builds_from(&mut builds, rows, sought, upper[input])?,
     }
     Ok(builds)
 }
@@ -131,6 +169,7 @@ fn steps(
         let places = lowered(index, upper, &inner, job);
         if first_empty(index, &places).is_none() && !is_closed(index, &places, best) {
             add_step(
+                index,
                 &mut steps,
                 Step {
                     build,
@@ -144,15 +183,15 @@ fn steps(
 
 /// Adds a step behind those that are no worse, and drops the last of too many. Of steps that leave the same best places the first
 /// is enough.
-fn add_step(steps: &mut Vec<Step>, step: Step) -> Result<(), AllocError>
+fn add_step(index: &Index, steps: &mut Vec<Step>, step: Step) -> Result<(), AllocError>
     ensures { (n : ℕ) → step.build < n → All (λ s. s.build < n) steps.old.items
         → All (λ s. s.build < n) steps.new.items }
 {
     let at = steps
         .iter()
-        .position(|other| later(&step.upper, &other.upper))
+        .position(|other| is_better(index, &step.upper, &other.upper))
         .unwrap_or(steps.len());
-    if at > 0 && !later(&steps[at - 1].upper, &step.upper) {
+    if at > 0 && !is_better(index, &steps[at - 1].upper, &step.upper) {
         return Ok(());
     }
     if at < GONE_INTO {

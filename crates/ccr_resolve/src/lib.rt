@@ -20,6 +20,7 @@ mod newest;
 mod once;
 mod pick;
 mod resolver;
+mod spans;
 mod upper;
 mod wanted;
 

@@ -1,8 +1,8 @@
 //! The best places of the inputs while some builds are fixed. They are handed down, and none is looked for twice.
 
-ghost use Rattle.std.specs.Prelude.{◌≡◌, ◌<◌, ◌↔◌, ℕ, length, IsTrue, MatchOption, Contains};
+ghost use Rattle.std.specs.Prelude.{◌≡◌, ◌<◌, ◌≤◌, ◌↔◌, ℕ, length, take, IsTrue, MatchOption, Contains};
 ghost use Rattle.ccr_choice.specs.Problem.{BuildValue, IsProblem, input_at};
-ghost use Rattle.ccr_choice.specs.Preference.{order_of};
+ghost use Rattle.ccr_choice.specs.Preference.{order_of, IsBetter};
 ghost use Rattle.ccr_choice.specs.Assignment.{Assignment, nothing_fixed, with_build};
 ghost use Rattle.ccr_choice.specs.Possible.{IsBestPlace};
 ghost use Rattle.ccr_choice.specs.Table.{assigned};
@@ -10,7 +10,7 @@ ghost use Rattle.ccr_proof.specs.Refutes.{HasNoPlace, IsBounded};
 ghost use Rattle.ccr_resolve.specs.Search.{AreUpper, places_of};
 
 use ccr_choice::possible::Fixed;
-use ccr_choice::{Choice, MOST_INPUTS, later};
+use ccr_choice::{Choice, MOST_INPUTS, is_preferred};
 use ccr_index::Index;
 
 /// For each input its best place, 0 where it has none.
@@ -77,6 +77,30 @@ pub(crate) fn first_empty(index: &Index, upper: &BestPlaces) -> Option<u32>
     None
 }
 
+/// Whether the first place is preferred to the second at input `input`.
+fn prefers(index: &Index, input: usize, place: u32, other: u32) -> bool
+    requires { input < length index.now.problem.inputs }
+    ensures { result ≡ order_of index.now.problem input place other }
+{
+    is_preferred(index.input(input).after(), place, other)
+}
+
+/// Whether the best places are better than these: at the first input where they differ, as far as there are such, the place is
+/// preferred.
+pub(crate) fn is_better(index: &Index, upper: &BestPlaces, places: &[u32]) -> bool
+    ensures value { let p = index.now.problem in IsTrue result
+        ↔ IsBetter (order_of p) (take (length p.inputs) upper.now) places.now }
+    ensures few { length index.now.problem.inputs ≤ MOST_INPUTS }
+{
+    let both = index.input_count().min(places.len());
+    for i in 0..both {
+        if upper[i] != places[i] {
+            return prefers(index, i, upper[i], places[i]);
+        }
+    }
+    false
+}
+
 /// Whether the best places are no better than those of what was found.
 pub(crate) fn is_closed(index: &Index, upper: &BestPlaces, best: &Option<Choice>) -> bool
     ensures { (a : Assignment) → AreUpper index.now.problem a upper.now
@@ -84,6 +108,6 @@ pub(crate) fn is_closed(index: &Index, upper: &BestPlaces, best: &Option<Choice>
 {
     match best {
         None => false,
-        Some(choice) => !later(&upper[..index.input_count()], &choice.places),
+        Some(choice) => !is_better(index, upper, &choice.places),
     }
 }

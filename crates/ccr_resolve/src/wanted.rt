@@ -5,10 +5,11 @@ ghost use Rattle.std.specs.Prelude.{◌≡◌, ◌≢◌, ◌<◌, ◌≤◌, �
 ghost use Rattle.ccr_choice.specs.Problem.{input_at, builds_at};
 ghost use Rattle.ccr_choice.specs.Table.{assigned};
 ghost use Rattle.ccr_resolve.specs.Search.{AreUpper, places_of};
-ghost use Rattle.ccr_resolve.specs.Sought.{HasAll, HasAllOf, AreWanted, AreSources, IsSplit, IsSplitOnce};
+ghost use Rattle.ccr_resolve.specs.Sought.{HasAll, HasAllOf, IsInSpan, AreWanted, AreSources, IsSplit, IsSplitOnce};
 
 use crate::once::each_once;
 use crate::pick::cheapest_job;
+use crate::spans::{Span, spans_of};
 use crate::upper::BestPlaces;
 use ccr_choice::Choice;
 use ccr_choice::possible::Fixed;
@@ -78,40 +79,67 @@ pub(crate) fn add_builds_with_any(
     Ok(false)
 }
 
-/// The positions of those builds of a job that have a place from `from` to `to` in the scope of an input, if they are at most
-/// `most` and at most half of the job's: else little is left out.
+/// Adds the positions of those builds that have a place of a span in a scope, those with the first place first; true where there
+/// would be more than `most` in all.
+fn add_builds_in(
+    builds: &mut Vec<usize>,
+    rows: &JobRows,
+    scope: u32,
+    span: Span,
+    most: usize,
+) -> Result<bool, AllocError>
+    requires within { All (λ k. k < length rows.now.builds) builds.old.items }
+    requires few { length builds.old.items ≤ most }
+    ensures within { All (λ k. k < length rows.now.builds) builds.new.items }
+    ensures few { length builds.new.items ≤ most }
+    ensures kept { (k : ℕ) → Contains builds.old.items k → Contains builds.new.items k }
+    ensures all { IfOk result (λ is_over. IsTrue (not is_over) → (place : ℕ) → IsInSpan span place
+        → HasAll rows.now.builds (scope, place) builds.new.items) }
+{
+    for step in 0..span.len() {
+        if add_builds_with(builds, rows, scope, span.place(step), most)? {
+            return Ok(true);
+        }
+    }
+    Ok(false)
+}
+
+/// The positions of those builds of a job that have a place of an input no worse than the one found and no better than the best one,
+/// if they are at most `most` and at most half of the job's: else little is left out.
 fn wanted_builds(
     alloc: Global,
     index: &Index,
     job: usize,
     input: usize,
-    from: u32,
-    to: u32,
+    found: u32,
+    best: u32,
     most: usize,
 ) -> Result<Option<Vec<usize>>, AllocError>
     requires job { job < length index.now.problem.jobs }
     requires input { input < length index.now.problem.inputs }
-    ensures { IfOk result (λ found. IfSome found (λ builds.
-        AreWanted (builds_at index.now.problem job) (input_at index.now.problem input).scope from to builds.items)) }
+    ensures { IfOk result (λ wanted. IfSome wanted (λ builds.
+        AreWanted index.now.problem job input found best builds.items)) }
 {
     let rows = index.rows(job);
     let most = most.min(rows.len() / 2);
-    if to < from || (to - from) as usize >= most {
+    let sought = index.input(input);
+    let spans = spans_of(sought.after(), sought.places(), found, best);
+    if spans.len() > most {
         return Ok(None);
     }
-    let scope = index.input(input).scope();
+    let scope = sought.scope();
     let mut builds = Vec::new(alloc);
-    for step in 0..(to - from + 1) {
-        let is_over = add_builds_with(&mut builds, rows, scope, to - step, most)?;
-        if is_over {
-            return Ok(None);
-        }
+    if add_builds_in(&mut builds, rows, scope, spans.first, most)? {
+        return Ok(None);
+    }
+    if add_builds_in(&mut builds, rows, scope, spans.second, most)? {
+        return Ok(None);
     }
     Ok(Some(builds))
 }
 
 /// A free job with at most `most` builds that can be part of a better choice. A better one has the places found before the first input whose
-/// best place is better, and there a place from the one found to the best.
+/// best place is better, and there a place no worse than the one found.
 fn best_split(
     alloc: Global,
     index: &Index,
@@ -125,18 +153,18 @@ fn best_split(
         IsSplit index.now.problem fixed.now (Some best.now.places) split.job split.builds.items)) }
 {
     for i in 0..index.input_count() {
-        let Some(from) = best.places.get(i) else {
+        let Some(found) = best.places.get(i) else {
             return Ok(None);
         };
         for name in index.input(i).jobs() {
             let job = *name as usize;
             if fixed[job] == 0 {
-                if let Some(builds) = wanted_builds(alloc, index, job, i, *from, upper[i], most)? {
+                if let Some(builds) = wanted_builds(alloc, index, job, i, *found, upper[i], most)? {
                     return Ok(Some(Split { job, builds }));
                 }
             }
         }
-        if upper[i] != *from {
+        if upper[i] != *found {
             return Ok(None);
         }
     }

@@ -1,7 +1,7 @@
 //! The resolver beside brute force over all choices of small problems.
 
 use crate::seeded::Seeded;
-use ccr_choice::{Choice, Problem, Verdict, later, read_problem, satisfies};
+use ccr_choice::{Choice, Problem, Verdict, preferred, read_problem, satisfies};
 use ccr_index::build_index;
 use ccr_proof::Claim;
 use ccr_resolve::{Answer, resolve};
@@ -32,19 +32,46 @@ fn push_builds(text: &mut String, seeded: &mut Seeded) -> Result<(), AllocError>
     Ok(())
 }
 
+/// Adds an input, with the place that is kept, if it isn't 0.
+fn push_input(text: &mut String, named: &str, after: u64, places: &str) -> Result<(), AllocError> {
+    text.push_str(named)?;
+    if after != 0 {
+        write!(text, " after {after}")?;
+    }
+    write!(text, " places {places}\n")
+}
+
+/// A place that is kept: none, once in two times, else one from 1 to 4.
+fn some_kept(seeded: &mut Seeded) -> u64 {
+    if seeded.once_in(2) {
+        0
+    } else {
+        seeded.below(4) + 1
+    }
+}
+
 /// A problem of three inputs and two jobs, which the first input names both.
 fn some_problem(alloc: Global, seeded: &mut Seeded) -> Result<String, AllocError> {
-    let mut text = String::from_str(alloc, "problem 1\ninputs 3\n0 jobs 0 1 places 1 2 3\n")?;
-    text.push_str(match seeded.below(3) {
-        0 => "1 jobs 0 places 1 2 3\n",
-        1 => "1 jobs 1 places 1 3\n",
-        _ => "1 jobs 1 0 places 1 2\n",
-    })?;
-    text.push_str(match seeded.below(3) {
-        0 => "2 jobs 1 places 1 2\n",
-        1 => "2 jobs places 1 2 3\n",
-        _ => "2 jobs 0 places 2 3\n",
-    })?;
+    let (first, second, third) = (some_kept(seeded), some_kept(seeded), some_kept(seeded));
+    let format = if first == 0 && second == 0 && third == 0 {
+        1
+    } else {
+        2
+    };
+    let mut text = format!(in alloc; "problem {format}\ninputs 3\n")?;
+    push_input(&mut text, "0 jobs 0 1", first, "1 2 3")?;
+    let (named, places) = match seeded.below(3) {
+        0 => ("1 jobs 0", "1 2 3"),
+        1 => ("1 jobs 1", "1 3"),
+        _ => ("1 jobs 1 0", "1 2"),
+    };
+    push_input(&mut text, named, second, places)?;
+    let (named, places) = match seeded.below(3) {
+        0 => ("2 jobs 1", "1 2"),
+        1 => ("2 jobs", "1 2 3"),
+        _ => ("2 jobs 0", "2 3"),
+    };
+    push_input(&mut text, named, third, places)?;
     text.push_str("jobs 2\n")?;
     push_builds(&mut text, seeded)?;
     push_builds(&mut text, seeded)?;
@@ -59,14 +86,14 @@ fn choice_of(alloc: Global, code: u32) -> Result<Choice, AllocError> {
     })
 }
 
-/// The latest places of all choices that satisfy, or None where none does.
-fn latest(alloc: Global, problem: &Problem) -> Result<Option<Vec<u32>>, AllocError> {
+/// The most preferred places of all choices that satisfy, or None where none does.
+fn best_of_all(alloc: Global, problem: &Problem) -> Result<Option<Vec<u32>>, AllocError> {
     let mut best: Option<Vec<u32>> = None;
     for code in 0..1024u32 {
         let choice = choice_of(alloc, code)?;
         let is_better = match &best {
             None => true,
-            Some(places) => later(&choice.places, places),
+            Some(places) => preferred(problem, &choice.places, places),
         };
         if is_better && satisfies(problem, &choice) == Verdict::Satisfies {
             best = Some(choice.places);
@@ -96,7 +123,7 @@ fn answer_to(alloc: Global, problem: &Problem) -> Result<Answer, Fail> {
 /// Whether the resolver and brute force agree on a problem, and whether a choice satisfies.
 fn compared(alloc: Global, text: &str) -> Result<(bool, bool), Fail> {
     let problem = read_problem(alloc, text.as_bytes())?;
-    let places = latest(alloc, &problem)?;
+    let places = best_of_all(alloc, &problem)?;
     Ok((
         agrees(&answer_to(alloc, &problem)?, &places),
         places.is_some(),

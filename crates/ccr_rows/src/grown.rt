@@ -12,7 +12,11 @@ fn have_same_rows(one: &Index, other: &Index) -> bool {
     }
     for i in 0..one.input_count() {
         let (x, y) = (one.input(i), other.input(i));
-        if x.scope() != y.scope() || x.places() != y.places() || x.jobs() != y.jobs() {
+        if x.scope() != y.scope()
+            || x.places() != y.places()
+            || x.jobs() != y.jobs()
+            || x.after() != y.after()
+        {
             return false;
         }
     }
@@ -64,15 +68,23 @@ fn are_same(one: &Index, other: &Index) -> bool {
     true
 }
 
-/// The problem without its places and builds.
+/// The problem without its allowed places and builds.
 fn bare(alloc: Global, problem: &Problem) -> Result<String, AllocError> {
     let inputs = problem.inputs().len();
-    let mut text = format!(in alloc; "problem 1\ninputs {inputs}\n")?;
+    let format = if problem.inputs().iter().any(|input| input.after().is_some()) {
+        2
+    } else {
+        1
+    };
+    let mut text = format!(in alloc; "problem {format}\ninputs {inputs}\n")?;
     for input in problem.inputs() {
         let scope = input.scope();
         write!(text, "{scope} jobs")?;
         for job in input.jobs() {
             write!(text, " {job}")?;
+        }
+        if let Some(kept) = input.after() {
+            write!(text, " after {kept}")?;
         }
         text.push_str(" places\n")?;
     }

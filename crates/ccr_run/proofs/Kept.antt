@@ -9,9 +9,10 @@ use Rattle.sqlite.specs.Held.{Held}
 use Rattle.sqlite.specs.Files.{file_state, IsOpened}
 use Rattle.sqlite.specs.Start.{FindsIn}
 use Rattle.ccr_history.specs.History.{HistoryData, IsHistory, no_history}
-use Rattle.ccr_tables.specs.Contents.{Contents, Holds}
+use Rattle.ccr_tables.specs.Contents.{Holds}
 use Rattle.ccr_tables.specs.Schema.{no_schema}
-use Rattle.ccr_store.specs.Rows.{HasFormat, rows_of}
+use Rattle.ccr_store.specs.Rows.{Fits, rows_in}
+use Rattle.ccr_store.specs.declared.format.Format.{Format}
 use Rattle.ccr_store.specs.StoreData.{StoreData, IsStored}
 use Rattle.ccr_run.specs.Opening.{HoldsHistory}
 use Rattle.ccr_run.proofs.Finding.{nothing_found, tables_found}
@@ -25,8 +26,8 @@ pub adopted : {D : Type 0} {g : Ghosts D} (image : Image) (conn : Held (FileStor
     → (HasCleanDisk (file_state conn) → IsOpened conn) → (HasCleanDisk (file_state conn) → FindsIn image (file_state conn))
     → (HasCleanDisk (file_state store.conn) → (file_state conn).now.schema ≡ no_schema
     → IsStored no_history (file_state store.conn).now × ((file_state store.conn).committed ≡ (file_state store.conn).now))
-    → ((these : Contents) → HasCleanDisk (file_state store.conn) → (file_state conn).now ≡ (file_state conn).committed
-    → Holds these (file_state conn).now → Holds these (file_state store.conn).now × HasFormat these)
+    → ((format : Format) → (h : HistoryData) → IsHistory h → Fits format h → HasCleanDisk (file_state store.conn)
+    → Holds (rows_in format h) (file_state conn).now → IsStored h (file_state store.conn).now)
     → doubt (file_state conn).is_clean ≤ doubt (file_state store.conn).is_clean → HasCleanDisk (file_state store.conn)
     → (h : HistoryData) → HoldsHistory image h → IsStored h (file_state store.conn).now
 adopted image conn store opened finds made found less clean h (inl nothing) =
@@ -35,8 +36,8 @@ adopted image conn store opened finds made found less clean h (inl nothing) =
     (made clean (nothing_found image conn (opened was) (finds was) nothing.0)).0
 adopted image conn store opened finds made found less clean h (inr tables) =
     let was = was_clean (file_state conn) (file_state store.conn) less clean in
-    let held = tables_found image conn (opened was) (finds was) tables.trees (rows_of h) tables.found tables.listed tables.rows in
-    record { rules = tables.rules; rows = (found (rows_of h) clean (opened was).0.clean held).0 }
+    let held = tables_found image conn (opened was) (finds was) tables.trees (rows_in tables.format h) tables.found tables.listed tables.rows in
+    found tables.format h tables.rules tables.fits clean held
 
 -- what holds after a call on a premise
 pub on_ok_under : {A E : Type 0} (P Q : Type 0) (r : Result A E) → (P → OnOk r Q) → OnOk r (P → Q)

@@ -3,3 +3,4 @@ pub mod Finding
 pub mod Kept
 pub mod Ordering
 pub mod Serving
+pub mod Unfound

@@ -1,13 +1,14 @@
 -- What came of an order, from what its parts say.
-use Rattle.std.proofs.Common.{◌≡◌, refl, ◌∙◌, inl, ℕ, List, [], Bool, not, Option, Some, Result, ap, subst, string_bytes}
+use Rattle.std.proofs.Common.{◌≡◌, refl, ◌∙◌, inl, inr, ℕ, List, [], Bool, not, Option, Some, Result, Err, ap, subst, string_bytes}
 use Rattle.ccr_history.specs.Text.{Text}
 use Rattle.ccr_history.specs.History.{HistoryData}
 use Rattle.ccr_process.specs.Runs.{Pair}
 use Rattle.ccr_task.specs.declared.places.Places.{Places}
 use Rattle.ccr_task.specs.Places.{PlacesData, places_data}
-use Rattle.ccr_task.specs.declared.counts.ShelfCounts.{ShelfCounts}
+use Rattle.ccr_task.specs.Calls.{CallData}
 use Rattle.ccr_core.specs.Cores.{core_data}
 use Rattle.ccr_core.specs.Resumed.{IsResumed}
+use Rattle.ccr_storage.specs.declared.fault.StoreFault.{StoreFault}
 use Rattle.ccr_storage.specs.declared.tally.Tally.{Tally}
 use Rattle.ccr_serve.specs.declared.fault.ServeFault.{ServeFault}
 use Rattle.ccr_serve.specs.declared.server.Server.{Server}
@@ -19,7 +20,7 @@ use Rattle.ccr_run.specs.declared.order.Order.{Order}
 use Rattle.ccr_run.specs.declared.run.Outcome.{Outcome}
 use Rattle.ccr_run.specs.Obeyed.{Obeyed}
 use Rattle.ccr_run.specs.Orders.{IsOrdered}
-use Rattle.ccr_run.specs.Served.{Did, Served, Begins, handed_on, places_in}
+use Rattle.ccr_run.specs.Served.{Did, Served, HasAsked, KeepsFromServing, Begins, handed_on, places_in}
 use Rattle.ccr_run.specs.Statuses.{exit_status_of}
 
 abbrev folders : Text → Text → PlacesData
@@ -33,30 +34,30 @@ same_places order p types work =
     ∙ ap (λ (w : Text). folders order.options.types.now w) work
 
 -- a server did the command, whose folders are those of the options
-pub did : {R S T : Type 0} (pairs : R → List Pair) (counts : S → ShelfCounts) (holds : T → HistoryData → Type 0)
+pub did : {R S T : Type 0} (pairs : R → List Pair) (calls : S → List CallData) (holds : T → HistoryData → Type 0)
     (leaves : T → List HistoryData → Type 0) (tally : T → Tally) (order : Order) (opened left : Server R S T)
     (answer : Result ℕ ServeFault) (end : Result ℕ Failure) (old new : Text) → places_data opened.places ≡ places_in order
     → CameOf (places_data opened.places) (command_data order.command) answer
-    (view_of pairs counts holds leaves tally opened old) (view_of pairs counts holds leaves tally left new)
-    → end ≡ handed_on answer → Did pairs counts holds leaves tally order opened end old new
-did pairs counts holds leaves tally order opened left answer end old new same came is =
+    (view_of pairs calls holds leaves tally opened old) (view_of pairs calls holds leaves tally left new)
+    → end ≡ handed_on answer → Did pairs calls holds leaves tally order opened end old new
+did pairs calls holds leaves tally order opened left answer end old new same came is =
     record {
       left = left;
       answer = answer;
       came = subst (λ (q : PlacesData). CameOf q (command_data order.command) answer
-          (view_of pairs counts holds leaves tally opened old) (view_of pairs counts holds leaves tally left new)) same came;
+          (view_of pairs calls holds leaves tally opened old) (view_of pairs calls holds leaves tally left new)) same came;
       end_is = is;
     }
 
 -- a server that has just begun did what was ordered
-pub served : {R S T : Type 0} (pairs : R → List Pair) (counts : S → ShelfCounts) (holds : T → HistoryData → Type 0)
-    (leaves : T → List HistoryData → Type 0) (tally : T → Tally) (begins_with : T → HistoryData → Type 0) (order : Order)
+pub served : {R S T : Type 0} (pairs : R → List Pair) (calls : S → List CallData) (holds : T → HistoryData → Type 0)
+    (leaves : T → List HistoryData → Type 0) (tally : T → Tally) (begins_with : T → HistoryData → Type 0) (unfound : StoreFault → Type 0) (order : Order)
     (storage : T) (h : HistoryData)
     (opened : Server R S T) (end : Result ℕ Failure) (old new : Text) → begins_with storage h
-    → Begins h order.options.budget (view_of pairs counts holds leaves tally opened [])
-    → Did pairs counts holds leaves tally order opened end old new
-    → Served pairs counts holds leaves tally begins_with order (Some order.options.database.now) end old new
-served pairs counts holds leaves tally begins_with order storage h opened end old new found begins did =
+    → Begins h order.options.budget (view_of pairs calls holds leaves tally opened [])
+    → Did pairs calls holds leaves tally order opened end old new
+    → Served pairs calls holds leaves tally begins_with unfound order (Some order.options.database.now) end old new
+served pairs calls holds leaves tally begins_with unfound order storage h opened end old new found begins did =
     inl (record {
       named = refl;
       storage = storage;
@@ -73,17 +74,26 @@ served pairs counts holds leaves tally begins_with order storage h opened end ol
         resumed = begins.resumed;
         last = begins.last;
         pairs = begins.pairs;
-        counts = begins.counts;
+        calls = begins.calls;
       };
       did = did;
     })
 
+-- no server was made, and nothing is printed
+pub unserved : {R S T : Type 0} (pairs : R → List Pair) (calls : S → List CallData) (holds : T → HistoryData → Type 0)
+    (leaves : T → List HistoryData → Type 0) (tally : T → Tally) (begins_with : T → HistoryData → Type 0) (unfound : StoreFault → Type 0)
+    (order : Order) (asked : Option Text) (failure : Failure) (old : Text) → HasAsked order asked failure
+    → KeepsFromServing holds leaves tally begins_with unfound failure
+    → Served pairs calls holds leaves tally begins_with unfound order asked (Err failure) old old
+unserved pairs calls holds leaves tally begins_with unfound order asked failure old named cause =
+    inr (record { failure = failure; end_is = refl; cause = cause; named = named; unprinted = refl })
+
 -- what was ordered is done
-pub done : {R S T : Type 0} (pairs : R → List Pair) (counts : S → ShelfCounts) (holds : T → HistoryData → Type 0)
-    (leaves : T → List HistoryData → Type 0) (tally : T → Tally) (begins_with : T → HistoryData → Type 0)
+pub done : {R S T : Type 0} (pairs : R → List Pair) (calls : S → List CallData) (holds : T → HistoryData → Type 0)
+    (leaves : T → List HistoryData → Type 0) (tally : T → Tally) (begins_with : T → HistoryData → Type 0) (unfound : StoreFault → Type 0)
     (words : List Text) (asked : Option Text) (old new : Text) (failed : Bool) (status : ℕ) (order : Order) (outcome : Outcome)
-    → IsOrdered words order → Served pairs counts holds leaves tally begins_with order asked outcome.end old new
+    → IsOrdered words order → Served pairs calls holds leaves tally begins_with unfound order asked outcome.end old new
     → outcome.is_printed ≡ not failed → status ≡ exit_status_of outcome
-    → Obeyed pairs counts holds leaves tally begins_with words asked old new failed status
-done pairs counts holds leaves tally begins_with words asked old new failed status order outcome ordered served printed is =
+    → Obeyed pairs calls holds leaves tally begins_with unfound words asked old new failed status
+done pairs calls holds leaves tally begins_with unfound words asked old new failed status order outcome ordered served printed is =
     inl (record { order = order; ordered = ordered; outcome = outcome; served = served; printed = printed; status_is = is })

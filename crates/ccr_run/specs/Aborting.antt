@@ -1,10 +1,12 @@
 -- What comes of it that a build is asked to be aborted.
-use Rattle.std.specs.Prelude.{◌≡◌, ◌⊎◌, ℕ, List, Bool, true, false, Result, Ok, Err, codes, ⊤}
+use Rattle.std.specs.Prelude.{◌≡◌, ◌⊎◌, ℕ, List, [], ◌∷◌, Bool, true, false, Result, Ok, Err, codes, ⊤}
 use Rattle.clap.specs.declared.parser.matches.ArgMatches.{ArgMatches}
 use Rattle.ccr_history.specs.Text.{Text}
 use Rattle.ccr_pipeline.specs.Kinds.{is_name}
-use Rattle.ccr_task.specs.declared.counts.ShelfCounts.{ShelfCounts}
-use Rattle.ccr_task.specs.Shelves.{no_counts, Fails}
+use Rattle.ccr_task.specs.Calls.{CallData, making, Does}
+use Rattle.ccr_task.specs.Places.{PlacesData, abort_folder}
+use Rattle.ccr_task.specs.declared.fault.ShelfFault.{ShelfFault}
+use Rattle.ccr_task.specs.declared.fault.ShelfFault.TheVariants as shelf_fault
 use Rattle.ccr_run.specs.declared.abort.AbortFault.{AbortFault}
 use Rattle.ccr_run.specs.declared.abort.AbortFault.TheVariants.{NoJob, NotWritten, NoMemory}
 use Rattle.ccr_run.specs.declared.order.AbortOrder.{AbortOrder}
@@ -18,13 +20,24 @@ refusal_of NoJob = refused (codes "no such job")
 refusal_of NotWritten = broken (codes "file: cannot write")
 refusal_of NoMemory = broken (codes "out of memory")
 
--- what it comes to, with what a shelf counted before and after: no job can have the name; or the request was written, or
--- the shelf failed; of memory it says nothing
-abbrev pub Asks : AbortOrder → ShelfCounts → Result Unit AbortFault → ShelfCounts → Type 0
-Asks order before (Ok done) after = (is_name order.build.job.now ≡ true) × (after ≡ before)
+-- the server's folders are those of the options
+abbrev pub places_in : AbortOrder → PlacesData
+places_in order = record { types = order.options.types.now; work = order.options.work.now }
+
+-- the folder that asks for the abort was made, which was answered so
+abbrev pub IsWritten : AbortOrder → List CallData → Result Unit ShelfFault → List CallData → Type 0
+IsWritten order before answer after =
+    Does (making (abort_folder (places_in order) order.build.job.now order.build.number) ∷ []) before answer after
+
+-- what it comes to, with a shelf's calls before and after: no job can have the name; or the request was written, or the
+-- shelf failed; or memory was wanted before, or by the shelf
+abbrev pub Asks : AbortOrder → List CallData → Result Unit AbortFault → List CallData → Type 0
+Asks order before (Ok done) after = (is_name order.build.job.now ≡ true) × IsWritten order before (Ok tt) after
 Asks order before (Err NoJob) after = (is_name order.build.job.now ≡ false) × (after ≡ before)
-Asks order before (Err NotWritten) after = (is_name order.build.job.now ≡ true) × Fails before after
-Asks order before (Err NoMemory) after = ⊤
+Asks order before (Err NotWritten) after =
+    (is_name order.build.job.now ≡ true) × IsWritten order before (Err shelf_fault.Failed) after
+Asks order before (Err NoMemory) after =
+    (is_name order.build.job.now ≡ true) × IsWritten order before (Err shelf_fault.NoMemory) after
 
 -- the status of what it comes to: 0, or that of the refusal
 abbrev pub abort_status : Result Unit AbortFault → ℕ
@@ -35,10 +48,10 @@ abort_status (Err fault) = (refusal_of fault).status
 abbrev pub IsTold : Result Unit AbortFault → ℕ → Type 0
 IsTold end status = (is_printed : Bool) × (status ≡ printed_status is_printed (abort_status end))
 
--- a shelf that had counted nothing was asked, and what it came to is told with this status
+-- a shelf that was called for nothing before was asked, and what it came to is told with this status
 abbrev pub IsAsked : AbortOrder → ℕ → Type 0
 IsAsked order status =
-    (end : Result Unit AbortFault) × (after : ShelfCounts) × Asks order no_counts end after × IsTold end status
+    (end : Result Unit AbortFault) × (after : List CallData) × Asks order [] end after × IsTold end status
 
 -- WHAT COMES OF WORDS that ask for a build to be aborted
 abbrev pub AbortAsked : List Text → ℕ → Type 0

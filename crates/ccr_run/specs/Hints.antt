@@ -3,7 +3,7 @@ use Rattle.std.specs.Prelude.{ℕ, Option, Some, None, Result, Ok, Err, codes, n
 use Rattle.ccr_history.specs.Text.{Text}
 use Rattle.ccr_storage.specs.declared.fault.StoreFault.TheVariants as store
 use Rattle.ccr_pipeline.specs.declared.fault.ReadFault.TheVariants.{NotJson}
-use Rattle.ccr_core.specs.declared.fault.CoreFault.TheVariants.{NoPipeline, NoJob, NoResource}
+use Rattle.ccr_core.specs.declared.fault.CoreFault.TheVariants.{NoPipeline, NoJob, NoResource, NoVersion}
 use Rattle.ccr_serve.specs.declared.fault.ServeFault.{ServeFault}
 use Rattle.ccr_serve.specs.declared.fault.ServeFault.TheVariants.{Core, Store, Read, File, BadPin, NoMemory, TurnsUsedUp}
 use Rattle.ccr_run.specs.declared.failure.Failure.{Failure}
@@ -26,10 +26,11 @@ abbrev pub of_server : ServeFault → Option Text
 of_server (Core NoPipeline) = Some (codes "set one with: ccr_run --db FILE set-pipeline PIPELINE.json")
 of_server (Core NoJob) = Some named_wrong
 of_server (Core NoResource) = Some named_wrong
+of_server (Core NoVersion) = Some (codes "resource-versions NAME shows which places there are")
 of_server (Read (NotJson path)) = Some (codes "YAML isn't read; fly get-pipeline --json prints a pipeline as JSON")
 of_server (Read fault) = Some (codes "docs/FORMATS.md describes the format of a pipeline")
 of_server BadPin = Some (codes "a pin is a JSON object of texts, as {\"ref\":\"61cbef\"}")
-of_server (Store store.NotOurs) = Some (codes "the file isn't a database of ccr_run; name another one")
+of_server (Store store.NotOurs) = Some (codes "the file isn't a database of ccr_run in format 1 or 2; name another one, or use a newer ccr_run")
 of_server (Store store.Disk) = Some disk_failed
 of_server (Store store.NoMemory) = Some out_of_memory
 of_server File = Some (codes "is the file there, and may you read it?")

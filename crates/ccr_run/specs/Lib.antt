@@ -7,4 +7,5 @@ pub mod Opening
 pub mod Orders
 pub mod Refusals
 pub mod Served
+pub mod Unfound
 pub mod Statuses

@@ -3,8 +3,9 @@ use Rattle.std.specs.Prelude.{◌≡◌, ◌⊎◌, ℕ, List, Bool, not, Option
 use Rattle.ccr_history.specs.Text.{Text}
 use Rattle.ccr_history.specs.History.{HistoryData}
 use Rattle.ccr_process.specs.Runs.{Pair}
+use Rattle.ccr_storage.specs.declared.fault.StoreFault.{StoreFault}
 use Rattle.ccr_storage.specs.declared.tally.Tally.{Tally}
-use Rattle.ccr_task.specs.declared.counts.ShelfCounts.{ShelfCounts}
+use Rattle.ccr_task.specs.Calls.{CallData}
 use Rattle.ccr_run.specs.declared.order.Misuse.{Misuse}
 use Rattle.ccr_run.specs.declared.order.Order.{Order}
 use Rattle.ccr_run.specs.declared.run.Outcome.{Outcome}
@@ -14,14 +15,14 @@ use Rattle.ccr_run.specs.Served.{Served}
 use Rattle.ccr_run.specs.Statuses.{exit_status_of, misuse_status}
 
 -- the words order something, and what came of it has this status; the outcome says whether a write failed
-pub record IsDone {R S T : Type 0} (pairs : R → List Pair) (counts : S → ShelfCounts)
+pub record IsDone {R S T : Type 0} (pairs : R → List Pair) (calls : S → List CallData)
     (holds : T → HistoryData → Type 0) (leaves : T → List HistoryData → Type 0) (tally : T → Tally)
-    (begins_with : T → HistoryData → Type 0) (words : List Text) (asked : Option Text) (old new : Text) (failed : Bool)
+    (begins_with : T → HistoryData → Type 0) (unfound : StoreFault → Type 0) (words : List Text) (asked : Option Text) (old new : Text) (failed : Bool)
     (status : ℕ) : Type 0 where
   pub order : Order
   pub ordered : IsOrdered words order
   pub outcome : Outcome
-  pub served : Served pairs counts holds leaves tally begins_with order asked outcome.end old new
+  pub served : Served pairs calls holds leaves tally begins_with unfound order asked outcome.end old new
   pub printed : outcome.is_printed ≡ not failed
   pub status_is : status ≡ exit_status_of outcome
 
@@ -46,9 +47,9 @@ pub record IsAbort (words : List Text) (asked : Option Text) (old new : Text) (s
 
 -- THE STATUS THAT WORDS COME TO, with the database that was opened and the lines that were printed: that of the command or
 -- the abort that they order, or of why they order nothing
-abbrev pub Obeyed : {R S T : Type 0} → (R → List Pair) → (S → ShelfCounts) → (T → HistoryData → Type 0)
-    → (T → List HistoryData → Type 0) → (T → Tally) → (T → HistoryData → Type 0) → List Text → Option Text → Text
+abbrev pub Obeyed : {R S T : Type 0} → (R → List Pair) → (S → List CallData) → (T → HistoryData → Type 0)
+    → (T → List HistoryData → Type 0) → (T → Tally) → (T → HistoryData → Type 0) → (StoreFault → Type 0) → List Text → Option Text → Text
     → Text → Bool → ℕ → Type 0
-Obeyed pairs counts holds leaves tally begins_with words asked old new failed status =
-    IsDone pairs counts holds leaves tally begins_with words asked old new failed status
+Obeyed pairs calls holds leaves tally begins_with unfound words asked old new failed status =
+    IsDone pairs calls holds leaves tally begins_with unfound words asked old new failed status
     ⊎ (IsAbort words asked old new status ⊎ IsMisuse words asked old new status)

@@ -12,18 +12,22 @@ use Rattle.ccr_history.specs.History.{HistoryData, IsHistory, no_history}
 use Rattle.ccr_tables.specs.Contents.{Keeps}
 use Rattle.ccr_tables.specs.Schema.{our_schema}
 use Rattle.ccr_store.specs.Faults.{open_fault_of}
-use Rattle.ccr_store.specs.Rows.{rows_of}
+use Rattle.ccr_store.specs.Rows.{Fits, rows_in}
+use Rattle.ccr_store.specs.declared.format.Format.{Format}
 use Rattle.ccr_serve.specs.declared.fault.ServeFault.TheVariants.{Store}
 use Rattle.ccr_run.specs.declared.failure.Failure.{Failure}
 use Rattle.ccr_run.specs.declared.failure.Failure.TheVariants.{Locked, Refused}
 
--- the files hold a database: its list of objects tells the six tables and nothing else, and they have the history's rows
+-- the files hold a database: its list of objects tells the six tables and nothing else, and they have the history's rows in
+-- one of the formats
 pub record HasTables (image : Image) (h : HistoryData) : Type 0 where
+  pub format : Format
   pub trees : Trees
   pub found : HoldsDatabase image trees
   pub listed : (schema : Schema) → IsSound schema trees → schema ≡ our_schema
   pub rules : IsHistory h
-  pub rows : Keeps (rows_of h) trees
+  pub fits : Fits format h
+  pub rows : Keeps (rows_in format h) trees
 
 -- THE FILES HOLD A HISTORY: the empty one where the database's file is empty, or wasn't there, and else the one whose
 -- rows the six tables have

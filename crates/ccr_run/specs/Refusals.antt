@@ -45,6 +45,7 @@ of_core core_fault.BuildsOpen = refused (codes "builds open")
 of_core core_fault.NotWanted = refused (codes "not wanted")
 of_core core_fault.TooManyOpen = refused (codes "too many builds open")
 of_core core_fault.TableFull = refused (codes "table full")
+of_core core_fault.NoVersion = refused (codes "no such version")
 of_core core_fault.NoMemory = broken (codes "out of memory")
 
 -- the database fails

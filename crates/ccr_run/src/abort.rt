@@ -39,7 +39,7 @@ fn refusal_of<'a>(fault: AbortFault) -> Refusal<'a>
 /// Asks for the build that is ordered to be aborted, by a folder of the shelf. Which jobs there are stands in the database;
 /// here the name is one that a job may have.
 fn ask<S: Shelf>(alloc: Global, shelf: &mut S, order: &AbortOrder<'_>) -> Result<(), AbortFault>
-    ensures { Asks order.now (S.counts shelf.old) result (S.counts shelf.new) }
+    ensures { Asks order.now (S.calls shelf.old) result (S.calls shelf.new) }
 {
     let build = order.build;
     if !is_name(build.job) {

@@ -1,5 +1,5 @@
 //! The database as a server's storage.
-ghost use Rattle.std.specs.Prelude.{◌≡◌, [], ◌∷◌, false, IsTrue, IfOk, IfSome};
+ghost use Rattle.std.specs.Prelude.{◌≡◌, [], ◌∷◌, false, IsTrue, IfOk, IfErr, IfSome};
 ghost use Rattle.sqlite_wal.specs.Files.{image_at};
 ghost use Rattle.sqlite.specs.Files.{file_state, IsOpened};
 ghost use Rattle.sqlite.specs.Held.{state};
@@ -8,15 +8,18 @@ ghost use Rattle.sqlite.specs.State.{HasCleanDisk};
 ghost use Rattle.ccr_core.specs.Resumed.{IsReadable};
 ghost use Rattle.ccr_history.specs.History.{HistoryData, IsHistory};
 ghost use Rattle.ccr_tables.specs.Contents.{Contents, Holds};
+ghost use Rattle.ccr_store.specs.Causes.{IsUnread};
 ghost use Rattle.ccr_store.specs.Crash.{Leaves};
 ghost use Rattle.ccr_store.specs.Rows.{rows_of};
 ghost use Rattle.ccr_store.specs.StoreData.{IsKept};
 ghost use Rattle.ccr_run.specs.Databases.{holds, leaves, begins_with};
+ghost use Rattle.ccr_run.specs.Unfound.{IsUnfound};
 
 use ccr_history::{Edit, History};
 use ccr_storage::Storage;
 use ccr_store::{Store, StoreFault};
 use sqlite::{Alter, Connection, FileFrom, FileStore, Start};
+use sqlite_trees::store::Store as Trees;
 use std::alloc::Global;
 
 /// The history in a database, as a server's storage.
@@ -39,6 +42,7 @@ impl<D: Alter + Drop> Database<D> {
             × ((these : Contents) → Holds these (state D.Store store.conn).now
             → Leaves D.Store loaded.0.store (loaded.1 ∷ []))) }
         ensures readable { IfOk result (λ loaded. IfSome loaded.1.text IsReadable) }
+        ensures unread { IfErr result (IsUnread D.Store (state D.Store store.conn)) }
     {
         let mut store = store;
         match store.load(alloc) {
@@ -63,8 +67,9 @@ impl<S: Start> Database<FileStore<FileFrom<S>>> {
         ensures leaves { IfOk result (λ loaded. leaves (image_at S.Start) loaded.0 (loaded.1 ∷ [])) }
         ensures begins { IfOk result (λ loaded. begins_with (image_at S.Start) loaded.0 loaded.1) }
         ensures readable { IfOk result (λ loaded. IfSome loaded.1.text IsReadable) }
+        ensures unfound { IfErr result (IsUnfound ⟦<FileStore<FileFrom<S>> as Trees>⟧ (image_at S.Start)) }
     {
-        match Store::adopt(conn) {
+        match Store::adopt(alloc, conn) {
             Ok(store) => Database::with_history(alloc, store),
             Err(fault) => Err(fault),
         }

@@ -19,13 +19,16 @@ fn of_server(fault: &ServeFault) -> Option<&'static str>
         ServeFault::Core(CoreFault::NoJob) | ServeFault::Core(CoreFault::NoResource) => {
             Some("names are those of the pipeline that was set last")
         }
+        ServeFault::Core(CoreFault::NoVersion) => {
+            Some("resource-versions NAME shows which places there are")
+        }
         ServeFault::Read(ReadFault::NotJson(_)) => Some(
             "YAML isn't read; fly get-pipeline --json prints a pipeline as JSON",
         ),
         ServeFault::Read(_) => Some("docs/FORMATS.md describes the format of a pipeline"),
         ServeFault::BadPin => Some("a pin is a JSON object of texts, as {\"ref\":\"61cbef\"}"),
         ServeFault::Store(StoreFault::NotOurs) => Some(
-            "the file isn't a database of ccr_run; name another one",
+            "the file isn't a database of ccr_run in format 1 or 2; name another one, or use a newer ccr_run",
         ),
         ServeFault::Store(StoreFault::Disk) => Some(
             "is the disk full or read-only? may you write the file and its directory? what was printed is kept",

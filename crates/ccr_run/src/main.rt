@@ -23,6 +23,7 @@ ghost use Rattle.std.specs.Process.{exit_status};
 ghost use Rattle.sqlite_wal.specs.Files.{image_at};
 ghost use Rattle.ccr_run.specs.Asked.{asked_by};
 ghost use Rattle.ccr_run.specs.Databases.{begins_with};
+ghost use Rattle.ccr_run.specs.Unfound.{IsUnfound};
 ghost use Rattle.ccr_run.specs.Obeyed.{Obeyed};
 
 use abort::abort_build;
@@ -37,6 +38,7 @@ use opener::Opener;
 use order::{Misuse, Ordered, ordered_by};
 use run::run;
 use sqlite::{FileFrom, FileStore, Start, Unknown};
+use sqlite_trees::store::Store as Trees;
 use std::io::{ErrorKind, Write};
 use std::process::ExitCode;
 use std::{env, io};
@@ -68,10 +70,11 @@ fn obey<'a, S: Start, W: Write>(
 ) -> ExitCode
     requires unopened { IsSome opener.old.start }
     requires unasked { opener.old.asked ≡ None }
-    ensures { Obeyed ⟦<Naming<'a, Machine<&'a HostRuntime>> as Runner>⟧.pairs ⟦<Folders<&'a HostRuntime> as Shelf>⟧.counts
+    ensures { Obeyed ⟦<Naming<'a, Machine<&'a HostRuntime>> as Runner>⟧.pairs ⟦<Folders<&'a HostRuntime> as Shelf>⟧.calls
         ⟦<Database<FileStore<FileFrom<S>>> as Storage>⟧.holds
         ⟦<Database<FileStore<FileFrom<S>>> as Storage>⟧.leaves
         ⟦<Database<FileStore<FileFrom<S>>> as Storage>⟧.tally (begins_with (image_at S.Start))
+        (IsUnfound ⟦<FileStore<FileFrom<S>> as Trees>⟧ (image_at S.Start))
         (map string_bytes words.now) (asked_by opener.new)
         (out.old.shown ++ out.old.waiting) (out.new.shown ++ out.new.waiting) out.new.failed (exit_status result) }
 {

@@ -1,13 +1,11 @@
 //! Which file the database is in.
-ghost use Rattle.std.specs.Prelude.{◌≡◌, None, Some, option_map, false, IsSome, IsTrue, IfOk, IfErr};
+ghost use Rattle.std.specs.Prelude.{◌≡◌, None, Some, option_map, false, IsSome, IfOk, IfErr};
 ghost use Rattle.sqlite_wal.specs.Files.{image_at};
-ghost use Rattle.sqlite.specs.declared.error.Error.{Error as SqlError};
 ghost use Rattle.sqlite.specs.Files.{file_state, IsOpened};
-ghost use Rattle.sqlite.specs.Opening.{is_open_error};
 ghost use Rattle.sqlite.specs.Start.{FindsIn};
 ghost use Rattle.sqlite.specs.State.{HasCleanDisk};
 ghost use Rattle.ccr_run.specs.Opening as spec;
-ghost use Rattle.ccr_run.specs.Served.{KeepsFromServing};
+ghost use Rattle.ccr_run.specs.Served.{IsUnopened};
 
 use crate::failure::Failure;
 use ccr_serve::ServeFault;
@@ -27,7 +25,6 @@ pub struct Opener<'a, S: Start> {
 /// The failure of an open.
 fn failure_of(error: &Error) -> Failure
     ensures exact { result ≡ spec.failure_of error.now }
-    ensures kind { KeepsFromServing result }
 {
     match error {
         Error::SqliteFailure(ErrorCode::DatabaseBusy) => Failure::Locked,
@@ -60,9 +57,7 @@ impl<'a, S: Start> Opener<'a, S> {
         ensures opened { IfOk result (λ conn. HasCleanDisk (file_state conn) → IsOpened conn) }
         ensures found { IfOk result (λ conn. HasCleanDisk (file_state conn)
             → FindsIn (image_at S.Start) (file_state conn)) }
-        ensures exact { IfErr result (λ failure. (error : SqlError) × IsTrue (is_open_error error)
-            × (failure ≡ spec.failure_of error)) }
-        ensures kind { IfErr result KeepsFromServing }
+        ensures exact { IfErr result IsUnopened }
     {
         self.asked = Some(path);
         let start = self.start.take().unwrap();

@@ -78,6 +78,7 @@ fn of_core<'a>(fault: CoreFault) -> Refusal<'a>
         CoreFault::NotWanted => refused("not wanted"),
         CoreFault::TooManyOpen => refused("too many builds open"),
         CoreFault::TableFull => refused("table full"),
+        CoreFault::NoVersion => refused("no such version"),
         CoreFault::NoMemory => broken("out of memory"),
     }
 }

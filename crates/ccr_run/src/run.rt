@@ -12,6 +12,7 @@ ghost use Rattle.ccr_lines.specs.Commands.{command_data};
 ghost use Rattle.ccr_serve.specs.Views.{view_of, IsReady};
 ghost use Rattle.ccr_run.specs.Asked.{asked_by};
 ghost use Rattle.ccr_run.specs.Databases.{begins_with};
+ghost use Rattle.ccr_run.specs.Unfound.{IsUnfound};
 ghost use Rattle.ccr_run.specs.Served.{Did, Served, handed_on, places_in};
 
 use crate::database::Database;
@@ -22,10 +23,11 @@ use crate::order::Order;
 use ccr_history::History;
 use ccr_lines::{Command, Lines, Printed};
 use ccr_process::{Machine, Runner};
-use ccr_serve::{ServeFault, Server};
+use ccr_serve::{ServeFault, Server, Unopened};
 use ccr_storage::Storage;
 use ccr_task::{Folders, Places, Shelf};
 use sqlite::{Connection, FileFrom, FileStore, Start};
+use sqlite_trees::store::Store as Trees;
 use std::alloc::{AllocError, Global};
 use std::io::Write;
 
@@ -55,9 +57,9 @@ fn command<R: Runner, S: Shelf, T: Storage, W: Write>(
     command: &Command,
     out: &mut Printed<W>,
 ) -> Result<u8, Failure>
-    requires ready { let view = view_of R.pairs S.counts T.holds T.leaves T.tally in
+    requires ready { let view = view_of R.pairs S.calls T.holds T.leaves T.tally in
         IsReady (view server.old (out.old.shown ++ out.old.waiting)) }
-    ensures came { let view = view_of R.pairs S.counts T.holds T.leaves T.tally in
+    ensures came { let view = view_of R.pairs S.calls T.holds T.leaves T.tally in
         (answer : Result ℕ ServeFault) × (result ≡ handed_on answer)
         × CameOf (places_data server.old.places) (command_data command.now) answer
         (view server.old (out.old.shown ++ out.old.waiting)) (view server.new (out.new.shown ++ out.new.waiting)) }
@@ -74,9 +76,9 @@ fn serve_by<R: Runner + Drop, S: Shelf + Drop, T: Storage + Drop, W: Write>(
     order: &Order<'_>,
     out: &mut Printed<W>,
 ) -> Result<u8, Failure>
-    requires ready { IsReady (view_of R.pairs S.counts T.holds T.leaves T.tally server []) }
+    requires ready { IsReady (view_of R.pairs S.calls T.holds T.leaves T.tally server []) }
     requires places { places_data server.places ≡ places_in order.now }
-    ensures did { Did R.pairs S.counts T.holds T.leaves T.tally order.now server result
+    ensures did { Did R.pairs S.calls T.holds T.leaves T.tally order.now server result
         (out.old.shown ++ out.old.waiting) (out.new.shown ++ out.new.waiting) }
     ensures printed { out.new.failed ≡ false → out.new.waiting ≡ [] }
 {
@@ -100,10 +102,11 @@ fn serve_history<'a, S: Start, W: Write>(
     requires found { begins_with (image_at S.Start) database history }
     requires readable { IfSome history.text IsReadable }
     requires places { places_data places ≡ places_in order.now }
-    ensures served { Served ⟦<Naming<'a, Machine<&'a HostRuntime>> as Runner>⟧.pairs ⟦<Folders<&'a HostRuntime> as Shelf>⟧.counts
+    ensures served { Served ⟦<Naming<'a, Machine<&'a HostRuntime>> as Runner>⟧.pairs ⟦<Folders<&'a HostRuntime> as Shelf>⟧.calls
         ⟦<Database<FileStore<FileFrom<S>>> as Storage>⟧.holds
         ⟦<Database<FileStore<FileFrom<S>>> as Storage>⟧.leaves
         ⟦<Database<FileStore<FileFrom<S>>> as Storage>⟧.tally (begins_with (image_at S.Start))
+        (IsUnfound ⟦<FileStore<FileFrom<S>> as Trees>⟧ (image_at S.Start))
         order.now (Some order.now.options.database.now) result
         (out.old.shown ++ out.old.waiting) (out.new.shown ++ out.new.waiting) }
     ensures printed { out.old.waiting ≡ [] → out.new.failed ≡ false → out.new.waiting ≡ [] }
@@ -114,7 +117,7 @@ fn serve_history<'a, S: Start, W: Write>(
     let budget = order.options.budget;
     match Server::open(alloc, runner, folders, database, history, places, budget) {
         Ok(server) => serve_by(server, order, out),
-        Err(fault) => Err(Failure::from(fault)),
+        Err(Unopened { fault, storage: _ }) => Err(Failure::Refused(fault)),
     }
 }
 
@@ -132,10 +135,11 @@ fn serve_database<'a, S: Start, W: Write>(
     requires opened { HasCleanDisk (file_state conn) → IsOpened conn }
     requires found { HasCleanDisk (file_state conn) → FindsIn (image_at S.Start) (file_state conn) }
     requires places { places_data places ≡ places_in order.now }
-    ensures served { Served ⟦<Naming<'a, Machine<&'a HostRuntime>> as Runner>⟧.pairs ⟦<Folders<&'a HostRuntime> as Shelf>⟧.counts
+    ensures served { Served ⟦<Naming<'a, Machine<&'a HostRuntime>> as Runner>⟧.pairs ⟦<Folders<&'a HostRuntime> as Shelf>⟧.calls
         ⟦<Database<FileStore<FileFrom<S>>> as Storage>⟧.holds
         ⟦<Database<FileStore<FileFrom<S>>> as Storage>⟧.leaves
         ⟦<Database<FileStore<FileFrom<S>>> as Storage>⟧.tally (begins_with (image_at S.Start))
+        (IsUnfound ⟦<FileStore<FileFrom<S>> as Trees>⟧ (image_at S.Start))
         order.now (Some order.now.options.database.now) result
         (out.old.shown ++ out.old.waiting) (out.new.shown ++ out.new.waiting) }
     ensures printed { out.old.waiting ≡ [] → out.new.failed ≡ false → out.new.waiting ≡ [] }
@@ -157,10 +161,11 @@ fn serve<'a, S: Start, W: Write>(
     requires most { order.now.options.budget ≤ MOST_NODES }
     requires unopened { IsSome opener.old.start }
     requires unasked { opener.old.asked ≡ None }
-    ensures served { Served ⟦<Naming<'a, Machine<&'a HostRuntime>> as Runner>⟧.pairs ⟦<Folders<&'a HostRuntime> as Shelf>⟧.counts
+    ensures served { Served ⟦<Naming<'a, Machine<&'a HostRuntime>> as Runner>⟧.pairs ⟦<Folders<&'a HostRuntime> as Shelf>⟧.calls
         ⟦<Database<FileStore<FileFrom<S>>> as Storage>⟧.holds
         ⟦<Database<FileStore<FileFrom<S>>> as Storage>⟧.leaves
         ⟦<Database<FileStore<FileFrom<S>>> as Storage>⟧.tally (begins_with (image_at S.Start))
+        (IsUnfound ⟦<FileStore<FileFrom<S>> as Trees>⟧ (image_at S.Start))
         order.now (asked_by opener.new) result (out.old.shown ++ out.old.waiting) (out.new.shown ++ out.new.waiting) }
     ensures printed { out.old.waiting ≡ [] → out.new.failed ≡ false → out.new.waiting ≡ [] }
 {
@@ -184,10 +189,11 @@ pub fn run<'a, S: Start, W: Write>(
     requires most { order.now.options.budget ≤ MOST_NODES }
     requires unopened { IsSome opener.old.start }
     requires unasked { opener.old.asked ≡ None }
-    ensures served { Served ⟦<Naming<'a, Machine<&'a HostRuntime>> as Runner>⟧.pairs ⟦<Folders<&'a HostRuntime> as Shelf>⟧.counts
+    ensures served { Served ⟦<Naming<'a, Machine<&'a HostRuntime>> as Runner>⟧.pairs ⟦<Folders<&'a HostRuntime> as Shelf>⟧.calls
         ⟦<Database<FileStore<FileFrom<S>>> as Storage>⟧.holds
         ⟦<Database<FileStore<FileFrom<S>>> as Storage>⟧.leaves
         ⟦<Database<FileStore<FileFrom<S>>> as Storage>⟧.tally (begins_with (image_at S.Start))
+        (IsUnfound ⟦<FileStore<FileFrom<S>> as Trees>⟧ (image_at S.Start))
         order.now (asked_by opener.new) result.end
         (out.old.shown ++ out.old.waiting) (out.new.shown ++ out.new.waiting) }
     ensures printed { result.is_printed ≡ not out.new.failed }

@@ -26,7 +26,7 @@ fn status_of(end: &Result<u8, Failure>) -> u8
 /// Says why a command has no proof to show, or is refused, and what to do about it.
 fn explain<R: Eprint>(rt: &R, order: &Order<'_>, end: &Result<u8, Failure>) -> io::Result<()> {
     match end {
-        Ok(3) if matches!(&order.command, Command::Resolve(_)) => {
+        Ok(3) if matches!(&order.command, Command::Resolve(_) | Command::Certify(_)) => {
             let budget = order.options.budget;
             eprintln!(rt; "over budget {budget}")?;
         }

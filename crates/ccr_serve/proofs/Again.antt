@@ -17,7 +17,7 @@ use Rattle.ccr_serve.proofs.Commits.{rose_then, asked_then}
 else_then : (v w n : View) → IsElse v w → IsElse w n → IsElse v n
 else_then v w n a b = record {
   last = b.last ∙ a.last;
-  counts = b.counts ∙ a.counts;
+  calls = b.calls ∙ a.calls;
   pairs = b.pairs ∙ a.pairs;
   lines = b.lines ∙ a.lines;
 }

@@ -1,15 +1,11 @@
 -- Parts of calls, one after another.
-use Rattle.std.proofs.Common.{◌≡◌, ◌≤◌, ◌++◌, ℕ, List, [], ◌∷◌, length, Bool, true, false, option_to_list, refl, sym, ◌∙◌, ap, subst, append-nil, append_assoc, arith, inl, inr}
+use Rattle.std.proofs.Common.{◌≡◌, ◌++◌, ℕ, List, [], ◌∷◌, Bool, true, false, Option, None, option_to_list, refl, sym, ◌∙◌, ap, subst, append-nil, append_assoc, inl, inr}
 use Rattle.ccr_process.specs.Runs.{Pair}
-use Rattle.ccr_core.specs.Holding.{Stands}
 use Rattle.ccr_core.specs.State.{State}
-use Rattle.ccr_task.specs.declared.counts.ShelfCounts.{ShelfCounts}
-use Rattle.ccr_task.specs.Shelves.{Grew}
-use Rattle.ccr_serve.specs.Crash.{LeavesAt}
+use Rattle.ccr_task.specs.Calls.{CallData}
 use Rattle.ccr_serve.specs.Items.{World, Item, Done, Serve, Each, Part, Items, Then, pairs_of, lines_of_all}
 use Rattle.ccr_serve.specs.Taken.{taken_in}
 use Rattle.ccr_serve.specs.Views.{View, world_of, IsReady, HasAsked, StandsAt, Called, Calls}
-use Rattle.ccr_serve.proofs.Counted.{grew_none}
 use Rattle.ccr_serve.proofs.Commits.{taken_in-append, rose_none, asked_none, asked_then}
 use Rattle.ccr_serve.proofs.Crash.{leaves_ready}
 
@@ -34,13 +30,14 @@ each-append S (i ∷ is) js old mid new [] es a b = absurd a
 each-append S (i ∷ is) js old mid new (d ∷ ds) es (w, one, rest) b =
     (w, one, each-append S is js w mid new ds es rest b)
 
-abbrev world_at : State → ℕ → ShelfCounts → World
-world_at s last counts = record { core = s; last = last; counts = counts }
+abbrev world_at : State → ℕ → List CallData → Option Pair → World
+world_at s last calls lost = record { core = s; last = last; calls = calls; lost = lost }
 
 -- a server that stands for a world's state is there
-pub at_world : (v : View) (w : World) → v.last ≡ w.last → v.counts ≡ w.counts → world_of v w.core ≡ w
-at_world v w last counts =
-    ap (λ n. world_at w.core n v.counts) last ∙ ap (λ n. world_at w.core w.last n) counts
+pub at_world : (v : View) (w : World) → v.last ≡ w.last → v.calls ≡ w.calls → w.lost ≡ None → world_of v w.core ≡ w
+at_world v w last calls lost =
+    ap (λ n. world_at w.core n v.calls None) last
+    ∙ (ap (λ cs. world_at w.core w.last cs None) calls ∙ ap (λ o. world_at w.core w.last w.calls o) (sym lost))
 
 module _ (A B : Part) (v0 v1 v2 : View) (s : State) (whole : Bool) where
   pub called_then : (a : Called A v0 s true v1) → Called B v1 a.now.core whole v2 → Called (Then A B) v0 s whole v2
@@ -48,10 +45,10 @@ module _ (A B : Part) (v0 v1 v2 : View) (s : State) (whole : Bool) where
     dones = a.dones ++ b.dones;
     now = b.now;
     does = both whole
-        (subst (λ w. B w b.dones whole b.now) (at_world v1 a.now a.stands.2 a.stands.3) b.does);
-    lost = b.lost;
+        (subst (λ w. B w b.dones whole b.now) (at_world v1 a.now a.stands.2 a.calls a.few) b.does);
     pairs = pairs;
     few = b.few;
+    calls = b.calls;
     commits = subst (λ n. HasAsked whole v0.tally.commits n v2.tally.commits)
         (sym (taken_in-append a.dones b.dones))
         (asked_then whole v0.tally.commits (taken_in a.dones) v1.tally.commits (taken_in b.dones) v2.tally.commits
@@ -85,15 +82,16 @@ module _ (A B : Part) (v0 v1 v2 : View) (s : State) (whole : Bool) where
 
     first : v1.pairs ≡ v0.pairs ++ pairs_of a.dones
     first = a.pairs
-        ∙ ap (λ ps. v0.pairs ++ ps) (ap (λ ps. pairs_of a.dones ++ ps) a.few ∙ append-nil (pairs_of a.dones))
-
-    pairs : v2.pairs ≡ v0.pairs ++ (pairs_of (a.dones ++ b.dones) ++ b.lost)
-    pairs = b.pairs
-        ∙ (ap (λ ps. ps ++ (pairs_of b.dones ++ b.lost)) first
-        ∙ (append_assoc v0.pairs (pairs_of a.dones) (pairs_of b.dones ++ b.lost)
         ∙ ap (λ ps. v0.pairs ++ ps)
-        (sym (append_assoc (pairs_of a.dones) (pairs_of b.dones) b.lost)
-        ∙ ap (λ ps. ps ++ b.lost) (sym (pairs_of-append a.dones b.dones)))))
+        (ap (λ o. pairs_of a.dones ++ option_to_list o) a.few ∙ append-nil (pairs_of a.dones))
+
+    pairs : v2.pairs ≡ v0.pairs ++ (pairs_of (a.dones ++ b.dones) ++ option_to_list b.now.lost)
+    pairs = b.pairs
+        ∙ (ap (λ ps. ps ++ (pairs_of b.dones ++ option_to_list b.now.lost)) first
+        ∙ (append_assoc v0.pairs (pairs_of a.dones) (pairs_of b.dones ++ option_to_list b.now.lost)
+        ∙ ap (λ ps. v0.pairs ++ ps)
+        (sym (append_assoc (pairs_of a.dones) (pairs_of b.dones) (option_to_list b.now.lost))
+        ∙ ap (λ ps. ps ++ option_to_list b.now.lost) (sym (pairs_of-append a.dones b.dones)))))
 
 -- one call after another is a call of both
 pub calls_then : (A B : Part) (v0 v1 v2 : View) (whole : Bool)
@@ -108,9 +106,9 @@ called_to A B v0 v1 s whole c does = record {
   dones = c.dones;
   now = c.now;
   does = does;
-  lost = c.lost;
   pairs = c.pairs;
   few = c.few;
+  calls = c.calls;
   commits = c.commits;
   lines = c.lines;
   holds = c.holds;
@@ -140,51 +138,28 @@ calls_none S v ready s h = record {
   dones = [];
   now = world_of v s;
   does = refl;
-  lost = [];
   pairs = sym (append-nil v.pairs);
   few = refl;
+  calls = refl;
   commits = rose_none v.tally.commits;
   lines = sym (append-nil v.lines);
   holds = subst v.holds h.0 ready.holds;
   crash = leaves_ready v s ready h;
-  stands = (ready.is_open, h, refl, refl);
+  stands = (ready.is_open, h, refl);
 }
-
--- nothing was done of the items
-pub calls_cut : (S : Serve) (is : List Item) (old new : View) (lost : List Pair)
-    → new.pairs ≡ old.pairs ++ lost → length lost ≤ 1 → HasAsked false old.tally.commits 0 new.tally.commits
-    → new.lines ≡ old.lines → new.holds old.core.history
-    → ((s : State) → Stands old.core s → LeavesAt new.closed new.leaves s)
-    → ((s : State) → Stands old.core s → StandsAt false new.closed (world_of old s) new)
-    → Calls (Items S is) old false new
-calls_cut S is old new lost pairs few commits lines holds crash stands s h = record {
-  dones = [];
-  now = world_of old s;
-  does = ([], is, refl, refl);
-  lost = lost;
-  pairs = pairs;
-  few = few;
-  commits = commits;
-  lines = lines ∙ sym (append-nil old.lines);
-  holds = subst new.holds h.0 holds;
-  crash = crash s h;
-  stands = stands s h;
-}
-
--- nothing was done of the items, and the server goes on
-pub stands_back : (old new : View) → new.core ≡ old.core → new.last ≡ old.last → Grew old.counts new.counts
-    → new.closed ≡ false → (s : State) → Stands old.core s → StandsAt false new.closed (world_of old s) new
-stands_back old new core last counts is_open s h =
-    subst (λ c. StandsAt false c (world_of old s) new) (sym is_open)
-    (subst (λ c. Stands c s) (sym core) h, last, counts)
 
 -- nothing was done, and nothing has changed
 pub calls_back : (S : Serve) (is : List Item) (v : View) → IsReady v → Calls (Items S is) v false v
-calls_back S is v ready =
-    calls_cut S is v v [] (sym (append-nil v.pairs)) nil_few (asked_none v.tally.commits) refl ready.holds
-    (λ s is. leaves_ready v s ready is) (stands_back v v refl refl same ready.is_open) where
-      nil_few : length {A = Pair} [] ≤ 1
-      nil_few = omega arith
-
-      same : Grew v.counts v.counts
-      same = grew_none v.counts
+calls_back S is v ready s h = record {
+  dones = [];
+  now = world_of v s;
+  does = ([], is, refl, world_of v s, refl, inl refl);
+  pairs = sym (append-nil v.pairs);
+  few = tt;
+  calls = refl;
+  commits = asked_none v.tally.commits;
+  lines = sym (append-nil v.lines);
+  holds = subst v.holds h.0 ready.holds;
+  crash = leaves_ready v s ready h;
+  stands = subst (λ c. StandsAt false c (world_of v s) v) (sym ready.is_open) (h, refl);
+}

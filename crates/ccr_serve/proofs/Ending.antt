@@ -6,9 +6,9 @@ use Rattle.ccr_core.specs.State.{RunningData}
 use Rattle.ccr_history.specs.Text.{Text}
 use Rattle.ccr_steps.specs.Runs.{RunData}
 use Rattle.ccr_task.specs.Places.{PlacesData}
-use Rattle.ccr_serve.specs.Items.{World, turn, Done, Each, Part, Items, Then}
+use Rattle.ccr_serve.specs.Items.{World, turn, Done, Each, IsCut, Part, Items, Then}
 use Rattle.ccr_serve.specs.Runs.{AllMade, TurnsMade, MOST_TURNS, ToTheEnd, UsedUp, TurnsTo}
-use Rattle.ccr_serve.specs.Serving.{Serves}
+use Rattle.ccr_serve.specs.Serving.{DoesItem, Serves}
 use Rattle.ccr_serve.specs.Views.{View, world_of, IsReady, Calls}
 use Rattle.ccr_serve.proofs.Composing.{each-append, called_then, called_to, called_as, calls_as, calls_none}
 
@@ -19,7 +19,8 @@ Turns places n old ds whole new = TurnsMade places n old ds new
 -- a turn that made an event, or none where it is cut short
 abbrev OneTurn : PlacesData → Part
 OneTurn places old ds true new = TurnsMade places 1 old ds new
-OneTurn places old ds false new = (n : ℕ) × (n ≤ 1) × TurnsMade places n old ds new
+OneTurn places old ds false new =
+    (n : ℕ) × (n ≤ 1) × (mid : World) × TurnsMade places n old ds mid × IsCut (Serves places) (turn ∷ []) mid new
 
 all_made-append : (ds es : List Done) → AllMade ds → AllMade es → AllMade (ds ++ es)
 all_made-append [] es a b = b
@@ -41,7 +42,8 @@ none_run [] (r ∷ rs) (b ∷ bs) h none = absurd h
 
 -- a turn where a build runs makes an event
 abbrev pub MakesEvents : PlacesData → Type 0
-MakesEvents places = (old new : World) (d : Done) → old.core.running ≢ [] → Serves places turn old d new → IsSome d.event
+MakesEvents places =
+    (old new : World) (d : Done) → old.core.running ≢ [] → DoesItem places turn old d new → IsSome d.event
 
 module _ (places : PlacesData) (makes : MakesEvents places) where
   one_made : (old : World) → old.core.running ≢ [] → (ds : List Done) (new : World)
@@ -53,13 +55,26 @@ module _ (places : PlacesData) (makes : MakesEvents places) where
   one_turn : (whole : Bool) (old : World) → old.core.running ≢ [] → (ds : List Done) (new : World)
       → Items (Serves places) (turn ∷ []) old ds whole new → OneTurn places old ds whole new
   one_turn true old runs ds new e = one_made old runs ds new e
-  one_turn false old runs [] new ([], rest, is, e) = let le : 0 ≤ 1 = omega arith in (0, le, (e, tt))
-  one_turn false old runs (d ∷ ds) new ([], rest, is, e) = absurd e
-  one_turn false old runs ds new (x ∷ [], rest, is, e) = let le : 1 ≤ 1 = omega arith in
-      (1, le, one_made old runs ds new (subst (λ y. Each (Serves places) (y ∷ []) old ds new) (sym (same is)) e)) where
-        same : turn ∷ [] ≡ x ∷ rest → turn ≡ x
-        same h = cc h
-  one_turn false old runs ds new (x ∷ y ∷ xs, rest, is, e) = absurd (cc is)
+  one_turn false old runs [] new ([], rest, is, mid, e, cut) = let le : 0 ≤ 1 = omega arith in
+      (0, le, mid, (e, tt), subst (λ js. IsCut (Serves places) js mid new) (sym is) cut)
+  one_turn false old runs (d ∷ ds) new ([], rest, is, mid, e, cut) = absurd e
+  one_turn false old runs ds new (x ∷ [], rest, is, mid, e, cut) = let le : 1 ≤ 1 = omega arith in (
+    1,
+    le,
+    mid,
+    one_made old runs ds mid (subst (λ y. Each (Serves places) (y ∷ []) old ds mid) (sym (same is)) e),
+    none_begun (subst (λ js. IsCut (Serves places) js mid new) (none is) cut),
+  ) where
+    same : turn ∷ [] ≡ x ∷ rest → turn ≡ x
+    same h = cc h
+
+    none : turn ∷ [] ≡ x ∷ rest → rest ≡ []
+    none h = cc h
+
+    none_begun : IsCut (Serves places) [] mid new → IsCut (Serves places) (turn ∷ []) mid new
+    none_begun (inl same) = inl same
+    none_begun (inr begun) = absurd begun
+  one_turn false old runs ds new (x ∷ y ∷ xs, rest, is, mid, e, cut) = absurd (cc is)
 
   several : (n m : ℕ) (old mid new : World) (ds es : List Done) → TurnsMade places n old ds mid
       → TurnsMade places m mid es new → TurnsMade places (n + m) old (ds ++ es) new
@@ -77,14 +92,15 @@ module _ (places : PlacesData) (makes : MakesEvents places) where
 
   then_cut : (n : ℕ) → n < MOST_TURNS → (old : World) (ds : List Done) (new : World)
       → Then (Turns places n) (OneTurn places) old ds false new → ToTheEnd places old ds false new
-  then_cut n lt old ds new (inl h) = let le : n ≤ MOST_TURNS = omega arith in (n, le, h, tt)
+  then_cut n lt old ds new (inl h) = let le : n ≤ MOST_TURNS = omega arith in (n, le, new, h, inl refl)
   then_cut n lt old ds new (inr h) = let m = h.second.0 in let one : m ≤ 1 = h.second.1 in
       let le : n + m ≤ MOST_TURNS = omega arith in (
         n + m,
         le,
-        subst (λ es. TurnsMade places (n + m) old es new) (sym h.joined)
-            (several n m old h.mid new h.front h.back h.first h.second.2),
-        tt,
+        h.second.2,
+        subst (λ es. TurnsMade places (n + m) old es h.second.2) (sym h.joined)
+            (several n m old h.mid h.second.2 h.front h.back h.first h.second.3),
+        h.second.4,
       )
 
   -- one turn more of a core of which a build runs, as a part

@@ -1,4 +1,4 @@
-mod Counted
+mod Folders
 mod Commits
 mod Crash
 mod Launching
@@ -8,6 +8,7 @@ mod Loops
 mod RoundParts
 mod Ending
 mod Staying
+mod Begun
 mod Steps
 mod Ends
 mod Rounds
@@ -16,10 +17,12 @@ mod Triggering
 mod Standing
 mod Refusing
 mod Told
+mod Switched
 mod CheckStatus
 mod Shows
 mod Ranks
 mod Nexts
 mod Wants
 mod Turning
+mod Cutting
 mod Again

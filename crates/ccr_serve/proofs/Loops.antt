@@ -1,7 +1,7 @@
 -- Items of a list, one after another.
 use Rattle.std.proofs.Common.{◌≡◌, ◌<◌, ◌+◌, ◌-◌, ◌++◌, ℕ, List, [], ◌∷◌, length, take, drop, get_or, map, replicate, Bool, true, false, refl, sym, ◌∙◌, ap, subst, arith, append_assoc, inl, inr}
 use Rattle.std.proofs.lemmas.List.{take_more, map-append, take-append-drop, replicate_more, replicate-append-replicate}
-use Rattle.ccr_serve.specs.Items.{World, Item, Done, Serve, Each, Items, Then}
+use Rattle.ccr_serve.specs.Items.{World, Item, Done, Serve, Each, IsCut, Items, Then}
 use Rattle.ccr_serve.specs.Views.{View, Calls}
 use Rattle.ccr_serve.proofs.Composing.{each-append, calls_then, calls_as}
 
@@ -12,20 +12,34 @@ take_all (x ∷ xs) = ap (λ ys. x ∷ ys) (take_all xs)
 pub take_whole : {A : Type 0} (xs : List A) (n : ℕ) → length xs ≡ n → take n xs ≡ xs
 take_whole xs n e = ap (λ k. take k xs) (sym e) ∙ take_all xs
 
+-- what was begun of items was begun of them with others after them
+pub cut_longer : (S : Serve) (is js : List Item) (old new : World) → IsCut S is old new → IsCut S (is ++ js) old new
+cut_longer S is js old new (inl same) = inl same
+cut_longer S [] js old new (inr begun) = absurd begun
+cut_longer S (i ∷ is) js old new (inr begun) = inr begun
+
 -- items, and then others, are all of them
 pub items_then : (S : Serve) (is js : List Item) (whole : Bool) (old : World) (ds : List Done) (new : World)
     → Then (Items S is) (Items S js) old ds whole new → Items S (is ++ js) old ds whole new
 items_then S is js true old ds new h =
     subst (λ es. Each S (is ++ js) old es new) (sym h.joined)
     (each-append S is js old h.mid new h.front h.back h.first h.second)
-items_then S is js false old ds new (inl h) =
-    (h.0, h.1 ++ js, ap (λ xs. xs ++ js) h.2 ∙ append_assoc h.0 h.1 js, h.3)
+items_then S is js false old ds new (inl h) = (
+  h.0,
+  h.1 ++ js,
+  ap (λ xs. xs ++ js) h.2 ∙ append_assoc h.0 h.1 js,
+  h.3,
+  h.4,
+  cut_longer S h.1 js h.3 new h.5,
+)
 items_then S is js false old ds new (inr h) = let b = h.second in (
   is ++ b.0,
   b.1,
   ap (λ xs. is ++ xs) b.2 ∙ sym (append_assoc is b.0 b.1),
-  subst (λ es. Each S (is ++ b.0) old es new) (sym h.joined)
-      (each-append S is b.0 old h.mid new h.front h.back h.first b.3),
+  b.3,
+  subst (λ es. Each S (is ++ b.0) old es b.3) (sym h.joined)
+      (each-append S is b.0 old h.mid b.3 h.front h.back h.first b.4),
+  b.5,
 )
 
 pub calls_both : (S : Serve) (is js : List Item) (v0 v1 v2 : View) (whole : Bool)
@@ -39,7 +53,14 @@ pub calls_cut_before : (S : Serve) (is js : List Item) (v0 v1 : View)
     → Calls (Items S is) v0 false v1 → Calls (Items S (is ++ js)) v0 false v1
 calls_cut_before S is js v0 v1 a =
     calls_as (Items S is) (Items S (is ++ js)) v0 v1 false
-    (λ old ds new h. (h.0, h.1 ++ js, ap (λ xs. xs ++ js) h.2 ∙ append_assoc h.0 h.1 js, h.3)) a
+    (λ old ds new h. (
+      h.0,
+      h.1 ++ js,
+      ap (λ xs. xs ++ js) h.2 ∙ append_assoc h.0 h.1 js,
+      h.3,
+      h.4,
+      cut_longer S h.1 js h.3 new h.5,
+    )) a
 
 -- ---- an item for each of a list
 module _ {A : Type 0} (S : Serve) (f : A → Item) (names : List A) (i : ℕ) (x : A) (lt : i < length names) (is : x ≡ get_or names i x) where

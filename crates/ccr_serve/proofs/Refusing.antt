@@ -1,7 +1,6 @@
 -- Commands that are refused, or that are kept from beginning.
-use Rattle.std.proofs.Common.{◌≡◌, ◌≤◌, [], length, false, Option, None, Some, IsSome, Err, refl, sym, ◌∙◌, ap, subst, append-nil, arith, inl, inr}
+use Rattle.std.proofs.Common.{◌≡◌, List, [], false, Option, None, Some, IsSome, Err, refl, sym, ◌∙◌, ap, subst, append-nil, inl, inr}
 use Rattle.ccr_history.specs.Text.{Text}
-use Rattle.ccr_process.specs.Runs.{Pair}
 use Rattle.ccr_task.specs.Places.{PlacesData}
 use Rattle.ccr_core.specs.declared.fault.CoreFault.{CoreFault}
 use Rattle.ccr_core.specs.declared.fault.CoreFault.TheVariants as core_fault
@@ -11,24 +10,22 @@ use Rattle.ccr_core.specs.Holding.{Stands}
 use Rattle.ccr_core.specs.State.{State}
 use Rattle.ccr_lines.specs.Commands.{CommandData, need_of}
 use Rattle.ccr_lines.specs.Needs.{Lacks}
-use Rattle.ccr_task.specs.declared.counts.ShelfCounts.{ShelfCounts}
-use Rattle.ccr_task.specs.Shelves.{Grew}
+use Rattle.ccr_task.specs.Calls.{CallData}
 use Rattle.ccr_serve.specs.Commanding.{Commanded, IsRefused, WasRefused, CameOf}
 use Rattle.ccr_serve.specs.Items.{Items}
 use Rattle.ccr_serve.specs.Serving.{Serves}
-use Rattle.ccr_serve.specs.Views.{View, world_of, IsReady, Calls, StandsAt, Made, Stops, StopsItem}
+use Rattle.ccr_serve.specs.Views.{View, world_of, with_calls, IsReady, Calls, StandsAt, Made, Stops, StopsItem}
 use Rattle.ccr_serve.specs.declared.fault.ServeFault.{ServeFault}
 use Rattle.ccr_serve.specs.declared.fault.ServeFault.TheVariants as fault
 use Rattle.ccr_serve.proofs.Commits.{rose_none, asked_these}
-use Rattle.ccr_serve.proofs.Counted.{grew_none}
 use Rattle.ccr_serve.proofs.Composing.{calls_back}
 use Rattle.ccr_serve.proofs.Crash.{leaves_ready}
-use Rattle.ccr_serve.proofs.Steps.{after, printed, items_stop, cut_by_memory, none_added}
+use Rattle.ccr_serve.proofs.Steps.{after, printed, items_stop, ready_after, cut_at_once}
 
 -- ---- nothing was done
 -- a server that has done nothing refuses
 pub refused_at_once : (places : PlacesData) (c : CommandData) (f : ServeFault) (v : View) → IsReady v
-    → ((s : State) → Stands v.core s → IsRefused c f s v.counts v.counts) → WasRefused places c f v v
+    → ((s : State) → Stands v.core s → IsRefused c f s v.calls v.calls) → WasRefused places c f v v
 refused_at_once places c f v ready why = record {
   why = why;
   back = calls_back (Serves places) [] v ready;
@@ -37,14 +34,14 @@ refused_at_once places c f v ready why = record {
   lines = refl;
 }
 
--- a server refuses whose shelf may have failed
-pub refused_after : (places : PlacesData) (c : CommandData) (f : ServeFault) (v : View) (k : ShelfCounts) (l : Text) → IsReady v
-    → Grew v.counts k → l ≡ v.lines → ((s : State) → Stands v.core s → IsRefused c f s v.counts k)
+-- a server refuses whose shelf was called
+pub refused_after : (places : PlacesData) (c : CommandData) (f : ServeFault) (v : View) (k : List CallData) (l : Text)
+    → IsReady v → l ≡ v.lines → ((s : State) → Stands v.core s → IsRefused c f s v.calls k)
     → WasRefused places c f v (after v k v.pairs l)
-refused_after places c f v k l ready grew lines why = record {
+refused_after places c f v k l ready lines why = record {
   why = why;
-  back = cut_by_memory (Items (Serves places) []) v k v.pairs l (items_stop (Serves places) []) ready grew
-      (none_added v.pairs) lines;
+  back = cut_at_once (Items (Serves places) []) (with_calls k v) l (items_stop (Serves places) [])
+      (ready_after v k v.pairs v.lines ready) lines;
   pairs = refl;
   commits = rose_none v.tally.commits;
   lines = lines;
@@ -52,27 +49,29 @@ refused_after places c f v k l ready grew lines why = record {
 
 -- what the command needs isn't there
 pub lacks : (places : PlacesData) (c : CommandData) (f : CoreFault) (v : View) (l : Text) → IsReady v → l ≡ v.lines
-    → Lacks (need_of c) v.core.pipeline f → CameOf places c (Err (fault.Core f)) v (printed v l)
+    → Lacks (need_of c) v.core.pipeline v.core.history f → CameOf places c (Err (fault.Core f)) v (printed v l)
 lacks places c f v l ready lines is = by f is where
-  same : Grew v.counts v.counts
-  same = grew_none v.counts
-
-  refuses : (f : CoreFault) → ((s : State) → Stands v.core s → IsRefused c (fault.Core f) s v.counts v.counts)
+  refuses : (f : CoreFault) → ((s : State) → Stands v.core s → IsRefused c (fault.Core f) s v.calls v.calls)
       → CameOf places c (Err (fault.Core f)) v (printed v l)
-  refuses f why = refused_after places c (fault.Core f) v v.counts l ready same lines why
+  refuses f why = refused_after places c (fault.Core f) v v.calls l ready lines why
 
-  by : (f : CoreFault) → Lacks (need_of c) v.core.pipeline f → CameOf places c (Err (fault.Core f)) v (printed v l)
-  by core_fault.NoPipeline h =
-      refuses core_fault.NoPipeline (λ s stands. subst (λ p. Lacks (need_of c) p core_fault.NoPipeline) stands.1 h)
-  by core_fault.NoResource h =
-      refuses core_fault.NoResource (λ s stands. subst (λ p. Lacks (need_of c) p core_fault.NoResource) stands.1 h)
-  by core_fault.NoJob h =
-      refuses core_fault.NoJob (λ s stands. subst (λ p. Lacks (need_of c) p core_fault.NoJob) stands.1 h)
-  by core_fault.NoBuild h = absurd h
+  -- it isn't there in the states that the core stands for
+  moved : (s : State) (f : CoreFault) → Stands v.core s → Lacks (need_of c) v.core.pipeline v.core.history f
+      → Lacks (need_of c) s.pipeline s.history f
+  moved s f stands h =
+      subst (λ x. Lacks (need_of c) s.pipeline x f) stands.0
+      (subst (λ p. Lacks (need_of c) p v.core.history f) stands.1 h)
+
+  by : (f : CoreFault) → Lacks (need_of c) v.core.pipeline v.core.history f → CameOf places c (Err (fault.Core f)) v (printed v l)
+  by core_fault.NoPipeline h = refuses core_fault.NoPipeline (λ s stands. (moved s core_fault.NoPipeline stands h, refl))
+  by core_fault.NoResource h = refuses core_fault.NoResource (λ s stands. (moved s core_fault.NoResource stands h, refl))
+  by core_fault.NoJob h = refuses core_fault.NoJob (λ s stands. (moved s core_fault.NoJob stands h, refl))
+  by core_fault.NoBuild h = refuses core_fault.NoBuild (λ s stands. (moved s core_fault.NoBuild stands h, refl))
   by core_fault.BuildsOpen h = absurd h
   by core_fault.NotWanted h = absurd h
   by core_fault.TooManyOpen h = absurd h
   by core_fault.TableFull h = absurd h
+  by core_fault.NoVersion h = absurd h
   by core_fault.NoMemory h = absurd h
 
 -- ---- what the core refused
@@ -85,33 +84,30 @@ first_fault : (s : State) (e : EventData) (f : CoreFault) → (f ≡ core_fault.
 first_fault s e f other (inl is) = absurd (other is)
 first_fault s e f other (inr first) = first
 
-none_few : length {A = Pair} [] ≤ 1
-none_few = omega arith
-
-module _ (places : PlacesData) (c : CommandData) (e : EventData) (f : CoreFault) (v n : View) (l : Text)
-    (lines : l ≡ v.lines) (made : Made e (Err f) (printed v []) n) where
+module _ (places : PlacesData) (c : CommandData) (e : EventData) (f : CoreFault) (v : View) (k : List CallData) (n : View)
+    (l : Text) (lines : l ≡ v.lines) (made : Made e (Err f) (after v k v.pairs []) n) where
   -- nothing has changed
   stands_still : (s : State) → Stands v.core s → Stands n.core s
   stands_still s h = let t = made.takes s h in subst (λ u. Stands n.core u) t.1.1 t.2
 
-  nothing_done : Calls (Items (Serves places) []) v false (printed n l)
-  nothing_done s h = let none : Grew v.counts v.counts = grew_none v.counts in record {
+  nothing_done : Calls (Items (Serves places) []) (with_calls n.calls v) false (printed n l)
+  nothing_done s h = record {
     dones = [];
-    now = world_of v s;
-    does = ([], [], refl, refl);
-    lost = [];
+    now = world_of (with_calls n.calls v) s;
+    does = ([], [], refl, world_of (with_calls n.calls v) s, refl, inl refl);
     pairs = made.rest.pairs ∙ sym (append-nil v.pairs);
-    few = none_few;
+    few = tt;
+    calls = refl;
     commits = asked_these v.tally.commits 0 n.tally.commits made.commits;
     lines = lines ∙ sym (append-nil v.lines);
     holds = subst n.holds (stands_still s h).0 made.ready.holds;
     crash = leaves_ready n s made.ready (stands_still s h);
-    stands = subst (λ b. StandsAt false b (world_of v s) (printed n l)) (sym made.ready.is_open)
-        (stands_still s h, made.rest.last, subst (λ k. Grew v.counts k) (sym made.rest.counts) none);
+    stands = subst (λ b. StandsAt false b (world_of (with_calls n.calls v) s) (printed n l)) (sym made.ready.is_open)
+        (stands_still s h, made.rest.last);
   }
 
   -- the event's first fault is the command's
-  pub refused_by_core : ((s : State) → IsFirstFault s e f → IsRefused c (fault.Core f) s v.counts n.counts)
+  pub refused_by_core : ((s : State) → IsFirstFault s e f → IsRefused c (fault.Core f) s v.calls n.calls)
       → CameOf places c (Err (fault.Core f)) v (printed n l)
   refused_by_core why = record {
     why = λ s h. why s

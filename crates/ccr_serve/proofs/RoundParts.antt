@@ -6,7 +6,7 @@ use Rattle.ccr_core.specs.State.{RunningData, no_pipeline}
 use Rattle.ccr_history.specs.Text.{Text}
 use Rattle.ccr_pipeline.specs.Pipelines.{PipelineData}
 use Rattle.ccr_task.specs.Places.{PlacesData}
-use Rattle.ccr_serve.specs.Items.{World, Item, check, schedule, turn, Done, Each, Items, Then}
+use Rattle.ccr_serve.specs.Items.{World, Item, check, schedule, turn, Done, Each, IsCut, Items, Then}
 use Rattle.ccr_serve.specs.Runs.{checks_and_schedules, TurnOfEach, Round, Rounds}
 use Rattle.ccr_serve.specs.Serving.{Serves}
 use Rattle.ccr_serve.specs.Views.{View, world_of, Called, Calls}
@@ -99,14 +99,22 @@ module _ (places : PlacesData) (v0 : View) where
 module _ (places : PlacesData) where
   none_more : (n : ℕ) (old new : World) (ds : List Done) → Each (Serves places) [] old ds new
       → Rounds places n old ds false new
-  none_more zero old new ds e = ([], [], refl, e)
-  none_more (suc n) old new ds e = inl (inl ([], checks_and_schedules old.core, refl, e))
+  none_more zero old new ds e = ([], [], refl, new, e, inl refl)
+  none_more (suc n) old new ds e = inl (inl ([], checks_and_schedules old.core, refl, new, e, inl refl))
+
+  -- of no items none was begun
+  none_begun : (rest : List Item) (mid new : World) → [] ≡ rest → IsCut (Serves places) rest mid new → new ≡ mid
+  none_begun rest mid new is (inl same) = same
+  none_begun [] mid new is (inr begun) = absurd begun
+  none_begun (i ∷ rest) mid new is (inr begun) = absurd (cc is)
 
   -- rounds that are cut short are more rounds that are
   longer : (n m : ℕ) → n ≤ m → (old new : World) (ds : List Done) → Rounds places n old ds false new
       → Rounds places m old ds false new
-  longer zero m le old new ds ([], rest, is, e) = none_more m old new ds e
-  longer zero m le old new ds (x ∷ xs, rest, is, e) = absurd (cc is)
+  longer zero m le old new ds ([], rest, is, mid, e, cut) =
+      none_more m old new ds
+      (subst (λ w. Each (Serves places) [] old ds w) (sym (none_begun rest mid new is cut)) e)
+  longer zero m le old new ds (x ∷ xs, rest, is, mid, e, cut) = absurd (cc is)
   longer (suc n) zero le old new ds d = let no : ⊥ = omega arith in absurd no
   longer (suc n) (suc m) le old new ds (inl d) = inl d
   longer (suc n) (suc m) le old new ds (inr b) = let fits : n ≤ m = omega arith in inr (record {

@@ -33,7 +33,7 @@ cut_at at places v0 v1 same a = subst (λ p. Calls (ToTheEnd p) v0 false v1) sam
 pub run_refused : (places : PlacesData) (rounds : ℕ) (v : View) → IsReady v → v.core.pipeline ≡ None
     → WasRefused places (run rounds) (fault.Core core_fault.NoPipeline) v v
 run_refused places rounds v ready none =
-    refused_at_once places (run rounds) (fault.Core core_fault.NoPipeline) v ready (λ s h. sym h.1 ∙ none)
+    refused_at_once places (run rounds) (fault.Core core_fault.NoPipeline) v ready (λ s h. (sym h.1 ∙ none, refl))
 
 module _ (places : PlacesData) (rounds : ℕ) (v0 v1 : View) where
   -- a run that is cut short in its rounds

@@ -1,19 +1,19 @@
 -- What is shown: a command prints lines, and does nothing else.
-use Rattle.std.proofs.Common.{◌≡◌, ℕ, [], None, unwrap_or, Ok, Err, refl, sym, subst, append-nil}
+use Rattle.std.proofs.Common.{◌≡◌, ℕ, [], None, unwrap_or, Ok, Err, refl, sym, subst, append-nil, inl}
 use Rattle.ccr_history.specs.Text.{Text}
 use Rattle.ccr_task.specs.Places.{PlacesData}
 use Rattle.ccr_core.specs.Holding.{CoreData, Stands}
 use Rattle.ccr_core.specs.State.{State, no_pipeline, pipeline_of}
 use Rattle.ccr_lines.specs.Commands.{shows}
-use Rattle.ccr_lines.specs.Needs.{IsMet}
+use Rattle.ccr_lines.specs.Needs.{IsMet, LacksPin}
 use Rattle.ccr_lines.specs.Shown.{ShownData, needs, IsShown, Showing}
 use Rattle.ccr_serve.specs.Commanding.{Commanded, CameOf}
 use Rattle.ccr_serve.specs.Items.{Done}
 use Rattle.ccr_serve.specs.Views.{View, world_of, IsReady}
 use Rattle.ccr_serve.specs.declared.fault.ServeFault.TheVariants as fault
 use Rattle.ccr_serve.proofs.Commits.{rose_none}
-use Rattle.ccr_serve.proofs.Counted.{grew_none}
-use Rattle.ccr_serve.proofs.Steps.{printed, ready_after, calls_did, MayStop, cut_by_memory, none_added}
+use Rattle.ccr_serve.proofs.Refusing.{refused_after}
+use Rattle.ccr_serve.proofs.Steps.{printed, ready_after, calls_did, MayStop, cut_at_once}
 
 -- what is shown of a core is shown of the states that it stands for
 shown_at : (what : ShownData) (c : CoreData) (s : State) (status : ℕ) (lines : Text) → Stands c s
@@ -28,7 +28,7 @@ shown_at what c s status lines is h =
 pub shown_so : (places : PlacesData) (what : ShownData) (status : ℕ) (v : View) (l : Text) → IsReady v
     → Showing what v.core (Ok status) v.lines l → CameOf places (shows what) (Ok status) v (printed v l)
 shown_so places what status v l ready x =
-    calls_did (Commanded places (shows what) status) v (printed v l) (ready_after v v.counts v.pairs l ready)
+    calls_did (Commanded places (shows what) status) v (printed v l) (ready_after v v.calls v.pairs l ready)
     (λ s is. record {
       did = did;
       state = s;
@@ -44,7 +44,7 @@ shown_so places what status v l ready x =
           },
           refl,
         ),
-        subst (λ p. IsMet (needs what) p) is.1 x.0,
+        subst (λ h. IsMet (needs what) s.pipeline h) is.0 (subst (λ p. IsMet (needs what) p v.core.history) is.1 x.0),
       );
       pairs = sym (append-nil v.pairs);
       commits = rose_none v.tally.commits;
@@ -54,11 +54,17 @@ shown_so places what status v l ready x =
       did = record { pair = None; event = None; lines = x.1.0 }
 
 show_stop : (places : PlacesData) (what : ShownData) → MayStop (Commanded places (shows what) 0)
-show_stop places what w = ([], _, refl, refl)
+show_stop places what w = ([], _, refl, w, refl, inl refl)
+
+-- the text of a pin spells none: nothing is shown
+pub shown_unpinned : (places : PlacesData) (what : ShownData) (v : View) (l : Text) → IsReady v → l ≡ v.lines
+    → LacksPin (needs what) v.core.pipeline → CameOf places (shows what) (Err fault.BadPin) v (printed v l)
+shown_unpinned places what v l ready same bad =
+    refused_after places (shows what) fault.BadPin v v.calls l ready same
+    (λ s is. (subst (λ p. LacksPin (needs what) p) is.1 bad, refl))
 
 -- memory was wanted: nothing is shown
 pub shown_nothing : (places : PlacesData) (what : ShownData) (v : View) (l : Text) → IsReady v → l ≡ v.lines
     → CameOf places (shows what) (Err fault.NoMemory) v (printed v l)
 shown_nothing places what v l ready same =
-    cut_by_memory (Commanded places (shows what) 0) v v.counts v.pairs l (show_stop places what) ready (grew_none v.counts)
-    (none_added v.pairs) same
+    cut_at_once (Commanded places (shows what) 0) v l (show_stop places what) ready same

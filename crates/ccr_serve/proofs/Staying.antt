@@ -31,7 +31,7 @@ of_someone : (places : PlacesData) (o : Option RunningData) (old new : World) (d
     → TakesTurn places o old d new → IsSome d.event
 of_someone places None old new d some h = absurd (some refl)
 of_someone places (Some b) old new d some h = by h.asked h.goes_on where
-  by : (asked : Bool) → GoesOnBy asked places b old.core h.looked d h.reply h.counts new.core → IsSome d.event
+  by : (asked : Bool) → GoesOnBy asked places b old.core h.looked d h.reply h.calls new.core → IsSome d.event
   by true on = subst (λ e. IsSome e) (sym on.0.event) refl
   by false on = subst (λ e. IsSome e) (sym on.event) refl
 

@@ -1,5 +1,5 @@
 -- Items that were done, and items that were cut short.
-use Rattle.std.proofs.Common.{◌≡◌, ◌≤◌, ◌++◌, ◌⊎◌, ◌&&◌, List, [], ◌∷◌, length, Bool, true, false, is_ok, Option, Some, None, option_to_list, unwrap_or, Ok, Err, refl, sym, ◌∙◌, ap, subst, append-nil, arith, inl, inr}
+use Rattle.std.proofs.Common.{◌≡◌, ◌++◌, ◌⊎◌, ◌&&◌, List, [], ◌∷◌, Bool, true, false, is_ok, Option, Some, None, option_to_list, unwrap_or, Ok, Err, refl, sym, ◌∙◌, ap, subst, append-nil, inl, inr}
 use Rattle.std.proofs.lemmas.Bool.{false≢true}
 use Rattle.std.specs.Option.{option_map_or}
 use Rattle.ccr_history.specs.Text.{Text}
@@ -16,15 +16,14 @@ use Rattle.ccr_core.specs.State.{State, no_pipeline, resources_of}
 use Rattle.ccr_core.specs.Steps.{Step}
 use Rattle.ccr_lines.specs.Lines.{lines_of, refused_line, cause_words}
 use Rattle.ccr_lines.specs.declared.cause.Cause.{Cause}
-use Rattle.ccr_task.specs.declared.counts.ShelfCounts.{ShelfCounts}
-use Rattle.ccr_task.specs.Shelves.{Grew}
+use Rattle.ccr_task.specs.Calls.{CallData}
 use Rattle.ccr_serve.specs.Crash.{LeavesAt}
-use Rattle.ccr_serve.specs.Found.{found, newest, Finds}
+use Rattle.ccr_serve.specs.Found.{found, newest, Finds, BeginsFind}
 use Rattle.ccr_serve.specs.Found as what_is
 use Rattle.ccr_serve.specs.Items.{World, Item, Done, Serve, Part, Items, Noting}
 use Rattle.ccr_serve.specs.Items as item
-use Rattle.ccr_serve.specs.Pairs.{AddsAtMostOne}
-use Rattle.ccr_serve.specs.Serving.{Tells, Serves}
+use Rattle.ccr_serve.specs.Pairs.{Adds}
+use Rattle.ccr_serve.specs.Serving.{Tells, BeginsItem, Serves}
 use Rattle.ccr_serve.specs.Taken.{all_taken, taken_of}
 use Rattle.ccr_storage.specs.Counts.{RoseBy}
 use Rattle.ccr_serve.specs.Views.{View, world_of, resources_held, IsReady, HasAsked, StandsAt, Calls, StopsItem, IsBack, Made, Unmade}
@@ -34,12 +33,12 @@ use Rattle.ccr_serve.proofs.Commits.{add_none, rose_none, asked_none}
 use Rattle.ccr_serve.proofs.Crash.{leaves_ready}
 
 -- ---- views
--- a view after launches: the shelf's count, the pairs and what is printed may be others
-abbrev pub after : View → ShelfCounts → List Pair → Text → View
+-- a view after launches: the shelf's calls, the pairs and what is printed may be others
+abbrev pub after : View → List CallData → List Pair → Text → View
 after v f p l = record {
   core = v.core;
   last = v.last;
-  counts = f;
+  calls = f;
   pairs = p;
   holds = v.holds;
   leaves = v.leaves;
@@ -50,9 +49,9 @@ after v f p l = record {
 
 -- a view that has printed these lines
 abbrev pub printed : View → Text → View
-printed v l = after v v.counts v.pairs l
+printed v l = after v v.calls v.pairs l
 
-pub ready_after : (v : View) (f : ShelfCounts) (p : List Pair) (l : Text) → IsReady v → IsReady (after v f p l)
+pub ready_after : (v : View) (f : List CallData) (p : List Pair) (l : Text) → IsReady v → IsReady (after v f p l)
 ready_after v f p l ready = record {
   is_open = ready.is_open;
   unfailed = ready.unfailed;
@@ -77,35 +76,44 @@ calls_did P old new ready each s is = let one = each s is in record {
   dones = one.did ∷ [];
   now = world_of new one.state;
   does = one.does;
-  lost = [];
   pairs = one.pairs
       ∙ ap (λ ps. old.pairs ++ ps)
       (sym (append-nil (option_to_list one.did.pair ++ []) ∙ append-nil (option_to_list one.did.pair)));
   few = refl;
+  calls = refl;
   commits = subst (λ n. RoseBy old.tally.commits n new.tally.commits) (sym (add_none (taken_of one.did.event)))
       one.commits;
   lines = one.lines ∙ ap (λ ls. old.lines ++ ls) (sym (append-nil one.did.lines));
   holds = subst new.holds one.stands.0 ready.holds;
   crash = leaves_ready new one.state ready one.stands;
-  stands = (ready.is_open, one.stands, refl, refl);
+  stands = (ready.is_open, one.stands, refl);
 }
 
--- a part of which nothing may be done
+-- where a server stands that has done nothing, and has begun this
+abbrev pub begun_at : View → State → List CallData → Option Pair → World
+begun_at v s calls lost = record { core = s; last = v.last; calls = calls; lost = lost }
+
+-- a part of which nothing was done, and this was begun
+abbrev pub MayBegin : Part → View → List CallData → Option Pair → Type 0
+MayBegin P v calls lost = (s : State) → Stands v.core s → P (world_of v s) [] false (begun_at v s calls lost)
+
+-- a part of which nothing may be done, and nothing begun
 abbrev pub MayStop : Part → Type 0
 MayStop P = (w : World) → P w [] false w
 
-pub calls_stop : (P : Part) (old new : View) (lost : List Pair) → MayStop P
-    → new.pairs ≡ old.pairs ++ lost → length lost ≤ 1 → HasAsked false old.tally.commits 0 new.tally.commits
+pub calls_stop : (P : Part) (old new : View) (lost : Option Pair) → MayBegin P old new.calls lost
+    → Adds old.pairs lost new.pairs → HasAsked false old.tally.commits 0 new.tally.commits
     → new.lines ≡ old.lines → new.holds old.core.history
     → ((s : State) → Stands old.core s → LeavesAt new.closed new.leaves s)
-    → ((s : State) → Stands old.core s → StandsAt false new.closed (world_of old s) new) → Calls P old false new
-calls_stop P old new lost may pairs few commits lines holds crash stands s is = record {
+    → ((s : State) → Stands old.core s → StandsAt false new.closed (begun_at old s new.calls lost) new)
+    → Calls P old false new
+calls_stop P old new lost begins pairs commits lines holds crash stands s is = record {
   dones = [];
-  now = world_of old s;
-  does = may (world_of old s);
-  lost = lost;
+  now = begun_at old s new.calls lost;
+  does = begins s is;
   pairs = pairs;
-  few = few;
+  few = tt;
+  calls = refl;
   commits = commits;
   lines = lines ∙ sym (append-nil old.lines);
   holds = subst new.holds is.0 holds;
@@ -115,30 +123,44 @@ calls_stop P old new lost may pairs few commits lines holds crash stands s is = 
 
 -- of items nothing may be done, whatever is noted once they are whole
 pub items_stop : (S : Serve) (is : List Item) → MayStop (Items S is)
-items_stop S is w = ([], is, refl, refl)
+items_stop S is w = ([], is, refl, w, refl, inl refl)
 
 pub noting_stop : (S : Serve) (is : List Item) (Note : List Done → Type 0) → MayStop (Noting (Items S is) Note)
-noting_stop S is Note w = ([], is, refl, refl)
+noting_stop S is Note w = ([], is, refl, w, refl, inl refl)
+
+-- this was begun of one item, whatever is noted once it is whole
+pub item_begun : (places : PlacesData) (i : Item) (v : View) (calls : List CallData) (lost : Option Pair)
+    → ((s : State) → Stands v.core s → BeginsItem places i (world_of v s) (begun_at v s calls lost))
+    → MayBegin (Items (Serves places) (i ∷ [])) v calls lost
+item_begun places i v calls lost begins s is = ([], i ∷ [], refl, world_of v s, refl, inr (begins s is))
 
 -- ---- stopped by want of memory, or by a failure of the storage
-stands_back : (closed : Bool) (v new : View) (s : State) → Stands new.core s → new.last ≡ v.last
-    → Grew v.counts new.counts → StandsAt false closed (world_of v s) new
-stands_back true v new s is last grew = tt
-stands_back false v new s is last grew = (is, last, grew)
+pub stands_back : (closed : Bool) (v new : View) (s : State) (calls : List CallData) (lost : Option Pair)
+    → Stands new.core s → new.last ≡ v.last → StandsAt false closed (begun_at v s calls lost) new
+stands_back true v new s calls lost is last = tt
+stands_back false v new s calls lost is last = (is, last)
 
 -- memory was wanted before the event
-pub cut_by_memory : (P : Part) (v : View) (f : ShelfCounts) (p : List Pair) (l : Text) → MayStop P
-    → IsReady v → Grew v.counts f → AddsAtMostOne v.pairs p → l ≡ v.lines → Calls P v false (after v f p l)
-cut_by_memory P v f p l may ready grew adds lines =
-    calls_stop P v (after v f p l) adds.0 may adds.1 adds.2 (asked_none v.tally.commits) lines ready.holds
-    (λ s is. leaves_ready v s ready is) (λ s is. stands_back v.closed v (after v f p l) s is refl grew)
+pub cut_by_memory : (P : Part) (v : View) (f : List CallData) (p : List Pair) (l : Text) (lost : Option Pair)
+    → MayBegin P v f lost → IsReady v → Adds v.pairs lost p → l ≡ v.lines → Calls P v false (after v f p l)
+cut_by_memory P v f p l lost begins ready adds lines =
+    calls_stop P v (after v f p l) lost begins adds (asked_none v.tally.commits) lines ready.holds
+    (λ s is. leaves_ready v s ready is) (λ s is. stands_back v.closed v (after v f p l) s f lost is refl)
 
-pub none_added : (p : List Pair) → AddsAtMostOne p p
-none_added p = ([], sym (append-nil p), omega arith)
+pub none_added : (p : List Pair) → Adds p None p
+none_added p = sym (append-nil p)
 
-pub one_added : (o : Option Pair) (old new : List Pair) → new ≡ old ++ option_to_list o → AddsAtMostOne old new
-one_added None old new e = ([], e, omega arith)
-one_added (Some x) old new e = (x ∷ [], e, omega arith)
+-- memory was wanted before anything
+pub cut_at_once : (P : Part) (v : View) (l : Text) → MayStop P → IsReady v → l ≡ v.lines
+    → Calls P v false (printed v l)
+cut_at_once P v l may ready lines =
+    cut_by_memory P v v.calls v.pairs l None (λ s is. may (world_of v s)) ready (none_added v.pairs) lines
+
+-- memory was wanted, and the shelf was called for nothing
+pub cut_unchanged : (P : Part) (v : View) (f : List CallData) (l : Text) → MayStop P → IsReady v → f ≡ v.calls
+    → l ≡ v.lines → Calls P v false (after v f v.pairs l)
+cut_unchanged P v f l may ready same lines =
+    subst (λ k. Calls P v false (after v k v.pairs l)) (sym same) (cut_at_once P v l may ready lines)
 
 -- an event that wasn't made: the core is as it was, or the server has closed
 unmade_back : (f : ServeFault) (old new : View) → Unmade f old new
@@ -152,20 +174,27 @@ unmade_back fault.NoMemory old new un = inl un.back
 unmade_back fault.Closed old new un = absurd un.back
 unmade_back fault.TurnsUsedUp old new un = absurd un.back
 
-stands_closed : (closed : Bool) (v new : View) (s : State) → closed ≡ true → StandsAt false closed (world_of v s) new
-stands_closed true v new s is = tt
-stands_closed false v new s is = absurd (false≢true is)
+stands_closed : (closed : Bool) (now : World) (new : View) → closed ≡ true → StandsAt false closed now new
+stands_closed true now new is = tt
+stands_closed false now new is = absurd (false≢true is)
 
-pub calls_unmade : (P : Part) (v : View) (f : ShelfCounts) (p : List Pair) (l : Text) (new : View) (stop : ServeFault)
-    → MayStop P → Grew v.counts f → AddsAtMostOne v.pairs p → l ≡ v.lines
+pub calls_unmade : (P : Part) (v : View) (f : List CallData) (p : List Pair) (l : Text) (new : View) (stop : ServeFault)
+    (lost : Option Pair) → MayBegin P v f lost → Adds v.pairs lost p → l ≡ v.lines
     → Unmade stop (after v f p l) new → Calls P v false new
-calls_unmade P v f p l new stop may grew adds lines un =
-    calls_stop P v new adds.0 may (un.rest.pairs ∙ adds.1) adds.2 un.commits (un.rest.lines ∙ lines) un.holds
-    un.crash (λ s is. elim (unmade_back stop (after v f p l) new un) as (λ _. StandsAt false new.closed (world_of v s) new) [
-      | inl back ↦ stands_back new.closed v new s (subst (λ c. Stands c s) (sym back.0) is) un.rest.last
-          (subst (λ n. Grew v.counts n) (sym un.rest.counts) grew)
-      | inr closed ↦ stands_closed new.closed v new s closed
+calls_unmade P v f p l new stop lost begins adds lines un =
+    calls_stop P v new lost (subst (λ k. MayBegin P v k lost) (sym un.rest.calls) begins) (un.rest.pairs ∙ adds)
+    un.commits (un.rest.lines ∙ lines) un.holds un.crash
+    (λ s is. elim (unmade_back stop (after v f p l) new un)
+    as (λ _. StandsAt false new.closed (begun_at v s new.calls lost) new) [
+      | inl back ↦ stands_back new.closed v new s new.calls lost (subst (λ c. Stands c s) (sym back.0) is) un.rest.last
+      | inr closed ↦ stands_closed new.closed (begun_at v s new.calls lost) new closed
     ])
+
+-- nothing was begun but the event, which wasn't made
+pub unmade_at_once : (P : Part) (v : View) (l : Text) (new : View) (stop : ServeFault) → MayStop P → l ≡ v.lines
+    → Unmade stop (printed v l) new → Calls P v false new
+unmade_at_once P v l new stop may lines un =
+    calls_unmade P v v.calls v.pairs l new stop None (λ s is. may (world_of v s)) (none_added v.pairs) lines un
 
 pub stops_item : (f : ServeFault) (old new : View) → Unmade f old new → StopsItem f new
 stops_item (fault.Core e) old new un = absurd un.back
@@ -185,7 +214,7 @@ unmade_printed f old new l m same un = record {
   holds = un.holds;
   crash = un.crash;
   commits = un.commits;
-  rest = record { last = un.rest.last; counts = un.rest.counts; pairs = un.rest.pairs; lines = same };
+  rest = record { last = un.rest.last; calls = un.rest.calls; pairs = un.rest.pairs; lines = same };
 } where
   back : (f : ServeFault) → IsBack f old new → IsBack f (printed old l) (printed new m)
   back (fault.Core e) b = b
@@ -193,7 +222,7 @@ unmade_printed f old new l m same un = record {
   back (fault.Read e) b = b
   back fault.File b = b
   back fault.BadPin b = b
-  back fault.NoMemory b = (b.0, ready_after new new.counts new.pairs m b.1)
+  back fault.NoMemory b = (b.0, ready_after new new.calls new.pairs m b.1)
   back fault.Closed b = b
   back fault.TurnsUsedUp b = b
 
@@ -213,7 +242,8 @@ made_did P e r v n m s made lines can is = let t = made.takes s is in
         makes = record { reply = r; step = t.1; found_memory = made.found_memory; event = refl; lines = refl };
         pair = refl;
         last = made.rest.last;
-        counts = made.rest.counts;
+        calls = made.rest.calls;
+        lost = refl;
       }) refl;
       pairs = made.rest.pairs ∙ sym (append-nil v.pairs);
       commits = made.commits;
@@ -226,7 +256,7 @@ pub calls_made : (P : Part) (e : EventData) (r : Replied) (v n : View) (m : Text
     → ((w u : World) (d : Done) → Tells e w d u → d.event ≡ Some (e, r) → P w (d ∷ []) true u)
     → Calls P v true (printed n m)
 calls_made P e r v n m made lines can =
-    calls_did P v (printed n m) (ready_after n n.counts n.pairs m made.ready)
+    calls_did P v (printed n m) (ready_after n n.calls n.pairs m made.ready)
     (λ s is. made_did P e r v n m s made lines can is)
 
 -- the lines of an event, with the history of a state that the core stands for
@@ -245,16 +275,16 @@ taken_one (Ok x) d e made = sym (ap (λ o. option_map_or (λ made. is_ok made.1)
 taken_one (Err x) d e made = sym (ap (λ o. option_map_or (λ made. is_ok made.1) o false && true) made)
 
 -- the versions that a check found were an event
-pub check_made : (places : PlacesData) (name named : Text) (one : ResourceData) (v : View) (f : ShelfCounts) (p : List Pair)
+pub check_made : (places : PlacesData) (name named : Text) (one : ResourceData) (v : View) (f : List CallData) (p : List Pair)
     (l : Text) (n : View) (m : Text) (pair : Option Pair) (vs : List TextMap) (r : Replied) (good : Bool)
     → named ≡ name → resource_of name (resources_held v.core) ≡ Some one → l ≡ v.lines
-    → p ≡ v.pairs ++ option_to_list pair → Finds places one (newest one v.core.history) v.counts f pair (found vs)
+    → p ≡ v.pairs ++ option_to_list pair → Finds places one (newest one v.core.history) v.calls f pair (found vs)
     → Made (checked named vs) r (after v f p []) n → m ≡ l ++ lines_of (checked name vs) r n.core.history
     → good ≡ is_ok r
     → Calls (Noting (Items (Serves places) (item.check name ∷ [])) (λ ds. good ≡ all_taken ds)) v true (printed n m)
 check_made places name named one v f p l n m pair vs r good copied there lines pairs finds made_named told is_good =
     calls_did (Noting (Items (Serves places) (item.check name ∷ [])) (λ ds. good ≡ all_taken ds)) v (printed n m)
-    (ready_after n n.counts n.pairs m made_named.ready) (λ s is.
+    (ready_after n n.calls n.pairs m made_named.ready) (λ s is.
     let made : Made (checked name vs) r (after v f p []) n =
     subst (λ t. Made (checked t vs) r (after v f p []) n) copied made_named in
     let t = made.takes s is in
@@ -274,11 +304,12 @@ check_made places name named one v f p l n m pair vs r good copied there lines p
             one = one;
             named = ap (λ rs. resource_of name rs) (sym (resources_at v.core s is)) ∙ there;
             what = found vs;
-            finds = subst (λ h. Finds places one (newest one h) v.counts n.counts pair (found vs)) is.0
-                (subst (λ k. Finds places one (newest one v.core.history) v.counts k pair (found vs))
-                (sym made.rest.counts) finds);
+            finds = subst (λ h. Finds places one (newest one h) v.calls n.calls pair (found vs)) is.0
+                (subst (λ k. Finds places one (newest one v.core.history) v.calls k pair (found vs))
+                (sym made.rest.calls) finds);
             reports = record { reply = r; step = t.1; found_memory = made.found_memory; event = refl; lines = refl };
             last = made.rest.last;
+            lost = refl;
           },
           refl,
         ),
@@ -290,11 +321,11 @@ check_made places name named one v f p l n m pair vs r good copied there lines p
     })
 
 -- a check found nothing, and its line says why
-pub check_found_nothing : (places : PlacesData) (name : Text) (one : ResourceData) (v : View) (f : ShelfCounts) (p : List Pair)
+pub check_found_nothing : (places : PlacesData) (name : Text) (one : ResourceData) (v : View) (f : List CallData) (p : List Pair)
     (l m : Text) (pair : Option Pair) (cause : Cause)
     → IsReady v → resource_of name (resources_held v.core) ≡ Some one → l ≡ v.lines
     → p ≡ v.pairs ++ option_to_list pair
-    → Finds places one (newest one v.core.history) v.counts f pair (what_is.nothing cause)
+    → Finds places one (newest one v.core.history) v.calls f pair (what_is.nothing cause)
     → m ≡ l ++ refused_line name (cause_words cause)
     → Calls (Noting (Items (Serves places) (item.check name ∷ [])) (λ ds. false ≡ all_taken ds)) v true (after v f p m)
 check_found_nothing places name one v f p l m pair cause ready there lines pairs finds told =
@@ -310,9 +341,10 @@ check_found_nothing places name one v f p l m pair cause ready there lines pairs
             one = one;
             named = ap (λ rs. resource_of name rs) (sym (resources_at v.core s is)) ∙ there;
             what = what_is.nothing cause;
-            finds = subst (λ h. Finds places one (newest one h) v.counts f pair (what_is.nothing cause)) is.0 finds;
+            finds = subst (λ h. Finds places one (newest one h) v.calls f pair (what_is.nothing cause)) is.0 finds;
             reports = (refl, refl, refl);
             last = refl;
+            lost = refl;
           },
           refl,
         ),
@@ -321,6 +353,20 @@ check_found_nothing places name one v f p l m pair cause ready there lines pairs
       pairs = pairs;
       commits = rose_none v.tally.commits;
       lines = told ∙ ap (λ ls. ls ++ refused_line name (cause_words cause)) lines;
+    })
+
+-- a check was begun
+pub check_begun : (places : PlacesData) (name : Text) (one : ResourceData) (v : View) (f : List CallData)
+    (lost : Option Pair) → resource_of name (resources_held v.core) ≡ Some one
+    → BeginsFind places one (newest one v.core.history) v.calls f lost
+    → MayBegin (Items (Serves places) (item.check name ∷ [])) v f lost
+check_begun places name one v f lost there begins =
+    item_begun places (item.check name) v f lost (λ s is. record {
+      one = one;
+      named = ap (λ rs. resource_of name rs) (sym (resources_at v.core s is)) ∙ there;
+      begins = subst (λ h. BeginsFind places one (newest one h) v.calls f lost) is.0 begins;
+      core = refl;
+      last = refl;
     })
 
 -- ---- schedules

@@ -1,5 +1,5 @@
 -- The event that triggers a job: made, refused, or kept away.
-use Rattle.std.proofs.Common.{◌≡◌, ◌<◌, ◌++◌, [], ◌∷◌, true, Option, Some, IsSome, Ok, Err, refl, sym, ap, subst, ◌∙◌, arith, inl}
+use Rattle.std.proofs.Common.{◌≡◌, ◌<◌, ◌++◌, List, [], ◌∷◌, true, Option, Some, IsSome, Ok, Err, refl, sym, ap, subst, ◌∙◌, arith, inl}
 use Rattle.ccr_core.specs.declared.fault.CoreFault.{CoreFault}
 use Rattle.ccr_core.specs.declared.fault.CoreFault.TheVariants as core_fault
 use Rattle.ccr_core.specs.declared.reply.Reply.{Reply}
@@ -12,7 +12,7 @@ use Rattle.ccr_core.specs.Steps.{Step}
 use Rattle.ccr_history.specs.Text.{Text}
 use Rattle.ccr_lines.specs.Lines.{lines_of}
 use Rattle.ccr_task.specs.Places.{PlacesData}
-use Rattle.ccr_task.specs.declared.counts.ShelfCounts.{ShelfCounts}
+use Rattle.ccr_task.specs.Calls.{CallData}
 use Rattle.ccr_serve.specs.Commanding.{HasJob, IsRefused, Commanded, CameOf}
 use Rattle.ccr_lines.specs.Commands.{trigger_job}
 use Rattle.ccr_serve.specs.Items.{World, Done, tell}
@@ -25,7 +25,7 @@ use Rattle.ccr_serve.proofs.Steps.{printed, MayStop, calls_made, lines_at}
 
 -- nothing may be done of a command that triggers a job
 pub trigger_stop : (places : PlacesData) (job : Text) → MayStop (Commanded places (trigger_job job) 0)
-trigger_stop places job w = inl ([], tell (event.trigger job) ∷ [], refl, refl)
+trigger_stop places job w = inl ([], tell (event.trigger job) ∷ [], refl, w, refl, inl refl)
 
 -- ---- the core's reply
 has_job : (job : Text) (s after : State) (r : Reply) → Step s (event.trigger job) (Ok r) after → HasJob s job
@@ -62,25 +62,26 @@ trigger_made places job named replied r v n l m copied is lines made_named told 
     (trigger_told places job r)
 
 -- ---- the core's refusal
-refused_so : (job : Text) (f : CoreFault) (s : State) (before after : ShelfCounts) → IsFirstFault s (event.trigger job) f
-    → IsRefused (trigger_job job) (fault.Core f) s before after
-refused_so job core_fault.NoPipeline s before after first = first.0
-refused_so job core_fault.NoJob s before after first = let lt : 1 < 2 = omega arith in
-    (some_if s.pipeline (first.1 core_fault.NoPipeline lt), first.0)
-refused_so job core_fault.NoResource s before after first = absurd first.0
-refused_so job core_fault.NoBuild s before after first = absurd first.0
-refused_so job core_fault.BuildsOpen s before after first = absurd first.0
-refused_so job core_fault.NotWanted s before after first = absurd first.0
-refused_so job core_fault.TooManyOpen s before after first = first
-refused_so job core_fault.TableFull s before after first = first
-refused_so job core_fault.NoMemory s before after first = absurd first.0
+refused_so : (job : Text) (f : CoreFault) (s : State) (before after : List CallData) → after ≡ before
+    → IsFirstFault s (event.trigger job) f → IsRefused (trigger_job job) (fault.Core f) s before after
+refused_so job core_fault.NoPipeline s before after same first = (first.0, same)
+refused_so job core_fault.NoJob s before after same first = let lt : 1 < 2 = omega arith in
+    ((some_if s.pipeline (first.1 core_fault.NoPipeline lt), first.0), same)
+refused_so job core_fault.NoResource s before after same first = absurd first.0
+refused_so job core_fault.NoBuild s before after same first = absurd first.0
+refused_so job core_fault.BuildsOpen s before after same first = absurd first.0
+refused_so job core_fault.NotWanted s before after same first = absurd first.0
+refused_so job core_fault.TooManyOpen s before after same first = (first, same)
+refused_so job core_fault.TableFull s before after same first = (first, same)
+refused_so job core_fault.NoVersion s before after same first = absurd first.0
+refused_so job core_fault.NoMemory s before after same first = absurd first.0
 
 -- the core refused to trigger a job
 pub trigger_refused : (places : PlacesData) (job named : Text) (replied : Replied) (f : CoreFault) (v n : View)
     (l : Text) → named ≡ job → replied ≡ Err f → l ≡ v.lines → Made (event.trigger named) replied (printed v []) n
     → CameOf places (trigger_job job) (Err (fault.Core f)) v (printed n l)
 trigger_refused places job named replied f v n l copied is lines made =
-    refused_by_core places (trigger_job job) (event.trigger job) f v n l lines
+    refused_by_core places (trigger_job job) (event.trigger job) f v v.calls n l lines
     (subst (λ t. Made (event.trigger t) (Err f) (printed v []) n) copied
     (subst (λ q. Made (event.trigger named) q (printed v []) n) is made))
-    (λ s first. refused_so job f s v.counts n.counts first)
+    (λ s first. refused_so job f s v.calls n.calls made.rest.calls first)

@@ -4,8 +4,8 @@ use Rattle.ccr_history.specs.Text.{Text}
 use Rattle.ccr_history.specs.History.{HistoryData}
 use Rattle.ccr_process.specs.Runs.{Pair}
 use Rattle.ccr_steps.specs.Asks.{ask_data, AnswerData, errored}
-use Rattle.ccr_task.specs.Places.{PlacesData, build_folder}
-use Rattle.ccr_task.specs.declared.counts.ShelfCounts.{ShelfCounts}
+use Rattle.ccr_task.specs.Calls.{CallData}
+use Rattle.ccr_task.specs.Places.{PlacesData, build_folder, abort_folder}
 use Rattle.ccr_core.specs.declared.fault.CoreFault.TheVariants.{TableFull}
 use Rattle.ccr_core.specs.declared.reply.Reply.{Reply}
 use Rattle.ccr_core.specs.Events.{answer, abort}
@@ -53,11 +53,11 @@ turn_of_nobody places v ready none =
     })
 
 -- a server after a turn: the build's rank is noted, and its folder may be removed
-abbrev pub served : View → ℕ → ShelfCounts → Text → View
-served n rank counts lines = record {
+abbrev pub served : View → ℕ → List CallData → Text → View
+served n rank calls lines = record {
   core = n.core;
   last = rank;
-  counts = counts;
+  calls = calls;
   pairs = n.pairs;
   holds = n.holds;
   leaves = n.leaves;
@@ -70,9 +70,9 @@ served n rank counts lines = record {
 renamed : (P : Text → ℕ → Type 0) (j k : Text) (m n : ℕ) → k ≡ j → n ≡ m → P j m → P k n
 renamed P j k m n job number p = subst (λ t. P t n) (sym job) (subst (λ i. P j i) (sym number) p)
 
-module _ (places : PlacesData) (v : View) (looked : ShelfCounts) (job : Text) (number rank turn : ℕ) (x : AnswerData) (reply : Reply) (f : ShelfCounts) (p : List Pair) (n : View) (f2 : ShelfCounts) (m : Text)
-    (unasked : AbortIsAsked false v.counts looked) (wanted : AnswersWant places v.core job number turn x v.pairs p looked f)
-    (gives : Gives job number turn x reply (after v f p []) n) (clears : Clears reply f f2) where
+module _ (places : PlacesData) (v : View) (looked : List CallData) (job : Text) (number rank turn : ℕ) (x : AnswerData) (reply : Reply) (f : List CallData) (p : List Pair) (n : View) (f2 : List CallData) (m : Text)
+    (unasked : AbortIsAsked (abort_folder places job number) false v.calls looked) (wanted : AnswersWant places v.core job number turn x v.pairs p looked f)
+    (gives : Gives job number turn x reply (after v f p []) n) (clears : Clears places job number reply f f2) where
   module _ (s : State) (is : Stands v.core s) (due : IsTurnOf s v.last job number rank)
       (g : GivesFrom job number turn x reply s n.core) where
     abbrev did : Done
@@ -94,9 +94,9 @@ module _ (places : PlacesData) (v : View) (looked : ShelfCounts) (job : Text) (n
     serves = record {
       asked = false;
       looked = looked;
-      is_asked = unasked;
+      is_asked = named (λ j i. AbortIsAsked (abort_folder places j i) false v.calls looked) unasked;
       reply = reply;
-      counts = f;
+      calls = f;
       goes_on = record {
         turn = turn;
         ask = ask_data wanted.ask;
@@ -115,8 +115,9 @@ module _ (places : PlacesData) (v : View) (looked : ShelfCounts) (job : Text) (n
         event = named (λ j i. did.event ≡ Some (answer j i turn g.given, Ok reply)) refl;
         lines = named (λ j i. did.lines ≡ lines_of (answer j i turn g.given) (Ok reply) g.after.history) refl;
       };
-      clears = clears;
+      clears = named (λ j i. Clears places j i reply f f2) clears;
       last = due.ranked;
+      lost = refl;
     }
 
     takes : TakesTurn places (next_after (rank_in s.history) v.last s.running) (world_of v s) did
@@ -148,9 +149,10 @@ module _ (places : PlacesData) (v : View) (looked : ShelfCounts) (job : Text) (n
       })
 
 -- ---- aborts
-module _ (places : PlacesData) (v : View) (looked : ShelfCounts) (job : Text) (number rank : ℕ) (reply : Reply) (n : View) (f2 : ShelfCounts) (m : Text)
-    (asked : AbortIsAsked true v.counts looked)
-    (made : Made (abort job number) (Ok reply) (after v looked v.pairs []) n) (clears : Clears reply looked f2) where
+module _ (places : PlacesData) (v : View) (looked : List CallData) (job : Text) (number rank : ℕ) (reply : Reply) (n : View) (f2 : List CallData) (m : Text)
+    (asked : AbortIsAsked (abort_folder places job number) true v.calls looked)
+    (made : Made (abort job number) (Ok reply) (after v looked v.pairs []) n)
+    (clears : Clears places job number reply looked f2) where
   module _ (s : State) (is : Stands v.core s) (due : IsTurnOf s v.last job number rank) where
     abbrev next : State
     next = (made.takes s is).0
@@ -171,9 +173,9 @@ module _ (places : PlacesData) (v : View) (looked : ShelfCounts) (job : Text) (n
     aborts = record {
       asked = true;
       looked = looked;
-      is_asked = asked;
+      is_asked = so_named (λ j i. AbortIsAsked (abort_folder places j i) true v.calls looked) asked;
       reply = reply;
-      counts = looked;
+      calls = looked;
       goes_on = (
         record {
           pair = refl;
@@ -183,8 +185,9 @@ module _ (places : PlacesData) (v : View) (looked : ShelfCounts) (job : Text) (n
         },
         refl,
       );
-      clears = clears;
+      clears = so_named (λ j i. Clears places j i reply looked f2) clears;
       last = due.ranked;
+      lost = refl;
     }
 
     takes_abort : TakesTurn places (next_after (rank_in s.history) v.last s.running) (world_of v s) aborted
@@ -216,5 +219,5 @@ module _ (places : PlacesData) (v : View) (looked : ShelfCounts) (job : Text) (n
 
 -- what was called from where these lines were printed was called from where others are that are the same
 pub from_lines : (P : Part) (v : View) (l : Text) (whole : Bool) (new : View) → l ≡ v.lines
-    → Calls P (after v v.counts v.pairs l) whole new → Calls P v whole new
-from_lines P v l whole new same h = subst (λ k. Calls P (after v v.counts v.pairs k) whole new) same h
+    → Calls P (after v v.calls v.pairs l) whole new → Calls P v whole new
+from_lines P v l whole new same h = subst (λ k. Calls P (after v v.calls v.pairs k) whole new) same h

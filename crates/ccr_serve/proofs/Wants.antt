@@ -8,7 +8,8 @@ use Rattle.ccr_pipeline.specs.Links.{resource_names}
 use Rattle.ccr_pipeline.specs.Names.{has_name}
 use Rattle.ccr_pipeline.specs.Pipelines.{PipelineData}
 use Rattle.ccr_steps.specs.Asks.{AskData, fetch, push, read_config, run_task}
-use Rattle.ccr_task.specs.Launching.{resource_named, can_launch, starts_program}
+use Rattle.ccr_task.proofs.Known.{is_found}
+use Rattle.ccr_task.specs.Launching.{can_launch, starts_program}
 use Rattle.ccr_core.specs.Holding.{CoreData, IsCore, NamesResource, Stands}
 use Rattle.ccr_core.specs.State.{RunningData, State, no_pipeline, resources_of, running_at}
 use Rattle.ccr_core.proofs.Reaching.{firm, idle}
@@ -37,19 +38,6 @@ some_mapped f None p e some = let none : false ≡ true = ap is_some e ∙ some 
 some_mapped f (Some x) p e some = refl
 
 -- ---- what it names is there
-found : (a b others : Bool) (r : ResourceData) (rest : Option ResourceData) → a ≡ b
-    → (others ≡ true → is_some rest ≡ true) → (b || others) ≡ true → is_some (cond a (Some r) rest) ≡ true
-found true b others r rest is more e = refl
-found false true others r rest is more e = absurd (cc is)
-found false false others r rest is more e = more e
-
-is_found : (name : Text) (rs : List ResourceData) → has_name (resource_names rs) name ≡ true
-    → is_some (resource_named name rs) ≡ true
-is_found name [] e = absurd (cc e)
-is_found name (r ∷ rs) e =
-    found (bytes_eq r.name name) (bytes_eq name r.name) (has_name (resource_names rs) name) r (resource_named name rs)
-    (nat_list_eq_equiv.symm r.name name) (is_found name rs) e
-
 names_there : (s : State) (a : AskData) → NamesResource s a → can_launch (resources_of s) a ≡ starts_program a
 names_there s (fetch artifact resource version params) names = is_found resource (resources_of s) names
 names_there s (push artifact resource params) names = is_found resource (resources_of s) names

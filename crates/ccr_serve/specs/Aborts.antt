@@ -1,29 +1,42 @@
 -- Whether it is asked that a build be aborted.
-use Rattle.std.specs.Prelude.{◌≡◌, Bool, true, false, Result, Ok, Err}
+use Rattle.std.specs.Prelude.{◌≡◌, ◌⊎◌, ℕ, List, [], ◌∷◌, ◌++◌, Bool, true, false, Result, Ok, Err}
+use Rattle.ccr_history.specs.Text.{Text}
 use Rattle.ccr_core.specs.declared.reply.Reply.{Reply}
 use Rattle.ccr_core.specs.declared.reply.Reply.TheVariants.{Ends}
-use Rattle.ccr_task.specs.declared.counts.ShelfCounts.{ShelfCounts}
 use Rattle.ccr_task.specs.declared.fault.ShelfFault.{ShelfFault}
-use Rattle.ccr_task.specs.Shelves.{Counts, CountsSeen, Sees}
+use Rattle.ccr_task.specs.Calls.{CallData, has, remove, removing, Does}
+use Rattle.ccr_task.specs.Places.{PlacesData, build_folder, abort_folder}
 
--- a folder of which a shelf said this is left: it isn't there, or that can't be told; or it is there and can't be
--- removed
-abbrev pub IsLeft : Result Bool ShelfFault → ShelfCounts → ShelfCounts → Type 0
-IsLeft (Ok true) before after = (fault : ShelfFault) × Counts {A = Unit} before (Err fault) after
-IsLeft (Ok false) before after = after ≡ before
-IsLeft (Err fault) before after = after ≡ before
+-- it is looked whether the folder at a path is there, which is answered so, and if it is, it is removed, which is answered
+-- so
+abbrev pub look : Text → Result Bool ShelfFault → Result Unit ShelfFault → List CallData
+look folder (Ok true) removed = has folder (Ok true) ∷ remove folder removed ∷ []
+look folder (Ok false) removed = has folder (Ok false) ∷ []
+look folder (Err fault) removed = has folder (Err fault) ∷ []
 
--- WHETHER IT IS ASKED THAT A BUILD BE ABORTED, with what the shelf has counted before and after: it is, where a folder was
--- there that asks for it, so that the count of folders seen rose, and was removed; it isn't, where such a folder was left
-abbrev pub AbortIsAsked : Bool → ShelfCounts → ShelfCounts → Type 0
-AbortIsAsked true before after = Sees before after
-AbortIsAsked false before after =
-    (there : Result Bool ShelfFault) × (mid : ShelfCounts) × CountsSeen before there mid × IsLeft there mid after
+-- a folder that asks for something was there, and is removed
+abbrev pub is_asked : Result Bool ShelfFault → Result Unit ShelfFault → Bool
+is_asked (Ok true) (Ok done) = true
+is_asked (Ok true) (Err fault) = false
+is_asked (Ok false) removed = false
+is_asked (Err fault) removed = false
 
--- the folder of a build that ended is removed, and then one that asks for its abort, if it is there; what fails is
--- counted, and no more
-abbrev pub Clears : Reply → ShelfCounts → ShelfCounts → Type 0
-Clears (Ends o) before after =
-    (removed : Result Unit ShelfFault) × (mid : ShelfCounts) × (asked : Bool)
-    × Counts before removed mid × AbortIsAsked asked mid after
-Clears reply before after = after ≡ before
+-- WHETHER IT IS ASKED THAT A BUILD BE ABORTED, by the folder at this path, with the shelf's calls before and after: it was
+-- looked, and it is where the folder was there and was removed
+abbrev pub AbortIsAsked : Text → Bool → List CallData → List CallData → Type 0
+AbortIsAsked folder asked before after =
+    (there : Result Bool ShelfFault) × (removed : Result Unit ShelfFault) × (after ≡ before ++ look folder there removed)
+    × (asked ≡ is_asked there removed)
+
+-- it was looked for the folder that asks for an abort, unless memory was wanted before
+abbrev pub Looks : Text → List CallData → List CallData → Type 0
+Looks folder before after = (after ≡ before) ⊎ ((asked : Bool) × AbortIsAsked folder asked before after)
+
+-- the folder of a build that ended is removed, and then one that asks for its abort, if it is there; what fails changes
+-- nothing else. Of a build that goes on nothing is removed
+abbrev pub Clears : PlacesData → Text → ℕ → Reply → List CallData → List CallData → Type 0
+Clears places job number (Ends o) before after =
+    (removed : Result Unit ShelfFault) × (mid : List CallData)
+    × Does (removing (build_folder places job number) ∷ []) before removed mid
+    × Looks (abort_folder places job number) mid after
+Clears places job number reply before after = after ≡ before

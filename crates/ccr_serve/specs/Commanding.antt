@@ -1,8 +1,7 @@
 -- What commands do, and how they are refused.
-use Rattle.std.specs.Prelude.{◌≡◌, ◌≢◌, ◌⊎◌, ℕ, List, [], ◌∷◌, true, false, Option, Some, None, IsSome, option_and_then, codes, string_bytes, Result, Ok, Err, ⊤}
-use Rattle.serde_json.specs.Read.{read as json}
+use Rattle.std.specs.Prelude.{◌≡◌, ◌≢◌, ◌⊎◌, ℕ, List, [], ◌∷◌, ◌++◌, true, false, Option, Some, None, IsSome, codes, string_bytes, Result, Ok, Err, ⊤}
 use Rattle.ccr_history.specs.Text.{Text}
-use Rattle.ccr_history.specs.TextMap.{TextMap, text_map_of}
+use Rattle.ccr_history.specs.TextMap.{TextMap}
 use Rattle.ccr_history.specs.Builds.{BuildData, build_of}
 use Rattle.ccr_history.specs.History.{HistoryData}
 use Rattle.ccr_history.specs.declared.build.Status.{Status}
@@ -14,37 +13,29 @@ use Rattle.ccr_pipeline.specs.declared.fault.ReadFault.{ReadFault}
 use Rattle.ccr_pipeline.specs.declared.fault.ReadFault.TheVariants.{TooLong}
 use Rattle.ccr_problem.specs.ProblemOf.{resource_of, job_of}
 use Rattle.ccr_task.specs.Places.{PlacesData}
-use Rattle.ccr_task.specs.declared.counts.ShelfCounts.{ShelfCounts}
-use Rattle.ccr_task.specs.Shelves.{Fails}
-use Rattle.ccr_core.specs.declared.fault.CoreFault.TheVariants.{NoPipeline, NoJob, NoResource, BuildsOpen, TooManyOpen, TableFull}
+use Rattle.ccr_task.specs.Calls.{CallData}
+use Rattle.ccr_task.specs.Calls as shelf
+use Rattle.ccr_task.specs.declared.fault.ShelfFault.{ShelfFault}
+use Rattle.ccr_task.specs.declared.fault.ShelfFault.TheVariants as shelf_fault
+use Rattle.ccr_core.specs.declared.fault.CoreFault.TheVariants.{NoPipeline, NoJob, NoResource, NoBuild, BuildsOpen, TooManyOpen, TableFull, NoVersion}
 use Rattle.ccr_core.specs.declared.reply.Reply.{Reply}
 use Rattle.ccr_core.specs.declared.reply.Reply.TheVariants.{New, Made, OverBudget}
 use Rattle.ccr_core.specs.Events as event
 use Rattle.ccr_core.specs.Faults.{IsFirstFault}
 use Rattle.ccr_core.specs.Holding.{Stands}
 use Rattle.ccr_core.specs.State.{State, resources_of, jobs_of}
-use Rattle.ccr_lines.specs.Needs.{IsMet, Lacks}
+use Rattle.ccr_lines.specs.Needs.{pin_in, IsMet, Lacks, LacksPin}
 use Rattle.ccr_lines.specs.Shown.{needs}
 use Rattle.ccr_serve.specs.declared.fault.ServeFault.{ServeFault}
 use Rattle.ccr_serve.specs.declared.fault.ServeFault.TheVariants.{Core, Store, Read, File, BadPin, NoMemory, TurnsUsedUp}
-use Rattle.ccr_lines.specs.Commands.{CommandData, set_pipeline, check_resource, pin_resource, unpin_resource, trigger_job, run, shows, need_of}
+use Rattle.ccr_lines.specs.Commands.{CommandData, set_pipeline, check_resource, pin_resource, unpin_resource, disable_version, enable_version, trigger_job, run, shows, need_of}
 use Rattle.ccr_serve.specs.Items.{World, check, tell, show, Done, Each, Part, Items, Then}
 use Rattle.ccr_serve.specs.Runs.{Rounds, UsedUp, Run, TriggerAndRun}
 use Rattle.ccr_serve.specs.Serving.{Serves}
 use Rattle.ccr_storage.specs.Counts.{RoseBy}
-use Rattle.ccr_serve.specs.Views.{View, Calls}
+use Rattle.ccr_serve.specs.Views.{View, with_calls, Calls}
 
--- a server isn't opened for want of memory, or because its storage failed
-abbrev pub KeepsFromOpening : ServeFault → Type 0
-KeepsFromOpening NoMemory = ⊤
-KeepsFromOpening (Store f) = ⊤
-KeepsFromOpening f = ⊥
-
--- ---- what is named
--- the pin that a text spells, if it spells one
-abbrev pub pin_in : Text → Option TextMap
-pin_in text = option_and_then text_map_of (json text)
-
+-- ---- what is needed
 abbrev pub HasResource : State → Text → Type 0
 HasResource s name = IsSome (resource_of name (resources_of s))
 
@@ -57,9 +48,11 @@ IsFit (set_pipeline file) s = ⊤
 IsFit (check_resource resource) s = HasResource s resource
 IsFit (pin_resource resource pin) s = HasResource s resource × IsSome (pin_in pin)
 IsFit (unpin_resource resource) s = HasResource s resource
+IsFit (disable_version resource place) s = HasResource s resource
+IsFit (enable_version resource place) s = HasResource s resource
 IsFit (trigger_job job) s = HasJob s job
 IsFit (run rounds) s = IsSome s.pipeline
-IsFit (shows what) s = IsMet (needs what) s.pipeline
+IsFit (shows what) s = IsMet (needs what) s.pipeline s.history
 
 -- ---- statuses
 -- the first event was replied so
@@ -93,14 +86,17 @@ abbrev pub Such : (World → List Done → World → Type 0) → Part → Part
 Such Is P old ds true new = P old ds true new × Is old ds new
 Such Is P old ds false new = P old ds false new
 
--- a pipeline is set that was read from a file's bytes
-abbrev pub SetsPipeline : PlacesData → Part
-SetsPipeline places old ds true new =
+-- the shelf had one call more
+abbrev pub called : CallData → World → World
+called call w = record { core = w.core; last = w.last; calls = w.calls ++ call ∷ []; lost = w.lost }
+
+-- a pipeline is set that the bytes of the file at this path are, as they were read; cut short, the file was read
+abbrev pub SetsPipeline : PlacesData → Text → Part
+SetsPipeline places path old ds true new =
     (bytes : List ℕ) × (p : PipelineData) × IsReading pipeline_faults bytes (λ d. IsPipelineOf bytes d p)
-    × Each (Serves places) (tell (event.set_pipeline p) ∷ []) old ds new
-SetsPipeline places old ds false new =
-    Each (Serves places) [] old ds new
-    ⊎ ((p : PipelineData) × Items (Serves places) (tell (event.set_pipeline p) ∷ []) old ds false new)
+    × Each (Serves places) (tell (event.set_pipeline p) ∷ []) (called (shelf.read path (Ok bytes)) old) ds new
+SetsPipeline places path old ds false new =
+    (file : Result (List ℕ) ShelfFault) × Each (Serves places) [] (called (shelf.read path file) old) ds new
 
 -- a resource is pinned to the pin that a text spells
 abbrev pub Pins : PlacesData → Text → Text → Part
@@ -113,12 +109,16 @@ Pins places resource text old ds false new =
 
 -- what a command consists of, which ends with this status
 abbrev pub Consists : PlacesData → CommandData → ℕ → Part
-Consists places (set_pipeline file) status = Such (λ old ds new. status ≡ 0) (SetsPipeline places)
+Consists places (set_pipeline file) status = Such (λ old ds new. status ≡ 0) (SetsPipeline places file)
 Consists places (check_resource resource) status =
     Such (λ old ds new. IsCheckStatus ds status) (Items (Serves places) (check resource ∷ []))
 Consists places (pin_resource resource pin) status = Such (λ old ds new. status ≡ 0) (Pins places resource pin)
 Consists places (unpin_resource resource) status =
     Such (λ old ds new. status ≡ 0) (Items (Serves places) (tell (event.unpin resource) ∷ []))
+Consists places (disable_version resource place) status =
+    Such (λ old ds new. status ≡ 0) (Items (Serves places) (tell (event.disable resource place) ∷ []))
+Consists places (enable_version resource place) status =
+    Such (λ old ds new. status ≡ 0) (Items (Serves places) (tell (event.enable resource place) ∷ []))
 Consists places (trigger_job job) status =
     Such (λ old ds new. (r : Reply) × IsFirstReply ds r × (status ≡ trigger_status job r new.core.history))
     (TriggerAndRun places job)
@@ -144,30 +144,45 @@ abbrev pub IsTooLong : ReadFault → Type 0
 IsTooLong (TooLong path) = string_bytes path ≡ codes "pipeline"
 IsTooLong f = ⊥
 
--- a pipeline's text is refused with this fault: the file is too long, or its bytes are refused
-abbrev pub IsReadFault : ReadFault → Type 0
-IsReadFault f =
-    IsTooLong f
-    ⊎ ((bytes : List ℕ) × IsSome (fault_of f) × Refuses (codes "pipeline") pipeline_faults bytes (fault_of f))
+-- the file at this path was read, which answered so; that was the one call from some calls of a shelf to others
+abbrev pub IsRead : Text → Result (List ℕ) ShelfFault → List CallData → List CallData → Type 0
+IsRead path file before after = after ≡ before ++ shelf.read path file ∷ []
 
--- a command is refused so, with what the shelf has counted before and after: no pipeline comes first, then an
--- unknown name, then a bad pin, and then what keeps the event away
-abbrev pub IsRefused : CommandData → ServeFault → State → ShelfCounts → ShelfCounts → Type 0
-IsRefused c (Core NoPipeline) s before after = Lacks (need_of c) s.pipeline NoPipeline
-IsRefused c (Core NoResource) s before after = Lacks (need_of c) s.pipeline NoResource
-IsRefused c (Core NoJob) s before after = Lacks (need_of c) s.pipeline NoJob
-IsRefused (set_pipeline file) (Core BuildsOpen) s before after = s.running ≢ []
-IsRefused (trigger_job job) (Core TooManyOpen) s before after = IsFirstFault s (event.trigger job) TooManyOpen
-IsRefused (trigger_job job) (Core TableFull) s before after = IsFirstFault s (event.trigger job) TableFull
-IsRefused (set_pipeline file) (Read f) s before after = IsReadFault f
-IsRefused (set_pipeline file) File s before after = Fails before after
-IsRefused (pin_resource resource pin) BadPin s before after = HasResource s resource × (pin_in pin ≡ None)
+-- a pipeline's text is refused with this fault: the file at this path is too long, or the bytes that were read are refused
+abbrev pub IsReadFault : Text → ReadFault → List CallData → List CallData → Type 0
+IsReadFault path f before after =
+    (IsTooLong f × IsRead path (Err shelf_fault.TooLong) before after)
+    ⊎ ((bytes : List ℕ) × IsRead path (Ok bytes) before after × IsSome (fault_of f)
+    × Refuses (codes "pipeline") pipeline_faults bytes (fault_of f))
+
+-- a command is refused so, with the shelf's calls before and after: no pipeline comes first, then an unknown name, then a
+-- bad pin, and then what keeps the event away. Only a pipeline's file is read before; else the shelf isn't called
+abbrev pub IsRefused : CommandData → ServeFault → State → List CallData → List CallData → Type 0
+IsRefused c (Core NoPipeline) s before after = Lacks (need_of c) s.pipeline s.history NoPipeline × (after ≡ before)
+IsRefused c (Core NoResource) s before after = Lacks (need_of c) s.pipeline s.history NoResource × (after ≡ before)
+IsRefused c (Core NoJob) s before after = Lacks (need_of c) s.pipeline s.history NoJob × (after ≡ before)
+IsRefused c (Core NoBuild) s before after = Lacks (need_of c) s.pipeline s.history NoBuild × (after ≡ before)
+IsRefused (set_pipeline file) (Core BuildsOpen) s before after =
+    (s.running ≢ []) × ((bytes : List ℕ) × IsRead file (Ok bytes) before after)
+IsRefused (trigger_job job) (Core TooManyOpen) s before after =
+    IsFirstFault s (event.trigger job) TooManyOpen × (after ≡ before)
+IsRefused (trigger_job job) (Core TableFull) s before after =
+    IsFirstFault s (event.trigger job) TableFull × (after ≡ before)
+IsRefused (disable_version resource place) (Core NoVersion) s before after =
+    IsFirstFault s (event.disable resource place) NoVersion × (after ≡ before)
+IsRefused (enable_version resource place) (Core NoVersion) s before after =
+    IsFirstFault s (event.enable resource place) NoVersion × (after ≡ before)
+IsRefused (set_pipeline file) (Read f) s before after = IsReadFault file f before after
+IsRefused (set_pipeline file) File s before after = IsRead file (Err shelf_fault.Failed) before after
+IsRefused (pin_resource resource pin) BadPin s before after =
+    HasResource s resource × (pin_in pin ≡ None) × (after ≡ before)
+IsRefused (shows what) BadPin s before after = LacksPin (needs what) s.pipeline × (after ≡ before)
 IsRefused c f s before after = ⊥
 
--- a command was refused with this fault: nothing was done, and no commit was asked for
+-- a command was refused with this fault: but for the calls of its shelf nothing was done, and no commit was asked for
 pub record WasRefused (places : PlacesData) (c : CommandData) (f : ServeFault) (old new : View) : Type 0 where
-  pub why : (s : State) → Stands old.core s → IsRefused c f s old.counts new.counts
-  pub back : Calls (Items (Serves places) []) old false new
+  pub why : (s : State) → Stands old.core s → IsRefused c f s old.calls new.calls
+  pub back : Calls (Items (Serves places) []) (with_calls new.calls old) false new
   pub pairs : new.pairs ≡ old.pairs
   pub commits : RoseBy old.tally.commits 0 new.tally.commits
   pub lines : new.lines ≡ old.lines

@@ -7,7 +7,7 @@ use Rattle.ccr_process.specs.Runs.{Pair}
 use Rattle.ccr_steps.specs.Asks.{ask_data, AnswerData, errored}
 use Rattle.ccr_steps.specs.declared.ask.Ask.{Ask}
 use Rattle.ccr_task.specs.Places.{PlacesData, build_folder}
-use Rattle.ccr_task.specs.declared.counts.ShelfCounts.{ShelfCounts}
+use Rattle.ccr_task.specs.Calls.{CallData}
 use Rattle.ccr_core.specs.declared.fault.CoreFault.TheVariants.{TableFull}
 use Rattle.ccr_core.specs.declared.reply.Reply.{Reply}
 use Rattle.ccr_core.specs.Events.{answer}
@@ -15,7 +15,7 @@ use Rattle.ccr_core.specs.Holding.{CoreData, Stands, Wants}
 use Rattle.ccr_core.specs.State.{RunningData, State, running_at}
 use Rattle.ccr_core.specs.Steps.{Step}
 use Rattle.ccr_storage.specs.Counts.{RoseBy}
-use Rattle.ccr_serve.specs.Asked.{Answers}
+use Rattle.ccr_serve.specs.Asked.{Answers, BeginsAnswer}
 use Rattle.ccr_serve.specs.Pairs.{Adds}
 use Rattle.ccr_serve.specs.Turns.{rank_of, rank_in, next_after}
 use Rattle.ccr_serve.specs.Views.{View, resources_held, IsReady, IsElse}
@@ -40,15 +40,26 @@ IsDue c last None = c.names ≡ []
 IsDue c last (Some d) = (s : State) → Stands c s → IsTurnOf s last (string_bytes d.job) d.number d.rank
 
 -- ---- what came of it
--- what the job's build of this number wants at this turn was answered so, with the runner's pairs and what the shelf
--- has counted before and after
+-- what the job's build of this number wants at this turn was answered so, with the runner's pairs and the shelf's calls
+-- before and after
 pub record AnswersWant (places : PlacesData) (c : CoreData) (job : Text) (number turn : ℕ) (x : AnswerData)
-    (old new : List Pair) (before after : ShelfCounts) : Type 0 where
+    (old new : List Pair) (before after : List CallData) : Type 0 where
   pub ask : Ask
   pub wants : Wants c job number (Some (turn, ask))
   pub pair : Option Pair
   pub adds : Adds old pair new
   pub answers : Answers places (resources_held c) (build_folder places job number) (ask_data ask) before after pair x
+
+-- the answer to what the job's build of this number wants was begun, with the runner's pairs and the shelf's calls before
+-- and after
+pub record BeginsWant (places : PlacesData) (c : CoreData) (job : Text) (number : ℕ) (old new : List Pair)
+    (before after : List CallData) : Type 0 where
+  pub turn : ℕ
+  pub ask : Ask
+  pub wants : Wants c job number (Some (turn, ask))
+  pub lost : Option Pair
+  pub adds : Adds old lost new
+  pub begins : BeginsAnswer places (resources_held c) (build_folder places job number) (ask_data ask) before after lost
 
 -- from a state an answer was given to the job's build of this number, or errored in its place, where there is no room
 -- for it

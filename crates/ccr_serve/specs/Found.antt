@@ -1,5 +1,5 @@
 -- What a check finds.
-use Rattle.std.specs.Prelude.{◌≡◌, ◌<◌, ◌≤◌, ◌==◌, ◌-◌, ℕ, List, length, slice_get, Bool, true, false, Option, Some, None, Ok, Err}
+use Rattle.std.specs.Prelude.{◌≡◌, ◌<◌, ◌≤◌, ◌==◌, ◌-◌, ℕ, List, [], ◌∷◌, length, slice_get, Bool, true, false, Option, Some, None, Ok, Err}
 use Rattle.ccr_history.specs.TextMap.{TextMap}
 use Rattle.ccr_history.specs.Tables.{versions_of}
 use Rattle.ccr_history.specs.History.{HistoryData}
@@ -11,14 +11,15 @@ use Rattle.ccr_protocol.specs.declared.request.TheConstants.{MOST_REQUEST}
 use Rattle.ccr_protocol.specs.Replies.{Reading, check_reply, IsReply}
 use Rattle.ccr_process.specs.Ends.{EndData, exited, killed, not_started, input_fault, read_fault, output_too_long, no_memory}
 use Rattle.ccr_process.specs.Runs.{Pair}
+use Rattle.ccr_task.specs.Calls.{CallData, FolderCall, making, Does}
 use Rattle.ccr_task.specs.Launching.{check_launch}
 use Rattle.ccr_task.specs.Places.{PlacesData}
-use Rattle.ccr_task.specs.declared.counts.ShelfCounts.{ShelfCounts}
-use Rattle.ccr_task.specs.Shelves.{Fails}
+use Rattle.ccr_task.specs.declared.fault.ShelfFault.TheVariants.{Failed}
 use Rattle.ccr_lines.specs.declared.cause.Cause.{Cause}
 use Rattle.ccr_lines.specs.declared.cause.Cause.TheVariants.{RequestTooLong, FolderFault, NotStarted, Killed, InputFault, ReadFault, OutputTooLong, Status, NotJson, WrongKind, VersionNotText}
 use Rattle.ccr_serve.specs.declared.found.Found.{Found}
 use Rattle.ccr_serve.specs.declared.found.Found.TheVariants.{Versions, Nothing}
+use Rattle.ccr_serve.specs.Pairs.{BeginsLaunch}
 
 -- versions, or why there are none
 pub data FoundData : Type 0 where
@@ -64,15 +65,26 @@ FindsBy no_memory f = ⊥
 abbrev pub newest : ResourceData → HistoryData → Option TextMap
 newest r h = slice_get (versions_of (scope_of r) h.tables) (length (versions_of (scope_of r) h.tables) - 1)
 
--- what a check of a resource finds that is told a version, with what the shelf has counted before and after: by the
--- end of its one launch; or without a launch, where its request is too long, or else the folder of all builds couldn't
--- be made
-abbrev pub Finds : PlacesData → ResourceData → Option TextMap → ShelfCounts → ShelfCounts → Option Pair → FoundData → Type 0
+-- before the program of a check the folder of all builds is made
+abbrev pub check_folders : PlacesData → List FolderCall
+check_folders places = making places.work ∷ []
+
+-- what a check of a resource finds that is told a version, with the shelf's calls before and after: by the end of its one
+-- launch, before which the folder of all builds was made; or without a launch, where its request is too long, or else that
+-- folder couldn't be made
+abbrev pub Finds : PlacesData → ResourceData → Option TextMap → List CallData → List CallData → Option Pair → FoundData
+    → Type 0
 Finds places r version before after (Some pair) f =
-    (length (check_launch places r version).input ≤ MOST_REQUEST) × (after ≡ before)
+    (length (check_launch places r version).input ≤ MOST_REQUEST) × Does (check_folders places) before (Ok tt) after
     × (pair.0 ≡ check_launch places r version) × FindsBy pair.1 f
 Finds places r version before after None (nothing RequestTooLong) =
     (MOST_REQUEST < length (check_launch places r version).input) × (after ≡ before)
 Finds places r version before after None (nothing FolderFault) =
-    (length (check_launch places r version).input ≤ MOST_REQUEST) × Fails before after
+    (length (check_launch places r version).input ≤ MOST_REQUEST)
+    × Does (check_folders places) before (Err Failed) after
 Finds places r version before after None f = ⊥
+
+-- what is begun of a check of a resource that is told a version: of its one launch
+abbrev pub BeginsFind : PlacesData → ResourceData → Option TextMap → List CallData → List CallData → Option Pair → Type 0
+BeginsFind places r version before after lost =
+    BeginsLaunch (check_folders places) (λ l. l ≡ check_launch places r version) before after lost

@@ -2,18 +2,20 @@
 use Rattle.std.specs.Prelude.{◌≡◌, ◌⊎◌, ℕ, List, [], ◌∷◌, ◌++◌, Bool, true, false, Option, None, flat_map, option_to_list}
 use Rattle.ccr_history.specs.Text.{Text}
 use Rattle.ccr_process.specs.Runs.{Pair}
-use Rattle.ccr_task.specs.declared.counts.ShelfCounts.{ShelfCounts}
+use Rattle.ccr_task.specs.Calls.{CallData}
 use Rattle.ccr_core.specs.Events.{EventData}
 use Rattle.ccr_core.specs.Replies.{Replied}
 use Rattle.ccr_core.specs.State.{State}
 use Rattle.ccr_lines.specs.Shown.{ShownData}
 
 -- where a server stands: the core's state, the rank of the build served last, which counts from 1 in order of making,
--- or 0 where none was served, and what its shelf has counted
+-- or 0 where none was served, the calls of its shelf, and the pair of a program that answered nothing, if an item was cut
+-- short after it ran
 pub record World : Type 0 where
   pub core : State
   pub last : ℕ
-  pub counts : ShelfCounts
+  pub calls : List CallData
+  pub lost : Option Pair
 
 -- a check of a resource, a schedule of a job, a turn of the build whose turn it is, the event of a command, or what a
 -- command shows with which status
@@ -42,26 +44,38 @@ pairs_of ds = flat_map (λ d. option_to_list d.pair) ds
 abbrev pub lines_of_all : List Done → Text
 lines_of_all ds = flat_map (λ d. d.lines) ds
 
--- an item may lead from one world to the next, and this come of it
-abbrev pub Serve : Type 1
-Serve = Item → World → Done → World → Type 0
+-- what a server does: an item may lead from one world to the next, and this come of it; and what it begins of an item that
+-- is cut short
+pub record Serve : Type 1 where
+  pub does : Item → World → Done → World → Type 0
+  pub begins : Item → World → World → Type 0
 
 -- each item after the one before, from where that led
 abbrev pub Each : Serve → List Item → World → List Done → World → Type 0
-Each Serves [] old [] new = new ≡ old
-Each Serves (i ∷ is) old (d ∷ ds) new = (mid : World) × Serves i old d mid × Each Serves is mid ds new
-Each Serves [] old (d ∷ ds) new = ⊥
-Each Serves (i ∷ is) old [] new = ⊥
+Each S [] old [] new = new ≡ old
+Each S (i ∷ is) old (d ∷ ds) new = (mid : World) × S.does i old d mid × Each S is mid ds new
+Each S [] old (d ∷ ds) new = ⊥
+Each S (i ∷ is) old [] new = ⊥
+
+-- something was begun of the first of these items
+abbrev pub BeginsFirst : Serve → List Item → World → World → Type 0
+BeginsFirst S [] old new = ⊥
+BeginsFirst S (i ∷ is) old new = S.begins i old new
+
+-- these items were cut short before the first of them was done: nothing was begun, or something of the first
+abbrev pub IsCut : Serve → List Item → World → World → Type 0
+IsCut S is old new = (new ≡ old) ⊎ BeginsFirst S is old new
 
 -- a part of a call, done whole (true) or cut short (false)
 abbrev pub Part : Type 1
 Part = World → List Done → Bool → World → Type 0
 
--- these items in order; cut short, those of a front of the list
+-- these items in order; cut short, those of a front of the list, and what was begun of the next one
 abbrev pub Items : Serve → List Item → Part
-Items Serves is old ds true new = Each Serves is old ds new
-Items Serves is old ds false new =
-    (front : List Item) × (rest : List Item) × (is ≡ front ++ rest) × Each Serves front old ds new
+Items S is old ds true new = Each S is old ds new
+Items S is old ds false new =
+    (front : List Item) × (rest : List Item) × (is ≡ front ++ rest) × (mid : World) × Each S front old ds mid
+    × IsCut S rest mid new
 
 -- what was done in the first part, then in the second
 pub record Both (First Second : World → List Done → World → Type 0) (old : World) (ds : List Done) (new : World)

@@ -12,3 +12,4 @@ pub mod Due
 pub mod Commanding
 pub mod Taken
 pub mod Reads
+pub mod Unopened

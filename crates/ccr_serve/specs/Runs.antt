@@ -1,5 +1,5 @@
 -- Rounds, and turns until no build runs.
-use Rattle.std.specs.Prelude.{◌≡◌, ◌≢◌, ◌≤◌, ℕ, zero, suc, List, [], ◌∷◌, ◌++◌, length, map, replicate, Bool, true, false, IsSome, ⊤}
+use Rattle.std.specs.Prelude.{◌≡◌, ◌≢◌, ◌≤◌, ℕ, zero, suc, List, [], ◌∷◌, ◌++◌, length, map, replicate, Bool, true, false, IsSome}
 use Rattle.std.specs.List.{AllByRecursion}
 use Rattle.ccr_pipeline.specs.JobData.{ResourceData}
 use Rattle.ccr_problem.specs.ProblemOf.{resource_of}
@@ -7,7 +7,7 @@ use Rattle.ccr_task.specs.Places.{PlacesData}
 use Rattle.ccr_core.specs.Events as event
 use Rattle.ccr_core.specs.State.{State, resources_of, jobs_of}
 use Rattle.ccr_history.specs.Text.{Text}
-use Rattle.ccr_serve.specs.Items.{World, Item, check, schedule, turn, tell, Done, Each, Part, Items, Then}
+use Rattle.ccr_serve.specs.Items.{World, Item, check, schedule, turn, tell, Done, Each, Part, IsCut, Items, Then}
 use Rattle.ccr_serve.specs.Serving.{Serves}
 
 -- a check of each resource, then a schedule of each job, in the pipeline's order
@@ -37,11 +37,6 @@ Rounds places (suc n) = Then (Round places) (Rounds places n)
 abbrev pub AllMade : List Done → Type 0
 AllMade ds = AllByRecursion (λ d. IsSome d.event) ds
 
--- where the turns are whole, no build runs after them
-abbrev pub NoneRuns : Bool → World → Type 0
-NoneRuns true w = w.core.running ≡ []
-NoneRuns false w = ⊤
-
 -- so many turns that each made an event
 abbrev pub TurnsMade : PlacesData → ℕ → World → List Done → World → Type 0
 TurnsMade places n old ds new = Each (Serves places) (replicate n turn) old ds new × AllMade ds
@@ -50,10 +45,13 @@ TurnsMade places n old ds new = Each (Serves places) (replicate n turn) old ds n
 abbrev pub MOST_TURNS : ℕ
 MOST_TURNS = 10000000
 
--- turns of running builds until none runs, at most MOST_TURNS; cut short, the first few of them
+-- turns of running builds until none runs, at most MOST_TURNS; cut short, the first few of them, and what was begun of the
+-- next one
 abbrev pub ToTheEnd : PlacesData → Part
-ToTheEnd places old ds whole new =
-    (n : ℕ) × (n ≤ MOST_TURNS) × TurnsMade places n old ds new × NoneRuns whole new
+ToTheEnd places old ds true new =
+    (n : ℕ) × (n ≤ MOST_TURNS) × TurnsMade places n old ds new × (new.core.running ≡ [])
+ToTheEnd places old ds false new =
+    (n : ℕ) × (n ≤ MOST_TURNS) × (mid : World) × TurnsMade places n old ds mid × IsCut (Serves places) (turn ∷ []) mid new
 
 -- MOST_TURNS turns of running builds, and one still runs
 abbrev pub UsedUp : PlacesData → Part

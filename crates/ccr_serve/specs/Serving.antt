@@ -1,12 +1,13 @@
 -- What a server does of each item.
-use Rattle.std.specs.Prelude.{◌≡◌, ◌≢◌, ◌⊎◌, ℕ, Bool, true, false, Option, Some, None, Ok, Err}
+use Rattle.std.specs.Prelude.{◌≡◌, ◌≢◌, ◌⊎◌, ℕ, List, Bool, true, false, Option, Some, None, Ok, Err}
 use Rattle.ccr_history.specs.Text.{Text}
 use Rattle.ccr_pipeline.specs.JobData.{ResourceData}
 use Rattle.ccr_steps.specs.Asks.{AskData, AnswerData, errored}
 use Rattle.ccr_steps.specs.Progress.{IsNext}
 use Rattle.ccr_steps.specs.Runs.{HasTurn}
-use Rattle.ccr_task.specs.Places.{PlacesData, build_folder}
-use Rattle.ccr_task.specs.declared.counts.ShelfCounts.{ShelfCounts}
+use Rattle.ccr_process.specs.Runs.{Pair}
+use Rattle.ccr_task.specs.Calls.{CallData}
+use Rattle.ccr_task.specs.Places.{PlacesData, build_folder, abort_folder}
 use Rattle.ccr_problem.specs.ProblemOf.{resource_of}
 use Rattle.ccr_core.specs.declared.fault.CoreFault.TheVariants.{TableFull, NoMemory}
 use Rattle.ccr_core.specs.declared.reply.Reply.{Reply}
@@ -16,11 +17,11 @@ use Rattle.ccr_core.specs.Replies.{Replied}
 use Rattle.ccr_core.specs.State.{RunningData, State, pipeline_of, resources_of}
 use Rattle.ccr_core.specs.Steps.{Step}
 use Rattle.ccr_serve.specs.Aborts.{AbortIsAsked, Clears}
-use Rattle.ccr_serve.specs.Asked.{Answers}
-use Rattle.ccr_serve.specs.Found.{FoundData, found, newest, Finds}
+use Rattle.ccr_serve.specs.Asked.{Answers, BeginsAnswer}
+use Rattle.ccr_serve.specs.Found.{FoundData, found, newest, Finds, BeginsFind}
 use Rattle.ccr_serve.specs.Found as what_is
 use Rattle.ccr_lines.specs.Shown.{ShownData, IsShown}
-use Rattle.ccr_serve.specs.Items.{World, Item, check, schedule, turn, tell, show, Done, nothing}
+use Rattle.ccr_serve.specs.Items.{World, Item, check, schedule, turn, tell, show, Done, nothing, Serve}
 use Rattle.ccr_lines.specs.Lines.{lines_of, refused_line, cause_words}
 use Rattle.ccr_serve.specs.Turns.{rank_in, next_after}
 
@@ -33,12 +34,13 @@ pub record Makes (e : EventData) (old : State) (did : Done) (new : State) : Type
   pub event : did.event ≡ Some (e, reply)
   pub lines : did.lines ≡ lines_of e reply new.history
 
--- an event is made, and no program is started
+-- an event is made; no program is started, and the shelf isn't called
 pub record Tells (e : EventData) (old : World) (did : Done) (new : World) : Type 0 where
   pub makes : Makes e old.core did new.core
   pub pair : did.pair ≡ None
   pub last : new.last ≡ old.last
-  pub counts : new.counts ≡ old.counts
+  pub calls : new.calls ≡ old.calls
+  pub lost : new.lost ≡ old.lost
 
 -- the core took the event; a command whose event it refuses is refused itself
 abbrev pub IsTaken : EventData → Done → Type 0
@@ -56,8 +58,17 @@ pub record Checks (places : PlacesData) (resource : Text) (old : World) (did : D
   pub one : ResourceData
   pub named : resource_of resource (resources_of old.core) ≡ Some one
   pub what : FoundData
-  pub finds : Finds places one (newest one old.core.history) old.counts new.counts did.pair what
+  pub finds : Finds places one (newest one old.core.history) old.calls new.calls did.pair what
   pub reports : Reports resource what old.core did new.core
+  pub last : new.last ≡ old.last
+  pub lost : new.lost ≡ old.lost
+
+-- a check of a resource was begun: its event isn't made
+pub record BeginsCheck (places : PlacesData) (resource : Text) (old new : World) : Type 0 where
+  pub one : ResourceData
+  pub named : resource_of resource (resources_of old.core) ≡ Some one
+  pub begins : BeginsFind places one (newest one old.core.history) old.calls new.calls new.lost
+  pub core : new.core ≡ old.core
   pub last : new.last ≡ old.last
 
 -- ---- turns
@@ -66,9 +77,9 @@ abbrev pub IsGiven : State → RunningData → ℕ → AnswerData → AnswerData
 IsGiven s b t x given =
     (given ≡ x) ⊎ (Step s (answer b.job b.number t x) (Err TableFull) s × (given ≡ errored))
 
--- the one ask of a build is answered: from a state, with what the shelf has counted before and after
-pub record AnswersBuild (places : PlacesData) (b : RunningData) (old : State) (before : ShelfCounts) (did : Done)
-    (reply : Reply) (after : ShelfCounts) (new : State) : Type 0 where
+-- the one ask of a build is answered: from a state, with the shelf's calls before and after
+pub record AnswersBuild (places : PlacesData) (b : RunningData) (old : State) (before : List CallData) (did : Done)
+    (reply : Reply) (after : List CallData) (new : State) : Type 0 where
   pub turn : ℕ
   pub ask : AskData
   pub has_turn : HasTurn b.exchanges turn
@@ -89,7 +100,8 @@ pub record AbortsBuild (b : RunningData) (old : State) (did : Done) (reply : Rep
   pub lines : did.lines ≡ lines_of (abort b.job b.number) (Ok reply) new.history
 
 -- a build is aborted where that is asked, and else its one ask is answered
-abbrev pub GoesOnBy : Bool → PlacesData → RunningData → State → ShelfCounts → Done → Reply → ShelfCounts → State → Type 0
+abbrev pub GoesOnBy : Bool → PlacesData → RunningData → State → List CallData → Done → Reply → List CallData → State
+    → Type 0
 GoesOnBy true places b old before did reply after new = AbortsBuild b old did reply new × (after ≡ before)
 GoesOnBy false places b old before did reply after new = AnswersBuild places b old before did reply after new
 
@@ -97,13 +109,36 @@ GoesOnBy false places b old before did reply after new = AnswersBuild places b o
 -- cleared away if it ends
 pub record ServesBuild (places : PlacesData) (b : RunningData) (old : World) (did : Done) (new : World) : Type 0 where
   pub asked : Bool
-  pub looked : ShelfCounts
-  pub is_asked : AbortIsAsked asked old.counts looked
+  pub looked : List CallData
+  pub is_asked : AbortIsAsked (abort_folder places b.job b.number) asked old.calls looked
   pub reply : Reply
-  pub counts : ShelfCounts
-  pub goes_on : GoesOnBy asked places b old.core looked did reply counts new.core
-  pub clears : Clears reply counts new.counts
+  pub calls : List CallData
+  pub goes_on : GoesOnBy asked places b old.core looked did reply calls new.core
+  pub clears : Clears places b.job b.number reply calls new.calls
   pub last : new.last ≡ rank_in old.core.history b
+  pub lost : new.lost ≡ old.lost
+
+-- the answer to the one ask of a build was begun, in a state, with the shelf's calls before and after
+pub record BeginsAsk (places : PlacesData) (b : RunningData) (s : State) (before after : List CallData)
+    (lost : Option Pair) : Type 0 where
+  pub ask : AskData
+  pub wanted : IsNext b.inputs b.plan b.exchanges ask
+  pub begins : BeginsAnswer places (resources_of s) (build_folder places b.job b.number) ask before after lost
+
+-- nothing was begun of an abort; else the answer to the one ask of a build was begun
+abbrev pub BeginsOn : Bool → PlacesData → RunningData → State → List CallData → List CallData → Option Pair → Type 0
+BeginsOn true places b s before after lost = (after ≡ before) × (lost ≡ None)
+BeginsOn false places b s before after lost = BeginsAsk places b s before after lost
+
+-- a turn of a build was begun: it was looked whether it is asked that it be aborted, it went on by that, and its event isn't
+-- made
+pub record BeginsBuild (places : PlacesData) (b : RunningData) (old new : World) : Type 0 where
+  pub asked : Bool
+  pub looked : List CallData
+  pub is_asked : AbortIsAsked (abort_folder places b.job b.number) asked old.calls looked
+  pub begins : BeginsOn asked places b old.core looked new.calls new.lost
+  pub core : new.core ≡ old.core
+  pub last : new.last ≡ old.last
 
 -- the build whose turn it is
 abbrev pub next_build : World → Option RunningData
@@ -114,6 +149,11 @@ abbrev pub TakesTurn : PlacesData → Option RunningData → World → Done → 
 TakesTurn places None old did new = (did ≡ nothing) × (new ≡ old)
 TakesTurn places (Some b) old did new = ServesBuild places b old did new
 
+-- a turn of a build was begun
+abbrev pub BeginsTurn : PlacesData → Option RunningData → World → World → Type 0
+BeginsTurn places None old new = ⊥
+BeginsTurn places (Some b) old new = BeginsBuild places b old new
+
 -- ---- showing
 -- what is asked for is shown with a status; nothing changes
 pub record Shows (what : ShownData) (status : ℕ) (old : World) (did : Done) (new : World) : Type 0 where
@@ -122,10 +162,24 @@ pub record Shows (what : ShownData) (status : ℕ) (old : World) (did : Done) (n
   pub shown : IsShown what (pipeline_of old.core) old.core.history old.core.budget status did.lines
   pub same : new ≡ old
 
--- WHAT A SERVER DOES of an item
-abbrev pub Serves : PlacesData → Item → World → Done → World → Type 0
-Serves places (check resource) old did new = Checks places resource old did new
-Serves places (schedule job) old did new = Tells (event.schedule job) old did new
-Serves places turn old did new = TakesTurn places (next_build old) old did new
-Serves places (tell e) old did new = Tells e old did new × IsTaken e did
-Serves places (show what status) old did new = Shows what status old did new
+-- ---- items
+-- what a server does of an item
+abbrev pub DoesItem : PlacesData → Item → World → Done → World → Type 0
+DoesItem places (check resource) old did new = Checks places resource old did new
+DoesItem places (schedule job) old did new = Tells (event.schedule job) old did new
+DoesItem places turn old did new = TakesTurn places (next_build old) old did new
+DoesItem places (tell e) old did new = Tells e old did new × IsTaken e did
+DoesItem places (show what status) old did new = Shows what status old did new
+
+-- what a server may have begun of an item that is cut short, beside nothing: only a check and a turn call the shelf and run
+-- a program
+abbrev pub BeginsItem : PlacesData → Item → World → World → Type 0
+BeginsItem places (check resource) old new = BeginsCheck places resource old new
+BeginsItem places (schedule job) old new = ⊥
+BeginsItem places turn old new = BeginsTurn places (next_build old) old new
+BeginsItem places (tell e) old new = ⊥
+BeginsItem places (show what status) old new = ⊥
+
+-- WHAT A SERVER DOES of an item, and what it may have begun of one that is cut short
+abbrev pub Serves : PlacesData → Serve
+Serves places = record { does = DoesItem places; begins = BeginsItem places }

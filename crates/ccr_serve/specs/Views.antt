@@ -1,11 +1,10 @@
 -- What a call of the server shows.
-use Rattle.std.specs.Prelude.{◌≡◌, ◌≢◌, ◌≤◌, ◌+◌, ℕ, List, [], ◌∷◌, ◌++◌, length, nat_lt, Bool, true, false, None, Some, Result, Ok, Err, unwrap_or, ⊤}
+use Rattle.std.specs.Prelude.{◌≡◌, ◌≢◌, ◌≤◌, ◌+◌, ℕ, List, [], ◌∷◌, ◌++◌, length, nat_lt, Bool, true, false, Option, None, Some, option_to_list, Result, Ok, Err, unwrap_or, ⊤}
 use Rattle.ccr_history.specs.Text.{Text}
 use Rattle.ccr_history.specs.History.{HistoryData}
 use Rattle.ccr_pipeline.specs.JobData.{ResourceData, JobData}
 use Rattle.ccr_process.specs.Runs.{Pair}
-use Rattle.ccr_task.specs.declared.counts.ShelfCounts.{ShelfCounts}
-use Rattle.ccr_task.specs.Shelves.{Grew}
+use Rattle.ccr_task.specs.Calls.{CallData}
 use Rattle.ccr_core.specs.declared.fault.CoreFault.TheVariants as core_fault
 use Rattle.ccr_core.specs.Cores.{core_data}
 use Rattle.ccr_core.specs.Events.{EventData}
@@ -22,13 +21,13 @@ use Rattle.ccr_serve.specs.Crash.{LeavesAt}
 use Rattle.ccr_serve.specs.Items.{World, Done, Part, pairs_of, lines_of_all}
 use Rattle.ccr_serve.specs.Taken.{taken_in, commits_for}
 
--- what a server holds: its core, the rank of the build served last, what its shelf has counted, what its runner ran,
+-- what a server holds: its core, the rank of the build served last, the calls of its shelf, what its runner ran,
 -- which history its storage holds, which ones a crash may leave there, the tally of its storage's commits, what it has
 -- printed, and whether its storage failed
 pub record View : Type 1 where
   pub core : CoreData
   pub last : ℕ
-  pub counts : ShelfCounts
+  pub calls : List CallData
   pub pairs : List Pair
   pub holds : HistoryData → Type 0
   pub leaves : List HistoryData → Type 0
@@ -37,12 +36,12 @@ pub record View : Type 1 where
   pub closed : Bool
 
 -- what a server holds that has printed these lines
-abbrev pub view_of : {R S T : Type 0} → (R → List Pair) → (S → ShelfCounts) → (T → HistoryData → Type 0)
+abbrev pub view_of : {R S T : Type 0} → (R → List Pair) → (S → List CallData) → (T → HistoryData → Type 0)
     → (T → List HistoryData → Type 0) → (T → Tally) → Server R S T → Text → View
-view_of pairs counts holds leaves tally server lines = record {
+view_of pairs calls holds leaves tally server lines = record {
   core = core_data server.core;
   last = server.last;
-  counts = counts server.shelf;
+  calls = calls server.shelf;
   pairs = pairs server.runner;
   holds = holds server.storage;
   leaves = leaves server.storage;
@@ -51,12 +50,12 @@ view_of pairs counts holds leaves tally server lines = record {
   closed = server.closed;
 }
 
--- what a server held when its shelf had counted so
-abbrev pub with_counts : ShelfCounts → View → View
-with_counts c v = record {
+-- what a server held when its shelf had these calls
+abbrev pub with_calls : List CallData → View → View
+with_calls cs v = record {
   core = v.core;
   last = v.last;
-  counts = c;
+  calls = cs;
   pairs = v.pairs;
   holds = v.holds;
   leaves = v.leaves;
@@ -75,7 +74,7 @@ jobs_held c = (unwrap_or c.pipeline no_pipeline).jobs
 
 -- where a server stands whose core stands for this state
 abbrev pub world_of : View → State → World
-world_of v s = record { core = s; last = v.last; counts = v.counts }
+world_of v s = record { core = s; last = v.last; calls = v.calls; lost = None }
 
 -- the server goes on: its storage hasn't failed, and no commit of it, it holds the core's history, and a crash leaves
 -- that one
@@ -86,10 +85,10 @@ pub record IsReady (v : View) : Type 0 where
   pub leaves : v.leaves (v.core.history ∷ [])
 
 -- ---- calls
--- the pairs that answer for no item: none in a whole call, else at most one, that of a program whose answer was lost
-abbrev pub MayBeLost : Bool → List Pair → Type 0
-MayBeLost true lost = lost ≡ []
-MayBeLost false lost = length lost ≤ 1
+-- the pair that answers for no item: none in a whole call; else there may be one, that of the item that was cut short
+abbrev pub MayBeLost : Bool → Option Pair → Type 0
+MayBeLost true lost = lost ≡ None
+MayBeLost false lost = ⊤
 
 -- how many commits were asked for, from one tally to another, beside so many: none in a whole call, else at most one
 abbrev pub HasAsked : Bool → ℕ → ℕ → ℕ → Type 0
@@ -97,24 +96,23 @@ HasAsked true before n after = RoseBy before n after
 HasAsked false before n after = (more : ℕ) × (more ≤ 1) × RoseBy before (n + more) after
 
 -- where a server is after the items that were done: there, if the call is whole; cut short, it has closed, or is there
--- with what its shelf counts gone up
 abbrev pub StandsAt : Bool → Bool → World → View → Type 0
-StandsAt true closed now new =
-    (closed ≡ false) × Stands new.core now.core × (new.last ≡ now.last) × (new.counts ≡ now.counts)
+StandsAt true closed now new = (closed ≡ false) × Stands new.core now.core × (new.last ≡ now.last)
 StandsAt false true now new = ⊤
-StandsAt false false now new = Stands new.core now.core × (new.last ≡ now.last) × Grew now.counts new.counts
+StandsAt false false now new = Stands new.core now.core × (new.last ≡ now.last)
 
 -- what a call did from a state: a part, whole or cut short. Its new pairs are those of its items, in order, with none
--- left over, but for at most one where it was cut short; the storage was asked for a commit of each event that the core
--- took, and for no other, but for at most one where it was cut short; the lines of its items are printed; the storage
--- holds the history after them; and a crash leaves that one, or, once the server has closed, that of one event more
+-- left over, but for that of the item that was cut short; its shelf had the calls of its items, in order, and what was
+-- begun of them by that item, and no other; the storage was asked for a commit of each event that the core took, and for
+-- no other, but for at most one where it was cut short; the lines of its items are printed; the storage holds the history
+-- after them; and a crash leaves that one, or, once the server has closed, that of one event more
 pub record Called (part : Part) (old : View) (s : State) (whole : Bool) (new : View) : Type 0 where
   pub dones : List Done
   pub now : World
   pub does : part (world_of old s) dones whole now
-  pub lost : List Pair
-  pub pairs : new.pairs ≡ old.pairs ++ (pairs_of dones ++ lost)
-  pub few : MayBeLost whole lost
+  pub pairs : new.pairs ≡ old.pairs ++ (pairs_of dones ++ option_to_list now.lost)
+  pub few : MayBeLost whole now.lost
+  pub calls : new.calls ≡ now.calls
   pub commits : HasAsked whole old.tally.commits (taken_in dones) new.tally.commits
   pub lines : new.lines ≡ old.lines ++ lines_of_all dones
   pub holds : new.holds now.core.history
@@ -174,7 +172,7 @@ is_running c = nat_lt 0 (length c.names)
 -- nothing but the core and the storage has changed
 pub record IsElse (old new : View) : Type 0 where
   pub last : new.last ≡ old.last
-  pub counts : new.counts ≡ old.counts
+  pub calls : new.calls ≡ old.calls
   pub pairs : new.pairs ≡ old.pairs
   pub lines : new.lines ≡ old.lines
 

@@ -1,8 +1,7 @@
 //! Builds that are asked to be aborted.
-ghost use Rattle.std.specs.Prelude.{◌≡◌, ◌+◌, ◌≤◌, [], ◌∷◌, length, true, string_bytes, is_ok, Ok, Err, IfOk, IfErr, OnOk, OnErr, IsSome, Some};
-ghost use Rattle.ccr_task.specs.Places.{places_data};
-ghost use Rattle.ccr_task.specs.Shelves.{Grew};
-ghost use Rattle.ccr_task.specs.declared.counts.ShelfCounts.{ShelfCounts};
+ghost use Rattle.std.specs.Prelude.{◌≡◌, ◌+◌, ◌≤◌, List, [], ◌∷◌, length, true, string_bytes, is_ok, Ok, Err, IfOk, IfErr, OnOk, OnErr, IsSome, Some};
+ghost use Rattle.ccr_task.specs.Calls.{CallData};
+ghost use Rattle.ccr_task.specs.Places.{places_data, abort_folder};
 ghost use Rattle.ccr_core.specs.Cores.{core_data};
 ghost use Rattle.ccr_core.specs.Events.{abort};
 ghost use Rattle.ccr_core.specs.Holding.{Stands};
@@ -12,7 +11,7 @@ ghost use Rattle.ccr_serve.specs.Due.{IsDue};
 ghost use Rattle.ccr_serve.specs.Items.{Items};
 ghost use Rattle.ccr_serve.specs.Items as item;
 ghost use Rattle.ccr_serve.specs.Serving.{Serves};
-ghost use Rattle.ccr_serve.specs.Views.{view_of, with_counts, Calls, CommitsOnce, IsReady, Made, Unmade, StopsItem};
+ghost use Rattle.ccr_serve.specs.Views.{view_of, with_calls, Calls, CommitsOnce, IsReady, Made, Unmade, StopsItem};
 
 use crate::due::Due;
 use crate::ended::{clear_away, tell_ended};
@@ -34,27 +33,28 @@ pub(crate) fn take_abort<S: Shelf>(
     job: &str,
     number: u32,
 ) -> Result<bool, AllocError>
-    ensures asked { IfOk result (λ asked. AbortIsAsked asked (S.counts shelf.old) (S.counts shelf.new)) }
-    ensures err { OnErr result (S.counts shelf.new ≡ S.counts shelf.old) }
-    ensures grew { Grew (S.counts shelf.old) (S.counts shelf.new) }
+    ensures asked { IfOk result (λ asked. AbortIsAsked (abort_folder (places_data places.now) job.now number) asked
+        (S.calls shelf.old) (S.calls shelf.new)) }
+    ensures err { OnErr result (S.calls shelf.new ≡ S.calls shelf.old) }
 {
     let folder = places.abort_folder(alloc, job, number)?;
     match shelf.has_folder(folder.as_str()) {
         Ok(true) => Ok(shelf.remove_folder(folder.as_str()).is_ok()),
-        Ok(false) | Err(_) => Ok(false),
+        Ok(false) => Ok(false),
+        Err(_) => Ok(false),
     }
 }
 
 impl<R: Runner, S: Shelf, T: Storage> Server<R, S, T> {
     /// Aborts a build that runs: what it asks is answered so.
     fn abort(&mut self, job: String, number: u32) -> Result<Reply, ServeFault>
-        requires ready { let view = view_of R.pairs S.counts T.holds T.leaves T.tally in IsReady (view self.old []) }
+        requires ready { let view = view_of R.pairs S.calls T.holds T.leaves T.tally in IsReady (view self.old []) }
         requires runs { (s : State) → Stands (core_data self.old.core) s
             → IsSome (running_at (string_bytes job) number s.running) }
-        ensures made { let view = view_of R.pairs S.counts T.holds T.leaves T.tally in
+        ensures made { let view = view_of R.pairs S.calls T.holds T.leaves T.tally in
             IfOk result (λ reply. Made (abort (string_bytes job) number) (Ok reply)
             (view self.old []) (view self.new [])) }
-        ensures unmade { let view = view_of R.pairs S.counts T.holds T.leaves T.tally in
+        ensures unmade { let view = view_of R.pairs S.calls T.holds T.leaves T.tally in
             IfErr result (λ fault. Unmade fault (view self.old []) (view self.new [])) }
         ensures places { self.new.places ≡ self.old.places }
     {
@@ -73,24 +73,27 @@ impl<R: Runner, S: Shelf, T: Storage> Server<R, S, T> {
         name: String,
         out: &mut O,
     ) -> Result<(), ServeFault>
-        requires ready { let view = view_of R.pairs S.counts T.holds T.leaves T.tally in
+        requires ready { let view = view_of R.pairs S.calls T.holds T.leaves T.tally in
             IsReady (view self.old (O.written out.old)) }
         requires due { IsDue (core_data self.old.core) self.old.last (Some due) }
         requires name { string_bytes name ≡ string_bytes due.job }
         requires room { length (string_bytes due.job) + 64 ≤ O.room out.old }
-        ensures served { let view = view_of R.pairs S.counts T.holds T.leaves T.tally in
-            (before : ShelfCounts) → AbortIsAsked true before (S.counts self.old.shelf)
+        ensures served { let view = view_of R.pairs S.calls T.holds T.leaves T.tally in
+            (before : List CallData)
+            → AbortIsAsked (abort_folder (places_data self.old.places) (string_bytes due.job) due.number) true
+            before (S.calls self.old.shelf)
             → Calls (Items (Serves (places_data self.old.places)) (item.turn ∷ []))
-            (with_counts before (view self.old (O.written out.old))) (is_ok result) (view self.new (O.written out.new)) }
-        ensures kept { let view = view_of R.pairs S.counts T.holds T.leaves T.tally in
+            (with_calls before (view self.old (O.written out.old))) (is_ok result) (view self.new (O.written out.new)) }
+        ensures kept { let view = view_of R.pairs S.calls T.holds T.leaves T.tally in
             OnOk result (IsReady (view self.new (O.written out.new))) }
-        ensures stops { let view = view_of R.pairs S.counts T.holds T.leaves T.tally in
+        ensures stops { let view = view_of R.pairs S.calls T.holds T.leaves T.tally in
             IfErr result (λ fault. StopsItem fault (view self.new (O.written out.new))) }
-        ensures once { let view = view_of R.pairs S.counts T.holds T.leaves T.tally in
+        ensures once { let view = view_of R.pairs S.calls T.holds T.leaves T.tally in
             IfOk result (λ _. CommitsOnce (Ok true) (view self.old []) (view self.new [])) }
-        ensures at_most { let view = view_of R.pairs S.counts T.holds T.leaves T.tally in
+        ensures at_most { let view = view_of R.pairs S.calls T.holds T.leaves T.tally in
             IfErr result (λ fault. CommitsOnce (Err fault) (view self.old []) (view self.new [])) }
         ensures places { self.new.places ≡ self.old.places }
+        ensures waiting { O.waiting out.old ≡ [] → O.waiting out.new ≡ [] }
     {
         match self.abort(name, due.number) {
             Ok(reply) => {

@@ -1,13 +1,13 @@
 //! How what a build asks is answered.
-ghost use Rattle.std.specs.Prelude.{◌≡◌, ◌≢◌, IfOk, OnErr, Option};
+ghost use Rattle.std.specs.Prelude.{◌≡◌, [], ◌∷◌, map, string_bytes, IfOk, OnErr, Option};
 ghost use Rattle.ccr_pipeline.specs.Pipelines.{pipeline_data};
 ghost use Rattle.ccr_process.specs.Runs.{Pair};
 ghost use Rattle.ccr_steps.specs.Asks.{ask_data, answer_data};
 ghost use Rattle.ccr_task.specs.Launching.{can_launch, starts_program};
-ghost use Rattle.ccr_task.specs.Places.{places_data, build_folder};
-ghost use Rattle.ccr_task.specs.Shelves.{Counts, Grew};
-ghost use Rattle.ccr_serve.specs.Asked.{AnswersByFile, AnswersByLaunch, Answers};
-ghost use Rattle.ccr_serve.specs.Pairs.{Adds, AddsAtMostOne};
+ghost use Rattle.ccr_task.specs.Calls.{making, removing, Does};
+ghost use Rattle.ccr_task.specs.Places.{places_data, build_folder, in_build};
+ghost use Rattle.ccr_serve.specs.Asked.{ask_folders, AnswersByFile, AnswersByLaunch, Answers, BeginsByFile, BeginsByLaunch, BeginsAnswer};
+ghost use Rattle.ccr_serve.specs.Pairs.{Adds};
 
 use ccr_pipeline::Pipeline;
 use ccr_process::{Launch, Runner};
@@ -18,9 +18,7 @@ use std::alloc::{AllocError, Global};
 
 /// Makes the folder of an artifact anew.
 fn make_anew<S: Shelf>(shelf: &mut S, path: &str) -> Result<(), ShelfFault>
-    ensures counted { Counts (S.counts shelf.old) result (S.counts shelf.new) }
-    ensures grew { Grew (S.counts shelf.old) (S.counts shelf.new) }
-    ensures kind { result ≢ Err ShelfFault.TooLong }
+    ensures { Does (removing path.now ∷ making path.now ∷ []) (S.calls shelf.old) result (S.calls shelf.new) }
 {
     match shelf.remove_folder(path) {
         Ok(()) => shelf.make_folder(path),
@@ -37,9 +35,8 @@ fn make_each<S: Shelf>(
     number: u32,
     names: &[String],
 ) -> Result<(), ShelfFault>
-    ensures counted { Counts (S.counts shelf.old) result (S.counts shelf.new) }
-    ensures grew { Grew (S.counts shelf.old) (S.counts shelf.new) }
-    ensures kind { result ≢ Err ShelfFault.TooLong }
+    ensures { Does (map (λ name. making (in_build (places_data places.now) job.now number name))
+        (map string_bytes names.now)) (S.calls shelf.old) result (S.calls shelf.new) }
 {
     for name in names {
         let Ok(path) = places.in_build(alloc, job, number, name.as_str()) else {
@@ -63,9 +60,8 @@ fn make_folders<S: Shelf>(
     number: u32,
     ask: &Ask<'_>,
 ) -> Result<(), ShelfFault>
-    ensures counted { Counts (S.counts shelf.old) result (S.counts shelf.new) }
-    ensures grew { Grew (S.counts shelf.old) (S.counts shelf.new) }
-    ensures kind { result ≢ Err ShelfFault.TooLong }
+    ensures { Does (ask_folders (build_folder (places_data places.now) job.now number) (ask_data ask.now))
+        (S.calls shelf.old) result (S.calls shelf.new) }
 {
     if let Ask::Fetch { artifact, .. } = ask {
         let Ok(path) = places.in_build(alloc, job, number, artifact) else {
@@ -105,10 +101,11 @@ fn answer_by_launch<R: Runner, S: Shelf>(
     launch: Result<Launch, RequestFault>,
 ) -> Result<Answered, AllocError>
     ensures ok { IfOk result (λ a. (pair : Option Pair) × Adds (R.pairs runner.old) pair (R.pairs runner.new)
-        × AnswersByLaunch (ask_data ask.now) launch
-        (S.counts shelf.old) (S.counts shelf.new) pair (answer_data a)) }
-    ensures err { OnErr result (AddsAtMostOne (R.pairs runner.old) (R.pairs runner.new)) }
-    ensures grew { Grew (S.counts shelf.old) (S.counts shelf.new) }
+        × AnswersByLaunch (build_folder (places_data places.now) job.now number) (ask_data ask.now) launch
+        (S.calls shelf.old) (S.calls shelf.new) pair (answer_data a)) }
+    ensures err { OnErr result ((lost : Option Pair) × Adds (R.pairs runner.old) lost (R.pairs runner.new)
+        × BeginsByLaunch (build_folder (places_data places.now) job.now number) (ask_data ask.now) launch
+        (S.calls shelf.old) (S.calls shelf.new) lost) }
 {
     let launch = match launch {
         Ok(launch) => launch,
@@ -132,9 +129,10 @@ fn answer_by_file<S: Shelf>(
     number: u32,
     file: &str,
 ) -> Result<Answered, AllocError>
-    ensures ok { IfOk result (λ a.
-        AnswersByFile (S.counts shelf.old) (S.counts shelf.new) (answer_data a)) }
-    ensures grew { Grew (S.counts shelf.old) (S.counts shelf.new) }
+    ensures ok { IfOk result (λ a. AnswersByFile (in_build (places_data places.now) job.now number file.now)
+        (S.calls shelf.old) (S.calls shelf.new) (answer_data a)) }
+    ensures err { OnErr result (BeginsByFile (in_build (places_data places.now) job.now number file.now)
+        (S.calls shelf.old) (S.calls shelf.new)) }
 {
     let Ok(path) = places.in_build(alloc, job, number, file) else {
         return Err(AllocError);
@@ -146,7 +144,7 @@ fn answer_by_file<S: Shelf>(
 /// is read.
 ///
 /// Errored where the request is too long, or a folder can't be made or removed; then no program is started. The only
-/// error is want of memory; at most one pair is then the runner's that answers nothing.
+/// error is want of memory; the program may have run then, and answers nothing.
 pub(crate) fn answer_to<R: Runner, S: Shelf>(
     alloc: Global,
     runner: &mut R,
@@ -162,9 +160,11 @@ pub(crate) fn answer_to<R: Runner, S: Shelf>(
     ensures ok { IfOk result (λ a. (pair : Option Pair) × Adds (R.pairs runner.old) pair (R.pairs runner.new)
         × Answers (places_data places.now) (pipeline_data pipeline.now).resources
         (build_folder (places_data places.now) job.now number) (ask_data ask.now)
-        (S.counts shelf.old) (S.counts shelf.new) pair (answer_data a)) }
-    ensures err { OnErr result (AddsAtMostOne (R.pairs runner.old) (R.pairs runner.new)) }
-    ensures grew { Grew (S.counts shelf.old) (S.counts shelf.new) }
+        (S.calls shelf.old) (S.calls shelf.new) pair (answer_data a)) }
+    ensures err { OnErr result ((lost : Option Pair) × Adds (R.pairs runner.old) lost (R.pairs runner.new)
+        × BeginsAnswer (places_data places.now) (pipeline_data pipeline.now).resources
+        (build_folder (places_data places.now) job.now number) (ask_data ask.now)
+        (S.calls shelf.old) (S.calls shelf.new) lost) }
 {
     if let Ask::ReadConfig { file } = ask {
         return answer_by_file(alloc, shelf, places, job, number, file);

@@ -29,16 +29,17 @@ impl<R: Runner, S: Shelf, T: Storage> Server<R, S, T> {
     /// Early ends: `NoMemory` where a growth was refused, and the server goes on; `Store` where the storage failed, and
     /// the server has closed; `Closed` where it had closed before, and nothing is done.
     pub fn command<O: Lines>(&mut self, command: &Command, out: &mut O) -> Result<u8, ServeFault>
-        requires kept { let view = view_of R.pairs S.counts T.holds T.leaves T.tally in
+        requires kept { let view = view_of R.pairs S.calls T.holds T.leaves T.tally in
             IsKept (view self.old (O.written out.old)) }
-        ensures came { let view = view_of R.pairs S.counts T.holds T.leaves T.tally in self.old.closed ≡ false
+        ensures came { let view = view_of R.pairs S.calls T.holds T.leaves T.tally in self.old.closed ≡ false
             → CameOf (places_data self.old.places) (command_data command.now) result
             (view self.old (O.written out.old)) (view self.new (O.written out.new)) }
         ensures closed { self.old.closed ≡ true
             → (result ≡ Err Closed) × (self.new ≡ self.old) × (out.new ≡ out.old) }
-        ensures kept { let view = view_of R.pairs S.counts T.holds T.leaves T.tally in
+        ensures kept { let view = view_of R.pairs S.calls T.holds T.leaves T.tally in
             Ends result (view self.new (O.written out.new)) }
         ensures places { self.new.places ≡ self.old.places }
+        ensures waiting { O.waiting out.old ≡ [] → O.waiting out.new ≡ [] }
     {
         if self.closed {
             return Err(ServeFault::Closed);
@@ -55,10 +56,24 @@ impl<R: Runner, S: Shelf, T: Storage> Server<R, S, T> {
                 self.pin_resource(resource.as_str(), pin.as_str(), out)
             }
             Command::UnpinResource(resource) => self.unpin_resource(resource.as_str(), out),
+            Command::DisableResourceVersion(resource, place) => {
+                self.disable_version(resource.as_str(), *place, out)
+            }
+            Command::EnableResourceVersion(resource, place) => {
+                self.enable_version(resource.as_str(), *place, out)
+            }
             Command::Resolve(job) => self.show(Shown::Proof(job.as_str()), out),
             Command::Problem(job) => self.show(Shown::Problem(job.as_str()), out),
+            Command::Certify(job) => self.show(Shown::Certificate(job.as_str()), out),
             Command::TriggerJob(job) => self.trigger_job(job.as_str(), out),
             Command::Builds => self.show(Shown::Builds, out),
+            Command::Build(job, number) => self.show(Shown::Build(job.as_str(), *number), out),
+            Command::Trace(resource, pin) => {
+                self.show(Shown::Trace(resource.as_str(), pin.as_str()), out)
+            }
+            Command::GetPipeline => self.show(Shown::Pipeline, out),
+            Command::Resources => self.show(Shown::Resources, out),
+            Command::Jobs => self.show(Shown::Jobs, out),
             Command::Run(rounds) => self.run(*rounds, out),
         }
     }
@@ -67,16 +82,17 @@ impl<R: Runner, S: Shelf, T: Storage> Server<R, S, T> {
     ///
     /// Early ends: `NoMemory`, `Store` and `Closed` as at a command, and no other.
     pub fn round<O: Lines>(&mut self, out: &mut O) -> Result<(), ServeFault>
-        requires kept { let view = view_of R.pairs S.counts T.holds T.leaves T.tally in
+        requires kept { let view = view_of R.pairs S.calls T.holds T.leaves T.tally in
             IsKept (view self.old (O.written out.old)) }
-        ensures served { let view = view_of R.pairs S.counts T.holds T.leaves T.tally in self.old.closed ≡ false
+        ensures served { let view = view_of R.pairs S.calls T.holds T.leaves T.tally in self.old.closed ≡ false
             → Calls (Round (places_data self.old.places))
             (view self.old (O.written out.old)) (is_ok result) (view self.new (O.written out.new)) }
         ensures closed { self.old.closed ≡ true
             → (result ≡ Err Closed) × (self.new ≡ self.old) × (out.new ≡ out.old) }
-        ensures kept { let view = view_of R.pairs S.counts T.holds T.leaves T.tally in
+        ensures kept { let view = view_of R.pairs S.calls T.holds T.leaves T.tally in
             EndsItems result (view self.new (O.written out.new)) }
         ensures places { self.new.places ≡ self.old.places }
+        ensures waiting { O.waiting out.old ≡ [] → O.waiting out.new ≡ [] }
     {
         if self.closed {
             return Err(ServeFault::Closed);
@@ -89,19 +105,20 @@ impl<R: Runner, S: Shelf, T: Storage> Server<R, S, T> {
     ///
     /// Early ends: `NoMemory`, `Store` and `Closed` as at a command, and no other.
     pub fn turn<O: Lines>(&mut self, out: &mut O) -> Result<bool, ServeFault>
-        requires kept { let view = view_of R.pairs S.counts T.holds T.leaves T.tally in
+        requires kept { let view = view_of R.pairs S.calls T.holds T.leaves T.tally in
             IsKept (view self.old (O.written out.old)) }
-        ensures served { let view = view_of R.pairs S.counts T.holds T.leaves T.tally in self.old.closed ≡ false
+        ensures served { let view = view_of R.pairs S.calls T.holds T.leaves T.tally in self.old.closed ≡ false
             → Calls (Items (Serves (places_data self.old.places)) (item.turn ∷ []))
             (view self.old (O.written out.old)) (is_ok result) (view self.new (O.written out.new)) }
         ensures some { IfOk result (λ served. served ≡ is_running (core_data self.old.core)) }
-        ensures once { let view = view_of R.pairs S.counts T.holds T.leaves T.tally in
+        ensures once { let view = view_of R.pairs S.calls T.holds T.leaves T.tally in
             CommitsOnce result (view self.old []) (view self.new []) }
         ensures closed { self.old.closed ≡ true
             → (result ≡ Err Closed) × (self.new ≡ self.old) × (out.new ≡ out.old) }
-        ensures kept { let view = view_of R.pairs S.counts T.holds T.leaves T.tally in
+        ensures kept { let view = view_of R.pairs S.calls T.holds T.leaves T.tally in
             EndsItems result (view self.new (O.written out.new)) }
         ensures places { self.new.places ≡ self.old.places }
+        ensures waiting { O.waiting out.old ≡ [] → O.waiting out.new ≡ [] }
     {
         if self.closed {
             return Err(ServeFault::Closed);

@@ -1,8 +1,9 @@
 //! What is done of a build that has ended.
-ghost use Rattle.std.specs.Prelude.{◌≡◌, ◌+◌, ◌≤◌, ◌++◌, ℕ, length, Ok};
+ghost use Rattle.std.specs.Prelude.{◌≡◌, ◌+◌, ◌≤◌, ◌++◌, [], ◌∷◌, ℕ, length, Ok};
 ghost use Rattle.ccr_history.specs.History.{HistoryData};
 ghost use Rattle.ccr_steps.specs.Asks.{AnswerData};
-ghost use Rattle.ccr_task.specs.Shelves.{Counts};
+ghost use Rattle.ccr_task.specs.Calls.{removing, Does};
+ghost use Rattle.ccr_task.specs.Places.{places_data, build_folder};
 ghost use Rattle.ccr_core.specs.Events.{answer, abort};
 ghost use Rattle.ccr_lines.specs.Lines.{lines_of};
 ghost use Rattle.ccr_serve.specs.Aborts.{Clears};
@@ -20,6 +21,7 @@ pub(crate) fn tell_ended<O: Lines>(out: &mut O, job: &str, number: u32, reply: R
         → O.written out.new ≡ O.written out.old ++ lines_of (answer job.now number turn x) (Ok reply) h }
     ensures aborted { (h : HistoryData)
         → O.written out.new ≡ O.written out.old ++ lines_of (abort job.now number) (Ok reply) h }
+    ensures waiting { O.waiting out.old ≡ [] → O.waiting out.new ≡ [] }
 {
     if let Reply::Ends(outcome) = reply {
         tell_end(out, job, number, outcome);
@@ -35,7 +37,8 @@ fn remove_build<S: Shelf>(
     job: &str,
     number: u32,
 ) -> Result<(), ShelfFault>
-    ensures { Counts (S.counts shelf.old) result (S.counts shelf.new) }
+    ensures { Does (removing (build_folder (places_data places.now) job.now number) ∷ [])
+        (S.calls shelf.old) result (S.calls shelf.new) }
 {
     match places.build_folder(alloc, job, number) {
         Ok(folder) => shelf.remove_folder(folder.as_str()),
@@ -43,7 +46,7 @@ fn remove_build<S: Shelf>(
     }
 }
 
-/// Removes the folder of a build that ended, and one that asks for its abort. A failure is counted, and no more.
+/// Removes the folder of a build that ended, and one that asks for its abort. A failure changes nothing else.
 pub(crate) fn clear_away<S: Shelf>(
     alloc: Global,
     shelf: &mut S,
@@ -52,7 +55,7 @@ pub(crate) fn clear_away<S: Shelf>(
     number: u32,
     reply: Reply,
 )
-    ensures { Clears reply (S.counts shelf.old) (S.counts shelf.new) }
+    ensures { Clears (places_data places.now) job.now number reply (S.calls shelf.old) (S.calls shelf.new) }
 {
     if let Reply::Ends(_) = reply {
         let _ = remove_build(alloc, shelf, places, job, number);

@@ -4,15 +4,13 @@ ghost use Rattle.std.specs.Option.{option_copied};
 ghost use Rattle.ccr_pipeline.specs.JobData.{resource_data};
 ghost use Rattle.ccr_process.specs.Ends.{end_data};
 ghost use Rattle.ccr_process.specs.Runs.{Pair};
-ghost use Rattle.ccr_task.specs.Shelves.{Grew};
 ghost use Rattle.ccr_task.specs.Places.{places_data};
-ghost use Rattle.ccr_serve.specs.Found.{found_data, newest, FindsOutput, FindsExit, FindsBy, Finds};
-ghost use Rattle.ccr_serve.specs.Pairs.{Adds, AddsAtMostOne};
+ghost use Rattle.ccr_serve.specs.Found.{found_data, newest, FindsOutput, FindsExit, FindsBy, Finds, BeginsFind};
+ghost use Rattle.ccr_serve.specs.Pairs.{Adds};
 
 use ccr_history::{History, Version};
 use ccr_lines::Cause;
 use ccr_pipeline::Resource;
-use ccr_problem::scope_of;
 use ccr_process::{Ended, Runner};
 use ccr_protocol::{ReplyFault, RequestFault, read_check};
 use ccr_task::{Places, Shelf, ShelfFault, check_launch};
@@ -69,21 +67,16 @@ fn found_by(alloc: Global, end: Ended) -> Result<Found, AllocError>
 }
 
 /// The version of a resource with the greatest place, if there is one.
-fn newest_of<'h>(
-    alloc: Global,
-    history: &'h History,
-    resource: &Resource,
-) -> Result<Option<&'h Version>, AllocError>
-    ensures { IfOk result (λ version. option_copied version ≡ newest (resource_data resource.now) history.now) }
+fn newest_of<'h>(history: &'h History, resource: &Resource) -> Option<&'h Version>
+    ensures { option_copied result ≡ newest (resource_data resource.now) history.now }
 {
-    let scope = scope_of(alloc, resource)?;
-    Ok(history.versions(&scope).last())
+    history.versions(resource.scope()).last()
 }
 
 /// Checks a resource, which is told its newest version: the folder of all builds is made, the one program is run, and
 /// its output is read.
 ///
-/// The only error is want of memory; at most one pair is then the runner's that finds nothing.
+/// The only error is want of memory; the program may have run then, and finds nothing.
 pub(crate) fn find<R: Runner, S: Shelf>(
     alloc: Global,
     runner: &mut R,
@@ -95,15 +88,12 @@ pub(crate) fn find<R: Runner, S: Shelf>(
     ensures ok { IfOk result (λ f. (pair : Option Pair) × Adds (R.pairs runner.old) pair (R.pairs runner.new)
         × Finds (places_data places.now) (resource_data resource.now)
         (newest (resource_data resource.now) history.now)
-        (S.counts shelf.old) (S.counts shelf.new) pair (found_data f)) }
-    ensures err { OnErr result (AddsAtMostOne (R.pairs runner.old) (R.pairs runner.new)) }
-    ensures grew { Grew (S.counts shelf.old) (S.counts shelf.new) }
+        (S.calls shelf.old) (S.calls shelf.new) pair (found_data f)) }
+    ensures err { OnErr result ((lost : Option Pair) × Adds (R.pairs runner.old) lost (R.pairs runner.new)
+        × BeginsFind (places_data places.now) (resource_data resource.now)
+        (newest (resource_data resource.now) history.now) (S.calls shelf.old) (S.calls shelf.new) lost) }
 {
-    let version = match newest_of(alloc, history, resource) {
-        Ok(version) => version,
-        Err(error) => return Err(error),
-    };
-    let launch = match check_launch(alloc, places, resource, version) {
+    let launch = match check_launch(alloc, places, resource, newest_of(history, resource)) {
         Ok(launch) => launch,
         Err(RequestFault::TooLong) => return Ok(Found::Nothing(Cause::RequestTooLong)),
         Err(RequestFault::NoMemory) => return Err(AllocError),

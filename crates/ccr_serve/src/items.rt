@@ -5,15 +5,14 @@ ghost use Rattle.ccr_history.specs.History.{HistoryData};
 ghost use Rattle.ccr_pipeline.specs.JobData.{ResourceData};
 ghost use Rattle.ccr_problem.specs.ProblemOf.{resource_of};
 ghost use Rattle.ccr_process.specs.Runs.{Pair};
-ghost use Rattle.ccr_task.specs.Shelves.{Grew};
 ghost use Rattle.ccr_task.specs.Places.{places_data};
 ghost use Rattle.ccr_core.specs.Cores.{core_data};
 ghost use Rattle.ccr_core.specs.Events as event;
 ghost use Rattle.ccr_lines.specs.Lines.{lines_of};
-ghost use Rattle.ccr_serve.specs.Found.{found_data, newest, Finds};
+ghost use Rattle.ccr_serve.specs.Found.{found_data, newest, Finds, BeginsFind};
 ghost use Rattle.ccr_serve.specs.Items.{Items, Noting};
 ghost use Rattle.ccr_serve.specs.Items as item;
-ghost use Rattle.ccr_serve.specs.Pairs.{Adds, AddsAtMostOne};
+ghost use Rattle.ccr_serve.specs.Pairs.{Adds};
 ghost use Rattle.ccr_serve.specs.Serving.{Serves};
 ghost use Rattle.ccr_serve.specs.Taken.{all_taken};
 ghost use Rattle.ccr_serve.specs.Views.{view_of, resources_held, Calls, IsReady, StopsItem};
@@ -23,9 +22,7 @@ use crate::found::{Found, find};
 use crate::server::Server;
 use ccr_core::{Core, CoreFault, Event, Reply};
 use ccr_history::History;
-use ccr_lines::{
-    Lines, resource_named, tell_cause, tell_full, tell_job, tell_new, tell_refused_job,
-};
+use ccr_lines::{Lines, tell_cause, tell_full, tell_job, tell_new, tell_refused_job};
 use ccr_process::Runner;
 use ccr_storage::Storage;
 use ccr_task::{Places, Shelf};
@@ -42,6 +39,7 @@ pub(crate) fn begin<O: Lines>(
     ensures copied { IfOk result (λ copy. string_bytes copy ≡ name.now) }
     ensures room { OnOk result (IsSomeAnd room (λ bytes. bytes ≤ O.room out.new)) }
     ensures same { O.written out.new ≡ O.written out.old }
+    ensures waiting { O.waiting out.new ≡ O.waiting out.old }
 {
     let Some(bytes) = room else {
         return Err(AllocError);
@@ -78,20 +76,24 @@ fn find_named<R: Runner, S: Shelf>(
         × (resource_of name.now (resources_held (core_data core.now)) ≡ Some one)
         × Adds (R.pairs runner.old) pair (R.pairs runner.new)
         × Finds (places_data places.now) one (newest one (core_data core.now).history)
-        (S.counts shelf.old) (S.counts shelf.new) pair (found_data f)) }
-    ensures err { OnErr result (AddsAtMostOne (R.pairs runner.old) (R.pairs runner.new)) }
-    ensures grew { Grew (S.counts shelf.old) (S.counts shelf.new) }
+        (S.calls shelf.old) (S.calls shelf.new) pair (found_data f)) }
+    ensures err { OnErr result ((one : ResourceData) × (lost : Option Pair)
+        × (resource_of name.now (resources_held (core_data core.now)) ≡ Some one)
+        × Adds (R.pairs runner.old) lost (R.pairs runner.new)
+        × BeginsFind (places_data places.now) one (newest one (core_data core.now).history)
+        (S.calls shelf.old) (S.calls shelf.new) lost) }
 {
     let pipeline = core.pipeline().unwrap();
-    let resource = resource_named(pipeline.resources(), name).unwrap();
+    let resource = pipeline.resource(name).unwrap();
     find(alloc, runner, shelf, places, resource, core.history())
 }
 
 /// Writes the lines of a check's event.
 fn tell_checked<O: Lines>(out: &mut O, resource: &str, replied: &Result<Reply, CoreFault>)
     requires { length resource.now + 64 ≤ O.room out.old }
-    ensures { (vs : List TextMap) (h : HistoryData)
+    ensures told { (vs : List TextMap) (h : HistoryData)
         → O.written out.new ≡ O.written out.old ++ lines_of (event.checked resource.now vs) replied.now h }
+    ensures shown { O.waiting out.new ≡ [] }
 {
     match replied {
         Ok(Reply::New(new)) => tell_new(out, resource, *new),
@@ -107,6 +109,8 @@ fn tell_checked<O: Lines>(out: &mut O, resource: &str, replied: &Result<Reply, C
             | Reply::Ends(_)
             | Reply::Pinned
             | Reply::Unpinned
+            | Reply::Disabled
+            | Reply::Enabled
             | Reply::Restarted,
         )
         | Err(
@@ -117,6 +121,7 @@ fn tell_checked<O: Lines>(out: &mut O, resource: &str, replied: &Result<Reply, C
             | CoreFault::BuildsOpen
             | CoreFault::NotWanted
             | CoreFault::TooManyOpen
+            | CoreFault::NoVersion
             | CoreFault::NoMemory,
         ) => {}
     }
@@ -131,7 +136,8 @@ fn tell_scheduled<O: Lines>(
     history: &History,
 )
     requires { 2 * length job.now + 64 ≤ O.room out.old }
-    ensures { O.written out.new ≡ O.written out.old ++ lines_of (event.schedule job.now) replied history.now }
+    ensures told { O.written out.new ≡ O.written out.old ++ lines_of (event.schedule job.now) replied history.now }
+    ensures shown { O.waiting out.new ≡ [] }
 {
     match replied {
         Ok(reply) => tell_job(out, job, reply, history),
@@ -147,18 +153,19 @@ impl<R: Runner, S: Shelf, T: Storage> Server<R, S, T> {
     /// - `NoMemory` where a growth was refused; the program may have run by then.
     /// - `Store` where the storage failed; then the server has closed.
     pub(crate) fn check<O: Lines>(&mut self, name: &str, out: &mut O) -> Result<bool, ServeFault>
-        requires ready { let view = view_of R.pairs S.counts T.holds T.leaves T.tally in
+        requires ready { let view = view_of R.pairs S.calls T.holds T.leaves T.tally in
             IsReady (view self.old (O.written out.old)) }
         requires there { IsSome (resource_of name.now (resources_held (core_data self.old.core))) }
-        ensures served { let view = view_of R.pairs S.counts T.holds T.leaves T.tally in
+        ensures served { let view = view_of R.pairs S.calls T.holds T.leaves T.tally in
             Calls (Noting (Items (Serves (places_data self.old.places)) (item.check name.now ∷ []))
             (λ ds. IfOk result (λ good. good ≡ all_taken ds)))
             (view self.old (O.written out.old)) (is_ok result) (view self.new (O.written out.new)) }
-        ensures kept { let view = view_of R.pairs S.counts T.holds T.leaves T.tally in
+        ensures kept { let view = view_of R.pairs S.calls T.holds T.leaves T.tally in
             OnOk result (IsReady (view self.new (O.written out.new))) }
-        ensures stops { let view = view_of R.pairs S.counts T.holds T.leaves T.tally in
+        ensures stops { let view = view_of R.pairs S.calls T.holds T.leaves T.tally in
             IfErr result (λ fault. StopsItem fault (view self.new (O.written out.new))) }
         ensures places { self.new.places ≡ self.old.places }
+        ensures waiting { O.waiting out.old ≡ [] → O.waiting out.new ≡ [] }
     {
         let Ok(copy) = begin(self.alloc, name, line_room(name), out) else {
             return Err(ServeFault::NoMemory);
@@ -195,16 +202,17 @@ impl<R: Runner, S: Shelf, T: Storage> Server<R, S, T> {
     /// - `NoMemory` where a growth was refused; then nothing has changed.
     /// - `Store` where the storage failed; then the server has closed.
     pub(crate) fn schedule<O: Lines>(&mut self, name: &str, out: &mut O) -> Result<(), ServeFault>
-        requires ready { let view = view_of R.pairs S.counts T.holds T.leaves T.tally in
+        requires ready { let view = view_of R.pairs S.calls T.holds T.leaves T.tally in
             IsReady (view self.old (O.written out.old)) }
-        ensures served { let view = view_of R.pairs S.counts T.holds T.leaves T.tally in
+        ensures served { let view = view_of R.pairs S.calls T.holds T.leaves T.tally in
             Calls (Items (Serves (places_data self.old.places)) (item.schedule name.now ∷ []))
             (view self.old (O.written out.old)) (is_ok result) (view self.new (O.written out.new)) }
-        ensures kept { let view = view_of R.pairs S.counts T.holds T.leaves T.tally in
+        ensures kept { let view = view_of R.pairs S.calls T.holds T.leaves T.tally in
             OnOk result (IsReady (view self.new (O.written out.new))) }
-        ensures stops { let view = view_of R.pairs S.counts T.holds T.leaves T.tally in
+        ensures stops { let view = view_of R.pairs S.calls T.holds T.leaves T.tally in
             IfErr result (λ fault. StopsItem fault (view self.new (O.written out.new))) }
         ensures places { self.new.places ≡ self.old.places }
+        ensures waiting { O.waiting out.old ≡ [] → O.waiting out.new ≡ [] }
     {
         let Ok(copy) = begin(self.alloc, name, job_room(name), out) else {
             return Err(ServeFault::NoMemory);

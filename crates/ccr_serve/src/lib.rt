@@ -13,6 +13,7 @@ mod aborting;
 mod answer;
 mod called;
 mod checking;
+mod disabling;
 mod due;
 mod end;
 mod ended;
@@ -34,4 +35,5 @@ mod wanted;
 
 pub use fault::ServeFault;
 pub use law::turns_go_round;
+pub use open::Unopened;
 pub use server::Server;

@@ -17,11 +17,11 @@ impl<R: Runner, S: Shelf, T: Storage> Server<R, S, T> {
     /// - `NoMemory` where a growth was refused; then nothing has changed.
     /// - `Store` where the storage failed; then the server has closed.
     pub(crate) fn make(&mut self, event: Event) -> Result<Result<Reply, CoreFault>, ServeFault>
-        requires ready { let view = view_of R.pairs S.counts T.holds T.leaves T.tally in IsReady (view self.old []) }
-        ensures made { let view = view_of R.pairs S.counts T.holds T.leaves T.tally in
+        requires ready { let view = view_of R.pairs S.calls T.holds T.leaves T.tally in IsReady (view self.old []) }
+        ensures made { let view = view_of R.pairs S.calls T.holds T.leaves T.tally in
             IfOk result (λ r. Made (event_data event) r (view self.old []) (view self.new [])) }
         ensures refused { IfOk result (λ r. OnErr r (core_data self.new.core ≡ core_data self.old.core)) }
-        ensures unmade { let view = view_of R.pairs S.counts T.holds T.leaves T.tally in
+        ensures unmade { let view = view_of R.pairs S.calls T.holds T.leaves T.tally in
             IfErr result (λ fault. Unmade fault (view self.old []) (view self.new [])) }
         ensures places { self.new.places ≡ self.old.places }
     {

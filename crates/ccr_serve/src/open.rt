@@ -5,7 +5,7 @@ ghost use Rattle.ccr_proof.specs.declared.proof.TheConstants.{MOST_NODES};
 ghost use Rattle.ccr_core.specs.Cores.{core_data};
 ghost use Rattle.ccr_core.specs.Resumed.{IsReadable, IsResumed};
 ghost use Rattle.ccr_serve.specs.Views.{view_of, IsReady};
-ghost use Rattle.ccr_serve.specs.Commanding.{KeepsFromOpening};
+ghost use Rattle.ccr_serve.specs.Unopened.{KeepsFromOpening};
 
 use crate::fault::ServeFault;
 use crate::server::Server;
@@ -16,12 +16,21 @@ use ccr_storage::Storage;
 use ccr_task::{Places, Shelf};
 use std::alloc::Global;
 
+/// Why a server isn't opened, with its storage.
+#[derive(Drop)]
+pub struct Unopened<T> {
+    /// `NoMemory` where a growth was refused, or `Store` where the storage failed; nothing else.
+    pub fault: ServeFault,
+    /// The storage that the server was to have.
+    pub storage: T,
+}
+
 impl<R: Runner + Drop, S: Shelf + Drop, T: Storage + Drop> Server<R, S, T> {
     /// A server that begins with the history that the storage holds. Each build that runs in it is errored, with
     /// nothing moved, and this is stored; no folder is touched and no program started.
     ///
     /// The caller gives a history whose text `ccr_pipeline::read` accepts, and a budget from 1 to 1,000,000.
-    /// `NoMemory` where a growth was refused, and `Store` where the storage failed; nothing else.
+    /// An [`Unopened`] hands the storage back, which holds what it held.
     pub fn open(
         alloc: Global,
         runner: R,
@@ -30,25 +39,31 @@ impl<R: Runner + Drop, S: Shelf + Drop, T: Storage + Drop> Server<R, S, T> {
         history: History,
         places: Places,
         budget: u32,
-    ) -> Result<Server<R, S, T>, ServeFault>
+    ) -> Result<Server<R, S, T>, Unopened<T>>
         requires holds { T.holds storage history }
         requires leaves { T.leaves storage (history ∷ []) }
         requires readable { IfSome history.text IsReadable }
         requires least { 1 ≤ budget }
         requires most { budget ≤ MOST_NODES }
-        ensures ready { let view = view_of R.pairs S.counts T.holds T.leaves T.tally in
+        ensures ready { let view = view_of R.pairs S.calls T.holds T.leaves T.tally in
             IfOk result (λ server. IsReady (view server [])) }
         ensures resumed { IfOk result (λ server. IsResumed history budget (core_data server.core)) }
         ensures nobody { IfOk result (λ server. server.last ≡ 0) }
         ensures pairs { IfOk result (λ server. R.pairs server.runner ≡ R.pairs runner) }
-        ensures counts { IfOk result (λ server. S.counts server.shelf ≡ S.counts shelf) }
+        ensures calls { IfOk result (λ server. S.calls server.shelf ≡ S.calls shelf) }
         ensures places { IfOk result (λ server. server.places ≡ places) }
-        ensures only { IfErr result KeepsFromOpening }
+        ensures only { IfErr result (λ it.
+            KeepsFromOpening T.holds T.leaves T.tally history storage it.storage it.fault) }
     {
         history.rules();
         let (core, change) = match Core::resume(alloc, history, budget) {
             Ok(begun) => begun,
-            Err(_) => return Err(ServeFault::NoMemory),
+            Err(_) => {
+                return Err(Unopened {
+                    fault: ServeFault::NoMemory,
+                    storage,
+                })
+            }
         };
         match storage.commit(alloc, &change) {
             Ok(()) => Ok(Server {
@@ -61,7 +76,10 @@ impl<R: Runner + Drop, S: Shelf + Drop, T: Storage + Drop> Server<R, S, T> {
                 last: 0,
                 closed: false,
             }),
-            Err(fault) => Err(ServeFault::Store(fault)),
+            Err(fault) => Err(Unopened {
+                fault: ServeFault::Store(fault),
+                storage,
+            }),
         }
     }
 }

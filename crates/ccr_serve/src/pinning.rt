@@ -1,7 +1,7 @@
 //! Pins by command.
-ghost use Rattle.std.specs.Prelude.{◌≡◌, IfErr, IfOk, OnOk};
+ghost use Rattle.std.specs.Prelude.{◌≡◌, IfErr, OnOk, []};
 ghost use Rattle.ccr_task.specs.Places.{places_data};
-ghost use Rattle.ccr_serve.specs.Commanding.{pin_in, CameOf};
+ghost use Rattle.ccr_serve.specs.Commanding.{CameOf};
 ghost use Rattle.ccr_lines.specs.Commands.{pin_resource, unpin_resource};
 ghost use Rattle.ccr_serve.specs.Views.{view_of, IsReady, Stops};
 
@@ -9,29 +9,10 @@ use crate::fault::ServeFault;
 use crate::items::{begin, line_room};
 use crate::server::Server;
 use ccr_core::Event;
-use ccr_history::{HistoryFault, Pin};
-use ccr_lines::{Lines, resource_held, tell_pinned, tell_unpinned};
+use ccr_lines::{Lines, pin_of, resource_held, tell_pinned, tell_unpinned};
 use ccr_process::Runner;
 use ccr_storage::Storage;
 use ccr_task::Shelf;
-use serde_json::Value;
-use std::alloc::{AllocError, Global};
-
-/// The pin that a text spells, if it spells one.
-fn pin_of(alloc: Global, text: &str) -> Result<Option<Pin>, AllocError>
-    ensures { IfOk result (λ pin. pin ≡ pin_in text.now) }
-{
-    let value = match Value::from_str(alloc, text) {
-        Ok(value) => value,
-        Err(error) if error.is_memory() => return Err(AllocError),
-        Err(_) => return Ok(None),
-    };
-    match Pin::from_value(alloc, &value) {
-        Ok(pin) => Ok(Some(pin)),
-        Err(HistoryFault::NotObject | HistoryFault::VersionNotText) => Ok(None),
-        Err(_) => Err(AllocError),
-    }
-}
 
 impl<R: Runner, S: Shelf, T: Storage> Server<R, S, T> {
     /// Pins the resource of this name to the versions that meet this JSON text.
@@ -41,16 +22,17 @@ impl<R: Runner, S: Shelf, T: Storage> Server<R, S, T> {
         text: &str,
         out: &mut O,
     ) -> Result<u8, ServeFault>
-        requires ready { let view = view_of R.pairs S.counts T.holds T.leaves T.tally in
+        requires ready { let view = view_of R.pairs S.calls T.holds T.leaves T.tally in
             IsReady (view self.old (O.written out.old)) }
-        ensures came { let view = view_of R.pairs S.counts T.holds T.leaves T.tally in
+        ensures came { let view = view_of R.pairs S.calls T.holds T.leaves T.tally in
             CameOf (places_data self.old.places) (pin_resource name.now text.now) result
             (view self.old (O.written out.old)) (view self.new (O.written out.new)) }
-        ensures kept { let view = view_of R.pairs S.counts T.holds T.leaves T.tally in
+        ensures kept { let view = view_of R.pairs S.calls T.holds T.leaves T.tally in
             OnOk result (IsReady (view self.new (O.written out.new))) }
-        ensures stops { let view = view_of R.pairs S.counts T.holds T.leaves T.tally in
+        ensures stops { let view = view_of R.pairs S.calls T.holds T.leaves T.tally in
             IfErr result (λ fault. Stops fault (view self.new (O.written out.new))) }
         ensures places { self.new.places ≡ self.old.places }
+        ensures waiting { O.waiting out.old ≡ [] → O.waiting out.new ≡ [] }
     {
         match resource_held(&self.core, name) {
             Ok(_) => {}
@@ -81,16 +63,17 @@ impl<R: Runner, S: Shelf, T: Storage> Server<R, S, T> {
         name: &str,
         out: &mut O,
     ) -> Result<u8, ServeFault>
-        requires ready { let view = view_of R.pairs S.counts T.holds T.leaves T.tally in
+        requires ready { let view = view_of R.pairs S.calls T.holds T.leaves T.tally in
             IsReady (view self.old (O.written out.old)) }
-        ensures came { let view = view_of R.pairs S.counts T.holds T.leaves T.tally in
+        ensures came { let view = view_of R.pairs S.calls T.holds T.leaves T.tally in
             CameOf (places_data self.old.places) (unpin_resource name.now) result
             (view self.old (O.written out.old)) (view self.new (O.written out.new)) }
-        ensures kept { let view = view_of R.pairs S.counts T.holds T.leaves T.tally in
+        ensures kept { let view = view_of R.pairs S.calls T.holds T.leaves T.tally in
             OnOk result (IsReady (view self.new (O.written out.new))) }
-        ensures stops { let view = view_of R.pairs S.counts T.holds T.leaves T.tally in
+        ensures stops { let view = view_of R.pairs S.calls T.holds T.leaves T.tally in
             IfErr result (λ fault. Stops fault (view self.new (O.written out.new))) }
         ensures places { self.new.places ≡ self.old.places }
+        ensures waiting { O.waiting out.old ≡ [] → O.waiting out.new ≡ [] }
     {
         let Ok(copy) = begin(self.alloc, name, line_room(name), out) else {
             return Err(ServeFault::NoMemory);

@@ -48,6 +48,8 @@ fn status_of_reply(job: &str, reply: Reply, history: &History) -> u8
         | Reply::Ends(_)
         | Reply::Pinned
         | Reply::Unpinned
+        | Reply::Disabled
+        | Reply::Enabled
         | Reply::Restarted => 1,
     }
 }
@@ -58,20 +60,21 @@ impl<R: Runner, S: Shelf, T: Storage> Server<R, S, T> {
     /// - `Core` where the core refuses it, and `NoMemory` where a growth was refused; then nothing has changed.
     /// - `Store` where the storage failed; then the server has closed.
     fn trigger<O: Lines>(&mut self, job: &str, out: &mut O) -> Result<Reply, ServeFault>
-        requires ready { let view = view_of R.pairs S.counts T.holds T.leaves T.tally in
+        requires ready { let view = view_of R.pairs S.calls T.holds T.leaves T.tally in
             IsReady (view self.old (O.written out.old)) }
-        ensures replied { let view = view_of R.pairs S.counts T.holds T.leaves T.tally in
+        ensures replied { let view = view_of R.pairs S.calls T.holds T.leaves T.tally in
             IfOk result (λ reply. Calls (Such (λ old ds new. HasJob old.core job.now × IsFirstReply ds reply)
             (Items (Serves (places_data self.old.places)) (item.tell (event.trigger job.now) ∷ [])))
             (view self.old (O.written out.old)) true (view self.new (O.written out.new))) }
-        ensures came { let view = view_of R.pairs S.counts T.holds T.leaves T.tally in
+        ensures came { let view = view_of R.pairs S.calls T.holds T.leaves T.tally in
             IfErr result (λ fault. CameOf (places_data self.old.places) (trigger_job job.now) (Err fault)
             (view self.old (O.written out.old)) (view self.new (O.written out.new))) }
-        ensures kept { let view = view_of R.pairs S.counts T.holds T.leaves T.tally in
+        ensures kept { let view = view_of R.pairs S.calls T.holds T.leaves T.tally in
             OnOk result (IsReady (view self.new (O.written out.new))) }
-        ensures stops { let view = view_of R.pairs S.counts T.holds T.leaves T.tally in
+        ensures stops { let view = view_of R.pairs S.calls T.holds T.leaves T.tally in
             IfErr result (λ fault. Stops fault (view self.new (O.written out.new))) }
         ensures places { self.new.places ≡ self.old.places }
+        ensures waiting { O.waiting out.old ≡ [] → O.waiting out.new ≡ [] }
     {
         let Ok(copy) = begin(self.alloc, job, job_room(job), out) else {
             return Err(ServeFault::NoMemory);
@@ -91,16 +94,17 @@ impl<R: Runner, S: Shelf, T: Storage> Server<R, S, T> {
 
     /// Makes a build of the job of this name, and takes turns until no build runs: status 0 where it succeeded.
     pub(crate) fn trigger_job<O: Lines>(&mut self, job: &str, out: &mut O) -> Result<u8, ServeFault>
-        requires ready { let view = view_of R.pairs S.counts T.holds T.leaves T.tally in
+        requires ready { let view = view_of R.pairs S.calls T.holds T.leaves T.tally in
             IsReady (view self.old (O.written out.old)) }
-        ensures came { let view = view_of R.pairs S.counts T.holds T.leaves T.tally in
+        ensures came { let view = view_of R.pairs S.calls T.holds T.leaves T.tally in
             CameOf (places_data self.old.places) (trigger_job job.now) result
             (view self.old (O.written out.old)) (view self.new (O.written out.new)) }
-        ensures kept { let view = view_of R.pairs S.counts T.holds T.leaves T.tally in
+        ensures kept { let view = view_of R.pairs S.calls T.holds T.leaves T.tally in
             OnOk result (IsReady (view self.new (O.written out.new))) }
-        ensures stops { let view = view_of R.pairs S.counts T.holds T.leaves T.tally in
+        ensures stops { let view = view_of R.pairs S.calls T.holds T.leaves T.tally in
             IfErr result (λ fault. Stops fault (view self.new (O.written out.new))) }
         ensures places { self.new.places ≡ self.old.places }
+        ensures waiting { O.waiting out.old ≡ [] → O.waiting out.new ≡ [] }
     {
         let reply = match self.trigger(job, out) {
             Ok(reply) => reply,
@@ -119,16 +123,17 @@ impl<R: Runner, S: Shelf, T: Storage> Server<R, S, T> {
 
     /// Runs so many rounds, and then takes turns until no build runs.
     pub(crate) fn run<O: Lines>(&mut self, rounds: u32, out: &mut O) -> Result<u8, ServeFault>
-        requires ready { let view = view_of R.pairs S.counts T.holds T.leaves T.tally in
+        requires ready { let view = view_of R.pairs S.calls T.holds T.leaves T.tally in
             IsReady (view self.old (O.written out.old)) }
-        ensures came { let view = view_of R.pairs S.counts T.holds T.leaves T.tally in
+        ensures came { let view = view_of R.pairs S.calls T.holds T.leaves T.tally in
             CameOf (places_data self.old.places) (run rounds) result
             (view self.old (O.written out.old)) (view self.new (O.written out.new)) }
-        ensures kept { let view = view_of R.pairs S.counts T.holds T.leaves T.tally in
+        ensures kept { let view = view_of R.pairs S.calls T.holds T.leaves T.tally in
             OnOk result (IsReady (view self.new (O.written out.new))) }
-        ensures stops { let view = view_of R.pairs S.counts T.holds T.leaves T.tally in
+        ensures stops { let view = view_of R.pairs S.calls T.holds T.leaves T.tally in
             IfErr result (λ fault. Stops fault (view self.new (O.written out.new))) }
         ensures places { self.new.places ≡ self.old.places }
+        ensures waiting { O.waiting out.old ≡ [] → O.waiting out.new ≡ [] }
     {
         match self.core.pipeline() {
             Some(_) => {}

@@ -1,13 +1,15 @@
 //! Sets a pipeline.
-ghost use Rattle.std.specs.Prelude.{◌≡◌, ◌++◌, ◌≤◌, ℕ, List, unwrap_or, IfOk, IfErr, OnOk, IsSomeAnd};
+ghost use Rattle.std.specs.Prelude.{◌≡◌, ◌++◌, ◌≤◌, ℕ, List, unwrap_or, IfOk, IfErr, OnOk, IsSomeAnd, Ok, Err, []};
 ghost use Rattle.ccr_pipeline.specs.Pipelines.{pipeline_data, IsPipelineOf};
 ghost use Rattle.ccr_pipeline.specs.Reading.{pipeline_faults, IsReading};
-ghost use Rattle.ccr_task.specs.declared.counts.ShelfCounts.{ShelfCounts};
+ghost use Rattle.ccr_history.specs.Text.{Text};
+ghost use Rattle.ccr_task.specs.Calls.{CallData};
+ghost use Rattle.ccr_task.specs.declared.fault.ShelfFault.TheVariants.{TooLong};
 ghost use Rattle.ccr_task.specs.Places.{places_data};
 ghost use Rattle.ccr_core.specs.Cores.{core_data};
 ghost use Rattle.ccr_core.specs.State.{no_pipeline};
 ghost use Rattle.ccr_lines.specs.Lines.{pipeline_lines};
-ghost use Rattle.ccr_serve.specs.Commanding.{CameOf};
+ghost use Rattle.ccr_serve.specs.Commanding.{CameOf, IsRead};
 ghost use Rattle.ccr_lines.specs.Commands.{set_pipeline};
 ghost use Rattle.ccr_serve.specs.Reads.{lines_room, KeepsFromReading};
 ghost use Rattle.ccr_serve.specs.Views.{view_of, IsReady, Stops};
@@ -24,7 +26,8 @@ use std::alloc::{AllocError, Global};
 
 /// The fault of a pipeline's file that is too long.
 fn too_long(alloc: Global) -> ServeFault
-    ensures { (c : ShelfCounts) → KeepsFromReading result c c }
+    ensures { (path : Text) (before after : List CallData) → IsRead path (Err TooLong) before after
+        → KeepsFromReading path result before after }
 {
     match String::from_str(alloc, "pipeline") {
         Ok(path) => ServeFault::Read(ReadFault::TooLong(path)),
@@ -36,9 +39,10 @@ fn too_long(alloc: Global) -> ServeFault
 /// can't be read, and `NoMemory`; no other fault.
 fn read_pipeline<S: Shelf>(alloc: Global, shelf: &mut S, path: &str) -> Result<Pipeline, ServeFault>
     ensures ok { IfOk result (λ p. (bytes : List ℕ)
+        × IsRead path.now (Ok bytes) (S.calls shelf.old) (S.calls shelf.new)
         × IsReading pipeline_faults bytes (λ d. IsPipelineOf bytes d (pipeline_data p))) }
-    ensures same { OnOk result (S.counts shelf.new ≡ S.counts shelf.old) }
-    ensures err { IfErr result (λ fault. KeepsFromReading fault (S.counts shelf.old) (S.counts shelf.new)) }
+    ensures err { IfErr result (λ fault.
+        KeepsFromReading path.now fault (S.calls shelf.old) (S.calls shelf.new)) }
 {
     let bytes = match shelf.read_file(path) {
         Ok(bytes) => bytes,
@@ -57,6 +61,7 @@ fn read_pipeline<S: Shelf>(alloc: Global, shelf: &mut S, path: &str) -> Result<P
 fn make_pipeline_room<O: Lines>(pipeline: &Pipeline, out: &mut O) -> Result<(), AllocError>
     ensures room { OnOk result (lines_room (pipeline_data pipeline.now) ≤ O.room out.new) }
     ensures same { O.written out.new ≡ O.written out.old }
+    ensures waiting { O.waiting out.new ≡ O.waiting out.old }
 {
     match pipeline_room(pipeline) {
         Some(bytes) => out.make_room(bytes),
@@ -67,8 +72,9 @@ fn make_pipeline_room<O: Lines>(pipeline: &Pipeline, out: &mut O) -> Result<(), 
 /// Writes the lines of the pipeline that was set.
 fn tell_set<O: Lines>(out: &mut O, core: &Core)
     requires { IsSomeAnd (core_data core.now).pipeline (λ p. lines_room p ≤ O.room out.old) }
-    ensures { O.written out.new ≡ O.written out.old
+    ensures told { O.written out.new ≡ O.written out.old
         ++ pipeline_lines (unwrap_or (core_data core.now).pipeline no_pipeline) }
+    ensures shown { O.waiting out.new ≡ [] }
 {
     if let Some(pipeline) = core.pipeline() {
         tell_pipeline(out, pipeline);
@@ -84,16 +90,17 @@ impl<R: Runner, S: Shelf, T: Storage> Server<R, S, T> {
         path: &str,
         out: &mut O,
     ) -> Result<u8, ServeFault>
-        requires ready { let view = view_of R.pairs S.counts T.holds T.leaves T.tally in
+        requires ready { let view = view_of R.pairs S.calls T.holds T.leaves T.tally in
             IsReady (view self.old (O.written out.old)) }
-        ensures came { let view = view_of R.pairs S.counts T.holds T.leaves T.tally in
+        ensures came { let view = view_of R.pairs S.calls T.holds T.leaves T.tally in
             CameOf (places_data self.old.places) (set_pipeline path.now) result
             (view self.old (O.written out.old)) (view self.new (O.written out.new)) }
-        ensures kept { let view = view_of R.pairs S.counts T.holds T.leaves T.tally in
+        ensures kept { let view = view_of R.pairs S.calls T.holds T.leaves T.tally in
             OnOk result (IsReady (view self.new (O.written out.new))) }
-        ensures stops { let view = view_of R.pairs S.counts T.holds T.leaves T.tally in
+        ensures stops { let view = view_of R.pairs S.calls T.holds T.leaves T.tally in
             IfErr result (λ fault. Stops fault (view self.new (O.written out.new))) }
         ensures places { self.new.places ≡ self.old.places }
+        ensures waiting { O.waiting out.old ≡ [] → O.waiting out.new ≡ [] }
     {
         let pipeline = match read_pipeline(self.alloc, &mut self.shelf, path) {
             Ok(pipeline) => pipeline,

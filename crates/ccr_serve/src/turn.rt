@@ -1,9 +1,9 @@
 //! Turns: the one ask of a build is answered, or aborted.
-ghost use Rattle.std.specs.Prelude.{◌≡◌, ◌+◌, ◌≤◌, [], ◌∷◌, length, string_bytes, is_ok, true, false, Ok, Err, IfOk, IfErr, OnOk, Some};
+ghost use Rattle.std.specs.Prelude.{◌≡◌, ◌+◌, ◌≤◌, List, [], ◌∷◌, length, string_bytes, is_ok, true, false, Ok, Err, IfOk, IfErr, OnOk, Some};
 ghost use Rattle.ccr_steps.specs.Asks.{answer_data, errored};
 ghost use Rattle.ccr_steps.specs.declared.ask.Ask.{Ask};
-ghost use Rattle.ccr_task.specs.Places.{places_data};
-ghost use Rattle.ccr_task.specs.declared.counts.ShelfCounts.{ShelfCounts};
+ghost use Rattle.ccr_task.specs.Calls.{CallData};
+ghost use Rattle.ccr_task.specs.Places.{places_data, abort_folder};
 ghost use Rattle.ccr_core.specs.Cores.{core_data};
 ghost use Rattle.ccr_core.specs.Events.{answer};
 ghost use Rattle.ccr_core.specs.Holding.{Wants};
@@ -12,7 +12,7 @@ ghost use Rattle.ccr_serve.specs.Due.{IsDue, Gives};
 ghost use Rattle.ccr_serve.specs.Items.{Items};
 ghost use Rattle.ccr_serve.specs.Items as item;
 ghost use Rattle.ccr_serve.specs.Serving.{Serves};
-ghost use Rattle.ccr_serve.specs.Views.{view_of, with_counts, is_running, Calls, CommitsOnce, IsReady, Made, Unmade, StopsItem};
+ghost use Rattle.ccr_serve.specs.Views.{view_of, with_calls, is_running, Calls, CommitsOnce, IsReady, Made, Unmade, StopsItem};
 
 use crate::aborting::take_abort;
 use crate::due::{Due, due_build};
@@ -39,6 +39,7 @@ fn begin_turn<O: Lines>(
     ensures other { IfOk result (λ names. string_bytes names.1 ≡ job.now) }
     ensures room { OnOk result (length job.now + 64 ≤ O.room out.new) }
     ensures same { O.written out.new ≡ O.written out.old }
+    ensures waiting { O.waiting out.new ≡ O.waiting out.old }
 {
     let one = begin(alloc, job, line_room(job), out)?;
     let other = String::from_str(alloc, job)?;
@@ -48,12 +49,12 @@ fn begin_turn<O: Lines>(
 impl<R: Runner, S: Shelf, T: Storage> Server<R, S, T> {
     /// Gives a build errored in the place of its answer.
     fn give_errored(&mut self, job: String, number: u32, turn: u64) -> Result<Reply, ServeFault>
-        requires ready { let view = view_of R.pairs S.counts T.holds T.leaves T.tally in IsReady (view self.old []) }
+        requires ready { let view = view_of R.pairs S.calls T.holds T.leaves T.tally in IsReady (view self.old []) }
         requires wants { (ask : Ask) × Wants (core_data self.old.core) (string_bytes job) number (Some (turn, ask)) }
-        ensures made { let view = view_of R.pairs S.counts T.holds T.leaves T.tally in
+        ensures made { let view = view_of R.pairs S.calls T.holds T.leaves T.tally in
             IfOk result (λ reply. Made (answer (string_bytes job) number turn errored) (Ok reply)
             (view self.old []) (view self.new [])) }
-        ensures unmade { let view = view_of R.pairs S.counts T.holds T.leaves T.tally in
+        ensures unmade { let view = view_of R.pairs S.calls T.holds T.leaves T.tally in
             IfErr result (λ fault. Unmade fault (view self.old []) (view self.new [])) }
         ensures places { self.new.places ≡ self.old.places }
     {
@@ -74,14 +75,14 @@ impl<R: Runner, S: Shelf, T: Storage> Server<R, S, T> {
         turn: u64,
         answered: Answered,
     ) -> Result<Reply, ServeFault>
-        requires ready { let view = view_of R.pairs S.counts T.holds T.leaves T.tally in IsReady (view self.old []) }
+        requires ready { let view = view_of R.pairs S.calls T.holds T.leaves T.tally in IsReady (view self.old []) }
         requires same { string_bytes names.1 ≡ string_bytes names.0 }
         requires wants { (ask : Ask)
             × Wants (core_data self.old.core) (string_bytes names.0) number (Some (turn, ask)) }
-        ensures gives { let view = view_of R.pairs S.counts T.holds T.leaves T.tally in
+        ensures gives { let view = view_of R.pairs S.calls T.holds T.leaves T.tally in
             IfOk result (λ reply. Gives (string_bytes names.0) number turn (answer_data answered) reply
             (view self.old []) (view self.new [])) }
-        ensures unmade { let view = view_of R.pairs S.counts T.holds T.leaves T.tally in
+        ensures unmade { let view = view_of R.pairs S.calls T.holds T.leaves T.tally in
             IfErr result (λ fault. Unmade fault (view self.old []) (view self.new [])) }
         ensures places { self.new.places ≡ self.old.places }
     {
@@ -102,25 +103,28 @@ impl<R: Runner, S: Shelf, T: Storage> Server<R, S, T> {
         names: (String, String),
         out: &mut O,
     ) -> Result<(), ServeFault>
-        requires ready { let view = view_of R.pairs S.counts T.holds T.leaves T.tally in
+        requires ready { let view = view_of R.pairs S.calls T.holds T.leaves T.tally in
             IsReady (view self.old (O.written out.old)) }
         requires due { IsDue (core_data self.old.core) self.old.last (Some due) }
         requires one { string_bytes names.0 ≡ string_bytes due.job }
         requires other { string_bytes names.1 ≡ string_bytes due.job }
         requires room { length (string_bytes due.job) + 64 ≤ O.room out.old }
-        ensures served { let view = view_of R.pairs S.counts T.holds T.leaves T.tally in
-            (before : ShelfCounts) → AbortIsAsked false before (S.counts self.old.shelf)
+        ensures served { let view = view_of R.pairs S.calls T.holds T.leaves T.tally in
+            (before : List CallData)
+            → AbortIsAsked (abort_folder (places_data self.old.places) (string_bytes due.job) due.number) false
+            before (S.calls self.old.shelf)
             → Calls (Items (Serves (places_data self.old.places)) (item.turn ∷ []))
-            (with_counts before (view self.old (O.written out.old))) (is_ok result) (view self.new (O.written out.new)) }
-        ensures kept { let view = view_of R.pairs S.counts T.holds T.leaves T.tally in
+            (with_calls before (view self.old (O.written out.old))) (is_ok result) (view self.new (O.written out.new)) }
+        ensures kept { let view = view_of R.pairs S.calls T.holds T.leaves T.tally in
             OnOk result (IsReady (view self.new (O.written out.new))) }
-        ensures stops { let view = view_of R.pairs S.counts T.holds T.leaves T.tally in
+        ensures stops { let view = view_of R.pairs S.calls T.holds T.leaves T.tally in
             IfErr result (λ fault. StopsItem fault (view self.new (O.written out.new))) }
-        ensures once { let view = view_of R.pairs S.counts T.holds T.leaves T.tally in
+        ensures once { let view = view_of R.pairs S.calls T.holds T.leaves T.tally in
             IfOk result (λ _. CommitsOnce (Ok true) (view self.old []) (view self.new [])) }
-        ensures at_most { let view = view_of R.pairs S.counts T.holds T.leaves T.tally in
+        ensures at_most { let view = view_of R.pairs S.calls T.holds T.leaves T.tally in
             IfErr result (λ fault. CommitsOnce (Err fault) (view self.old []) (view self.new [])) }
         ensures places { self.new.places ≡ self.old.places }
+        ensures waiting { O.waiting out.old ≡ [] → O.waiting out.new ≡ [] }
     {
         let job = due.job.as_str();
         let Ok((turn, answered)) = answer_wanted(
@@ -154,21 +158,22 @@ impl<R: Runner, S: Shelf, T: Storage> Server<R, S, T> {
 
     /// Serves the build whose turn it is: aborts it where that is asked, and else answers what it asks.
     fn serve_build<O: Lines>(&mut self, due: Due, out: &mut O) -> Result<(), ServeFault>
-        requires ready { let view = view_of R.pairs S.counts T.holds T.leaves T.tally in
+        requires ready { let view = view_of R.pairs S.calls T.holds T.leaves T.tally in
             IsReady (view self.old (O.written out.old)) }
         requires due { IsDue (core_data self.old.core) self.old.last (Some due) }
-        ensures served { let view = view_of R.pairs S.counts T.holds T.leaves T.tally in
+        ensures served { let view = view_of R.pairs S.calls T.holds T.leaves T.tally in
             Calls (Items (Serves (places_data self.old.places)) (item.turn ∷ []))
             (view self.old (O.written out.old)) (is_ok result) (view self.new (O.written out.new)) }
-        ensures kept { let view = view_of R.pairs S.counts T.holds T.leaves T.tally in
+        ensures kept { let view = view_of R.pairs S.calls T.holds T.leaves T.tally in
             OnOk result (IsReady (view self.new (O.written out.new))) }
-        ensures stops { let view = view_of R.pairs S.counts T.holds T.leaves T.tally in
+        ensures stops { let view = view_of R.pairs S.calls T.holds T.leaves T.tally in
             IfErr result (λ fault. StopsItem fault (view self.new (O.written out.new))) }
-        ensures once { let view = view_of R.pairs S.counts T.holds T.leaves T.tally in
+        ensures once { let view = view_of R.pairs S.calls T.holds T.leaves T.tally in
             IfOk result (λ _. CommitsOnce (Ok true) (view self.old []) (view self.new [])) }
-        ensures at_most { let view = view_of R.pairs S.counts T.holds T.leaves T.tally in
+        ensures at_most { let view = view_of R.pairs S.calls T.holds T.leaves T.tally in
             IfErr result (λ fault. CommitsOnce (Err fault) (view self.old []) (view self.new [])) }
         ensures places { self.new.places ≡ self.old.places }
+        ensures waiting { O.waiting out.old ≡ [] → O.waiting out.new ≡ [] }
     {
         let job = due.job.as_str();
         let Ok(names) = begin_turn(self.alloc, job, out) else {
@@ -195,19 +200,20 @@ impl<R: Runner, S: Shelf, T: Storage> Server<R, S, T> {
     ///   turn. What asked for an abort may be removed by then.
     /// - `Store` where the storage failed; then the server has closed.
     pub(crate) fn take_turn<O: Lines>(&mut self, out: &mut O) -> Result<bool, ServeFault>
-        requires ready { let view = view_of R.pairs S.counts T.holds T.leaves T.tally in
+        requires ready { let view = view_of R.pairs S.calls T.holds T.leaves T.tally in
             IsReady (view self.old (O.written out.old)) }
-        ensures served { let view = view_of R.pairs S.counts T.holds T.leaves T.tally in
+        ensures served { let view = view_of R.pairs S.calls T.holds T.leaves T.tally in
             Calls (Items (Serves (places_data self.old.places)) (item.turn ∷ []))
             (view self.old (O.written out.old)) (is_ok result) (view self.new (O.written out.new)) }
         ensures some { IfOk result (λ served. served ≡ is_running (core_data self.old.core)) }
-        ensures kept { let view = view_of R.pairs S.counts T.holds T.leaves T.tally in
+        ensures kept { let view = view_of R.pairs S.calls T.holds T.leaves T.tally in
             OnOk result (IsReady (view self.new (O.written out.new))) }
-        ensures stops { let view = view_of R.pairs S.counts T.holds T.leaves T.tally in
+        ensures stops { let view = view_of R.pairs S.calls T.holds T.leaves T.tally in
             IfErr result (λ fault. StopsItem fault (view self.new (O.written out.new))) }
-        ensures once { let view = view_of R.pairs S.counts T.holds T.leaves T.tally in
+        ensures once { let view = view_of R.pairs S.calls T.holds T.leaves T.tally in
             CommitsOnce result (view self.old []) (view self.new []) }
         ensures places { self.new.places ≡ self.old.places }
+        ensures waiting { O.waiting out.old ≡ [] → O.waiting out.new ≡ [] }
     {
         let due = match due_build(self.alloc, &self.core, self.last) {
             Ok(Some(due)) => due,

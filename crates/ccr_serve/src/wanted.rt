@@ -1,13 +1,11 @@
 //! What a build wants, and its answer.
 ghost use Rattle.std.specs.Prelude.{◌≡◌, IfOk, OnErr, IsSome};
 ghost use Rattle.ccr_steps.specs.Asks.{answer_data};
-ghost use Rattle.ccr_task.specs.Shelves.{Grew};
 ghost use Rattle.ccr_task.specs.Places.{places_data};
 ghost use Rattle.ccr_core.specs.Cores.{core_data};
 ghost use Rattle.ccr_core.specs.Holding.{Stands};
 ghost use Rattle.ccr_core.specs.State.{State, running_at};
-ghost use Rattle.ccr_serve.specs.Due.{AnswersWant};
-ghost use Rattle.ccr_serve.specs.Pairs.{AddsAtMostOne};
+ghost use Rattle.ccr_serve.specs.Due.{AnswersWant, BeginsWant};
 
 use crate::answer::answer_to;
 use ccr_core::Core;
@@ -18,7 +16,7 @@ use std::alloc::{AllocError, Global};
 
 /// Answers what a job's build of this number wants, which runs. Gives the turn of the answer with it.
 ///
-/// The only error is want of memory; at most one pair is then the runner's that answers nothing.
+/// The only error is want of memory; the program may have run then, and answers nothing.
 pub(crate) fn answer_wanted<R: Runner, S: Shelf>(
     alloc: Global,
     runner: &mut R,
@@ -30,9 +28,9 @@ pub(crate) fn answer_wanted<R: Runner, S: Shelf>(
 ) -> Result<(u64, Answered), AllocError>
     requires { (s : State) → Stands (core_data core.now) s → IsSome (running_at job.now number s.running) }
     ensures ok { IfOk result (λ r. AnswersWant (places_data places.now) (core_data core.now) job.now number r.0
-        (answer_data r.1) (R.pairs runner.old) (R.pairs runner.new) (S.counts shelf.old) (S.counts shelf.new)) }
-    ensures err { OnErr result (AddsAtMostOne (R.pairs runner.old) (R.pairs runner.new)) }
-    ensures grew { Grew (S.counts shelf.old) (S.counts shelf.new) }
+        (answer_data r.1) (R.pairs runner.old) (R.pairs runner.new) (S.calls shelf.old) (S.calls shelf.new)) }
+    ensures err { OnErr result (BeginsWant (places_data places.now) (core_data core.now) job.now number
+        (R.pairs runner.old) (R.pairs runner.new) (S.calls shelf.old) (S.calls shelf.new)) }
 {
     core.rules();
     let (turn, ask) = core.wants(job, number).unwrap();

@@ -33,7 +33,7 @@ by_input-order (u ∷ us) =
     IsPermutation-trans (u ∷ us) (u ∷ by_input us) (with_used u (by_input us))
     (IsPermutation-cons u us (by_input us) (by_input-order us)) (with_used-order u (by_input us))
 
-with_moved-order : (p : ℕ × ℕ) (ps : List (ℕ × ℕ)) → IsPermutation (p ∷ ps) (with_moved p ps)
+pub with_moved-order : (p : ℕ × ℕ) (ps : List (ℕ × ℕ)) → IsPermutation (p ∷ ps) (with_moved p ps)
 with_moved-order p [] = IsPermutation-refl (p ∷ [])
 with_moved-order p (q ∷ qs) =
     cond_both (is_before p q) (p ∷ q ∷ qs) (q ∷ with_moved p qs) (IsPermutation (p ∷ q ∷ qs))

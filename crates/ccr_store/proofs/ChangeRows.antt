@@ -1,6 +1,6 @@
 -- The writes of each change give the rows of the changed history.
-use Rattle.std.proofs.Common.{◌≡◌, ℕ, pos, ◌+◌, List, [], ◌∷◌, ◌++◌, map, length, true, false, not, cond, Option, Some, None, is_eq, sym, ap, ◌∙◌, subst, IsPermutation}
-use Rattle.std.proofs.lemmas.List.Sorted.{IsPermutation-refl}
+use Rattle.std.proofs.Common.{◌≡◌, ℕ, pos, ◌+◌, List, [], ◌∷◌, ◌++◌, map, length, Bool, true, false, not, cond, Option, Some, None, is_eq, refl, sym, ap, ◌∙◌, subst, IsPermutation}
+use Rattle.std.proofs.lemmas.List.Sorted.{IsPermutation-refl, IsPermutation-sym, IsPermutation-trans, IsPermutation-map, IsPermutation-append_left, IsPermutation-append_right}
 use Rattle.sqlite.specs.declared.types.Value.TheVariants.{Int}
 use Rattle.sqlite.specs.Order.{Row, value_cmp}
 use Rattle.sqlite_value.proofs.OrderLemmas.{value_cmp-Int}
@@ -9,14 +9,16 @@ use Rattle.ccr_history.specs.declared.build.Status.{Status}
 use Rattle.ccr_history.specs.Text.{Text}
 use Rattle.ccr_history.specs.TextMap.{TextMap}
 use Rattle.ccr_history.specs.Tables.{ScopeData, versions_of}
-use Rattle.ccr_history.specs.Builds.{UsedData, BuildData, new_build, count_of}
+use Rattle.ccr_history.specs.Builds.{UsedData, BuildData, new_build, count_of, with_build, with_end, with_moved}
+use Rattle.ccr_history.specs.Pairs.{has_pair, without_pair}
 use Rattle.ccr_history.specs.History.{HistoryData, IsHistory, IsBuild}
-use Rattle.ccr_history.specs.Changes.{EditData, text, versions, build, ended, pin_set, pin_cleared, edited, changed, Takes, TakesAll, IsRunning}
+use Rattle.ccr_history.specs.Changes.{EditData, text, versions, build, ended, pin_set, pin_cleared, disabled, enabled, edited, changed, Takes, TakesAll, IsRunning}
 use Rattle.ccr_history.proofs.ChangeLaws.{kept}
 use Rattle.sqlite.specs.Tree.{Trees}
 use Rattle.ccr_tables.specs.Contents.{Contents, Keeps}
 use Rattle.ccr_tables.specs.Written.{without}
-use Rattle.ccr_store.specs.Rows.{format_row, text_row, meta_rows, scope_row, scope_rows, version_rows, build_row, build_rows, used_row, moved_row, pair_rows, rows_of, status_number}
+use Rattle.ccr_store.specs.Rows.{format_row, text_row, meta_rows, scope_row, scope_rows, version_rows, build_row, build_rows, used_row, moved_row, disabled_rows, pair_rows, rows_of, status_number}
+use Rattle.ccr_store.specs.declared.format.Format.TheVariants.{Two}
 use Rattle.ccr_store.specs.WriteData.{WriteData, made, all_made}
 use Rattle.ccr_store.specs.WriteData as write
 use Rattle.ccr_store.specs.Writes.{version_writes}
@@ -24,9 +26,10 @@ use Rattle.ccr_store.proofs.HistoryWrites.{has_scope, scope_id, new_versions, sc
 use Rattle.ccr_store.specs.Reordered.{HasSameRows}
 use Rattle.ccr_store.proofs.SameRows.{swapped, same_rows, then_rows, all_made-alike, all_made-append, keeps_same}
 use Rattle.ccr_store.proofs.ReportRows.{report_versions, report_scopes, scope_made, versions_made}
-use Rattle.ccr_store.proofs.BuildRows.{new_build_rows, new_pair_rows, pairs_made}
+use Rattle.ccr_store.proofs.BuildRows.{with_moved-order, new_build_rows, new_pair_rows, pairs_made}
 use Rattle.ccr_store.proofs.EndRows.{numbered_once, ended_build_rows, ended_pair_rows, found_keeps, HasUnmoved}
 use Rattle.ccr_store.proofs.PinRows.{without_rows, set_rows}
+use Rattle.ccr_store.proofs.EnabledRows.{without_rows_of, without_none}
 
 -- ---- the text
 one_is_no_two : is_eq (value_cmp (Int (pos 1)) (Int (pos 2))) ≡ false
@@ -35,15 +38,15 @@ one_is_no_two = ap is_eq (value_cmp-Int (pos 1) (pos 2))
 two_is_two : is_eq (value_cmp (Int (pos 2)) (Int (pos 2))) ≡ true
 two_is_two = ap is_eq (value_cmp-Int (pos 2) (pos 2))
 
-format_alone : (old : Option Text) → without (Int (pos 2)) (meta_rows old) ≡ format_row ∷ []
-format_alone None = ap (λ b. cond (not b) (format_row ∷ []) []) one_is_no_two
+format_alone : (old : Option Text) → without (Int (pos 2)) (meta_rows Two old) ≡ format_row Two ∷ []
+format_alone None = ap (λ b. cond (not b) (format_row Two ∷ []) []) one_is_no_two
 format_alone (Some t) =
-    ap (λ b. cond (not b) (format_row ∷ without (Int (pos 2)) (text_row t ∷ [])) (without (Int (pos 2)) (text_row t ∷ []))) one_is_no_two
-    ∙ ap (λ b. format_row ∷ cond (not b) (text_row t ∷ []) []) two_is_two
+    ap (λ b. cond (not b) (format_row Two ∷ without (Int (pos 2)) (text_row t ∷ [])) (without (Int (pos 2)) (text_row t ∷ []))) one_is_no_two
+    ∙ ap (λ b. format_row Two ∷ cond (not b) (text_row t ∷ []) []) two_is_two
 
 text_law : (t : Text) (h : HistoryData) → HasSameRows (rows_of (edited (text t) h)) (all_made (writes_of (text t) h) (rows_of h))
 text_law t h = record {
-  meta = subst (λ rows. IsPermutation (format_row ∷ text_row t ∷ []) (text_row t ∷ rows)) (sym (format_alone h.text)) (swapped (format_row ∷ []) (text_row t ∷ []) []);
+  meta = subst (λ rows. IsPermutation (format_row Two ∷ text_row t ∷ []) (text_row t ∷ rows)) (sym (format_alone h.text)) (swapped (format_row Two ∷ []) (text_row t ∷ []) []);
   scopes = IsPermutation-refl _;
   versions = IsPermutation-refl _;
   builds = IsPermutation-refl _;
@@ -77,18 +80,23 @@ report_law s v vs h =
     (all_made-alike more with_scope first (scope_made (has_scope s h.tables) id s (rows_of h)))))
 
 -- ---- builds
+-- rows that are new behind others are new before them
+behind : (front rows new old : List Row) → IsPermutation rows (new ++ old) → IsPermutation (front ++ rows) (new ++ (front ++ old))
+behind front rows new old same =
+    IsPermutation-trans (front ++ rows) (front ++ (new ++ old)) (new ++ (front ++ old)) (IsPermutation-append_right front rows (new ++ old) same) (swapped front new old)
+
 build_law : (job : Text) (used : List UsedData) (h : HistoryData) → HasSameRows (rows_of (edited (build job used) h)) (all_made (build_writes job used h.builds) (rows_of h))
 build_law job used h =
     let id : ℕ = length h.builds + 1 in
     let new : BuildData = new_build job (count_of job h.builds + 1) used in
     let first : Contents = record (rows_of h) { builds = build_row id new ∷ build_rows 1 h.builds } in
-    then_rows (rows_of (edited (build job used) h)) (record first { pairs = map (used_row id) used ++ pair_rows 1 h.builds }) (all_made (build_writes job used h.builds) (rows_of h))
+    then_rows (rows_of (edited (build job used) h)) (record first { pairs = map (used_row id) used ++ (rows_of h).pairs }) (all_made (build_writes job used h.builds) (rows_of h))
     (record {
       meta = IsPermutation-refl _;
       scopes = IsPermutation-refl _;
       versions = IsPermutation-refl _;
       builds = new_build_rows job used h.builds;
-      pairs = new_pair_rows job used h.builds;
+      pairs = behind (disabled_rows h.disabled) (pair_rows 1 (with_build job used h.builds)) (map (used_row id) used) (pair_rows 1 h.builds) (new_pair_rows job used h.builds);
       pins = IsPermutation-refl _;
     })
     (pairs_made id (λ (u : UsedData). u.input) (λ u. u.scope) (λ u. u.place) used first)
@@ -101,13 +109,13 @@ end_law job number how moved h rules running =
     let its = found_keeps (IsBuild h.tables) job number h.builds running.0 rules.1.2 running.1 in
     let unmoved : HasUnmoved job number h.builds = (running.0, running.1, its.4 running.2) in
     let first : Contents = made (write.status id (status_number how)) (rows_of h) in
-    then_rows (rows_of (edited (ended job number how moved) h)) (record first { pairs = map (moved_row id) moved ++ pair_rows 1 h.builds }) (all_made (writes_of (ended job number how moved) h) (rows_of h))
+    then_rows (rows_of (edited (ended job number how moved) h)) (record first { pairs = map (moved_row id) moved ++ (rows_of h).pairs }) (all_made (writes_of (ended job number how moved) h) (rows_of h))
     (record {
       meta = IsPermutation-refl _;
       scopes = IsPermutation-refl _;
       versions = IsPermutation-refl _;
       builds = IsPermutation-same _ _ (ended_build_rows job number how moved 1 h.builds once);
-      pairs = ended_pair_rows job number how moved 1 h.builds once unmoved;
+      pairs = behind (disabled_rows h.disabled) (pair_rows 1 (with_end job number how moved h.builds)) (map (moved_row id) moved) (pair_rows 1 h.builds) (ended_pair_rows job number how moved 1 h.builds once unmoved);
       pins = IsPermutation-refl _;
     })
     (pairs_made id (λ (p : ℕ × ℕ). []) (λ p. p.0) (λ p. p.1) moved first)
@@ -133,6 +141,38 @@ clear_law resource h = record {
   pins = IsPermutation-same _ _ (sym (without_rows resource h.pins));
 }
 
+-- ---- disabled places
+disable_law : (scope place : ℕ) (h : HistoryData) → HasSameRows (rows_of (edited (disabled scope place) h)) (all_made (writes_of (disabled scope place) h) (rows_of h))
+disable_law scope place h = by (has_pair (scope, place) h.disabled)
+  where
+    by : (t : Bool)
+        → HasSameRows (rows_of (record h { disabled = cond t h.disabled (with_moved (scope, place) h.disabled) })) (all_made (cond t [] (write.pair 0 [] scope place ∷ [])) (rows_of h))
+    by true = same_rows (rows_of h)
+    by false = record {
+      meta = IsPermutation-refl _;
+      scopes = IsPermutation-refl _;
+      versions = IsPermutation-refl _;
+      builds = IsPermutation-refl _;
+      pairs = IsPermutation-append_left (pair_rows 1 h.builds) (disabled_rows (with_moved (scope, place) h.disabled)) (moved_row 0 (scope, place) ∷ disabled_rows h.disabled)
+          (IsPermutation-map (moved_row 0) (with_moved (scope, place) h.disabled) ((scope, place) ∷ h.disabled) (IsPermutation-sym ((scope, place) ∷ h.disabled) (with_moved (scope, place) h.disabled) (with_moved-order (scope, place) h.disabled)));
+      pins = IsPermutation-refl _;
+    }
+
+enable_law : (scope place : ℕ) (h : HistoryData) → HasSameRows (rows_of (edited (enabled scope place) h)) (all_made (writes_of (enabled scope place) h) (rows_of h))
+enable_law scope place h = by (has_pair (scope, place) h.disabled) refl
+  where
+    by : (t : Bool) → has_pair (scope, place) h.disabled ≡ t
+        → HasSameRows (rows_of (record h { disabled = without_pair (scope, place) h.disabled })) (all_made (cond t (write.no_pair 0 [] scope place ∷ []) []) (rows_of h))
+    by true there = record {
+      meta = IsPermutation-refl _;
+      scopes = IsPermutation-refl _;
+      versions = IsPermutation-refl _;
+      builds = IsPermutation-refl _;
+      pairs = IsPermutation-same _ _ (sym (without_rows_of scope place h.disabled h.builds));
+      pins = IsPermutation-refl _;
+    }
+    by false none = subst (λ (ps : List (ℕ × ℕ)). HasSameRows (rows_of (record h { disabled = ps })) (rows_of h)) (sym (without_none (scope, place) h.disabled none)) (same_rows (rows_of h))
+
 -- ---- each change, and many
 pub change_rows : (e : EditData) (h : HistoryData) → IsHistory h → Takes h e → HasSameRows (rows_of (edited e h)) (all_made (writes_of e h) (rows_of h))
 change_rows (text t) h rules takes = text_law t h
@@ -142,6 +182,8 @@ change_rows (build job used) h rules takes = build_law job used h
 change_rows (ended job number how moved) h rules takes = end_law job number how moved h rules takes.0
 change_rows (pin_set resource pin) h rules takes = pin_law resource pin h rules
 change_rows (pin_cleared resource) h rules takes = clear_law resource h
+change_rows (disabled scope place) h rules takes = disable_law scope place h
+change_rows (enabled scope place) h rules takes = enable_law scope place h
 
 pub changes_rows : (es : List EditData) (h : HistoryData) → IsHistory h → TakesAll h es → HasSameRows (rows_of (changed es h)) (all_made (all_writes_of es h) (rows_of h))
 changes_rows [] h rules takes = same_rows (rows_of h)

@@ -15,6 +15,7 @@ use Rattle.ccr_history.specs.Builds.{BuildData, is_build_of, build_of}
 use Rattle.ccr_history.specs.Changes.{versions, edited, changed, Takes}
 use Rattle.ccr_history.specs.Edits.{edit_data, change_data, row_of, AreNew, HasItsNumbers, Accepts}
 use Rattle.ccr_history.specs.History.{HistoryData, IsHistory}
+use Rattle.ccr_history.specs.Pairs.{has_pair}
 use Rattle.sqlite.specs.Tree.{Trees}
 use Rattle.ccr_tables.specs.Contents.{Keeps}
 use Rattle.ccr_history.specs.Keys.{scope_equiv}
@@ -74,6 +75,12 @@ turned xs true false e = refl
 turned xs false true e = refl
 turned xs false false e = absurd (cc)
 
+flipped : (xs : List WriteData) (b k : Bool) → b ≡ not k → cond b xs [] ≡ cond k [] xs
+flipped xs true true e = absurd (cc)
+flipped xs true false e = refl
+flipped xs false true e = refl
+flipped xs false false e = absurd (cc)
+
 -- versions that are all new are the new ones
 only_new : (known vs : List TextMap) → AreNew known vs → new_versions known vs ≡ vs
 only_new known vs new = append_cancel_left known (new_versions known vs) vs (sym (new_versions-are known vs) ∙ new)
@@ -122,6 +129,8 @@ edit_same (edit.Ended e) h takes numbers =
     ap (λ (id : ℕ). write.status id (status_number e.status) ∷ map (moved_write id) e.moved.items) (numbers ∙ row_is (string_bytes e.job) e.number h.builds takes.0.0 takes.0.1)
 edit_same (edit.PinSet resource pin) h takes numbers = refl
 edit_same (edit.PinCleared resource) h takes numbers = refl
+edit_same (edit.Disabled s) h takes numbers = flipped (write.pair 0 [] s.scope s.place ∷ []) s.is_changed (has_pair (s.scope, s.place) h.disabled) numbers
+edit_same (edit.Enabled s) h takes numbers = ap (λ (b : Bool). cond b (write.no_pair 0 [] s.scope s.place ∷ []) []) numbers
 
 pub change_same : (es : List Edit) (h : HistoryData) → Accepts h es → change_writes es ≡ all_writes_of (change_data es) h
 change_same [] h accepts = refl
@@ -155,6 +164,8 @@ has_places (edit.Build b) h takes numbers = tt
 has_places (edit.Ended e) h takes numbers = tt
 has_places (edit.PinSet resource pin) h takes numbers = tt
 has_places (edit.PinCleared resource) h takes numbers = tt
+has_places (edit.Disabled s) h takes numbers = tt
+has_places (edit.Enabled s) h takes numbers = tt
 
 pub all_have_places : (es : List Edit) (h : HistoryData) → Accepts h es → AllByRecursion HasPlaces es
 all_have_places [] h accepts = tt

@@ -6,7 +6,8 @@ use Rattle.ccr_history.specs.TextMap.{TextMap, key_text}
 use Rattle.ccr_history.specs.Tables.{ScopeData, TableData, is_scope, has_version, versions_of}
 use Rattle.ccr_history.specs.Builds.{UsedData, BuildData, is_build_of, count_of}
 use Rattle.ccr_history.specs.History.{HistoryData}
-use Rattle.ccr_history.specs.Changes.{EditData, text, versions, build, ended, pin_set, pin_cleared, edited}
+use Rattle.ccr_history.specs.Pairs.{has_pair}
+use Rattle.ccr_history.specs.Changes.{EditData, text, versions, build, ended, pin_set, pin_cleared, disabled, enabled, edited}
 use Rattle.ccr_store.specs.Rows.{status_number}
 use Rattle.ccr_store.specs.WriteData.{WriteData}
 use Rattle.ccr_store.specs.WriteData as write
@@ -63,6 +64,8 @@ writes_of (ended job number how moved) h =
     ∷ map (moved_write (build_id 1 job number h.builds)) moved
 writes_of (pin_set resource pin) h = write.pin resource (key_text pin) ∷ []
 writes_of (pin_cleared resource) h = write.no_pin resource ∷ []
+writes_of (disabled scope place) h = if has_pair (scope, place) h.disabled then [] else write.pair 0 [] scope place ∷ []
+writes_of (enabled scope place) h = if has_pair (scope, place) h.disabled then write.no_pair 0 [] scope place ∷ [] else []
 
 -- what changes write, the first of them first
 abbrev pub all_writes_of : List EditData → HistoryData → List WriteData

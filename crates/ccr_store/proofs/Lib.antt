@@ -18,3 +18,7 @@ pub mod ReadBuilds
 pub mod ShownRows
 pub mod Nothing
 mod ReadFaults
+pub mod EnabledRows
+pub mod ReadDisabled
+pub mod RaisedRows
+pub mod Taking

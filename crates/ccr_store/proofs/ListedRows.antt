@@ -16,9 +16,10 @@ use Rattle.ccr_tables.specs.Listing.{IsListed}
 use Rattle.ccr_tables.specs.Found.{AreFound}
 use Rattle.ccr_tables.specs.Shown.{Shows, ShowsOfKind, ShowsOther}
 use Rattle.sqlite.specs.Effect.{Database}
-use Rattle.ccr_store.specs.Listed.{AreSeen, AreBuilt, HasOther, listed_pairs, ListsSeen, ListsBuilt, KeepsSeen}
+use Rattle.ccr_store.specs.Listed.{AreSeen, AreBuilt, HasOther, listed_pairs, history_pairs, ListsSeen, ListsBuilt, KeepsSeen}
 use Rattle.ccr_store.specs.Reordered.{HasSameRows}
-use Rattle.ccr_store.specs.Rows.{meta_rows, scope_rows, version_rows, table_rows, used_row, moved_row, pair_rows, rows_of}
+use Rattle.ccr_store.specs.declared.format.Format.{Format}
+use Rattle.ccr_store.specs.Rows.{meta_rows, scope_rows, version_rows, table_rows, used_row, moved_row, disabled_rows, pair_rows, rows_in}
 
 -- ---- the columns of a row
 pub two : (r : Row) (a b : Value) → length r ≡ 2 → column r 0 ≡ a → column r 1 ≡ b → r ≡ a ∷ b ∷ []
@@ -108,19 +109,23 @@ pairs_listed id (b ∷ bs) =
     IsPermutation-append (map (used_row id) b.used ++ map (moved_row id) b.moved) (map (moved_row id) b.moved ++ map (used_row id) b.used) (pair_rows (id + 1) bs) (listed_pairs (id + 1) bs)
     (IsPermutation-append_comm (map (used_row id) b.used) (map (moved_row id) b.moved)) (pairs_listed (id + 1) bs)
 
+pub all_pairs_listed : (h : HistoryData) → IsPermutation (disabled_rows h.disabled ++ pair_rows 1 h.builds) (history_pairs h)
+all_pairs_listed h =
+    IsPermutation-append (disabled_rows h.disabled) (disabled_rows h.disabled) (pair_rows 1 h.builds) (listed_pairs 1 h.builds) (IsPermutation-refl (disabled_rows h.disabled)) (pairs_listed 1 h.builds)
+
 -- the rows that the SELECTs show are those of the history
 found : (xs these rows : List Row) (width : ℕ) → xs ≡ rows → IsListed width these rows → IsPermutation xs these
 found xs these rows width same shown = IsPermutation-trans xs rows these (IsPermutation-same xs rows same) (IsPermutation-sym these rows shown.same)
 
-pub loaded : (old h : HistoryData) (these : Contents) (meta scopes versions builds pairs pins : List Row) → KeepsSeen old h → ListsSeen old meta scopes versions → ListsBuilt h builds pairs pins
-    → AreSeen these meta scopes versions → AreBuilt these builds pairs pins → HasSameRows (rows_of h) these
-loaded old h these meta scopes versions builds pairs pins kept first second seen built = record {
-  meta = found (rows_of h).meta these.meta meta 1 (ap meta_rows kept.1 ∙ sym first.set) seen.set;
-  scopes = found (rows_of h).scopes these.scopes scopes 1 (ap (scope_rows 1) kept.0 ∙ sym first.named) seen.named;
-  versions = found (rows_of h).versions these.versions versions 2 (ap (table_rows 1) kept.0 ∙ sym first.reported) seen.reported;
-  builds = found (rows_of h).builds these.builds builds 1 (sym second.made) built.made;
-  pairs = IsPermutation-trans (rows_of h).pairs (listed_pairs 1 h.builds) these.pairs (pairs_listed 1 h.builds) (found (listed_pairs 1 h.builds) these.pairs pairs 4 (sym second.given) built.given);
-  pins = found (rows_of h).pins these.pins pins 1 (sym second.held) built.held;
+pub loaded : (f : Format) (old h : HistoryData) (these : Contents) (meta scopes versions builds pairs pins : List Row) → KeepsSeen old h → ListsSeen f old meta scopes versions → ListsBuilt h builds pairs pins
+    → AreSeen these meta scopes versions → AreBuilt these builds pairs pins → HasSameRows (rows_in f h) these
+loaded f old h these meta scopes versions builds pairs pins kept first second seen built = record {
+  meta = found (rows_in f h).meta these.meta meta 1 (ap (meta_rows f) kept.1 ∙ sym first.set) seen.set;
+  scopes = found (rows_in f h).scopes these.scopes scopes 1 (ap (scope_rows 1) kept.0 ∙ sym first.named) seen.named;
+  versions = found (rows_in f h).versions these.versions versions 2 (ap (table_rows 1) kept.0 ∙ sym first.reported) seen.reported;
+  builds = found (rows_in f h).builds these.builds builds 1 (sym second.made) built.made;
+  pairs = IsPermutation-trans (rows_in f h).pairs (history_pairs h) these.pairs (all_pairs_listed h) (found (history_pairs h) these.pairs pairs 4 (sym second.given) built.given);
+  pins = found (rows_in f h).pins these.pins pins 1 (sym second.held) built.held;
 }
 
 -- what is found of a kind is the rows of the table in the order of their key

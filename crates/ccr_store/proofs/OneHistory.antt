@@ -19,16 +19,17 @@ use Rattle.std.specs.List.Sorted.{IsStrictlySortedBy}
 use Rattle.std.proofs.lemmas.List.Elements.{recursion_from_All}
 use Rattle.ccr_history.specs.Tables.{ScopeData, TableData}
 use Rattle.ccr_history.specs.Builds.{UsedData, BuildData, is_before}
-use Rattle.ccr_history.specs.History.{HistoryData, IsHistory, IsUsed, IsBuild}
+use Rattle.ccr_history.specs.History.{HistoryData, IsHistory, IsUsed, IsBuild, AreDisabled}
 use Rattle.ccr_history.specs.Text.{Text}
 use Rattle.ccr_history.specs.declared.build.Status.{Status}
 use Rattle.ccr_history.specs.declared.build.Status.TheVariants.{Running, Succeeded, Failed, Errored, Aborted}
 use Rattle.ccr_history.proofs.Lists.{pairs_head, pairs_tail}
-use Rattle.ccr_store.specs.Listed.{listed_pairs}
+use Rattle.ccr_store.specs.Listed.{listed_pairs, history_pairs}
 use Rattle.ccr_history.specs.TextMap.{TextMap, key_text}
-use Rattle.ccr_store.specs.Rows.{scope_row, scope_rows, version_row, version_rows, table_rows, build_row, build_rows, used_row, moved_row, pair_rows, pin_row, meta_rows, status_number, rows_of}
+use Rattle.ccr_store.specs.Rows.{scope_row, scope_rows, version_row, version_rows, table_rows, build_row, build_rows, used_row, moved_row, disabled_rows, pin_row, meta_rows, status_number, rows_of}
 use Rattle.ccr_store.specs.Reordered.{HasSameRows}
-use Rattle.ccr_store.proofs.ListedRows.{pairs_listed}
+use Rattle.ccr_store.specs.declared.format.Format.TheVariants.{Two}
+use Rattle.ccr_store.proofs.ListedRows.{all_pairs_listed}
 use Rattle.std.proofs.lemmas.List.Sorted.{IsPermutation-sym, IsPermutation-trans}
 use Rattle.sqlite_keyed.proofs.ListLemmas.{map_back}
 use Rattle.ccr_store.proofs.OneMap.{one_map}
@@ -182,7 +183,7 @@ builds_up id [] = tt
 builds_up id (b ∷ bs) = (below_all id (build_row id b) (build_rows (id + 1) bs) (_, refl) (builds_from (id + 1) bs), builds_up (id + 1) bs)
 
 -- ---- pairs
-from_pairs : {X : Type 0} (R : X → X → Type 0) (xs : List X) → AllPairs R xs → IsAscending R xs
+pub from_pairs : {X : Type 0} (R : X → X → Type 0) (xs : List X) → AllPairs R xs → IsAscending R xs
 from_pairs R [] h = tt
 from_pairs R (x ∷ xs) h = (recursion_from_All (R x) xs (pairs_head R x xs h), from_pairs R xs (pairs_tail R x xs h))
 
@@ -250,6 +251,19 @@ pairs_up id tables [] h = tt
 pairs_up id tables (b ∷ bs) h =
     ascending-append Below (own id b) (listed_pairs (id + 1) bs) (own_up id tables b h.0) (pairs_up (id + 1) tables bs h.1)
     (across id (own id b) (listed_pairs (id + 1) bs) (own_at id b) (pairs_from (id + 1) bs))
+
+-- ---- disabled places
+pub disabled_at : (ps : List (ℕ × ℕ)) → AllByRecursion (At 0) (disabled_rows ps)
+disabled_at ps = all-map (At 0) (moved_row 0) ps (all_of (λ p. At 0 (moved_row 0 p)) (λ p. (_, refl)) ps)
+
+disabled_up : (ts : List TableData) (ps : List (ℕ × ℕ)) → AreDisabled ts ps → IsAscending Below (disabled_rows ps)
+disabled_up ts ps rules =
+    ascending-map Below (moved_row 0) ps (ascending_weaker (λ p q. IsTrue (is_before p q)) (λ p q. Below (moved_row 0 p) (moved_row 0 q)) (moved_below 0) ps (from_pairs (λ p q. IsTrue (is_before p q)) ps rules.0))
+
+pub all_pairs_up : (h : HistoryData) → IsHistory h → IsAscending Below (history_pairs h)
+all_pairs_up h rules =
+    ascending-append Below (disabled_rows h.disabled) (listed_pairs 1 h.builds) (disabled_up h.tables h.disabled rules.3) (pairs_up 1 h.tables h.builds rules.1.2)
+    (across 0 (disabled_rows h.disabled) (listed_pairs 1 h.builds) (disabled_at h.disabled) (pairs_from 1 h.builds))
 
 -- ---- which builds they are
 abbrev second : Row → List ℕ
@@ -342,23 +356,23 @@ one_pins (p ∷ ps) (q ∷ qs) e =
     ap₂ (λ (x : Text × TextMap) (xs : List (Text × TextMap)). x ∷ xs) (ap₂ (λ (n : Text) (m : TextMap). (n, m)) name body) (one_pins ps qs (ap (drop 1) e))
 
 -- ---- the text
-meta_up : (t : Option Text) → IsAscending Below (meta_rows t)
+meta_up : (t : Option Text) → IsAscending Below (meta_rows Two t)
 meta_up None = (tt, tt)
-meta_up (Some t) = ((number_below 1 2 (Blob (49 ∷ []) ∷ []) (Blob t ∷ []) (omega arith), tt), (tt, tt))
+meta_up (Some t) = ((number_below 1 2 (Blob (50 ∷ []) ∷ []) (Blob t ∷ []) (omega arith), tt), (tt, tt))
 
 abbrev text_in : Row → List ℕ
 text_in (a ∷ Blob t ∷ r) = t
 text_in _ = []
 
-one_text : (t u : Option Text) → meta_rows t ≡ meta_rows u → t ≡ u
+one_text : (t u : Option Text) → meta_rows Two t ≡ meta_rows Two u → t ≡ u
 one_text None None e = refl
 one_text None (Some u) e = absurd (omega (arith, ap length e))
 one_text (Some t) None e = absurd (omega (arith, ap length e))
 one_text (Some t) (Some u) e = ap Some (ap (λ rs. text_in (get_or rs 1 [])) e)
 
 -- ---- the history
-abbrev made_of : List TableData → List BuildData → List (Text × TextMap) → Option Text → HistoryData
-made_of tables builds pins text = record { tables = tables; builds = builds; pins = pins; text = text }
+abbrev made_of : List TableData → List BuildData → List (Text × TextMap) → List (ℕ × ℕ) → Option Text → HistoryData
+made_of tables builds pins disabled text = record { tables = tables; builds = builds; pins = pins; disabled = disabled; text = text }
 
 -- two histories with the same rows are one
 pub one_history : (h k : HistoryData) → IsHistory h → IsHistory k → HasSameRows (rows_of h) (rows_of k) → h ≡ k
@@ -366,11 +380,14 @@ one_history h k its those same =
     let scopes = sym (one_order (scope_rows 1 h.tables) (scope_rows 1 k.tables) (scopes_up 1 h.tables) (scopes_up 1 k.tables) same.scopes) in
     let versions = sym (one_order (table_rows 1 h.tables) (table_rows 1 k.tables) (tables_up 1 h.tables) (tables_up 1 k.tables) same.versions) in
     let builds = sym (one_order (build_rows 1 h.builds) (build_rows 1 k.builds) (builds_up 1 h.builds) (builds_up 1 k.builds) same.builds) in
-    let reordered : IsPermutation (listed_pairs 1 h.builds) (listed_pairs 1 k.builds) =
-    IsPermutation-trans (listed_pairs 1 h.builds) (pair_rows 1 h.builds) (listed_pairs 1 k.builds) (IsPermutation-sym (pair_rows 1 h.builds) (listed_pairs 1 h.builds) (pairs_listed 1 h.builds))
-    (IsPermutation-trans (pair_rows 1 h.builds) (pair_rows 1 k.builds) (listed_pairs 1 k.builds) same.pairs (pairs_listed 1 k.builds)) in
-    let pairs = sym (one_order (listed_pairs 1 h.builds) (listed_pairs 1 k.builds) (pairs_up 1 h.tables h.builds its.1.2) (pairs_up 1 k.tables k.builds those.1.2) reordered) in
+    let reordered : IsPermutation (history_pairs h) (history_pairs k) =
+    IsPermutation-trans (history_pairs h) (rows_of h).pairs (history_pairs k) (IsPermutation-sym (rows_of h).pairs (history_pairs h) (all_pairs_listed h))
+    (IsPermutation-trans (rows_of h).pairs (rows_of k).pairs (history_pairs k) same.pairs (all_pairs_listed k)) in
+    let pairs = sym (one_order (history_pairs h) (history_pairs k) (all_pairs_up h its) (all_pairs_up k those) reordered) in
+    let parts = split_by (At 0) (From 1) (no_both 0) (disabled_rows h.disabled) (disabled_rows k.disabled) (listed_pairs 1 h.builds) (listed_pairs 1 k.builds) (disabled_at h.disabled) (disabled_at k.disabled) (pairs_from 1 h.builds) (pairs_from 1 k.builds) pairs in
+    let disabled : h.disabled ≡ k.disabled = sym (map_back (moved_row 0) moved_in (λ w. refl) h.disabled) ∙ ap (map moved_in) parts.0 ∙ map_back (moved_row 0) moved_in (λ w. refl) k.disabled in
     let pins = sym (one_order (map pin_row h.pins) (map pin_row k.pins) (pins_up h.pins its.2.0) (pins_up k.pins those.2.0) same.pins) in
-    let meta = sym (one_order (meta_rows h.text) (meta_rows k.text) (meta_up h.text) (meta_up k.text) same.meta) in
-    ap₂ (λ t b. made_of t b h.pins h.text) (one_tables 1 h.tables k.tables scopes versions) (one_builds 1 h.tables k.tables h.builds k.builds its.1.2 those.1.2 builds pairs)
-    ∙ ap₂ (λ p t. made_of k.tables k.builds p t) (one_pins h.pins k.pins pins) (one_text h.text k.text meta)
+    let meta = sym (one_order (meta_rows Two h.text) (meta_rows Two k.text) (meta_up h.text) (meta_up k.text) same.meta) in
+    ap₂ (λ t b. made_of t b h.pins h.disabled h.text) (one_tables 1 h.tables k.tables scopes versions) (one_builds 1 h.tables k.tables h.builds k.builds its.1.2 those.1.2 builds parts.1)
+    ∙ ap₂ (λ p t. made_of k.tables k.builds p h.disabled t) (one_pins h.pins k.pins pins) (one_text h.text k.text meta)
+    ∙ ap (λ d. made_of k.tables k.builds k.pins d k.text) disabled

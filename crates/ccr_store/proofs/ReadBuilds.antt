@@ -35,7 +35,7 @@ use Rattle.ccr_history.proofs.Links.{all-at}
 use Rattle.ccr_history.proofs.Lists.{each_weaker, pairs_none, pairs_head, pairs_tail}
 use Rattle.ccr_history.proofs.Positions.{length-positions}
 use Rattle.ccr_history.proofs.Numbered.{numbered_none}
-use Rattle.ccr_store.specs.Rows.{status_number, build_row, build_rows, used_row, moved_row}
+use Rattle.ccr_store.specs.Rows.{status_number, build_row, build_rows, used_row, moved_row, disabled_rows}
 use Rattle.ccr_store.specs.Texts.{IsTextBuild}
 use Rattle.ccr_store.proofs.FrontRows.{rows_length, row_there, next_item}
 use Rattle.ccr_store.proofs.ListedRows.{drop_at}
@@ -212,6 +212,10 @@ used_pairs id (u ∷ us) low texts small = ((id, u.input, u.scope, u.place, low,
 moved_pairs : (id : ℕ) (ps : List (ℕ × ℕ)) → id < 2 ^ 32 → AllByRecursion (λ (p : ℕ × ℕ). (p.0 < 2 ^ 32) × (p.1 < 2 ^ 32)) ps → AllByRecursion IsPair (map (moved_row id) ps)
 moved_pairs id [] low small = tt
 moved_pairs id (p ∷ ps) low small = ((id, [], p.0, p.1, low, search rules, small.0.0, small.0.1, refl), moved_pairs id ps low small.1)
+
+pub disabled_are : (ts : List TableData) (ps : List (ℕ × ℕ)) → AreTables ts → AllByRecursion (λ (p : ℕ × ℕ). IsTrue (has_place ts p.0 p.1)) ps → AllByRecursion IsPair (disabled_rows ps)
+disabled_are ts ps tables places =
+    moved_pairs 0 ps (omega arith) (each_weaker (λ (p : ℕ × ℕ). IsTrue (has_place ts p.0 p.1)) (λ p. (p.0 < 2 ^ 32) × (p.1 < 2 ^ 32)) (λ p it. few ts p.0 p.1 tables it) ps places)
 
 pub listed_pairs_are : (ts : List TableData) (id : ℕ) (bs : List BuildData) → id + length bs ≤ 2 ^ 32 → AreTables ts → AllByRecursion (IsBuild ts) bs → AllByRecursion IsTextBuild bs → AllByRecursion IsPair (listed_pairs id bs)
 listed_pairs_are ts id [] room tables rules texts = tt

@@ -17,13 +17,14 @@ use Rattle.ccr_tables.specs.Pairs.{IsPair}
 use Rattle.ccr_tables.specs.Read.{FailedToRead, meta_text, scopes_text, versions_text, builds_text, pairs_text, pins_text}
 use Rattle.ccr_tables.specs.Shown.{Shows, ShowsOther}
 use Rattle.ccr_tables.proofs.FailedReads.{failed_after}
-use Rattle.ccr_store.specs.Causes.{ComesOfRows, HasReadAnswer, IsUnloaded, IsForeign}
+use Rattle.ccr_store.specs.Causes.{ComesOfRows, IsUnloaded, IsForeign}
 use Rattle.ccr_store.specs.Faults.{read_fault_of}
-use Rattle.ccr_store.specs.Listed.{ListsSeen, ListsBuilt, KeepsSeen, listed_pairs, seen_of}
+use Rattle.ccr_store.specs.Listed.{ListsSeen, ListsBuilt, KeepsSeen, history_pairs, seen_of}
 use Rattle.ccr_store.specs.Readable.{IsReadable}
-use Rattle.ccr_store.specs.Rows.{meta_rows, scope_rows, table_rows, build_rows, pin_row}
-use Rattle.ccr_store.specs.Shown.{ShowsSeen, ShowsBuilt, ShowsHistory, ShowsNone, IsSeenOf, IsServable, NoneHasBuilds, NoneHasPairs}
+use Rattle.ccr_store.specs.Rows.{Fits, meta_rows, scope_rows, table_rows, build_rows, pin_row}
+use Rattle.ccr_store.specs.Shown.{ShowsSeen, ShowsBuilt, ShowsHistory, ShowsNone, IsSeenOf}
 use Rattle.ccr_store.specs.Texts.{HasTexts, OrNoMemory}
+use Rattle.ccr_store.specs.declared.format.Format.{Format}
 use Rattle.ccr_store.proofs.ShownRows.{all_builds, all_pairs}
 
 -- what is so of an error is so of the one that is handed on
@@ -38,40 +39,40 @@ read_after g a b e same kept (inl memory) = inl memory
 read_after g a b e same kept (inr fails) = inr (failed_after g a b e same kept fails)
 
 -- ---- the fault of a read that failed
-pub fault_of_read : {S : Type 0} (g : Ghosts S) (old : State) (e : Error) (fault : StoreFault)
-    → fault ≡ read_fault_of (cause_of e) → (cause_of e ≡ NoMemory) ⊎ FailedToRead g old e → IsUnloaded g old fault
-fault_of_read g old e fault is (inl memory) = inl (is ∙ ap read_fault_of memory)
-fault_of_read g old e fault is (inr fails) = inr (inr (record { error = e; fault_is = is; failed = fails }))
+pub fault_of_read : {S : Type 0} (g : Ghosts S) (old : State) (f : Format) (e : Error) (fault : StoreFault)
+    → fault ≡ read_fault_of (cause_of e) → (cause_of e ≡ NoMemory) ⊎ FailedToRead g old e → IsUnloaded g old f fault
+fault_of_read g old f e fault is (inl memory) = inl (is ∙ ap read_fault_of memory)
+fault_of_read g old f e fault is (inr fails) = inr (inr (record { error = e; fault_is = is; failed = fails }))
 
 pub fault_of_format : {S : Type 0} (g : Ghosts S) (old : State) (e : Error) (fault : StoreFault)
     → fault ≡ read_fault_of (cause_of e) → FailedToRead g old e → IsForeign g old fault
 fault_of_format g old e fault is fails = inr (record { error = e; fault_is = is; failed = fails })
 
 -- rows that no history has
-pub unseen : {X S : Type 0} (g : Ghosts S) (old : State) (P : HistoryData → X → Type 0) (r : Result X StoreFault) (meta scopes versions : List Row)
+pub unseen : {X S : Type 0} (g : Ghosts S) (old : State) (f : Format) (P : HistoryData → X → Type 0) (r : Result X StoreFault) (meta scopes versions : List Row)
     → ShowsSeen old.now meta scopes versions
-    → ((h : HistoryData) → IsHistory h → HasTexts h → IfSome h.text IsReadable → ListsSeen h meta scopes versions → OrNoMemory (P h) r)
-    → IfErr r ComesOfRows → IfErr r (IsUnloaded g old)
-unseen g old P (Ok x) meta scopes versions shown only comes = tt
-unseen g old P (Err of.NoMemory) meta scopes versions shown only comes = inl refl
-unseen g old P (Err of.NotOurs) meta scopes versions shown only comes =
+    → ((h : HistoryData) → IsHistory h → HasTexts h → IfSome h.text IsReadable → ListsSeen f h meta scopes versions → OrNoMemory (P h) r)
+    → IfErr r ComesOfRows → IfErr r (IsUnloaded g old f)
+unseen g old f P (Ok x) meta scopes versions shown only comes = tt
+unseen g old f P (Err of.NoMemory) meta scopes versions shown only comes = inl refl
+unseen g old f P (Err of.NotOurs) meta scopes versions shown only comes =
     inr (inl (refl, inl (meta, scopes, versions, shown, λ h it lists. absurd (let same = only h it.rules it.texts it.readable lists in cc))))
-unseen g old P (Err _) meta scopes versions shown only comes = absurd comes
+unseen g old f P (Err _) meta scopes versions shown only comes = absurd comes
 
-pub seen_shown : (db : Database) (r : Result HistoryData StoreFault) (meta scopes versions : List Row) → ShowsSeen db meta scopes versions → IfOk r (λ history. ListsSeen history meta scopes versions)
-    → ((h : HistoryData) → IsHistory h → HasTexts h → IfSome h.text IsReadable → ListsSeen h meta scopes versions → OrNoMemory (λ history. history ≡ seen_of h) r)
-    → IfOk r (IsSeenOf db)
-seen_shown db (Err e) meta scopes versions shown lists only = tt
-seen_shown db (Ok history) meta scopes versions shown lists only =
+pub seen_shown : (f : Format) (db : Database) (r : Result HistoryData StoreFault) (meta scopes versions : List Row) → ShowsSeen db meta scopes versions → IfOk r (λ history. ListsSeen f history meta scopes versions)
+    → ((h : HistoryData) → IsHistory h → HasTexts h → IfSome h.text IsReadable → ListsSeen f h meta scopes versions → OrNoMemory (λ history. history ≡ seen_of h) r)
+    → IfOk r (IsSeenOf f db)
+seen_shown f db (Err e) meta scopes versions shown lists only = tt
+seen_shown f db (Ok history) meta scopes versions shown lists only =
     (meta, scopes, versions, shown, lists, λ h it these. only h it.rules it.texts it.readable these)
 
-pub unbuilt : {X S : Type 0} (g : Ghosts S) (old : State) (history : HistoryData) (r : Result X StoreFault) (builds pairs pins : List Row)
-    → IsSeenOf old.now history → ShowsBuilt old.now builds pairs pins
-    → ((h : HistoryData) → IsHistory h → HasTexts h → history ≡ seen_of h → ListsBuilt h builds pairs pins → IfErr r (λ k. k ≡ of.NoMemory))
-    → IfErr r ComesOfRows → IfErr r (IsUnloaded g old)
-unbuilt g old history (Ok x) builds pairs pins seen shown only comes = tt
-unbuilt g old history (Err of.NoMemory) builds pairs pins seen shown only comes = inl refl
-unbuilt g old history (Err of.NotOurs) builds pairs pins seen shown only comes =
+pub unbuilt : {X S : Type 0} (g : Ghosts S) (old : State) (f : Format) (history : HistoryData) (r : Result X StoreFault) (builds pairs pins : List Row)
+    → IsSeenOf f old.now history → ShowsBuilt old.now builds pairs pins
+    → ((h : HistoryData) → IsHistory h → HasTexts h → Fits f h → history ≡ seen_of h → ListsBuilt h builds pairs pins → IfErr r (λ k. k ≡ of.NoMemory))
+    → IfErr r ComesOfRows → IfErr r (IsUnloaded g old f)
+unbuilt g old f history (Ok x) builds pairs pins seen shown only comes = tt
+unbuilt g old f history (Err of.NoMemory) builds pairs pins seen shown only comes = inl refl
+unbuilt g old f history (Err of.NotOurs) builds pairs pins seen shown only comes =
     inr (inl (
       refl,
       inr (inr (inr (
@@ -83,46 +84,46 @@ unbuilt g old history (Err of.NotOurs) builds pairs pins seen shown only comes =
         pairs,
         pins,
         shown,
-        λ h it here lists. absurd (let same = only h it.rules it.texts (seen.5 h it here) lists in cc),
+        λ h it here lists. absurd (let same = only h it.rules it.texts it.fits (seen.5 h it here) lists in cc),
       ))),
     ))
-unbuilt g old history (Err _) builds pairs pins seen shown only comes = absurd comes
+unbuilt g old f history (Err _) builds pairs pins seen shown only comes = absurd comes
 
 -- a row that isn't of its kind is no history's
-pub others_of_none : (db : Database) → ShowsOther IsBuild builds_text db ⊎ ShowsOther IsPair pairs_text db → ShowsNone db
-others_of_none db (inl other) = inr (inl (other.0, other.1, λ h it same. other.2 (subst (AllByRecursion IsBuild) (sym same) (all_builds h it.rules it.texts))))
-others_of_none db (inr other) = inr (inr (inl (other.0, other.1, λ h it same. other.2 (subst (AllByRecursion IsPair) (sym same) (all_pairs h it.rules it.texts)))))
+pub others_of_none : (f : Format) (db : Database) → ShowsOther IsBuild builds_text db ⊎ ShowsOther IsPair pairs_text db → ShowsNone f db
+others_of_none f db (inl other) = inr (inl (other.0, other.1, λ h it same. other.2 (subst (AllByRecursion IsBuild) (sym same) (all_builds h it.rules it.texts))))
+others_of_none f db (inr other) = inr (inr (inl (other.0, other.1, λ h it same. other.2 (subst (AllByRecursion IsPair) (sym same) (all_pairs h it.rules it.texts)))))
 
 -- ---- after another read
-answer_after : {S : Type 0} (g : Ghosts S) (a b : State) (fault : StoreFault) → b.now ≡ a.now → Survives a b (λ _. ⊥)
-    → IsUnloaded g b fault → IsUnloaded g a fault
-answer_after g a b fault same kept (inl memory) = inl memory
-answer_after g a b fault same kept (inr (inl none)) = inr (inl (none.0, subst ShowsNone same none.1))
-answer_after g a b fault same kept (inr (inr fails)) = inr (inr (record {
+answer_after : {S : Type 0} (g : Ghosts S) (a b : State) (f : Format) (fault : StoreFault) → b.now ≡ a.now → Survives a b (λ _. ⊥)
+    → IsUnloaded g b f fault → IsUnloaded g a f fault
+answer_after g a b f fault same kept (inl memory) = inl memory
+answer_after g a b f fault same kept (inr (inl none)) = inr (inl (none.0, subst (ShowsNone f) same none.1))
+answer_after g a b f fault same kept (inr (inr fails)) = inr (inr (record {
   error = fails.error;
   fault_is = fails.fault_is;
   failed = failed_after g a b fails.error same kept fails.failed;
 }))
 
 -- the fault of a call after others
-pub fault_after : {X S : Type 0} (g : Ghosts S) (a b : State) (r : Result X StoreFault) → b.now ≡ a.now → Survives a b (λ _. ⊥)
-    → IfErr r (IsUnloaded g b) → IfErr r (IsUnloaded g a)
-fault_after g a b (Ok x) same kept h = tt
-fault_after g a b (Err fault) same kept h = answer_after g a b fault same kept h
+pub fault_after : {X S : Type 0} (g : Ghosts S) (a b : State) (f : Format) (r : Result X StoreFault) → b.now ≡ a.now → Survives a b (λ _. ⊥)
+    → IfErr r (IsUnloaded g b f) → IfErr r (IsUnloaded g a f)
+fault_after g a b f (Ok x) same kept h = tt
+fault_after g a b f (Err fault) same kept h = answer_after g a b f fault same kept h
 
 -- what was set and seen, and what was built and pinned, is the history that is shown
-pub history_shown : (db mid : Database) (old : HistoryData) (r : Result HistoryData StoreFault) → mid ≡ db → IsSeenOf db old → IfOk r (KeepsSeen old)
+pub history_shown : (f : Format) (db mid : Database) (old : HistoryData) (r : Result HistoryData StoreFault) → mid ≡ db → IsSeenOf f db old → IfOk r (KeepsSeen old)
     → IfOk r (λ it. (builds : List Row) × (pairs : List Row) × (pins : List Row) × ShowsBuilt mid builds pairs pins × ListsBuilt it builds pairs pins)
-    → IfOk r (λ it. ShowsHistory it db)
-history_shown db mid old (Err e) same seen kept built = tt
-history_shown db mid old (Ok it) same (meta, scopes, versions, shows, lists, only) kept (builds, pairs, pins, shown, these) =
-    let seen : ShowsSeen db (meta_rows it.text) (scope_rows 1 it.tables) (table_rows 1 it.tables) = record {
-      set = subst (Shows meta_text db) (lists.set ∙ ap meta_rows (sym kept.1)) shows.set;
+    → IfOk r (λ it. ShowsHistory f it db)
+history_shown f db mid old (Err e) same seen kept built = tt
+history_shown f db mid old (Ok it) same (meta, scopes, versions, shows, lists, only) kept (builds, pairs, pins, shown, these) =
+    let seen : ShowsSeen db (meta_rows f it.text) (scope_rows 1 it.tables) (table_rows 1 it.tables) = record {
+      set = subst (Shows meta_text db) (lists.set ∙ ap (meta_rows f) (sym kept.1)) shows.set;
       named = subst (Shows scopes_text db) (lists.named ∙ ap (scope_rows 1) (sym kept.0)) shows.named;
       reported = subst (Shows versions_text db) (lists.reported ∙ ap (table_rows 1) (sym kept.0)) shows.reported;
     } in
     let here : ShowsBuilt db builds pairs pins = subst (λ (d : Database). ShowsBuilt d builds pairs pins) same shown in
-    let built : ShowsBuilt db (build_rows 1 it.builds) (listed_pairs 1 it.builds) (map pin_row it.pins) = record {
+    let built : ShowsBuilt db (build_rows 1 it.builds) (history_pairs it) (map pin_row it.pins) = record {
       made = subst (Shows builds_text db) these.made here.made;
       given = subst (Shows pairs_text db) these.given here.given;
       held = subst (Shows pins_text db) these.held here.held;

@@ -8,7 +8,7 @@ use Rattle.sqlite.specs.Order.{Row}
 use Rattle.sqlite_keyed.proofs.ListLemmas.{IsPermutation-same, IsPermutation-filter}
 use Rattle.sqlite.specs.Tree.{Trees}
 use Rattle.ccr_tables.specs.Contents.{Contents, Keeps, meta_row, scope_row, version_row, build_row, pair_row, pin_row}
-use Rattle.ccr_tables.specs.Written.{begins_with, without, restated, written, all_written}
+use Rattle.ccr_tables.specs.Written.{begins_with, without, restated, is_row, written, all_written}
 use Rattle.ccr_tables.specs.declared.write.Write.{Write}
 use Rattle.ccr_tables.specs.declared.write.Write.TheVariants as stored
 use Rattle.ccr_store.specs.Reordered.{HasSameRows}
@@ -52,12 +52,14 @@ replaced : (key : Value) (row : Row) (xs ys : List Row) → IsPermutation xs ys
 replaced key row xs ys h = IsPermutation-cons row _ _ (IsPermutation-filter (λ r. not (begins_with key r)) xs ys h)
 
 made_alike : (w : WriteData) (a b : Contents) → HasSameRows a b → HasSameRows (made w a) (made w b)
+made_alike write.format a b h = record { meta = replaced (Int (pos 1)) _ a.meta b.meta h.meta; scopes = h.scopes; versions = h.versions; builds = h.builds; pairs = h.pairs; pins = h.pins }
 made_alike (write.text bytes) a b h = record { meta = replaced (Int (pos 2)) _ a.meta b.meta h.meta; scopes = h.scopes; versions = h.versions; builds = h.builds; pairs = h.pairs; pins = h.pins }
 made_alike (write.scope id resource kind source) a b h = record { meta = h.meta; scopes = IsPermutation-cons _ a.scopes b.scopes h.scopes; versions = h.versions; builds = h.builds; pairs = h.pairs; pins = h.pins }
 made_alike (write.version of place body) a b h = record { meta = h.meta; scopes = h.scopes; versions = IsPermutation-cons _ a.versions b.versions h.versions; builds = h.builds; pairs = h.pairs; pins = h.pins }
 made_alike (write.build id job number how) a b h = record { meta = h.meta; scopes = h.scopes; versions = h.versions; builds = IsPermutation-cons _ a.builds b.builds h.builds; pairs = h.pairs; pins = h.pins }
 made_alike (write.status id how) a b h = record { meta = h.meta; scopes = h.scopes; versions = h.versions; builds = IsPermutation-map (λ r. cond (begins_with (Int (pos id)) r) (restated how r) r) a.builds b.builds h.builds; pairs = h.pairs; pins = h.pins }
 made_alike (write.pair id input of place) a b h = record { meta = h.meta; scopes = h.scopes; versions = h.versions; builds = h.builds; pairs = IsPermutation-cons _ a.pairs b.pairs h.pairs; pins = h.pins }
+made_alike (write.no_pair id input of place) a b h = record { meta = h.meta; scopes = h.scopes; versions = h.versions; builds = h.builds; pairs = IsPermutation-filter (λ r. not (is_row (Int (pos id)) (Words input) (Int (pos of)) (Int (pos place)) r)) a.pairs b.pairs h.pairs; pins = h.pins }
 made_alike (write.pin resource body) a b h = record { meta = h.meta; scopes = h.scopes; versions = h.versions; builds = h.builds; pairs = h.pairs; pins = replaced (Words resource) _ a.pins b.pins h.pins }
 made_alike (write.no_pin resource) a b h = record { meta = h.meta; scopes = h.scopes; versions = h.versions; builds = h.builds; pairs = h.pairs; pins = IsPermutation-filter (λ r. not (begins_with (Words resource) r)) a.pins b.pins h.pins }
 
@@ -71,12 +73,14 @@ all_made-append (w ∷ ws) vs c = all_made-append ws vs (made w c)
 
 -- ---- what a write holds
 one_written : (w : Write) (c : Contents) → written w c ≡ made (write_data w) c
+one_written stored.Format c = refl
 one_written (stored.PipelineText bytes) c = refl
 one_written (stored.Scope id resource kind source) c = refl
 one_written (stored.Version of place body) c = refl
 one_written (stored.Build id job number how) c = refl
 one_written (stored.Status id how) c = refl
 one_written (stored.Pair id input of place) c = refl
+one_written (stored.NoPair id input of place) c = refl
 one_written (stored.Pin resource body) c = refl
 one_written (stored.NoPin resource) c = refl
 
@@ -95,6 +99,7 @@ keeps_same a b trees h k = record {
   pins = IsPermutation-trans a.pins b.pins (map pin_row (trees 10)) h.pins k.pins;
   numbered_meta = k.numbered_meta;
   numbered_builds = k.numbered_builds;
+  numbered_pairs = k.numbered_pairs;
   numbered_pins = k.numbered_pins;
   typed_builds = k.typed_builds;
 }

@@ -18,14 +18,15 @@ use Rattle.ccr_history.specs.Tables.{TableData}
 use Rattle.ccr_history.specs.Builds.{BuildData}
 use Rattle.ccr_history.specs.History.{HistoryData, IsHistory}
 use Rattle.ccr_tables.specs.Listing.{columns_cmp, IsListed}
-use Rattle.ccr_store.specs.Listed.{AreSeen, AreBuilt, HasOther, listed_pairs, ListsSeen, ListsBuilt}
-use Rattle.ccr_store.specs.Rows.{scope_row, scope_rows, version_row, version_rows, table_rows, build_row, build_rows, used_row, moved_row, pair_rows, pin_row, meta_rows, rows_of}
+use Rattle.ccr_store.specs.Listed.{AreSeen, AreBuilt, HasOther, listed_pairs, history_pairs, ListsSeen, ListsBuilt}
+use Rattle.ccr_store.specs.Rows.{scope_row, scope_rows, version_row, version_rows, table_rows, build_row, build_rows, used_row, moved_row, disabled_rows, pin_row, meta_rows, rows_in, rows_of}
 use Rattle.ccr_tables.specs.Builds.{IsBuild}
 use Rattle.ccr_tables.specs.Pairs.{IsPair}
 use Rattle.ccr_store.specs.Texts.{HasTexts}
-use Rattle.ccr_store.proofs.ReadBuilds.{listed_pairs_are, numbers_few, build_rows_are}
-use Rattle.ccr_store.proofs.ListedRows.{pairs_listed}
-use Rattle.ccr_store.proofs.OneHistory.{Below, At, From, number_below, then_below, text_below, scopes_from, versions_at, places_from, tables_from, builds_from, pairs_up, from_names}
+use Rattle.ccr_store.specs.declared.format.Format.{Format}
+use Rattle.ccr_store.proofs.ReadBuilds.{disabled_are, listed_pairs_are, numbers_few, build_rows_are}
+use Rattle.ccr_store.proofs.ListedRows.{all_pairs_listed}
+use Rattle.ccr_store.proofs.OneHistory.{all_pairs_up, Below, At, From, number_below, then_below, text_below, scopes_from, versions_at, places_from, tables_from, builds_from, from_names}
 
 -- by so many of the first columns, the first row comes before the second
 abbrev Key : ℕ → Row → Row → Type 0
@@ -44,9 +45,9 @@ key_below width id k r s less here there =
 key_all : (width id : ℕ) (r : Row) (ss : List Row) → At id r → AllByRecursion (From (id + 1)) ss → AllByRecursion (Key (suc width) r) ss
 key_all width id r ss here h = all_weaker (From (id + 1)) (Key (suc width) r) (λ s there. key_below width id (id + 1) r s (omega arith) here there) ss h
 
-meta_key : (t : Option Text) → IsAscending (Key 1) (meta_rows t)
-meta_key None = (tt, tt)
-meta_key (Some t) = ((number_below 1 2 [] [] (omega arith), tt), (tt, tt))
+meta_key : (f : Format) (t : Option Text) → IsAscending (Key 1) (meta_rows f t)
+meta_key f None = (tt, tt)
+meta_key f (Some t) = ((number_below 1 2 [] [] (omega arith), tt), (tt, tt))
 
 scopes_key : (id : ℕ) (ts : List TableData) → IsAscending (Key 1) (scope_rows id ts)
 scopes_key id [] = tt
@@ -87,6 +88,11 @@ four_columns id (b ∷ bs) =
     (all-map IsFour (used_row id) b.used (all_of (λ u. IsFour (used_row id u)) (λ u. refl) b.used)))
     (four_columns (id + 1) bs)
 
+all_four : (h : HistoryData) → AllByRecursion IsFour (history_pairs h)
+all_four h =
+    all-append IsFour (disabled_rows h.disabled) (listed_pairs 1 h.builds)
+    (all-map IsFour (moved_row 0) h.disabled (all_of (λ p. IsFour (moved_row 0 p)) (λ p. refl) h.disabled)) (four_columns 1 h.builds)
+
 by_all : (r : Row) (rows : List Row) → IsFour r → AllByRecursion IsFour rows → AllByRecursion (Below r) rows → AllByRecursion (Key 4 r) rows
 by_all r [] one four h = tt
 by_all r (s ∷ rows) one four h = (ap₂ row_cmp one four.0 ∙ h.0, by_all r rows one four.1 h.1)
@@ -100,21 +106,21 @@ pins_key : (ps : List (Text × TextMap)) → IsStrictlySortedBy (slice_cmp nat_c
 pins_key ps h =
     ascending-map (Key 1) pin_row ps (ascending_weaker (λ (p q : Text × TextMap). slice_cmp nat_cmp p.0 q.0 ≡ Less) (λ p q. Key 1 (pin_row p) (pin_row q)) (λ p q less. text_below p.0 q.0 [] [] less) ps (from_names (λ (p : Text × TextMap). p.0) ps h))
 
-shown_pairs : (h : HistoryData) (pairs : List Row) → IsHistory h → IsListed 4 (pair_rows 1 h.builds) pairs → pairs ≡ listed_pairs 1 h.builds
+shown_pairs : (h : HistoryData) (pairs : List Row) → IsHistory h → IsListed 4 (rows_of h).pairs pairs → pairs ≡ history_pairs h
 shown_pairs h pairs rules is =
-    let given : IsListed 4 (listed_pairs 1 h.builds) pairs = record { same = IsPermutation-trans (listed_pairs 1 h.builds) (pair_rows 1 h.builds) pairs (IsPermutation-sym (pair_rows 1 h.builds) (listed_pairs 1 h.builds) (pairs_listed 1 h.builds)) is.same; ordered = is.ordered } in
-    shown 4 (listed_pairs 1 h.builds) pairs (pairs_key (listed_pairs 1 h.builds) (four_columns 1 h.builds) (pairs_up 1 h.tables h.builds rules.1.2)) given
+    let given : IsListed 4 (history_pairs h) pairs = record { same = IsPermutation-trans (history_pairs h) (rows_of h).pairs pairs (IsPermutation-sym (rows_of h).pairs (history_pairs h) (all_pairs_listed h)) is.same; ordered = is.ordered } in
+    shown 4 (history_pairs h) pairs (pairs_key (history_pairs h) (all_four h) (all_pairs_up h rules)) given
 
 -- what the SELECTs show of a history's rows is what it lists
-pub shown_seen : (h : HistoryData) (meta scopes versions : List Row) → AreSeen (rows_of h) meta scopes versions → ListsSeen h meta scopes versions
-shown_seen h meta scopes versions seen = record {
-  set = shown 1 (meta_rows h.text) meta (meta_key h.text) seen.set;
+pub shown_seen : (f : Format) (h : HistoryData) (meta scopes versions : List Row) → AreSeen (rows_in f h) meta scopes versions → ListsSeen f h meta scopes versions
+shown_seen f h meta scopes versions seen = record {
+  set = shown 1 (meta_rows f h.text) meta (meta_key f h.text) seen.set;
   named = shown 1 (scope_rows 1 h.tables) scopes (scopes_key 1 h.tables) seen.named;
   reported = shown 2 (table_rows 1 h.tables) versions (tables_key 1 h.tables) seen.reported;
 }
 
-pub shown_built : (h : HistoryData) (builds pairs pins : List Row) → IsHistory h → AreBuilt (rows_of h) builds pairs pins → ListsBuilt h builds pairs pins
-shown_built h builds pairs pins rules built = record {
+pub shown_built : (f : Format) (h : HistoryData) (builds pairs pins : List Row) → IsHistory h → AreBuilt (rows_in f h) builds pairs pins → ListsBuilt h builds pairs pins
+shown_built f h builds pairs pins rules built = record {
   made = shown 1 (build_rows 1 h.builds) builds (builds_key 1 h.builds) built.made;
   given = shown_pairs h pairs rules built.given;
   held = shown 1 (map pin_row h.pins) pins (pins_key h.pins rules.2.0) built.held;
@@ -126,13 +132,13 @@ all_builds h rules texts =
     let few : 1 + length h.builds ≤ 2 ^ 32 = omega (arith, rules.1.0) in
     build_rows_are 1 h.builds few (numbers_few h.builds rules.1.1 rules.1.0) texts.builds
 
-pub all_pairs : (h : HistoryData) → IsHistory h → HasTexts h → AllByRecursion IsPair (listed_pairs 1 h.builds)
+pub all_pairs : (h : HistoryData) → IsHistory h → HasTexts h → AllByRecursion IsPair (history_pairs h)
 all_pairs h rules texts =
     let few : 1 + length h.builds ≤ 2 ^ 32 = omega (arith, rules.1.0) in
-    listed_pairs_are h.tables 1 h.builds few rules.0 rules.1.2 texts.builds
+    all-append IsPair (disabled_rows h.disabled) (listed_pairs 1 h.builds) (disabled_are h.tables h.disabled rules.0 rules.3.1) (listed_pairs_are h.tables 1 h.builds few rules.0 rules.1.2 texts.builds)
 
-pub no_other : (h : HistoryData) → IsHistory h → HasTexts h → HasOther IsBuild 1 (rows_of h).builds ⊎ HasOther IsPair 4 (rows_of h).pairs → ⊥
-no_other h rules texts (inl other) =
+pub no_other : (f : Format) (h : HistoryData) → IsHistory h → HasTexts h → HasOther IsBuild 1 (rows_in f h).builds ⊎ HasOther IsPair 4 (rows_in f h).pairs → ⊥
+no_other f h rules texts (inl other) =
     other.2 (subst (AllByRecursion IsBuild) (sym (shown 1 (build_rows 1 h.builds) other.0 (builds_key 1 h.builds) other.1)) (all_builds h rules texts))
-no_other h rules texts (inr other) =
+no_other f h rules texts (inr other) =
     other.2 (subst (AllByRecursion IsPair) (sym (shown_pairs h other.0 rules other.1)) (all_pairs h rules texts))

@@ -25,7 +25,9 @@ use Rattle.ccr_storage.specs.declared.fault.StoreFault.TheVariants.{NoMemory, No
 use Rattle.ccr_store.specs.Crash.{HoldOneOf, Leaves, IsChangedIn}
 use Rattle.ccr_store.specs.Left.{IsAsItWas}
 use Rattle.ccr_store.specs.Readable.{IsReadable}
-use Rattle.ccr_store.specs.Rows.{rows_of}
+use Rattle.ccr_store.specs.Rows.{Fits, rows_in, rows_of}
+use Rattle.ccr_store.specs.declared.format.Format.{Format}
+use Rattle.ccr_store.specs.declared.format.Format.TheVariants.{Two}
 use Rattle.ccr_store.specs.StoreData.{StoreData, IsStored, IsKept}
 use Rattle.ccr_store.specs.Texts.{HasTexts, OrNoMemory, OrFault}
 use Rattle.ccr_store.specs.Listed.{AreSeen, AreBuilt, ListsSeen, ListsBuilt, KeepsSeen, seen_of}
@@ -125,17 +127,17 @@ no_memory_no_answer (Err e) P is = λ other. absurd (other is)
 
 -- ---- no history has the rows
 -- each history of the database has texts, a pipeline that can be read, and isn't there
-abbrev HasNone : Database → Type 0
-HasNone db = (h : HistoryData) → IsHistory h → HasTexts h → IfSome h.text IsReadable → ¬ Holds (rows_of h) db
+abbrev HasNone : Format → Database → Type 0
+HasNone f db = (h : HistoryData) → IsHistory h → HasTexts h → IfSome h.text IsReadable → Fits f h → ¬ Holds (rows_in f h) db
 
 pub out_of_memory : {X : Type 0} (r : Result X StoreFault) (fault : StoreFault) → IsErrAnd r (λ e. e ≡ fault) → fault ≡ NoMemory → IfErr r (λ e. e ≡ NoMemory)
 out_of_memory (Ok x) fault h is = tt
 out_of_memory (Err e) fault h is = h ∙ is
 
 -- where a history that the database holds leaves no fault that blames the tables, `NotOurs` says that there is none
-pub not_ours_read : {X : Type 0} (r : Result X StoreFault) (db : Database) → ((h : HistoryData) → IsHistory h → HasTexts h → IfSome h.text IsReadable → Holds (rows_of h) db → IfErr r (λ fault. fault ≢ NotOurs)) → IfErr r (λ fault. fault ≡ NotOurs → HasNone db)
-not_ours_read (Ok x) db h = tt
-not_ours_read (Err fault) db h = λ ours k rules texts readable holds. h k rules texts readable holds ours
+pub not_ours_read : {X : Type 0} (f : Format) (r : Result X StoreFault) (db : Database) → ((h : HistoryData) → IsHistory h → HasTexts h → IfSome h.text IsReadable → Fits f h → Holds (rows_in f h) db → IfErr r (λ fault. fault ≢ NotOurs)) → IfErr r (λ fault. fault ≡ NotOurs → HasNone f db)
+not_ours_read f (Ok x) db h = tt
+not_ours_read f (Err fault) db h = λ ours k rules texts readable fits holds. h k rules texts readable fits holds ours
 
 no_blame : (fault : StoreFault) → fault ≡ NoMemory → fault ≢ NotOurs
 no_blame fault is ours = absurd (let both = sym is ∙ ours in cc)
@@ -153,26 +155,26 @@ fault_on (Ok x) fault is h = tt
 fault_on (Err e) fault is h = λ ours. h (sym is ∙ ours)
 
 -- ---- a history in two parts
-pub seen_lists : (h history : HistoryData) (meta scopes versions : List Row) → history ≡ seen_of h → ListsSeen h meta scopes versions → ListsSeen history meta scopes versions
-seen_lists h history meta scopes versions is lists = subst (λ (k : HistoryData). ListsSeen k meta scopes versions) (sym is) (record { set = lists.set; named = lists.named; reported = lists.reported })
+pub seen_lists : (f : Format) (h history : HistoryData) (meta scopes versions : List Row) → history ≡ seen_of h → ListsSeen f h meta scopes versions → ListsSeen f history meta scopes versions
+seen_lists f h history meta scopes versions is lists = subst (λ (k : HistoryData). ListsSeen f k meta scopes versions) (sym is) (record { set = lists.set; named = lists.named; reported = lists.reported })
 
-pub rows_loaded : (r : Result HistoryData StoreFault) (old : HistoryData) (db mid : Database) → (db.schema ≡ our_schema → mid ≡ db)
-    → ((these : Contents) → Holds these db → (meta scopes versions : List Row) × AreSeen these meta scopes versions × ListsSeen old meta scopes versions) → IfOk r (KeepsSeen old)
+pub rows_loaded : (f : Format) (r : Result HistoryData StoreFault) (old : HistoryData) (db mid : Database) → (db.schema ≡ our_schema → mid ≡ db)
+    → ((these : Contents) → Holds these db → (meta scopes versions : List Row) × AreSeen these meta scopes versions × ListsSeen f old meta scopes versions) → IfOk r (KeepsSeen old)
     → IfOk r (λ it. (these : Contents) → Holds these mid → (builds pairs pins : List Row) × AreBuilt these builds pairs pins × ListsBuilt it builds pairs pins)
-    → IfOk r (λ it. (these : Contents) → Holds these db → HasSameRows (rows_of it) these)
-rows_loaded (Err e) old db mid same seen kept built = tt
-rows_loaded (Ok it) old db mid same seen kept built = λ these holds.
+    → IfOk r (λ it. (these : Contents) → Holds these db → HasSameRows (rows_in f it) these)
+rows_loaded f (Err e) old db mid same seen kept built = tt
+rows_loaded f (Ok it) old db mid same seen kept built = λ these holds.
     let first = seen these holds in
     let second = built these (subst (Holds these) (sym (same holds.schema)) holds) in
-    loaded old it these first.0 first.1 first.2 second.0 second.1 second.2 kept first.4 second.4 first.3 second.3
+    loaded f old it these first.0 first.1 first.2 second.0 second.1 second.2 kept first.4 second.4 first.3 second.3
 
 pub readable_on : (r : Result HistoryData StoreFault) (old : HistoryData) → IfSome old.text IsReadable → IfOk r (KeepsSeen old) → IfOk r (λ it. IfSome it.text IsReadable)
 readable_on (Err e) old readable kept = tt
 readable_on (Ok it) old readable kept = subst (λ (t : Option Text). IfSome t IsReadable) (sym kept.1) readable
 
-pub not_ours_loaded : {X S : Type 0} (g : Ghosts S) (s t : StoreData S) (r : Result X StoreFault) (fault : StoreFault) → s ≡ t → IsErrAnd r (λ e. e ≡ fault) → (fault ≡ NotOurs → HasNone (state g s.conn).now) → IfErr r (λ e. e ≡ NotOurs → HasNone (state g t.conn).now)
+pub not_ours_loaded : {X S : Type 0} (g : Ghosts S) (s t : StoreData S) (r : Result X StoreFault) (fault : StoreFault) → s ≡ t → IsErrAnd r (λ e. e ≡ fault) → (fault ≡ NotOurs → HasNone Two (state g s.conn).now) → IfErr r (λ e. e ≡ NotOurs → HasNone Two (state g t.conn).now)
 not_ours_loaded g s t (Ok x) fault same is h = tt
-not_ours_loaded g s t (Err e) fault same is h = λ ours. subst (λ (k : StoreData _). HasNone (state g k.conn).now) same (h (sym is ∙ ours))
+not_ours_loaded g s t (Err e) fault same is h = λ ours. subst (λ (k : StoreData _). HasNone Two (state g k.conn).now) same (h (sym is ∙ ours))
 
 -- ---- a store as a storage
 -- a commit that was made keeps the changed history

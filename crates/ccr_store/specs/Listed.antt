@@ -5,8 +5,9 @@ use Rattle.sqlite.specs.Order.{Row}
 use Rattle.ccr_history.specs.Builds.{BuildData}
 use Rattle.ccr_history.specs.History.{HistoryData, no_history}
 use Rattle.ccr_tables.specs.Contents.{Contents}
+use Rattle.ccr_store.specs.declared.format.Format.{Format}
 use Rattle.ccr_tables.specs.Listing.{IsListed}
-use Rattle.ccr_store.specs.Rows.{meta_rows, scope_rows, table_rows, build_rows, used_row, moved_row, pin_row}
+use Rattle.ccr_store.specs.Rows.{meta_rows, scope_rows, table_rows, build_rows, used_row, moved_row, disabled_rows, pin_row}
 
 -- ---- what the six SELECTs show
 -- the rows of what was set and seen, in the order of their keys
@@ -31,20 +32,24 @@ abbrev pub listed_pairs : ℕ → List BuildData → List Row
 listed_pairs id [] = []
 listed_pairs id (b ∷ bs) = (map (moved_row id) b.moved ++ map (used_row id) b.used) ++ listed_pairs (id + 1) bs
 
--- the rows are those of a history's text and of its tables
-pub record ListsSeen (h : HistoryData) (meta scopes versions : List Row) : Type 0 where
-  pub set : meta ≡ meta_rows h.text
+-- the pairs of a history: its disabled places first, since they are of build 0
+abbrev pub history_pairs : HistoryData → List Row
+history_pairs h = disabled_rows h.disabled ++ listed_pairs 1 h.builds
+
+-- the rows are those of a history's text, in a format, and of its tables
+pub record ListsSeen (f : Format) (h : HistoryData) (meta scopes versions : List Row) : Type 0 where
+  pub set : meta ≡ meta_rows f h.text
   pub named : scopes ≡ scope_rows 1 h.tables
   pub reported : versions ≡ table_rows 1 h.tables
 
--- the rows are those of a history's builds and pins
+-- the rows are those of a history's builds, disabled places and pins
 pub record ListsBuilt (h : HistoryData) (builds pairs pins : List Row) : Type 0 where
   pub made : builds ≡ build_rows 1 h.builds
-  pub given : pairs ≡ listed_pairs 1 h.builds
+  pub given : pairs ≡ history_pairs h
   pub held : pins ≡ map pin_row h.pins
 
 -- ---- a history in two parts
--- a history without its builds and pins
+-- a history without its builds, disabled places and pins
 abbrev pub seen_of : HistoryData → HistoryData
 seen_of h = record no_history { tables = h.tables; text = h.text }
 

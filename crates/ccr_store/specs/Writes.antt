@@ -1,7 +1,7 @@
 -- What the edits of a change write.
 use Rattle.std.specs.Prelude.{ℕ, ◌+◌, ◌≤◌, [], ◌∷◌, ◌++◌, List, map, length, Bool, if◌then◌else◌, string_bytes, ⊤}
 use Rattle.ccr_history.specs.declared.change.Edit.{Edit}
-use Rattle.ccr_history.specs.declared.change.Edit.TheVariants.{Text, Versions, Build, Ended, PinSet, PinCleared}
+use Rattle.ccr_history.specs.declared.change.Edit.TheVariants.{Text, Versions, Build, Ended, PinSet, PinCleared, Disabled, Enabled}
 use Rattle.ccr_history.specs.declared.change.Reported.{Reported}
 use Rattle.ccr_history.specs.declared.table.TheConstants.{MOST_VERSIONS}
 use Rattle.ccr_history.specs.TextMap.{TextMap, key_text}
@@ -43,6 +43,8 @@ edit_writes (Build b) = write.build b.row (string_bytes b.job) b.number 0 ∷ ma
 edit_writes (Ended e) = write.status e.row (status_number e.status) ∷ map (moved_write e.row) e.moved.items
 edit_writes (PinSet resource pin) = write.pin (string_bytes resource) (key_text pin) ∷ []
 edit_writes (PinCleared resource) = write.no_pin (string_bytes resource) ∷ []
+edit_writes (Disabled s) = if s.is_changed then write.pair 0 [] s.scope s.place ∷ [] else []
+edit_writes (Enabled s) = if s.is_changed then write.no_pair 0 [] s.scope s.place ∷ [] else []
 
 -- what the edits of a change write, the first of them first
 abbrev pub change_writes : List Edit → List WriteData
@@ -57,3 +59,5 @@ HasPlaces (Build b) = ⊤
 HasPlaces (Ended e) = ⊤
 HasPlaces (PinSet resource pin) = ⊤
 HasPlaces (PinCleared resource) = ⊤
+HasPlaces (Disabled s) = ⊤
+HasPlaces (Enabled s) = ⊤

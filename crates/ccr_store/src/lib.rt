@@ -8,7 +8,9 @@
 #![tactic(auto)]
 
 mod columns;
+mod disabled;
 mod fault;
+mod format;
 mod found;
 mod law;
 mod loading;
@@ -21,5 +23,6 @@ mod writes;
 
 pub use ccr_storage::StoreFault;
 pub use fault::open_fault_of;
+pub use format::Format;
 pub use law::{changes_write_their_rows, rows_tell_the_history};
 pub use store::{Store, prepare};

@@ -1,13 +1,15 @@
 //! Whether rows are those of a history.
-ghost use Rattle.std.specs.Prelude.{◌≡◌, ◌≤◌, ◌++◌, List, [], ◌∷◌, pos, length, map, IsTrue, IfOk, IfSome, IsSomeAnd, option_copied};
+ghost use Rattle.std.specs.Prelude.{◌≡◌, ◌≤◌, ◌++◌, List, [], ◌∷◌, pos, length, map, IsTrue, IfOk, IfSome, IfNone, IsSomeAnd, option_copied};
 ghost use Rattle.sqlite.specs.declared.types.Value.TheVariants.{Int, Text, Blob};
 ghost use Rattle.sqlite.specs.Order.{Row as RowData};
+ghost use Rattle.ccr_store.specs.declared.format.Format.{Format as FormatData};
 ghost use Rattle.ccr_history.specs.declared.table.TheConstants.{MOST_VERSIONS};
-ghost use Rattle.ccr_store.specs.Listed.{listed_pairs};
-ghost use Rattle.ccr_store.specs.Shown.{IsOurFormat};
+ghost use Rattle.ccr_store.specs.Listed.{listed_pairs, history_pairs};
+ghost use Rattle.ccr_store.specs.Shown.{BeginsWith};
 ghost use Rattle.ccr_store.specs.Rows.{meta_rows, scope_row, scope_rows, version_rows, table_rows, build_row, build_rows, used_row, moved_row, pin_row};
 
 use crate::columns::{is_blob, is_number, is_text};
+use crate::format::Format;
 use crate::writes::number_of;
 use ccr_history::{BuildRef, History, Pins, Scope, Version};
 use ccr_tables::builds::Build;
@@ -25,25 +27,39 @@ fn is_meta(row: &Row, key: u32, bytes: &[u8]) -> bool
 }
 
 /// Whether the first row is that of the format.
-pub(crate) fn has_format(rows: &[Row]) -> bool
-    ensures is { IsTrue result → IsOurFormat rows.now }
-    ensures only { IsOurFormat rows.now → IsTrue result }
+fn begins_with(rows: &[Row], format: Format) -> bool
+    ensures is { IsTrue result → BeginsWith format rows.now }
+    ensures only { BeginsWith format rows.now → IsTrue result }
 {
     match rows {
-        [format, ..] => is_meta(format, 1, b"1"),
+        [row, ..] => is_meta(row, 1, format.number()),
         [] => false,
     }
 }
 
-/// Whether the rows are those of the format and of this text.
-pub(crate) fn are_meta(rows: &[Row], text: Option<&[u8]>) -> bool
-    ensures is { IsTrue result → rows.now ≡ meta_rows (option_copied text.entry) }
-    ensures only { rows.now ≡ meta_rows (option_copied text.entry) → IsTrue result }
+/// The format whose row is the first.
+pub(crate) fn format_in(rows: &[Row]) -> Option<Format>
+    ensures is { IfSome result (λ format. BeginsWith format rows.now) }
+    ensures none { IfNone result ((format : FormatData) → ¬ BeginsWith format rows.now) }
 {
-    let [format, more @ ..] = rows else {
+    if begins_with(rows, Format::Two) {
+        Some(Format::Two)
+    } else if begins_with(rows, Format::One) {
+        Some(Format::One)
+    } else {
+        None
+    }
+}
+
+/// Whether the rows are those of the format and of this text.
+pub(crate) fn are_meta(rows: &[Row], format: Format, text: Option<&[u8]>) -> bool
+    ensures is { IsTrue result → rows.now ≡ meta_rows format (option_copied text.entry) }
+    ensures only { rows.now ≡ meta_rows format (option_copied text.entry) → IsTrue result }
+{
+    let [row, more @ ..] = rows else {
         return false;
     };
-    if !is_meta(format, 1, b"1") {
+    if !is_meta(row, 1, format.number()) {
         return false;
     }
     let Some(text) = text else {
@@ -255,7 +271,7 @@ fn after_build<'a>(rows: &'a [Pair], id: u32, build: &BuildRef<'_>) -> Option<&'
 }
 
 /// Whether the rows are those of what the builds moved and used.
-pub(crate) fn are_pairs(rows: &[Pair], history: &History) -> bool
+fn are_of_builds(rows: &[Pair], history: &History) -> bool
     ensures is { IsTrue result → rows.now ≡ listed_pairs 1 history.now.builds }
     ensures only { rows.now ≡ listed_pairs 1 history.now.builds → IsTrue result }
 {
@@ -270,6 +286,20 @@ pub(crate) fn are_pairs(rows: &[Pair], history: &History) -> bool
         rest = more;
     }
     rest.is_empty()
+}
+
+/// Whether the rows are those of the disabled places, and of what the builds moved and used.
+#[tactic(auto, using(crate::proofs::ListedRows::parted))]
+pub(crate) fn are_pairs(rows: &[Pair], history: &History) -> bool
+    ensures is { IsTrue result → rows.now ≡ history_pairs history.now }
+    ensures only { rows.now ≡ history_pairs history.now → IsTrue result }
+{
+    let disabled = history.disabled();
+    if rows.len() < disabled.len() {
+        return false;
+    }
+    let (first, rest) = rows.split_at(disabled.len());
+    are_moved(first, 0, disabled) && are_of_builds(rest, history)
 }
 
 // ---- what is pinned

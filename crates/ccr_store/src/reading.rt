@@ -18,9 +18,11 @@ ghost use Rattle.ccr_storage.specs.declared.fault.StoreFault.TheVariants.{NoMemo
 ghost use Rattle.ccr_store.specs.Listed.{listed_pairs, ListsSeen, ListsBuilt, KeepsSeen, seen_of};
 ghost use Rattle.ccr_store.specs.Readable.{IsReadable};
 ghost use Rattle.ccr_store.specs.Rows.{meta_rows, text_row, scope_row, scope_rows, version_rows, table_rows, status_number, build_row, build_rows, used_row, moved_row, pin_row};
+ghost use Rattle.ccr_store.specs.declared.format.Format.{Format};
 ghost use Rattle.ccr_store.specs.Texts.{IsSpelled, IsTextTable, IsTextBuild, IsTextPin, HasTexts, OrNoMemory};
 
 use crate::columns::{has_no_input, is_number, is_of, read_column};
+use crate::disabled::add_disabled;
 use crate::found::{Built, Seen};
 use ccr_history::{History, HistoryFault, Pin, Scope, Status, Used, Version};
 use ccr_pipeline::{ReadFault, read};
@@ -72,7 +74,7 @@ fn id_count(rows: &[Row], id: u32) -> usize
 }
 
 /// How many of the first pairs are of this build.
-fn pair_count(pairs: &[Pair], build: u32) -> usize
+pub(crate) fn pair_count(pairs: &[Pair], build: u32) -> usize
     ensures within { result ≤ length pairs.now }
     ensures is { (here more : List RowData) → pairs.now ≡ here ++ more
         → AllByRecursion (λ r. column r 0 ≡ Int (pos build)) here
@@ -409,7 +411,7 @@ fn add_text(history: &mut History, row: &Row) -> Result<(), StoreFault>
 }
 
 fn read_text(history: &mut History, meta: &[Row]) -> Result<(), StoreFault>
-    ensures { (t : Option (List ℕ)) → history.old.text ≡ None → meta.now ≡ meta_rows t
+    ensures { (format : Format) (t : Option (List ℕ)) → history.old.text ≡ None → meta.now ≡ meta_rows format t
         → OrNoMemory (λ _. history.new ≡ record history.old { text = t }) result }
 {
     match meta {
@@ -436,7 +438,7 @@ pub(crate) fn check_text(alloc: Global, text: Option<&[u8]>) -> Result<(), Store
 /// Sets the text and adds the tables of the history that has these rows, if there is one.
 fn add_seen(alloc: Global, history: &mut History, seen: &Seen) -> Result<(), StoreFault>
     ensures { history.old ≡ no_history → (h : HistoryData) → IsHistory h → HasTexts h
-        → ListsSeen h seen.now.meta.items seen.now.scopes.items seen.now.versions.items
+        → (format : Format) → ListsSeen format h seen.now.meta.items seen.now.scopes.items seen.now.versions.items
         → OrNoMemory (λ _. history.new ≡ seen_of h) result }
 {
     read_text(history, &seen.meta)?;
@@ -446,7 +448,7 @@ fn add_seen(alloc: Global, history: &mut History, seen: &Seen) -> Result<(), Sto
 /// What was set and seen of the history that has these rows, if there is one. Whether it has them is for the caller to see.
 pub(crate) fn read_tables(alloc: Global, seen: &Seen) -> Result<History, StoreFault>
     ensures { (h : HistoryData) → IsHistory h → HasTexts h
-        → ListsSeen h seen.now.meta.items seen.now.scopes.items seen.now.versions.items
+        → (format : Format) → ListsSeen format h seen.now.meta.items seen.now.scopes.items seen.now.versions.items
         → OrNoMemory (λ history. history ≡ seen_of h) result }
 {
     let mut history = History::new(alloc);
@@ -456,7 +458,7 @@ pub(crate) fn read_tables(alloc: Global, seen: &Seen) -> Result<History, StoreFa
     }
 }
 
-/// Adds the builds and pins of the history that has these rows, if there is one. Whether it has them is for the caller to
+/// Adds the builds, disabled places and pins of the history that has these rows, if there is one. Whether it has them is for the caller to
 /// see.
 pub(crate) fn read_builds(
     alloc: Global,
@@ -468,6 +470,7 @@ pub(crate) fn read_builds(
         → OrNoMemory (λ _. history.new ≡ h) result }
     ensures kept { OnOk result (KeepsSeen history.old history.new) }
 {
-    add_builds(alloc, history, &built.builds, &built.pairs)?;
+    let pairs = add_disabled(history, &built.pairs)?;
+    add_builds(alloc, history, &built.builds, pairs)?;
     add_pins(alloc, history, &built.pins)
 }

@@ -6,26 +6,28 @@ ghost use Rattle.sqlite.specs.Steps.{over_memory};
 ghost use Rattle.ccr_history.specs.History.{HistoryData, IsHistory, no_history};
 ghost use Rattle.ccr_history.specs.Edits.{change_data, Accepts};
 ghost use Rattle.ccr_history.specs.Changes.{changed};
-ghost use Rattle.ccr_tables.specs.Contents.{Contents, Holds, Keeps, new_contents};
+ghost use Rattle.ccr_tables.specs.Contents.{Contents, Holds, new_contents};
 ghost use Rattle.ccr_tables.specs.Schema.{no_schema};
 ghost use Rattle.ccr_storage.specs.declared.fault.StoreFault.TheVariants.{NoMemory, NotOurs};
-ghost use Rattle.ccr_store.specs.Causes.{HasAnswer, IsUnloaded, IsUntaken, IsLetGo};
+ghost use Rattle.ccr_store.specs.Causes.{HasAnswer, IsUnloaded, IsUnbegun, IsUnraised, IsUntaken, IsBegun, IsLetGo};
 ghost use Rattle.ccr_store.specs.Crash.{IsChangedIn, Leaves};
 ghost use Rattle.ccr_store.specs.Left.{IsAsItWas};
 ghost use Rattle.ccr_store.specs.Readable.{IsReadable};
 ghost use Rattle.ccr_store.specs.Reordered.{HasSameRows};
-ghost use Rattle.ccr_store.specs.Rows.{HasFormat, rows_of};
-ghost use Rattle.ccr_store.specs.Shown.{ShowsFormat, ShowsHistory};
+ghost use Rattle.ccr_store.specs.Rows.{HasFormat, Fits, rows_in, rows_of, raised, in_second};
+ghost use Rattle.ccr_store.specs.Shown.{ShowsFormat, ShowsHistory, IsTaken};
+ghost use Rattle.ccr_store.specs.declared.format.Format.{Format as FormatData};
 ghost use Rattle.ccr_store.specs.StoreData.{IsStored, IsKept};
 ghost use Rattle.ccr_store.specs.Texts.{HasTexts};
 ghost use Rattle.ccr_store.specs.Writes.{change_writes};
 
 use crate::fault::fault_of;
+use crate::format::Format;
 use crate::loading;
 use crate::writes::writes_of;
 use ccr_history::{Edit, History};
 use ccr_storage::{StoreFault, Tally};
-use ccr_tables::{Creation, commit, create};
+use ccr_tables::{Creation, Write, commit, create};
 use sqlite::{Alter, Connection, MemStore};
 use sqlite_schema::schema::Schema;
 use std::alloc::Global;
@@ -45,38 +47,23 @@ fn is_blank(schema: &Schema) -> bool
     schema.tables.is_empty() && schema.indexes.is_empty() && schema.views.is_empty()
 }
 
-/// Makes the six tables in a database without tables. In another one nothing is written: it has to have the number of
-/// the format. [`Store::adopt`] begins with this call, which leaves the connection to its caller also where it is
-/// refused.
-///
-/// The faults are those of [`Store::adopt`].
-pub fn prepare<S: Alter>(conn: &mut Connection<S>) -> Result<(), StoreFault>
-    requires { (state S.Store conn.old).in_transaction ≡ false }
+/// Makes the six tables, in a database without tables.
+fn begin<S: Alter>(conn: &mut Connection<S>) -> Result<(), StoreFault>
+    requires idle { (state S.Store conn.old).in_transaction ≡ false }
+    requires blank { (state S.Store conn.old).now.schema ≡ no_schema }
     ensures made { let new = state S.Store conn.new in
-        HasCleanDisk new → (state S.Store conn.old).now.schema ≡ no_schema
-        → OnOk result (Holds new_contents new.now × (new.committed ≡ new.now)) }
-    ensures found { let old = state S.Store conn.old in
-        let new = state S.Store conn.new in
-        (these : Contents) → HasCleanDisk new → Holds these old.now
-        → OnOk result (Holds these new.now × HasFormat these) }
-    ensures taken { let old = state S.Store conn.old in
-        let new = state S.Store conn.new in
-        HasCleanDisk new → old.now.schema ≢ no_schema → OnOk result (ShowsFormat old.now × IsUnchanged old new) }
+        HasCleanDisk new → OnOk result (Holds new_contents new.now × (new.committed ≡ new.now)) }
     ensures answered { HasCleanDisk (state S.Store conn.new)
-        → IfErr result (IsUntaken S.Store (state S.Store conn.old)) }
+        → IfErr result (IsUnbegun S.Store (state S.Store conn.old)) }
     ensures left { let old = state S.Store conn.old in
         let new = state S.Store conn.new in
         HasCleanDisk new → OnErr result (IsAsItWas old new) }
     ensures not_ours { result ≡ Err NotOurs → Survives (state S.Store conn.old) (state S.Store conn.new) (λ _. ⊥) }
-    ensures crash { let old = state S.Store conn.old in
-        Survives old (state S.Store conn.new) (λ trees. (old.now.schema ≡ no_schema) × Keeps new_contents trees) }
+    ensures crash { Survives (state S.Store conn.old) (state S.Store conn.new) (IsBegun (state S.Store conn.old)) }
     ensures mode { (state S.Store conn.new).in_transaction ≡ false }
 {
     // Outside a transaction an open database is as it was committed.
     conn.is_autocommit();
-    if !is_blank(conn.schema()) {
-        return loading::check_format(conn);
-    }
     match create(conn) {
         Ok(Creation::Made) => Ok(()),
         Ok(_) => Err(StoreFault::NotOurs),
@@ -84,8 +71,74 @@ pub fn prepare<S: Alter>(conn: &mut Connection<S>) -> Result<(), StoreFault>
     }
 }
 
+/// Writes a database of the first format over to the one that is written, once its history is loaded.
+fn raise<S: Alter>(alloc: Global, conn: &mut Connection<S>) -> Result<(), StoreFault>
+    requires idle { (state S.Store conn.old).in_transaction ≡ false }
+    requires first { HasCleanDisk (state S.Store conn.old) → ShowsFormat Format.One (state S.Store conn.old).now }
+    ensures raised { let old = state S.Store conn.old in
+        let new = state S.Store conn.new in
+        (these : Contents) → HasCleanDisk new → Holds these old.now
+        → OnOk result (Holds (raised these) new.now × (new.committed ≡ new.now)) }
+    ensures loaded { HasCleanDisk (state S.Store conn.new) → OnOk result ((h : HistoryData) × IsHistory h × Fits Format.One h
+        × ShowsHistory Format.One h (state S.Store conn.old).now) }
+    ensures answered { HasCleanDisk (state S.Store conn.new)
+        → IfErr result (IsUnraised S.Store (state S.Store conn.old)) }
+    ensures left { let old = state S.Store conn.old in
+        let new = state S.Store conn.new in
+        HasCleanDisk new → OnErr result (IsAsItWas old new) }
+    ensures not_ours { result ≡ Err NotOurs → Survives (state S.Store conn.old) (state S.Store conn.new) (λ _. ⊥) }
+    ensures crash { Survives (state S.Store conn.old) (state S.Store conn.new) (IsBegun (state S.Store conn.old)) }
+    ensures mode { (state S.Store conn.new).in_transaction ≡ false }
+{
+    // Outside a transaction an open database is as it was committed.
+    conn.is_autocommit();
+    loading::load(alloc, conn, Format::One)?;
+    match commit(conn, &[Write::Format]) {
+        Ok(()) => Ok(()),
+        Err(error) => Err(fault_of(&error)),
+    }
+}
+/// Makes the six tables in a database without tables. In another one nothing is written where it has the number of this
+/// format. One of the first format is loaded, and then written over to this one. [`Store::adopt`] begins with this call,
+/// which leaves the connection to its caller also where it is refused.
+///
+/// The faults are those of [`Store::adopt`].
+pub fn prepare<S: Alter>(alloc: Global, conn: &mut Connection<S>) -> Result<(), StoreFault>
+    requires { (state S.Store conn.old).in_transaction ≡ false }
+    ensures made { let new = state S.Store conn.new in
+        HasCleanDisk new → (state S.Store conn.old).now.schema ≡ no_schema
+        → OnOk result (Holds new_contents new.now × (new.committed ≡ new.now)) }
+    ensures found { let old = state S.Store conn.old in
+        let new = state S.Store conn.new in
+        (these : Contents) → HasCleanDisk new → Holds these old.now
+        → OnOk result ((format : FormatData) × HasFormat format these × Holds (in_second format these) new.now) }
+    ensures taken { let old = state S.Store conn.old in
+        let new = state S.Store conn.new in
+        HasCleanDisk new → old.now.schema ≢ no_schema → OnOk result (IsTaken old new) }
+    ensures answered { HasCleanDisk (state S.Store conn.new)
+        → IfErr result (IsUntaken S.Store (state S.Store conn.old)) }
+    ensures left { let old = state S.Store conn.old in
+        let new = state S.Store conn.new in
+        HasCleanDisk new → OnErr result (IsAsItWas old new) }
+    ensures not_ours { result ≡ Err NotOurs → Survives (state S.Store conn.old) (state S.Store conn.new) (λ _. ⊥) }
+    ensures crash { Survives (state S.Store conn.old) (state S.Store conn.new) (IsBegun (state S.Store conn.old)) }
+    ensures mode { (state S.Store conn.new).in_transaction ≡ false }
+{
+    // Outside a transaction an open database is as it was committed.
+    conn.is_autocommit();
+    if is_blank(conn.schema()) {
+        return begin(conn);
+    }
+    match loading::read_format(conn) {
+        Ok(Format::Two) => Ok(()),
+        Ok(Format::One) => raise(alloc, conn),
+        Err(fault) => Err(fault),
+    }
+}
+
 impl<S: Alter> Model for Store<S> {
     ghost use Rattle.std.specs.Prelude.{◌≡◌, false};
+    ghost use Rattle.ccr_store.specs.declared.format.Format.{Format as FormatData};
     ghost use Rattle.ccr_store.specs.StoreData.{StoreData, store_code};
 
     ghost Value = { StoreData S };
@@ -105,37 +158,37 @@ impl Store<MemStore> {
         ensures stored { IfOk result (λ store. IsStored no_history (state over_memory store.conn).now) }
         ensures kept { IfOk result (λ store. IsKept over_memory store no_history) }
     {
-        Store::adopt(Connection::open_in_memory(alloc)?)
+        Store::adopt(alloc, Connection::open_in_memory(alloc)?)
     }
 }
 
 impl<S: Alter + Drop> Store<S> {
-    /// A store over a database. One without tables gets the six tables, and has the empty history then. Nothing is
-    /// written to tables that are there: [`load`](Store::load) says which history they hold.
+    /// A store over a database. One without tables gets the six tables, and has the empty history then. One of the first
+    /// format is loaded, and then written over to this one. Nothing is written to other tables that are there:
+    /// [`load`](Store::load) says which history they hold.
     ///
-    /// - `NotOurs` where there are tables, and they haven't the number of the format.
+    /// - `NotOurs` where there are tables, and they haven't the number of a format, or are of the first one and of no history.
     /// - `Refused`, `Disk` or `Interrupted` where `sqlite` failed so.
     /// - `NoMemory` if out of memory.
-    pub fn adopt(conn: Connection<S>) -> Result<Store<S>, StoreFault>
+    pub fn adopt(alloc: Global, conn: Connection<S>) -> Result<Store<S>, StoreFault>
         requires { (state S.Store conn).in_transaction ≡ false }
         ensures made { IfOk result (λ store. let new = state S.Store store.conn in
             HasCleanDisk new → (state S.Store conn).now.schema ≡ no_schema
             → IsStored no_history new.now × (new.committed ≡ new.now)) }
         ensures kept { IfOk result (λ store. (state S.Store conn).now.schema ≡ no_schema
             → IsKept S.Store store no_history) }
-        ensures found { IfOk result (λ store. let old = state S.Store conn in
-            let new = state S.Store store.conn in
-            (these : Contents) → HasCleanDisk new → old.now ≡ old.committed → Holds these old.now
-            → Holds these new.now × HasFormat these) }
+        ensures found { IfOk result (λ store. (format : FormatData) → (h : HistoryData) → IsHistory h → Fits format h
+            → HasCleanDisk (state S.Store store.conn) → Holds (rows_in format h) (state S.Store conn).now
+            → IsStored h (state S.Store store.conn).now) }
         ensures taken { IfOk result (λ store. let old = state S.Store conn in
             let new = state S.Store store.conn in
-            HasCleanDisk new → old.now.schema ≢ no_schema → ShowsFormat old.now × IsUnchanged old new) }
+            HasCleanDisk new → old.now.schema ≢ no_schema → IsTaken old new) }
         ensures answered { IfErr result (IsLetGo S.Store (state S.Store conn)) }
         ensures crash { IfOk result (λ store. let old = state S.Store conn in
-            Survives old (state S.Store store.conn) (λ trees. (old.now.schema ≡ no_schema) × Keeps new_contents trees)) }
+            Survives old (state S.Store store.conn) (IsBegun old)) }
     {
         let mut conn = conn;
-        prepare(&mut conn)?;
+        prepare(alloc, &mut conn)?;
         Ok(Store {
             conn,
             tally: Tally::new(),
@@ -222,12 +275,12 @@ impl<S: Alter> Store<S> {
         ensures only { HasCleanDisk (state S.Store self.new.conn) → IfOk result (λ history. (h : HistoryData)
             → IsHistory h → Holds (rows_of h) (state S.Store self.old.conn).now → h ≡ history) }
         ensures not_ours { HasCleanDisk (state S.Store self.new.conn) → IfErr result (λ fault. fault ≡ NotOurs
-            → (h : HistoryData) → IsHistory h → HasTexts h → IfSome h.text IsReadable
+            → (h : HistoryData) → IsHistory h → HasTexts h → IfSome h.text IsReadable → Fits Format.Two h
             → ¬ Holds (rows_of h) (state S.Store self.old.conn).now) }
         ensures shown { HasCleanDisk (state S.Store self.new.conn)
-            → IfOk result (λ history. ShowsHistory history (state S.Store self.old.conn).now) }
+            → IfOk result (λ history. ShowsHistory Format.Two history (state S.Store self.old.conn).now) }
         ensures answered { HasCleanDisk (state S.Store self.new.conn)
-            → IfErr result (IsUnloaded S.Store (state S.Store self.old.conn)) }
+            → IfErr result (IsUnloaded S.Store (state S.Store self.old.conn) Format.Two) }
         ensures kept { IfOk result (λ history. (these : Contents) → Holds these (state S.Store self.old.conn).now
             → IsKept S.Store self.new history) }
         ensures same { let old = state S.Store self.old.conn in
@@ -245,7 +298,7 @@ impl<S: Alter> Store<S> {
     {
         // Outside a transaction an open database is as it was committed.
         self.conn.is_autocommit();
-        let history = loading::load(alloc, &mut self.conn)?;
+        let history = loading::load(alloc, &mut self.conn, Format::Two)?;
         Ok(history)
     }
 }

@@ -10,7 +10,7 @@ ghost use Rattle.ccr_store.specs.WriteData.{write_data};
 ghost use Rattle.ccr_store.specs.WriteData as write;
 ghost use Rattle.ccr_store.specs.Writes.{scope_writes, version_writes, used_write, moved_write, edit_writes, change_writes, HasPlaces};
 
-use ccr_history::{Edit, Ended, Made, Pin, Reported, Scope, Status, Used, Version};
+use ccr_history::{Edit, Ended, Made, Pin, Reported, Scope, Status, Switched, Used, Version};
 use ccr_storage::StoreFault;
 use ccr_tables::Write;
 use std::alloc::Global;
@@ -150,6 +150,34 @@ fn write_no_pin(alloc: Global, resource: &str, writes: &mut Vec<Write>) -> Resul
     Ok(())
 }
 
+/// Writes that a place is disabled, if it wasn't.
+fn write_disabled(
+    alloc: Global,
+    place: &Switched,
+    writes: &mut Vec<Write>,
+) -> Result<(), StoreFault>
+    ensures ok { OnOk result (map write_data writes.new.items
+        ≡ map write_data writes.old.items ++ edit_writes (edits.Disabled place.now)) }
+    ensures only { IfErr result (λ fault. fault ≡ NoMemory) }
+{
+    if place.is_changed {
+        writes.push(Write::Pair(0, String::new(alloc), place.scope, place.place))?;
+    }
+    Ok(())
+}
+
+/// Writes that a place is enabled, if it wasn't.
+fn write_enabled(alloc: Global, place: &Switched, writes: &mut Vec<Write>) -> Result<(), StoreFault>
+    ensures ok { OnOk result (map write_data writes.new.items
+        ≡ map write_data writes.old.items ++ edit_writes (edits.Enabled place.now)) }
+    ensures only { IfErr result (λ fault. fault ≡ NoMemory) }
+{
+    if place.is_changed {
+        writes.push(Write::NoPair(0, String::new(alloc), place.scope, place.place))?;
+    }
+    Ok(())
+}
+
 /// Writes a new build and what it uses.
 fn write_build(build: &Made, writes: &mut Vec<Write>) -> Result<(), StoreFault>
     ensures ok { OnOk result (map write_data writes.new.items
@@ -184,6 +212,8 @@ fn write_edit(alloc: Global, edit: &Edit, writes: &mut Vec<Write>) -> Result<(),
         Edit::Ended(end) => write_end(alloc, end, writes),
         Edit::PinSet(resource, pin) => write_pin(alloc, resource, pin, writes),
         Edit::PinCleared(resource) => write_no_pin(alloc, resource, writes),
+        Edit::Disabled(place) => write_disabled(alloc, place, writes),
+        Edit::Enabled(place) => write_enabled(alloc, place, writes),
     }
 }
 

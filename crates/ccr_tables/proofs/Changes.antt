@@ -1,5 +1,5 @@
 -- What the statements do that change or remove rows.
-use Rattle.std.proofs.Common.{◌≡◌, ◌≢◌, inl, ℕ, ℤ, pos, List, [], ◌∷◌, ◌++◌, map, filter, Bool, true, false, not, ◌&&◌, ◌||◌, cond, Some, Ok, refl, sym, ap, subst, ◌∙◌, arith, is_eq, Ordering, Less, Equal, Greater, true≢false, IsTrue, bytes_eq, IsPermutation}
+use Rattle.std.proofs.Common.{◌≡◌, ◌≢◌, inl, ℕ, ℤ, pos, List, [], ◌∷◌, ◌++◌, map, filter, Bool, true, false, not, ◌&&◌, ◌||◌, cond, Some, Ok, refl, sym, ap, ap₂, subst, ◌∙◌, arith, is_eq, Ordering, Less, Equal, Greater, true≢false, IsTrue, bytes_eq, IsPermutation}
 use Rattle.std.specs.List.{AllByRecursion, list_any, list_all}
 use Rattle.std.specs.Ordering.{int_cmp}
 use Rattle.std.proofs.lemmas.Cmp.{int_ranked}
@@ -16,7 +16,8 @@ use Rattle.sqlite_value.proofs.KeyLemmas.{class_tied}
 use Rattle.sqlite.specs.Collation.TheVariants.{Binary}
 use Rattle.sqlite_sql.specs.declared.ops.BinaryOp.TheVariants.{Compare}
 use Rattle.sqlite_sql.specs.declared.ops.CompareOp.TheVariants.{Eq}
-use Rattle.sqlite_sql.specs.Ops.{binary, is_true, from_truth}
+use Rattle.sqlite_sql.specs.Ops.{binary, unary, is_true, from_truth}
+use Rattle.sqlite_sql.specs.declared.ops.UnaryOp.TheVariants.{ToNumeric}
 use Rattle.sqlite_sql.specs.Term.{holds}
 use Rattle.sqlite_schema.specs.Rules.{equal, differ, clashes}
 use Rattle.sqlite_schema.specs.declared.schema.Constraint.TheVariants.{Unique}
@@ -33,13 +34,13 @@ use Rattle.sqlite.specs.Edit.{edit_of, with_rowid, Applies}
 use Rattle.sqlite.specs.Program.{overlay}
 use Rattle.sqlite.specs.State.{State, Executes}
 use Rattle.sqlite_keyed.proofs.ListLemmas.{map-map, map_same, filter_same, filter_all, filter-map, all_map, all_kept, all-filter, none_from_any, IsPermutation-filter}
-use Rattle.ccr_tables.specs.Schema.{our_schema, meta, builds, pins}
-use Rattle.ccr_tables.specs.Contents.{Contents, Holds, IsBuild, meta_row, build_row, pin_row}
-use Rattle.ccr_tables.specs.Written.{begins_with, without, restated, with_meta, with_status, with_pin, without_pin}
+use Rattle.ccr_tables.specs.Schema.{our_schema, meta, builds, pairs, pins}
+use Rattle.ccr_tables.specs.Contents.{Contents, Holds, IsBuild, meta_row, build_row, pair_row, pin_row}
+use Rattle.ccr_tables.specs.Written.{begins_with, without, restated, is_row, with_meta, with_status, without_pair, with_pin, without_pin}
 use Rattle.ccr_tables.proofs.Edits.{all_both, all_from_has, all_permuted, all_at, filter_agree, map_some, put_all_free, put_all_shaped, one_only}
 use Rattle.ccr_tables.proofs.Inserts.{Becomes, uncounted, cast_null, cast_int}
-use Rattle.ccr_tables.proofs.Selects.{answered}
-use Rattle.ccr_tables.proofs.Turns.{row_in, turn_meta, turn_builds, turn_pins}
+use Rattle.ccr_tables.proofs.Selects.{answered, answered_four}
+use Rattle.ccr_tables.proofs.Turns.{row_in, turn_meta, turn_builds, turn_pairs, turn_pins}
 use Rattle.ccr_tables.proofs.Updates.{PutsOr, updates, deletes, upserts, put_back, taken_out}
 use Rattle.ccr_tables.proofs.Texts as texts
 
@@ -171,6 +172,46 @@ drop_pin resource old new count these has h =
     turn_pins these (without (Text resource) these.pins) all old.now new.now has
     (record { schema = did.0; rows = subst (IsPermutation all) (sym out.0) (IsPermutation-refl all); shaped = λ _. out.1; others = did.3.tables })
     (subst (λ l. IsPermutation (without (Text resource) these.pins) (map pin_row l)) (sym out.0) (kept_rows pin_row (Text resource) t these.pins rows (λ r. refl) has.rows.pins))
+
+-- ---- DELETE of a pair
+
+last : (b : Bool) → (b && true) ≡ b
+last true = refl
+last false = refl
+
+numeric : (n : ℤ) → unary ToNumeric (Int n) ≡ Int n
+unfolding unary
+numeric n = refl
+
+equal_number : (v : Value) (n : ℤ) → equal Binary v (unary ToNumeric (Int n)) ≡ is_eq (value_cmp v (Int n))
+equal_number v n = ap (equal Binary v) (numeric n) ∙ equal_int v n
+
+abbrev both : Bool → Bool → Bool
+both a b = a && b
+
+pub drop_pair : (build : ℕ) (input : List ℕ) (scope place : ℕ) (old new : State) (count : ℕ) (these : Contents) → Holds these old.now
+    → Executes texts.remove_pair_text (Int (pos build) ∷ Text input ∷ Int (pos scope) ∷ Int (pos place) ∷ []) old new (Ok count)
+    → Holds (without_pair build input scope place these) new.now
+drop_pair build input scope place old new count these has h =
+    let params : Row = Int (pos build) ∷ Text input ∷ Int (pos scope) ∷ Int (pos place) ∷ [] in
+    let db = old.now.trees in
+    let rows = db 8 in
+    let did = deletes texts.remove_pair_text 4 (record pairs { tree = 8 }) texts.pair_gone texts.remove_pair_command texts.remove_pair_plain refl old new params count has.schema h in
+    let is : Row → Bool = is_row (Int (pos build)) (Text input) (Int (pos scope)) (Int (pos place)) in
+    let t : Row → Bool = λ r. is (pair_row r) in
+    let g : Row → Row = λ r. column r 0 ∷ [] in
+    let tested : Row → Bool = λ r. holds (params ∷ r ∷ []) (texts.is_number 1 0) && (holds (params ∷ r ∷ []) (texts.is_text 2 1) && (holds (params ∷ r ∷ []) (texts.is_number 3 2) && (holds (params ∷ r ∷ []) (texts.is_number 4 3) && true))) in
+    let shown : IsPermutation (map g (filter tested rows)) did.1 = answered_four 8 (texts.is_number 1 0) (texts.is_text 2 1) (texts.is_number 3 2) (texts.is_number 4 3) (col 1 0 ∷ []) (overlay db []) params did.1 did.2 in
+    let passes : filter tested rows ≡ filter t rows = filter_same tested t
+    (λ r. ap₂ both (equal_number (column r 1) (pos build)) (ap₂ both (equal_text (column r 2) input) (ap₂ both (equal_number (column r 3) (pos scope)) (last _ ∙ equal_number (column r 4) (pos place))))) rows in
+    let out = taken_out (record pairs { tree = 8 }) t g db new.now.trees did.1 has.rows.numbered_pairs (λ r. refl) (subst (λ l. IsPermutation (map g l) did.1) passes shown) did.3 in
+    let all = filter (λ r. not (t r)) rows in
+    let left : Row → Bool = λ r. not (is r) in
+    let kept : IsPermutation (filter left these.pairs) (map pair_row all) =
+    subst (IsPermutation (filter left these.pairs)) (filter-map left pair_row rows) (IsPermutation-filter left _ _ has.rows.pairs) in
+    turn_pairs these (filter left these.pairs) all old.now new.now has
+    (record { schema = did.0; rows = subst (IsPermutation all) (sym out.0) (IsPermutation-refl all); shaped = λ _. out.1; others = did.3.tables })
+    (subst (λ l. IsPermutation (filter left these.pairs) (map pair_row l)) (sym out.0) kept)
 
 -- ---- a row in place of one with its key
 

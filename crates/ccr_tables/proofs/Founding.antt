@@ -40,12 +40,13 @@ bare_holds db bare = record {
     pins = none_shown pin_row (db.trees 10) bare.1.1.1.1.1.1.0;
     numbered_meta = none_shaped (db.trees 0) bare.1.0;
     numbered_builds = none_shaped (db.trees 6) bare.1.1.1.1.0;
+    numbered_pairs = none_shaped (db.trees 8) bare.1.1.1.1.1.0;
     numbered_pins = none_shaped (db.trees 10) bare.1.1.1.1.1.1.0;
     typed_builds = subst (AllByRecursion IsBuild) (sym bare.1.1.1.1.0) tt;
   };
 }
 
-pub founds_then : {X Y : Type 0} (a : Schema) (s t u : State) (x : X) (r : Result Y Error) → Creates a our_schema s t (Ok x) → Alters t u (with_meta 1 (49 ∷ [])) r → Founds a s u r
+pub founds_then : {X Y : Type 0} (a : Schema) (s t u : State) (x : X) (r : Result Y Error) → Creates a our_schema s t (Ok x) → Alters t u (with_meta 1 (50 ∷ [])) r → Founds a s u r
 founds_then a s t u x (Ok y) first next =
     record { kept = keeps_then s t u first.kept next.kept; made = (next.made.0, λ bare. next.made.1 no_contents (bare_holds t.now (first.made.1 bare))) }
 founds_then a s t u x (Err e) first next = record { kept = keeps_then s t u first.kept next.kept; made = tt }

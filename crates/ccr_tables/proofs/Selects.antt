@@ -45,6 +45,29 @@ answered tree test project db params rows a =
     let same = IsPermutation-map (λ (o : Output). o.1) a.kept a.ordered a.same in
     subst (λ l. IsPermutation l rows) kept (subst (IsPermutation (map (λ (o : Output). o.1) a.kept)) (sym a.shown) same)
 
+-- the same with a test that is computed
+pub flat_tested : {X Y Z : Type 0} (t : X → Bool) (k : X → Y) (h : Y → Z) (xs : List X) → map h (flat_map (λ x. cond (t x) (k x ∷ []) []) xs) ≡ map (λ x. h (k x)) (filter t xs)
+flat_tested t k h [] = refl
+flat_tested {X} {Y} {Z} t k h (x ∷ xs) =
+    let rest = flat_map (λ y. cond (t y) (k y ∷ []) []) xs in
+    let more = flat_tested t k h xs in
+    elim (t x) as (λ b. map h (Rattle.std.proofs.Common.◌++◌ (cond b (k x ∷ []) []) rest) ≡ map (λ y. h (k y)) (cond b (x ∷ filter t xs) (filter t xs)))
+    [ true ↦ ap (λ l. h (k x) ∷ l) more | false ↦ more ]
+
+-- what an unordered query of one table with four tests answers
+pub answered_four : (tree : ℕ) (one two three four : Term) (project : List Term) (db : Trees) (params : Row) (rows : List Row) → IsAnswer (query tree (one ∷ two ∷ three ∷ four ∷ []) [] project) db params rows
+    → IsPermutation (map (λ r. eval_all project (params ∷ r ∷ []))
+    (filter (λ r. holds (params ∷ r ∷ []) one && (holds (params ∷ r ∷ []) two && (holds (params ∷ r ∷ []) three && (holds (params ∷ r ∷ []) four && true)))) (db tree))) rows
+answered_four tree one two three four project db params rows a =
+    let q = query tree (one ∷ two ∷ three ∷ four ∷ []) [] project in
+    let t : Row → Bool = λ r. holds (params ∷ r ∷ []) one && (holds (params ∷ r ∷ []) two && (holds (params ∷ r ∷ []) three && (holds (params ∷ r ∷ []) four && true))) in
+    let kept : map (λ (o : Output). o.1) a.kept ≡ map (λ r. eval_all project (params ∷ r ∷ [])) (filter t (db tree)) =
+    ap (map (λ (o : Output). o.1)) (a.distinct ∙ ap (map (output q)) a.grouped)
+    ∙ map-map (λ (o : Output). o.1) (output q) _
+    ∙ flat_tested t (λ r. params ∷ r ∷ []) (λ e. (output q e).1) (db tree) in
+    let same = IsPermutation-map (λ (o : Output). o.1) a.kept a.ordered a.same in
+    subst (λ l. IsPermutation l rows) kept (subst (IsPermutation (map (λ (o : Output). o.1) a.kept)) (sym a.shown) same)
+
 module _ (tree : ℕ) (keys project : List Term) (shown : Row → Row) (width : ℕ)
     (shows : (r : Row) → (output (query tree [] keys project) ([] ∷ r ∷ [])).1 ≡ shown r)
     (agree : (a b : Row) → output_cmp (query tree [] keys project) (output (query tree [] keys project) ([] ∷ a ∷ [])) (output (query tree [] keys project) ([] ∷ b ∷ [])) ≡ columns_cmp width (shown a) (shown b)) where

@@ -4,6 +4,8 @@ use Rattle.sqlite_tied.specs.Compute.{everything}
 use Rattle.sqlite.specs.Listing.{understood, reads_listing}
 use Rattle.sqlite.specs.declared.types.Value.TheVariants.{Null, Int}
 use Rattle.sqlite.specs.Term.{Term, lit, col, op2}
+use Rattle.sqlite_sql.specs.Term.{op1}
+use Rattle.sqlite_sql.specs.declared.ops.UnaryOp.TheVariants.{ToNumeric}
 use Rattle.sqlite.specs.Query.{Query, inner, end}
 use Rattle.sqlite.specs.Collation.TheVariants.{Binary}
 use Rattle.sqlite_value.specs.Keys.{ascending}
@@ -15,7 +17,7 @@ use Rattle.sqlite.specs.Command.TheVariants.{Insert, InsertOr, Select, Update, D
 use Rattle.sqlite.proofs.Callers.{IsPlain, command_of}
 use Rattle.ccr_tables.specs.Schema.{our_schema}
 pub use Rattle.ccr_tables.specs.Read.{meta_text, scopes_text, versions_text, builds_text, pairs_text, pins_text}
-pub use Rattle.ccr_tables.specs.Answered.{put_meta_text, scope_text, version_text, build_text, set_status_text, pair_text, put_pin_text, remove_pin_text}
+pub use Rattle.ccr_tables.specs.Answered.{put_meta_text, scope_text, version_text, build_text, set_status_text, pair_text, remove_pair_text, put_pin_text, remove_pin_text}
 
 -- SELECT project FROM the table in this tree WHERE tests ORDER BY keys
 abbrev pub query : ℕ → List Term → List Term → List Term → Query
@@ -207,3 +209,22 @@ remove_pin_command = refl
 pub remove_pin_plain : IsPlain (understood our_schema remove_pin_text)
 unfolding understood everything
 remove_pin_plain = (refl, refl)
+
+-- the column of a row is this parameter; a column of numbers is compared with what is a number
+abbrev pub is_number : ℕ → ℕ → Term
+is_number column param = op2 (Compare Eq Binary) (col 1 column) (op1 ToNumeric (col 0 param))
+
+abbrev pub is_text : ℕ → ℕ → Term
+is_text column param = op2 (Compare Eq Binary) (col 1 column) (col 0 param)
+
+-- the numbers of the pairs of these four columns
+abbrev pub pair_gone : Query
+pair_gone = query 8 (is_number 1 0 ∷ is_text 2 1 ∷ is_number 3 2 ∷ is_number 4 3 ∷ []) [] (col 1 0 ∷ [])
+
+pub remove_pair_command : command_of (understood our_schema remove_pair_text) ≡ Delete 4 (record { lets = []; body = pair_gone })
+unfolding understood everything
+remove_pair_command = refl
+
+pub remove_pair_plain : IsPlain (understood our_schema remove_pair_text)
+unfolding understood everything
+remove_pair_plain = (refl, refl)

@@ -33,6 +33,7 @@ turn_meta these shows all old new holds it rows = record {
     pins = still pin_row these.pins (old.trees 10) (new.trees 10) (it.others.1.1.1.1.1.0 (λ e. absurd (omega (arith, e)))) holds.rows.pins;
     numbered_meta = it.shaped holds.rows.numbered_meta;
     numbered_builds = subst (IsShaped Shaped) (sym (it.others.1.1.1.0 (λ e. absurd (omega (arith, e))))) holds.rows.numbered_builds;
+    numbered_pairs = subst (IsShaped Shaped) (sym (it.others.1.1.1.1.0 (λ e. absurd (omega (arith, e))))) holds.rows.numbered_pairs;
     numbered_pins = subst (IsShaped Shaped) (sym (it.others.1.1.1.1.1.0 (λ e. absurd (omega (arith, e))))) holds.rows.numbered_pins;
     typed_builds = subst (AllByRecursion IsBuild) (sym (it.others.1.1.1.0 (λ e. absurd (omega (arith, e))))) holds.rows.typed_builds;
   };
@@ -51,6 +52,7 @@ turn_scopes these shows all old new holds it rows = record {
     pins = still pin_row these.pins (old.trees 10) (new.trees 10) (it.others.1.1.1.1.1.0 (λ e. absurd (omega (arith, e)))) holds.rows.pins;
     numbered_meta = subst (IsShaped Shaped) (sym (it.others.0 (λ e. absurd (omega (arith, e))))) holds.rows.numbered_meta;
     numbered_builds = subst (IsShaped Shaped) (sym (it.others.1.1.1.0 (λ e. absurd (omega (arith, e))))) holds.rows.numbered_builds;
+    numbered_pairs = subst (IsShaped Shaped) (sym (it.others.1.1.1.1.0 (λ e. absurd (omega (arith, e))))) holds.rows.numbered_pairs;
     numbered_pins = subst (IsShaped Shaped) (sym (it.others.1.1.1.1.1.0 (λ e. absurd (omega (arith, e))))) holds.rows.numbered_pins;
     typed_builds = subst (AllByRecursion IsBuild) (sym (it.others.1.1.1.0 (λ e. absurd (omega (arith, e))))) holds.rows.typed_builds;
   };
@@ -69,6 +71,7 @@ turn_versions these shows all old new holds it rows = record {
     pins = still pin_row these.pins (old.trees 10) (new.trees 10) (it.others.1.1.1.1.1.0 (λ e. absurd (omega (arith, e)))) holds.rows.pins;
     numbered_meta = subst (IsShaped Shaped) (sym (it.others.0 (λ e. absurd (omega (arith, e))))) holds.rows.numbered_meta;
     numbered_builds = subst (IsShaped Shaped) (sym (it.others.1.1.1.0 (λ e. absurd (omega (arith, e))))) holds.rows.numbered_builds;
+    numbered_pairs = subst (IsShaped Shaped) (sym (it.others.1.1.1.1.0 (λ e. absurd (omega (arith, e))))) holds.rows.numbered_pairs;
     numbered_pins = subst (IsShaped Shaped) (sym (it.others.1.1.1.1.1.0 (λ e. absurd (omega (arith, e))))) holds.rows.numbered_pins;
     typed_builds = subst (AllByRecursion IsBuild) (sym (it.others.1.1.1.0 (λ e. absurd (omega (arith, e))))) holds.rows.typed_builds;
   };
@@ -87,6 +90,7 @@ turn_builds these shows all old new holds it rows typed = record {
     pins = still pin_row these.pins (old.trees 10) (new.trees 10) (it.others.1.1.1.1.1.0 (λ e. absurd (omega (arith, e)))) holds.rows.pins;
     numbered_meta = subst (IsShaped Shaped) (sym (it.others.0 (λ e. absurd (omega (arith, e))))) holds.rows.numbered_meta;
     numbered_builds = it.shaped holds.rows.numbered_builds;
+    numbered_pairs = subst (IsShaped Shaped) (sym (it.others.1.1.1.1.0 (λ e. absurd (omega (arith, e))))) holds.rows.numbered_pairs;
     numbered_pins = subst (IsShaped Shaped) (sym (it.others.1.1.1.1.1.0 (λ e. absurd (omega (arith, e))))) holds.rows.numbered_pins;
     typed_builds = typed;
   };
@@ -105,6 +109,7 @@ turn_pairs these shows all old new holds it rows = record {
     pins = still pin_row these.pins (old.trees 10) (new.trees 10) (it.others.1.1.1.1.1.0 (λ e. absurd (omega (arith, e)))) holds.rows.pins;
     numbered_meta = subst (IsShaped Shaped) (sym (it.others.0 (λ e. absurd (omega (arith, e))))) holds.rows.numbered_meta;
     numbered_builds = subst (IsShaped Shaped) (sym (it.others.1.1.1.0 (λ e. absurd (omega (arith, e))))) holds.rows.numbered_builds;
+    numbered_pairs = it.shaped holds.rows.numbered_pairs;
     numbered_pins = subst (IsShaped Shaped) (sym (it.others.1.1.1.1.1.0 (λ e. absurd (omega (arith, e))))) holds.rows.numbered_pins;
     typed_builds = subst (AllByRecursion IsBuild) (sym (it.others.1.1.1.0 (λ e. absurd (omega (arith, e))))) holds.rows.typed_builds;
   };
@@ -123,6 +128,7 @@ turn_pins these shows all old new holds it rows = record {
     pins = rows;
     numbered_meta = subst (IsShaped Shaped) (sym (it.others.0 (λ e. absurd (omega (arith, e))))) holds.rows.numbered_meta;
     numbered_builds = subst (IsShaped Shaped) (sym (it.others.1.1.1.0 (λ e. absurd (omega (arith, e))))) holds.rows.numbered_builds;
+    numbered_pairs = subst (IsShaped Shaped) (sym (it.others.1.1.1.1.0 (λ e. absurd (omega (arith, e))))) holds.rows.numbered_pairs;
     numbered_pins = it.shaped holds.rows.numbered_pins;
     typed_builds = subst (AllByRecursion IsBuild) (sym (it.others.1.1.1.0 (λ e. absurd (omega (arith, e))))) holds.rows.typed_builds;
   };

@@ -31,6 +31,9 @@ set_status_text = codes "UPDATE builds SET status = ?2 WHERE id = ?1"
 abbrev pub pair_text : List ℕ
 pair_text = codes "INSERT INTO pairs(build, input, scope, place) VALUES(?1, ?2, ?3, ?4)"
 
+abbrev pub remove_pair_text : List ℕ
+remove_pair_text = codes "DELETE FROM pairs WHERE build = ?1 AND input = ?2 AND scope = ?3 AND place = ?4"
+
 abbrev pub put_pin_text : List ℕ
 put_pin_text =
     codes "INSERT INTO pins(resource, body) VALUES(?1, ?2) ON CONFLICT(resource) DO UPDATE SET body = excluded.body"
@@ -39,16 +42,19 @@ abbrev pub remove_pin_text : List ℕ
 remove_pin_text = codes "DELETE FROM pins WHERE resource = ?1"
 
 abbrev pub text_of : Write → List ℕ
+text_of write.Format = put_meta_text
 text_of (write.PipelineText text) = put_meta_text
 text_of (write.Scope id resource kind source) = scope_text
 text_of (write.Version scope place body) = version_text
 text_of (write.Build id job number status) = build_text
 text_of (write.Status build status) = set_status_text
 text_of (write.Pair build input scope place) = pair_text
+text_of (write.NoPair build input scope place) = remove_pair_text
 text_of (write.Pin resource body) = put_pin_text
 text_of (write.NoPin resource) = remove_pin_text
 
 abbrev pub params_of : Write → Row
+params_of write.Format = Int (pos 1) ∷ Blob (50 ∷ []) ∷ []
 params_of (write.PipelineText text) = Int (pos 2) ∷ Blob text.items ∷ []
 params_of (write.Scope id resource kind source) =
     Int (pos id) ∷ Text (string_bytes resource) ∷ Text (string_bytes kind) ∷ Text (string_bytes source) ∷ []
@@ -57,6 +63,8 @@ params_of (write.Build id job number status) =
     Int (pos id) ∷ Text (string_bytes job) ∷ Int (pos number) ∷ Int (pos status) ∷ []
 params_of (write.Status build status) = Int (pos build) ∷ Int (pos status) ∷ []
 params_of (write.Pair build input scope place) =
+    Int (pos build) ∷ Text (string_bytes input) ∷ Int (pos scope) ∷ Int (pos place) ∷ []
+params_of (write.NoPair build input scope place) =
     Int (pos build) ∷ Text (string_bytes input) ∷ Int (pos scope) ∷ Int (pos place) ∷ []
 params_of (write.Pin resource body) = Text (string_bytes resource) ∷ Text (string_bytes body) ∷ []
 params_of (write.NoPin resource) = Text (string_bytes resource) ∷ []

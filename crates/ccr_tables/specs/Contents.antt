@@ -58,6 +58,7 @@ pub record Keeps (these : Contents) (trees : Trees) : Type 0 where
   pub pins : IsPermutation these.pins (map pin_row (trees 10))
   pub numbered_meta : IsShaped Table (trees 0)
   pub numbered_builds : IsShaped Table (trees 6)
+  pub numbered_pairs : IsShaped Table (trees 8)
   pub numbered_pins : IsShaped Table (trees 10)
   pub typed_builds : AllByRecursion IsBuild (trees 6)
 
@@ -72,4 +73,4 @@ no_contents = record { meta = []; scopes = []; versions = []; builds = []; pairs
 
 -- a new database: the format's number and nothing else
 abbrev pub new_contents : Contents
-new_contents = record no_contents { meta = (Int (pos 1) ∷ Blob (49 ∷ []) ∷ []) ∷ [] }
+new_contents = record no_contents { meta = (Int (pos 1) ∷ Blob (50 ∷ []) ∷ []) ∷ [] }

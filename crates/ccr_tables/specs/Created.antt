@@ -41,7 +41,7 @@ IsCreate text =
 -- one of the six, or the write of the format's row
 abbrev pub IsFirst : List ℕ → Row → Type 0
 IsFirst text params =
-    (IsCreate text × (params ≡ [])) ⊎ ((text ≡ put_meta_text) × (params ≡ Int (pos 1) ∷ Blob (49 ∷ []) ∷ []))
+    (IsCreate text × (params ≡ [])) ⊎ ((text ≡ put_meta_text) × (params ≡ Int (pos 1) ∷ Blob (50 ∷ []) ∷ []))
 
 -- ---- what was answered
 module _ {S : Type 0} (g : Ghosts S) (old : State) (e : Error) where

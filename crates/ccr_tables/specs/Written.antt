@@ -1,5 +1,5 @@
 -- What each write makes of the contents.
-use Rattle.std.specs.Prelude.{pos, ℕ, Bool, not, cond, [], ◌∷◌, List, map, filter, string_bytes}
+use Rattle.std.specs.Prelude.{pos, ℕ, Bool, not, ◌&&◌, cond, [], ◌∷◌, List, map, filter, string_bytes}
 use Rattle.std.specs.Ordering.{is_eq}
 use Rattle.sqlite.specs.declared.types.Value.{Value}
 use Rattle.sqlite.specs.declared.types.Value.TheVariants.{Int, Text, Blob}
@@ -52,14 +52,28 @@ with_pin resource body these = record these { pins = (Text resource ∷ Text bod
 abbrev pub without_pin : List ℕ → Contents → Contents
 without_pin resource these = record these { pins = without (Text resource) these.pins }
 
+-- the row has these four values, as SQLite compares
+abbrev pub is_row : Value → Value → Value → Value → Row → Bool
+is_row a b c d row =
+    is_eq (value_cmp (column row 0) a) && (is_eq (value_cmp (column row 1) b)
+    && (is_eq (value_cmp (column row 2) c) && is_eq (value_cmp (column row 3) d)))
+
+-- the row of these four columns is gone
+abbrev pub without_pair : ℕ → List ℕ → ℕ → ℕ → Contents → Contents
+without_pair build input scope place these = record these {
+  pairs = filter (λ r. not (is_row (Int (pos build)) (Text input) (Int (pos scope)) (Int (pos place)) r)) these.pairs;
+}
+
 -- what one write makes of the contents
 abbrev pub written : Write → Contents → Contents
+written write.Format = with_meta 1 (50 ∷ [])
 written (write.PipelineText text) = with_meta 2 text.items
 written (write.Scope id resource kind source) = with_scope id (string_bytes resource) (string_bytes kind) (string_bytes source)
 written (write.Version scope place body) = with_version scope place (string_bytes body)
 written (write.Build id job number status) = with_build id (string_bytes job) number status
 written (write.Status build status) = with_status build status
 written (write.Pair build input scope place) = with_pair build (string_bytes input) scope place
+written (write.NoPair build input scope place) = without_pair build (string_bytes input) scope place
 written (write.Pin resource body) = with_pin (string_bytes resource) (string_bytes body)
 written (write.NoPin resource) = without_pin (string_bytes resource)
 

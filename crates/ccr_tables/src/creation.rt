@@ -10,6 +10,7 @@ ghost use Rattle.ccr_tables.specs.Schema.{no_schema, meta_schema, our_schema};
 ghost use Rattle.ccr_tables.specs.Step.{Creates, Founds, IsBare};
 
 use crate::cause::Cause;
+use crate::meta::FORMAT;
 use crate::{builds, meta, pairs, pins, scopes, versions};
 use sqlite::{Alter, Connection, Error, Transaction};
 
@@ -53,7 +54,7 @@ fn create_all<S: Alter>(tx: &mut Transaction<'_, S>) -> Result<(), Error>
     ensures survives { Survives (state S.Store tx.old.conn.now) (state S.Store tx.new.conn.now) (λ _. ⊥) }
 {
     create_tables(tx)?;
-    meta::put(tx, 1, b"1")?;
+    meta::put(tx, 1, FORMAT)?;
     Ok(())
 }
 

@@ -19,6 +19,9 @@ ghost use Rattle.ccr_tables.specs.Written.{with_meta};
 use crate::cause::Cause;
 use sqlite::{Alter, Connection, Error, Row, Transaction, params};
 
+/// The number of the format, as row 1 has it.
+pub(crate) const FORMAT: &[u8] = b"2";
+
 /// Makes the table.
 pub(crate) fn create<S: Alter>(tx: &mut Transaction<'_, S>) -> Result<usize, Error>
     ensures same_reference { tx.new.conn.ghost_name ≡ tx.old.conn.ghost_name }

@@ -9,14 +9,14 @@ ghost use Rattle.ccr_tables.specs.Created as created;
 ghost use Rattle.ccr_tables.specs.Read.{FailedToRead, pairs_text};
 ghost use Rattle.ccr_tables.specs.Shown.{ShowsOfKind};
 ghost use Rattle.ccr_tables.specs.Schema.{builds_schema, our_schema, pairs_schema};
-ghost use Rattle.ccr_tables.specs.Answered.{pair_text};
+ghost use Rattle.ccr_tables.specs.Answered.{pair_text, remove_pair_text};
 ghost use Rattle.ccr_tables.specs.Cause.{cause_of};
 ghost use Rattle.ccr_tables.specs.Contents.{Holds};
 ghost use Rattle.ccr_tables.specs.Left.{OnlyReads};
 ghost use Rattle.ccr_tables.specs.Found.{Are, AreFound};
 ghost use Rattle.ccr_tables.specs.Pairs.{pair, IsPair};
 ghost use Rattle.ccr_tables.specs.Step.{Alters, Creates};
-ghost use Rattle.ccr_tables.specs.Written.{with_pair};
+ghost use Rattle.ccr_tables.specs.Written.{with_pair, without_pair};
 
 use crate::cause::Cause;
 use crate::columns::read_column;
@@ -148,6 +148,31 @@ pub(crate) fn insert<S: Alter>(
 {
     tx.execute(
         "INSERT INTO pairs(build, input, scope, place) VALUES(?1, ?2, ?3, ?4)",
+        params![build, input, scope, place],
+    )
+}
+
+/// Removes the row of `pairs` with these columns, if there is one.
+pub(crate) fn remove<S: Alter>(
+    tx: &mut Transaction<'_, S>,
+    build: u32,
+    input: &str,
+    scope: u32,
+    place: u32,
+) -> Result<usize, Error>
+    ensures same_reference { tx.new.conn.ghost_name ≡ tx.old.conn.ghost_name }
+    ensures step { let old = state S.Store tx.old.conn.now in
+        let new = state S.Store tx.new.conn.now in
+        HasCleanDisk new → IsTrue old.in_transaction → Alters old new (without_pair build input.now scope place) result }
+    ensures answered { let old = state S.Store tx.old.conn.now in
+        let new = state S.Store tx.new.conn.now in
+        HasCleanDisk new → IsTrue old.in_transaction
+        → IfErr result (λ e. ExecutesInside 0 remove_pair_text
+        (Int (pos build) ∷ Text input.now ∷ Int (pos scope) ∷ Int (pos place) ∷ []) old new (Err e)) }
+    ensures survives { Survives (state S.Store tx.old.conn.now) (state S.Store tx.new.conn.now) (λ _. ⊥) }
+{
+    tx.execute(
+        "DELETE FROM pairs WHERE build = ?1 AND input = ?2 AND scope = ?3 AND place = ?4",
         params![build, input, scope, place],
     )
 }

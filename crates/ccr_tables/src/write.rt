@@ -7,12 +7,15 @@ ghost use Rattle.ccr_tables.specs.Answered.{text_of, params_of};
 ghost use Rattle.ccr_tables.specs.Step.{Alters};
 ghost use Rattle.ccr_tables.specs.Written.{written};
 
+use crate::meta::FORMAT;
 use crate::{builds, meta, pairs, pins, scopes, versions};
 use sqlite::{Alter, Error, Transaction};
 
 /// What a commit writes, a row each. The columns are those of the tables; their rules are the caller's.
 #[derive(Debug, Drop)]
 pub enum Write {
+    /// Row 1 of `meta`: the number of the format, in place of an earlier one.
+    Format,
     /// Row 2 of `meta`: the text of the pipeline, in place of an earlier one.
     PipelineText(Vec<u8>),
     /// A new row of `scopes`: id, resource, kind, source.
@@ -25,6 +28,8 @@ pub enum Write {
     Status(u32, u32),
     /// A new row of `pairs`: build, input, scope, place.
     Pair(u32, String, u32, u32),
+    /// No row of `pairs` of this build, input, scope and place.
+    NoPair(u32, String, u32, u32),
     /// A row of `pins`, resource and body, in place of an earlier one of the resource.
     Pin(String, String),
     /// No row of `pins` for this resource.
@@ -46,12 +51,16 @@ pub(crate) fn write_one<S: Alter>(
     ensures survives { Survives (state S.Store tx.old.conn.now) (state S.Store tx.new.conn.now) (λ _. ⊥) }
 {
     match write {
+        Write::Format => meta::put(tx, 1, FORMAT),
         Write::PipelineText(text) => meta::put(tx, 2, text),
         Write::Scope(id, resource, kind, source) => scopes::insert(tx, *id, resource, kind, source),
         Write::Version(scope, place, body) => versions::insert(tx, *scope, *place, body),
         Write::Build(id, job, number, status) => builds::insert(tx, *id, job, *number, *status),
         Write::Status(id, status) => builds::set_status(tx, *id, *status),
         Write::Pair(build, input, scope, place) => pairs::insert(tx, *build, input, *scope, *place),
+        Write::NoPair(build, input, scope, place) => {
+            pairs::remove(tx, *build, input, *scope, *place)
+        }
         Write::Pin(resource, body) => pins::put(tx, resource, body),
         Write::NoPin(resource) => pins::remove(tx, resource),
     }

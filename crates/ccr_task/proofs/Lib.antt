@@ -1,2 +1,3 @@
 pub mod Variables
 pub mod Known
+pub mod Walks

@@ -1,11 +1,11 @@
 -- What checks and asks are launched as.
 use Rattle.std.specs.Prelude.{◌≡◌, ◌<◌, ◌≤◌, ◌==◌, List, [], ◌∷◌, length, Bool, true, false, not, ◌||◌, Option, Some, None, is_some, Result, Ok, Err, codes, if◌then◌else◌, ⊤}
 use Rattle.std.specs.List.{list_any}
-use Rattle.std.specs.Str.{bytes_eq}
 use Rattle.serde_json.specs.Data.{Data}
 use Rattle.ccr_history.specs.TextMap.{TextMap}
 use Rattle.ccr_pipeline.specs.Tree.{Text, ConfigData}
 use Rattle.ccr_pipeline.specs.JobData.{ResourceData}
+use Rattle.ccr_pipeline.specs.Named.{resource_of}
 use Rattle.ccr_steps.specs.Asks.{AskData, fetch, push, read_config, run_task}
 use Rattle.ccr_protocol.specs.Requests.{request_text}
 use Rattle.ccr_protocol.specs.declared.request.TheConstants.{MOST_REQUEST}
@@ -81,15 +81,10 @@ LaunchesTask build config step (Ok launch) = IsTaskLaunch build config step (lau
 LaunchesTask build config step (Err TooLong) = ⊥
 LaunchesTask build config step (Err NoMemory) = ⊤
 
--- the resource of this name
-abbrev pub resource_named : Text → List ResourceData → Option ResourceData
-resource_named name [] = None
-resource_named name (r ∷ rs) = if bytes_eq r.name name then Some r else resource_named name rs
-
 -- an ask starts a program, if it asks for no file, and the pipeline has the resource that it names
 abbrev pub can_launch : List ResourceData → AskData → Bool
-can_launch rs (fetch artifact resource version params) = is_some (resource_named resource rs)
-can_launch rs (push artifact resource params) = is_some (resource_named resource rs)
+can_launch rs (fetch artifact resource version params) = is_some (resource_of resource rs)
+can_launch rs (push artifact resource params) = is_some (resource_of resource rs)
 can_launch rs (read_config file) = false
 can_launch rs (run_task config env) = true
 
@@ -103,10 +98,10 @@ starts_program (run_task config env) = true
 -- what an ask of a build that works in this folder is launched as: a fetch, a push or a task's program
 abbrev pub LaunchesAsk : PlacesData → List ResourceData → Text → AskData → Result Launch RequestFault → Type 0
 LaunchesAsk places rs build (fetch artifact resource version params) result =
-    (r : ResourceData) → resource_named resource rs ≡ Some r
+    (r : ResourceData) → resource_of resource rs ≡ Some r
     → Launches (fetch_launch places build artifact r version params) result
 LaunchesAsk places rs build (push artifact resource params) result =
-    (r : ResourceData) → resource_named resource rs ≡ Some r
+    (r : ResourceData) → resource_of resource rs ≡ Some r
     → Launches (push_launch places build r params) result
 LaunchesAsk places rs build (read_config file) result = ⊤
 LaunchesAsk places rs build (run_task config env) result = LaunchesTask build config env result

@@ -1,9 +1,8 @@
--- What a shelf answers, and what it counts.
-use Rattle.std.specs.Prelude.{◌≡◌, ◌≢◌, ◌⊎◌, ◌+◌, ◌≤◌, ℕ, List, [], ◌∷◌, Bool, true, false, Vec, vec_len, nat_le, Result, Ok, Err, IsOk, IsErrAnd, if◌then◌else◌}
+-- What shelves answer, and the calls that they note.
+use Rattle.std.specs.Prelude.{◌≡◌, ◌≢◌, ◌⊎◌, ℕ, List, [], ◌∷◌, Bool, false, Vec, vec_len, nat_le, Result, Ok, Err, IsOk, IsErrAnd, if◌then◌else◌}
 use Rattle.std.specs.declared.alloc.Global.{Global}
 use Rattle.std.specs.declared.io.ErrorKind.{ErrorKind}
 use Rattle.std.specs.declared.io.ErrorKind.TheVariants.{NotFound, OutOfMemory}
-use Rattle.ccr_task.specs.declared.counts.ShelfCounts.{ShelfCounts}
 use Rattle.ccr_task.specs.declared.shelf.TheConstants.{MOST_FILE}
 use Rattle.ccr_task.specs.declared.fault.ShelfFault.{ShelfFault}
 use Rattle.ccr_task.specs.declared.fault.ShelfFault.TheVariants.{Failed, TooLong, NoMemory}
@@ -11,43 +10,7 @@ use Rattle.ccr_task.specs.declared.folders.Folders.{Folders}
 use Rattle.ccr_task.specs.declared.script.ShelfAnswer.{ShelfAnswer}
 use Rattle.ccr_task.specs.declared.script.ShelfAnswer.TheVariants.{Done, Read, Fault}
 use Rattle.ccr_task.specs.declared.script.ShelfScript.{ShelfScript}
-
--- the greatest count, 2^64 - 1
-abbrev pub greatest : ℕ
-greatest = 18446744073709551615
-
--- one more; the greatest count stays
-abbrev pub Rose : ℕ → ℕ → Type 0
-Rose old new = (new ≡ old + 1) ⊎ ((old ≡ greatest) × (new ≡ old))
-
--- nothing was counted yet
-abbrev pub no_counts : ShelfCounts
-no_counts = record { failures = 0; seen = 0 }
-
--- one failure more, and no folder more was seen
-abbrev pub Fails : ShelfCounts → ShelfCounts → Type 0
-Fails old new = Rose old.failures new.failures × (new.seen ≡ old.seen)
-
--- one folder more was seen, and there is no failure more
-abbrev pub Sees : ShelfCounts → ShelfCounts → Type 0
-Sees old new = Rose old.seen new.seen × (new.failures ≡ old.failures)
-
--- neither count has gone down
-abbrev pub Grew : ShelfCounts → ShelfCounts → Type 0
-Grew old new = (old.failures ≤ new.failures) × (old.seen ≤ new.seen)
-
--- the count of failures moves at a failure; at no other answer does a count move
-abbrev pub Counts : {A : Type 0} → ShelfCounts → Result A ShelfFault → ShelfCounts → Type 0
-Counts old (Ok done) new = new ≡ old
-Counts old (Err Failed) new = Fails old new
-Counts old (Err TooLong) new = new ≡ old
-Counts old (Err NoMemory) new = new ≡ old
-
--- on whether a folder is there: that it is moves the count of folders seen, and a fault is counted as ever
-abbrev pub CountsSeen : ShelfCounts → Result Bool ShelfFault → ShelfCounts → Type 0
-CountsSeen old (Ok true) new = Sees old new
-CountsSeen old (Ok false) new = new ≡ old
-CountsSeen old (Err fault) new = Counts {A = Bool} old (Err fault) new
+use Rattle.ccr_task.specs.Calls.{CallData}
 
 -- the fault that an error of the system is: want of memory is one of its own, and all else a failure
 abbrev pub IsFaultOf : ErrorKind → ShelfFault → Type 0
@@ -93,10 +56,10 @@ answers_left s = s.answers.items
 abbrev pub sights_left : ShelfScript → List (Result Bool ShelfFault)
 sights_left s = s.sights.items
 
--- what a script has counted
-abbrev pub script_counts : ShelfScript → ShelfCounts
-script_counts s = s.counts
+-- the calls of a script
+abbrev pub script_calls : ShelfScript → List CallData
+script_calls s = s.noted.calls.list
 
--- what was counted on the machine's folders
-abbrev pub folders_counts : {R : Type 0} → Folders R → ShelfCounts
-folders_counts f = f.counts
+-- the calls for the machine's folders
+abbrev pub folders_calls : {R : Type 0} → Folders R → List CallData
+folders_calls f = f.noted.calls.list

@@ -1,6 +1,7 @@
 //! How it is asked that a build be aborted.
-ghost use Rattle.std.specs.Prelude.{◌≡◌, ◌≢◌};
-ghost use Rattle.ccr_task.specs.Shelves.{Counts, Grew};
+ghost use Rattle.std.specs.Prelude.{[], ◌∷◌};
+ghost use Rattle.ccr_task.specs.Calls.{making, Does};
+ghost use Rattle.ccr_task.specs.Places.{places_data, abort_folder};
 
 use crate::fault::ShelfFault;
 use crate::places::Places;
@@ -18,9 +19,8 @@ pub fn ask_abort<S: Shelf>(
     job: &str,
     number: u32,
 ) -> Result<(), ShelfFault>
-    ensures counted { Counts (S.counts shelf.old) result (S.counts shelf.new) }
-    ensures grew { Grew (S.counts shelf.old) (S.counts shelf.new) }
-    ensures kind { result ≢ Err ShelfFault.TooLong }
+    ensures { Does (making (abort_folder (places_data places.now) job.now number) ∷ [])
+        (S.calls shelf.old) result (S.calls shelf.new) }
 {
     let Ok(path) = places.abort_folder(alloc, job, number) else {
         return Err(ShelfFault::NoMemory);

@@ -1,8 +1,6 @@
 //! What a shelf counts.
 ghost use Rattle.std.specs.Prelude.{◌≡◌};
-ghost use Rattle.ccr_task.specs.Shelves.{no_counts, Counts, CountsSeen, Grew};
-
-use crate::fault::ShelfFault;
+ghost use Rattle.ccr_task.specs.Calls.{no_counts};
 
 /// How often a shelf failed, and how often it said that a folder is there. Each count stays at 2^64 - 1.
 #[derive(Clone, Copy, Debug, PartialEq, Eq)]
@@ -22,29 +20,5 @@ impl ShelfCounts {
             failures: 0,
             seen: 0,
         }
-    }
-
-    /// Gives an answer, and counts it among the failures if it is one.
-    pub(crate) fn note<T>(&mut self, answer: Result<T, ShelfFault>) -> Result<T, ShelfFault>
-        ensures same { result ≡ answer }
-        ensures counted { Counts self.old answer self.new }
-        ensures grew { Grew self.old self.new }
-    {
-        if let Err(ShelfFault::Failed) = answer {
-            self.failures = self.failures.saturating_add(1);
-        }
-        answer
-    }
-
-    /// Gives an answer on whether a folder is there, and counts it among those seen or the failures if it is one.
-    pub(crate) fn note_seen(&mut self, answer: Result<bool, ShelfFault>) -> Result<bool, ShelfFault>
-        ensures same { result ≡ answer }
-        ensures counted { CountsSeen self.old answer self.new }
-        ensures grew { Grew self.old self.new }
-    {
-        if let Ok(true) = answer {
-            self.seen = self.seen.saturating_add(1);
-        }
-        self.note(answer)
     }
 }

@@ -1,10 +1,13 @@
 //! The machine's folders.
-ghost use Rattle.std.specs.Prelude.{◌≡◌, ◌≢◌, ◌≤◌, ◌<◌, length, IfOk, IfErr, IfSome, IsOk, IsOkAnd, IsErrAnd, MatchResult, vec_len};
+ghost use Rattle.std.specs.Prelude.{◌≡◌, ◌≢◌, ◌≤◌, ◌<◌, [], length, IfOk, IfErr, IfSome, IsOk, IsOkAnd, IsErrAnd, MatchResult, vec_len};
 ghost use Rattle.std.specs.IoError.{error_kind};
-ghost use Rattle.ccr_task.specs.Shelves.{IsFaultOf, RemovesAs, SeesAs, no_counts, folders_counts};
+ghost use Rattle.ccr_task.specs.Calls.{counts_of};
+ghost use Rattle.ccr_task.specs.Shelves.{IsFaultOf, RemovesAs, SeesAs, folders_calls};
 
+use crate::calls::Call;
 use crate::counts::ShelfCounts;
 use crate::fault::ShelfFault;
+use crate::noted::Noted;
 use crate::shelf::{MOST_FILE, Shelf};
 use std::alloc::Global;
 use std::io::{ErrorKind, Read};
@@ -22,7 +25,7 @@ const MOST_READS: u32 = 1_000_000_000;
 pub struct Folders<R> {
     rt: R,
     alloc: Global,
-    counts: ShelfCounts,
+    noted: Noted,
 }
 
 /// What an error of the system counts as.
@@ -123,45 +126,49 @@ fn is_folder<R: Files>(rt: &R, path: &str) -> io::Result<bool> {
 }
 
 impl<R> Folders<R> {
-    /// The machine's folders, with no failure yet, and none seen.
+    /// The machine's folders, of which nothing was asked yet.
     pub fn new(rt: R, alloc: Global) -> Folders<R>
-        ensures { folders_counts result ≡ no_counts }
+        ensures { folders_calls result ≡ [] }
     {
         Folders {
             rt,
             alloc,
-            counts: ShelfCounts::new(),
+            noted: Noted::new(),
         }
     }
 
     /// What was counted so far.
     pub fn counts(&self) -> ShelfCounts
-        ensures { result ≡ folders_counts self.now }
+        ensures { result ≡ counts_of (folders_calls self.now) }
     {
-        self.counts
+        self.noted.counts()
     }
 }
 
 impl<R: Files + Drop> Shelf for Folders<R> {
-    ghost counts = { folders_counts };
+    ghost calls = { folders_calls };
 
     fn make_folder(&mut self, path: &str) -> Result<(), ShelfFault> {
-        let end = fs::create_dir_all(&self.rt, path);
-        self.counts.note(made(end))
+        let answer = made(fs::create_dir_all(&self.rt, path));
+        self.noted.note(&Call::Make(path, &answer));
+        answer
     }
 
     fn read_file(&mut self, path: &str) -> Result<Vec<u8>, ShelfFault> {
-        let opened = open_file(&self.rt, path);
-        self.counts.note(read_opened(self.alloc, opened))
+        let answer = read_opened(self.alloc, open_file(&self.rt, path));
+        self.noted.note(&Call::Read(path, &answer));
+        answer
     }
 
     fn remove_folder(&mut self, path: &str) -> Result<(), ShelfFault> {
-        let end = self.rt.remove_dir_all(self.alloc, path);
-        self.counts.note(removed(end))
+        let answer = removed(self.rt.remove_dir_all(self.alloc, path));
+        self.noted.note(&Call::Remove(path, &answer));
+        answer
     }
 
     fn has_folder(&mut self, path: &str) -> Result<bool, ShelfFault> {
-        let end = is_folder(&self.rt, path);
-        self.counts.note_seen(seen(end))
+        let answer = seen(is_folder(&self.rt, path));
+        self.noted.note(&Call::Has(path, &answer));
+        answer
     }
 }

@@ -9,7 +9,7 @@ ghost use Rattle.ccr_protocol.specs.Requests.{data_of};
 ghost use Rattle.ccr_process.specs.Launches.{launch_data, texts_of};
 ghost use Rattle.ccr_steps.specs.Asks.{ask_data, NamesResourceOf};
 ghost use Rattle.ccr_task.specs.Places.{places_data, below, build_folder};
-ghost use Rattle.ccr_task.specs.Launching.{check_launch, fetch_launch, push_launch, task_program, task_folder, resource_named, begins_with_slash, Launches, LaunchesAsk, IsTaskLaunch, can_launch, starts_program};
+ghost use Rattle.ccr_task.specs.Launching.{check_launch, fetch_launch, push_launch, task_program, task_folder, begins_with_slash, Launches, LaunchesAsk, IsTaskLaunch, can_launch, starts_program};
 
 use crate::environment::environment;
 use crate::places::Places;
@@ -34,19 +34,6 @@ fn only(alloc: Global, arg: String) -> Result<Vec<String>, AllocError>
     let mut args = Vec::new(alloc);
     args.push(arg)?;
     Ok(args)
-}
-
-/// The resource of a name.
-fn resource_named<'p>(resources: &'p [Resource], name: &str) -> Option<&'p Resource>
-    ensures { option_map (λ r. resource_data r.now) result
-        ≡ resource_named name.now (map resource_data resources.now) }
-{
-    for resource in resources {
-        if resource.name.as_str() == name {
-            return Some(resource);
-        }
-    }
-    None
 }
 
 /// The launch of a check of a resource, which is told the version with the greatest place, if there is one
@@ -182,8 +169,8 @@ pub fn can_launch(pipeline: &Pipeline, ask: &Ask<'_>) -> bool
         → NamesResourceOf job.plan (ask_data ask.now) → result ≡ starts_program (ask_data ask.now) }
 {
     match ask {
-        Ask::Fetch { resource, .. } => resource_named(pipeline.resources(), resource).is_some(),
-        Ask::Push { resource, .. } => resource_named(pipeline.resources(), resource).is_some(),
+        Ask::Fetch { resource, .. } => pipeline.resource(resource).is_some(),
+        Ask::Push { resource, .. } => pipeline.resource(resource).is_some(),
         Ask::ReadConfig { .. } => false,
         Ask::RunTask { .. } => true,
     }
@@ -217,7 +204,7 @@ pub fn launch_of(
             version,
             params,
         } => {
-            let resource = resource_named(pipeline.resources(), resource).unwrap();
+            let resource = pipeline.resource(resource).unwrap();
             fetch_launch(alloc, places, build, artifact, resource, version, *params)
         }
         Ask::Push {
@@ -225,7 +212,7 @@ pub fn launch_of(
             params,
             ..
         } => {
-            let resource = resource_named(pipeline.resources(), resource).unwrap();
+            let resource = pipeline.resource(resource).unwrap();
             push_launch(alloc, places, build, resource, *params)
         }
         Ask::ReadConfig { .. } => unreachable!(),

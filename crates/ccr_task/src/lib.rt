@@ -5,20 +5,22 @@
 //! what a task's file does. Contracts see asks, launches, ends and answers as data without where it lies in memory, and
 //! each of these calls as the one launch or answer that its data make.
 //!
-//! A [`Shelf`] makes a folder, reads a file, removes a folder and says whether one is there, and counts its failures and
-//! the folders that it saw: its contract says at which answer a count moves, so that who has seen the counts knows whether
-//! the shelf has failed since, or has seen a folder. [`ask_abort`] asks for a build to be aborted, by a folder that the
-//! server looks for at the build's turns. [`Folders`] are the machine's folders, [`ShelfScript`] gives answers that were handed in. What lies in a folder of the machine, no
-//! contract can say, and tests show it; what is read of an open file is its bytes, by contract.
+//! A [`Shelf`] makes a folder, reads a file, removes a folder and says whether one is there. Its contract says which calls it
+//! had, with their paths and their answers, in order: a list that takes no byte. Its counts of failures and of folders that
+//! it saw are those of this list. [`ask_abort`] asks for a build to be aborted, by a folder that the server looks for at the
+//! build's turns. [`Folders`] are the machine's folders, [`ShelfScript`] gives answers that were handed in. What lies in a
+//! folder of the machine, no contract can say, and tests show it; what is read of an open file is its bytes, by contract.
 #![tactic(auto)]
 
 mod abort;
 mod answer;
+mod calls;
 mod counts;
 mod environment;
 mod fault;
 mod folders;
 mod launch;
+mod noted;
 mod places;
 mod script;
 mod shelf;

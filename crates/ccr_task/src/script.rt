@@ -1,9 +1,12 @@
 //! A shelf that holds nothing.
-ghost use Rattle.std.specs.Prelude.{◌≡◌, drop};
-ghost use Rattle.ccr_task.specs.Shelves.{no_counts, Counts, CountsSeen, folder_answer, file_answer, seen_answer, answers_left, sights_left, script_counts};
+ghost use Rattle.std.specs.Prelude.{◌≡◌, ◌++◌, ◌∷◌, [], drop};
+ghost use Rattle.ccr_task.specs.Calls.{counts_of, make, read, remove, has, file_data};
+ghost use Rattle.ccr_task.specs.Shelves.{folder_answer, file_answer, seen_answer, answers_left, sights_left, script_calls};
 
+use crate::calls::Call;
 use crate::counts::ShelfCounts;
 use crate::fault::ShelfFault;
+use crate::noted::Noted;
 use crate::shelf::{MOST_FILE, Shelf};
 use std::collections::VecDeque;
 
@@ -28,31 +31,31 @@ pub enum ShelfAnswer {
 pub struct ShelfScript {
     answers: VecDeque<ShelfAnswer>,
     sights: VecDeque<Result<bool, ShelfFault>>,
-    counts: ShelfCounts,
+    noted: Noted,
 }
 
 impl ShelfScript {
-    /// A shelf that gives these answers, and these on whether a folder is there, with no failure yet, and none seen.
+    /// A shelf that gives these answers, and these on whether a folder is there.
     pub fn new(
         answers: VecDeque<ShelfAnswer>,
         sights: VecDeque<Result<bool, ShelfFault>>,
     ) -> ShelfScript
         ensures answers { answers_left result ≡ answers.items }
         ensures sights { sights_left result ≡ sights.items }
-        ensures none { script_counts result ≡ no_counts }
+        ensures none { script_calls result ≡ [] }
     {
         ShelfScript {
             answers,
             sights,
-            counts: ShelfCounts::new(),
+            noted: Noted::new(),
         }
     }
 
     /// What was counted so far.
     pub fn counts(&self) -> ShelfCounts
-        ensures { result ≡ script_counts self.now }
+        ensures { result ≡ counts_of (script_calls self.now) }
     {
-        self.counts
+        self.noted.counts()
     }
 
     /// The next answer, to a call for a folder.
@@ -60,63 +63,68 @@ impl ShelfScript {
         ensures answer { result ≡ folder_answer (answers_left self.old) }
         ensures left { answers_left self.new ≡ drop 1 (answers_left self.old) }
         ensures sights { sights_left self.new ≡ sights_left self.old }
-        ensures counted { Counts (script_counts self.old) result (script_counts self.new) }
+        ensures calls { script_calls self.new ≡ script_calls self.old }
     {
-        let answer = match self.answers.pop_front() {
+        match self.answers.pop_front() {
             Some(ShelfAnswer::Done) => Ok(()),
             Some(ShelfAnswer::Fault(ShelfFault::NoMemory)) => Err(ShelfFault::NoMemory),
             _ => Err(ShelfFault::Failed),
-        };
-        self.counts.note(answer)
+        }
     }
 }
 
 impl Shelf for ShelfScript {
-    ghost counts = { script_counts };
+    ghost calls = { script_calls };
 
-    fn make_folder(&mut self, _path: &str) -> Result<(), ShelfFault>
+    fn make_folder(&mut self, path: &str) -> Result<(), ShelfFault>
         ensures answer { result ≡ folder_answer (answers_left self.old) }
         ensures left { answers_left self.new ≡ drop 1 (answers_left self.old) }
         ensures sights { sights_left self.new ≡ sights_left self.old }
-        ensures counted { Counts (script_counts self.old) result (script_counts self.new) }
+        ensures called { script_calls self.new ≡ script_calls self.old ++ make path.now result ∷ [] }
     {
-        self.next_of_folder()
+        let answer = self.next_of_folder();
+        self.noted.note(&Call::Make(path, &answer));
+        answer
     }
 
-    fn read_file(&mut self, _path: &str) -> Result<Vec<u8>, ShelfFault>
+    fn read_file(&mut self, path: &str) -> Result<Vec<u8>, ShelfFault>
         ensures answer { result ≡ file_answer (answers_left self.old) }
         ensures left { answers_left self.new ≡ drop 1 (answers_left self.old) }
         ensures sights { sights_left self.new ≡ sights_left self.old }
-        ensures counted { Counts (script_counts self.old) result (script_counts self.new) }
+        ensures called { script_calls self.new ≡ script_calls self.old ++ read path.now (file_data result) ∷ [] }
     {
         let answer = match self.answers.pop_front() {
             Some(ShelfAnswer::Read(bytes)) if bytes.len() <= MOST_FILE => Ok(bytes),
             Some(ShelfAnswer::Fault(fault)) => Err(fault),
             _ => Err(ShelfFault::Failed),
         };
-        self.counts.note(answer)
+        self.noted.note(&Call::Read(path, &answer));
+        answer
     }
 
-    fn remove_folder(&mut self, _path: &str) -> Result<(), ShelfFault>
+    fn remove_folder(&mut self, path: &str) -> Result<(), ShelfFault>
         ensures answer { result ≡ folder_answer (answers_left self.old) }
         ensures left { answers_left self.new ≡ drop 1 (answers_left self.old) }
         ensures sights { sights_left self.new ≡ sights_left self.old }
-        ensures counted { Counts (script_counts self.old) result (script_counts self.new) }
+        ensures called { script_calls self.new ≡ script_calls self.old ++ remove path.now result ∷ [] }
     {
-        self.next_of_folder()
+        let answer = self.next_of_folder();
+        self.noted.note(&Call::Remove(path, &answer));
+        answer
     }
 
-    fn has_folder(&mut self, _path: &str) -> Result<bool, ShelfFault>
+    fn has_folder(&mut self, path: &str) -> Result<bool, ShelfFault>
         ensures answer { result ≡ seen_answer (sights_left self.old) }
         ensures left { sights_left self.new ≡ drop 1 (sights_left self.old) }
         ensures answers { answers_left self.new ≡ answers_left self.old }
-        ensures counted { CountsSeen (script_counts self.old) result (script_counts self.new) }
+        ensures called { script_calls self.new ≡ script_calls self.old ++ has path.now result ∷ [] }
     {
         let answer = match self.sights.pop_front() {
             Some(Err(ShelfFault::TooLong)) => Err(ShelfFault::Failed),
             Some(sight) => sight,
             None => Ok(false),
         };
-        self.counts.note_seen(answer)
+        self.noted.note(&Call::Has(path, &answer));
+        answer
     }
 }

@@ -15,6 +15,7 @@ fn put_word(out: &mut String, word: Word) -> Result<(), AllocError>
         Word::Problem => out.push_str("problem"),
         Word::Inputs => out.push_str("inputs"),
         Word::Jobs => out.push_str("jobs"),
+        Word::After => out.push_str("after"),
         Word::Places => out.push_str("places"),
         Word::Builds => out.push_str("builds"),
         Word::Pairs => out.push_str("pairs"),

@@ -14,6 +14,8 @@ pub enum Word {
     Inputs,
     /// `jobs`
     Jobs,
+    /// `after`
+    After,
     /// `places`
     Places,
     /// `builds`
@@ -78,6 +80,8 @@ fn keyword_of(bytes: &[u8]) -> Word
         Word::Inputs
     } else if bytes == b"jobs".as_slice() {
         Word::Jobs
+    } else if bytes == b"after".as_slice() {
+        Word::After
     } else if bytes == b"places".as_slice() {
         Word::Places
     } else if bytes == b"builds".as_slice() {

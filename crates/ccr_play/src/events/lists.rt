@@ -99,6 +99,17 @@ fn pinned(alloc: Global, draws: &mut Draws, core: &Core) -> Result<Event, LineFa
     Ok(Event::Pin(resource(alloc, draws, core)?, pin))
 }
 
+/// A place of a resource is disabled or enabled; some resources lack it.
+fn switched(alloc: Global, draws: &mut Draws, core: &Core) -> Result<Event, LineFault> {
+    let resource = resource(alloc, draws, core)?;
+    let place = 1 + draws.below(MOST_VERSIONS);
+    if draws.below(3) == 0 {
+        Ok(Event::Enable(resource, place))
+    } else {
+        Ok(Event::Disable(resource, place))
+    }
+}
+
 /// An answer to an ask: most are of the kind that lets the build go on.
 fn answered(alloc: Global, draws: &mut Draws, ask: &Ask<'_>) -> Result<Answered, LineFault> {
     match (draws.below(24), ask) {
@@ -155,7 +166,8 @@ fn event(
         0..=11 => checked(alloc, draws, core),
         12..=21 => Ok(Event::Schedule(job(alloc, draws, core)?)),
         22..=33 => Ok(Event::Trigger(job(alloc, draws, core)?)),
-        34..=90 => answer(alloc, draws, core),
+        34..=88 => answer(alloc, draws, core),
+        89..=90 => switched(alloc, draws, core),
         91..=92 => aborted(alloc, draws, core),
         93..=94 => pinned(alloc, draws, core),
         95..=96 => Ok(Event::Unpin(resource(alloc, draws, core)?)),

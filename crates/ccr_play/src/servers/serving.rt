@@ -1,7 +1,7 @@
 //! A server over a script.
 ghost use Rattle.std.specs.Prelude.{⊤};
 ghost use Rattle.ccr_process.specs.Runs.{script_pairs};
-ghost use Rattle.ccr_task.specs.Shelves.{script_counts};
+ghost use Rattle.ccr_task.specs.Shelves.{script_calls};
 ghost use Rattle.ccr_serve.specs.Views.{view_of, IsKept};
 
 use super::script::Script;
@@ -11,7 +11,7 @@ use crate::programs::places;
 use ccr_history::History;
 use ccr_lines::{Command, Printed};
 use ccr_process::Scripted;
-use ccr_serve::{ServeFault, Server};
+use ccr_serve::{ServeFault, Server, Unopened};
 use ccr_storage::Tally;
 use ccr_task::ShelfScript;
 use std::alloc::Global;
@@ -30,14 +30,14 @@ pub(super) struct Serving<W: Write> {
 impl<W: Write> Model for Serving<W> {
     ghost use Rattle.std.specs.Prelude.{[], ⊤};
     ghost use Rattle.ccr_process.specs.Runs.{script_pairs};
-    ghost use Rattle.ccr_task.specs.Shelves.{script_counts};
+    ghost use Rattle.ccr_task.specs.Shelves.{script_calls};
     ghost use Rattle.ccr_serve.specs.Views.{view_of, IsKept};
 
     ghost Value = { ⊤ };
 
     ghost view = { λ _. tt };
 
-    ghost invariant = { λ s. IsKept (view_of (λ told. script_pairs told.script) script_counts
+    ghost invariant = { λ s. IsKept (view_of (λ told. script_pairs told.script) script_calls
         (λ _ _. ⊤) (λ _ _. ⊤) (λ unkept. unkept.tally) s.server []) };
 }
 
@@ -59,8 +59,10 @@ impl<W: Write + Drop> Serving<W> {
             tally: Tally::new(),
         };
         let history = History::new(alloc);
-        let server = Server::open(alloc, runner, shelf, storage, history, places, BUDGET)?;
-        Ok(Serving { server })
+        match Server::open(alloc, runner, shelf, storage, history, places, BUDGET) {
+            Ok(server) => Ok(Serving { server }),
+            Err(Unopened { fault, storage: _ }) => Err(fault),
+        }
     }
 
     /// Does a command.

@@ -34,28 +34,28 @@ fn closed(conn: Filed) -> Result<Files<Memory>> {
 }
 
 /// Makes the six tables, if they are wanted, and runs statements.
-fn fill(conn: &mut Filed, has_tables: bool, statements: &str) -> Result<()>
+fn fill(alloc: Global, conn: &mut Filed, has_tables: bool, statements: &str) -> Result<()>
     requires { conn.old.in_transaction ≡ false }
 {
     if has_tables {
-        prepare(conn)?;
+        prepare(alloc, conn)?;
     }
     Ok(conn.execute_batch(statements)?)
 }
 
 /// Fills a database and closes it.
-fn filled(conn: Filed, has_tables: bool, statements: &str) -> Result<Files<Memory>>
+fn filled(alloc: Global, conn: Filed, has_tables: bool, statements: &str) -> Result<Files<Memory>>
     requires { conn.in_transaction ≡ false }
 {
     let mut conn = conn;
-    fill(&mut conn, has_tables, statements)?;
+    fill(alloc, &mut conn, has_tables, statements)?;
     closed(conn)
 }
 
 /// A database in files in memory, made by these statements.
 fn made(alloc: Global, has_tables: bool, statements: &str) -> Result<Files<Memory>> {
     match Connection::open_files(alloc, empty_files(alloc), Options::new(1)) {
-        Ok(conn) => filled(conn, has_tables, statements),
+        Ok(conn) => filled(alloc, conn, has_tables, statements),
         Err((error, _)) => Err(error.into()),
     }
 }
@@ -95,7 +95,7 @@ fn try_opened(alloc: Global, conn: Filed) -> Looked
     requires { conn.in_transaction ≡ false }
 {
     let mut conn = conn;
-    match prepare(&mut conn) {
+    match prepare(alloc, &mut conn) {
         Ok(()) => try_store(alloc, Store::over(conn)),
         Err(fault) => Looked {
             fault: Some(fault),

@@ -19,7 +19,7 @@ impl<S: Storage + Drop> Kept<S> {
         seen: Vec<Version>,
     ) -> Result<()> {
         let pipeline = pipeline.as_ref().ok_or(anyhow!("no pipeline"))?;
-        let scope = scope_in(alloc, pipeline, name)?;
+        let scope = scope_in(pipeline, name)?;
         self.report(alloc, scope, seen)
     }
 

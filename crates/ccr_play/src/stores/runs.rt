@@ -89,7 +89,7 @@ fn run_opened(alloc: Global, conn: Connection<FileStore<Fuse<Memory>>>, lines: &
     requires { conn.in_transaction ≡ false }
 {
     let mut conn = conn;
-    match prepare(&mut conn) {
+    match prepare(alloc, &mut conn) {
         Ok(()) => run_store(alloc, Store::over(conn), lines),
         Err(_) => Reached {
             stage: Stage::Adopting,

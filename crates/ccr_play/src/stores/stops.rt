@@ -78,7 +78,7 @@ fn found<D: Disk + Drop>(alloc: Global, files: Files<D>, frames: u32) -> Result<
         bail!("the files can't be used")
     }
     match Connection::open_files(alloc, files, options(frames)) {
-        Ok(conn) => held(alloc, Store::adopt(conn)?),
+        Ok(conn) => held(alloc, Store::adopt(alloc, conn)?),
         Err((error, _)) => Err(error.into()),
     }
 }

@@ -2,7 +2,7 @@ use Rattle.std.proofs.Common.{refl, option_copied}
 use Rattle.std.proofs.lemmas.Result.{err_from_is_err_and}
 use Rattle.ccr_proof.specs.Tree.{tree_of}
 use Rattle.ccr_choice.specs.Preference.{order_of}
-use Rattle.ccr_choice.proofs.PlainLaws.{is_order}
+use Rattle.ccr_choice.proofs.Orders.{is_order}
 use Rattle.ccr_check.proofs.Claims.{empty_table, accepted_from, fault_from, not_accepted, refused}
 use Rattle.ccr_proof.proofs.Sound.{accepted_right}
 use Rattle.ccr_check.proofs.accept.check.Goals as goal

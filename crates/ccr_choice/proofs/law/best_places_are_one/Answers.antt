@@ -1,6 +1,7 @@
 use Rattle.std.proofs.Common.{◌∙◌, sym}
 use Rattle.ccr_choice.proofs.BestPlaces.{best_places}
-use Rattle.ccr_choice.proofs.PlainLaws.{is_order}
+use Rattle.ccr_choice.specs.Problem.{input_at}
+use Rattle.ccr_choice.proofs.Orders.{is_order, before_zero}
 use Rattle.ccr_choice.proofs.PossibleLaws.{are_best, are_only}
 use Rattle.ccr_choice.proofs.law.best_places_are_one.Goals as goal
 
@@ -13,3 +14,6 @@ returns-clause-only c = λ prefers order p a places others best other.
 
 pub returns-clause-order : goal.returns-clause-order
 returns-clause-order c = is_order
+
+pub returns-clause-last : goal.returns-clause-last
+returns-clause-last c = λ p i place some. before_zero (input_at p i).after place some

@@ -8,7 +8,7 @@ use Rattle.ccr_choice.proofs.read.next_inputs.Goals as goal
 pub loop-init : goal.loop-init
 unfolding next_inputs
 loop-init c = record {
-  read = many_start next_input next_counts c.args.count _ (0, 0) _ c.args.lines.now (omega arith) (search rules);
+  read = many_start (next_input c.args.format) next_counts c.args.count _ (0, 0) _ c.args.lines.now (omega arith) (search rules);
   scopes = search rules;
   jobs = search rules;
   few = omega arith;
@@ -17,7 +17,7 @@ loop-init c = record {
 pub loop-preserved : goal.loop-preserved
 loop-preserved c =
     record {
-      read = many_step next_input next_counts (c.args.count - c.loop.counter) _ (c.loop.scopes, c.loop.jobs) _ c.loop.inputs.items _ c.loop.lines _ c.in_ok-input.input _
+      read = many_step (next_input c.args.format) next_counts (c.args.count - c.loop.counter) _ (c.loop.scopes, c.loop.jobs) _ c.loop.inputs.items _ c.loop.lines _ c.in_ok-input.input _
           (omega arith) c.in_ok-input.ensures.read (search rules) (grind (arith, common_steps)) c.loop.invariant.read;
       scopes = grind (arith, common_steps, scopes_after-push);
       jobs = grind (arith, common_steps, jobs_after-push);

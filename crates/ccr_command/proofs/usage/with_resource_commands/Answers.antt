@@ -10,4 +10,7 @@ returns c =
     let two = with_command _ _ _ _ _ c.in_ok-line-2.ensures one c.in_ok-check_resource.ensures in
     let three = with_command _ _ _ _ _ c.in_ok-line-3.ensures two c.in_ok-resource_versions.ensures in
     let four = with_command _ _ _ _ _ c.in_ok-line-4.ensures three c.in_ok-pin_resource.ensures in
-    IfOk-weaker c.subcommand-5.result _ _ (λ made h. with_command _ _ _ _ _ h four c.in_ok-unpin_resource.ensures) c.subcommand-5.ensures
+    let five = with_command _ _ _ _ _ c.in_ok-line-5.ensures four c.in_ok-unpin_resource.ensures in
+    let six = with_command _ _ _ _ _ c.in_ok-line-6.ensures five c.in_ok-disable_resource_version.ensures in
+    IfOk-weaker c.subcommand-7.result _ _ (λ made h. with_command _ _ _ _ _ h six c.in_ok-enable_resource_version.ensures)
+    c.subcommand-7.ensures

@@ -3,4 +3,4 @@ use Rattle.ccr_explain.specs.Cut.{cut_from}
 use Rattle.ccr_explain.proofs.cut.cut_inputs.Given as goal
 
 abbrev pub invariant-loop-i : goal.invariant-loop-i
-invariant-loop-i l = l.inputs.items ++ cut_from l.demands l.order l.top l.i (drop l.i l.problem.inputs) ≡ cut_from l.demands l.order l.top 0 l.problem.inputs
+invariant-loop-i l = l.cut.items ++ cut_from l.demands l.order l.top l.i (drop l.i l.inputs) ≡ cut_from l.demands l.order l.top 0 l.inputs

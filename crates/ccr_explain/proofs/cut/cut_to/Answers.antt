@@ -1,19 +1,38 @@
-use Rattle.std.proofs.Common.{◌≡◌, true, subst, sym, ◌∙◌}
+use Rattle.std.proofs.Common.{◌≡◌, ℕ, List, true, subst, sym, ◌∙◌}
 use Rattle.ccr_choice.specs.Problem.{ProblemValue, is_problem}
-use Rattle.ccr_explain.proofs.CutRules.{cut_rules}
-use Rattle.ccr_explain.proofs.Steps.{cut_is}
+use Rattle.ccr_explain.specs.Cut.{IsTop}
+use Rattle.ccr_explain.proofs.CutRules.{cut_rules, cut_rises}
+use Rattle.ccr_explain.proofs.Steps.{cut_is, inputs_are}
 use Rattle.ccr_explain.proofs.cut.cut_to.Goals as goal
+
+pub jobs_of-requires-clause-rising : goal.jobs_of-requires-clause-rising
+jobs_of-requires-clause-rising c =
+    let ds = c.args.demands.now in
+    let top = c.top_place-top.result in
+    let p : ProblemValue = record c.args.problem.now { inputs = c.args.inputs.now } in
+    cut_rises ds top p c.deref-3.result.now c.requires c.top_place-top.ensures.least c.top_place-top.ensures.most
+    (inputs_are ds top p c.in_ok-order.order.items c.deref-2.result.now c.in_ok-inputs.inputs.items c.deref-3.result.now c.in_ok-order.ensures.value c.deref-2.ensures.value c.in_ok-inputs.ensures c.deref-3.ensures.value)
 
 pub new-requires : goal.new-requires
 new-requires c =
     let ds = c.args.demands.now in
-    let p = c.args.problem.now in
-    let same = cut_is ds c.args.top p c.in_ok-order.order.items c.deref.result.now c.deref-2.result.now c.in_ok-inputs.inputs.items c.in_ok-jobs.jobs.items
-    c.in_ok-order.ensures.value c.deref.ensures.value c.deref-2.ensures.value c.in_ok-inputs.ensures c.in_ok-jobs.ensures in
+    let top = c.top_place-top.result in
+    let p : ProblemValue = record c.args.problem.now { inputs = c.args.inputs.now } in
+    let same = cut_is ds top p c.in_ok-order.order.items c.deref-2.result.now c.deref-4.result.now c.in_ok-inputs.inputs.items c.deref-3.result.now c.in_ok-jobs.jobs.items
+    c.in_ok-order.ensures.value c.deref-2.ensures.value c.deref-4.ensures.value c.in_ok-inputs.ensures c.deref-3.ensures.value c.in_ok-jobs.ensures in
     let P : ProblemValue → Type 0 = λ q. is_problem q ≡ true in
-    subst P (sym same) (cut_rules ds c.args.top p c.in_ok-order.ensures.rules c.requires)
+    subst P (sym same) (cut_rules ds top p c.requires c.top_place-top.ensures.least c.top_place-top.ensures.most)
 
-pub returns-clause-value : goal.returns-clause-value
-returns-clause-value c =
-    c.new.ensures ∙ cut_is c.args.demands.now c.args.top c.args.problem.now c.in_ok-order.order.items c.deref.result.now c.deref-2.result.now c.in_ok-inputs.inputs.items c.in_ok-jobs.jobs.items
-    c.in_ok-order.ensures.value c.deref.ensures.value c.deref-2.ensures.value c.in_ok-inputs.ensures c.in_ok-jobs.ensures
+pub returns : goal.returns
+returns c =
+    let ds = c.args.demands.now in
+    let top = c.top_place-top.result in
+    let p : ProblemValue = record c.args.problem.now { inputs = c.args.inputs.now } in
+    let P : List ℕ → Type 0 = λ order. IsTop p order top in
+    let found = c.top_place-top.ensures in
+    record {
+      top = top;
+      is_top = subst P (c.deref.ensures.value ∙ c.in_ok-order.ensures.value) (record { least = found.least; most = found.most; covers = found.covers });
+      is = c.new.ensures ∙ cut_is ds top p c.in_ok-order.order.items c.deref-2.result.now c.deref-4.result.now c.in_ok-inputs.inputs.items c.deref-3.result.now c.in_ok-jobs.jobs.items
+          c.in_ok-order.ensures.value c.deref-2.ensures.value c.deref-4.ensures.value c.in_ok-inputs.ensures c.deref-3.ensures.value c.in_ok-jobs.ensures;
+    }

@@ -3,4 +3,4 @@ use Rattle.ccr_explain.specs.Demand.{demands_from}
 use Rattle.ccr_explain.proofs.demand.demands_of.Given as goal
 
 abbrev pub invariant-loop-i : goal.invariant-loop-i
-invariant-loop-i l = l.demands.items ++ demands_from l.i (drop l.i l.problem.inputs) ≡ demands_from 0 l.problem.inputs
+invariant-loop-i l = l.demands.items ++ demands_from l.i (drop l.i l.inputs) ≡ demands_from 0 l.inputs

@@ -1,4 +1,5 @@
 use Rattle.std.proofs.Common.{subst, sym}
+use Rattle.ccr_choice.specs.Problem.{ProblemValue}
 use Rattle.ccr_explain.specs.declared.met.Met.{Met}
 use Rattle.ccr_explain.specs.Cut.{IsMet}
 use Rattle.ccr_explain.proofs.CutLaws.{chosen_met}
@@ -6,6 +7,7 @@ use Rattle.ccr_explain.proofs.met.are_met.Goals as goal
 
 pub returns : goal.returns
 returns c =
-    let P : Met → Type 0 = λ x. IsMet c.args.problem.now c.args.demands.now c.args.budget x in
+    let p : ProblemValue = record c.args.problem.now { inputs = c.args.inputs.now } in
+    let P : Met → Type 0 = λ x. IsMet p c.args.demands.now c.args.budget x in
     subst P (sym c.met_of.ensures)
-    (chosen_met c.args.demands.now c.args.top c.args.problem.now c.in_ok-chosen.ensures.rules c.requires.top c.requires.demands c.args.budget c.in_ok-chosen.chosen c.in_ok-chosen.ensures.chosen)
+    (chosen_met c.args.demands.now p c.requires.rules c.requires.demands c.args.budget c.in_ok-chosen.chosen c.in_ok-chosen.ensures)

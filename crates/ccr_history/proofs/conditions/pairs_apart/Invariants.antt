@@ -1,5 +1,6 @@
 use Rattle.std.proofs.Common.{◌≡◌, length}
-use Rattle.ccr_history.specs.Conditions.{are_apart, is_same_pair}
+use Rattle.ccr_history.specs.Pairs.{is_same_pair}
+use Rattle.ccr_history.specs.Conditions.{are_apart}
 use Rattle.ccr_history.proofs.conditions.pairs_apart.Given as goal
 
 abbrev pub invariant-loop-first : goal.invariant-loop-first

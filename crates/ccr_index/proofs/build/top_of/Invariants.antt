@@ -1,7 +1,8 @@
-use Rattle.std.proofs.Common.{ℕ, ◌<◌, ◌≤◌, length, slice_index}
+use Rattle.std.proofs.Common.{ℕ, ◌<◌, slice_index}
 use Rattle.ccr_choice.specs.Assignment.{nothing_fixed}
+use Rattle.ccr_index.specs.Ranks.{ranked}
 use Rattle.ccr_index.specs.Index.{HasPassed}
 use Rattle.ccr_index.proofs.build.top_of.Given as goal
 
-abbrev pub invariant-loop-k : goal.invariant-loop-k
-invariant-loop-k l = (m : ℕ) → l.k ≤ m → m < length l.places → HasPassed l.problem nothing_fixed l.input (slice_index l.places m) → ⊥
+abbrev pub invariant-loop-rank : goal.invariant-loop-rank
+invariant-loop-rank l = (s : ℕ) → s < l.rank → HasPassed l.problem nothing_fixed l.input (slice_index l.places (ranked l.ranks.above l.ranks.to s)) → ⊥

@@ -1,4 +1,4 @@
-use Rattle.std.proofs.Common.{◌≡◌, ◌++◌, List, ℕ, Option, map, drop}
+use Rattle.std.proofs.Common.{◌≡◌, ◌++◌, ℕ, Option, map, drop}
 use Rattle.ccr_choice.specs.Problem.{BuildValue}
 use Rattle.ccr_pipeline.specs.Inputs.{inputs}
 use Rattle.ccr_pipeline.specs.JobData.{JobData, job_data}

@@ -9,5 +9,5 @@ use Rattle.ccr_indexes.proofs.indexes.indexes_of.Given as goal
 
 abbrev pub invariant-loop-job : goal.invariant-loop-job
 invariant-loop-job l =
-    let F : JobData → ProblemValue = λ j. problem_with (pipeline_data l.pipeline) l.history (inputs j.plan) in
+    let F : JobData → ProblemValue = λ j. problem_with (pipeline_data l.pipeline) l.history j.name (inputs j.plan) in
     problems l.indexes.items ++ map F (map job_data (drop l.job-index l.job-items)) ≡ map F (map job_data l.job-items)

@@ -1,6 +1,6 @@
-use Rattle.std.proofs.Common.{Vec, Global, ◌≡◌, ◌+◌, ◌<◌, ◌≤◌, ℕ, suc, List, [], length, map, take, drop, slice_index_or, true, refl, ap, sym, ◌∙◌, subst, arith}
+use Rattle.std.proofs.Common.{Vec, Global, ◌≡◌, ◌+◌, ◌<◌, ℕ, suc, List, [], length, map, take, drop, slice_index_or, refl, ap, sym, ◌∙◌, arith}
 use Rattle.std.proofs.lemmas.List.{length-map, get_or-map}
-use Rattle.ccr_choice.specs.Problem.{ProblemValue, are_places_after, input_at, no_input}
+use Rattle.ccr_choice.specs.Problem.{ProblemValue, are_places_after, input_at}
 use Rattle.ccr_index.specs.Rows.{last_after}
 use Rattle.ccr_indexes.specs.Passing.{how_many, with_more, with_news}
 use Rattle.ccr_indexes.proofs.Places.{news_step, news_later, news_none, news_ascend, many_left, length-news}

@@ -1,4 +1,4 @@
-use Rattle.std.proofs.Common.{◌≡◌, ◌+◌, ◌≤◌, map, take, drop}
+use Rattle.std.proofs.Common.{◌≡◌, ◌≤◌, map, take, drop}
 use Rattle.ccr_indexes.specs.Passing.{how_many, with_news}
 use Rattle.ccr_indexes.proofs.news.add_news.Given as goal
 

@@ -1,4 +1,4 @@
-use Rattle.std.proofs.Common.{◌≡◌, ◌+◌, ◌<◌, ◌≤◌, true, length, drop}
+use Rattle.std.proofs.Common.{◌≡◌, ◌+◌, ◌<◌, true, length, drop}
 use Rattle.ccr_choice.specs.Problem.{are_places_after, input_at}
 use Rattle.ccr_index.specs.Rows.{last_after}
 use Rattle.ccr_indexes.specs.Passing.{with_more}

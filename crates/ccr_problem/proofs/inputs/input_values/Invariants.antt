@@ -6,5 +6,5 @@ use Rattle.ccr_problem.proofs.inputs.input_values.Given as goal
 
 abbrev pub invariant-loop-input : goal.invariant-loop-input
 invariant-loop-input l =
-    l.values.items ++ map (input_value (pipeline_data l.pipeline) l.history l.resources l.jobs) (map input_data (drop l.input-index l.inputs))
-    ≡ map (input_value (pipeline_data l.pipeline) l.history l.resources l.jobs) (map input_data l.inputs)
+    l.values.items ++ map (input_value (pipeline_data l.pipeline) l.history l.own l.resources l.jobs) (map input_data (drop l.input-index l.inputs))
+    ≡ map (input_value (pipeline_data l.pipeline) l.history l.own l.resources l.jobs) (map input_data l.inputs)

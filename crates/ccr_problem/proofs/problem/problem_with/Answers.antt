@@ -26,7 +26,7 @@ new-requires c =
     let scopes : c.deref.result.now ≡ map (history_number p h) c.in_ok-resources.resources =
     c.deref.ensures.value ∙ c.in_ok-scopes.ensures ∙ ap (map (history_number p h)) c.names.ensures in
     let builds = c.in_ok-builds.ensures ∙ ap (map (job_value h.builds c.deref.result.now)) c.names-2.ensures in
-    let made = problem_made p h is c.in_ok-resources.resources c.in_ok-jobs.jobs c.deref.result.now c.in_ok-values.values.items c.in_ok-builds.builds.items
+    let made = problem_made p h c.args.own.now is c.in_ok-resources.resources c.in_ok-jobs.jobs c.deref.result.now c.in_ok-values.values.items c.in_ok-builds.builds.items
     c.in_ok-resources.ensures c.in_ok-jobs.ensures scopes c.in_ok-values.ensures builds in
     let P : ProblemValue → Type 0 = IsProblem in
-    subst P (sym made) (problem_kept p h is c.rules.ensures c.requires)
+    subst P (sym made) (problem_kept p h c.args.own.now is c.rules.ensures c.requires)

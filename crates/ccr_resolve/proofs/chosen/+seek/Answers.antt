@@ -5,7 +5,7 @@ use Rattle.std.proofs.lemmas.Option.{slice_get-get_or}
 use Rattle.ccr_choice.specs.Problem.{builds_at}
 use Rattle.ccr_choice.proofs.TableLaws.{table_set}
 use Rattle.ccr_choice.specs.Preference.{order_of}
-use Rattle.ccr_choice.proofs.PlainLaws.{is_order}
+use Rattle.ccr_choice.proofs.Orders.{is_order}
 use Rattle.ccr_choice.proofs.Bounds.{rules_of}
 use Rattle.ccr_proof.specs.Tree.{empty, bounded}
 use Rattle.ccr_resolve.specs.declared.wanted.Split.{Split}

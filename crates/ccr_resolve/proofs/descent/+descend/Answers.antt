@@ -4,7 +4,7 @@ use Rattle.ccr_choice.specs.Problem.{builds_at}
 use Rattle.ccr_choice.proofs.TableLaws.{table_set}
 use Rattle.ccr_proof.specs.declared.node.Node.{Node, Same}
 use Rattle.ccr_choice.specs.Preference.{order_of}
-use Rattle.ccr_choice.proofs.PlainLaws.{is_order}
+use Rattle.ccr_choice.proofs.Orders.{is_order}
 use Rattle.ccr_proof.specs.Tree.{trees_of}
 use Rattle.ccr_proof.specs.Refutes.{IsSameCase}
 use Rattle.ccr_proof.proofs.Trees.{width_of}

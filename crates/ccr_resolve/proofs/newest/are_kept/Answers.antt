@@ -3,7 +3,7 @@ use Rattle.std.proofs.lemmas.Bool.{cases_lt}
 use Rattle.ccr_choice.specs.Possible.{IsBestPlace}
 use Rattle.ccr_choice.specs.Preference.{order_of}
 use Rattle.ccr_choice.specs.Table.{assigned}
-use Rattle.ccr_choice.proofs.PlainLaws.{is_order}
+use Rattle.ccr_choice.proofs.Orders.{is_order}
 use Rattle.ccr_choice.proofs.PossibleLaws.{best_place_is}
 use Rattle.ccr_resolve.proofs.newest.are_kept.Goals as goal
 

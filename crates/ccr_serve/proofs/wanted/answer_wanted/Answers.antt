@@ -6,7 +6,7 @@ use Rattle.ccr_task.specs.Places.{places_data, build_folder}
 use Rattle.ccr_core.specs.Cores.{core_data}
 use Rattle.ccr_core.specs.Holding.{NamesResource, Wants}
 use Rattle.ccr_core.specs.State.{no_pipeline}
-use Rattle.ccr_serve.specs.Asked.{Answers}
+use Rattle.ccr_serve.specs.Asked.{Answers, BeginsAnswer}
 use Rattle.ccr_serve.proofs.Wants.{some_mapped, has_pipeline, launches}
 use Rattle.ccr_serve.proofs.wanted.answer_wanted.Goals as goal
 
@@ -35,6 +35,23 @@ returns-in-Ok-clause-ok g c =
       answers = subst
           (λ p. Answers (places_data c.args.places.now) (unwrap_or p no_pipeline).resources
           (build_folder (places_data c.args.places.now) c.args.job.now c.args.number) (ask_data c.unwrap-turn.result.1)
-          (g.S.Shelf.counts c.args.shelf.now) (g.S.Shelf.counts c.answer_to.new.shelf) o.0 (answer_data c.in-Ok.answered))
+          (g.S.Shelf.calls c.args.shelf.now) (g.S.Shelf.calls c.answer_to.new.shelf) o.0 (answer_data c.in-Ok.answered))
+          (ap (λ q. option_map pipeline_data (option_copied q)) (sym c.unwrap-pipeline.ensures) ∙ c.pipeline.ensures) o.2;
+    }
+
+pub returns-in-Err-clause-err : goal.returns-in-Err-clause-err
+returns-in-Err-clause-err g c =
+    let held = core_data c.args.core.now in
+    let o = c.in-Err.ensures.err in
+    record {
+      turn = c.unwrap-turn.result.0;
+      ask = c.unwrap-turn.result.1;
+      wants = subst (λ w. Wants held c.args.job.now c.args.number w) c.unwrap-turn.ensures c.wants.ensures.asked;
+      lost = o.0;
+      adds = o.1;
+      begins = subst
+          (λ p. BeginsAnswer (places_data c.args.places.now) (unwrap_or p no_pipeline).resources
+          (build_folder (places_data c.args.places.now) c.args.job.now c.args.number) (ask_data c.unwrap-turn.result.1)
+          (g.S.Shelf.calls c.args.shelf.now) (g.S.Shelf.calls c.answer_to.new.shelf) o.0)
           (ap (λ q. option_map pipeline_data (option_copied q)) (sym c.unwrap-pipeline.ensures) ∙ c.pipeline.ensures) o.2;
     }

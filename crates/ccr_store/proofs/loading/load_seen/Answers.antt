@@ -1,7 +1,7 @@
 use Rattle.std.proofs.lemmas.Result.{IfOk-weaker}
 use Rattle.ccr_history.specs.History.{HistoryData}
 use Rattle.ccr_store.specs.Listed.{seen_of}
-use Rattle.ccr_store.specs.Rows.{rows_of}
+use Rattle.ccr_store.specs.Rows.{rows_in}
 use Rattle.ccr_store.proofs.ShownRows.{shown_seen}
 use Rattle.ccr_store.proofs.StoreLemmas.{or_fault}
 use Rattle.std.proofs.Common.{◌≡◌, inr}
@@ -17,7 +17,7 @@ returns-in-Ok-clause-rows g c clean =
 pub returns-in-Ok-clause-only : goal.returns-in-Ok-clause-only
 returns-in-Ok-clause-only g c clean h rules texts readable holds =
     or_fault (λ (history : HistoryData). history ≡ seen_of h) c.tables_of.result
-    (c.tables_of.ensures.only h rules texts readable (shown_seen h c.in-Ok.seen.meta.items c.in-Ok.seen.scopes.items c.in-Ok.seen.versions.items (c.in-Ok.ensures.rows clean (rows_of h) holds)))
+    (c.tables_of.ensures.only h rules texts readable (shown_seen c.args.format h c.in-Ok.seen.meta.items c.in-Ok.seen.scopes.items c.in-Ok.seen.versions.items (c.in-Ok.ensures.rows clean (rows_in c.args.format h) holds)))
 
 pub returns-in-Err-clause-only : goal.returns-in-Err-clause-only
 returns-in-Err-clause-only g c clean h rules texts readable holds = λ ours. c.in-Err.ensures.unrefused clean holds.schema (c.read_fault_of.ensures.refused ours)
@@ -30,14 +30,14 @@ returns-in-Err-clause-reads g c = reads_failed (state g.S.Store c.args.conn.now)
 
 pub returns-in-Ok-clause-answered : goal.returns-in-Ok-clause-answered
 returns-in-Ok-clause-answered g c clean =
-    unseen g.S.Store (state g.S.Store c.args.conn.now) (λ h (history : HistoryData). history ≡ seen_of h) c.tables_of.result c.in-Ok.seen.meta.items c.in-Ok.seen.scopes.items c.in-Ok.seen.versions.items (c.in-Ok.ensures.shown clean)
+    unseen g.S.Store (state g.S.Store c.args.conn.now) c.args.format (λ h (history : HistoryData). history ≡ seen_of h) c.tables_of.result c.in-Ok.seen.meta.items c.in-Ok.seen.scopes.items c.in-Ok.seen.versions.items (c.in-Ok.ensures.shown clean)
     c.tables_of.ensures.only c.tables_of.ensures.comes
 
 pub returns-in-Ok-clause-seen : goal.returns-in-Ok-clause-seen
 returns-in-Ok-clause-seen g c clean =
-    seen_shown (state g.S.Store c.args.conn.now).now c.tables_of.result c.in-Ok.seen.meta.items c.in-Ok.seen.scopes.items c.in-Ok.seen.versions.items (c.in-Ok.ensures.shown clean) c.tables_of.ensures.rows c.tables_of.ensures.only
+    seen_shown c.args.format (state g.S.Store c.args.conn.now).now c.tables_of.result c.in-Ok.seen.meta.items c.in-Ok.seen.scopes.items c.in-Ok.seen.versions.items (c.in-Ok.ensures.shown clean) c.tables_of.ensures.rows c.tables_of.ensures.only
 
 pub returns-in-Err-clause-answered : goal.returns-in-Err-clause-answered
 returns-in-Err-clause-answered g c clean =
-    fault_of_read g.S.Store (state g.S.Store c.args.conn.now) c.in-Err.error c.read_fault_of.result c.read_fault_of.ensures.exact
+    fault_of_read g.S.Store (state g.S.Store c.args.conn.now) c.args.format c.in-Err.error c.read_fault_of.result c.read_fault_of.ensures.exact
     (inr (c.in-Err.ensures.answered clean))

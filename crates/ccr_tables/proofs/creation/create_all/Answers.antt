@@ -62,5 +62,5 @@ returns-in_err-put-clause-answered g c clean inside =
     let s1 = state g.S.Store c.create_tables.new.tx.conn.now in
     let clean1 : HasCleanDisk s1 = omega (arith, c.put.ensures.survives.clean) in
     let t1 = c.in_ok-create_tables.ensures.step clean1 inside in
-    failed_first g.S.Store s0 c.create_tables.new.tx.conn.now c.put.new.tx.conn.now put_meta_text (Int (pos 1) ∷ Blob (49 ∷ []) ∷ []) _ c.from_residual-in_err-put.result (inr (refl, refl)) c.create_tables.ensures.survives
+    failed_first g.S.Store s0 c.create_tables.new.tx.conn.now c.put.new.tx.conn.now put_meta_text (Int (pos 1) ∷ Blob (50 ∷ []) ∷ []) _ c.from_residual-in_err-put.result (inr (refl, refl)) c.create_tables.ensures.survives
     (c.in_err-put.ensures.answered clean t1.made.0) c.from_residual-in_err-put.ensures.1

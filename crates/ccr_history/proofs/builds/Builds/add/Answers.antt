@@ -3,7 +3,10 @@ use Rattle.std.specs.List.{list_any}
 use Rattle.std.proofs.lemmas.Option.{slice_get_read, slice_get_within}
 use Rattle.std.proofs.lemmas.List.{length-map}
 use Rattle.ccr_history.specs.Builds.{with_build, count_of}
-use Rattle.ccr_history.specs.Rows.{build_data, builds_data, new_row, is_same, IsLinked}
+use Rattle.std.specs.Map.{lookup}
+use Rattle.std.specs.Option.{option_or}
+use Rattle.ccr_history.specs.Newest.{last_given}
+use Rattle.ccr_history.specs.Rows.{build_data, builds_data, new_row, is_same, is_input_scope, row_if_at, IsLinked}
 use Rattle.ccr_history.specs.Orderly.{AreOrderly}
 use Rattle.ccr_history.proofs.Added.{on_err, set_same, more_well, few_positions, next_number, added_well}
 use Rattle.ccr_history.proofs.builds.Builds.add.Goals as goal
@@ -112,6 +115,7 @@ well c =
     c.requires e.apart e.job m.2 e.named e.used
     (c.in_ok-add.ensures.at ∙ ap (λ p. d.at ++ p ∷ []) position)
     (λ u. c.in_ok-add.ensures.used u ∙ ap (λ l. list_any (is_same u) d.used || list_any (is_same u) l) c.deref.ensures.value)
+    (λ s. c.in_ok-add.ensures.newest s ∙ ap (λ l. option_or (last_given (row_if_at s) l) (lookup (is_input_scope s) d.newest)) c.deref.ensures.value)
     (ap (λ l. length l + 1) c.positions.ensures)
     (c.add-2.ensures ∙ ap (λ us. rows ++ new_row c.in_ok-job.job (length c.positions.result.now + 1) us ∷ []) c.deref-2.ensures.value)
 

@@ -11,4 +11,5 @@ invariant_of-self c =
       builds_added c.add.result c.self.inside.tables c.self.inside.builds c.add.new.self c.args.job.now c.args.used.now
           c.self.invariant.1 given c.add.ensures.added c.add.ensures.unchanged c.add.ensures.full,
       c.self.invariant.2,
+      c.self.invariant.3,
     )

@@ -11,4 +11,5 @@ invariant_of-self c =
       builds_ended c.end_with.result c.self.inside.tables c.self.inside.builds c.end_with.new.self c.args.job.now c.args.number c.args.status c.args.moved.items
           c.self.invariant.1 c.requires.over given c.end_with.ensures.ended c.end_with.ensures.unchanged,
       c.self.invariant.2,
+      c.self.invariant.3,
     )

@@ -5,7 +5,7 @@ use Rattle.ccr_choice.specs.Assignment.{nothing_fixed}
 use Rattle.ccr_choice.specs.Possible.{IsBestPlace}
 use Rattle.ccr_index.specs.Rows.{with_place}
 use Rattle.ccr_index.specs.Index.{IndexValue, problem_in, with_version}
-use Rattle.ccr_index.proofs.VersionLaws.{tops_written}
+use Rattle.ccr_index.proofs.InputLaws.{tops_written}
 use Rattle.ccr_index.proofs.IndexLaws.{viewed, input_in, input_inside, index_raised, index_roomy_input, on_err, left_one, version_value}
 use Rattle.ccr_index.proofs.index.Index.add_version.Goals as goal
 
@@ -38,13 +38,13 @@ invariant_of-self-2 c =
     let added : c.add.new.self.input ≡ with_place (input_at (problem_in inputs jobs) i) place = c.add.ensures.input ∙ ap (λ (x : InputValue). with_place x place) (c.make_room.ensures.input ∙ was) in
     let Rules : IndexValue → Type 0 = λ v. IsProblem (with_version v.problem i place) in
     let Inside : IndexValue → Type 0 = λ v. i < length v.problem.inputs in
-    let Best : IndexValue → Type 0 = λ v. IsBestPlace (order_of v.problem) (with_version v.problem i place) nothing_fixed i top in
+    let Best : IndexValue → Type 0 = λ v. IsBestPlace (order_of (with_version v.problem i place)) (with_version v.problem i place) nothing_fixed i top in
     let rules : Rules (viewed inputs jobs n m) = subst Rules (sym c.self.view_is) c.requires.rules in
     let within : Inside (viewed inputs jobs n m) = subst Inside (sym c.self.view_is) c.requires.input in
     let best : Best (viewed inputs jobs n m) = subst Best (sym c.self.view_is) c.top_with_place-top.ensures in
     index_raised inputs jobs c.self.inside.tops (slice_set c.self.inside.tops i top) n m c.saturating_sub-left.result i place c.add.new.self c.self.invariant added
     (omega (arith, c.add.ensures.spare, c.in_ok-make_room.ensures.room)) (omega (arith, c.saturating_sub-left.ensures))
-    (tops_written (problem_in inputs jobs) i place within rules c.self.inside.tops top c.self.invariant.tops best)
+    (tops_written (problem_in inputs jobs) i (with_place (input_at (problem_in inputs jobs) i) place) within rules c.self.inside.tops top c.self.invariant.tops best)
 
 pub returns-clause-ok : goal.returns-clause-ok
 returns-clause-ok c =

@@ -1,20 +1,31 @@
-use Rattle.std.proofs.Common.{◌≡◌, ◌<◌, ◌≤◌, ◌-◌, ℕ, length, get_or, ap, ◌∙◌, arith, rules, nat_le, subst, sym}
+use Rattle.std.proofs.Common.{◌≡◌, ℕ, Option, ap, ◌∙◌, arith, subst, sym}
 use Rattle.std.specs.Prelude.{Contains}
-use Rattle.std.proofs.lemmas.Bool.{ltb-true}
-use Rattle.std.proofs.lemmas.List.Sorted.{IsPartitionPoint-from_clause}
-use Rattle.std.proofs.lemmas.List.{get_or_default}
+use Rattle.std.proofs.lemmas.Bool.{false≢true}
 use Rattle.ccr_choice.specs.Problem.{input_at}
 use Rattle.ccr_choice.specs.Possible.{IsPossible}
 use Rattle.ccr_choice.specs.Table.{assigned}
-use Rattle.ccr_choice.proofs.Scopes.{up_to, none_behind, no_later, all_places, other_scope, earlier}
+use Rattle.ccr_index.specs.Ranks.{AreRankedIn}
+use Rattle.ccr_index.proofs.RankLaws.{pairs_next, pairs_done, pairs_past, pairs_first}
 use Rattle.ccr_index.proofs.index.Index.best_in.Goals as goal
 
-pub loop-k-init : goal.loop-k-init
-loop-k-init c =
+pub position-requires-clause-above : goal.position-requires-clause-above
+position-requires-clause-above c = c.ranks_in-ranks.ensures.ranks.split
+
+pub loop-rank-preserved : goal.loop-rank-preserved
+loop-rank-preserved c =
+    let p = c.args.self.now.problem in
+    let i = c.args.input in
     let xs = c.args.pairs.now in
     let scope = c.scope-scope.result in
-    let point = IsPartitionPoint-from_clause (λ q. nat_le q.0 scope) xs _ c.partition_point-end.ensures.partitioned (up_to xs c.requires.ascending scope) (λ a r q k. search rules) in
-    λ place m le within same h. none_behind xs c.requires.ascending scope c.partition_point-end.result point place m le within same
+    let above = c.ranks_in-ranks.result.above in
+    let to = c.ranks_in-ranks.result.to in
+    let P : ℕ → Type 0 = IsPossible p (assigned p c.args.fixed.now) i in
+    let kept : c.after.result ≡ (input_at p i).after = c.after.ensures ∙ ap (λ x. x.after) c.input-rows.ensures.value in
+    let A : Option ℕ → Type 0 = λ o. AreRankedIn o xs scope above to in
+    let ranks : AreRankedIn (input_at p i).after xs scope above to = subst A kept c.ranks_in-ranks.ensures in
+    let named : scope ≡ (input_at p i).scope = c.scope-scope.ensures ∙ ap (λ x. x.scope) c.input-rows.ensures.value in
+    let has : (place : ℕ) → P place → Contains xs (scope, place) = λ place h. (let C : ℕ → Type 0 = λ s. Contains xs (s, place) in subst C (sym named) (c.requires.all place h)) in
+    pairs_next (input_at p i).after xs scope above to ranks P c.loop-rank.rank c.position.result c.position.ensures.value c.loop-rank.invariant (λ counts h. false≢true (sym c.if-is_possible.false ∙ c.is_possible.ensures.1 h))
 
 pub returns-then-at-scope : goal.returns-then-at-scope
 returns-then-at-scope c =
@@ -22,18 +33,15 @@ returns-then-at-scope c =
     let i = c.args.input in
     let xs = c.args.pairs.now in
     let scope = c.scope-scope.result in
-    let k = c.loop-k.k - 1 in
-    let q = get_or xs k (0, 0) in
-    let Possible : ℕ → Type 0 = IsPossible p (assigned p c.args.fixed.now) i in
-    let point = IsPartitionPoint-from_clause (λ q. nat_le q.0 scope) xs _ c.partition_point-end.ensures.partitioned (up_to xs c.requires.ascending scope) (λ a r q k. search rules) in
-    let inside : k < length xs = omega arith in
-    let at : q ≡ get_or xs k q = get_or_default xs k (0, 0) q inside in
-    let low : q.0 ≤ scope = no_later xs c.requires.ascending scope c.partition_point-end.result point k q (omega arith) at in
-    let named : scope ≡ (input_at p i).scope = c.scope-scope.ensures ∙ ap (λ x. x.scope) c.input.ensures.value in
-    let All : ℕ → Type 0 = λ s. (place : ℕ) → Possible place → Contains xs (s, place) → ⊥ in
-    let all = subst All named (all_places xs c.requires.ascending scope k q inside at Possible (λ place. ⊥) (λ place m le within same h. c.loop-k.invariant place m (omega arith) within same h)
-    (λ place e. c.if-at-scope.true (ap (λ y. y.0) e)) (λ place b. other_scope scope q place low c.if-at-scope.true b)) in
-    λ place h. all place h (c.requires.all place h)
+    let above = c.ranks_in-ranks.result.above in
+    let to = c.ranks_in-ranks.result.to in
+    let P : ℕ → Type 0 = IsPossible p (assigned p c.args.fixed.now) i in
+    let kept : c.after.result ≡ (input_at p i).after = c.after.ensures ∙ ap (λ x. x.after) c.input-rows.ensures.value in
+    let A : Option ℕ → Type 0 = λ o. AreRankedIn o xs scope above to in
+    let ranks : AreRankedIn (input_at p i).after xs scope above to = subst A kept c.ranks_in-ranks.ensures in
+    let named : scope ≡ (input_at p i).scope = c.scope-scope.ensures ∙ ap (λ x. x.scope) c.input-rows.ensures.value in
+    let has : (place : ℕ) → P place → Contains xs (scope, place) = λ place h. (let C : ℕ → Type 0 = λ s. Contains xs (s, place) in subst C (sym named) (c.requires.all place h)) in
+    λ place h. pairs_past (input_at p i).after xs scope above to ranks P c.loop-rank.rank c.position.result c.loop-rank.invariant c.loop-rank-test.true c.position.ensures.value c.if-at-scope.true place h (has place h)
 
 pub returns-then-is_possible : goal.returns-then-is_possible
 returns-then-is_possible c =
@@ -41,24 +49,30 @@ returns-then-is_possible c =
     let i = c.args.input in
     let xs = c.args.pairs.now in
     let scope = c.scope-scope.result in
-    let k = c.loop-k.k - 1 in
-    let q = get_or xs k (0, 0) in
-    let Possible : ℕ → Type 0 = IsPossible p (assigned p c.args.fixed.now) i in
-    let inside : k < length xs = omega arith in
-    let at : q ≡ get_or xs k q = get_or_default xs k (0, 0) q inside in
-    let named : scope ≡ (input_at p i).scope = c.scope-scope.ensures ∙ ap (λ x. x.scope) c.input.ensures.value in
-    let All : ℕ → Type 0 = λ s. (place : ℕ) → Possible place → Contains xs (s, place) → place ≤ q.1 in
-    let all = subst All named (all_places xs c.requires.ascending scope k q inside at Possible (λ place. place ≤ q.1) (λ place m le within same h. c.loop-k.invariant place m (omega arith) within same h)
-    (λ place e. omega (arith, ap (λ y. y.1) e)) (λ place b. omega (arith, earlier scope q place c.if-at-scope.false b))) in
-    (c.is_possible.ensures.0 c.if-is_possible.true, λ place h better. let high : q.1 < place = ltb-true q.1 place better in omega (arith, high, all place h (c.requires.all place h)))
+    let above = c.ranks_in-ranks.result.above in
+    let to = c.ranks_in-ranks.result.to in
+    let P : ℕ → Type 0 = IsPossible p (assigned p c.args.fixed.now) i in
+    let kept : c.after.result ≡ (input_at p i).after = c.after.ensures ∙ ap (λ x. x.after) c.input-rows.ensures.value in
+    let A : Option ℕ → Type 0 = λ o. AreRankedIn o xs scope above to in
+    let ranks : AreRankedIn (input_at p i).after xs scope above to = subst A kept c.ranks_in-ranks.ensures in
+    let named : scope ≡ (input_at p i).scope = c.scope-scope.ensures ∙ ap (λ x. x.scope) c.input-rows.ensures.value in
+    let has : (place : ℕ) → P place → Contains xs (scope, place) = λ place h. (let C : ℕ → Type 0 = λ s. Contains xs (s, place) in subst C (sym named) (c.requires.all place h)) in (
+      c.is_possible.ensures.0 c.if-is_possible.true,
+      λ place h better. pairs_first (input_at p i).after xs scope above to ranks P c.loop-rank.rank c.position.result c.loop-rank.invariant c.loop-rank-test.true c.position.ensures.value c.if-at-scope.false place h (has place h) better,
+    )
 
 pub returns : goal.returns
 returns c =
     let p = c.args.self.now.problem in
     let i = c.args.input in
     let xs = c.args.pairs.now in
-    let named : c.scope-scope.result ≡ (input_at p i).scope = c.scope-scope.ensures ∙ ap (λ x. x.scope) c.input.ensures.value in
-    λ place h.
-    let P : ℕ → Type 0 = λ s. Contains xs (s, place) in
-    let has : Contains xs (c.scope-scope.result, place) = subst P (sym named) (c.requires.all place h) in
-    c.loop-k.invariant place has.0 (omega arith) has.1 has.2 h
+    let scope = c.scope-scope.result in
+    let above = c.ranks_in-ranks.result.above in
+    let to = c.ranks_in-ranks.result.to in
+    let P : ℕ → Type 0 = IsPossible p (assigned p c.args.fixed.now) i in
+    let kept : c.after.result ≡ (input_at p i).after = c.after.ensures ∙ ap (λ x. x.after) c.input-rows.ensures.value in
+    let A : Option ℕ → Type 0 = λ o. AreRankedIn o xs scope above to in
+    let ranks : AreRankedIn (input_at p i).after xs scope above to = subst A kept c.ranks_in-ranks.ensures in
+    let named : scope ≡ (input_at p i).scope = c.scope-scope.ensures ∙ ap (λ x. x.scope) c.input-rows.ensures.value in
+    let has : (place : ℕ) → P place → Contains xs (scope, place) = λ place h. (let C : ℕ → Type 0 = λ s. Contains xs (s, place) in subst C (sym named) (c.requires.all place h)) in
+    λ place h. pairs_done (input_at p i).after xs scope above to ranks P c.loop-rank.rank c.loop-rank.invariant (omega (arith, c.loop-rank-test.false)) place h (has place h)

@@ -1,6 +1,7 @@
 use Rattle.std.proofs.Common.{◌<◌, ℕ, List, length, subst, arith}
 use Rattle.std.specs.Prelude.{Contains}
 use Rattle.std.proofs.lemmas.Bool.{false≢true}
+use Rattle.ccr_choice.specs.Preference.{order_of}
 use Rattle.ccr_choice.specs.Table.{assigned}
 use Rattle.ccr_index.proofs.BestLaws.{best_zero}
 use Rattle.ccr_index.proofs.index.Index.leaves_places.Goals as goal
@@ -14,6 +15,6 @@ returns-then-greatest_at-eq0 c = (
       let P : List ℕ → Type 0 = λ js. Contains js c.args.job in
       let inside : i < length p.inputs = omega (arith, c.loop-i-test.true, c.input_count-i-end.ensures.value) in
       let some = h i inside (subst P c.named.ensures.value (c.names.ensures.0 c.if-names.true)) in
-      best_zero p (assigned p c.args.fixed.now) i c.greatest_at.result c.input_count-i-end.ensures.kept inside c.greatest_at.ensures c.if-greatest_at-eq0.true some.0 some.1
+      best_zero (order_of p) p (assigned p c.args.fixed.now) i c.greatest_at.result c.input_count-i-end.ensures.kept inside c.greatest_at.ensures c.if-greatest_at-eq0.true some.0 some.1
       ),
 )

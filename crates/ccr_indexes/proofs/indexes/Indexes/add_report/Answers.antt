@@ -1,4 +1,4 @@
-use Rattle.std.proofs.Common.{◌≡◌, ◌+◌, ◌<◌, ℕ, List, [], length, map, slice_get, get_or, Some, ap, sym, ◌∙◌, subst, arith}
+use Rattle.std.proofs.Common.{ℕ, List, [], length, map, get_or, ap, sym, ◌∙◌, subst, arith}
 use Rattle.std.proofs.lemmas.Option.{slice_get_within}
 use Rattle.std.proofs.lemmas.Result.{on_ok_weaker}
 use Rattle.ccr_choice.specs.Problem.{ProblemValue, IsProblem}
@@ -42,7 +42,7 @@ follow-requires-clause-rules c = λ k d within.
     let P : ProblemValue → Type 0 = IsProblem in
     subst P
     (sym (ap (λ l. with_news (get_or xs k d).problem (get_or l k [])) all ∙ ap (with_news (get_or xs k d).problem) (mapped_at News p.jobs k found.0 [] found.1) ∙ news_at p h r xs c.reports_change_problems.ensures are k found.0 d found.1))
-    (problem_kept p h (inputs (found.0).plan) c.rules.ensures (few_at c.args.pipeline.now.jobs.items k found.0 found.1))
+    (problem_kept p h (found.0).name (inputs (found.0).plan) c.rules.ensures (few_at c.args.pipeline.now.jobs.items k found.0 found.1))
 
 pub returns-clause-ok : goal.returns-clause-ok
 returns-clause-ok c =

@@ -2,7 +2,9 @@ use Rattle.std.proofs.Common.{sym}
 use Rattle.std.proofs.lemmas.Result.{IfOk-weaker}
 use Rattle.sqlite_wal.specs.Files.{image_at}
 use Rattle.ccr_store.specs.Rows.{rows_of}
+use Rattle.sqlite.specs.Files.{over_files}
 use Rattle.ccr_run.proofs.Kept.{adopted}
+use Rattle.ccr_run.proofs.Unfound.{unfound_first, unfound_later}
 use Rattle.ccr_run.proofs.database.Database+FileStore+FileFrom+S.load.Goals as goal
 
 pub returns-in-Ok-clause-holds : goal.returns-in-Ok-clause-holds
@@ -29,3 +31,12 @@ returns-in-Ok-clause-begins g c =
     c.in-Ok.ensures.found c.in-Ok.ensures.crash.clean (it.2 clean) h held in
     sym (it.1 h clean stored.rules stored.rows))
     c.with_history.ensures.kept
+
+pub returns-in-Ok-clause-unfound : goal.returns-in-Ok-clause-unfound
+returns-in-Ok-clause-unfound g c =
+    unfound_later over_files (image_at g.S.Start) c.args.conn c.in-Ok.store.conn c.with_history.result c.requires.found
+    (record { made = λ clean blank. (c.in-Ok.ensures.made clean blank).0.rows; taken = λ clean other. c.in-Ok.ensures.taken clean other })
+    c.with_history.ensures.unread
+
+pub returns-in-Err-clause-unfound : goal.returns-in-Err-clause-unfound
+returns-in-Err-clause-unfound g c = unfound_first over_files (image_at g.S.Start) c.args.conn _ c.requires.found c.in-Err.ensures.answered

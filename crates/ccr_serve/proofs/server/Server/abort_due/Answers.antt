@@ -1,12 +1,12 @@
-use Rattle.std.proofs.Common.{◌≡◌, ◌++◌, [], Ok, true, IsSome, is_some, ap, refl, string_bytes, subst, sym}
+use Rattle.std.proofs.Common.{◌≡◌, ◌++◌, [], Ok, IsSome, is_some, ap, refl, string_bytes, subst, sym}
 use Rattle.ccr_task.specs.Places.{places_data}
 use Rattle.ccr_core.specs.Events.{abort}
 use Rattle.ccr_core.specs.State.{running_at}
 use Rattle.ccr_lines.specs.Lines.{lines_of}
 use Rattle.ccr_serve.specs.Aborts.{Clears}
-use Rattle.ccr_serve.specs.Views.{view_of, with_counts, Made}
-use Rattle.ccr_serve.proofs.Counted.{grew_asked}
-use Rattle.ccr_serve.proofs.Steps.{items_stop, none_added, after, calls_unmade, unmade_printed}
+use Rattle.ccr_serve.specs.Views.{view_of, with_calls, Made}
+use Rattle.ccr_serve.proofs.Cutting.{abort_unmade}
+use Rattle.ccr_serve.proofs.Steps.{after, unmade_printed}
 use Rattle.ccr_serve.proofs.Turning.{abort_served}
 use Rattle.ccr_serve.proofs.server.Server.abort_due.Goals as goal
 
@@ -17,30 +17,35 @@ abort-requires-clause-runs g c s is =
 
 pub returns-clause-served : goal.returns-clause-served
 returns-clause-served g c before asked =
-    let view = view_of g.R.Runner.pairs g.S.Shelf.counts g.T.Storage.holds g.T.Storage.leaves g.T.Storage.tally in
-    let v = with_counts before (view c.args.self.now (g.O.Lines.written c.args.out.now)) in
-    let looked = g.S.Shelf.counts c.args.self.now.shelf in
-    calls_unmade _ v looked (g.R.Runner.pairs c.args.self.now.runner) (g.O.Lines.written c.args.out.now)
-    (view c.abort.new.self (g.O.Lines.written c.args.out.now)) c.in-Err.fault (items_stop _ _)
-    (grew_asked true before looked asked) (none_added _) refl
+    let view = view_of g.R.Runner.pairs g.S.Shelf.calls g.T.Storage.holds g.T.Storage.leaves g.T.Storage.tally in
+    let v = with_calls before (view c.args.self.now (g.O.Lines.written c.args.out.now)) in
+    let looked = g.S.Shelf.calls c.args.self.now.shelf in
+    abort_unmade (places_data c.args.self.now.places) v (string_bytes c.args.due.job) c.args.due.number c.args.due.rank
+    looked c.requires.due (g.O.Lines.written c.args.out.now) (view c.abort.new.self (g.O.Lines.written c.args.out.now))
+    c.in-Err.fault asked refl
     (unmade_printed c.in-Err.fault (after v looked (g.R.Runner.pairs c.args.self.now.runner) [])
     (view c.abort.new.self []) (g.O.Lines.written c.args.out.now) (g.O.Lines.written c.args.out.now) refl
     c.in-Err.ensures.unmade)
 
 pub returns-in-Ok-clause-served : goal.returns-in-Ok-clause-served
 returns-in-Ok-clause-served g c before asked =
-    let view = view_of g.R.Runner.pairs g.S.Shelf.counts g.T.Storage.holds g.T.Storage.leaves g.T.Storage.tally in
-    let v = with_counts before (view c.args.self.now (g.O.Lines.written c.args.out.now)) in
-    let looked = g.S.Shelf.counts c.args.self.now.shelf in
+    let view = view_of g.R.Runner.pairs g.S.Shelf.calls g.T.Storage.holds g.T.Storage.leaves g.T.Storage.tally in
+    let v = with_calls before (view c.args.self.now (g.O.Lines.written c.args.out.now)) in
+    let looked = g.S.Shelf.calls c.args.self.now.shelf in
     let name : c.as_str-job.result.now ≡ string_bytes c.args.due.job = c.as_str-job.ensures.value in
     abort_served (places_data c.args.self.now.places) v looked (string_bytes c.args.due.job) c.args.due.number
-    c.args.due.rank c.in-Ok.reply (view c.abort.new.self []) (g.S.Shelf.counts c.clear_away.new.shelf)
+    c.args.due.rank c.in-Ok.reply (view c.abort.new.self []) (g.S.Shelf.calls c.clear_away.new.shelf)
     (g.O.Lines.written c.tell_ended.new.out) asked
     (subst (λ j. Made (abort j c.args.due.number) (Ok c.in-Ok.reply)
     (after v looked (g.R.Runner.pairs c.args.self.now.runner) []) (view c.abort.new.self [])) c.requires.name
     c.in-Ok.ensures.made)
-    (subst (λ n. Clears c.in-Ok.reply n (g.S.Shelf.counts c.clear_away.new.shelf)) c.in-Ok.ensures.made.rest.counts
-    c.clear_away.ensures)
+    (subst (λ n. Clears (places_data c.args.self.now.places) (string_bytes c.args.due.job) c.args.due.number c.in-Ok.reply n
+    (g.S.Shelf.calls c.clear_away.new.shelf)) c.in-Ok.ensures.made.rest.calls
+    (subst (λ j. Clears (places_data c.args.self.now.places) j c.args.due.number c.in-Ok.reply
+    (g.S.Shelf.calls c.abort.new.self.shelf) (g.S.Shelf.calls c.clear_away.new.shelf)) name
+    (subst (λ q. Clears (places_data q) c.as_str-job.result.now c.args.due.number c.in-Ok.reply
+    (g.S.Shelf.calls c.abort.new.self.shelf) (g.S.Shelf.calls c.clear_away.new.shelf)) c.in-Ok.ensures.places
+    c.clear_away.ensures)))
     c.requires.due
     (λ h. subst (λ j. g.O.Lines.written c.tell_ended.new.out
     ≡ g.O.Lines.written c.args.out.now ++ lines_of (abort j c.args.due.number) (Ok c.in-Ok.reply) h) name

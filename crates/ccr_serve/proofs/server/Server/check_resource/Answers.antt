@@ -13,14 +13,14 @@ use Rattle.ccr_serve.proofs.server.Server.check_resource.Goals as goal
 
 pub returns-in-Err-clause-came : goal.returns-in-Err-clause-came
 returns-in-Err-clause-came g c =
-    let view = view_of g.R.Runner.pairs g.S.Shelf.counts g.T.Storage.holds g.T.Storage.leaves g.T.Storage.tally in
+    let view = view_of g.R.Runner.pairs g.S.Shelf.calls g.T.Storage.holds g.T.Storage.leaves g.T.Storage.tally in
     let v = view c.args.self.now (g.O.Lines.written c.args.out.now) in
     lacks (places_data c.args.self.now.places) (check_resource c.args.name.now) c.in-Err.fault v v.lines c.requires.ready refl
     c.in-Err.ensures.lacks
 
 pub returns-in-Ok-true-clause-came : goal.returns-in-Ok-true-clause-came
 returns-in-Ok-true-clause-came g c =
-    let view = view_of g.R.Runner.pairs g.S.Shelf.counts g.T.Storage.holds g.T.Storage.leaves g.T.Storage.tally in
+    let view = view_of g.R.Runner.pairs g.S.Shelf.calls g.T.Storage.holds g.T.Storage.leaves g.T.Storage.tally in
     let places = places_data c.args.self.now.places in
     let old = view c.args.self.now (g.O.Lines.written c.args.out.now) in
     let new = view c.check.new.self (g.O.Lines.written c.check.new.out) in

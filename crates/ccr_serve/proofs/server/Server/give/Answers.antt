@@ -8,7 +8,7 @@ use Rattle.ccr_serve.proofs.server.Server.give.Goals as goal
 
 pub returns-in-Ok-Err-TableFull-clause-gives : goal.returns-in-Ok-Err-TableFull-clause-gives
 returns-in-Ok-Err-TableFull-clause-gives g c =
-    let view = view_of g.R.Runner.pairs g.S.Shelf.counts g.T.Storage.holds g.T.Storage.leaves g.T.Storage.tally in
+    let view = view_of g.R.Runner.pairs g.S.Shelf.calls g.T.Storage.holds g.T.Storage.leaves g.T.Storage.tally in
     let full_is = c.in-Ok-Err-TableFull.field-0-is ∙ ap (λ f. Err f) c.in-Ok-Err-TableFull.field-0-0-is in
     gives_again (string_bytes c.args.names.0) (string_bytes c.args.names.1) c.args.number c.args.turn
     (answer_data c.args.answered) (view c.args.self.now []) (view c.make.new.self []) (view c.give_errored.new.self [])
@@ -19,7 +19,7 @@ returns-in-Ok-Err-TableFull-clause-gives g c =
 
 pub returns-in-Ok-Err-TableFull-clause-unmade : goal.returns-in-Ok-Err-TableFull-clause-unmade
 returns-in-Ok-Err-TableFull-clause-unmade g c =
-    let view = view_of g.R.Runner.pairs g.S.Shelf.counts g.T.Storage.holds g.T.Storage.leaves g.T.Storage.tally in
+    let view = view_of g.R.Runner.pairs g.S.Shelf.calls g.T.Storage.holds g.T.Storage.leaves g.T.Storage.tally in
     let full_is = c.in-Ok-Err-TableFull.field-0-is ∙ ap (λ f. Err f) c.in-Ok-Err-TableFull.field-0-0-is in
     unmade_again (string_bytes c.args.names.0) (string_bytes c.args.names.1) c.args.number c.args.turn
     (answer_data c.args.answered) (view c.args.self.now []) (view c.make.new.self []) (view c.give_errored.new.self [])

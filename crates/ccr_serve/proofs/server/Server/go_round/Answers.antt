@@ -13,7 +13,7 @@ use Rattle.ccr_serve.proofs.server.Server.go_round.Goals as goal
 
 pub returns-in_default-clause-served : goal.returns-in_default-clause-served
 returns-in_default-clause-served g c =
-    let view = view_of g.R.Runner.pairs g.S.Shelf.counts g.T.Storage.holds g.T.Storage.leaves g.T.Storage.tally in
+    let view = view_of g.R.Runner.pairs g.S.Shelf.calls g.T.Storage.holds g.T.Storage.leaves g.T.Storage.tally in
     let v = view c.args.self.now (g.O.Lines.written c.args.out.now) in
     round_cut (places_data c.args.self.now.places) v v
     (calls_back (Serves (places_data c.args.self.now.places)) _ v c.requires.ready)
@@ -25,7 +25,7 @@ check_each-requires-clause-there g c =
 
 pub returns-in-Err-clause-served : goal.returns-in-Err-clause-served
 returns-in-Err-clause-served g c =
-    let view = view_of g.R.Runner.pairs g.S.Shelf.counts g.T.Storage.holds g.T.Storage.leaves g.T.Storage.tally in
+    let view = view_of g.R.Runner.pairs g.S.Shelf.calls g.T.Storage.holds g.T.Storage.leaves g.T.Storage.tally in
     round_cut_in_checks (places_data c.args.self.now.places) (view c.args.self.now (g.O.Lines.written c.args.out.now))
     (view c.check_each.new.self (g.O.Lines.written c.check_each.new.out))
     (map (λ name. check (string_bytes name)) c.deref.result.now)
@@ -35,7 +35,7 @@ returns-in-Err-clause-served g c =
 
 pub returns-in-Err-schedule_each-clause-served : goal.returns-in-Err-schedule_each-clause-served
 returns-in-Err-schedule_each-clause-served g c =
-    let view = view_of g.R.Runner.pairs g.S.Shelf.counts g.T.Storage.holds g.T.Storage.leaves g.T.Storage.tally in
+    let view = view_of g.R.Runner.pairs g.S.Shelf.calls g.T.Storage.holds g.T.Storage.leaves g.T.Storage.tally in
     let v0 = view c.args.self.now (g.O.Lines.written c.args.out.now) in
     let v1 = view c.check_each.new.self (g.O.Lines.written c.check_each.new.out) in
     let v2 = view c.schedule_each.new.self (g.O.Lines.written c.schedule_each.new.out) in
@@ -53,7 +53,7 @@ returns-in-Err-schedule_each-clause-served g c =
 
 pub returns-clause-served : goal.returns-clause-served
 returns-clause-served g c =
-    let view = view_of g.R.Runner.pairs g.S.Shelf.counts g.T.Storage.holds g.T.Storage.leaves g.T.Storage.tally in
+    let view = view_of g.R.Runner.pairs g.S.Shelf.calls g.T.Storage.holds g.T.Storage.leaves g.T.Storage.tally in
     let v0 = view c.args.self.now (g.O.Lines.written c.args.out.now) in
     let v1 = view c.check_each.new.self (g.O.Lines.written c.check_each.new.out) in
     let v2 = view c.schedule_each.new.self (g.O.Lines.written c.schedule_each.new.out) in

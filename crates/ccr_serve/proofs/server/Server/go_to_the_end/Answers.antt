@@ -12,16 +12,17 @@ use Rattle.ccr_serve.proofs.server.Server.go_to_the_end.Goals as goal
 
 pub loop-turn-init : goal.loop-turn-init
 loop-turn-init g c =
-    let view = view_of g.R.Runner.pairs g.S.Shelf.counts g.T.Storage.holds g.T.Storage.leaves g.T.Storage.tally in
+    let view = view_of g.R.Runner.pairs g.S.Shelf.calls g.T.Storage.holds g.T.Storage.leaves g.T.Storage.tally in
     record {
       served = end_begins (places_data c.args.self.now.places) (view c.args.self.now (g.O.Lines.written c.args.out.now)) c.requires.ready;
       ready = c.requires.ready;
       places = refl;
+      waiting = λ none. none;
     }
 
 pub loop-turn-preserved : goal.loop-turn-preserved
 loop-turn-preserved g c =
-    let view = view_of g.R.Runner.pairs g.S.Shelf.counts g.T.Storage.holds g.T.Storage.leaves g.T.Storage.tally in
+    let view = view_of g.R.Runner.pairs g.S.Shelf.calls g.T.Storage.holds g.T.Storage.leaves g.T.Storage.tally in
     record {
       served = end_more (places_data c.args.self.now.places) (turns_make_events (places_data c.args.self.now.places)) c.loop-turn._turn
           (view c.args.self.now (g.O.Lines.written c.args.out.now)) (view c.loop-turn.self (g.O.Lines.written c.loop-turn.out)) (view c.take_turn.new.self (g.O.Lines.written c.take_turn.new.out))
@@ -32,11 +33,12 @@ loop-turn-preserved g c =
           (ap places_data c.loop-turn.invariant.places) c.in-Ok.ensures.served);
       ready = c.in-Ok.ensures.kept;
       places = c.in-Ok.ensures.places ∙ c.loop-turn.invariant.places;
+      waiting = λ none. c.in-Ok.ensures.waiting (c.loop-turn.invariant.waiting none);
     }
 
 pub returns-then-is_empty-clause-served : goal.returns-then-is_empty-clause-served
 returns-then-is_empty-clause-served g c =
-    let view = view_of g.R.Runner.pairs g.S.Shelf.counts g.T.Storage.holds g.T.Storage.leaves g.T.Storage.tally in
+    let view = view_of g.R.Runner.pairs g.S.Shelf.calls g.T.Storage.holds g.T.Storage.leaves g.T.Storage.tally in
     ends_early (places_data c.args.self.now.places) c.loop-turn._turn (view c.args.self.now (g.O.Lines.written c.args.out.now)) (view c.loop-turn.self (g.O.Lines.written c.loop-turn.out))
     c.loop-turn.invariant.served (omega arith) true refl
     (λ _. maps_none name_data c.running.result.now (core_data c.loop-turn.self.core).names
@@ -44,7 +46,7 @@ returns-then-is_empty-clause-served g c =
 
 pub returns-in-Err-clause-cut : goal.returns-in-Err-clause-cut
 returns-in-Err-clause-cut g c =
-    let view = view_of g.R.Runner.pairs g.S.Shelf.counts g.T.Storage.holds g.T.Storage.leaves g.T.Storage.tally in
+    let view = view_of g.R.Runner.pairs g.S.Shelf.calls g.T.Storage.holds g.T.Storage.leaves g.T.Storage.tally in
     end_stop (places_data c.args.self.now.places) (turns_make_events (places_data c.args.self.now.places)) c.loop-turn._turn (view c.args.self.now (g.O.Lines.written c.args.out.now))
     (view c.loop-turn.self (g.O.Lines.written c.loop-turn.out)) (view c.take_turn.new.self (g.O.Lines.written c.take_turn.new.out)) (omega arith)
     (some_left name_data c.running.result.now (core_data c.loop-turn.self.core).names
@@ -55,7 +57,7 @@ returns-in-Err-clause-cut g c =
 
 pub returns-clause-served : goal.returns-clause-served
 returns-clause-served g c =
-    let view = view_of g.R.Runner.pairs g.S.Shelf.counts g.T.Storage.holds g.T.Storage.leaves g.T.Storage.tally in
+    let view = view_of g.R.Runner.pairs g.S.Shelf.calls g.T.Storage.holds g.T.Storage.leaves g.T.Storage.tally in
     ends_late (places_data c.args.self.now.places) c.loop-turn._turn (view c.args.self.now (g.O.Lines.written c.args.out.now)) (view c.loop-turn.self (g.O.Lines.written c.loop-turn.out))
     c.loop-turn.invariant.served (omega arith) c.is_empty-2.result
     (maps_none name_data c.running-2.result.now (core_data c.loop-turn.self.core).names

@@ -26,7 +26,7 @@ returns-in-Ok-commit-clause-made g c =
             c.requires.ready.holds c.requires.ready.leaves accepts);
       };
       commits = c.in-Ok-commit.ensures.counted;
-      rest = record { last = refl; counts = refl; pairs = refl; lines = refl };
+      rest = record { last = refl; calls = refl; pairs = refl; lines = refl };
     }
 
 pub returns-in-Ok-clause-unmade : goal.returns-in-Ok-clause-unmade
@@ -43,12 +43,12 @@ returns-in-Ok-clause-unmade g c =
           (λ accepts. c.in-Err-commit.ensures.crash before (subst IsHistory c.history.ensures c.rules.ensures)
           c.requires.ready.holds c.requires.ready.leaves accepts));
       commits = asked_one _ _ c.in-Err-commit.ensures.counted;
-      rest = record { last = refl; counts = refl; pairs = refl; lines = refl };
+      rest = record { last = refl; calls = refl; pairs = refl; lines = refl };
     }
 
 pub returns-in-Err-NoMemory-clause-unmade : goal.returns-in-Err-NoMemory-clause-unmade
 returns-in-Err-NoMemory-clause-unmade g c =
-    let view = view_of g.R.Runner.pairs g.S.Shelf.counts g.T.Storage.holds g.T.Storage.leaves g.T.Storage.tally in
+    let view = view_of g.R.Runner.pairs g.S.Shelf.calls g.T.Storage.holds g.T.Storage.leaves g.T.Storage.tally in
     let old = view c.args.self.now [] in
     let same = c.in-Err-NoMemory.ensures.unchanged in
     let ready = c.requires.ready in
@@ -65,5 +65,5 @@ returns-in-Err-NoMemory-clause-unmade g c =
       holds = ready.holds;
       crash = λ s is. leaves_ready old s ready is;
       commits = asked_none _;
-      rest = record { last = refl; counts = refl; pairs = refl; lines = refl };
+      rest = record { last = refl; calls = refl; pairs = refl; lines = refl };
     }

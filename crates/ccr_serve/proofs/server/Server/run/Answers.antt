@@ -7,24 +7,24 @@ use Rattle.ccr_serve.proofs.server.Server.run.Goals as goal
 
 pub returns-in-None-clause-came : goal.returns-in-None-clause-came
 returns-in-None-clause-came g c =
-    let view = view_of g.R.Runner.pairs g.S.Shelf.counts g.T.Storage.holds g.T.Storage.leaves g.T.Storage.tally in
+    let view = view_of g.R.Runner.pairs g.S.Shelf.calls g.T.Storage.holds g.T.Storage.leaves g.T.Storage.tally in
     run_refused (places_data c.args.self.now.places) c.args.rounds (view c.args.self.now (g.O.Lines.written c.args.out.now)) c.requires.ready
     (sym c.in-None.ensures)
 
 pub returns-in-Err-clause-came : goal.returns-in-Err-clause-came
 returns-in-Err-clause-came g c =
-    let view = view_of g.R.Runner.pairs g.S.Shelf.counts g.T.Storage.holds g.T.Storage.leaves g.T.Storage.tally in
+    let view = view_of g.R.Runner.pairs g.S.Shelf.calls g.T.Storage.holds g.T.Storage.leaves g.T.Storage.tally in
     run_cut_in_rounds (places_data c.args.self.now.places) c.args.rounds (view c.args.self.now (g.O.Lines.written c.args.out.now))
     (view c.go_rounds.new.self (g.O.Lines.written c.go_rounds.new.out)) c.in-Err.fault c.in-Err.ensures.stops c.in-Err.ensures.served
 
 pub returns-in-Err-clause-stops : goal.returns-in-Err-clause-stops
 returns-in-Err-clause-stops g c =
-    let view = view_of g.R.Runner.pairs g.S.Shelf.counts g.T.Storage.holds g.T.Storage.leaves g.T.Storage.tally in
+    let view = view_of g.R.Runner.pairs g.S.Shelf.calls g.T.Storage.holds g.T.Storage.leaves g.T.Storage.tally in
     stops_so c.in-Err.fault (view c.go_rounds.new.self (g.O.Lines.written c.go_rounds.new.out)) c.in-Err.ensures.stops
 
 pub returns-in-Err-go_to_the_end-clause-came : goal.returns-in-Err-go_to_the_end-clause-came
 returns-in-Err-go_to_the_end-clause-came g c =
-    let view = view_of g.R.Runner.pairs g.S.Shelf.counts g.T.Storage.holds g.T.Storage.leaves g.T.Storage.tally in
+    let view = view_of g.R.Runner.pairs g.S.Shelf.calls g.T.Storage.holds g.T.Storage.leaves g.T.Storage.tally in
     run_cut (places_data c.args.self.now.places) c.args.rounds (view c.args.self.now (g.O.Lines.written c.args.out.now))
     (view c.go_rounds.new.self (g.O.Lines.written c.go_rounds.new.out)) (view c.go_to_the_end.new.self (g.O.Lines.written c.go_to_the_end.new.out)) c.in-Ok.ensures.served c.in-Err-go_to_the_end.fault
     c.in-Err-go_to_the_end.ensures.stops
@@ -34,7 +34,7 @@ returns-in-Err-go_to_the_end-clause-came g c =
 
 pub returns-then-ended-clause-came : goal.returns-then-ended-clause-came
 returns-then-ended-clause-came g c =
-    let view = view_of g.R.Runner.pairs g.S.Shelf.counts g.T.Storage.holds g.T.Storage.leaves g.T.Storage.tally in
+    let view = view_of g.R.Runner.pairs g.S.Shelf.calls g.T.Storage.holds g.T.Storage.leaves g.T.Storage.tally in
     run_done (places_data c.args.self.now.places) c.args.rounds (view c.args.self.now (g.O.Lines.written c.args.out.now))
     (view c.go_rounds.new.self (g.O.Lines.written c.go_rounds.new.out)) (view c.go_to_the_end.new.self (g.O.Lines.written c.go_to_the_end.new.out)) c.in-Ok.ensures.served
     (subst (λ p. IsSome p) c.in-Some.ensures refl)
@@ -44,7 +44,7 @@ returns-then-ended-clause-came g c =
 
 pub returns-else-ended-clause-came : goal.returns-else-ended-clause-came
 returns-else-ended-clause-came g c =
-    let view = view_of g.R.Runner.pairs g.S.Shelf.counts g.T.Storage.holds g.T.Storage.leaves g.T.Storage.tally in
+    let view = view_of g.R.Runner.pairs g.S.Shelf.calls g.T.Storage.holds g.T.Storage.leaves g.T.Storage.tally in
     run_unended (places_data c.args.self.now.places) c.args.rounds (view c.args.self.now (g.O.Lines.written c.args.out.now))
     (view c.go_rounds.new.self (g.O.Lines.written c.go_rounds.new.out)) (view c.go_to_the_end.new.self (g.O.Lines.written c.go_to_the_end.new.out)) c.in-Ok.ensures.served
     (subst (λ p. IsSome p) c.in-Some.ensures refl)

@@ -9,17 +9,18 @@ use Rattle.ccr_serve.proofs.server.Server.schedule_each.Goals as goal
 
 pub loop-name-init : goal.loop-name-init
 loop-name-init g c =
-    let view = view_of g.R.Runner.pairs g.S.Shelf.counts g.T.Storage.holds g.T.Storage.leaves g.T.Storage.tally in
+    let view = view_of g.R.Runner.pairs g.S.Shelf.calls g.T.Storage.holds g.T.Storage.leaves g.T.Storage.tally in
     record {
       served = calls_none (Serves (places_data c.args.self.now.places))
           (view c.args.self.now (g.O.Lines.written c.args.out.now)) c.requires.ready;
       ready = c.requires.ready;
       places = refl;
+      waiting = λ none. none;
     }
 
 pub loop-name-preserved : goal.loop-name-preserved
 loop-name-preserved g c =
-    let view = view_of g.R.Runner.pairs g.S.Shelf.counts g.T.Storage.holds g.T.Storage.leaves g.T.Storage.tally in
+    let view = view_of g.R.Runner.pairs g.S.Shelf.calls g.T.Storage.holds g.T.Storage.leaves g.T.Storage.tally in
     record {
       served = name_more (places_data c.loop-name.self.places) (places_data c.args.self.now.places) schedule c.args.names.now
           c.loop-name.name-index c.name-item.result c.as_str.result.now (omega arith) c.name-item.is c.as_str.ensures.value
@@ -29,11 +30,12 @@ loop-name-preserved g c =
           c.in-Ok.ensures.served;
       ready = c.in-Ok.ensures.kept;
       places = c.in-Ok.ensures.places ∙ c.loop-name.invariant.places;
+      waiting = λ none. c.in-Ok.ensures.waiting (c.loop-name.invariant.waiting none);
     }
 
 pub returns-in-Err-clause-served : goal.returns-in-Err-clause-served
 returns-in-Err-clause-served g c =
-    let view = view_of g.R.Runner.pairs g.S.Shelf.counts g.T.Storage.holds g.T.Storage.leaves g.T.Storage.tally in
+    let view = view_of g.R.Runner.pairs g.S.Shelf.calls g.T.Storage.holds g.T.Storage.leaves g.T.Storage.tally in
     name_stop (places_data c.loop-name.self.places) (places_data c.args.self.now.places) schedule c.args.names.now
     c.loop-name.name-index c.name-item.result c.as_str.result.now (omega arith) c.name-item.is c.as_str.ensures.value
     (ap places_data c.loop-name.invariant.places) (view c.args.self.now (g.O.Lines.written c.args.out.now))
@@ -43,7 +45,7 @@ returns-in-Err-clause-served g c =
 
 pub returns-clause-served : goal.returns-clause-served
 returns-clause-served g c =
-    let view = view_of g.R.Runner.pairs g.S.Shelf.counts g.T.Storage.holds g.T.Storage.leaves g.T.Storage.tally in
+    let view = view_of g.R.Runner.pairs g.S.Shelf.calls g.T.Storage.holds g.T.Storage.leaves g.T.Storage.tally in
     let all : length c.args.names.now ≡ c.loop-name.name-index = omega arith in
     names_done (Serves (places_data c.args.self.now.places)) schedule c.args.names.now c.loop-name.name-index
     (view c.args.self.now (g.O.Lines.written c.args.out.now)) (view c.loop-name.self (g.O.Lines.written c.loop-name.out)) all c.loop-name.invariant.served

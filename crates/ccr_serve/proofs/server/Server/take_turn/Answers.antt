@@ -1,20 +1,18 @@
 use Rattle.std.proofs.Common.{refl}
 use Rattle.ccr_task.specs.Places.{places_data}
 use Rattle.ccr_serve.specs.Views.{view_of}
-use Rattle.ccr_serve.proofs.Counted.{grew_none}
-use Rattle.ccr_serve.proofs.Steps.{cut_by_memory, items_stop, none_added}
+use Rattle.ccr_serve.proofs.Steps.{cut_at_once, items_stop}
 use Rattle.ccr_serve.proofs.Turning.{turn_of_nobody}
 use Rattle.ccr_serve.proofs.server.Server.take_turn.Goals as goal
 
 pub returns-in-Ok-None-clause-served : goal.returns-in-Ok-None-clause-served
 returns-in-Ok-None-clause-served g c =
-    let view = view_of g.R.Runner.pairs g.S.Shelf.counts g.T.Storage.holds g.T.Storage.leaves g.T.Storage.tally in
+    let view = view_of g.R.Runner.pairs g.S.Shelf.calls g.T.Storage.holds g.T.Storage.leaves g.T.Storage.tally in
     turn_of_nobody (places_data c.args.self.now.places) (view c.args.self.now (g.O.Lines.written c.args.out.now))
     c.requires.ready (rw c.in-Ok-None.field-0-is at c.in-Ok-None.ensures.due)
 
 pub returns-in-Err-clause-served : goal.returns-in-Err-clause-served
 returns-in-Err-clause-served g c =
-    let view = view_of g.R.Runner.pairs g.S.Shelf.counts g.T.Storage.holds g.T.Storage.leaves g.T.Storage.tally in
-    cut_by_memory _ (view c.args.self.now (g.O.Lines.written c.args.out.now)) (g.S.Shelf.counts c.args.self.now.shelf)
-    (g.R.Runner.pairs c.args.self.now.runner) (g.O.Lines.written c.args.out.now) (items_stop _ _) c.requires.ready
-    (grew_none _) (none_added _) refl
+    let view = view_of g.R.Runner.pairs g.S.Shelf.calls g.T.Storage.holds g.T.Storage.leaves g.T.Storage.tally in
+    cut_at_once _ (view c.args.self.now (g.O.Lines.written c.args.out.now)) (g.O.Lines.written c.args.out.now)
+    (items_stop _ _) c.requires.ready refl

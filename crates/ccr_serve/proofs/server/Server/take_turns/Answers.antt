@@ -10,17 +10,18 @@ use Rattle.ccr_serve.proofs.server.Server.take_turns.Goals as goal
 
 pub loop-turn-init : goal.loop-turn-init
 loop-turn-init g c =
-    let view = view_of g.R.Runner.pairs g.S.Shelf.counts g.T.Storage.holds g.T.Storage.leaves g.T.Storage.tally in
+    let view = view_of g.R.Runner.pairs g.S.Shelf.calls g.T.Storage.holds g.T.Storage.leaves g.T.Storage.tally in
     record {
       served = calls_none (Serves (places_data c.args.self.now.places))
           (view c.args.self.now (g.O.Lines.written c.args.out.now)) c.requires.ready;
       ready = c.requires.ready;
       places = refl;
+      waiting = λ none. none;
     }
 
 pub loop-turn-preserved : goal.loop-turn-preserved
 loop-turn-preserved g c =
-    let view = view_of g.R.Runner.pairs g.S.Shelf.counts g.T.Storage.holds g.T.Storage.leaves g.T.Storage.tally in
+    let view = view_of g.R.Runner.pairs g.S.Shelf.calls g.T.Storage.holds g.T.Storage.leaves g.T.Storage.tally in
     record {
       served = turns_more (Serves (places_data c.args.self.now.places)) turn c.loop-turn._turn (view c.args.self.now (g.O.Lines.written c.args.out.now))
           (view c.loop-turn.self (g.O.Lines.written c.loop-turn.out)) (view c.take_turn.new.self (g.O.Lines.written c.take_turn.new.out))
@@ -29,11 +30,12 @@ loop-turn-preserved g c =
           (ap places_data c.loop-turn.invariant.places) c.in-Ok.ensures.served);
       ready = c.in-Ok.ensures.kept;
       places = c.in-Ok.ensures.places ∙ c.loop-turn.invariant.places;
+      waiting = λ none. c.in-Ok.ensures.waiting (c.loop-turn.invariant.waiting none);
     }
 
 pub returns-in-Err-clause-served : goal.returns-in-Err-clause-served
 returns-in-Err-clause-served g c =
-    let view = view_of g.R.Runner.pairs g.S.Shelf.counts g.T.Storage.holds g.T.Storage.leaves g.T.Storage.tally in
+    let view = view_of g.R.Runner.pairs g.S.Shelf.calls g.T.Storage.holds g.T.Storage.leaves g.T.Storage.tally in
     turns_stop (Serves (places_data c.args.self.now.places)) turn c.loop-turn._turn c.args.count (view c.args.self.now (g.O.Lines.written c.args.out.now))
     (view c.loop-turn.self (g.O.Lines.written c.loop-turn.out)) (view c.take_turn.new.self (g.O.Lines.written c.take_turn.new.out)) (omega arith)
     c.loop-turn.invariant.served (at_places (places_data c.loop-turn.self.places) (places_data c.args.self.now.places) (turn ∷ []) (view c.loop-turn.self (g.O.Lines.written c.loop-turn.out))
@@ -42,7 +44,7 @@ returns-in-Err-clause-served g c =
 
 pub returns-clause-served : goal.returns-clause-served
 returns-clause-served g c =
-    let view = view_of g.R.Runner.pairs g.S.Shelf.counts g.T.Storage.holds g.T.Storage.leaves g.T.Storage.tally in
+    let view = view_of g.R.Runner.pairs g.S.Shelf.calls g.T.Storage.holds g.T.Storage.leaves g.T.Storage.tally in
     let all : c.loop-turn._turn ≡ c.args.count = omega arith in
     subst (λ n. Calls (Items (Serves (places_data c.args.self.now.places)) (replicate n turn))
     (view c.args.self.now (g.O.Lines.written c.args.out.now)) true (view c.loop-turn.self (g.O.Lines.written c.loop-turn.out))) all c.loop-turn.invariant.served

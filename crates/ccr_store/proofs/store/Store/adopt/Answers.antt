@@ -2,6 +2,8 @@ use Rattle.std.proofs.Common.{sym, ap, Err}
 use Rattle.sqlite.specs.Held.{state}
 use Rattle.ccr_store.specs.Causes.{IsLetGo}
 use Rattle.ccr_store.proofs.ReadFaults.{err_so}
+use Rattle.ccr_store.proofs.RaisedRows.{stored_in}
+use Rattle.ccr_store.specs.Rows.{rows_in}
 use Rattle.ccr_history.proofs.ChangeLaws.{none_is_history}
 use Rattle.ccr_store.proofs.store.Store.adopt.Goals as goal
 
@@ -16,7 +18,7 @@ returns-clause-kept g c = λ blank clean up.
     (sym made.1, none_is_history, made.0)
 
 pub returns-clause-found : goal.returns-clause-found
-returns-clause-found g c = λ these clean settled holds. c.in_ok-prepare.ensures.found these clean holds
+returns-clause-found g c = λ format h rules fits clean holds. stored_in format h _ rules (c.in_ok-prepare.ensures.found (rows_in format h) clean holds)
 
 pub returns-clause-taken : goal.returns-clause-taken
 returns-clause-taken g c = λ clean other. c.in_ok-prepare.ensures.taken clean other

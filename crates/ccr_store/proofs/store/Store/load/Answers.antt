@@ -7,6 +7,7 @@ use Rattle.ccr_store.specs.Rows.{rows_of}
 use Rattle.ccr_store.proofs.OneHistory.{one_history}
 use Rattle.ccr_store.specs.Causes.{IsUnloaded}
 use Rattle.ccr_store.specs.Shown.{ShowsHistory}
+use Rattle.ccr_store.specs.declared.format.Format.TheVariants.{Two}
 use Rattle.ccr_store.specs.StoreData.{StoreData}
 use Rattle.ccr_store.proofs.ReadFaults.{err_so}
 use Rattle.ccr_store.proofs.store.Store.load.Goals as goal
@@ -71,11 +72,11 @@ returns-clause-leaves g c these holds clean trees may =
 
 pub returns-in_err-history-clause-answered : goal.returns-in_err-history-clause-answered
 returns-in_err-history-clause-answered g c clean =
-    err_so c.from_residual.result (IsUnloaded g.S.Store (state g.S.Store c.args.self.now.conn)) _
+    err_so c.from_residual.result (IsUnloaded g.S.Store (state g.S.Store c.args.self.now.conn) Two) _
     c.from_residual.ensures.1
-    (subst (λ (k : StoreData _). IsUnloaded g.S.Store (state g.S.Store k.conn) c.in_err-history.field-0.0) c.self.view_is
+    (subst (λ (k : StoreData _). IsUnloaded g.S.Store (state g.S.Store k.conn) Two c.in_err-history.field-0.0) c.self.view_is
     (c.in_err-history.ensures.answered clean))
 
 pub returns-clause-shown : goal.returns-clause-shown
 returns-clause-shown g c clean =
-    subst (λ (k : StoreData _). ShowsHistory c.in_ok-history.history (state g.S.Store k.conn).now) c.self.view_is (c.in_ok-history.ensures.shown clean)
+    subst (λ (k : StoreData _). ShowsHistory Two c.in_ok-history.history (state g.S.Store k.conn).now) c.self.view_is (c.in_ok-history.ensures.shown clean)

@@ -1,0 +1,138 @@
+//! The commands that only read, with their help.
+ghost use Rattle.std.specs.Prelude.{◌≡◌, ◌∷◌, [], IfOk, codes};
+ghost use Rattle.ccr_command.specs.Usage.{IsCommand, value_rule, as_number};
+
+use crate::argument::{as_number, value};
+use crate::commands::command;
+use clap::Command;
+use std::alloc::{AllocError, Global};
+
+/// Shows the pipeline as it was set.
+pub(crate) fn get_pipeline<'a>(alloc: Global) -> Command<'a>
+    ensures { IsCommand (codes "get-pipeline") [] result }
+{
+    command(
+        alloc,
+        "get-pipeline",
+        "Shows the pipeline as it was set",
+        "\
+Prints the bytes of the file that `set-pipeline` read last.
+
+Exit statuses: 0 shown; 1 refused, because there is no pipeline; 2 usage; 4 disk or memory.
+
+Example:
+  ccr_run --db ci.db get-pipeline >pipeline.json",
+    )
+}
+
+/// Shows the resources of the pipeline.
+pub(crate) fn resources<'a>(alloc: Global) -> Command<'a>
+    ensures { IsCommand (codes "resources") [] result }
+{
+    command(
+        alloc,
+        "resources",
+        "Shows the resources of the pipeline, with their pins",
+        "\
+Prints `NAME TYPE N versions` for each resource, in the order of the pipeline. ` pinned by pipeline PIN` follows if its
+`version` in the pipeline is a pin, and ` pinned PIN` if `pin-resource` pinned it. A version has to meet both.
+
+Exit statuses: 0 shown; 1 refused, because there is no pipeline; 2 usage; 4 disk or memory.
+
+Example:
+  ccr_run --db ci.db resources",
+    )
+}
+
+/// Shows the jobs of the pipeline.
+pub(crate) fn jobs<'a>(alloc: Global) -> Command<'a>
+    ensures { IsCommand (codes "jobs") [] result }
+{
+    command(
+        alloc,
+        "jobs",
+        "Shows the jobs of the pipeline, and what their next builds would be",
+        "\
+Prints `JOB N STATUS NEXT` for each job, in the order of the pipeline, with its newest build; `JOB no builds NEXT` if it has
+none. NEXT is what the next round would find: `due`, a build is made; `nothing new`, all versions were built before;
+`by command only`, because no input has `trigger`; `none satisfies`, no versions went through the jobs in `passed` together;
+`over budget N`, the search would need more nodes.
+
+Exit statuses: 0 shown; 1 refused, because there is no pipeline; 2 usage; 4 disk or memory.
+
+Example:
+  ccr_run --db ci.db jobs",
+    )
+}
+
+/// Shows a build.
+pub(crate) fn build<'a>(alloc: Global) -> Result<Command<'a>, AllocError>
+    ensures { IfOk result
+        (IsCommand (codes "build") (value_rule (codes "JOB") ∷ as_number (value_rule (codes "N")) ∷ [])) }
+{
+    let job = value(alloc, "JOB", "The job's name");
+    let number = value(alloc, "N", "The build's number, from 1 to 1000000");
+    command(
+        alloc,
+        "build",
+        "Shows what a build took and moved",
+        "\
+Prints `JOB N STATUS`, and `took INPUT PLACE KEY` for each version that the build took. Then, for each job that its inputs
+name in `passed` today, `together JOB N`: the newest build made before it that moved together what it took, or
+`no build of JOB moved them together`. Then `moved RESOURCE PLACE KEY` for each version that it moved.
+
+Exit statuses: 0 shown; 1 refused, because there is no such build; 2 usage; 4 disk or memory.
+
+Example:
+  ccr_run --db ci.db build deploy 42",
+    )
+    .arg(job)?
+    .arg(as_number(number))
+}
+
+/// Shows where a version went.
+pub(crate) fn trace<'a>(alloc: Global) -> Result<Command<'a>, AllocError>
+    ensures { IfOk result
+        (IsCommand (codes "trace") (value_rule (codes "NAME") ∷ value_rule (codes "JSON") ∷ [])) }
+{
+    let name = value(alloc, "NAME", "The resource's name");
+    let pin = value(alloc, "JSON", "A JSON object whose fields are all strings");
+    command(
+        alloc,
+        "trace",
+        "Shows which builds a version went through",
+        "\
+Prints `JOB N STATUS` for each build that took or moved a version with these fields, in the order in which they were made.
+` took` follows if it took one; ` passed` if it moved one and succeeded, ` moved` if it moved one and didn't succeed.
+
+Exit statuses: 0 shown; 1 refused, because there is no pipeline or no such resource, or the text isn't an object of strings;
+2 usage; 4 disk or memory.
+
+Example:
+  ccr_run --db ci.db trace repo '{\"ref\":\"61cbef\"}'",
+    )
+    .arg(name)?
+    .arg(pin)
+}
+
+/// Shows the choice for a job in one text, for the checker.
+pub(crate) fn certify<'a>(alloc: Global) -> Result<Command<'a>, AllocError>
+    ensures { IfOk result (IsCommand (codes "certify") (value_rule (codes "JOB") ∷ [])) }
+{
+    let job = value(alloc, "JOB", "The job's name");
+    command(
+        alloc,
+        "certify",
+        "Shows the choice for a job in one text, which ccr_verify accepts",
+        "\
+Prints what `problem` prints, and behind it what `resolve` prints, both from one opening of the database. `ccr_verify` reads
+it on standard input, and prints `accepted` with the choice. No build is made.
+
+Exit statuses: 0 shown; 1 refused, because there is no pipeline or no such job; 2 usage; 3 the proof would go over the
+budget; 4 disk or memory.
+
+Example:
+  ccr_run --db ci.db certify deploy | ccr_verify",
+    )
+    .arg(job)
+}

@@ -1,5 +1,0 @@
-use Rattle.std.proofs.Common.{◌≡◌, take}
-use Rattle.ccr_explain.proofs.why.all_jobs.Given as goal
-
-abbrev pub invariant-loop-job : goal.invariant-loop-job
-invariant-loop-job l = l.jobs.items ≡ take l.job-index l.problem.jobs

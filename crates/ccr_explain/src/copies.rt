@@ -1,0 +1,48 @@
+//! Copies of a problem's parts.
+
+ghost use Rattle.std.specs.Prelude.{◌≡◌, IfOk};
+
+use ccr_choice::{Build, Input, JobBuilds, Problem};
+use std::alloc::{AllocError, Global};
+
+/// These inputs once more.
+pub(crate) fn copied_inputs(alloc: Global, inputs: &[Input]) -> Result<Vec<Input>, AllocError>
+    ensures { IfOk result (λ copies. copies.items ≡ inputs.now) }
+{
+    let mut copies = Vec::new(alloc);
+    for input in inputs {
+        let jobs = Vec::from_slice(alloc, input.jobs())?;
+        let places = Vec::from_slice(alloc, input.places())?;
+        copies.push(Input::new(input.scope(), jobs, input.after(), places))?;
+    }
+    Ok(copies)
+}
+
+/// The builds of each job once more.
+pub(crate) fn copied_jobs(alloc: Global, problem: &Problem) -> Result<Vec<JobBuilds>, AllocError>
+    ensures { IfOk result (λ copies. copies.items ≡ problem.now.jobs) }
+{
+    let mut copies = Vec::new(alloc);
+    for job in problem.jobs() {
+        copies.push(copied_builds(alloc, job.builds())?)?;
+    }
+    Ok(copies)
+}
+
+fn copied_builds(alloc: Global, builds: &[Build]) -> Result<JobBuilds, AllocError>
+    ensures { IfOk result (λ copy. copy ≡ builds.now) }
+{
+    let mut copies = Vec::with_capacity(alloc, builds.len())?;
+    for build in builds {
+        copies.push(copied_build(alloc, build)?)?;
+    }
+    Ok(JobBuilds::new(copies))
+}
+
+/// This build once more.
+pub(crate) fn copied_build(alloc: Global, build: &Build) -> Result<Build, AllocError>
+    ensures { IfOk result (λ copy. copy ≡ build.now) }
+{
+    let pairs = Vec::from_slice(alloc, build.pairs())?;
+    Ok(Build::new(build.number(), pairs))
+}

@@ -1,0 +1,104 @@
+//! A few inputs whose demands already exclude each other, so that the others needn't be looked at.
+
+ghost use Rattle.std.specs.Prelude.{◌≤◌, IfOk, IfSome};
+ghost use Rattle.ccr_choice.specs.Problem.{IsProblem};
+ghost use Rattle.ccr_explain.specs.Clash.{IsClash};
+
+use crate::demand::{Demand, demands_of_some};
+use crate::met::{Met, are_met};
+use ccr_choice::{Input, Problem};
+use ccr_proof::MOST_NODES;
+use std::alloc::{AllocError, Global};
+
+/// The demands of an input that alone exclude each other, else those of a few inputs that do so together, looked for from input 0
+/// on; None where that takes all inputs, or the budget doesn't suffice to tell.
+pub(crate) fn few_demands(
+    alloc: Global,
+    inputs: &[Input],
+    problem: &Problem,
+    budget: u32,
+) -> Result<Option<Vec<Demand>>, AllocError>
+    requires rules { IsProblem (record problem.now { inputs = inputs.now }) }
+    requires least { 1 ≤ budget }
+    requires most { budget ≤ MOST_NODES }
+    ensures { IfOk result
+        (λ found. IfSome found (λ ds. IsClash (record problem.now { inputs = inputs.now }) ds.items)) }
+{
+    for i in 0..inputs.len() {
+        let demands = demands_of_some(alloc, inputs, &[i])?;
+        let met = are_met(alloc, inputs, problem, &demands, budget)?;
+        if let Met::No = met {
+            return Ok(Some(demands));
+        }
+    }
+    grown(alloc, inputs, problem, 0, budget)
+}
+
+/// The demands of one input, and of as many more that name a job as it takes until they exclude each other; None where that takes
+/// all of them, or the budget doesn't suffice to tell. Inputs that name a job in common are taken before others.
+pub(crate) fn grown(
+    alloc: Global,
+    inputs: &[Input],
+    problem: &Problem,
+    first: usize,
+    budget: u32,
+) -> Result<Option<Vec<Demand>>, AllocError>
+    requires rules { IsProblem (record problem.now { inputs = inputs.now }) }
+    requires least { 1 ≤ budget }
+    requires most { budget ≤ MOST_NODES }
+    ensures { IfOk result
+        (λ found. IfSome found (λ ds. IsClash (record problem.now { inputs = inputs.now }) ds.items)) }
+{
+    let mut taken = Vec::new(alloc);
+    let mut next = first;
+    for _ in 1..count_naming(inputs) {
+        taken.push(next)?;
+        let demands = demands_of_some(alloc, inputs, &taken)?;
+        let met = are_met(alloc, inputs, problem, &demands, budget)?;
+        if let Met::No = met {
+            return Ok(Some(demands));
+        }
+        next = next_input(inputs, &taken);
+    }
+    Ok(None)
+}
+
+/// How many inputs name a job. The others clash with no input but themselves.
+fn count_naming(inputs: &[Input]) -> usize {
+    inputs.iter().filter(|x| !x.jobs().is_empty()).count()
+}
+
+/// Of the inputs that name a job, the first that isn't taken and names one in common with an input that is, else the first that
+/// isn't taken.
+fn next_input(inputs: &[Input], taken: &[usize]) -> usize {
+    let mut next = 0;
+    for i in (0..inputs.len()).rev() {
+        if taken.contains(&i) || inputs[i].jobs().is_empty() {
+            continue;
+        }
+        if is_near(inputs, taken, i) {
+            return i;
+        }
+        next = i;
+    }
+    next
+}
+
+/// Whether input `input` names a job in common with one of those taken.
+fn is_near(inputs: &[Input], taken: &[usize], input: usize) -> bool {
+    let Some(one) = inputs.get(input) else {
+        return false;
+    };
+    for t in taken {
+        if let Some(other) = inputs.get(*t) {
+            if have_common(one.jobs(), other.jobs()) {
+                return true;
+            }
+        }
+    }
+    false
+}
+
+fn have_common(jobs: &[u32], others: &[u32]) -> bool {
+    jobs.iter().any(|j| others.contains(j))
+}
