@@ -99,10 +99,10 @@ fn pinned(alloc: Global, draws: &mut Draws, core: &Core) -> Result<Event, LineFa
     Ok(Event::Pin(resource(alloc, draws, core)?, pin))
 }
 
-/// A place of a resource is disabled or enabled; some resources lack it.
+/// A place of a resource is disabled or enabled; no resource has place 0, and some lack others.
 fn switched(alloc: Global, draws: &mut Draws, core: &Core) -> Result<Event, LineFault> {
     let resource = resource(alloc, draws, core)?;
-    let place = 1 + draws.below(MOST_VERSIONS);
+    let place = draws.below(1 + MOST_VERSIONS);
     if draws.below(3) == 0 {
         Ok(Event::Enable(resource, place))
     } else {
