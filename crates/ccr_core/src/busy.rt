@@ -5,14 +5,14 @@ ghost use Rattle.std.specs.Option.{option_map_or};
 ghost use Rattle.std.specs.Str.{bytes_eq};
 ghost use Rattle.ccr_pipeline.specs.JobData.{job_data};
 ghost use Rattle.ccr_pipeline.specs.Names.{has_name};
+ghost use Rattle.ccr_pipeline.specs.Pipelines.{pipeline_data};
 ghost use Rattle.ccr_problem.specs.ProblemOf.{job_of};
 ghost use Rattle.ccr_core.specs.Busy.{is_grouped, limit_of, has_reached, share, is_busy};
 ghost use Rattle.ccr_core.specs.Holding.{name_data};
 ghost use Rattle.ccr_core.specs.Picking.{name_of, shuts_out};
 ghost use Rattle.ccr_core.specs.State.{RunningData};
 
-use crate::named::job_named;
-use ccr_pipeline::Job;
+use ccr_pipeline::{Job, Pipeline};
 
 /// Whether the job is in a serial group.
 fn is_grouped(job: &Job) -> bool
@@ -83,24 +83,24 @@ fn share(job: &Job, other: &Job) -> bool
 }
 
 /// Whether the job of this name shares a serial group with a job.
-fn shares_with(jobs: &[Job], job: &Job, name: &str) -> bool
+fn shares_with(pipeline: &Pipeline, job: &Job, name: &str) -> bool
     ensures { result
-        ≡ option_map_or (share (job_data job.now)) (job_of name.now (map job_data jobs.now)) false }
+        ≡ option_map_or (share (job_data job.now)) (job_of name.now (pipeline_data pipeline.now).jobs) false }
 {
-    match job_named(jobs, name) {
+    match pipeline.job(name) {
         Some(other) => share(job, other),
         None => false,
     }
 }
 
 /// Whether one of these builds is of another job, one that shares a serial group with this job.
-fn is_shut_out(jobs: &[Job], job: &Job, names: &[(String, u32)]) -> bool
+fn is_shut_out(pipeline: &Pipeline, job: &Job, names: &[(String, u32)]) -> bool
     ensures { result
-        ≡ list_any (shuts_out (map job_data jobs.now) (job_data job.now)) (map name_data names.now) }
+        ≡ list_any (shuts_out (pipeline_data pipeline.now).jobs (job_data job.now)) (map name_data names.now) }
 {
     for name in names {
         let other = name.0.as_str();
-        if job.name.as_str() != other && shares_with(jobs, job, other) {
+        if job.name.as_str() != other && shares_with(pipeline, job, other) {
             return true;
         }
     }
@@ -109,9 +109,9 @@ fn is_shut_out(jobs: &[Job], job: &Job, names: &[(String, u32)]) -> bool
 
 /// Whether a job is busy where builds of these names run: as many of its builds as may, or a build of another job that
 /// shares a serial group with it (Concourse: jobs, `serial`, `serial_groups`, `max_in_flight`).
-pub(crate) fn is_busy(jobs: &[Job], job: &Job, names: &[(String, u32)]) -> bool
+pub(crate) fn is_busy(pipeline: &Pipeline, job: &Job, names: &[(String, u32)]) -> bool
     ensures { (running : List RunningData) → map name_of running ≡ map name_data names.now
-        → is_busy (map job_data jobs.now) (job_data job.now) running ≡ result }
+        → is_busy (pipeline_data pipeline.now).jobs (job_data job.now) running ≡ result }
 {
-    has_reached(job, names) || is_shut_out(jobs, job, names)
+    has_reached(job, names) || is_shut_out(pipeline, job, names)
 }

@@ -14,7 +14,6 @@ ghost use Rattle.ccr_core.specs.Opening.{HasVersion, LacksVersion};
 use crate::change::change_of;
 use crate::fault::CoreFault;
 use crate::indexed::indexes_of;
-use crate::named::resource_named;
 use crate::parts::Parts;
 use crate::reply::Reply;
 use ccr_history::{Change, Edit, History, Scope};
@@ -85,7 +84,7 @@ impl Parts {
         let Some(pipeline) = &self.pipeline else {
             return Err(CoreFault::NoPipeline);
         };
-        let Some(found) = resource_named(pipeline.resources(), resource) else {
+        let Some(found) = pipeline.resource(resource) else {
             return Err(CoreFault::NoResource);
         };
         let scope = found.scope();

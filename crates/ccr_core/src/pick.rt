@@ -70,7 +70,7 @@ pub(crate) fn pick(
     ensures { IfOk result (IsPicked (pipeline_data pipeline.now) history.now budget (map name_data names.now)
         (job_data job.now) by_command) }
 {
-    if is_busy(pipeline.jobs(), job, names) {
+    if is_busy(pipeline, job, names) {
         return Ok(Picked::Busy);
     }
     match found(alloc, pipeline, history, indexes, budget, job.name.as_str())? {

@@ -15,7 +15,6 @@ ghost use Rattle.ccr_core.specs.Opening.{HasResource, LacksResource};
 use crate::change::change_of;
 use crate::fault::CoreFault;
 use crate::indexed::indexes_of;
-use crate::named::resource_named;
 use crate::parts::Parts;
 use crate::reply::Reply;
 use ccr_history::{Change, Edit, History, Pin};
@@ -91,7 +90,7 @@ impl Parts {
         let Some(pipeline) = &self.pipeline else {
             return Err(CoreFault::NoPipeline);
         };
-        match resource_named(pipeline.resources(), resource) {
+        match pipeline.resource(resource) {
             Some(_) => Ok(()),
             None => Err(CoreFault::NoResource),
         }

@@ -45,7 +45,7 @@ fn report_of(
 ) -> Result<Option<Report>, AllocError>
     ensures { IfOk result (λ r. reports r ≡ report (pipeline_data pipeline.now) resource.now (version.now ∷ [])) }
 {
-    match scope_named(alloc, pipeline, resource)? {
+    match scope_named(pipeline, resource)? {
         Some(scope) => {
             let mut versions = Vec::new(alloc);
             versions.push(version.copy()?)?;

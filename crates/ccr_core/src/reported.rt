@@ -121,7 +121,7 @@ impl Parts {
         let Some(pipeline) = &self.pipeline else {
             return Err(CoreFault::NoPipeline);
         };
-        match scope_named(alloc, pipeline, resource) {
+        match scope_named(pipeline, resource) {
             Ok(found) => match found {
                 Some(scope) => {
                     versions_ascend(&seen);

@@ -9,7 +9,6 @@ ghost use Rattle.ccr_core.specs.Opening.{asked, HasRoom, LacksRoom};
 
 use crate::fault::CoreFault;
 use crate::limit::MOST_RUNNING;
-use crate::named::job_named;
 use crate::opened::open_build;
 use crate::parts::Parts;
 use crate::pick::{Picked, pick};
@@ -56,7 +55,7 @@ impl Parts {
         let Some(pipeline) = &self.pipeline else {
             return Err(CoreFault::NoPipeline);
         };
-        let Some(found) = job_named(pipeline.jobs(), job) else {
+        let Some(found) = pipeline.job(job) else {
             return Err(CoreFault::NoJob);
         };
         check_room(&self.history, self.names.len())?;

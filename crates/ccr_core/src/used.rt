@@ -6,7 +6,6 @@ ghost use Rattle.ccr_problem.specs.ProblemOf.{history_number};
 ghost use Rattle.ccr_core.specs.Choices.{used_at, versions_at, is_new};
 ghost use Rattle.ccr_core.specs.Seen.{version_at};
 
-use crate::named::scope_named;
 use ccr_history::{History, Used, Version};
 use ccr_pipeline::{Input, Pipeline};
 use serde_json::{Map, Value};
@@ -26,8 +25,8 @@ fn used_for(
       place = place;
     }) }
 {
-    let scope = match scope_named(alloc, pipeline, input.resource.as_str())? {
-        Some(scope) => history.scope_number(&scope),
+    let scope = match pipeline.resource(input.resource.as_str()) {
+        Some(resource) => history.scope_number(resource.scope()),
         None => 0,
     };
     Ok(Used {
@@ -75,13 +74,11 @@ fn version_at(
 ) -> Result<Version, AllocError>
     ensures { IfOk result (λ v. v ≡ version_at (pipeline_data pipeline.now) history.now resource.now place) }
 {
-    let Some(scope) = scope_named(alloc, pipeline, resource)? else {
+    let Some(found) = pipeline.resource(resource) else {
         return without_fields(alloc);
     };
-    match history
-        .versions(&scope)
-        .get(place.saturating_sub(1) as usize)
-    {
+    let versions = history.versions(found.scope());
+    match versions.get(place.saturating_sub(1) as usize) {
         Some(version) => version.copy(),
         None => without_fields(alloc),
     }

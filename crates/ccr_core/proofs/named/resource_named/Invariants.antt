@@ -1,7 +1,0 @@
-use Rattle.std.proofs.Common.{◌≡◌, map, drop}
-use Rattle.ccr_pipeline.specs.JobData.{resource_data}
-use Rattle.ccr_problem.specs.ProblemOf.{resource_of}
-use Rattle.ccr_core.proofs.named.resource_named.Given as goal
-
-abbrev pub invariant-loop-resource : goal.invariant-loop-resource
-invariant-loop-resource l = resource_of l.name (map resource_data (drop l.resource-index l.resources)) ≡ resource_of l.name (map resource_data l.resources)
