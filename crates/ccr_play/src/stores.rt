@@ -7,7 +7,9 @@
 //!
 //! `stops FRAMES` makes the changes, one a line, over files in memory of which one fails from a call on, at each of its calls in turn,
 //! and the same while all is loaded. A log of FRAMES frames is copied into the database. It is answered how many stops there were; where
-//! one left another history than that before the change that it cut short or after it, with what it left.
+//! one left another history than that before the change that it cut short or after it, with what it left. `raises FRAMES` makes them in
+//! a database that gets the number of the first format then, and stops a store at each call while it takes and loads that one; and once more
+//! while it takes it as it was left, in the second format.
 //!
 //! `foreign STATEMENTS` makes a database by these, `spoiled STATEMENTS` one with the six tables and then by these, and `text TEXT` a file
 //! of this text: it is answered how a store refuses it, and whether its bytes are as they were.
@@ -28,7 +30,7 @@ use ccr_store::Store;
 use foreign::{Content, refusal_told};
 use sqlite::{Connection, File, FileStore};
 use std::alloc::{AllocError, Global};
-use stops::stops_told;
+use stops::{raises_told, stops_told};
 use stored::{held, keep, time_commits};
 
 /// The lines of the history that is made, and where it is kept besides in memory.
@@ -118,6 +120,7 @@ impl<'r> Stores<'r> {
         match split(line) {
             ("load", "") => self.load(),
             ("stops", frames) => stops_told(alloc, self.lines.as_str(), number_of(frames)?),
+            ("raises", frames) => raises_told(alloc, self.lines.as_str(), number_of(frames)?),
             ("foreign", statements) => refusal_told(alloc, Content::Foreign(statements)),
             ("spoiled", statements) => refusal_told(alloc, Content::Spoiled(statements)),
             ("text", text) => refusal_told(alloc, Content::Text(text)),

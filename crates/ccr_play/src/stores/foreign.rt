@@ -60,6 +60,17 @@ fn made(alloc: Global, has_tables: bool, statements: &str) -> Result<Files<Memor
     }
 }
 
+/// Files in which a history is kept, given the number of the first format.
+pub(super) fn lowered(alloc: Global, files: Files<Memory>) -> Result<Files<Memory>> {
+    if !files.may_be_used() {
+        bail!("the files can't be used")
+    }
+    match Connection::open_files(alloc, files, Options::new(1)) {
+        Ok(conn) => filled(alloc, conn, false, "UPDATE meta SET v = x'31' WHERE k = 1"),
+        Err((error, _)) => Err(error.into()),
+    }
+}
+
 /// The files of this content.
 fn files_of(alloc: Global, content: Content<'_>) -> Result<Files<Memory>> {
     match content {

@@ -4,6 +4,7 @@
 //! it, without what wasn't synced.
 
 use super::files::{Fused, empty_files, fused, left_by_crash, left_by_kill, options};
+use super::foreign::lowered;
 use super::kept::Kept;
 use super::runs::{Reached, Stage, run};
 use super::stored::{held, whole_text};
@@ -173,6 +174,16 @@ impl Trial<'_> {
     }
 }
 
+/// What is run where the history in files is taken and loaded. It is the last of these.
+fn loading(files: Files<Memory>, frames: u32, texts: &[String]) -> Trial<'_> {
+    Trial {
+        files,
+        frames,
+        lines: "",
+        texts: &texts[texts.len().saturating_sub(1)..],
+    }
+}
+
 /// Stops a store at each call of each of its files: while it is made in empty files and keeps these lines, and while all of it is loaded. The
 /// lines that tell how often it was stopped; an error where a stop left another history than the one before the change that it cut short,
 /// or after it.
@@ -185,13 +196,30 @@ pub(super) fn stops_told(alloc: Global, lines: &str, frames: u32) -> Result<Stri
         texts: &texts,
     };
     let mut told = made.told(alloc, "made")?;
-    let last = texts.len().saturating_sub(1);
-    let loaded = Trial {
-        files: made.files_left(alloc)?,
-        frames,
-        lines: "",
-        texts: &texts[last..],
-    };
+    let loaded = loading(made.files_left(alloc)?, frames, &texts);
     told.push_str(loaded.told(alloc, "loaded")?.as_str())?;
+    Ok(told)
+}
+
+/// Files in which these lines were kept.
+fn files_with(alloc: Global, lines: &str, frames: u32) -> Result<Files<Memory>> {
+    let kept = Trial {
+        files: empty_files(alloc),
+        frames,
+        lines,
+        texts: &[],
+    };
+    kept.files_left(alloc)
+}
+
+/// The same while a database of the first format is taken that holds the history of these lines: it is loaded and written over. And then
+/// while it is taken as it was left, which writes nothing.
+pub(super) fn raises_told(alloc: Global, lines: &str, frames: u32) -> Result<String> {
+    let texts = texts_of(alloc, lines)?;
+    let kept = files_with(alloc, lines, frames)?;
+    let first = loading(lowered(alloc, kept)?, frames, &texts);
+    let mut told = first.told(alloc, "first format")?;
+    let again = loading(first.files_left(alloc)?, frames, &texts);
+    told.push_str(again.told(alloc, "written over")?.as_str())?;
     Ok(told)
 }
