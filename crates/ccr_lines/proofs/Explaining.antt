@@ -1,0 +1,43 @@
+-- Lines of several things, one behind the other; and what is said of an input.
+use Rattle.std.proofs.Common.{◌≡◌, ◌+◌, ◌<◌, ◌≤◌, ◌∷◌, ◌++◌, [], List, ℕ, zero, suc, length, take, map, get_or, refl, sym, ◌∙◌, ap, subst, append_assoc, append-nil, arith}
+use Rattle.std.proofs.lemmas.List.{take_more, map-append, length-map, length-take-le}
+use Rattle.ccr_history.specs.Text.{Text}
+use Rattle.ccr_lines.specs.Each.{AreLines}
+
+-- the lines of one thing more, at the end
+lines_more : {X : Type 0} (May : ℕ → X → Text → Type 0) (i n : ℕ) (xs : List X) (x : X) (old own : Text)
+    → n ≡ i + length xs → AreLines May i xs old → May n x own → AreLines May i (xs ++ x ∷ []) (old ++ own)
+lines_more May i n [] x old own at none may =
+    (own, [], subst (λ m. May m x own) (at ∙ arith) may, refl, ap (λ t. t ++ own) none ∙ sym (append-nil own))
+lines_more May i n (y ∷ ys) x old own at are may = (
+  are.0,
+  are.1 ++ own,
+  are.2,
+  lines_more May (i + 1) n ys x are.1 own (at ∙ arith) are.3 may,
+  ap (λ t. t ++ own) are.4 ∙ append_assoc are.0 are.1 own,
+)
+
+-- the lines of the next thing come to those of the first ones
+pub lines_told : {X Y : Type 0} (May : ℕ → X → Text → Type 0) (of : Y → X) (ys : List Y) (k : ℕ) (y : Y)
+    (old own new : Text) → k < length ys → get_or ys k y ≡ y → AreLines May 0 (map of (take k ys)) old
+    → May k (of y) own → new ≡ old ++ own → AreLines May 0 (map of (take (k + 1) ys)) new
+lines_told May of ys k y old own new within at are may told =
+    subst (λ t. AreLines May 0 (map of (take (k + 1) ys)) t) (sym told)
+    (subst (λ xs. AreLines May 0 (map of xs) (old ++ own)) (sym more)
+    (subst (λ xs. AreLines May 0 xs (old ++ own)) (sym (map-append of (take k ys) (y ∷ [])))
+    (lines_more May 0 k (map of (take k ys)) (of y) old own long are may))) where
+      more : take (k + 1) ys ≡ take k ys ++ y ∷ []
+      more = take_more ys k y within ∙ ap (λ x. take k ys ++ x ∷ []) at
+      long : k ≡ 0 + length (map of (take k ys))
+      long = sym (length-map (take k ys) of ∙ length-take-le k ys (omega within))
+
+-- the lines of three things
+pub lines_three : {X : Type 0} (May : ℕ → X → Text → Type 0) (x y z : X) (a b c whole : Text) → May 0 x a → May 1 y b
+    → May 2 z c → whole ≡ (a ++ b) ++ c → AreLines May 0 (x ∷ y ∷ z ∷ []) whole
+lines_three May x y z a b c whole first second third is = (
+  a,
+  b ++ c,
+  first,
+  (b, c, second, (c, [], third, refl, sym (append-nil c)), refl),
+  is ∙ append_assoc a b c,
+)
