@@ -74,7 +74,7 @@ IsNewerRefused s i x n place lines = IsRefusalIf (nat_lt (taken s i) place) s i 
 
 -- the three newest places of an input's scope, the newest first; 0 where there are fewer
 abbrev pub newest_three : SubjectData → InputData → List ℕ
-newest_three s x = newest_place s x ∷ newest_place s x - 1 ∷ newest_place s x - 2 ∷ []
+newest_three s x = newest_place s x ∷ (newest_place s x - 1) ∷ (newest_place s x - 2) ∷ []
 
 -- WHAT INPUT i TAKES, and why it takes none of the three newest places that is newer
 abbrev pub IsInputExplained : SubjectData → ℕ → InputData → Text → Type 0

@@ -77,7 +77,8 @@ fn push_build(text: &mut String, subject: &Subject<'_>, job: u32) -> Result<(), 
     ensures { OnOk result (string_bytes text.new ≡ string_bytes text.old ++ build_words (subject_data subject.now) job) }
 {
     text.push_str(job_name(subject.jobs, job as usize))?;
-    match subject.choice.builds.get(job as usize) {
+    let choice = subject.choice;
+    match choice.builds.get(job as usize) {
         Some(number) => push_number(text, " ", *number),
         None => Ok(()),
     }
@@ -123,7 +124,8 @@ fn taken_text(
         string_bytes text ≡ taken_line (subject_data subject.now) number (input_data input.now)) }
 {
     let mut text = String::new(alloc);
-    let place = subject.choice.places[number];
+    let choice = subject.choice;
+    let place = choice.places[number];
     push_place(alloc, &mut text, subject, input, place)?;
     push_through(&mut text, subject, subject.problem.named(number))?;
     text.push_str("\n")?;
@@ -182,7 +184,8 @@ fn newer_text(
     ensures { IfOk result (λ text.
         IsNewerRefused (subject_data subject.now) number (input_data input.now) 0 place (string_bytes text)) }
 {
-    if subject.choice.places[number] < place {
+    let choice = subject.choice;
+    if choice.places[number] < place {
         refusal_text(alloc, subject, number, input, place)
     } else {
         Ok(String::new(alloc))
@@ -308,13 +311,13 @@ fn best_text(alloc: Global, subject: &Subject<'_>, job: &Job) -> Result<String, 
         × (string_bytes text ≡ outlook_line (job_data job.now)
         (outlook_at s.pipeline s.history (job_data job.now) s.choice.places) ++ each)) }
 {
-    let places = &subject.choice.places;
+    let choice = subject.choice;
     let outlook = outlook_at(
         alloc,
         subject.pipeline,
         subject.history,
         job,
-        places,
+        &choice.places,
         subject.budget,
     )?;
     let mut text = outlook_text(alloc, job, outlook)?;
@@ -359,11 +362,11 @@ fn chosen_text(
 fn clash_text(
     alloc: Global,
     job: &Job,
-    inputs: &[Input],
+    gets: &[Input],
     jobs: &[String],
     shown: &Explanation,
 ) -> Result<String, AllocError>
-    requires inputs { map input_data inputs.now ≡ inputs (job_data job.now).plan }
+    requires gets { map input_data gets.now ≡ inputs (job_data job.now).plan }
     requires jobs { map string_bytes jobs.now ≡ named_jobs [] (inputs (job_data job.now).plan) }
     ensures { IfOk result (λ text. string_bytes text
         ≡ outlook_line (job_data job.now) Outlook.NoneSatisfies ++ clash_lines (job_data job.now) shown.now) }
@@ -372,7 +375,7 @@ fn clash_text(
     match shown {
         Explanation::Fits(_) => {}
         Explanation::Clash(clash) => {
-            push_clash(&mut text, Asked::Any, inputs, jobs, clash)?;
+            push_clash(&mut text, Asked::Any, gets, jobs, clash)?;
             text.push_str("\n")?;
         }
         Explanation::OverBudget(budget) => {
@@ -393,7 +396,8 @@ fn none_text(alloc: Global, job: &Job, problem: &Problem, budget: u32) -> Result
     let inputs = inputs_of(alloc, job)?;
     let jobs = named_jobs(alloc, &inputs)?;
     let shown = clash(alloc, problem, budget)?;
-    clash_text(alloc, job, &inputs, &jobs, &shown)
+    let text = clash_text(alloc, job, &inputs, &jobs, &shown)?;
+    Ok(text)
 }
 
 /// What is said of a job by what was chosen, with the status.
@@ -445,7 +449,8 @@ fn explained_of(
     let problem = problem_in(alloc, pipeline, history, job.name.as_str())?;
     let index = build_index(alloc, &problem)?;
     let chosen = choose(alloc, &index, budget)?;
-    explained_by(alloc, pipeline, history, job, &problem, &chosen, budget)
+    let explained = explained_by(alloc, pipeline, history, job, &problem, &chosen, budget)?;
+    Ok(explained)
 }
 
 /// What is shown of what the next build of the job of this name would take, and why.

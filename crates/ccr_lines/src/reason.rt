@@ -82,19 +82,32 @@ fn is_preferred(subject: &Subject<'_>, input: usize, place: u32) -> bool
     requires input { input < length (subject_data subject.now).inputs }
     ensures { result ≡ is_preferred (subject_data subject.now) input place }
 {
-    let taken = subject.choice.places[input];
+    let choice = subject.choice;
+    let taken = choice.places[input];
     ccr_choice::is_preferred(subject.problem.after(input), place, taken)
 }
 
 /// The demands that exclude each other where an input takes a place and no input before it gets worse, and nothing concerns the
 /// place alone.
-fn clash_at(alloc: Global, subject: &Subject<'_>, input: usize, place: u32) -> Result<Reason, AllocError>
+fn clash_at(
+    alloc: Global,
+    subject: &Subject<'_>,
+    input: usize,
+    place: u32,
+) -> Result<Reason, AllocError>
     requires subject { IsSubject (subject_data subject.now) }
     requires input { input < length (subject_data subject.now).inputs }
     requires opened { IsOpen (subject_data subject.now) input place }
     ensures { IfOk result (IsReason (subject_data subject.now) input place false) }
 {
-    let shown = why_not(alloc, subject.problem, subject.choice, input, place, subject.budget)?;
+    let shown = why_not(
+        alloc,
+        subject.problem,
+        subject.choice,
+        input,
+        place,
+        subject.budget,
+    )?;
     match shown {
         Explanation::Clash(clash) => Ok(Reason::Clash(clash)),
         Explanation::OverBudget(budget) => Ok(Reason::OverBudget(budget)),

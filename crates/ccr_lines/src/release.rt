@@ -34,7 +34,12 @@ pub(crate) fn resource_at(history: &History, scope: u32) -> &str
 }
 
 /// The key of the version at a place of the scope of this number.
-pub(crate) fn key_at(alloc: Global, history: &History, scope: u32, place: u32) -> Result<String, AllocError>
+pub(crate) fn key_at(
+    alloc: Global,
+    history: &History,
+    scope: u32,
+    place: u32,
+) -> Result<String, AllocError>
     ensures { IfOk result (λ key. string_bytes key ≡ key_at history.now.tables scope place) }
 {
     match history.version_at(scope, place) {

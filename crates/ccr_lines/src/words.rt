@@ -154,7 +154,11 @@ pub(crate) fn push_clash(
 fn fewer_words(is_irreducible: bool) -> &'static str
     ensures { result.now ≡ fewer_words is_irreducible }
 {
-    if is_irreducible { "" } else { " (perhaps fewer)" }
+    if is_irreducible {
+        ""
+    } else {
+        " (perhaps fewer)"
+    }
 }
 
 /// Adds that no build of a job moved a place.
@@ -164,7 +168,8 @@ fn push_unmoved(text: &mut String, job: &str) -> Result<(), AllocError>
 {
     text.push_str("no build of ")?;
     text.push_str(job)?;
-    text.push_str(" moved it")
+    text.push_str(" moved it")?;
+    Ok(())
 }
 
 /// Adds the reason why an input doesn't take a place.
@@ -184,7 +189,8 @@ pub(crate) fn push_reason(
         Reason::Unmoved(job) => push_unmoved(text, job_name(subject.jobs, *job as usize)),
         Reason::Later => text.push_str("others come first"),
         Reason::Clash(clash) => {
-            let asked = Asked::Taking(input, place, &subject.choice.places);
+            let choice = subject.choice;
+            let asked = Asked::Taking(input, place, &choice.places);
             push_clash(text, asked, subject.inputs, subject.jobs, clash)
         }
         Reason::OverBudget(budget) => push_number(text, "over budget ", *budget),
