@@ -4,7 +4,7 @@ use Rattle.std.specs.Str.{bytes_eq}
 use Rattle.clap.specs.declared.parser.matches.ArgMatches.{ArgMatches}
 use Rattle.clap.specs.Words.{Row, Text, first_of, subcommand_rows_of}
 use Rattle.ccr_lines.specs.Commands.{CommandData, set_pipeline, check_resource, pin_resource, unpin_resource, disable_version, enable_version, trigger_job, run, shows}
-use Rattle.ccr_lines.specs.Shown.{versions, problem, proof, certificate, builds, build, trace, pipeline, resources, jobs}
+use Rattle.ccr_lines.specs.Shown.{versions, problem, proof, certificate, explanation, builds, build, trace, pipeline, resources, jobs}
 use Rattle.ccr_command.specs.Numbers.{number_of, place_of}
 
 -- a pin of a resource, where both its arguments have a value
@@ -51,6 +51,7 @@ command_named word values =
     else if bytes_eq word (codes "builds") then Some (shows builds)
     else if bytes_eq word (codes "run") then run_named (first_of (codes "rounds") values)
     else if bytes_eq word (codes "certify") then option_map (λ job. shows (certificate job)) (first_of (codes "JOB") values)
+    else if bytes_eq word (codes "explain") then option_map (λ job. shows (explanation job)) (first_of (codes "JOB") values)
     else if bytes_eq word (codes "build") then build_named (first_of (codes "JOB") values) (first_of (codes "N") values)
     else if bytes_eq word (codes "trace") then trace_named (first_of (codes "NAME") values) (first_of (codes "JSON") values)
     else if bytes_eq word (codes "get-pipeline") then Some (shows pipeline)

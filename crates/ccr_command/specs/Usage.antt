@@ -80,6 +80,7 @@ release_commands =
     command_shape (codes "build") (value_rule (codes "JOB") ∷ as_number (value_rule (codes "N")) ∷ [])
     ∷ command_shape (codes "trace") (value_rule (codes "NAME") ∷ value_rule (codes "JSON") ∷ [])
     ∷ command_shape (codes "certify") (value_rule (codes "JOB") ∷ [])
+    ∷ command_shape (codes "explain") (value_rule (codes "JOB") ∷ [])
     ∷ []
 
 -- ---- the line

@@ -153,6 +153,7 @@ fn named(alloc: Global, word: &str, values: &ArgMatches<'_>) -> Result<Option<Co
         "builds" => Ok(Some(Command::Builds)),
         "run" => Ok(run_of(values)),
         "certify" => Ok(value_of(alloc, values, "JOB")?.map(Command::Certify)),
+        "explain" => Ok(value_of(alloc, values, "JOB")?.map(Command::Explain)),
         "build" => build_of(alloc, values),
         "trace" => trace_of(alloc, values),
         "get-pipeline" => Ok(Some(Command::GetPipeline)),

@@ -136,3 +136,34 @@ Example:
     )
     .arg(job)
 }
+
+/// Shows what the next build of a job would take, and why.
+pub(crate) fn explain<'a>(alloc: Global) -> Result<Command<'a>, AllocError>
+    ensures { IfOk result (IsCommand (codes "explain") (value_rule (codes "JOB") ∷ [])) }
+{
+    let job = value(alloc, "JOB", "The job's name");
+    command(
+        alloc,
+        "explain",
+        "Shows what a job's next build would take, and why nothing newer",
+        "\
+Prints `JOB: ` and what a schedule would say: `due`, `nothing new`, `by command only`, `none satisfies` or `over budget N`.
+Then a line for each input: its version, and the builds through which it passed the jobs that the input names. Below it stands
+each of the three newest versions that is newer, with the reason why it isn't taken. No build is made.
+
+  disabled                   the version is disabled
+  pinned                     a pin leaves it out
+  no build of JOB moved it   it hasn't passed this job
+  others come first          the input takes every version, and others are before it
+  clash: A, B                it can't be taken without an earlier input getting worse: these demands exclude each other
+
+Where none satisfies, the demands follow that exclude each other. If any one of them is left out, a choice satisfies the rest.
+
+Exit statuses: 0 shown; 1 refused, because there is no pipeline or no such job; 2 usage; 3 the search would go over the
+budget; 4 disk or memory.
+
+Example:
+  ccr_run --db ci.db explain deploy",
+    )
+    .arg(job)
+}

@@ -8,7 +8,7 @@ use crate::commands::{
     abort_build, builds, check_resource, pin_resource, problem, resolve, resource_versions, run,
     set_pipeline, trigger_job, unpin_resource,
 };
-use crate::reading::{build, certify, get_pipeline, jobs, resources, trace};
+use crate::reading::{build, certify, explain, get_pipeline, jobs, resources, trace};
 use crate::versions::{disable_resource_version, enable_resource_version};
 use clap::Command;
 use std::alloc::{AllocError, Global};
@@ -115,11 +115,12 @@ fn with_release_commands<'a>(alloc: Global, line: Command<'a>) -> Result<Command
 {
     let line = line.subcommand(build(alloc)?)?;
     let line = line.subcommand(trace(alloc)?)?;
-    line.subcommand(certify(alloc)?)
+    let line = line.subcommand(certify(alloc)?)?;
+    line.subcommand(explain(alloc)?)
 }
 
 /// The program's command line: `ccr_run --db FILE [--types DIR] [--work DIR] [--budget N] COMMAND`, with the help of the
-/// program and of each of its nineteen commands.
+/// program and of each of its twenty commands.
 ///
 /// The only error is that a growth of memory was refused.
 pub fn command_line<'a>(alloc: Global) -> Result<Command<'a>, AllocError>

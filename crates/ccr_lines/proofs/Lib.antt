@@ -1,5 +1,6 @@
 mod Certifying
 mod Cores
+mod Explaining
 mod Listing
 mod Printing
 mod Showing

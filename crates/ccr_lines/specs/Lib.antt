@@ -1,9 +1,12 @@
 pub mod Certificates
 pub mod Commands
+pub mod Each
+pub mod Explained
 pub mod Lines
 pub mod Needs
 pub mod Outlooks
 pub mod Printed
+pub mod Reasons
 pub mod Releases
 pub mod Shown
 pub mod Standing

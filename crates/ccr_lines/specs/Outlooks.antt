@@ -1,5 +1,5 @@
 -- What the next build of a job would be, were the job scheduled.
-use Rattle.std.specs.Prelude.{◌≡◌, ℕ, List, Bool, true, false, codes, decimal, ◌++◌}
+use Rattle.std.specs.Prelude.{◌≡◌, ℕ, List, Bool, true, false, codes, decimal, ◌++◌, if◌then◌else◌}
 use Rattle.std.specs.List.{list_any}
 use Rattle.ccr_history.specs.Text.{Text}
 use Rattle.ccr_history.specs.History.{HistoryData}
@@ -18,6 +18,12 @@ has_trigger is = list_any (λ i. i.trigger) is
 -- one of the inputs with trigger has a place of these that no build of the job had
 abbrev pub has_news : PipelineData → HistoryData → JobData → List ℕ → Bool
 has_news p h j places = is_new j.name h.builds (inputs j.plan) (used_at p h (inputs j.plan) places)
+
+-- the outlook of a job for whose next build these places were chosen: they have something new; or they were built before; or
+-- no input makes builds by itself
+abbrev pub outlook_at : PipelineData → HistoryData → JobData → List ℕ → Outlook
+outlook_at p h j places =
+    if has_news p h j places then Due else (if has_trigger (inputs j.plan) then NothingNew else ByCommandOnly)
 
 -- WHAT THE NEXT BUILD OF A JOB WOULD BE, in a pipeline with a history, with a search of at most so many nodes: it has
 -- something new; its versions are known, so that none is made; none is made but by command; there is none, since no choice

@@ -21,6 +21,7 @@ use Rattle.ccr_lines.specs.declared.shown.Shown.{Shown}
 use Rattle.ccr_lines.specs.declared.shown.Shown.TheVariants as value
 use Rattle.ccr_lines.specs.declared.shown.ShowFault.{ShowFault}
 use Rattle.ccr_lines.specs.declared.shown.ShowFault.TheVariants as why
+use Rattle.ccr_lines.specs.Explained.{IsExplained}
 use Rattle.ccr_lines.specs.Lines.{line, build_line, status_word}
 use Rattle.ccr_lines.specs.Needs.{Need, no_need, a_pipeline, a_resource, a_job, a_pin, a_build, pin_in, IsMet, Lacks, LacksPin}
 use Rattle.ccr_lines.specs.Standing.{resources_lines, AreJobsShown}
@@ -28,14 +29,15 @@ use Rattle.ccr_lines.specs.Releases.{IsReleaseShown}
 use Rattle.ccr_lines.specs.Traces.{trace_lines}
 use Rattle.ccr_lines.specs.Certificates.{IsCertificateShown}
 
--- all builds, the versions of a resource, the problem of a job's next build, the proof of the choice for it, or both in one
--- text; the pipeline's text, its resources, its jobs; a build, or the builds that a version went through
+-- all builds, the versions of a resource, the problem of a job's next build, the proof of the choice for it, both in one
+-- text, or what it takes and why; the pipeline's text, its resources, its jobs; a build, or the builds that a version went through
 pub data ShownData : Type 0 where
   builds : ShownData
   versions : (resource : Text) → ShownData
   problem : (job : Text) → ShownData
   proof : (job : Text) → ShownData
   certificate : (job : Text) → ShownData
+  explanation : (job : Text) → ShownData
   pipeline : ShownData
   resources : ShownData
   jobs : ShownData
@@ -49,6 +51,7 @@ shown_data (value.Versions resource) = versions resource.now
 shown_data (value.Problem job) = problem job.now
 shown_data (value.Proof job) = proof job.now
 shown_data (value.Certificate job) = certificate job.now
+shown_data (value.Explanation job) = explanation job.now
 shown_data value.Pipeline = pipeline
 shown_data value.Resources = resources
 shown_data value.Jobs = jobs
@@ -62,6 +65,7 @@ needs (versions resource) = a_resource resource
 needs (problem job) = a_job job
 needs (proof job) = a_job job
 needs (certificate job) = a_job job
+needs (explanation job) = a_job job
 needs pipeline = a_pipeline
 needs resources = a_pipeline
 needs jobs = a_pipeline
@@ -122,6 +126,7 @@ IsShown (versions resource) p h budget status lines = (status ≡ 0) × IsVersio
 IsShown (problem job) p h budget status lines = (status ≡ 0) × IsProblemShown p h job lines
 IsShown (proof job) p h budget status lines = IsProofShown p h budget job status lines
 IsShown (certificate job) p h budget status lines = IsCertificateShown p h budget job status lines
+IsShown (explanation job) p h budget status lines = IsExplained p h budget job status lines
 IsShown pipeline p h budget status lines = (status ≡ 0) × (lines ≡ p.text)
 IsShown resources p h budget status lines = (status ≡ 0) × (lines ≡ resources_lines p h)
 IsShown jobs p h budget status lines = (status ≡ 0) × AreJobsShown p h budget p.jobs lines

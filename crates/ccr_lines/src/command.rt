@@ -23,6 +23,8 @@ pub enum Command {
     Problem(String),
     /// Both are shown in one text, which the checker accepts.
     Certify(String),
+    /// What the next build of the job of this name would take is shown, and why nothing newer, or why there is none.
+    Explain(String),
     /// A build of the job of this name is made, and run to its end.
     TriggerJob(String),
     /// All builds are shown.

@@ -1,6 +1,6 @@
 //! What a core has that is named.
 ghost use Rattle.std.specs.Prelude.{◌≡◌, IfOk, IfErr, IsSome, Some, unwrap_or};
-ghost use Rattle.ccr_pipeline.specs.JobData.{resource_data};
+ghost use Rattle.ccr_pipeline.specs.JobData.{resource_data, job_data};
 ghost use Rattle.ccr_pipeline.specs.Pipelines.{pipeline_data};
 ghost use Rattle.ccr_problem.specs.ProblemOf.{resource_of, job_of};
 ghost use Rattle.ccr_core.specs.Cores.{core_data};
@@ -9,7 +9,7 @@ ghost use Rattle.ccr_lines.specs.Needs.{Lacks, a_pipeline, a_resource, a_job, pi
 
 use ccr_core::{Core, CoreFault};
 use ccr_history::{HistoryFault, Pin};
-use ccr_pipeline::{Pipeline, Resource};
+use ccr_pipeline::{Job, Pipeline, Resource};
 use serde_json::Value;
 use std::alloc::{AllocError, Global};
 
@@ -50,6 +50,21 @@ pub(crate) fn pipeline_with_job<'c>(core: &'c Core, name: &str) -> Result<&'c Pi
     };
     match pipeline.job(name) {
         Some(_) => Ok(pipeline),
+        None => Err(CoreFault::NoJob),
+    }
+}
+
+/// The job of a name, with the pipeline that has it; or why there is none.
+pub(crate) fn job_held<'c>(core: &'c Core, name: &str) -> Result<(&'c Pipeline, &'c Job), CoreFault>
+    ensures held { IfOk result (λ r. (core_data core.now).pipeline ≡ Some (pipeline_data r.0.now)) }
+    ensures there { IfOk result (λ r. job_of name.now (pipeline_data r.0.now).jobs ≡ Some (job_data r.1.now)) }
+    ensures lacks { let c = core_data core.now in IfErr result (Lacks (a_job name.now) c.pipeline c.history) }
+{
+    let Some(pipeline) = core.pipeline() else {
+        return Err(CoreFault::NoPipeline);
+    };
+    match pipeline.job(name) {
+        Some(job) => Ok((pipeline, job)),
         None => Err(CoreFault::NoJob),
     }
 }

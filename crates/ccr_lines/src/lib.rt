@@ -8,21 +8,26 @@
 //! its lines from what the core holds (`specs/Shown.antt`).
 #![tactic(auto)]
 
+mod asked;
 mod cause;
 mod certificate;
 mod command;
+mod explain;
 mod held;
 mod lines;
 mod outlook;
 mod printed;
 mod problem;
+mod reason;
 mod release;
 mod shown;
 mod shows;
 mod standing;
+mod subject;
 mod tell;
 mod texts;
 mod trace;
+mod words;
 
 pub use cause::Cause;
 pub use command::Command;

@@ -8,7 +8,7 @@ ghost use Rattle.ccr_proof.specs.declared.proof.TheConstants.{MOST_NODES};
 ghost use Rattle.ccr_core.specs.Choices.{best};
 ghost use Rattle.ccr_core.specs.Cores.{core_data};
 ghost use Rattle.ccr_core.specs.Picking.{IsFound};
-ghost use Rattle.ccr_lines.specs.Outlooks.{HasOutlook, has_trigger, outlook_words};
+ghost use Rattle.ccr_lines.specs.Outlooks.{HasOutlook, has_trigger, outlook_at, outlook_words};
 
 use ccr_core::{Core, has_news};
 use ccr_history::History;
@@ -46,7 +46,7 @@ fn has_trigger(inputs: &[Input]) -> bool
 }
 
 /// The outlook of a job for whose next build these places were chosen.
-fn outlook_at(
+pub(crate) fn outlook_at(
     alloc: Global,
     pipeline: &Pipeline,
     history: &History,
@@ -55,7 +55,8 @@ fn outlook_at(
     budget: u32,
 ) -> Result<Outlook, AllocError>
     requires { IsFound (pipeline_data pipeline.now) history.now budget (job_data job.now).name (best places.now) }
-    ensures { IfOk result (HasOutlook (pipeline_data pipeline.now) history.now budget (job_data job.now)) }
+    ensures is { IfOk result (λ o. o ≡ outlook_at (pipeline_data pipeline.now) history.now (job_data job.now) places.now) }
+    ensures has { IfOk result (HasOutlook (pipeline_data pipeline.now) history.now budget (job_data job.now)) }
 {
     if has_news(alloc, pipeline, history, job, places)? {
         return Ok(Outlook::Due);

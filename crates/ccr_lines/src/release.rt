@@ -34,7 +34,12 @@ pub(crate) fn resource_at(history: &History, scope: u32) -> &str
 }
 
 /// The key of the version at a place of the scope of this number.
-fn key_at(alloc: Global, history: &History, scope: u32, place: u32) -> Result<String, AllocError>
+pub(crate) fn key_at(
+    alloc: Global,
+    history: &History,
+    scope: u32,
+    place: u32,
+) -> Result<String, AllocError>
     ensures { IfOk result (λ key. string_bytes key ≡ key_at history.now.tables scope place) }
 {
     match history.version_at(scope, place) {
@@ -148,7 +153,7 @@ fn push_pairs_for(
 }
 
 /// Whether a name is among these.
-fn has_name(names: &[String], name: &str) -> bool
+pub(crate) fn has_name(names: &[String], name: &str) -> bool
     ensures { result ≡ has_name (map string_bytes names.now) name.now }
 {
     for other in names {
@@ -193,7 +198,7 @@ fn pairs_naming(
 }
 
 /// Whether a pair is among these.
-fn has_pair(pairs: &[(u32, u32)], pair: (u32, u32)) -> bool
+pub(crate) fn has_pair(pairs: &[(u32, u32)], pair: (u32, u32)) -> bool
     ensures { result ≡ list_any (is_pair pair) pairs.now }
 {
     for other in pairs {

@@ -9,6 +9,7 @@ ghost use Rattle.ccr_lines.specs.Shown.{shown_data, builds_lines, disabled_word,
 ghost use Rattle.ccr_lines.specs.Shown as spec;
 
 use crate::certificate::certificate_made;
+use crate::explain::explained_made;
 use crate::held::{pipeline_held, resource_held};
 use crate::lines::Lines;
 use crate::problem::{problem_made, proof_made};
@@ -153,6 +154,7 @@ fn made(alloc: Global, what: Shown<'_>, core: &Core) -> Result<(u8, Vec<u8>), Sh
         Shown::Problem(job) => problem_made(alloc, core, job),
         Shown::Proof(job) => proof_made(alloc, core, job),
         Shown::Certificate(job) => certificate_made(alloc, core, job),
+        Shown::Explanation(job) => explained_made(alloc, core, job),
         Shown::Pipeline => pipeline_made(alloc, core),
         Shown::Resources => resources_made(alloc, core),
         Shown::Jobs => jobs_made(alloc, core),

@@ -64,6 +64,7 @@ fn command_of(alloc: Global, kind: &str, words: &str) -> Result<Option<Command>,
         "resolve" => Command::Resolve(name),
         "problem" => Command::Problem(name),
         "certify" => Command::Certify(name),
+        "explain" => Command::Explain(name),
         "trigger-job" => Command::TriggerJob(name),
         "builds" => Command::Builds,
         "build" => {

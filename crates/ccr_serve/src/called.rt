@@ -65,6 +65,7 @@ impl<R: Runner, S: Shelf, T: Storage> Server<R, S, T> {
             Command::Resolve(job) => self.show(Shown::Proof(job.as_str()), out),
             Command::Problem(job) => self.show(Shown::Problem(job.as_str()), out),
             Command::Certify(job) => self.show(Shown::Certificate(job.as_str()), out),
+            Command::Explain(job) => self.show(Shown::Explanation(job.as_str()), out),
             Command::TriggerJob(job) => self.trigger_job(job.as_str(), out),
             Command::Builds => self.show(Shown::Builds, out),
             Command::Build(job, number) => self.show(Shown::Build(job.as_str(), *number), out),

@@ -1,0 +1,474 @@
+//! What the next build of a job would take, and why nothing newer; or why there is none.
+ghost use Rattle.std.specs.Prelude.{◌≡◌, ◌<◌, ◌≤◌, ◌++◌, ◌∷◌, [], Some, map, codes, decimal, length, string_bytes, IfOk, IfErr, OnOk, IsSome};
+ghost use Rattle.ccr_choice.specs.Optimal.{HasNoChoice, IsOptimal};
+ghost use Rattle.ccr_choice.specs.Problem.{input_at};
+ghost use Rattle.ccr_choice.specs.Preference.{order_of};
+ghost use Rattle.ccr_history.specs.Tables.{versions_at};
+ghost use Rattle.ccr_pipeline.specs.Inputs.{input_data, inputs, named_jobs};
+ghost use Rattle.ccr_pipeline.specs.JobData.{job_data};
+ghost use Rattle.ccr_pipeline.specs.Names.{has_name, with_name, with_names};
+ghost use Rattle.ccr_pipeline.specs.Pipelines.{pipeline_data};
+ghost use Rattle.ccr_problem.specs.ProblemOf.{is_disabled_at, job_of, IsProblemOf};
+ghost use Rattle.ccr_proof.specs.declared.proof.TheConstants.{MOST_NODES};
+ghost use Rattle.ccr_explain.specs.Clash.{IsExplanation};
+ghost use Rattle.ccr_core.specs.Choices.{best};
+ghost use Rattle.ccr_core.specs.Cores.{core_data};
+ghost use Rattle.ccr_core.specs.Picking.{IsFound};
+ghost use Rattle.ccr_history.specs.Text.{Text};
+ghost use Rattle.ccr_resolve.specs.declared.chosen.Chosen.TheVariants as chosen;
+ghost use Rattle.ccr_lines.specs.Outlooks.{outlook_at};
+ghost use Rattle.ccr_resolve.specs.Chosen.{IsChosen};
+ghost use Rattle.ccr_lines.specs.Each.{AreLines};
+ghost use Rattle.ccr_lines.specs.Explained.{scope_at, place_words, build_words, further_builds, through_words, taken_line, newest_place, newest_three, IsRefusal, IsNewerRefused, IsInputExplained, subject_of, outlook_line, clash_lines, IsExplainedBy, IsJobExplained};
+ghost use Rattle.ccr_lines.specs.Reasons.{subject_data, reason_words, taken, IsSubject};
+ghost use Rattle.ccr_lines.specs.Shown.{needs, IsMade, IsUnshown};
+ghost use Rattle.ccr_lines.specs.Shown as spec;
+
+use crate::asked::Asked;
+use crate::held::job_held;
+use crate::outlook::{Outlook, outlook_at, push_outlook};
+use crate::problem::problem_in;
+use crate::reason::{Reason, reason_of};
+use crate::release::key_at;
+use crate::shown::ShowFault;
+use crate::subject::Subject;
+use crate::words::{job_name, push_clash, push_number, push_reason};
+use ccr_choice::{Choice, Problem};
+use ccr_core::Core;
+use ccr_explain::{Explanation, clash};
+use ccr_history::History;
+use ccr_index::build_index;
+use ccr_pipeline::{Input, Job, Pipeline, inputs_of};
+use ccr_resolve::{Chosen, choose};
+use std::alloc::{AllocError, Global};
+
+// ---- one input
+
+/// The number that the history has for an input's scope.
+fn scope_at(subject: &Subject<'_>, input: &Input) -> u32
+    ensures { result ≡ scope_at (subject_data subject.now) (input_data input.now) }
+{
+    match subject.pipeline.resource(input.resource.as_str()) {
+        Some(resource) => subject.history.scope_number(resource.scope()),
+        None => 0,
+    }
+}
+
+/// Adds a place of an input with its version.
+fn push_place(
+    alloc: Global,
+    text: &mut String,
+    subject: &Subject<'_>,
+    input: &Input,
+    place: u32,
+) -> Result<(), AllocError>
+    ensures { OnOk result (string_bytes text.new ≡ string_bytes text.old
+        ++ place_words (subject_data subject.now) (input_data input.now) place) }
+{
+    let key = key_at(alloc, subject.history, scope_at(subject, input), place)?;
+    text.push_str(input.name.as_str())?;
+    push_number(text, " ", place)?;
+    text.push_str(" ")?;
+    text.push_str(key.as_str())
+}
+
+/// Adds the build of a job with which what the inputs take passed that job.
+fn push_build(text: &mut String, subject: &Subject<'_>, job: u32) -> Result<(), AllocError>
+    ensures { OnOk result (string_bytes text.new ≡ string_bytes text.old ++ build_words (subject_data subject.now) job) }
+{
+    text.push_str(job_name(subject.jobs, job as usize))?;
+    let choice = subject.choice;
+    match choice.builds.get(job as usize) {
+        Some(number) => push_number(text, " ", *number),
+        None => Ok(()),
+    }
+}
+
+/// Adds the builds of the jobs behind the first.
+fn push_further(text: &mut String, subject: &Subject<'_>, jobs: &[u32]) -> Result<(), AllocError>
+    ensures { OnOk result (string_bytes text.new
+        ≡ string_bytes text.old ++ further_builds (subject_data subject.now) jobs.now) }
+{
+    for job in jobs {
+        text.push_str(", ")?;
+        push_build(text, subject, *job)?;
+    }
+    Ok(())
+}
+
+/// Adds through which builds a version has passed these jobs; nothing where there are none.
+fn push_through(text: &mut String, subject: &Subject<'_>, jobs: &[u32]) -> Result<(), AllocError>
+    ensures { OnOk result (string_bytes text.new
+        ≡ string_bytes text.old ++ through_words (subject_data subject.now) jobs.now) }
+{
+    match jobs {
+        [] => Ok(()),
+        [first, others @ ..] => {
+            text.push_str(": ")?;
+            push_build(text, subject, *first)?;
+            push_further(text, subject, others)
+        }
+    }
+}
+
+/// What an input takes.
+fn taken_text(
+    alloc: Global,
+    subject: &Subject<'_>,
+    number: usize,
+    input: &Input,
+) -> Result<String, AllocError>
+    requires subject { IsSubject (subject_data subject.now) }
+    requires within { number < length (subject_data subject.now).inputs }
+    ensures { IfOk result (λ text.
+        string_bytes text ≡ taken_line (subject_data subject.now) number (input_data input.now)) }
+{
+    let mut text = String::new(alloc);
+    let choice = subject.choice;
+    let place = choice.places[number];
+    push_place(alloc, &mut text, subject, input, place)?;
+    push_through(&mut text, subject, subject.problem.named(number))?;
+    text.push_str("\n")?;
+    Ok(text)
+}
+
+/// Adds a place of an input, and why the input doesn't take it.
+fn push_refused(
+    alloc: Global,
+    text: &mut String,
+    subject: &Subject<'_>,
+    number: usize,
+    input: &Input,
+    place: u32,
+    reason: &Reason,
+) -> Result<(), AllocError>
+    ensures { let s = subject_data subject.now in OnOk result (string_bytes text.new ≡ string_bytes text.old
+        ++ (place_words s (input_data input.now) place ++ (codes ": " ++ (reason_words s number place reason.now ++ 10 ∷ [])))) }
+{
+    push_place(alloc, text, subject, input, place)?;
+    text.push_str(": ")?;
+    push_reason(text, subject, number, place, reason)?;
+    text.push_str("\n")
+}
+
+/// A place of an input, and why the input doesn't take it.
+fn refusal_text(
+    alloc: Global,
+    subject: &Subject<'_>,
+    number: usize,
+    input: &Input,
+    place: u32,
+) -> Result<String, AllocError>
+    requires subject { IsSubject (subject_data subject.now) }
+    requires within { number < length (subject_data subject.now).inputs }
+    ensures { IfOk result (λ text.
+        IsRefusal (subject_data subject.now) number (input_data input.now) place (string_bytes text)) }
+{
+    let is_disabled = subject.history.is_disabled(scope_at(subject, input), place);
+    let reason = reason_of(alloc, subject, number, place, is_disabled)?;
+    let mut text = String::new(alloc);
+    push_refused(alloc, &mut text, subject, number, input, place, &reason)?;
+    Ok(text)
+}
+
+/// A place that is newer than the one that an input takes, and why the input doesn't take it; nothing of any other place.
+fn newer_text(
+    alloc: Global,
+    subject: &Subject<'_>,
+    number: usize,
+    input: &Input,
+    place: u32,
+) -> Result<String, AllocError>
+    requires subject { IsSubject (subject_data subject.now) }
+    requires within { number < length (subject_data subject.now).inputs }
+    ensures { IfOk result (λ text.
+        IsNewerRefused (subject_data subject.now) number (input_data input.now) 0 place (string_bytes text)) }
+{
+    let choice = subject.choice;
+    if choice.places[number] < place {
+        refusal_text(alloc, subject, number, input, place)
+    } else {
+        Ok(String::new(alloc))
+    }
+}
+
+/// The place of the newest version in an input's scope; 0 where it has none.
+fn newest_place(subject: &Subject<'_>, input: &Input) -> u32
+    ensures { result ≡ newest_place (subject_data subject.now) (input_data input.now) }
+{
+    // A scope has few versions.
+    subject.history.rules();
+    subject.history.versions_at(scope_at(subject, input)).len() as u32
+}
+
+/// Why an input takes none of the three newest places that is newer than its own.
+fn newer_texts(
+    alloc: Global,
+    subject: &Subject<'_>,
+    number: usize,
+    input: &Input,
+) -> Result<String, AllocError>
+    requires subject { IsSubject (subject_data subject.now) }
+    requires within { number < length (subject_data subject.now).inputs }
+    ensures { let s = subject_data subject.now in let x = input_data input.now in
+        IfOk result (λ text. AreLines (IsNewerRefused s number x) 0 (newest_three s x) (string_bytes text)) }
+{
+    let newest = newest_place(subject, input);
+    let mut text = newer_text(alloc, subject, number, input, newest)?;
+    let second = newer_text(alloc, subject, number, input, newest.saturating_sub(1))?;
+    let third = newer_text(alloc, subject, number, input, newest.saturating_sub(2))?;
+    text.push_str(second.as_str())?;
+    text.push_str(third.as_str())?;
+    Ok(text)
+}
+
+/// What an input takes, and why nothing newer.
+fn input_text(
+    alloc: Global,
+    subject: &Subject<'_>,
+    number: usize,
+    input: &Input,
+) -> Result<String, AllocError>
+    requires subject { IsSubject (subject_data subject.now) }
+    requires within { number < length (subject_data subject.now).inputs }
+    ensures { IfOk result (λ text.
+        IsInputExplained (subject_data subject.now) number (input_data input.now) (string_bytes text)) }
+{
+    let mut text = taken_text(alloc, subject, number, input)?;
+    let newer = newer_texts(alloc, subject, number, input)?;
+    text.push_str(newer.as_str())?;
+    Ok(text)
+}
+
+/// What each input takes, and why nothing newer.
+fn inputs_text(alloc: Global, subject: &Subject<'_>) -> Result<String, AllocError>
+    requires { IsSubject (subject_data subject.now) }
+    ensures { let s = subject_data subject.now in
+        IfOk result (λ text. AreLines (IsInputExplained s) 0 s.inputs (string_bytes text)) }
+{
+    let mut text = String::new(alloc);
+    for (number, input) in subject.inputs.iter().enumerate() {
+        let own = input_text(alloc, subject, number, input)?;
+        text.push_str(own.as_str())?;
+    }
+    Ok(text)
+}
+
+// ---- a job
+
+/// Adds those of these names that aren't there yet.
+fn add_names(alloc: Global, jobs: &mut Vec<String>, names: &[String]) -> Result<(), AllocError>
+    ensures { OnOk result (map string_bytes jobs.new.items
+        ≡ with_names (map string_bytes jobs.old.items) (map string_bytes names.now)) }
+{
+    for name in names {
+        add_name(alloc, jobs, name)?;
+    }
+    Ok(())
+}
+
+/// Adds a name, unless it is there.
+fn add_name(alloc: Global, jobs: &mut Vec<String>, name: &String) -> Result<(), AllocError>
+    ensures { OnOk result (map string_bytes jobs.new.items
+        ≡ with_name (map string_bytes jobs.old.items) (string_bytes name.now)) }
+{
+    if !crate::release::has_name(jobs, name.as_str()) {
+        jobs.push(String::from_str(alloc, name.as_str())?)?;
+    }
+    Ok(())
+}
+
+/// The jobs that inputs name in `passed`, each once, in order of first mention.
+fn named_jobs(alloc: Global, inputs: &[Input]) -> Result<Vec<String>, AllocError>
+    ensures { IfOk result (λ jobs. map string_bytes jobs.items ≡ named_jobs [] (map input_data inputs.now)) }
+{
+    let mut jobs = Vec::new(alloc);
+    for input in inputs {
+        add_names(alloc, &mut jobs, &input.passed)?;
+    }
+    Ok(jobs)
+}
+
+/// What the next build of a job would be.
+fn outlook_text(alloc: Global, job: &Job, outlook: Outlook) -> Result<String, AllocError>
+    ensures { IfOk result (λ text. string_bytes text ≡ outlook_line (job_data job.now) outlook) }
+{
+    let mut text = String::new(alloc);
+    text.push_str(job.name.as_str())?;
+    text.push_str(": ")?;
+    push_outlook(&mut text, outlook)?;
+    text.push_str("\n")?;
+    Ok(text)
+}
+
+/// What is said of a job for whose next build a choice was found.
+fn best_text(alloc: Global, subject: &Subject<'_>, job: &Job) -> Result<String, AllocError>
+    requires subject { IsSubject (subject_data subject.now) }
+    requires found { let s = subject_data subject.now in
+        IsFound s.pipeline s.history s.budget (job_data job.now).name (best s.choice.places) }
+    ensures { let s = subject_data subject.now in IfOk result (λ text. (each : Text)
+        × AreLines (IsInputExplained s) 0 s.inputs each
+        × (string_bytes text ≡ outlook_line (job_data job.now)
+        (outlook_at s.pipeline s.history (job_data job.now) s.choice.places) ++ each)) }
+{
+    let choice = subject.choice;
+    let outlook = outlook_at(
+        alloc,
+        subject.pipeline,
+        subject.history,
+        job,
+        &choice.places,
+        subject.budget,
+    )?;
+    let mut text = outlook_text(alloc, job, outlook)?;
+    let each = inputs_text(alloc, subject)?;
+    text.push_str(each.as_str())?;
+    Ok(text)
+}
+
+/// What is said of a job by the choice for its problem.
+fn chosen_text(
+    alloc: Global,
+    pipeline: &Pipeline,
+    history: &History,
+    job: &Job,
+    problem: &Problem,
+    choice: &Choice,
+    budget: u32,
+) -> Result<String, AllocError>
+    requires problem { IsProblemOf (pipeline_data pipeline.now) history.now (job_data job.now).name problem.now }
+    requires there { let j = job_data job.now in job_of j.name (pipeline_data pipeline.now).jobs ≡ Some j }
+    requires best { IsOptimal (order_of problem.now) problem.now choice.now.places choice.now.builds }
+    requires least { 1 ≤ budget }
+    requires most { budget ≤ MOST_NODES }
+    ensures { IfOk result (λ text. IsExplainedBy (pipeline_data pipeline.now) history.now budget (job_data job.now)
+        problem.now (chosen.Best choice.now) 0 (string_bytes text)) }
+{
+    let inputs = inputs_of(alloc, job)?;
+    let jobs = named_jobs(alloc, &inputs)?;
+    let subject = Subject {
+        pipeline,
+        history,
+        inputs: &inputs,
+        jobs: &jobs,
+        problem,
+        choice,
+        budget,
+    };
+    best_text(alloc, &subject, job)
+}
+
+/// Why nothing satisfies, behind what is said of the job.
+fn clash_text(
+    alloc: Global,
+    job: &Job,
+    gets: &[Input],
+    jobs: &[String],
+    shown: &Explanation,
+) -> Result<String, AllocError>
+    requires gets { map input_data gets.now ≡ inputs (job_data job.now).plan }
+    requires jobs { map string_bytes jobs.now ≡ named_jobs [] (inputs (job_data job.now).plan) }
+    ensures { IfOk result (λ text. string_bytes text
+        ≡ outlook_line (job_data job.now) Outlook.NoneSatisfies ++ clash_lines (job_data job.now) shown.now) }
+{
+    let mut text = outlook_text(alloc, job, Outlook::NoneSatisfies)?;
+    match shown {
+        Explanation::Fits(_) => {}
+        Explanation::Clash(clash) => {
+            push_clash(&mut text, Asked::Any, gets, jobs, clash)?;
+            text.push_str("\n")?;
+        }
+        Explanation::OverBudget(budget) => {
+            push_number(&mut text, "over budget ", *budget)?;
+            text.push_str("\n")?;
+        }
+    }
+    Ok(text)
+}
+
+/// What is said of a job whose problem has no choice.
+fn none_text(alloc: Global, job: &Job, problem: &Problem, budget: u32) -> Result<String, AllocError>
+    requires least { 1 ≤ budget }
+    requires most { budget ≤ MOST_NODES }
+    ensures { IfOk result (λ text. (e : Explanation) × IsExplanation (order_of problem.now) problem.now budget e
+        × (string_bytes text ≡ outlook_line (job_data job.now) Outlook.NoneSatisfies ++ clash_lines (job_data job.now) e)) }
+{
+    let inputs = inputs_of(alloc, job)?;
+    let jobs = named_jobs(alloc, &inputs)?;
+    let shown = clash(alloc, problem, budget)?;
+    let text = clash_text(alloc, job, &inputs, &jobs, &shown)?;
+    Ok(text)
+}
+
+/// What is said of a job by what was chosen, with the status.
+fn explained_by(
+    alloc: Global,
+    pipeline: &Pipeline,
+    history: &History,
+    job: &Job,
+    problem: &Problem,
+    chosen: &Chosen,
+    budget: u32,
+) -> Result<(u8, String), AllocError>
+    requires problem { IsProblemOf (pipeline_data pipeline.now) history.now (job_data job.now).name problem.now }
+    requires there { let j = job_data job.now in job_of j.name (pipeline_data pipeline.now).jobs ≡ Some j }
+    requires chosen { IsChosen (order_of problem.now) problem.now budget chosen.now }
+    requires least { 1 ≤ budget }
+    requires most { budget ≤ MOST_NODES }
+    ensures { IfOk result (λ r. IsExplainedBy (pipeline_data pipeline.now) history.now budget (job_data job.now)
+        problem.now chosen.now r.0 (string_bytes r.1)) }
+{
+    match chosen {
+        Chosen::Best(choice) => {
+            let text = chosen_text(alloc, pipeline, history, job, problem, choice, budget)?;
+            Ok((0, text))
+        }
+        Chosen::Nothing => Ok((0, none_text(alloc, job, problem, budget)?)),
+        Chosen::OverBudget(most) => {
+            let text = outlook_text(alloc, job, Outlook::OverBudget(*most))?;
+            Ok((3, text))
+        }
+    }
+}
+
+/// What the next build of a job would take, and why nothing newer, or why there is none: status 0; or 3 where a search of more
+/// than `budget` nodes, from 1 to 1,000,000, would be needed. The pipeline has the job.
+fn explained_of(
+    alloc: Global,
+    pipeline: &Pipeline,
+    history: &History,
+    job: &Job,
+    budget: u32,
+) -> Result<(u8, String), AllocError>
+    requires there { let j = job_data job.now in job_of j.name (pipeline_data pipeline.now).jobs ≡ Some j }
+    requires least { 1 ≤ budget }
+    requires most { budget ≤ MOST_NODES }
+    ensures { IfOk result (λ r.
+        IsJobExplained (pipeline_data pipeline.now) history.now budget (job_data job.now) r.0 (string_bytes r.1)) }
+{
+    let problem = problem_in(alloc, pipeline, history, job.name.as_str())?;
+    let index = build_index(alloc, &problem)?;
+    let chosen = choose(alloc, &index, budget)?;
+    let explained = explained_by(alloc, pipeline, history, job, &problem, &chosen, budget)?;
+    Ok(explained)
+}
+
+/// What is shown of what the next build of the job of this name would take, and why.
+pub(crate) fn explained_made(
+    alloc: Global,
+    core: &Core,
+    name: &str,
+) -> Result<(u8, Vec<u8>), ShowFault>
+    ensures made { IfOk result (λ r. IsMade (spec.explanation name.now) (core_data core.now) r.0 r.1.items) }
+    ensures unshown { let c = core_data core.now in
+        IfErr result (IsUnshown (needs (spec.explanation name.now)) c.pipeline c.history) }
+{
+    // What a core keeps says that its budget is one that a search takes.
+    core.rules();
+    let (pipeline, job) = match job_held(core, name) {
+        Ok(held) => held,
+        Err(fault) => return Err(ShowFault::Lacks(fault)),
+    };
+    let (status, text) = explained_of(alloc, pipeline, core.history(), job, core.budget())?;
+    Ok((status, text.into_bytes()))
+}

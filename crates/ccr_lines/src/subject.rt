@@ -1,0 +1,20 @@
+//! What is explained.
+
+use ccr_choice::{Choice, Problem};
+use ccr_history::History;
+use ccr_pipeline::{Input, Pipeline};
+
+/// The next build of a job, with the choice for it.
+#[derive(Clone, Copy)]
+pub struct Subject<'a> {
+    pub pipeline: &'a Pipeline,
+    pub history: &'a History,
+    /// The inputs of the job, in plan order.
+    pub inputs: &'a [Input],
+    /// The jobs that the inputs name in `passed`, each once, in order of first mention.
+    pub jobs: &'a [String],
+    pub problem: &'a Problem,
+    pub choice: &'a Choice,
+    /// How many nodes a search may take, from 1 to 1,000,000.
+    pub budget: u32,
+}
