@@ -1,5 +1,6 @@
 mod Certifying
 mod Cores
+mod Graphing
 mod Listing
 mod Printing
 mod Showing

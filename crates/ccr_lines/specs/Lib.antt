@@ -1,5 +1,6 @@
 pub mod Certificates
 pub mod Commands
+pub mod Graphs
 pub mod Lines
 pub mod Needs
 pub mod Outlooks

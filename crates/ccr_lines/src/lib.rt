@@ -11,7 +11,10 @@
 mod cause;
 mod certificate;
 mod command;
+mod edge;
+mod graph;
 mod held;
+mod label;
 mod lines;
 mod outlook;
 mod printed;
