@@ -13,7 +13,8 @@ use Rattle.ccr_lines.specs.Shown.{graph, IsMade}
 -- ---- one more of a list
 -- where this is the text of one at a position
 module _ {Y : Type 0} (text : ℕ → Y → Text) where
-  numbered_more : (k : ℕ) (ys : List Y) (y : Y) → numbered text k (ys ++ y ∷ []) ≡ numbered text k ys ++ text (k + length ys) y
+  numbered_more : (k : ℕ) (ys : List Y) (y : Y)
+      → numbered text k (ys ++ y ∷ []) ≡ numbered text k ys ++ text (k + length ys) y
   numbered_more k [] y = append-nil (text k y) ∙ ap (λ n. text n y) (sym (add-zero k))
   numbered_more k (z ∷ zs) y =
       let same : k + 1 + length zs ≡ k + suc (length zs) = omega arith in
@@ -38,15 +39,15 @@ module _ {Y : Type 0} (text : ℕ → Y → Text) where
 
 -- ---- the whole
 -- six texts are added, one after another
-pub all_told : (start a b c d e f u v w x y z : Text) → a ≡ start ++ u → b ≡ a ++ v → c ≡ b ++ w → d ≡ c ++ x → e ≡ d ++ y
-    → f ≡ e ++ z → f ≡ start ++ (u ++ v ++ w ++ x ++ y ++ z)
+pub all_told : (start a b c d e f u v w x y z : Text) → a ≡ start ++ u → b ≡ a ++ v → c ≡ b ++ w → d ≡ c ++ x
+    → e ≡ d ++ y → f ≡ e ++ z → f ≡ start ++ (u ++ v ++ w ++ x ++ y ++ z)
 all_told start a b c d e f u v w x y z p q r s t o =
     o ∙ (ap (λ l. l ++ z) (t ∙ ap (λ l. l ++ y) (s ∙ ap (λ l. l ++ x) (r ∙ ap (λ l. l ++ w) (q ∙ ap (λ l. l ++ v) p))))
     ∙ simp append_assoc)
 
 -- the graph of what a core holds
-pub graph_made : (c : CoreData) (p : PipelineData) (h : HistoryData) (lines : Text) → c.pipeline ≡ Some p → h ≡ c.history
-    → lines ≡ graph_lines p h → IsMade graph c 0 lines
+pub graph_made : (c : CoreData) (p : PipelineData) (h : HistoryData) (lines : Text) → c.pipeline ≡ Some p
+    → h ≡ c.history → lines ≡ graph_lines p h → IsMade graph c 0 lines
 graph_made c p h lines set held told = (
   subst (λ o. IsSome o) (sym set) refl,
   (

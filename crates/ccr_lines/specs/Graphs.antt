@@ -1,4 +1,4 @@
--- The pipeline as a Mermaid flowchart: its resources, its jobs with their newest builds, and what the jobs take and put.
+-- The pipeline as a Mermaid flowchart: resources, jobs with their newest builds, and what the jobs take and put.
 use Rattle.std.specs.Prelude.{ℕ, ◌+◌, List, [], ◌∷◌, ◌++◌, length, flat_map, Bool, ◌&&◌, ◌||◌, nat_le, nat_eq, if◌then◌else◌, Option, Some, None, codes, decimal}
 use Rattle.std.specs.Str.{bytes_eq}
 use Rattle.ccr_history.specs.Text.{Text}
@@ -15,7 +15,7 @@ use Rattle.ccr_lines.specs.Lines.{line, status_word}
 use Rattle.ccr_lines.specs.Standing.{newest_build}
 
 -- ---- names
--- a letter, a digit, a dash, a point or a low line, or a byte of a character beyond ASCII
+-- a letter, a digit, a dash, a dot or an underscore, or a byte of a character beyond ASCII
 abbrev pub is_plain : ℕ → Bool
 is_plain b =
     (nat_le 97 b && nat_le b 122) || (nat_le 65 b && nat_le b 90) || (nat_le 48 b && nat_le b 57)
@@ -45,8 +45,8 @@ resource_node h k r =
 -- a job at a position, with two words below its name, and with the class of its colours
 unfoldable pub job_line : ℕ → Text → Text → Text → Text → Text
 job_line k name first second class =
-    line (codes "    j" ∷ decimal k ∷ codes "[\"" ∷ label name ∷ codes "<br>" ∷ first ∷ codes " " ∷ second ∷ codes "\"]:::"
-    ∷ class ∷ [])
+    line (codes "    j" ∷ decimal k ∷ codes "[\"" ∷ label name ∷ codes "<br>" ∷ first ∷ codes " " ∷ second
+    ∷ codes "\"]:::" ∷ class ∷ [])
 
 -- the same with its newest build, if it has one
 abbrev pub state_line : ℕ → Text → Option BuildData → Text
@@ -72,7 +72,8 @@ taken_edge i k n r =
 abbrev pub passed_edge : InputData → ℕ → Text → ℕ → JobData → Text
 passed_edge i k name n j =
     if bytes_eq name j.name
-    then line (codes "    j" ∷ decimal n ∷ arrow i.trigger ∷ codes "|" ∷ label i.resource ∷ codes "| j" ∷ decimal k ∷ [])
+    then line (codes "    j" ∷ decimal n ∷ arrow i.trigger ∷ codes "|" ∷ label i.resource ∷ codes "| j" ∷ decimal k
+    ∷ [])
     else []
 
 -- to a job, from where the version of an input comes: the jobs that it has to have passed, or else the resource
@@ -93,7 +94,8 @@ own_put _ = []
 -- from a job, to a resource if a put of its plan means it
 abbrev pub put_edge : Tree → ℕ → ℕ → ResourceData → Text
 put_edge plan k n r =
-    if has_name (gathered own_put plan) r.name then line (codes "    j" ∷ decimal k ∷ codes " --> r" ∷ decimal n ∷ []) else []
+    if has_name (gathered own_put plan) r.name then line (codes "    j" ∷ decimal k ∷ codes " --> r" ∷ decimal n ∷ [])
+    else []
 
 -- from a job, to each resource that it puts
 abbrev pub edges_from : List ResourceData → ℕ → JobData → Text

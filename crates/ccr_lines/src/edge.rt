@@ -63,8 +63,8 @@ fn push_each_taken(
     Ok(())
 }
 
-/// Adds the edge from a job at a position to the job at another, if it has the name of one that the input's version has to
-/// have passed.
+/// Adds the edge from a job at a position to the job at another, if it has this name, which is that of a job that the
+/// input's version has to have passed.
 fn push_passed(
     alloc: Global,
     out: &mut Vec<u8>,

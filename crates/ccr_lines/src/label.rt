@@ -5,7 +5,8 @@ ghost use Rattle.ccr_lines.specs.Graphs.{is_plain, label_byte, label};
 use itoa::Buffer;
 use std::alloc::{AllocError, Global};
 
-/// Whether a byte is written as it is: a letter, a digit, a dash, a point or a low line, or one of a character beyond ASCII.
+/// Whether a byte is written as it is: a letter, a digit, a dash, a dot, an underscore, or one of a character beyond
+/// ASCII.
 fn is_plain(byte: u8) -> bool
     ensures { result ≡ is_plain byte }
 {

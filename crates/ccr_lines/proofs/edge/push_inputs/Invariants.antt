@@ -7,6 +7,7 @@ use Rattle.ccr_lines.proofs.edge.push_inputs.Given as goal
 abbrev pub invariant-loop-input : goal.invariant-loop-input
 invariant-loop-input l =
     l.out.items
-    ++ flat_map (λ i. input_edges (pipeline_data l.pipeline) i l.k i.passed) (map input_data (drop l.input-index l.inputs))
+    ++ flat_map (λ i. input_edges (pipeline_data l.pipeline) i l.k i.passed)
+    (map input_data (drop l.input-index l.inputs))
     ≡ l.fn.out.items
     ++ flat_map (λ i. input_edges (pipeline_data l.pipeline) i l.k i.passed) (map input_data l.inputs)

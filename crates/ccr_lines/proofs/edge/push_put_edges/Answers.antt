@@ -6,6 +6,7 @@ use Rattle.ccr_lines.proofs.edge.push_put_edges.Goals as goal
 
 pub loop-k-preserved : goal.loop-k-preserved
 loop-k-preserved c =
-    numbered_told (edges_from (map resource_data c.args.resources.now)) job_data c.args.jobs.now c.loop-k.k c.index-jobs-k.result
+    numbered_told (edges_from (map resource_data c.args.resources.now)) job_data
+    c.args.jobs.now c.loop-k.k c.index-jobs-k.result
     c.args.out.now.items c.loop-k.out.items c.push_edges_from.new.out.items c.loop-k-test.true (sym c.index-jobs-k.is)
     c.loop-k.invariant c.in_ok-push_edges_from.ensures

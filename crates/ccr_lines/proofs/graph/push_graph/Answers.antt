@@ -17,12 +17,15 @@ returns c =
     (numbered (edges_to p) 0 p.jobs) (numbered (edges_from p.resources) 0 p.jobs) class_lines
     c.in_ok-push_title.ensures
     (c.in_ok-push_resources.ensures
-    ∙ ap (λ (rs : List ResourceData). c.push_title.new.out.items ++ numbered (resource_node h) 0 rs) c.resources.ensures)
+    ∙ ap (λ (rs : List ResourceData). c.push_title.new.out.items ++ numbered (resource_node h) 0 rs)
+    c.resources.ensures)
     (c.in_ok-push_jobs.ensures
     ∙ ap (λ (js : List JobData). c.push_resources.new.out.items ++ numbered (job_node h) 0 js) c.jobs.ensures)
     (c.in_ok-push_taken_edges.ensures
     ∙ ap (λ (js : List JobData). c.push_jobs.new.out.items ++ numbered (edges_to p) 0 js) c.jobs-2.ensures)
     (c.in_ok-push_put_edges.ensures
-    ∙ (ap (λ (rs : List ResourceData). c.push_taken_edges.new.out.items ++ numbered (edges_from rs) 0 (map job_data c.jobs-3.result.now)) c.resources-2.ensures
-    ∙ ap (λ (js : List JobData). c.push_taken_edges.new.out.items ++ numbered (edges_from p.resources) 0 js) c.jobs-3.ensures))
+    ∙ (ap (λ (rs : List ResourceData). c.push_taken_edges.new.out.items
+    ++ numbered (edges_from rs) 0 (map job_data c.jobs-3.result.now)) c.resources-2.ensures
+    ∙ ap (λ (js : List JobData). c.push_taken_edges.new.out.items ++ numbered (edges_from p.resources) 0 js)
+    c.jobs-3.ensures))
     c.in_ok-push_classes.ensures
