@@ -4,7 +4,7 @@ use Rattle.std.specs.Str.{bytes_eq}
 use Rattle.clap.specs.declared.parser.matches.ArgMatches.{ArgMatches}
 use Rattle.clap.specs.Words.{Row, Text, first_of, subcommand_rows_of}
 use Rattle.ccr_lines.specs.Commands.{CommandData, set_pipeline, check_resource, pin_resource, unpin_resource, disable_version, enable_version, trigger_job, run, shows}
-use Rattle.ccr_lines.specs.Shown.{versions, problem, proof, certificate, explanation, builds, build, trace, pipeline, resources, jobs}
+use Rattle.ccr_lines.specs.Shown.{versions, problem, proof, certificate, explanation, builds, build, trace, pipeline, resources, jobs, graph}
 use Rattle.ccr_command.specs.Numbers.{number_of, place_of}
 
 -- a pin of a resource, where both its arguments have a value
@@ -57,6 +57,7 @@ command_named word values =
     else if bytes_eq word (codes "get-pipeline") then Some (shows pipeline)
     else if bytes_eq word (codes "resources") then Some (shows resources)
     else if bytes_eq word (codes "jobs") then Some (shows jobs)
+    else if bytes_eq word (codes "graph") then Some (shows graph)
     else None
 
 -- THE COMMAND THAT MATCHES NAME: that of their subcommand and its values

@@ -72,6 +72,7 @@ standing_commands =
     command_shape (codes "get-pipeline") []
     ∷ command_shape (codes "resources") []
     ∷ command_shape (codes "jobs") []
+    ∷ command_shape (codes "graph") []
     ∷ []
 
 -- the commands that show what builds took, and what the next one would

@@ -159,6 +159,7 @@ fn named(alloc: Global, word: &str, values: &ArgMatches<'_>) -> Result<Option<Co
         "get-pipeline" => Ok(Some(Command::GetPipeline)),
         "resources" => Ok(Some(Command::Resources)),
         "jobs" => Ok(Some(Command::Jobs)),
+        "graph" => Ok(Some(Command::Graph)),
         _ => Ok(None),
     }
 }

@@ -65,6 +65,26 @@ Example:
     )
 }
 
+/// Shows the pipeline as a flowchart.
+pub(crate) fn graph<'a>(alloc: Global) -> Command<'a>
+    ensures { IsCommand (codes "graph") [] result }
+{
+    command(
+        alloc,
+        "graph",
+        "Shows the pipeline as a Mermaid flowchart, with the newest builds of its jobs",
+        "\
+Prints a flowchart that Mermaid, GitHub and GitLab draw. A resource has its number of versions, a job its newest build. An
+arrow leads to a job from the resource of an input, or from each job in its `passed`; it is dotted without `trigger`. An arrow
+leads from a job to each resource that it puts.
+
+Exit statuses: 0 shown; 1 refused, because there is no pipeline; 2 usage; 4 disk or memory.
+
+Example:
+  ccr_run --db ci.db graph >pipeline.mmd",
+    )
+}
+
 /// Shows a build.
 pub(crate) fn build<'a>(alloc: Global) -> Result<Command<'a>, AllocError>
     ensures { IfOk result

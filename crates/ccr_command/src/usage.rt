@@ -8,7 +8,7 @@ use crate::commands::{
     abort_build, builds, check_resource, pin_resource, problem, resolve, resource_versions, run,
     set_pipeline, trigger_job, unpin_resource,
 };
-use crate::reading::{build, certify, explain, get_pipeline, jobs, resources, trace};
+use crate::reading::{build, certify, explain, get_pipeline, graph, jobs, resources, trace};
 use crate::versions::{disable_resource_version, enable_resource_version};
 use clap::Command;
 use std::alloc::{AllocError, Global};
@@ -106,7 +106,8 @@ fn with_standing_commands<'a>(alloc: Global, line: Command<'a>) -> Result<Comman
 {
     let line = line.subcommand(get_pipeline(alloc))?;
     let line = line.subcommand(resources(alloc))?;
-    line.subcommand(jobs(alloc))
+    let line = line.subcommand(jobs(alloc))?;
+    line.subcommand(graph(alloc))
 }
 
 /// The same with the commands that show what builds took, and what the next one would.
@@ -120,7 +121,7 @@ fn with_release_commands<'a>(alloc: Global, line: Command<'a>) -> Result<Command
 }
 
 /// The program's command line: `ccr_run --db FILE [--types DIR] [--work DIR] [--budget N] COMMAND`, with the help of the
-/// program and of each of its twenty commands.
+/// program and of each of its twenty-one commands.
 ///
 /// The only error is that a growth of memory was refused.
 pub fn command_line<'a>(alloc: Global) -> Result<Command<'a>, AllocError>

@@ -1,6 +1,7 @@
 mod Certifying
 mod Cores
 mod Explaining
+mod Graphing
 mod Listing
 mod Printing
 mod Showing

@@ -4,7 +4,7 @@ use Rattle.ccr_history.specs.Text.{Text}
 use Rattle.ccr_lines.specs.declared.command.Command.{Command}
 use Rattle.ccr_lines.specs.declared.command.Command.TheVariants as command
 use Rattle.ccr_lines.specs.Needs.{Need, no_need, a_pipeline, a_resource, a_job}
-use Rattle.ccr_lines.specs.Shown.{ShownData, versions, problem, proof, certificate, explanation, builds, build, trace, pipeline, resources, jobs, needs}
+use Rattle.ccr_lines.specs.Shown.{ShownData, versions, problem, proof, certificate, explanation, builds, build, trace, pipeline, resources, jobs, graph, needs}
 
 -- a command with its arguments; one that changes nothing shows something
 pub data CommandData : Type 0 where
@@ -38,6 +38,7 @@ command_data (command.Trace resource pin) = shows (trace (string_bytes resource)
 command_data command.GetPipeline = shows pipeline
 command_data command.Resources = shows resources
 command_data command.Jobs = shows jobs
+command_data command.Graph = shows graph
 command_data (command.Run rounds) = run rounds
 
 -- what has to be there for a command

@@ -2,6 +2,7 @@ pub mod Certificates
 pub mod Commands
 pub mod Each
 pub mod Explained
+pub mod Graphs
 pub mod Lines
 pub mod Needs
 pub mod Outlooks

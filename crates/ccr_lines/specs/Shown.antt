@@ -28,9 +28,11 @@ use Rattle.ccr_lines.specs.Standing.{resources_lines, AreJobsShown}
 use Rattle.ccr_lines.specs.Releases.{IsReleaseShown}
 use Rattle.ccr_lines.specs.Traces.{trace_lines}
 use Rattle.ccr_lines.specs.Certificates.{IsCertificateShown}
+use Rattle.ccr_lines.specs.Graphs.{graph_lines}
 
 -- all builds, the versions of a resource, the problem of a job's next build, the proof of the choice for it, both in one
--- text, or what it takes and why; the pipeline's text, its resources, its jobs; a build, or the builds that a version went through
+-- text, or what it takes and why; the pipeline's text, its resources, its jobs, its graph; a build, or the builds that a
+-- version went through
 pub data ShownData : Type 0 where
   builds : ShownData
   versions : (resource : Text) → ShownData
@@ -41,6 +43,7 @@ pub data ShownData : Type 0 where
   pipeline : ShownData
   resources : ShownData
   jobs : ShownData
+  graph : ShownData
   build : (job : Text) (number : ℕ) → ShownData
   trace : (resource pin : Text) → ShownData
 
@@ -55,6 +58,7 @@ shown_data (value.Explanation job) = explanation job.now
 shown_data value.Pipeline = pipeline
 shown_data value.Resources = resources
 shown_data value.Jobs = jobs
+shown_data value.Graph = graph
 shown_data (value.Build job number) = build job.now number
 shown_data (value.Trace resource pin) = trace resource.now pin.now
 
@@ -69,6 +73,7 @@ needs (explanation job) = a_job job
 needs pipeline = a_pipeline
 needs resources = a_pipeline
 needs jobs = a_pipeline
+needs graph = a_pipeline
 needs (build job number) = a_build job number
 needs (trace resource pin) = a_pin resource pin
 
@@ -130,6 +135,7 @@ IsShown (explanation job) p h budget status lines = IsExplained p h budget job s
 IsShown pipeline p h budget status lines = (status ≡ 0) × (lines ≡ p.text)
 IsShown resources p h budget status lines = (status ≡ 0) × (lines ≡ resources_lines p h)
 IsShown jobs p h budget status lines = (status ≡ 0) × AreJobsShown p h budget p.jobs lines
+IsShown graph p h budget status lines = (status ≡ 0) × (lines ≡ graph_lines p h)
 IsShown (build job number) p h budget status lines = (status ≡ 0) × IsReleaseShown p h job number lines
 IsShown (trace resource pin) p h budget status lines = (status ≡ 0) × IsTraceShown h resource pin lines
 

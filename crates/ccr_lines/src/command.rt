@@ -39,6 +39,8 @@ pub enum Command {
     Resources,
     /// The jobs of the pipeline are shown.
     Jobs,
+    /// The pipeline is shown as a flowchart.
+    Graph,
     /// So many rounds are run, from 1 to 1,000,000, and then all builds to their ends.
     Run(u32),
 }

@@ -26,6 +26,8 @@ pub enum Shown<'a> {
     Resources,
     /// The jobs of the pipeline, with their newest builds, and what their next builds would be.
     Jobs,
+    /// The pipeline as a Mermaid flowchart, with the newest builds of its jobs.
+    Graph,
     /// The job's build of this number: what it took and moved, and through which builds that went together before.
     Build(&'a str, u32),
     /// The builds that took or moved a version of the resource of this name that meets this JSON text.

@@ -10,6 +10,7 @@ ghost use Rattle.ccr_lines.specs.Shown as spec;
 
 use crate::certificate::certificate_made;
 use crate::explain::explained_made;
+use crate::graph::graph_made;
 use crate::held::{pipeline_held, resource_held};
 use crate::lines::Lines;
 use crate::problem::{problem_made, proof_made};
@@ -158,6 +159,7 @@ fn made(alloc: Global, what: Shown<'_>, core: &Core) -> Result<(u8, Vec<u8>), Sh
         Shown::Pipeline => pipeline_made(alloc, core),
         Shown::Resources => resources_made(alloc, core),
         Shown::Jobs => jobs_made(alloc, core),
+        Shown::Graph => graph_made(alloc, core),
         Shown::Build(job, number) => release_made(alloc, core, job, number),
         Shown::Trace(resource, pin) => trace_made(alloc, core, resource, pin),
     }

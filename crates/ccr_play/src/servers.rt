@@ -79,6 +79,7 @@ fn command_of(alloc: Global, kind: &str, words: &str) -> Result<Option<Command>,
         "get-pipeline" => Command::GetPipeline,
         "resources" => Command::Resources,
         "jobs" => Command::Jobs,
+        "graph" => Command::Graph,
         "run" => Command::Run(number_of(words)),
         _ => return Ok(None),
     }))

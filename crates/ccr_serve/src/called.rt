@@ -75,6 +75,7 @@ impl<R: Runner, S: Shelf, T: Storage> Server<R, S, T> {
             Command::GetPipeline => self.show(Shown::Pipeline, out),
             Command::Resources => self.show(Shown::Resources, out),
             Command::Jobs => self.show(Shown::Jobs, out),
+            Command::Graph => self.show(Shown::Graph, out),
             Command::Run(rounds) => self.run(*rounds, out),
         }
     }
