@@ -1,7 +1,6 @@
 use Rattle.std.proofs.Common.{◌++◌, ◌∷◌, [], ◌∙◌, List, map, ap, codes}
-use Rattle.ccr_history.specs.Text.{Text}
 use Rattle.ccr_pipeline.specs.JobData.{ResourceData, JobData, job_data}
-use Rattle.ccr_pipeline.specs.Pipelines.{PipelineData, pipeline_data}
+use Rattle.ccr_pipeline.specs.Pipelines.{pipeline_data}
 use Rattle.ccr_lines.specs.Graphs.{resource_node, job_node, edges_to, edges_from, class_lines, numbered}
 use Rattle.ccr_lines.specs.Lines.{line}
 use Rattle.ccr_lines.proofs.Graphing.{all_told}
