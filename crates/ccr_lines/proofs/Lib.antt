@@ -1,7 +1,13 @@
+mod Certified
 mod Certifying
+mod Claiming
 mod Cores
 mod Listing
+mod PastLaws
 mod Printing
+mod Saying
 mod Showing
+mod Taking
 mod Telling
 mod Together
+mod Witnessing

@@ -1,10 +1,13 @@
+pub mod BuildCertificates
 pub mod Certificates
 pub mod Commands
 pub mod Lines
 pub mod Needs
 pub mod Outlooks
+pub mod PastProblems
 pub mod Printed
 pub mod Releases
 pub mod Shown
 pub mod Standing
 pub mod Traces
+pub mod Witnesses

@@ -27,9 +27,11 @@ use Rattle.ccr_lines.specs.Standing.{resources_lines, AreJobsShown}
 use Rattle.ccr_lines.specs.Releases.{IsReleaseShown}
 use Rattle.ccr_lines.specs.Traces.{trace_lines}
 use Rattle.ccr_lines.specs.Certificates.{IsCertificateShown}
+use Rattle.ccr_lines.specs.BuildCertificates.{IsBuildCertificateShown}
 
 -- all builds, the versions of a resource, the problem of a job's next build, the proof of the choice for it, or both in one
--- text; the pipeline's text, its resources, its jobs; a build, or the builds that a version went through
+-- text; the pipeline's text, its resources, its jobs; a build, or the builds that a version went through; a build's problem
+-- with its choice, in one text
 pub data ShownData : Type 0 where
   builds : ShownData
   versions : (resource : Text) → ShownData
@@ -41,6 +43,7 @@ pub data ShownData : Type 0 where
   jobs : ShownData
   build : (job : Text) (number : ℕ) → ShownData
   trace : (resource pin : Text) → ShownData
+  build_certificate : (job : Text) (number : ℕ) → ShownData
 
 -- what a value of the program's type stands for
 abbrev pub shown_data : Shown → ShownData
@@ -54,6 +57,7 @@ shown_data value.Resources = resources
 shown_data value.Jobs = jobs
 shown_data (value.Build job number) = build job.now number
 shown_data (value.Trace resource pin) = trace resource.now pin.now
+shown_data (value.BuildCertificate job number) = build_certificate job.now number
 
 -- what has to be there for it to be shown
 abbrev pub needs : ShownData → Need
@@ -67,6 +71,7 @@ needs resources = a_pipeline
 needs jobs = a_pipeline
 needs (build job number) = a_build job number
 needs (trace resource pin) = a_pin resource pin
+needs (build_certificate job number) = a_build job number
 
 -- how each build stands, in order of making
 abbrev pub builds_lines : HistoryData → Text
@@ -127,6 +132,7 @@ IsShown resources p h budget status lines = (status ≡ 0) × (lines ≡ resourc
 IsShown jobs p h budget status lines = (status ≡ 0) × AreJobsShown p h budget p.jobs lines
 IsShown (build job number) p h budget status lines = (status ≡ 0) × IsReleaseShown p h job number lines
 IsShown (trace resource pin) p h budget status lines = (status ≡ 0) × IsTraceShown h resource pin lines
+IsShown (build_certificate job number) p h budget status lines = IsBuildCertificateShown p h job number status lines
 
 -- why nothing is shown that has this need: it isn't met, as the fault says; the text of a pin spells none; or out of memory
 abbrev pub IsUnshown : Need → Option PipelineData → HistoryData → ShowFault → Type 0

@@ -23,6 +23,8 @@ pub enum Command {
     Problem(String),
     /// Both are shown in one text, which the checker accepts.
     Certify(String),
+    /// What the job's build of this number took is shown in one text, of which the checker says that it satisfies.
+    CertifyBuild(String, u32),
     /// A build of the job of this name is made, and run to its end.
     TriggerJob(String),
     /// All builds are shown.

@@ -8,21 +8,25 @@
 //! its lines from what the core holds (`specs/Shown.antt`).
 #![tactic(auto)]
 
+mod build_certificate;
 mod cause;
 mod certificate;
 mod command;
 mod held;
 mod lines;
 mod outlook;
+mod past;
 mod printed;
 mod problem;
 mod release;
 mod shown;
 mod shows;
 mod standing;
+mod taken;
 mod tell;
 mod texts;
 mod trace;
+mod witness;
 
 pub use cause::Cause;
 pub use command::Command;

@@ -148,7 +148,7 @@ fn push_pairs_for(
 }
 
 /// Whether a name is among these.
-fn has_name(names: &[String], name: &str) -> bool
+pub(crate) fn has_name(names: &[String], name: &str) -> bool
     ensures { result ≡ has_name (map string_bytes names.now) name.now }
 {
     for other in names {
@@ -193,7 +193,7 @@ fn pairs_naming(
 }
 
 /// Whether a pair is among these.
-fn has_pair(pairs: &[(u32, u32)], pair: (u32, u32)) -> bool
+pub(crate) fn has_pair(pairs: &[(u32, u32)], pair: (u32, u32)) -> bool
     ensures { result ≡ list_any (is_pair pair) pairs.now }
 {
     for other in pairs {
