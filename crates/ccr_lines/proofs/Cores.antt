@@ -27,7 +27,7 @@ outlook_of_same p h b j g n r same budget has =
 
 -- ---- a build
 -- those in front of it were made before
-made_before : (bs : List BuildData) (k : ℕ) (b : BuildData) → slice_get bs k ≡ Some b
+pub made_before : (bs : List BuildData) (k : ℕ) (b : BuildData) → slice_get bs k ≡ Some b
     → bs ≡ take k bs ++ b ∷ drop (k + 1) bs
 made_before bs k b at =
     sym (take-append-drop k bs) ∙ ap (λ ds. take k bs ++ ds) (drop_there bs k b at)

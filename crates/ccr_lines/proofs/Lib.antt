@@ -1,9 +1,15 @@
+mod Certified
 mod Certifying
+mod Claiming
 mod Cores
 mod Explaining
 mod Graphing
 mod Listing
+mod PastLaws
 mod Printing
+mod Saying
 mod Showing
+mod Taking
 mod Telling
 mod Together
+mod Witnessing

@@ -4,7 +4,7 @@ use Rattle.ccr_history.specs.Text.{Text}
 use Rattle.ccr_lines.specs.declared.command.Command.{Command}
 use Rattle.ccr_lines.specs.declared.command.Command.TheVariants as command
 use Rattle.ccr_lines.specs.Needs.{Need, no_need, a_pipeline, a_resource, a_job}
-use Rattle.ccr_lines.specs.Shown.{ShownData, versions, problem, proof, certificate, explanation, builds, build, trace, pipeline, resources, jobs, graph, needs}
+use Rattle.ccr_lines.specs.Shown.{ShownData, versions, problem, proof, certificate, explanation, builds, build, trace, build_certificate, pipeline, resources, jobs, graph, needs}
 
 -- a command with its arguments; one that changes nothing shows something
 pub data CommandData : Type 0 where
@@ -32,6 +32,7 @@ command_data (command.Problem job) = shows (problem (string_bytes job))
 command_data (command.TriggerJob job) = trigger_job (string_bytes job)
 command_data (command.Certify job) = shows (certificate (string_bytes job))
 command_data (command.Explain job) = shows (explanation (string_bytes job))
+command_data (command.CertifyBuild job number) = shows (build_certificate (string_bytes job) number)
 command_data command.Builds = shows builds
 command_data (command.Build job number) = shows (build (string_bytes job) number)
 command_data (command.Trace resource pin) = shows (trace (string_bytes resource) (string_bytes pin))

@@ -1,3 +1,4 @@
+pub mod BuildCertificates
 pub mod Certificates
 pub mod Commands
 pub mod Each
@@ -6,9 +7,11 @@ pub mod Graphs
 pub mod Lines
 pub mod Needs
 pub mod Outlooks
+pub mod PastProblems
 pub mod Printed
 pub mod Reasons
 pub mod Releases
 pub mod Shown
 pub mod Standing
 pub mod Traces
+pub mod Witnesses

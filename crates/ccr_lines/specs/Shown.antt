@@ -29,10 +29,11 @@ use Rattle.ccr_lines.specs.Releases.{IsReleaseShown}
 use Rattle.ccr_lines.specs.Traces.{trace_lines}
 use Rattle.ccr_lines.specs.Certificates.{IsCertificateShown}
 use Rattle.ccr_lines.specs.Graphs.{graph_lines}
+use Rattle.ccr_lines.specs.BuildCertificates.{IsBuildCertificateShown}
 
 -- all builds, the versions of a resource, the problem of a job's next build, the proof of the choice for it, both in one
 -- text, or what it takes and why; the pipeline's text, its resources, its jobs, its graph; a build, or the builds that a
--- version went through
+-- version went through; a build's problem with its choice, in one text
 pub data ShownData : Type 0 where
   builds : ShownData
   versions : (resource : Text) → ShownData
@@ -46,6 +47,7 @@ pub data ShownData : Type 0 where
   graph : ShownData
   build : (job : Text) (number : ℕ) → ShownData
   trace : (resource pin : Text) → ShownData
+  build_certificate : (job : Text) (number : ℕ) → ShownData
 
 -- what a value of the program's type stands for
 abbrev pub shown_data : Shown → ShownData
@@ -61,6 +63,7 @@ shown_data value.Jobs = jobs
 shown_data value.Graph = graph
 shown_data (value.Build job number) = build job.now number
 shown_data (value.Trace resource pin) = trace resource.now pin.now
+shown_data (value.BuildCertificate job number) = build_certificate job.now number
 
 -- what has to be there for it to be shown
 abbrev pub needs : ShownData → Need
@@ -76,6 +79,7 @@ needs jobs = a_pipeline
 needs graph = a_pipeline
 needs (build job number) = a_build job number
 needs (trace resource pin) = a_pin resource pin
+needs (build_certificate job number) = a_build job number
 
 -- how each build stands, in order of making
 abbrev pub builds_lines : HistoryData → Text
@@ -138,6 +142,7 @@ IsShown jobs p h budget status lines = (status ≡ 0) × AreJobsShown p h budget
 IsShown graph p h budget status lines = (status ≡ 0) × (lines ≡ graph_lines p h)
 IsShown (build job number) p h budget status lines = (status ≡ 0) × IsReleaseShown p h job number lines
 IsShown (trace resource pin) p h budget status lines = (status ≡ 0) × IsTraceShown h resource pin lines
+IsShown (build_certificate job number) p h budget status lines = IsBuildCertificateShown p h job number status lines
 
 -- why nothing is shown that has this need: it isn't met, as the fault says; the text of a pin spells none; or out of memory
 abbrev pub IsUnshown : Need → Option PipelineData → HistoryData → ShowFault → Type 0

@@ -9,6 +9,7 @@
 #![tactic(auto)]
 
 mod asked;
+mod build_certificate;
 mod cause;
 mod certificate;
 mod command;
@@ -19,6 +20,7 @@ mod held;
 mod label;
 mod lines;
 mod outlook;
+mod past;
 mod printed;
 mod problem;
 mod reason;
@@ -31,6 +33,11 @@ mod tell;
 mod texts;
 mod trace;
 mod words;
+mod taken;
+mod tell;
+mod texts;
+mod trace;
+mod witness;
 
 pub use cause::Cause;
 pub use command::Command;

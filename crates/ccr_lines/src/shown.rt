@@ -32,6 +32,8 @@ pub enum Shown<'a> {
     Build(&'a str, u32),
     /// The builds that took or moved a version of the resource of this name that meets this JSON text.
     Trace(&'a str, &'a str),
+    /// What the job's build of this number took, in one text, of which the checker says that it satisfies.
+    BuildCertificate(&'a str, u32),
 }
 
 /// Why nothing is shown.

@@ -8,6 +8,7 @@ ghost use Rattle.ccr_lines.specs.Lines.{line, build_line, status_word};
 ghost use Rattle.ccr_lines.specs.Shown.{shown_data, builds_lines, disabled_word, scope_lines, needs, IsMade, IsUnshown, Showing};
 ghost use Rattle.ccr_lines.specs.Shown as spec;
 
+use crate::build_certificate::build_certificate_made;
 use crate::certificate::certificate_made;
 use crate::explain::explained_made;
 use crate::graph::graph_made;
@@ -162,6 +163,7 @@ fn made(alloc: Global, what: Shown<'_>, core: &Core) -> Result<(u8, Vec<u8>), Sh
         Shown::Graph => graph_made(alloc, core),
         Shown::Build(job, number) => release_made(alloc, core, job, number),
         Shown::Trace(resource, pin) => trace_made(alloc, core, resource, pin),
+        Shown::BuildCertificate(job, number) => { build_certificate_made(alloc, core, job, number) }
     }
 }
 

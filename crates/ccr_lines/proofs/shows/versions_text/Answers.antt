@@ -1,4 +1,4 @@
-use Rattle.std.proofs.Common.{◌≡◌, ◌∙◌, ◌<◌, ◌+◌, ◌++◌, ◌∷◌, [], ℕ, List, Bool, length, get_or, codes, decimal, string_bytes, sym, ap, subst, arith}
+use Rattle.std.proofs.Common.{◌≡◌, ◌∙◌, ◌<◌, ◌+◌, ◌++◌, ◌∷◌, ℕ, List, Bool, length, get_or, codes, decimal, string_bytes, sym, ap, subst, arith}
 use Rattle.ccr_history.specs.Pairs.{has_pair}
 use Rattle.ccr_history.specs.Tables.{scope_number, versions_of}
 use Rattle.ccr_history.specs.TextMap.{TextMap, key_text}
