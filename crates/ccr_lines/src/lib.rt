@@ -29,15 +29,12 @@ mod shown;
 mod shows;
 mod standing;
 mod subject;
-mod tell;
-mod texts;
-mod trace;
-mod words;
 mod taken;
 mod tell;
 mod texts;
 mod trace;
 mod witness;
+mod words;
 
 pub use cause::Cause;
 pub use command::Command;
