@@ -2,6 +2,7 @@ pub mod Certificates
 pub mod Commands
 pub mod Lines
 pub mod Needs
+pub mod Noted
 pub mod Outlooks
 pub mod Printed
 pub mod Releases

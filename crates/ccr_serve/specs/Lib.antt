@@ -3,6 +3,7 @@ pub mod Found
 pub mod Asked
 pub mod Aborts
 pub mod Items
+pub mod Noted
 pub mod Crash
 pub mod Turns
 pub mod Serving

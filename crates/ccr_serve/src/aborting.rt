@@ -16,12 +16,13 @@ ghost use Rattle.ccr_serve.specs.Views.{view_of, with_calls, Calls, CommitsOnce,
 use crate::due::Due;
 use crate::ended::{clear_away, tell_ended};
 use crate::fault::ServeFault;
+use crate::noting::{tell_fault, waiting_head};
 use crate::server::Server;
 use ccr_core::{Event, Reply};
 use ccr_lines::Lines;
 use ccr_process::Runner;
 use ccr_storage::Storage;
-use ccr_task::{Places, Shelf};
+use ccr_task::{Places, Shelf, StepFault};
 use std::alloc::{AllocError, Global};
 
 /// Whether it is asked that a job's build of this number be aborted: a folder that asks for it is there, and is removed, so that it
@@ -95,10 +96,12 @@ impl<R: Runner, S: Shelf, T: Storage> Server<R, S, T> {
         ensures places { self.new.places ≡ self.old.places }
         ensures waiting { O.waiting out.old ≡ [] → O.waiting out.new ≡ [] }
     {
+        let job = due.job.as_str();
+        let head = waiting_head(self.alloc, &self.core, job, due.number);
         match self.abort(name, due.number) {
             Ok(reply) => {
                 self.last = due.rank;
-                let job = due.job.as_str();
+                tell_fault(self.alloc, out, &head, &Some(StepFault::Aborted));
                 tell_ended(out, job, due.number, reply);
                 clear_away(
                     self.alloc,

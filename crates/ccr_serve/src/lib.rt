@@ -23,6 +23,7 @@ mod items;
 mod law;
 mod make;
 mod names;
+mod noting;
 mod open;
 mod pinning;
 mod round;

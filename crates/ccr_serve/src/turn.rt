@@ -19,6 +19,7 @@ use crate::due::{Due, due_build};
 use crate::ended::{clear_away, tell_ended};
 use crate::fault::ServeFault;
 use crate::items::{begin, line_room};
+use crate::noting::{asking_head, tell_fault};
 use crate::server::Server;
 use crate::wanted::answer_wanted;
 use ccr_core::{CoreFault, Event, Reply};
@@ -26,7 +27,7 @@ use ccr_lines::Lines;
 use ccr_process::Runner;
 use ccr_steps::Answered;
 use ccr_storage::Storage;
-use ccr_task::Shelf;
+use ccr_task::{Said, Shelf, StepFault};
 use std::alloc::{AllocError, Global};
 
 /// Makes room for the line of a job's build, and copies the job's name for the two events that its answer may take.
@@ -39,6 +40,7 @@ fn begin_turn<O: Lines>(
     ensures other { IfOk result (λ names. string_bytes names.1 ≡ job.now) }
     ensures room { OnOk result (length job.now + 64 ≤ O.room out.new) }
     ensures same { O.written out.new ≡ O.written out.old }
+    ensures notes { O.notes out.new ≡ O.notes out.old }
     ensures waiting { O.waiting out.new ≡ O.waiting out.old }
 {
     let one = begin(alloc, job, line_room(job), out)?;
@@ -66,14 +68,15 @@ impl<R: Runner, S: Shelf, T: Storage> Server<R, S, T> {
         }
     }
 
-    /// Gives a build its answer, or errored in its place where the core has no room for what it pushes. The names are
-    /// both that of its job.
+    /// Gives a build its answer, or errored in its place where the core has no room for what it pushes; that is the fault
+    /// then. The names are both that of its job.
     fn give(
         &mut self,
         names: (String, String),
         number: u32,
         turn: u64,
         answered: Answered,
+        fault: &mut Option<StepFault>,
     ) -> Result<Reply, ServeFault>
         requires ready { let view = view_of R.pairs S.calls T.holds T.leaves T.tally in IsReady (view self.old []) }
         requires same { string_bytes names.1 ≡ string_bytes names.0 }
@@ -90,7 +93,10 @@ impl<R: Runner, S: Shelf, T: Storage> Server<R, S, T> {
         let (named, again) = names;
         match self.make(Event::Answer(named, number, turn, answered)) {
             Ok(Ok(reply)) => Ok(reply),
-            Ok(Err(CoreFault::TableFull)) => self.give_errored(again, number, turn),
+            Ok(Err(CoreFault::TableFull)) => {
+                *fault = Some(StepFault::TableFull);
+                self.give_errored(again, number, turn)
+            }
             Ok(Err(_)) => unreachable!(),
             Err(fault) => Err(fault),
         }
@@ -127,7 +133,7 @@ impl<R: Runner, S: Shelf, T: Storage> Server<R, S, T> {
         ensures waiting { O.waiting out.old ≡ [] → O.waiting out.new ≡ [] }
     {
         let job = due.job.as_str();
-        let Ok((turn, answered)) = answer_wanted(
+        let Ok((turn, said)) = answer_wanted(
             self.alloc,
             &mut self.runner,
             &mut self.shelf,
@@ -138,9 +144,15 @@ impl<R: Runner, S: Shelf, T: Storage> Server<R, S, T> {
         ) else {
             return Err(ServeFault::NoMemory);
         };
-        match self.give(names, due.number, turn, answered) {
+        let head = asking_head(self.alloc, &self.core, job, due.number);
+        let Said {
+            answered,
+            mut fault,
+        } = said;
+        match self.give(names, due.number, turn, answered, &mut fault) {
             Ok(reply) => {
                 self.last = due.rank;
+                tell_fault(self.alloc, out, &head, &fault);
                 tell_ended(out, job, due.number, reply);
                 clear_away(
                     self.alloc,

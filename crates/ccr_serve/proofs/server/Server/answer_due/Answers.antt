@@ -1,5 +1,6 @@
 use Rattle.std.proofs.Common.{◌≡◌, ◌++◌, [], Ok, refl, string_bytes, subst}
 use Rattle.ccr_steps.specs.Asks.{answer_data}
+use Rattle.ccr_task.specs.Faulty.{said_data}
 use Rattle.ccr_task.specs.Places.{places_data}
 use Rattle.ccr_core.specs.Events.{answer}
 use Rattle.ccr_lines.specs.Lines.{lines_of}
@@ -36,10 +37,10 @@ returns-clause-served g c before asked =
     let looked = g.S.Shelf.calls c.args.self.now.shelf in
     turn_unmade (places_data c.args.self.now.places) v (string_bytes c.args.due.job) c.args.due.number c.args.due.rank
     looked c.requires.due asked (g.R.Runner.pairs c.answer_wanted.new.runner) (g.S.Shelf.calls c.answer_wanted.new.shelf)
-    c.in-Ok.turn (answer_data c.in-Ok.answered) (g.O.Lines.written c.args.out.now)
+    c.in-Ok.turn (said_data c.in-Ok.said) (g.O.Lines.written c.args.out.now)
     (view c.give.new.self (g.O.Lines.written c.args.out.now)) c.in-Err.fault
     (subst (λ j. AnswersWant (places_data c.args.self.now.places) v.core j c.args.due.number c.in-Ok.turn
-    (answer_data c.in-Ok.answered) v.pairs (g.R.Runner.pairs c.answer_wanted.new.runner) looked
+    (said_data c.in-Ok.said) v.pairs (g.R.Runner.pairs c.answer_wanted.new.runner) looked
     (g.S.Shelf.calls c.answer_wanted.new.shelf)) c.as_str-job.ensures.value c.in-Ok.ensures.ok)
     refl
     (unmade_printed c.in-Err.fault
@@ -55,14 +56,14 @@ returns-in-Ok-give-clause-served g c before asked =
     let job = string_bytes c.args.due.job in
     let name : c.as_str-job.result.now ≡ job = c.as_str-job.ensures.value in
     turn_served (places_data c.args.self.now.places) v looked job c.args.due.number c.args.due.rank
-    c.in-Ok.turn (answer_data c.in-Ok.answered) c.in-Ok-give.reply
+    c.in-Ok.turn (said_data c.in-Ok.said) c.in-Ok-give.reply
     (g.S.Shelf.calls c.answer_wanted.new.shelf) (g.R.Runner.pairs c.answer_wanted.new.runner)
     (view c.give.new.self []) (g.S.Shelf.calls c.clear_away.new.shelf)
     (g.O.Lines.written c.tell_ended.new.out) asked
     (subst (λ j. AnswersWant (places_data c.args.self.now.places) v.core j c.args.due.number c.in-Ok.turn
-    (answer_data c.in-Ok.answered) v.pairs (g.R.Runner.pairs c.answer_wanted.new.runner) looked
+    (said_data c.in-Ok.said) v.pairs (g.R.Runner.pairs c.answer_wanted.new.runner) looked
     (g.S.Shelf.calls c.answer_wanted.new.shelf)) name c.in-Ok.ensures.ok)
-    (subst (λ j. Gives j c.args.due.number c.in-Ok.turn (answer_data c.in-Ok.answered)
+    (subst (λ j. Gives j c.args.due.number c.in-Ok.turn (answer_data c.in-Ok.said.answered)
     c.in-Ok-give.reply
     (after v (g.S.Shelf.calls c.answer_wanted.new.shelf) (g.R.Runner.pairs c.answer_wanted.new.runner) [])
     (view c.give.new.self [])) c.requires.one c.in-Ok-give.ensures.gives)
