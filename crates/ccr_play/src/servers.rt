@@ -150,7 +150,11 @@ impl Servers {
 
     /// What prints on the tape, and tells there if that was asked for.
     fn out(&self, alloc: Global) -> Result<Printed<Tape, Aside>, AllocError> {
-        let tape = if self.has_notes { Some(self.tape.another()?) } else { None };
+        let tape = if self.has_notes {
+            Some(self.tape.another()?)
+        } else {
+            None
+        };
         Ok(Printed::new(alloc, self.tape.another()?, Aside { tape }))
     }
 

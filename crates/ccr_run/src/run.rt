@@ -115,7 +115,9 @@ fn serve_history<'a, S: Start, W: Write, E: Write>(
     let runner = Naming::new(rt, Machine::new(rt, alloc));
     let folders = Folders::new(rt, alloc);
     let budget = order.options.budget;
-    match Server::open(alloc, runner, folders, database, history, places, budget, out) {
+    match Server::open(
+        alloc, runner, folders, database, history, places, budget, out,
+    ) {
         Ok(server) => serve_by(server, order, out),
         Err(Unopened { fault, storage: _ }) => Err(Failure::Refused(fault)),
     }

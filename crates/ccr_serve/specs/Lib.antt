@@ -3,13 +3,13 @@ pub mod Found
 pub mod Asked
 pub mod Aborts
 pub mod Items
-pub mod Noted
 pub mod Crash
 pub mod Turns
 pub mod Serving
 pub mod Runs
 pub mod Views
 pub mod Due
+pub mod Noted
 pub mod Commanding
 pub mod Taken
 pub mod Reads

@@ -10,6 +10,7 @@ ghost use Rattle.ccr_serve.specs.Aborts.{AbortIsAsked};
 ghost use Rattle.ccr_serve.specs.Due.{IsDue};
 ghost use Rattle.ccr_serve.specs.Items.{Items};
 ghost use Rattle.ccr_serve.specs.Items as item;
+ghost use Rattle.ccr_serve.specs.Noted.{IsStepHead, NotesOf};
 ghost use Rattle.ccr_serve.specs.Serving.{Serves};
 ghost use Rattle.ccr_serve.specs.Views.{view_of, with_calls, Calls, CommitsOnce, IsReady, Made, Unmade, StopsItem};
 
@@ -93,6 +94,9 @@ impl<R: Runner, S: Shelf, T: Storage> Server<R, S, T> {
             IfOk result (λ _. CommitsOnce (Ok true) (view self.old []) (view self.new [])) }
         ensures at_most { let view = view_of R.pairs S.calls T.holds T.leaves T.tally in
             IfErr result (λ fault. CommitsOnce (Err fault) (view self.old []) (view self.new [])) }
+        ensures noted { IfOk result (λ _. NotesOf (IsStepHead (core_data self.old.core) (string_bytes due.job) due.number)
+            (Some StepFault.Aborted) (O.notes out.old) (O.notes out.new)) }
+        ensures quiet { OnErr result (O.notes out.new ≡ O.notes out.old) }
         ensures places { self.new.places ≡ self.old.places }
         ensures waiting { O.waiting out.old ≡ [] → O.waiting out.new ≡ [] }
     {

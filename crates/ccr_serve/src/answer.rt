@@ -14,9 +14,7 @@ use ccr_pipeline::Pipeline;
 use ccr_process::{Launch, Runner};
 use ccr_protocol::RequestFault;
 use ccr_steps::{Answered, Ask};
-use ccr_task::{
-    Places, Said, Shelf, ShelfFault, StepFault, answered_of, config_of, launch_of,
-};
+use ccr_task::{Places, Said, Shelf, ShelfFault, StepFault, answered_of, config_of, launch_of};
 use std::alloc::{AllocError, Global};
 
 /// Makes the folder of an artifact anew.

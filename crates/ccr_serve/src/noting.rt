@@ -3,7 +3,7 @@ ghost use Rattle.std.specs.Prelude.{◌≡◌, IfSome, Some, option_map, string_
 ghost use Rattle.ccr_task.specs.Notes.{cut_text};
 ghost use Rattle.ccr_core.specs.Cores.{core_data};
 ghost use Rattle.ccr_lines.specs.Noted.{IsNoted};
-ghost use Rattle.ccr_serve.specs.Noted.{IsHead, IsStepHead, TellsFault};
+ghost use Rattle.ccr_serve.specs.Noted.{IsHead, IsStepHead, NotesOf};
 
 use ccr_core::Core;
 use ccr_history::Edit;
@@ -37,7 +37,8 @@ pub(crate) fn tell_fault<O: Lines>(
     head: &Option<String>,
     fault: &Option<StepFault>,
 )
-    ensures noted { TellsFault (option_map string_bytes head.now) fault.now (O.notes out.old) (O.notes out.new) }
+    ensures noted { NotesOf (λ text. option_map string_bytes head.now ≡ Some text) fault.now
+        (O.notes out.old) (O.notes out.new) }
     ensures same { O.written out.new ≡ O.written out.old }
     ensures waiting { O.waiting out.new ≡ O.waiting out.old }
     ensures room { O.room out.new ≡ O.room out.old }

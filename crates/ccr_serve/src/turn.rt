@@ -1,5 +1,5 @@
 //! Turns: the one ask of a build is answered, or aborted.
-ghost use Rattle.std.specs.Prelude.{◌≡◌, ◌+◌, ◌≤◌, List, [], ◌∷◌, length, string_bytes, is_ok, true, false, Ok, Err, IfOk, IfErr, OnOk, Some};
+ghost use Rattle.std.specs.Prelude.{◌≡◌, ◌+◌, ◌≤◌, List, [], ◌∷◌, length, string_bytes, is_ok, true, false, Ok, Err, IfOk, IfErr, OnOk, OnErr, Some};
 ghost use Rattle.ccr_steps.specs.Asks.{answer_data, errored};
 ghost use Rattle.ccr_steps.specs.declared.ask.Ask.{Ask};
 ghost use Rattle.ccr_task.specs.Calls.{CallData};
@@ -10,6 +10,7 @@ ghost use Rattle.ccr_core.specs.Holding.{Wants};
 ghost use Rattle.ccr_serve.specs.Aborts.{AbortIsAsked};
 ghost use Rattle.ccr_serve.specs.Due.{IsDue, Gives};
 ghost use Rattle.ccr_serve.specs.Items.{Items};
+ghost use Rattle.ccr_serve.specs.Noted.{IsFaultOf, NotesAnswer, NotesBuild, NotesTurn};
 ghost use Rattle.ccr_serve.specs.Items as item;
 ghost use Rattle.ccr_serve.specs.Serving.{Serves};
 ghost use Rattle.ccr_serve.specs.Views.{view_of, with_calls, is_running, Calls, CommitsOnce, IsReady, Made, Unmade, StopsItem};
@@ -82,11 +83,13 @@ impl<R: Runner, S: Shelf, T: Storage> Server<R, S, T> {
         requires same { string_bytes names.1 ≡ string_bytes names.0 }
         requires wants { (ask : Ask)
             × Wants (core_data self.old.core) (string_bytes names.0) number (Some (turn, ask)) }
+        ensures fault { OnOk result (IsFaultOf (core_data self.old.core)
+            (answer (string_bytes names.0) number turn (answer_data answered)) fault.old fault.new) }
         ensures gives { let view = view_of R.pairs S.calls T.holds T.leaves T.tally in
             IfOk result (λ reply. Gives (string_bytes names.0) number turn (answer_data answered) reply
             (view self.old []) (view self.new [])) }
         ensures unmade { let view = view_of R.pairs S.calls T.holds T.leaves T.tally in
-            IfErr result (λ fault. Unmade fault (view self.old []) (view self.new [])) }
+            IfErr result (λ stop. Unmade stop (view self.old []) (view self.new [])) }
         ensures places { self.new.places ≡ self.old.places }
     {
         self.core.rules();
@@ -129,6 +132,11 @@ impl<R: Runner, S: Shelf, T: Storage> Server<R, S, T> {
             IfOk result (λ _. CommitsOnce (Ok true) (view self.old []) (view self.new [])) }
         ensures at_most { let view = view_of R.pairs S.calls T.holds T.leaves T.tally in
             IfErr result (λ fault. CommitsOnce (Err fault) (view self.old []) (view self.new [])) }
+        ensures noted { IfOk result (λ _. (after : List CallData)
+            × NotesAnswer (places_data self.old.places) (core_data self.old.core) (string_bytes due.job) due.number
+            (R.pairs self.old.runner) (R.pairs self.new.runner) (S.calls self.old.shelf) after
+            (O.notes out.old) (O.notes out.new)) }
+        ensures quiet { OnErr result (O.notes out.new ≡ O.notes out.old) }
         ensures places { self.new.places ≡ self.old.places }
         ensures waiting { O.waiting out.old ≡ [] → O.waiting out.new ≡ [] }
     {
@@ -184,6 +192,10 @@ impl<R: Runner, S: Shelf, T: Storage> Server<R, S, T> {
             IfOk result (λ _. CommitsOnce (Ok true) (view self.old []) (view self.new [])) }
         ensures at_most { let view = view_of R.pairs S.calls T.holds T.leaves T.tally in
             IfErr result (λ fault. CommitsOnce (Err fault) (view self.old []) (view self.new [])) }
+        ensures noted { IfOk result (λ _. NotesBuild (places_data self.old.places) (core_data self.old.core)
+            (string_bytes due.job) due.number (R.pairs self.old.runner) (R.pairs self.new.runner)
+            (S.calls self.old.shelf) (O.notes out.old) (O.notes out.new)) }
+        ensures quiet { OnErr result (O.notes out.new ≡ O.notes out.old) }
         ensures places { self.new.places ≡ self.old.places }
         ensures waiting { O.waiting out.old ≡ [] → O.waiting out.new ≡ [] }
     {
@@ -224,6 +236,9 @@ impl<R: Runner, S: Shelf, T: Storage> Server<R, S, T> {
             IfErr result (λ fault. StopsItem fault (view self.new (O.written out.new))) }
         ensures once { let view = view_of R.pairs S.calls T.holds T.leaves T.tally in
             CommitsOnce result (view self.old []) (view self.new []) }
+        ensures noted { NotesTurn result (places_data self.old.places) (core_data self.old.core) self.old.last
+            (R.pairs self.old.runner) (R.pairs self.new.runner) (S.calls self.old.shelf)
+            (O.notes out.old) (O.notes out.new) }
         ensures places { self.new.places ≡ self.old.places }
         ensures waiting { O.waiting out.old ≡ [] → O.waiting out.new ≡ [] }
     {

@@ -22,7 +22,7 @@ step_words t = codes "step"
 
 -- a step of a job's build of this number
 abbrev pub step_head : Text → ℕ → Tree → Text
-step_head job number step = job ++ codes " " ++ decimal number ++ codes ": " ++ step_words step
+step_head job number step = job ++ (codes " " ++ (decimal number ++ (codes ": " ++ step_words step)))
 
 -- the file that an ask names, as the pipeline spells it
 abbrev pub file_words : AskData → Text
@@ -50,7 +50,7 @@ file_fault_words shelf.NoMemory = codes "out of memory"
 
 -- a fault at a path in a task's file
 abbrev pub at : Text → String Global → Text
-at words path = words ++ codes " at " ++ string_bytes path
+at words path = words ++ (codes " at " ++ string_bytes path)
 
 -- why a task's file is no task; what is wrong with the whole has no path
 abbrev pub task_words : ReadFault → Text
@@ -89,9 +89,10 @@ fault_words Aborted = codes "aborted"
 
 -- WHAT IS TOLD of a step, or of its ask, at which this was wrong
 abbrev pub note_text : Text → StepFault → Text
-note_text head fault = head ++ codes ": " ++ fault_words fault
+note_text head fault = head ++ (codes ": " ++ fault_words fault)
 
 -- what is told of a build that a restart has cut short
 abbrev pub cut_text : Text → ℕ → Text
 cut_text job number =
-    job ++ codes " " ++ decimal number ++ codes ": cut short by a restart; trigger-job " ++ job ++ codes " makes another build"
+    job ++ (codes " " ++ (decimal number ++ (codes ": cut short by a restart; trigger-job " ++ (job
+    ++ codes " makes another build"))))

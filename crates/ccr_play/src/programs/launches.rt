@@ -232,7 +232,12 @@ pub(super) fn ended(alloc: Global, given: &str) -> Result<String> {
     let end = end_of(alloc, given)?;
     let version = some_version(alloc, "{\"n\":\"2\"}")?;
     let config = read_task(alloc, b"{\"run\":{\"path\":\"x\"}}")?;
-    let fetched = answered_of(alloc, &fetch("a", &version, None), String::new(alloc), end.copy()?);
+    let fetched = answered_of(
+        alloc,
+        &fetch("a", &version, None),
+        String::new(alloc),
+        end.copy()?,
+    );
     let pushed = answered_of(alloc, &push("a", None), String::new(alloc), end.copy()?);
     let done = answered_of(alloc, &run(&config, &[]), String::new(alloc), end);
     let fetched = word(alloc, fetched)?;

@@ -1,0 +1,36 @@
+-- What a turn tells.
+use Rattle.std.proofs.Common.{◌≡◌, ◌++◌, List, [], ◌∷◌, Option, Some, None, Result, Ok, Err, OnOk, IfSome, option_map, unwrap_or, String, string_bytes, ap, subst, inl, inr}
+use Rattle.std.specs.declared.alloc.Global.{Global}
+use Rattle.ccr_history.specs.Text.{Text}
+use Rattle.ccr_core.specs.declared.fault.CoreFault.TheVariants as core_fault
+use Rattle.ccr_core.specs.declared.reply.Reply.{Reply}
+use Rattle.ccr_core.specs.Events.{EventData}
+use Rattle.ccr_core.specs.Holding.{CoreData, Takes}
+use Rattle.ccr_task.specs.declared.said.StepFault.{StepFault}
+use Rattle.ccr_task.specs.declared.said.StepFault.TheVariants.{TableFull}
+use Rattle.ccr_serve.specs.Noted.{NotesOf, IsFaultOf}
+
+-- a head that was made is one that it may be
+pub notes_by : (head : Option (String Global)) (IsIt : Text → Type 0) (fault : Option StepFault) (old new : List Text)
+    → IfSome head (λ h. IsIt (string_bytes h))
+    → NotesOf (λ text. option_map string_bytes head ≡ Some text) fault old new → NotesOf IsIt fault old new
+notes_by head IsIt fault old new is (inl same) = inl same
+notes_by (Some h) IsIt fault old new is (inr (text, f, made, rest)) =
+    inr (text, f, subst IsIt (ap (λ o. unwrap_or o []) made) is, rest)
+notes_by None IsIt fault old new is (inr (text, f, made, rest)) = absurd (cc made)
+
+-- what holds anyhow holds of a result that is good
+pub on_ok : {A B P : Type 0} (result : Result A B) → P → OnOk result P
+on_ok (Ok a) p = p
+on_ok (Err e) p = tt
+
+-- the core took the answer
+pub fault_own : (c after : CoreData) (e : EventData) (reply : Reply) (own told : Option StepFault) → told ≡ own
+    → Takes c after e (Ok reply) → IsFaultOf c e own told
+fault_own c after e reply own told same takes = inl (same, reply, after, takes)
+
+-- the core had no room for it
+pub fault_full : (c after : CoreData) (e : EventData) (own told : Option StepFault) → told ≡ Some TableFull → after ≡ c
+    → Takes c after e (Err core_fault.TableFull) → IsFaultOf c e own told
+fault_full c after e own told is same takes =
+    inr (is, subst (λ d. Takes c d e (Err core_fault.TableFull)) same takes)
