@@ -1,14 +1,16 @@
 -- What a turn tells.
-use Rattle.std.proofs.Common.{◌≡◌, ◌++◌, List, [], ◌∷◌, Option, Some, None, Result, Ok, Err, OnOk, IfSome, option_map, unwrap_or, String, string_bytes, ap, subst, inl, inr}
+use Rattle.std.proofs.Common.{◌≡◌, ◌<◌, ◌+◌, ◌++◌, ◌∙◌, ℕ, suc, List, [], ◌∷◌, length, drop, get_or, drop-cons, sym, arith, Option, Some, None, Result, Ok, Err, OnOk, IfSome, option_map, unwrap_or, String, string_bytes, ap, subst, inl, inr}
 use Rattle.std.specs.declared.alloc.Global.{Global}
 use Rattle.ccr_history.specs.Text.{Text}
+use Rattle.ccr_history.specs.Edits.{change_data, edit_data}
+use Rattle.ccr_history.specs.declared.change.Edit.{Edit}
 use Rattle.ccr_core.specs.declared.fault.CoreFault.TheVariants as core_fault
 use Rattle.ccr_core.specs.declared.reply.Reply.{Reply}
 use Rattle.ccr_core.specs.Events.{EventData}
 use Rattle.ccr_core.specs.Holding.{CoreData, Takes}
 use Rattle.ccr_task.specs.declared.said.StepFault.{StepFault}
 use Rattle.ccr_task.specs.declared.said.StepFault.TheVariants.{TableFull}
-use Rattle.ccr_serve.specs.Noted.{NotesOf, IsFaultOf}
+use Rattle.ccr_serve.specs.Noted.{NotesOf, IsFaultOf, NotesEdit, NotesCut}
 
 -- a head that was made is one that it may be
 pub notes_by : (head : Option (String Global)) (IsIt : Text → Type 0) (fault : Option StepFault) (old new : List Text)
@@ -34,3 +36,16 @@ pub fault_full : (c after : CoreData) (e : EventData) (own told : Option StepFau
     → Takes c after e (Err core_fault.TableFull) → IsFaultOf c e own told
 fault_full c after e own told is same takes =
     inr (is, subst (λ d. Takes c d e (Err core_fault.TableFull)) same takes)
+
+-- what is told of an edit, and then of those behind it
+module _ (es : List Edit) (i : ℕ) (x : Edit) (lt : i < length es) (is : x ≡ get_or es i x) where
+  one_more : suc i ≡ i + 1
+  one_more = omega arith
+
+  next : drop i es ≡ x ∷ drop (i + 1) es
+  next = drop-cons es i x lt
+      ∙ (ap (λ y. y ∷ drop (suc i) es) (sym is) ∙ ap (λ k. x ∷ drop k es) one_more)
+
+  pub cut_on : (old mid new : List Text) → NotesEdit (edit_data x) old mid
+      → NotesCut (change_data (drop (i + 1) es)) mid new → NotesCut (change_data (drop i es)) old new
+  cut_on old mid new first rest = subst (λ xs. NotesCut (change_data xs) old new) (sym next) (mid, first, rest)

@@ -1,13 +1,14 @@
--- What a turn tells on standard error.
+-- What a turn tells on standard error, and what a restart does.
 use Rattle.std.specs.Prelude.{◌≡◌, ◌⊎◌, ℕ, List, [], ◌∷◌, ◌++◌, Bool, true, false, Option, Some, Result, Ok, Err, string_bytes}
 use Rattle.ccr_history.specs.Text.{Text}
+use Rattle.ccr_history.specs.Changes.{EditData, ended}
 use Rattle.ccr_pipeline.specs.Tree.{Tree}
 use Rattle.ccr_process.specs.Runs.{Pair}
 use Rattle.ccr_steps.specs.Asks.{ask_data}
 use Rattle.ccr_steps.specs.declared.ask.Ask.{Ask}
 use Rattle.ccr_task.specs.Calls.{CallData}
 use Rattle.ccr_task.specs.Faulty.{SaidData}
-use Rattle.ccr_task.specs.Notes.{step_head, ask_head, note_text}
+use Rattle.ccr_task.specs.Notes.{step_head, ask_head, note_text, cut_text}
 use Rattle.ccr_task.specs.Places.{PlacesData, abort_folder}
 use Rattle.ccr_task.specs.declared.said.StepFault.{StepFault}
 use Rattle.ccr_task.specs.declared.said.StepFault.TheVariants.{TableFull, Aborted}
@@ -15,6 +16,7 @@ use Rattle.ccr_core.specs.declared.fault.CoreFault.TheVariants as core_fault
 use Rattle.ccr_core.specs.declared.reply.Reply.{Reply}
 use Rattle.ccr_core.specs.Events.{EventData, answer}
 use Rattle.ccr_core.specs.Holding.{CoreData, Takes, Wants, step_in}
+use Rattle.ccr_lines.specs.Noted.{IsNoted}
 use Rattle.ccr_serve.specs.Aborts.{AbortIsAsked}
 use Rattle.ccr_serve.specs.Due.{IsDue, AnswersWant}
 use Rattle.ccr_serve.specs.declared.due.Due.{Due}
@@ -80,3 +82,14 @@ NotesTurn (Ok true) places c last pairs now before old new =
     × NotesBuild places c (string_bytes due.job) due.number pairs now before old new
 NotesTurn (Ok false) places c last pairs now before old new = new ≡ old
 NotesTurn (Err fault) places c last pairs now before old new = new ≡ old
+
+-- ---- restarts
+-- of an edit that ends a build it is told that a restart has cut the build short; of another edit nothing
+abbrev pub NotesEdit : EditData → List Text → List Text → Type 0
+NotesEdit (ended job number status moved) old new = IsNoted (cut_text job number) old new
+NotesEdit e old new = new ≡ old
+
+-- WHAT A RESTART TELLS that makes these edits: what is told of each, in order
+abbrev pub NotesCut : List EditData → List Text → List Text → Type 0
+NotesCut [] old new = new ≡ old
+NotesCut (e ∷ es) old new = (mid : List Text) × NotesEdit e old mid × NotesCut es mid new

@@ -1,9 +1,8 @@
 //! What is told of a turn's step that isn't a success, and of builds that a restart has cut short.
 ghost use Rattle.std.specs.Prelude.{◌≡◌, IfSome, Some, option_map, string_bytes};
-ghost use Rattle.ccr_task.specs.Notes.{cut_text};
+ghost use Rattle.ccr_history.specs.Edits.{change_data, edit_data};
 ghost use Rattle.ccr_core.specs.Cores.{core_data};
-ghost use Rattle.ccr_lines.specs.Noted.{IsNoted};
-ghost use Rattle.ccr_serve.specs.Noted.{IsHead, IsStepHead, NotesOf};
+ghost use Rattle.ccr_serve.specs.Noted.{IsHead, IsStepHead, NotesOf, NotesEdit, NotesCut};
 
 use ccr_core::Core;
 use ccr_history::Edit;
@@ -51,25 +50,26 @@ pub(crate) fn tell_fault<O: Lines>(
     }
 }
 
-/// Tells that a restart has cut a build short. Out of memory nothing is told.
-fn tell_cut_build<O: Lines>(alloc: Global, out: &mut O, job: &str, number: u32)
-    ensures noted { IsNoted (cut_text job.now number) (O.notes out.old) (O.notes out.new) }
+/// Tells that a restart has cut short the build that an edit ends, if it ends one. Out of memory nothing is told.
+fn tell_cut_edit<O: Lines>(alloc: Global, out: &mut O, edit: &Edit)
+    ensures noted { NotesEdit (edit_data edit.now) (O.notes out.old) (O.notes out.new) }
     ensures same { O.written out.new ≡ O.written out.old }
     ensures waiting { O.waiting out.new ≡ O.waiting out.old }
 {
-    if let Ok(line) = cut_note(alloc, job, number) {
-        out.note(line);
+    if let Edit::Ended(ended) = edit {
+        if let Ok(line) = cut_note(alloc, ended.job.as_str(), ended.number) {
+            out.note(line);
+        }
     }
 }
 
-/// Tells of each build that has ended that a restart has cut it short.
+/// Tells of each build that a restart's change ends that it has cut the build short. Out of memory nothing is told.
 pub(crate) fn tell_cut<O: Lines>(alloc: Global, out: &mut O, change: &[Edit])
+    ensures noted { NotesCut (change_data change.now) (O.notes out.old) (O.notes out.new) }
     ensures same { O.written out.new ≡ O.written out.old }
     ensures waiting { O.waiting out.new ≡ O.waiting out.old }
 {
     for edit in change {
-        if let Edit::Ended(ended) = edit {
-            tell_cut_build(alloc, out, ended.job.as_str(), ended.number);
-        }
+        tell_cut_edit(alloc, out, edit);
     }
 }

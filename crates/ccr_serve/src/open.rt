@@ -1,9 +1,10 @@
 //! How a server begins.
-ghost use Rattle.std.specs.Prelude.{◌≡◌, ◌≤◌, [], ◌∷◌, false, IfOk, IfErr, OnErr};
+ghost use Rattle.std.specs.Prelude.{◌≡◌, ◌≤◌, [], ◌∷◌, false, IfOk, IfErr, OnOk, OnErr};
 ghost use Rattle.std.specs.Option.{IfSome};
 ghost use Rattle.ccr_proof.specs.declared.proof.TheConstants.{MOST_NODES};
 ghost use Rattle.ccr_core.specs.Cores.{core_data};
-ghost use Rattle.ccr_core.specs.Resumed.{IsReadable, IsResumed};
+ghost use Rattle.ccr_core.specs.Resumed.{resumed, IsReadable, IsResumed};
+ghost use Rattle.ccr_serve.specs.Noted.{NotesCut};
 ghost use Rattle.ccr_serve.specs.Views.{view_of, IsReady};
 ghost use Rattle.ccr_serve.specs.Unopened.{KeepsFromOpening};
 
@@ -57,6 +58,7 @@ impl<R: Runner + Drop, S: Shelf + Drop, T: Storage + Drop> Server<R, S, T> {
         ensures places { IfOk result (λ server. server.places ≡ places) }
         ensures same { O.written out.new ≡ O.written out.old }
         ensures waiting { O.waiting out.new ≡ O.waiting out.old }
+        ensures cut { OnOk result (NotesCut (resumed history) (O.notes out.old) (O.notes out.new)) }
         ensures quiet { OnErr result (out.new ≡ out.old) }
         ensures only { IfErr result (λ it.
             KeepsFromOpening T.holds T.leaves T.tally history storage it.storage it.fault) }
