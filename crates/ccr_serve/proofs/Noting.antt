@@ -1,5 +1,5 @@
 -- What a turn tells.
-use Rattle.std.proofs.Common.{◌≡◌, ◌<◌, ◌+◌, ◌++◌, ◌∙◌, ℕ, suc, List, [], ◌∷◌, length, drop, get_or, drop-cons, sym, arith, Option, Some, None, Result, Ok, Err, OnOk, IfSome, option_map, unwrap_or, String, string_bytes, ap, subst, inl, inr}
+use Rattle.std.proofs.Common.{◌≡◌, ◌<◌, ◌+◌, ◌++◌, ◌∙◌, ℕ, suc, List, [], ◌∷◌, length, drop, get_or, drop-cons, sym, arith, Option, Some, None, Result, Ok, Err, IfOk, OnOk, OnErr, IfSome, option_map, unwrap_or, String, string_bytes, ap, subst, inl, inr}
 use Rattle.std.specs.declared.alloc.Global.{Global}
 use Rattle.ccr_history.specs.Text.{Text}
 use Rattle.ccr_history.specs.Edits.{change_data, edit_data}
@@ -49,3 +49,15 @@ module _ (es : List Edit) (i : ℕ) (x : Edit) (lt : i < length es) (is : x ≡ 
   pub cut_on : (old mid new : List Text) → NotesEdit (edit_data x) old mid
       → NotesCut (change_data (drop (i + 1) es)) mid new → NotesCut (change_data (drop i es)) old new
   cut_on old mid new first rest = subst (λ xs. NotesCut (change_data xs) old new) (sym next) (mid, first, rest)
+
+-- ---- results
+-- what holds of a good result has what follows from it
+pub if_ok : {A E : Type 0} {P Q : A → Type 0} (result : Result A E) → ((a : A) → P a → Q a) → IfOk result P
+    → IfOk result Q
+if_ok (Ok a) so p = so a p
+if_ok (Err e) so p = tt
+
+-- what stayed at an error as it was before a step that left it
+pub err_then : {A E X : Type 0} (result : Result A E) (x y z : X) → y ≡ z → OnErr result (x ≡ y) → OnErr result (x ≡ z)
+err_then (Ok a) x y z left same = tt
+err_then (Err e) x y z left same = same ∙ left
