@@ -24,6 +24,6 @@ mod Ranks
 mod Nexts
 mod Wants
 mod Turning
-mod Noting
+mod NotesTold
 mod Cutting
 mod Again

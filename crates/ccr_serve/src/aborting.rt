@@ -17,7 +17,7 @@ ghost use Rattle.ccr_serve.specs.Views.{view_of, with_calls, Calls, CommitsOnce,
 use crate::due::Due;
 use crate::ended::{clear_away, tell_ended};
 use crate::fault::ServeFault;
-use crate::noting::{tell_fault, waiting_head};
+use crate::notes::{tell_fault, waiting_head};
 use crate::server::Server;
 use ccr_core::{Event, Reply};
 use ccr_lines::Lines;

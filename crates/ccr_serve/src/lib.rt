@@ -23,7 +23,7 @@ mod items;
 mod law;
 mod make;
 mod names;
-mod noting;
+mod notes;
 mod open;
 mod pinning;
 mod round;

@@ -9,7 +9,7 @@ ghost use Rattle.ccr_serve.specs.Views.{view_of, IsReady};
 ghost use Rattle.ccr_serve.specs.Unopened.{KeepsFromOpening};
 
 use crate::fault::ServeFault;
-use crate::noting::tell_cut;
+use crate::notes::tell_cut;
 use crate::server::Server;
 use ccr_core::Core;
 use ccr_history::History;

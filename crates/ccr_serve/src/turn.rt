@@ -20,7 +20,7 @@ use crate::due::{Due, due_build};
 use crate::ended::{clear_away, tell_ended};
 use crate::fault::ServeFault;
 use crate::items::{begin, line_room};
-use crate::noting::{asking_head, tell_fault};
+use crate::notes::{asking_head, tell_fault};
 use crate::server::Server;
 use crate::wanted::answer_wanted;
 use ccr_core::{CoreFault, Event, Reply};

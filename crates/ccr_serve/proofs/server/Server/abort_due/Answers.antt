@@ -9,7 +9,7 @@ use Rattle.ccr_serve.specs.Aborts.{Clears}
 use Rattle.ccr_serve.specs.Noted.{IsStepHead, NotesOf}
 use Rattle.ccr_serve.specs.Views.{view_of, with_calls, Made}
 use Rattle.ccr_serve.proofs.Cutting.{abort_unmade}
-use Rattle.ccr_serve.proofs.Noting.{notes_by}
+use Rattle.ccr_serve.proofs.NotesTold.{notes_by}
 use Rattle.ccr_serve.proofs.Steps.{after, unmade_printed}
 use Rattle.ccr_serve.proofs.Turning.{abort_served}
 use Rattle.ccr_serve.proofs.server.Server.abort_due.Goals as goal

@@ -10,7 +10,7 @@ use Rattle.ccr_serve.specs.Due.{AnswersWant, BeginsWant, Gives}
 use Rattle.ccr_serve.specs.Noted.{IsHead, NotesOf, IsFaultOf}
 use Rattle.ccr_serve.specs.Views.{view_of, with_calls}
 use Rattle.ccr_serve.proofs.Cutting.{turn_unanswered, turn_unmade}
-use Rattle.ccr_serve.proofs.Noting.{notes_by}
+use Rattle.ccr_serve.proofs.NotesTold.{notes_by}
 use Rattle.ccr_serve.proofs.Steps.{after, unmade_printed}
 use Rattle.ccr_serve.proofs.Turning.{turn_served}
 use Rattle.ccr_serve.proofs.server.Server.answer_due.Goals as goal
@@ -93,8 +93,7 @@ returns-in-Ok-give-clause-noted g c =
     let pairs = g.R.Runner.pairs c.args.self.now.runner in
     let looked = g.S.Shelf.calls c.args.self.now.shelf in
     let calls = g.S.Shelf.calls c.answer_wanted.new.shelf in
-    let told = g.O.Lines.notes c.args.out.now in
-    (
+    let told = g.O.Lines.notes c.args.out.now in (
       calls,
       record {
         turn = c.in-Ok.turn;

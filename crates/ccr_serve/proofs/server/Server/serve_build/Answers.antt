@@ -5,7 +5,7 @@ use Rattle.ccr_core.specs.Cores.{core_data}
 use Rattle.ccr_serve.specs.Aborts.{AbortIsAsked}
 use Rattle.ccr_serve.specs.Noted.{IsStepHead, NotesOf, NotesAnswer}
 use Rattle.ccr_serve.specs.Views.{view_of}
-use Rattle.ccr_serve.proofs.Noting.{if_ok, err_then}
+use Rattle.ccr_serve.proofs.NotesTold.{if_ok, err_then}
 use Rattle.ccr_serve.proofs.Steps.{cut_at_once, cut_unchanged, items_stop}
 use Rattle.ccr_serve.proofs.Turning.{from_lines}
 use Rattle.ccr_serve.proofs.server.Server.serve_build.Goals as goal

@@ -1,7 +1,9 @@
 //! What is told of a turn's step that isn't a success, and of builds that a restart has cut short.
 ghost use Rattle.std.specs.Prelude.{◌≡◌, IfSome, Some, option_map, string_bytes};
 ghost use Rattle.ccr_history.specs.Edits.{change_data, edit_data};
+ghost use Rattle.ccr_task.specs.Notes.{cut_text};
 ghost use Rattle.ccr_core.specs.Cores.{core_data};
+ghost use Rattle.ccr_lines.specs.Noted.{IsNoted};
 ghost use Rattle.ccr_serve.specs.Noted.{IsHead, IsStepHead, NotesOf, NotesEdit, NotesCut};
 
 use ccr_core::Core;
@@ -50,16 +52,32 @@ pub(crate) fn tell_fault<O: Lines>(
     }
 }
 
+/// Tells that a restart has cut this build short. Out of memory nothing is told.
+fn tell_cut_build<O: Lines>(alloc: Global, out: &mut O, job: &str, number: u32)
+    ensures noted { IsNoted (cut_text job.now number) (O.notes out.old) (O.notes out.new) }
+    ensures same { O.written out.new ≡ O.written out.old }
+    ensures waiting { O.waiting out.new ≡ O.waiting out.old }
+{
+    if let Ok(line) = cut_note(alloc, job, number) {
+        out.note(line);
+    }
+}
+
 /// Tells that a restart has cut short the build that an edit ends, if it ends one. Out of memory nothing is told.
 fn tell_cut_edit<O: Lines>(alloc: Global, out: &mut O, edit: &Edit)
     ensures noted { NotesEdit (edit_data edit.now) (O.notes out.old) (O.notes out.new) }
     ensures same { O.written out.new ≡ O.written out.old }
     ensures waiting { O.waiting out.new ≡ O.waiting out.old }
 {
-    if let Edit::Ended(ended) = edit {
-        if let Ok(line) = cut_note(alloc, ended.job.as_str(), ended.number) {
-            out.note(line);
-        }
+    match edit {
+        Edit::Ended(ended) => tell_cut_build(alloc, out, ended.job.as_str(), ended.number),
+        Edit::Text(_)
+        | Edit::Versions(_)
+        | Edit::Build(_)
+        | Edit::PinSet(_, _)
+        | Edit::PinCleared(_)
+        | Edit::Disabled(_)
+        | Edit::Enabled(_) => {}
     }
 }
 

@@ -2,7 +2,7 @@ use Rattle.std.proofs.Common.{◌≡◌, List, drop}
 use Rattle.ccr_history.specs.Text.{Text}
 use Rattle.ccr_history.specs.Edits.{change_data}
 use Rattle.ccr_serve.specs.Noted.{NotesCut}
-use Rattle.ccr_serve.proofs.noting.tell_cut.Given as goal
+use Rattle.ccr_serve.proofs.notes.tell_cut.Given as goal
 
 abbrev pub invariant-loop-edit : goal.invariant-loop-edit
 invariant-loop-edit g l = record {

@@ -17,9 +17,9 @@ pub notes_by : (head : Option (String Global)) (IsIt : Text → Type 0) (fault :
     → IfSome head (λ h. IsIt (string_bytes h))
     → NotesOf (λ text. option_map string_bytes head ≡ Some text) fault old new → NotesOf IsIt fault old new
 notes_by head IsIt fault old new is (inl same) = inl same
-notes_by (Some h) IsIt fault old new is (inr (text, f, made, rest)) =
-    inr (text, f, subst IsIt (ap (λ o. unwrap_or o []) made) is, rest)
-notes_by None IsIt fault old new is (inr (text, f, made, rest)) = absurd (cc made)
+notes_by (Some h) IsIt fault old new is (inr (text, f, made, has, told)) =
+    inr (text, f, subst IsIt (ap (λ o. unwrap_or o []) made) is, has, told)
+notes_by None IsIt fault old new is (inr (text, f, made, has, told)) = absurd (cc made)
 
 -- what holds anyhow holds of a result that is good
 pub on_ok : {A B P : Type 0} (result : Result A B) → P → OnOk result P
