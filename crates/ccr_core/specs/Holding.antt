@@ -1,5 +1,5 @@
 -- What a core holds, and which states it stands for.
-use Rattle.std.specs.Prelude.{◌≡◌, ℕ, ◌+◌, ◌==◌, ◌≤◌, ◌&&◌, List, [], ◌∷◌, Option, Some, None, string_bytes, if◌then◌else◌, ⊤}
+use Rattle.std.specs.Prelude.{◌≡◌, ℕ, ◌+◌, ◌==◌, ◌≤◌, ◌&&◌, List, [], ◌∷◌, slice_get, Option, Some, None, option_and_then, string_bytes, if◌then◌else◌, ⊤}
 use Rattle.std.specs.Prelude.{String, IsTrue}
 use Rattle.std.specs.List.{AllByRecursion}
 use Rattle.std.specs.Option.{IfSome}
@@ -11,8 +11,10 @@ use Rattle.ccr_history.specs.History.{HistoryData}
 use Rattle.ccr_pipeline.specs.Links.{resource_names}
 use Rattle.ccr_pipeline.specs.Names.{has_name}
 use Rattle.ccr_pipeline.specs.Pipelines.{PipelineData}
+use Rattle.ccr_pipeline.specs.Tree.{Tree}
 use Rattle.ccr_proof.specs.declared.proof.TheConstants.{MOST_NODES}
 use Rattle.ccr_steps.specs.Asks.{AskData, ask_data, ask_resource}
+use Rattle.ccr_steps.specs.Moments.{step_at}
 use Rattle.ccr_steps.specs.Progress.{IsAllowed, IsNext}
 use Rattle.ccr_steps.specs.Runs.{RunData, StandsFor, HasTurn}
 use Rattle.ccr_steps.specs.declared.ask.Ask.{Ask}
@@ -99,3 +101,7 @@ NamesResource s a = IfSome (ask_resource a) (λ r. IsTrue (has_name (resource_na
 abbrev pub name_index : Text → ℕ → List (Text × ℕ) → ℕ
 name_index job number [] = 0
 name_index job number (n ∷ ns) = if bytes_eq job n.0 && number == n.1 then 0 else 1 + name_index job number ns
+
+-- the step of its plan at which the job's build of this number waits; none where it doesn't run
+abbrev pub step_in : CoreData → Text → ℕ → Option Tree
+step_in c job number = option_and_then (λ r. step_at r.at r.plan) (slice_get c.runs (name_index job number c.names))

@@ -8,7 +8,7 @@ use crate::reply::Reply;
 use crate::resumed::begin;
 use ccr_history::{Change, History};
 use ccr_index::Index;
-use ccr_pipeline::Pipeline;
+use ccr_pipeline::{Pipeline, Step};
 use ccr_steps::Ask;
 use std::alloc::Global;
 use std::marker::Model;
@@ -43,13 +43,14 @@ impl Core {
     ghost use Rattle.std.specs.Option.{IfSome, option_copied};
     ghost use Rattle.ccr_history.specs.Edits.{change_data, edit_data};
     ghost use Rattle.ccr_pipeline.specs.Pipelines.{pipeline_data};
+    ghost use Rattle.ccr_pipeline.specs.Tree.{tree_of};
     ghost use Rattle.ccr_problem.specs.ProblemOf.{job_of, IsProblemOf};
     ghost use Rattle.ccr_proof.specs.declared.proof.TheConstants.{MOST_NODES};
     ghost use Rattle.ccr_core.specs.Cores.{core_data};
     ghost use Rattle.ccr_core.specs.Events.{event_data};
     ghost use Rattle.ccr_core.specs.Going.{Changes};
     ghost use Rattle.ccr_steps.specs.Asks.{ask_data};
-    ghost use Rattle.ccr_core.specs.Holding.{name_data, HasEdits, IsCore, NamesResource, Stands, Takes, Wants};
+    ghost use Rattle.ccr_core.specs.Holding.{name_data, step_in, HasEdits, IsCore, NamesResource, Stands, Takes, Wants};
     ghost use Rattle.ccr_core.specs.Positions.{IsMadeAt, AreInOrder};
     ghost use Rattle.ccr_core.specs.State.{State};
     ghost use Rattle.ccr_core.specs.Resumed.{resumed, IsReadable, IsResumed};
@@ -110,6 +111,13 @@ impl Core {
             → IfSome result (λ w. NamesResource s (ask_data w.1)) }
     {
         self.parts.wants(job, number)
+    }
+
+    /// The step of its plan at which the job's build of this number waits; None where it doesn't run. No memory is taken.
+    pub fn step_of(&self, job: &str, number: u32) -> Option<&Step>
+        ensures { option_map (λ s. tree_of s.now) result ≡ step_in (core_data self.now) job.now number }
+    {
+        self.parts.step_of(job, number)
     }
 
     /// Where the job's build of this number stands among all builds of the history, counted from 0 in order of making;

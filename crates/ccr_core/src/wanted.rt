@@ -1,13 +1,15 @@
 //! What running builds want.
-ghost use Rattle.std.specs.Prelude.{◌≡◌, map};
+ghost use Rattle.std.specs.Prelude.{◌≡◌, map, option_map};
 ghost use Rattle.std.specs.Option.{IfSome};
+ghost use Rattle.ccr_pipeline.specs.Tree.{tree_of};
 ghost use Rattle.ccr_steps.specs.Asks.{ask_data};
 ghost use Rattle.ccr_core.specs.Cores.{core_data};
-ghost use Rattle.ccr_core.specs.Holding.{name_data, name_index, IsCore, NamesResource, Stands, Wants};
+ghost use Rattle.ccr_core.specs.Holding.{name_data, name_index, step_in, IsCore, NamesResource, Stands, Wants};
 ghost use Rattle.ccr_core.specs.State.{State};
 ghost use Rattle.ccr_core.specs.Wanting.{EachWants, WantedIsTaken, AbortIsTaken};
 
 use crate::parts::Parts;
+use ccr_pipeline::Step;
 use ccr_steps::Ask;
 
 /// Where the job's build of this number stands among names; past the end if it isn't there.
@@ -40,6 +42,14 @@ impl Parts {
             Some(ask) => Some((run.turn(), ask)),
             None => None,
         }
+    }
+
+    /// The step at which the job's build of this number waits; None where it doesn't run.
+    pub(crate) fn step_of(&self, job: &str, number: u32) -> Option<&Step>
+        ensures { option_map (λ s. tree_of s.now) result ≡ step_in (core_data self.now) job.now number }
+    {
+        let k = index_of(&self.names, job, number);
+        self.runs.get(k)?.step()
     }
 }
 

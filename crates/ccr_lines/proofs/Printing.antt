@@ -1,5 +1,5 @@
 -- One part more is handed out.
-use Rattle.std.proofs.Common.{◌≡◌, List, [], ◌∷◌, ◌++◌, ℕ, Vec, Bool, false, Option, Some, None, sym, ap, ◌∙◌, append-nil, append_assoc}
+use Rattle.std.proofs.Common.{◌≡◌, List, [], ◌∷◌, ◌++◌, ℕ, map, Vec, String, string_bytes, Bool, false, Option, Some, None, refl, sym, ap, ◌∙◌, append-nil, append_assoc}
 use Rattle.std.specs.Io.KnownBytes.{Appends}
 use Rattle.std.specs.declared.alloc.Global.{Global}
 use Rattle.std.specs.declared.snapshot.Snapshot.{Snapshot}
@@ -38,3 +38,16 @@ whole_more before mid after failed now parts more part lines w p m e = λ n.
     let joined : all_of more ≡ all_of parts ++ lines =
     ap all_of m ∙ (shown_more parts part ∙ ap (λ xs. all_of parts ++ xs) e) in
     rw joined (appended_twice before mid after (all_of parts) lines (w (p n).0) (p n).1)
+
+-- one note more is told
+note_more : (notes : List (Snapshot (String Global))) (note : Snapshot (String Global))
+    → map (λ n. string_bytes n.value) (notes ++ note ∷ []) ≡ map (λ n. string_bytes n.value) notes ++ string_bytes note.value ∷ []
+note_more [] note = refl
+note_more (n ∷ ns) note = ap (λ ls. string_bytes n.value ∷ ls) (note_more ns note)
+
+pub noted_more : (notes more : List (Snapshot (String Global))) (note : Snapshot (String Global)) (line : String Global)
+    → more ≡ notes ++ note ∷ [] → note.value ≡ line
+    → map (λ n. string_bytes n.value) more ≡ map (λ n. string_bytes n.value) notes ++ string_bytes line ∷ []
+noted_more notes more note line is value =
+    ap (λ ns. map (λ n. string_bytes n.value) ns) is ∙ (note_more notes note
+    ∙ ap (λ l. map (λ n. string_bytes n.value) notes ++ string_bytes l ∷ []) value)

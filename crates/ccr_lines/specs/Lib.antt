@@ -6,6 +6,7 @@ pub mod Explained
 pub mod Graphs
 pub mod Lines
 pub mod Needs
+pub mod Noted
 pub mod Outlooks
 pub mod PastProblems
 pub mod Printed

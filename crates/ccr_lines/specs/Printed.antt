@@ -4,12 +4,13 @@ use Rattle.std.specs.Io.KnownBytes.{Appends}
 use Rattle.std.specs.declared.alloc.Global.{Global}
 use Rattle.std.specs.declared.snapshot.Snapshot.{Snapshot}
 
--- what was handed out, what waits for that, for how many bytes there is room, whether a write failed, and what the
--- writer held at first and holds now, where that is known
+-- what was handed out, what waits for that, for how many bytes there is room, what was told beside it, whether a write
+-- failed, and what the writer held at first and holds now, where that is known
 pub record PrintedData : Type 0 where
   pub shown : List ℕ
   pub waiting : List ℕ
   pub room : ℕ
+  pub notes : List (List ℕ)
   pub failed : Bool
   pub before : Option (List ℕ)
   pub holds : Option (List ℕ)

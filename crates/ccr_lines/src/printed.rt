@@ -1,4 +1,4 @@
-//! Lines that are printed as they are handed out.
+//! Lines that are printed as they are handed out, and what is told beside them.
 
 use crate::lines::Lines;
 use std::alloc::{AllocError, Global};
@@ -6,20 +6,23 @@ use std::io::Write;
 use std::marker::Model;
 use std::snapshot::Snapshot;
 
-/// Lines that a writer gets as they are handed out. What was written before is kept without memory.
+/// Lines that a writer gets as they are handed out. What was written before is kept without memory. What is told beside
+/// them goes to a second writer, whose failures change nothing.
 ///
-/// Once a write fails the writer gets nothing more, so that no line stands behind half of another.
+/// Once a write of lines fails the writer gets nothing more, so that no line stands behind half of another.
 #[derive(Drop)]
-pub struct Printed<W: Write> {
+pub struct Printed<W: Write, E: Write> {
     writer: W,
+    errors: E,
     start: Snapshot<W>,
     shown: Vec<Snapshot<Vec<u8>>>,
     lines: Vec<u8>,
+    noted: Vec<Snapshot<String>>,
     failed: bool,
 }
 
-impl<W: Write> Model for Printed<W> {
-    ghost use Rattle.std.specs.Prelude.{◌-◌, vec_len, vec_capacity};
+impl<W: Write, E: Write> Model for Printed<W, E> {
+    ghost use Rattle.std.specs.Prelude.{◌-◌, map, string_bytes, vec_len, vec_capacity};
     ghost use Rattle.ccr_lines.specs.Printed.{PrintedData, all_of, IsWhole};
 
     ghost Value = { PrintedData };
@@ -28,6 +31,7 @@ impl<W: Write> Model for Printed<W> {
       shown = all_of p.shown.items;
       waiting = p.lines.items;
       room = vec_capacity p.lines - vec_len p.lines;
+      notes = map (λ note. string_bytes note.value) p.noted.items;
       failed = p.failed;
       before = W.contents p.start.value;
       holds = W.contents p.writer;
@@ -36,21 +40,24 @@ impl<W: Write> Model for Printed<W> {
     ghost invariant = { λ p. IsWhole p.failed (W.contents p.start.value) (W.contents p.writer) (all_of p.shown.items) };
 }
 
-impl<W: Write> Printed<W> {
+impl<W: Write, E: Write> Printed<W, E> {
     ghost use Rattle.std.specs.Prelude.{◌≡◌, ◌++◌, [], true, false};
     ghost use Rattle.std.specs.Io.KnownBytes.{Appends};
 
-    /// Nothing is written yet; lines will go to this writer.
-    pub fn new(alloc: Global, writer: W) -> Printed<W>
+    /// Nothing is written yet; lines will go to this writer, and what is told beside them to `errors`.
+    pub fn new(alloc: Global, writer: W, errors: E) -> Printed<W, E>
         ensures nothing { result.shown ++ result.waiting ≡ [] }
+        ensures quiet { result.notes ≡ [] }
         ensures before { result.before ≡ W.contents writer }
         ensures unfailed { result.failed ≡ false }
     {
         Printed {
             start: Snapshot::of(&writer),
             writer,
+            errors,
             shown: Vec::new(alloc),
             lines: Vec::new(alloc),
+            noted: Vec::new(alloc),
             failed: false,
         }
     }
@@ -64,7 +71,7 @@ impl<W: Write> Printed<W> {
     }
 }
 
-impl<W: Write> Lines for Printed<W> {
+impl<W: Write, E: Write> Lines for Printed<W, E> {
     ghost use Rattle.std.specs.Prelude.{◌≡◌, ◌++◌, [], false};
     ghost use Rattle.ccr_lines.specs.Printed.{still_waiting};
 
@@ -73,6 +80,8 @@ impl<W: Write> Lines for Printed<W> {
     ghost waiting = { λ p. still_waiting p.failed p.waiting };
 
     ghost room = { λ p. p.room };
+
+    ghost notes = { λ p. p.notes };
 
     fn make_room(&mut self, bytes: usize) -> Result<(), AllocError> {
         // For the snapshot of these lines too: handing them out is not to want memory.
@@ -86,6 +95,7 @@ impl<W: Write> Lines for Printed<W> {
 
     fn hand_out(&mut self)
         ensures same { self.new.shown ++ self.new.waiting ≡ self.old.shown ++ self.old.waiting }
+        ensures notes { self.new.notes ≡ self.old.notes }
         ensures whole { self.new.failed ≡ false → self.new.waiting ≡ [] }
         ensures shown { still_waiting self.new.failed self.new.waiting ≡ [] }
     {
@@ -101,6 +111,21 @@ impl<W: Write> Lines for Printed<W> {
         }
         self.failed = print(&mut self.writer, &self.lines, self.failed);
         self.lines.clear();
+    }
+
+    fn note(&mut self, line: String) {
+        if self.noted.push(Snapshot::of(&line)).is_ok() {
+            tell(&mut self.errors, line);
+        }
+    }
+}
+
+/// Gives a writer a line in one piece. A failure changes nothing.
+fn tell<E: Write>(errors: &mut E, line: String) {
+    let mut line = line;
+    if line.push_str("\n").is_ok() {
+        let _ = errors.write_all(line.as_str().as_bytes());
+        let _ = errors.flush();
     }
 }
 

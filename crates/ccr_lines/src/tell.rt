@@ -18,6 +18,7 @@ fn tell_line<O: Lines>(out: &mut O, parts: &[&str])
     requires { sum_by (λ part. length part.now) parts.now < O.room out.old }
     ensures told { O.written out.new
         ≡ O.written out.old ++ (flat_map (λ part. part.now) parts.now ++ 10 ∷ []) }
+    ensures notes { O.notes out.new ≡ O.notes out.old }
     ensures left { O.room out.old ≤ O.room out.new + (sum_by (λ part. length part.now) parts.now + 1) }
 {
     for part in parts {
@@ -113,6 +114,7 @@ pub(crate) fn word_of(status: Status) -> &'static str
 fn tell_build<O: Lines>(out: &mut O, job: &str, number: u32, word: &str)
     requires { length job.now + (length word.now + 13) ≤ O.room out.old }
     ensures told { O.written out.new ≡ O.written out.old ++ build_line job.now number word.now }
+    ensures notes { O.notes out.new ≡ O.notes out.old }
     ensures left { O.room out.old ≤ O.room out.new + (length job.now + (length word.now + 13)) }
 {
     let mut buffer = Buffer::new();
@@ -136,7 +138,8 @@ fn tell_ended<O: Lines>(out: &mut O, job: &str, number: u32, status: Status)
 /// Writes that a build has ended so.
 pub fn tell_end<O: Lines>(out: &mut O, job: &str, number: u32, outcome: Outcome)
     requires { length job.now + 64 ≤ O.room out.old }
-    ensures { O.written out.new ≡ O.written out.old ++ build_line job.now number (status_word (status_of outcome)) }
+    ensures told { O.written out.new ≡ O.written out.old ++ build_line job.now number (status_word (status_of outcome)) }
+    ensures notes { O.notes out.new ≡ O.notes out.old }
 {
     match outcome {
         Outcome::Succeeded => tell_build(out, job, number, "succeeded"),

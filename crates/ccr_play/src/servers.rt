@@ -1,15 +1,18 @@
 //! Servers whose programs and folders are a script.
 //!
 //! What a server prints stands as it is printed; between its lines, two blanks in, stands each launch as it happens,
-//! and at last how the line ended, unless with status 0.
+//! and at last how the line ended, unless with status 0. What it tells on standard error stands behind `! `, if a line
+//! `notes` has asked for that.
 //!
 //! The script of the next server: `ends WORD ..` (`STATUS`, `STATUS:OUTPUT`, `numbers:COUNT` for a check that found so
 //! many versions, `killed`, `too-long`, `not-started`: how programs end, in turn), `folders N` and `no-folders N` (N
 //! calls for folders are done, or fail), `file TEXT` (a file that is read), `commits N [FAULT]` (the storage fails after
-//! N commits: `refused`, `no-memory`, `interrupted`, `not-ours`, or as a disk where no fault is named). `open` makes a
-//! server over it, with an empty history, types in `/t` and builds in `/w`. Then `round`, `turn`, and the commands of
+//! N commits: `refused`, `no-memory`, `interrupted`, `not-ours`, or as a disk where no fault is named), `runs JOB` (the history that
+//! it begins with has a build of this job that runs), `notes` (what it tells on standard error is shown). `open` makes a
+//! server over it, with a history that is empty otherwise, types in `/t` and builds in `/w`. Then `round`, `turn`, and the commands of
 //! `ccr_run`, of which `set-pipeline` and tasks read the script's files.
 
+mod aside;
 mod script;
 mod serving;
 mod tape;
@@ -19,6 +22,7 @@ mod unkept;
 use crate::play::Player;
 use crate::words::split;
 use anyhow::Result;
+use aside::Aside;
 use ccr_lines::{Command, Lines, Printed};
 use ccr_serve::ServeFault;
 use script::Script;
@@ -33,6 +37,7 @@ pub(crate) struct Servers {
     script: Script,
     serving: Option<Serving<Tape>>,
     tape: Tape,
+    has_notes: bool,
 }
 
 /// The number that words are; 1 where they are none.
@@ -89,7 +94,7 @@ fn command_of(alloc: Global, kind: &str, words: &str) -> Result<Option<Command>,
 fn done(
     alloc: Global,
     serving: &mut Serving<Tape>,
-    out: &mut Printed<Tape>,
+    out: &mut Printed<Tape, Aside>,
     kind: &str,
     words: &str,
 ) -> Result<Option<u8>, ServeFault> {
@@ -104,15 +109,15 @@ fn done(
     }
 }
 
-/// The same, with what is printed on a tape.
+/// The same, with what is printed handed out.
 fn printed(
     alloc: Global,
     serving: &mut Serving<Tape>,
-    tape: Tape,
+    out: Printed<Tape, Aside>,
     kind: &str,
     words: &str,
 ) -> Result<Option<u8>, ServeFault> {
-    let mut out = Printed::new(alloc, tape);
+    let mut out = out;
     let status = done(alloc, serving, &mut out, kind, words);
     out.hand_out();
     status
@@ -125,6 +130,7 @@ impl Servers {
             script: Script::new(alloc),
             serving: None,
             tape: Tape::new(alloc)?,
+            has_notes: false,
         })
     }
 
@@ -137,29 +143,42 @@ impl Servers {
             "folders" => self.script.add_folders(number_of(words), true)?,
             "no-folders" => self.script.add_folders(number_of(words), false)?,
             "commits" => self.script.fail_after(words)?,
+            "runs" => self.script.add_build(alloc, words)?,
+            "notes" => self.script.has_notes = true,
             _ => return Ok(false),
         }
         Ok(true)
     }
 
+    /// What prints on the tape, and tells there if that was asked for.
+    fn out(&self, alloc: Global) -> Result<Printed<Tape, Aside>, AllocError> {
+        let tape = if self.has_notes {
+            Some(self.tape.another()?)
+        } else {
+            None
+        };
+        Ok(Printed::new(alloc, self.tape.another()?, Aside { tape }))
+    }
+
     /// Opens a server over the script; another script begins.
     fn open(&mut self, alloc: Global) -> Result<u8, ServeFault> {
-        let Ok(tape) = self.tape.another() else {
+        self.has_notes = self.script.has_notes;
+        let (Ok(tape), Ok(mut out)) = (self.tape.another(), self.out(alloc)) else {
             return Err(ServeFault::NoMemory);
         };
         let script = mem::replace(&mut self.script, Script::new(alloc));
-        self.serving = Some(Serving::open(alloc, tape, script)?);
+        self.serving = Some(Serving::open(alloc, tape, script, &mut out)?);
         Ok(0)
     }
 
     /// Has the server do what a line says: its status. None where there is no server, or it is no line of one.
     fn serve(&mut self, alloc: Global, kind: &str, words: &str) -> Result<Option<u8>, ServeFault> {
-        let Some(serving) = &mut self.serving else {
-            return Ok(None);
+        let Ok(out) = self.out(alloc) else {
+            return Err(ServeFault::NoMemory);
         };
-        match self.tape.another() {
-            Ok(tape) => printed(alloc, serving, tape, kind, words),
-            Err(_) => Err(ServeFault::NoMemory),
+        match &mut self.serving {
+            Some(serving) => printed(alloc, serving, out, kind, words),
+            None => Ok(None),
         }
     }
 

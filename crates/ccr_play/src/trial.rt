@@ -61,7 +61,7 @@ fn output(end: Ended) -> Result<Vec<u8>, Refusal> {
     match end {
         Ended::Exit(0, output) => Ok(output),
         Ended::Exit(status, _) => Err(Refusal::Status(status)),
-        Ended::Killed => Err(Refusal::Ended("killed")),
+        Ended::Killed(_) => Err(Refusal::Ended("killed")),
         Ended::NotStarted => Err(Refusal::Ended("not started")),
         Ended::InputFault => Err(Refusal::Ended("input fault")),
         Ended::ReadFault => Err(Refusal::Ended("read fault")),

@@ -7,7 +7,7 @@ use Rattle.ccr_process.specs.declared.ended.Ended.TheVariants.{Exit, Killed, Not
 -- an end without where it lies in memory
 pub data EndData : Type 0 where
   exited : ℕ → List ℕ → EndData
-  killed : EndData
+  killed : ℕ → EndData
   not_started : EndData
   input_fault : EndData
   read_fault : EndData
@@ -17,7 +17,7 @@ pub data EndData : Type 0 where
 -- what an end holds
 abbrev pub end_data : Ended → EndData
 end_data (Exit status output) = exited status output.items
-end_data Killed = killed
+end_data (Killed signal) = killed signal
 end_data NotStarted = not_started
 end_data InputFault = input_fault
 end_data ReadFault = read_fault
@@ -31,7 +31,7 @@ IsOutput keep output = (length output ≤ MOST_OUTPUT) × (keep ≡ false → ou
 -- an end holds such an output
 abbrev pub HasOutput : Bool → EndData → Type 0
 HasOutput keep (exited status output) = IsOutput keep output
-HasOutput keep killed = ⊤
+HasOutput keep (killed signal) = ⊤
 HasOutput keep not_started = ⊤
 HasOutput keep input_fault = ⊤
 HasOutput keep read_fault = ⊤

@@ -10,8 +10,8 @@ pub enum Ended {
     /// The program ended with this status, having written this on its standard output, of at most 1,048,576 bytes;
     /// nothing where the launch doesn't keep it.
     Exit(u8, Vec<u8>),
-    /// A signal ended the program.
-    Killed,
+    /// The signal of this number ended the program; 0 where the system tells none.
+    Killed(u8),
     /// The program wasn't started: it isn't there or can't be run, its folder isn't there, or the launch can't be told
     /// to the system.
     NotStarted,
@@ -33,7 +33,7 @@ impl Ended {
     {
         Ok(match self {
             Ended::Exit(status, output) => Ended::Exit(*status, output.clone()?),
-            Ended::Killed => Ended::Killed,
+            Ended::Killed(signal) => Ended::Killed(*signal),
             Ended::NotStarted => Ended::NotStarted,
             Ended::InputFault => Ended::InputFault,
             Ended::ReadFault => Ended::ReadFault,

@@ -13,7 +13,8 @@ use crate::pipes::{GiveFault, TakeFault, give_input, take_output};
 use crate::runner::Runner;
 use std::alloc::{AllocError, Global};
 use std::io::ErrorKind;
-use std::process::{Child, Command, OpenProcess, Processes};
+use std::os::unix::process::ExitStatusExt;
+use std::process::{Child, Command, ExitStatus, OpenProcess, Processes};
 use std::snapshot::Snapshot;
 
 /// Starts programs of this machine by a runtime `R`, one at a time, and waits for each.
@@ -32,6 +33,14 @@ fn put_down<P: OpenProcess + Drop>(child: &mut Child<P>, end: Ended) -> Ended
     let _ = child.kill();
     let _ = child.wait();
     end
+}
+
+/// The number of the signal that ended a program; 0 where none did.
+fn signal_of(status: ExitStatus) -> u8 {
+    status
+        .signal()
+        .and_then(|signal| u8::try_from(signal).ok())
+        .unwrap_or(0)
 }
 
 /// Gives a program that was started its input, takes its output and waits for it. Programs that fail at a call are put
@@ -66,7 +75,7 @@ fn attend<P: OpenProcess + Drop>(
     };
     match status.code().and_then(|code| u8::try_from(code).ok()) {
         Some(code) => Ended::Exit(code, output),
-        None => Ended::Killed,
+        None => Ended::Killed(signal_of(status)),
     }
 }
 

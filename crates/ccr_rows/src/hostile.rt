@@ -88,7 +88,7 @@ impl<R: Processes> World<R> {
             Err(fault) => return Ok(fault.to_string(alloc)?),
         };
         let end = self.machine.run(&launch);
-        let word = match answered_of(alloc, &ask, end)? {
+        let word = match answered_of(alloc, &ask, launch.program, end)?.answered {
             Answered::Done => "done",
             Answered::Failed => "failed",
             Answered::Errored => "errored",

@@ -65,7 +65,7 @@ pub(crate) fn told(alloc: Global, end: &Ended) -> Result<String, AllocError> {
                 _ => format!(in alloc; "exit {status} of {len}"),
             }
         }
-        Ended::Killed => String::from_str(alloc, "killed"),
+        Ended::Killed(_) => String::from_str(alloc, "killed"),
         Ended::NotStarted => String::from_str(alloc, "not started"),
         Ended::InputFault => String::from_str(alloc, "input fault"),
         Ended::ReadFault => String::from_str(alloc, "read fault"),

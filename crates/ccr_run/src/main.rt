@@ -62,11 +62,11 @@ fn words(rt: &HostRuntime) -> Result<Vec<String>, Misuse> {
 }
 
 /// Does what the words order, and tells what came of it: the exit status.
-fn obey<'a, S: Start, W: Write>(
+fn obey<'a, S: Start, W: Write, E: Write>(
     rt: &'a HostRuntime,
     words: &'a [String],
     opener: &mut Opener<'a, S>,
-    out: &mut Printed<W>,
+    out: &mut Printed<W, E>,
 ) -> ExitCode
     requires unopened { IsSome opener.old.start }
     requires unasked { opener.old.asked ≡ None }
@@ -92,7 +92,7 @@ fn obey<'a, S: Start, W: Write>(
 /// Does what the words order with the files as they are, of which nothing is known.
 fn answer(rt: &HostRuntime, words: &[String]) -> ExitCode {
     let mut opener = Opener::new(rt, Unknown);
-    let mut out = Printed::new(rt.alloc(), io::writer(rt));
+    let mut out = Printed::new(rt.alloc(), io::writer(rt), rt.stderr());
     obey(rt, words, &mut opener, &mut out)
 }
 

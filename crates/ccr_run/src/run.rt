@@ -52,10 +52,10 @@ pub fn places_of(alloc: Global, types: &str, work: &str) -> Result<Places, Alloc
 }
 
 /// Has a server do a command, and hands all its lines out.
-fn command<R: Runner, S: Shelf, T: Storage, W: Write>(
+fn command<R: Runner, S: Shelf, T: Storage, W: Write, E: Write>(
     server: &mut Server<R, S, T>,
     command: &Command,
-    out: &mut Printed<W>,
+    out: &mut Printed<W, E>,
 ) -> Result<u8, Failure>
     requires ready { let view = view_of R.pairs S.calls T.holds T.leaves T.tally in
         IsReady (view server.old (out.old.shown ++ out.old.waiting)) }
@@ -71,10 +71,10 @@ fn command<R: Runner, S: Shelf, T: Storage, W: Write>(
 }
 
 /// Has a server do the command.
-fn serve_by<R: Runner + Drop, S: Shelf + Drop, T: Storage + Drop, W: Write>(
+fn serve_by<R: Runner + Drop, S: Shelf + Drop, T: Storage + Drop, W: Write, E: Write>(
     server: Server<R, S, T>,
     order: &Order<'_>,
-    out: &mut Printed<W>,
+    out: &mut Printed<W, E>,
 ) -> Result<u8, Failure>
     requires ready { IsReady (view_of R.pairs S.calls T.holds T.leaves T.tally server []) }
     requires places { places_data server.places ≡ places_in order.now }
@@ -87,13 +87,13 @@ fn serve_by<R: Runner + Drop, S: Shelf + Drop, T: Storage + Drop, W: Write>(
 }
 
 /// Has a server over a database with its history do the command.
-fn serve_history<'a, S: Start, W: Write>(
+fn serve_history<'a, S: Start, W: Write, E: Write>(
     rt: &'a HostRuntime,
     order: &Order<'_>,
     database: Database<FileStore<FileFrom<S>>>,
     history: History,
     places: Places,
-    out: &mut Printed<W>,
+    out: &mut Printed<W, E>,
 ) -> Result<u8, Failure>
     requires least { 1 ≤ order.now.options.budget }
     requires most { order.now.options.budget ≤ MOST_NODES }
@@ -115,19 +115,21 @@ fn serve_history<'a, S: Start, W: Write>(
     let runner = Naming::new(rt, Machine::new(rt, alloc));
     let folders = Folders::new(rt, alloc);
     let budget = order.options.budget;
-    match Server::open(alloc, runner, folders, database, history, places, budget) {
+    match Server::open(
+        alloc, runner, folders, database, history, places, budget, out,
+    ) {
         Ok(server) => serve_by(server, order, out),
         Err(Unopened { fault, storage: _ }) => Err(Failure::Refused(fault)),
     }
 }
 
 /// Has a server over a database that was opened do the command.
-fn serve_database<'a, S: Start, W: Write>(
+fn serve_database<'a, S: Start, W: Write, E: Write>(
     rt: &'a HostRuntime,
     order: &Order<'_>,
     conn: Connection<FileStore<FileFrom<S>>>,
     places: Places,
-    out: &mut Printed<W>,
+    out: &mut Printed<W, E>,
 ) -> Result<u8, Failure>
     requires least { 1 ≤ order.now.options.budget }
     requires most { order.now.options.budget ≤ MOST_NODES }
@@ -151,11 +153,11 @@ fn serve_database<'a, S: Start, W: Write>(
 }
 
 /// Opens the database, and has a server over it do the command.
-fn serve<'a, S: Start, W: Write>(
+fn serve<'a, S: Start, W: Write, E: Write>(
     rt: &'a HostRuntime,
     order: &Order<'a>,
     opener: &mut Opener<'a, S>,
-    out: &mut Printed<W>,
+    out: &mut Printed<W, E>,
 ) -> Result<u8, Failure>
     requires least { 1 ≤ order.now.options.budget }
     requires most { order.now.options.budget ≤ MOST_NODES }
@@ -179,11 +181,11 @@ fn serve<'a, S: Start, W: Write>(
 }
 
 /// Does what is ordered. The lines go out as they come.
-pub fn run<'a, S: Start, W: Write>(
+pub fn run<'a, S: Start, W: Write, E: Write>(
     rt: &'a HostRuntime,
     order: &Order<'a>,
     opener: &mut Opener<'a, S>,
-    out: &mut Printed<W>,
+    out: &mut Printed<W, E>,
 ) -> Outcome
     requires least { 1 ≤ order.now.options.budget }
     requires most { order.now.options.budget ≤ MOST_NODES }

@@ -2,8 +2,9 @@
 use Rattle.std.proofs.Common.{◌≡◌, ℕ, List, [], ◌∷◌, Bool, true, false, Option, Some, None, unwrap_or, refl, sym, ap, subst}
 use Rattle.ccr_history.specs.Text.{Text}
 use Rattle.ccr_process.specs.Runs.{Pair}
-use Rattle.ccr_steps.specs.Asks.{ask_data, AnswerData}
+use Rattle.ccr_steps.specs.Asks.{ask_data}
 use Rattle.ccr_task.specs.Calls.{CallData}
+use Rattle.ccr_task.specs.Faulty.{SaidData}
 use Rattle.ccr_task.specs.Places.{PlacesData, build_folder, abort_folder}
 use Rattle.ccr_core.specs.Holding.{IsAsked, Stands}
 use Rattle.ccr_core.specs.State.{State, no_pipeline, resources_of}
@@ -24,7 +25,7 @@ renamed : (P : Text → ℕ → Type 0) (j k : Text) (m n : ℕ) → k ≡ j →
 renamed P j k m n job number p = subst (λ t. P t n) (sym job) (subst (λ i. P j i) (sym number) p)
 
 -- what was answered was begun to be answered
-want_begun : (places : PlacesData) (v : View) (job : Text) (number turn : ℕ) (x : AnswerData) (p : List Pair)
+want_begun : (places : PlacesData) (v : View) (job : Text) (number turn : ℕ) (x : SaidData) (p : List Pair)
     (looked f : List CallData) → AnswersWant places v.core job number turn x v.pairs p looked f
     → BeginsWant places v.core job number v.pairs p looked f
 want_begun places v job number turn x p looked f w = record {
@@ -95,7 +96,7 @@ module _ (places : PlacesData) (v : View) (job : Text) (number rank : ℕ) (look
         cut_by_memory (Items (Serves places) (item.turn ∷ [])) v f p l w.lost (answer_stops w) ready w.adds lines
 
     -- its event isn't made
-    pub turn_unmade : (turn : ℕ) (x : AnswerData) (l : Text) (new : View) (stop : ServeFault)
+    pub turn_unmade : (turn : ℕ) (x : SaidData) (l : Text) (new : View) (stop : ServeFault)
         → AnswersWant places v.core job number turn x v.pairs p looked f → l ≡ v.lines
         → Unmade stop (after v f p l) new → Calls (Items (Serves places) (item.turn ∷ [])) v false new
     turn_unmade turn x l new stop w lines un =

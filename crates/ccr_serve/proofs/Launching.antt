@@ -9,11 +9,12 @@ use Rattle.ccr_process.specs.Runs.{Pair, AddsPair}
 use Rattle.ccr_process.specs.declared.launch.Launch.{Launch}
 use Rattle.ccr_protocol.specs.declared.fault.RequestFault.{RequestFault}
 use Rattle.ccr_protocol.specs.declared.request.TheConstants.{MOST_REQUEST}
-use Rattle.ccr_steps.specs.Asks.{AskData, ask_data, answer_data}
+use Rattle.ccr_steps.specs.Asks.{AskData, ask_data}
 use Rattle.ccr_steps.specs.declared.ask.Ask.{Ask}
 use Rattle.ccr_steps.specs.declared.ask.Ask.TheVariants.{Fetch, Push, ReadConfig, RunTask}
-use Rattle.ccr_steps.specs.declared.ask.Answered.{Answered}
 use Rattle.ccr_task.specs.Answering.{AnswersEnd}
+use Rattle.ccr_task.specs.Faulty.{said_data}
+use Rattle.ccr_task.specs.declared.said.Said.{Said}
 use Rattle.ccr_task.specs.Launching.{can_launch, check_launch, starts_program, LaunchesAsk}
 use Rattle.ccr_task.specs.Places.{PlacesData}
 use Rattle.ccr_task.specs.Calls.{CallData, FolderCall, Does}
@@ -69,17 +70,17 @@ module _ {E : Type 0} (places : PlacesData) (r : ResourceData) (told version : O
 module _ {E : Type 0} (build : Text) (ask : AskData) (launch : Launch) (before after : List CallData)
     (old new : List Pair) (end : EndData) (added : AddsPair old (launch_data launch) end new)
     (did : Does (ask_folders build ask) before (Ok tt) after) where
-  pub answered_after : (result : Result Answered E) → IfOk result (λ a. AnswersEnd ask end (answer_data a))
+  pub answered_after : (result : Result Said E) → IfOk result (λ a. AnswersEnd launch.program ask end (said_data a))
       → IfOk result (λ a. (pair : Option Pair) × Adds old pair new
-      × AnswersByLaunch build ask (Ok launch) before after pair (answer_data a))
+      × AnswersByLaunch build ask (Ok launch) before after pair (said_data a))
   answered_after (Ok a) by = with_pair added where
     with_pair : AddsPair old (launch_data launch) end new → (pair : Option Pair) × Adds old pair new
-        × AnswersByLaunch build ask (Ok launch) before after pair (answer_data a)
+        × AnswersByLaunch build ask (Ok launch) before after pair (said_data a)
     with_pair (inl more) = (Some (launch_data launch, end), more, (did, refl, by))
-    with_pair (inr (none, kept)) = absurd (subst (λ e. AnswersEnd ask e (answer_data a)) none by)
+    with_pair (inr (none, kept)) = absurd (subst (λ e. AnswersEnd launch.program ask e (said_data a)) none by)
   answered_after (Err e) by = tt
 
-  pub answered_lost : (result : Result Answered E) → OnErr result ((lost : Option Pair) × Adds old lost new
+  pub answered_lost : (result : Result Said E) → OnErr result ((lost : Option Pair) × Adds old lost new
       × BeginsByLaunch build ask (Ok launch) before after lost)
   answered_lost (Ok a) = tt
   answered_lost (Err e) =
@@ -91,25 +92,25 @@ module _ {E : Type 0} (places : PlacesData) (rs : List ResourceData) (build : Te
     (launch : Result Launch RequestFault) (before after : List CallData) (old new : List Pair)
     (other : (file : _) → ask ≢ ReadConfig file) (can : can_launch rs (ask_data ask) ≡ starts_program (ask_data ask))
     (is : LaunchesAsk places rs build (ask_data ask) launch) where
-  pub by_program : (result : Result Answered E)
+  pub by_program : (result : Result Said E)
       → IfOk result (λ a. (pair : Option Pair) × Adds old pair new
-      × AnswersByLaunch build (ask_data ask) launch before after pair (answer_data a))
+      × AnswersByLaunch build (ask_data ask) launch before after pair (said_data a))
       → IfOk result (λ a. (pair : Option Pair) × Adds old pair new
-      × Answers places rs build (ask_data ask) before after pair (answer_data a))
+      × Answers places rs build (ask_data ask) before after pair (said_data a))
   by_program (Err e) by = tt
   by_program (Ok a) by = one ask other can is by where
     one : (q : Ask) → ((file : _) → q ≢ ReadConfig file) → can_launch rs (ask_data q) ≡ starts_program (ask_data q)
         → LaunchesAsk places rs build (ask_data q) launch
         → (pair : Option Pair) × Adds old pair new
-        × AnswersByLaunch build (ask_data q) launch before after pair (answer_data a)
+        × AnswersByLaunch build (ask_data q) launch before after pair (said_data a)
         → (pair : Option Pair) × Adds old pair new
-        × Answers places rs build (ask_data q) before after pair (answer_data a)
+        × Answers places rs build (ask_data q) before after pair (said_data a)
     one (Fetch artifact resource version params) other can is by = (by.0, by.1, (can, (launch, is, by.2)))
     one (Push artifact resource params) other can is by = (by.0, by.1, (can, (launch, is, by.2)))
     one (RunTask config env) other can is by = (by.0, by.1, (can, (launch, is, by.2)))
     one (ReadConfig file) other can is by = absurd (other file refl)
 
-  pub begun_by_program : (result : Result Answered E)
+  pub begun_by_program : (result : Result Said E)
       → OnErr result ((lost : Option Pair) × Adds old lost new
       × BeginsByLaunch build (ask_data ask) launch before after lost)
       → OnErr result ((lost : Option Pair) × Adds old lost new

@@ -24,5 +24,6 @@ mod Ranks
 mod Nexts
 mod Wants
 mod Turning
+mod NotesTold
 mod Cutting
 mod Again

@@ -5,6 +5,7 @@ use Rattle.ccr_history.specs.History.{HistoryData}
 use Rattle.ccr_process.specs.Runs.{Pair}
 use Rattle.ccr_steps.specs.Asks.{ask_data, AnswerData, errored}
 use Rattle.ccr_task.specs.Calls.{CallData}
+use Rattle.ccr_task.specs.Faulty.{SaidData}
 use Rattle.ccr_task.specs.Places.{PlacesData, build_folder, abort_folder}
 use Rattle.ccr_core.specs.declared.fault.CoreFault.TheVariants.{TableFull}
 use Rattle.ccr_core.specs.declared.reply.Reply.{Reply}
@@ -70,11 +71,11 @@ served n rank calls lines = record {
 renamed : (P : Text → ℕ → Type 0) (j k : Text) (m n : ℕ) → k ≡ j → n ≡ m → P j m → P k n
 renamed P j k m n job number p = subst (λ t. P t n) (sym job) (subst (λ i. P j i) (sym number) p)
 
-module _ (places : PlacesData) (v : View) (looked : List CallData) (job : Text) (number rank turn : ℕ) (x : AnswerData) (reply : Reply) (f : List CallData) (p : List Pair) (n : View) (f2 : List CallData) (m : Text)
+module _ (places : PlacesData) (v : View) (looked : List CallData) (job : Text) (number rank turn : ℕ) (x : SaidData) (reply : Reply) (f : List CallData) (p : List Pair) (n : View) (f2 : List CallData) (m : Text)
     (unasked : AbortIsAsked (abort_folder places job number) false v.calls looked) (wanted : AnswersWant places v.core job number turn x v.pairs p looked f)
-    (gives : Gives job number turn x reply (after v f p []) n) (clears : Clears places job number reply f f2) where
+    (gives : Gives job number turn x.answer reply (after v f p []) n) (clears : Clears places job number reply f f2) where
   module _ (s : State) (is : Stands v.core s) (due : IsTurnOf s v.last job number rank)
-      (g : GivesFrom job number turn x reply s n.core) where
+      (g : GivesFrom job number turn x.answer reply s n.core) where
     abbrev did : Done
     did = record {
       pair = wanted.pair;
@@ -109,7 +110,7 @@ module _ (places : PlacesData) (v : View) (looked : List CallData) (job : Text) 
             (λ rs. Answers places rs (build_folder places job number) (ask_data wanted.ask) looked f wanted.pair x)
             (ap (λ o. (unwrap_or o no_pipeline).resources) is.1) wanted.answers);
         given = g.given;
-        is_given = named (λ j i. (g.given ≡ x) ⊎ (Step s (answer j i turn x) (Err TableFull) s × (g.given ≡ errored)))
+        is_given = named (λ j i. (g.given ≡ x.answer) ⊎ (Step s (answer j i turn x.answer) (Err TableFull) s × (g.given ≡ errored)))
             g.is_given;
         step = named (λ j i. Step s (answer j i turn g.given) (Ok reply) g.after) g.step;
         event = named (λ j i. did.event ≡ Some (answer j i turn g.given, Ok reply)) refl;

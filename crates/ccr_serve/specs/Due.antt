@@ -6,6 +6,7 @@ use Rattle.ccr_history.specs.History.{HistoryData}
 use Rattle.ccr_process.specs.Runs.{Pair}
 use Rattle.ccr_steps.specs.Asks.{ask_data, AnswerData, errored}
 use Rattle.ccr_steps.specs.declared.ask.Ask.{Ask}
+use Rattle.ccr_task.specs.Faulty.{SaidData}
 use Rattle.ccr_task.specs.Places.{PlacesData, build_folder}
 use Rattle.ccr_task.specs.Calls.{CallData}
 use Rattle.ccr_core.specs.declared.fault.CoreFault.TheVariants.{TableFull}
@@ -42,7 +43,7 @@ IsDue c last (Some d) = (s : State) → Stands c s → IsTurnOf s last (string_b
 -- ---- what came of it
 -- what the job's build of this number wants at this turn was answered so, with the runner's pairs and the shelf's calls
 -- before and after
-pub record AnswersWant (places : PlacesData) (c : CoreData) (job : Text) (number turn : ℕ) (x : AnswerData)
+pub record AnswersWant (places : PlacesData) (c : CoreData) (job : Text) (number turn : ℕ) (x : SaidData)
     (old new : List Pair) (before after : List CallData) : Type 0 where
   pub ask : Ask
   pub wants : Wants c job number (Some (turn, ask))

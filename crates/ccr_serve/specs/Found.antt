@@ -54,7 +54,7 @@ FindsExit false status output f = f ≡ nothing (Status status)
 -- what the end of a check's program finds; want of memory finds nothing out
 abbrev pub FindsBy : EndData → FoundData → Type 0
 FindsBy (exited status output) f = FindsExit (status == 0) status output f
-FindsBy killed f = f ≡ nothing Killed
+FindsBy (killed signal) f = f ≡ nothing Killed
 FindsBy not_started f = f ≡ nothing NotStarted
 FindsBy input_fault f = f ≡ nothing InputFault
 FindsBy read_fault f = f ≡ nothing ReadFault

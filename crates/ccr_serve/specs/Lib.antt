@@ -9,6 +9,7 @@ pub mod Serving
 pub mod Runs
 pub mod Views
 pub mod Due
+pub mod Noted
 pub mod Commanding
 pub mod Taken
 pub mod Reads

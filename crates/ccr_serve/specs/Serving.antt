@@ -7,6 +7,7 @@ use Rattle.ccr_steps.specs.Progress.{IsNext}
 use Rattle.ccr_steps.specs.Runs.{HasTurn}
 use Rattle.ccr_process.specs.Runs.{Pair}
 use Rattle.ccr_task.specs.Calls.{CallData}
+use Rattle.ccr_task.specs.Faulty.{SaidData}
 use Rattle.ccr_task.specs.Places.{PlacesData, build_folder, abort_folder}
 use Rattle.ccr_problem.specs.ProblemOf.{resource_of}
 use Rattle.ccr_core.specs.declared.fault.CoreFault.TheVariants.{TableFull, NoMemory}
@@ -84,10 +85,10 @@ pub record AnswersBuild (places : PlacesData) (b : RunningData) (old : State) (b
   pub ask : AskData
   pub has_turn : HasTurn b.exchanges turn
   pub wanted : IsNext b.inputs b.plan b.exchanges ask
-  pub x : AnswerData
+  pub x : SaidData
   pub answers : Answers places (resources_of old) (build_folder places b.job b.number) ask before after did.pair x
   pub given : AnswerData
-  pub is_given : IsGiven old b turn x given
+  pub is_given : IsGiven old b turn x.answer given
   pub step : Step old (answer b.job b.number turn given) (Ok reply) new
   pub event : did.event ≡ Some (answer b.job b.number turn given, Ok reply)
   pub lines : did.lines ≡ lines_of (answer b.job b.number turn given) (Ok reply) new.history

@@ -10,18 +10,20 @@ ghost use Rattle.ccr_serve.specs.Aborts.{AbortIsAsked};
 ghost use Rattle.ccr_serve.specs.Due.{IsDue};
 ghost use Rattle.ccr_serve.specs.Items.{Items};
 ghost use Rattle.ccr_serve.specs.Items as item;
+ghost use Rattle.ccr_serve.specs.Noted.{IsStepHead, NotesOf};
 ghost use Rattle.ccr_serve.specs.Serving.{Serves};
 ghost use Rattle.ccr_serve.specs.Views.{view_of, with_calls, Calls, CommitsOnce, IsReady, Made, Unmade, StopsItem};
 
 use crate::due::Due;
 use crate::ended::{clear_away, tell_ended};
 use crate::fault::ServeFault;
+use crate::notes::{tell_fault, waiting_head};
 use crate::server::Server;
 use ccr_core::{Event, Reply};
 use ccr_lines::Lines;
 use ccr_process::Runner;
 use ccr_storage::Storage;
-use ccr_task::{Places, Shelf};
+use ccr_task::{Places, Shelf, StepFault};
 use std::alloc::{AllocError, Global};
 
 /// Whether it is asked that a job's build of this number be aborted: a folder that asks for it is there, and is removed, so that it
@@ -92,13 +94,18 @@ impl<R: Runner, S: Shelf, T: Storage> Server<R, S, T> {
             IfOk result (λ _. CommitsOnce (Ok true) (view self.old []) (view self.new [])) }
         ensures at_most { let view = view_of R.pairs S.calls T.holds T.leaves T.tally in
             IfErr result (λ fault. CommitsOnce (Err fault) (view self.old []) (view self.new [])) }
+        ensures noted { IfOk result (λ _. NotesOf (IsStepHead (core_data self.old.core) (string_bytes due.job) due.number)
+            (Some StepFault.Aborted) (O.notes out.old) (O.notes out.new)) }
+        ensures quiet { OnErr result (O.notes out.new ≡ O.notes out.old) }
         ensures places { self.new.places ≡ self.old.places }
         ensures waiting { O.waiting out.old ≡ [] → O.waiting out.new ≡ [] }
     {
+        let job = due.job.as_str();
+        let head = waiting_head(self.alloc, &self.core, job, due.number);
         match self.abort(name, due.number) {
             Ok(reply) => {
                 self.last = due.rank;
-                let job = due.job.as_str();
+                tell_fault(self.alloc, out, &head, &Some(StepFault::Aborted));
                 tell_ended(out, job, due.number, reply);
                 clear_away(
                     self.alloc,

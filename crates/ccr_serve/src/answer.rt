@@ -1,8 +1,9 @@
-//! How what a build asks is answered.
+//! How what a build asks is answered, and what was wrong where that is no success.
 ghost use Rattle.std.specs.Prelude.{◌≡◌, [], ◌∷◌, map, string_bytes, IfOk, OnErr, Option};
 ghost use Rattle.ccr_pipeline.specs.Pipelines.{pipeline_data};
 ghost use Rattle.ccr_process.specs.Runs.{Pair};
-ghost use Rattle.ccr_steps.specs.Asks.{ask_data, answer_data};
+ghost use Rattle.ccr_steps.specs.Asks.{ask_data};
+ghost use Rattle.ccr_task.specs.Faulty.{said_data};
 ghost use Rattle.ccr_task.specs.Launching.{can_launch, starts_program};
 ghost use Rattle.ccr_task.specs.Calls.{making, removing, Does};
 ghost use Rattle.ccr_task.specs.Places.{places_data, build_folder, in_build};
@@ -13,7 +14,7 @@ use ccr_pipeline::Pipeline;
 use ccr_process::{Launch, Runner};
 use ccr_protocol::RequestFault;
 use ccr_steps::{Answered, Ask};
-use ccr_task::{Places, Shelf, ShelfFault, answered_of, config_of, launch_of};
+use ccr_task::{Places, Said, Shelf, ShelfFault, StepFault, answered_of, config_of, launch_of};
 use std::alloc::{AllocError, Global};
 
 /// Makes the folder of an artifact anew.
@@ -99,25 +100,30 @@ fn answer_by_launch<R: Runner, S: Shelf>(
     number: u32,
     ask: &Ask<'_>,
     launch: Result<Launch, RequestFault>,
-) -> Result<Answered, AllocError>
+) -> Result<Said, AllocError>
     ensures ok { IfOk result (λ a. (pair : Option Pair) × Adds (R.pairs runner.old) pair (R.pairs runner.new)
         × AnswersByLaunch (build_folder (places_data places.now) job.now number) (ask_data ask.now) launch
-        (S.calls shelf.old) (S.calls shelf.new) pair (answer_data a)) }
+        (S.calls shelf.old) (S.calls shelf.new) pair (said_data a)) }
     ensures err { OnErr result ((lost : Option Pair) × Adds (R.pairs runner.old) lost (R.pairs runner.new)
         × BeginsByLaunch (build_folder (places_data places.now) job.now number) (ask_data ask.now) launch
         (S.calls shelf.old) (S.calls shelf.new) lost) }
 {
     let launch = match launch {
         Ok(launch) => launch,
-        Err(RequestFault::TooLong) => return Ok(Answered::Errored),
+        Err(RequestFault::TooLong) => {
+            return Ok(Said::bad(Answered::Errored, StepFault::RequestTooLong));
+        }
         Err(RequestFault::NoMemory) => return Err(AllocError),
     };
     match make_folders(alloc, shelf, places, job, number, ask) {
         Ok(()) => {}
-        Err(ShelfFault::Failed) => return Ok(Answered::Errored),
+        Err(ShelfFault::Failed) => {
+            return Ok(Said::bad(Answered::Errored, StepFault::FolderFault));
+        }
         Err(ShelfFault::TooLong | ShelfFault::NoMemory) => return Err(AllocError),
     }
-    answered_of(alloc, ask, runner.run(&launch))
+    let end = runner.run(&launch);
+    answered_of(alloc, ask, launch.program, end)
 }
 
 /// Reads a task's file, which is taken from the build's folder.
@@ -128,9 +134,9 @@ fn answer_by_file<S: Shelf>(
     job: &str,
     number: u32,
     file: &str,
-) -> Result<Answered, AllocError>
+) -> Result<Said, AllocError>
     ensures ok { IfOk result (λ a. AnswersByFile (in_build (places_data places.now) job.now number file.now)
-        (S.calls shelf.old) (S.calls shelf.new) (answer_data a)) }
+        (S.calls shelf.old) (S.calls shelf.new) (said_data a)) }
     ensures err { OnErr result (BeginsByFile (in_build (places_data places.now) job.now number file.now)
         (S.calls shelf.old) (S.calls shelf.new)) }
 {
@@ -154,13 +160,13 @@ pub(crate) fn answer_to<R: Runner, S: Shelf>(
     job: &str,
     number: u32,
     ask: &Ask<'_>,
-) -> Result<Answered, AllocError>
+) -> Result<Said, AllocError>
     requires { can_launch (pipeline_data pipeline.now).resources (ask_data ask.now)
         ≡ starts_program (ask_data ask.now) }
     ensures ok { IfOk result (λ a. (pair : Option Pair) × Adds (R.pairs runner.old) pair (R.pairs runner.new)
         × Answers (places_data places.now) (pipeline_data pipeline.now).resources
         (build_folder (places_data places.now) job.now number) (ask_data ask.now)
-        (S.calls shelf.old) (S.calls shelf.new) pair (answer_data a)) }
+        (S.calls shelf.old) (S.calls shelf.new) pair (said_data a)) }
     ensures err { OnErr result ((lost : Option Pair) × Adds (R.pairs runner.old) lost (R.pairs runner.new)
         × BeginsAnswer (places_data places.now) (pipeline_data pipeline.now).resources
         (build_folder (places_data places.now) job.now number) (ask_data ask.now)

@@ -6,6 +6,7 @@ ghost use Rattle.ccr_serve.specs.Commanding.{CameOf};
 ghost use Rattle.ccr_lines.specs.Commands.{command_data};
 ghost use Rattle.ccr_serve.specs.Items.{Items};
 ghost use Rattle.ccr_serve.specs.Items as item;
+ghost use Rattle.ccr_serve.specs.Noted.{NotesTurn};
 ghost use Rattle.ccr_serve.specs.Runs.{Round};
 ghost use Rattle.ccr_serve.specs.Serving.{Serves};
 ghost use Rattle.ccr_serve.specs.Views.{view_of, is_running, Calls, CommitsOnce, Ends, EndsItems, IsKept};
@@ -115,6 +116,9 @@ impl<R: Runner, S: Shelf, T: Storage> Server<R, S, T> {
         ensures some { IfOk result (λ served. served ≡ is_running (core_data self.old.core)) }
         ensures once { let view = view_of R.pairs S.calls T.holds T.leaves T.tally in
             CommitsOnce result (view self.old []) (view self.new []) }
+        ensures noted { NotesTurn result (places_data self.old.places) (core_data self.old.core) self.old.last
+            (R.pairs self.old.runner) (R.pairs self.new.runner) (S.calls self.old.shelf)
+            (O.notes out.old) (O.notes out.new) }
         ensures closed { self.old.closed ≡ true
             → (result ≡ Err Closed) × (self.new ≡ self.old) × (out.new ≡ out.old) }
         ensures kept { let view = view_of R.pairs S.calls T.holds T.leaves T.tally in

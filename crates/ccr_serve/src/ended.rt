@@ -21,6 +21,7 @@ pub(crate) fn tell_ended<O: Lines>(out: &mut O, job: &str, number: u32, reply: R
         → O.written out.new ≡ O.written out.old ++ lines_of (answer job.now number turn x) (Ok reply) h }
     ensures aborted { (h : HistoryData)
         → O.written out.new ≡ O.written out.old ++ lines_of (abort job.now number) (Ok reply) h }
+    ensures notes { O.notes out.new ≡ O.notes out.old }
     ensures waiting { O.waiting out.old ≡ [] → O.waiting out.new ≡ [] }
 {
     if let Reply::Ends(outcome) = reply {

@@ -57,7 +57,7 @@ fn found_by(alloc: Global, end: Ended) -> Result<Found, AllocError>
 {
     match end {
         Ended::Exit(status, output) => found_at(alloc, status, &output),
-        Ended::Killed => Ok(Found::Nothing(Cause::Killed)),
+        Ended::Killed(_) => Ok(Found::Nothing(Cause::Killed)),
         Ended::NotStarted => Ok(Found::Nothing(Cause::NotStarted)),
         Ended::InputFault => Ok(Found::Nothing(Cause::InputFault)),
         Ended::ReadFault => Ok(Found::Nothing(Cause::ReadFault)),

@@ -39,6 +39,7 @@ pub(crate) fn begin<O: Lines>(
     ensures copied { IfOk result (λ copy. string_bytes copy ≡ name.now) }
     ensures room { OnOk result (IsSomeAnd room (λ bytes. bytes ≤ O.room out.new)) }
     ensures same { O.written out.new ≡ O.written out.old }
+    ensures notes { O.notes out.new ≡ O.notes out.old }
     ensures waiting { O.waiting out.new ≡ O.waiting out.old }
 {
     let Some(bytes) = room else {

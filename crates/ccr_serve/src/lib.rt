@@ -23,6 +23,7 @@ mod items;
 mod law;
 mod make;
 mod names;
+mod notes;
 mod open;
 mod pinning;
 mod round;

@@ -1,16 +1,19 @@
 //! How a server begins.
-ghost use Rattle.std.specs.Prelude.{◌≡◌, ◌≤◌, [], ◌∷◌, false, IfOk, IfErr};
+ghost use Rattle.std.specs.Prelude.{◌≡◌, ◌≤◌, [], ◌∷◌, false, IfOk, IfErr, OnOk, OnErr};
 ghost use Rattle.std.specs.Option.{IfSome};
 ghost use Rattle.ccr_proof.specs.declared.proof.TheConstants.{MOST_NODES};
 ghost use Rattle.ccr_core.specs.Cores.{core_data};
-ghost use Rattle.ccr_core.specs.Resumed.{IsReadable, IsResumed};
+ghost use Rattle.ccr_core.specs.Resumed.{resumed, IsReadable, IsResumed};
+ghost use Rattle.ccr_serve.specs.Noted.{NotesCut};
 ghost use Rattle.ccr_serve.specs.Views.{view_of, IsReady};
 ghost use Rattle.ccr_serve.specs.Unopened.{KeepsFromOpening};
 
 use crate::fault::ServeFault;
+use crate::notes::tell_cut;
 use crate::server::Server;
 use ccr_core::Core;
 use ccr_history::History;
+use ccr_lines::Lines;
 use ccr_process::Runner;
 use ccr_storage::Storage;
 use ccr_task::{Places, Shelf};
@@ -27,11 +30,11 @@ pub struct Unopened<T> {
 
 impl<R: Runner + Drop, S: Shelf + Drop, T: Storage + Drop> Server<R, S, T> {
     /// A server that begins with the history that the storage holds. Each build that runs in it is errored, with
-    /// nothing moved, and this is stored; no folder is touched and no program started.
+    /// nothing moved, and this is stored, and then told beside the lines; no folder is touched and no program started.
     ///
     /// The caller gives a history whose text `ccr_pipeline::read` accepts, and a budget from 1 to 1,000,000.
     /// An [`Unopened`] hands the storage back, which holds what it held.
-    pub fn open(
+    pub fn open<O: Lines>(
         alloc: Global,
         runner: R,
         shelf: S,
@@ -39,6 +42,7 @@ impl<R: Runner + Drop, S: Shelf + Drop, T: Storage + Drop> Server<R, S, T> {
         history: History,
         places: Places,
         budget: u32,
+        out: &mut O,
     ) -> Result<Server<R, S, T>, Unopened<T>>
         requires holds { T.holds storage history }
         requires leaves { T.leaves storage (history ∷ []) }
@@ -52,6 +56,10 @@ impl<R: Runner + Drop, S: Shelf + Drop, T: Storage + Drop> Server<R, S, T> {
         ensures pairs { IfOk result (λ server. R.pairs server.runner ≡ R.pairs runner) }
         ensures calls { IfOk result (λ server. S.calls server.shelf ≡ S.calls shelf) }
         ensures places { IfOk result (λ server. server.places ≡ places) }
+        ensures same { O.written out.new ≡ O.written out.old }
+        ensures waiting { O.waiting out.new ≡ O.waiting out.old }
+        ensures cut { OnOk result (NotesCut (resumed history) (O.notes out.old) (O.notes out.new)) }
+        ensures quiet { OnErr result (out.new ≡ out.old) }
         ensures only { IfErr result (λ it.
             KeepsFromOpening T.holds T.leaves T.tally history storage it.storage it.fault) }
     {
@@ -66,16 +74,19 @@ impl<R: Runner + Drop, S: Shelf + Drop, T: Storage + Drop> Server<R, S, T> {
             }
         };
         match storage.commit(alloc, &change) {
-            Ok(()) => Ok(Server {
-                alloc,
-                core,
-                runner,
-                shelf,
-                storage,
-                places,
-                last: 0,
-                closed: false,
-            }),
+            Ok(()) => {
+                tell_cut(alloc, out, &change);
+                Ok(Server {
+                    alloc,
+                    core,
+                    runner,
+                    shelf,
+                    storage,
+                    places,
+                    last: 0,
+                    closed: false,
+                })
+            }
             Err(fault) => Err(Unopened {
                 fault: ServeFault::Store(fault),
                 storage,

@@ -1,5 +1,5 @@
 //! Turns: the one ask of a build is answered, or aborted.
-ghost use Rattle.std.specs.Prelude.{◌≡◌, ◌+◌, ◌≤◌, List, [], ◌∷◌, length, string_bytes, is_ok, true, false, Ok, Err, IfOk, IfErr, OnOk, Some};
+ghost use Rattle.std.specs.Prelude.{◌≡◌, ◌+◌, ◌≤◌, List, [], ◌∷◌, length, string_bytes, is_ok, true, false, Ok, Err, IfOk, IfErr, OnOk, OnErr, Some};
 ghost use Rattle.ccr_steps.specs.Asks.{answer_data, errored};
 ghost use Rattle.ccr_steps.specs.declared.ask.Ask.{Ask};
 ghost use Rattle.ccr_task.specs.Calls.{CallData};
@@ -10,6 +10,7 @@ ghost use Rattle.ccr_core.specs.Holding.{Wants};
 ghost use Rattle.ccr_serve.specs.Aborts.{AbortIsAsked};
 ghost use Rattle.ccr_serve.specs.Due.{IsDue, Gives};
 ghost use Rattle.ccr_serve.specs.Items.{Items};
+ghost use Rattle.ccr_serve.specs.Noted.{IsFaultOf, NotesAnswer, NotesBuild, NotesTurn};
 ghost use Rattle.ccr_serve.specs.Items as item;
 ghost use Rattle.ccr_serve.specs.Serving.{Serves};
 ghost use Rattle.ccr_serve.specs.Views.{view_of, with_calls, is_running, Calls, CommitsOnce, IsReady, Made, Unmade, StopsItem};
@@ -19,6 +20,7 @@ use crate::due::{Due, due_build};
 use crate::ended::{clear_away, tell_ended};
 use crate::fault::ServeFault;
 use crate::items::{begin, line_room};
+use crate::notes::{asking_head, tell_fault};
 use crate::server::Server;
 use crate::wanted::answer_wanted;
 use ccr_core::{CoreFault, Event, Reply};
@@ -26,7 +28,7 @@ use ccr_lines::Lines;
 use ccr_process::Runner;
 use ccr_steps::Answered;
 use ccr_storage::Storage;
-use ccr_task::Shelf;
+use ccr_task::{Said, Shelf, StepFault};
 use std::alloc::{AllocError, Global};
 
 /// Makes room for the line of a job's build, and copies the job's name for the two events that its answer may take.
@@ -39,6 +41,7 @@ fn begin_turn<O: Lines>(
     ensures other { IfOk result (λ names. string_bytes names.1 ≡ job.now) }
     ensures room { OnOk result (length job.now + 64 ≤ O.room out.new) }
     ensures same { O.written out.new ≡ O.written out.old }
+    ensures notes { O.notes out.new ≡ O.notes out.old }
     ensures waiting { O.waiting out.new ≡ O.waiting out.old }
 {
     let one = begin(alloc, job, line_room(job), out)?;
@@ -66,31 +69,37 @@ impl<R: Runner, S: Shelf, T: Storage> Server<R, S, T> {
         }
     }
 
-    /// Gives a build its answer, or errored in its place where the core has no room for what it pushes. The names are
-    /// both that of its job.
+    /// Gives a build its answer, or errored in its place where the core has no room for what it pushes; that is the fault
+    /// then. The names are both that of its job.
     fn give(
         &mut self,
         names: (String, String),
         number: u32,
         turn: u64,
         answered: Answered,
+        fault: &mut Option<StepFault>,
     ) -> Result<Reply, ServeFault>
         requires ready { let view = view_of R.pairs S.calls T.holds T.leaves T.tally in IsReady (view self.old []) }
         requires same { string_bytes names.1 ≡ string_bytes names.0 }
         requires wants { (ask : Ask)
             × Wants (core_data self.old.core) (string_bytes names.0) number (Some (turn, ask)) }
+        ensures fault { OnOk result (IsFaultOf (core_data self.old.core)
+            (answer (string_bytes names.0) number turn (answer_data answered)) fault.old fault.new) }
         ensures gives { let view = view_of R.pairs S.calls T.holds T.leaves T.tally in
             IfOk result (λ reply. Gives (string_bytes names.0) number turn (answer_data answered) reply
             (view self.old []) (view self.new [])) }
         ensures unmade { let view = view_of R.pairs S.calls T.holds T.leaves T.tally in
-            IfErr result (λ fault. Unmade fault (view self.old []) (view self.new [])) }
+            IfErr result (λ stop. Unmade stop (view self.old []) (view self.new [])) }
         ensures places { self.new.places ≡ self.old.places }
     {
         self.core.rules();
         let (named, again) = names;
         match self.make(Event::Answer(named, number, turn, answered)) {
             Ok(Ok(reply)) => Ok(reply),
-            Ok(Err(CoreFault::TableFull)) => self.give_errored(again, number, turn),
+            Ok(Err(CoreFault::TableFull)) => {
+                *fault = Some(StepFault::TableFull);
+                self.give_errored(again, number, turn)
+            }
             Ok(Err(_)) => unreachable!(),
             Err(fault) => Err(fault),
         }
@@ -123,11 +132,16 @@ impl<R: Runner, S: Shelf, T: Storage> Server<R, S, T> {
             IfOk result (λ _. CommitsOnce (Ok true) (view self.old []) (view self.new [])) }
         ensures at_most { let view = view_of R.pairs S.calls T.holds T.leaves T.tally in
             IfErr result (λ fault. CommitsOnce (Err fault) (view self.old []) (view self.new [])) }
+        ensures noted { IfOk result (λ _. (after : List CallData)
+            × NotesAnswer (places_data self.old.places) (core_data self.old.core) (string_bytes due.job) due.number
+            (R.pairs self.old.runner) (R.pairs self.new.runner) (S.calls self.old.shelf) after
+            (O.notes out.old) (O.notes out.new)) }
+        ensures quiet { OnErr result (O.notes out.new ≡ O.notes out.old) }
         ensures places { self.new.places ≡ self.old.places }
         ensures waiting { O.waiting out.old ≡ [] → O.waiting out.new ≡ [] }
     {
         let job = due.job.as_str();
-        let Ok((turn, answered)) = answer_wanted(
+        let Ok((turn, said)) = answer_wanted(
             self.alloc,
             &mut self.runner,
             &mut self.shelf,
@@ -138,9 +152,15 @@ impl<R: Runner, S: Shelf, T: Storage> Server<R, S, T> {
         ) else {
             return Err(ServeFault::NoMemory);
         };
-        match self.give(names, due.number, turn, answered) {
+        let head = asking_head(self.alloc, &self.core, job, due.number);
+        let Said {
+            answered,
+            mut fault,
+        } = said;
+        match self.give(names, due.number, turn, answered, &mut fault) {
             Ok(reply) => {
                 self.last = due.rank;
+                tell_fault(self.alloc, out, &head, &fault);
                 tell_ended(out, job, due.number, reply);
                 clear_away(
                     self.alloc,
@@ -172,6 +192,10 @@ impl<R: Runner, S: Shelf, T: Storage> Server<R, S, T> {
             IfOk result (λ _. CommitsOnce (Ok true) (view self.old []) (view self.new [])) }
         ensures at_most { let view = view_of R.pairs S.calls T.holds T.leaves T.tally in
             IfErr result (λ fault. CommitsOnce (Err fault) (view self.old []) (view self.new [])) }
+        ensures noted { IfOk result (λ _. NotesBuild (places_data self.old.places) (core_data self.old.core)
+            (string_bytes due.job) due.number (R.pairs self.old.runner) (R.pairs self.new.runner)
+            (S.calls self.old.shelf) (O.notes out.old) (O.notes out.new)) }
+        ensures quiet { OnErr result (O.notes out.new ≡ O.notes out.old) }
         ensures places { self.new.places ≡ self.old.places }
         ensures waiting { O.waiting out.old ≡ [] → O.waiting out.new ≡ [] }
     {
@@ -212,6 +236,9 @@ impl<R: Runner, S: Shelf, T: Storage> Server<R, S, T> {
             IfErr result (λ fault. StopsItem fault (view self.new (O.written out.new))) }
         ensures once { let view = view_of R.pairs S.calls T.holds T.leaves T.tally in
             CommitsOnce result (view self.old []) (view self.new []) }
+        ensures noted { NotesTurn result (places_data self.old.places) (core_data self.old.core) self.old.last
+            (R.pairs self.old.runner) (R.pairs self.new.runner) (S.calls self.old.shelf)
+            (O.notes out.old) (O.notes out.new) }
         ensures places { self.new.places ≡ self.old.places }
         ensures waiting { O.waiting out.old ≡ [] → O.waiting out.new ≡ [] }
     {

@@ -1,6 +1,6 @@
 //! What a build wants, and its answer.
 ghost use Rattle.std.specs.Prelude.{◌≡◌, IfOk, OnErr, IsSome};
-ghost use Rattle.ccr_steps.specs.Asks.{answer_data};
+ghost use Rattle.ccr_task.specs.Faulty.{said_data};
 ghost use Rattle.ccr_task.specs.Places.{places_data};
 ghost use Rattle.ccr_core.specs.Cores.{core_data};
 ghost use Rattle.ccr_core.specs.Holding.{Stands};
@@ -10,11 +10,11 @@ ghost use Rattle.ccr_serve.specs.Due.{AnswersWant, BeginsWant};
 use crate::answer::answer_to;
 use ccr_core::Core;
 use ccr_process::Runner;
-use ccr_steps::Answered;
-use ccr_task::{Places, Shelf};
+use ccr_task::{Places, Said, Shelf};
 use std::alloc::{AllocError, Global};
 
-/// Answers what a job's build of this number wants, which runs. Gives the turn of the answer with it.
+/// Answers what a job's build of this number wants, which runs. Gives the turn of the answer with it, and what
+/// was wrong where the answer is no success.
 ///
 /// The only error is want of memory; the program may have run then, and answers nothing.
 pub(crate) fn answer_wanted<R: Runner, S: Shelf>(
@@ -25,10 +25,10 @@ pub(crate) fn answer_wanted<R: Runner, S: Shelf>(
     core: &Core,
     job: &str,
     number: u32,
-) -> Result<(u64, Answered), AllocError>
+) -> Result<(u64, Said), AllocError>
     requires { (s : State) → Stands (core_data core.now) s → IsSome (running_at job.now number s.running) }
     ensures ok { IfOk result (λ r. AnswersWant (places_data places.now) (core_data core.now) job.now number r.0
-        (answer_data r.1) (R.pairs runner.old) (R.pairs runner.new) (S.calls shelf.old) (S.calls shelf.new)) }
+        (said_data r.1) (R.pairs runner.old) (R.pairs runner.new) (S.calls shelf.old) (S.calls shelf.new)) }
     ensures err { OnErr result (BeginsWant (places_data places.now) (core_data core.now) job.now number
         (R.pairs runner.old) (R.pairs runner.new) (S.calls shelf.old) (S.calls shelf.new)) }
 {
@@ -36,7 +36,7 @@ pub(crate) fn answer_wanted<R: Runner, S: Shelf>(
     let (turn, ask) = core.wants(job, number).unwrap();
     let pipeline = core.pipeline().unwrap();
     match answer_to(alloc, runner, shelf, places, pipeline, job, number, &ask) {
-        Ok(answered) => Ok((turn, answered)),
+        Ok(said) => Ok((turn, said)),
         Err(error) => Err(error),
     }
 }

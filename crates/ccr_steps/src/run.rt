@@ -26,7 +26,7 @@ use crate::moment::Moment;
 use crate::moved::Moved;
 use crate::outcome::Outcome;
 use ccr_history::Version;
-use ccr_pipeline::Job;
+use ccr_pipeline::{Job, Step};
 use std::alloc::{AllocError, Global};
 use std::mem;
 
@@ -73,6 +73,13 @@ impl BuildRun {
             return None;
         };
         leaf_ask(step, &self.at.leaf, &self.inputs)
+    }
+
+    /// The step of the plan that waits for an answer; None where the build has ended. No memory is taken.
+    pub fn step(&self) -> Option<&Step>
+        ensures { option_map (λ s. tree_of s.now) result ≡ step_at (run_data self.now).at (run_data self.now).plan }
+    {
+        self.at.step_of(&self.plan)
     }
 
     /// How the build ended; None where it hasn't. No memory is taken.

@@ -3,7 +3,8 @@
 //! [`check_launch`] and [`launch_of`] say what is started for a resource's check and for an ask of a build, in the two
 //! [`Places`] that the server is given. [`answered_of`] says what the end of an ask's program answers, [`config_of`]
 //! what a task's file does. Contracts see asks, launches, ends and answers as data without where it lies in memory, and
-//! each of these calls as the one launch or answer that its data make.
+//! each of these calls as the one launch or answer that its data make. An answer that is no success has a [`StepFault`] beside it, and
+//! [`note_of`] is the line that is told of that.
 //!
 //! A [`Shelf`] makes a folder, reads a file, removes a folder and says whether one is there. Its contract says which calls it
 //! had, with their paths and their answers, in order: a list that takes no byte. Its counts of failures and of folders that
@@ -20,8 +21,10 @@ mod environment;
 mod fault;
 mod folders;
 mod launch;
+mod note;
 mod noted;
 mod places;
+mod said;
 mod script;
 mod shelf;
 
@@ -31,6 +34,8 @@ pub use counts::ShelfCounts;
 pub use fault::ShelfFault;
 pub use folders::{Folders, read_opened};
 pub use launch::{can_launch, check_launch, launch_of};
+pub use note::{ask_head, cut_note, note_of, step_head};
 pub use places::Places;
+pub use said::{Said, StepFault};
 pub use script::{ShelfAnswer, ShelfScript};
 pub use shelf::Shelf;

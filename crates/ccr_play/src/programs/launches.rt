@@ -6,7 +6,9 @@ use ccr_history::{Object, Version};
 use ccr_pipeline::{Pipeline, TaskConfig, Variable, read, read_task};
 use ccr_process::{Ended, Launch};
 use ccr_steps::{Answered, Ask};
-use ccr_task::{Places, ShelfFault, answered_of, can_launch, check_launch, config_of, launch_of};
+use ccr_task::{
+    Places, Said, ShelfFault, answered_of, can_launch, check_launch, config_of, launch_of,
+};
 use std::alloc::{AllocError, Global};
 use std::collections::VecDeque;
 
@@ -161,8 +163,8 @@ pub(super) fn in_build(alloc: Global, given: &str) -> Result<String> {
 }
 
 /// An answer in a word; a version by its key, a config by its program.
-fn word(alloc: Global, answer: Result<Answered, AllocError>) -> Result<String, AllocError> {
-    match answer {
+fn word(alloc: Global, said: Result<Said, AllocError>) -> Result<String, AllocError> {
+    match said.map(|said| said.answered) {
         Ok(Answered::Done) => String::from_str(alloc, "done"),
         Ok(Answered::Pushed(version)) => version.key(alloc),
         Ok(Answered::Config(config)) => config.run.path.clone(),
@@ -206,7 +208,7 @@ fn exit_of(alloc: Global, word: &str) -> Result<Ended> {
 /// The end of the words `STATUS OUTPUT` or `STATUS:OUTPUT`, or of a word for another end.
 pub(crate) fn end_of(alloc: Global, words: &str) -> Result<Ended> {
     Ok(match words {
-        "killed" => Ended::Killed,
+        "killed" => Ended::Killed(9),
         "not-started" => Ended::NotStarted,
         "input-fault" => Ended::InputFault,
         "read-fault" => Ended::ReadFault,
@@ -230,9 +232,14 @@ pub(super) fn ended(alloc: Global, given: &str) -> Result<String> {
     let end = end_of(alloc, given)?;
     let version = some_version(alloc, "{\"n\":\"2\"}")?;
     let config = read_task(alloc, b"{\"run\":{\"path\":\"x\"}}")?;
-    let fetched = answered_of(alloc, &fetch("a", &version, None), end.copy()?);
-    let pushed = answered_of(alloc, &push("a", None), end.copy()?);
-    let done = answered_of(alloc, &run(&config, &[]), end);
+    let fetched = answered_of(
+        alloc,
+        &fetch("a", &version, None),
+        String::new(alloc),
+        end.copy()?,
+    );
+    let pushed = answered_of(alloc, &push("a", None), String::new(alloc), end.copy()?);
+    let done = answered_of(alloc, &run(&config, &[]), String::new(alloc), end);
     let fetched = word(alloc, fetched)?;
     let pushed = word(alloc, pushed)?;
     let done = word(alloc, done)?;

@@ -16,7 +16,7 @@ fn told(alloc: Global, end: &Ended) -> Result<String> {
             let output = output.as_str();
             format!(in alloc; "exit {status}: {output}")?
         }
-        Ended::Killed => String::from_str(alloc, "killed")?,
+        Ended::Killed(_) => String::from_str(alloc, "killed")?,
         Ended::NotStarted => String::from_str(alloc, "not started")?,
         Ended::InputFault => String::from_str(alloc, "input fault")?,
         Ended::ReadFault => String::from_str(alloc, "read fault")?,

@@ -62,14 +62,14 @@ impl World {
     fn answer(&mut self, alloc: Global, ask: &Ask<'_>) -> Result<Answered> {
         if let Ask::ReadConfig { file } = ask {
             let path = self.places.in_build(alloc, "j", 1, file)?;
-            return Ok(config_of(alloc, self.shelf.read_file(path.as_str()))?);
+            return Ok(config_of(alloc, self.shelf.read_file(path.as_str()))?.answered);
         }
         if !can_launch(&self.pipeline, ask) {
             return Err(anyhow!("an unknown resource"));
         }
         let launch = launch_of(alloc, &self.places, &self.pipeline, "j", 1, ask)?;
         let end = self.runner.run(&launch);
-        Ok(answered_of(alloc, ask, end)?)
+        Ok(answered_of(alloc, ask, launch.program, end)?.answered)
     }
 
     /// Plays a build to its end.

@@ -3,6 +3,7 @@
 use crate::programs::{end_of, sights_of};
 use crate::words::{number_of, split};
 use anyhow::Result;
+use ccr_history::History;
 use ccr_process::Ended;
 use ccr_storage::StoreFault;
 use ccr_task::{ShelfAnswer, ShelfFault};
@@ -17,6 +18,8 @@ pub(super) struct Script {
     pub(super) sights: VecDeque<Result<bool, ShelfFault>>,
     pub(super) commits: u32,
     pub(super) fault: StoreFault,
+    pub(super) history: History,
+    pub(super) has_notes: bool,
 }
 
 /// The fault that a word names; that of a disk where it names none.
@@ -31,7 +34,7 @@ fn fault_of(word: &str) -> StoreFault {
 }
 
 impl Script {
-    /// No answers; every commit is taken.
+    /// No answers; every commit is taken, and the history is empty.
     pub(super) fn new(alloc: Global) -> Script {
         Script {
             ends: VecDeque::new(alloc),
@@ -39,6 +42,8 @@ impl Script {
             sights: VecDeque::new(alloc),
             commits: u32::MAX,
             fault: StoreFault::Disk,
+            history: History::new(alloc),
+            has_notes: false,
         }
     }
 
@@ -67,6 +72,12 @@ impl Script {
                 ShelfAnswer::Fault(ShelfFault::Failed)
             })?;
         }
+        Ok(())
+    }
+
+    /// Adds a build of a job, which runs, to the history that the server begins with.
+    pub(super) fn add_build(&mut self, alloc: Global, job: &str) -> Result<()> {
+        self.history.add_build(alloc, job, &[])?;
         Ok(())
     }
 

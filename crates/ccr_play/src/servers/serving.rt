@@ -8,7 +8,6 @@ use super::script::Script;
 use super::told::Told;
 use super::unkept::Unkept;
 use crate::programs::places;
-use ccr_history::History;
 use ccr_lines::{Command, Printed};
 use ccr_process::Scripted;
 use ccr_serve::{ServeFault, Server, Unopened};
@@ -42,8 +41,13 @@ impl<W: Write> Model for Serving<W> {
 }
 
 impl<W: Write + Drop> Serving<W> {
-    /// A server over a script, with an empty history.
-    pub(super) fn open(alloc: Global, writer: W, script: Script) -> Result<Serving<W>, ServeFault> {
+    /// A server over a script, with the script's history.
+    pub(super) fn open<E: Write>(
+        alloc: Global,
+        writer: W,
+        script: Script,
+        out: &mut Printed<W, E>,
+    ) -> Result<Serving<W>, ServeFault> {
         let Ok(places) = places(alloc) else {
             return Err(ServeFault::NoMemory);
         };
@@ -58,30 +62,30 @@ impl<W: Write + Drop> Serving<W> {
             fault: script.fault,
             tally: Tally::new(),
         };
-        let history = History::new(alloc);
-        match Server::open(alloc, runner, shelf, storage, history, places, BUDGET) {
+        let history = script.history;
+        match Server::open(alloc, runner, shelf, storage, history, places, BUDGET, out) {
             Ok(server) => Ok(Serving { server }),
             Err(Unopened { fault, storage: _ }) => Err(fault),
         }
     }
 
     /// Does a command.
-    pub(super) fn command(
+    pub(super) fn command<E: Write>(
         &mut self,
         command: &Command,
-        out: &mut Printed<W>,
+        out: &mut Printed<W, E>,
     ) -> Result<u8, ServeFault> {
         self.server.command(command, out)
     }
 
     /// Goes a round.
-    pub(super) fn round(&mut self, out: &mut Printed<W>) -> Result<u8, ServeFault> {
+    pub(super) fn round<E: Write>(&mut self, out: &mut Printed<W, E>) -> Result<u8, ServeFault> {
         self.server.round(out)?;
         Ok(0)
     }
 
     /// Takes a turn: 0, or 1 where no build runs.
-    pub(super) fn turn(&mut self, out: &mut Printed<W>) -> Result<u8, ServeFault> {
+    pub(super) fn turn<E: Write>(&mut self, out: &mut Printed<W, E>) -> Result<u8, ServeFault> {
         if self.server.turn(out)? { Ok(0) } else { Ok(1) }
     }
 }

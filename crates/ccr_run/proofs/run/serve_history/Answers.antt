@@ -1,8 +1,9 @@
-use Rattle.std.proofs.Common.{◌∙◌, ◌++◌, ap, Some, inl, inr, refl}
+use Rattle.std.proofs.Common.{◌∙◌, ◌++◌, ap, subst, Some, inl, inr, refl}
 use Rattle.sqlite_wal.specs.Files.{image_at}
 use Rattle.sqlite.specs.Files.{over_files}
 use Rattle.ccr_task.specs.Places.{places_data}
 use Rattle.ccr_task.specs.Shelves.{folders_calls}
+use Rattle.ccr_run.specs.Served.{Did}
 use Rattle.ccr_run.specs.Databases.{holds, leaves, tally, begins_with}
 use Rattle.ccr_run.specs.Unfound.{IsUnfound}
 use Rattle.ccr_run.proofs.Serving.{served, unserved}
@@ -25,11 +26,13 @@ returns-in-Ok-clause-served g c =
       pairs = opened.pairs ∙ c.new-runner.ensures ∙ c.new.ensures;
       calls = opened.calls ∙ c.new-folders.ensures;
     })
-    c.serve_by.ensures.did
+    (subst (λ l. Did _ folders_calls (holds (image_at g.S.Start)) (leaves (image_at g.S.Start)) tally c.args.order.now
+    c.in-Ok.server c.serve_by.result l (c.serve_by.new.out.shown ++ c.serve_by.new.out.waiting)) opened.same
+    c.serve_by.ensures.did)
 
 pub returns-clause-served : goal.returns-clause-served
 returns-clause-served g c =
-    unserved _ folders_calls (holds (image_at g.S.Start)) (leaves (image_at g.S.Start)) tally (begins_with (image_at g.S.Start)) (IsUnfound over_files (image_at g.S.Start)) c.args.order.now
+    rw c.in-Err.ensures.quiet (unserved _ folders_calls (holds (image_at g.S.Start)) (leaves (image_at g.S.Start)) tally (begins_with (image_at g.S.Start)) (IsUnfound over_files (image_at g.S.Start)) c.args.order.now
     (Some c.args.order.now.options.database.now) (Refused c.in-Err.field-0.fault) (c.args.out.now.shown ++ c.args.out.now.waiting) (inl refl)
     (inr (inr (inr (record {
       storage = c.args.database;
@@ -39,4 +42,4 @@ returns-clause-served g c =
       fault = c.in-Err.field-0.fault;
       keeps = c.in-Err.ensures.only;
       failure_is = refl;
-    }))))
+    })))))

@@ -1,7 +1,8 @@
 use Rattle.std.proofs.Common.{◌∙◌, ap, option_map, subst, sym, unwrap_or}
 use Rattle.std.specs.Option.{IfSome, option_copied}
 use Rattle.ccr_pipeline.specs.Pipelines.{pipeline_data}
-use Rattle.ccr_steps.specs.Asks.{ask_data, answer_data}
+use Rattle.ccr_steps.specs.Asks.{ask_data}
+use Rattle.ccr_task.specs.Faulty.{said_data}
 use Rattle.ccr_task.specs.Places.{places_data, build_folder}
 use Rattle.ccr_core.specs.Cores.{core_data}
 use Rattle.ccr_core.specs.Holding.{NamesResource, Wants}
@@ -35,7 +36,7 @@ returns-in-Ok-clause-ok g c =
       answers = subst
           (λ p. Answers (places_data c.args.places.now) (unwrap_or p no_pipeline).resources
           (build_folder (places_data c.args.places.now) c.args.job.now c.args.number) (ask_data c.unwrap-turn.result.1)
-          (g.S.Shelf.calls c.args.shelf.now) (g.S.Shelf.calls c.answer_to.new.shelf) o.0 (answer_data c.in-Ok.answered))
+          (g.S.Shelf.calls c.args.shelf.now) (g.S.Shelf.calls c.answer_to.new.shelf) o.0 (said_data c.in-Ok.said))
           (ap (λ q. option_map pipeline_data (option_copied q)) (sym c.unwrap-pipeline.ensures) ∙ c.pipeline.ensures) o.2;
     }
 

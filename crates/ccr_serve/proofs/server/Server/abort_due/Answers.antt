@@ -1,11 +1,15 @@
-use Rattle.std.proofs.Common.{◌≡◌, ◌++◌, [], Ok, IsSome, is_some, ap, refl, string_bytes, subst, sym}
+use Rattle.std.proofs.Common.{◌≡◌, ◌++◌, [], Ok, Some, IsSome, IfSome, is_some, ap, refl, string_bytes, subst, sym}
 use Rattle.ccr_task.specs.Places.{places_data}
+use Rattle.ccr_task.specs.declared.said.StepFault.TheVariants.{Aborted}
+use Rattle.ccr_core.specs.Cores.{core_data}
 use Rattle.ccr_core.specs.Events.{abort}
 use Rattle.ccr_core.specs.State.{running_at}
 use Rattle.ccr_lines.specs.Lines.{lines_of}
 use Rattle.ccr_serve.specs.Aborts.{Clears}
+use Rattle.ccr_serve.specs.Noted.{IsStepHead, NotesOf}
 use Rattle.ccr_serve.specs.Views.{view_of, with_calls, Made}
 use Rattle.ccr_serve.proofs.Cutting.{abort_unmade}
+use Rattle.ccr_serve.proofs.NotesTold.{notes_by}
 use Rattle.ccr_serve.proofs.Steps.{after, unmade_printed}
 use Rattle.ccr_serve.proofs.Turning.{abort_served}
 use Rattle.ccr_serve.proofs.server.Server.abort_due.Goals as goal
@@ -49,4 +53,17 @@ returns-in-Ok-clause-served g c before asked =
     c.requires.due
     (λ h. subst (λ j. g.O.Lines.written c.tell_ended.new.out
     ≡ g.O.Lines.written c.args.out.now ++ lines_of (abort j c.args.due.number) (Ok c.in-Ok.reply) h) name
-    (c.tell_ended.ensures.aborted h))
+    (subst (λ w. g.O.Lines.written c.tell_ended.new.out
+    ≡ w ++ lines_of (abort c.as_str-job.result.now c.args.due.number) (Ok c.in-Ok.reply) h)
+    c.tell_fault.ensures.same (c.tell_ended.ensures.aborted h)))
+
+pub returns-in-Ok-clause-noted : goal.returns-in-Ok-clause-noted
+returns-in-Ok-clause-noted g c =
+    let core = core_data c.args.self.now.core in
+    let job = string_bytes c.args.due.job in
+    let told = g.O.Lines.notes c.args.out.now in
+    subst (λ n. NotesOf (IsStepHead core job c.args.due.number) (Some Aborted) told n) (sym c.tell_ended.ensures.notes)
+    (notes_by c.waiting_head-head.result (IsStepHead core job c.args.due.number) (Some Aborted) told
+    (g.O.Lines.notes c.tell_fault.new.out)
+    (subst (λ j. IfSome c.waiting_head-head.result (λ h. IsStepHead core j c.args.due.number (string_bytes h)))
+    c.as_str-job.ensures.value c.waiting_head-head.ensures) c.tell_fault.ensures.noted)

@@ -1,12 +1,16 @@
-use Rattle.std.proofs.Common.{◌≡◌, ◌++◌, [], Ok, refl, string_bytes, subst}
+use Rattle.std.proofs.Common.{◌≡◌, ◌++◌, [], Ok, IfSome, refl, string_bytes, subst, sym}
 use Rattle.ccr_steps.specs.Asks.{answer_data}
+use Rattle.ccr_task.specs.Faulty.{said_data}
 use Rattle.ccr_task.specs.Places.{places_data}
+use Rattle.ccr_core.specs.Cores.{core_data}
 use Rattle.ccr_core.specs.Events.{answer}
 use Rattle.ccr_lines.specs.Lines.{lines_of}
 use Rattle.ccr_serve.specs.Aborts.{Clears}
 use Rattle.ccr_serve.specs.Due.{AnswersWant, BeginsWant, Gives}
+use Rattle.ccr_serve.specs.Noted.{IsHead, NotesOf, IsFaultOf}
 use Rattle.ccr_serve.specs.Views.{view_of, with_calls}
 use Rattle.ccr_serve.proofs.Cutting.{turn_unanswered, turn_unmade}
+use Rattle.ccr_serve.proofs.NotesTold.{notes_by}
 use Rattle.ccr_serve.proofs.Steps.{after, unmade_printed}
 use Rattle.ccr_serve.proofs.Turning.{turn_served}
 use Rattle.ccr_serve.proofs.server.Server.answer_due.Goals as goal
@@ -36,10 +40,10 @@ returns-clause-served g c before asked =
     let looked = g.S.Shelf.calls c.args.self.now.shelf in
     turn_unmade (places_data c.args.self.now.places) v (string_bytes c.args.due.job) c.args.due.number c.args.due.rank
     looked c.requires.due asked (g.R.Runner.pairs c.answer_wanted.new.runner) (g.S.Shelf.calls c.answer_wanted.new.shelf)
-    c.in-Ok.turn (answer_data c.in-Ok.answered) (g.O.Lines.written c.args.out.now)
+    c.in-Ok.turn (said_data c.in-Ok.said) (g.O.Lines.written c.args.out.now)
     (view c.give.new.self (g.O.Lines.written c.args.out.now)) c.in-Err.fault
     (subst (λ j. AnswersWant (places_data c.args.self.now.places) v.core j c.args.due.number c.in-Ok.turn
-    (answer_data c.in-Ok.answered) v.pairs (g.R.Runner.pairs c.answer_wanted.new.runner) looked
+    (said_data c.in-Ok.said) v.pairs (g.R.Runner.pairs c.answer_wanted.new.runner) looked
     (g.S.Shelf.calls c.answer_wanted.new.shelf)) c.as_str-job.ensures.value c.in-Ok.ensures.ok)
     refl
     (unmade_printed c.in-Err.fault
@@ -55,14 +59,14 @@ returns-in-Ok-give-clause-served g c before asked =
     let job = string_bytes c.args.due.job in
     let name : c.as_str-job.result.now ≡ job = c.as_str-job.ensures.value in
     turn_served (places_data c.args.self.now.places) v looked job c.args.due.number c.args.due.rank
-    c.in-Ok.turn (answer_data c.in-Ok.answered) c.in-Ok-give.reply
+    c.in-Ok.turn (said_data c.in-Ok.said) c.in-Ok-give.reply
     (g.S.Shelf.calls c.answer_wanted.new.shelf) (g.R.Runner.pairs c.answer_wanted.new.runner)
     (view c.give.new.self []) (g.S.Shelf.calls c.clear_away.new.shelf)
     (g.O.Lines.written c.tell_ended.new.out) asked
     (subst (λ j. AnswersWant (places_data c.args.self.now.places) v.core j c.args.due.number c.in-Ok.turn
-    (answer_data c.in-Ok.answered) v.pairs (g.R.Runner.pairs c.answer_wanted.new.runner) looked
+    (said_data c.in-Ok.said) v.pairs (g.R.Runner.pairs c.answer_wanted.new.runner) looked
     (g.S.Shelf.calls c.answer_wanted.new.shelf)) name c.in-Ok.ensures.ok)
-    (subst (λ j. Gives j c.args.due.number c.in-Ok.turn (answer_data c.in-Ok.answered)
+    (subst (λ j. Gives j c.args.due.number c.in-Ok.turn (answer_data c.in-Ok.said.answered)
     c.in-Ok-give.reply
     (after v (g.S.Shelf.calls c.answer_wanted.new.shelf) (g.R.Runner.pairs c.answer_wanted.new.runner) [])
     (view c.give.new.self [])) c.requires.one c.in-Ok-give.ensures.gives)
@@ -76,4 +80,39 @@ returns-in-Ok-give-clause-served g c before asked =
     c.requires.due
     (λ t y h. subst (λ j. g.O.Lines.written c.tell_ended.new.out
     ≡ g.O.Lines.written c.args.out.now ++ lines_of (answer j c.args.due.number t y) (Ok c.in-Ok-give.reply) h) name
-    (c.tell_ended.ensures.answered t y h))
+    (subst (λ w. g.O.Lines.written c.tell_ended.new.out
+    ≡ w ++ lines_of (answer c.as_str-job.result.now c.args.due.number t y) (Ok c.in-Ok-give.reply) h)
+    c.tell_fault.ensures.same (c.tell_ended.ensures.answered t y h)))
+
+pub returns-in-Ok-give-clause-noted : goal.returns-in-Ok-give-clause-noted
+returns-in-Ok-give-clause-noted g c =
+    let core = core_data c.args.self.now.core in
+    let places = places_data c.args.self.now.places in
+    let job = string_bytes c.args.due.job in
+    let name : c.as_str-job.result.now ≡ job = c.as_str-job.ensures.value in
+    let pairs = g.R.Runner.pairs c.args.self.now.runner in
+    let looked = g.S.Shelf.calls c.args.self.now.shelf in
+    let calls = g.S.Shelf.calls c.answer_wanted.new.shelf in
+    let told = g.O.Lines.notes c.args.out.now in (
+      calls,
+      record {
+        turn = c.in-Ok.turn;
+        x = said_data c.in-Ok.said;
+        answered = subst
+            (λ p. AnswersWant places core job c.args.due.number c.in-Ok.turn (said_data c.in-Ok.said) pairs p looked calls)
+            (sym c.in-Ok-give.ensures.gives.rest.pairs)
+            (subst
+            (λ j. AnswersWant places core j c.args.due.number c.in-Ok.turn (said_data c.in-Ok.said) pairs
+            (g.R.Runner.pairs c.answer_wanted.new.runner) looked calls) name c.in-Ok.ensures.ok);
+        fault = c.give.new.fault;
+        is_fault = subst
+            (λ j. IsFaultOf core (answer j c.args.due.number c.in-Ok.turn (answer_data c.in-Ok.said.answered))
+            c.in-Ok.said.fault c.give.new.fault) c.requires.one c.in-Ok-give.ensures.fault;
+        notes = subst (λ n. NotesOf (IsHead core job c.args.due.number) c.give.new.fault told n)
+            (sym c.tell_ended.ensures.notes)
+            (notes_by c.asking_head-head.result (IsHead core job c.args.due.number) c.give.new.fault told
+            (g.O.Lines.notes c.tell_fault.new.out)
+            (subst (λ j. IfSome c.asking_head-head.result (λ h. IsHead core j c.args.due.number (string_bytes h))) name
+            c.asking_head-head.ensures) c.tell_fault.ensures.noted);
+      },
+    )

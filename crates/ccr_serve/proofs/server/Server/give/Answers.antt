@@ -1,9 +1,12 @@
-use Rattle.std.proofs.Common.{◌≡◌, ◌∙◌, [], Err, OnErr, ap, string_bytes, subst}
+use Rattle.std.proofs.Common.{◌≡◌, ◌∙◌, [], Err, OnErr, ap, refl, string_bytes, subst}
 use Rattle.ccr_steps.specs.Asks.{answer_data}
+use Rattle.ccr_core.specs.Cores.{core_data}
 use Rattle.ccr_core.specs.Events.{answer}
+use Rattle.ccr_core.specs.Holding.{Takes}
 use Rattle.ccr_core.specs.Replies.{Replied}
 use Rattle.ccr_serve.specs.Views.{view_of, Made}
 use Rattle.ccr_serve.proofs.Again.{gives_again, unmade_again}
+use Rattle.ccr_serve.proofs.NotesTold.{fault_own}
 use Rattle.ccr_serve.proofs.server.Server.give.Goals as goal
 
 pub returns-in-Ok-Err-TableFull-clause-gives : goal.returns-in-Ok-Err-TableFull-clause-gives
@@ -29,3 +32,11 @@ returns-in-Ok-Err-TableFull-clause-unmade g c =
     (subst (λ (r : Replied). OnErr r ((view c.make.new.self []).core ≡ (view c.args.self.now []).core)) full_is
     c.in-Ok-Err-TableFull.ensures.refused)
     c.give_errored.ensures.unmade
+
+pub returns-in-Ok-Ok-clause-fault : goal.returns-in-Ok-Ok-clause-fault
+returns-in-Ok-Ok-clause-fault g c =
+    let core = core_data c.args.self.now.core in
+    let e = answer (string_bytes c.args.names.0) c.args.number c.args.turn (answer_data c.args.answered) in
+    fault_own core (core_data c.make.new.self.core) e c.in-Ok-Ok.reply c.args.fault.now c.args.fault.now refl
+    (subst (λ (r : Replied). Takes core (core_data c.make.new.self.core) e r) c.in-Ok-Ok.field-0-is
+    c.in-Ok-Ok.ensures.made.takes)

@@ -16,3 +16,7 @@ returns-in-Err-clause-served g c =
     let view = view_of g.R.Runner.pairs g.S.Shelf.calls g.T.Storage.holds g.T.Storage.leaves g.T.Storage.tally in
     cut_at_once _ (view c.args.self.now (g.O.Lines.written c.args.out.now)) (g.O.Lines.written c.args.out.now)
     (items_stop _ _) c.requires.ready refl
+
+pub returns-in-Ok-clause-noted : goal.returns-in-Ok-clause-noted
+returns-in-Ok-clause-noted g c =
+    (c.in-Ok-Some.due, rw c.in-Ok-Some.field-0-is at c.in-Ok-Some.ensures.due, c.in-Ok.ensures.noted)
