@@ -4,7 +4,7 @@ use Rattle.std.specs.Str.{bytes_eq}
 use Rattle.clap.specs.declared.parser.matches.ArgMatches.{ArgMatches}
 use Rattle.clap.specs.Words.{Row, Text, first_of, subcommand_rows_of}
 use Rattle.ccr_lines.specs.Commands.{CommandData, set_pipeline, check_resource, pin_resource, unpin_resource, disable_version, enable_version, trigger_job, run, shows}
-use Rattle.ccr_lines.specs.Shown.{versions, problem, proof, certificate, explanation, builds, build, trace, pipeline, resources, jobs, graph}
+use Rattle.ccr_lines.specs.Shown.{versions, problem, proof, certificate, explanation, builds, build, trace, build_certificate, pipeline, resources, jobs, graph}
 use Rattle.ccr_command.specs.Numbers.{number_of, place_of}
 
 -- a pin of a resource, where both its arguments have a value
@@ -25,6 +25,12 @@ run_named rounds = option_map run (option_and_then number_of rounds)
 abbrev pub build_named : Option Text → Option Text → Option CommandData
 build_named (Some job) (Some number) = option_map (λ n. shows (build job n)) (number_of number)
 build_named _ _ = None
+
+-- the certificate of a job's next build, or of its build of this number, where the number is in its range
+abbrev pub certify_named : Option Text → Option Text → Option CommandData
+certify_named (Some job) None = Some (shows (certificate job))
+certify_named (Some job) (Some number) = option_map (λ n. shows (build_certificate job n)) (number_of number)
+certify_named None number = None
 
 -- a version whose builds are shown, where both its arguments have a value
 abbrev pub trace_named : Option Text → Option Text → Option CommandData
@@ -50,7 +56,8 @@ command_named word values =
     else if bytes_eq word (codes "trigger-job") then option_map trigger_job (first_of (codes "JOB") values)
     else if bytes_eq word (codes "builds") then Some (shows builds)
     else if bytes_eq word (codes "run") then run_named (first_of (codes "rounds") values)
-    else if bytes_eq word (codes "certify") then option_map (λ job. shows (certificate job)) (first_of (codes "JOB") values)
+    else if bytes_eq word (codes "certify")
+    then certify_named (first_of (codes "JOB") values) (first_of (codes "N") values)
     else if bytes_eq word (codes "explain") then option_map (λ job. shows (explanation job)) (first_of (codes "JOB") values)
     else if bytes_eq word (codes "build") then build_named (first_of (codes "JOB") values) (first_of (codes "N") values)
     else if bytes_eq word (codes "trace") then trace_named (first_of (codes "NAME") values) (first_of (codes "JSON") values)

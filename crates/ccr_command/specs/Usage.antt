@@ -12,6 +12,10 @@ use Rattle.ccr_command.specs.Numbers.{MOST, MOST_PLACE}
 abbrev pub value_rule : Text → Rule
 value_rule id = record (new_rule id) { required = true }
 
+-- one that may be left out, without a name before it
+abbrev pub extra_rule : Text → Rule
+extra_rule id = new_rule id
+
 -- an option, which is named by two dashes and its id
 abbrev pub option_rule : Text → Rule
 option_rule id = record (new_rule id) { long = Some id; value_names = 1 }
@@ -80,7 +84,7 @@ abbrev pub release_commands : List Shape
 release_commands =
     command_shape (codes "build") (value_rule (codes "JOB") ∷ as_number (value_rule (codes "N")) ∷ [])
     ∷ command_shape (codes "trace") (value_rule (codes "NAME") ∷ value_rule (codes "JSON") ∷ [])
-    ∷ command_shape (codes "certify") (value_rule (codes "JOB") ∷ [])
+    ∷ command_shape (codes "certify") (value_rule (codes "JOB") ∷ as_number (extra_rule (codes "N")) ∷ [])
     ∷ command_shape (codes "explain") (value_rule (codes "JOB") ∷ [])
     ∷ []
 

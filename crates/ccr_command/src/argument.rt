@@ -1,7 +1,7 @@
 //! The arguments of a command line.
 ghost use Rattle.std.specs.Prelude.{◌≡◌, false};
 ghost use Rattle.clap.specs.Words.{rule_of};
-ghost use Rattle.ccr_command.specs.Usage.{value_rule, option_rule, required_rule, optional_rule, as_number, as_place};
+ghost use Rattle.ccr_command.specs.Usage.{value_rule, extra_rule, option_rule, required_rule, optional_rule, as_number, as_place};
 
 use clap::{Arg, value_parser};
 use std::alloc::Global;
@@ -12,6 +12,14 @@ pub(crate) fn value<'a>(alloc: Global, id: &'a str, help: &'a str) -> Arg<'a>
     ensures local { result.global ≡ false }
 {
     Arg::new(alloc, id).required(true).help(help)
+}
+
+/// An argument that may be left out, without a name before it.
+pub(crate) fn extra<'a>(alloc: Global, id: &'a str, help: &'a str) -> Arg<'a>
+    ensures rule { rule_of result ≡ extra_rule id.now }
+    ensures local { result.global ≡ false }
+{
+    Arg::new(alloc, id).help(help)
 }
 
 /// An option, which is named by two dashes and its id.

@@ -4,13 +4,18 @@ ghost use Rattle.clap.specs.Words.{first_of, found_of, rows_of};
 ghost use Rattle.ccr_lines.specs.Commands.{command_data, disable_version, enable_version};
 ghost use Rattle.ccr_command.specs.Commands.{pin_named, place_named, run_named, build_named, trace_named, command_named, command_in};
 
+use crate::certify::certify_of;
 use crate::number::{number_of, place_of};
 use ccr_lines::Command;
 use clap::ArgMatches;
 use std::alloc::{AllocError, Global};
 
 /// A copy of the first value of an argument; None where it has none.
-fn value_of(alloc: Global, values: &ArgMatches<'_>, id: &str) -> Result<Option<String>, AllocError>
+pub(crate) fn value_of(
+    alloc: Global,
+    values: &ArgMatches<'_>,
+    id: &str,
+) -> Result<Option<String>, AllocError>
     ensures { IfOk result (λ value. option_map string_bytes value ≡ first_of id.now (rows_of (found_of values.now))) }
 {
     match values.get_str(id) {
@@ -152,7 +157,7 @@ fn named(alloc: Global, word: &str, values: &ArgMatches<'_>) -> Result<Option<Co
         "trigger-job" => Ok(value_of(alloc, values, "JOB")?.map(Command::TriggerJob)),
         "builds" => Ok(Some(Command::Builds)),
         "run" => Ok(run_of(values)),
-        "certify" => Ok(value_of(alloc, values, "JOB")?.map(Command::Certify)),
+        "certify" => certify_of(alloc, values),
         "explain" => Ok(value_of(alloc, values, "JOB")?.map(Command::Explain)),
         "build" => build_of(alloc, values),
         "trace" => trace_of(alloc, values),

@@ -16,6 +16,7 @@
 
 mod abort;
 mod argument;
+mod certify;
 mod command;
 mod commands;
 mod finding;

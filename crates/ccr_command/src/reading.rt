@@ -1,8 +1,8 @@
 //! The commands that only read, with their help.
 ghost use Rattle.std.specs.Prelude.{◌≡◌, ◌∷◌, [], IfOk, codes};
-ghost use Rattle.ccr_command.specs.Usage.{IsCommand, value_rule, as_number};
+ghost use Rattle.ccr_command.specs.Usage.{IsCommand, value_rule, extra_rule, as_number};
 
-use crate::argument::{as_number, value};
+use crate::argument::{as_number, extra, value};
 use crate::commands::command;
 use clap::Command;
 use std::alloc::{AllocError, Global};
@@ -135,26 +135,41 @@ Example:
     .arg(pin)
 }
 
-/// Shows the choice for a job in one text, for the checker.
+/// Shows the choice for a job in one text, or what a build of it took, for the checker.
 pub(crate) fn certify<'a>(alloc: Global) -> Result<Command<'a>, AllocError>
-    ensures { IfOk result (IsCommand (codes "certify") (value_rule (codes "JOB") ∷ [])) }
+    ensures { IfOk result
+        (IsCommand (codes "certify") (value_rule (codes "JOB") ∷ as_number (extra_rule (codes "N")) ∷ [])) }
 {
     let job = value(alloc, "JOB", "The job's name");
+    let number = extra(
+        alloc,
+        "N",
+        "The number of a build that was made, from 1 to 1000000",
+    );
     command(
         alloc,
         "certify",
-        "Shows the choice for a job in one text, which ccr_verify accepts",
+        "Shows the choice for a job in one text, or what a build took, for ccr_verify",
         "\
-Prints what `problem` prints, and behind it what `resolve` prints, both from one opening of the database. `ccr_verify` reads
-it on standard input, and prints `accepted` with the choice. No build is made.
+Without N: prints what `problem` prints, and behind it what `resolve` prints, both from one opening of the database.
+`ccr_verify` reads it on standard input, and prints `accepted` with the choice. No build is made.
 
-Exit statuses: 0 shown; 1 refused, because there is no pipeline or no such job; 2 usage; 3 the proof would go over the
+With N: prints the problem that build N answered, and behind it what the build took, with the newest builds made before it
+that moved it together. `ccr_verify` prints `satisfies` with it: these versions went together through builds that succeeded.
+It doesn't say that there were no better ones. Pins and disabled versions count for nothing here.
+
+With N, one line on standard output and status 1 instead: `refused: plan changed` if the job's inputs are no longer those of
+the build; `refused: no build of JOB moved them together` for the first job in `passed` without such a build.
+
+Exit statuses: 0 shown; 1 refused, also because there is no pipeline, job or build; 2 usage; 3 the proof would go over the
 budget; 4 disk or memory.
 
-Example:
-  ccr_run --db ci.db certify deploy | ccr_verify",
+Examples:
+  ccr_run --db ci.db certify deploy | ccr_verify
+  ccr_run --db ci.db certify deploy 42 | ccr_verify",
     )
-    .arg(job)
+    .arg(job)?
+    .arg(as_number(number))
 }
 
 /// Shows what the next build of a job would take, and why.

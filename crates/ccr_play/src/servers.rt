@@ -45,6 +45,16 @@ fn number_of(words: &str) -> u32 {
     words.parse::<u32>().unwrap_or(1)
 }
 
+/// The command that shows the certificate of a job's next build; or of its build of a number, where one follows the name.
+fn certify_of(alloc: Global, words: &str) -> Result<Command, AllocError> {
+    let (job, number) = split(words);
+    let job = String::from_str(alloc, job)?;
+    if number.is_empty() {
+        return Ok(Command::Certify(job));
+    }
+    Ok(Command::CertifyBuild(job, number_of(number)))
+}
+
 /// The command of a line, if it is one.
 fn command_of(alloc: Global, kind: &str, words: &str) -> Result<Option<Command>, AllocError> {
     let name = String::from_str(alloc, words)?;
@@ -68,7 +78,7 @@ fn command_of(alloc: Global, kind: &str, words: &str) -> Result<Option<Command>,
         }
         "resolve" => Command::Resolve(name),
         "problem" => Command::Problem(name),
-        "certify" => Command::Certify(name),
+        "certify" => certify_of(alloc, words)?,
         "explain" => Command::Explain(name),
         "trigger-job" => Command::TriggerJob(name),
         "builds" => Command::Builds,

@@ -22,8 +22,8 @@ use ccr_task::Shelf;
 impl<R: Runner, S: Shelf, T: Storage> Server<R, S, T> {
     /// Does what is commanded: the exit status. Its lines are printed as what they tell of is stored.
     ///
-    /// The statuses are 0, 1 for what came to nothing (a check without versions, a build that didn't succeed), and 3
-    /// where a search would go over the budget. A command that is refused does nothing: `Core` where there is no
+    /// The statuses are 0, 1 for what came to nothing (a check without versions, a build that didn't succeed, or one without
+    /// a certificate), and 3 where a search would go over the budget. A command that is refused does nothing: `Core` where there is no
     /// pipeline, no such resource or job, or where the core refuses its event; `Read`, `File`, `BadPin`. `TurnsUsedUp`
     /// where a build still runs after 10,000,000 turns beside those of the rounds.
     ///
@@ -66,6 +66,9 @@ impl<R: Runner, S: Shelf, T: Storage> Server<R, S, T> {
             Command::Resolve(job) => self.show(Shown::Proof(job.as_str()), out),
             Command::Problem(job) => self.show(Shown::Problem(job.as_str()), out),
             Command::Certify(job) => self.show(Shown::Certificate(job.as_str()), out),
+            Command::CertifyBuild(job, number) => {
+                self.show(Shown::BuildCertificate(job.as_str(), *number), out)
+            }
             Command::Explain(job) => self.show(Shown::Explanation(job.as_str()), out),
             Command::TriggerJob(job) => self.trigger_job(job.as_str(), out),
             Command::Builds => self.show(Shown::Builds, out),
