@@ -79,12 +79,17 @@ standing_commands =
     ∷ command_shape (codes "graph") []
     ∷ []
 
--- the commands that show what builds took, and what the next one would
+-- the commands that show what builds took
 abbrev pub release_commands : List Shape
 release_commands =
     command_shape (codes "build") (value_rule (codes "JOB") ∷ as_number (value_rule (codes "N")) ∷ [])
     ∷ command_shape (codes "trace") (value_rule (codes "NAME") ∷ value_rule (codes "JSON") ∷ [])
-    ∷ command_shape (codes "certify") (value_rule (codes "JOB") ∷ as_number (extra_rule (codes "N")) ∷ [])
+    ∷ []
+
+-- the commands that show what a job's next build would take: so that it can be checked, and why
+abbrev pub choice_commands : List Shape
+choice_commands =
+    command_shape (codes "certify") (value_rule (codes "JOB") ∷ as_number (extra_rule (codes "N")) ∷ [])
     ∷ command_shape (codes "explain") (value_rule (codes "JOB") ∷ [])
     ∷ []
 
@@ -114,4 +119,5 @@ with_all a (s ∷ ss) = with_all (with_subcommand a s) ss
 -- THE COMMAND LINE: the options, and then one of the commands
 abbrev pub line : App
 line =
-    with_all (with_all (with_all (with_all options_line resource_commands) job_commands) standing_commands) release_commands
+    with_all (with_all (with_all (with_all (with_all options_line resource_commands) job_commands) standing_commands)
+    release_commands) choice_commands

@@ -1,7 +1,7 @@
 //! The command line, with its help.
 ghost use Rattle.std.specs.Prelude.{◌≡◌, IfOk};
 ghost use Rattle.clap.specs.Words.{app_of};
-ghost use Rattle.ccr_command.specs.Usage.{program, options_line, with_all, resource_commands, job_commands, standing_commands, release_commands, line};
+ghost use Rattle.ccr_command.specs.Usage.{program, options_line, with_all, resource_commands, job_commands, standing_commands, release_commands, choice_commands, line};
 
 use crate::argument::{as_number, optional, required};
 use crate::commands::{
@@ -110,12 +110,18 @@ fn with_standing_commands<'a>(alloc: Global, line: Command<'a>) -> Result<Comman
     line.subcommand(graph(alloc))
 }
 
-/// The same with the commands that show what builds took, and what the next one would.
+/// The same with the commands that show what builds took.
 fn with_release_commands<'a>(alloc: Global, line: Command<'a>) -> Result<Command<'a>, AllocError>
     ensures { IfOk result (λ made. app_of made ≡ with_all (app_of line.entry) release_commands) }
 {
     let line = line.subcommand(build(alloc)?)?;
-    let line = line.subcommand(trace(alloc)?)?;
+    line.subcommand(trace(alloc)?)
+}
+
+/// The same with the commands that show what a job's next build would take: so that it can be checked, and why.
+fn with_choice_commands<'a>(alloc: Global, line: Command<'a>) -> Result<Command<'a>, AllocError>
+    ensures { IfOk result (λ made. app_of made ≡ with_all (app_of line.entry) choice_commands) }
+{
     let line = line.subcommand(certify(alloc)?)?;
     line.subcommand(explain(alloc)?)
 }
@@ -131,5 +137,6 @@ pub fn command_line<'a>(alloc: Global) -> Result<Command<'a>, AllocError>
     let line = with_resource_commands(alloc, line)?;
     let line = with_job_commands(alloc, line)?;
     let line = with_standing_commands(alloc, line)?;
-    with_release_commands(alloc, line)
+    let line = with_release_commands(alloc, line)?;
+    with_choice_commands(alloc, line)
 }
