@@ -46,9 +46,9 @@ fn signals_do_in_a_program_what_they_do_by_default(rt: HostRuntime) -> Result<()
         &rt,
         rt.alloc(),
         &[
-            ("kill -PIPE $$; echo alive", 0, "killed"),
-            ("kill -TERM $$; echo alive", 0, "killed"),
-            ("kill -USR1 $$; echo alive", 0, "killed"),
+            ("kill -PIPE $$; echo alive", 0, "signal 13"),
+            ("kill -TERM $$; echo alive", 0, "signal 15"),
+            ("kill -USR1 $$; echo alive", 0, "signal 10"),
         ],
     )
 }
@@ -155,7 +155,7 @@ fn no_process_is_left_behind_after_a_thousand_launches_of_each_kind(
         &[
             ("sh", "exit 0", "exit 0: "),
             ("sh", "exit 3", "exit 3: "),
-            ("sh", "kill -9 $$", "killed"),
+            ("sh", "kill -9 $$", "signal 9"),
             ("sh", "exec 0<&-", "exit 0: "),
             ("sh", "exec yes", "output too long"),
             ("/no/such/program", "", "not started"),

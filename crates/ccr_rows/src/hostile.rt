@@ -193,7 +193,7 @@ fn a_check_and_a_get_by_what_their_programs_do(rt: HostRuntime) -> Result<(), Fa
         top.as_str(),
         &[
             ("", "not started", "errored"),
-            ("kill -9 $$", "killed", "errored"),
+            ("kill -9 $$", "signal 9", "errored"),
             ("echo '[]'; exit 3", "status 3", "failed"),
             (":", "not JSON", "errored"),
             ("printf '[{\"n\":'", "not JSON", "errored"),

@@ -65,7 +65,7 @@ pub(crate) fn told(alloc: Global, end: &Ended) -> Result<String, AllocError> {
                 _ => format!(in alloc; "exit {status} of {len}"),
             }
         }
-        Ended::Killed(_) => String::from_str(alloc, "killed"),
+        Ended::Killed(signal) => format!(in alloc; "signal {signal}"),
         Ended::NotStarted => String::from_str(alloc, "not started"),
         Ended::InputFault => String::from_str(alloc, "input fault"),
         Ended::ReadFault => String::from_str(alloc, "read fault"),
@@ -129,7 +129,7 @@ fn programs_end_with_status_and_output(rt: HostRuntime) -> Result<(), Fail> {
             ("exit 3", 0, "exit 3: "),
             ("cat", 10, "exit 0: AAAAAAAAAA"),
             ("echo $GREETING $PWD", 0, "exit 0: hello /\n"),
-            ("kill -9 $$", 0, "killed"),
+            ("kill -9 $$", 0, "signal 9"),
             ("exec 0<&-; sleep 0.1; echo x", 1_000_000, "exit 0: x\n"),
             (
                 "head -c 300000 /dev/zero; cat >/dev/null; echo",
