@@ -161,8 +161,8 @@ It doesn't say that there were no better ones. Pins and disabled versions count 
 With N, one line on standard output and status 1 instead: `refused: plan changed` if the job's inputs are no longer those of
 the build; `refused: no build of JOB moved them together` for the first job in `passed` without such a build.
 
-Exit statuses: 0 shown; 1 refused, also because there is no pipeline, job or build; 2 usage; 3 the proof would go over the
-budget; 4 disk or memory.
+Exit statuses: 0 shown; 1 refused, as said or because there is no pipeline, no such job or no such build; 2 usage; 3 the
+proof would go over the budget; 4 disk or memory.
 
 Examples:
   ccr_run --db ci.db certify deploy | ccr_verify
