@@ -79,6 +79,17 @@ served pairs calls holds leaves tally begins_with unfound order storage h opened
       did = did;
     })
 
+-- the same, where nothing was shown while it was opened
+pub served_on : {R S T : Type 0} (pairs : R → List Pair) (calls : S → List CallData) (holds : T → HistoryData → Type 0)
+    (leaves : T → List HistoryData → Type 0) (tally : T → Tally) (begins_with : T → HistoryData → Type 0) (unfound : StoreFault → Type 0) (order : Order)
+    (storage : T) (h : HistoryData) (opened : Server R S T) (end : Result ℕ Failure) (shown old new : Text) → shown ≡ old
+    → begins_with storage h → Begins h order.options.budget (view_of pairs calls holds leaves tally opened [])
+    → Did pairs calls holds leaves tally order opened end shown new
+    → Served pairs calls holds leaves tally begins_with unfound order (Some order.options.database.now) end old new
+served_on pairs calls holds leaves tally begins_with unfound order storage h opened end shown old new same found begins did =
+    served pairs calls holds leaves tally begins_with unfound order storage h opened end old new found begins
+    (subst (λ (l : Text). Did pairs calls holds leaves tally order opened end l new) same did)
+
 -- no server was made, and nothing is printed
 pub unserved : {R S T : Type 0} (pairs : R → List Pair) (calls : S → List CallData) (holds : T → HistoryData → Type 0)
     (leaves : T → List HistoryData → Type 0) (tally : T → Tally) (begins_with : T → HistoryData → Type 0) (unfound : StoreFault → Type 0)

@@ -1,12 +1,11 @@
-use Rattle.std.proofs.Common.{◌∙◌, ◌++◌, ap, subst, Some, inl, inr, refl}
+use Rattle.std.proofs.Common.{◌∙◌, ◌++◌, ap, Some, inl, inr, refl}
 use Rattle.sqlite_wal.specs.Files.{image_at}
 use Rattle.sqlite.specs.Files.{over_files}
 use Rattle.ccr_task.specs.Places.{places_data}
 use Rattle.ccr_task.specs.Shelves.{folders_calls}
-use Rattle.ccr_run.specs.Served.{Did}
 use Rattle.ccr_run.specs.Databases.{holds, leaves, tally, begins_with}
 use Rattle.ccr_run.specs.Unfound.{IsUnfound}
-use Rattle.ccr_run.proofs.Serving.{served, unserved}
+use Rattle.ccr_run.proofs.Serving.{served_on, unserved}
 use Rattle.ccr_run.specs.declared.failure.Failure.TheVariants.{Refused}
 use Rattle.ccr_run.proofs.run.serve_history.Goals as goal
 
@@ -16,9 +15,9 @@ serve_by-requires-clause-places g c = ap places_data c.in-Ok.ensures.places ∙ 
 pub returns-in-Ok-clause-served : goal.returns-in-Ok-clause-served
 returns-in-Ok-clause-served g c =
     let opened = c.in-Ok.ensures in
-    served _ folders_calls (holds (image_at g.S.Start)) (leaves (image_at g.S.Start)) tally (begins_with (image_at g.S.Start)) (IsUnfound over_files (image_at g.S.Start)) c.args.order.now c.args.database c.args.history
-    c.in-Ok.server c.serve_by.result (c.args.out.now.shown ++ c.args.out.now.waiting) (c.serve_by.new.out.shown ++ c.serve_by.new.out.waiting)
-    c.requires.found
+    served_on _ folders_calls (holds (image_at g.S.Start)) (leaves (image_at g.S.Start)) tally (begins_with (image_at g.S.Start)) (IsUnfound over_files (image_at g.S.Start)) c.args.order.now c.args.database c.args.history
+    c.in-Ok.server c.serve_by.result _ (c.args.out.now.shown ++ c.args.out.now.waiting) (c.serve_by.new.out.shown ++ c.serve_by.new.out.waiting)
+    opened.same c.requires.found
     (record {
       ready = opened.ready;
       resumed = opened.resumed;
@@ -26,9 +25,7 @@ returns-in-Ok-clause-served g c =
       pairs = opened.pairs ∙ c.new-runner.ensures ∙ c.new.ensures;
       calls = opened.calls ∙ c.new-folders.ensures;
     })
-    (subst (λ l. Did _ folders_calls (holds (image_at g.S.Start)) (leaves (image_at g.S.Start)) tally c.args.order.now
-    c.in-Ok.server c.serve_by.result l (c.serve_by.new.out.shown ++ c.serve_by.new.out.waiting)) opened.same
-    c.serve_by.ensures.did)
+    c.serve_by.ensures.did
 
 pub returns-clause-served : goal.returns-clause-served
 returns-clause-served g c =
