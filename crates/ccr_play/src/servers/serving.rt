@@ -48,6 +48,10 @@ impl<W: Write + Drop> Serving<W> {
         script: Script,
         out: &mut Printed<W, E>,
     ) -> Result<Serving<W>, ServeFault> {
+        // A script's history has builds and no pipeline, so there is none that a server couldn't read.
+        if script.history.text().is_some() {
+            return Err(ServeFault::Closed);
+        }
         let Ok(places) = places(alloc) else {
             return Err(ServeFault::NoMemory);
         };
