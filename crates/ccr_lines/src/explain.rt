@@ -6,7 +6,6 @@ ghost use Rattle.ccr_choice.specs.Preference.{order_of};
 ghost use Rattle.ccr_history.specs.Tables.{versions_at};
 ghost use Rattle.ccr_pipeline.specs.Inputs.{input_data, inputs, named_jobs};
 ghost use Rattle.ccr_pipeline.specs.JobData.{job_data};
-ghost use Rattle.ccr_pipeline.specs.Names.{has_name, with_name, with_names};
 ghost use Rattle.ccr_pipeline.specs.Pipelines.{pipeline_data};
 ghost use Rattle.ccr_problem.specs.ProblemOf.{is_disabled_at, job_of, IsProblemOf};
 ghost use Rattle.ccr_proof.specs.declared.proof.TheConstants.{MOST_NODES};
@@ -27,11 +26,13 @@ ghost use Rattle.ccr_lines.specs.Shown as spec;
 use crate::asked::Asked;
 use crate::held::job_held;
 use crate::outlook::{Outlook, outlook_at, push_outlook};
+use crate::past::named_jobs;
 use crate::problem::problem_in;
 use crate::reason::{Reason, reason_of};
 use crate::release::key_at;
 use crate::shown::ShowFault;
 use crate::subject::Subject;
+use crate::taken::history_number;
 use crate::words::{job_name, push_clash, push_number, push_reason};
 use ccr_choice::{Choice, Problem};
 use ccr_core::Core;
@@ -48,10 +49,7 @@ use std::alloc::{AllocError, Global};
 fn scope_at(subject: &Subject<'_>, input: &Input) -> u32
     ensures { result ≡ scope_at (subject_data subject.now) (input_data input.now) }
 {
-    match subject.pipeline.resource(input.resource.as_str()) {
-        Some(resource) => subject.history.scope_number(resource.scope()),
-        None => 0,
-    }
+    history_number(subject.pipeline, subject.history, input.resource.as_str())
 }
 
 /// Adds a place of an input with its version.
@@ -255,39 +253,6 @@ fn inputs_text(alloc: Global, subject: &Subject<'_>) -> Result<String, AllocErro
 }
 
 // ---- a job
-
-/// Adds those of these names that aren't there yet.
-fn add_names(alloc: Global, jobs: &mut Vec<String>, names: &[String]) -> Result<(), AllocError>
-    ensures { OnOk result (map string_bytes jobs.new.items
-        ≡ with_names (map string_bytes jobs.old.items) (map string_bytes names.now)) }
-{
-    for name in names {
-        add_name(alloc, jobs, name)?;
-    }
-    Ok(())
-}
-
-/// Adds a name, unless it is there.
-fn add_name(alloc: Global, jobs: &mut Vec<String>, name: &String) -> Result<(), AllocError>
-    ensures { OnOk result (map string_bytes jobs.new.items
-        ≡ with_name (map string_bytes jobs.old.items) (string_bytes name.now)) }
-{
-    if !crate::release::has_name(jobs, name.as_str()) {
-        jobs.push(String::from_str(alloc, name.as_str())?)?;
-    }
-    Ok(())
-}
-
-/// The jobs that inputs name in `passed`, each once, in order of first mention.
-fn named_jobs(alloc: Global, inputs: &[Input]) -> Result<Vec<String>, AllocError>
-    ensures { IfOk result (λ jobs. map string_bytes jobs.items ≡ named_jobs [] (map input_data inputs.now)) }
-{
-    let mut jobs = Vec::new(alloc);
-    for input in inputs {
-        add_names(alloc, &mut jobs, &input.passed)?;
-    }
-    Ok(jobs)
-}
 
 /// What the next build of a job would be.
 fn outlook_text(alloc: Global, job: &Job, outlook: Outlook) -> Result<String, AllocError>
