@@ -65,8 +65,8 @@ fn first_input(index: &Index, job: usize) -> Option<usize>
     None
 }
 
-/// The input by whose best place builds of a job are looked for: of those that name the job and have a kept place, the one whose best
-/// place the fewest builds have, where these are fewer than are looked at; else the first that names the job.
+/// The input by whose best place builds of a job are looked for: of those that name the job the first whose best place no more
+/// builds have than are looked at, or else the first of all.
 fn guide(
     alloc: Global,
     index: &Index,
@@ -76,20 +76,16 @@ fn guide(
 ) -> Result<Option<usize>, AllocError>
     ensures { IfOk result (λ found. IfSome found (λ i. i < length index.now.problem.inputs)) }
 {
-    let mut guide = first_input(index, job);
-    let mut fewest = LOOKED_AT;
     for i in 0..index.input_count() {
-        let input = index.input(i);
-        if input.after().is_some() && names(index, i, job) {
+        if names(index, i, job) {
             let mut builds = Vec::new(alloc);
-            add_builds_with(&mut builds, rows, input.scope(), upper[i], fewest)?;
-            if builds.len() < fewest {
-                guide = Some(i);
-                fewest = builds.len();
+            let scope = index.input(i).scope();
+            if !add_builds_with(&mut builds, rows, scope, upper[i], LOOKED_AT)? {
+                return Ok(Some(i));
             }
         }
     }
-    Ok(guide)
+    Ok(first_input(index, job))
 }
 
 /// The place that is preferred next after this one, of those from 1 to the last one; 0 where there is none.
