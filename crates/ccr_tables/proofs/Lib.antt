@@ -14,6 +14,6 @@ pub mod Founding
 pub mod FailedReads
 pub mod Refusals
 pub mod FoundRows
-pub mod PairRows
+pub mod GivenRows
 pub mod ShownRows
 pub mod Created

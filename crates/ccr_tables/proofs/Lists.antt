@@ -31,9 +31,8 @@ pub list_versions : (these : Contents) (old new : State) (r : Result (Vec Row Gl
     → IfOk r (λ rows. IsListed 2 these.versions rows.items)
 list_versions these old new r holds = select.lists 3 (col 1 1 ∷ col 1 2 ∷ []) (col 1 1 ∷ col 1 2 ∷ col 1 3 ∷ []) version_row 2 (λ r. refl) (λ a b. refl) texts.versions_text texts.versions_names texts.versions_command texts.versions_plain texts.versions_unlisted (λ db. refl) these.versions old new r holds.schema holds.rows.versions
 
-pub list_builds : (these : Contents) (old new : State) (r : Result (Vec Row Global) Error) → Holds these old.now → IfOk r (λ rows. Shown texts.builds_text [] old new rows.items)
-    → IfOk r (λ rows. IsListed 1 these.builds rows.items)
-list_builds these old new r holds = select.lists 6 (col 1 0 ∷ []) (col 1 0 ∷ col 1 2 ∷ col 1 3 ∷ col 1 4 ∷ []) build_row 1 (λ r. refl) (λ a b. refl) texts.builds_text texts.builds_names texts.builds_command texts.builds_plain texts.builds_unlisted (λ db. refl) these.builds old new r holds.schema holds.rows.builds
+pub list_builds : (these : Contents) (old new : State) (rows : List Row) → Holds these old.now → Shown texts.builds_text [] old new rows → IsListed 1 these.builds rows
+list_builds these old new rows holds = select.lists_rows 6 (col 1 0 ∷ []) (col 1 0 ∷ col 1 2 ∷ col 1 3 ∷ col 1 4 ∷ []) build_row 1 (λ r. refl) (λ a b. refl) texts.builds_text texts.builds_names texts.builds_command texts.builds_plain texts.builds_unlisted (λ db. refl) these.builds old new rows holds.schema holds.rows.builds
 
 pub list_pairs : (these : Contents) (old new : State) (rows : List Row) → Holds these old.now → Shown texts.pairs_text [] old new rows → IsListed 4 these.pairs rows
 list_pairs these old new rows holds = select.lists_rows 8 (col 1 1 ∷ col 1 2 ∷ col 1 3 ∷ col 1 4 ∷ []) (col 1 1 ∷ col 1 2 ∷ col 1 3 ∷ col 1 4 ∷ []) pair_row 4 (λ r. refl) (λ a b. refl) texts.pairs_text texts.pairs_names texts.pairs_command texts.pairs_plain texts.pairs_unlisted (λ db. refl) these.pairs old new rows holds.schema holds.rows.pairs

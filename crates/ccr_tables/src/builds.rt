@@ -7,7 +7,7 @@ ghost use Rattle.sqlite.specs.State.{HasCleanDisk, Survives, ExecutesInside};
 ghost use Rattle.sqlite.specs.Held.{state};
 ghost use Rattle.ccr_tables.specs.Created as created;
 ghost use Rattle.ccr_tables.specs.Read.{FailedToRead, builds_text};
-ghost use Rattle.ccr_tables.specs.Shown.{Shows, ShowsOfKind};
+ghost use Rattle.ccr_tables.specs.Shown.{ShowsOfKind};
 ghost use Rattle.ccr_tables.specs.Schema.{builds_schema, our_schema, versions_schema};
 ghost use Rattle.ccr_tables.specs.Answered.{build_text, set_status_text};
 ghost use Rattle.ccr_tables.specs.Builds.{build, IsBuild};
@@ -15,14 +15,13 @@ ghost use Rattle.ccr_tables.specs.Cause.{cause_of};
 ghost use Rattle.ccr_tables.specs.Contents.{Holds};
 ghost use Rattle.ccr_tables.specs.Found.{Are, AreFound};
 ghost use Rattle.ccr_tables.specs.Left.{OnlyReads};
-ghost use Rattle.ccr_tables.specs.Listing.{IsListed};
 ghost use Rattle.ccr_tables.specs.Step.{Alters, Creates};
 ghost use Rattle.ccr_tables.specs.Written.{with_build, with_status};
 
 use crate::cause::Cause;
 use crate::columns::read_column;
 use crate::shared_texts::SharedTexts;
-use sqlite::{Alter, Connection, Error, Row, Transaction, params};
+use sqlite::{Alter, Connection, Error, ErrorCode, Row, Transaction, params};
 use std::alloc::Global;
 use std::marker::Model;
 use std::rc::Rc;
@@ -110,19 +109,6 @@ fn with_row(
     Ok(Some(builds))
 }
 
-/// The rows as builds; `None` where one of them is none.
-fn builds_of(alloc: Global, rows: &[Row]) -> Result<Option<Vec<Build>>, Error>
-    ensures are { IfOk result (Are IsBuild rows.now) }
-    ensures only { IfErr result (λ e. cause_of e ≡ Cause.NoMemory) }
-{
-    let mut found = Some(Vec::new(alloc));
-    let mut texts = SharedTexts::new(alloc);
-    for row in rows {
-        found = with_row(found, &mut texts, row)?;
-    }
-    Ok(found)
-}
-
 /// Makes the table.
 pub(crate) fn create<S: Alter>(tx: &mut Transaction<'_, S>) -> Result<usize, Error>
     ensures same_reference { tx.new.conn.ghost_name ≡ tx.old.conn.ghost_name }
@@ -189,27 +175,6 @@ pub(crate) fn set_status<S: Alter>(
     )
 }
 
-/// All rows of `builds`, each of any values.
-fn select_rows<S: Alter>(conn: &mut Connection<S>) -> Result<Vec<Row>, Error>
-    ensures rows { let old = state S.Store conn.old in
-        HasCleanDisk (state S.Store conn.new)
-        → IfOk result (λ rows. (these : _) → Holds these old.now → IsListed 1 these.builds rows.items) }
-    ensures shown { HasCleanDisk (state S.Store conn.new)
-        → IfOk result (λ rows. Shows builds_text (state S.Store conn.old).now rows.items) }
-    ensures reads { OnlyReads (state S.Store conn.old) (state S.Store conn.new) result }
-    ensures clean { HasCleanDisk (state S.Store conn.new) → HasCleanDisk (state S.Store conn.old) }
-    ensures unrefused { HasCleanDisk (state S.Store conn.new) → (state S.Store conn.old).now.schema ≡ our_schema
-        → IfErr result (λ e. cause_of e ≢ Cause.Refused) }
-    ensures answered { HasCleanDisk (state S.Store conn.new)
-        → IfErr result (FailedToRead S.Store (state S.Store conn.old)) }
-    ensures mode { conn.old.in_transaction ≡ false → conn.new.in_transaction ≡ false }
-{
-    conn.query_all(
-        "SELECT id, job, number, status FROM builds ORDER BY id",
-        &[],
-    )
-}
-
 /// All rows of `builds`: id, job, number, status, by id; `None` where one of them is no [`Build`]. A failure of `sqlite` is
 /// answered.
 pub fn select<S: Alter>(
@@ -229,6 +194,17 @@ pub fn select<S: Alter>(
         → IfErr result (λ e. (cause_of e ≡ Cause.NoMemory) ⊎ FailedToRead S.Store (state S.Store conn.old) e) }
     ensures mode { conn.old.in_transaction ≡ false → conn.new.in_transaction ≡ false }
 {
-    let rows = select_rows(conn)?;
-    builds_of(alloc, &rows)
+    let mut found = Some(Vec::new(alloc));
+    let mut texts = SharedTexts::new(alloc);
+    let mut rows = conn.query(
+        "SELECT id, job, number, status FROM builds ORDER BY id",
+        &[],
+    )?;
+    'rows: for _ in 0..u64::MAX {
+        let Some(row) = rows.next()? else {
+            return Ok(found);
+        };
+        found = with_row(found, &mut texts, row)?;
+    }
+    Err(Error::SqliteFailure(ErrorCode::OutOfMemory))
 }

@@ -10,7 +10,7 @@ use Rattle.ccr_tables.specs.Left.{OnlyReads}
 use Rattle.ccr_tables.specs.Shown.{Shows}
 use Rattle.ccr_tables.proofs.Lists.{list_pairs}
 use Rattle.ccr_tables.proofs.Queries.{survives, begun_anywhere, pairs_plain, fails_left, unchanged_nothing, nothing_then, only_error, reads_failing, reads_same}
-use Rattle.ccr_tables.proofs.PairRows.{refused_now, fails_given, refused_on, survives_on, shows_on}
+use Rattle.ccr_tables.proofs.GivenRows.{refused_now, fails_given, refused_on, survives_on, shows_on}
 use Rattle.ccr_tables.proofs.FailedReads.{failed_read, failed_later, failed_on}
 use Rattle.ccr_tables.proofs.Refusals.{unrefused_pairs}
 use Rattle.ccr_tables.proofs.Texts.{pairs_text}
@@ -19,7 +19,7 @@ use Rattle.ccr_tables.proofs.pairs.select.Goals as goal
 
 pub returns-in_err-rows-clause-unrefused : goal.returns-in_err-rows-clause-unrefused
 returns-in_err-rows-clause-unrefused g c clean has =
-    let held = refused_now g.S.Store c.args.conn.now c.query.follows.lender-at-none c.query.result c.in_err-rows.field-0.0 c.in_err-rows.was c.query.follows.holds-at-none in
+    let held = refused_now g.S.Store pairs_text c.args.conn.now c.query.follows.lender-at-none c.query.result c.in_err-rows.field-0.0 c.in_err-rows.was c.query.follows.holds-at-none in
     refused_on c.query.result c.from_residual.result c.in_err-rows.field-0.0 c.in_err-rows.was c.from_residual.ensures.1
     (unrefused_pairs (state g.S.Store c.args.conn.now) (state g.S.Store c.query.follows.lender-at-none) c.query.result has (held.err clean))
 
@@ -42,7 +42,7 @@ returns-in_err-row-clause-unrefused g c clean has =
     let was = c.rows.invariant.3 (omega (arith, moved.survives.clean)) in
     let there = ap (λ (d : Database). d.schema) was.0.0.now_is ∙ has in
     refused_on c.next.result c.from_residual-in_err-row.result c.in_err-row.field-0.0 c.in_err-row.was c.from_residual-in_err-row.ensures.1
-    (unrefused_pairs (state g.S.Store c.rows.rows.conn.now) (state g.S.Store now) c.next.result there (fails_given g.S.Store c.rows.rows.conn.now now c.next.result was.1 was.2 (moved.err late)))
+    (unrefused_pairs (state g.S.Store c.rows.rows.conn.now) (state g.S.Store now) c.next.result there (fails_given g.S.Store pairs_text c.rows.rows.conn.now now c.next.result was.1 was.2 (moved.err late)))
 
 pub returns-in_default-clause-rows : goal.returns-in_default-clause-rows
 returns-in_default-clause-rows g c clean these holds =
@@ -60,7 +60,7 @@ rows-preserved g c =
     let mid = state g.S.Store c.rows.rows.conn.now in
     let new = state g.S.Store c.next.follows.lender-at-none.conn.now in (
       moved.same_reference ∙ c.rows.invariant.0,
-      shows_on old mid new c.rows.invariant.1 moved.survives,
+      shows_on pairs_text old mid new c.rows.invariant.1 moved.survives,
       λ idle. moved.mode (c.rows.invariant.2 idle),
       λ late.
           let was = c.rows.invariant.3 (omega (arith, moved.survives.clean)) in
@@ -73,7 +73,7 @@ pub returns-in_err-rows-clause-reads : goal.returns-in_err-rows-clause-reads
 returns-in_err-rows-clause-reads g c =
     let old = state g.S.Store c.args.conn.now in
     let new = state g.S.Store c.query.follows.lender-at-none in
-    let held = refused_now g.S.Store c.args.conn.now c.query.follows.lender-at-none c.query.result c.in_err-rows.field-0.0 c.in_err-rows.was c.query.follows.holds-at-none in
+    let held = refused_now g.S.Store pairs_text c.args.conn.now c.query.follows.lender-at-none c.query.result c.in_err-rows.field-0.0 c.in_err-rows.was c.query.follows.holds-at-none in
     reads_failing old new c.from_residual.result (only_error c.from_residual.result _ c.from_residual.ensures.1) (survives pairs_text old new (pairs_plain _) held.survives)
     (λ clean. fails_left pairs_text old new c.query.result c.in_err-rows.field-0.0 c.in_err-rows.was (held.err clean))
 
@@ -86,10 +86,10 @@ returns-in_err-row-clause-reads g c =
     let now = state g.S.Store last in
     let none = only_error c.from_residual-in_err-row.result _ c.from_residual-in_err-row.ensures.1 in
     let both : OnlyReads old now c.from_residual-in_err-row.result =
-    reads_failing old now c.from_residual-in_err-row.result none (survives_on old mid now c.rows.invariant.1 moved.survives)
+    reads_failing old now c.from_residual-in_err-row.result none (survives_on pairs_text old mid now (pairs_plain _) c.rows.invariant.1 moved.survives)
     (λ late. let was = c.rows.invariant.3 (omega (arith, moved.survives.clean)) in
     nothing_then old mid now (unchanged_nothing old mid was.0)
-    (fails_left pairs_text mid now c.next.result c.in_err-row.field-0.0 c.in_err-row.was (fails_given g.S.Store c.rows.rows.conn.now last c.next.result was.1 was.2 (moved.err late)))) in
+    (fails_left pairs_text mid now c.next.result c.in_err-row.field-0.0 c.in_err-row.was (fails_given g.S.Store pairs_text c.rows.rows.conn.now last c.next.result was.1 was.2 (moved.err late)))) in
     search rules
 
 pub returns-in_default-clause-reads : goal.returns-in_default-clause-reads
@@ -100,7 +100,7 @@ returns-in_default-clause-reads g c =
     let now = state g.S.Store c.next.follows.lender-at-none.conn.now in
     let result : Result (Option (Vec Row Global)) Error = Ok c.rows.found in
     let both : OnlyReads old now result =
-    reads_same old now result (survives_on old mid now c.rows.invariant.1 moved.survives)
+    reads_same old now result (survives_on pairs_text old mid now (pairs_plain _) c.rows.invariant.1 moved.survives)
     (λ late. unchanged_then old mid now (c.rows.invariant.3 (omega (arith, moved.survives.clean))).0 (rw (c.in_ok-row.was) at (moved.same late))) in
     search rules
 
@@ -111,13 +111,13 @@ returns-in_err-found-clause-reads g c =
     let mid = state g.S.Store c.rows.rows.conn.now in
     let now = state g.S.Store c.next.follows.lender-at-none.conn.now in
     let both : OnlyReads old now c.from_residual-in_err-found.result =
-    reads_same old now c.from_residual-in_err-found.result (survives_on old mid now c.rows.invariant.1 moved.survives)
+    reads_same old now c.from_residual-in_err-found.result (survives_on pairs_text old mid now (pairs_plain _) c.rows.invariant.1 moved.survives)
     (λ late. unchanged_then old mid now (c.rows.invariant.3 (omega (arith, moved.survives.clean))).0 (rw (c.in_ok-row.was) at (moved.same late))) in
     search rules
 
 pub returns-in_err-rows-clause-answered : goal.returns-in_err-rows-clause-answered
 returns-in_err-rows-clause-answered g c clean =
-    let held = refused_now g.S.Store c.args.conn.now c.query.follows.lender-at-none c.query.result c.in_err-rows.field-0.0 c.in_err-rows.was c.query.follows.holds-at-none in
+    let held = refused_now g.S.Store pairs_text c.args.conn.now c.query.follows.lender-at-none c.query.result c.in_err-rows.field-0.0 c.in_err-rows.was c.query.follows.holds-at-none in
     failed_on g.S.Store (state g.S.Store c.args.conn.now) c.query.result c.from_residual.result c.in_err-rows.field-0.0 c.in_err-rows.was c.from_residual.ensures.1
     (failed_read g.S.Store c.args.conn.now c.query.follows.lender-at-none pairs_text c.query.result (inr (inr (inr (inr (inl refl))))) (held.err clean))
 
@@ -132,7 +132,7 @@ returns-in_err-row-clause-answered g c clean =
     failed_on g.S.Store old c.next.result c.from_residual-in_err-row.result c.in_err-row.field-0.0 c.in_err-row.was c.from_residual-in_err-row.ensures.1
     (failed_later g.S.Store old mid c.next.result was.0.0.now_is (survives pairs_text old mid (pairs_plain _) c.rows.invariant.1)
     (failed_read g.S.Store c.rows.rows.conn.now now pairs_text c.next.result (inr (inr (inr (inr (inl refl)))))
-    (fails_given g.S.Store c.rows.rows.conn.now now c.next.result was.1 was.2 (moved.err late))))
+    (fails_given g.S.Store pairs_text c.rows.rows.conn.now now c.next.result was.1 was.2 (moved.err late))))
 
 pub returns-in_default-clause-shown : goal.returns-in_default-clause-shown
 returns-in_default-clause-shown g c clean =
