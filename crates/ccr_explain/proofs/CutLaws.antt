@@ -20,8 +20,9 @@ use Rattle.ccr_resolve.specs.declared.chosen.Chosen.TheVariants.{Best, Nothing, 
 use Rattle.ccr_explain.specs.declared.demand.Demand.{Demand}
 use Rattle.ccr_explain.specs.declared.demand.Demand.TheVariants.{Allowed, Passed}
 use Rattle.ccr_explain.specs.Demand.{IsDemandOf, Meets, MeetsAll, CanBeMet, ExcludeEachOther}
-use Rattle.ccr_explain.specs.Cut.{is_allowed_of, is_passed_of, jobs_left, order_from, place_in, top_for, cut_input, cut_from, has_place_of, is_of_use, builds_from, order_left, inputs_cut, cut_to, IsTop, IsChosenOfCut, met_of, IsMet}
-use Rattle.ccr_explain.proofs.Lists.{any_contained, contains_map, contains_filter, from_filter}
+use Rattle.ccr_explain.specs.Cut.{is_allowed_of, is_passed_of, jobs_left, order_from, place_in, top_for, cut_input, cut_from, has_place_of, names, is_of_use, builds_from, order_left, inputs_cut, cut_to, IsTop, IsChosenOfCut, met_of, IsMet}
+use Rattle.std.proofs.lemmas.List.Folds.{list_all-map}
+use Rattle.ccr_explain.proofs.Lists.{any_contained, contains_map, contains_filter, from_filter, all_passing}
 use Rattle.ccr_explain.proofs.Orders.{has, has_it, it_has, place_below, place_at}
 use Rattle.ccr_explain.proofs.DemandLaws.{passed_of, passed_each, passed_successful}
 use Rattle.ccr_explain.proofs.CutRules.{builds_places, all_order, order_there, order_within, length_cut, length_builds, product_left}
@@ -399,3 +400,10 @@ chosen_met ds p rules of_problem budget x h =
     told top isTop (Best c) h = met_back ds top p rules isTop of_problem c.places c.builds h.satisfies
     told top isTop Nothing h = none_excludes ds top p rules isTop of_problem h
     told top isTop (OverBudget n) h = omega (arith, h.1.product, product_left ds top p rules)
+
+-- ---- a build of use, by the inputs that name its job
+-- where these are given by their names, a build is of use to them all exactly where it is of use
+pub of_use_naming : {R : Type 0} (now : R → InputValue) (naming : List R) (inputs : List InputValue) (n : ℕ) (b : BuildValue) → map now naming ≡ filter (names n) inputs
+    → list_all (λ x. has_place_of (now x) b.pairs) naming ≡ is_of_use inputs n b
+of_use_naming now naming inputs n b are =
+    sym (list_all-map (λ x. has_place_of x b.pairs) now naming) ∙ ap (list_all (λ x. has_place_of x b.pairs)) are ∙ all_passing (names n) (λ x. has_place_of x b.pairs) inputs

@@ -1,11 +1,11 @@
 -- What a list contains that is made of another, and a list with one element left out.
-use Rattle.std.proofs.Common.{◌≡◌, ℕ, zero, suc, ◌<◌, ◌≤◌, inl, inr, Bool, true, false, cond, List, [], ◌∷◌, ◌++◌, length, map, refl, sym, ap, ◌∙◌, subst, arith}
+use Rattle.std.proofs.Common.{◌≡◌, ℕ, zero, suc, ◌+◌, ◌<◌, ◌≤◌, inl, inr, Bool, true, false, not, ◌&&◌, ◌||◌, cond, List, [], ◌∷◌, ◌++◌, append-nil, length, map, get_or, take, refl, sym, ap, ◌∙◌, subst, arith}
 use Rattle.std.specs.Prelude.{All, Contains, filter, remove}
-use Rattle.std.specs.List.{list_any}
+use Rattle.std.specs.List.{list_all, list_any}
 use Rattle.std.proofs.lemmas.List.Folds.{list_any_at}
 use Rattle.std.proofs.lemmas.Bool.{cases_Bool, cond-true, cond-false, false≢true}
 use Rattle.std.proofs.lemmas.List.{length-map, get_or-map}
-use Rattle.std.proofs.lemmas.List.Elements.{All-nil, All-cons}
+use Rattle.std.proofs.lemmas.List.Elements.{filter_more, All-nil, All-cons}
 use Rattle.ccr_choice.proofs.Members.{contains_none, contains_first, contains_later, contains_cases}
 
 pub contains_map : {X Y : Type 0} (f : X → Y) (x : X) (xs : List X) → Contains xs x → Contains (map f xs) (f x)
@@ -70,3 +70,25 @@ remove_last [] x zero same = refl
 remove_last [] x (suc k) same = absurd (omega arith)
 remove_last (y ∷ xs) x zero same = absurd (omega arith)
 remove_last (y ∷ xs) x (suc k) same = ap (λ zs. y ∷ zs) (remove_last xs x k (omega arith))
+
+-- what holds of all that pass a test holds of each element that passes it
+pub all_passing : {X : Type 0} (test f : X → Bool) (xs : List X) → list_all f (filter test xs) ≡ list_all (λ x. not (test x) || f x) xs
+all_passing test f [] = refl
+all_passing test f (x ∷ xs) =
+    let rest = all_passing test f xs in
+    elim (cases_Bool (test x)) [
+      | inl holds ↦ ap (list_all f) (cond-true (test x) (x ∷ filter test xs) (filter test xs) holds) ∙ ap (λ r. f x && r) rest ∙ ap (λ t. (not t || f x) && list_all (λ y. not (test y) || f y) xs) (sym holds)
+      | inr fails ↦ ap (list_all f) (cond-false (test x) (x ∷ filter test xs) (filter test xs) fails) ∙ rest ∙ ap (λ t. (not t || f x) && list_all (λ y. not (test y) || f y) xs) (sym fails)
+    ]
+
+-- the next element, if it passes
+pub filter_takes : {X : Type 0} (test : X → Bool) (xs : List X) (i : ℕ) (x : X) → i < length xs → x ≡ get_or xs i x → test x ≡ true → filter test (take i xs) ++ x ∷ [] ≡ filter test (take (i + 1) xs)
+filter_takes test xs i x within at passes =
+    let before = filter test (take i xs) in
+    sym (filter_more test xs i x within ∙ ap (λ y. before ++ cond (test y) (y ∷ []) []) (sym at) ∙ ap (λ b. before ++ cond b (x ∷ []) []) passes)
+
+-- the next element, if it doesn't
+pub filter_leaves : {X : Type 0} (test : X → Bool) (xs : List X) (i : ℕ) (x : X) → i < length xs → x ≡ get_or xs i x → test x ≡ false → filter test (take i xs) ≡ filter test (take (i + 1) xs)
+filter_leaves test xs i x within at fails =
+    let before = filter test (take i xs) in
+    sym (filter_more test xs i x within ∙ ap (λ y. before ++ cond (test y) (y ∷ []) []) (sym at) ∙ ap (λ b. before ++ cond b (x ∷ []) []) fails ∙ append-nil before)

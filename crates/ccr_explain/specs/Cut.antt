@@ -69,9 +69,13 @@ order_left ds p = order_from ds 0 [] p.inputs
 abbrev pub has_place_of : InputValue → List (ℕ × ℕ) → Bool
 has_place_of x pairs = list_any (λ r. r.0 == x.scope && list_any (λ y. y == r.1) x.places) pairs
 
+-- An input names job n.
+abbrev pub names : ℕ → InputValue → Bool
+names n x = list_any (λ m. m == n) x.jobs
+
 -- A build of job n is of use to these inputs: each of them that names the job can have one of its places with it.
 abbrev pub is_of_use : List InputValue → ℕ → BuildValue → Bool
-is_of_use xs n b = list_all (λ x. not (list_any (λ m. m == n) x.jobs) || has_place_of x b.pairs) xs
+is_of_use xs n b = list_all (λ x. not (names n x) || has_place_of x b.pairs) xs
 
 -- The builds that are of use, of these jobs with the numbers from n on.
 abbrev pub builds_from : ProblemValue → List InputValue → ℕ → List ℕ → List (List BuildValue)

@@ -1,9 +1,9 @@
 //! A problem cut to some of its demands.
 
 ghost use Rattle.std.specs.Prelude.{◌≡◌, ◌==◌, ◌<◌, ◌≤◌, ◌++◌, if◌then◌else◌, length, map, filter, All, EachIndex, slice_index, IfOk, OnOk};
-ghost use Rattle.std.specs.List.{list_any, range_with_len};
+ghost use Rattle.std.specs.List.{list_all, list_any, range_with_len};
 ghost use Rattle.ccr_choice.specs.Problem.{builds_at, IsProblem};
-ghost use Rattle.ccr_explain.specs.Cut.{is_allowed_of, is_passed_of, jobs_left, with_job, with_jobs, place_in, top_for, cut_input, cut_from, has_place_of, is_of_use, builds_from, order_left, IsTop, IsCutTo};
+ghost use Rattle.ccr_explain.specs.Cut.{is_allowed_of, is_passed_of, jobs_left, with_job, with_jobs, place_in, top_for, cut_input, cut_from, has_place_of, names, is_of_use, builds_from, order_left, IsTop, IsCutTo};
 ghost use Rattle.ccr_choice.specs.Ascending.{AreRising};
 
 use crate::copies::copied_build;
@@ -296,22 +296,43 @@ fn useful_builds(
     requires { All (λ x. AreRising x.places) inputs.now }
     ensures { IfOk result (λ useful. useful ≡ filter (is_of_use inputs.now job) builds.now) }
 {
+    // A job has many builds, and few inputs name it.
+    let naming = inputs_naming(alloc, inputs, job)?;
     let mut useful = Vec::new(alloc);
     for build in builds {
-        if is_of_use(inputs, job, build) {
+        if is_of_use(&naming, build) {
             useful.push(copied_build(alloc, build)?)?;
         }
     }
     Ok(JobBuilds::new(useful))
 }
 
-/// Whether each of these inputs that names job `job` can have one of its places with a build.
-fn is_of_use(inputs: &[Input], job: u32, build: &Build) -> bool
+/// The inputs among these that name job `job`.
+fn inputs_naming<'a>(
+    alloc: Global,
+    inputs: &'a [Input],
+    job: u32,
+) -> Result<Vec<&'a Input>, AllocError>
     requires { All (λ x. AreRising x.places) inputs.now }
-    ensures { result ≡ is_of_use inputs.now job build.now }
+    ensures are { IfOk result (λ naming. map (λ x. x.now) naming.items ≡ filter (names job) inputs.now) }
+    ensures rising { IfOk result (λ naming. All (λ x. AreRising x.now.places) naming.items) }
 {
+    let mut naming = Vec::new(alloc);
     for input in inputs {
-        if is_among(input.jobs(), job) && !has_place_of(input, build.pairs()) {
+        if is_among(input.jobs(), job) {
+            naming.push(input)?;
+        }
+    }
+    Ok(naming)
+}
+
+/// Whether each of these inputs can have one of its places with a build.
+fn is_of_use(naming: &[&Input], build: &Build) -> bool
+    requires { All (λ x. AreRising x.now.places) naming.now }
+    ensures { result ≡ list_all (λ x. has_place_of x.now build.now.pairs) naming.now }
+{
+    for input in naming {
+        if !has_place_of(input, build.pairs()) {
             return false;
         }
     }

@@ -1,6 +1,8 @@
 use Rattle.std.proofs.Common.{◌≡◌, drop}
-use Rattle.ccr_explain.specs.Cut.{is_of_use}
+use Rattle.std.specs.List.{list_all}
+use Rattle.ccr_explain.specs.Cut.{has_place_of}
 use Rattle.ccr_explain.proofs.cut.is_of_use.Given as goal
 
 abbrev pub invariant-loop-input : goal.invariant-loop-input
-invariant-loop-input l = is_of_use (drop l.input-index l.inputs) l.job l.build ≡ is_of_use l.inputs l.job l.build
+invariant-loop-input l =
+    list_all (λ x. has_place_of x.now l.build.pairs) (drop l.input-index l.naming) ≡ list_all (λ x. has_place_of x.now l.build.pairs) l.naming
