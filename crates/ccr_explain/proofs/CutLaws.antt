@@ -2,16 +2,16 @@
 use Rattle.std.proofs.Common.{◌≡◌, ◌↔◌, ℕ, zero, suc, ◌+◌, ◌<◌, ◌≤◌, inl, inr, Bool, true, false, not, ◌==◌, ◌&&◌, ◌||◌, nat_le, cond, List, [], ◌∷◌, length, map, slice_index, slice_index_or, refl, sym, ap, ◌∙◌, subst, arith}
 use Rattle.std.specs.Prelude.{All, Any, Contains, filter}
 use Rattle.std.specs.List.{list_any, list_all, range_with_len}
-use Rattle.std.proofs.lemmas.Bool.{cases_Bool, cases_eq, cond-true, cond-false, and_parts, and_from, or_left, or_right, not_from_false, eq-eqb, eqb-true, false≢true, false_from_ne_true}
+use Rattle.std.proofs.lemmas.Bool.{cases_Bool, cases_eq, cond-true, cond-false, and_parts, and_from, or_left, or_right, not_from_false, eq-eqb, eqb-true, false≢true}
 use Rattle.std.proofs.lemmas.List.{length-map, get_or-map, get_or_default}
-use Rattle.std.proofs.lemmas.List.FromFn.{length-map-range_with_len, get_or-map-range_with_len, length-range_with_len, get_or-range_with_len}
+use Rattle.std.proofs.lemmas.List.FromFn.{length-map-range_with_len, get_or-map-range_with_len}
 use Rattle.std.proofs.lemmas.List.Recursion.{and_from_places}
 use Rattle.std.proofs.lemmas.List.Elements.{All-nil, All-contains, All-get_or, Contains-get_or}
 use Rattle.ccr_choice.specs.Problem.{ProblemValue, InputValue, BuildValue, no_input, input_at, builds_at, is_problem, scopes_after, are_builds_below}
-use Rattle.ccr_choice.specs.Satisfies.{Satisfies, HasLengths, Moved, IsAllowed, IsSuccessful, HasPassed, HasPassedAll}
+use Rattle.ccr_choice.specs.Satisfies.{Satisfies, Moved, IsAllowed, IsSuccessful, HasPassed, HasPassedAll}
 use Rattle.ccr_choice.specs.Optimal.{HasNoChoice}
 use Rattle.ccr_choice.proofs.Bounds.{builds_kept}
-use Rattle.ccr_choice.proofs.Members.{contains_none, contains_first, contains_later, contains_cases, tests_contains, same_number, any_of, any_more}
+use Rattle.ccr_choice.proofs.Members.{contains_none, contains_first, contains_later, tests_contains, any_of, any_more}
 use Rattle.ccr_choice.proofs.Exchange.{build_at}
 use Rattle.ccr_choice.specs.Preference.{order_of}
 use Rattle.ccr_resolve.specs.Chosen.{IsChosen}
@@ -20,11 +20,11 @@ use Rattle.ccr_resolve.specs.declared.chosen.Chosen.TheVariants.{Best, Nothing, 
 use Rattle.ccr_explain.specs.declared.demand.Demand.{Demand}
 use Rattle.ccr_explain.specs.declared.demand.Demand.TheVariants.{Allowed, Passed}
 use Rattle.ccr_explain.specs.Demand.{IsDemandOf, Meets, MeetsAll, CanBeMet, ExcludeEachOther}
-use Rattle.ccr_explain.specs.Cut.{is_allowed_of, is_passed_of, jobs_left, order_from, place_in, top_for, cut_input, cut_from, has_place_of, names, is_of_use, builds_from, order_left, inputs_cut, cut_to, IsTop, IsChosenOfCut, met_of, IsMet}
+use Rattle.ccr_explain.specs.Cut.{is_allowed_of, is_passed_of, jobs_left, place_in, top_for, cut_input, cut_from, has_place_of, names, is_of_use, builds_from, order_left, inputs_cut, cut_to, IsTop, IsChosenOfCut, met_of, IsMet}
 use Rattle.std.proofs.lemmas.List.Folds.{list_all-map}
 use Rattle.ccr_explain.proofs.Lists.{any_contained, contains_map, contains_filter, from_filter, all_passing}
 use Rattle.ccr_explain.proofs.Orders.{has, has_it, it_has, place_below, place_at}
-use Rattle.ccr_explain.proofs.DemandLaws.{passed_of, passed_each, passed_successful}
+use Rattle.ccr_explain.proofs.DemandLaws.{passed_of, passed_each}
 use Rattle.ccr_explain.proofs.CutRules.{builds_places, all_order, order_there, order_within, length_cut, length_builds, product_left}
 
 -- ---- which demands there are, as tests

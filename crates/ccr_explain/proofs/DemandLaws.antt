@@ -1,11 +1,11 @@
 -- The demands of a problem are all that it asks.
-use Rattle.std.proofs.Common.{◌≡◌, ◌↔◌, ℕ, zero, suc, ◌+◌, ◌<◌, ◌≤◌, inl, inr, true, nat_le, nat_lt, ◌&&◌, List, [], ◌∷◌, ◌++◌, length, map, slice_index, slice_index_or, refl, sym, ap, ◌∙◌, subst, arith}
-use Rattle.std.specs.Prelude.{All, Any, Contains}
+use Rattle.std.proofs.Common.{◌≡◌, ℕ, zero, suc, ◌+◌, ◌<◌, ◌≤◌, inl, inr, true, nat_le, nat_lt, ◌&&◌, List, [], ◌∷◌, ◌++◌, length, map, slice_index, slice_index_or, sym, ◌∙◌, subst, arith}
+use Rattle.std.specs.Prelude.{All, Contains}
 use Rattle.std.proofs.lemmas.Bool.{and_parts, leb-true, cases_eq, cases_lt}
 use Rattle.std.proofs.lemmas.List.{get_or_default}
 use Rattle.std.proofs.lemmas.List.Elements.{All-nil, All-cons, All-append, All-map, All-contains, Contains-append_left, Contains-append_right, Contains-get_or}
-use Rattle.ccr_choice.specs.Problem.{ProblemValue, InputValue, BuildValue, no_input, input_at, builds_at, is_problem, is_after, is_input, are_inputs, are_distinct, are_numbered, are_places_after, next_used, used_after, jobs_after}
-use Rattle.ccr_choice.specs.Satisfies.{Satisfies, Moved, IsAllowed, IsSuccessful, HasPassed, HasPassedAll}
+use Rattle.ccr_choice.specs.Problem.{ProblemValue, InputValue, no_input, input_at, builds_at, is_problem, is_after, is_input, are_inputs, are_distinct, are_numbered, are_places_after, next_used, used_after, jobs_after}
+use Rattle.ccr_choice.specs.Satisfies.{Satisfies, IsAllowed, IsSuccessful, HasPassed, HasPassedAll}
 use Rattle.ccr_choice.specs.Optimal.{HasNoChoice}
 use Rattle.ccr_choice.specs.Preference.{order_of}
 use Rattle.ccr_choice.proofs.Bounds.{rules_of}
@@ -15,7 +15,7 @@ use Rattle.ccr_resolve.specs.declared.chosen.Chosen.{Chosen}
 use Rattle.ccr_resolve.specs.declared.chosen.Chosen.TheVariants.{Nothing}
 use Rattle.ccr_explain.specs.declared.demand.Demand.{Demand}
 use Rattle.ccr_explain.specs.declared.demand.Demand.TheVariants.{Allowed, Passed}
-use Rattle.ccr_explain.specs.Demand.{IsDemandOf, demands_from, demands_of, Meets, MeetsAll, CanBeMet, ExcludeEachOther}
+use Rattle.ccr_explain.specs.Demand.{IsDemandOf, demands_from, demands_of, Meets, MeetsAll, CanBeMet}
 use Rattle.ccr_explain.specs.Clash.{IsClash}
 use Rattle.ccr_explain.proofs.Lists.{contains_map, all_contained}
 

@@ -1,5 +1,5 @@
 -- Leaving out one demand after the other, each tried once.
-use Rattle.std.proofs.Common.{◌≡◌, ℕ, ◌+◌, ◌<◌, ◌≤◌, inl, inr, Bool, true, false, IsTrue, List, [], ◌∷◌, ◌++◌, length, drop, get_or, refl, sym, ap, ◌∙◌, subst, arith}
+use Rattle.std.proofs.Common.{◌≡◌, ℕ, ◌+◌, ◌<◌, ◌≤◌, inl, inr, Bool, true, false, IsTrue, List, [], ◌∷◌, ◌++◌, length, drop, get_or, sym, ap, ◌∙◌, subst, arith}
 use Rattle.std.specs.Prelude.{All, Contains, remove}
 use Rattle.std.proofs.lemmas.Bool.{cases_lt, false≢true}
 use Rattle.std.proofs.lemmas.List.{append-nil, append_assoc, length_push, drop_all, drop_more}
@@ -12,9 +12,8 @@ use Rattle.ccr_explain.specs.declared.demand.Demand.TheVariants.{Allowed}
 use Rattle.ccr_explain.specs.declared.met.Met.{Met}
 use Rattle.ccr_explain.specs.declared.met.Met.TheVariants.{Yes, No, OverBudget}
 use Rattle.ccr_explain.specs.Cut.{IsMet}
-use Rattle.ccr_explain.specs.Demand.{IsDemandOf, CanBeMet, ExcludeEachOther, AreIrreducible}
+use Rattle.ccr_explain.specs.Demand.{IsDemandOf, CanBeMet, ExcludeEachOther}
 use Rattle.ccr_explain.specs.Clash.{IsClash, IsClashWithin}
-use Rattle.ccr_explain.specs.ClashValue.{ClashValue}
 use Rattle.ccr_explain.proofs.Lists.{all_contained, remove_front, remove_last}
 use Rattle.ccr_explain.proofs.DemandLaws.{fewer_met}
 

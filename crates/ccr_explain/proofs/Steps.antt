@@ -1,12 +1,12 @@
 -- One turn of a loop, and its end.
-use Rattle.std.proofs.Common.{◌≡◌, ◌↔◌, ◌==◌, inl, inr, IsTrue, false, ℕ, zero, suc, ◌+◌, ◌<◌, ◌≤◌, Bool, true, List, [], ◌∷◌, ◌++◌, length, map, take, drop, get_or, slice_index_or, max, Result, Ok, Err, refl, sym, ap, ◌∙◌, subst, arith}
+use Rattle.std.proofs.Common.{◌≡◌, ◌↔◌, ◌==◌, inl, inr, IsTrue, ℕ, zero, suc, ◌+◌, ◌<◌, ◌≤◌, Bool, true, List, [], ◌∷◌, ◌++◌, length, map, take, drop, get_or, slice_index_or, Result, Ok, Err, sym, ap, ◌∙◌, subst, arith}
 use Rattle.std.specs.Prelude.{All, Contains, IfOk}
 use Rattle.std.specs.List.{list_any, range_with_len}
 use Rattle.std.proofs.lemmas.Bool.{and_parts, cases_Bool, false_from_ne_true, false≢true}
 use Rattle.std.proofs.lemmas.List.{append-nil, append_assoc, take_all, drop_more, drop_all, get_or_default}
 use Rattle.std.proofs.lemmas.List.Elements.{All-same, All-contains, All-cons, All-append, All-map, All-more, All-weaker}
 use Rattle.ccr_choice.specs.Problem.{ProblemValue, InputValue, BuildValue, no_input, input_at, builds_at, is_problem, are_builds}
-use Rattle.ccr_choice.specs.Preference.{Preference, order_of, IsOrder}
+use Rattle.ccr_choice.specs.Preference.{order_of}
 use Rattle.ccr_choice.specs.Optimal.{IsOptimal}
 use Rattle.ccr_choice.proofs.Orders.{is_order}
 use Rattle.ccr_explain.specs.declared.demand.Demand.{Demand}
@@ -18,7 +18,7 @@ use Rattle.ccr_explain.specs.declared.explanation.Explanation.TheVariants.{Clash
 use Rattle.ccr_choice.specs.Problem.{ChoiceValue}
 use Rattle.ccr_explain.specs.Demand.{IsDemandOf, demands_from}
 use Rattle.ccr_explain.specs.Clash.{IsClash, IsExplanation}
-use Rattle.ccr_explain.specs.WhyNot.{Takes, CannotTake, may_take, narrowed_from, asked, IsWhyNot}
+use Rattle.ccr_explain.specs.WhyNot.{may_take, narrowed_from, asked, IsWhyNot}
 use Rattle.ccr_explain.specs.Cut.{order_from, order_left, cut_from, builds_from, inputs_cut, cut_to, IsMet}
 use Rattle.ccr_explain.proofs.Lists.{all_contained}
 use Rattle.ccr_explain.proofs.Orders.{has_it, it_has}

@@ -1,11 +1,11 @@
 -- The problem in which an input takes a place, and what an optimal choice says of it.
-use Rattle.std.proofs.Common.{◌≡◌, ◌≢◌, ℕ, zero, suc, ◌+◌, ◌<◌, ◌≤◌, ◌⊎◌, inl, inr, Bool, true, false, not, nat_lt, nat_le, ◌==◌, ◌&&◌, cond, IsTrue, List, [], ◌∷◌, length, slice_index, slice_index_or, refl, sym, ap, ◌∙◌, subst, arith}
+use Rattle.std.proofs.Common.{◌≡◌, ℕ, zero, suc, ◌+◌, ◌<◌, ◌≤◌, ◌⊎◌, inl, inr, Bool, true, not, nat_lt, nat_le, ◌==◌, ◌&&◌, cond, IsTrue, List, [], ◌∷◌, length, slice_index, slice_index_or, refl, sym, ap, ◌∙◌, subst, arith}
 use Rattle.std.specs.Prelude.{Contains, filter}
 use Rattle.std.specs.List.{list_all}
-use Rattle.std.proofs.lemmas.Bool.{cases_Bool, cases_eq, cases_lt, cond-true, cond-false, and_parts, and_from, leb-true, le-leb, ltb-true, lt-ltb, le-ltb, eqb-true, eq-eqb, ne_eqb, not-true, not_from_false, false_from_ne_true, false≢true}
+use Rattle.std.proofs.lemmas.Bool.{cases_Bool, cases_eq, cases_lt, cond-true, cond-false, and_parts, and_from, le-leb, ltb-true, lt-ltb, le-ltb, eqb-true, eq-eqb, ne_eqb, not-true, not_from_false, false_from_ne_true, false≢true}
 use Rattle.ccr_choice.specs.Problem.{ProblemValue, InputValue, BuildValue, no_input, input_at, builds_at, next_used, used_after, scopes_after, jobs_after, are_distinct, are_numbered, are_places_after, is_after, is_input, are_inputs, are_builds, is_problem}
 use Rattle.ccr_choice.specs.Satisfies.{Satisfies, Moved, IsAllowed, IsSuccessful, HasPassed, HasPassedAll}
-use Rattle.ccr_choice.specs.Optimal.{IsOptimal, HasNoChoice}
+use Rattle.ccr_choice.specs.Optimal.{IsOptimal}
 use Rattle.ccr_choice.specs.Preference.{Preference, IsOrder, IsBetter}
 use Rattle.ccr_choice.proofs.Bounds.{rules_of}
 use Rattle.ccr_explain.specs.declared.demand.Demand.{Demand}

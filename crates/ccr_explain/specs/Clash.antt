@@ -1,5 +1,5 @@
 -- What a clash is, and what is answered about a problem.
-use Rattle.std.specs.Prelude.{◌≡◌, ℕ, ◌<◌, List, Bool, false, IsTrue, All}
+use Rattle.std.specs.Prelude.{◌≡◌, ℕ, ◌<◌, List, false, IsTrue, All}
 use Rattle.ccr_choice.specs.Problem.{ProblemValue}
 use Rattle.ccr_choice.specs.Preference.{Preference}
 use Rattle.ccr_choice.specs.Optimal.{IsOptimal}

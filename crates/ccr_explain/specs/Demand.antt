@@ -1,5 +1,5 @@
 -- What a problem demands of a choice, one demand at a time.
-use Rattle.std.specs.Prelude.{◌≡◌, ℕ, ◌+◌, ◌<◌, List, [], ◌∷◌, ◌++◌, length, map, remove, All, Contains}
+use Rattle.std.specs.Prelude.{ℕ, ◌+◌, ◌<◌, List, [], ◌∷◌, ◌++◌, length, map, remove, All, Contains}
 use Rattle.ccr_choice.specs.Problem.{ProblemValue, InputValue, input_at}
 use Rattle.ccr_choice.specs.Satisfies.{HasLengths, IsAllowed, HasPassed}
 use Rattle.ccr_explain.specs.declared.demand.Demand.{Demand}

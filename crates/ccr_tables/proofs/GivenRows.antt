@@ -1,7 +1,6 @@
 -- A query, row by row.
-use Rattle.std.proofs.Common.{◌≡◌, ◌≢◌, ℕ, List, [], ◌∷◌, ◌++◌, Option, Some, None, Result, Ok, Err, IfErr, Vec, Global, refl, sym, subst}
-use Rattle.std.specs.Prelude.{IfNone, IsErrAnd, OnErr}
-use Rattle.std.specs.List.{AllByRecursion}
+use Rattle.std.proofs.Common.{◌≡◌, ◌≢◌, ℕ, List, [], Result, Ok, Err, IfErr, sym, subst}
+use Rattle.std.specs.Prelude.{IsErrAnd, OnErr}
 use Rattle.sqlite.specs.Order.{Row}
 use Rattle.sqlite.specs.declared.error.Error.{Error}
 use Rattle.sqlite_trees.specs.declared.store.Store.{Ghosts}
@@ -11,7 +10,6 @@ use Rattle.sqlite.specs.Given.{HasGiven, FailsToAdvance, IsRefused}
 use Rattle.sqlite.proofs.StateLemmas.{survives_then}
 use Rattle.ccr_tables.specs.Cause.{cause_of}
 use Rattle.ccr_tables.specs.declared.cause.Cause.TheVariants.{Refused}
-use Rattle.ccr_tables.specs.Found.{Are}
 use Rattle.sqlite.specs.Listing.{understood}
 use Rattle.ccr_tables.proofs.Queries.{IsPlainIf, survives}
 

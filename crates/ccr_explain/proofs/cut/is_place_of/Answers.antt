@@ -1,4 +1,4 @@
-use Rattle.std.proofs.Common.{◌≡◌, ◌∙◌, ◌==◌, ℕ, List, Bool, ap}
+use Rattle.std.proofs.Common.{◌∙◌, ◌==◌, ℕ, List, Bool, ap}
 use Rattle.std.specs.List.{list_any}
 use Rattle.ccr_explain.proofs.Steps.{same_test}
 use Rattle.ccr_explain.proofs.cut.is_place_of.Goals as goal

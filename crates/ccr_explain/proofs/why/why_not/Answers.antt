@@ -1,4 +1,4 @@
-use Rattle.std.proofs.Common.{◌≡◌, ◌∙◌, ℕ, List, ap}
+use Rattle.std.proofs.Common.{◌≡◌, ◌∙◌, List, ap}
 use Rattle.ccr_choice.specs.Problem.{ProblemValue, InputValue}
 use Rattle.ccr_choice.specs.Preference.{order_of}
 use Rattle.ccr_explain.specs.WhyNot.{asked}
