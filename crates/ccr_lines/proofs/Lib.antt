@@ -4,9 +4,12 @@ mod Claiming
 mod Cores
 mod Explaining
 mod Graphing
+mod JsonPieces
+mod JsonTexts
 mod Listing
 mod PastLaws
 mod Printing
+mod Releasing
 mod Saying
 mod Showing
 mod Taking

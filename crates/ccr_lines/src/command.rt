@@ -1,5 +1,7 @@
 //! What the server is commanded.
 
+use crate::form::Form;
+
 /// A command, with its arguments as they were typed.
 #[derive(Drop)]
 pub enum Command {
@@ -32,13 +34,13 @@ pub enum Command {
     /// All builds are shown.
     Builds,
     /// The job's build of this number is shown: what it took and moved.
-    Build(String, u32),
+    Build(String, u32, Form),
     /// The builds are shown that took or moved a version of the resource of this name that meets this JSON text.
-    Trace(String, String),
+    Trace(String, String, Form),
     /// The text of the pipeline is shown.
     GetPipeline,
     /// The resources of the pipeline are shown.
-    Resources,
+    Resources(Form),
     /// The jobs of the pipeline are shown.
     Jobs,
     /// The pipeline is shown as a flowchart.

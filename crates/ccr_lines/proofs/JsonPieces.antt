@@ -1,0 +1,70 @@
+-- The texts of objects, piece by piece.
+use Rattle.std.proofs.Common.{◌≡◌, ◌∷◌, [], ◌++◌, List, ℕ, Bool, ◌&&◌, length, map, Option, codes, decimal, refl}
+use Rattle.serde_json.proofs.OnLiterals.{serde_json_on_literals}
+use Rattle.serde_json.specs.Data.{boolean, number, unsigned, string}
+use Rattle.serde_json.specs.Written.{compact_text}
+use Rattle.ccr_history.specs.Text.{Text}
+use Rattle.ccr_history.specs.Tables.{TableData, versions_of}
+use Rattle.ccr_history.specs.Changes.{pin_of}
+use Rattle.ccr_history.specs.Builds.{UsedData, BuildData, is_succeeded}
+use Rattle.ccr_history.specs.History.{HistoryData}
+use Rattle.ccr_pipeline.specs.JobData.{ResourceData, scope_of}
+use Rattle.ccr_pipeline.specs.Pipelines.{PipelineData}
+use Rattle.ccr_lines.specs.Json.{list, fields_json}
+use Rattle.ccr_lines.specs.Lines.{line, status_word}
+use Rattle.ccr_lines.specs.ReleaseJson.{version_json, took_json, moved_json, number_json, witness_json, all_together, release_json}
+use Rattle.ccr_lines.specs.Releases.{resource_at}
+use Rattle.ccr_lines.specs.ResourcesJson.{resource_json}
+use Rattle.ccr_lines.specs.TraceJson.{went_json}
+
+pub went_pieces : (b : BuildData) (took moved : Bool) → compact_text (went_json b took moved)
+    ≡ codes "{\"job_name\":" ++ (compact_text (string b.job)
+    ++ (codes ",\"moved\":" ++ (compact_text (boolean moved)
+    ++ (codes ",\"name\":" ++ (compact_text (string (decimal b.number))
+    ++ (codes ",\"passed\":" ++ (compact_text (boolean (moved && is_succeeded b.status))
+    ++ (codes ",\"status\":" ++ (compact_text (string (status_word b.status))
+    ++ (codes ",\"took\":" ++ (compact_text (boolean took) ++ codes "}")))))))))))
+unfolding went_json serde_json_on_literals
+went_pieces b took moved = refl
+
+pub resource_pieces : (h : HistoryData) (r : ResourceData) → compact_text (resource_json h r)
+    ≡ codes "{\"name\":" ++ (compact_text (string r.name)
+    ++ (codes ",\"pinned_by_pipeline\":" ++ (compact_text (fields_json r.version)
+    ++ (codes ",\"pinned_version\":" ++ (compact_text (fields_json (pin_of r.name h.pins))
+    ++ (codes ",\"type\":" ++ (compact_text (string r.kind)
+    ++ (codes ",\"version_count\":" ++ (decimal (length (versions_of (scope_of r) h.tables)) ++ codes "}")))))))))
+unfolding resource_json serde_json_on_literals
+resource_pieces h r = refl
+
+pub took_pieces : (tables : List TableData) (u : UsedData) → compact_text (took_json tables u)
+    ≡ codes "{\"name\":" ++ (compact_text (string u.input)
+    ++ (codes ",\"place\":" ++ (decimal u.place
+    ++ (codes ",\"resource\":" ++ (compact_text (string (resource_at tables u.scope))
+    ++ (codes ",\"version\":" ++ (compact_text (version_json tables u.scope u.place) ++ codes "}")))))))
+unfolding took_json serde_json_on_literals
+took_pieces tables u = refl
+
+pub moved_pieces : (tables : List TableData) (q : ℕ × ℕ) → compact_text (moved_json tables q)
+    ≡ codes "{\"place\":" ++ (decimal q.1
+    ++ (codes ",\"resource\":" ++ (compact_text (string (resource_at tables q.0))
+    ++ (codes ",\"version\":" ++ (compact_text (version_json tables q.0 q.1) ++ codes "}")))))
+unfolding moved_json serde_json_on_literals
+moved_pieces tables q = refl
+
+pub witness_pieces : (job : Text) (found : Option ℕ) → compact_text (witness_json job found)
+    ≡ codes "{\"job_name\":" ++ (compact_text (string job)
+    ++ (codes ",\"name\":" ++ (compact_text (number_json found) ++ codes "}")))
+unfolding witness_json serde_json_on_literals
+witness_pieces job found = refl
+
+-- a build with arrays that were written, on a line
+pub release_pieces : (p : PipelineData) (tables : List TableData) (before : List BuildData) (b : BuildData)
+    → compact_text (release_json p tables before b) ++ 10 ∷ []
+    ≡ line (codes "{\"inputs\":" ∷ compact_text (list (map (λ u. took_json tables u) b.used))
+    ∷ codes ",\"job_name\":" ∷ compact_text (string b.job)
+    ∷ codes ",\"moved\":" ∷ compact_text (list (map (λ q. moved_json tables q) b.moved))
+    ∷ codes ",\"name\":" ∷ compact_text (string (decimal b.number))
+    ∷ codes ",\"status\":" ∷ compact_text (string (status_word b.status))
+    ∷ codes ",\"together\":" ∷ compact_text (list (all_together p before b)) ∷ codes "}" ∷ [])
+unfolding release_json serde_json_on_literals
+release_pieces p tables before b = refl
