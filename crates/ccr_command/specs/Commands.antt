@@ -72,7 +72,7 @@ command_named word values =
     then trace_named (form_named (first_of (codes "json") values)) (first_of (codes "NAME") values) (first_of (codes "JSON") values)
     else if bytes_eq word (codes "get-pipeline") then Some (shows pipeline)
     else if bytes_eq word (codes "resources") then Some (shows (resources (form_named (first_of (codes "json") values))))
-    else if bytes_eq word (codes "jobs") then Some (shows jobs)
+    else if bytes_eq word (codes "jobs") then Some (shows (jobs (form_named (first_of (codes "json") values))))
     else if bytes_eq word (codes "graph") then Some (shows graph)
     else None
 

@@ -80,7 +80,7 @@ abbrev pub standing_commands : List Shape
 standing_commands =
     command_shape (codes "get-pipeline") []
     ∷ command_shape (codes "resources") (flag_rule (codes "json") ∷ [])
-    ∷ command_shape (codes "jobs") []
+    ∷ command_shape (codes "jobs") (flag_rule (codes "json") ∷ [])
     ∷ command_shape (codes "graph") []
     ∷ []
 

@@ -182,7 +182,7 @@ fn named(alloc: Global, word: &str, values: &ArgMatches<'_>) -> Result<Option<Co
         "trace" => trace_of(alloc, values),
         "get-pipeline" => Ok(Some(Command::GetPipeline)),
         "resources" => Ok(Some(Command::Resources(form_of(values)))),
-        "jobs" => Ok(Some(Command::Jobs)),
+        "jobs" => Ok(Some(Command::Jobs(form_of(values)))),
         "graph" => Ok(Some(Command::Graph)),
         _ => Ok(None),
     }

@@ -58,8 +58,8 @@ Example:
 }
 
 /// Shows the jobs of the pipeline.
-pub(crate) fn jobs<'a>(alloc: Global) -> Command<'a>
-    ensures { IsCommand (codes "jobs") [] result }
+pub(crate) fn jobs<'a>(alloc: Global) -> Result<Command<'a>, AllocError>
+    ensures { IfOk result (IsCommand (codes "jobs") (flag_rule (codes "json") ∷ [])) }
 {
     command(
         alloc,
@@ -71,11 +71,17 @@ none. NEXT is what the next round would find: `due`, a build is made; `nothing n
 `by command only`, because no input has `trigger`; `none satisfies`, no versions went through the jobs in `passed` together;
 `over budget N`, the search would need more nodes.
 
+With --json: one line, an array with an object for each job: `name`, `next` (what NEXT is), `has_new_inputs` (whether it is
+`due`), `next_build` (its newest build that runs), `finished_build` (its newest build that has ended), `inputs` and `outputs`.
+A build that isn't there is null.
+
 Exit statuses: 0 shown; 1 refused, because there is no pipeline; 2 usage; 4 disk or memory.
 
-Example:
-  ccr_run --db ci.db jobs",
+Examples:
+  ccr_run --db ci.db jobs
+  ccr_run --db ci.db jobs --json",
     )
+    .arg(json(alloc))
 }
 
 /// Shows the pipeline as a flowchart.

@@ -106,7 +106,7 @@ fn with_standing_commands<'a>(alloc: Global, line: Command<'a>) -> Result<Comman
 {
     let line = line.subcommand(get_pipeline(alloc))?;
     let line = line.subcommand(resources(alloc)?)?;
-    let line = line.subcommand(jobs(alloc))?;
+    let line = line.subcommand(jobs(alloc)?)?;
     line.subcommand(graph(alloc))
 }
 

@@ -1,5 +1,5 @@
 -- The texts of objects, piece by piece.
-use Rattle.std.proofs.Common.{◌≡◌, ◌∷◌, [], ◌++◌, List, ℕ, Bool, ◌&&◌, length, map, Option, codes, decimal, refl}
+use Rattle.std.proofs.Common.{◌≡◌, ◌∷◌, [], ◌++◌, List, ℕ, Bool, true, false, ◌&&◌, length, map, flat_map, Option, codes, decimal, refl}
 use Rattle.serde_json.proofs.OnLiterals.{serde_json_on_literals}
 use Rattle.serde_json.specs.Data.{boolean, number, unsigned, string}
 use Rattle.serde_json.specs.Written.{compact_text}
@@ -8,10 +8,14 @@ use Rattle.ccr_history.specs.Tables.{TableData, versions_of}
 use Rattle.ccr_history.specs.Changes.{pin_of}
 use Rattle.ccr_history.specs.Builds.{UsedData, BuildData, is_succeeded}
 use Rattle.ccr_history.specs.History.{HistoryData}
-use Rattle.ccr_pipeline.specs.JobData.{ResourceData, scope_of}
+use Rattle.ccr_pipeline.specs.Inputs.{InputData, inputs}
+use Rattle.ccr_pipeline.specs.JobData.{ResourceData, JobData, scope_of}
 use Rattle.ccr_pipeline.specs.Pipelines.{PipelineData}
+use Rattle.ccr_lines.specs.declared.outlook.Outlook.{Outlook}
+use Rattle.ccr_lines.specs.JobsJson.{newest_that, build_json, newest_json, input_json, output_json, output_of, is_due, job_json}
 use Rattle.ccr_lines.specs.Json.{list, fields_json}
 use Rattle.ccr_lines.specs.Lines.{line, status_word}
+use Rattle.ccr_lines.specs.Outlooks.{outlook_words}
 use Rattle.ccr_lines.specs.ReleaseJson.{version_json, took_json, moved_json, number_json, witness_json, all_together, release_json}
 use Rattle.ccr_lines.specs.Releases.{resource_at}
 use Rattle.ccr_lines.specs.ResourcesJson.{resource_json}
@@ -68,3 +72,35 @@ pub release_pieces : (p : PipelineData) (tables : List TableData) (before : List
     ∷ codes ",\"together\":" ∷ compact_text (list (all_together p before b)) ∷ codes "}" ∷ [])
 unfolding release_json serde_json_on_literals
 release_pieces p tables before b = refl
+
+pub build_pieces : (b : BuildData) → compact_text (build_json b)
+    ≡ codes "{\"job_name\":" ++ (compact_text (string b.job)
+    ++ (codes ",\"name\":" ++ (compact_text (string (decimal b.number))
+    ++ (codes ",\"status\":" ++ (compact_text (string (status_word b.status)) ++ codes "}")))))
+unfolding build_json serde_json_on_literals
+build_pieces b = refl
+
+pub input_pieces : (i : InputData) → compact_text (input_json i)
+    ≡ codes "{\"name\":" ++ (compact_text (string i.name)
+    ++ (codes ",\"passed\":" ++ (compact_text (list (map (λ job. string job) i.passed))
+    ++ (codes ",\"resource\":" ++ (compact_text (string i.resource)
+    ++ (codes ",\"trigger\":" ++ (compact_text (boolean i.trigger) ++ codes "}")))))))
+unfolding input_json serde_json_on_literals
+input_pieces i = refl
+
+pub output_pieces : (resource : Text) → compact_text (output_json resource)
+    ≡ codes "{\"resource\":" ++ (compact_text (string resource) ++ codes "}")
+unfolding output_json serde_json_on_literals
+output_pieces resource = refl
+
+pub job_pieces : (rs : List ResourceData) (h : HistoryData) (j : JobData) (o : Outlook)
+    → compact_text (job_json rs h j o)
+    ≡ codes "{\"finished_build\":" ++ (compact_text (newest_json (newest_that false j.name h))
+    ++ (codes ",\"has_new_inputs\":" ++ (compact_text (boolean (is_due o))
+    ++ (codes ",\"inputs\":" ++ (compact_text (list (map (λ i. input_json i) (inputs j.plan)))
+    ++ (codes ",\"name\":" ++ (compact_text (string j.name)
+    ++ (codes ",\"next\":" ++ (compact_text (string (outlook_words o))
+    ++ (codes ",\"next_build\":" ++ (compact_text (newest_json (newest_that true j.name h))
+    ++ (codes ",\"outputs\":" ++ (compact_text (list (flat_map (λ r. output_of j.plan r) rs)) ++ codes "}")))))))))))))
+unfolding job_json serde_json_on_literals
+job_pieces rs h j o = refl

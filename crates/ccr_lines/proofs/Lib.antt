@@ -4,6 +4,7 @@ mod Claiming
 mod Cores
 mod Explaining
 mod Graphing
+mod JobsListing
 mod JsonPieces
 mod JsonTexts
 mod Listing

@@ -38,7 +38,7 @@ command_data (command.Build job number form) = shows (build form (string_bytes j
 command_data (command.Trace resource pin form) = shows (trace form (string_bytes resource) (string_bytes pin))
 command_data command.GetPipeline = shows pipeline
 command_data (command.Resources form) = shows (resources form)
-command_data command.Jobs = shows jobs
+command_data (command.Jobs form) = shows (jobs form)
 command_data command.Graph = shows graph
 command_data (command.Run rounds) = run rounds
 

@@ -4,6 +4,7 @@ pub mod Commands
 pub mod Each
 pub mod Explained
 pub mod Graphs
+pub mod JobsJson
 pub mod Json
 pub mod Lines
 pub mod Needs

@@ -27,7 +27,7 @@ use Rattle.ccr_lines.specs.Explained.{IsExplained}
 use Rattle.ccr_lines.specs.Lines.{line, build_line, status_word}
 use Rattle.ccr_lines.specs.Needs.{Need, no_need, a_pipeline, a_resource, a_job, a_pin, a_build, pin_in, IsMet, Lacks, LacksPin}
 use Rattle.ccr_lines.specs.ResourcesJson.{resources_shown}
-use Rattle.ccr_lines.specs.Standing.{AreJobsShown}
+use Rattle.ccr_lines.specs.JobsJson.{AreJobs}
 use Rattle.ccr_lines.specs.Releases.{AreMadeBefore}
 use Rattle.ccr_lines.specs.ReleaseJson.{release_shown}
 use Rattle.ccr_lines.specs.TraceJson.{trace_shown}
@@ -47,7 +47,7 @@ pub data ShownData : Type 0 where
   explanation : (job : Text) → ShownData
   pipeline : ShownData
   resources : (form : Form) → ShownData
-  jobs : ShownData
+  jobs : (form : Form) → ShownData
   graph : ShownData
   build : (form : Form) (job : Text) (number : ℕ) → ShownData
   trace : (form : Form) (resource pin : Text) → ShownData
@@ -63,7 +63,7 @@ shown_data (value.Certificate job) = certificate job.now
 shown_data (value.Explanation job) = explanation job.now
 shown_data value.Pipeline = pipeline
 shown_data (value.Resources form) = resources form
-shown_data value.Jobs = jobs
+shown_data (value.Jobs form) = jobs form
 shown_data value.Graph = graph
 shown_data (value.Build job number form) = build form job.now number
 shown_data (value.Trace resource pin form) = trace form resource.now pin.now
@@ -79,7 +79,7 @@ needs (certificate job) = a_job job
 needs (explanation job) = a_job job
 needs pipeline = a_pipeline
 needs (resources form) = a_pipeline
-needs jobs = a_pipeline
+needs (jobs form) = a_pipeline
 needs graph = a_pipeline
 needs (build form job number) = a_build job number
 needs (trace form resource pin) = a_pin resource pin
@@ -148,7 +148,7 @@ IsShown (certificate job) p h budget status lines = IsCertificateShown p h budge
 IsShown (explanation job) p h budget status lines = IsExplained p h budget job status lines
 IsShown pipeline p h budget status lines = (status ≡ 0) × (lines ≡ p.text)
 IsShown (resources form) p h budget status lines = (status ≡ 0) × (lines ≡ resources_shown form h p.resources)
-IsShown jobs p h budget status lines = (status ≡ 0) × AreJobsShown p h budget p.jobs lines
+IsShown (jobs form) p h budget status lines = (status ≡ 0) × AreJobs form p h budget p.jobs lines
 IsShown graph p h budget status lines = (status ≡ 0) × (lines ≡ graph_lines p h)
 IsShown (build form job number) p h budget status lines = (status ≡ 0) × IsReleaseShown form p h job number lines
 IsShown (trace form resource pin) p h budget status lines = (status ≡ 0) × IsTraceShown form h resource pin lines

@@ -42,7 +42,7 @@ pub enum Command {
     /// The resources of the pipeline are shown.
     Resources(Form),
     /// The jobs of the pipeline are shown.
-    Jobs,
+    Jobs(Form),
     /// The pipeline is shown as a flowchart.
     Graph,
     /// So many rounds are run, from 1 to 1,000,000, and then all builds to their ends.

@@ -18,6 +18,7 @@ mod explain;
 mod form;
 mod graph;
 mod held;
+mod jobs_json;
 mod json;
 mod label;
 mod lines;

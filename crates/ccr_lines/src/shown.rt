@@ -26,7 +26,7 @@ pub enum Shown<'a> {
     /// The resources of the pipeline, with their versions counted and their pins.
     Resources(Form),
     /// The jobs of the pipeline, with their newest builds, and what their next builds would be.
-    Jobs,
+    Jobs(Form),
     /// The pipeline as a Mermaid flowchart, with the newest builds of its jobs.
     Graph,
     /// The job's build of this number: what it took and moved, and through which builds that went together before.

@@ -159,7 +159,7 @@ fn made(alloc: Global, what: Shown<'_>, core: &Core) -> Result<(u8, Vec<u8>), Sh
         Shown::Explanation(job) => explained_made(alloc, core, job),
         Shown::Pipeline => pipeline_made(alloc, core),
         Shown::Resources(form) => resources_made(alloc, core, form),
-        Shown::Jobs => jobs_made(alloc, core),
+        Shown::Jobs(form) => jobs_made(alloc, core, form),
         Shown::Graph => graph_made(alloc, core),
         Shown::Build(job, number, form) => release_made(alloc, core, form, job, number),
         Shown::Trace(resource, pin, form) => trace_made(alloc, core, form, resource, pin),

@@ -3,6 +3,7 @@ ghost use Rattle.std.specs.Prelude.{◌≡◌, ◌++◌, Some, map, flat_map, op
 ghost use Rattle.ccr_pipeline.specs.JobData.{resource_data, job_data};
 ghost use Rattle.ccr_pipeline.specs.Pipelines.{pipeline_data};
 ghost use Rattle.ccr_core.specs.Cores.{core_data};
+ghost use Rattle.ccr_lines.specs.JobsJson.{AreJobs};
 ghost use Rattle.ccr_lines.specs.ResourcesJson.{resources_shown};
 ghost use Rattle.ccr_lines.specs.Shown.{needs, IsMade, IsUnshown};
 ghost use Rattle.ccr_lines.specs.Shown as spec;
@@ -10,6 +11,7 @@ ghost use Rattle.ccr_lines.specs.Standing.{pin_words, resource_line, resources_l
 
 use crate::form::Form;
 use crate::held::pipeline_held;
+use crate::jobs_json::jobs_json;
 use crate::outlook::{Outlook, outlook_of, push_outlook};
 use crate::resources_json::resources_json;
 use crate::shown::ShowFault;
@@ -172,15 +174,33 @@ fn jobs_text(alloc: Global, core: &Core, pipeline: &Pipeline) -> Result<String, 
     Ok(text)
 }
 
+/// The jobs of a core's pipeline, in one of the forms.
+fn jobs_shown(
+    alloc: Global,
+    form: Form,
+    core: &Core,
+    pipeline: &Pipeline,
+) -> Result<Vec<u8>, AllocError>
+    requires { (core_data core.now).pipeline ≡ Some (pipeline_data pipeline.now) }
+    ensures { let c = core_data core.now in let p = pipeline_data pipeline.now in
+        IfOk result (λ text. AreJobs form p c.history c.budget p.jobs text.items) }
+{
+    match form {
+        Form::Lines => Ok(jobs_text(alloc, core, pipeline)?.into_bytes()),
+        Form::Json => jobs_json(alloc, core, pipeline),
+    }
+}
+
 /// What is shown of the jobs of a core's pipeline.
-pub(crate) fn jobs_made(alloc: Global, core: &Core) -> Result<(u8, Vec<u8>), ShowFault>
-    ensures made { IfOk result (λ r. IsMade spec.jobs (core_data core.now) r.0 r.1.items) }
-    ensures unshown { let c = core_data core.now in IfErr result (IsUnshown (needs spec.jobs) c.pipeline c.history) }
+pub(crate) fn jobs_made(alloc: Global, core: &Core, form: Form) -> Result<(u8, Vec<u8>), ShowFault>
+    ensures made { IfOk result (λ r. IsMade (spec.jobs form) (core_data core.now) r.0 r.1.items) }
+    ensures unshown { let c = core_data core.now in
+        IfErr result (IsUnshown (needs (spec.jobs form)) c.pipeline c.history) }
 {
     let pipeline = match pipeline_held(core) {
         Ok(pipeline) => pipeline,
         Err(fault) => return Err(ShowFault::Lacks(fault)),
     };
-    let text = jobs_text(alloc, core, pipeline)?;
-    Ok((0, text.into_bytes()))
+    let text = jobs_shown(alloc, form, core, pipeline)?;
+    Ok((0, text))
 }

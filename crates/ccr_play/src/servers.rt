@@ -105,7 +105,7 @@ fn command_of(alloc: Global, kind: &str, words: &str) -> Result<Option<Command>,
         }
         "get-pipeline" => Command::GetPipeline,
         "resources" => Command::Resources(form_of(words).0),
-        "jobs" => Command::Jobs,
+        "jobs" => Command::Jobs(form_of(words).0),
         "graph" => Command::Graph,
         "run" => Command::Run(number_of(words)),
         _ => return Ok(None),

@@ -80,7 +80,7 @@ impl<R: Runner, S: Shelf, T: Storage> Server<R, S, T> {
             }
             Command::GetPipeline => self.show(Shown::Pipeline, out),
             Command::Resources(form) => self.show(Shown::Resources(*form), out),
-            Command::Jobs => self.show(Shown::Jobs, out),
+            Command::Jobs(form) => self.show(Shown::Jobs(*form), out),
             Command::Graph => self.show(Shown::Graph, out),
             Command::Run(rounds) => self.run(*rounds, out),
         }
