@@ -4,7 +4,7 @@ use Rattle.std.specs.Str.{bytes_eq}
 use Rattle.clap.specs.declared.parser.matches.ArgMatches.{ArgMatches}
 use Rattle.clap.specs.Words.{Row, Text, first_of, subcommand_rows_of}
 use Rattle.ccr_lines.specs.declared.form.Form.{Form}
-use Rattle.ccr_lines.specs.declared.form.Form.TheVariants as form
+use Rattle.ccr_lines.specs.declared.form.Form.TheVariants.{Lines, Json}
 use Rattle.ccr_lines.specs.Commands.{CommandData, set_pipeline, check_resource, pin_resource, unpin_resource, disable_version, enable_version, trigger_job, run, shows}
 use Rattle.ccr_lines.specs.Shown.{versions, problem, proof, certificate, explanation, builds, build, trace, build_certificate, pipeline, resources, jobs, graph}
 use Rattle.ccr_command.specs.Numbers.{number_of, place_of}
@@ -25,8 +25,12 @@ run_named rounds = option_map run (option_and_then number_of rounds)
 
 -- the form in which it is shown: JSON where the flag was given, and else lines
 abbrev pub form_named : Option Text → Form
-form_named None = form.Lines
-form_named (Some given) = if bytes_eq given (codes "true") then form.Json else form.Lines
+form_named None = Lines
+form_named (Some given) = if bytes_eq given (codes "true") then Json else Lines
+
+-- the form that these values ask for
+abbrev pub form_in : List Row → Form
+form_in values = form_named (first_of (codes "json") values)
 
 -- a build that is shown, where both its arguments have a value and its number is in its range
 abbrev pub build_named : Form → Option Text → Option Text → Option CommandData
@@ -67,12 +71,12 @@ command_named word values =
     then certify_named (first_of (codes "JOB") values) (first_of (codes "N") values)
     else if bytes_eq word (codes "explain") then option_map (λ job. shows (explanation job)) (first_of (codes "JOB") values)
     else if bytes_eq word (codes "build")
-    then build_named (form_named (first_of (codes "json") values)) (first_of (codes "JOB") values) (first_of (codes "N") values)
+    then build_named (form_in values) (first_of (codes "JOB") values) (first_of (codes "N") values)
     else if bytes_eq word (codes "trace")
-    then trace_named (form_named (first_of (codes "json") values)) (first_of (codes "NAME") values) (first_of (codes "JSON") values)
+    then trace_named (form_in values) (first_of (codes "NAME") values) (first_of (codes "JSON") values)
     else if bytes_eq word (codes "get-pipeline") then Some (shows pipeline)
-    else if bytes_eq word (codes "resources") then Some (shows (resources (form_named (first_of (codes "json") values))))
-    else if bytes_eq word (codes "jobs") then Some (shows (jobs (form_named (first_of (codes "json") values))))
+    else if bytes_eq word (codes "resources") then Some (shows (resources (form_in values)))
+    else if bytes_eq word (codes "jobs") then Some (shows (jobs (form_in values)))
     else if bytes_eq word (codes "graph") then Some (shows graph)
     else None
 

@@ -2,7 +2,7 @@
 ghost use Rattle.std.specs.Prelude.{◌≡◌, Some, IfOk, codes, option_map, string_bytes};
 ghost use Rattle.clap.specs.Words.{first_of, found_of, rows_of};
 ghost use Rattle.ccr_lines.specs.Commands.{command_data, disable_version, enable_version};
-ghost use Rattle.ccr_command.specs.Commands.{pin_named, place_named, run_named, form_named, build_named, trace_named, command_named, command_in};
+ghost use Rattle.ccr_command.specs.Commands.{pin_named, place_named, run_named, form_in, build_named, trace_named, command_named, command_in};
 
 use crate::abort::text_of;
 use crate::certify::certify_of;
@@ -104,7 +104,7 @@ fn run_of(values: &ArgMatches<'_>) -> Option<Command>
 
 /// The form in which it is to be shown: JSON if the flag was given, else lines.
 fn form_of(values: &ArgMatches<'_>) -> Form
-    ensures { result ≡ form_named (first_of (codes "json") (rows_of (found_of values.now))) }
+    ensures { result ≡ form_in (rows_of (found_of values.now)) }
 {
     match text_of(values, "json") {
         Some(given) => {
@@ -131,8 +131,8 @@ fn numbered(form: Form, job: String, number: &str) -> Option<Command>
 /// The build of these values, which is to be shown; None where one is absent or out of its range.
 fn build_of(alloc: Global, values: &ArgMatches<'_>) -> Result<Option<Command>, AllocError>
     ensures { IfOk result (λ command. option_map command_data command
-        ≡ build_named (form_named (first_of (codes "json") (rows_of (found_of values.now))))
-        (first_of (codes "JOB") (rows_of (found_of values.now))) (first_of (codes "N") (rows_of (found_of values.now)))) }
+        ≡ build_named (form_in (rows_of (found_of values.now))) (first_of (codes "JOB") (rows_of (found_of values.now)))
+        (first_of (codes "N") (rows_of (found_of values.now)))) }
 {
     let form = form_of(values);
     let job = value_of(alloc, values, "JOB")?;
@@ -146,8 +146,8 @@ fn build_of(alloc: Global, values: &ArgMatches<'_>) -> Result<Option<Command>, A
 /// The version of these values, whose builds are to be shown; None where one is absent.
 fn trace_of(alloc: Global, values: &ArgMatches<'_>) -> Result<Option<Command>, AllocError>
     ensures { IfOk result (λ command. option_map command_data command
-        ≡ trace_named (form_named (first_of (codes "json") (rows_of (found_of values.now))))
-        (first_of (codes "NAME") (rows_of (found_of values.now))) (first_of (codes "JSON") (rows_of (found_of values.now)))) }
+        ≡ trace_named (form_in (rows_of (found_of values.now))) (first_of (codes "NAME") (rows_of (found_of values.now)))
+        (first_of (codes "JSON") (rows_of (found_of values.now)))) }
 {
     let form = form_of(values);
     let resource = value_of(alloc, values, "NAME")?;

@@ -39,7 +39,8 @@ number_json found = option_map_or (λ n. string (decimal n)) found null
 
 -- the build of a job that shows that pairs passed it together; null in place of its number where there is none
 unfoldable pub witness_json : Text → Option ℕ → Data
-witness_json job found = object (member (codes "job_name") (string job) (member (codes "name") (number_json found) no_members))
+witness_json job found =
+    object (member (codes "job_name") (string job) (member (codes "name") (number_json found) no_members))
 
 -- the same of pairs that have to have passed the job, with a build that was made before; nothing where there are none
 abbrev pub together_json : Text → List (ℕ × ℕ) → List BuildData → List Data
