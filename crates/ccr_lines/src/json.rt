@@ -1,5 +1,5 @@
 //! JSON values as texts.
-ghost use Rattle.std.specs.Prelude.{◌≡◌, ◌++◌, ◌∷◌, [], flat_map, drop, IfOk, OnOk};
+ghost use Rattle.std.specs.Prelude.{◌≡◌, ◌++◌, ◌∷◌, [], drop, IfOk};
 ghost use Rattle.serde_json.specs.Data.{boolean, string};
 ghost use Rattle.serde_json.specs.Written.{compact_text};
 ghost use Rattle.ccr_lines.specs.Json.{array_of};
@@ -19,16 +19,6 @@ pub(crate) fn bool_text(value: bool) -> &'static str
     ensures { result.now ≡ compact_text (boolean value) }
 {
     if value { "true" } else { "false" }
-}
-
-/// Adds these pieces, one behind the other.
-pub(crate) fn push_pieces(out: &mut Vec<u8>, pieces: &[&[u8]]) -> Result<(), AllocError>
-    ensures { OnOk result (out.new.items ≡ out.old.items ++ flat_map (λ piece. piece.now) pieces.now) }
-{
-    for piece in pieces {
-        out.extend_from_slice(piece)?;
-    }
-    Ok(())
 }
 
 /// What follows the first byte.

@@ -11,9 +11,10 @@ ghost use Rattle.ccr_lines.specs.Lines.{line, status_word};
 ghost use Rattle.ccr_lines.specs.ReleaseJson.{version_json, took_json, moved_json, number_json, witness_json, together_json, all_together, release_json};
 ghost use Rattle.ccr_lines.specs.Releases.{pairs_naming};
 
-use crate::json::{array_text, push_pieces, string_text};
+use crate::json::{array_text, string_text};
 use crate::release::{inputs_in_plan, newest_together, pairs_naming, resource_at, used_at};
 use crate::tell::word_of;
+use crate::texts::push_pieces;
 use ccr_history::{BuildRef, History};
 use ccr_pipeline::{Input, Job, Pipeline};
 use itoa::Buffer;

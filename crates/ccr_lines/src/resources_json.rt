@@ -5,7 +5,8 @@ ghost use Rattle.ccr_pipeline.specs.JobData.{resource_data};
 ghost use Rattle.ccr_lines.specs.Json.{fields_json, json_line, after_comma};
 ghost use Rattle.ccr_lines.specs.ResourcesJson.{resource_json, resources_json};
 
-use crate::json::{array_line, push_pieces, string_text};
+use crate::json::{array_line, string_text};
+use crate::texts::push_pieces;
 use ccr_history::{History, Pin};
 use ccr_pipeline::Resource;
 use itoa::Buffer;
