@@ -2,7 +2,7 @@
 
 use crate::form::Form;
 
-/// A command, with its arguments as they were typed.
+/// A command, with its arguments as they were typed. A form says how something is shown, where there are two.
 #[derive(Drop)]
 pub enum Command {
     /// The pipeline in the file at this path is set.

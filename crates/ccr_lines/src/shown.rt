@@ -6,7 +6,8 @@ use crate::form::Form;
 use ccr_core::CoreFault;
 use std::alloc::AllocError;
 
-/// What a command shows that changes nothing. A name is that of a resource or a job, as it was typed.
+/// What a command shows that changes nothing. A name is that of a resource or a job, as it was typed; a form says how it is
+/// shown, where there are two.
 #[derive(Clone, Copy)]
 pub enum Shown<'a> {
     /// How each build stands, in order of making.
