@@ -1,7 +1,6 @@
 -- What a build took and moved, as JSON.
-use Rattle.std.proofs.Common.{◌≡◌, ◌∷◌, [], List, map, flat_map, codes, decimal, Option, Some, unwrap_or, sym, ◌∙◌, ap}
+use Rattle.std.proofs.Common.{◌≡◌, List, map, flat_map, Option, Some, unwrap_or, sym, ◌∙◌, ap}
 use Rattle.std.proofs.lemmas.List.Folds.{flat_map-map}
-use Rattle.serde_json.specs.Data.{string}
 use Rattle.serde_json.specs.Written.{compact_text}
 use Rattle.ccr_history.specs.Text.{Text}
 use Rattle.ccr_history.specs.Tables.{TableData}
@@ -11,9 +10,8 @@ use Rattle.ccr_pipeline.specs.JobData.{JobData, job_data}
 use Rattle.ccr_pipeline.specs.Pipelines.{PipelineData}
 use Rattle.ccr_pipeline.specs.declared.resource.Job.{Job}
 use Rattle.ccr_core.specs.State.{no_pipeline}
-use Rattle.ccr_lines.specs.Json.{list, json_line, after_comma, array_of}
-use Rattle.ccr_lines.specs.Lines.{line, status_word}
-use Rattle.ccr_lines.specs.ReleaseJson.{took_json, moved_json, together_json, all_together, release_json}
+use Rattle.ccr_lines.specs.Json.{list, after_comma, array_of}
+use Rattle.ccr_lines.specs.ReleaseJson.{took_json, moved_json, together_json, all_together, release_json, release_text}
 use Rattle.ccr_lines.specs.Releases.{pairs_naming, inputs_in_plan}
 use Rattle.ccr_lines.proofs.JsonPieces.{release_pieces}
 use Rattle.ccr_lines.proofs.JsonTexts.{lists_told}
@@ -32,27 +30,17 @@ together_told p o before b jobs is out set same planned told =
     ∙ ap (λ x. flat_map after_comma (all_together (unwrap_or x no_pipeline) before b)) (sym set)))))
 
 -- ---- a build
--- a build on a line, with these arrays
-abbrev build_line : BuildData → Text → Text → Text → Text
-build_line b taken moved together =
-    line (codes "{\"inputs\":" ∷ taken ∷ codes ",\"job_name\":" ∷ compact_text (string b.job)
-    ∷ codes ",\"moved\":" ∷ moved ∷ codes ",\"name\":" ∷ compact_text (string (decimal b.number))
-    ∷ codes ",\"status\":" ∷ compact_text (string (status_word b.status)) ∷ codes ",\"together\":" ∷ together ∷ codes "}" ∷ [])
-
 pub release_told : (p : PipelineData) (tables : List TableData) (before : List BuildData) (b : BuildData)
     (taken moved together text : Text)
     → array_of taken ≡ compact_text (list (map (λ u. took_json tables u) b.used))
     → array_of moved ≡ compact_text (list (map (λ q. moved_json tables q) b.moved))
     → array_of together ≡ compact_text (list (all_together p before b))
-    → text ≡ line (codes "{\"inputs\":" ∷ array_of taken ∷ codes ",\"job_name\":" ∷ compact_text (string b.job)
-    ∷ codes ",\"moved\":" ∷ array_of moved ∷ codes ",\"name\":" ∷ compact_text (string (decimal b.number))
-    ∷ codes ",\"status\":" ∷ compact_text (string (status_word b.status))
-    ∷ codes ",\"together\":" ∷ array_of together ∷ codes "}" ∷ [])
-    → text ≡ json_line (release_json p tables before b)
+    → text ≡ release_text b (array_of taken) (array_of moved) (array_of together)
+    → text ≡ compact_text (release_json p tables before b)
 release_told p tables before b taken moved together text d e f told =
     told
-    ∙ (ap (λ x. build_line b x (array_of moved) (array_of together)) d
-    ∙ (ap (λ y. build_line b (compact_text (list (map (λ u. took_json tables u) b.used))) y (array_of together)) e
-    ∙ (ap (λ z. build_line b (compact_text (list (map (λ u. took_json tables u) b.used)))
+    ∙ (ap (λ x. release_text b x (array_of moved) (array_of together)) d
+    ∙ (ap (λ y. release_text b (compact_text (list (map (λ u. took_json tables u) b.used))) y (array_of together)) e
+    ∙ (ap (λ z. release_text b (compact_text (list (map (λ u. took_json tables u) b.used)))
     (compact_text (list (map (λ q. moved_json tables q) b.moved))) z) f
     ∙ sym (release_pieces p tables before b))))

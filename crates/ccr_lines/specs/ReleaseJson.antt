@@ -1,7 +1,9 @@
 -- What a build took and moved, and the earlier builds through which that went together, as JSON.
 use Rattle.std.specs.Prelude.{ℕ, List, [], ◌∷◌, map, flat_map, Option, option_map, codes, decimal}
+use Rattle.std.specs.List.{concat}
 use Rattle.std.specs.Option.{option_map_or}
 use Rattle.serde_json.specs.Data.{Data, null, number, unsigned, string, object, no_members, member}
+use Rattle.serde_json.specs.Written.{compact_text}
 use Rattle.ccr_history.specs.Text.{Text}
 use Rattle.ccr_history.specs.Tables.{TableData, at_place, versions_at}
 use Rattle.ccr_history.specs.Builds.{UsedData, BuildData}
@@ -64,6 +66,15 @@ release_json p tables before b =
     (member (codes "name") (string (decimal b.number))
     (member (codes "status") (string (status_word b.status))
     (member (codes "together") (list (all_together p before b)) no_members))))))
+
+-- its text, where these are the texts of what it took, of what it moved, and of the builds through which that had gone
+-- together
+unfoldable pub release_text : BuildData → Text → Text → Text → Text
+release_text b taken moved together =
+    concat (codes "{\"inputs\":" ∷ taken ∷ codes ",\"job_name\":" ∷ compact_text (string b.job)
+    ∷ codes ",\"moved\":" ∷ moved ∷ codes ",\"name\":" ∷ compact_text (string (decimal b.number))
+    ∷ codes ",\"status\":" ∷ compact_text (string (status_word b.status)) ∷ codes ",\"together\":" ∷ together
+    ∷ codes "}" ∷ [])
 
 -- the same in one of the forms
 abbrev pub release_shown : Form → PipelineData → List TableData → List BuildData → BuildData → Text

@@ -39,11 +39,20 @@ pub(crate) fn array_text(alloc: Global, items: &[u8]) -> Result<Vec<u8>, AllocEr
     Ok(text)
 }
 
+/// A text on a line.
+pub(crate) fn on_a_line(text: Vec<u8>) -> Result<Vec<u8>, AllocError>
+    ensures { IfOk result (λ line. line.items ≡ text.items ++ 10 ∷ []) }
+{
+    let mut line = text;
+    line.extend_from_slice("\n".as_bytes())?;
+    Ok(line)
+}
+
 /// The same array on a line.
 pub(crate) fn array_line(alloc: Global, items: &[u8]) -> Result<Vec<u8>, AllocError>
     ensures { IfOk result (λ text. text.items ≡ array_of items.now ++ 10 ∷ []) }
 {
-    let mut text = array_text(alloc, items)?;
-    text.extend_from_slice("\n".as_bytes())?;
-    Ok(text)
+    let text = array_text(alloc, items)?;
+    let line = on_a_line(text)?;
+    Ok(line)
 }

@@ -1,17 +1,15 @@
 //! What a build took and moved, and the earlier builds through which that went together, as JSON.
-ghost use Rattle.std.specs.Prelude.{◌≡◌, ◌≤◌, ◌++◌, ◌∷◌, [], codes, decimal, length, map, take, flat_map, option_map, option_copied, unwrap_or, string_bytes, IfOk, OnOk};
-ghost use Rattle.serde_json.specs.Data.{string};
+ghost use Rattle.std.specs.Prelude.{◌≡◌, ◌≤◌, ◌++◌, length, map, take, flat_map, option_map, option_copied, unwrap_or, string_bytes, IfOk, OnOk};
 ghost use Rattle.serde_json.specs.Written.{compact_text};
 ghost use Rattle.ccr_pipeline.specs.Inputs.{input_data};
 ghost use Rattle.ccr_pipeline.specs.JobData.{job_data};
 ghost use Rattle.ccr_pipeline.specs.Pipelines.{pipeline_data};
 ghost use Rattle.ccr_core.specs.State.{no_pipeline};
 ghost use Rattle.ccr_lines.specs.Json.{json_line, after_comma, array_of};
-ghost use Rattle.ccr_lines.specs.Lines.{line, status_word};
-ghost use Rattle.ccr_lines.specs.ReleaseJson.{version_json, took_json, moved_json, number_json, witness_json, together_json, all_together, release_json};
+ghost use Rattle.ccr_lines.specs.ReleaseJson.{version_json, took_json, moved_json, number_json, witness_json, together_json, all_together, release_text, release_json};
 ghost use Rattle.ccr_lines.specs.Releases.{pairs_naming};
 
-use crate::json::{array_text, string_text};
+use crate::json::{array_text, on_a_line, string_text};
 use crate::release::{inputs_in_plan, newest_together, pairs_naming, resource_at, used_at};
 use crate::tell::word_of;
 use crate::texts::push_pieces;
@@ -226,8 +224,8 @@ fn all_together(
 
 // ---- a build
 
-/// A build on a line, with what it took and moved, and the builds through which that had gone together. Each of these stands
-/// behind a comma.
+/// A build with these texts of what it took, of what it moved, and of the builds through which that had gone together. In each
+/// of them, each value stands behind a comma.
 fn build_text(
     alloc: Global,
     build: &BuildRef<'_>,
@@ -236,10 +234,7 @@ fn build_text(
     together: &[u8],
 ) -> Result<Vec<u8>, AllocError>
     ensures { IfOk result (λ text. text.items
-        ≡ line (codes "{\"inputs\":" ∷ array_of taken.now ∷ codes ",\"job_name\":" ∷ compact_text (string build.now.job)
-        ∷ codes ",\"moved\":" ∷ array_of moved.now ∷ codes ",\"name\":" ∷ compact_text (string (decimal build.now.number))
-        ∷ codes ",\"status\":" ∷ compact_text (string (status_word build.now.status))
-        ∷ codes ",\"together\":" ∷ array_of together.now ∷ codes "}" ∷ [])) }
+        ≡ release_text build.now (array_of taken.now) (array_of moved.now) (array_of together.now)) }
 {
     let inputs = array_text(alloc, taken)?;
     let job = string_text(alloc, build.job())?;
@@ -261,7 +256,7 @@ fn build_text(
         word.as_slice(),
         ",\"together\":".as_bytes(),
         together.as_slice(),
-        "}\n".as_bytes(),
+        "}".as_bytes(),
     ];
     let mut text = Vec::new(alloc);
     push_pieces(&mut text, &pieces)?;
@@ -286,5 +281,6 @@ pub(crate) fn release_json(
     let moved = each_moved(alloc, history, build.moved())?;
     let together = all_together(alloc, pipeline, history, build, before)?;
     let text = build_text(alloc, build, &taken, &moved, &together)?;
-    Ok(text)
+    let line = on_a_line(text)?;
+    Ok(line)
 }

@@ -85,7 +85,8 @@ fn push_traced(
 {
     let took = has_taken(history, resource, pin, build);
     let moved = has_sought(history, resource, pin, build.moved());
-    push_went_if(alloc, out, build, took, moved)
+    push_went_if(alloc, out, build, took, moved)?;
+    Ok(())
 }
 
 /// The builds that took or moved a version of the resource that meets the pin, each behind a comma.
