@@ -3,6 +3,8 @@ use Rattle.std.specs.Prelude.{ℕ, List, Option, Some, None, option_map, option_
 use Rattle.std.specs.Str.{bytes_eq}
 use Rattle.clap.specs.declared.parser.matches.ArgMatches.{ArgMatches}
 use Rattle.clap.specs.Words.{Row, Text, first_of, subcommand_rows_of}
+use Rattle.ccr_lines.specs.declared.form.Form.{Form}
+use Rattle.ccr_lines.specs.declared.form.Form.TheVariants.{Lines, Json}
 use Rattle.ccr_lines.specs.Commands.{CommandData, set_pipeline, check_resource, pin_resource, unpin_resource, disable_version, enable_version, trigger_job, run, shows}
 use Rattle.ccr_lines.specs.Shown.{versions, problem, proof, certificate, explanation, builds, build, trace, build_certificate, pipeline, resources, jobs, graph}
 use Rattle.ccr_command.specs.Numbers.{number_of, place_of}
@@ -21,10 +23,19 @@ place_named make _ _ = None
 abbrev pub run_named : Option Text → Option CommandData
 run_named rounds = option_map run (option_and_then number_of rounds)
 
+-- the form in which it is shown: JSON where the flag was given, and else lines
+abbrev pub form_named : Option Text → Form
+form_named None = Lines
+form_named (Some given) = if bytes_eq given (codes "true") then Json else Lines
+
+-- the form that these values ask for
+abbrev pub form_in : List Row → Form
+form_in values = form_named (first_of (codes "json") values)
+
 -- a build that is shown, where both its arguments have a value and its number is in its range
-abbrev pub build_named : Option Text → Option Text → Option CommandData
-build_named (Some job) (Some number) = option_map (λ n. shows (build job n)) (number_of number)
-build_named _ _ = None
+abbrev pub build_named : Form → Option Text → Option Text → Option CommandData
+build_named form (Some job) (Some number) = option_map (λ n. shows (build form job n)) (number_of number)
+build_named form _ _ = None
 
 -- the certificate of a job's next build, or of its build of this number, where the number is in its range
 abbrev pub certify_named : Option Text → Option Text → Option CommandData
@@ -33,9 +44,9 @@ certify_named (Some job) (Some number) = option_map (λ n. shows (build_certific
 certify_named None number = None
 
 -- a version whose builds are shown, where both its arguments have a value
-abbrev pub trace_named : Option Text → Option Text → Option CommandData
-trace_named (Some resource) (Some pin) = Some (shows (trace resource pin))
-trace_named _ _ = None
+abbrev pub trace_named : Form → Option Text → Option Text → Option CommandData
+trace_named form (Some resource) (Some pin) = Some (shows (trace form resource pin))
+trace_named form _ _ = None
 
 -- the command that a word names, with the first value of each of its arguments; none where there is no such command, or
 -- where a value is absent or out of its range
@@ -59,11 +70,13 @@ command_named word values =
     else if bytes_eq word (codes "certify")
     then certify_named (first_of (codes "JOB") values) (first_of (codes "N") values)
     else if bytes_eq word (codes "explain") then option_map (λ job. shows (explanation job)) (first_of (codes "JOB") values)
-    else if bytes_eq word (codes "build") then build_named (first_of (codes "JOB") values) (first_of (codes "N") values)
-    else if bytes_eq word (codes "trace") then trace_named (first_of (codes "NAME") values) (first_of (codes "JSON") values)
+    else if bytes_eq word (codes "build")
+    then build_named (form_in values) (first_of (codes "JOB") values) (first_of (codes "N") values)
+    else if bytes_eq word (codes "trace")
+    then trace_named (form_in values) (first_of (codes "NAME") values) (first_of (codes "JSON") values)
     else if bytes_eq word (codes "get-pipeline") then Some (shows pipeline)
-    else if bytes_eq word (codes "resources") then Some (shows resources)
-    else if bytes_eq word (codes "jobs") then Some (shows jobs)
+    else if bytes_eq word (codes "resources") then Some (shows (resources (form_in values)))
+    else if bytes_eq word (codes "jobs") then Some (shows (jobs (form_in values)))
     else if bytes_eq word (codes "graph") then Some (shows graph)
     else None
 

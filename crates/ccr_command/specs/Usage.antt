@@ -1,5 +1,6 @@
 -- The words of the command line: its options and commands, as `clap` reads them.
 use Rattle.std.specs.Prelude.{◌≡◌, List, [], ◌∷◌, true, false, Some, pos, codes}
+use Rattle.clap.specs.declared.builder.action.ArgAction.TheVariants.{SetTrue}
 use Rattle.clap.specs.declared.builder.command.Command.{Command}
 use Rattle.clap.specs.declared.builder.command.Command.TheViews.{out-Command}
 use Rattle.clap.specs.declared.builder.value_parser.ValueParser.TheVariants.{Signed}
@@ -27,6 +28,10 @@ required_rule id = record (option_rule id) { required = true }
 -- an option that has this value where it isn't there
 abbrev pub optional_rule : Text → Text → Rule
 optional_rule id default = record (option_rule id) { defaults = default ∷ [] }
+
+-- a flag, which is named by two dashes and its id
+abbrev pub flag_rule : Text → Rule
+flag_rule id = record (new_rule id) { long = Some id; action = Some SetTrue }
 
 -- the same, which is a number from 1 to the highest
 abbrev pub as_number : Rule → Rule
@@ -74,16 +79,18 @@ job_commands =
 abbrev pub standing_commands : List Shape
 standing_commands =
     command_shape (codes "get-pipeline") []
-    ∷ command_shape (codes "resources") []
-    ∷ command_shape (codes "jobs") []
+    ∷ command_shape (codes "resources") (flag_rule (codes "json") ∷ [])
+    ∷ command_shape (codes "jobs") (flag_rule (codes "json") ∷ [])
     ∷ command_shape (codes "graph") []
     ∷ []
 
 -- the commands that show what builds took
 abbrev pub release_commands : List Shape
 release_commands =
-    command_shape (codes "build") (value_rule (codes "JOB") ∷ as_number (value_rule (codes "N")) ∷ [])
-    ∷ command_shape (codes "trace") (value_rule (codes "NAME") ∷ value_rule (codes "JSON") ∷ [])
+    command_shape (codes "build")
+    (value_rule (codes "JOB") ∷ as_number (value_rule (codes "N")) ∷ flag_rule (codes "json") ∷ [])
+    ∷ command_shape (codes "trace")
+    (value_rule (codes "NAME") ∷ value_rule (codes "JSON") ∷ flag_rule (codes "json") ∷ [])
     ∷ []
 
 -- the commands that show what a job's next build would take: so that it can be checked, and why

@@ -26,7 +26,7 @@ fn numbered<'a>(job: &'a str, number: &str) -> Option<AbortRequest<'a>>
 }
 
 /// The first value of an argument; None where it has none.
-fn text_of<'a>(values: &ArgMatches<'a>, id: &str) -> Option<&'a str>
+pub(crate) fn text_of<'a>(values: &ArgMatches<'a>, id: &str) -> Option<&'a str>
     ensures { option_map (λ text. text.now) result ≡ first_of id.now (rows_of (found_of values.now)) }
 {
     values.get_str(id)

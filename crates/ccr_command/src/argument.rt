@@ -1,9 +1,9 @@
 //! The arguments of a command line.
 ghost use Rattle.std.specs.Prelude.{◌≡◌, false};
 ghost use Rattle.clap.specs.Words.{rule_of};
-ghost use Rattle.ccr_command.specs.Usage.{value_rule, extra_rule, option_rule, required_rule, optional_rule, as_number, as_place};
+ghost use Rattle.ccr_command.specs.Usage.{value_rule, extra_rule, option_rule, required_rule, optional_rule, flag_rule, as_number, as_place};
 
-use clap::{Arg, value_parser};
+use clap::{Arg, ArgAction, value_parser};
 use std::alloc::Global;
 
 /// An argument that has to be there, without a name before it.
@@ -50,6 +50,17 @@ pub(crate) fn optional<'a>(
     ensures local { result.global ≡ false }
 {
     option(alloc, id, value, help).default_value(default)
+}
+
+/// A flag, which is named by two dashes and its id.
+pub(crate) fn flag<'a>(alloc: Global, id: &'a str, help: &'a str) -> Arg<'a>
+    ensures rule { rule_of result ≡ flag_rule id.now }
+    ensures local { result.global ≡ false }
+{
+    Arg::new(alloc, id)
+        .long(id)
+        .action(ArgAction::SetTrue)
+        .help(help)
 }
 
 /// The same argument, of which the value is a number from 1 to 1,000,000.

@@ -2,11 +2,12 @@
 ghost use Rattle.std.specs.Prelude.{◌≡◌, Some, IfOk, codes, option_map, string_bytes};
 ghost use Rattle.clap.specs.Words.{first_of, found_of, rows_of};
 ghost use Rattle.ccr_lines.specs.Commands.{command_data, disable_version, enable_version};
-ghost use Rattle.ccr_command.specs.Commands.{pin_named, place_named, run_named, build_named, trace_named, command_named, command_in};
+ghost use Rattle.ccr_command.specs.Commands.{pin_named, place_named, run_named, form_in, build_named, trace_named, command_named, command_in};
 
+use crate::abort::text_of;
 use crate::certify::certify_of;
 use crate::number::{number_of, place_of};
-use ccr_lines::Command;
+use ccr_lines::{Command, Form};
 use clap::ArgMatches;
 use std::alloc::{AllocError, Global};
 
@@ -101,12 +102,28 @@ fn run_of(values: &ArgMatches<'_>) -> Option<Command>
     }
 }
 
+/// The form in which it is to be shown: JSON if the flag was given, else lines.
+fn form_of(values: &ArgMatches<'_>) -> Form
+    ensures { result ≡ form_in (rows_of (found_of values.now)) }
+{
+    match text_of(values, "json") {
+        Some(given) => {
+            if given == "true" {
+                Form::Json
+            } else {
+                Form::Lines
+            }
+        }
+        None => Form::Lines,
+    }
+}
+
 /// The build of a job's name and a number as it was typed, which is to be shown; None where the number is out of its range.
-fn numbered(job: String, number: &str) -> Option<Command>
-    ensures { option_map command_data result ≡ build_named (Some (string_bytes job)) (Some number.now) }
+fn numbered(form: Form, job: String, number: &str) -> Option<Command>
+    ensures { option_map command_data result ≡ build_named form (Some (string_bytes job)) (Some number.now) }
 {
     match number_of(number) {
-        Some(number) => Some(Command::Build(job, number)),
+        Some(number) => Some(Command::Build(job, number, form)),
         None => None,
     }
 }
@@ -114,13 +131,14 @@ fn numbered(job: String, number: &str) -> Option<Command>
 /// The build of these values, which is to be shown; None where one is absent or out of its range.
 fn build_of(alloc: Global, values: &ArgMatches<'_>) -> Result<Option<Command>, AllocError>
     ensures { IfOk result (λ command. option_map command_data command
-        ≡ build_named (first_of (codes "JOB") (rows_of (found_of values.now)))
+        ≡ build_named (form_in (rows_of (found_of values.now))) (first_of (codes "JOB") (rows_of (found_of values.now)))
         (first_of (codes "N") (rows_of (found_of values.now)))) }
 {
+    let form = form_of(values);
     let job = value_of(alloc, values, "JOB")?;
     let number = value_of(alloc, values, "N")?;
     match (job, number) {
-        (Some(job), Some(number)) => Ok(numbered(job, number.as_str())),
+        (Some(job), Some(number)) => Ok(numbered(form, job, number.as_str())),
         _ => Ok(None),
     }
 }
@@ -128,13 +146,14 @@ fn build_of(alloc: Global, values: &ArgMatches<'_>) -> Result<Option<Command>, A
 /// The version of these values, whose builds are to be shown; None where one is absent.
 fn trace_of(alloc: Global, values: &ArgMatches<'_>) -> Result<Option<Command>, AllocError>
     ensures { IfOk result (λ command. option_map command_data command
-        ≡ trace_named (first_of (codes "NAME") (rows_of (found_of values.now)))
+        ≡ trace_named (form_in (rows_of (found_of values.now))) (first_of (codes "NAME") (rows_of (found_of values.now)))
         (first_of (codes "JSON") (rows_of (found_of values.now)))) }
 {
+    let form = form_of(values);
     let resource = value_of(alloc, values, "NAME")?;
     let pin = value_of(alloc, values, "JSON")?;
     match (resource, pin) {
-        (Some(resource), Some(pin)) => Ok(Some(Command::Trace(resource, pin))),
+        (Some(resource), Some(pin)) => Ok(Some(Command::Trace(resource, pin, form))),
         _ => Ok(None),
     }
 }
@@ -162,8 +181,8 @@ fn named(alloc: Global, word: &str, values: &ArgMatches<'_>) -> Result<Option<Co
         "build" => build_of(alloc, values),
         "trace" => trace_of(alloc, values),
         "get-pipeline" => Ok(Some(Command::GetPipeline)),
-        "resources" => Ok(Some(Command::Resources)),
-        "jobs" => Ok(Some(Command::Jobs)),
+        "resources" => Ok(Some(Command::Resources(form_of(values)))),
+        "jobs" => Ok(Some(Command::Jobs(form_of(values)))),
         "graph" => Ok(Some(Command::Graph)),
         _ => Ok(None),
     }

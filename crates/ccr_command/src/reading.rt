@@ -1,11 +1,20 @@
 //! The commands that only read, with their help.
-ghost use Rattle.std.specs.Prelude.{◌≡◌, ◌∷◌, [], IfOk, codes};
-ghost use Rattle.ccr_command.specs.Usage.{IsCommand, value_rule, extra_rule, as_number};
+ghost use Rattle.std.specs.Prelude.{◌≡◌, ◌∷◌, [], false, IfOk, codes};
+ghost use Rattle.clap.specs.Words.{rule_of};
+ghost use Rattle.ccr_command.specs.Usage.{IsCommand, value_rule, extra_rule, flag_rule, as_number};
 
-use crate::argument::{as_number, extra, value};
+use crate::argument::{as_number, extra, flag, value};
 use crate::commands::command;
-use clap::Command;
+use clap::{Arg, Command};
 use std::alloc::{AllocError, Global};
+
+/// The flag that asks for JSON.
+fn json<'a>(alloc: Global) -> Arg<'a>
+    ensures rule { rule_of result ≡ flag_rule (codes "json") }
+    ensures local { result.global ≡ false }
+{
+    flag(alloc, "json", "Prints JSON in place of the lines")
+}
 
 /// Shows the pipeline as it was set.
 pub(crate) fn get_pipeline<'a>(alloc: Global) -> Command<'a>
@@ -26,8 +35,8 @@ Example:
 }
 
 /// Shows the resources of the pipeline.
-pub(crate) fn resources<'a>(alloc: Global) -> Command<'a>
-    ensures { IsCommand (codes "resources") [] result }
+pub(crate) fn resources<'a>(alloc: Global) -> Result<Command<'a>, AllocError>
+    ensures { IfOk result (IsCommand (codes "resources") (flag_rule (codes "json") ∷ [])) }
 {
     command(
         alloc,
@@ -37,16 +46,20 @@ pub(crate) fn resources<'a>(alloc: Global) -> Command<'a>
 Prints `NAME TYPE N versions` for each resource, in the order of the pipeline. ` pinned by pipeline PIN` follows if its
 `version` in the pipeline is a pin, and ` pinned PIN` if `pin-resource` pinned it. A version has to meet both.
 
+With --json: one line, an array with an object for each resource: `name`, `type`, `version_count`, `pinned_by_pipeline` and
+`pinned_version`. A pin that isn't there is null.
+
 Exit statuses: 0 shown; 1 refused, because there is no pipeline; 2 usage; 4 disk or memory.
 
 Example:
   ccr_run --db ci.db resources",
     )
+    .arg(json(alloc))
 }
 
 /// Shows the jobs of the pipeline.
-pub(crate) fn jobs<'a>(alloc: Global) -> Command<'a>
-    ensures { IsCommand (codes "jobs") [] result }
+pub(crate) fn jobs<'a>(alloc: Global) -> Result<Command<'a>, AllocError>
+    ensures { IfOk result (IsCommand (codes "jobs") (flag_rule (codes "json") ∷ [])) }
 {
     command(
         alloc,
@@ -58,11 +71,17 @@ none. NEXT is what the next round would find: `due`, a build is made; `nothing n
 `by command only`, because no input has `trigger`; `none satisfies`, no versions went through the jobs in `passed` together;
 `over budget N`, the search would need more nodes.
 
+With --json: one line, an array with an object for each job: `name`, `next` (what NEXT is), `has_new_inputs` (whether it is
+`due`), `next_build` (its newest build that runs), `finished_build` (its newest build that has ended), `inputs` and `outputs`.
+A build that isn't there is null.
+
 Exit statuses: 0 shown; 1 refused, because there is no pipeline; 2 usage; 4 disk or memory.
 
-Example:
-  ccr_run --db ci.db jobs",
+Examples:
+  ccr_run --db ci.db jobs
+  ccr_run --db ci.db jobs --json",
     )
+    .arg(json(alloc))
 }
 
 /// Shows the pipeline as a flowchart.
@@ -88,7 +107,8 @@ Example:
 /// Shows a build.
 pub(crate) fn build<'a>(alloc: Global) -> Result<Command<'a>, AllocError>
     ensures { IfOk result
-        (IsCommand (codes "build") (value_rule (codes "JOB") ∷ as_number (value_rule (codes "N")) ∷ [])) }
+        (IsCommand (codes "build")
+        (value_rule (codes "JOB") ∷ as_number (value_rule (codes "N")) ∷ flag_rule (codes "json") ∷ [])) }
 {
     let job = value(alloc, "JOB", "The job's name");
     let number = value(alloc, "N", "The build's number, from 1 to 1000000");
@@ -101,19 +121,24 @@ Prints `JOB N STATUS`, and `took INPUT PLACE KEY` for each version that the buil
 name in `passed` today, `together JOB N`: the newest build made before it that moved together what it took, or
 `no build of JOB moved them together`. Then `moved RESOURCE PLACE KEY` for each version that it moved.
 
+With --json: one line, an object with `job_name`, `name` (the number), `status`, `inputs` (what it took), `together` and
+`moved`.
+
 Exit statuses: 0 shown; 1 refused, because there is no such build; 2 usage; 4 disk or memory.
 
 Example:
   ccr_run --db ci.db build deploy 42",
     )
     .arg(job)?
-    .arg(as_number(number))
+    .arg(as_number(number))?
+    .arg(json(alloc))
 }
 
 /// Shows where a version went.
 pub(crate) fn trace<'a>(alloc: Global) -> Result<Command<'a>, AllocError>
     ensures { IfOk result
-        (IsCommand (codes "trace") (value_rule (codes "NAME") ∷ value_rule (codes "JSON") ∷ [])) }
+        (IsCommand (codes "trace")
+        (value_rule (codes "NAME") ∷ value_rule (codes "JSON") ∷ flag_rule (codes "json") ∷ [])) }
 {
     let name = value(alloc, "NAME", "The resource's name");
     let pin = value(alloc, "JSON", "A JSON object whose fields are all strings");
@@ -125,6 +150,9 @@ pub(crate) fn trace<'a>(alloc: Global) -> Result<Command<'a>, AllocError>
 Prints `JOB N STATUS` for each build that took or moved a version with these fields, in the order in which they were made.
 ` took` follows if it took one; ` passed` if it moved one and succeeded, ` moved` if it moved one and didn't succeed.
 
+With --json: one line, an array with an object for each of these builds: `job_name`, `name` (the number), `status`, and whether
+it `took` one, `moved` one, and `passed` its job with it.
+
 Exit statuses: 0 shown; 1 refused, because there is no pipeline or no such resource, or the text isn't an object of strings;
 2 usage; 4 disk or memory.
 
@@ -132,7 +160,8 @@ Example:
   ccr_run --db ci.db trace repo '{\"ref\":\"61cbef\"}'",
     )
     .arg(name)?
-    .arg(pin)
+    .arg(pin)?
+    .arg(json(alloc))
 }
 
 /// Shows the choice for a job in one text, or what a build of it took, for the checker.

@@ -105,8 +105,8 @@ fn with_standing_commands<'a>(alloc: Global, line: Command<'a>) -> Result<Comman
     ensures { IfOk result (λ made. app_of made ≡ with_all (app_of line.entry) standing_commands) }
 {
     let line = line.subcommand(get_pipeline(alloc))?;
-    let line = line.subcommand(resources(alloc))?;
-    let line = line.subcommand(jobs(alloc))?;
+    let line = line.subcommand(resources(alloc)?)?;
+    let line = line.subcommand(jobs(alloc)?)?;
     line.subcommand(graph(alloc))
 }
 

@@ -1,8 +1,7 @@
 -- What is shown of what a core holds.
-use Rattle.std.proofs.Common.{◌≡◌, ◌+◌, ◌++◌, ◌∷◌, List, ℕ, take, drop, map, flat_map, slice_get, Result, Option, Some, unwrap_or, refl, sym, ◌∙◌, ap, subst}
+use Rattle.std.proofs.Common.{◌≡◌, ◌+◌, ◌++◌, ◌∷◌, List, ℕ, take, drop, map, slice_get, Result, Option, Some, unwrap_or, refl, sym, ◌∙◌, ap, subst}
 use Rattle.std.specs.Prelude.{IsSome, IfOk}
 use Rattle.std.proofs.lemmas.List.{take-append-drop}
-use Rattle.std.proofs.lemmas.List.Folds.{flat_map-map}
 use Rattle.std.specs.declared.alloc.AllocError.{AllocError}
 use Rattle.ccr_history.specs.Text.{Text}
 use Rattle.ccr_history.specs.Builds.{BuildData, build_of}
@@ -13,9 +12,10 @@ use Rattle.ccr_pipeline.specs.declared.resource.Resource.{Resource}
 use Rattle.ccr_core.specs.Holding.{CoreData}
 use Rattle.ccr_core.specs.State.{no_pipeline}
 use Rattle.ccr_lines.specs.Outlooks.{HasOutlook}
-use Rattle.ccr_lines.specs.Releases.{release_lines}
+use Rattle.ccr_lines.specs.ReleaseJson.{release_shown}
+use Rattle.ccr_lines.specs.ResourcesJson.{resources_shown}
 use Rattle.ccr_lines.specs.Shown.{build, resources, IsMade}
-use Rattle.ccr_lines.specs.Standing.{resource_line, resources_lines}
+use Rattle.ccr_lines.specs.declared.form.Form.{Form}
 use Rattle.ccr_lines.specs.declared.outlook.Outlook.{Outlook}
 use Rattle.ccr_lines.proofs.Showing.{drop_there}
 
@@ -32,11 +32,11 @@ pub made_before : (bs : List BuildData) (k : ℕ) (b : BuildData) → slice_get 
 made_before bs k b at =
     sym (take-append-drop k bs) ∙ ap (λ ds. take k bs ++ ds) (drop_there bs k b at)
 
-pub release_made : (c : CoreData) (job : Text) (number k : ℕ) (b : BuildData) (h : HistoryData) (o : Option PipelineData)
-    (lines : Text) → slice_get c.history.builds k ≡ Some b → build_of job number c.history.builds ≡ Some b
-    → h ≡ c.history → o ≡ c.pipeline
-    → lines ≡ release_lines (unwrap_or o no_pipeline) h.tables (take k h.builds) b → IsMade (build job number) c 0 lines
-release_made c job number k b h o lines at there held set told = (
+pub release_made : (f : Form) (c : CoreData) (job : Text) (number k : ℕ) (b : BuildData) (h : HistoryData)
+    (o : Option PipelineData) (lines : Text) → slice_get c.history.builds k ≡ Some b
+    → build_of job number c.history.builds ≡ Some b → h ≡ c.history → o ≡ c.pipeline
+    → lines ≡ release_shown f (unwrap_or o no_pipeline) h.tables (take k h.builds) b → IsMade (build f job number) c 0 lines
+release_made f c job number k b h o lines at there held set told = (
   subst (λ x. IsSome x) (sym there) refl,
   (
     refl,
@@ -45,23 +45,23 @@ release_made c job number k b h o lines at there held set told = (
       take k c.history.builds,
       there,
       (drop (k + 1) c.history.builds, made_before c.history.builds k b at),
-      told ∙ (ap (λ x. release_lines (unwrap_or o no_pipeline) x.tables (take k x.builds) b) held
-          ∙ ap (λ x. release_lines (unwrap_or x no_pipeline) c.history.tables (take k c.history.builds) b) set),
+      told ∙ (ap (λ x. release_shown f (unwrap_or o no_pipeline) x.tables (take k x.builds) b) held
+          ∙ ap (λ x. release_shown f (unwrap_or x no_pipeline) c.history.tables (take k c.history.builds) b) set),
     ),
   ),
 )
 
 -- ---- resources
-pub resources_made : (c : CoreData) (p : PipelineData) (h : HistoryData) (rs : List Resource) (lines : Text)
+pub resources_made : (f : Form) (c : CoreData) (p : PipelineData) (h : HistoryData) (rs : List Resource) (lines : Text)
     → c.pipeline ≡ Some p → h ≡ c.history → map resource_data rs ≡ p.resources
-    → lines ≡ flat_map (λ r. resource_line h (resource_data r)) rs → IsMade resources c 0 lines
-resources_made c p h rs lines set held same told = (
+    → lines ≡ resources_shown f h (map resource_data rs) → IsMade (resources f) c 0 lines
+resources_made f c p h rs lines set held same told = (
   subst (λ o. IsSome o) (sym set) refl,
   (
     refl,
     told
-        ∙ (sym (flat_map-map (λ r. resource_line h r) resource_data rs)
-        ∙ (ap (λ xs. flat_map (λ r. resource_line h r) xs) same
-        ∙ (ap (λ x. resources_lines p x) held ∙ ap (λ o. resources_lines (unwrap_or o no_pipeline) c.history) (sym set)))),
+        ∙ (ap (λ xs. resources_shown f h xs) same
+        ∙ (ap (λ x. resources_shown f x p.resources) held
+        ∙ ap (λ o. resources_shown f c.history (unwrap_or o no_pipeline).resources) (sym set))),
   ),
 )

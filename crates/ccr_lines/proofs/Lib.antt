@@ -4,9 +4,13 @@ mod Claiming
 mod Cores
 mod Explaining
 mod Graphing
+mod JobsListing
+mod JsonPieces
+mod JsonTexts
 mod Listing
 mod PastLaws
 mod Printing
+mod Releasing
 mod Saying
 mod Showing
 mod Taking

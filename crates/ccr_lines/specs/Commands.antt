@@ -34,11 +34,11 @@ command_data (command.Certify job) = shows (certificate (string_bytes job))
 command_data (command.Explain job) = shows (explanation (string_bytes job))
 command_data (command.CertifyBuild job number) = shows (build_certificate (string_bytes job) number)
 command_data command.Builds = shows builds
-command_data (command.Build job number) = shows (build (string_bytes job) number)
-command_data (command.Trace resource pin) = shows (trace (string_bytes resource) (string_bytes pin))
+command_data (command.Build job number form) = shows (build form (string_bytes job) number)
+command_data (command.Trace resource pin form) = shows (trace form (string_bytes resource) (string_bytes pin))
 command_data command.GetPipeline = shows pipeline
-command_data command.Resources = shows resources
-command_data command.Jobs = shows jobs
+command_data (command.Resources form) = shows (resources form)
+command_data (command.Jobs form) = shows (jobs form)
 command_data command.Graph = shows graph
 command_data (command.Run rounds) = run rounds
 

@@ -4,6 +4,8 @@ pub mod Commands
 pub mod Each
 pub mod Explained
 pub mod Graphs
+pub mod JobsJson
+pub mod Json
 pub mod Lines
 pub mod Needs
 pub mod Noted
@@ -11,8 +13,11 @@ pub mod Outlooks
 pub mod PastProblems
 pub mod Printed
 pub mod Reasons
+pub mod ReleaseJson
 pub mod Releases
+pub mod ResourcesJson
 pub mod Shown
 pub mod Standing
+pub mod TraceJson
 pub mod Traces
 pub mod Witnesses

@@ -6,8 +6,7 @@ use Rattle.std.specs.Str.{bytes_eq}
 use Rattle.ccr_history.specs.Text.{Text}
 use Rattle.ccr_history.specs.TextMap.{key_text}
 use Rattle.ccr_history.specs.Tables.{TableData, at_place, versions_at}
-use Rattle.ccr_history.specs.Builds.{UsedData, BuildData, is_of, build_of, passed_pairs}
-use Rattle.ccr_history.specs.History.{HistoryData}
+use Rattle.ccr_history.specs.Builds.{UsedData, BuildData, is_of, passed_pairs}
 use Rattle.ccr_pipeline.specs.Inputs.{InputData, inputs}
 use Rattle.ccr_pipeline.specs.Names.{has_name}
 use Rattle.ccr_pipeline.specs.Pipelines.{PipelineData}
@@ -85,16 +84,10 @@ together_lines p before b =
 abbrev pub AreMadeBefore : List BuildData → List BuildData → BuildData → Type 0
 AreMadeBefore builds before b = (after : List BuildData) × (builds ≡ before ++ b ∷ after)
 
--- how it stands, what it took, through which builds that had gone together, and what it moved
+-- HOW IT STANDS, what it took, through which builds that had gone together, and what it moved
 abbrev pub release_lines : PipelineData → List TableData → List BuildData → BuildData → Text
 release_lines p tables before b =
     build_line b.job b.number (status_word b.status)
     ++ flat_map (took_line tables) b.used
     ++ together_lines p before b
     ++ flat_map (moved_line tables) b.moved
-
--- THE JOB'S BUILD OF THIS NUMBER
-abbrev pub IsReleaseShown : PipelineData → HistoryData → Text → ℕ → Text → Type 0
-IsReleaseShown p h job number lines =
-    (b : BuildData) × (before : List BuildData) × (build_of job number h.builds ≡ Some b)
-    × AreMadeBefore h.builds before b × (lines ≡ release_lines p h.tables before b)

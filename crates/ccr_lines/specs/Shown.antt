@@ -1,7 +1,8 @@
 -- What a command shows. Each line ends with a line feed.
-use Rattle.std.specs.Prelude.{◌≡◌, ℕ, ◌+◌, List, [], ◌∷◌, ◌++◌, flat_map, codes, decimal, Bool, true, false, IsSomeAnd, Option, unwrap_or, Result, Ok, Err, ⊤}
+use Rattle.std.specs.Prelude.{◌≡◌, ℕ, ◌+◌, List, [], ◌∷◌, ◌++◌, flat_map, codes, decimal, Bool, true, false, IsSomeAnd, Option, Some, unwrap_or, Result, Ok, Err, ⊤}
 use Rattle.ccr_history.specs.Text.{Text}
 use Rattle.ccr_history.specs.TextMap.{TextMap, key_text}
+use Rattle.ccr_history.specs.Builds.{BuildData, build_of}
 use Rattle.ccr_history.specs.Pairs.{has_pair}
 use Rattle.ccr_history.specs.Tables.{ScopeData, versions_of, scope_number}
 use Rattle.ccr_history.specs.History.{HistoryData}
@@ -21,19 +22,22 @@ use Rattle.ccr_lines.specs.declared.shown.Shown.{Shown}
 use Rattle.ccr_lines.specs.declared.shown.Shown.TheVariants as value
 use Rattle.ccr_lines.specs.declared.shown.ShowFault.{ShowFault}
 use Rattle.ccr_lines.specs.declared.shown.ShowFault.TheVariants as why
+use Rattle.ccr_lines.specs.declared.form.Form.{Form}
 use Rattle.ccr_lines.specs.Explained.{IsExplained}
 use Rattle.ccr_lines.specs.Lines.{line, build_line, status_word}
 use Rattle.ccr_lines.specs.Needs.{Need, no_need, a_pipeline, a_resource, a_job, a_pin, a_build, pin_in, IsMet, Lacks, LacksPin}
-use Rattle.ccr_lines.specs.Standing.{resources_lines, AreJobsShown}
-use Rattle.ccr_lines.specs.Releases.{IsReleaseShown}
-use Rattle.ccr_lines.specs.Traces.{trace_lines}
+use Rattle.ccr_lines.specs.ResourcesJson.{resources_shown}
+use Rattle.ccr_lines.specs.JobsJson.{AreJobs}
+use Rattle.ccr_lines.specs.Releases.{AreMadeBefore}
+use Rattle.ccr_lines.specs.ReleaseJson.{release_shown}
+use Rattle.ccr_lines.specs.TraceJson.{trace_shown}
 use Rattle.ccr_lines.specs.Certificates.{IsCertificateShown}
 use Rattle.ccr_lines.specs.Graphs.{graph_lines}
 use Rattle.ccr_lines.specs.BuildCertificates.{IsBuildCertificateShown}
 
 -- all builds, the versions of a resource, the problem of a job's next build, the proof of the choice for it, both in one
 -- text, or what it takes and why; the pipeline's text, its resources, its jobs, its graph; a build, or the builds that a
--- version went through; a build's problem with its choice, in one text
+-- version went through; a build's problem with its choice, in one text. A form says how it is shown, where there are two
 pub data ShownData : Type 0 where
   builds : ShownData
   versions : (resource : Text) → ShownData
@@ -42,11 +46,11 @@ pub data ShownData : Type 0 where
   certificate : (job : Text) → ShownData
   explanation : (job : Text) → ShownData
   pipeline : ShownData
-  resources : ShownData
-  jobs : ShownData
+  resources : (form : Form) → ShownData
+  jobs : (form : Form) → ShownData
   graph : ShownData
-  build : (job : Text) (number : ℕ) → ShownData
-  trace : (resource pin : Text) → ShownData
+  build : (form : Form) (job : Text) (number : ℕ) → ShownData
+  trace : (form : Form) (resource pin : Text) → ShownData
   build_certificate : (job : Text) (number : ℕ) → ShownData
 
 -- what a value of the program's type stands for
@@ -58,11 +62,11 @@ shown_data (value.Proof job) = proof job.now
 shown_data (value.Certificate job) = certificate job.now
 shown_data (value.Explanation job) = explanation job.now
 shown_data value.Pipeline = pipeline
-shown_data value.Resources = resources
-shown_data value.Jobs = jobs
+shown_data (value.Resources form) = resources form
+shown_data (value.Jobs form) = jobs form
 shown_data value.Graph = graph
-shown_data (value.Build job number) = build job.now number
-shown_data (value.Trace resource pin) = trace resource.now pin.now
+shown_data (value.Build job number form) = build form job.now number
+shown_data (value.Trace resource pin form) = trace form resource.now pin.now
 shown_data (value.BuildCertificate job number) = build_certificate job.now number
 
 -- what has to be there for it to be shown
@@ -74,11 +78,11 @@ needs (proof job) = a_job job
 needs (certificate job) = a_job job
 needs (explanation job) = a_job job
 needs pipeline = a_pipeline
-needs resources = a_pipeline
-needs jobs = a_pipeline
+needs (resources form) = a_pipeline
+needs (jobs form) = a_pipeline
 needs graph = a_pipeline
-needs (build job number) = a_build job number
-needs (trace resource pin) = a_pin resource pin
+needs (build form job number) = a_build job number
+needs (trace form resource pin) = a_pin resource pin
 needs (build_certificate job number) = a_build job number
 
 -- how each build stands, in order of making
@@ -124,9 +128,15 @@ IsProofShown p h budget job status lines =
     (q : ProblemValue) × (a : Answer) × IsProblemOf p h job q × IsAnswer (order_of q) q budget a
     × IsTextOf a status lines
 
+-- the job's build of this number
+abbrev pub IsReleaseShown : Form → PipelineData → HistoryData → Text → ℕ → Text → Type 0
+IsReleaseShown form p h job number lines =
+    (b : BuildData) × (before : List BuildData) × (build_of job number h.builds ≡ Some b)
+    × AreMadeBefore h.builds before b × (lines ≡ release_shown form p h.tables before b)
+
 -- the builds that a version of a resource went through, which meets the pin that a text spells
-abbrev pub IsTraceShown : HistoryData → Text → Text → Text → Type 0
-IsTraceShown h resource pin lines = IsSomeAnd (pin_in pin) (λ p. lines ≡ trace_lines h resource p)
+abbrev pub IsTraceShown : Form → HistoryData → Text → Text → Text → Type 0
+IsTraceShown form h resource pin lines = IsSomeAnd (pin_in pin) (λ p. lines ≡ trace_shown form h resource p)
 
 -- WHAT IS SHOWN, in a pipeline with a history and a budget, and with which status
 abbrev pub IsShown : ShownData → PipelineData → HistoryData → ℕ → ℕ → Text → Type 0
@@ -137,11 +147,11 @@ IsShown (proof job) p h budget status lines = IsProofShown p h budget job status
 IsShown (certificate job) p h budget status lines = IsCertificateShown p h budget job status lines
 IsShown (explanation job) p h budget status lines = IsExplained p h budget job status lines
 IsShown pipeline p h budget status lines = (status ≡ 0) × (lines ≡ p.text)
-IsShown resources p h budget status lines = (status ≡ 0) × (lines ≡ resources_lines p h)
-IsShown jobs p h budget status lines = (status ≡ 0) × AreJobsShown p h budget p.jobs lines
+IsShown (resources form) p h budget status lines = (status ≡ 0) × (lines ≡ resources_shown form h p.resources)
+IsShown (jobs form) p h budget status lines = (status ≡ 0) × AreJobs form p h budget p.jobs lines
 IsShown graph p h budget status lines = (status ≡ 0) × (lines ≡ graph_lines p h)
-IsShown (build job number) p h budget status lines = (status ≡ 0) × IsReleaseShown p h job number lines
-IsShown (trace resource pin) p h budget status lines = (status ≡ 0) × IsTraceShown h resource pin lines
+IsShown (build form job number) p h budget status lines = (status ≡ 0) × IsReleaseShown form p h job number lines
+IsShown (trace form resource pin) p h budget status lines = (status ≡ 0) × IsTraceShown form h resource pin lines
 IsShown (build_certificate job number) p h budget status lines = IsBuildCertificateShown p h job number status lines
 
 -- why nothing is shown that has this need: it isn't met, as the fault says; the text of a pin spells none; or out of memory

@@ -26,9 +26,9 @@ resource_line h r =
     line (r.name ∷ codes " " ∷ r.kind ∷ codes " " ∷ decimal (length (versions_of (scope_of r) h.tables)) ∷ codes " versions"
     ∷ pin_words (codes " pinned by pipeline ") r.version ∷ pin_words (codes " pinned ") (pin_of r.name h.pins) ∷ [])
 
--- THE RESOURCES, in the order of the pipeline
-abbrev pub resources_lines : PipelineData → HistoryData → Text
-resources_lines p h = flat_map (λ r. resource_line h r) p.resources
+-- THE RESOURCES, in their order
+abbrev pub resources_lines : HistoryData → List ResourceData → Text
+resources_lines h rs = flat_map (λ r. resource_line h r) rs
 
 -- ---- jobs
 -- how a job's newest build stands, where it has one

@@ -1,6 +1,8 @@
 //! What the server is commanded.
 
-/// A command, with its arguments as they were typed.
+use crate::form::Form;
+
+/// A command, with its arguments as they were typed. A form says how something is shown, where there are two.
 #[derive(Drop)]
 pub enum Command {
     /// The pipeline in the file at this path is set.
@@ -32,15 +34,15 @@ pub enum Command {
     /// All builds are shown.
     Builds,
     /// The job's build of this number is shown: what it took and moved.
-    Build(String, u32),
+    Build(String, u32, Form),
     /// The builds are shown that took or moved a version of the resource of this name that meets this JSON text.
-    Trace(String, String),
+    Trace(String, String, Form),
     /// The text of the pipeline is shown.
     GetPipeline,
     /// The resources of the pipeline are shown.
-    Resources,
+    Resources(Form),
     /// The jobs of the pipeline are shown.
-    Jobs,
+    Jobs(Form),
     /// The pipeline is shown as a flowchart.
     Graph,
     /// So many rounds are run, from 1 to 1,000,000, and then all builds to their ends.

@@ -2,6 +2,7 @@
 ghost use Rattle.std.specs.Prelude.{◌≡◌, ◌++◌, ◌∷◌, [], flat_map, codes, decimal, IfOk, OnOk};
 ghost use Rattle.ccr_lines.specs.Graphs.{is_plain, label_byte, label};
 
+use crate::texts::push_pieces;
 use itoa::Buffer;
 use std::alloc::{AllocError, Global};
 
@@ -53,8 +54,6 @@ pub(crate) fn label_of(alloc: Global, name: &str) -> Result<Vec<u8>, AllocError>
 pub(crate) fn push_parts(out: &mut Vec<u8>, parts: &[&[u8]]) -> Result<(), AllocError>
     ensures { OnOk result (out.new.items ≡ out.old.items ++ (flat_map (λ part. part.now) parts.now ++ 10 ∷ [])) }
 {
-    for part in parts {
-        out.extend_from_slice(part)?;
-    }
+    push_pieces(out, parts)?;
     out.extend_from_slice("\n".as_bytes())
 }

@@ -5,7 +5,7 @@
 //! whole line always follows. A vector is one, and [`Printed`] prints what it is handed.
 //!
 //! A [`Command`] is what a server is told to do. What a command shows that changes nothing is a [`Shown`]: [`show`] writes
-//! its lines from what the core holds (`specs/Shown.antt`).
+//! its lines from what the core holds (`specs/Shown.antt`), some in either [`Form`]: as lines, or as JSON.
 #![tactic(auto)]
 
 mod asked;
@@ -15,8 +15,11 @@ mod certificate;
 mod command;
 mod edge;
 mod explain;
+mod form;
 mod graph;
 mod held;
+mod jobs_json;
+mod json;
 mod label;
 mod lines;
 mod outlook;
@@ -25,6 +28,8 @@ mod printed;
 mod problem;
 mod reason;
 mod release;
+mod release_json;
+mod resources_json;
 mod shown;
 mod shows;
 mod standing;
@@ -33,11 +38,13 @@ mod taken;
 mod tell;
 mod texts;
 mod trace;
+mod trace_json;
 mod witness;
 mod words;
 
 pub use cause::Cause;
 pub use command::Command;
+pub use form::Form;
 pub use held::{pin_of, resource_held};
 pub use lines::Lines;
 pub use outlook::Outlook;

@@ -9,9 +9,12 @@ ghost use Rattle.ccr_pipeline.specs.Pipelines.{pipeline_data};
 ghost use Rattle.ccr_core.specs.Cores.{core_data};
 ghost use Rattle.ccr_core.specs.State.{no_pipeline};
 ghost use Rattle.ccr_lines.specs.Releases.{key_at, resource_at, place_line, took_line, moved_line, is_pair, pairs_for, pairs_naming, passed_all, newest_together, witness_line, together_line, inputs_in_plan, together_lines, release_lines};
+ghost use Rattle.ccr_lines.specs.ReleaseJson.{release_shown};
 ghost use Rattle.ccr_lines.specs.Shown.{needs, IsMade, IsUnshown};
 ghost use Rattle.ccr_lines.specs.Shown as spec;
 
+use crate::form::Form;
+use crate::release_json::release_json;
 use crate::shown::ShowFault;
 use crate::shows::push_build;
 use crate::texts::push_line;
@@ -182,7 +185,7 @@ fn push_pairs_of(
 }
 
 /// What a build took for those of these inputs that name a job in `passed`.
-fn pairs_naming(
+pub(crate) fn pairs_naming(
     alloc: Global,
     job: &str,
     inputs: &[Input],
@@ -246,7 +249,12 @@ fn newer(newest: Option<u32>, job: &str, pairs: &[(u32, u32)], build: &BuildRef<
 
 /// The number of the newest build of a job among the first builds, of which there are so many, that all these pairs passed
 /// together.
-fn newest_together(history: &History, job: &str, pairs: &[(u32, u32)], before: usize) -> Option<u32>
+pub(crate) fn newest_together(
+    history: &History,
+    job: &str,
+    pairs: &[(u32, u32)],
+    before: usize,
+) -> Option<u32>
     requires { before ≤ length history.now.builds }
     ensures { result ≡ option_map (λ b. b.number)
         (newest_together job.now pairs.now (take before history.now.builds)) }
@@ -292,7 +300,11 @@ fn push_together(
 }
 
 /// The inputs that a job has in a pipeline; none where it has no such job.
-fn inputs_in_plan(alloc: Global, pipeline: &Pipeline, job: &str) -> Result<Vec<Input>, AllocError>
+pub(crate) fn inputs_in_plan(
+    alloc: Global,
+    pipeline: &Pipeline,
+    job: &str,
+) -> Result<Vec<Input>, AllocError>
     ensures { IfOk result (λ inputs.
         map input_data inputs.items ≡ inputs_in_plan (pipeline_data pipeline.now) job.now) }
 {
@@ -380,22 +392,50 @@ fn release_text(
     Ok(text)
 }
 
+/// A build with what it took and moved, in one of the forms, where so many builds were made before it.
+fn release_shown(
+    alloc: Global,
+    form: Form,
+    pipeline: Option<&Pipeline>,
+    history: &History,
+    build: &BuildRef<'_>,
+    before: usize,
+) -> Result<Vec<u8>, AllocError>
+    requires { before ≤ length history.now.builds }
+    ensures { let p = unwrap_or (option_map pipeline_data (option_copied pipeline.entry)) no_pipeline in
+        IfOk result (λ text. text.items
+        ≡ release_shown form p history.now.tables (take before history.now.builds) build.now) }
+{
+    match form {
+        Form::Lines => Ok(release_text(alloc, pipeline, history, build, before)?.into_bytes()),
+        Form::Json => release_json(alloc, pipeline, history, build, before),
+    }
+}
+
 /// What is shown of the job's build of this number.
 pub(crate) fn release_made(
     alloc: Global,
     core: &Core,
+    form: Form,
     job: &str,
     number: u32,
 ) -> Result<(u8, Vec<u8>), ShowFault>
-    ensures made { IfOk result (λ r. IsMade (spec.build job.now number) (core_data core.now) r.0 r.1.items) }
+    ensures made { IfOk result (λ r. IsMade (spec.build form job.now number) (core_data core.now) r.0 r.1.items) }
     ensures unshown { let c = core_data core.now in
-        IfErr result (IsUnshown (needs (spec.build job.now number)) c.pipeline c.history) }
+        IfErr result (IsUnshown (needs (spec.build form job.now number)) c.pipeline c.history) }
 {
     let Some(position) = core.made_at(job, number) else {
         return Err(ShowFault::Lacks(CoreFault::NoBuild));
     };
     let history = core.history();
     let build = history.build_at(position as usize).unwrap();
-    let text = release_text(alloc, core.pipeline(), history, &build, position as usize)?;
-    Ok((0, text.into_bytes()))
+    let text = release_shown(
+        alloc,
+        form,
+        core.pipeline(),
+        history,
+        &build,
+        position as usize,
+    )?;
+    Ok((0, text))
 }

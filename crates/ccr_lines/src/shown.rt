@@ -2,10 +2,12 @@
 ghost use Rattle.std.specs.Prelude.{◌≡◌};
 ghost use Rattle.ccr_lines.specs.declared.shown.ShowFault.TheVariants.{NoMemory};
 
+use crate::form::Form;
 use ccr_core::CoreFault;
 use std::alloc::AllocError;
 
-/// What a command shows that changes nothing. A name is that of a resource or a job, as it was typed.
+/// What a command shows that changes nothing. A name is that of a resource or a job, as it was typed; a form says how it is
+/// shown, where there are two.
 #[derive(Clone, Copy)]
 pub enum Shown<'a> {
     /// How each build stands, in order of making.
@@ -23,15 +25,15 @@ pub enum Shown<'a> {
     /// The text of the pipeline, as it was set.
     Pipeline,
     /// The resources of the pipeline, with their versions counted and their pins.
-    Resources,
+    Resources(Form),
     /// The jobs of the pipeline, with their newest builds, and what their next builds would be.
-    Jobs,
+    Jobs(Form),
     /// The pipeline as a Mermaid flowchart, with the newest builds of its jobs.
     Graph,
     /// The job's build of this number: what it took and moved, and through which builds that went together before.
-    Build(&'a str, u32),
+    Build(&'a str, u32, Form),
     /// The builds that took or moved a version of the resource of this name that meets this JSON text.
-    Trace(&'a str, &'a str),
+    Trace(&'a str, &'a str, Form),
     /// What the job's build of this number took, in one text, of which the checker says that it satisfies.
     BuildCertificate(&'a str, u32),
 }

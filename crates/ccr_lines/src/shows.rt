@@ -158,11 +158,11 @@ fn made(alloc: Global, what: Shown<'_>, core: &Core) -> Result<(u8, Vec<u8>), Sh
         Shown::Certificate(job) => certificate_made(alloc, core, job),
         Shown::Explanation(job) => explained_made(alloc, core, job),
         Shown::Pipeline => pipeline_made(alloc, core),
-        Shown::Resources => resources_made(alloc, core),
-        Shown::Jobs => jobs_made(alloc, core),
+        Shown::Resources(form) => resources_made(alloc, core, form),
+        Shown::Jobs(form) => jobs_made(alloc, core, form),
         Shown::Graph => graph_made(alloc, core),
-        Shown::Build(job, number) => release_made(alloc, core, job, number),
-        Shown::Trace(resource, pin) => trace_made(alloc, core, resource, pin),
+        Shown::Build(job, number, form) => release_made(alloc, core, form, job, number),
+        Shown::Trace(resource, pin, form) => trace_made(alloc, core, form, resource, pin),
         Shown::BuildCertificate(job, number) => { build_certificate_made(alloc, core, job, number) }
     }
 }

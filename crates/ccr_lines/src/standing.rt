@@ -3,12 +3,17 @@ ghost use Rattle.std.specs.Prelude.{◌≡◌, ◌++◌, Some, map, flat_map, op
 ghost use Rattle.ccr_pipeline.specs.JobData.{resource_data, job_data};
 ghost use Rattle.ccr_pipeline.specs.Pipelines.{pipeline_data};
 ghost use Rattle.ccr_core.specs.Cores.{core_data};
+ghost use Rattle.ccr_lines.specs.JobsJson.{AreJobs};
+ghost use Rattle.ccr_lines.specs.ResourcesJson.{resources_shown};
 ghost use Rattle.ccr_lines.specs.Shown.{needs, IsMade, IsUnshown};
 ghost use Rattle.ccr_lines.specs.Shown as spec;
-ghost use Rattle.ccr_lines.specs.Standing.{pin_words, resource_line, newest_words, newest_build, job_state, AreJobsShown};
+ghost use Rattle.ccr_lines.specs.Standing.{pin_words, resource_line, resources_lines, newest_words, newest_build, job_state, AreJobsShown};
 
+use crate::form::Form;
 use crate::held::pipeline_held;
+use crate::jobs_json::jobs_json;
 use crate::outlook::{Outlook, outlook_of, push_outlook};
+use crate::resources_json::resources_json;
 use crate::shown::ShowFault;
 use crate::tell::word_of;
 use crate::texts::push_line;
@@ -76,17 +81,49 @@ fn resources_text(
     Ok(text)
 }
 
+/// The lines of resources, as bytes.
+fn resources_lines(
+    alloc: Global,
+    history: &History,
+    resources: &[Resource],
+) -> Result<Vec<u8>, AllocError>
+    ensures { IfOk result (λ text. text.items ≡ resources_lines history.now (map resource_data resources.now)) }
+{
+    let text = resources_text(alloc, history, resources)?;
+    Ok(text.into_bytes())
+}
+
+/// The resources, in one of the forms.
+fn resources_shown(
+    alloc: Global,
+    form: Form,
+    history: &History,
+    resources: &[Resource],
+) -> Result<Vec<u8>, AllocError>
+    ensures { IfOk result (λ text. text.items ≡ resources_shown form history.now (map resource_data resources.now)) }
+{
+    match form {
+        Form::Lines => resources_lines(alloc, history, resources),
+        Form::Json => resources_json(alloc, history, resources),
+    }
+}
+
 /// What is shown of the resources of a core's pipeline.
-pub(crate) fn resources_made(alloc: Global, core: &Core) -> Result<(u8, Vec<u8>), ShowFault>
-    ensures made { IfOk result (λ r. IsMade spec.resources (core_data core.now) r.0 r.1.items) }
-    ensures unshown { let c = core_data core.now in IfErr result (IsUnshown (needs spec.resources) c.pipeline c.history) }
+pub(crate) fn resources_made(
+    alloc: Global,
+    core: &Core,
+    form: Form,
+) -> Result<(u8, Vec<u8>), ShowFault>
+    ensures made { IfOk result (λ r. IsMade (spec.resources form) (core_data core.now) r.0 r.1.items) }
+    ensures unshown { let c = core_data core.now in
+        IfErr result (IsUnshown (needs (spec.resources form)) c.pipeline c.history) }
 {
     let pipeline = match pipeline_held(core) {
         Ok(pipeline) => pipeline,
         Err(fault) => return Err(ShowFault::Lacks(fault)),
     };
-    let text = resources_text(alloc, core.history(), pipeline.resources())?;
-    Ok((0, text.into_bytes()))
+    let text = resources_shown(alloc, form, core.history(), pipeline.resources())?;
+    Ok((0, text))
 }
 
 // ---- jobs
@@ -137,15 +174,33 @@ fn jobs_text(alloc: Global, core: &Core, pipeline: &Pipeline) -> Result<String, 
     Ok(text)
 }
 
+/// The jobs of a core's pipeline, in one of the forms.
+fn jobs_shown(
+    alloc: Global,
+    form: Form,
+    core: &Core,
+    pipeline: &Pipeline,
+) -> Result<Vec<u8>, AllocError>
+    requires { (core_data core.now).pipeline ≡ Some (pipeline_data pipeline.now) }
+    ensures { let c = core_data core.now in let p = pipeline_data pipeline.now in
+        IfOk result (λ text. AreJobs form p c.history c.budget p.jobs text.items) }
+{
+    match form {
+        Form::Lines => Ok(jobs_text(alloc, core, pipeline)?.into_bytes()),
+        Form::Json => jobs_json(alloc, core, pipeline),
+    }
+}
+
 /// What is shown of the jobs of a core's pipeline.
-pub(crate) fn jobs_made(alloc: Global, core: &Core) -> Result<(u8, Vec<u8>), ShowFault>
-    ensures made { IfOk result (λ r. IsMade spec.jobs (core_data core.now) r.0 r.1.items) }
-    ensures unshown { let c = core_data core.now in IfErr result (IsUnshown (needs spec.jobs) c.pipeline c.history) }
+pub(crate) fn jobs_made(alloc: Global, core: &Core, form: Form) -> Result<(u8, Vec<u8>), ShowFault>
+    ensures made { IfOk result (λ r. IsMade (spec.jobs form) (core_data core.now) r.0 r.1.items) }
+    ensures unshown { let c = core_data core.now in
+        IfErr result (IsUnshown (needs (spec.jobs form)) c.pipeline c.history) }
 {
     let pipeline = match pipeline_held(core) {
         Ok(pipeline) => pipeline,
         Err(fault) => return Err(ShowFault::Lacks(fault)),
     };
-    let text = jobs_text(alloc, core, pipeline)?;
-    Ok((0, text.into_bytes()))
+    let text = jobs_shown(alloc, form, core, pipeline)?;
+    Ok((0, text))
 }

@@ -1,4 +1,4 @@
-//! Lines as texts.
+//! Texts of parts.
 ghost use Rattle.std.specs.Prelude.{◌≡◌, ◌++◌, ◌∷◌, [], flat_map, string_bytes, OnOk};
 
 use std::alloc::AllocError;
@@ -12,4 +12,14 @@ pub(crate) fn push_line(text: &mut String, parts: &[&str]) -> Result<(), AllocEr
         text.push_str(part)?;
     }
     text.push_str("\n")
+}
+
+/// Adds these pieces, one behind the other.
+pub(crate) fn push_pieces(out: &mut Vec<u8>, pieces: &[&[u8]]) -> Result<(), AllocError>
+    ensures { OnOk result (out.new.items ≡ out.old.items ++ flat_map (λ piece. piece.now) pieces.now) }
+{
+    for piece in pieces {
+        out.extend_from_slice(piece)?;
+    }
+    Ok(())
 }

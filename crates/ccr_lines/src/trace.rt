@@ -9,13 +9,16 @@ ghost use Rattle.ccr_core.specs.Cores.{core_data};
 ghost use Rattle.ccr_lines.specs.Lines.{line};
 ghost use Rattle.ccr_lines.specs.Shown.{needs, IsMade, IsUnshown};
 ghost use Rattle.ccr_lines.specs.Shown as spec;
+ghost use Rattle.ccr_lines.specs.TraceJson.{trace_shown};
 ghost use Rattle.ccr_lines.specs.Traces.{is_sought, has_taken, took_word, moved_word, went_line, went_line_if, trace_line, trace_lines};
 
+use crate::form::Form;
 use crate::held::{pin_of, resource_held};
 use crate::release::{resource_at, used_at};
 use crate::shown::ShowFault;
 use crate::tell::word_of;
 use crate::texts::push_line;
+use crate::trace_json::trace_json;
 use ccr_core::Core;
 use ccr_history::{BuildRef, History, Pin, Status};
 use itoa::Buffer;
@@ -44,7 +47,7 @@ fn is_sought(history: &History, resource: &str, pin: &Pin, scope: u32, place: u3
 }
 
 /// Whether a build took a version of the resource that meets the pin.
-fn has_taken(history: &History, resource: &str, pin: &Pin, build: &BuildRef<'_>) -> bool
+pub(crate) fn has_taken(history: &History, resource: &str, pin: &Pin, build: &BuildRef<'_>) -> bool
     ensures { result ≡ has_taken history.now.tables resource.now pin.now build.now }
 {
     for k in 0..build.used_count() {
@@ -57,7 +60,7 @@ fn has_taken(history: &History, resource: &str, pin: &Pin, build: &BuildRef<'_>)
 }
 
 /// Whether one of these pairs is a place of a version of the resource that meets the pin.
-fn has_sought(history: &History, resource: &str, pin: &Pin, pairs: &[(u32, u32)]) -> bool
+pub(crate) fn has_sought(history: &History, resource: &str, pin: &Pin, pairs: &[(u32, u32)]) -> bool
     ensures { result ≡ list_any (λ q. is_sought history.now.tables resource.now pin.now q.0 q.1) pairs.now }
 {
     for pair in pairs {
@@ -69,7 +72,7 @@ fn has_sought(history: &History, resource: &str, pin: &Pin, pairs: &[(u32, u32)]
 }
 
 /// Whether a build succeeded.
-fn is_succeeded(status: Status) -> bool
+pub(crate) fn is_succeeded(status: Status) -> bool
     ensures { result ≡ is_succeeded status }
 {
     match status {
@@ -184,16 +187,33 @@ fn trace_text(
     Ok(text)
 }
 
+/// The builds that took or moved a version of the resource that meets the pin, in one of the forms.
+fn trace_shown(
+    alloc: Global,
+    form: Form,
+    history: &History,
+    resource: &str,
+    pin: &Pin,
+) -> Result<Vec<u8>, AllocError>
+    ensures { IfOk result (λ text. text.items ≡ trace_shown form history.now resource.now pin.now) }
+{
+    match form {
+        Form::Lines => Ok(trace_text(alloc, history, resource, pin)?.into_bytes()),
+        Form::Json => trace_json(alloc, history, resource, pin),
+    }
+}
+
 /// What is shown of the builds that took or moved a version of the resource of this name that meets a JSON text.
 pub(crate) fn trace_made(
     alloc: Global,
     core: &Core,
+    form: Form,
     resource: &str,
     pin: &str,
 ) -> Result<(u8, Vec<u8>), ShowFault>
-    ensures made { IfOk result (λ r. IsMade (spec.trace resource.now pin.now) (core_data core.now) r.0 r.1.items) }
+    ensures made { IfOk result (λ r. IsMade (spec.trace form resource.now pin.now) (core_data core.now) r.0 r.1.items) }
     ensures unshown { let c = core_data core.now in
-        IfErr result (IsUnshown (needs (spec.trace resource.now pin.now)) c.pipeline c.history) }
+        IfErr result (IsUnshown (needs (spec.trace form resource.now pin.now)) c.pipeline c.history) }
 {
     match resource_held(core, resource) {
         Ok(_) => {}
@@ -202,6 +222,6 @@ pub(crate) fn trace_made(
     let Some(pin) = pin_of(alloc, pin)? else {
         return Err(ShowFault::BadPin);
     };
-    let text = trace_text(alloc, core.history(), resource, &pin)?;
-    Ok((0, text.into_bytes()))
+    let text = trace_shown(alloc, form, core.history(), resource, &pin)?;
+    Ok((0, text))
 }

@@ -10,7 +10,7 @@
 //! N commits: `refused`, `no-memory`, `interrupted`, `not-ours`, or as a disk where no fault is named), `runs JOB` (the history that
 //! it begins with has a build of this job that runs), `notes` (what it tells on standard error is shown). `open` makes a
 //! server over it, with a history that is empty otherwise, types in `/t` and builds in `/w`. Then `round`, `turn`, and the commands of
-//! `ccr_run`, of which `set-pipeline` and tasks read the script's files.
+//! `ccr_run`, of which `set-pipeline` and tasks read the script's files. `--json` stands before a command's other words.
 
 mod aside;
 mod script;
@@ -23,7 +23,7 @@ use crate::play::Player;
 use crate::words::split;
 use anyhow::Result;
 use aside::Aside;
-use ccr_lines::{Command, Lines, Printed};
+use ccr_lines::{Command, Form, Lines, Printed};
 use ccr_serve::ServeFault;
 use script::Script;
 use serving::Serving;
@@ -55,6 +55,16 @@ fn certify_of(alloc: Global, words: &str) -> Result<Command, AllocError> {
     Ok(Command::CertifyBuild(job, number_of(number)))
 }
 
+/// The form that words ask for, which begin with `--json` for JSON; and the words behind it.
+fn form_of(words: &str) -> (Form, &str) {
+    let (first, others) = split(words);
+    if first == "--json" {
+        (Form::Json, others)
+    } else {
+        (Form::Lines, words)
+    }
+}
+
 /// The command of a line, if it is one.
 fn command_of(alloc: Global, kind: &str, words: &str) -> Result<Option<Command>, AllocError> {
     let name = String::from_str(alloc, words)?;
@@ -83,17 +93,19 @@ fn command_of(alloc: Global, kind: &str, words: &str) -> Result<Option<Command>,
         "trigger-job" => Command::TriggerJob(name),
         "builds" => Command::Builds,
         "build" => {
+            let (form, words) = form_of(words);
             let (job, number) = split(words);
-            Command::Build(String::from_str(alloc, job)?, number_of(number))
+            Command::Build(String::from_str(alloc, job)?, number_of(number), form)
         }
         "trace" => {
+            let (form, words) = form_of(words);
             let (resource, pin) = split(words);
             let resource = String::from_str(alloc, resource)?;
-            Command::Trace(resource, String::from_str(alloc, pin)?)
+            Command::Trace(resource, String::from_str(alloc, pin)?, form)
         }
         "get-pipeline" => Command::GetPipeline,
-        "resources" => Command::Resources,
-        "jobs" => Command::Jobs,
+        "resources" => Command::Resources(form_of(words).0),
+        "jobs" => Command::Jobs(form_of(words).0),
         "graph" => Command::Graph,
         "run" => Command::Run(number_of(words)),
         _ => return Ok(None),

@@ -72,13 +72,15 @@ impl<R: Runner, S: Shelf, T: Storage> Server<R, S, T> {
             Command::Explain(job) => self.show(Shown::Explanation(job.as_str()), out),
             Command::TriggerJob(job) => self.trigger_job(job.as_str(), out),
             Command::Builds => self.show(Shown::Builds, out),
-            Command::Build(job, number) => self.show(Shown::Build(job.as_str(), *number), out),
-            Command::Trace(resource, pin) => {
-                self.show(Shown::Trace(resource.as_str(), pin.as_str()), out)
+            Command::Build(job, number, form) => {
+                self.show(Shown::Build(job.as_str(), *number, *form), out)
+            }
+            Command::Trace(resource, pin, form) => {
+                self.show(Shown::Trace(resource.as_str(), pin.as_str(), *form), out)
             }
             Command::GetPipeline => self.show(Shown::Pipeline, out),
-            Command::Resources => self.show(Shown::Resources, out),
-            Command::Jobs => self.show(Shown::Jobs, out),
+            Command::Resources(form) => self.show(Shown::Resources(*form), out),
+            Command::Jobs(form) => self.show(Shown::Jobs(*form), out),
             Command::Graph => self.show(Shown::Graph, out),
             Command::Run(rounds) => self.run(*rounds, out),
         }

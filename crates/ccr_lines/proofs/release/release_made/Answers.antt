@@ -10,7 +10,7 @@ returns-clause-made c =
     let at : slice_get held.history.builds c.in-Some.position ≡ Some c.unwrap-build.result =
     ap (λ x. slice_get x.builds c.in-Some.position) (sym c.history-history.ensures)
     ∙ (sym c.build_at.ensures ∙ c.unwrap-build.ensures) in
-    release_made held c.args.job.now c.args.number c.in-Some.position c.unwrap-build.result c.history-history.result.now
-    (option_map pipeline_data (option_copied c.pipeline.result)) c.into_bytes.result.items at
+    release_made c.args.form held c.args.job.now c.args.number c.in-Some.position c.unwrap-build.result
+    c.history-history.result.now (option_map pipeline_data (option_copied c.pipeline.result)) c.in_ok-text.text.items at
     (c.in-Some.ensures.2 ∙ (sym c.in-Some.ensures.1 ∙ at)) c.history-history.ensures c.pipeline.ensures
-    (ap (λ v. v.items) c.into_bytes.ensures.value ∙ c.in_ok-text.ensures)
+    c.in_ok-text.ensures
