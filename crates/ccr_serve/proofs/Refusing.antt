@@ -1,5 +1,6 @@
 -- Commands that are refused, or that are kept from beginning.
-use Rattle.std.proofs.Common.{◌≡◌, List, [], false, Option, None, Some, IsSome, Err, refl, sym, ◌∙◌, ap, subst, append-nil, inl, inr}
+use Rattle.std.proofs.Common.{◌≡◌, ℕ, List, [], false, Option, None, Some, IsSome, Err, refl, sym, ◌∙◌, ap, subst, append-nil, inl, inr}
+use Rattle.std.proofs.lemmas.Bool.{false≢true}
 use Rattle.ccr_history.specs.Text.{Text}
 use Rattle.ccr_task.specs.Places.{PlacesData}
 use Rattle.ccr_core.specs.declared.fault.CoreFault.{CoreFault}
@@ -14,13 +15,13 @@ use Rattle.ccr_task.specs.Calls.{CallData}
 use Rattle.ccr_serve.specs.Commanding.{Commanded, IsRefused, WasRefused, CameOf}
 use Rattle.ccr_serve.specs.Items.{Items}
 use Rattle.ccr_serve.specs.Serving.{Serves}
-use Rattle.ccr_serve.specs.Views.{View, world_of, with_calls, IsReady, Calls, StandsAt, Made, Stops, StopsItem}
+use Rattle.ccr_serve.specs.Views.{View, world_of, with_calls, IsReady, Calls, StandsAt, Made, Unmade, StopsItem, Ends}
 use Rattle.ccr_serve.specs.declared.fault.ServeFault.{ServeFault}
 use Rattle.ccr_serve.specs.declared.fault.ServeFault.TheVariants as fault
 use Rattle.ccr_serve.proofs.Commits.{rose_none, asked_these}
 use Rattle.ccr_serve.proofs.Composing.{calls_back}
 use Rattle.ccr_serve.proofs.Crash.{leaves_ready}
-use Rattle.ccr_serve.proofs.Steps.{after, printed, items_stop, ready_after, cut_at_once}
+use Rattle.ccr_serve.proofs.Steps.{after, printed, MayStop, items_stop, cut_at_once, unmade_at_once, stops_item}
 
 -- ---- nothing was done
 -- a server that has done nothing refuses
@@ -40,8 +41,7 @@ pub refused_after : (places : PlacesData) (c : CommandData) (f : ServeFault) (v 
     → WasRefused places c f v (after v k v.pairs l)
 refused_after places c f v k l ready lines why = record {
   why = why;
-  back = cut_at_once (Items (Serves places) []) (with_calls k v) l (items_stop (Serves places) [])
-      (ready_after v k v.pairs v.lines ready) lines;
+  back = cut_at_once (Items (Serves places) []) (with_calls k v) l (items_stop (Serves places) []) ready lines;
   pairs = refl;
   commits = rose_none v.tally.commits;
   lines = lines;
@@ -119,7 +119,7 @@ module _ (places : PlacesData) (c : CommandData) (e : EventData) (f : CoreFault)
   }
 
 -- ---- commands that are cut short
-pub came_stopped : (places : PlacesData) (c : CommandData) (f : ServeFault) (v n w : View) → StopsItem f w
+pub came_stopped : (places : PlacesData) (c : CommandData) (f : ServeFault) (v n w : View) → StopsItem false f w
     → Calls (Commanded places c 0) v false n → CameOf places c (Err f) v n
 came_stopped places c fault.NoMemory v n w stops cut = cut
 came_stopped places c (fault.Store e) v n w stops cut = cut
@@ -127,15 +127,23 @@ came_stopped places c (fault.Core e) v n w stops cut = absurd stops
 came_stopped places c (fault.Read e) v n w stops cut = absurd stops
 came_stopped places c fault.File v n w stops cut = absurd stops
 came_stopped places c fault.BadPin v n w stops cut = absurd stops
-came_stopped places c fault.Closed v n w stops cut = absurd stops
+came_stopped places c fault.Closed v n w stops cut = absurd (false≢true stops.0)
 came_stopped places c fault.TurnsUsedUp v n w stops cut = absurd stops
 
-pub stops_so : (f : ServeFault) (v : View) → StopsItem f v → Stops f v
-stops_so fault.NoMemory v stops = stops
-stops_so (fault.Store e) v stops = stops
-stops_so (fault.Core e) v stops = absurd stops
-stops_so (fault.Read e) v stops = absurd stops
-stops_so fault.File v stops = absurd stops
-stops_so fault.BadPin v stops = absurd stops
-stops_so fault.Closed v stops = absurd stops
-stops_so fault.TurnsUsedUp v stops = absurd stops
+-- the one event of a command isn't made
+pub came_unmade : (places : PlacesData) (c : CommandData) (f : ServeFault) (v n : View) (l : Text)
+    → MayStop (Commanded places c 0) → l ≡ v.lines → Unmade f (printed v []) n → CameOf places c (Err f) v (printed n l)
+came_unmade places c f v n l may lines un =
+    came_stopped places c f v (printed n l) n (stops_item f (printed v []) n un)
+    (unmade_at_once (Commanded places c 0) v l n f may lines un)
+
+-- a command stands as the items do that ended it early
+pub ends_so : (f : ServeFault) (v : View) → StopsItem false f v → Ends {A = ℕ} (Err f) v
+ends_so fault.NoMemory v stops = stops
+ends_so (fault.Store e) v stops = stops
+ends_so (fault.Core e) v stops = absurd stops
+ends_so (fault.Read e) v stops = absurd stops
+ends_so fault.File v stops = absurd stops
+ends_so fault.BadPin v stops = absurd stops
+ends_so fault.Closed v stops = stops.1
+ends_so fault.TurnsUsedUp v stops = absurd stops

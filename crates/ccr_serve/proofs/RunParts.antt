@@ -6,7 +6,7 @@ use Rattle.ccr_core.specs.Events as event
 use Rattle.ccr_history.specs.Text.{Text}
 use Rattle.ccr_history.specs.History.{HistoryData}
 use Rattle.ccr_task.specs.Places.{PlacesData}
-use Rattle.ccr_serve.specs.Commanding.{HasJob, IsFirstReply, trigger_status, Such, Commanded, Unended, WasRefused, CameOf}
+use Rattle.ccr_serve.specs.Commanding.{IsFirstReply, trigger_status, Triggered, Commanded, Unended, WasRefused, CameOf}
 use Rattle.ccr_lines.specs.Commands.{run, trigger_job}
 use Rattle.ccr_serve.specs.Items.{World, Done, tell, Part, Items, Then}
 use Rattle.ccr_serve.specs.Runs.{Rounds, ToTheEnd, UsedUp, TurnsTo, TriggerAndRun}
@@ -37,7 +37,7 @@ run_refused places rounds v ready none =
 
 module _ (places : PlacesData) (rounds : ℕ) (v0 v1 : View) where
   -- a run that is cut short in its rounds
-  pub run_cut_in_rounds : (f : ServeFault) → StopsItem f v1 → Calls (Rounds places rounds) v0 false v1
+  pub run_cut_in_rounds : (f : ServeFault) → StopsItem false f v1 → Calls (Rounds places rounds) v0 false v1
       → CameOf places (run rounds) (Err f) v0 v1
   run_cut_in_rounds f stops a =
       came_stopped places (run rounds) f v0 v1 v1 stops
@@ -46,7 +46,7 @@ module _ (places : PlacesData) (rounds : ℕ) (v0 v1 : View) where
 
   module _ (v2 : View) (a : Calls (Rounds places rounds) v0 true v1) where
     -- a run that is cut short after its rounds
-    pub run_cut : (f : ServeFault) → StopsItem f v2 → Calls (ToTheEnd places) v1 false v2
+    pub run_cut : (f : ServeFault) → StopsItem false f v2 → Calls (ToTheEnd places) v1 false v2
         → CameOf places (run rounds) (Err f) v0 v2
     run_cut f stops b =
         came_stopped places (run rounds) f v0 v2 v2 stops
@@ -70,12 +70,6 @@ module _ (places : PlacesData) (rounds : ℕ) (v0 v1 : View) where
         (calls_then (Rounds places rounds) (UsedUp places) v0 v1 v2 true a b s h)
 
 -- ---- triggered jobs
--- a job was triggered, and this was replied
-abbrev pub Triggered : PlacesData → Text → Reply → Part
-Triggered places job reply =
-    Such (λ old ds new. HasJob old.core job × IsFirstReply ds reply)
-    (Items (Serves places) (tell (event.trigger job) ∷ []))
-
 first_reply_more : (ds es : List Done) (r : Reply) → IsFirstReply ds r → IsFirstReply (ds ++ es) r
 first_reply_more [] es r h = absurd h
 first_reply_more (d ∷ ds) es r h = h
@@ -95,7 +89,7 @@ module _ (places : PlacesData) (job : Text) (r : Reply) (v0 v1 v2 : View) (a : C
   })
 
   -- a triggered job's turns are cut short
-  pub trigger_cut : (f : ServeFault) → StopsItem f v2 → Calls (ToTheEnd places) v1 false v2
+  pub trigger_cut : (f : ServeFault) → StopsItem false f v2 → Calls (ToTheEnd places) v1 false v2
       → CameOf places (trigger_job job) (Err f) v0 v2
   trigger_cut f stops b =
       came_stopped places (trigger_job job) f v0 v2 v2 stops

@@ -13,7 +13,7 @@ use Rattle.ccr_serve.specs.Views.{View, world_of, IsReady}
 use Rattle.ccr_serve.specs.declared.fault.ServeFault.TheVariants as fault
 use Rattle.ccr_serve.proofs.Commits.{rose_none}
 use Rattle.ccr_serve.proofs.Refusing.{refused_after}
-use Rattle.ccr_serve.proofs.Steps.{printed, ready_after, calls_did, MayStop, cut_at_once}
+use Rattle.ccr_serve.proofs.Steps.{printed, calls_did, MayStop, cut_at_once}
 
 -- what is shown of a core is shown of the states that it stands for
 shown_at : (what : ShownData) (c : CoreData) (s : State) (status : ℕ) (lines : Text) → Stands c s
@@ -28,7 +28,7 @@ shown_at what c s status lines is h =
 pub shown_so : (places : PlacesData) (what : ShownData) (status : ℕ) (v : View) (l : Text) → IsReady v
     → Showing what v.core (Ok status) v.lines l → CameOf places (shows what) (Ok status) v (printed v l)
 shown_so places what status v l ready x =
-    calls_did (Commanded places (shows what) status) v (printed v l) (ready_after v v.calls v.pairs l ready)
+    calls_did (Commanded places (shows what) status) v (printed v l) ready
     (λ s is. record {
       did = did;
       state = s;

@@ -43,6 +43,7 @@ after v f p l = record {
   holds = v.holds;
   leaves = v.leaves;
   tally = v.tally;
+  places = v.places;
   lines = l;
   closed = v.closed;
 }
@@ -50,14 +51,6 @@ after v f p l = record {
 -- a view that has printed these lines
 abbrev pub printed : View → Text → View
 printed v l = after v v.calls v.pairs l
-
-pub ready_after : (v : View) (f : List CallData) (p : List Pair) (l : Text) → IsReady v → IsReady (after v f p l)
-ready_after v f p l ready = record {
-  is_open = ready.is_open;
-  unfailed = ready.unfailed;
-  holds = ready.holds;
-  leaves = ready.leaves;
-}
 
 -- ---- parts of which one item was done, or nothing
 -- what one item did from a state
@@ -178,25 +171,25 @@ stands_closed : (closed : Bool) (now : World) (new : View) → closed ≡ true �
 stands_closed true now new is = tt
 stands_closed false now new is = absurd (false≢true is)
 
-pub calls_unmade : (P : Part) (v : View) (f : List CallData) (p : List Pair) (l : Text) (new : View) (stop : ServeFault)
+pub calls_unmade : (P : Part) (v : View) (f : List CallData) (p : List Pair) (l : Text) (n : View) (stop : ServeFault)
     (lost : Option Pair) → MayBegin P v f lost → Adds v.pairs lost p → l ≡ v.lines
-    → Unmade stop (after v f p l) new → Calls P v false new
-calls_unmade P v f p l new stop lost begins adds lines un =
-    calls_stop P v new lost (subst (λ k. MayBegin P v k lost) (sym un.rest.calls) begins) (un.rest.pairs ∙ adds)
-    un.commits (un.rest.lines ∙ lines) un.holds un.crash
-    (λ s is. elim (unmade_back stop (after v f p l) new un)
-    as (λ _. StandsAt false new.closed (begun_at v s new.calls lost) new) [
-      | inl back ↦ stands_back new.closed v new s new.calls lost (subst (λ c. Stands c s) (sym back.0) is) un.rest.last
-      | inr closed ↦ stands_closed new.closed (begun_at v s new.calls lost) new closed
+    → Unmade stop (after v f p []) n → Calls P v false (printed n l)
+calls_unmade P v f p l n stop lost begins adds lines un =
+    calls_stop P v (printed n l) lost (subst (λ k. MayBegin P v k lost) (sym un.rest.calls) begins)
+    (un.rest.pairs ∙ adds) un.commits lines un.holds un.crash
+    (λ s is. elim (unmade_back stop (after v f p []) n un)
+    as (λ _. StandsAt false n.closed (begun_at v s n.calls lost) (printed n l)) [
+      | inl back ↦ stands_back n.closed v (printed n l) s n.calls lost (subst (λ c. Stands c s) (sym back.0) is) un.rest.last
+      | inr closed ↦ stands_closed n.closed (begun_at v s n.calls lost) (printed n l) closed
     ])
 
 -- nothing was begun but the event, which wasn't made
-pub unmade_at_once : (P : Part) (v : View) (l : Text) (new : View) (stop : ServeFault) → MayStop P → l ≡ v.lines
-    → Unmade stop (printed v l) new → Calls P v false new
-unmade_at_once P v l new stop may lines un =
-    calls_unmade P v v.calls v.pairs l new stop None (λ s is. may (world_of v s)) (none_added v.pairs) lines un
+pub unmade_at_once : (P : Part) (v : View) (l : Text) (n : View) (stop : ServeFault) → MayStop P → l ≡ v.lines
+    → Unmade stop (printed v []) n → Calls P v false (printed n l)
+unmade_at_once P v l n stop may lines un =
+    calls_unmade P v v.calls v.pairs l n stop None (λ s is. may (world_of v s)) (none_added v.pairs) lines un
 
-pub stops_item : (f : ServeFault) (old new : View) → Unmade f old new → StopsItem f new
+pub stops_item : (f : ServeFault) (old new : View) → Unmade f old new → StopsItem false f new
 stops_item (fault.Core e) old new un = absurd un.back
 stops_item (fault.Store e) old new un = un.back
 stops_item (fault.Read e) old new un = absurd un.back
@@ -205,26 +198,6 @@ stops_item fault.BadPin old new un = absurd un.back
 stops_item fault.NoMemory old new un = un.back.1
 stops_item fault.Closed old new un = absurd un.back
 stops_item fault.TurnsUsedUp old new un = absurd un.back
-
--- the lines are others, before and after an event that wasn't made
-pub unmade_printed : (f : ServeFault) (old new : View) (l m : Text) → m ≡ l → Unmade f old new
-    → Unmade f (printed old l) (printed new m)
-unmade_printed f old new l m same un = record {
-  back = back f un.back;
-  holds = un.holds;
-  crash = un.crash;
-  commits = un.commits;
-  rest = record { last = un.rest.last; calls = un.rest.calls; pairs = un.rest.pairs; lines = same };
-} where
-  back : (f : ServeFault) → IsBack f old new → IsBack f (printed old l) (printed new m)
-  back (fault.Core e) b = b
-  back (fault.Store e) b = b
-  back (fault.Read e) b = b
-  back fault.File b = b
-  back fault.BadPin b = b
-  back fault.NoMemory b = (b.0, ready_after new new.calls new.pairs m b.1)
-  back fault.Closed b = b
-  back fault.TurnsUsedUp b = b
 
 -- ---- events that were made
 -- the event leads to a state that the core stands for, with its lines
@@ -256,8 +229,7 @@ pub calls_made : (P : Part) (e : EventData) (r : Replied) (v n : View) (m : Text
     → ((w u : World) (d : Done) → Tells e w d u → d.event ≡ Some (e, r) → P w (d ∷ []) true u)
     → Calls P v true (printed n m)
 calls_made P e r v n m made lines can =
-    calls_did P v (printed n m) (ready_after n n.calls n.pairs m made.ready)
-    (λ s is. made_did P e r v n m s made lines can is)
+    calls_did P v (printed n m) made.ready (λ s is. made_did P e r v n m s made lines can is)
 
 -- the lines of an event, with the history of a state that the core stands for
 pub lines_at : (e : EventData) (r : Replied) (c : CoreData) (a : State) (old mid new : Text) → Stands c a → mid ≡ old
@@ -284,7 +256,7 @@ pub check_made : (places : PlacesData) (name named : Text) (one : ResourceData) 
     → Calls (Noting (Items (Serves places) (item.check name ∷ [])) (λ ds. good ≡ all_taken ds)) v true (printed n m)
 check_made places name named one v f p l n m pair vs r good copied there lines pairs finds made_named told is_good =
     calls_did (Noting (Items (Serves places) (item.check name ∷ [])) (λ ds. good ≡ all_taken ds)) v (printed n m)
-    (ready_after n n.calls n.pairs m made_named.ready) (λ s is.
+    made_named.ready (λ s is.
     let made : Made (checked name vs) r (after v f p []) n =
     subst (λ t. Made (checked t vs) r (after v f p []) n) copied made_named in
     let t = made.takes s is in
@@ -330,7 +302,7 @@ pub check_found_nothing : (places : PlacesData) (name : Text) (one : ResourceDat
     → Calls (Noting (Items (Serves places) (item.check name ∷ [])) (λ ds. false ≡ all_taken ds)) v true (after v f p m)
 check_found_nothing places name one v f p l m pair cause ready there lines pairs finds told =
     calls_did (Noting (Items (Serves places) (item.check name ∷ [])) (λ ds. false ≡ all_taken ds)) v (after v f p m)
-    (ready_after v f p m ready) (λ s is. record {
+    ready (λ s is. record {
       did = record { pair = pair; event = None; lines = refused_line name (cause_words cause) };
       state = s;
       stands = is;

@@ -13,14 +13,13 @@ use Rattle.ccr_history.specs.Text.{Text}
 use Rattle.ccr_lines.specs.Lines.{lines_of}
 use Rattle.ccr_task.specs.Places.{PlacesData}
 use Rattle.ccr_task.specs.Calls.{CallData}
-use Rattle.ccr_serve.specs.Commanding.{HasJob, IsRefused, Commanded, CameOf}
+use Rattle.ccr_serve.specs.Commanding.{HasJob, Triggered, IsRefused, Commanded, CameOf}
 use Rattle.ccr_lines.specs.Commands.{trigger_job}
 use Rattle.ccr_serve.specs.Items.{World, Done, tell}
 use Rattle.ccr_serve.specs.Serving.{Tells}
 use Rattle.ccr_serve.specs.Views.{View, Calls, Made}
 use Rattle.ccr_serve.specs.declared.fault.ServeFault.TheVariants as fault
 use Rattle.ccr_serve.proofs.Refusing.{some_if, refused_by_core}
-use Rattle.ccr_serve.proofs.RunParts.{Triggered}
 use Rattle.ccr_serve.proofs.Steps.{printed, MayStop, calls_made, lines_at}
 
 -- nothing may be done of a command that triggers a job

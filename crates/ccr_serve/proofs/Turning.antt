@@ -63,6 +63,7 @@ served n rank calls lines = record {
   holds = n.holds;
   leaves = n.leaves;
   tally = n.tally;
+  places = n.places;
   lines = lines;
   closed = n.closed;
 }
@@ -131,13 +132,7 @@ module _ (places : PlacesData) (v : View) (looked : List CallData) (job : Text) 
       → ((t : ℕ) (y : AnswerData) (h : HistoryData) → m ≡ v.lines ++ lines_of (answer job number t y) (Ok reply) h)
       → Calls (Items (Serves places) (item.turn ∷ [])) v true (served n rank f2 m)
   turn_served due told =
-      calls_did (Items (Serves places) (item.turn ∷ [])) v (served n rank f2 m)
-      (record {
-        is_open = gives.ready.is_open;
-        unfailed = gives.ready.unfailed;
-        holds = gives.ready.holds;
-        leaves = gives.ready.leaves;
-      }) (λ s is.
+      calls_did (Items (Serves places) (item.turn ∷ [])) v (served n rank f2 m) gives.ready (λ s is.
       let g = gives.takes s is in
       record {
         did = did s is (due s is) g;
@@ -201,13 +196,7 @@ module _ (places : PlacesData) (v : View) (looked : List CallData) (job : Text) 
       → ((h : HistoryData) → m ≡ v.lines ++ lines_of (abort job number) (Ok reply) h)
       → Calls (Items (Serves places) (item.turn ∷ [])) v true (served n rank f2 m)
   abort_served due told =
-      calls_did (Items (Serves places) (item.turn ∷ [])) v (served n rank f2 m)
-      (record {
-        is_open = made.ready.is_open;
-        unfailed = made.ready.unfailed;
-        holds = made.ready.holds;
-        leaves = made.ready.leaves;
-      }) (λ s is.
+      calls_did (Items (Serves places) (item.turn ∷ [])) v (served n rank f2 m) made.ready (λ s is.
       record {
         did = aborted s is (due s is);
         state = next s is (due s is);

@@ -4,7 +4,7 @@ use Rattle.ccr_task.specs.declared.said.StepFault.TheVariants.{Aborted}
 use Rattle.ccr_core.specs.Cores.{core_data}
 use Rattle.ccr_serve.specs.Aborts.{AbortIsAsked}
 use Rattle.ccr_serve.specs.Noted.{IsStepHead, NotesOf, NotesAnswer}
-use Rattle.ccr_serve.specs.Views.{view_of}
+use Rattle.ccr_serve.specs.Views.{full_view}
 use Rattle.ccr_serve.proofs.NotesTold.{if_ok, err_then}
 use Rattle.ccr_serve.proofs.Steps.{cut_at_once, cut_unchanged, items_stop}
 use Rattle.ccr_serve.proofs.Turning.{from_lines}
@@ -12,22 +12,22 @@ use Rattle.ccr_serve.proofs.server.Server.serve_build.Goals as goal
 
 pub returns-in_default-clause-served : goal.returns-in_default-clause-served
 returns-in_default-clause-served g c =
-    let view = view_of g.R.Runner.pairs g.S.Shelf.calls g.T.Storage.holds g.T.Storage.leaves g.T.Storage.tally in
-    cut_at_once _ (view c.args.self.now (g.O.Lines.written c.args.out.now)) (g.O.Lines.written c.begin_turn.new.out)
+    let view = full_view g.R.Runner g.S.Shelf g.T.Storage g.O.Lines in
+    cut_at_once _ (view c.args.self.now c.args.out.now) (g.O.Lines.written c.begin_turn.new.out)
     (items_stop _ _) c.requires.ready c.begin_turn.ensures.same
 
 pub returns-in_default-take_abort-clause-served : goal.returns-in_default-take_abort-clause-served
 returns-in_default-take_abort-clause-served g c =
-    let view = view_of g.R.Runner.pairs g.S.Shelf.calls g.T.Storage.holds g.T.Storage.leaves g.T.Storage.tally in
-    cut_unchanged _ (view c.args.self.now (g.O.Lines.written c.args.out.now)) (g.S.Shelf.calls c.take_abort.new.shelf)
+    let view = full_view g.R.Runner g.S.Shelf g.T.Storage g.O.Lines in
+    cut_unchanged _ (view c.args.self.now c.args.out.now) (g.S.Shelf.calls c.take_abort.new.shelf)
     (g.O.Lines.written c.begin_turn.new.out) (items_stop _ _) c.requires.ready c.in_default-take_abort.ensures.err
     c.begin_turn.ensures.same
 
 pub returns-then-asked-clause-served : goal.returns-then-asked-clause-served
 returns-then-asked-clause-served g c =
-    let view = view_of g.R.Runner.pairs g.S.Shelf.calls g.T.Storage.holds g.T.Storage.leaves g.T.Storage.tally in
-    from_lines _ (view c.args.self.now (g.O.Lines.written c.args.out.now)) (g.O.Lines.written c.begin_turn.new.out)
-    (is_ok c.abort_due.result) (view c.abort_due.new.self (g.O.Lines.written c.abort_due.new.out)) c.begin_turn.ensures.same
+    let view = full_view g.R.Runner g.S.Shelf g.T.Storage g.O.Lines in
+    from_lines _ (view c.args.self.now c.args.out.now) (g.O.Lines.written c.begin_turn.new.out)
+    (is_ok c.abort_due.result) (view c.abort_due.new.self c.abort_due.new.out) c.begin_turn.ensures.same
     (c.abort_due.ensures.served (g.S.Shelf.calls c.args.self.now.shelf)
     (subst (λ a. AbortIsAsked (abort_folder (places_data c.args.self.now.places) (string_bytes c.args.due.job)
     c.args.due.number) a (g.S.Shelf.calls c.args.self.now.shelf) (g.S.Shelf.calls c.take_abort.new.shelf))
@@ -38,9 +38,9 @@ returns-then-asked-clause-served g c =
 
 pub returns-else-asked-clause-served : goal.returns-else-asked-clause-served
 returns-else-asked-clause-served g c =
-    let view = view_of g.R.Runner.pairs g.S.Shelf.calls g.T.Storage.holds g.T.Storage.leaves g.T.Storage.tally in
-    from_lines _ (view c.args.self.now (g.O.Lines.written c.args.out.now)) (g.O.Lines.written c.begin_turn.new.out)
-    (is_ok c.answer_due.result) (view c.answer_due.new.self (g.O.Lines.written c.answer_due.new.out)) c.begin_turn.ensures.same
+    let view = full_view g.R.Runner g.S.Shelf g.T.Storage g.O.Lines in
+    from_lines _ (view c.args.self.now c.args.out.now) (g.O.Lines.written c.begin_turn.new.out)
+    (is_ok c.answer_due.result) (view c.answer_due.new.self c.answer_due.new.out) c.begin_turn.ensures.same
     (c.answer_due.ensures.served (g.S.Shelf.calls c.args.self.now.shelf)
     (subst (λ a. AbortIsAsked (abort_folder (places_data c.args.self.now.places) (string_bytes c.args.due.job)
     c.args.due.number) a (g.S.Shelf.calls c.args.self.now.shelf) (g.S.Shelf.calls c.take_abort.new.shelf))
