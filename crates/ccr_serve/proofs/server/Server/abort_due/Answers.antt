@@ -38,8 +38,7 @@ returns-in-Ok-clause-served g c before asked =
     let name : c.as_str-job.result.now ≡ string_bytes c.args.due.job = c.as_str-job.ensures.value in
     abort_served (places_data c.args.self.now.places) v looked (string_bytes c.args.due.job) c.args.due.number
     c.args.due.rank c.in-Ok.reply (bare c.abort.new.self) (g.S.Shelf.calls c.clear_away.new.shelf)
-    (g.O.Lines.written c.tell_ended.new.out) asked
-    (subst (λ j. Made (abort j c.args.due.number) (Ok c.in-Ok.reply)
+    (g.O.Lines.written c.tell_ended.new.out) asked (subst (λ j. Made (abort j c.args.due.number) (Ok c.in-Ok.reply)
     (after v looked (g.R.Runner.pairs c.args.self.now.runner) []) (bare c.abort.new.self)) c.requires.name
     c.in-Ok.ensures.made)
     (subst (λ n. Clears (places_data c.args.self.now.places) (string_bytes c.args.due.job) c.args.due.number c.in-Ok.reply n
@@ -48,9 +47,7 @@ returns-in-Ok-clause-served g c before asked =
     (g.S.Shelf.calls c.abort.new.self.shelf) (g.S.Shelf.calls c.clear_away.new.shelf)) name
     (subst (λ q. Clears (places_data q) c.as_str-job.result.now c.args.due.number c.in-Ok.reply
     (g.S.Shelf.calls c.abort.new.self.shelf) (g.S.Shelf.calls c.clear_away.new.shelf)) c.in-Ok.ensures.made.rest.places
-    c.clear_away.ensures)))
-    c.requires.due
-    (λ h. subst (λ j. g.O.Lines.written c.tell_ended.new.out
+    c.clear_away.ensures))) c.requires.due (λ h. subst (λ j. g.O.Lines.written c.tell_ended.new.out
     ≡ g.O.Lines.written c.args.out.now ++ lines_of (abort j c.args.due.number) (Ok c.in-Ok.reply) h) name
     (subst (λ w. g.O.Lines.written c.tell_ended.new.out
     ≡ w ++ lines_of (abort c.as_str-job.result.now c.args.due.number) (Ok c.in-Ok.reply) h)

@@ -35,8 +35,7 @@ returns-clause-served g c before asked =
     let looked = g.S.Shelf.calls c.args.self.now.shelf in
     turn_unmade (places_data c.args.self.now.places) v (string_bytes c.args.due.job) c.args.due.number c.args.due.rank
     looked c.requires.due asked (g.R.Runner.pairs c.answer_wanted.new.runner) (g.S.Shelf.calls c.answer_wanted.new.shelf)
-    c.in-Ok.turn (said_data c.in-Ok.said) (g.O.Lines.written c.args.out.now)
-    (bare c.give.new.self) c.in-Err.fault
+    c.in-Ok.turn (said_data c.in-Ok.said) (g.O.Lines.written c.args.out.now) (bare c.give.new.self) c.in-Err.fault
     (subst (λ j. AnswersWant (places_data c.args.self.now.places) v.core j c.args.due.number c.in-Ok.turn
     (said_data c.in-Ok.said) v.pairs (g.R.Runner.pairs c.answer_wanted.new.runner) looked
     (g.S.Shelf.calls c.answer_wanted.new.shelf)) c.as_str-job.ensures.value c.in-Ok.ensures.ok)
@@ -53,13 +52,11 @@ returns-in-Ok-give-clause-served g c before asked =
     turn_served (places_data c.args.self.now.places) v looked job c.args.due.number c.args.due.rank
     c.in-Ok.turn (said_data c.in-Ok.said) c.in-Ok-give.reply
     (g.S.Shelf.calls c.answer_wanted.new.shelf) (g.R.Runner.pairs c.answer_wanted.new.runner)
-    (bare c.give.new.self) (g.S.Shelf.calls c.clear_away.new.shelf)
-    (g.O.Lines.written c.tell_ended.new.out) asked
+    (bare c.give.new.self) (g.S.Shelf.calls c.clear_away.new.shelf) (g.O.Lines.written c.tell_ended.new.out) asked
     (subst (λ j. AnswersWant (places_data c.args.self.now.places) v.core j c.args.due.number c.in-Ok.turn
     (said_data c.in-Ok.said) v.pairs (g.R.Runner.pairs c.answer_wanted.new.runner) looked
     (g.S.Shelf.calls c.answer_wanted.new.shelf)) name c.in-Ok.ensures.ok)
-    (subst (λ j. Gives j c.args.due.number c.in-Ok.turn (answer_data c.in-Ok.said.answered)
-    c.in-Ok-give.reply
+    (subst (λ j. Gives j c.args.due.number c.in-Ok.turn (answer_data c.in-Ok.said.answered) c.in-Ok-give.reply
     (after v (g.S.Shelf.calls c.answer_wanted.new.shelf) (g.R.Runner.pairs c.answer_wanted.new.runner) [])
     (bare c.give.new.self)) c.requires.one c.in-Ok-give.ensures.gives)
     (subst (λ n. Clears (places_data c.args.self.now.places) job c.args.due.number c.in-Ok-give.reply n
@@ -68,9 +65,7 @@ returns-in-Ok-give-clause-served g c before asked =
     (g.S.Shelf.calls c.give.new.self.shelf) (g.S.Shelf.calls c.clear_away.new.shelf)) name
     (subst (λ q. Clears (places_data q) c.as_str-job.result.now c.args.due.number c.in-Ok-give.reply
     (g.S.Shelf.calls c.give.new.self.shelf) (g.S.Shelf.calls c.clear_away.new.shelf)) c.in-Ok-give.ensures.gives.rest.places
-    c.clear_away.ensures)))
-    c.requires.due
-    (λ t y h. subst (λ j. g.O.Lines.written c.tell_ended.new.out
+    c.clear_away.ensures))) c.requires.due (λ t y h. subst (λ j. g.O.Lines.written c.tell_ended.new.out
     ≡ g.O.Lines.written c.args.out.now ++ lines_of (answer j c.args.due.number t y) (Ok c.in-Ok-give.reply) h) name
     (subst (λ w. g.O.Lines.written c.tell_ended.new.out
     ≡ w ++ lines_of (answer c.as_str-job.result.now c.args.due.number t y) (Ok c.in-Ok-give.reply) h)
@@ -92,8 +87,7 @@ returns-in-Ok-give-clause-noted g c =
         x = said_data c.in-Ok.said;
         answered = subst
             (λ p. AnswersWant places core job c.args.due.number c.in-Ok.turn (said_data c.in-Ok.said) pairs p looked calls)
-            (sym c.in-Ok-give.ensures.gives.rest.pairs)
-            (subst
+            (sym c.in-Ok-give.ensures.gives.rest.pairs) (subst
             (λ j. AnswersWant places core j c.args.due.number c.in-Ok.turn (said_data c.in-Ok.said) pairs
             (g.R.Runner.pairs c.answer_wanted.new.runner) looked calls) name c.in-Ok.ensures.ok);
         fault = c.give.new.fault;

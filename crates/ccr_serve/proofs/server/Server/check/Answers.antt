@@ -48,13 +48,11 @@ returns-in-Err-clause-served g c =
     (g.R.Runner.pairs c.find_named.new.runner) (g.O.Lines.written c.begin.new.out)
     (bare c.make.new.self) c.in-Err.fault o.1
     (check_begun (places_data c.args.self.now.places) c.args.name.now o.0 v (g.S.Shelf.calls c.find_named.new.shelf) o.1
-    o.2
-    (found_begun (places_data c.args.self.now.places) o.0 (newest o.0 c.args.self.now.core.history)
+    o.2 (found_begun (places_data c.args.self.now.places) o.0 (newest o.0 c.args.self.now.core.history)
     (g.S.Shelf.calls c.args.self.now.shelf) (g.S.Shelf.calls c.find_named.new.shelf) o.1 c.in-Versions.versions.items
     (subst (λ f. Finds (places_data c.args.self.now.places) o.0 (newest o.0 c.args.self.now.core.history)
     (g.S.Shelf.calls c.args.self.now.shelf) (g.S.Shelf.calls c.find_named.new.shelf) o.1 (found_data f))
-    c.in-Versions.is o.4))) o.3 c.begin.ensures.same
-    c.in-Err.ensures.unmade
+    c.in-Versions.is o.4))) o.3 c.begin.ensures.same c.in-Err.ensures.unmade
 
 pub returns-in-Nothing-clause-served : goal.returns-in-Nothing-clause-served
 returns-in-Nothing-clause-served g c =
@@ -66,5 +64,4 @@ returns-in-Nothing-clause-served g c =
     (g.O.Lines.written c.hand_out.new.self) o.1 c.in-Nothing.cause c.requires.ready o.2 c.begin.ensures.same o.3
     (subst (λ f. Finds (places_data c.args.self.now.places) o.0 (newest o.0 c.args.self.now.core.history)
     (g.S.Shelf.calls c.args.self.now.shelf) (g.S.Shelf.calls c.find_named.new.shelf) o.1 (found_data f))
-    c.in-Nothing.is o.4)
-    (c.hand_out.ensures.same ∙ c.tell_cause.ensures)
+    c.in-Nothing.is o.4) (c.hand_out.ensures.same ∙ c.tell_cause.ensures)

@@ -34,8 +34,7 @@ loop-name-preserved g c =
       served = name_more (places_data c.loop-name.self.places) (places_data c.args.self.now.places) check c.args.names.now
           c.loop-name.name-index c.name-item.result c.as_str.result.now (omega arith) c.name-item.is c.as_str.ensures.value
           (ap places_data c.loop-name.invariant.places) (view c.args.self.now c.args.out.now)
-          (view c.loop-name.self c.loop-name.out) (view c.check.new.self c.check.new.out)
-          c.loop-name.invariant.served
+          (view c.loop-name.self c.loop-name.out) (view c.check.new.self c.check.new.out) c.loop-name.invariant.served
           (unnoted _ _ (view c.loop-name.self c.loop-name.out)
           (view c.check.new.self c.check.new.out) true c.in-Ok.ensures.served);
       ready = c.in-Ok.ensures.after.ends;
@@ -53,8 +52,7 @@ returns-in-Err-clause-served g c =
     name_stop (places_data c.loop-name.self.places) (places_data c.args.self.now.places) check c.args.names.now
     c.loop-name.name-index c.name-item.result c.as_str.result.now (omega arith) c.name-item.is c.as_str.ensures.value
     (ap places_data c.loop-name.invariant.places) (view c.args.self.now c.args.out.now)
-    (view c.loop-name.self c.loop-name.out) (view c.check.new.self c.check.new.out)
-    c.loop-name.invariant.served
+    (view c.loop-name.self c.loop-name.out) (view c.check.new.self c.check.new.out) c.loop-name.invariant.served
     (unnoted _ _ (view c.loop-name.self c.loop-name.out)
     (view c.check.new.self c.check.new.out) false c.in-Err.ensures.served)
 

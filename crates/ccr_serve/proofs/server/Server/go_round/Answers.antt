@@ -27,11 +27,9 @@ pub returns-in-Err-clause-served : goal.returns-in-Err-clause-served
 returns-in-Err-clause-served g c =
     let view = full_view g.R.Runner g.S.Shelf g.T.Storage g.O.Lines in
     round_cut_in_checks (places_data c.args.self.now.places) (view c.args.self.now c.args.out.now)
-    (view c.check_each.new.self c.check_each.new.out)
-    (map (λ name. check (string_bytes name)) c.deref.result.now)
+    (view c.check_each.new.self c.check_each.new.out) (map (λ name. check (string_bytes name)) c.deref.result.now)
     (map_named check (λ r. r.name) c.deref.result.now (resources_held (core_data c.args.self.now.core))
-    (ap (map string_bytes) c.deref.ensures.value ∙ c.in-Ok.ensures.resources))
-    c.in-Err.ensures.served
+    (ap (map string_bytes) c.deref.ensures.value ∙ c.in-Ok.ensures.resources)) c.in-Err.ensures.served
 
 pub returns-in-Err-schedule_each-clause-served : goal.returns-in-Err-schedule_each-clause-served
 returns-in-Err-schedule_each-clause-served g c =
@@ -40,14 +38,12 @@ returns-in-Err-schedule_each-clause-served g c =
     let v1 = view c.check_each.new.self c.check_each.new.out in
     let v2 = view c.schedule_each.new.self c.schedule_each.new.out in
     let schedules = map (λ name. schedule (string_bytes name)) c.deref-2.result.now in
-    round_cut (places_data c.args.self.now.places) v0 v2
-    (first_part (places_data c.args.self.now.places) v0 v1 v2 false
+    round_cut (places_data c.args.self.now.places) v0 v2 (first_part (places_data c.args.self.now.places) v0 v1 v2 false
     (map (λ name. check (string_bytes name)) c.deref.result.now) schedules
     (map_named check (λ r. r.name) c.deref.result.now (resources_held (core_data c.args.self.now.core))
     (ap (map string_bytes) c.deref.ensures.value ∙ c.in-Ok.ensures.resources))
     (map_named schedule (λ j. j.name) c.deref-2.result.now (jobs_held (core_data c.args.self.now.core))
-    (ap (map string_bytes) c.deref-2.ensures.value ∙ c.in-Ok.ensures.jobs))
-    c.in-Ok-check_each.ensures.served
+    (ap (map string_bytes) c.deref-2.ensures.value ∙ c.in-Ok.ensures.jobs)) c.in-Ok-check_each.ensures.served
     (at_places (places_data c.check_each.new.self.places) (places_data c.args.self.now.places) schedules v1 v2 false
     (ap places_data c.in-Ok-check_each.ensures.after.places) c.in-Err-schedule_each.ensures.served))
 
@@ -67,8 +63,7 @@ returns-clause-served g c =
     (map_named check (λ r. r.name) c.deref.result.now (resources_held (core_data c.args.self.now.core))
     (ap (map string_bytes) c.deref.ensures.value ∙ c.in-Ok.ensures.resources))
     (map_named schedule (λ j. j.name) c.deref-2.result.now (jobs_held (core_data c.args.self.now.core))
-    (ap (map string_bytes) c.deref-2.ensures.value ∙ c.in-Ok.ensures.jobs))
-    c.in-Ok-check_each.ensures.served
+    (ap (map string_bytes) c.deref-2.ensures.value ∙ c.in-Ok.ensures.jobs)) c.in-Ok-check_each.ensures.served
     (at_places (places_data c.check_each.new.self.places) (places_data c.args.self.now.places) schedules v1 v2 true
     (ap places_data c.in-Ok-check_each.ensures.after.places) c.in-Ok-schedule_each.ensures.served))
     (at_places (places_data c.schedule_each.new.self.places) (places_data c.args.self.now.places)

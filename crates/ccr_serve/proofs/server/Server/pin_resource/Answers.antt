@@ -52,8 +52,7 @@ returns-in-Ok-Err-clause-came g c =
     let view = full_view g.R.Runner g.S.Shelf g.T.Storage g.O.Lines in
     let bare = bare_view g.R.Runner g.S.Shelf g.T.Storage in
     pin_refused (places_data c.args.self.now.places) c.args.name.now (string_bytes c.in-Ok-begin.copy) c.args.text.now
-    c.in-Ok-Some.pin c.in-Ok-Err.field-0 c.in-Ok-Err.fault
-    (view c.args.self.now c.args.out.now) (bare c.make.new.self)
+    c.in-Ok-Some.pin c.in-Ok-Err.field-0 c.in-Ok-Err.fault (view c.args.self.now c.args.out.now) (bare c.make.new.self)
     (g.O.Lines.written c.begin.new.out) c.in-Ok-begin.ensures.copied c.in-Ok-Err.field-0-is c.begin.ensures.same
     c.in-Ok-Err.ensures.made
 

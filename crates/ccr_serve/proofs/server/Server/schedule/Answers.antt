@@ -19,8 +19,7 @@ returns-in-Ok-make-clause-served g c =
     schedule_made (places_data c.args.self.now.places) c.args.name.now (string_bytes c.in-Ok.copy)
     c.in-Ok-make.replied (view c.args.self.now c.args.out.now) (bare c.make.new.self)
     (g.O.Lines.written c.begin.new.out) (g.O.Lines.written c.tell_scheduled.new.out) c.in-Ok.ensures.copied
-    c.begin.ensures.same c.in-Ok-make.ensures.made
-    (c.tell_scheduled.ensures.told
+    c.begin.ensures.same c.in-Ok-make.ensures.made (c.tell_scheduled.ensures.told
     ∙ ap (λ h. g.O.Lines.written c.begin.new.out ++ lines_of (event.schedule c.args.name.now) c.in-Ok-make.replied h)
     c.history.ensures)
 

@@ -26,8 +26,7 @@ loop-name-preserved g c =
           c.loop-name.name-index c.name-item.result c.as_str.result.now (omega arith) c.name-item.is c.as_str.ensures.value
           (ap places_data c.loop-name.invariant.places) (view c.args.self.now c.args.out.now)
           (view c.loop-name.self c.loop-name.out) (view c.schedule.new.self c.schedule.new.out)
-          c.loop-name.invariant.served
-          c.in-Ok.ensures.served;
+          c.loop-name.invariant.served c.in-Ok.ensures.served;
       ready = c.in-Ok.ensures.after.ends;
       places = c.in-Ok.ensures.after.places ∙ c.loop-name.invariant.places;
       waiting = λ none. c.in-Ok.ensures.after.waiting (c.loop-name.invariant.waiting none);
@@ -39,8 +38,7 @@ returns-in-Err-clause-served g c =
     name_stop (places_data c.loop-name.self.places) (places_data c.args.self.now.places) schedule c.args.names.now
     c.loop-name.name-index c.name-item.result c.as_str.result.now (omega arith) c.name-item.is c.as_str.ensures.value
     (ap places_data c.loop-name.invariant.places) (view c.args.self.now c.args.out.now)
-    (view c.loop-name.self c.loop-name.out) (view c.schedule.new.self c.schedule.new.out)
-    c.loop-name.invariant.served
+    (view c.loop-name.self c.loop-name.out) (view c.schedule.new.self c.schedule.new.out) c.loop-name.invariant.served
     c.in-Err.ensures.served
 
 pub returns-clause-served : goal.returns-clause-served

@@ -13,8 +13,7 @@ pub returns-in-Ok-clause-came : goal.returns-in-Ok-clause-came
 returns-in-Ok-clause-came g c =
     let view = full_view g.R.Runner g.S.Shelf g.T.Storage g.O.Lines in
     shown_so (places_data c.args.self.now.places) (shown_data c.args.what) c.in-Ok.status
-    (view c.args.self.now c.args.out.now) (g.O.Lines.written c.show.new.out) c.requires.ready
-    c.in-Ok.ensures.shows
+    (view c.args.self.now c.args.out.now) (g.O.Lines.written c.show.new.out) c.requires.ready c.in-Ok.ensures.shows
 
 pub returns-in-Err-Lacks-clause-came : goal.returns-in-Err-Lacks-clause-came
 returns-in-Err-Lacks-clause-came g c =

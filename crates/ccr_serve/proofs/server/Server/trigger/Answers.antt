@@ -24,8 +24,7 @@ returns-in-Ok-replied-clause-replied g c =
     trigger_made (places_data c.args.self.now.places) c.args.job.now (string_bytes c.in-Ok.copy) c.in-Ok-make.replied c.in-Ok-replied.reply
     (view c.args.self.now c.args.out.now) (bare c.make.new.self) (g.O.Lines.written c.begin.new.out)
     (g.O.Lines.written c.hand_out.new.self) c.in-Ok.ensures.copied c.in-Ok-replied.is c.begin.ensures.same
-    c.in-Ok-make.ensures.made
-    (c.hand_out.ensures.same ∙ (c.tell_job.ensures
+    c.in-Ok-make.ensures.made (c.hand_out.ensures.same ∙ (c.tell_job.ensures
     ∙ ap (λ h. g.O.Lines.written c.begin.new.out ++ lines_of (event.trigger c.args.job.now) (Ok c.in-Ok-replied.reply) h)
     c.history.ensures))
 
@@ -44,5 +43,4 @@ returns-in-Err-clause-came g c =
     let bare = bare_view g.R.Runner g.S.Shelf g.T.Storage in
     came_unmade (places_data c.args.self.now.places) (trigger_job c.args.job.now) c.in-Err.fault
     (view c.args.self.now c.args.out.now) (bare c.make.new.self) (g.O.Lines.written c.begin.new.out)
-    (trigger_stop (places_data c.args.self.now.places) c.args.job.now) c.begin.ensures.same
-    c.in-Err.ensures.unmade
+    (trigger_stop (places_data c.args.self.now.places) c.args.job.now) c.begin.ensures.same c.in-Err.ensures.unmade

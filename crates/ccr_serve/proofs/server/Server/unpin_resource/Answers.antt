@@ -39,5 +39,4 @@ returns-in-Err-clause-came g c =
     let bare = bare_view g.R.Runner g.S.Shelf g.T.Storage in
     came_unmade (places_data c.args.self.now.places) (unpin_resource c.args.name.now) c.in-Err.fault
     (view c.args.self.now c.args.out.now) (bare c.make.new.self) (g.O.Lines.written c.begin.new.out)
-    (unpin_stop (places_data c.args.self.now.places) c.args.name.now) c.begin.ensures.same
-    c.in-Err.ensures.unmade
+    (unpin_stop (places_data c.args.self.now.places) c.args.name.now) c.begin.ensures.same c.in-Err.ensures.unmade
