@@ -52,7 +52,8 @@ returns-then-asked-clause-noted g c =
     let core = core_data c.args.self.now.core in
     let job = string_bytes c.args.due.job in
     if_ok c.abort_due.result (λ a n. (
-      g.S.Shelf.calls c.take_abort.new.shelf, inl (
+      g.S.Shelf.calls c.take_abort.new.shelf,
+      inl (
         subst (λ a. AbortIsAsked (abort_folder (places_data c.args.self.now.places) job c.args.due.number) a
             (g.S.Shelf.calls c.args.self.now.shelf) (g.S.Shelf.calls c.take_abort.new.shelf)) c.if-asked.true
             (subst (λ j. AbortIsAsked (abort_folder (places_data c.args.self.now.places) j c.args.due.number)
@@ -74,13 +75,15 @@ returns-else-asked-clause-noted g c =
     let places = places_data c.args.self.now.places in
     let job = string_bytes c.args.due.job in
     if_ok c.answer_due.result (λ a n. (
-      g.S.Shelf.calls c.take_abort.new.shelf, inr (
+      g.S.Shelf.calls c.take_abort.new.shelf,
+      inr (
         subst (λ a. AbortIsAsked (abort_folder places job c.args.due.number) a
             (g.S.Shelf.calls c.args.self.now.shelf) (g.S.Shelf.calls c.take_abort.new.shelf)) c.if-asked.false
             (subst (λ j. AbortIsAsked (abort_folder places j c.args.due.number) c.in-Ok-take_abort.asked
             (g.S.Shelf.calls c.args.self.now.shelf) (g.S.Shelf.calls c.take_abort.new.shelf))
             c.as_str-job.ensures.value c.in-Ok-take_abort.ensures.asked),
-        n.0, subst (λ o. NotesAnswer places core job c.args.due.number (g.R.Runner.pairs c.args.self.now.runner)
+        n.0,
+        subst (λ o. NotesAnswer places core job c.args.due.number (g.R.Runner.pairs c.args.self.now.runner)
             (g.R.Runner.pairs c.answer_due.new.self.runner) (g.S.Shelf.calls c.take_abort.new.shelf) n.0 o
             (g.O.Lines.notes c.answer_due.new.out)) c.begin_turn.ensures.notes n.1,
       ),
