@@ -12,7 +12,7 @@ use Rattle.ccr_serve.specs.Aborts.{AbortIsAsked}
 use Rattle.ccr_serve.specs.Commanding.{CameOf}
 use Rattle.ccr_serve.specs.Items.{Part, turn}
 use Rattle.ccr_serve.specs.Serving.{ItemsOf}
-use Rattle.ccr_serve.specs.Views.{bare_view, full_view, with_calls, Calls, Ends, EndsItems}
+use Rattle.ccr_serve.specs.Views.{full_view, with_calls, Calls, Ends, EndsItems}
 use Rattle.ccr_serve.specs.declared.fault.ServeFault.{ServeFault}
 use Rattle.ccr_serve.specs.declared.server.Server.{Server}
 
@@ -44,12 +44,12 @@ module _ {R S T O : Type 0} (r : runner.Ghosts R) (s : shelf.Ghosts S) (t : stor
   -- where nothing waited
   pub record AfterItems {A : Type 0} (closed : Bool) (result : Result A ServeFault) (old new : Server R S T) (before after : O)
       : Type 0 where
-    pub ends : EndsItems closed result (bare_view r s t new)
+    pub ends : EndsItems closed result (full_view r s t o new after)
     pub places : new.places ≡ old.places
     pub waiting : o.waiting before ≡ [] → o.waiting after ≡ []
 
   -- HOW A COMMAND LEAVES A SERVER, likewise
   pub record AfterCommand {A : Type 0} (result : Result A ServeFault) (old new : Server R S T) (before after : O) : Type 0 where
-    pub ends : Ends result (bare_view r s t new)
+    pub ends : Ends result (full_view r s t o new after)
     pub places : new.places ≡ old.places
     pub waiting : o.waiting before ≡ [] → o.waiting after ≡ []
