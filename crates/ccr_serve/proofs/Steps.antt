@@ -26,7 +26,7 @@ use Rattle.ccr_serve.specs.Pairs.{Adds}
 use Rattle.ccr_serve.specs.Serving.{Tells, BeginsItem, Serves}
 use Rattle.ccr_serve.specs.Taken.{all_taken, taken_of}
 use Rattle.ccr_storage.specs.Counts.{RoseBy}
-use Rattle.ccr_serve.specs.Views.{View, world_of, resources_held, IsReady, HasAsked, StandsAt, Calls, StopsItem, IsBack, Made, Unmade}
+use Rattle.ccr_serve.specs.Views.{View, world_of, resources_held, IsReady, HasAsked, StandsAt, Calls, StopsItem, Made, Unmade}
 use Rattle.ccr_serve.specs.declared.fault.ServeFault.{ServeFault}
 use Rattle.ccr_serve.specs.declared.fault.ServeFault.TheVariants as fault
 use Rattle.ccr_serve.proofs.Commits.{add_none, rose_none, asked_none}

@@ -20,7 +20,7 @@ use Rattle.ccr_lines.specs.Lines.{lines_of}
 use Rattle.ccr_serve.specs.Aborts.{AbortIsAsked, Clears}
 use Rattle.ccr_serve.specs.Asked.{Answers}
 use Rattle.ccr_serve.specs.Due.{IsTurnOf, AnswersWant, GivesFrom, Gives}
-use Rattle.ccr_serve.specs.Items.{World, Done, nothing, Part, Items}
+use Rattle.ccr_serve.specs.Items.{Done, nothing, Part, Items}
 use Rattle.ccr_serve.specs.Items as item
 use Rattle.ccr_serve.specs.Serving.{ServesBuild, TakesTurn, Serves}
 use Rattle.ccr_serve.specs.Turns.{rank_in, next_after}

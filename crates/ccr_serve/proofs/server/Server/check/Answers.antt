@@ -1,4 +1,4 @@
-use Rattle.std.proofs.Common.{◌≡◌, ◌∙◌, [], refl, subst, string_bytes}
+use Rattle.std.proofs.Common.{◌≡◌, ◌∙◌, subst, string_bytes}
 use Rattle.ccr_task.specs.Places.{places_data}
 use Rattle.ccr_serve.specs.Found.{found_data, newest, Finds}
 use Rattle.ccr_serve.specs.Views.{full_view, bare_view}

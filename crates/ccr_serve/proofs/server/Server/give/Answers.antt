@@ -1,4 +1,4 @@
-use Rattle.std.proofs.Common.{◌≡◌, ◌∙◌, [], Err, OnErr, ap, refl, string_bytes, subst}
+use Rattle.std.proofs.Common.{◌∙◌, Err, ap, refl, string_bytes, subst}
 use Rattle.ccr_steps.specs.Asks.{answer_data}
 use Rattle.ccr_core.specs.Cores.{core_data}
 use Rattle.ccr_core.specs.Events.{answer}

@@ -1,4 +1,4 @@
-use Rattle.std.proofs.Common.{[], None, Ok, refl}
+use Rattle.std.proofs.Common.{[], None, Ok}
 use Rattle.ccr_pipeline.specs.Pipelines.{pipeline_data}
 use Rattle.ccr_task.specs.Places.{places_data}
 use Rattle.ccr_serve.specs.Commanding.{Commanded}

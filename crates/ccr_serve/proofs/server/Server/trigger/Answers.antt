@@ -1,4 +1,4 @@
-use Rattle.std.proofs.Common.{◌++◌, ◌∙◌, [], Ok, ap, refl, string_bytes}
+use Rattle.std.proofs.Common.{◌++◌, ◌∙◌, Ok, ap, string_bytes}
 use Rattle.ccr_core.specs.Events as event
 use Rattle.ccr_lines.specs.Lines.{lines_of}
 use Rattle.ccr_task.specs.Places.{places_data}
