@@ -30,8 +30,8 @@ impl<R: Runner, S: Shelf, T: Storage> Server<R, S, T> {
     /// the server has closed; `Closed` where it had closed before, and nothing is done.
     pub fn command<O: Lines>(&mut self, command: &Command, out: &mut O) -> Result<u8, ServeFault>
         requires kept { IsKept (bare_view R.Runner S.Shelf T.Storage self.old) }
-        ensures came { self.old.closed ≡ false → Came R.Runner S.Shelf T.Storage O.Lines (command_data command.now) result
-            self.old self.new out.old out.new }
+        ensures came { self.old.closed ≡ false → Came R.Runner S.Shelf T.Storage O.Lines
+            (command_data command.now) result self.old self.new out.old out.new }
         ensures closed { self.old.closed ≡ true
             → (result ≡ Err Closed) × (self.new ≡ self.old) × (out.new ≡ out.old) }
         ensures after { AfterCommand R.Runner S.Shelf T.Storage O.Lines result self.old self.new out.old out.new }
@@ -83,8 +83,8 @@ impl<R: Runner, S: Shelf, T: Storage> Server<R, S, T> {
     /// Early ends: `NoMemory`, `Store` and `Closed` as at a command, and no other.
     pub fn round<O: Lines>(&mut self, out: &mut O) -> Result<(), ServeFault>
         requires kept { IsKept (bare_view R.Runner S.Shelf T.Storage self.old) }
-        ensures served { self.old.closed ≡ false → Serving R.Runner S.Shelf T.Storage O.Lines Round result
-            self.old self.new out.old out.new }
+        ensures served { self.old.closed ≡ false → Serving R.Runner S.Shelf T.Storage O.Lines
+            Round result self.old self.new out.old out.new }
         ensures closed { self.old.closed ≡ true
             → (result ≡ Err Closed) × (self.new ≡ self.old) × (out.new ≡ out.old) }
         ensures after { AfterItems R.Runner S.Shelf T.Storage O.Lines self.old.closed result
@@ -102,8 +102,8 @@ impl<R: Runner, S: Shelf, T: Storage> Server<R, S, T> {
     /// Early ends: `NoMemory`, `Store` and `Closed` as at a command, and no other.
     pub fn turn<O: Lines>(&mut self, out: &mut O) -> Result<bool, ServeFault>
         requires kept { IsKept (bare_view R.Runner S.Shelf T.Storage self.old) }
-        ensures served { self.old.closed ≡ false → Serving R.Runner S.Shelf T.Storage O.Lines (ItemsOf (item.turn ∷ [])) result
-            self.old self.new out.old out.new }
+        ensures served { self.old.closed ≡ false → Serving R.Runner S.Shelf T.Storage O.Lines
+            (ItemsOf (item.turn ∷ [])) result self.old self.new out.old out.new }
         ensures some { IfOk result (λ served. served ≡ is_running (core_data self.old.core)) }
         ensures once { let view = bare_view R.Runner S.Shelf T.Storage in
             CommitsOnce result (view self.old) (view self.new) }

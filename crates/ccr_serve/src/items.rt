@@ -158,8 +158,8 @@ impl<R: Runner, S: Shelf, T: Storage> Server<R, S, T> {
         requires ready { IsReady (bare_view R.Runner S.Shelf T.Storage self.old) }
         requires there { IsSome (resource_of name.now (resources_held (core_data self.old.core))) }
         ensures served { Serving R.Runner S.Shelf T.Storage O.Lines
-            (λ places. Noting (ItemsOf (item.check name.now ∷ []) places) (λ ds. IfOk result (λ good. good ≡ all_taken ds)))
-            result self.old self.new out.old out.new }
+            (λ places. Noting (ItemsOf (item.check name.now ∷ []) places)
+            (λ ds. IfOk result (λ good. good ≡ all_taken ds))) result self.old self.new out.old out.new }
         ensures after { AfterItems R.Runner S.Shelf T.Storage O.Lines false result self.old self.new out.old out.new }
     {
         let Ok(copy) = begin(self.alloc, name, line_room(name), out) else {
