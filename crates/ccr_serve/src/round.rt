@@ -21,7 +21,8 @@ impl<R: Runner, S: Shelf, T: Storage> Server<R, S, T> {
         requires ready { IsReady (bare_view R.Runner S.Shelf T.Storage self.old) }
         requires there { AreThere (map string_bytes names.now) (resources_held (core_data self.old.core)) }
         ensures served { Serving R.Runner S.Shelf T.Storage O.Lines
-            (ItemsOf (map (λ name. item.check (string_bytes name)) names.now)) result self.old self.new out.old out.new }
+            (ItemsOf (map (λ name. item.check (string_bytes name)) names.now)) result
+            self.old self.new out.old out.new }
         ensures after { AfterItems R.Runner S.Shelf T.Storage O.Lines false result self.old self.new out.old out.new }
     {
         for name in names {
@@ -39,7 +40,8 @@ impl<R: Runner, S: Shelf, T: Storage> Server<R, S, T> {
     fn schedule_each<O: Lines>(&mut self, names: &[String], out: &mut O) -> Result<(), ServeFault>
         requires ready { IsReady (bare_view R.Runner S.Shelf T.Storage self.old) }
         ensures served { Serving R.Runner S.Shelf T.Storage O.Lines
-            (ItemsOf (map (λ name. item.schedule (string_bytes name)) names.now)) result self.old self.new out.old out.new }
+            (ItemsOf (map (λ name. item.schedule (string_bytes name)) names.now)) result
+            self.old self.new out.old out.new }
         ensures after { AfterItems R.Runner S.Shelf T.Storage O.Lines false result self.old self.new out.old out.new }
     {
         for name in names {
