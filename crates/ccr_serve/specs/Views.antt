@@ -141,8 +141,8 @@ pub record Called (part : Part) (old : View) (s : State) (whole : Bool) (new : V
   pub stands : StandsAt whole new.closed now new
 
 -- WHAT A CALL DID, from each state that the core stood for
-abbrev pub Calls : Part → View → Bool → View → Type 0
-Calls part old whole new = (s : State) → Stands old.core s → Called part old s whole new
+pub record Calls (part : Part) (old : View) (whole : Bool) (new : View) : Type 0 where
+  pub from : (s : State) → Stands old.core s → Called part old s whole new
 
 -- the storage failed so: its last commit did, and the server has closed
 abbrev pub IsFailed : StoreFault → View → Type 0

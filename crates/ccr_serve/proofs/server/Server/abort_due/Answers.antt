@@ -21,13 +21,9 @@ abort-requires-clause-runs g c s is =
 
 pub returns-clause-served : goal.returns-clause-served
 returns-clause-served g c before asked =
-    let view = full_view g.R.Runner g.S.Shelf g.T.Storage g.O.Lines in
-    let bare = bare_view g.R.Runner g.S.Shelf g.T.Storage in
-    let v = with_calls before (view c.args.self.now c.args.out.now) in
-    let looked = g.S.Shelf.calls c.args.self.now.shelf in
+    let v = with_calls before (full_view g.R.Runner g.S.Shelf g.T.Storage g.O.Lines c.args.self.now c.args.out.now) in
     abort_unmade (places_data c.args.self.now.places) v (string_bytes c.args.due.job) c.args.due.number c.args.due.rank
-    looked c.requires.due (g.O.Lines.written c.args.out.now) (bare c.abort.new.self) c.in-Err.fault asked refl
-    c.in-Err.ensures.unmade
+    (g.S.Shelf.calls c.args.self.now.shelf) c.requires.due asked refl c.in-Err.ensures.unmade
 
 pub returns-in-Ok-clause-served : goal.returns-in-Ok-clause-served
 returns-in-Ok-clause-served g c before asked =

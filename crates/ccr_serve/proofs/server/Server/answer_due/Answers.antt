@@ -22,7 +22,6 @@ returns-in_default-clause-served g c before asked =
     let looked = g.S.Shelf.calls c.args.self.now.shelf in
     turn_unanswered (places_data c.args.self.now.places) v (string_bytes c.args.due.job) c.args.due.number c.args.due.rank
     looked c.requires.due asked (g.R.Runner.pairs c.answer_wanted.new.runner) (g.S.Shelf.calls c.answer_wanted.new.shelf)
-    (g.O.Lines.written c.args.out.now)
     (subst (λ j. BeginsWant (places_data c.args.self.now.places) v.core j c.args.due.number v.pairs
     (g.R.Runner.pairs c.answer_wanted.new.runner) looked (g.S.Shelf.calls c.answer_wanted.new.shelf))
     c.as_str-job.ensures.value c.in_default.ensures.err) c.requires.ready refl
@@ -30,16 +29,14 @@ returns-in_default-clause-served g c before asked =
 pub returns-clause-served : goal.returns-clause-served
 returns-clause-served g c before asked =
     let view = full_view g.R.Runner g.S.Shelf g.T.Storage g.O.Lines in
-    let bare = bare_view g.R.Runner g.S.Shelf g.T.Storage in
     let v = with_calls before (view c.args.self.now c.args.out.now) in
     let looked = g.S.Shelf.calls c.args.self.now.shelf in
     turn_unmade (places_data c.args.self.now.places) v (string_bytes c.args.due.job) c.args.due.number c.args.due.rank
     looked c.requires.due asked (g.R.Runner.pairs c.answer_wanted.new.runner) (g.S.Shelf.calls c.answer_wanted.new.shelf)
-    c.in-Ok.turn (said_data c.in-Ok.said) (g.O.Lines.written c.args.out.now) (bare c.give.new.self) c.in-Err.fault
     (subst (λ j. AnswersWant (places_data c.args.self.now.places) v.core j c.args.due.number c.in-Ok.turn
     (said_data c.in-Ok.said) v.pairs (g.R.Runner.pairs c.answer_wanted.new.runner) looked
-    (g.S.Shelf.calls c.answer_wanted.new.shelf)) c.as_str-job.ensures.value c.in-Ok.ensures.ok)
-    refl c.in-Err.ensures.unmade
+    (g.S.Shelf.calls c.answer_wanted.new.shelf)) c.as_str-job.ensures.value c.in-Ok.ensures.ok) refl
+    c.in-Err.ensures.unmade
 
 pub returns-in-Ok-give-clause-served : goal.returns-in-Ok-give-clause-served
 returns-in-Ok-give-clause-served g c before asked =

@@ -1,5 +1,4 @@
 use Rattle.std.proofs.Common.{◌≡◌, [], ◌∷◌, Bool, true, refl, subst}
-use Rattle.ccr_pipeline.specs.JobData.{resource_data}
 use Rattle.ccr_task.specs.Places.{places_data}
 use Rattle.ccr_lines.specs.Commands.{check_resource}
 use Rattle.ccr_serve.specs.Items.{Items, Noting}
@@ -13,9 +12,8 @@ use Rattle.ccr_serve.proofs.server.Server.check_resource.Goals as goal
 
 pub returns-in-Err-clause-came : goal.returns-in-Err-clause-came
 returns-in-Err-clause-came g c =
-    let view = full_view g.R.Runner g.S.Shelf g.T.Storage g.O.Lines in
-    let v = view c.args.self.now c.args.out.now in
-    lacks (places_data c.args.self.now.places) (check_resource c.args.name.now) c.in-Err.fault v v.lines c.requires.ready refl
+    let v = full_view g.R.Runner g.S.Shelf g.T.Storage g.O.Lines c.args.self.now c.args.out.now in
+    lacks (places_data c.args.self.now.places) (check_resource c.args.name.now) c.in-Err.fault v c.requires.ready refl
     c.in-Err.ensures.lacks
 
 pub returns-in-Ok-true-clause-came : goal.returns-in-Ok-true-clause-came
@@ -24,6 +22,6 @@ returns-in-Ok-true-clause-came g c =
     let places = places_data c.args.self.now.places in
     let old = view c.args.self.now c.args.out.now in
     let new = view c.check.new.self c.check.new.out in
-    check_came places c.args.name.now (resource_data c.in-Ok.field-0.now) old new c.in-Ok.ensures.held
+    check_came places c.args.name.now old c.in-Ok.ensures.held
     (subst (λ (b : Bool). Calls (Noting (Items (Serves places) (item.check c.args.name.now ∷ [])) (λ ds. b ≡ all_taken ds))
     old true new) c.in-Ok-true.field-0-test c.in-Ok-true.ensures.served)

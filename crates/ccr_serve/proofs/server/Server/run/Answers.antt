@@ -1,21 +1,19 @@
-use Rattle.std.proofs.Common.{◌∙◌, true, false, IsSome, ap, refl, subst, sym}
+use Rattle.std.proofs.Common.{◌∙◌, true, false, IsSome, refl, subst, sym}
 use Rattle.ccr_task.specs.Places.{places_data}
-use Rattle.ccr_serve.specs.Views.{full_view}
 use Rattle.ccr_serve.proofs.Refusing.{ends_so}
-use Rattle.ccr_serve.proofs.RunParts.{turns_at, cut_at, run_refused, run_cut_in_rounds, run_cut, run_done, run_unended}
+use Rattle.ccr_serve.proofs.RunParts.{turns_at, run_refused, run_cut_in_rounds, run_cut, run_done, run_unended}
+use Rattle.ccr_serve.proofs.Rounds.{moved}
+use Rattle.ccr_serve.specs.Runs.{ToTheEnd}
 use Rattle.ccr_serve.proofs.server.Server.run.Goals as goal
 
 pub returns-in-None-clause-came : goal.returns-in-None-clause-came
 returns-in-None-clause-came g c =
-    let view = full_view g.R.Runner g.S.Shelf g.T.Storage g.O.Lines in
-    run_refused (places_data c.args.self.now.places) c.args.rounds (view c.args.self.now c.args.out.now) c.requires.ready
-    (sym c.in-None.ensures)
+    run_refused c.requires.ready (sym c.in-None.ensures)
 
 pub returns-in-Err-clause-came : goal.returns-in-Err-clause-came
 returns-in-Err-clause-came g c =
-    let view = full_view g.R.Runner g.S.Shelf g.T.Storage g.O.Lines in
-    run_cut_in_rounds (places_data c.args.self.now.places) c.args.rounds (view c.args.self.now c.args.out.now)
-    (view c.go_rounds.new.self c.go_rounds.new.out) c.in-Err.fault c.in-Err.ensures.after.ends c.in-Err.ensures.served
+    run_cut_in_rounds (places_data c.args.self.now.places) c.args.rounds c.in-Err.fault c.in-Err.ensures.after.ends
+    c.in-Err.ensures.served
 
 pub returns-in-Err-clause-after : goal.returns-in-Err-clause-after
 returns-in-Err-clause-after g c =
@@ -34,30 +32,18 @@ returns-in-Err-go_to_the_end-clause-after g c =
 
 pub returns-in-Err-go_to_the_end-clause-came : goal.returns-in-Err-go_to_the_end-clause-came
 returns-in-Err-go_to_the_end-clause-came g c =
-    let view = full_view g.R.Runner g.S.Shelf g.T.Storage g.O.Lines in
-    run_cut (places_data c.args.self.now.places) c.args.rounds (view c.args.self.now c.args.out.now)
-    (view c.go_rounds.new.self c.go_rounds.new.out) (view c.go_to_the_end.new.self c.go_to_the_end.new.out) c.in-Ok.ensures.served c.in-Err-go_to_the_end.fault
+    run_cut (places_data c.args.self.now.places) c.args.rounds c.in-Ok.ensures.served c.in-Err-go_to_the_end.fault
     c.in-Err-go_to_the_end.ensures.after.ends
-    (cut_at (places_data c.go_rounds.new.self.places) (places_data c.args.self.now.places) (view c.go_rounds.new.self c.go_rounds.new.out)
-    (view c.go_to_the_end.new.self c.go_to_the_end.new.out) (ap places_data c.in-Ok.ensures.after.places)
-    c.in-Err-go_to_the_end.ensures.served)
+    (moved ToTheEnd c.in-Ok.ensures.after.places c.in-Err-go_to_the_end.ensures.served)
 
 pub returns-then-ended-clause-came : goal.returns-then-ended-clause-came
 returns-then-ended-clause-came g c =
-    let view = full_view g.R.Runner g.S.Shelf g.T.Storage g.O.Lines in
-    run_done (places_data c.args.self.now.places) c.args.rounds (view c.args.self.now c.args.out.now)
-    (view c.go_rounds.new.self c.go_rounds.new.out) (view c.go_to_the_end.new.self c.go_to_the_end.new.out) c.in-Ok.ensures.served
+    run_done (places_data c.args.self.now.places) c.args.rounds c.in-Ok.ensures.served
     (subst (λ p. IsSome p) c.in-Some.ensures refl)
-    (turns_at (places_data c.go_rounds.new.self.places) (places_data c.args.self.now.places) c.in-Ok-go_to_the_end.ended true
-    (view c.go_rounds.new.self c.go_rounds.new.out) (view c.go_to_the_end.new.self c.go_to_the_end.new.out)
-    (ap places_data c.in-Ok.ensures.after.places) c.if-ended.true c.in-Ok-go_to_the_end.ensures.served)
+    (turns_at c.in-Ok.ensures.after.places c.if-ended.true c.in-Ok-go_to_the_end.ensures.served)
 
 pub returns-else-ended-clause-came : goal.returns-else-ended-clause-came
 returns-else-ended-clause-came g c =
-    let view = full_view g.R.Runner g.S.Shelf g.T.Storage g.O.Lines in
-    run_unended (places_data c.args.self.now.places) c.args.rounds (view c.args.self.now c.args.out.now)
-    (view c.go_rounds.new.self c.go_rounds.new.out) (view c.go_to_the_end.new.self c.go_to_the_end.new.out) c.in-Ok.ensures.served
+    run_unended (places_data c.args.self.now.places) c.args.rounds c.in-Ok.ensures.served
     (subst (λ p. IsSome p) c.in-Some.ensures refl)
-    (turns_at (places_data c.go_rounds.new.self.places) (places_data c.args.self.now.places) c.in-Ok-go_to_the_end.ended false
-    (view c.go_rounds.new.self c.go_rounds.new.out) (view c.go_to_the_end.new.self c.go_to_the_end.new.out)
-    (ap places_data c.in-Ok.ensures.after.places) c.if-ended.false c.in-Ok-go_to_the_end.ensures.served)
+    (turns_at c.in-Ok.ensures.after.places c.if-ended.false c.in-Ok-go_to_the_end.ensures.served)

@@ -1,38 +1,27 @@
-use Rattle.std.proofs.Common.{◌∙◌, true, false, ap}
+use Rattle.std.proofs.Common.{◌∙◌, true, false}
 use Rattle.ccr_task.specs.Places.{places_data}
-use Rattle.ccr_serve.specs.Views.{full_view}
-use Rattle.ccr_serve.proofs.RunParts.{turns_at, cut_at, trigger_cut, trigger_done, trigger_unended}
+use Rattle.ccr_serve.proofs.RunParts.{turns_at, trigger_cut, trigger_done, trigger_unended}
 use Rattle.ccr_serve.proofs.Refusing.{ends_so}
+use Rattle.ccr_serve.proofs.Rounds.{moved}
+use Rattle.ccr_serve.specs.Runs.{ToTheEnd}
 use Rattle.ccr_serve.proofs.server.Server.trigger_job.Goals as goal
 
 pub returns-in-Err-go_to_the_end-clause-came : goal.returns-in-Err-go_to_the_end-clause-came
 returns-in-Err-go_to_the_end-clause-came g c =
-    let view = full_view g.R.Runner g.S.Shelf g.T.Storage g.O.Lines in
-    trigger_cut (places_data c.args.self.now.places) c.args.job.now c.in-Ok.reply (view c.args.self.now c.args.out.now)
-    (view c.trigger.new.self c.trigger.new.out) (view c.go_to_the_end.new.self c.go_to_the_end.new.out) c.in-Ok.ensures.replied
+    trigger_cut (places_data c.args.self.now.places) c.args.job.now c.in-Ok.reply c.in-Ok.ensures.replied
     c.in-Err-go_to_the_end.fault c.in-Err-go_to_the_end.ensures.after.ends
-    (cut_at (places_data c.trigger.new.self.places) (places_data c.args.self.now.places) (view c.trigger.new.self c.trigger.new.out)
-    (view c.go_to_the_end.new.self c.go_to_the_end.new.out) (ap places_data c.in-Ok.ensures.after.places)
-    c.in-Err-go_to_the_end.ensures.served)
+    (moved ToTheEnd c.in-Ok.ensures.after.places c.in-Err-go_to_the_end.ensures.served)
 
 pub returns-then-ended-clause-came : goal.returns-then-ended-clause-came
 returns-then-ended-clause-came g c =
-    let view = full_view g.R.Runner g.S.Shelf g.T.Storage g.O.Lines in
-    trigger_done (places_data c.args.self.now.places) c.args.job.now c.in-Ok.reply (view c.args.self.now c.args.out.now)
-    (view c.trigger.new.self c.trigger.new.out) (view c.go_to_the_end.new.self c.go_to_the_end.new.out) c.in-Ok.ensures.replied
+    trigger_done (places_data c.args.self.now.places) c.args.job.now c.in-Ok.reply c.in-Ok.ensures.replied
     c.history.result.now c.status_of_reply.result c.history.ensures c.status_of_reply.ensures
-    (turns_at (places_data c.trigger.new.self.places) (places_data c.args.self.now.places) c.in-Ok-go_to_the_end.ended true
-    (view c.trigger.new.self c.trigger.new.out) (view c.go_to_the_end.new.self c.go_to_the_end.new.out)
-    (ap places_data c.in-Ok.ensures.after.places) c.if-ended.true c.in-Ok-go_to_the_end.ensures.served)
+    (turns_at c.in-Ok.ensures.after.places c.if-ended.true c.in-Ok-go_to_the_end.ensures.served)
 
 pub returns-else-ended-clause-came : goal.returns-else-ended-clause-came
 returns-else-ended-clause-came g c =
-    let view = full_view g.R.Runner g.S.Shelf g.T.Storage g.O.Lines in
-    trigger_unended (places_data c.args.self.now.places) c.args.job.now c.in-Ok.reply (view c.args.self.now c.args.out.now)
-    (view c.trigger.new.self c.trigger.new.out) (view c.go_to_the_end.new.self c.go_to_the_end.new.out) c.in-Ok.ensures.replied
-    (turns_at (places_data c.trigger.new.self.places) (places_data c.args.self.now.places) c.in-Ok-go_to_the_end.ended false
-    (view c.trigger.new.self c.trigger.new.out) (view c.go_to_the_end.new.self c.go_to_the_end.new.out)
-    (ap places_data c.in-Ok.ensures.after.places) c.if-ended.false c.in-Ok-go_to_the_end.ensures.served)
+    trigger_unended (places_data c.args.self.now.places) c.args.job.now c.in-Ok.reply c.in-Ok.ensures.replied
+    (turns_at c.in-Ok.ensures.after.places c.if-ended.false c.in-Ok-go_to_the_end.ensures.served)
 
 pub returns-in-Err-go_to_the_end-clause-after : goal.returns-in-Err-go_to_the_end-clause-after
 returns-in-Err-go_to_the_end-clause-after g c =
