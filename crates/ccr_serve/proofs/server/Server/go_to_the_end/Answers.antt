@@ -1,4 +1,4 @@
-use Rattle.std.proofs.Common.{◌∙◌, [], ◌∷◌, true, false, refl, arith}
+use Rattle.std.proofs.Common.{◌∙◌, [], ◌∷◌, true, refl, arith}
 use Rattle.ccr_core.specs.Cores.{core_data}
 use Rattle.ccr_core.specs.Holding.{name_data}
 use Rattle.ccr_task.specs.Places.{places_data}

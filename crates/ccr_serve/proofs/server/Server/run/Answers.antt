@@ -1,4 +1,4 @@
-use Rattle.std.proofs.Common.{◌∙◌, true, false, IsSome, refl, subst, sym}
+use Rattle.std.proofs.Common.{◌∙◌, IsSome, refl, subst, sym}
 use Rattle.ccr_task.specs.Places.{places_data}
 use Rattle.ccr_serve.proofs.Refusing.{ends_so}
 use Rattle.ccr_serve.proofs.RunParts.{turns_at, run_refused, run_cut_in_rounds, run_cut, run_done, run_unended}

@@ -1,4 +1,4 @@
-use Rattle.std.proofs.Common.{◌∙◌, true, false}
+use Rattle.std.proofs.Common.{◌∙◌}
 use Rattle.ccr_task.specs.Places.{places_data}
 use Rattle.ccr_serve.proofs.RunParts.{turns_at, trigger_cut, trigger_done, trigger_unended}
 use Rattle.ccr_serve.proofs.Refusing.{ends_so}
