@@ -65,12 +65,7 @@ served pairs calls holds leaves tally begins_with unfound order storage h opened
       found = found;
       opened = opened;
       begins = record {
-        ready = record {
-          is_open = begins.ready.is_open;
-          unfailed = begins.ready.unfailed;
-          holds = begins.ready.holds;
-          leaves = begins.ready.leaves;
-        };
+        ready = begins.ready;
         resumed = begins.resumed;
         last = begins.last;
         pairs = begins.pairs;

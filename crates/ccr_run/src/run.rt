@@ -9,7 +9,7 @@ ghost use Rattle.ccr_proof.specs.declared.proof.TheConstants.{MOST_NODES};
 ghost use Rattle.ccr_task.specs.Places.{places_data};
 ghost use Rattle.ccr_serve.specs.Commanding.{CameOf};
 ghost use Rattle.ccr_lines.specs.Commands.{command_data};
-ghost use Rattle.ccr_serve.specs.Views.{view_of, IsReady};
+ghost use Rattle.ccr_serve.specs.Views.{view_of, bare_view, IsReady};
 ghost use Rattle.ccr_run.specs.Asked.{asked_by};
 ghost use Rattle.ccr_run.specs.Databases.{begins_with};
 ghost use Rattle.ccr_run.specs.Unfound.{IsUnfound};
@@ -57,8 +57,7 @@ fn command<R: Runner, S: Shelf, T: Storage, W: Write, E: Write>(
     command: &Command,
     out: &mut Printed<W, E>,
 ) -> Result<u8, Failure>
-    requires ready { let view = view_of R.pairs S.calls T.holds T.leaves T.tally in
-        IsReady (view server.old (out.old.shown ++ out.old.waiting)) }
+    requires ready { IsReady (bare_view R.Runner S.Shelf T.Storage server.old) }
     ensures came { let view = view_of R.pairs S.calls T.holds T.leaves T.tally in
         (answer : Result ℕ ServeFault) × (result ≡ handed_on answer)
         × CameOf (places_data server.old.places) (command_data command.now) answer
@@ -76,7 +75,7 @@ fn serve_by<R: Runner + Drop, S: Shelf + Drop, T: Storage + Drop, W: Write, E: W
     order: &Order<'_>,
     out: &mut Printed<W, E>,
 ) -> Result<u8, Failure>
-    requires ready { IsReady (view_of R.pairs S.calls T.holds T.leaves T.tally server []) }
+    requires ready { IsReady (bare_view R.Runner S.Shelf T.Storage server) }
     requires places { places_data server.places ≡ places_in order.now }
     ensures did { Did R.pairs S.calls T.holds T.leaves T.tally order.now server result
         (out.old.shown ++ out.old.waiting) (out.new.shown ++ out.new.waiting) }

@@ -19,6 +19,7 @@ else_then v w n a b = record {
   last = b.last ∙ a.last;
   calls = b.calls ∙ a.calls;
   pairs = b.pairs ∙ a.pairs;
+  places = b.places ∙ a.places;
   lines = b.lines ∙ a.lines;
 }
 
@@ -43,12 +44,12 @@ gave_again job again number turn x r v w n same full made = record {
 }
 
 -- the core refused the answer, and errored wasn't given
-kept_away_again : (e : EventData) (g : CoreFault) (f : ServeFault) (v w n : View) → w.core ≡ v.core
-    → Made e (Err g) v w → Unmade f w n → Unmade f v n
-kept_away_again e g f v w n still full un = record {
+kept_away_again : (e : EventData) (g : CoreFault) (f : ServeFault) (v w n : View) → Made e (Err g) v w → Unmade f w n
+    → Unmade f v n
+kept_away_again e g f v w n full un = record {
   back = back f un.back;
-  holds = subst (λ c. n.holds c.history) still un.holds;
-  crash = λ s is. un.crash s (subst (λ c. Stands c s) (sym still) is);
+  holds = subst (λ c. n.holds c.history) full.refused un.holds;
+  crash = λ s is. un.crash s (subst (λ c. Stands c s) (sym full.refused) is);
   commits = asked_then false v.tally.commits 0 w.tally.commits 0 n.tally.commits full.commits un.commits;
   rest = else_then v w n full.rest un.rest;
 } where
@@ -58,7 +59,7 @@ kept_away_again e g f v w n still full un = record {
   back (fault.Read h) b = b
   back fault.File b = b
   back fault.BadPin b = b
-  back fault.NoMemory b = (b.0 ∙ still, b.1)
+  back fault.NoMemory b = (b.0 ∙ full.refused, b.1)
   back fault.Closed b = b
   back fault.TurnsUsedUp b = b
 
@@ -73,8 +74,8 @@ module _ (job again : Text) (number turn : ℕ) (x : AnswerData) (v w n : View) 
     given (Ok r) h = gave_again job again number turn x r v w n same full h
     given (Err f) h = tt
 
-  pub unmade_again : w.core ≡ v.core → IfErr answered (λ f. Unmade f w n) → IfErr answered (λ f. Unmade f v n)
-  unmade_again still un = kept answered un where
+  pub unmade_again : IfErr answered (λ f. Unmade f w n) → IfErr answered (λ f. Unmade f v n)
+  unmade_again un = kept answered un where
     kept : (a : Result Reply ServeFault) → IfErr a (λ f. Unmade f w n) → IfErr a (λ f. Unmade f v n)
     kept (Ok r) h = tt
-    kept (Err f) h = kept_away_again (answer job number turn x) TableFull f v w n still full h
+    kept (Err f) h = kept_away_again (answer job number turn x) TableFull f v w n full h

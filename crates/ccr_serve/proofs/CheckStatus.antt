@@ -45,15 +45,17 @@ check_taken places name old new (d ∷ []) e all = by_report name e.1.what old.c
 check_taken places name old new (d ∷ d2 ∷ ds) e all = absurd e.2
 
 -- the status of a check whose versions were taken is 0
-pub check_came : (places : PlacesData) (name : Text) (r : ResourceData) (v n : View)
+pub check_came : {r : ResourceData} {n : View} (places : PlacesData) (name : Text) (v : View)
     → resource_of name (resources_held v.core) ≡ Some r
     → Calls (Noting (Items (Serves places) (check name ∷ [])) (λ ds. true ≡ all_taken ds)) v true n
     → CameOf places (check_resource name) (Ok 0) v n
-check_came places name r v n there a s h =
-    called_as (Noting (Items (Serves places) (check name ∷ [])) (λ ds. true ≡ all_taken ds))
-    (Commanded places (check_resource name) 0) v n s true
-    (λ ds new d. (
-      (d.0, inl (refl, check_taken places name (world_of v s) new ds d.0 d.1)),
-      has_resource v.core s name r h there,
-    ))
-    (a s h)
+check_came {r} {n} places name v there a = record {
+  from = λ s h.
+      called_as (Noting (Items (Serves places) (check name ∷ [])) (λ ds. true ≡ all_taken ds))
+      (Commanded places (check_resource name) 0) v n s true
+      (λ ds new d. (
+        (d.0, inl (refl, check_taken places name (world_of v s) new ds d.0 d.1)),
+        has_resource v.core s name r h there,
+      ))
+      (a.from s h);
+}

@@ -94,10 +94,11 @@ module _ (A B : Part) (v0 v1 v2 : View) (s : State) (whole : Bool) where
         ∙ ap (λ ps. ps ++ option_to_list b.now.lost) (sym (pairs_of-append a.dones b.dones)))))
 
 -- one call after another is a call of both
-pub calls_then : (A B : Part) (v0 v1 v2 : View) (whole : Bool)
-    → Calls A v0 true v1 → Calls B v1 whole v2 → Calls (Then A B) v0 whole v2
-calls_then A B v0 v1 v2 whole a b s h =
-    called_then A B v0 v1 v2 s whole (a s h) (b (a s h).now.core (a s h).stands.1)
+pub calls_then : {A B : Part} {v0 v1 v2 : View} {whole : Bool} → Calls A v0 true v1 → Calls B v1 whole v2
+    → Calls (Then A B) v0 whole v2
+calls_then {A} {B} {v0} {v1} {v2} {whole} a b = record {
+  from = λ s h. called_then A B v0 v1 v2 s whole (a.from s h) (b.from (a.from s h).now.core (a.from s h).stands.1);
+}
 
 -- what was done of the one part does the other
 pub called_to : (A B : Part) (v0 v1 : View) (s : State) (whole : Bool) (c : Called A v0 s whole v1)
@@ -123,43 +124,49 @@ pub called_as : (A B : Part) (v0 v1 : View) (s : State) (whole : Bool)
 called_as A B v0 v1 s whole f c = called_to A B v0 v1 s whole c (f c.dones c.now c.does)
 
 -- what does the one part does the other
-pub calls_as : (A B : Part) (v0 v1 : View) (whole : Bool)
+pub calls_as : (A B : Part) {v0 v1 : View} {whole : Bool}
     → ((old : World) (ds : List Done) (new : World) → A old ds whole new → B old ds whole new)
     → Calls A v0 whole v1 → Calls B v0 whole v1
-calls_as A B v0 v1 whole f a s h = called_as A B v0 v1 s whole (f (world_of v0 s)) (a s h)
+calls_as A B {v0} {v1} {whole} f a = record {
+  from = λ s h. called_as A B v0 v1 s whole (f (world_of v0 s)) (a.from s h);
+}
 
 -- where the first is cut short, both are
-pub calls_first : (A B : Part) (v0 v1 : View) → Calls A v0 false v1 → Calls (Then A B) v0 false v1
-calls_first A B v0 v1 a = calls_as A (Then A B) v0 v1 false (λ old ds new d. inl d) a
+pub calls_first : (A B : Part) {v0 v1 : View} → Calls A v0 false v1 → Calls (Then A B) v0 false v1
+calls_first A B a = calls_as A (Then A B) (λ old ds new d. inl d) a
 
 -- nothing is done yet
-pub calls_none : (S : Serve) (v : View) → IsReady v → Calls (Items S []) v true v
-calls_none S v ready s h = record {
-  dones = [];
-  now = world_of v s;
-  does = refl;
-  pairs = sym (append-nil v.pairs);
-  few = refl;
-  calls = refl;
-  commits = rose_none v.tally.commits;
-  lines = sym (append-nil v.lines);
-  holds = subst v.holds h.0 ready.holds;
-  crash = leaves_ready v s ready h;
-  stands = (ready.is_open, h, refl);
+pub calls_none : (S : Serve) {v : View} → IsReady v → Calls (Items S []) v true v
+calls_none S {v} ready = record {
+  from = λ s h. record {
+    dones = [];
+    now = world_of v s;
+    does = refl;
+    pairs = sym (append-nil v.pairs);
+    few = refl;
+    calls = refl;
+    commits = rose_none v.tally.commits;
+    lines = sym (append-nil v.lines);
+    holds = subst v.holds h.0 ready.holds;
+    crash = leaves_ready v s ready h;
+    stands = (ready.is_open, h, refl);
+  };
 }
 
 -- nothing was done, and nothing has changed
-pub calls_back : (S : Serve) (is : List Item) (v : View) → IsReady v → Calls (Items S is) v false v
-calls_back S is v ready s h = record {
-  dones = [];
-  now = world_of v s;
-  does = ([], is, refl, world_of v s, refl, inl refl);
-  pairs = sym (append-nil v.pairs);
-  few = tt;
-  calls = refl;
-  commits = asked_none v.tally.commits;
-  lines = sym (append-nil v.lines);
-  holds = subst v.holds h.0 ready.holds;
-  crash = leaves_ready v s ready h;
-  stands = subst (λ c. StandsAt false c (world_of v s) v) (sym ready.is_open) (h, refl);
+pub calls_back : (S : Serve) (is : List Item) {v : View} → IsReady v → Calls (Items S is) v false v
+calls_back S is {v} ready = record {
+  from = λ s h. record {
+    dones = [];
+    now = world_of v s;
+    does = ([], is, refl, world_of v s, refl, inl refl);
+    pairs = sym (append-nil v.pairs);
+    few = tt;
+    calls = refl;
+    commits = asked_none v.tally.commits;
+    lines = sym (append-nil v.lines);
+    holds = subst v.holds h.0 ready.holds;
+    crash = leaves_ready v s ready h;
+    stands = subst (λ c. StandsAt false c (world_of v s) v) (sym ready.is_open) (h, refl);
+  };
 }

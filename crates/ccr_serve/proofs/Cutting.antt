@@ -18,7 +18,7 @@ use Rattle.ccr_serve.specs.Serving.{BeginsOn, BeginsTurn, BeginsBuild, Serves}
 use Rattle.ccr_serve.specs.Views.{View, world_of, resources_held, IsReady, Unmade, Calls}
 use Rattle.ccr_serve.specs.declared.fault.ServeFault.{ServeFault}
 use Rattle.ccr_serve.proofs.Begun.{answer_begun}
-use Rattle.ccr_serve.proofs.Steps.{after, begun_at, MayBegin, item_begun, cut_by_memory, none_added, calls_unmade}
+use Rattle.ccr_serve.proofs.Steps.{after, printed, begun_at, MayBegin, item_begun, cut_by_memory, none_added, calls_unmade}
 
 -- what holds under one name holds under another that is the same
 renamed : (P : Text → ℕ → Type 0) (j k : Text) (m n : ℕ) → k ≡ j → n ≡ m → P j m → P k n
@@ -64,12 +64,11 @@ module _ (places : PlacesData) (v : View) (job : Text) (number rank : ℕ) (look
       subst (λ o. BeginsTurn places o (world_of v s) (begun_at v s f lost)) (sym (due s is).next) begun)
 
   -- its abort was asked, and its event isn't made
-  pub abort_unmade : (l : Text) (new : View) (stop : ServeFault)
+  pub abort_unmade : {l : Text} {n : View} {stop : ServeFault}
       → AbortIsAsked (abort_folder places job number) true v.calls looked → l ≡ v.lines
-      → Unmade stop (after v looked v.pairs l) new → Calls (Items (Serves places) (item.turn ∷ [])) v false new
-  abort_unmade l new stop asked lines un =
-      calls_unmade (Items (Serves places) (item.turn ∷ [])) v looked v.pairs l new stop None
-      (turn_begun true looked None asked (λ s is. (refl, refl))) (none_added v.pairs) lines un
+      → Unmade stop (after v looked v.pairs []) n → Calls (Items (Serves places) (item.turn ∷ [])) v false (printed n l)
+  abort_unmade asked lines un =
+      calls_unmade None (turn_begun true looked None asked (λ s is. (refl, refl))) (none_added v.pairs) lines un
 
   module _ (unasked : AbortIsAsked (abort_folder places job number) false v.calls looked) (p : List Pair)
       (f : List CallData) where
@@ -90,16 +89,14 @@ module _ (places : PlacesData) (v : View) (job : Text) (number rank : ℕ) (look
         })
 
     -- memory was wanted for the answer
-    pub turn_unanswered : (l : Text) → BeginsWant places v.core job number v.pairs p looked f → IsReady v → l ≡ v.lines
+    pub turn_unanswered : {l : Text} → BeginsWant places v.core job number v.pairs p looked f → IsReady v → l ≡ v.lines
         → Calls (Items (Serves places) (item.turn ∷ [])) v false (after v f p l)
-    turn_unanswered l w ready lines =
-        cut_by_memory (Items (Serves places) (item.turn ∷ [])) v f p l w.lost (answer_stops w) ready w.adds lines
+    turn_unanswered w ready lines = cut_by_memory v w.lost (answer_stops w) ready w.adds lines
 
     -- its event isn't made
-    pub turn_unmade : (turn : ℕ) (x : SaidData) (l : Text) (new : View) (stop : ServeFault)
+    pub turn_unmade : {turn : ℕ} {x : SaidData} {l : Text} {n : View} {stop : ServeFault}
         → AnswersWant places v.core job number turn x v.pairs p looked f → l ≡ v.lines
-        → Unmade stop (after v f p l) new → Calls (Items (Serves places) (item.turn ∷ [])) v false new
-    turn_unmade turn x l new stop w lines un =
+        → Unmade stop (after v f p []) n → Calls (Items (Serves places) (item.turn ∷ [])) v false (printed n l)
+    turn_unmade {turn} {x} w lines un =
         let begun = want_begun places v job number turn x p looked f w in
-        calls_unmade (Items (Serves places) (item.turn ∷ [])) v f p l new stop begun.lost (answer_stops begun) begun.adds
-        lines un
+        calls_unmade begun.lost (answer_stops begun) begun.adds lines un

@@ -104,52 +104,56 @@ module _ (places : PlacesData) (makes : MakesEvents places) where
       )
 
   -- one turn more of a core of which a build runs, as a part
-  called_turn : (whole : Bool) (n : ℕ) (v0 v1 v2 : View) → v1.core.names ≢ []
+  called_turn : (n : ℕ) {v0 v1 v2 : View} {whole : Bool} → v1.core.names ≢ []
       → Calls (Turns places n) v0 true v1 → Calls (Items (Serves places) (turn ∷ [])) v1 whole v2
       → Calls (Then (Turns places n) (OneTurn places)) v0 whole v2
-  called_turn whole n v0 v1 v2 runs a b s h =
-      let c = a s h in
-      called_then (Turns places n) (OneTurn places) v0 v1 v2 s whole c
-      (called_as (Items (Serves places) (turn ∷ [])) (OneTurn places) v1 v2 c.now.core whole
-      (one_turn whole (world_of v1 c.now.core) (some_run v1.core.names v1.core.runs c.now.core.running c.stands.1.3 runs))
-      (b c.now.core c.stands.1))
+  called_turn n {v0} {v1} {v2} {whole} runs a b = record {
+    from = λ s h.
+        let c = a.from s h in
+        called_then (Turns places n) (OneTurn places) v0 v1 v2 s whole c
+        (called_as (Items (Serves places) (turn ∷ [])) (OneTurn places) v1 v2 c.now.core whole
+        (one_turn whole (world_of v1 c.now.core) (some_run v1.core.names v1.core.runs c.now.core.running c.stands.1.3 runs))
+        (b.from c.now.core c.stands.1));
+  }
 
   -- one turn more
-  pub end_more : (n : ℕ) (v0 v1 v2 : View) → v1.core.names ≢ [] → Calls (Turns places n) v0 true v1
+  pub end_more : (n : ℕ) {v0 v1 v2 : View} → v1.core.names ≢ [] → Calls (Turns places n) v0 true v1
       → Calls (Items (Serves places) (turn ∷ [])) v1 true v2 → Calls (Turns places (n + 1)) v0 true v2
-  end_more n v0 v1 v2 runs a b =
-      calls_as (Then (Turns places n) (OneTurn places)) (Turns places (n + 1)) v0 v2 true (then_whole n)
-      (called_turn true n v0 v1 v2 runs a b)
+  end_more n runs a b =
+      calls_as (Then (Turns places n) (OneTurn places)) (Turns places (n + 1)) (then_whole n) (called_turn n runs a b)
 
   -- the turns are cut short by one of them
-  pub end_stop : (n : ℕ) (v0 v1 v2 : View) → n < MOST_TURNS → v1.core.names ≢ [] → Calls (Turns places n) v0 true v1
+  pub end_stop : (n : ℕ) {v0 v1 v2 : View} → n < MOST_TURNS → v1.core.names ≢ [] → Calls (Turns places n) v0 true v1
       → Calls (Items (Serves places) (turn ∷ [])) v1 false v2 → Calls (ToTheEnd places) v0 false v2
-  end_stop n v0 v1 v2 lt runs a b =
-      calls_as (Then (Turns places n) (OneTurn places)) (ToTheEnd places) v0 v2 false (then_cut n lt)
-      (called_turn false n v0 v1 v2 runs a b)
+  end_stop n lt runs a b =
+      calls_as (Then (Turns places n) (OneTurn places)) (ToTheEnd places) (then_cut n lt) (called_turn n runs a b)
 
 -- no turn was taken yet
-pub end_begins : (places : PlacesData) (v : View) → IsReady v → Calls (Turns places 0) v true v
-end_begins places v ready =
-    calls_as (Items (Serves places) []) (Turns places 0) v v true (λ old ds new e. nothing_yet old ds new e)
-    (calls_none (Serves places) v ready) where
+pub end_begins : (places : PlacesData) {v : View} → IsReady v → Calls (Turns places 0) v true v
+end_begins places ready =
+    calls_as (Items (Serves places) []) (Turns places 0) (λ old ds new e. nothing_yet old ds new e)
+    (calls_none (Serves places) ready) where
       nothing_yet : (old : World) (ds : List Done) (new : World) → Each (Serves places) [] old ds new
           → TurnsMade places 0 old ds new
       nothing_yet old [] new e = (e, tt)
       nothing_yet old (d ∷ ds) new e = absurd e
 
-module _ (places : PlacesData) (n : ℕ) (v0 v1 : View) (a : Calls (Turns places n) v0 true v1) where
+module _ (places : PlacesData) (n : ℕ) {v0 v1 : View} (a : Calls (Turns places n) v0 true v1) where
   -- after so many turns no build runs
   ended : n ≤ MOST_TURNS → v1.core.names ≡ [] → Calls (ToTheEnd places) v0 true v1
-  ended le none s h = let c = a s h in
-      called_to (Turns places n) (ToTheEnd places) v0 v1 s true c
-      (n, le, c.does, none_run v1.core.names v1.core.runs c.now.core.running c.stands.1.3 none)
+  ended le none = record {
+    from = λ s h. let c = a.from s h in
+        called_to (Turns places n) (ToTheEnd places) v0 v1 s true c
+        (n, le, c.does, none_run v1.core.names v1.core.runs c.now.core.running c.stands.1.3 none);
+  }
 
   -- after all turns that may be taken a build runs
   used_up : n ≡ MOST_TURNS → v1.core.names ≢ [] → Calls (UsedUp places) v0 true v1
-  used_up all some s h = let c = a s h in
-      called_to (Turns places n) (UsedUp places) v0 v1 s true c
-      (n, all, c.does, some_run v1.core.names v1.core.runs c.now.core.running c.stands.1.3 some)
+  used_up all some = record {
+    from = λ s h. let c = a.from s h in
+        called_to (Turns places n) (UsedUp places) v0 v1 s true c
+        (n, all, c.does, some_run v1.core.names v1.core.runs c.now.core.running c.stands.1.3 some);
+  }
 
   -- no build runs, which is told
   pub ends_early : n ≤ MOST_TURNS → (none : Bool) → none ≡ true → (none ≡ true → v1.core.names ≡ [])

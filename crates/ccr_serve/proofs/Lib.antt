@@ -14,7 +14,6 @@ mod Ends
 mod Rounds
 mod RunParts
 mod Triggering
-mod Standing
 mod Refusing
 mod Told
 mod Switched

@@ -42,18 +42,16 @@ items_then S is js false old ds new (inr h) = let b = h.second in (
   b.5,
 )
 
-pub calls_both : (S : Serve) (is js : List Item) (v0 v1 v2 : View) (whole : Bool)
+pub calls_both : (S : Serve) (is js : List Item) {v0 v1 v2 : View} {whole : Bool}
     → Calls (Items S is) v0 true v1 → Calls (Items S js) v1 whole v2 → Calls (Items S (is ++ js)) v0 whole v2
-calls_both S is js v0 v1 v2 whole a b =
-    calls_as (Then (Items S is) (Items S js)) (Items S (is ++ js)) v0 v2 whole (items_then S is js whole)
-    (calls_then (Items S is) (Items S js) v0 v1 v2 whole a b)
+calls_both S is js {v0} {v1} {v2} {whole} a b =
+    calls_as (Then (Items S is) (Items S js)) (Items S (is ++ js)) (items_then S is js whole) (calls_then a b)
 
 -- where items are cut short, so are they with others after them
-pub calls_cut_before : (S : Serve) (is js : List Item) (v0 v1 : View)
-    → Calls (Items S is) v0 false v1 → Calls (Items S (is ++ js)) v0 false v1
-calls_cut_before S is js v0 v1 a =
-    calls_as (Items S is) (Items S (is ++ js)) v0 v1 false
-    (λ old ds new h. (
+pub calls_cut_before : (S : Serve) (is js : List Item) {v0 v1 : View} → Calls (Items S is) v0 false v1
+    → Calls (Items S (is ++ js)) v0 false v1
+calls_cut_before S is js a =
+    calls_as (Items S is) (Items S (is ++ js)) (λ old ds new h. (
       h.0,
       h.1 ++ js,
       ap (λ xs. xs ++ js) h.2 ∙ append_assoc h.0 h.1 js,
@@ -70,43 +68,39 @@ module _ {A : Type 0} (S : Serve) (f : A → Item) (names : List A) (i : ℕ) (x
       ∙ map-append f (take i names) (x ∷ [])
 
   -- an item more was done
-  pub calls_more : (v0 v1 v2 : View)
-      → Calls (Items S (map f (take i names))) v0 true v1 → Calls (Items S (f x ∷ [])) v1 true v2
-      → Calls (Items S (map f (take (i + 1) names))) v0 true v2
-  calls_more v0 v1 v2 a b =
+  pub calls_more : {v0 v1 v2 : View} → Calls (Items S (map f (take i names))) v0 true v1
+      → Calls (Items S (f x ∷ [])) v1 true v2 → Calls (Items S (map f (take (i + 1) names))) v0 true v2
+  calls_more {v0} {v1} {v2} a b =
       subst (λ js. Calls (Items S js) v0 true v2) (sym front_more)
-      (calls_both S (map f (take i names)) (f x ∷ []) v0 v1 v2 true a b)
+      (calls_both S (map f (take i names)) (f x ∷ []) a b)
 
   -- the items are cut short by one of them
-  pub calls_stop : (v0 v1 v2 : View)
-      → Calls (Items S (map f (take i names))) v0 true v1 → Calls (Items S (f x ∷ [])) v1 false v2
-      → Calls (Items S (map f names)) v0 false v2
-  calls_stop v0 v1 v2 a b =
+  pub calls_stop : {v0 v1 v2 : View} → Calls (Items S (map f (take i names))) v0 true v1
+      → Calls (Items S (f x ∷ [])) v1 false v2 → Calls (Items S (map f names)) v0 false v2
+  calls_stop {v0} {v1} {v2} a b =
       subst (λ js. Calls (Items S js) v0 false v2)
       (sym (ap (map f) (sym (take-append-drop (i + 1) names))
       ∙ (map-append f (take (i + 1) names) (drop (i + 1) names)
       ∙ ap (λ js. js ++ map f (drop (i + 1) names)) front_more)))
-      (calls_cut_before S (map f (take i names) ++ f x ∷ []) (map f (drop (i + 1) names)) v0 v2
-      (calls_both S (map f (take i names)) (f x ∷ []) v0 v1 v2 false a b))
+      (calls_cut_before S (map f (take i names) ++ f x ∷ []) (map f (drop (i + 1) names))
+      (calls_both S (map f (take i names)) (f x ∷ []) a b))
 
 -- ---- the same item so many times
 -- one turn more
-pub turns_more : (S : Serve) (i : Item) (n : ℕ) (v0 v1 v2 : View)
-    → Calls (Items S (replicate n i)) v0 true v1 → Calls (Items S (i ∷ [])) v1 true v2
-    → Calls (Items S (replicate (n + 1) i)) v0 true v2
-turns_more S i n v0 v1 v2 a b =
-    subst (λ js. Calls (Items S js) v0 true v2) (replicate_more n i)
-    (calls_both S (replicate n i) (i ∷ []) v0 v1 v2 true a b)
+pub turns_more : (S : Serve) (i : Item) (n : ℕ) {v0 v1 v2 : View} → Calls (Items S (replicate n i)) v0 true v1
+    → Calls (Items S (i ∷ [])) v1 true v2 → Calls (Items S (replicate (n + 1) i)) v0 true v2
+turns_more S i n {v0} {v1} {v2} a b =
+    subst (λ js. Calls (Items S js) v0 true v2) (replicate_more n i) (calls_both S (replicate n i) (i ∷ []) a b)
 
 -- the turns are cut short by one of them
-pub turns_stop : (S : Serve) (i : Item) (n count : ℕ) (v0 v1 v2 : View) → n < count
+pub turns_stop : (S : Serve) (i : Item) (n count : ℕ) {v0 v1 v2 : View} → n < count
     → Calls (Items S (replicate n i)) v0 true v1 → Calls (Items S (i ∷ [])) v1 false v2
     → Calls (Items S (replicate count i)) v0 false v2
-turns_stop S i n count v0 v1 v2 lt a b =
+turns_stop S i n count {v0} {v1} {v2} lt a b =
     let e : count ≡ (n + 1) + (count - (n + 1)) = omega arith in
     subst (λ js. Calls (Items S js) v0 false v2)
     (sym (ap (λ k. replicate k i) e
     ∙ (sym (replicate-append-replicate (n + 1) (count - (n + 1)) i)
     ∙ ap (λ js. js ++ replicate (count - (n + 1)) i) (sym (replicate_more n i)))))
-    (calls_cut_before S (replicate n i ++ i ∷ []) (replicate (count - (n + 1)) i) v0 v2
-    (calls_both S (replicate n i) (i ∷ []) v0 v1 v2 false a b))
+    (calls_cut_before S (replicate n i ++ i ∷ []) (replicate (count - (n + 1)) i)
+    (calls_both S (replicate n i) (i ∷ []) a b))

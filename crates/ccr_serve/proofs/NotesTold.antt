@@ -1,5 +1,5 @@
 -- What a turn tells.
-use Rattle.std.proofs.Common.{◌≡◌, ◌<◌, ◌+◌, ◌++◌, ◌∙◌, ℕ, suc, List, [], ◌∷◌, length, drop, get_or, drop-cons, sym, arith, Option, Some, None, Result, Ok, Err, IfOk, OnOk, OnErr, IfSome, option_map, unwrap_or, String, string_bytes, ap, subst, inl, inr}
+use Rattle.std.proofs.Common.{◌≡◌, ◌<◌, ◌+◌, ◌∙◌, ℕ, suc, List, [], ◌∷◌, length, drop, get_or, drop-cons, sym, arith, Option, Some, None, Result, Ok, Err, IfOk, OnOk, OnErr, IfSome, option_map, unwrap_or, String, string_bytes, ap, subst, inl, inr}
 use Rattle.std.specs.declared.alloc.Global.{Global}
 use Rattle.ccr_history.specs.Text.{Text}
 use Rattle.ccr_history.specs.Edits.{change_data, edit_data}

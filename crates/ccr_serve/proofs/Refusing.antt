@@ -1,5 +1,6 @@
 -- Commands that are refused, or that are kept from beginning.
-use Rattle.std.proofs.Common.{◌≡◌, List, [], false, Option, None, Some, IsSome, Err, refl, sym, ◌∙◌, ap, subst, append-nil, inl, inr}
+use Rattle.std.proofs.Common.{◌≡◌, ℕ, List, [], false, Option, None, Some, IsSome, Err, refl, sym, ◌∙◌, ap, subst, append-nil, inl, inr}
+use Rattle.std.proofs.lemmas.Bool.{false≢true}
 use Rattle.ccr_history.specs.Text.{Text}
 use Rattle.ccr_task.specs.Places.{PlacesData}
 use Rattle.ccr_core.specs.declared.fault.CoreFault.{CoreFault}
@@ -14,46 +15,45 @@ use Rattle.ccr_task.specs.Calls.{CallData}
 use Rattle.ccr_serve.specs.Commanding.{Commanded, IsRefused, WasRefused, CameOf}
 use Rattle.ccr_serve.specs.Items.{Items}
 use Rattle.ccr_serve.specs.Serving.{Serves}
-use Rattle.ccr_serve.specs.Views.{View, world_of, with_calls, IsReady, Calls, StandsAt, Made, Stops, StopsItem}
+use Rattle.ccr_serve.specs.Views.{View, world_of, with_calls, IsReady, Calls, StandsAt, Made, Unmade, StopsItem, Ends}
 use Rattle.ccr_serve.specs.declared.fault.ServeFault.{ServeFault}
 use Rattle.ccr_serve.specs.declared.fault.ServeFault.TheVariants as fault
 use Rattle.ccr_serve.proofs.Commits.{rose_none, asked_these}
 use Rattle.ccr_serve.proofs.Composing.{calls_back}
 use Rattle.ccr_serve.proofs.Crash.{leaves_ready}
-use Rattle.ccr_serve.proofs.Steps.{after, printed, items_stop, ready_after, cut_at_once}
+use Rattle.ccr_serve.proofs.Steps.{after, printed, MayStop, items_stop, cut_at_once, unmade_at_once, stops_item}
 
 -- ---- nothing was done
 -- a server that has done nothing refuses
-pub refused_at_once : (places : PlacesData) (c : CommandData) (f : ServeFault) (v : View) → IsReady v
+pub refused_at_once : {places : PlacesData} {c : CommandData} {f : ServeFault} {v : View} → IsReady v
     → ((s : State) → Stands v.core s → IsRefused c f s v.calls v.calls) → WasRefused places c f v v
-refused_at_once places c f v ready why = record {
+refused_at_once {places} {c} {f} {v} ready why = record {
   why = why;
-  back = calls_back (Serves places) [] v ready;
+  back = calls_back (Serves places) [] ready;
   pairs = refl;
   commits = rose_none v.tally.commits;
   lines = refl;
 }
 
 -- a server refuses whose shelf was called
-pub refused_after : (places : PlacesData) (c : CommandData) (f : ServeFault) (v : View) (k : List CallData) (l : Text)
+pub refused_after : {places : PlacesData} {c : CommandData} {f : ServeFault} {v : View} {k : List CallData} {l : Text}
     → IsReady v → l ≡ v.lines → ((s : State) → Stands v.core s → IsRefused c f s v.calls k)
     → WasRefused places c f v (after v k v.pairs l)
-refused_after places c f v k l ready lines why = record {
+refused_after {places} {c} {f} {v} {k} {l} ready lines why = record {
   why = why;
-  back = cut_at_once (Items (Serves places) []) (with_calls k v) l (items_stop (Serves places) [])
-      (ready_after v k v.pairs v.lines ready) lines;
+  back = cut_at_once (with_calls k v) (items_stop (Serves places) []) ready lines;
   pairs = refl;
   commits = rose_none v.tally.commits;
   lines = lines;
 }
 
 -- what the command needs isn't there
-pub lacks : (places : PlacesData) (c : CommandData) (f : CoreFault) (v : View) (l : Text) → IsReady v → l ≡ v.lines
+pub lacks : {l : Text} (places : PlacesData) (c : CommandData) (f : CoreFault) (v : View) → IsReady v → l ≡ v.lines
     → Lacks (need_of c) v.core.pipeline v.core.history f → CameOf places c (Err (fault.Core f)) v (printed v l)
-lacks places c f v l ready lines is = by f is where
+lacks {l} places c f v ready lines is = by f is where
   refuses : (f : CoreFault) → ((s : State) → Stands v.core s → IsRefused c (fault.Core f) s v.calls v.calls)
       → CameOf places c (Err (fault.Core f)) v (printed v l)
-  refuses f why = refused_after places c (fault.Core f) v v.calls l ready lines why
+  refuses f why = refused_after {f = fault.Core f} ready lines why
 
   -- it isn't there in the states that the core stands for
   moved : (s : State) (f : CoreFault) → Stands v.core s → Lacks (need_of c) v.core.pipeline v.core.history f
@@ -84,26 +84,28 @@ first_fault : (s : State) (e : EventData) (f : CoreFault) → (f ≡ core_fault.
 first_fault s e f other (inl is) = absurd (other is)
 first_fault s e f other (inr first) = first
 
-module _ (places : PlacesData) (c : CommandData) (e : EventData) (f : CoreFault) (v : View) (k : List CallData) (n : View)
-    (l : Text) (lines : l ≡ v.lines) (made : Made e (Err f) (after v k v.pairs []) n) where
+module _ {e : EventData} {f : CoreFault} {k : List CallData} {n : View} {l : Text} (places : PlacesData) (c : CommandData)
+    (v : View) (lines : l ≡ v.lines) (made : Made e (Err f) (after v k v.pairs []) n) where
   -- nothing has changed
   stands_still : (s : State) → Stands v.core s → Stands n.core s
   stands_still s h = let t = made.takes s h in subst (λ u. Stands n.core u) t.1.1 t.2
 
   nothing_done : Calls (Items (Serves places) []) (with_calls n.calls v) false (printed n l)
-  nothing_done s h = record {
-    dones = [];
-    now = world_of (with_calls n.calls v) s;
-    does = ([], [], refl, world_of (with_calls n.calls v) s, refl, inl refl);
-    pairs = made.rest.pairs ∙ sym (append-nil v.pairs);
-    few = tt;
-    calls = refl;
-    commits = asked_these v.tally.commits 0 n.tally.commits made.commits;
-    lines = lines ∙ sym (append-nil v.lines);
-    holds = subst n.holds (stands_still s h).0 made.ready.holds;
-    crash = leaves_ready n s made.ready (stands_still s h);
-    stands = subst (λ b. StandsAt false b (world_of (with_calls n.calls v) s) (printed n l)) (sym made.ready.is_open)
-        (stands_still s h, made.rest.last);
+  nothing_done = record {
+    from = λ s h. record {
+      dones = [];
+      now = world_of (with_calls n.calls v) s;
+      does = ([], [], refl, world_of (with_calls n.calls v) s, refl, inl refl);
+      pairs = made.rest.pairs ∙ sym (append-nil v.pairs);
+      few = tt;
+      calls = refl;
+      commits = asked_these v.tally.commits 0 n.tally.commits made.commits;
+      lines = lines ∙ sym (append-nil v.lines);
+      holds = subst n.holds (stands_still s h).0 made.ready.holds;
+      crash = leaves_ready n s made.ready (stands_still s h);
+      stands = subst (λ b. StandsAt false b (world_of (with_calls n.calls v) s) (printed n l)) (sym made.ready.is_open)
+          (stands_still s h, made.rest.last);
+    };
   }
 
   -- the event's first fault is the command's
@@ -119,23 +121,30 @@ module _ (places : PlacesData) (c : CommandData) (e : EventData) (f : CoreFault)
   }
 
 -- ---- commands that are cut short
-pub came_stopped : (places : PlacesData) (c : CommandData) (f : ServeFault) (v n w : View) → StopsItem f w
+pub came_stopped : {v n : View} (places : PlacesData) (c : CommandData) (f : ServeFault) (w : View) → StopsItem false f w
     → Calls (Commanded places c 0) v false n → CameOf places c (Err f) v n
-came_stopped places c fault.NoMemory v n w stops cut = cut
-came_stopped places c (fault.Store e) v n w stops cut = cut
-came_stopped places c (fault.Core e) v n w stops cut = absurd stops
-came_stopped places c (fault.Read e) v n w stops cut = absurd stops
-came_stopped places c fault.File v n w stops cut = absurd stops
-came_stopped places c fault.BadPin v n w stops cut = absurd stops
-came_stopped places c fault.Closed v n w stops cut = absurd stops
-came_stopped places c fault.TurnsUsedUp v n w stops cut = absurd stops
+came_stopped places c fault.NoMemory w stops cut = cut
+came_stopped places c (fault.Store e) w stops cut = cut
+came_stopped places c (fault.Core e) w stops cut = absurd stops
+came_stopped places c (fault.Read e) w stops cut = absurd stops
+came_stopped places c fault.File w stops cut = absurd stops
+came_stopped places c fault.BadPin w stops cut = absurd stops
+came_stopped places c fault.Closed w stops cut = absurd (false≢true stops.0)
+came_stopped places c fault.TurnsUsedUp w stops cut = absurd stops
 
-pub stops_so : (f : ServeFault) (v : View) → StopsItem f v → Stops f v
-stops_so fault.NoMemory v stops = stops
-stops_so (fault.Store e) v stops = stops
-stops_so (fault.Core e) v stops = absurd stops
-stops_so (fault.Read e) v stops = absurd stops
-stops_so fault.File v stops = absurd stops
-stops_so fault.BadPin v stops = absurd stops
-stops_so fault.Closed v stops = absurd stops
-stops_so fault.TurnsUsedUp v stops = absurd stops
+-- the one event of a command isn't made
+pub came_unmade : {f : ServeFault} {n : View} {l : Text} (places : PlacesData) (c : CommandData) (v : View)
+    → MayStop (Commanded places c 0) → l ≡ v.lines → Unmade f (printed v []) n → CameOf places c (Err f) v (printed n l)
+came_unmade {f} {n} {l} places c v may lines un =
+    came_stopped places c f n (stops_item f (printed v []) n un) (unmade_at_once may lines un)
+
+-- a command stands as the items do that ended it early
+pub ends_so : (f : ServeFault) (v : View) → StopsItem false f v → Ends {A = ℕ} (Err f) v
+ends_so fault.NoMemory v stops = stops
+ends_so (fault.Store e) v stops = stops
+ends_so (fault.Core e) v stops = absurd stops
+ends_so (fault.Read e) v stops = absurd stops
+ends_so fault.File v stops = absurd stops
+ends_so fault.BadPin v stops = absurd stops
+ends_so fault.Closed v stops = stops.1
+ends_so fault.TurnsUsedUp v stops = absurd stops

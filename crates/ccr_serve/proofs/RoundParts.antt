@@ -52,48 +52,51 @@ runs_length [] (r ∷ rs) bs h = absurd h
 runs_length (n ∷ ns) [] bs h = absurd h
 runs_length (n ∷ ns) (r ∷ rs) [] h = absurd h
 
-module _ (places : PlacesData) (v0 : View) where
+module _ (places : PlacesData) {v0 : View} where
   -- a round that is cut short before its turns
-  pub round_cut : (v1 : View)
+  pub round_cut : {v1 : View}
       → Calls (Items (Serves places) (checks_in v0.core.pipeline ++ schedules_in v0.core.pipeline)) v0 false v1
       → Calls (Round places) v0 false v1
-  round_cut v1 a s h =
-      called_as (Items (Serves places) (checks_and_schedules s)) (Round places) v0 v1 s false (λ ds new d. inl d)
-      (subst (λ p. Called (Items (Serves places) (checks_in p ++ schedules_in p)) v0 s false v1) h.1 (a s h))
+  round_cut {v1} a = record {
+    from = λ s h.
+        called_as (Items (Serves places) (checks_and_schedules s)) (Round places) v0 v1 s false (λ ds new d. inl d)
+        (subst (λ p. Called (Items (Serves places) (checks_in p ++ schedules_in p)) v0 s false v1) h.1 (a.from s h));
+  }
 
   -- a round that is cut short in its checks
-  pub round_cut_in_checks : (v1 : View) (cs : List Item) → cs ≡ checks_in v0.core.pipeline
+  pub round_cut_in_checks : {v1 : View} (cs : List Item) → cs ≡ checks_in v0.core.pipeline
       → Calls (Items (Serves places) cs) v0 false v1 → Calls (Round places) v0 false v1
-  round_cut_in_checks v1 cs is a =
-      round_cut v1 (calls_cut_before (Serves places) (checks_in v0.core.pipeline)
-      (schedules_in v0.core.pipeline) v0 v1
+  round_cut_in_checks {v1} cs is a =
+      round_cut (calls_cut_before (Serves places) (checks_in v0.core.pipeline) (schedules_in v0.core.pipeline)
       (subst (λ js. Calls (Items (Serves places) js) v0 false v1) is a))
 
   -- the checks, and then the schedules
-  pub first_part : (v1 v2 : View) (whole : Bool) (cs ss : List Item)
+  pub first_part : {v1 v2 : View} {whole : Bool} (cs ss : List Item)
       → cs ≡ checks_in v0.core.pipeline → ss ≡ schedules_in v0.core.pipeline
       → Calls (Items (Serves places) cs) v0 true v1 → Calls (Items (Serves places) ss) v1 whole v2
       → Calls (Items (Serves places) (checks_in v0.core.pipeline ++ schedules_in v0.core.pipeline)) v0 whole v2
-  first_part v1 v2 whole cs ss c s a b =
-      calls_both (Serves places) (checks_in v0.core.pipeline) (schedules_in v0.core.pipeline) v0 v1 v2 whole
+  first_part {v1} {v2} {whole} cs ss c s a b =
+      calls_both (Serves places) (checks_in v0.core.pipeline) (schedules_in v0.core.pipeline)
       (subst (λ js. Calls (Items (Serves places) js) v0 true v1) c a)
       (subst (λ js. Calls (Items (Serves places) js) v1 whole v2) s b)
 
   -- a whole round, or one that is cut short in its turns
-  pub round_done : (v2 v3 : View) (whole : Bool) (n : ℕ) → n ≡ length v2.core.names
+  pub round_done : {v2 v3 : View} {whole : Bool} (n : ℕ) → n ≡ length v2.core.names
       → Calls (Items (Serves places) (checks_in v0.core.pipeline ++ schedules_in v0.core.pipeline)) v0 true v2
       → Calls (Items (Serves places) (replicate n turn)) v2 whole v3 → Calls (Round places) v0 whole v3
-  round_done v2 v3 whole n is a b s h =
-      let first : Called (Items (Serves places) (checks_and_schedules s)) v0 s true v2 =
-      subst (λ p. Called (Items (Serves places) (checks_in p ++ schedules_in p)) v0 s true v2) h.1 (a s h) in
-      let at = first.stands.1 in
-      let second = called_as (Items (Serves places) (replicate n turn)) (TurnOfEach places) v2 v3 first.now.core whole
-      (λ ds new d. subst (λ k. Items (Serves places) (replicate k turn) (world_of v2 first.now.core) ds whole new)
-      (is ∙ runs_length v2.core.names v2.core.runs first.now.core.running at.3) d)
-      (b first.now.core at) in
-      called_as (Then (Items (Serves places) (checks_and_schedules s)) (TurnOfEach places)) (Round places) v0 v3 s whole
-      (λ ds new d. d)
-      (called_then (Items (Serves places) (checks_and_schedules s)) (TurnOfEach places) v0 v2 v3 s whole first second)
+  round_done {v2} {v3} {whole} n is a b = record {
+    from = λ s h.
+        let first : Called (Items (Serves places) (checks_and_schedules s)) v0 s true v2 =
+        subst (λ p. Called (Items (Serves places) (checks_in p ++ schedules_in p)) v0 s true v2) h.1 (a.from s h) in
+        let at = first.stands.1 in
+        let second = called_as (Items (Serves places) (replicate n turn)) (TurnOfEach places) v2 v3 first.now.core whole
+        (λ ds new d. subst (λ k. Items (Serves places) (replicate k turn) (world_of v2 first.now.core) ds whole new)
+        (is ∙ runs_length v2.core.names v2.core.runs first.now.core.running at.3) d)
+        (b.from first.now.core at) in
+        called_as (Then (Items (Serves places) (checks_and_schedules s)) (TurnOfEach places)) (Round places) v0 v3 s whole
+        (λ ds new d. d)
+        (called_then (Items (Serves places) (checks_and_schedules s)) (TurnOfEach places) v0 v2 v3 s whole first second);
+  }
 
 -- ---- rounds, one after another
 module _ (places : PlacesData) where
@@ -170,14 +173,12 @@ module _ (places : PlacesData) where
       (subst (λ es. Rounds places (suc n) old es false new) (sym h.joined)
       (one_more n false old h.mid new h.front h.back h.first h.second))
 
-  pub rounds_more : (n : ℕ) (v0 v1 v2 : View) → Calls (Rounds places n) v0 true v1 → Calls (Round places) v1 true v2
+  pub rounds_more : (n : ℕ) {v0 v1 v2 : View} → Calls (Rounds places n) v0 true v1 → Calls (Round places) v1 true v2
       → Calls (Rounds places (n + 1)) v0 true v2
-  rounds_more n v0 v1 v2 a b =
-      calls_as (Then (Rounds places n) (Round places)) (Rounds places (n + 1)) v0 v2 true (then_one n)
-      (calls_then (Rounds places n) (Round places) v0 v1 v2 true a b)
+  rounds_more n a b =
+      calls_as (Then (Rounds places n) (Round places)) (Rounds places (n + 1)) (then_one n) (calls_then a b)
 
-  pub rounds_stop : (n m : ℕ) (v0 v1 v2 : View) → n < m → Calls (Rounds places n) v0 true v1
+  pub rounds_stop : (n m : ℕ) {v0 v1 v2 : View} → n < m → Calls (Rounds places n) v0 true v1
       → Calls (Round places) v1 false v2 → Calls (Rounds places m) v0 false v2
-  rounds_stop n m v0 v1 v2 lt a b =
-      calls_as (Then (Rounds places n) (Round places)) (Rounds places m) v0 v2 false (then_cut n m lt)
-      (calls_then (Rounds places n) (Round places) v0 v1 v2 false a b)
+  rounds_stop n m lt a b =
+      calls_as (Then (Rounds places n) (Round places)) (Rounds places m) (then_cut n m lt) (calls_then a b)

@@ -7,55 +7,55 @@ use Rattle.ccr_history.specs.Text.{Text}
 use Rattle.ccr_pipeline.specs.JobData.{ResourceData}
 use Rattle.ccr_pipeline.specs.Pipelines.{PipelineData}
 use Rattle.ccr_problem.specs.ProblemOf.{resource_of}
-use Rattle.ccr_task.specs.Places.{PlacesData}
+use Rattle.ccr_task.specs.Places.{PlacesData, places_data}
+use Rattle.ccr_task.specs.declared.places.Places.{Places}
 use Rattle.ccr_serve.specs.Items.{Item, Done, Serve, Part, Items, Noting}
 use Rattle.ccr_serve.specs.Runs.{AreThere}
-use Rattle.ccr_serve.specs.Serving.{Serves}
+use Rattle.ccr_serve.specs.Serving.{Serves, ItemsOf}
 use Rattle.ccr_serve.specs.Views.{View, Calls}
 use Rattle.ccr_serve.proofs.Composing.{calls_as}
 use Rattle.ccr_serve.proofs.Loops.{take_whole, calls_more, calls_stop}
 
 -- a part of which something is noted is done
-pub unnoted : (P : Part) (Note : List Done → Type 0) (v0 v1 : View) (whole : Bool)
+pub unnoted : (P : Part) (Note : List Done → Type 0) {v0 v1 : View} (whole : Bool)
     → Calls (Noting P Note) v0 whole v1 → Calls P v0 whole v1
-unnoted P Note v0 v1 true a = calls_as (Noting P Note) P v0 v1 true (λ old ds new d. d.0) a
-unnoted P Note v0 v1 false a = calls_as (Noting P Note) P v0 v1 false (λ old ds new d. d) a
+unnoted P Note true a = calls_as (Noting P Note) P (λ old ds new d. d.0) a
+unnoted P Note false a = calls_as (Noting P Note) P (λ old ds new d. d) a
 
--- the same items, of a server with the same places
-pub at_places : (at places : PlacesData) (is : List Item) (v0 v1 : View) (whole : Bool) → at ≡ places
-    → Calls (Items (Serves at) is) v0 whole v1 → Calls (Items (Serves places) is) v0 whole v1
-at_places at places is v0 v1 whole same a = subst (λ p. Calls (Items (Serves p) is) v0 whole v1) same a
+-- the same part, of a server with the same directories
+pub moved : (P : PlacesData → Part) {p q : Places} {v0 v1 : View} {whole : Bool} → q ≡ p
+    → Calls (P (places_data q)) v0 whole v1 → Calls (P (places_data p)) v0 whole v1
+moved P {p} {q} {v0} {v1} {whole} same a = subst (λ x. Calls (P (places_data x)) v0 whole v1) same a
 
 -- ---- an item for each name
 -- the items of all names
-pub names_done : (S : Serve) (f : Text → Item) (names : List (String Global)) (i : ℕ) (v0 v1 : View)
+pub names_done : (S : Serve) (f : Text → Item) (names : List (String Global)) (i : ℕ) {v0 v1 : View}
     → length names ≡ i → Calls (Items S (map (λ n. f (string_bytes n)) (take i names))) v0 true v1
     → Calls (Items S (map (λ n. f (string_bytes n)) names)) v0 true v1
-names_done S f names i v0 v1 all a =
+names_done S f names i {v0} {v1} all a =
     subst (λ ns. Calls (Items S (map (λ n. f (string_bytes n)) ns)) v0 true v1) (take_whole names i all) a
 
-module _ (at places : PlacesData) (f : Text → Item) (names : List (String Global)) (i : ℕ) (x : String Global) (t : Text) (lt : i < length names) (is : x ≡ get_or names i x) (told : t ≡ string_bytes x) (same : at ≡ places) where
-  named : (v1 v2 : View) (whole : Bool) → Calls (Items (Serves at) (f t ∷ [])) v1 whole v2
-      → Calls (Items (Serves places) (f (string_bytes x) ∷ [])) v1 whole v2
-  named v1 v2 whole b =
-      subst (λ n. Calls (Items (Serves places) (f n ∷ [])) v1 whole v2) told
-      (at_places at places (f t ∷ []) v1 v2 whole same b)
+module _ {q p : Places} (f : Text → Item) (names : List (String Global)) (i : ℕ) (x : String Global) (t : Text)
+    (lt : i < length names) (is : x ≡ get_or names i x) (told : t ≡ string_bytes x) (same : q ≡ p) where
+  named : {v1 v2 : View} {whole : Bool} → Calls (Items (Serves (places_data q)) (f t ∷ [])) v1 whole v2
+      → Calls (Items (Serves (places_data p)) (f (string_bytes x) ∷ [])) v1 whole v2
+  named {v1} {v2} {whole} b =
+      subst (λ n. Calls (Items (Serves (places_data p)) (f n ∷ [])) v1 whole v2) told
+      (moved (ItemsOf (f t ∷ [])) same b)
 
   -- the item of one name more
-  pub name_more : (v0 v1 v2 : View)
-      → Calls (Items (Serves places) (map (λ n. f (string_bytes n)) (take i names))) v0 true v1
-      → Calls (Items (Serves at) (f t ∷ [])) v1 true v2
-      → Calls (Items (Serves places) (map (λ n. f (string_bytes n)) (take (i + 1) names))) v0 true v2
-  name_more v0 v1 v2 a b =
-      calls_more (Serves places) (λ n. f (string_bytes n)) names i x lt is v0 v1 v2 a (named v1 v2 true b)
+  pub name_more : {v0 v1 v2 : View}
+      → Calls (Items (Serves (places_data p)) (map (λ n. f (string_bytes n)) (take i names))) v0 true v1
+      → Calls (Items (Serves (places_data q)) (f t ∷ [])) v1 true v2
+      → Calls (Items (Serves (places_data p)) (map (λ n. f (string_bytes n)) (take (i + 1) names))) v0 true v2
+  name_more a b = calls_more (Serves (places_data p)) (λ n. f (string_bytes n)) names i x lt is a (named b)
 
   -- the items are cut short by that of a name
-  pub name_stop : (v0 v1 v2 : View)
-      → Calls (Items (Serves places) (map (λ n. f (string_bytes n)) (take i names))) v0 true v1
-      → Calls (Items (Serves at) (f t ∷ [])) v1 false v2
-      → Calls (Items (Serves places) (map (λ n. f (string_bytes n)) names)) v0 false v2
-  name_stop v0 v1 v2 a b =
-      calls_stop (Serves places) (λ n. f (string_bytes n)) names i x lt is v0 v1 v2 a (named v1 v2 false b)
+  pub name_stop : {v0 v1 v2 : View}
+      → Calls (Items (Serves (places_data p)) (map (λ n. f (string_bytes n)) (take i names))) v0 true v1
+      → Calls (Items (Serves (places_data q)) (f t ∷ [])) v1 false v2
+      → Calls (Items (Serves (places_data p)) (map (λ n. f (string_bytes n)) names)) v0 false v2
+  name_stop a b = calls_stop (Serves (places_data p)) (λ n. f (string_bytes n)) names i x lt is a (named b)
 
 -- ---- names of resources
 found_too : (t : Bool) (r : ResourceData) (o : Option ResourceData) → IsSome o → IsSome (cond t (Some r) o)

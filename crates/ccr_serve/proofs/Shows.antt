@@ -13,7 +13,7 @@ use Rattle.ccr_serve.specs.Views.{View, world_of, IsReady}
 use Rattle.ccr_serve.specs.declared.fault.ServeFault.TheVariants as fault
 use Rattle.ccr_serve.proofs.Commits.{rose_none}
 use Rattle.ccr_serve.proofs.Refusing.{refused_after}
-use Rattle.ccr_serve.proofs.Steps.{printed, ready_after, calls_did, MayStop, cut_at_once}
+use Rattle.ccr_serve.proofs.Steps.{printed, calls_did, MayStop, cut_at_once}
 
 -- what is shown of a core is shown of the states that it stands for
 shown_at : (what : ShownData) (c : CoreData) (s : State) (status : ℕ) (lines : Text) → Stands c s
@@ -28,8 +28,7 @@ shown_at what c s status lines is h =
 pub shown_so : (places : PlacesData) (what : ShownData) (status : ℕ) (v : View) (l : Text) → IsReady v
     → Showing what v.core (Ok status) v.lines l → CameOf places (shows what) (Ok status) v (printed v l)
 shown_so places what status v l ready x =
-    calls_did (Commanded places (shows what) status) v (printed v l) (ready_after v v.calls v.pairs l ready)
-    (λ s is. record {
+    calls_did ready (λ s is. record {
       did = did;
       state = s;
       stands = is;
@@ -57,14 +56,12 @@ show_stop : (places : PlacesData) (what : ShownData) → MayStop (Commanded plac
 show_stop places what w = ([], _, refl, w, refl, inl refl)
 
 -- the text of a pin spells none: nothing is shown
-pub shown_unpinned : (places : PlacesData) (what : ShownData) (v : View) (l : Text) → IsReady v → l ≡ v.lines
+pub shown_unpinned : {l : Text} (places : PlacesData) (what : ShownData) (v : View) → IsReady v → l ≡ v.lines
     → LacksPin (needs what) v.core.pipeline → CameOf places (shows what) (Err fault.BadPin) v (printed v l)
-shown_unpinned places what v l ready same bad =
-    refused_after places (shows what) fault.BadPin v v.calls l ready same
-    (λ s is. (subst (λ p. LacksPin (needs what) p) is.1 bad, refl))
+shown_unpinned places what v ready same bad =
+    refused_after ready same (λ s is. (subst (λ p. LacksPin (needs what) p) is.1 bad, refl))
 
 -- memory was wanted: nothing is shown
-pub shown_nothing : (places : PlacesData) (what : ShownData) (v : View) (l : Text) → IsReady v → l ≡ v.lines
+pub shown_nothing : {l : Text} (places : PlacesData) (what : ShownData) (v : View) → IsReady v → l ≡ v.lines
     → CameOf places (shows what) (Err fault.NoMemory) v (printed v l)
-shown_nothing places what v l ready same =
-    cut_at_once (Commanded places (shows what) 0) v l (show_stop places what) ready same
+shown_nothing places what v ready same = cut_at_once v (show_stop places what) ready same

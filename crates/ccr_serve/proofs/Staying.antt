@@ -61,7 +61,7 @@ one_check places name old new (d ∷ []) e =
 one_check places name old new (d ∷ d2 ∷ ds) e = absurd e.2
 
 -- a check leaves the pipeline
-pub check_keeps_pipeline : (places : PlacesData) (name : Text) (v0 v1 : View) → IsReached v0.core
+pub check_keeps_pipeline : {v0 v1 : View} (places : PlacesData) (name : Text) → IsReached v0.core
     → Calls (Items (Serves places) (check name ∷ [])) v0 true v1 → v1.core.pipeline ≡ v0.core.pipeline
-check_keeps_pipeline places name v0 v1 r a = let c = a r.3 r.7 in
+check_keeps_pipeline {v0} {v1} places name r a = let c = a.from r.3 r.7 in
     c.stands.1.1 ∙ (one_check places name (world_of v0 r.3) c.now c.dones c.does ∙ sym r.7.1)

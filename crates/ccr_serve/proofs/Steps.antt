@@ -26,7 +26,7 @@ use Rattle.ccr_serve.specs.Pairs.{Adds}
 use Rattle.ccr_serve.specs.Serving.{Tells, BeginsItem, Serves}
 use Rattle.ccr_serve.specs.Taken.{all_taken, taken_of}
 use Rattle.ccr_storage.specs.Counts.{RoseBy}
-use Rattle.ccr_serve.specs.Views.{View, world_of, resources_held, IsReady, HasAsked, StandsAt, Calls, StopsItem, IsBack, Made, Unmade}
+use Rattle.ccr_serve.specs.Views.{View, world_of, resources_held, IsReady, HasAsked, StandsAt, Calls, StopsItem, Made, Unmade}
 use Rattle.ccr_serve.specs.declared.fault.ServeFault.{ServeFault}
 use Rattle.ccr_serve.specs.declared.fault.ServeFault.TheVariants as fault
 use Rattle.ccr_serve.proofs.Commits.{add_none, rose_none, asked_none}
@@ -43,6 +43,7 @@ after v f p l = record {
   holds = v.holds;
   leaves = v.leaves;
   tally = v.tally;
+  places = v.places;
   lines = l;
   closed = v.closed;
 }
@@ -50,14 +51,6 @@ after v f p l = record {
 -- a view that has printed these lines
 abbrev pub printed : View → Text → View
 printed v l = after v v.calls v.pairs l
-
-pub ready_after : (v : View) (f : List CallData) (p : List Pair) (l : Text) → IsReady v → IsReady (after v f p l)
-ready_after v f p l ready = record {
-  is_open = ready.is_open;
-  unfailed = ready.unfailed;
-  holds = ready.holds;
-  leaves = ready.leaves;
-}
 
 -- ---- parts of which one item was done, or nothing
 -- what one item did from a state
@@ -70,23 +63,25 @@ pub record Did (P : Part) (old : View) (s : State) (new : View) : Type 0 where
   pub commits : RoseBy old.tally.commits (taken_of did.event) new.tally.commits
   pub lines : new.lines ≡ old.lines ++ did.lines
 
-pub calls_did : (P : Part) (old new : View) → IsReady new → ((s : State) → Stands old.core s → Did P old s new)
+pub calls_did : {P : Part} {old new : View} → IsReady new → ((s : State) → Stands old.core s → Did P old s new)
     → Calls P old true new
-calls_did P old new ready each s is = let one = each s is in record {
-  dones = one.did ∷ [];
-  now = world_of new one.state;
-  does = one.does;
-  pairs = one.pairs
-      ∙ ap (λ ps. old.pairs ++ ps)
-      (sym (append-nil (option_to_list one.did.pair ++ []) ∙ append-nil (option_to_list one.did.pair)));
-  few = refl;
-  calls = refl;
-  commits = subst (λ n. RoseBy old.tally.commits n new.tally.commits) (sym (add_none (taken_of one.did.event)))
-      one.commits;
-  lines = one.lines ∙ ap (λ ls. old.lines ++ ls) (sym (append-nil one.did.lines));
-  holds = subst new.holds one.stands.0 ready.holds;
-  crash = leaves_ready new one.state ready one.stands;
-  stands = (ready.is_open, one.stands, refl);
+calls_did {P} {old} {new} ready each = record {
+  from = λ s is. let one = each s is in record {
+    dones = one.did ∷ [];
+    now = world_of new one.state;
+    does = one.does;
+    pairs = one.pairs
+        ∙ ap (λ ps. old.pairs ++ ps)
+        (sym (append-nil (option_to_list one.did.pair ++ []) ∙ append-nil (option_to_list one.did.pair)));
+    few = refl;
+    calls = refl;
+    commits = subst (λ n. RoseBy old.tally.commits n new.tally.commits) (sym (add_none (taken_of one.did.event)))
+        one.commits;
+    lines = one.lines ∙ ap (λ ls. old.lines ++ ls) (sym (append-nil one.did.lines));
+    holds = subst new.holds one.stands.0 ready.holds;
+    crash = leaves_ready new one.state ready one.stands;
+    stands = (ready.is_open, one.stands, refl);
+  };
 }
 
 -- where a server stands that has done nothing, and has begun this
@@ -107,18 +102,20 @@ pub calls_stop : (P : Part) (old new : View) (lost : Option Pair) → MayBegin P
     → ((s : State) → Stands old.core s → LeavesAt new.closed new.leaves s)
     → ((s : State) → Stands old.core s → StandsAt false new.closed (begun_at old s new.calls lost) new)
     → Calls P old false new
-calls_stop P old new lost begins pairs commits lines holds crash stands s is = record {
-  dones = [];
-  now = begun_at old s new.calls lost;
-  does = begins s is;
-  pairs = pairs;
-  few = tt;
-  calls = refl;
-  commits = commits;
-  lines = lines ∙ sym (append-nil old.lines);
-  holds = subst new.holds is.0 holds;
-  crash = crash s is;
-  stands = stands s is;
+calls_stop P old new lost begins pairs commits lines holds crash stands = record {
+  from = λ s is. record {
+    dones = [];
+    now = begun_at old s new.calls lost;
+    does = begins s is;
+    pairs = pairs;
+    few = tt;
+    calls = refl;
+    commits = commits;
+    lines = lines ∙ sym (append-nil old.lines);
+    holds = subst new.holds is.0 holds;
+    crash = crash s is;
+    stands = stands s is;
+  };
 }
 
 -- of items nothing may be done, whatever is noted once they are whole
@@ -141,9 +138,9 @@ stands_back true v new s calls lost is last = tt
 stands_back false v new s calls lost is last = (is, last)
 
 -- memory was wanted before the event
-pub cut_by_memory : (P : Part) (v : View) (f : List CallData) (p : List Pair) (l : Text) (lost : Option Pair)
+pub cut_by_memory : {P : Part} (v : View) {f : List CallData} {p : List Pair} {l : Text} (lost : Option Pair)
     → MayBegin P v f lost → IsReady v → Adds v.pairs lost p → l ≡ v.lines → Calls P v false (after v f p l)
-cut_by_memory P v f p l lost begins ready adds lines =
+cut_by_memory {P} v {f} {p} {l} lost begins ready adds lines =
     calls_stop P v (after v f p l) lost begins adds (asked_none v.tally.commits) lines ready.holds
     (λ s is. leaves_ready v s ready is) (λ s is. stands_back v.closed v (after v f p l) s f lost is refl)
 
@@ -151,16 +148,15 @@ pub none_added : (p : List Pair) → Adds p None p
 none_added p = sym (append-nil p)
 
 -- memory was wanted before anything
-pub cut_at_once : (P : Part) (v : View) (l : Text) → MayStop P → IsReady v → l ≡ v.lines
-    → Calls P v false (printed v l)
-cut_at_once P v l may ready lines =
-    cut_by_memory P v v.calls v.pairs l None (λ s is. may (world_of v s)) ready (none_added v.pairs) lines
+pub cut_at_once : {P : Part} (v : View) {l : Text} → MayStop P → IsReady v → l ≡ v.lines → Calls P v false (printed v l)
+cut_at_once v may ready lines =
+    cut_by_memory v None (λ s is. may (world_of v s)) ready (none_added v.pairs) lines
 
 -- memory was wanted, and the shelf was called for nothing
-pub cut_unchanged : (P : Part) (v : View) (f : List CallData) (l : Text) → MayStop P → IsReady v → f ≡ v.calls
+pub cut_unchanged : {P : Part} (v : View) {f : List CallData} {l : Text} → MayStop P → IsReady v → f ≡ v.calls
     → l ≡ v.lines → Calls P v false (after v f v.pairs l)
-cut_unchanged P v f l may ready same lines =
-    subst (λ k. Calls P v false (after v k v.pairs l)) (sym same) (cut_at_once P v l may ready lines)
+cut_unchanged {P} v {f} {l} may ready same lines =
+    subst (λ k. Calls P v false (after v k v.pairs l)) (sym same) (cut_at_once v may ready lines)
 
 -- an event that wasn't made: the core is as it was, or the server has closed
 unmade_back : (f : ServeFault) (old new : View) → Unmade f old new
@@ -178,25 +174,25 @@ stands_closed : (closed : Bool) (now : World) (new : View) → closed ≡ true �
 stands_closed true now new is = tt
 stands_closed false now new is = absurd (false≢true is)
 
-pub calls_unmade : (P : Part) (v : View) (f : List CallData) (p : List Pair) (l : Text) (new : View) (stop : ServeFault)
+pub calls_unmade : {P : Part} {v : View} {f : List CallData} {p : List Pair} {l : Text} {n : View} {stop : ServeFault}
     (lost : Option Pair) → MayBegin P v f lost → Adds v.pairs lost p → l ≡ v.lines
-    → Unmade stop (after v f p l) new → Calls P v false new
-calls_unmade P v f p l new stop lost begins adds lines un =
-    calls_stop P v new lost (subst (λ k. MayBegin P v k lost) (sym un.rest.calls) begins) (un.rest.pairs ∙ adds)
-    un.commits (un.rest.lines ∙ lines) un.holds un.crash
-    (λ s is. elim (unmade_back stop (after v f p l) new un)
-    as (λ _. StandsAt false new.closed (begun_at v s new.calls lost) new) [
-      | inl back ↦ stands_back new.closed v new s new.calls lost (subst (λ c. Stands c s) (sym back.0) is) un.rest.last
-      | inr closed ↦ stands_closed new.closed (begun_at v s new.calls lost) new closed
+    → Unmade stop (after v f p []) n → Calls P v false (printed n l)
+calls_unmade {P} {v} {f} {p} {l} {n} {stop} lost begins adds lines un =
+    calls_stop P v (printed n l) lost (subst (λ k. MayBegin P v k lost) (sym un.rest.calls) begins)
+    (un.rest.pairs ∙ adds) un.commits lines un.holds un.crash
+    (λ s is. elim (unmade_back stop (after v f p []) n un)
+    as (λ _. StandsAt false n.closed (begun_at v s n.calls lost) (printed n l)) [
+      | inl back ↦ stands_back n.closed v (printed n l) s n.calls lost (subst (λ c. Stands c s) (sym back.0) is) un.rest.last
+      | inr closed ↦ stands_closed n.closed (begun_at v s n.calls lost) (printed n l) closed
     ])
 
 -- nothing was begun but the event, which wasn't made
-pub unmade_at_once : (P : Part) (v : View) (l : Text) (new : View) (stop : ServeFault) → MayStop P → l ≡ v.lines
-    → Unmade stop (printed v l) new → Calls P v false new
-unmade_at_once P v l new stop may lines un =
-    calls_unmade P v v.calls v.pairs l new stop None (λ s is. may (world_of v s)) (none_added v.pairs) lines un
+pub unmade_at_once : {P : Part} {v : View} {l : Text} {n : View} {stop : ServeFault} → MayStop P → l ≡ v.lines
+    → Unmade stop (printed v []) n → Calls P v false (printed n l)
+unmade_at_once {P} {v} may lines un =
+    calls_unmade None (λ s is. may (world_of v s)) (none_added v.pairs) lines un
 
-pub stops_item : (f : ServeFault) (old new : View) → Unmade f old new → StopsItem f new
+pub stops_item : (f : ServeFault) (old new : View) → Unmade f old new → StopsItem false f new
 stops_item (fault.Core e) old new un = absurd un.back
 stops_item (fault.Store e) old new un = un.back
 stops_item (fault.Read e) old new un = absurd un.back
@@ -205,26 +201,6 @@ stops_item fault.BadPin old new un = absurd un.back
 stops_item fault.NoMemory old new un = un.back.1
 stops_item fault.Closed old new un = absurd un.back
 stops_item fault.TurnsUsedUp old new un = absurd un.back
-
--- the lines are others, before and after an event that wasn't made
-pub unmade_printed : (f : ServeFault) (old new : View) (l m : Text) → m ≡ l → Unmade f old new
-    → Unmade f (printed old l) (printed new m)
-unmade_printed f old new l m same un = record {
-  back = back f un.back;
-  holds = un.holds;
-  crash = un.crash;
-  commits = un.commits;
-  rest = record { last = un.rest.last; calls = un.rest.calls; pairs = un.rest.pairs; lines = same };
-} where
-  back : (f : ServeFault) → IsBack f old new → IsBack f (printed old l) (printed new m)
-  back (fault.Core e) b = b
-  back (fault.Store e) b = b
-  back (fault.Read e) b = b
-  back fault.File b = b
-  back fault.BadPin b = b
-  back fault.NoMemory b = (b.0, ready_after new new.calls new.pairs m b.1)
-  back fault.Closed b = b
-  back fault.TurnsUsedUp b = b
 
 -- ---- events that were made
 -- the event leads to a state that the core stands for, with its lines
@@ -250,14 +226,12 @@ made_did P e r v n m s made lines can is = let t = made.takes s is in
       lines = lines s t.0 t.1 t.2;
     }
 
-pub calls_made : (P : Part) (e : EventData) (r : Replied) (v n : View) (m : Text)
-    → Made e r (printed v []) n
+pub calls_made : {P : Part} {e : EventData} {r : Replied} {v n : View} {m : Text} → Made e r (printed v []) n
     → ((s a : State) → Step s e r a → Stands n.core a → m ≡ v.lines ++ lines_of e r a.history)
     → ((w u : World) (d : Done) → Tells e w d u → d.event ≡ Some (e, r) → P w (d ∷ []) true u)
     → Calls P v true (printed n m)
-calls_made P e r v n m made lines can =
-    calls_did P v (printed n m) (ready_after n n.calls n.pairs m made.ready)
-    (λ s is. made_did P e r v n m s made lines can is)
+calls_made {P} {e} {r} {v} {n} {m} made lines can =
+    calls_did made.ready (λ s is. made_did P e r v n m s made lines can is)
 
 -- the lines of an event, with the history of a state that the core stands for
 pub lines_at : (e : EventData) (r : Replied) (c : CoreData) (a : State) (old mid new : Text) → Stands c a → mid ≡ old
@@ -275,16 +249,16 @@ taken_one (Ok x) d e made = sym (ap (λ o. option_map_or (λ made. is_ok made.1)
 taken_one (Err x) d e made = sym (ap (λ o. option_map_or (λ made. is_ok made.1) o false && true) made)
 
 -- the versions that a check found were an event
-pub check_made : (places : PlacesData) (name named : Text) (one : ResourceData) (v : View) (f : List CallData) (p : List Pair)
-    (l : Text) (n : View) (m : Text) (pair : Option Pair) (vs : List TextMap) (r : Replied) (good : Bool)
+pub check_made : {name named : Text} {one : ResourceData} {v : View} {f : List CallData} {p : List Pair} {l : Text} {n : View}
+    {m : Text} {vs : List TextMap} {r : Replied} {good : Bool} (places : PlacesData) (pair : Option Pair)
     → named ≡ name → resource_of name (resources_held v.core) ≡ Some one → l ≡ v.lines
     → p ≡ v.pairs ++ option_to_list pair → Finds places one (newest one v.core.history) v.calls f pair (found vs)
     → Made (checked named vs) r (after v f p []) n → m ≡ l ++ lines_of (checked name vs) r n.core.history
     → good ≡ is_ok r
     → Calls (Noting (Items (Serves places) (item.check name ∷ [])) (λ ds. good ≡ all_taken ds)) v true (printed n m)
-check_made places name named one v f p l n m pair vs r good copied there lines pairs finds made_named told is_good =
-    calls_did (Noting (Items (Serves places) (item.check name ∷ [])) (λ ds. good ≡ all_taken ds)) v (printed n m)
-    (ready_after n n.calls n.pairs m made_named.ready) (λ s is.
+check_made {name} {named} {one} {v} {f} {p} {l} {n} {m} {vs} {r} {good} places pair copied there lines pairs finds
+    made_named told is_good =
+    calls_did made_named.ready (λ s is.
     let made : Made (checked name vs) r (after v f p []) n =
     subst (λ t. Made (checked t vs) r (after v f p []) n) copied made_named in
     let t = made.takes s is in
@@ -321,16 +295,14 @@ check_made places name named one v f p l n m pair vs r good copied there lines p
     })
 
 -- a check found nothing, and its line says why
-pub check_found_nothing : (places : PlacesData) (name : Text) (one : ResourceData) (v : View) (f : List CallData) (p : List Pair)
-    (l m : Text) (pair : Option Pair) (cause : Cause)
-    → IsReady v → resource_of name (resources_held v.core) ≡ Some one → l ≡ v.lines
+pub check_found_nothing : {one : ResourceData} {v : View} {f : List CallData} {p : List Pair} {l m : Text}
+    (places : PlacesData) (name : Text) (pair : Option Pair) (cause : Cause) → IsReady v → resource_of name (resources_held v.core) ≡ Some one → l ≡ v.lines
     → p ≡ v.pairs ++ option_to_list pair
     → Finds places one (newest one v.core.history) v.calls f pair (what_is.nothing cause)
     → m ≡ l ++ refused_line name (cause_words cause)
     → Calls (Noting (Items (Serves places) (item.check name ∷ [])) (λ ds. false ≡ all_taken ds)) v true (after v f p m)
-check_found_nothing places name one v f p l m pair cause ready there lines pairs finds told =
-    calls_did (Noting (Items (Serves places) (item.check name ∷ [])) (λ ds. false ≡ all_taken ds)) v (after v f p m)
-    (ready_after v f p m ready) (λ s is. record {
+check_found_nothing {one} {v} {f} {p} {l} {m} places name pair cause ready there lines pairs finds told =
+    calls_did ready (λ s is. record {
       did = record { pair = pair; event = None; lines = refused_line name (cause_words cause) };
       state = s;
       stands = is;
@@ -371,12 +343,12 @@ check_begun places name one v f lost there begins =
 
 -- ---- schedules
 -- the schedule of a job was an event
-pub schedule_made : (places : PlacesData) (job named : Text) (r : Replied) (v n : View) (l m : Text)
+pub schedule_made : {job named : Text} {r : Replied} {v n : View} {l m : Text} (places : PlacesData)
     → named ≡ job → l ≡ v.lines → Made (event.schedule named) r (printed v []) n
     → m ≡ l ++ lines_of (event.schedule job) r n.core.history
     → Calls (Items (Serves places) (item.schedule job ∷ [])) v true (printed n m)
-schedule_made places job named r v n l m copied lines made_named told =
-    calls_made (Items (Serves places) (item.schedule job ∷ [])) (event.schedule job) r v n m
+schedule_made {job} {named} {r} {v} {n} {l} {m} places copied lines made_named told =
+    calls_made
     (subst (λ t. Made (event.schedule t) r (printed v []) n) copied made_named)
     (λ s a step is. lines_at (event.schedule job) r n.core a v.lines l m is lines told)
     (λ w u d tells made. (u, tells, refl))

@@ -42,16 +42,14 @@ disable_told places name place r w u d tells made = (
       ((taken (event.disable name place) (Ok r) w u d tells made).0 core_fault.NoResource),
 )
 
-pub disable_made : (places : PlacesData) (name named : Text) (place : ℕ) (replied : Replied) (r : Reply) (v n : View) (l m : Text)
-    → named ≡ name → replied ≡ Ok r → l ≡ v.lines → Made (event.disable named place) replied (printed v []) n
+pub disable_made : {name named : Text} {place : ℕ} {replied : Replied} {r : Reply} {n : View} {l m : Text} (places : PlacesData)
+    (v : View) → named ≡ name → replied ≡ Ok r → l ≡ v.lines → Made (event.disable named place) replied (printed v []) n
     → m ≡ l ++ place_line (codes "disabled ") name place
     → CameOf places (disable_version name place) (Ok 0) v (printed n m)
-disable_made places name named place replied r v n l m copied took lines made told =
-    calls_made (Commanded places (disable_version name place) 0) (event.disable name place) (Ok r) v n m
-    (made_so (event.disable named place) (event.disable name place) replied (Ok r) v n (ap (λ t. event.disable t place) copied) took made)
-    (λ s a step h. told_lines (event.disable name place) (Ok r) a (place_line (codes "disabled ") name place) v.lines l m lines told
-    (disable_lines name place r s a step))
-    (disable_told places name place r)
+disable_made {name} {named} {place} {replied} {r} places v copied took lines made told =
+    calls_made (made_so v (ap (λ t. event.disable t place) copied) took made)
+    (λ s a step h. told_lines (event.disable name place) (Ok r) a (place_line (codes "disabled ") name place) lines told
+    (disable_lines name place r s a step)) (disable_told places name place r)
 
 disable_refused_so : (name : Text) (place : ℕ) (f : CoreFault) (s : State) (before after : List CallData) → after ≡ before
     → IsFirstFault s (event.disable name place) f → IsRefused (disable_version name place) (fault.Core f) s before after
@@ -61,12 +59,11 @@ disable_refused_so name place core_fault.NoResource s before after same first =
 disable_refused_so name place core_fault.NoVersion s before after same first = (first, same)
 disable_refused_so name place f s before after same first = absurd first.0
 
-pub disable_refused : (places : PlacesData) (name named : Text) (place : ℕ) (replied : Replied) (f : CoreFault) (v n : View)
-    (l : Text) → named ≡ name → replied ≡ Err f → l ≡ v.lines → Made (event.disable named place) replied (printed v []) n
+pub disable_refused : {name named : Text} {place : ℕ} {replied : Replied} {f : CoreFault} {n : View} {l : Text}
+    (places : PlacesData) (v : View) → named ≡ name → replied ≡ Err f → l ≡ v.lines → Made (event.disable named place) replied (printed v []) n
     → CameOf places (disable_version name place) (Err (fault.Core f)) v (printed n l)
-disable_refused places name named place replied f v n l copied is lines made =
-    refused_by_core places (disable_version name place) (event.disable name place) f v v.calls n l lines
-    (made_so (event.disable named place) (event.disable name place) replied (Err f) v n (ap (λ t. event.disable t place) copied) is made)
+disable_refused {name} {named} {place} {replied} {f} {n} places v copied is lines made =
+    refused_by_core places (disable_version name place) v lines (made_so v (ap (λ t. event.disable t place) copied) is made)
     (λ s first. disable_refused_so name place f s v.calls n.calls made.rest.calls first)
 
 -- ---- versions that are enabled
@@ -87,16 +84,14 @@ enable_told places name place r w u d tells made = (
       ((taken (event.enable name place) (Ok r) w u d tells made).0 core_fault.NoResource),
 )
 
-pub enable_made : (places : PlacesData) (name named : Text) (place : ℕ) (replied : Replied) (r : Reply) (v n : View) (l m : Text)
-    → named ≡ name → replied ≡ Ok r → l ≡ v.lines → Made (event.enable named place) replied (printed v []) n
+pub enable_made : {name named : Text} {place : ℕ} {replied : Replied} {r : Reply} {n : View} {l m : Text} (places : PlacesData)
+    (v : View) → named ≡ name → replied ≡ Ok r → l ≡ v.lines → Made (event.enable named place) replied (printed v []) n
     → m ≡ l ++ place_line (codes "enabled ") name place
     → CameOf places (enable_version name place) (Ok 0) v (printed n m)
-enable_made places name named place replied r v n l m copied took lines made told =
-    calls_made (Commanded places (enable_version name place) 0) (event.enable name place) (Ok r) v n m
-    (made_so (event.enable named place) (event.enable name place) replied (Ok r) v n (ap (λ t. event.enable t place) copied) took made)
-    (λ s a step h. told_lines (event.enable name place) (Ok r) a (place_line (codes "enabled ") name place) v.lines l m lines told
-    (enable_lines name place r s a step))
-    (enable_told places name place r)
+enable_made {name} {named} {place} {replied} {r} places v copied took lines made told =
+    calls_made (made_so v (ap (λ t. event.enable t place) copied) took made)
+    (λ s a step h. told_lines (event.enable name place) (Ok r) a (place_line (codes "enabled ") name place) lines told
+    (enable_lines name place r s a step)) (enable_told places name place r)
 
 enable_refused_so : (name : Text) (place : ℕ) (f : CoreFault) (s : State) (before after : List CallData) → after ≡ before
     → IsFirstFault s (event.enable name place) f → IsRefused (enable_version name place) (fault.Core f) s before after
@@ -106,10 +101,9 @@ enable_refused_so name place core_fault.NoResource s before after same first =
 enable_refused_so name place core_fault.NoVersion s before after same first = (first, same)
 enable_refused_so name place f s before after same first = absurd first.0
 
-pub enable_refused : (places : PlacesData) (name named : Text) (place : ℕ) (replied : Replied) (f : CoreFault) (v n : View)
-    (l : Text) → named ≡ name → replied ≡ Err f → l ≡ v.lines → Made (event.enable named place) replied (printed v []) n
+pub enable_refused : {name named : Text} {place : ℕ} {replied : Replied} {f : CoreFault} {n : View} {l : Text}
+    (places : PlacesData) (v : View) → named ≡ name → replied ≡ Err f → l ≡ v.lines → Made (event.enable named place) replied (printed v []) n
     → CameOf places (enable_version name place) (Err (fault.Core f)) v (printed n l)
-enable_refused places name named place replied f v n l copied is lines made =
-    refused_by_core places (enable_version name place) (event.enable name place) f v v.calls n l lines
-    (made_so (event.enable named place) (event.enable name place) replied (Err f) v n (ap (λ t. event.enable t place) copied) is made)
+enable_refused {name} {named} {place} {replied} {f} {n} places v copied is lines made =
+    refused_by_core places (enable_version name place) v lines (made_so v (ap (λ t. event.enable t place) copied) is made)
     (λ s first. enable_refused_so name place f s v.calls n.calls made.rest.calls first)

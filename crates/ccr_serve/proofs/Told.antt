@@ -47,15 +47,15 @@ taken e r w u d tells made =
     tells.makes.step
 
 -- the lines are those of the event in each state after it
-pub told_lines : (e : EventData) (r : Replied) (a : State) (words old l m : Text) → l ≡ old → m ≡ l ++ words
+pub told_lines : {old l m : Text} (e : EventData) (r : Replied) (a : State) (words : Text) → l ≡ old → m ≡ l ++ words
     → words ≡ lines_of e r a.history → m ≡ old ++ lines_of e r a.history
-told_lines e r a words old l m same told are =
+told_lines {old} {l} {m} e r a words same told are =
     told ∙ (ap (λ ls. ls ++ words) same ∙ ap (λ ls. old ++ ls) are)
 
 -- an event is another's equal, and so is its reply
-pub made_so : (d e : EventData) (q r : Replied) (v n : View) → d ≡ e → q ≡ r → Made d q (printed v []) n
+pub made_so : {d e : EventData} {q r : Replied} {n : View} (v : View) → d ≡ e → q ≡ r → Made d q (printed v []) n
     → Made e r (printed v []) n
-made_so d e q r v n same is made =
+made_so {d} {e} {q} {r} {n} v same is made =
     subst (λ x. Made x r (printed v []) n) same (subst (λ y. Made d y (printed v []) n) is made)
 
 -- ---- resources that are there
@@ -69,12 +69,11 @@ pub pin_stop : (places : PlacesData) (name text : Text) → MayStop (Commanded p
 pin_stop places name text w = inl refl
 
 -- the text spells no pin
-pub bad_pin : (places : PlacesData) (name text : Text) (r : ResourceData) (v : View) → IsReady v
+pub bad_pin : {r : ResourceData} (places : PlacesData) (name text : Text) (v : View) → IsReady v
     → resource_of name (resources_held v.core) ≡ Some r → None ≡ pin_in text
     → CameOf places (pin_resource name text) (Err fault.BadPin) v v
-bad_pin places name text r v ready there is =
-    refused_at_once places (pin_resource name text) fault.BadPin v ready
-    (λ s h. (has_resource v.core s name r h there, sym is, refl))
+bad_pin {r} places name text v ready there is =
+    refused_at_once ready (λ s h. (has_resource v.core s name r h there, sym is, refl))
 
 pin_lines : (name : Text) (p : TextMap) (r : Reply) (s a : State) → Step s (event.pin name p) (Ok r) a
     → line (codes "pinned " ∷ name ∷ []) ≡ lines_of (event.pin name p) (Ok r) a.history
@@ -93,16 +92,14 @@ pin_told places name text p r is w u d tells made = (
   ),
 )
 
-pub pin_made : (places : PlacesData) (name named text : Text) (p : TextMap) (replied : Replied) (r : Reply) (v n : View)
-    (l m : Text) → named ≡ name → Some p ≡ pin_in text → replied ≡ Ok r → l ≡ v.lines
+pub pin_made : {name named : Text} {p : TextMap} {replied : Replied} {r : Reply} {n : View} {l m : Text}
+    (places : PlacesData) (text : Text) (v : View) → named ≡ name → Some p ≡ pin_in text → replied ≡ Ok r → l ≡ v.lines
     → Made (event.pin named p) replied (printed v []) n → m ≡ l ++ line (codes "pinned " ∷ name ∷ [])
     → CameOf places (pin_resource name text) (Ok 0) v (printed n m)
-pin_made places name named text p replied r v n l m copied is took lines made told =
-    calls_made (Commanded places (pin_resource name text) 0) (event.pin name p) (Ok r) v n m
-    (made_so (event.pin named p) (event.pin name p) replied (Ok r) v n (ap (λ t. event.pin t p) copied) took made)
-    (λ s a step h. told_lines (event.pin name p) (Ok r) a (line (codes "pinned " ∷ name ∷ [])) v.lines l m lines told
-    (pin_lines name p r s a step))
-    (pin_told places name text p r (sym is))
+pin_made {name} {named} {p} {replied} {r} places text v copied is took lines made told =
+    calls_made (made_so v (ap (λ t. event.pin t p) copied) took made)
+    (λ s a step h. told_lines (event.pin name p) (Ok r) a (line (codes "pinned " ∷ name ∷ [])) lines told
+    (pin_lines name p r s a step)) (pin_told places name text p r (sym is))
 
 pin_refused_so : (name text : Text) (p : TextMap) (f : CoreFault) (s : State) (before after : List CallData)
     → after ≡ before → IsFirstFault s (event.pin name p) f
@@ -112,13 +109,12 @@ pin_refused_so name text p core_fault.NoResource s before after same first =
     ((some_if s.pipeline (first.1 core_fault.NoPipeline (omega arith)), first.0), same)
 pin_refused_so name text p f s before after same first = absurd first.0
 
-pub pin_refused : (places : PlacesData) (name named text : Text) (p : TextMap) (replied : Replied) (f : CoreFault)
-    (v n : View) (l : Text) → named ≡ name → replied ≡ Err f → l ≡ v.lines
+pub pin_refused : {name named : Text} {p : TextMap} {replied : Replied} {f : CoreFault} {n : View} {l : Text}
+    (places : PlacesData) (text : Text) (v : View) → named ≡ name → replied ≡ Err f → l ≡ v.lines
     → Made (event.pin named p) replied (printed v []) n
     → CameOf places (pin_resource name text) (Err (fault.Core f)) v (printed n l)
-pin_refused places name named text p replied f v n l copied is lines made =
-    refused_by_core places (pin_resource name text) (event.pin name p) f v v.calls n l lines
-    (made_so (event.pin named p) (event.pin name p) replied (Err f) v n (ap (λ t. event.pin t p) copied) is made)
+pin_refused {name} {named} {p} {replied} {f} {n} places text v copied is lines made =
+    refused_by_core places (pin_resource name text) v lines (made_so v (ap (λ t. event.pin t p) copied) is made)
     (λ s first. pin_refused_so name text p f s v.calls n.calls made.rest.calls first)
 
 -- ---- pins that are taken away
@@ -139,16 +135,14 @@ unpin_told places name r w u d tells made = (
       ((taken (event.unpin name) (Ok r) w u d tells made).0 core_fault.NoResource),
 )
 
-pub unpin_made : (places : PlacesData) (name named : Text) (replied : Replied) (r : Reply) (v n : View) (l m : Text)
+pub unpin_made : {name named : Text} {replied : Replied} {r : Reply} {n : View} {l m : Text} (places : PlacesData) (v : View)
     → named ≡ name → replied ≡ Ok r → l ≡ v.lines → Made (event.unpin named) replied (printed v []) n
     → m ≡ l ++ line (codes "unpinned " ∷ name ∷ [])
     → CameOf places (unpin_resource name) (Ok 0) v (printed n m)
-unpin_made places name named replied r v n l m copied took lines made told =
-    calls_made (Commanded places (unpin_resource name) 0) (event.unpin name) (Ok r) v n m
-    (made_so (event.unpin named) (event.unpin name) replied (Ok r) v n (ap (λ t. event.unpin t) copied) took made)
-    (λ s a step h. told_lines (event.unpin name) (Ok r) a (line (codes "unpinned " ∷ name ∷ [])) v.lines l m lines told
-    (unpin_lines name r s a step))
-    (unpin_told places name r)
+unpin_made {name} {named} {replied} {r} places v copied took lines made told =
+    calls_made (made_so v (ap (λ t. event.unpin t) copied) took made)
+    (λ s a step h. told_lines (event.unpin name) (Ok r) a (line (codes "unpinned " ∷ name ∷ [])) lines told
+    (unpin_lines name r s a step)) (unpin_told places name r)
 
 unpin_refused_so : (name : Text) (f : CoreFault) (s : State) (before after : List CallData) → after ≡ before
     → IsFirstFault s (event.unpin name) f → IsRefused (unpin_resource name) (fault.Core f) s before after
@@ -157,12 +151,11 @@ unpin_refused_so name core_fault.NoResource s before after same first =
     ((some_if s.pipeline (first.1 core_fault.NoPipeline (omega arith)), first.0), same)
 unpin_refused_so name f s before after same first = absurd first.0
 
-pub unpin_refused : (places : PlacesData) (name named : Text) (replied : Replied) (f : CoreFault) (v n : View)
-    (l : Text) → named ≡ name → replied ≡ Err f → l ≡ v.lines → Made (event.unpin named) replied (printed v []) n
+pub unpin_refused : {name named : Text} {replied : Replied} {f : CoreFault} {n : View} {l : Text} (places : PlacesData)
+    (v : View) → named ≡ name → replied ≡ Err f → l ≡ v.lines → Made (event.unpin named) replied (printed v []) n
     → CameOf places (unpin_resource name) (Err (fault.Core f)) v (printed n l)
-unpin_refused places name named replied f v n l copied is lines made =
-    refused_by_core places (unpin_resource name) (event.unpin name) f v v.calls n l lines
-    (made_so (event.unpin named) (event.unpin name) replied (Err f) v n (ap (λ t. event.unpin t) copied) is made)
+unpin_refused {name} {named} {replied} {f} {n} places v copied is lines made =
+    refused_by_core places (unpin_resource name) v lines (made_so v (ap (λ t. event.unpin t) copied) is made)
     (λ s first. unpin_refused_so name f s v.calls n.calls made.rest.calls first)
 
 -- ---- pipelines
@@ -177,32 +170,33 @@ pub not_read : (places : PlacesData) (path : Text) (f : ServeFault) (v : View) (
     → KeepsFromReading path f v.calls k
     → CameOf places (set_pipeline path) (Err f) v (after v k v.pairs v.lines)
 not_read places path (fault.Read g) v k ready keeps =
-    refused_after places (set_pipeline path) (fault.Read g) v k v.lines ready refl (λ s is. keeps)
+    refused_after {f = fault.Read g} ready refl (λ s is. keeps)
 not_read places path fault.File v k ready keeps =
-    refused_after places (set_pipeline path) fault.File v k v.lines ready refl (λ s is. keeps)
+    refused_after ready refl (λ s is. keeps)
 not_read places path fault.NoMemory v k ready keeps =
-    cut_by_memory (Commanded places (set_pipeline path) 0) v k v.pairs v.lines None
-    (set_begun places path v k keeps.0 keeps.1) ready (none_added v.pairs) refl
+    cut_by_memory v None (set_begun places path v k keeps.0 keeps.1) ready (none_added v.pairs) refl
 not_read places path f v k ready keeps = absurd keeps
 
 -- a call of the shelf, and then a part, is a part
-pub called_before : (call : CallData) (P Q : Part) (v new : View) (k : List CallData) (whole : Bool)
+pub called_before : {P : Part} {v new : View} {k : List CallData} {whole : Bool} (call : CallData) (Q : Part)
     → k ≡ v.calls ++ call ∷ []
     → ((old : World) (ds : List Done) (now : World) → Q (called call old) ds whole now → P old ds whole now)
     → Calls Q (with_calls k v) whole new → Calls P v whole new
-called_before call P Q v new k whole is so calls s h = let c = calls s h in record {
-  dones = c.dones;
-  now = c.now;
-  does = so (record { core = s; last = v.last; calls = v.calls; lost = None }) c.dones c.now
-      (subst (λ cs. Q (record { core = s; last = v.last; calls = cs; lost = None }) c.dones whole c.now) is c.does);
-  pairs = c.pairs;
-  few = c.few;
-  calls = c.calls;
-  commits = c.commits;
-  lines = c.lines;
-  holds = c.holds;
-  crash = c.crash;
-  stands = c.stands;
+called_before {P} {v} {new} {k} {whole} call Q is so calls = record {
+  from = λ s h. let c = calls.from s h in record {
+    dones = c.dones;
+    now = c.now;
+    does = so (record { core = s; last = v.last; calls = v.calls; lost = None }) c.dones c.now
+        (subst (λ cs. Q (record { core = s; last = v.last; calls = cs; lost = None }) c.dones whole c.now) is c.does);
+    pairs = c.pairs;
+    few = c.few;
+    calls = c.calls;
+    commits = c.commits;
+    lines = c.lines;
+    holds = c.holds;
+    crash = c.crash;
+    stands = c.stands;
+  };
 }
 
 pipeline_after : (p : PipelineData) (r : Reply) (s a : State) → Step s (event.set_pipeline p) (Ok r) a
@@ -226,20 +220,18 @@ set_told : (places : PlacesData) (p : PipelineData) (r : Reply) (w u : World) (d
     → Telling places p w (d ∷ []) true u
 set_told places p r w u d tells made = (u, (tells, (r, made)), refl)
 
-pub set_made : (places : PlacesData) (path : Text) (p : PipelineData) (replied : Replied) (r : Reply) (v n : View)
-    (k : List CallData) (l m : Text)
+pub set_made : {p : PipelineData} {replied : Replied} {r : Reply} {n : View} {k : List CallData} {l m : Text}
+    (places : PlacesData) (path : Text) (v : View)
     → (bytes : List ℕ) × IsRead path (Ok bytes) v.calls k × IsReading pipeline_faults bytes (λ d. IsPipelineOf bytes d p)
     → replied ≡ Ok r → l ≡ v.lines → Made (event.set_pipeline p) replied (after v k v.pairs []) n
     → m ≡ l ++ pipeline_lines (unwrap_or n.core.pipeline no_pipeline)
     → CameOf places (set_pipeline path) (Ok 0) v (printed n m)
-set_made places path p replied r v n k l m was is lines made told =
-    called_before (shelf.read path (Ok was.0)) (Commanded places (set_pipeline path) 0) (Telling places p) v (printed n m)
-    k true was.1 (λ old ds now d. (((was.0, p, was.2, d), refl), tt))
-    (calls_made (Telling places p) (event.set_pipeline p) (Ok r) (with_calls k v) n m
-    (subst (λ q. Made (event.set_pipeline p) q (after v k v.pairs []) n) is made)
+set_made {p} {replied} {r} {n} {k} places path v was is lines made told =
+    called_before (shelf.read path (Ok was.0)) (Telling places p) was.1
+    (λ old ds now d. (((was.0, p, was.2, d), refl), tt))
+    (calls_made {v = with_calls k v} (subst (λ q. Made (event.set_pipeline p) q (after v k v.pairs []) n) is made)
     (λ s a step h. told_lines (event.set_pipeline p) (Ok r) a (pipeline_lines (unwrap_or n.core.pipeline no_pipeline))
-    v.lines l m lines told (set_lines p r s a n.core step h))
-    (set_told places p r))
+    lines told (set_lines p r s a n.core step h)) (set_told places p r))
 
 set_refused_so : (path : Text) (p : PipelineData) (f : CoreFault) (bytes : List ℕ) (s : State)
     (before after : List CallData) → IsRead path (Ok bytes) before after → IsFirstFault s (event.set_pipeline p) f
@@ -247,11 +239,11 @@ set_refused_so : (path : Text) (p : PipelineData) (f : CoreFault) (bytes : List 
 set_refused_so path p core_fault.BuildsOpen bytes s before after was first = (first.0, (bytes, was))
 set_refused_so path p f bytes s before after was first = absurd first.0
 
-pub set_refused : (places : PlacesData) (path : Text) (p : PipelineData) (replied : Replied) (f : CoreFault)
-    (v n : View) (k : List CallData) (bytes : List ℕ) (l : Text) → replied ≡ Err f → IsRead path (Ok bytes) v.calls k
+pub set_refused : {p : PipelineData} {replied : Replied} {f : CoreFault} {n : View} {k : List CallData} {l : Text}
+    (places : PlacesData) (path : Text) (bytes : List ℕ) (v : View) → replied ≡ Err f → IsRead path (Ok bytes) v.calls k
     → l ≡ v.lines → Made (event.set_pipeline p) replied (after v k v.pairs []) n
     → CameOf places (set_pipeline path) (Err (fault.Core f)) v (printed n l)
-set_refused places path p replied f v n k bytes l is was lines made =
-    refused_by_core places (set_pipeline path) (event.set_pipeline p) f v k n l lines
+set_refused {p} {replied} {f} {n} {k} places path bytes v is was lines made =
+    refused_by_core places (set_pipeline path) v lines
     (subst (λ q. Made (event.set_pipeline p) q (after v k v.pairs []) n) is made)
     (λ s first. set_refused_so path p f bytes s v.calls n.calls (made.rest.calls ∙ was) first)

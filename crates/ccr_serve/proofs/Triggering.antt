@@ -13,14 +13,14 @@ use Rattle.ccr_history.specs.Text.{Text}
 use Rattle.ccr_lines.specs.Lines.{lines_of}
 use Rattle.ccr_task.specs.Places.{PlacesData}
 use Rattle.ccr_task.specs.Calls.{CallData}
-use Rattle.ccr_serve.specs.Commanding.{HasJob, IsRefused, Commanded, CameOf}
+use Rattle.ccr_serve.specs.Commanding.{HasJob, Triggered, IsRefused, Commanded, CameOf}
 use Rattle.ccr_lines.specs.Commands.{trigger_job}
 use Rattle.ccr_serve.specs.Items.{World, Done, tell}
 use Rattle.ccr_serve.specs.Serving.{Tells}
 use Rattle.ccr_serve.specs.Views.{View, Calls, Made}
 use Rattle.ccr_serve.specs.declared.fault.ServeFault.TheVariants as fault
 use Rattle.ccr_serve.proofs.Refusing.{some_if, refused_by_core}
-use Rattle.ccr_serve.proofs.RunParts.{Triggered}
+use Rattle.ccr_serve.proofs.Told.{made_so}
 use Rattle.ccr_serve.proofs.Steps.{printed, MayStop, calls_made, lines_at}
 
 -- nothing may be done of a command that triggers a job
@@ -50,14 +50,12 @@ trigger_told places job r w u d tells made = (
 )
 
 -- the trigger of a job was an event
-pub trigger_made : (places : PlacesData) (job named : Text) (replied : Replied) (r : Reply) (v n : View) (l m : Text)
+pub trigger_made : {job named : Text} {replied : Replied} {r : Reply} {v n : View} {l m : Text} (places : PlacesData)
     → named ≡ job → replied ≡ Ok r → l ≡ v.lines → Made (event.trigger named) replied (printed v []) n
     → m ≡ l ++ lines_of (event.trigger job) (Ok r) n.core.history
     → Calls (Triggered places job r) v true (printed n m)
-trigger_made places job named replied r v n l m copied is lines made_named told =
-    calls_made (Triggered places job r) (event.trigger job) (Ok r) v n m
-    (subst (λ t. Made (event.trigger t) (Ok r) (printed v []) n) copied
-    (subst (λ q. Made (event.trigger named) q (printed v []) n) is made_named))
+trigger_made {job} {named} {replied} {r} {v} {n} {l} {m} places copied is lines made told =
+    calls_made (made_so v (ap (λ t. event.trigger t) copied) is made)
     (λ s a step stands. lines_at (event.trigger job) (Ok r) n.core a v.lines l m stands lines told)
     (trigger_told places job r)
 
@@ -77,11 +75,9 @@ refused_so job core_fault.NoVersion s before after same first = absurd first.0
 refused_so job core_fault.NoMemory s before after same first = absurd first.0
 
 -- the core refused to trigger a job
-pub trigger_refused : (places : PlacesData) (job named : Text) (replied : Replied) (f : CoreFault) (v n : View)
-    (l : Text) → named ≡ job → replied ≡ Err f → l ≡ v.lines → Made (event.trigger named) replied (printed v []) n
+pub trigger_refused : {job named : Text} {replied : Replied} {f : CoreFault} {n : View} {l : Text} (places : PlacesData)
+    (v : View) → named ≡ job → replied ≡ Err f → l ≡ v.lines → Made (event.trigger named) replied (printed v []) n
     → CameOf places (trigger_job job) (Err (fault.Core f)) v (printed n l)
-trigger_refused places job named replied f v n l copied is lines made =
-    refused_by_core places (trigger_job job) (event.trigger job) f v v.calls n l lines
-    (subst (λ t. Made (event.trigger t) (Err f) (printed v []) n) copied
-    (subst (λ q. Made (event.trigger named) q (printed v []) n) is made))
+trigger_refused {job} {named} {replied} {f} {n} places v copied is lines made =
+    refused_by_core places (trigger_job job) v lines (made_so v (ap (λ t. event.trigger t) copied) is made)
     (λ s first. refused_so job f s v.calls n.calls made.rest.calls first)

@@ -20,7 +20,7 @@ use Rattle.ccr_lines.specs.Lines.{lines_of}
 use Rattle.ccr_serve.specs.Aborts.{AbortIsAsked, Clears}
 use Rattle.ccr_serve.specs.Asked.{Answers}
 use Rattle.ccr_serve.specs.Due.{IsTurnOf, AnswersWant, GivesFrom, Gives}
-use Rattle.ccr_serve.specs.Items.{World, Done, nothing, Part, Items}
+use Rattle.ccr_serve.specs.Items.{Done, nothing, Part, Items}
 use Rattle.ccr_serve.specs.Items as item
 use Rattle.ccr_serve.specs.Serving.{ServesBuild, TakesTurn, Serves}
 use Rattle.ccr_serve.specs.Turns.{rank_in, next_after}
@@ -35,10 +35,10 @@ unnamed (b ∷ bs) e = absurd (cc e)
 
 -- ---- turns
 -- no build runs
-pub turn_of_nobody : (places : PlacesData) (v : View) → IsReady v → v.core.names ≡ []
+pub turn_of_nobody : {v : View} (places : PlacesData) → IsReady v → v.core.names ≡ []
     → Calls (Items (Serves places) (item.turn ∷ [])) v true v
-turn_of_nobody places v ready none =
-    calls_did (Items (Serves places) (item.turn ∷ [])) v v ready (λ s is. record {
+turn_of_nobody {v} places ready none =
+    calls_did ready (λ s is. record {
       did = nothing;
       state = s;
       stands = is;
@@ -63,6 +63,7 @@ served n rank calls lines = record {
   holds = n.holds;
   leaves = n.leaves;
   tally = n.tally;
+  places = n.places;
   lines = lines;
   closed = n.closed;
 }
@@ -131,13 +132,7 @@ module _ (places : PlacesData) (v : View) (looked : List CallData) (job : Text) 
       → ((t : ℕ) (y : AnswerData) (h : HistoryData) → m ≡ v.lines ++ lines_of (answer job number t y) (Ok reply) h)
       → Calls (Items (Serves places) (item.turn ∷ [])) v true (served n rank f2 m)
   turn_served due told =
-      calls_did (Items (Serves places) (item.turn ∷ [])) v (served n rank f2 m)
-      (record {
-        is_open = gives.ready.is_open;
-        unfailed = gives.ready.unfailed;
-        holds = gives.ready.holds;
-        leaves = gives.ready.leaves;
-      }) (λ s is.
+      calls_did gives.ready (λ s is.
       let g = gives.takes s is in
       record {
         did = did s is (due s is) g;
@@ -201,13 +196,7 @@ module _ (places : PlacesData) (v : View) (looked : List CallData) (job : Text) 
       → ((h : HistoryData) → m ≡ v.lines ++ lines_of (abort job number) (Ok reply) h)
       → Calls (Items (Serves places) (item.turn ∷ [])) v true (served n rank f2 m)
   abort_served due told =
-      calls_did (Items (Serves places) (item.turn ∷ [])) v (served n rank f2 m)
-      (record {
-        is_open = made.ready.is_open;
-        unfailed = made.ready.unfailed;
-        holds = made.ready.holds;
-        leaves = made.ready.leaves;
-      }) (λ s is.
+      calls_did made.ready (λ s is.
       record {
         did = aborted s is (due s is);
         state = next s is (due s is);
@@ -219,6 +208,6 @@ module _ (places : PlacesData) (v : View) (looked : List CallData) (job : Text) 
       })
 
 -- what was called from where these lines were printed was called from where others are that are the same
-pub from_lines : (P : Part) (v : View) (l : Text) (whole : Bool) (new : View) → l ≡ v.lines
+pub from_lines : {P : Part} {v : View} {l : Text} {whole : Bool} {new : View} → l ≡ v.lines
     → Calls P (after v v.calls v.pairs l) whole new → Calls P v whole new
-from_lines P v l whole new same h = subst (λ k. Calls P (after v v.calls v.pairs k) whole new) same h
+from_lines {P} {v} {l} {whole} {new} same h = subst (λ k. Calls P (after v v.calls v.pairs k) whole new) same h

@@ -86,6 +86,12 @@ abbrev pub Such : (World → List Done → World → Type 0) → Part → Part
 Such Is P old ds true new = P old ds true new × Is old ds new
 Such Is P old ds false new = P old ds false new
 
+-- a job was triggered, and this was replied
+abbrev pub Triggered : PlacesData → Text → Reply → Part
+Triggered places job reply =
+    Such (λ old ds new. HasJob old.core job × IsFirstReply ds reply)
+    (Items (Serves places) (tell (event.trigger job) ∷ []))
+
 -- the shelf had one call more
 abbrev pub called : CallData → World → World
 called call w = record { core = w.core; last = w.last; calls = w.calls ++ call ∷ []; lost = w.lost }

@@ -11,6 +11,7 @@ pub mod Views
 pub mod Due
 pub mod Noted
 pub mod Commanding
+pub mod Served
 pub mod Taken
 pub mod Reads
 pub mod Unopened

@@ -1,5 +1,5 @@
 -- Rounds, and turns until no build runs.
-use Rattle.std.specs.Prelude.{◌≡◌, ◌≢◌, ◌≤◌, ℕ, zero, suc, List, [], ◌∷◌, ◌++◌, length, map, replicate, Bool, true, false, IsSome}
+use Rattle.std.specs.Prelude.{◌≡◌, ◌≢◌, ◌≤◌, ℕ, zero, suc, List, [], ◌∷◌, ◌++◌, length, map, replicate, Bool, true, false, Result, Ok, Err, IsSome}
 use Rattle.std.specs.List.{AllByRecursion}
 use Rattle.ccr_pipeline.specs.JobData.{ResourceData}
 use Rattle.ccr_problem.specs.ProblemOf.{resource_of}
@@ -9,6 +9,7 @@ use Rattle.ccr_core.specs.State.{State, resources_of, jobs_of}
 use Rattle.ccr_history.specs.Text.{Text}
 use Rattle.ccr_serve.specs.Items.{World, Item, check, schedule, turn, tell, Done, Each, Part, IsCut, Items, Then}
 use Rattle.ccr_serve.specs.Serving.{Serves}
+use Rattle.ccr_serve.specs.declared.fault.ServeFault.{ServeFault}
 
 -- a check of each resource, then a schedule of each job, in the pipeline's order
 abbrev pub checks_and_schedules : State → List Item
@@ -62,6 +63,11 @@ UsedUp places old ds whole new =
 abbrev pub TurnsTo : PlacesData → Bool → Part
 TurnsTo places true = ToTheEnd places
 TurnsTo places false = UsedUp places
+
+-- the same, by what came of them: whether no build runs, or why they were cut short
+abbrev pub TurnsBy : Result Bool ServeFault → PlacesData → Part
+TurnsBy (Ok ended) places = TurnsTo places ended
+TurnsBy (Err f) places = ToTheEnd places
 
 -- a run: its rounds, and then turns until no build runs
 abbrev pub Run : PlacesData → ℕ → Part

@@ -22,7 +22,7 @@ use Rattle.ccr_serve.specs.Asked.{Answers, BeginsAnswer}
 use Rattle.ccr_serve.specs.Found.{FoundData, found, newest, Finds, BeginsFind}
 use Rattle.ccr_serve.specs.Found as what_is
 use Rattle.ccr_lines.specs.Shown.{ShownData, IsShown}
-use Rattle.ccr_serve.specs.Items.{World, Item, check, schedule, turn, tell, show, Done, nothing, Serve}
+use Rattle.ccr_serve.specs.Items.{World, Item, check, schedule, turn, tell, show, Done, nothing, Serve, Part, Items}
 use Rattle.ccr_lines.specs.Lines.{lines_of, refused_line, cause_words}
 use Rattle.ccr_serve.specs.Turns.{rank_in, next_after}
 
@@ -184,3 +184,7 @@ BeginsItem places (show what status) old new = ⊥
 -- WHAT A SERVER DOES of an item, and what it may have begun of one that is cut short
 abbrev pub Serves : PlacesData → Serve
 Serves places = record { does = DoesItem places; begins = BeginsItem places }
+
+-- these items in order, of a server with these directories
+abbrev pub ItemsOf : List Item → PlacesData → Part
+ItemsOf is places = Items (Serves places) is

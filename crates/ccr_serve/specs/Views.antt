@@ -1,18 +1,23 @@
 -- What a call of the server shows.
-use Rattle.std.specs.Prelude.{◌≡◌, ◌≢◌, ◌≤◌, ◌+◌, ℕ, List, [], ◌∷◌, ◌++◌, length, nat_lt, Bool, true, false, Option, None, Some, option_to_list, Result, Ok, Err, unwrap_or, ⊤}
+use Rattle.std.specs.Prelude.{◌≡◌, ◌≢◌, ◌≤◌, ◌+◌, ℕ, List, [], ◌∷◌, ◌++◌, length, nat_lt, Bool, true, false, Option, None, Some, option_to_list, Result, Ok, Err, OnErr, unwrap_or, ⊤}
 use Rattle.ccr_history.specs.Text.{Text}
 use Rattle.ccr_history.specs.History.{HistoryData}
 use Rattle.ccr_pipeline.specs.JobData.{ResourceData, JobData}
 use Rattle.ccr_process.specs.Runs.{Pair}
+use Rattle.ccr_process.specs.declared.runner.Runner as runner
 use Rattle.ccr_task.specs.Calls.{CallData}
+use Rattle.ccr_task.specs.declared.places.Places.{Places}
+use Rattle.ccr_task.specs.declared.shelf.Shelf as shelf
 use Rattle.ccr_core.specs.declared.fault.CoreFault.TheVariants as core_fault
 use Rattle.ccr_core.specs.Cores.{core_data}
 use Rattle.ccr_core.specs.Events.{EventData}
 use Rattle.ccr_core.specs.Holding.{CoreData, Stands, Takes}
 use Rattle.ccr_core.specs.Replies.{Replied}
 use Rattle.ccr_core.specs.State.{State, no_pipeline}
+use Rattle.ccr_lines.specs.declared.lines.Lines as out
 use Rattle.ccr_storage.specs.Counts.{RoseBy}
 use Rattle.ccr_storage.specs.declared.fault.StoreFault.{StoreFault}
+use Rattle.ccr_storage.specs.declared.storage.Storage as storage
 use Rattle.ccr_storage.specs.declared.tally.Tally.{Tally}
 use Rattle.ccr_serve.specs.declared.fault.ServeFault.{ServeFault}
 use Rattle.ccr_serve.specs.declared.fault.ServeFault.TheVariants.{Store, NoMemory, Closed}
@@ -22,8 +27,8 @@ use Rattle.ccr_serve.specs.Items.{World, Done, Part, pairs_of, lines_of_all}
 use Rattle.ccr_serve.specs.Taken.{taken_in, commits_for}
 
 -- what a server holds: its core, the rank of the build served last, the calls of its shelf, what its runner ran,
--- which history its storage holds, which ones a crash may leave there, the tally of its storage's commits, what it has
--- printed, and whether its storage failed
+-- which history its storage holds, which ones a crash may leave there, the tally of its storage's commits, its directories,
+-- what it has printed, and whether its storage failed
 pub record View : Type 1 where
   pub core : CoreData
   pub last : ℕ
@@ -32,6 +37,7 @@ pub record View : Type 1 where
   pub holds : HistoryData → Type 0
   pub leaves : List HistoryData → Type 0
   pub tally : Tally
+  pub places : Places
   pub lines : Text
   pub closed : Bool
 
@@ -46,9 +52,19 @@ view_of pairs calls holds leaves tally server lines = record {
   holds = holds server.storage;
   leaves = leaves server.storage;
   tally = tally server.storage;
+  places = server.places;
   lines = lines;
   closed = server.closed;
 }
+
+-- what a server holds that has printed nothing yet, by what is said of its runner, its shelf and its storage
+abbrev pub bare_view : {R S T : Type 0} → runner.Ghosts R → shelf.Ghosts S → storage.Ghosts T → Server R S T → View
+bare_view r s t server = view_of r.pairs s.calls t.holds t.leaves t.tally server []
+
+-- what a server holds whose lines went here
+abbrev pub full_view : {R S T O : Type 0} → runner.Ghosts R → shelf.Ghosts S → storage.Ghosts T → out.Ghosts O
+    → Server R S T → O → View
+full_view r s t o server lines = view_of r.pairs s.calls t.holds t.leaves t.tally server (o.written lines)
 
 -- what a server held when its shelf had these calls
 abbrev pub with_calls : List CallData → View → View
@@ -60,6 +76,7 @@ with_calls cs v = record {
   holds = v.holds;
   leaves = v.leaves;
   tally = v.tally;
+  places = v.places;
   lines = v.lines;
   closed = v.closed;
 }
@@ -76,13 +93,17 @@ jobs_held c = (unwrap_or c.pipeline no_pipeline).jobs
 abbrev pub world_of : View → State → World
 world_of v s = record { core = s; last = v.last; calls = v.calls; lost = None }
 
--- the server goes on: its storage hasn't failed, and no commit of it, it holds the core's history, and a crash leaves
--- that one
-pub record IsReady (v : View) : Type 0 where
-  pub is_open : v.closed ≡ false
-  pub unfailed : v.tally.fault ≡ None
-  pub holds : v.holds v.core.history
-  pub leaves : v.leaves (v.core.history ∷ [])
+-- a server is open, no commit of its storage has failed, the storage holds this history, and a crash leaves that one
+pub record IsCurrent (h : HistoryData) (closed : Bool) (tally : Tally) (IsHeld : HistoryData → Type 0)
+    (AreLeft : List HistoryData → Type 0) : Type 0 where
+  pub is_open : closed ≡ false
+  pub unfailed : tally.fault ≡ None
+  pub holds : IsHeld h
+  pub leaves : AreLeft (h ∷ [])
+
+-- the server goes on: it is current with its core's history
+abbrev pub IsReady : View → Type 0
+IsReady v = IsCurrent v.core.history v.closed v.tally v.holds v.leaves
 
 -- ---- calls
 -- the pair that answers for no item: none in a whole call; else there may be one, that of the item that was cut short
@@ -120,49 +141,47 @@ pub record Called (part : Part) (old : View) (s : State) (whole : Bool) (new : V
   pub stands : StandsAt whole new.closed now new
 
 -- WHAT A CALL DID, from each state that the core stood for
-abbrev pub Calls : Part → View → Bool → View → Type 0
-Calls part old whole new = (s : State) → Stands old.core s → Called part old s whole new
+pub record Calls (part : Part) (old : View) (whole : Bool) (new : View) : Type 0 where
+  pub from : (s : State) → Stands old.core s → Called part old s whole new
 
 -- the storage failed so: its last commit did, and the server has closed
 abbrev pub IsFailed : StoreFault → View → Type 0
 IsFailed f v = (v.closed ≡ true) × (v.tally.fault ≡ Some f)
 
--- why a call of items ends early: a growth of memory was refused, and the server goes on; or its storage failed so, and
--- it has closed
-abbrev pub StopsItem : ServeFault → View → Type 0
-StopsItem NoMemory v = IsReady v
-StopsItem (Store f) v = IsFailed f v
-StopsItem f v = ⊥
-
--- a server goes on after every fault but one of its storage, which failed so then, and it has closed
-abbrev pub Stops : ServeFault → View → Type 0
-Stops (Store f) v = IsFailed f v
-Stops f v = IsReady v
+-- why a call of items ends early, of a server that had closed before or not: a growth of memory was refused, and the server
+-- goes on; its storage failed so, and it has closed; or it had closed before
+abbrev pub StopsItem : Bool → ServeFault → View → Type 0
+StopsItem closed NoMemory v = IsReady v
+StopsItem closed (Store f) v = IsFailed f v
+StopsItem closed Closed v = (closed ≡ true) × (v.closed ≡ true)
+StopsItem closed f v = ⊥
 
 -- between calls a server goes on, or it has closed
 abbrev pub IsKept : View → Type 0
 IsKept v = v.closed ≡ false → IsReady v
 
 -- how a server stands after a command: it has closed if its storage failed, now or before, and else it goes on
-abbrev pub Ends : Result ℕ ServeFault → View → Type 0
+abbrev pub Ends : {A : Type 0} → Result A ServeFault → View → Type 0
 Ends (Err (Store f)) v = IsFailed f v
 Ends (Err Closed) v = v.closed ≡ true
 Ends r v = IsReady v
 
--- how a server stands after a round or a turn: nothing else than memory, its storage and its having closed ends one
--- early
-abbrev pub EndsItems : {A : Type 0} → Result A ServeFault → View → Type 0
-EndsItems (Ok a) v = IsReady v
-EndsItems (Err NoMemory) v = IsReady v
-EndsItems (Err (Store f)) v = IsFailed f v
-EndsItems (Err Closed) v = v.closed ≡ true
-EndsItems (Err f) v = ⊥
+-- how a server stands after items that had closed before or not: nothing else than memory, its storage and its having
+-- closed ends them early
+abbrev pub EndsItems : {A : Type 0} → Bool → Result A ServeFault → View → Type 0
+EndsItems closed (Ok a) v = IsReady v
+EndsItems closed (Err f) v = StopsItem closed f v
 
 -- the commits of a turn: one where a build runs, and none where none does; at most one where it ends early
 abbrev pub CommitsOnce : Result Bool ServeFault → View → View → Type 0
 CommitsOnce (Ok true) old new = RoseBy old.tally.commits 1 new.tally.commits
 CommitsOnce (Ok false) old new = RoseBy old.tally.commits 0 new.tally.commits
 CommitsOnce (Err f) old new = HasAsked false old.tally.commits 0 new.tally.commits
+
+-- the commits of a turn of a build that runs: one; at most one where it ends early
+abbrev pub CommitsBuild : Result Unit ServeFault → View → View → Type 0
+CommitsBuild (Ok u) old new = RoseBy old.tally.commits 1 new.tally.commits
+CommitsBuild (Err f) old new = HasAsked false old.tally.commits 0 new.tally.commits
 
 -- whether a build runs
 abbrev pub is_running : CoreData → Bool
@@ -174,12 +193,14 @@ pub record IsElse (old new : View) : Type 0 where
   pub last : new.last ≡ old.last
   pub calls : new.calls ≡ old.calls
   pub pairs : new.pairs ≡ old.pairs
+  pub places : new.places ≡ old.places
   pub lines : new.lines ≡ old.lines
 
 -- an event was made: the core took it, and a commit stored what it changed; or it refused it, for another cause than
--- memory, and there was no commit
+-- memory, stayed as it was, and there was no commit
 pub record Made (e : EventData) (r : Replied) (old new : View) : Type 0 where
   pub takes : Takes old.core new.core e r
+  pub refused : OnErr r (new.core ≡ old.core)
   pub found_memory : r ≢ Err core_fault.NoMemory
   pub ready : IsReady new
   pub commits : RoseBy old.tally.commits (commits_for r) new.tally.commits

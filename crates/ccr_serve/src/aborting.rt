@@ -1,6 +1,5 @@
 //! Builds that are asked to be aborted.
-ghost use Rattle.std.specs.Prelude.{◌≡◌, ◌+◌, ◌≤◌, List, [], ◌∷◌, length, true, string_bytes, is_ok, Ok, Err, IfOk, IfErr, OnOk, OnErr, IsSome, Some};
-ghost use Rattle.ccr_task.specs.Calls.{CallData};
+ghost use Rattle.std.specs.Prelude.{◌≡◌, ◌+◌, ◌≤◌, length, true, string_bytes, is_ok, Ok, Err, IfOk, IfErr, OnErr, IsSome, Some, false};
 ghost use Rattle.ccr_task.specs.Places.{places_data, abort_folder};
 ghost use Rattle.ccr_core.specs.Cores.{core_data};
 ghost use Rattle.ccr_core.specs.Events.{abort};
@@ -8,11 +7,9 @@ ghost use Rattle.ccr_core.specs.Holding.{Stands};
 ghost use Rattle.ccr_core.specs.State.{State, running_at};
 ghost use Rattle.ccr_serve.specs.Aborts.{AbortIsAsked};
 ghost use Rattle.ccr_serve.specs.Due.{IsDue};
-ghost use Rattle.ccr_serve.specs.Items.{Items};
-ghost use Rattle.ccr_serve.specs.Items as item;
 ghost use Rattle.ccr_serve.specs.Noted.{IsStepHead, NotesOf};
-ghost use Rattle.ccr_serve.specs.Serving.{Serves};
-ghost use Rattle.ccr_serve.specs.Views.{view_of, with_calls, Calls, CommitsOnce, IsReady, Made, Unmade, StopsItem};
+ghost use Rattle.ccr_serve.specs.Views.{IsReady, Made, Unmade, bare_view, CommitsBuild};
+ghost use Rattle.ccr_serve.specs.Served.{ServingLooked, AfterItems};
 
 use crate::due::Due;
 use crate::ended::{clear_away, tell_ended};
@@ -50,15 +47,13 @@ pub(crate) fn take_abort<S: Shelf>(
 impl<R: Runner, S: Shelf, T: Storage> Server<R, S, T> {
     /// Aborts a build that runs: what it asks is answered so.
     fn abort(&mut self, job: String, number: u32) -> Result<Reply, ServeFault>
-        requires ready { let view = view_of R.pairs S.calls T.holds T.leaves T.tally in IsReady (view self.old []) }
+        requires ready { IsReady (bare_view R.Runner S.Shelf T.Storage self.old) }
         requires runs { (s : State) → Stands (core_data self.old.core) s
             → IsSome (running_at (string_bytes job) number s.running) }
-        ensures made { let view = view_of R.pairs S.calls T.holds T.leaves T.tally in
-            IfOk result (λ reply. Made (abort (string_bytes job) number) (Ok reply)
-            (view self.old []) (view self.new [])) }
-        ensures unmade { let view = view_of R.pairs S.calls T.holds T.leaves T.tally in
-            IfErr result (λ fault. Unmade fault (view self.old []) (view self.new [])) }
-        ensures places { self.new.places ≡ self.old.places }
+        ensures made { let view = bare_view R.Runner S.Shelf T.Storage in
+            IfOk result (λ reply. Made (abort (string_bytes job) number) (Ok reply) (view self.old) (view self.new)) }
+        ensures unmade { let view = bare_view R.Runner S.Shelf T.Storage in
+            IfErr result (λ fault. Unmade fault (view self.old) (view self.new)) }
     {
         self.core.rules();
         match self.make(Event::Abort(job, number)) {
@@ -75,30 +70,18 @@ impl<R: Runner, S: Shelf, T: Storage> Server<R, S, T> {
         name: String,
         out: &mut O,
     ) -> Result<(), ServeFault>
-        requires ready { let view = view_of R.pairs S.calls T.holds T.leaves T.tally in
-            IsReady (view self.old (O.written out.old)) }
+        requires ready { IsReady (bare_view R.Runner S.Shelf T.Storage self.old) }
         requires due { IsDue (core_data self.old.core) self.old.last (Some due) }
         requires name { string_bytes name ≡ string_bytes due.job }
         requires room { length (string_bytes due.job) + 64 ≤ O.room out.old }
-        ensures served { let view = view_of R.pairs S.calls T.holds T.leaves T.tally in
-            (before : List CallData)
-            → AbortIsAsked (abort_folder (places_data self.old.places) (string_bytes due.job) due.number) true
-            before (S.calls self.old.shelf)
-            → Calls (Items (Serves (places_data self.old.places)) (item.turn ∷ []))
-            (with_calls before (view self.old (O.written out.old))) (is_ok result) (view self.new (O.written out.new)) }
-        ensures kept { let view = view_of R.pairs S.calls T.holds T.leaves T.tally in
-            OnOk result (IsReady (view self.new (O.written out.new))) }
-        ensures stops { let view = view_of R.pairs S.calls T.holds T.leaves T.tally in
-            IfErr result (λ fault. StopsItem fault (view self.new (O.written out.new))) }
-        ensures once { let view = view_of R.pairs S.calls T.holds T.leaves T.tally in
-            IfOk result (λ _. CommitsOnce (Ok true) (view self.old []) (view self.new [])) }
-        ensures at_most { let view = view_of R.pairs S.calls T.holds T.leaves T.tally in
-            IfErr result (λ fault. CommitsOnce (Err fault) (view self.old []) (view self.new [])) }
+        ensures served { ServingLooked R.Runner S.Shelf T.Storage O.Lines true (string_bytes due.job) due.number result
+            self.old self.new out.old out.new }
+        ensures once { let view = bare_view R.Runner S.Shelf T.Storage in
+            CommitsBuild result (view self.old) (view self.new) }
         ensures noted { IfOk result (λ _. NotesOf (IsStepHead (core_data self.old.core) (string_bytes due.job) due.number)
             (Some StepFault.Aborted) (O.notes out.old) (O.notes out.new)) }
         ensures quiet { OnErr result (O.notes out.new ≡ O.notes out.old) }
-        ensures places { self.new.places ≡ self.old.places }
-        ensures waiting { O.waiting out.old ≡ [] → O.waiting out.new ≡ [] }
+        ensures after { AfterItems R.Runner S.Shelf T.Storage O.Lines false result self.old self.new out.old out.new }
     {
         let job = due.job.as_str();
         let head = waiting_head(self.alloc, &self.core, job, due.number);

@@ -1,16 +1,15 @@
 //! What a server is called for: a command, a round, a turn.
-ghost use Rattle.std.specs.Prelude.{◌≡◌, [], ◌∷◌, true, false, is_ok, IfOk, Err};
+ghost use Rattle.std.specs.Prelude.{◌≡◌, [], ◌∷◌, true, false, IfOk, Err};
 ghost use Rattle.ccr_task.specs.Places.{places_data};
 ghost use Rattle.ccr_core.specs.Cores.{core_data};
-ghost use Rattle.ccr_serve.specs.Commanding.{CameOf};
 ghost use Rattle.ccr_lines.specs.Commands.{command_data};
-ghost use Rattle.ccr_serve.specs.Items.{Items};
 ghost use Rattle.ccr_serve.specs.Items as item;
 ghost use Rattle.ccr_serve.specs.Noted.{NotesTurn};
 ghost use Rattle.ccr_serve.specs.Runs.{Round};
-ghost use Rattle.ccr_serve.specs.Serving.{Serves};
-ghost use Rattle.ccr_serve.specs.Views.{view_of, is_running, Calls, CommitsOnce, Ends, EndsItems, IsKept};
+ghost use Rattle.ccr_serve.specs.Serving.{ItemsOf};
+ghost use Rattle.ccr_serve.specs.Views.{is_running, CommitsOnce, IsKept, bare_view};
 ghost use Rattle.ccr_serve.specs.declared.fault.ServeFault.TheVariants.{Closed};
+ghost use Rattle.ccr_serve.specs.Served.{Serving, Came, AfterItems, AfterCommand};
 
 use crate::fault::ServeFault;
 use crate::server::Server;
@@ -30,17 +29,12 @@ impl<R: Runner, S: Shelf, T: Storage> Server<R, S, T> {
     /// Early ends: `NoMemory` where a growth was refused, and the server goes on; `Store` where the storage failed, and
     /// the server has closed; `Closed` where it had closed before, and nothing is done.
     pub fn command<O: Lines>(&mut self, command: &Command, out: &mut O) -> Result<u8, ServeFault>
-        requires kept { let view = view_of R.pairs S.calls T.holds T.leaves T.tally in
-            IsKept (view self.old (O.written out.old)) }
-        ensures came { let view = view_of R.pairs S.calls T.holds T.leaves T.tally in self.old.closed ≡ false
-            → CameOf (places_data self.old.places) (command_data command.now) result
-            (view self.old (O.written out.old)) (view self.new (O.written out.new)) }
+        requires kept { IsKept (bare_view R.Runner S.Shelf T.Storage self.old) }
+        ensures came { self.old.closed ≡ false → Came R.Runner S.Shelf T.Storage O.Lines
+            (command_data command.now) result self.old self.new out.old out.new }
         ensures closed { self.old.closed ≡ true
             → (result ≡ Err Closed) × (self.new ≡ self.old) × (out.new ≡ out.old) }
-        ensures kept { let view = view_of R.pairs S.calls T.holds T.leaves T.tally in
-            Ends result (view self.new (O.written out.new)) }
-        ensures places { self.new.places ≡ self.old.places }
-        ensures waiting { O.waiting out.old ≡ [] → O.waiting out.new ≡ [] }
+        ensures after { AfterCommand R.Runner S.Shelf T.Storage O.Lines result self.old self.new out.old out.new }
     {
         if self.closed {
             return Err(ServeFault::Closed);
@@ -90,17 +84,13 @@ impl<R: Runner, S: Shelf, T: Storage> Server<R, S, T> {
     ///
     /// Early ends: `NoMemory`, `Store` and `Closed` as at a command, and no other.
     pub fn round<O: Lines>(&mut self, out: &mut O) -> Result<(), ServeFault>
-        requires kept { let view = view_of R.pairs S.calls T.holds T.leaves T.tally in
-            IsKept (view self.old (O.written out.old)) }
-        ensures served { let view = view_of R.pairs S.calls T.holds T.leaves T.tally in self.old.closed ≡ false
-            → Calls (Round (places_data self.old.places))
-            (view self.old (O.written out.old)) (is_ok result) (view self.new (O.written out.new)) }
+        requires kept { IsKept (bare_view R.Runner S.Shelf T.Storage self.old) }
+        ensures served { self.old.closed ≡ false → Serving R.Runner S.Shelf T.Storage O.Lines
+            Round result self.old self.new out.old out.new }
         ensures closed { self.old.closed ≡ true
             → (result ≡ Err Closed) × (self.new ≡ self.old) × (out.new ≡ out.old) }
-        ensures kept { let view = view_of R.pairs S.calls T.holds T.leaves T.tally in
-            EndsItems result (view self.new (O.written out.new)) }
-        ensures places { self.new.places ≡ self.old.places }
-        ensures waiting { O.waiting out.old ≡ [] → O.waiting out.new ≡ [] }
+        ensures after { AfterItems R.Runner S.Shelf T.Storage O.Lines self.old.closed result
+            self.old self.new out.old out.new }
     {
         if self.closed {
             return Err(ServeFault::Closed);
@@ -113,23 +103,19 @@ impl<R: Runner, S: Shelf, T: Storage> Server<R, S, T> {
     ///
     /// Early ends: `NoMemory`, `Store` and `Closed` as at a command, and no other.
     pub fn turn<O: Lines>(&mut self, out: &mut O) -> Result<bool, ServeFault>
-        requires kept { let view = view_of R.pairs S.calls T.holds T.leaves T.tally in
-            IsKept (view self.old (O.written out.old)) }
-        ensures served { let view = view_of R.pairs S.calls T.holds T.leaves T.tally in self.old.closed ≡ false
-            → Calls (Items (Serves (places_data self.old.places)) (item.turn ∷ []))
-            (view self.old (O.written out.old)) (is_ok result) (view self.new (O.written out.new)) }
+        requires kept { IsKept (bare_view R.Runner S.Shelf T.Storage self.old) }
+        ensures served { self.old.closed ≡ false → Serving R.Runner S.Shelf T.Storage O.Lines
+            (ItemsOf (item.turn ∷ [])) result self.old self.new out.old out.new }
         ensures some { IfOk result (λ served. served ≡ is_running (core_data self.old.core)) }
-        ensures once { let view = view_of R.pairs S.calls T.holds T.leaves T.tally in
-            CommitsOnce result (view self.old []) (view self.new []) }
+        ensures once { let view = bare_view R.Runner S.Shelf T.Storage in
+            CommitsOnce result (view self.old) (view self.new) }
         ensures noted { NotesTurn result (places_data self.old.places) (core_data self.old.core) self.old.last
             (R.pairs self.old.runner) (R.pairs self.new.runner) (S.calls self.old.shelf)
             (O.notes out.old) (O.notes out.new) }
         ensures closed { self.old.closed ≡ true
             → (result ≡ Err Closed) × (self.new ≡ self.old) × (out.new ≡ out.old) }
-        ensures kept { let view = view_of R.pairs S.calls T.holds T.leaves T.tally in
-            EndsItems result (view self.new (O.written out.new)) }
-        ensures places { self.new.places ≡ self.old.places }
-        ensures waiting { O.waiting out.old ≡ [] → O.waiting out.new ≡ [] }
+        ensures after { AfterItems R.Runner S.Shelf T.Storage O.Lines self.old.closed result
+            self.old self.new out.old out.new }
     {
         if self.closed {
             return Err(ServeFault::Closed);

@@ -1,9 +1,7 @@
 //! Checks by command.
-ghost use Rattle.std.specs.Prelude.{◌≡◌, IfErr, OnOk, []};
-ghost use Rattle.ccr_task.specs.Places.{places_data};
-ghost use Rattle.ccr_serve.specs.Commanding.{CameOf};
 ghost use Rattle.ccr_lines.specs.Commands.{check_resource};
-ghost use Rattle.ccr_serve.specs.Views.{view_of, IsReady, Stops};
+ghost use Rattle.ccr_serve.specs.Views.{IsReady, bare_view};
+ghost use Rattle.ccr_serve.specs.Served.{Came, AfterCommand};
 
 use crate::fault::ServeFault;
 use crate::server::Server;
@@ -19,17 +17,10 @@ impl<R: Runner, S: Shelf, T: Storage> Server<R, S, T> {
         name: &str,
         out: &mut O,
     ) -> Result<u8, ServeFault>
-        requires ready { let view = view_of R.pairs S.calls T.holds T.leaves T.tally in
-            IsReady (view self.old (O.written out.old)) }
-        ensures came { let view = view_of R.pairs S.calls T.holds T.leaves T.tally in
-            CameOf (places_data self.old.places) (check_resource name.now) result
-            (view self.old (O.written out.old)) (view self.new (O.written out.new)) }
-        ensures kept { let view = view_of R.pairs S.calls T.holds T.leaves T.tally in
-            OnOk result (IsReady (view self.new (O.written out.new))) }
-        ensures stops { let view = view_of R.pairs S.calls T.holds T.leaves T.tally in
-            IfErr result (λ fault. Stops fault (view self.new (O.written out.new))) }
-        ensures places { self.new.places ≡ self.old.places }
-        ensures waiting { O.waiting out.old ≡ [] → O.waiting out.new ≡ [] }
+        requires ready { IsReady (bare_view R.Runner S.Shelf T.Storage self.old) }
+        ensures came { Came R.Runner S.Shelf T.Storage O.Lines (check_resource name.now) result
+            self.old self.new out.old out.new }
+        ensures after { AfterCommand R.Runner S.Shelf T.Storage O.Lines result self.old self.new out.old out.new }
     {
         match resource_held(&self.core, name) {
             Ok(_) => {}

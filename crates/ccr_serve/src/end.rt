@@ -1,8 +1,8 @@
 //! Turns until no build runs.
-ghost use Rattle.std.specs.Prelude.{◌≡◌, true, false, IfOk, IfErr, OnOk, OnErr, []};
-ghost use Rattle.ccr_task.specs.Places.{places_data};
-ghost use Rattle.ccr_serve.specs.Runs.{ToTheEnd, TurnsTo};
-ghost use Rattle.ccr_serve.specs.Views.{view_of, Calls, IsReady, StopsItem};
+ghost use Rattle.std.specs.Prelude.{true, false};
+ghost use Rattle.ccr_serve.specs.Runs.{TurnsBy};
+ghost use Rattle.ccr_serve.specs.Views.{IsReady, bare_view};
+ghost use Rattle.ccr_serve.specs.Served.{Serving, AfterItems};
 
 use crate::fault::ServeFault;
 use crate::server::Server;
@@ -20,20 +20,10 @@ impl<R: Runner, S: Shelf, T: Storage> Server<R, S, T> {
     /// - `NoMemory` where a growth was refused.
     /// - `Store` where the storage failed; then the server has closed.
     pub(crate) fn go_to_the_end<O: Lines>(&mut self, out: &mut O) -> Result<bool, ServeFault>
-        requires ready { let view = view_of R.pairs S.calls T.holds T.leaves T.tally in
-            IsReady (view self.old (O.written out.old)) }
-        ensures served { let view = view_of R.pairs S.calls T.holds T.leaves T.tally in
-            IfOk result (λ ended. Calls (TurnsTo (places_data self.old.places) ended)
-            (view self.old (O.written out.old)) true (view self.new (O.written out.new))) }
-        ensures cut { let view = view_of R.pairs S.calls T.holds T.leaves T.tally in
-            OnErr result (Calls (ToTheEnd (places_data self.old.places))
-            (view self.old (O.written out.old)) false (view self.new (O.written out.new))) }
-        ensures kept { let view = view_of R.pairs S.calls T.holds T.leaves T.tally in
-            OnOk result (IsReady (view self.new (O.written out.new))) }
-        ensures stops { let view = view_of R.pairs S.calls T.holds T.leaves T.tally in
-            IfErr result (λ fault. StopsItem fault (view self.new (O.written out.new))) }
-        ensures places { self.new.places ≡ self.old.places }
-        ensures waiting { O.waiting out.old ≡ [] → O.waiting out.new ≡ [] }
+        requires ready { IsReady (bare_view R.Runner S.Shelf T.Storage self.old) }
+        ensures served { Serving R.Runner S.Shelf T.Storage O.Lines (TurnsBy result) result
+            self.old self.new out.old out.new }
+        ensures after { AfterItems R.Runner S.Shelf T.Storage O.Lines false result self.old self.new out.old out.new }
     {
         for _turn in 0..MOST_TURNS {
             if self.core.running().is_empty() {

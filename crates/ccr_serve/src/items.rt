@@ -1,5 +1,5 @@
 //! The items of a round that make events: checks and schedules.
-ghost use Rattle.std.specs.Prelude.{◌≡◌, ◌+◌, ◌*◌, ◌≤◌, ◌++◌, [], ◌∷◌, List, length, string_bytes, is_ok, IfOk, IfErr, OnOk, OnErr, IfSome, IsSome, IsSomeAnd, Some, Option};
+ghost use Rattle.std.specs.Prelude.{◌≡◌, ◌+◌, ◌*◌, ◌≤◌, ◌++◌, [], ◌∷◌, List, length, string_bytes, is_ok, IfOk, OnOk, OnErr, IfSome, IsSome, IsSomeAnd, Some, Option, false};
 ghost use Rattle.ccr_history.specs.TextMap.{TextMap};
 ghost use Rattle.ccr_history.specs.History.{HistoryData};
 ghost use Rattle.ccr_pipeline.specs.JobData.{ResourceData};
@@ -10,12 +10,13 @@ ghost use Rattle.ccr_core.specs.Cores.{core_data};
 ghost use Rattle.ccr_core.specs.Events as event;
 ghost use Rattle.ccr_lines.specs.Lines.{lines_of};
 ghost use Rattle.ccr_serve.specs.Found.{found_data, newest, Finds, BeginsFind};
-ghost use Rattle.ccr_serve.specs.Items.{Items, Noting};
+ghost use Rattle.ccr_serve.specs.Items.{Noting};
 ghost use Rattle.ccr_serve.specs.Items as item;
 ghost use Rattle.ccr_serve.specs.Pairs.{Adds};
-ghost use Rattle.ccr_serve.specs.Serving.{Serves};
+ghost use Rattle.ccr_serve.specs.Serving.{ItemsOf};
 ghost use Rattle.ccr_serve.specs.Taken.{all_taken};
-ghost use Rattle.ccr_serve.specs.Views.{view_of, resources_held, Calls, IsReady, StopsItem};
+ghost use Rattle.ccr_serve.specs.Views.{resources_held, IsReady, bare_view};
+ghost use Rattle.ccr_serve.specs.Served.{Serving, AfterItems};
 
 use crate::fault::ServeFault;
 use crate::found::{Found, find};
@@ -154,19 +155,12 @@ impl<R: Runner, S: Shelf, T: Storage> Server<R, S, T> {
     /// - `NoMemory` where a growth was refused; the program may have run by then.
     /// - `Store` where the storage failed; then the server has closed.
     pub(crate) fn check<O: Lines>(&mut self, name: &str, out: &mut O) -> Result<bool, ServeFault>
-        requires ready { let view = view_of R.pairs S.calls T.holds T.leaves T.tally in
-            IsReady (view self.old (O.written out.old)) }
+        requires ready { IsReady (bare_view R.Runner S.Shelf T.Storage self.old) }
         requires there { IsSome (resource_of name.now (resources_held (core_data self.old.core))) }
-        ensures served { let view = view_of R.pairs S.calls T.holds T.leaves T.tally in
-            Calls (Noting (Items (Serves (places_data self.old.places)) (item.check name.now ∷ []))
-            (λ ds. IfOk result (λ good. good ≡ all_taken ds)))
-            (view self.old (O.written out.old)) (is_ok result) (view self.new (O.written out.new)) }
-        ensures kept { let view = view_of R.pairs S.calls T.holds T.leaves T.tally in
-            OnOk result (IsReady (view self.new (O.written out.new))) }
-        ensures stops { let view = view_of R.pairs S.calls T.holds T.leaves T.tally in
-            IfErr result (λ fault. StopsItem fault (view self.new (O.written out.new))) }
-        ensures places { self.new.places ≡ self.old.places }
-        ensures waiting { O.waiting out.old ≡ [] → O.waiting out.new ≡ [] }
+        ensures served { Serving R.Runner S.Shelf T.Storage O.Lines
+            (λ places. Noting (ItemsOf (item.check name.now ∷ []) places)
+            (λ ds. IfOk result (λ good. good ≡ all_taken ds))) result self.old self.new out.old out.new }
+        ensures after { AfterItems R.Runner S.Shelf T.Storage O.Lines false result self.old self.new out.old out.new }
     {
         let Ok(copy) = begin(self.alloc, name, line_room(name), out) else {
             return Err(ServeFault::NoMemory);
@@ -203,17 +197,10 @@ impl<R: Runner, S: Shelf, T: Storage> Server<R, S, T> {
     /// - `NoMemory` where a growth was refused; then nothing has changed.
     /// - `Store` where the storage failed; then the server has closed.
     pub(crate) fn schedule<O: Lines>(&mut self, name: &str, out: &mut O) -> Result<(), ServeFault>
-        requires ready { let view = view_of R.pairs S.calls T.holds T.leaves T.tally in
-            IsReady (view self.old (O.written out.old)) }
-        ensures served { let view = view_of R.pairs S.calls T.holds T.leaves T.tally in
-            Calls (Items (Serves (places_data self.old.places)) (item.schedule name.now ∷ []))
-            (view self.old (O.written out.old)) (is_ok result) (view self.new (O.written out.new)) }
-        ensures kept { let view = view_of R.pairs S.calls T.holds T.leaves T.tally in
-            OnOk result (IsReady (view self.new (O.written out.new))) }
-        ensures stops { let view = view_of R.pairs S.calls T.holds T.leaves T.tally in
-            IfErr result (λ fault. StopsItem fault (view self.new (O.written out.new))) }
-        ensures places { self.new.places ≡ self.old.places }
-        ensures waiting { O.waiting out.old ≡ [] → O.waiting out.new ≡ [] }
+        requires ready { IsReady (bare_view R.Runner S.Shelf T.Storage self.old) }
+        ensures served { Serving R.Runner S.Shelf T.Storage O.Lines (ItemsOf (item.schedule name.now ∷ [])) result
+            self.old self.new out.old out.new }
+        ensures after { AfterItems R.Runner S.Shelf T.Storage O.Lines false result self.old self.new out.old out.new }
     {
         let Ok(copy) = begin(self.alloc, name, job_room(name), out) else {
             return Err(ServeFault::NoMemory);

@@ -4,7 +4,7 @@
 //! the event of a command. Each starts at most one program, makes at most one event of the core, and prints the event's
 //! lines. What it does of an item is a relation (`specs/Serving.antt`), and a call is the items one after another
 //! (`specs/Items.antt`): it names what the runner ran, what the core was told and replied, and the lines, and no loop
-//! of the code.
+//! of the code. A call's contract says what was done, and how the server is left (`specs/Served.antt`).
 //!
 //! A [`Server`] stands over a runner of programs, a shelf of folders and a storage of its history.
 #![tactic(auto)]

@@ -1,8 +1,7 @@
 //! Events of the core, and what they change in the storage.
-ghost use Rattle.std.specs.Prelude.{◌≡◌, [], IfOk, IfErr, OnErr};
-ghost use Rattle.ccr_core.specs.Cores.{core_data};
+ghost use Rattle.std.specs.Prelude.{IfOk, IfErr};
 ghost use Rattle.ccr_core.specs.Events.{event_data};
-ghost use Rattle.ccr_serve.specs.Views.{view_of, IsReady, Made, Unmade};
+ghost use Rattle.ccr_serve.specs.Views.{IsReady, Made, Unmade, bare_view};
 
 use crate::fault::ServeFault;
 use crate::server::Server;
@@ -17,13 +16,11 @@ impl<R: Runner, S: Shelf, T: Storage> Server<R, S, T> {
     /// - `NoMemory` where a growth was refused; then nothing has changed.
     /// - `Store` where the storage failed; then the server has closed.
     pub(crate) fn make(&mut self, event: Event) -> Result<Result<Reply, CoreFault>, ServeFault>
-        requires ready { let view = view_of R.pairs S.calls T.holds T.leaves T.tally in IsReady (view self.old []) }
-        ensures made { let view = view_of R.pairs S.calls T.holds T.leaves T.tally in
-            IfOk result (λ r. Made (event_data event) r (view self.old []) (view self.new [])) }
-        ensures refused { IfOk result (λ r. OnErr r (core_data self.new.core ≡ core_data self.old.core)) }
-        ensures unmade { let view = view_of R.pairs S.calls T.holds T.leaves T.tally in
-            IfErr result (λ fault. Unmade fault (view self.old []) (view self.new [])) }
-        ensures places { self.new.places ≡ self.old.places }
+        requires ready { IsReady (bare_view R.Runner S.Shelf T.Storage self.old) }
+        ensures made { let view = bare_view R.Runner S.Shelf T.Storage in
+            IfOk result (λ r. Made (event_data event) r (view self.old) (view self.new)) }
+        ensures unmade { let view = bare_view R.Runner S.Shelf T.Storage in
+            IfErr result (λ fault. Unmade fault (view self.old) (view self.new)) }
     {
         self.core.history().rules();
         match self.core.step(self.alloc, event) {

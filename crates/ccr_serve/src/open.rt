@@ -5,7 +5,7 @@ ghost use Rattle.ccr_proof.specs.declared.proof.TheConstants.{MOST_NODES};
 ghost use Rattle.ccr_core.specs.Cores.{core_data};
 ghost use Rattle.ccr_core.specs.Resumed.{resumed, IsReadable, IsResumed};
 ghost use Rattle.ccr_serve.specs.Noted.{NotesCut};
-ghost use Rattle.ccr_serve.specs.Views.{view_of, IsReady};
+ghost use Rattle.ccr_serve.specs.Views.{IsReady, bare_view};
 ghost use Rattle.ccr_serve.specs.Unopened.{KeepsFromOpening};
 
 use crate::fault::ServeFault;
@@ -49,8 +49,7 @@ impl<R: Runner + Drop, S: Shelf + Drop, T: Storage + Drop> Server<R, S, T> {
         requires readable { IfSome history.text IsReadable }
         requires least { 1 ≤ budget }
         requires most { budget ≤ MOST_NODES }
-        ensures ready { let view = view_of R.pairs S.calls T.holds T.leaves T.tally in
-            IfOk result (λ server. IsReady (view server [])) }
+        ensures ready { IfOk result (λ server. IsReady (bare_view R.Runner S.Shelf T.Storage server)) }
         ensures resumed { IfOk result (λ server. IsResumed history budget (core_data server.core)) }
         ensures nobody { IfOk result (λ server. server.last ≡ 0) }
         ensures pairs { IfOk result (λ server. R.pairs server.runner ≡ R.pairs runner) }

@@ -1,12 +1,11 @@
 //! Rounds: checks, schedules, and turns.
-ghost use Rattle.std.specs.Prelude.{◌≡◌, map, replicate, string_bytes, is_ok, IfErr, OnOk, []};
-ghost use Rattle.ccr_task.specs.Places.{places_data};
+ghost use Rattle.std.specs.Prelude.{map, replicate, string_bytes, false};
 ghost use Rattle.ccr_core.specs.Cores.{core_data};
-ghost use Rattle.ccr_serve.specs.Items.{Items};
 ghost use Rattle.ccr_serve.specs.Items as item;
 ghost use Rattle.ccr_serve.specs.Runs.{AreThere, Round, Rounds};
-ghost use Rattle.ccr_serve.specs.Serving.{Serves};
-ghost use Rattle.ccr_serve.specs.Views.{view_of, resources_held, Calls, IsReady, StopsItem};
+ghost use Rattle.ccr_serve.specs.Serving.{ItemsOf};
+ghost use Rattle.ccr_serve.specs.Views.{resources_held, IsReady, bare_view};
+ghost use Rattle.ccr_serve.specs.Served.{Serving, AfterItems};
 
 use crate::fault::ServeFault;
 use crate::names::names_held;
@@ -19,18 +18,12 @@ use ccr_task::Shelf;
 impl<R: Runner, S: Shelf, T: Storage> Server<R, S, T> {
     /// Checks the resources of these names, in order; faults as at a check.
     fn check_each<O: Lines>(&mut self, names: &[String], out: &mut O) -> Result<(), ServeFault>
-        requires ready { let view = view_of R.pairs S.calls T.holds T.leaves T.tally in
-            IsReady (view self.old (O.written out.old)) }
+        requires ready { IsReady (bare_view R.Runner S.Shelf T.Storage self.old) }
         requires there { AreThere (map string_bytes names.now) (resources_held (core_data self.old.core)) }
-        ensures served { let view = view_of R.pairs S.calls T.holds T.leaves T.tally in
-            Calls (Items (Serves (places_data self.old.places)) (map (λ name. item.check (string_bytes name)) names.now))
-            (view self.old (O.written out.old)) (is_ok result) (view self.new (O.written out.new)) }
-        ensures kept { let view = view_of R.pairs S.calls T.holds T.leaves T.tally in
-            OnOk result (IsReady (view self.new (O.written out.new))) }
-        ensures stops { let view = view_of R.pairs S.calls T.holds T.leaves T.tally in
-            IfErr result (λ fault. StopsItem fault (view self.new (O.written out.new))) }
-        ensures places { self.new.places ≡ self.old.places }
-        ensures waiting { O.waiting out.old ≡ [] → O.waiting out.new ≡ [] }
+        ensures served { Serving R.Runner S.Shelf T.Storage O.Lines
+            (ItemsOf (map (λ name. item.check (string_bytes name)) names.now)) result
+            self.old self.new out.old out.new }
+        ensures after { AfterItems R.Runner S.Shelf T.Storage O.Lines false result self.old self.new out.old out.new }
     {
         for name in names {
             // What a core keeps says that a check leaves its pipeline.
@@ -45,18 +38,11 @@ impl<R: Runner, S: Shelf, T: Storage> Server<R, S, T> {
 
     /// Gives the jobs of these names their chance of a build, in order; faults as at a schedule.
     fn schedule_each<O: Lines>(&mut self, names: &[String], out: &mut O) -> Result<(), ServeFault>
-        requires ready { let view = view_of R.pairs S.calls T.holds T.leaves T.tally in
-            IsReady (view self.old (O.written out.old)) }
-        ensures served { let view = view_of R.pairs S.calls T.holds T.leaves T.tally in
-            Calls (Items (Serves (places_data self.old.places))
-            (map (λ name. item.schedule (string_bytes name)) names.now))
-            (view self.old (O.written out.old)) (is_ok result) (view self.new (O.written out.new)) }
-        ensures kept { let view = view_of R.pairs S.calls T.holds T.leaves T.tally in
-            OnOk result (IsReady (view self.new (O.written out.new))) }
-        ensures stops { let view = view_of R.pairs S.calls T.holds T.leaves T.tally in
-            IfErr result (λ fault. StopsItem fault (view self.new (O.written out.new))) }
-        ensures places { self.new.places ≡ self.old.places }
-        ensures waiting { O.waiting out.old ≡ [] → O.waiting out.new ≡ [] }
+        requires ready { IsReady (bare_view R.Runner S.Shelf T.Storage self.old) }
+        ensures served { Serving R.Runner S.Shelf T.Storage O.Lines
+            (ItemsOf (map (λ name. item.schedule (string_bytes name)) names.now)) result
+            self.old self.new out.old out.new }
+        ensures after { AfterItems R.Runner S.Shelf T.Storage O.Lines false result self.old self.new out.old out.new }
     {
         for name in names {
             match self.schedule(name.as_str(), out) {
@@ -69,17 +55,10 @@ impl<R: Runner, S: Shelf, T: Storage> Server<R, S, T> {
 
     /// Takes so many turns; faults as at a turn.
     fn take_turns<O: Lines>(&mut self, count: usize, out: &mut O) -> Result<(), ServeFault>
-        requires ready { let view = view_of R.pairs S.calls T.holds T.leaves T.tally in
-            IsReady (view self.old (O.written out.old)) }
-        ensures served { let view = view_of R.pairs S.calls T.holds T.leaves T.tally in
-            Calls (Items (Serves (places_data self.old.places)) (replicate count item.turn))
-            (view self.old (O.written out.old)) (is_ok result) (view self.new (O.written out.new)) }
-        ensures kept { let view = view_of R.pairs S.calls T.holds T.leaves T.tally in
-            OnOk result (IsReady (view self.new (O.written out.new))) }
-        ensures stops { let view = view_of R.pairs S.calls T.holds T.leaves T.tally in
-            IfErr result (λ fault. StopsItem fault (view self.new (O.written out.new))) }
-        ensures places { self.new.places ≡ self.old.places }
-        ensures waiting { O.waiting out.old ≡ [] → O.waiting out.new ≡ [] }
+        requires ready { IsReady (bare_view R.Runner S.Shelf T.Storage self.old) }
+        ensures served { Serving R.Runner S.Shelf T.Storage O.Lines (ItemsOf (replicate count item.turn)) result
+            self.old self.new out.old out.new }
+        ensures after { AfterItems R.Runner S.Shelf T.Storage O.Lines false result self.old self.new out.old out.new }
     {
         for _turn in 0..count {
             match self.take_turn(out) {
@@ -96,17 +75,10 @@ impl<R: Runner, S: Shelf, T: Storage> Server<R, S, T> {
     /// - `NoMemory` where a growth was refused.
     /// - `Store` where the storage failed; then the server has closed.
     pub(crate) fn go_round<O: Lines>(&mut self, out: &mut O) -> Result<(), ServeFault>
-        requires ready { let view = view_of R.pairs S.calls T.holds T.leaves T.tally in
-            IsReady (view self.old (O.written out.old)) }
-        ensures served { let view = view_of R.pairs S.calls T.holds T.leaves T.tally in
-            Calls (Round (places_data self.old.places))
-            (view self.old (O.written out.old)) (is_ok result) (view self.new (O.written out.new)) }
-        ensures kept { let view = view_of R.pairs S.calls T.holds T.leaves T.tally in
-            OnOk result (IsReady (view self.new (O.written out.new))) }
-        ensures stops { let view = view_of R.pairs S.calls T.holds T.leaves T.tally in
-            IfErr result (λ fault. StopsItem fault (view self.new (O.written out.new))) }
-        ensures places { self.new.places ≡ self.old.places }
-        ensures waiting { O.waiting out.old ≡ [] → O.waiting out.new ≡ [] }
+        requires ready { IsReady (bare_view R.Runner S.Shelf T.Storage self.old) }
+        ensures served { Serving R.Runner S.Shelf T.Storage O.Lines Round result
+            self.old self.new out.old out.new }
+        ensures after { AfterItems R.Runner S.Shelf T.Storage O.Lines false result self.old self.new out.old out.new }
     {
         let Ok(names) = names_held(self.alloc, &self.core) else {
             return Err(ServeFault::NoMemory);
@@ -125,17 +97,10 @@ impl<R: Runner, S: Shelf, T: Storage> Server<R, S, T> {
 
     /// So many rounds, one after another; faults as at a round.
     pub(crate) fn go_rounds<O: Lines>(&mut self, count: u32, out: &mut O) -> Result<(), ServeFault>
-        requires ready { let view = view_of R.pairs S.calls T.holds T.leaves T.tally in
-            IsReady (view self.old (O.written out.old)) }
-        ensures served { let view = view_of R.pairs S.calls T.holds T.leaves T.tally in
-            Calls (Rounds (places_data self.old.places) count)
-            (view self.old (O.written out.old)) (is_ok result) (view self.new (O.written out.new)) }
-        ensures kept { let view = view_of R.pairs S.calls T.holds T.leaves T.tally in
-            OnOk result (IsReady (view self.new (O.written out.new))) }
-        ensures stops { let view = view_of R.pairs S.calls T.holds T.leaves T.tally in
-            IfErr result (λ fault. StopsItem fault (view self.new (O.written out.new))) }
-        ensures places { self.new.places ≡ self.old.places }
-        ensures waiting { O.waiting out.old ≡ [] → O.waiting out.new ≡ [] }
+        requires ready { IsReady (bare_view R.Runner S.Shelf T.Storage self.old) }
+        ensures served { Serving R.Runner S.Shelf T.Storage O.Lines (λ places. Rounds places count) result
+            self.old self.new out.old out.new }
+        ensures after { AfterItems R.Runner S.Shelf T.Storage O.Lines false result self.old self.new out.old out.new }
     {
         for _round in 0..count {
             match self.go_round(out) {

@@ -1,13 +1,9 @@
 //! Builds that run to their ends.
-ghost use Rattle.std.specs.Prelude.{◌≡◌, ◌∷◌, [], true, Some, Err, IfOk, IfErr, OnOk};
-ghost use Rattle.ccr_task.specs.Places.{places_data};
-ghost use Rattle.ccr_core.specs.Events as event;
-ghost use Rattle.ccr_serve.specs.Commanding.{build_status, trigger_status, CameOf, HasJob, IsFirstReply, Such};
+ghost use Rattle.std.specs.Prelude.{◌≡◌, Some, Err, IfOk, IfErr};
+ghost use Rattle.ccr_serve.specs.Commanding.{build_status, trigger_status, Triggered};
 ghost use Rattle.ccr_lines.specs.Commands.{run, trigger_job};
-ghost use Rattle.ccr_serve.specs.Items.{Items};
-ghost use Rattle.ccr_serve.specs.Items as item;
-ghost use Rattle.ccr_serve.specs.Serving.{Serves};
-ghost use Rattle.ccr_serve.specs.Views.{view_of, Calls, IsReady, Stops};
+ghost use Rattle.ccr_serve.specs.Views.{IsReady, bare_view};
+ghost use Rattle.ccr_serve.specs.Served.{Serving, Came, AfterCommand};
 
 use crate::fault::ServeFault;
 use crate::items::{begin, job_room};
@@ -60,21 +56,12 @@ impl<R: Runner, S: Shelf, T: Storage> Server<R, S, T> {
     /// - `Core` where the core refuses it, and `NoMemory` where a growth was refused; then nothing has changed.
     /// - `Store` where the storage failed; then the server has closed.
     fn trigger<O: Lines>(&mut self, job: &str, out: &mut O) -> Result<Reply, ServeFault>
-        requires ready { let view = view_of R.pairs S.calls T.holds T.leaves T.tally in
-            IsReady (view self.old (O.written out.old)) }
-        ensures replied { let view = view_of R.pairs S.calls T.holds T.leaves T.tally in
-            IfOk result (λ reply. Calls (Such (λ old ds new. HasJob old.core job.now × IsFirstReply ds reply)
-            (Items (Serves (places_data self.old.places)) (item.tell (event.trigger job.now) ∷ [])))
-            (view self.old (O.written out.old)) true (view self.new (O.written out.new))) }
-        ensures came { let view = view_of R.pairs S.calls T.holds T.leaves T.tally in
-            IfErr result (λ fault. CameOf (places_data self.old.places) (trigger_job job.now) (Err fault)
-            (view self.old (O.written out.old)) (view self.new (O.written out.new))) }
-        ensures kept { let view = view_of R.pairs S.calls T.holds T.leaves T.tally in
-            OnOk result (IsReady (view self.new (O.written out.new))) }
-        ensures stops { let view = view_of R.pairs S.calls T.holds T.leaves T.tally in
-            IfErr result (λ fault. Stops fault (view self.new (O.written out.new))) }
-        ensures places { self.new.places ≡ self.old.places }
-        ensures waiting { O.waiting out.old ≡ [] → O.waiting out.new ≡ [] }
+        requires ready { IsReady (bare_view R.Runner S.Shelf T.Storage self.old) }
+        ensures replied { IfOk result (λ reply. Serving R.Runner S.Shelf T.Storage O.Lines
+            (λ places. Triggered places job.now reply) result self.old self.new out.old out.new) }
+        ensures came { IfErr result (λ fault. Came R.Runner S.Shelf T.Storage O.Lines (trigger_job job.now) (Err fault)
+            self.old self.new out.old out.new) }
+        ensures after { AfterCommand R.Runner S.Shelf T.Storage O.Lines result self.old self.new out.old out.new }
     {
         let Ok(copy) = begin(self.alloc, job, job_room(job), out) else {
             return Err(ServeFault::NoMemory);
@@ -94,17 +81,10 @@ impl<R: Runner, S: Shelf, T: Storage> Server<R, S, T> {
 
     /// Makes a build of the job of this name, and takes turns until no build runs: status 0 where it succeeded.
     pub(crate) fn trigger_job<O: Lines>(&mut self, job: &str, out: &mut O) -> Result<u8, ServeFault>
-        requires ready { let view = view_of R.pairs S.calls T.holds T.leaves T.tally in
-            IsReady (view self.old (O.written out.old)) }
-        ensures came { let view = view_of R.pairs S.calls T.holds T.leaves T.tally in
-            CameOf (places_data self.old.places) (trigger_job job.now) result
-            (view self.old (O.written out.old)) (view self.new (O.written out.new)) }
-        ensures kept { let view = view_of R.pairs S.calls T.holds T.leaves T.tally in
-            OnOk result (IsReady (view self.new (O.written out.new))) }
-        ensures stops { let view = view_of R.pairs S.calls T.holds T.leaves T.tally in
-            IfErr result (λ fault. Stops fault (view self.new (O.written out.new))) }
-        ensures places { self.new.places ≡ self.old.places }
-        ensures waiting { O.waiting out.old ≡ [] → O.waiting out.new ≡ [] }
+        requires ready { IsReady (bare_view R.Runner S.Shelf T.Storage self.old) }
+        ensures came { Came R.Runner S.Shelf T.Storage O.Lines (trigger_job job.now) result
+            self.old self.new out.old out.new }
+        ensures after { AfterCommand R.Runner S.Shelf T.Storage O.Lines result self.old self.new out.old out.new }
     {
         let reply = match self.trigger(job, out) {
             Ok(reply) => reply,
@@ -123,17 +103,10 @@ impl<R: Runner, S: Shelf, T: Storage> Server<R, S, T> {
 
     /// Runs so many rounds, and then takes turns until no build runs.
     pub(crate) fn run<O: Lines>(&mut self, rounds: u32, out: &mut O) -> Result<u8, ServeFault>
-        requires ready { let view = view_of R.pairs S.calls T.holds T.leaves T.tally in
-            IsReady (view self.old (O.written out.old)) }
-        ensures came { let view = view_of R.pairs S.calls T.holds T.leaves T.tally in
-            CameOf (places_data self.old.places) (run rounds) result
-            (view self.old (O.written out.old)) (view self.new (O.written out.new)) }
-        ensures kept { let view = view_of R.pairs S.calls T.holds T.leaves T.tally in
-            OnOk result (IsReady (view self.new (O.written out.new))) }
-        ensures stops { let view = view_of R.pairs S.calls T.holds T.leaves T.tally in
-            IfErr result (λ fault. Stops fault (view self.new (O.written out.new))) }
-        ensures places { self.new.places ≡ self.old.places }
-        ensures waiting { O.waiting out.old ≡ [] → O.waiting out.new ≡ [] }
+        requires ready { IsReady (bare_view R.Runner S.Shelf T.Storage self.old) }
+        ensures came { Came R.Runner S.Shelf T.Storage O.Lines (run rounds) result
+            self.old self.new out.old out.new }
+        ensures after { AfterCommand R.Runner S.Shelf T.Storage O.Lines result self.old self.new out.old out.new }
     {
         match self.core.pipeline() {
             Some(_) => {}

@@ -5,14 +5,14 @@ ghost use Rattle.ccr_pipeline.specs.Reading.{pipeline_faults, IsReading};
 ghost use Rattle.ccr_history.specs.Text.{Text};
 ghost use Rattle.ccr_task.specs.Calls.{CallData};
 ghost use Rattle.ccr_task.specs.declared.fault.ShelfFault.TheVariants.{TooLong};
-ghost use Rattle.ccr_task.specs.Places.{places_data};
 ghost use Rattle.ccr_core.specs.Cores.{core_data};
 ghost use Rattle.ccr_core.specs.State.{no_pipeline};
 ghost use Rattle.ccr_lines.specs.Lines.{pipeline_lines};
-ghost use Rattle.ccr_serve.specs.Commanding.{CameOf, IsRead};
+ghost use Rattle.ccr_serve.specs.Commanding.{IsRead};
 ghost use Rattle.ccr_lines.specs.Commands.{set_pipeline};
 ghost use Rattle.ccr_serve.specs.Reads.{lines_room, KeepsFromReading};
-ghost use Rattle.ccr_serve.specs.Views.{view_of, IsReady, Stops};
+ghost use Rattle.ccr_serve.specs.Views.{IsReady, bare_view};
+ghost use Rattle.ccr_serve.specs.Served.{Came, AfterCommand};
 
 use crate::fault::ServeFault;
 use crate::server::Server;
@@ -90,17 +90,10 @@ impl<R: Runner, S: Shelf, T: Storage> Server<R, S, T> {
         path: &str,
         out: &mut O,
     ) -> Result<u8, ServeFault>
-        requires ready { let view = view_of R.pairs S.calls T.holds T.leaves T.tally in
-            IsReady (view self.old (O.written out.old)) }
-        ensures came { let view = view_of R.pairs S.calls T.holds T.leaves T.tally in
-            CameOf (places_data self.old.places) (set_pipeline path.now) result
-            (view self.old (O.written out.old)) (view self.new (O.written out.new)) }
-        ensures kept { let view = view_of R.pairs S.calls T.holds T.leaves T.tally in
-            OnOk result (IsReady (view self.new (O.written out.new))) }
-        ensures stops { let view = view_of R.pairs S.calls T.holds T.leaves T.tally in
-            IfErr result (λ fault. Stops fault (view self.new (O.written out.new))) }
-        ensures places { self.new.places ≡ self.old.places }
-        ensures waiting { O.waiting out.old ≡ [] → O.waiting out.new ≡ [] }
+        requires ready { IsReady (bare_view R.Runner S.Shelf T.Storage self.old) }
+        ensures came { Came R.Runner S.Shelf T.Storage O.Lines (set_pipeline path.now) result
+            self.old self.new out.old out.new }
+        ensures after { AfterCommand R.Runner S.Shelf T.Storage O.Lines result self.old self.new out.old out.new }
     {
         let pipeline = match read_pipeline(self.alloc, &mut self.shelf, path) {
             Ok(pipeline) => pipeline,

@@ -1,19 +1,18 @@
 //! Turns: the one ask of a build is answered, or aborted.
-ghost use Rattle.std.specs.Prelude.{◌≡◌, ◌+◌, ◌≤◌, List, [], ◌∷◌, length, string_bytes, is_ok, true, false, Ok, Err, IfOk, IfErr, OnOk, OnErr, Some};
+ghost use Rattle.std.specs.Prelude.{◌≡◌, ◌+◌, ◌≤◌, List, [], ◌∷◌, length, string_bytes, true, false, Ok, Err, IfOk, IfErr, OnOk, OnErr, Some};
 ghost use Rattle.ccr_steps.specs.Asks.{answer_data, errored};
 ghost use Rattle.ccr_steps.specs.declared.ask.Ask.{Ask};
 ghost use Rattle.ccr_task.specs.Calls.{CallData};
-ghost use Rattle.ccr_task.specs.Places.{places_data, abort_folder};
+ghost use Rattle.ccr_task.specs.Places.{places_data};
 ghost use Rattle.ccr_core.specs.Cores.{core_data};
 ghost use Rattle.ccr_core.specs.Events.{answer};
 ghost use Rattle.ccr_core.specs.Holding.{Wants};
-ghost use Rattle.ccr_serve.specs.Aborts.{AbortIsAsked};
 ghost use Rattle.ccr_serve.specs.Due.{IsDue, Gives};
-ghost use Rattle.ccr_serve.specs.Items.{Items};
 ghost use Rattle.ccr_serve.specs.Noted.{IsFaultOf, NotesAnswer, NotesBuild, NotesTurn};
 ghost use Rattle.ccr_serve.specs.Items as item;
-ghost use Rattle.ccr_serve.specs.Serving.{Serves};
-ghost use Rattle.ccr_serve.specs.Views.{view_of, with_calls, is_running, Calls, CommitsOnce, IsReady, Made, Unmade, StopsItem};
+ghost use Rattle.ccr_serve.specs.Serving.{ItemsOf};
+ghost use Rattle.ccr_serve.specs.Views.{is_running, CommitsOnce, IsReady, Made, Unmade, bare_view, CommitsBuild};
+ghost use Rattle.ccr_serve.specs.Served.{Serving, ServingLooked, AfterItems};
 
 use crate::aborting::take_abort;
 use crate::due::{Due, due_build};
@@ -52,14 +51,13 @@ fn begin_turn<O: Lines>(
 impl<R: Runner, S: Shelf, T: Storage> Server<R, S, T> {
     /// Gives a build errored in the place of its answer.
     fn give_errored(&mut self, job: String, number: u32, turn: u64) -> Result<Reply, ServeFault>
-        requires ready { let view = view_of R.pairs S.calls T.holds T.leaves T.tally in IsReady (view self.old []) }
+        requires ready { IsReady (bare_view R.Runner S.Shelf T.Storage self.old) }
         requires wants { (ask : Ask) × Wants (core_data self.old.core) (string_bytes job) number (Some (turn, ask)) }
-        ensures made { let view = view_of R.pairs S.calls T.holds T.leaves T.tally in
+        ensures made { let view = bare_view R.Runner S.Shelf T.Storage in
             IfOk result (λ reply. Made (answer (string_bytes job) number turn errored) (Ok reply)
-            (view self.old []) (view self.new [])) }
-        ensures unmade { let view = view_of R.pairs S.calls T.holds T.leaves T.tally in
-            IfErr result (λ fault. Unmade fault (view self.old []) (view self.new [])) }
-        ensures places { self.new.places ≡ self.old.places }
+            (view self.old) (view self.new)) }
+        ensures unmade { let view = bare_view R.Runner S.Shelf T.Storage in
+            IfErr result (λ fault. Unmade fault (view self.old) (view self.new)) }
     {
         self.core.rules();
         match self.make(Event::Answer(job, number, turn, Answered::Errored)) {
@@ -79,18 +77,17 @@ impl<R: Runner, S: Shelf, T: Storage> Server<R, S, T> {
         answered: Answered,
         fault: &mut Option<StepFault>,
     ) -> Result<Reply, ServeFault>
-        requires ready { let view = view_of R.pairs S.calls T.holds T.leaves T.tally in IsReady (view self.old []) }
+        requires ready { IsReady (bare_view R.Runner S.Shelf T.Storage self.old) }
         requires same { string_bytes names.1 ≡ string_bytes names.0 }
         requires wants { (ask : Ask)
             × Wants (core_data self.old.core) (string_bytes names.0) number (Some (turn, ask)) }
         ensures fault { OnOk result (IsFaultOf (core_data self.old.core)
             (answer (string_bytes names.0) number turn (answer_data answered)) fault.old fault.new) }
-        ensures gives { let view = view_of R.pairs S.calls T.holds T.leaves T.tally in
+        ensures gives { let view = bare_view R.Runner S.Shelf T.Storage in
             IfOk result (λ reply. Gives (string_bytes names.0) number turn (answer_data answered) reply
-            (view self.old []) (view self.new [])) }
-        ensures unmade { let view = view_of R.pairs S.calls T.holds T.leaves T.tally in
-            IfErr result (λ stop. Unmade stop (view self.old []) (view self.new [])) }
-        ensures places { self.new.places ≡ self.old.places }
+            (view self.old) (view self.new)) }
+        ensures unmade { let view = bare_view R.Runner S.Shelf T.Storage in
+            IfErr result (λ stop. Unmade stop (view self.old) (view self.new)) }
     {
         self.core.rules();
         let (named, again) = names;
@@ -112,33 +109,21 @@ impl<R: Runner, S: Shelf, T: Storage> Server<R, S, T> {
         names: (String, String),
         out: &mut O,
     ) -> Result<(), ServeFault>
-        requires ready { let view = view_of R.pairs S.calls T.holds T.leaves T.tally in
-            IsReady (view self.old (O.written out.old)) }
+        requires ready { IsReady (bare_view R.Runner S.Shelf T.Storage self.old) }
         requires due { IsDue (core_data self.old.core) self.old.last (Some due) }
         requires one { string_bytes names.0 ≡ string_bytes due.job }
         requires other { string_bytes names.1 ≡ string_bytes due.job }
         requires room { length (string_bytes due.job) + 64 ≤ O.room out.old }
-        ensures served { let view = view_of R.pairs S.calls T.holds T.leaves T.tally in
-            (before : List CallData)
-            → AbortIsAsked (abort_folder (places_data self.old.places) (string_bytes due.job) due.number) false
-            before (S.calls self.old.shelf)
-            → Calls (Items (Serves (places_data self.old.places)) (item.turn ∷ []))
-            (with_calls before (view self.old (O.written out.old))) (is_ok result) (view self.new (O.written out.new)) }
-        ensures kept { let view = view_of R.pairs S.calls T.holds T.leaves T.tally in
-            OnOk result (IsReady (view self.new (O.written out.new))) }
-        ensures stops { let view = view_of R.pairs S.calls T.holds T.leaves T.tally in
-            IfErr result (λ fault. StopsItem fault (view self.new (O.written out.new))) }
-        ensures once { let view = view_of R.pairs S.calls T.holds T.leaves T.tally in
-            IfOk result (λ _. CommitsOnce (Ok true) (view self.old []) (view self.new [])) }
-        ensures at_most { let view = view_of R.pairs S.calls T.holds T.leaves T.tally in
-            IfErr result (λ fault. CommitsOnce (Err fault) (view self.old []) (view self.new [])) }
+        ensures served { ServingLooked R.Runner S.Shelf T.Storage O.Lines false (string_bytes due.job) due.number result
+            self.old self.new out.old out.new }
+        ensures once { let view = bare_view R.Runner S.Shelf T.Storage in
+            CommitsBuild result (view self.old) (view self.new) }
         ensures noted { IfOk result (λ _. (after : List CallData)
             × NotesAnswer (places_data self.old.places) (core_data self.old.core) (string_bytes due.job) due.number
             (R.pairs self.old.runner) (R.pairs self.new.runner) (S.calls self.old.shelf) after
             (O.notes out.old) (O.notes out.new)) }
         ensures quiet { OnErr result (O.notes out.new ≡ O.notes out.old) }
-        ensures places { self.new.places ≡ self.old.places }
-        ensures waiting { O.waiting out.old ≡ [] → O.waiting out.new ≡ [] }
+        ensures after { AfterItems R.Runner S.Shelf T.Storage O.Lines false result self.old self.new out.old out.new }
     {
         let job = due.job.as_str();
         let Ok((turn, said)) = answer_wanted(
@@ -178,26 +163,17 @@ impl<R: Runner, S: Shelf, T: Storage> Server<R, S, T> {
 
     /// Serves the build whose turn it is: aborts it where that is asked, and else answers what it asks.
     fn serve_build<O: Lines>(&mut self, due: Due, out: &mut O) -> Result<(), ServeFault>
-        requires ready { let view = view_of R.pairs S.calls T.holds T.leaves T.tally in
-            IsReady (view self.old (O.written out.old)) }
+        requires ready { IsReady (bare_view R.Runner S.Shelf T.Storage self.old) }
         requires due { IsDue (core_data self.old.core) self.old.last (Some due) }
-        ensures served { let view = view_of R.pairs S.calls T.holds T.leaves T.tally in
-            Calls (Items (Serves (places_data self.old.places)) (item.turn ∷ []))
-            (view self.old (O.written out.old)) (is_ok result) (view self.new (O.written out.new)) }
-        ensures kept { let view = view_of R.pairs S.calls T.holds T.leaves T.tally in
-            OnOk result (IsReady (view self.new (O.written out.new))) }
-        ensures stops { let view = view_of R.pairs S.calls T.holds T.leaves T.tally in
-            IfErr result (λ fault. StopsItem fault (view self.new (O.written out.new))) }
-        ensures once { let view = view_of R.pairs S.calls T.holds T.leaves T.tally in
-            IfOk result (λ _. CommitsOnce (Ok true) (view self.old []) (view self.new [])) }
-        ensures at_most { let view = view_of R.pairs S.calls T.holds T.leaves T.tally in
-            IfErr result (λ fault. CommitsOnce (Err fault) (view self.old []) (view self.new [])) }
+        ensures served { Serving R.Runner S.Shelf T.Storage O.Lines (ItemsOf (item.turn ∷ [])) result
+            self.old self.new out.old out.new }
+        ensures once { let view = bare_view R.Runner S.Shelf T.Storage in
+            CommitsBuild result (view self.old) (view self.new) }
         ensures noted { IfOk result (λ _. NotesBuild (places_data self.old.places) (core_data self.old.core)
             (string_bytes due.job) due.number (R.pairs self.old.runner) (R.pairs self.new.runner)
             (S.calls self.old.shelf) (O.notes out.old) (O.notes out.new)) }
         ensures quiet { OnErr result (O.notes out.new ≡ O.notes out.old) }
-        ensures places { self.new.places ≡ self.old.places }
-        ensures waiting { O.waiting out.old ≡ [] → O.waiting out.new ≡ [] }
+        ensures after { AfterItems R.Runner S.Shelf T.Storage O.Lines false result self.old self.new out.old out.new }
     {
         let job = due.job.as_str();
         let Ok(names) = begin_turn(self.alloc, job, out) else {
@@ -224,23 +200,16 @@ impl<R: Runner, S: Shelf, T: Storage> Server<R, S, T> {
     ///   turn. What asked for an abort may be removed by then.
     /// - `Store` where the storage failed; then the server has closed.
     pub(crate) fn take_turn<O: Lines>(&mut self, out: &mut O) -> Result<bool, ServeFault>
-        requires ready { let view = view_of R.pairs S.calls T.holds T.leaves T.tally in
-            IsReady (view self.old (O.written out.old)) }
-        ensures served { let view = view_of R.pairs S.calls T.holds T.leaves T.tally in
-            Calls (Items (Serves (places_data self.old.places)) (item.turn ∷ []))
-            (view self.old (O.written out.old)) (is_ok result) (view self.new (O.written out.new)) }
+        requires ready { IsReady (bare_view R.Runner S.Shelf T.Storage self.old) }
+        ensures served { Serving R.Runner S.Shelf T.Storage O.Lines (ItemsOf (item.turn ∷ [])) result
+            self.old self.new out.old out.new }
         ensures some { IfOk result (λ served. served ≡ is_running (core_data self.old.core)) }
-        ensures kept { let view = view_of R.pairs S.calls T.holds T.leaves T.tally in
-            OnOk result (IsReady (view self.new (O.written out.new))) }
-        ensures stops { let view = view_of R.pairs S.calls T.holds T.leaves T.tally in
-            IfErr result (λ fault. StopsItem fault (view self.new (O.written out.new))) }
-        ensures once { let view = view_of R.pairs S.calls T.holds T.leaves T.tally in
-            CommitsOnce result (view self.old []) (view self.new []) }
+        ensures once { let view = bare_view R.Runner S.Shelf T.Storage in
+            CommitsOnce result (view self.old) (view self.new) }
         ensures noted { NotesTurn result (places_data self.old.places) (core_data self.old.core) self.old.last
             (R.pairs self.old.runner) (R.pairs self.new.runner) (S.calls self.old.shelf)
             (O.notes out.old) (O.notes out.new) }
-        ensures places { self.new.places ≡ self.old.places }
-        ensures waiting { O.waiting out.old ≡ [] → O.waiting out.new ≡ [] }
+        ensures after { AfterItems R.Runner S.Shelf T.Storage O.Lines false result self.old self.new out.old out.new }
     {
         let due = match due_build(self.alloc, &self.core, self.last) {
             Ok(Some(due)) => due,

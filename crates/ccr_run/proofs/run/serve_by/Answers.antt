@@ -2,11 +2,6 @@ use Rattle.std.proofs.Common.{◌++◌}
 use Rattle.ccr_run.proofs.Serving.{did}
 use Rattle.ccr_run.proofs.run.serve_by.Goals as goal
 
-pub command-requires : goal.command-requires
-command-requires g c =
-    let ready = c.requires.ready in
-    record { ready = record { is_open = ready.is_open; unfailed = ready.unfailed; holds = ready.holds; leaves = ready.leaves } }
-
 pub returns-clause-did : goal.returns-clause-did
 returns-clause-did g c =
     let came = c.command.ensures.came in

@@ -7,10 +7,10 @@ use Rattle.ccr_core.specs.State.{running_at}
 use Rattle.ccr_lines.specs.Lines.{lines_of}
 use Rattle.ccr_serve.specs.Aborts.{Clears}
 use Rattle.ccr_serve.specs.Noted.{IsStepHead, NotesOf}
-use Rattle.ccr_serve.specs.Views.{view_of, with_calls, Made}
+use Rattle.ccr_serve.specs.Views.{full_view, bare_view, with_calls, Made}
 use Rattle.ccr_serve.proofs.Cutting.{abort_unmade}
 use Rattle.ccr_serve.proofs.NotesTold.{notes_by}
-use Rattle.ccr_serve.proofs.Steps.{after, unmade_printed}
+use Rattle.ccr_serve.proofs.Steps.{after}
 use Rattle.ccr_serve.proofs.Turning.{abort_served}
 use Rattle.ccr_serve.proofs.server.Server.abort_due.Goals as goal
 
@@ -21,37 +21,29 @@ abort-requires-clause-runs g c s is =
 
 pub returns-clause-served : goal.returns-clause-served
 returns-clause-served g c before asked =
-    let view = view_of g.R.Runner.pairs g.S.Shelf.calls g.T.Storage.holds g.T.Storage.leaves g.T.Storage.tally in
-    let v = with_calls before (view c.args.self.now (g.O.Lines.written c.args.out.now)) in
-    let looked = g.S.Shelf.calls c.args.self.now.shelf in
+    let v = with_calls before (full_view g.R.Runner g.S.Shelf g.T.Storage g.O.Lines c.args.self.now c.args.out.now) in
     abort_unmade (places_data c.args.self.now.places) v (string_bytes c.args.due.job) c.args.due.number c.args.due.rank
-    looked c.requires.due (g.O.Lines.written c.args.out.now) (view c.abort.new.self (g.O.Lines.written c.args.out.now))
-    c.in-Err.fault asked refl
-    (unmade_printed c.in-Err.fault (after v looked (g.R.Runner.pairs c.args.self.now.runner) [])
-    (view c.abort.new.self []) (g.O.Lines.written c.args.out.now) (g.O.Lines.written c.args.out.now) refl
-    c.in-Err.ensures.unmade)
+    (g.S.Shelf.calls c.args.self.now.shelf) c.requires.due asked refl c.in-Err.ensures.unmade
 
 pub returns-in-Ok-clause-served : goal.returns-in-Ok-clause-served
 returns-in-Ok-clause-served g c before asked =
-    let view = view_of g.R.Runner.pairs g.S.Shelf.calls g.T.Storage.holds g.T.Storage.leaves g.T.Storage.tally in
-    let v = with_calls before (view c.args.self.now (g.O.Lines.written c.args.out.now)) in
+    let view = full_view g.R.Runner g.S.Shelf g.T.Storage g.O.Lines in
+    let bare = bare_view g.R.Runner g.S.Shelf g.T.Storage in
+    let v = with_calls before (view c.args.self.now c.args.out.now) in
     let looked = g.S.Shelf.calls c.args.self.now.shelf in
     let name : c.as_str-job.result.now ≡ string_bytes c.args.due.job = c.as_str-job.ensures.value in
     abort_served (places_data c.args.self.now.places) v looked (string_bytes c.args.due.job) c.args.due.number
-    c.args.due.rank c.in-Ok.reply (view c.abort.new.self []) (g.S.Shelf.calls c.clear_away.new.shelf)
-    (g.O.Lines.written c.tell_ended.new.out) asked
-    (subst (λ j. Made (abort j c.args.due.number) (Ok c.in-Ok.reply)
-    (after v looked (g.R.Runner.pairs c.args.self.now.runner) []) (view c.abort.new.self [])) c.requires.name
+    c.args.due.rank c.in-Ok.reply (bare c.abort.new.self) (g.S.Shelf.calls c.clear_away.new.shelf)
+    (g.O.Lines.written c.tell_ended.new.out) asked (subst (λ j. Made (abort j c.args.due.number) (Ok c.in-Ok.reply)
+    (after v looked (g.R.Runner.pairs c.args.self.now.runner) []) (bare c.abort.new.self)) c.requires.name
     c.in-Ok.ensures.made)
     (subst (λ n. Clears (places_data c.args.self.now.places) (string_bytes c.args.due.job) c.args.due.number c.in-Ok.reply n
     (g.S.Shelf.calls c.clear_away.new.shelf)) c.in-Ok.ensures.made.rest.calls
     (subst (λ j. Clears (places_data c.args.self.now.places) j c.args.due.number c.in-Ok.reply
     (g.S.Shelf.calls c.abort.new.self.shelf) (g.S.Shelf.calls c.clear_away.new.shelf)) name
     (subst (λ q. Clears (places_data q) c.as_str-job.result.now c.args.due.number c.in-Ok.reply
-    (g.S.Shelf.calls c.abort.new.self.shelf) (g.S.Shelf.calls c.clear_away.new.shelf)) c.in-Ok.ensures.places
-    c.clear_away.ensures)))
-    c.requires.due
-    (λ h. subst (λ j. g.O.Lines.written c.tell_ended.new.out
+    (g.S.Shelf.calls c.abort.new.self.shelf) (g.S.Shelf.calls c.clear_away.new.shelf)) c.in-Ok.ensures.made.rest.places
+    c.clear_away.ensures))) c.requires.due (λ h. subst (λ j. g.O.Lines.written c.tell_ended.new.out
     ≡ g.O.Lines.written c.args.out.now ++ lines_of (abort j c.args.due.number) (Ok c.in-Ok.reply) h) name
     (subst (λ w. g.O.Lines.written c.tell_ended.new.out
     ≡ w ++ lines_of (abort c.as_str-job.result.now c.args.due.number) (Ok c.in-Ok.reply) h)

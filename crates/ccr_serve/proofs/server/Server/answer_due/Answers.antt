@@ -8,77 +8,61 @@ use Rattle.ccr_lines.specs.Lines.{lines_of}
 use Rattle.ccr_serve.specs.Aborts.{Clears}
 use Rattle.ccr_serve.specs.Due.{AnswersWant, BeginsWant, Gives}
 use Rattle.ccr_serve.specs.Noted.{IsHead, NotesOf, IsFaultOf}
-use Rattle.ccr_serve.specs.Views.{view_of, with_calls}
+use Rattle.ccr_serve.specs.Views.{full_view, bare_view, with_calls}
 use Rattle.ccr_serve.proofs.Cutting.{turn_unanswered, turn_unmade}
 use Rattle.ccr_serve.proofs.NotesTold.{notes_by}
-use Rattle.ccr_serve.proofs.Steps.{after, unmade_printed}
+use Rattle.ccr_serve.proofs.Steps.{after}
 use Rattle.ccr_serve.proofs.Turning.{turn_served}
 use Rattle.ccr_serve.proofs.server.Server.answer_due.Goals as goal
 
 pub returns-in_default-clause-served : goal.returns-in_default-clause-served
 returns-in_default-clause-served g c before asked =
-    let view = view_of g.R.Runner.pairs g.S.Shelf.calls g.T.Storage.holds g.T.Storage.leaves g.T.Storage.tally in
-    let v = with_calls before (view c.args.self.now (g.O.Lines.written c.args.out.now)) in
+    let view = full_view g.R.Runner g.S.Shelf g.T.Storage g.O.Lines in
+    let v = with_calls before (view c.args.self.now c.args.out.now) in
     let looked = g.S.Shelf.calls c.args.self.now.shelf in
     turn_unanswered (places_data c.args.self.now.places) v (string_bytes c.args.due.job) c.args.due.number c.args.due.rank
     looked c.requires.due asked (g.R.Runner.pairs c.answer_wanted.new.runner) (g.S.Shelf.calls c.answer_wanted.new.shelf)
-    (g.O.Lines.written c.args.out.now)
     (subst (λ j. BeginsWant (places_data c.args.self.now.places) v.core j c.args.due.number v.pairs
     (g.R.Runner.pairs c.answer_wanted.new.runner) looked (g.S.Shelf.calls c.answer_wanted.new.shelf))
-    c.as_str-job.ensures.value c.in_default.ensures.err)
-    (record {
-      is_open = c.requires.ready.is_open;
-      unfailed = c.requires.ready.unfailed;
-      holds = c.requires.ready.holds;
-      leaves = c.requires.ready.leaves;
-    }) refl
+    c.as_str-job.ensures.value c.in_default.ensures.err) c.requires.ready refl
 
 pub returns-clause-served : goal.returns-clause-served
 returns-clause-served g c before asked =
-    let view = view_of g.R.Runner.pairs g.S.Shelf.calls g.T.Storage.holds g.T.Storage.leaves g.T.Storage.tally in
-    let v = with_calls before (view c.args.self.now (g.O.Lines.written c.args.out.now)) in
+    let view = full_view g.R.Runner g.S.Shelf g.T.Storage g.O.Lines in
+    let v = with_calls before (view c.args.self.now c.args.out.now) in
     let looked = g.S.Shelf.calls c.args.self.now.shelf in
     turn_unmade (places_data c.args.self.now.places) v (string_bytes c.args.due.job) c.args.due.number c.args.due.rank
     looked c.requires.due asked (g.R.Runner.pairs c.answer_wanted.new.runner) (g.S.Shelf.calls c.answer_wanted.new.shelf)
-    c.in-Ok.turn (said_data c.in-Ok.said) (g.O.Lines.written c.args.out.now)
-    (view c.give.new.self (g.O.Lines.written c.args.out.now)) c.in-Err.fault
     (subst (λ j. AnswersWant (places_data c.args.self.now.places) v.core j c.args.due.number c.in-Ok.turn
     (said_data c.in-Ok.said) v.pairs (g.R.Runner.pairs c.answer_wanted.new.runner) looked
-    (g.S.Shelf.calls c.answer_wanted.new.shelf)) c.as_str-job.ensures.value c.in-Ok.ensures.ok)
-    refl
-    (unmade_printed c.in-Err.fault
-    (after v (g.S.Shelf.calls c.answer_wanted.new.shelf) (g.R.Runner.pairs c.answer_wanted.new.runner) [])
-    (view c.give.new.self []) (g.O.Lines.written c.args.out.now) (g.O.Lines.written c.args.out.now) refl
-    c.in-Err.ensures.unmade)
+    (g.S.Shelf.calls c.answer_wanted.new.shelf)) c.as_str-job.ensures.value c.in-Ok.ensures.ok) refl
+    c.in-Err.ensures.unmade
 
 pub returns-in-Ok-give-clause-served : goal.returns-in-Ok-give-clause-served
 returns-in-Ok-give-clause-served g c before asked =
-    let view = view_of g.R.Runner.pairs g.S.Shelf.calls g.T.Storage.holds g.T.Storage.leaves g.T.Storage.tally in
-    let v = with_calls before (view c.args.self.now (g.O.Lines.written c.args.out.now)) in
+    let view = full_view g.R.Runner g.S.Shelf g.T.Storage g.O.Lines in
+    let bare = bare_view g.R.Runner g.S.Shelf g.T.Storage in
+    let v = with_calls before (view c.args.self.now c.args.out.now) in
     let looked = g.S.Shelf.calls c.args.self.now.shelf in
     let job = string_bytes c.args.due.job in
     let name : c.as_str-job.result.now ≡ job = c.as_str-job.ensures.value in
     turn_served (places_data c.args.self.now.places) v looked job c.args.due.number c.args.due.rank
     c.in-Ok.turn (said_data c.in-Ok.said) c.in-Ok-give.reply
     (g.S.Shelf.calls c.answer_wanted.new.shelf) (g.R.Runner.pairs c.answer_wanted.new.runner)
-    (view c.give.new.self []) (g.S.Shelf.calls c.clear_away.new.shelf)
-    (g.O.Lines.written c.tell_ended.new.out) asked
+    (bare c.give.new.self) (g.S.Shelf.calls c.clear_away.new.shelf) (g.O.Lines.written c.tell_ended.new.out) asked
     (subst (λ j. AnswersWant (places_data c.args.self.now.places) v.core j c.args.due.number c.in-Ok.turn
     (said_data c.in-Ok.said) v.pairs (g.R.Runner.pairs c.answer_wanted.new.runner) looked
     (g.S.Shelf.calls c.answer_wanted.new.shelf)) name c.in-Ok.ensures.ok)
-    (subst (λ j. Gives j c.args.due.number c.in-Ok.turn (answer_data c.in-Ok.said.answered)
-    c.in-Ok-give.reply
+    (subst (λ j. Gives j c.args.due.number c.in-Ok.turn (answer_data c.in-Ok.said.answered) c.in-Ok-give.reply
     (after v (g.S.Shelf.calls c.answer_wanted.new.shelf) (g.R.Runner.pairs c.answer_wanted.new.runner) [])
-    (view c.give.new.self [])) c.requires.one c.in-Ok-give.ensures.gives)
+    (bare c.give.new.self)) c.requires.one c.in-Ok-give.ensures.gives)
     (subst (λ n. Clears (places_data c.args.self.now.places) job c.args.due.number c.in-Ok-give.reply n
     (g.S.Shelf.calls c.clear_away.new.shelf)) c.in-Ok-give.ensures.gives.rest.calls
     (subst (λ j. Clears (places_data c.args.self.now.places) j c.args.due.number c.in-Ok-give.reply
     (g.S.Shelf.calls c.give.new.self.shelf) (g.S.Shelf.calls c.clear_away.new.shelf)) name
     (subst (λ q. Clears (places_data q) c.as_str-job.result.now c.args.due.number c.in-Ok-give.reply
-    (g.S.Shelf.calls c.give.new.self.shelf) (g.S.Shelf.calls c.clear_away.new.shelf)) c.in-Ok-give.ensures.places
-    c.clear_away.ensures)))
-    c.requires.due
-    (λ t y h. subst (λ j. g.O.Lines.written c.tell_ended.new.out
+    (g.S.Shelf.calls c.give.new.self.shelf) (g.S.Shelf.calls c.clear_away.new.shelf)) c.in-Ok-give.ensures.gives.rest.places
+    c.clear_away.ensures))) c.requires.due (λ t y h. subst (λ j. g.O.Lines.written c.tell_ended.new.out
     ≡ g.O.Lines.written c.args.out.now ++ lines_of (answer j c.args.due.number t y) (Ok c.in-Ok-give.reply) h) name
     (subst (λ w. g.O.Lines.written c.tell_ended.new.out
     ≡ w ++ lines_of (answer c.as_str-job.result.now c.args.due.number t y) (Ok c.in-Ok-give.reply) h)
@@ -100,8 +84,7 @@ returns-in-Ok-give-clause-noted g c =
         x = said_data c.in-Ok.said;
         answered = subst
             (λ p. AnswersWant places core job c.args.due.number c.in-Ok.turn (said_data c.in-Ok.said) pairs p looked calls)
-            (sym c.in-Ok-give.ensures.gives.rest.pairs)
-            (subst
+            (sym c.in-Ok-give.ensures.gives.rest.pairs) (subst
             (λ j. AnswersWant places core j c.args.due.number c.in-Ok.turn (said_data c.in-Ok.said) pairs
             (g.R.Runner.pairs c.answer_wanted.new.runner) looked calls) name c.in-Ok.ensures.ok);
         fault = c.give.new.fault;

@@ -1,71 +1,50 @@
-use Rattle.std.proofs.Common.{◌≡◌, ◌∙◌, [], refl, subst, string_bytes}
+use Rattle.std.proofs.Common.{◌≡◌, ◌∙◌, subst}
 use Rattle.ccr_task.specs.Places.{places_data}
 use Rattle.ccr_serve.specs.Found.{found_data, newest, Finds}
-use Rattle.ccr_serve.specs.Views.{view_of}
+use Rattle.ccr_serve.specs.Views.{full_view}
 use Rattle.ccr_serve.proofs.Begun.{found_begun}
-use Rattle.ccr_serve.proofs.Steps.{cut_at_once, cut_by_memory, noting_stop, after, calls_unmade, unmade_printed, check_begun, check_made, check_found_nothing}
+use Rattle.ccr_serve.proofs.Steps.{cut_at_once, cut_by_memory, noting_stop, calls_unmade, check_begun, check_made, check_found_nothing}
 use Rattle.ccr_serve.proofs.server.Server.check.Goals as goal
 
 pub returns-in_default-clause-served : goal.returns-in_default-clause-served
 returns-in_default-clause-served g c =
-    let view = view_of g.R.Runner.pairs g.S.Shelf.calls g.T.Storage.holds g.T.Storage.leaves g.T.Storage.tally in
-    cut_at_once _ (view c.args.self.now (g.O.Lines.written c.args.out.now)) (g.O.Lines.written c.begin.new.out)
-    (noting_stop _ _ (λ ds. ds ≡ ds)) c.requires.ready c.begin.ensures.same
+    let v = full_view g.R.Runner g.S.Shelf g.T.Storage g.O.Lines c.args.self.now c.args.out.now in
+    cut_at_once v (noting_stop _ _ (λ ds. ds ≡ ds)) c.requires.ready c.begin.ensures.same
 
 pub returns-in_default-find_named-clause-served : goal.returns-in_default-find_named-clause-served
 returns-in_default-find_named-clause-served g c =
-    let view = view_of g.R.Runner.pairs g.S.Shelf.calls g.T.Storage.holds g.T.Storage.leaves g.T.Storage.tally in
+    let v = full_view g.R.Runner g.S.Shelf g.T.Storage g.O.Lines c.args.self.now c.args.out.now in
     let o = c.in_default-find_named.ensures.err in
-    let v = view c.args.self.now (g.O.Lines.written c.args.out.now) in
-    cut_by_memory _ v (g.S.Shelf.calls c.find_named.new.shelf) (g.R.Runner.pairs c.find_named.new.runner)
-    (g.O.Lines.written c.begin.new.out) o.1
+    cut_by_memory v o.1
     (check_begun (places_data c.args.self.now.places) c.args.name.now o.0 v (g.S.Shelf.calls c.find_named.new.shelf) o.1
     o.2 o.4) c.requires.ready o.3 c.begin.ensures.same
 
 pub returns-in-Ok-make-clause-served : goal.returns-in-Ok-make-clause-served
 returns-in-Ok-make-clause-served g c =
-    let view = view_of g.R.Runner.pairs g.S.Shelf.calls g.T.Storage.holds g.T.Storage.leaves g.T.Storage.tally in
     let o = c.in-Ok-find_named.ensures.ok in
-    check_made (places_data c.args.self.now.places) c.args.name.now (string_bytes c.in-Ok.copy) o.0
-    (view c.args.self.now (g.O.Lines.written c.args.out.now)) (g.S.Shelf.calls c.find_named.new.shelf)
-    (g.R.Runner.pairs c.find_named.new.runner) (g.O.Lines.written c.begin.new.out) (view c.make.new.self [])
-    (g.O.Lines.written c.tell_checked.new.out) o.1 c.in-Versions.versions.items c.in-Ok-make.replied c.is_ok.result
-    c.in-Ok.ensures.copied o.2 c.begin.ensures.same o.3
+    check_made (places_data c.args.self.now.places) o.1 c.in-Ok.ensures.copied o.2 c.begin.ensures.same o.3
     (subst (λ f. Finds (places_data c.args.self.now.places) o.0 (newest o.0 c.args.self.now.core.history)
     (g.S.Shelf.calls c.args.self.now.shelf) (g.S.Shelf.calls c.find_named.new.shelf) o.1 (found_data f))
-    c.in-Versions.is o.4)
-    c.in-Ok-make.ensures.made (c.tell_checked.ensures.told c.in-Versions.versions.items c.make.new.self.core.history)
-    c.is_ok.ensures.value
+    c.in-Versions.is o.4) c.in-Ok-make.ensures.made
+    (c.tell_checked.ensures.told c.in-Versions.versions.items c.make.new.self.core.history) c.is_ok.ensures.value
 
 pub returns-in-Err-clause-served : goal.returns-in-Err-clause-served
 returns-in-Err-clause-served g c =
-    let view = view_of g.R.Runner.pairs g.S.Shelf.calls g.T.Storage.holds g.T.Storage.leaves g.T.Storage.tally in
+    let v = full_view g.R.Runner g.S.Shelf g.T.Storage g.O.Lines c.args.self.now c.args.out.now in
     let o = c.in-Ok-find_named.ensures.ok in
-    let v = view c.args.self.now (g.O.Lines.written c.args.out.now) in
-    calls_unmade _ v (g.S.Shelf.calls c.find_named.new.shelf)
-    (g.R.Runner.pairs c.find_named.new.runner) (g.O.Lines.written c.begin.new.out)
-    (view c.make.new.self (g.O.Lines.written c.begin.new.out)) c.in-Err.fault o.1
+    calls_unmade o.1
     (check_begun (places_data c.args.self.now.places) c.args.name.now o.0 v (g.S.Shelf.calls c.find_named.new.shelf) o.1
-    o.2
-    (found_begun (places_data c.args.self.now.places) o.0 (newest o.0 c.args.self.now.core.history)
+    o.2 (found_begun (places_data c.args.self.now.places) o.0 (newest o.0 c.args.self.now.core.history)
     (g.S.Shelf.calls c.args.self.now.shelf) (g.S.Shelf.calls c.find_named.new.shelf) o.1 c.in-Versions.versions.items
     (subst (λ f. Finds (places_data c.args.self.now.places) o.0 (newest o.0 c.args.self.now.core.history)
     (g.S.Shelf.calls c.args.self.now.shelf) (g.S.Shelf.calls c.find_named.new.shelf) o.1 (found_data f))
-    c.in-Versions.is o.4))) o.3 c.begin.ensures.same
-    (unmade_printed c.in-Err.fault
-    (after v (g.S.Shelf.calls c.find_named.new.shelf) (g.R.Runner.pairs c.find_named.new.runner) [])
-    (view c.make.new.self []) (g.O.Lines.written c.begin.new.out) (g.O.Lines.written c.begin.new.out) refl
-    c.in-Err.ensures.unmade)
+    c.in-Versions.is o.4))) o.3 c.begin.ensures.same c.in-Err.ensures.unmade
 
 pub returns-in-Nothing-clause-served : goal.returns-in-Nothing-clause-served
 returns-in-Nothing-clause-served g c =
-    let view = view_of g.R.Runner.pairs g.S.Shelf.calls g.T.Storage.holds g.T.Storage.leaves g.T.Storage.tally in
     let o = c.in-Ok-find_named.ensures.ok in
-    check_found_nothing (places_data c.args.self.now.places) c.args.name.now o.0
-    (view c.args.self.now (g.O.Lines.written c.args.out.now)) (g.S.Shelf.calls c.find_named.new.shelf)
-    (g.R.Runner.pairs c.find_named.new.runner) (g.O.Lines.written c.begin.new.out)
-    (g.O.Lines.written c.hand_out.new.self) o.1 c.in-Nothing.cause c.requires.ready o.2 c.begin.ensures.same o.3
+    check_found_nothing (places_data c.args.self.now.places) c.args.name.now o.1 c.in-Nothing.cause c.requires.ready o.2
+    c.begin.ensures.same o.3
     (subst (λ f. Finds (places_data c.args.self.now.places) o.0 (newest o.0 c.args.self.now.core.history)
     (g.S.Shelf.calls c.args.self.now.shelf) (g.S.Shelf.calls c.find_named.new.shelf) o.1 (found_data f))
-    c.in-Nothing.is o.4)
-    (c.hand_out.ensures.same ∙ c.tell_cause.ensures)
+    c.in-Nothing.is o.4) (c.hand_out.ensures.same ∙ c.tell_cause.ensures)

@@ -1,9 +1,8 @@
-use Rattle.std.proofs.Common.{◌≡◌, ◌∙◌, true, false, length, ap, refl, arith}
+use Rattle.std.proofs.Common.{◌≡◌, ◌∙◌, true, false, length, refl, arith}
 use Rattle.ccr_core.specs.Cores.{core_data}
 use Rattle.ccr_task.specs.Places.{places_data}
 use Rattle.ccr_serve.specs.Items.{check}
 use Rattle.ccr_serve.specs.Serving.{Serves}
-use Rattle.ccr_serve.specs.Views.{view_of}
 use Rattle.ccr_serve.proofs.Composing.{calls_none}
 use Rattle.ccr_serve.proofs.Rounds.{unnoted, names_done, name_more, name_stop, name_there}
 use Rattle.ccr_serve.proofs.Staying.{check_keeps_pipeline}
@@ -11,10 +10,8 @@ use Rattle.ccr_serve.proofs.server.Server.check_each.Goals as goal
 
 pub loop-name-init : goal.loop-name-init
 loop-name-init g c =
-    let view = view_of g.R.Runner.pairs g.S.Shelf.calls g.T.Storage.holds g.T.Storage.leaves g.T.Storage.tally in
     record {
-      served = calls_none (Serves (places_data c.args.self.now.places))
-          (view c.args.self.now (g.O.Lines.written c.args.out.now)) c.requires.ready;
+      served = calls_none (Serves (places_data c.args.self.now.places)) c.requires.ready;
       ready = c.requires.ready;
       pipeline = refl;
       places = refl;
@@ -29,38 +26,25 @@ check-requires-clause-there g c =
 
 pub loop-name-preserved : goal.loop-name-preserved
 loop-name-preserved g c =
-    let view = view_of g.R.Runner.pairs g.S.Shelf.calls g.T.Storage.holds g.T.Storage.leaves g.T.Storage.tally in
     record {
-      served = name_more (places_data c.loop-name.self.places) (places_data c.args.self.now.places) check c.args.names.now
-          c.loop-name.name-index c.name-item.result c.as_str.result.now (omega arith) c.name-item.is c.as_str.ensures.value
-          (ap places_data c.loop-name.invariant.places) (view c.args.self.now (g.O.Lines.written c.args.out.now))
-          (view c.loop-name.self (g.O.Lines.written c.loop-name.out)) (view c.check.new.self (g.O.Lines.written c.check.new.out))
-          c.loop-name.invariant.served
-          (unnoted _ _ (view c.loop-name.self (g.O.Lines.written c.loop-name.out))
-          (view c.check.new.self (g.O.Lines.written c.check.new.out)) true c.in-Ok.ensures.served);
-      ready = c.in-Ok.ensures.kept;
-      pipeline = check_keeps_pipeline (places_data c.loop-name.self.places) c.as_str.result.now
-          (view c.loop-name.self (g.O.Lines.written c.loop-name.out)) (view c.check.new.self (g.O.Lines.written c.check.new.out)) c.rules.ensures.reached
-          (unnoted _ _ (view c.loop-name.self (g.O.Lines.written c.loop-name.out))
-          (view c.check.new.self (g.O.Lines.written c.check.new.out)) true c.in-Ok.ensures.served) ∙ c.loop-name.invariant.pipeline;
-      places = c.in-Ok.ensures.places ∙ c.loop-name.invariant.places;
-      waiting = λ none. c.in-Ok.ensures.waiting (c.loop-name.invariant.waiting none);
+      served = name_more check c.args.names.now c.loop-name.name-index c.name-item.result c.as_str.result.now
+          (omega arith) c.name-item.is c.as_str.ensures.value c.loop-name.invariant.places c.loop-name.invariant.served
+          (unnoted _ _ true c.in-Ok.ensures.served);
+      ready = c.in-Ok.ensures.after.ends;
+      pipeline = check_keeps_pipeline (places_data c.loop-name.self.places) c.as_str.result.now c.rules.ensures.reached
+          (unnoted _ _ true c.in-Ok.ensures.served) ∙ c.loop-name.invariant.pipeline;
+      places = c.in-Ok.ensures.after.places ∙ c.loop-name.invariant.places;
+      waiting = λ none. c.in-Ok.ensures.after.waiting (c.loop-name.invariant.waiting none);
     }
 
 pub returns-in-Err-clause-served : goal.returns-in-Err-clause-served
 returns-in-Err-clause-served g c =
-    let view = view_of g.R.Runner.pairs g.S.Shelf.calls g.T.Storage.holds g.T.Storage.leaves g.T.Storage.tally in
-    name_stop (places_data c.loop-name.self.places) (places_data c.args.self.now.places) check c.args.names.now
-    c.loop-name.name-index c.name-item.result c.as_str.result.now (omega arith) c.name-item.is c.as_str.ensures.value
-    (ap places_data c.loop-name.invariant.places) (view c.args.self.now (g.O.Lines.written c.args.out.now))
-    (view c.loop-name.self (g.O.Lines.written c.loop-name.out)) (view c.check.new.self (g.O.Lines.written c.check.new.out))
-    c.loop-name.invariant.served
-    (unnoted _ _ (view c.loop-name.self (g.O.Lines.written c.loop-name.out))
-    (view c.check.new.self (g.O.Lines.written c.check.new.out)) false c.in-Err.ensures.served)
+    name_stop check c.args.names.now c.loop-name.name-index c.name-item.result c.as_str.result.now (omega arith)
+    c.name-item.is c.as_str.ensures.value c.loop-name.invariant.places c.loop-name.invariant.served
+    (unnoted _ _ false c.in-Err.ensures.served)
 
 pub returns-clause-served : goal.returns-clause-served
 returns-clause-served g c =
-    let view = view_of g.R.Runner.pairs g.S.Shelf.calls g.T.Storage.holds g.T.Storage.leaves g.T.Storage.tally in
     let all : length c.args.names.now ≡ c.loop-name.name-index = omega arith in
-    names_done (Serves (places_data c.args.self.now.places)) check c.args.names.now c.loop-name.name-index
-    (view c.args.self.now (g.O.Lines.written c.args.out.now)) (view c.loop-name.self (g.O.Lines.written c.loop-name.out)) all c.loop-name.invariant.served
+    names_done (Serves (places_data c.args.self.now.places)) check c.args.names.now c.loop-name.name-index all
+    c.loop-name.invariant.served

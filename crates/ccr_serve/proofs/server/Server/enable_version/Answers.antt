@@ -1,46 +1,33 @@
-use Rattle.std.proofs.Common.{◌∙◌, [], refl, string_bytes}
+use Rattle.std.proofs.Common.{◌∙◌}
 use Rattle.ccr_task.specs.Places.{places_data}
-use Rattle.ccr_serve.specs.Commanding.{Commanded}
 use Rattle.ccr_lines.specs.Commands.{enable_version}
-use Rattle.ccr_serve.specs.Views.{view_of}
-use Rattle.ccr_serve.proofs.Refusing.{came_stopped}
-use Rattle.ccr_serve.proofs.Steps.{cut_at_once, unmade_at_once, stops_item, unmade_printed}
+use Rattle.ccr_serve.specs.Views.{full_view}
+use Rattle.ccr_serve.proofs.Refusing.{came_unmade}
+use Rattle.ccr_serve.proofs.Steps.{cut_at_once}
 use Rattle.ccr_serve.proofs.Switched.{enable_stop, enable_made, enable_refused}
 use Rattle.ccr_serve.proofs.server.Server.enable_version.Goals as goal
 
 pub returns-in_default-clause-came : goal.returns-in_default-clause-came
 returns-in_default-clause-came g c =
-    let view = view_of g.R.Runner.pairs g.S.Shelf.calls g.T.Storage.holds g.T.Storage.leaves g.T.Storage.tally in
-    cut_at_once (Commanded (places_data c.args.self.now.places) (enable_version c.args.name.now c.args.place) 0)
-    (view c.args.self.now (g.O.Lines.written c.args.out.now)) (g.O.Lines.written c.begin.new.out)
-    (enable_stop (places_data c.args.self.now.places) c.args.name.now c.args.place) c.requires.ready c.begin.ensures.same
+    let v = full_view g.R.Runner g.S.Shelf g.T.Storage g.O.Lines c.args.self.now c.args.out.now in
+    cut_at_once v (enable_stop (places_data c.args.self.now.places) c.args.name.now c.args.place) c.requires.ready
+    c.begin.ensures.same
 
 pub returns-in-Ok-Ok-clause-came : goal.returns-in-Ok-Ok-clause-came
 returns-in-Ok-Ok-clause-came g c =
-    let view = view_of g.R.Runner.pairs g.S.Shelf.calls g.T.Storage.holds g.T.Storage.leaves g.T.Storage.tally in
-    enable_made (places_data c.args.self.now.places) c.args.name.now (string_bytes c.in-Ok.copy) c.args.place c.in-Ok-Ok.field-0
-    c.in-Ok-Ok.field-0-0 (view c.args.self.now (g.O.Lines.written c.args.out.now)) (view c.make.new.self [])
-    (g.O.Lines.written c.begin.new.out) (g.O.Lines.written c.hand_out.new.self) c.in-Ok.ensures.copied
-    c.in-Ok-Ok.field-0-is c.begin.ensures.same c.in-Ok-Ok.ensures.made (c.hand_out.ensures.same ∙ c.tell_enabled.ensures)
+    let v = full_view g.R.Runner g.S.Shelf g.T.Storage g.O.Lines c.args.self.now c.args.out.now in
+    enable_made (places_data c.args.self.now.places) v c.in-Ok.ensures.copied c.in-Ok-Ok.field-0-is c.begin.ensures.same
+    c.in-Ok-Ok.ensures.made (c.hand_out.ensures.same ∙ c.tell_enabled.ensures)
 
 pub returns-in-Ok-Err-clause-came : goal.returns-in-Ok-Err-clause-came
 returns-in-Ok-Err-clause-came g c =
-    let view = view_of g.R.Runner.pairs g.S.Shelf.calls g.T.Storage.holds g.T.Storage.leaves g.T.Storage.tally in
-    enable_refused (places_data c.args.self.now.places) c.args.name.now (string_bytes c.in-Ok.copy) c.args.place c.in-Ok-Err.field-0
-    c.in-Ok-Err.fault (view c.args.self.now (g.O.Lines.written c.args.out.now)) (view c.make.new.self [])
-    (g.O.Lines.written c.begin.new.out) c.in-Ok.ensures.copied c.in-Ok-Err.field-0-is c.begin.ensures.same
-    c.in-Ok-Err.ensures.made
+    let v = full_view g.R.Runner g.S.Shelf g.T.Storage g.O.Lines c.args.self.now c.args.out.now in
+    enable_refused (places_data c.args.self.now.places) v c.in-Ok.ensures.copied c.in-Ok-Err.field-0-is
+    c.begin.ensures.same c.in-Ok-Err.ensures.made
 
 pub returns-in-Err-clause-came : goal.returns-in-Err-clause-came
 returns-in-Err-clause-came g c =
-    let view = view_of g.R.Runner.pairs g.S.Shelf.calls g.T.Storage.holds g.T.Storage.leaves g.T.Storage.tally in
-    let v = view c.args.self.now (g.O.Lines.written c.args.out.now) in
-    let n = view c.make.new.self (g.O.Lines.written c.begin.new.out) in
-    came_stopped (places_data c.args.self.now.places) (enable_version c.args.name.now c.args.place) c.in-Err.fault v n
-    (view c.make.new.self [])
-    (stops_item c.in-Err.fault (view c.args.self.now []) (view c.make.new.self []) c.in-Err.ensures.unmade)
-    (unmade_at_once (Commanded (places_data c.args.self.now.places) (enable_version c.args.name.now c.args.place) 0) v
-    (g.O.Lines.written c.begin.new.out) n c.in-Err.fault
+    let v = full_view g.R.Runner g.S.Shelf g.T.Storage g.O.Lines c.args.self.now c.args.out.now in
+    came_unmade (places_data c.args.self.now.places) (enable_version c.args.name.now c.args.place) v
     (enable_stop (places_data c.args.self.now.places) c.args.name.now c.args.place) c.begin.ensures.same
-    (unmade_printed c.in-Err.fault (view c.args.self.now []) (view c.make.new.self [])
-    (g.O.Lines.written c.begin.new.out) (g.O.Lines.written c.begin.new.out) refl c.in-Err.ensures.unmade))
+    c.in-Err.ensures.unmade

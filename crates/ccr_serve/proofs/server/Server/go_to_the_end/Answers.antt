@@ -1,20 +1,19 @@
-use Rattle.std.proofs.Common.{◌∙◌, [], ◌∷◌, true, false, ap, refl, arith}
+use Rattle.std.proofs.Common.{◌∙◌, [], ◌∷◌, true, refl, arith}
 use Rattle.ccr_core.specs.Cores.{core_data}
 use Rattle.ccr_core.specs.Holding.{name_data}
 use Rattle.ccr_task.specs.Places.{places_data}
 use Rattle.ccr_serve.specs.Items.{turn}
-use Rattle.ccr_serve.specs.Views.{view_of}
+use Rattle.ccr_serve.specs.Serving.{ItemsOf}
 use Rattle.ccr_serve.proofs.Ending.{end_begins, end_more, end_stop, ends_early, ends_late}
 use Rattle.ccr_serve.proofs.Ends.{maps_none, maps_some, some_left}
-use Rattle.ccr_serve.proofs.Rounds.{at_places}
 use Rattle.ccr_serve.proofs.Staying.{turns_make_events}
+use Rattle.ccr_serve.proofs.Rounds.{moved}
 use Rattle.ccr_serve.proofs.server.Server.go_to_the_end.Goals as goal
 
 pub loop-turn-init : goal.loop-turn-init
 loop-turn-init g c =
-    let view = view_of g.R.Runner.pairs g.S.Shelf.calls g.T.Storage.holds g.T.Storage.leaves g.T.Storage.tally in
     record {
-      served = end_begins (places_data c.args.self.now.places) (view c.args.self.now (g.O.Lines.written c.args.out.now)) c.requires.ready;
+      served = end_begins (places_data c.args.self.now.places) c.requires.ready;
       ready = c.requires.ready;
       places = refl;
       waiting = λ none. none;
@@ -22,45 +21,35 @@ loop-turn-init g c =
 
 pub loop-turn-preserved : goal.loop-turn-preserved
 loop-turn-preserved g c =
-    let view = view_of g.R.Runner.pairs g.S.Shelf.calls g.T.Storage.holds g.T.Storage.leaves g.T.Storage.tally in
     record {
-      served = end_more (places_data c.args.self.now.places) (turns_make_events (places_data c.args.self.now.places)) c.loop-turn._turn
-          (view c.args.self.now (g.O.Lines.written c.args.out.now)) (view c.loop-turn.self (g.O.Lines.written c.loop-turn.out)) (view c.take_turn.new.self (g.O.Lines.written c.take_turn.new.out))
-          (some_left name_data c.running.result.now (core_data c.loop-turn.self.core).names
-          c.is_empty.result c.running.ensures.names c.is_empty.ensures c.if-is_empty.false)
-          c.loop-turn.invariant.served (at_places (places_data c.loop-turn.self.places) (places_data c.args.self.now.places) (turn ∷ []) (view c.loop-turn.self (g.O.Lines.written c.loop-turn.out))
-          (view c.take_turn.new.self (g.O.Lines.written c.take_turn.new.out)) true
-          (ap places_data c.loop-turn.invariant.places) c.in-Ok.ensures.served);
-      ready = c.in-Ok.ensures.kept;
-      places = c.in-Ok.ensures.places ∙ c.loop-turn.invariant.places;
-      waiting = λ none. c.in-Ok.ensures.waiting (c.loop-turn.invariant.waiting none);
+      served = end_more (places_data c.args.self.now.places) (turns_make_events (places_data c.args.self.now.places))
+          c.loop-turn._turn
+          (some_left name_data c.running.result.now (core_data c.loop-turn.self.core).names c.is_empty.result
+          c.running.ensures.names c.is_empty.ensures c.if-is_empty.false) c.loop-turn.invariant.served
+          (moved (ItemsOf (turn ∷ [])) c.loop-turn.invariant.places c.in-Ok.ensures.served);
+      ready = c.in-Ok.ensures.after.ends;
+      places = c.in-Ok.ensures.after.places ∙ c.loop-turn.invariant.places;
+      waiting = λ none. c.in-Ok.ensures.after.waiting (c.loop-turn.invariant.waiting none);
     }
 
 pub returns-then-is_empty-clause-served : goal.returns-then-is_empty-clause-served
 returns-then-is_empty-clause-served g c =
-    let view = view_of g.R.Runner.pairs g.S.Shelf.calls g.T.Storage.holds g.T.Storage.leaves g.T.Storage.tally in
-    ends_early (places_data c.args.self.now.places) c.loop-turn._turn (view c.args.self.now (g.O.Lines.written c.args.out.now)) (view c.loop-turn.self (g.O.Lines.written c.loop-turn.out))
-    c.loop-turn.invariant.served (omega arith) true refl
-    (λ _. maps_none name_data c.running.result.now (core_data c.loop-turn.self.core).names
+    ends_early (places_data c.args.self.now.places) c.loop-turn._turn c.loop-turn.invariant.served (omega arith) true
+    refl (λ _. maps_none name_data c.running.result.now (core_data c.loop-turn.self.core).names
     c.is_empty.result c.running.ensures.names c.is_empty.ensures c.if-is_empty.true)
 
-pub returns-in-Err-clause-cut : goal.returns-in-Err-clause-cut
-returns-in-Err-clause-cut g c =
-    let view = view_of g.R.Runner.pairs g.S.Shelf.calls g.T.Storage.holds g.T.Storage.leaves g.T.Storage.tally in
-    end_stop (places_data c.args.self.now.places) (turns_make_events (places_data c.args.self.now.places)) c.loop-turn._turn (view c.args.self.now (g.O.Lines.written c.args.out.now))
-    (view c.loop-turn.self (g.O.Lines.written c.loop-turn.out)) (view c.take_turn.new.self (g.O.Lines.written c.take_turn.new.out)) (omega arith)
-    (some_left name_data c.running.result.now (core_data c.loop-turn.self.core).names
-    c.is_empty.result c.running.ensures.names c.is_empty.ensures c.if-is_empty.false)
-    c.loop-turn.invariant.served (at_places (places_data c.loop-turn.self.places) (places_data c.args.self.now.places) (turn ∷ []) (view c.loop-turn.self (g.O.Lines.written c.loop-turn.out))
-    (view c.take_turn.new.self (g.O.Lines.written c.take_turn.new.out)) false
-    (ap places_data c.loop-turn.invariant.places) c.in-Err.ensures.served)
+pub returns-in-Err-clause-served : goal.returns-in-Err-clause-served
+returns-in-Err-clause-served g c =
+    end_stop (places_data c.args.self.now.places) (turns_make_events (places_data c.args.self.now.places))
+    c.loop-turn._turn
+    (omega arith) (some_left name_data c.running.result.now (core_data c.loop-turn.self.core).names c.is_empty.result
+    c.running.ensures.names c.is_empty.ensures c.if-is_empty.false)
+    c.loop-turn.invariant.served (moved (ItemsOf (turn ∷ [])) c.loop-turn.invariant.places c.in-Err.ensures.served)
 
 pub returns-clause-served : goal.returns-clause-served
 returns-clause-served g c =
-    let view = view_of g.R.Runner.pairs g.S.Shelf.calls g.T.Storage.holds g.T.Storage.leaves g.T.Storage.tally in
-    ends_late (places_data c.args.self.now.places) c.loop-turn._turn (view c.args.self.now (g.O.Lines.written c.args.out.now)) (view c.loop-turn.self (g.O.Lines.written c.loop-turn.out))
-    c.loop-turn.invariant.served (omega arith) c.is_empty-2.result
-    (maps_none name_data c.running-2.result.now (core_data c.loop-turn.self.core).names
+    ends_late (places_data c.args.self.now.places) c.loop-turn._turn c.loop-turn.invariant.served (omega arith)
+    c.is_empty-2.result (maps_none name_data c.running-2.result.now (core_data c.loop-turn.self.core).names
     c.is_empty-2.result c.running-2.ensures.names c.is_empty-2.ensures)
     (maps_some name_data c.running-2.result.now (core_data c.loop-turn.self.core).names
     c.is_empty-2.result c.running-2.ensures.names c.is_empty-2.ensures)

@@ -2,7 +2,7 @@ use Rattle.std.proofs.Common.{[], ◌∷◌, refl, sym, subst}
 use Rattle.ccr_history.specs.History.{IsHistory}
 use Rattle.ccr_core.specs.Cores.{core_data}
 use Rattle.ccr_core.specs.Events.{event_data}
-use Rattle.ccr_serve.specs.Views.{view_of}
+use Rattle.ccr_serve.specs.Views.{bare_view}
 use Rattle.ccr_serve.proofs.Commits.{asked_none, asked_one}
 use Rattle.ccr_serve.proofs.Crash.{leaves_ready, stored, torn}
 use Rattle.ccr_serve.proofs.server.Server.make.Goals as goal
@@ -13,6 +13,7 @@ returns-in-Ok-commit-clause-made g c =
     let after = (core_data c.step.new.self).history in
     record {
       takes = c.in-Ok.ensures.step;
+      refused = tt;
       found_memory = λ is. absurd cc;
       ready = record {
         is_open = c.requires.ready.is_open;
@@ -26,7 +27,7 @@ returns-in-Ok-commit-clause-made g c =
             c.requires.ready.holds c.requires.ready.leaves accepts);
       };
       commits = c.in-Ok-commit.ensures.counted;
-      rest = record { last = refl; calls = refl; pairs = refl; lines = refl };
+      rest = record { last = refl; calls = refl; pairs = refl; places = refl; lines = refl };
     }
 
 pub returns-in-Ok-clause-unmade : goal.returns-in-Ok-clause-unmade
@@ -43,13 +44,13 @@ returns-in-Ok-clause-unmade g c =
           (λ accepts. c.in-Err-commit.ensures.crash before (subst IsHistory c.history.ensures c.rules.ensures)
           c.requires.ready.holds c.requires.ready.leaves accepts));
       commits = asked_one _ _ c.in-Err-commit.ensures.counted;
-      rest = record { last = refl; calls = refl; pairs = refl; lines = refl };
+      rest = record { last = refl; calls = refl; pairs = refl; places = refl; lines = refl };
     }
 
 pub returns-in-Err-NoMemory-clause-unmade : goal.returns-in-Err-NoMemory-clause-unmade
 returns-in-Err-NoMemory-clause-unmade g c =
-    let view = view_of g.R.Runner.pairs g.S.Shelf.calls g.T.Storage.holds g.T.Storage.leaves g.T.Storage.tally in
-    let old = view c.args.self.now [] in
+    let view = bare_view g.R.Runner g.S.Shelf g.T.Storage in
+    let old = view c.args.self.now in
     let same = c.in-Err-NoMemory.ensures.unchanged in
     let ready = c.requires.ready in
     record {
@@ -65,5 +66,5 @@ returns-in-Err-NoMemory-clause-unmade g c =
       holds = ready.holds;
       crash = λ s is. leaves_ready old s ready is;
       commits = asked_none _;
-      rest = record { last = refl; calls = refl; pairs = refl; lines = refl };
+      rest = record { last = refl; calls = refl; pairs = refl; places = refl; lines = refl };
     }

@@ -1,10 +1,10 @@
-use Rattle.std.proofs.Common.{Some, inl, inr, is_ok, string_bytes, subst}
+use Rattle.std.proofs.Common.{Some, inl, inr, string_bytes, subst}
 use Rattle.ccr_task.specs.Places.{places_data, abort_folder}
 use Rattle.ccr_task.specs.declared.said.StepFault.TheVariants.{Aborted}
 use Rattle.ccr_core.specs.Cores.{core_data}
 use Rattle.ccr_serve.specs.Aborts.{AbortIsAsked}
 use Rattle.ccr_serve.specs.Noted.{IsStepHead, NotesOf, NotesAnswer}
-use Rattle.ccr_serve.specs.Views.{view_of}
+use Rattle.ccr_serve.specs.Views.{full_view}
 use Rattle.ccr_serve.proofs.NotesTold.{if_ok, err_then}
 use Rattle.ccr_serve.proofs.Steps.{cut_at_once, cut_unchanged, items_stop}
 use Rattle.ccr_serve.proofs.Turning.{from_lines}
@@ -12,40 +12,29 @@ use Rattle.ccr_serve.proofs.server.Server.serve_build.Goals as goal
 
 pub returns-in_default-clause-served : goal.returns-in_default-clause-served
 returns-in_default-clause-served g c =
-    let view = view_of g.R.Runner.pairs g.S.Shelf.calls g.T.Storage.holds g.T.Storage.leaves g.T.Storage.tally in
-    cut_at_once _ (view c.args.self.now (g.O.Lines.written c.args.out.now)) (g.O.Lines.written c.begin_turn.new.out)
-    (items_stop _ _) c.requires.ready c.begin_turn.ensures.same
+    let v = full_view g.R.Runner g.S.Shelf g.T.Storage g.O.Lines c.args.self.now c.args.out.now in
+    cut_at_once v (items_stop _ _) c.requires.ready c.begin_turn.ensures.same
 
 pub returns-in_default-take_abort-clause-served : goal.returns-in_default-take_abort-clause-served
 returns-in_default-take_abort-clause-served g c =
-    let view = view_of g.R.Runner.pairs g.S.Shelf.calls g.T.Storage.holds g.T.Storage.leaves g.T.Storage.tally in
-    cut_unchanged _ (view c.args.self.now (g.O.Lines.written c.args.out.now)) (g.S.Shelf.calls c.take_abort.new.shelf)
-    (g.O.Lines.written c.begin_turn.new.out) (items_stop _ _) c.requires.ready c.in_default-take_abort.ensures.err
-    c.begin_turn.ensures.same
+    let v = full_view g.R.Runner g.S.Shelf g.T.Storage g.O.Lines c.args.self.now c.args.out.now in
+    cut_unchanged v (items_stop _ _) c.requires.ready c.in_default-take_abort.ensures.err c.begin_turn.ensures.same
 
 pub returns-then-asked-clause-served : goal.returns-then-asked-clause-served
 returns-then-asked-clause-served g c =
-    let view = view_of g.R.Runner.pairs g.S.Shelf.calls g.T.Storage.holds g.T.Storage.leaves g.T.Storage.tally in
-    from_lines _ (view c.args.self.now (g.O.Lines.written c.args.out.now)) (g.O.Lines.written c.begin_turn.new.out)
-    (is_ok c.abort_due.result) (view c.abort_due.new.self (g.O.Lines.written c.abort_due.new.out)) c.begin_turn.ensures.same
-    (c.abort_due.ensures.served (g.S.Shelf.calls c.args.self.now.shelf)
+    from_lines c.begin_turn.ensures.same (c.abort_due.ensures.served (g.S.Shelf.calls c.args.self.now.shelf)
     (subst (λ a. AbortIsAsked (abort_folder (places_data c.args.self.now.places) (string_bytes c.args.due.job)
     c.args.due.number) a (g.S.Shelf.calls c.args.self.now.shelf) (g.S.Shelf.calls c.take_abort.new.shelf))
-    c.if-asked.true
-    (subst (λ j. AbortIsAsked (abort_folder (places_data c.args.self.now.places) j c.args.due.number)
+    c.if-asked.true (subst (λ j. AbortIsAsked (abort_folder (places_data c.args.self.now.places) j c.args.due.number)
     c.in-Ok-take_abort.asked (g.S.Shelf.calls c.args.self.now.shelf) (g.S.Shelf.calls c.take_abort.new.shelf))
     c.as_str-job.ensures.value c.in-Ok-take_abort.ensures.asked)))
 
 pub returns-else-asked-clause-served : goal.returns-else-asked-clause-served
 returns-else-asked-clause-served g c =
-    let view = view_of g.R.Runner.pairs g.S.Shelf.calls g.T.Storage.holds g.T.Storage.leaves g.T.Storage.tally in
-    from_lines _ (view c.args.self.now (g.O.Lines.written c.args.out.now)) (g.O.Lines.written c.begin_turn.new.out)
-    (is_ok c.answer_due.result) (view c.answer_due.new.self (g.O.Lines.written c.answer_due.new.out)) c.begin_turn.ensures.same
-    (c.answer_due.ensures.served (g.S.Shelf.calls c.args.self.now.shelf)
+    from_lines c.begin_turn.ensures.same (c.answer_due.ensures.served (g.S.Shelf.calls c.args.self.now.shelf)
     (subst (λ a. AbortIsAsked (abort_folder (places_data c.args.self.now.places) (string_bytes c.args.due.job)
     c.args.due.number) a (g.S.Shelf.calls c.args.self.now.shelf) (g.S.Shelf.calls c.take_abort.new.shelf))
-    c.if-asked.false
-    (subst (λ j. AbortIsAsked (abort_folder (places_data c.args.self.now.places) j c.args.due.number)
+    c.if-asked.false (subst (λ j. AbortIsAsked (abort_folder (places_data c.args.self.now.places) j c.args.due.number)
     c.in-Ok-take_abort.asked (g.S.Shelf.calls c.args.self.now.shelf) (g.S.Shelf.calls c.take_abort.new.shelf))
     c.as_str-job.ensures.value c.in-Ok-take_abort.ensures.asked)))
 
@@ -53,8 +42,7 @@ pub returns-then-asked-clause-noted : goal.returns-then-asked-clause-noted
 returns-then-asked-clause-noted g c =
     let core = core_data c.args.self.now.core in
     let job = string_bytes c.args.due.job in
-    if_ok c.abort_due.result
-    (λ a n. (
+    if_ok c.abort_due.result (λ a n. (
       g.S.Shelf.calls c.take_abort.new.shelf,
       inl (
         subst (λ a. AbortIsAsked (abort_folder (places_data c.args.self.now.places) job c.args.due.number) a
@@ -77,8 +65,7 @@ returns-else-asked-clause-noted g c =
     let core = core_data c.args.self.now.core in
     let places = places_data c.args.self.now.places in
     let job = string_bytes c.args.due.job in
-    if_ok c.answer_due.result
-    (λ a n. (
+    if_ok c.answer_due.result (λ a n. (
       g.S.Shelf.calls c.take_abort.new.shelf,
       inr (
         subst (λ a. AbortIsAsked (abort_folder places job c.args.due.number) a

@@ -1,61 +1,46 @@
-use Rattle.std.proofs.Common.{[], None, Ok, refl}
-use Rattle.ccr_pipeline.specs.Pipelines.{pipeline_data}
+use Rattle.std.proofs.Common.{[], None, Ok}
 use Rattle.ccr_task.specs.Places.{places_data}
-use Rattle.ccr_serve.specs.Commanding.{Commanded}
 use Rattle.ccr_lines.specs.Commands.{set_pipeline}
-use Rattle.ccr_serve.specs.Views.{view_of}
+use Rattle.ccr_serve.specs.Views.{full_view, bare_view}
 use Rattle.ccr_serve.proofs.Refusing.{came_stopped}
-use Rattle.ccr_serve.proofs.Steps.{after, cut_by_memory, none_added, calls_unmade, stops_item, unmade_printed}
+use Rattle.ccr_serve.proofs.Steps.{after, cut_by_memory, none_added, calls_unmade, stops_item}
 use Rattle.ccr_serve.proofs.Told.{not_read, set_begun, set_made, set_refused}
 use Rattle.ccr_serve.proofs.server.Server.set_pipeline.Goals as goal
 
 pub returns-in-Err-clause-came : goal.returns-in-Err-clause-came
 returns-in-Err-clause-came g c =
-    let view = view_of g.R.Runner.pairs g.S.Shelf.calls g.T.Storage.holds g.T.Storage.leaves g.T.Storage.tally in
+    let view = full_view g.R.Runner g.S.Shelf g.T.Storage g.O.Lines in
     not_read (places_data c.args.self.now.places) c.args.path.now c.in-Err.fault
-    (view c.args.self.now (g.O.Lines.written c.args.out.now)) (g.S.Shelf.calls c.read_pipeline.new.shelf)
+    (view c.args.self.now c.args.out.now) (g.S.Shelf.calls c.read_pipeline.new.shelf)
     c.requires.ready c.in-Err.ensures.err
 
 pub returns-in_default-clause-came : goal.returns-in_default-clause-came
 returns-in_default-clause-came g c =
-    let view = view_of g.R.Runner.pairs g.S.Shelf.calls g.T.Storage.holds g.T.Storage.leaves g.T.Storage.tally in
-    let v = view c.args.self.now (g.O.Lines.written c.args.out.now) in
+    let v = full_view g.R.Runner g.S.Shelf g.T.Storage g.O.Lines c.args.self.now c.args.out.now in
     let was = c.in-Ok.ensures.ok in
-    cut_by_memory (Commanded (places_data c.args.self.now.places) (set_pipeline c.args.path.now) 0) v
-    (g.S.Shelf.calls c.read_pipeline.new.shelf) v.pairs (g.O.Lines.written c.make_pipeline_room.new.out) None
+    cut_by_memory v None
     (set_begun (places_data c.args.self.now.places) c.args.path.now v (g.S.Shelf.calls c.read_pipeline.new.shelf)
     (Ok was.0) was.1) c.requires.ready (none_added _) c.make_pipeline_room.ensures.same
 
 pub returns-in-Ok-Ok-clause-came : goal.returns-in-Ok-Ok-clause-came
 returns-in-Ok-Ok-clause-came g c =
-    let view = view_of g.R.Runner.pairs g.S.Shelf.calls g.T.Storage.holds g.T.Storage.leaves g.T.Storage.tally in
-    set_made (places_data c.args.self.now.places) c.args.path.now (pipeline_data c.in-Ok.pipeline) c.in-Ok-Ok.field-0
-    c.in-Ok-Ok.field-0-0 (view c.args.self.now (g.O.Lines.written c.args.out.now)) (view c.make.new.self [])
-    (g.S.Shelf.calls c.read_pipeline.new.shelf) (g.O.Lines.written c.make_pipeline_room.new.out)
-    (g.O.Lines.written c.tell_set.new.out) c.in-Ok.ensures.ok c.in-Ok-Ok.field-0-is
+    let v = full_view g.R.Runner g.S.Shelf g.T.Storage g.O.Lines c.args.self.now c.args.out.now in
+    set_made (places_data c.args.self.now.places) c.args.path.now v c.in-Ok.ensures.ok c.in-Ok-Ok.field-0-is
     c.make_pipeline_room.ensures.same c.in-Ok-Ok.ensures.made c.tell_set.ensures.told
 
 pub returns-in-Ok-Err-clause-came : goal.returns-in-Ok-Err-clause-came
 returns-in-Ok-Err-clause-came g c =
-    let view = view_of g.R.Runner.pairs g.S.Shelf.calls g.T.Storage.holds g.T.Storage.leaves g.T.Storage.tally in
-    set_refused (places_data c.args.self.now.places) c.args.path.now (pipeline_data c.in-Ok.pipeline) c.in-Ok-Err.field-0
-    c.in-Ok-Err.fault (view c.args.self.now (g.O.Lines.written c.args.out.now)) (view c.make.new.self [])
-    (g.S.Shelf.calls c.read_pipeline.new.shelf) c.in-Ok.ensures.ok.0 (g.O.Lines.written c.make_pipeline_room.new.out)
-    c.in-Ok-Err.field-0-is c.in-Ok.ensures.ok.1 c.make_pipeline_room.ensures.same c.in-Ok-Err.ensures.made
+    let v = full_view g.R.Runner g.S.Shelf g.T.Storage g.O.Lines c.args.self.now c.args.out.now in
+    set_refused (places_data c.args.self.now.places) c.args.path.now c.in-Ok.ensures.ok.0 v c.in-Ok-Err.field-0-is
+    c.in-Ok.ensures.ok.1 c.make_pipeline_room.ensures.same c.in-Ok-Err.ensures.made
 
 pub returns-in-Err-make-clause-came : goal.returns-in-Err-make-clause-came
 returns-in-Err-make-clause-came g c =
-    let view = view_of g.R.Runner.pairs g.S.Shelf.calls g.T.Storage.holds g.T.Storage.leaves g.T.Storage.tally in
-    let v = view c.args.self.now (g.O.Lines.written c.args.out.now) in
+    let v = full_view g.R.Runner g.S.Shelf g.T.Storage g.O.Lines c.args.self.now c.args.out.now in
+    let bare = bare_view g.R.Runner g.S.Shelf g.T.Storage in
     let k = g.S.Shelf.calls c.read_pipeline.new.shelf in
-    let l = g.O.Lines.written c.make_pipeline_room.new.out in
-    let n = view c.make.new.self l in
-    came_stopped (places_data c.args.self.now.places) (set_pipeline c.args.path.now) c.in-Err-make.fault v n
-    (view c.make.new.self [])
-    (stops_item c.in-Err-make.fault (after v k v.pairs []) (view c.make.new.self []) c.in-Err-make.ensures.unmade)
-    (calls_unmade (Commanded (places_data c.args.self.now.places) (set_pipeline c.args.path.now) 0) v k v.pairs l n
-    c.in-Err-make.fault None
+    let fault = c.in-Err-make.fault in
+    came_stopped (places_data c.args.self.now.places) (set_pipeline c.args.path.now) fault (bare c.make.new.self)
+    (stops_item fault (after v k v.pairs []) (bare c.make.new.self) c.in-Err-make.ensures.unmade) (calls_unmade None
     (set_begun (places_data c.args.self.now.places) c.args.path.now v k (Ok c.in-Ok.ensures.ok.0) c.in-Ok.ensures.ok.1)
-    (none_added _) c.make_pipeline_room.ensures.same
-    (unmade_printed c.in-Err-make.fault (after v k v.pairs []) (view c.make.new.self []) l l refl
-    c.in-Err-make.ensures.unmade))
+    (none_added _) c.make_pipeline_room.ensures.same c.in-Err-make.ensures.unmade)

@@ -1,21 +1,19 @@
 use Rattle.std.proofs.Common.{refl}
 use Rattle.ccr_task.specs.Places.{places_data}
-use Rattle.ccr_serve.specs.Views.{view_of}
+use Rattle.ccr_serve.specs.Views.{full_view}
 use Rattle.ccr_serve.proofs.Steps.{cut_at_once, items_stop}
 use Rattle.ccr_serve.proofs.Turning.{turn_of_nobody}
 use Rattle.ccr_serve.proofs.server.Server.take_turn.Goals as goal
 
 pub returns-in-Ok-None-clause-served : goal.returns-in-Ok-None-clause-served
 returns-in-Ok-None-clause-served g c =
-    let view = view_of g.R.Runner.pairs g.S.Shelf.calls g.T.Storage.holds g.T.Storage.leaves g.T.Storage.tally in
-    turn_of_nobody (places_data c.args.self.now.places) (view c.args.self.now (g.O.Lines.written c.args.out.now))
-    c.requires.ready (rw c.in-Ok-None.field-0-is at c.in-Ok-None.ensures.due)
+    turn_of_nobody (places_data c.args.self.now.places) c.requires.ready
+    (rw c.in-Ok-None.field-0-is at c.in-Ok-None.ensures.due)
 
 pub returns-in-Err-clause-served : goal.returns-in-Err-clause-served
 returns-in-Err-clause-served g c =
-    let view = view_of g.R.Runner.pairs g.S.Shelf.calls g.T.Storage.holds g.T.Storage.leaves g.T.Storage.tally in
-    cut_at_once _ (view c.args.self.now (g.O.Lines.written c.args.out.now)) (g.O.Lines.written c.args.out.now)
-    (items_stop _ _) c.requires.ready refl
+    let v = full_view g.R.Runner g.S.Shelf g.T.Storage g.O.Lines c.args.self.now c.args.out.now in
+    cut_at_once v (items_stop _ _) c.requires.ready refl
 
 pub returns-in-Ok-clause-noted : goal.returns-in-Ok-clause-noted
 returns-in-Ok-clause-noted g c =

@@ -1,9 +1,8 @@
-use Rattle.ccr_serve.specs.Views.{view_of}
-use Rattle.ccr_serve.proofs.Standing.{ends_items}
+use Rattle.std.proofs.Common.{sym, subst}
+use Rattle.ccr_serve.specs.Served.{AfterItems}
 use Rattle.ccr_serve.proofs.server.Server.turn.Goals as goal
 
-pub returns-clause-kept : goal.returns-clause-kept
-returns-clause-kept g c =
-    let view = view_of g.R.Runner.pairs g.S.Shelf.calls g.T.Storage.holds g.T.Storage.leaves g.T.Storage.tally in
-    ends_items c.take_turn.result (view c.take_turn.new.self (g.O.Lines.written c.take_turn.new.out)) c.take_turn.ensures.kept
-    c.take_turn.ensures.stops
+pub returns-clause-after : goal.returns-clause-after
+returns-clause-after g c =
+    subst (λ closed. AfterItems g.R.Runner g.S.Shelf g.T.Storage g.O.Lines closed c.take_turn.result c.args.self.now
+    c.take_turn.new.self c.args.out.now c.take_turn.new.out) (sym c.if-self.false) c.take_turn.ensures.after
