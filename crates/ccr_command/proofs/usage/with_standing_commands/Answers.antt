@@ -1,0 +1,12 @@
+use Rattle.std.proofs.Common.{refl}
+use Rattle.std.proofs.lemmas.Result.{IfOk-weaker}
+use Rattle.clap.specs.Words.{app_of}
+use Rattle.ccr_command.proofs.Lines.{with_command}
+use Rattle.ccr_command.proofs.usage.with_standing_commands.Goals as goal
+
+pub returns : goal.returns
+returns c =
+    let one = with_command _ _ _ (app_of c.args.line) _ c.in_ok-line.ensures refl c.get_pipeline.ensures in
+    let two = with_command _ _ _ _ _ c.in_ok-line-2.ensures one c.in_ok-resources.ensures in
+    let three = with_command _ _ _ _ _ c.in_ok-line-3.ensures two c.in_ok-jobs.ensures in
+    IfOk-weaker c.subcommand-4.result _ _ (λ made h. with_command _ _ _ _ _ h three c.graph.ensures) c.subcommand-4.ensures
