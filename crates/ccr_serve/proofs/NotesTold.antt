@@ -32,8 +32,3 @@ pub if_ok : {A E : Type 0} {P Q : A → Type 0} (result : Result A E) → ((a : 
     → IfOk result Q
 if_ok (Ok a) so p = so a p
 if_ok (Err e) so p = tt
-
--- what stayed at an error as it was before a step that left it
-pub err_then : {A E X : Type 0} (result : Result A E) (x y z : X) → y ≡ z → OnErr result (x ≡ y) → OnErr result (x ≡ z)
-err_then (Ok a) x y z left same = tt
-err_then (Err e) x y z left same = same ∙ left
