@@ -21,34 +21,10 @@ notes_by (Some h) IsIt fault old new is (inr (text, f, made, has, told)) =
     inr (text, f, subst IsIt (ap (λ o. unwrap_or o []) made) is, has, told)
 notes_by None IsIt fault old new is (inr (text, f, made, has, told)) = absurd (cc made)
 
--- what holds anyhow holds of a result that is good
-pub on_ok : {A B P : Type 0} (result : Result A B) → P → OnOk result P
-on_ok (Ok a) p = p
-on_ok (Err e) p = tt
-
 -- the core took the answer
 pub fault_own : (c after : CoreData) (e : EventData) (reply : Reply) (own told : Option StepFault) → told ≡ own
     → Takes c after e (Ok reply) → IsFaultOf c e own told
 fault_own c after e reply own told same takes = inl (same, reply, after, takes)
-
--- the core had no room for it
-pub fault_full : (c after : CoreData) (e : EventData) (own told : Option StepFault) → told ≡ Some TableFull → after ≡ c
-    → Takes c after e (Err core_fault.TableFull) → IsFaultOf c e own told
-fault_full c after e own told is same takes =
-    inr (is, subst (λ d. Takes c d e (Err core_fault.TableFull)) same takes)
-
--- what is told of an edit, and then of those behind it
-module _ (es : List Edit) (i : ℕ) (x : Edit) (lt : i < length es) (is : x ≡ get_or es i x) where
-  one_more : suc i ≡ i + 1
-  one_more = omega arith
-
-  next : drop i es ≡ x ∷ drop (i + 1) es
-  next = drop-cons es i x lt
-      ∙ (ap (λ y. y ∷ drop (suc i) es) (sym is) ∙ ap (λ k. x ∷ drop k es) one_more)
-
-  pub cut_on : (old mid new : List Text) → NotesEdit (edit_data x) old mid
-      → NotesCut (change_data (drop (i + 1) es)) mid new → NotesCut (change_data (drop i es)) old new
-  cut_on old mid new first rest = subst (λ xs. NotesCut (change_data xs) old new) (sym next) (mid, first, rest)
 
 -- ---- results
 -- what holds of a good result has what follows from it
@@ -56,8 +32,3 @@ pub if_ok : {A E : Type 0} {P Q : A → Type 0} (result : Result A E) → ((a : 
     → IfOk result Q
 if_ok (Ok a) so p = so a p
 if_ok (Err e) so p = tt
-
--- what stayed at an error as it was before a step that left it
-pub err_then : {A E X : Type 0} (result : Result A E) (x y z : X) → y ≡ z → OnErr result (x ≡ y) → OnErr result (x ≡ z)
-err_then (Ok a) x y z left same = tt
-err_then (Err e) x y z left same = same ∙ left

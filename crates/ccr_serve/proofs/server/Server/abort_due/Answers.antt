@@ -34,16 +34,8 @@ returns-in-Ok-clause-served g c before asked =
     let name : c.as_str-job.result.now ≡ string_bytes c.args.due.job = c.as_str-job.ensures.value in
     abort_served (places_data c.args.self.now.places) v looked (string_bytes c.args.due.job) c.args.due.number
     c.args.due.rank c.in-Ok.reply (bare c.abort.new.self) (g.S.Shelf.calls c.clear_away.new.shelf)
-    (g.O.Lines.written c.tell_ended.new.out) asked (subst (λ j. Made (abort j c.args.due.number) (Ok c.in-Ok.reply)
-    (after v looked (g.R.Runner.pairs c.args.self.now.runner) []) (bare c.abort.new.self)) c.requires.name
-    c.in-Ok.ensures.made)
-    (subst (λ n. Clears (places_data c.args.self.now.places) (string_bytes c.args.due.job) c.args.due.number c.in-Ok.reply n
-    (g.S.Shelf.calls c.clear_away.new.shelf)) c.in-Ok.ensures.made.rest.calls
-    (subst (λ j. Clears (places_data c.args.self.now.places) j c.args.due.number c.in-Ok.reply
-    (g.S.Shelf.calls c.abort.new.self.shelf) (g.S.Shelf.calls c.clear_away.new.shelf)) name
-    (subst (λ q. Clears (places_data q) c.as_str-job.result.now c.args.due.number c.in-Ok.reply
-    (g.S.Shelf.calls c.abort.new.self.shelf) (g.S.Shelf.calls c.clear_away.new.shelf)) c.in-Ok.ensures.made.rest.places
-    c.clear_away.ensures))) c.requires.due (λ h. subst (λ j. g.O.Lines.written c.tell_ended.new.out
+    (g.O.Lines.written c.tell_ended.new.out) asked (rw c.requires.name at c.in-Ok.ensures.made)
+    (rw (c.in-Ok.ensures.made.rest.places, name, c.in-Ok.ensures.made.rest.calls) at c.clear_away.ensures) c.requires.due (λ h. subst (λ j. g.O.Lines.written c.tell_ended.new.out
     ≡ g.O.Lines.written c.args.out.now ++ lines_of (abort j c.args.due.number) (Ok c.in-Ok.reply) h) name
     (subst (λ w. g.O.Lines.written c.tell_ended.new.out
     ≡ w ++ lines_of (abort c.as_str-job.result.now c.args.due.number) (Ok c.in-Ok.reply) h)
@@ -54,8 +46,7 @@ returns-in-Ok-clause-noted g c =
     let core = core_data c.args.self.now.core in
     let job = string_bytes c.args.due.job in
     let told = g.O.Lines.notes c.args.out.now in
-    subst (λ n. NotesOf (IsStepHead core job c.args.due.number) (Some Aborted) told n) (sym c.tell_ended.ensures.notes)
+    rw c.tell_ended.ensures.notes
     (notes_by c.waiting_head-head.result (IsStepHead core job c.args.due.number) (Some Aborted) told
     (g.O.Lines.notes c.tell_fault.new.out)
-    (subst (λ j. IfSome c.waiting_head-head.result (λ h. IsStepHead core j c.args.due.number (string_bytes h)))
-    c.as_str-job.ensures.value c.waiting_head-head.ensures) c.tell_fault.ensures.noted)
+    (rw c.as_str-job.ensures.value at c.waiting_head-head.ensures) c.tell_fault.ensures.noted)

@@ -22,9 +22,7 @@ returns-in_default-clause-served g c before asked =
     let looked = g.S.Shelf.calls c.args.self.now.shelf in
     turn_unanswered (places_data c.args.self.now.places) v (string_bytes c.args.due.job) c.args.due.number c.args.due.rank
     looked c.requires.due asked (g.R.Runner.pairs c.answer_wanted.new.runner) (g.S.Shelf.calls c.answer_wanted.new.shelf)
-    (subst (λ j. BeginsWant (places_data c.args.self.now.places) v.core j c.args.due.number v.pairs
-    (g.R.Runner.pairs c.answer_wanted.new.runner) looked (g.S.Shelf.calls c.answer_wanted.new.shelf))
-    c.as_str-job.ensures.value c.in_default.ensures.err) c.requires.ready refl
+    (rw c.as_str-job.ensures.value at c.in_default.ensures.err) c.requires.ready refl
 
 pub returns-clause-served : goal.returns-clause-served
 returns-clause-served g c before asked =
@@ -33,10 +31,7 @@ returns-clause-served g c before asked =
     let looked = g.S.Shelf.calls c.args.self.now.shelf in
     turn_unmade (places_data c.args.self.now.places) v (string_bytes c.args.due.job) c.args.due.number c.args.due.rank
     looked c.requires.due asked (g.R.Runner.pairs c.answer_wanted.new.runner) (g.S.Shelf.calls c.answer_wanted.new.shelf)
-    (subst (λ j. AnswersWant (places_data c.args.self.now.places) v.core j c.args.due.number c.in-Ok.turn
-    (said_data c.in-Ok.said) v.pairs (g.R.Runner.pairs c.answer_wanted.new.runner) looked
-    (g.S.Shelf.calls c.answer_wanted.new.shelf)) c.as_str-job.ensures.value c.in-Ok.ensures.ok) refl
-    c.in-Err.ensures.unmade
+    (rw c.as_str-job.ensures.value at c.in-Ok.ensures.ok) refl c.in-Err.ensures.unmade
 
 pub returns-in-Ok-give-clause-served : goal.returns-in-Ok-give-clause-served
 returns-in-Ok-give-clause-served g c before asked =
@@ -50,19 +45,8 @@ returns-in-Ok-give-clause-served g c before asked =
     c.in-Ok.turn (said_data c.in-Ok.said) c.in-Ok-give.reply
     (g.S.Shelf.calls c.answer_wanted.new.shelf) (g.R.Runner.pairs c.answer_wanted.new.runner)
     (bare c.give.new.self) (g.S.Shelf.calls c.clear_away.new.shelf) (g.O.Lines.written c.tell_ended.new.out) asked
-    (subst (λ j. AnswersWant (places_data c.args.self.now.places) v.core j c.args.due.number c.in-Ok.turn
-    (said_data c.in-Ok.said) v.pairs (g.R.Runner.pairs c.answer_wanted.new.runner) looked
-    (g.S.Shelf.calls c.answer_wanted.new.shelf)) name c.in-Ok.ensures.ok)
-    (subst (λ j. Gives j c.args.due.number c.in-Ok.turn (answer_data c.in-Ok.said.answered) c.in-Ok-give.reply
-    (after v (g.S.Shelf.calls c.answer_wanted.new.shelf) (g.R.Runner.pairs c.answer_wanted.new.runner) [])
-    (bare c.give.new.self)) c.requires.one c.in-Ok-give.ensures.gives)
-    (subst (λ n. Clears (places_data c.args.self.now.places) job c.args.due.number c.in-Ok-give.reply n
-    (g.S.Shelf.calls c.clear_away.new.shelf)) c.in-Ok-give.ensures.gives.rest.calls
-    (subst (λ j. Clears (places_data c.args.self.now.places) j c.args.due.number c.in-Ok-give.reply
-    (g.S.Shelf.calls c.give.new.self.shelf) (g.S.Shelf.calls c.clear_away.new.shelf)) name
-    (subst (λ q. Clears (places_data q) c.as_str-job.result.now c.args.due.number c.in-Ok-give.reply
-    (g.S.Shelf.calls c.give.new.self.shelf) (g.S.Shelf.calls c.clear_away.new.shelf)) c.in-Ok-give.ensures.gives.rest.places
-    c.clear_away.ensures))) c.requires.due (λ t y h. subst (λ j. g.O.Lines.written c.tell_ended.new.out
+    (rw name at c.in-Ok.ensures.ok) (rw c.requires.one at c.in-Ok-give.ensures.gives)
+    (rw (c.in-Ok-give.ensures.gives.rest.places, name, c.in-Ok-give.ensures.gives.rest.calls) at c.clear_away.ensures) c.requires.due (λ t y h. subst (λ j. g.O.Lines.written c.tell_ended.new.out
     ≡ g.O.Lines.written c.args.out.now ++ lines_of (answer j c.args.due.number t y) (Ok c.in-Ok-give.reply) h) name
     (subst (λ w. g.O.Lines.written c.tell_ended.new.out
     ≡ w ++ lines_of (answer c.as_str-job.result.now c.args.due.number t y) (Ok c.in-Ok-give.reply) h)
@@ -82,20 +66,11 @@ returns-in-Ok-give-clause-noted g c =
       record {
         turn = c.in-Ok.turn;
         x = said_data c.in-Ok.said;
-        answered = subst
-            (λ p. AnswersWant places core job c.args.due.number c.in-Ok.turn (said_data c.in-Ok.said) pairs p looked calls)
-            (sym c.in-Ok-give.ensures.gives.rest.pairs) (subst
-            (λ j. AnswersWant places core j c.args.due.number c.in-Ok.turn (said_data c.in-Ok.said) pairs
-            (g.R.Runner.pairs c.answer_wanted.new.runner) looked calls) name c.in-Ok.ensures.ok);
+        answered = rw (name, ← c.in-Ok-give.ensures.gives.rest.pairs) at c.in-Ok.ensures.ok;
         fault = c.give.new.fault;
-        is_fault = subst
-            (λ j. IsFaultOf core (answer j c.args.due.number c.in-Ok.turn (answer_data c.in-Ok.said.answered))
-            c.in-Ok.said.fault c.give.new.fault) c.requires.one c.in-Ok-give.ensures.fault;
-        notes = subst (λ n. NotesOf (IsHead core job c.args.due.number) c.give.new.fault told n)
-            (sym c.tell_ended.ensures.notes)
+        is_fault = rw c.requires.one at c.in-Ok-give.ensures.fault;
+        notes = rw c.tell_ended.ensures.notes
             (notes_by c.asking_head-head.result (IsHead core job c.args.due.number) c.give.new.fault told
-            (g.O.Lines.notes c.tell_fault.new.out)
-            (subst (λ j. IfSome c.asking_head-head.result (λ h. IsHead core j c.args.due.number (string_bytes h))) name
-            c.asking_head-head.ensures) c.tell_fault.ensures.noted);
+            (g.O.Lines.notes c.tell_fault.new.out) (rw name at c.asking_head-head.ensures) c.tell_fault.ensures.noted);
       },
     )

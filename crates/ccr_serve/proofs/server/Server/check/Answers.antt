@@ -23,9 +23,7 @@ pub returns-in-Ok-make-clause-served : goal.returns-in-Ok-make-clause-served
 returns-in-Ok-make-clause-served g c =
     let o = c.in-Ok-find_named.ensures.ok in
     check_made (places_data c.args.self.now.places) o.1 c.in-Ok.ensures.copied o.2 c.begin.ensures.same o.3
-    (subst (λ f. Finds (places_data c.args.self.now.places) o.0 (newest o.0 c.args.self.now.core.history)
-    (g.S.Shelf.calls c.args.self.now.shelf) (g.S.Shelf.calls c.find_named.new.shelf) o.1 (found_data f))
-    c.in-Versions.is o.4) c.in-Ok-make.ensures.made
+    (rw c.in-Versions.is at o.4) c.in-Ok-make.ensures.made
     (c.tell_checked.ensures.told c.in-Versions.versions.items c.make.new.self.core.history) c.is_ok.ensures.value
 
 pub returns-in-Err-clause-served : goal.returns-in-Err-clause-served
@@ -36,15 +34,10 @@ returns-in-Err-clause-served g c =
     (check_begun (places_data c.args.self.now.places) c.args.name.now o.0 v (g.S.Shelf.calls c.find_named.new.shelf) o.1
     o.2 (found_begun (places_data c.args.self.now.places) o.0 (newest o.0 c.args.self.now.core.history)
     (g.S.Shelf.calls c.args.self.now.shelf) (g.S.Shelf.calls c.find_named.new.shelf) o.1 c.in-Versions.versions.items
-    (subst (λ f. Finds (places_data c.args.self.now.places) o.0 (newest o.0 c.args.self.now.core.history)
-    (g.S.Shelf.calls c.args.self.now.shelf) (g.S.Shelf.calls c.find_named.new.shelf) o.1 (found_data f))
-    c.in-Versions.is o.4))) o.3 c.begin.ensures.same c.in-Err.ensures.unmade
+    (rw c.in-Versions.is at o.4))) o.3 c.begin.ensures.same c.in-Err.ensures.unmade
 
 pub returns-in-Nothing-clause-served : goal.returns-in-Nothing-clause-served
 returns-in-Nothing-clause-served g c =
     let o = c.in-Ok-find_named.ensures.ok in
     check_found_nothing (places_data c.args.self.now.places) c.args.name.now o.1 c.in-Nothing.cause c.requires.ready o.2
-    c.begin.ensures.same o.3
-    (subst (λ f. Finds (places_data c.args.self.now.places) o.0 (newest o.0 c.args.self.now.core.history)
-    (g.S.Shelf.calls c.args.self.now.shelf) (g.S.Shelf.calls c.find_named.new.shelf) o.1 (found_data f))
-    c.in-Nothing.is o.4) (c.hand_out.ensures.same ∙ c.tell_cause.ensures)
+    c.begin.ensures.same o.3 (rw c.in-Nothing.is at o.4) (c.hand_out.ensures.same ∙ c.tell_cause.ensures)

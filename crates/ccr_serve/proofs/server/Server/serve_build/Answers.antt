@@ -5,7 +5,7 @@ use Rattle.ccr_core.specs.Cores.{core_data}
 use Rattle.ccr_serve.specs.Aborts.{AbortIsAsked}
 use Rattle.ccr_serve.specs.Noted.{IsStepHead, NotesOf, NotesAnswer}
 use Rattle.ccr_serve.specs.Views.{full_view}
-use Rattle.ccr_serve.proofs.NotesTold.{if_ok, err_then}
+use Rattle.ccr_serve.proofs.NotesTold.{if_ok}
 use Rattle.ccr_serve.proofs.Steps.{cut_at_once, cut_unchanged, items_stop}
 use Rattle.ccr_serve.proofs.Turning.{from_lines}
 use Rattle.ccr_serve.proofs.server.Server.serve_build.Goals as goal
@@ -23,20 +23,12 @@ returns-in_default-take_abort-clause-served g c =
 pub returns-then-asked-clause-served : goal.returns-then-asked-clause-served
 returns-then-asked-clause-served g c =
     from_lines c.begin_turn.ensures.same (c.abort_due.ensures.served (g.S.Shelf.calls c.args.self.now.shelf)
-    (subst (λ a. AbortIsAsked (abort_folder (places_data c.args.self.now.places) (string_bytes c.args.due.job)
-    c.args.due.number) a (g.S.Shelf.calls c.args.self.now.shelf) (g.S.Shelf.calls c.take_abort.new.shelf))
-    c.if-asked.true (subst (λ j. AbortIsAsked (abort_folder (places_data c.args.self.now.places) j c.args.due.number)
-    c.in-Ok-take_abort.asked (g.S.Shelf.calls c.args.self.now.shelf) (g.S.Shelf.calls c.take_abort.new.shelf))
-    c.as_str-job.ensures.value c.in-Ok-take_abort.ensures.asked)))
+    (rw (c.as_str-job.ensures.value, c.if-asked.true) at c.in-Ok-take_abort.ensures.asked))
 
 pub returns-else-asked-clause-served : goal.returns-else-asked-clause-served
 returns-else-asked-clause-served g c =
     from_lines c.begin_turn.ensures.same (c.answer_due.ensures.served (g.S.Shelf.calls c.args.self.now.shelf)
-    (subst (λ a. AbortIsAsked (abort_folder (places_data c.args.self.now.places) (string_bytes c.args.due.job)
-    c.args.due.number) a (g.S.Shelf.calls c.args.self.now.shelf) (g.S.Shelf.calls c.take_abort.new.shelf))
-    c.if-asked.false (subst (λ j. AbortIsAsked (abort_folder (places_data c.args.self.now.places) j c.args.due.number)
-    c.in-Ok-take_abort.asked (g.S.Shelf.calls c.args.self.now.shelf) (g.S.Shelf.calls c.take_abort.new.shelf))
-    c.as_str-job.ensures.value c.in-Ok-take_abort.ensures.asked)))
+    (rw (c.as_str-job.ensures.value, c.if-asked.false) at c.in-Ok-take_abort.ensures.asked))
 
 pub returns-then-asked-clause-noted : goal.returns-then-asked-clause-noted
 returns-then-asked-clause-noted g c =
@@ -45,11 +37,7 @@ returns-then-asked-clause-noted g c =
     if_ok c.abort_due.result (λ a n. (
       g.S.Shelf.calls c.take_abort.new.shelf,
       inl (
-        subst (λ a. AbortIsAsked (abort_folder (places_data c.args.self.now.places) job c.args.due.number) a
-            (g.S.Shelf.calls c.args.self.now.shelf) (g.S.Shelf.calls c.take_abort.new.shelf)) c.if-asked.true
-            (subst (λ j. AbortIsAsked (abort_folder (places_data c.args.self.now.places) j c.args.due.number)
-            c.in-Ok-take_abort.asked (g.S.Shelf.calls c.args.self.now.shelf) (g.S.Shelf.calls c.take_abort.new.shelf))
-            c.as_str-job.ensures.value c.in-Ok-take_abort.ensures.asked),
+        rw (c.as_str-job.ensures.value, c.if-asked.true) at c.in-Ok-take_abort.ensures.asked,
         subst (λ o. NotesOf (IsStepHead core job c.args.due.number) (Some Aborted) o (g.O.Lines.notes c.abort_due.new.out))
             c.begin_turn.ensures.notes n,
       ),
@@ -57,8 +45,7 @@ returns-then-asked-clause-noted g c =
 
 pub returns-then-asked-clause-quiet : goal.returns-then-asked-clause-quiet
 returns-then-asked-clause-quiet g c =
-    err_then c.abort_due.result (g.O.Lines.notes c.abort_due.new.out) (g.O.Lines.notes c.begin_turn.new.out)
-    (g.O.Lines.notes c.args.out.now) c.begin_turn.ensures.notes c.abort_due.ensures.quiet
+    rw c.begin_turn.ensures.notes at c.abort_due.ensures.quiet
 
 pub returns-else-asked-clause-noted : goal.returns-else-asked-clause-noted
 returns-else-asked-clause-noted g c =
@@ -68,11 +55,7 @@ returns-else-asked-clause-noted g c =
     if_ok c.answer_due.result (λ a n. (
       g.S.Shelf.calls c.take_abort.new.shelf,
       inr (
-        subst (λ a. AbortIsAsked (abort_folder places job c.args.due.number) a
-            (g.S.Shelf.calls c.args.self.now.shelf) (g.S.Shelf.calls c.take_abort.new.shelf)) c.if-asked.false
-            (subst (λ j. AbortIsAsked (abort_folder places j c.args.due.number) c.in-Ok-take_abort.asked
-            (g.S.Shelf.calls c.args.self.now.shelf) (g.S.Shelf.calls c.take_abort.new.shelf))
-            c.as_str-job.ensures.value c.in-Ok-take_abort.ensures.asked),
+        rw (c.as_str-job.ensures.value, c.if-asked.false) at c.in-Ok-take_abort.ensures.asked,
         n.0,
         subst (λ o. NotesAnswer places core job c.args.due.number (g.R.Runner.pairs c.args.self.now.runner)
             (g.R.Runner.pairs c.answer_due.new.self.runner) (g.S.Shelf.calls c.take_abort.new.shelf) n.0 o
@@ -82,5 +65,4 @@ returns-else-asked-clause-noted g c =
 
 pub returns-else-asked-clause-quiet : goal.returns-else-asked-clause-quiet
 returns-else-asked-clause-quiet g c =
-    err_then c.answer_due.result (g.O.Lines.notes c.answer_due.new.out) (g.O.Lines.notes c.begin_turn.new.out)
-    (g.O.Lines.notes c.args.out.now) c.begin_turn.ensures.notes c.answer_due.ensures.quiet
+    rw c.begin_turn.ensures.notes at c.answer_due.ensures.quiet
