@@ -75,9 +75,18 @@ impl Script {
         Ok(())
     }
 
-    /// Adds a build of a job, which runs, to the history that the server begins with.
-    pub(super) fn add_build(&mut self, alloc: Global, job: &str) -> Result<()> {
-        self.history.add_build(alloc, job, &[])?;
+    /// Adds a build of a job, which runs, to the history that the server begins with; so many, where a number follows the
+    /// name.
+    pub(super) fn add_builds(&mut self, alloc: Global, words: &str) -> Result<()> {
+        let (job, number) = split(words);
+        let count = if number.is_empty() {
+            1
+        } else {
+            number_of(number)?
+        };
+        for _ in 0..count {
+            self.history.add_build(alloc, job, &[])?;
+        }
         Ok(())
     }
 
