@@ -1,5 +1,5 @@
 -- A history that the files held is kept.
-use Rattle.std.proofs.Common.{◌≡◌, ◌≤◌, sym, subst, inl, inr, arith, Result, Ok, Err, IsTrue, OnOk, OnErr}
+use Rattle.std.proofs.Common.{◌≡◌, ◌≤◌, sym, subst, inl, inr, arith, Result, Ok, Err, OnOk, OnErr}
 use Rattle.sqlite_disk.specs.declared.Disk.{Ghosts}
 use Rattle.sqlite_store.specs.declared.store.FileStore.{FileStore}
 use Rattle.sqlite_trees.specs.View.{doubt}

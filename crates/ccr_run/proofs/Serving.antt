@@ -6,15 +6,13 @@ use Rattle.ccr_process.specs.Runs.{Pair}
 use Rattle.ccr_task.specs.declared.places.Places.{Places}
 use Rattle.ccr_task.specs.Places.{PlacesData, places_data}
 use Rattle.ccr_task.specs.Calls.{CallData}
-use Rattle.ccr_core.specs.Cores.{core_data}
-use Rattle.ccr_core.specs.Resumed.{IsResumed}
 use Rattle.ccr_storage.specs.declared.fault.StoreFault.{StoreFault}
 use Rattle.ccr_storage.specs.declared.tally.Tally.{Tally}
 use Rattle.ccr_serve.specs.declared.fault.ServeFault.{ServeFault}
 use Rattle.ccr_serve.specs.declared.server.Server.{Server}
 use Rattle.ccr_serve.specs.Commanding.{CameOf}
 use Rattle.ccr_lines.specs.Commands.{command_data}
-use Rattle.ccr_serve.specs.Views.{view_of, IsReady}
+use Rattle.ccr_serve.specs.Views.{view_of}
 use Rattle.ccr_run.specs.declared.failure.Failure.{Failure}
 use Rattle.ccr_run.specs.declared.order.Order.{Order}
 use Rattle.ccr_run.specs.declared.run.Outcome.{Outcome}

@@ -1,5 +1,5 @@
 -- Why no history is found, from what the parts of a load say.
-use Rattle.std.proofs.Common.{◌≡◌, ◌≢◌, Result, Ok, Err, IfErr, inl, inr}
+use Rattle.std.proofs.Common.{Result, Ok, Err, IfErr, inl, inr}
 use Rattle.sqlite_trees.specs.declared.store.Store.{Ghosts}
 use Rattle.sqlite_wal.specs.Recovery.{Image}
 use Rattle.sqlite.specs.Held.{Held, state}

@@ -39,7 +39,7 @@ impl<'a, 'e, R: Eprint> Telling<'a, 'e, R> {
 
     /// Tells a refusal.
     pub fn refusal(&mut self, refusal: Refusal<'e>)
-        ensures { told_data self.new ≡ record (told_data self.old) { refusal = Some (refusal_data refusal) } }
+        ensures { told_data self.new ≡ record (told_data self.old) { refusal = Some (refusal_data refusal.entry) } }
     {
         self.refusal = Some(refusal);
         let _ = eprintln!(self.rt; "{refusal}");

@@ -1,4 +1,4 @@
-use Rattle.std.proofs.Common.{◌++◌, Some, None, option_map, ap, inl, inr, refl}
+use Rattle.std.proofs.Common.{◌++◌, Some, option_map, ap, inl, inr, refl}
 use Rattle.sqlite_wal.specs.Files.{image_at}
 use Rattle.sqlite.specs.Files.{over_files}
 use Rattle.ccr_task.specs.Shelves.{folders_calls}
