@@ -25,8 +25,8 @@ module _ {R S T O : Type 0} (r : runner.Ghosts R) (s : shelf.Ghosts S) (t : stor
   Serving part result old new before after =
       Calls (part (places_data old.places)) (full_view r s t o old before) (is_ok result) (full_view r s t o new after)
 
-  -- what was done is a turn of the job's build of this number, if it is counted from before it was looked, with this answer,
-  -- whether its abort is asked
+  -- WHAT WAS DONE OF A TURN of the job's build of this number, of which it was just looked, with this answer, whether its abort
+  -- is asked: with that look it is a turn
   abbrev pub ServingLooked : {A : Type 0} → Bool → Text → ℕ → Result A ServeFault → Server R S T → Server R S T → O → O
       → Type 0
   ServingLooked asked job number result old new before after =

@@ -1,16 +1,14 @@
-use Rattle.std.proofs.Common.{◌≡◌, ◌++◌, [], Ok, Some, IsSome, IfSome, is_some, ap, refl, string_bytes, subst, sym}
+use Rattle.std.proofs.Common.{◌≡◌, ◌++◌, Ok, Some, IsSome, is_some, ap, refl, string_bytes, subst, sym}
 use Rattle.ccr_task.specs.Places.{places_data}
 use Rattle.ccr_task.specs.declared.said.StepFault.TheVariants.{Aborted}
 use Rattle.ccr_core.specs.Cores.{core_data}
 use Rattle.ccr_core.specs.Events.{abort}
 use Rattle.ccr_core.specs.State.{running_at}
 use Rattle.ccr_lines.specs.Lines.{lines_of}
-use Rattle.ccr_serve.specs.Aborts.{Clears}
-use Rattle.ccr_serve.specs.Noted.{IsStepHead, NotesOf}
-use Rattle.ccr_serve.specs.Views.{full_view, bare_view, with_calls, Made}
+use Rattle.ccr_serve.specs.Noted.{IsStepHead}
+use Rattle.ccr_serve.specs.Views.{full_view, bare_view, with_calls}
 use Rattle.ccr_serve.proofs.Cutting.{abort_unmade}
 use Rattle.ccr_serve.proofs.NotesTold.{notes_by}
-use Rattle.ccr_serve.proofs.Steps.{after}
 use Rattle.ccr_serve.proofs.Turning.{abort_served}
 use Rattle.ccr_serve.proofs.server.Server.abort_due.Goals as goal
 

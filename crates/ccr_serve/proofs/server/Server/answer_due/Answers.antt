@@ -1,17 +1,13 @@
-use Rattle.std.proofs.Common.{◌≡◌, ◌++◌, [], Ok, IfSome, refl, string_bytes, subst, sym}
-use Rattle.ccr_steps.specs.Asks.{answer_data}
+use Rattle.std.proofs.Common.{◌≡◌, ◌++◌, Ok, refl, string_bytes, subst}
 use Rattle.ccr_task.specs.Faulty.{said_data}
 use Rattle.ccr_task.specs.Places.{places_data}
 use Rattle.ccr_core.specs.Cores.{core_data}
 use Rattle.ccr_core.specs.Events.{answer}
 use Rattle.ccr_lines.specs.Lines.{lines_of}
-use Rattle.ccr_serve.specs.Aborts.{Clears}
-use Rattle.ccr_serve.specs.Due.{AnswersWant, BeginsWant, Gives}
-use Rattle.ccr_serve.specs.Noted.{IsHead, NotesOf, IsFaultOf}
+use Rattle.ccr_serve.specs.Noted.{IsHead}
 use Rattle.ccr_serve.specs.Views.{full_view, bare_view, with_calls}
 use Rattle.ccr_serve.proofs.Cutting.{turn_unanswered, turn_unmade}
 use Rattle.ccr_serve.proofs.NotesTold.{notes_by}
-use Rattle.ccr_serve.proofs.Steps.{after}
 use Rattle.ccr_serve.proofs.Turning.{turn_served}
 use Rattle.ccr_serve.proofs.server.Server.answer_due.Goals as goal
 

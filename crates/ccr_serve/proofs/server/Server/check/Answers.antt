@@ -1,6 +1,6 @@
-use Rattle.std.proofs.Common.{◌≡◌, ◌∙◌, subst}
+use Rattle.std.proofs.Common.{◌≡◌, ◌∙◌}
 use Rattle.ccr_task.specs.Places.{places_data}
-use Rattle.ccr_serve.specs.Found.{found_data, newest, Finds}
+use Rattle.ccr_serve.specs.Found.{newest}
 use Rattle.ccr_serve.specs.Views.{full_view}
 use Rattle.ccr_serve.proofs.Begun.{found_begun}
 use Rattle.ccr_serve.proofs.Steps.{cut_at_once, cut_by_memory, noting_stop, calls_unmade, check_begun, check_made, check_found_nothing}
@@ -8,8 +8,7 @@ use Rattle.ccr_serve.proofs.server.Server.check.Goals as goal
 
 pub returns-in_default-clause-served : goal.returns-in_default-clause-served
 returns-in_default-clause-served g c =
-    let v = full_view g.R.Runner g.S.Shelf g.T.Storage g.O.Lines c.args.self.now c.args.out.now in
-    cut_at_once v (noting_stop _ _ (λ ds. ds ≡ ds)) c.requires.ready c.begin.ensures.same
+    cut_at_once _ (noting_stop _ _ (λ ds. ds ≡ ds)) c.requires.ready c.begin.ensures.same
 
 pub returns-in_default-find_named-clause-served : goal.returns-in_default-find_named-clause-served
 returns-in_default-find_named-clause-served g c =

@@ -1,6 +1,5 @@
 use Rattle.std.proofs.Common.{◌≡◌, [], ◌∷◌, Bool, true, refl, subst}
 use Rattle.ccr_task.specs.Places.{places_data}
-use Rattle.ccr_lines.specs.Commands.{check_resource}
 use Rattle.ccr_serve.specs.Items.{Items, Noting}
 use Rattle.ccr_serve.specs.Items as item
 use Rattle.ccr_serve.specs.Serving.{Serves}
@@ -12,9 +11,7 @@ use Rattle.ccr_serve.proofs.server.Server.check_resource.Goals as goal
 
 pub returns-in-Err-clause-came : goal.returns-in-Err-clause-came
 returns-in-Err-clause-came g c =
-    let v = full_view g.R.Runner g.S.Shelf g.T.Storage g.O.Lines c.args.self.now c.args.out.now in
-    lacks (places_data c.args.self.now.places) (check_resource c.args.name.now) c.in-Err.fault v c.requires.ready refl
-    c.in-Err.ensures.lacks
+    lacks _ _ c.in-Err.fault _ c.requires.ready refl c.in-Err.ensures.lacks
 
 pub returns-in-Ok-true-clause-came : goal.returns-in-Ok-true-clause-came
 returns-in-Ok-true-clause-came g c =

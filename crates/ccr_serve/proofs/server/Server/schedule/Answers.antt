@@ -2,14 +2,12 @@ use Rattle.std.proofs.Common.{◌++◌, ◌∙◌, ap}
 use Rattle.ccr_core.specs.Events as event
 use Rattle.ccr_lines.specs.Lines.{lines_of}
 use Rattle.ccr_task.specs.Places.{places_data}
-use Rattle.ccr_serve.specs.Views.{full_view}
 use Rattle.ccr_serve.proofs.Steps.{cut_at_once, items_stop, unmade_at_once, schedule_made}
 use Rattle.ccr_serve.proofs.server.Server.schedule.Goals as goal
 
 pub returns-in_default-clause-served : goal.returns-in_default-clause-served
 returns-in_default-clause-served g c =
-    let v = full_view g.R.Runner g.S.Shelf g.T.Storage g.O.Lines c.args.self.now c.args.out.now in
-    cut_at_once v (items_stop _ _) c.requires.ready c.begin.ensures.same
+    cut_at_once _ (items_stop _ _) c.requires.ready c.begin.ensures.same
 
 pub returns-in-Ok-make-clause-served : goal.returns-in-Ok-make-clause-served
 returns-in-Ok-make-clause-served g c =

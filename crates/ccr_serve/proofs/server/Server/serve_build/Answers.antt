@@ -1,10 +1,8 @@
 use Rattle.std.proofs.Common.{Some, inl, inr, string_bytes, subst}
-use Rattle.ccr_task.specs.Places.{places_data, abort_folder}
+use Rattle.ccr_task.specs.Places.{places_data}
 use Rattle.ccr_task.specs.declared.said.StepFault.TheVariants.{Aborted}
 use Rattle.ccr_core.specs.Cores.{core_data}
-use Rattle.ccr_serve.specs.Aborts.{AbortIsAsked}
 use Rattle.ccr_serve.specs.Noted.{IsStepHead, NotesOf, NotesAnswer}
-use Rattle.ccr_serve.specs.Views.{full_view}
 use Rattle.ccr_serve.proofs.NotesTold.{if_ok}
 use Rattle.ccr_serve.proofs.Steps.{cut_at_once, cut_unchanged, items_stop}
 use Rattle.ccr_serve.proofs.Turning.{from_lines}
@@ -12,13 +10,11 @@ use Rattle.ccr_serve.proofs.server.Server.serve_build.Goals as goal
 
 pub returns-in_default-clause-served : goal.returns-in_default-clause-served
 returns-in_default-clause-served g c =
-    let v = full_view g.R.Runner g.S.Shelf g.T.Storage g.O.Lines c.args.self.now c.args.out.now in
-    cut_at_once v (items_stop _ _) c.requires.ready c.begin_turn.ensures.same
+    cut_at_once _ (items_stop _ _) c.requires.ready c.begin_turn.ensures.same
 
 pub returns-in_default-take_abort-clause-served : goal.returns-in_default-take_abort-clause-served
 returns-in_default-take_abort-clause-served g c =
-    let v = full_view g.R.Runner g.S.Shelf g.T.Storage g.O.Lines c.args.self.now c.args.out.now in
-    cut_unchanged v (items_stop _ _) c.requires.ready c.in_default-take_abort.ensures.err c.begin_turn.ensures.same
+    cut_unchanged _ (items_stop _ _) c.requires.ready c.in_default-take_abort.ensures.err c.begin_turn.ensures.same
 
 pub returns-then-asked-clause-served : goal.returns-then-asked-clause-served
 returns-then-asked-clause-served g c =

@@ -1,6 +1,5 @@
 use Rattle.std.proofs.Common.{refl}
 use Rattle.ccr_task.specs.Places.{places_data}
-use Rattle.ccr_serve.specs.Views.{full_view}
 use Rattle.ccr_serve.proofs.Steps.{cut_at_once, items_stop}
 use Rattle.ccr_serve.proofs.Turning.{turn_of_nobody}
 use Rattle.ccr_serve.proofs.server.Server.take_turn.Goals as goal
@@ -12,8 +11,7 @@ returns-in-Ok-None-clause-served g c =
 
 pub returns-in-Err-clause-served : goal.returns-in-Err-clause-served
 returns-in-Err-clause-served g c =
-    let v = full_view g.R.Runner g.S.Shelf g.T.Storage g.O.Lines c.args.self.now c.args.out.now in
-    cut_at_once v (items_stop _ _) c.requires.ready refl
+    cut_at_once _ (items_stop _ _) c.requires.ready refl
 
 pub returns-in-Ok-clause-noted : goal.returns-in-Ok-clause-noted
 returns-in-Ok-clause-noted g c =
