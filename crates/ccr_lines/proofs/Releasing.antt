@@ -6,7 +6,7 @@ use Rattle.ccr_history.specs.Text.{Text}
 use Rattle.ccr_history.specs.Tables.{TableData}
 use Rattle.ccr_history.specs.Builds.{BuildData}
 use Rattle.ccr_pipeline.specs.Inputs.{InputData}
-use Rattle.ccr_pipeline.specs.JobData.{JobData, job_data}
+use Rattle.ccr_pipeline.specs.JobData.{job_data}
 use Rattle.ccr_pipeline.specs.Pipelines.{PipelineData}
 use Rattle.ccr_pipeline.specs.declared.resource.Job.{Job}
 use Rattle.ccr_core.specs.State.{no_pipeline}

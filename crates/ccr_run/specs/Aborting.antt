@@ -29,7 +29,7 @@ IsWritten order before answer after =
     Does (making (abort_folder (places_in order) order.build.job.now order.build.number) ∷ []) before answer after
 
 -- what it comes to, with a shelf's calls before and after: no job can have the name; or the request was written, or the
--- shelf failed; or memory was wanted before, or by the shelf
+-- shelf failed; or it was out of memory before, or the shelf was
 abbrev pub Asks : AbortOrder → List CallData → Result Unit AbortFault → List CallData → Type 0
 Asks order before (Ok done) after = (is_name order.build.job.now ≡ true) × IsWritten order before (Ok tt) after
 Asks order before (Err NoJob) after = (is_name order.build.job.now ≡ false) × (after ≡ before)

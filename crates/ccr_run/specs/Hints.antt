@@ -17,7 +17,7 @@ named_wrong = codes "names are those of the pipeline that was set last"
 abbrev pub disk_failed : Text
 disk_failed = codes "is the disk full or read-only? may you write the file and its directory? what was printed is kept"
 
--- about want of memory, of the server's or its database's
+-- about being out of memory, the server or its database
 abbrev pub out_of_memory : Text
 out_of_memory = codes "what was printed is kept; try again with more memory"
 

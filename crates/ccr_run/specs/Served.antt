@@ -43,7 +43,7 @@ module _ {T : Type 0} (holds : T → HistoryData → Type 0) (leaves : T → Lis
     pub keeps : KeepsFromOpening holds leaves tally history storage left fault
     pub failure_is : failure ≡ Refused fault
 
-  -- WHY NO SERVER IS MADE: memory was wanted; or SQLite answered so to the open; or no history was found; or no server was
+  -- WHY NO SERVER IS MADE: it was out of memory; or SQLite answered so to the open; or no history was found; or no server was
   -- opened over it
   abbrev pub KeepsFromServing : Failure → Type 0
   KeepsFromServing failure =
@@ -51,7 +51,7 @@ module _ {T : Type 0} (holds : T → HistoryData → Type 0) (leaves : T → Lis
       ⊎ (IsUnopened failure
       ⊎ (((fault : StoreFault) × unfound fault × (failure ≡ Refused (Store fault))) ⊎ IsUnbegun failure))
 
--- the database that the options name was opened; or none was, for want of memory
+-- the database that the options name was opened; or none was, out of memory
 abbrev pub HasAsked : Order → Option Text → Failure → Type 0
 HasAsked order asked failure =
     (asked ≡ Some order.options.database.now) ⊎ ((asked ≡ None) × (failure ≡ Refused NoMemory))

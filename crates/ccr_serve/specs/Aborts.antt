@@ -28,7 +28,7 @@ AbortIsAsked folder asked before after =
     (there : Result Bool ShelfFault) × (removed : Result Unit ShelfFault) × (after ≡ before ++ look folder there removed)
     × (asked ≡ is_asked there removed)
 
--- it was looked for the folder that asks for an abort, unless memory was wanted before
+-- it was looked for the folder that asks for an abort, unless it was out of memory before
 abbrev pub Looks : Text → List CallData → List CallData → Type 0
 Looks folder before after = (after ≡ before) ⊎ ((asked : Bool) × AbortIsAsked folder asked before after)
 

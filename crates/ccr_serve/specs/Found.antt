@@ -51,7 +51,7 @@ abbrev pub FindsExit : Bool → ℕ → List ℕ → FoundData → Type 0
 FindsExit true status output f = FindsOutput output f
 FindsExit false status output f = f ≡ nothing (Status status)
 
--- what the end of a check's program finds; want of memory finds nothing out
+-- what the end of a check's program finds; out of memory, nothing is found
 abbrev pub FindsBy : EndData → FoundData → Type 0
 FindsBy (exited status output) f = FindsExit (status == 0) status output f
 FindsBy (killed signal) f = f ≡ nothing Killed

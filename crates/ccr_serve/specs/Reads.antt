@@ -10,7 +10,7 @@ use Rattle.ccr_serve.specs.declared.fault.ServeFault.TheVariants.{Read, File, No
 use Rattle.ccr_serve.specs.Commanding.{IsRead, IsReadFault}
 
 -- the file at this path gives no pipeline for this fault, with the shelf's calls before and after: it was read, and its text
--- is refused, the shelf failed, or memory was wanted
+-- is refused, the shelf failed, or it was out of memory
 abbrev pub KeepsFromReading : Text → ServeFault → List CallData → List CallData → Type 0
 KeepsFromReading path (Read f) before after = IsReadFault path f before after
 KeepsFromReading path File before after = IsRead path (Err Failed) before after

@@ -27,7 +27,7 @@ use Rattle.ccr_lines.specs.Lines.{lines_of, refused_line, cause_words}
 use Rattle.ccr_serve.specs.Turns.{rank_in, next_after}
 
 -- ---- events
--- the event was made, with its reply and its lines; want of memory makes none
+-- the event was made, with its reply and its lines; out of memory, there is none
 pub record Makes (e : EventData) (old : State) (did : Done) (new : State) : Type 0 where
   pub reply : Replied
   pub step : Step old e reply new

@@ -19,7 +19,7 @@ module _ {T : Type 0} (holds : T → HistoryData → Type 0) (leaves : T → Lis
     pub held : holds new h
     pub left : leaves new (changed (resumed h) h ∷ h ∷ [])
 
-  -- WHY A SERVER ISN'T OPENED: memory was wanted, and nothing was asked of the storage; or the storage failed
+  -- WHY A SERVER ISN'T OPENED: it was out of memory, and nothing was asked of the storage; or the storage failed
   abbrev pub KeepsFromOpening : ServeFault → Type 0
   KeepsFromOpening NoMemory = new ≡ old
   KeepsFromOpening (Store fault) = IsUnstored fault

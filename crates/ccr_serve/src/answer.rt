@@ -150,7 +150,7 @@ fn answer_by_file<S: Shelf>(
 /// is read.
 ///
 /// Errored where the request is too long, or a folder can't be made or removed; then no program is started. The only
-/// error is want of memory; the program may have run then, and answers nothing.
+/// error is out of memory; the program may have run then, and answers nothing.
 pub(crate) fn answer_to<R: Runner, S: Shelf>(
     alloc: Global,
     runner: &mut R,

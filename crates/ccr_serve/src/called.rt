@@ -26,7 +26,7 @@ impl<R: Runner, S: Shelf, T: Storage> Server<R, S, T> {
     /// pipeline, no such resource or job, or where the core refuses its event; `Read`, `File`, `BadPin`. `TurnsUsedUp`
     /// where a build still runs after 10,000,000 turns beside those of the rounds.
     ///
-    /// Early ends: `NoMemory` where a growth was refused, and the server goes on; `Store` where the storage failed, and
+    /// Early ends: `NoMemory` if out of memory, and the server goes on; `Store` where the storage failed, and
     /// the server has closed; `Closed` where it had closed before, and nothing is done.
     pub fn command<O: Lines>(&mut self, command: &Command, out: &mut O) -> Result<u8, ServeFault>
         requires kept { IsKept (bare_view R.Runner S.Shelf T.Storage self.old) }

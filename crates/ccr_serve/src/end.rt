@@ -17,7 +17,7 @@ const MOST_TURNS: u32 = 10_000_000;
 impl<R: Runner, S: Shelf, T: Storage> Server<R, S, T> {
     /// Takes turns until no build runs, at most 10,000,000; false where a build runs after so many.
     ///
-    /// - `NoMemory` where a growth was refused.
+    /// - `NoMemory` if out of memory.
     /// - `Store` where the storage failed; then the server has closed.
     pub(crate) fn go_to_the_end<O: Lines>(&mut self, out: &mut O) -> Result<bool, ServeFault>
         requires ready { IsReady (bare_view R.Runner S.Shelf T.Storage self.old) }

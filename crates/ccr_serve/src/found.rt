@@ -76,7 +76,7 @@ fn newest_of<'h>(history: &'h History, resource: &Resource) -> Option<&'h Versio
 /// Checks a resource, which is told its newest version: the folder of all builds is made, the one program is run, and
 /// its output is read.
 ///
-/// The only error is want of memory; the program may have run then, and finds nothing.
+/// The only error is out of memory; the program may have run then, and finds nothing.
 pub(crate) fn find<R: Runner, S: Shelf>(
     alloc: Global,
     runner: &mut R,

@@ -154,7 +154,7 @@ impl<R: Runner, S: Shelf, T: Storage> Server<R, S, T> {
     /// Checks a resource of the pipeline: whether its program listed versions that the core took. Its line is printed
     /// once that is stored.
     ///
-    /// - `NoMemory` where a growth was refused; the program may have run by then.
+    /// - `NoMemory` if out of memory; the program may have run by then.
     /// - `Store` where the storage failed; then the server has closed.
     pub(crate) fn check<O: Lines>(&mut self, name: &str, out: &mut O) -> Result<bool, ServeFault>
         requires ready { IsReady (bare_view R.Runner S.Shelf T.Storage self.old) }
@@ -196,7 +196,7 @@ impl<R: Runner, S: Shelf, T: Storage> Server<R, S, T> {
     /// Gives a job its chance of a build: one is made if there is something new for it. Its lines are printed once that
     /// is stored; a job that the core refuses to schedule is no error.
     ///
-    /// - `NoMemory` where a growth was refused; then nothing has changed.
+    /// - `NoMemory` if out of memory; then nothing has changed.
     /// - `Store` where the storage failed; then the server has closed.
     pub(crate) fn schedule<O: Lines>(&mut self, name: &str, out: &mut O) -> Result<(), ServeFault>
         requires ready { IsReady (bare_view R.Runner S.Shelf T.Storage self.old) }

@@ -11,9 +11,9 @@ use ccr_storage::Storage;
 use ccr_task::Shelf;
 
 impl<R: Runner, S: Shelf, T: Storage> Server<R, S, T> {
-    /// Makes an event, and stores what it changes: the core's reply, or its refusal, which is never for want of memory.
+    /// Makes an event, and stores what it changes: the core's reply, or its refusal, which is never for lack of memory.
     ///
-    /// - `NoMemory` where a growth was refused; then nothing has changed.
+    /// - `NoMemory` if out of memory; then nothing has changed.
     /// - `Store` where the storage failed; then the server has closed.
     pub(crate) fn make(&mut self, event: Event) -> Result<Result<Reply, CoreFault>, ServeFault>
         requires ready { IsReady (bare_view R.Runner S.Shelf T.Storage self.old) }

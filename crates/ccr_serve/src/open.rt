@@ -22,7 +22,7 @@ use std::alloc::Global;
 /// Why a server isn't opened, with its storage.
 #[derive(Drop)]
 pub struct Unopened<T> {
-    /// `NoMemory` where a growth was refused, or `Store` where the storage failed; nothing else.
+    /// `NoMemory` if out of memory, or `Store` where the storage failed; nothing else.
     pub fault: ServeFault,
     /// The storage that the server was to have.
     pub storage: T,

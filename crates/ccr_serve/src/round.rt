@@ -72,7 +72,7 @@ impl<R: Runner, S: Shelf, T: Storage> Server<R, S, T> {
     /// A round: a check of each resource, a schedule of each job, and then as many turns as builds run. Each item before
     /// a fault stays done, with its lines.
     ///
-    /// - `NoMemory` where a growth was refused.
+    /// - `NoMemory` if out of memory.
     /// - `Store` where the storage failed; then the server has closed.
     pub(crate) fn go_round<O: Lines>(&mut self, out: &mut O) -> Result<(), ServeFault>
         requires ready { IsReady (bare_view R.Runner S.Shelf T.Storage self.old) }

@@ -53,7 +53,7 @@ fn status_of_reply(job: &str, reply: Reply, history: &History) -> u8
 impl<R: Runner, S: Shelf, T: Storage> Server<R, S, T> {
     /// Triggers the job of this name: the core's reply. Its lines are printed once that is stored.
     ///
-    /// - `Core` where the core refuses it, and `NoMemory` where a growth was refused; then nothing has changed.
+    /// - `Core` where the core refuses it, and `NoMemory` if out of memory; then nothing has changed.
     /// - `Store` where the storage failed; then the server has closed.
     fn trigger<O: Lines>(&mut self, job: &str, out: &mut O) -> Result<Reply, ServeFault>
         requires ready { IsReady (bare_view R.Runner S.Shelf T.Storage self.old) }

@@ -196,7 +196,7 @@ impl<R: Runner, S: Shelf, T: Storage> Server<R, S, T> {
     ///
     /// An answer for which the core has no room is given again as errored.
     ///
-    /// - `NoMemory` where a growth was refused; the program may have run by then, and is run again at the build's next
+    /// - `NoMemory` if out of memory; the program may have run by then, and is run again at the build's next
     ///   turn. What asked for an abort may be removed by then.
     /// - `Store` where the storage failed; then the server has closed.
     pub(crate) fn take_turn<O: Lines>(&mut self, out: &mut O) -> Result<bool, ServeFault>

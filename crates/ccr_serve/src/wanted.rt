@@ -16,7 +16,7 @@ use std::alloc::{AllocError, Global};
 /// Answers what a job's build of this number wants, which runs. Gives the turn of the answer with it, and what
 /// was wrong where the answer is no success.
 ///
-/// The only error is want of memory; the program may have run then, and answers nothing.
+/// The only error is out of memory; the program may have run then, and answers nothing.
 pub(crate) fn answer_wanted<R: Runner, S: Shelf>(
     alloc: Global,
     runner: &mut R,

@@ -1,4 +1,4 @@
-use Rattle.std.proofs.Common.{◌≡◌, ◌∙◌, ap, length, option_copied, decimal, rules}
+use Rattle.std.proofs.Common.{◌≡◌, ◌∙◌, ap, length, decimal, rules}
 use Rattle.serde_json.specs.Data.{string}
 use Rattle.serde_json.specs.Written.{compact_text}
 use Rattle.ccr_history.specs.Changes.{pin_of}
