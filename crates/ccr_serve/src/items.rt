@@ -1,5 +1,5 @@
 //! The items of a round that make events: checks and schedules.
-ghost use Rattle.std.specs.Prelude.{◌≡◌, ◌+◌, ◌*◌, ◌≤◌, ◌++◌, [], ◌∷◌, List, length, string_bytes, is_ok, IfOk, IfErr, OnOk, OnErr, IfSome, IsSome, IsSomeAnd, Some, Option};
+ghost use Rattle.std.specs.Prelude.{◌≡◌, ◌+◌, ◌*◌, ◌^◌, ◌≤◌, ◌++◌, [], ◌∷◌, List, length, string_bytes, is_ok, IfOk, IfErr, OnOk, OnErr, IfSome, IfNone, IsSome, IsSomeAnd, Some, Option};
 ghost use Rattle.ccr_history.specs.TextMap.{TextMap};
 ghost use Rattle.ccr_history.specs.History.{HistoryData};
 ghost use Rattle.ccr_pipeline.specs.JobData.{ResourceData};
@@ -51,14 +51,16 @@ pub(crate) fn begin<O: Lines>(
 
 /// For how many bytes the line of a name needs room; None where no number tells it.
 pub(crate) fn line_room(name: &str) -> Option<usize>
-    ensures { IfSome result (λ room. room ≡ length name.now + 64) }
+    ensures some { IfSome result (λ room. room ≡ length name.now + 64) }
+    ensures none { IfNone result (2 ^ 64 ≤ length name.now + 64) }
 {
     name.len().checked_add(64)
 }
 
 /// For how many bytes the lines of a job need room; None where no number tells it.
 pub(crate) fn job_room(job: &str) -> Option<usize>
-    ensures { IfSome result (λ room. room ≡ 2 * length job.now + 64) }
+    ensures some { IfSome result (λ room. room ≡ 2 * length job.now + 64) }
+    ensures none { IfNone result (2 ^ 64 ≤ 2 * length job.now + 64) }
 {
     job.len().checked_mul(2)?.checked_add(64)
 }
