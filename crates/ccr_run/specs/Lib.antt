@@ -1,6 +1,7 @@
 pub mod Asked
 pub mod Aborting
 pub mod Databases
+pub mod Explained
 pub mod Hints
 pub mod Obeyed
 pub mod Opening

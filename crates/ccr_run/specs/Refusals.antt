@@ -1,5 +1,5 @@
 -- How a refusal reads, and the status that the program ends with.
-use Rattle.std.specs.Prelude.{ℕ, Option, Some, None, option_map, codes, string_bytes}
+use Rattle.std.specs.Prelude.{ℕ, ◌++◌, Option, Some, None, option_map, codes, string_bytes}
 use Rattle.ccr_history.specs.Text.{Text}
 use Rattle.ccr_pipeline.specs.declared.fault.ReadFault.{ReadFault}
 use Rattle.ccr_pipeline.specs.declared.fault.ReadFault.TheVariants as text
@@ -22,6 +22,15 @@ pub record RefusalData : Type 0 where
 -- what a value of the program's type stands for
 abbrev pub refusal_data : Refusal → RefusalData
 refusal_data r = record { words = r.words.now; path = option_map (λ path. path.now) r.path; status = r.status }
+
+-- the words, and the path behind them where there is one
+abbrev pub text_at : Text → Option Text → Text
+text_at words None = codes "refused: " ++ words
+text_at words (Some path) = codes "refused: " ++ (words ++ (codes " at " ++ path))
+
+-- how a refusal is written
+abbrev pub refusal_text : RefusalData → Text
+refusal_text r = text_at r.words r.path
 
 -- the command is refused
 abbrev pub refused : Text → RefusalData

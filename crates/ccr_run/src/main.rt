@@ -17,6 +17,7 @@ mod order;
 mod refusal;
 mod run;
 mod tell;
+mod telling;
 
 ghost use Rattle.std.specs.Prelude.{◌≡◌, ◌++◌, None, IsSome, map, string_bytes};
 ghost use Rattle.std.specs.Process.{exit_status};
@@ -43,6 +44,7 @@ use std::io::{ErrorKind, Write};
 use std::process::ExitCode;
 use std::{env, io};
 use tell::{tell, tell_misuse};
+use telling::Telling;
 
 /// The fault of words that can't be read: one of them is no text, or memory was refused.
 fn misuse_of(error: &io::Error) -> Misuse {
@@ -83,7 +85,8 @@ fn obey<'a, S: Start, W: Write, E: Write>(
         Ok(Ordered::Command(order)) => {
             let outcome = run(rt, &order, opener, out);
             tell_gates(rt, &order.command, &outcome.end);
-            tell(rt, &order, &outcome)
+            let mut telling = Telling::new(rt);
+            tell(&mut telling, &order, &outcome)
         }
         Err(misuse) => tell_misuse(rt, &misuse),
     }

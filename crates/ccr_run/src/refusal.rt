@@ -23,6 +23,11 @@ pub struct Refusal<'a> {
 }
 
 impl fmt::Display for Refusal<'_> {
+    ghost use Rattle.std.specs.Prelude.{Some};
+    ghost use Rattle.ccr_run.specs.Refusals.{refusal_data, refusal_text};
+
+    ghost output = { λ refusal. Some (refusal_text (refusal_data refusal)) };
+
     fn fmt<W: fmt::Write>(&self, f: &mut fmt::Formatter<W>) -> fmt::Result {
         let words = self.words;
         match self.path {

@@ -1,6 +1,8 @@
 //! What goes to standard error, and the status that the program ends with.
-ghost use Rattle.std.specs.Prelude.{◌≡◌};
+ghost use Rattle.std.specs.Prelude.{◌≡◌, None};
 ghost use Rattle.std.specs.Process.{exit_status};
+ghost use Rattle.ccr_run.specs.Explained.{told_data, nothing_told, shows_proof, is_over_budget, budget_over, refusal_in, explained};
+ghost use Rattle.ccr_run.specs.Hints.{hint_of};
 ghost use Rattle.ccr_run.specs.Obeyed.{IsTold};
 ghost use Rattle.ccr_run.specs.Statuses as spec;
 
@@ -9,6 +11,7 @@ use crate::hint::hint_of;
 use crate::order::{Misuse, Order};
 use crate::refusal::refusal_of;
 use crate::run::Outcome;
+use crate::telling::Telling;
 use ccr_lines::Command;
 use std::io;
 use std::process::ExitCode;
@@ -23,35 +26,77 @@ fn status_of(end: &Result<u8, Failure>) -> u8
     }
 }
 
-/// Says why a command has no proof to show, or is refused, and what to do about it.
-fn explain<R: Eprint>(rt: &R, order: &Order<'_>, end: &Result<u8, Failure>) -> io::Result<()> {
+/// Whether a command is to show a proof.
+fn shows_proof(command: &Command) -> bool
+    ensures { result ≡ shows_proof command.now }
+{
+    matches!(command, Command::Resolve(_) | Command::Certify(_))
+}
+
+/// Whether a command that is to show a proof has none, since its search would go over the budget.
+fn is_over_budget(command: &Command, end: &Result<u8, Failure>) -> bool
+    ensures { result ≡ is_over_budget command.now end.now }
+{
     match end {
-        Ok(3) if matches!(&order.command, Command::Resolve(_) | Command::Certify(_)) => {
-            let budget = order.options.budget;
-            eprintln!(rt; "over budget {budget}")?;
-        }
-        Ok(_) => {}
-        Err(failure) => {
-            let refusal = refusal_of(failure);
-            eprintln!(rt; "{refusal}")?;
-        }
+        Ok(status) => *status == 3 && shows_proof(command),
+        Err(_) => false,
     }
+}
+
+/// Tells the budget of a command that is to show a proof, and goes over it.
+fn tell_budget<R: Eprint>(
+    telling: &mut Telling<'_, '_, R>,
+    order: &Order<'_>,
+    end: &Result<u8, Failure>,
+)
+    requires { told_data telling.old ≡ nothing_told }
+    ensures { told_data telling.new ≡ record nothing_told { budget = budget_over order.now end.now } }
+{
+    if is_over_budget(&order.command, end) {
+        telling.over_budget(order.options.budget);
+    }
+}
+
+/// Tells why a command is refused.
+fn tell_refusal<'e, R: Eprint>(telling: &mut Telling<'_, 'e, R>, end: &'e Result<u8, Failure>)
+    requires { (told_data telling.old).refusal ≡ None }
+    ensures { told_data telling.new ≡ record (told_data telling.old) { refusal = refusal_in end.now } }
+{
+    match end {
+        Ok(_) => {}
+        Err(failure) => telling.refusal(refusal_of(failure)),
+    }
+}
+
+/// Tells what to do about how a command ended, where that helps.
+fn tell_hint<R: Eprint>(telling: &mut Telling<'_, '_, R>, end: &Result<u8, Failure>)
+    requires { (told_data telling.old).hint ≡ None }
+    ensures { told_data telling.new ≡ record (told_data telling.old) { hint = hint_of end.now } }
+{
     match hint_of(end) {
-        Some(hint) => eprintln!(rt; "hint: {hint}"),
-        None => Ok(()),
+        Some(hint) => telling.hint(hint),
+        None => {}
     }
 }
 
 /// Tells what came of an order, and gives the exit status: the command's own, or that of its refusal; 4 where not all
 /// lines went out. An error of standard error changes nothing.
-pub fn tell<R: Eprint>(rt: &R, order: &Order<'_>, outcome: &Outcome) -> ExitCode
-    ensures { exit_status result ≡ spec.exit_status_of outcome.now }
+pub fn tell<'e, R: Eprint>(
+    telling: &mut Telling<'_, 'e, R>,
+    order: &Order<'_>,
+    outcome: &'e Outcome,
+) -> ExitCode
+    requires { told_data telling.old ≡ nothing_told }
+    ensures status { exit_status result ≡ spec.exit_status_of outcome.now }
+    ensures told { told_data telling.new ≡ explained order.now outcome.now }
 {
-    let _ = explain(rt, order, &outcome.end);
+    tell_budget(telling, order, &outcome.end);
+    tell_refusal(telling, &outcome.end);
+    tell_hint(telling, &outcome.end);
     if outcome.is_printed {
         return ExitCode::from(status_of(&outcome.end));
     }
-    let _ = eprintln!(rt; "refused: standard output: cannot write");
+    telling.unprinted();
     ExitCode::from(4)
 }
 

@@ -17,4 +17,4 @@ returns-in-Ok-Command g c =
     (c.run-outcome.new.out.shown ++ c.run-outcome.new.out.waiting) c.run-outcome.new.out.failed (exit_status c.tell.result)
     c.in-Ok-Command.order c.run-outcome.result
     (subst (λ o. Orders (map string_bytes c.args.words.now) o) c.in-Ok-Command.field-0-is c.in-Ok-Command.ensures.ordered)
-    c.run-outcome.ensures.served c.run-outcome.ensures.printed c.tell.ensures
+    c.run-outcome.ensures.served c.run-outcome.ensures.printed c.tell.ensures.status
