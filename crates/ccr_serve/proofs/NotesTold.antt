@@ -1,16 +1,12 @@
 -- What a turn tells.
-use Rattle.std.proofs.Common.{◌≡◌, ◌<◌, ◌+◌, ◌∙◌, ℕ, suc, List, [], ◌∷◌, length, drop, get_or, drop-cons, sym, arith, Option, Some, None, Result, Ok, Err, IfOk, OnOk, OnErr, IfSome, option_map, unwrap_or, String, string_bytes, ap, subst, inl, inr}
+use Rattle.std.proofs.Common.{◌≡◌, List, [], Option, Some, None, Result, Ok, Err, IfOk, IfSome, option_map, unwrap_or, String, string_bytes, ap, subst, inl, inr}
 use Rattle.std.specs.declared.alloc.Global.{Global}
 use Rattle.ccr_history.specs.Text.{Text}
-use Rattle.ccr_history.specs.Edits.{change_data, edit_data}
-use Rattle.ccr_history.specs.declared.change.Edit.{Edit}
-use Rattle.ccr_core.specs.declared.fault.CoreFault.TheVariants as core_fault
 use Rattle.ccr_core.specs.declared.reply.Reply.{Reply}
 use Rattle.ccr_core.specs.Events.{EventData}
 use Rattle.ccr_core.specs.Holding.{CoreData, Takes}
 use Rattle.ccr_task.specs.declared.said.StepFault.{StepFault}
-use Rattle.ccr_task.specs.declared.said.StepFault.TheVariants.{TableFull}
-use Rattle.ccr_serve.specs.Noted.{NotesOf, IsFaultOf, NotesEdit, NotesCut}
+use Rattle.ccr_serve.specs.Noted.{NotesOf, IsFaultOf}
 
 -- a head that was made is one that it may be
 pub notes_by : (head : Option (String Global)) (IsIt : Text → Type 0) (fault : Option StepFault) (old new : List Text)
