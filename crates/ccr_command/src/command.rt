@@ -191,7 +191,7 @@ fn named(alloc: Global, word: &str, values: &ArgMatches<'_>) -> Result<Option<Co
 /// The command that the subcommand of the matches names, with the first value of each of its arguments. It is None where
 /// there is no such command, or where a value is absent or out of its range (`run --rounds`: 1 to 1,000,000).
 ///
-/// The only error is that a growth of memory was refused.
+/// The only error is out of memory.
 pub fn command_of(alloc: Global, matches: &ArgMatches<'_>) -> Result<Option<Command>, AllocError>
     ensures { IfOk result (λ command. option_map command_data command ≡ command_in matches.now) }
 {

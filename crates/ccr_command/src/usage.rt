@@ -129,7 +129,7 @@ fn with_choice_commands<'a>(alloc: Global, line: Command<'a>) -> Result<Command<
 /// The program's command line: `ccr_run --db FILE [--types DIR] [--work DIR] [--budget N] COMMAND`, with the help of the
 /// program and of each of its twenty-one commands.
 ///
-/// The only error is that a growth of memory was refused.
+/// The only error is out of memory.
 pub fn command_line<'a>(alloc: Global) -> Result<Command<'a>, AllocError>
     ensures { IfOk result (λ made. app_of made ≡ line) }
 {

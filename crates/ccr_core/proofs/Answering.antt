@@ -7,7 +7,7 @@ use Rattle.ccr_history.specs.declared.build.Status.TheVariants as status
 use Rattle.ccr_history.specs.Text.{Text}
 use Rattle.ccr_history.specs.TextMap.{TextMap}
 use Rattle.ccr_history.specs.Tables.{is_table_full}
-use Rattle.ccr_history.specs.Changes.{EditData, versions, ended, edited, changed, IsRunning, TakesAll}
+use Rattle.ccr_history.specs.Changes.{EditData, versions, ended, edited, changed, IsRunning, AdmitsAll}
 use Rattle.ccr_history.specs.History.{HistoryData}
 use Rattle.ccr_pipeline.specs.JobData.{ResourceData}
 use Rattle.ccr_pipeline.specs.Pipelines.{PipelineData}
@@ -28,7 +28,7 @@ use Rattle.ccr_history.specs.declared.change.Edit.TheVariants.{Versions}
 use Rattle.ccr_history.specs.Edits.{edit_data, change_data}
 use Rattle.ccr_core.specs.Builds.{status_of, Settles}
 use Rattle.ccr_core.specs.Edits.{news_in, AreEndEdits, AreMoreEdits, AreNextEdits}
-use Rattle.ccr_core.specs.Endings.{reports, report_edits, IsOver, IsEnding, Stands, end_edits, PairsFit, EndFits, ReportFits}
+use Rattle.ccr_core.specs.Endings.{reports, report_edits, IsOver, IsEnding, IsAtEnding, end_edits, PairsFit, EndFits, ReportFits}
 use Rattle.ccr_core.specs.Going.{named, Waits, CanGoOn, PushIsFull, GoesOn, IsRefused, Changes}
 use Rattle.ccr_core.specs.Kept.{IsAnswer}
 use Rattle.ccr_core.specs.Seen.{pairs_of, report, pushed_by, report_by}
@@ -56,14 +56,14 @@ settles_so p h job number plan inputs es None pairs after (begins, waits) is = (
 settles_so p h job number plan inputs es (Some o) pairs after (g, means, same) is = (g, means, is ∙ ap (λ ps. edited (ended job number (status_of o) ps) h) same)
 
 -- what it moved fits
-pub pairs_fit : (p : PipelineData) (h : HistoryData) (r : RunData) (o : Option Outcome) (pairs : List (ℕ × ℕ)) → EndFits p h r → Stands p h r o pairs → PairsFit h.tables o pairs
+pub pairs_fit : (p : PipelineData) (h : HistoryData) (r : RunData) (o : Option Outcome) (pairs : List (ℕ × ℕ)) → EndFits p h r → IsAtEnding p h r o pairs → PairsFit h.tables o pairs
 pairs_fit p h r None pairs fits stands = tt
 pairs_fit p h r (Some o) pairs (plan, inputs, es, st, fits) stands =
     let (g, means, same) = stands plan inputs es st in
     subst (λ ps. PairsFit h.tables (Some o) ps) (sym same) (fits o g means)
 
 -- the history takes its end
-pub end_taken : (h : HistoryData) (job : Text) (number : ℕ) (o : Option Outcome) (pairs : List (ℕ × ℕ)) → IsRunning job number h.builds → PairsFit h.tables o pairs → TakesAll h (end_edits job number o pairs)
+pub end_taken : (h : HistoryData) (job : Text) (number : ℕ) (o : Option Outcome) (pairs : List (ℕ × ℕ)) → IsRunning job number h.builds → PairsFit h.tables o pairs → AdmitsAll h (end_edits job number o pairs)
 end_taken h job number None pairs runs fits = tt
 end_taken h job number (Some o) pairs runs fits = ((runs, ends_over o, fits), tt)
 
@@ -86,7 +86,7 @@ changes_then (Some r) es all h mid after is first more =
     subst (λ l. Changes l h after) (sym is) (((first.0.0.0, then.0.0), (first.0.1.0, then.0.1)), then.1)
 
 -- a report that isn't over is one that the history takes
-pub report_taken : (p : PipelineData) (h : HistoryData) (a : AskData) (x : AnswerData) (r : Option Report) → reports r ≡ report_by p a x → IsAnswer x → (IsOver r h → ⊥) → TakesAll h (reports r)
+pub report_taken : (p : PipelineData) (h : HistoryData) (a : AskData) (x : AnswerData) (r : Option Report) → reports r ≡ report_by p a x → IsAnswer x → (IsOver r h → ⊥) → AdmitsAll h (reports r)
 report_taken p h a x None is up room = tt
 report_taken p h a x (Some r) is up room = by (pushed_by a x) refl is
   where
@@ -94,13 +94,13 @@ report_taken p h a x (Some r) is up room = by (pushed_by a x) refl is
     fits true e = absurd (room e)
     fits false e = e
 
-    ascends : (m : Text × TextMap) (o : Option ResourceData) → pushed_by a x ≡ Some m → reports (Some r) ≡ option_map_or (λ y. versions (scope_of y) (m.1 ∷ []) ∷ []) o [] → TakesAll h (reports (Some r))
+    ascends : (m : Text × TextMap) (o : Option ResourceData) → pushed_by a x ≡ Some m → reports (Some r) ≡ option_map_or (λ y. versions (scope_of y) (m.1 ∷ []) ∷ []) o [] → AdmitsAll h (reports (Some r))
     ascends m None at e = absurd (cc (e))
     ascends m (Some y) at e =
         let vs : r.versions.items ≡ m.1 ∷ [] = cc e in
         ((fits (is_table_full r.scope r.versions.items h.tables) refl, rw vs (pushed_up a x m.0 m.1 up at, tt)), tt)
 
-    by : (o : Option (Text × TextMap)) → pushed_by a x ≡ o → reports (Some r) ≡ option_map_or (λ m. report p m.0 (m.1 ∷ [])) o [] → TakesAll h (reports (Some r))
+    by : (o : Option (Text × TextMap)) → pushed_by a x ≡ o → reports (Some r) ≡ option_map_or (λ m. report p m.0 (m.1 ∷ [])) o [] → AdmitsAll h (reports (Some r))
     by None at e = absurd (cc (e))
     by (Some m) at e = ascends m (resource_of m.0 p.resources) at e
 
@@ -144,7 +144,7 @@ report_fits p h old new job number x o ask r (running, (plan, inputs, es, (stand
     let same = next_one inputs plan es (ask_data ask) a wanted.0 next in
     let edits : reports r ≡ report_by p a x = is ∙ ap (λ c. report_by p c x) same in (
       report_taken p h (ask_data ask) x r is up,
-      λ takes. (plan, inputs, es ++ exchange a x ∷ [], now, λ u g means. subst (λ l. PairsFit (changed l h).tables (Some u) (pairs_of p (changed l h) g.moved)) (sym edits) (fits a x u g next up (subst (TakesAll h) edits takes) means)),
+      λ takes. (plan, inputs, es ++ exchange a x ∷ [], now, λ u g means. subst (λ l. PairsFit (changed l h).tables (Some u) (pairs_of p (changed l h) g.moved)) (sym edits) (fits a x u g next up (subst (AdmitsAll h) edits takes) means)),
     )
 
 -- the build goes on

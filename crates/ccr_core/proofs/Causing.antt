@@ -13,16 +13,16 @@ use Rattle.ccr_core.specs.declared.reply.Reply.{Reply}
 use Rattle.ccr_core.specs.declared.reply.Reply.TheVariants.{Set, New, Made, NotNew, Goes, Ends, Pinned, Unpinned, Disabled, Enabled, Restarted}
 use Rattle.ccr_problem.specs.ProblemOf.{job_of}
 use Rattle.ccr_core.specs.Addressed.{AnswerTo, addressed}
-use Rattle.ccr_core.specs.Builds.{status_of, history_with, Makes, Takes, cut}
+use Rattle.ccr_core.specs.Builds.{status_of, history_with, Makes, GoesOnWith, cut}
 use Rattle.ccr_core.specs.Choices.{used_at}
 use Rattle.ccr_core.specs.Events.{EventData, set_pipeline, checked, schedule, trigger, pin, unpin, disable, enable, restart}
-use Rattle.ccr_core.specs.Fates.{EndsByAnswer, EndsAsMade}
+use Rattle.ccr_core.specs.EndedInRun.{EndsByAnswer, EndsAsMade}
 use Rattle.ccr_core.specs.Own.{own_of}
 use Rattle.ccr_core.specs.Replies.{Replied}
 use Rattle.ccr_core.specs.Seen.{pairs_of}
 use Rattle.ccr_core.specs.State.{RunningData, State, pipeline_of, is_run_of, running_at}
 use Rattle.ccr_core.specs.Steps.{Schedules, Triggers, Answers, DoesBy, Step}
-use Rattle.ccr_core.specs.Told.{EndsIn}
+use Rattle.ccr_core.specs.EachBuild.{EndsIn}
 use Rattle.ccr_core.proofs.Ending.{found_more, IsEnded, found_end, none_ends, taken}
 use Rattle.ccr_core.proofs.Keeping.{AreKnown, not_there}
 use Rattle.ccr_core.proofs.Owning.{job_same}
@@ -31,7 +31,7 @@ use Rattle.ccr_core.proofs.Seeing.{report_builds, pushed_builds}
 
 module _ (before : State) (known : AreKnown before.history.builds before.history.builds) (c : BuildData) where
   -- ---- by an answer
-  answered : (e : EventData) (w : AnswerTo) (b : RunningData) (o : Outcome) (after : State) → addressed e ≡ Some w → running_at w.job w.number before.running ≡ Some b → Takes before b w.given (Some o) after → EndsIn before after c → EndsByAnswer before e (Ok (Ends o)) c
+  answered : (e : EventData) (w : AnswerTo) (b : RunningData) (o : Outcome) (after : State) → addressed e ≡ Some w → running_at w.job w.number before.running ≡ Some b → GoesOnWith before b w.given (Some o) after → EndsIn before after c → EndsByAnswer before e (Ok (Ends o)) c
   answered e w b o after said at (a, next, (h, (g, means, is), to)) (found, done, fresh) =
       by (found_end c.job c.number b.job b.number (status_of o) (pairs_of (pipeline_of before) (taken before a w.given) g.moved) c (taken before a w.given).builds
       (sym (ap (λ y. build_of c.job c.number y.history.builds) to ∙ ap (λ y. build_of c.job c.number y.builds) is) ∙ found))
@@ -103,7 +103,7 @@ module _ (before : State) (known : AreKnown before.history.builds before.history
   said_so : (e : EventData) (w : AnswerTo) (r : Reply) (after : State) → addressed e ≡ Some w → Answers before w r after → EndsIn before after c → IsCaused e (Ok r)
   said_so e w Goes after said (b, at, takes) ends = absurd (none_ends before after c (still b w.given after takes) ends)
     where
-      still : (b : RunningData) (x : AnswerData) (after : State) → Takes before b x None after → after.history.builds ≡ before.history.builds
+      still : (b : RunningData) (x : AnswerData) (after : State) → GoesOnWith before b x None after → after.history.builds ≡ before.history.builds
       still b x after (a, next, (h, (begins, waits, is), to)) = ap (λ y. y.history.builds) to ∙ ap (λ y. y.builds) is ∙ pushed_builds (pipeline_of before) a x before.history
   said_so e w (Ends o) after said (b, at, takes) ends = inl (answered e w b o after said at takes ends)
   said_so e w r after said answers ends = absurd answers

@@ -20,7 +20,7 @@ use Rattle.ccr_core.specs.Edits.{AreNextEdits, AreAnswerEdits, AreEditsBy}
 use Rattle.ccr_core.specs.Events.{EventData}
 use Rattle.ccr_core.specs.Faults.{HasOtherTurn, AnswerMeets, MayRefuse}
 use Rattle.ccr_core.specs.Going.{named, Waits, CanGoOn, EndsFit, GoesOn, PushIsFull, IsRefused}
-use Rattle.ccr_core.specs.Holding.{CoreData, name_data, name_index, AreRuns, Stands, HasSaidEdits, IsCore, TakesSaid}
+use Rattle.ccr_core.specs.Holding.{CoreData, name_data, name_index, AreRuns, Stands, HasSaidEdits, IsCore, TakesSaidStep}
 use Rattle.ccr_core.specs.Seen.{report_by}
 use Rattle.ccr_core.specs.State.{State, no_pipeline, pipeline_of, moved_on, running_at, replaced, without}
 use Rattle.ccr_core.specs.Steps.{Step}
@@ -124,10 +124,10 @@ module _ (h : HistoryData) (pl : Option PipelineData) (budget : ℕ) (ns : Names
   abbrev pub held : HistoryData → Names → List BuildRun → CoreData
   held g ms qs = record { history = g; pipeline = pl; budget = budget; names = map name_data ms; runs = map run_data qs }
 
-  pub bare : IsCore (held h ns rs) → pl ≡ None → TakesSaid (held h ns rs) (held h ns rs) a (Err NoBuild)
+  pub bare : IsCore (held h ns rs) → pl ≡ None → TakesSaidStep (held h ns rs) (held h ns rs) a (Err NoBuild)
   bare core none e said = refuses (held h ns rs) e NoBuild (λ s st. refuses_none s e a said (ap (running_at a.job a.number) (idle (held h ns rs) core none s st)))
 
-  pub none_there : length rs ≤ name_index a.job a.number (map name_data ns) → TakesSaid (held h ns rs) (held h ns rs) a (Err NoBuild)
+  pub none_there : length rs ≤ name_index a.job a.number (map name_data ns) → TakesSaidStep (held h ns rs) (held h ns rs) a (Err NoBuild)
   none_there past e said = refuses (held h ns rs) e NoBuild (λ s st. refuses_none s e a said (lost a.job a.number ns rs s.running st.3 past))
 
   module _ (p : PipelineData) (piped : pl ≡ Some p) (k : ℕ) (d : BuildRun) (at : k ≡ name_index a.job a.number (map name_data ns)) (lt : k < length rs) where
@@ -176,19 +176,19 @@ module _ (h : HistoryData) (pl : Option PipelineData) (budget : ℕ) (ns : Names
       edits_ends u is e said s st = subst (λ q. AreEditsBy s q e (Ends u) edits) (sym said) (subst (λ v. AreAnswerEdits s a v edits) is (edits_on s st))
 
     module _ (n : ℕ) (has : TurnIs (run_data (get_or rs k d)) n) where
-      pub other_turn : IsSomeAnd a.turn (λ turn. n ≡ turn → ⊥) → TakesSaid (held h ns rs) (held h ns rs) a (Err NotWanted)
+      pub other_turn : IsSomeAnd a.turn (λ turn. n ≡ turn → ⊥) → TakesSaidStep (held h ns rs) (held h ns rs) a (Err NotWanted)
       other_turn ne e said = refuses (held h ns rs) e NotWanted (λ s st. refuses_turn s e a said ns rs k d (there s st) n has ne)
 
-      pub not_taken : IfSome a.turn (λ turn. n ≡ turn) → (fault : CoreFault) → IsRefused p h (run_data (get_or rs k d)) a.given fault → TakesSaid (held h ns rs) (held h ns rs) a (Err fault)
+      pub not_taken : IfSome a.turn (λ turn. n ≡ turn) → (fault : CoreFault) → IsRefused p h (run_data (get_or rs k d)) a.given fault → TakesSaidStep (held h ns rs) (held h ns rs) a (Err fault)
       not_taken same fault why e said = refuses (held h ns rs) e fault (λ s st.
           (let f = there s st in
           let here : IsRefused (pipeline_of s) s.history (run_data (get_or rs k d)) a.given fault = subst (λ y. IsRefused (pipeline_of s) y (run_data (get_or rs k d)) a.given fault) st.0 (subst (λ q. IsRefused q h (run_data (get_or rs k d)) a.given fault) (pipe s st) why) in
           refuses_so s e a said ns rs k d f n has same fault (here f.b.plan f.b.inputs f.b.exchanges (f.stands, f.waits))))
 
-      pub taken_on : IfSome a.turn (λ turn. n ≡ turn) → (g : HistoryData) (r : BuildRun) → GoesOn p h (run_data (get_or rs k d)) a.job a.number a.given None g (run_data r) → TakesSaid (held h ns rs) (held g ns (set rs k r)) a (Ok Goes)
+      pub taken_on : IfSome a.turn (λ turn. n ≡ turn) → (g : HistoryData) (r : BuildRun) → GoesOn p h (run_data (get_or rs k d)) a.job a.number a.given None g (run_data r) → TakesSaidStep (held h ns rs) (held g ns (set rs k r)) a (Ok Goes)
       taken_on same g r goes e said s st = answer_goes s e a said ns rs k d (there s st) n has same pl budget g r st.1 st.2 (on s st None g (run_data r) goes)
 
-      pub taken_to_end : IfSome a.turn (λ turn. n ≡ turn) → (g : HistoryData) (r : BuildRun) (o : Outcome) (ms : Names) (qs : List BuildRun) → ms ≡ take k ns ++ drop (suc k) ns → qs ≡ take k rs ++ drop (suc k) rs → GoesOn p h (run_data (get_or rs k d)) a.job a.number a.given (Some o) g (run_data r) → TakesSaid (held h ns rs) (held g ms qs) a (Ok (Ends o))
+      pub taken_to_end : IfSome a.turn (λ turn. n ≡ turn) → (g : HistoryData) (r : BuildRun) (o : Outcome) (ms : Names) (qs : List BuildRun) → ms ≡ take k ns ++ drop (suc k) ns → qs ≡ take k rs ++ drop (suc k) rs → GoesOn p h (run_data (get_or rs k d)) a.job a.number a.given (Some o) g (run_data r) → TakesSaidStep (held h ns rs) (held g ms qs) a (Ok (Ends o))
       taken_to_end same g r o ms qs me qe goes e said s st = answer_ends s e a said ns rs k d (there s st) n has same pl budget g r o ms qs st.1 st.2 me qe (on s st (Some o) g (run_data r) goes)
 
 -- ---- lists of machines

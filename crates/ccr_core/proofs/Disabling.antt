@@ -14,7 +14,7 @@ use Rattle.ccr_core.specs.declared.fault.CoreFault.{CoreFault}
 use Rattle.ccr_core.specs.declared.reply.Reply.TheVariants.{Disabled, Enabled}
 use Rattle.ccr_core.specs.Events.{disable, enable}
 use Rattle.ccr_core.specs.Faults.{PlaceMeets}
-use Rattle.ccr_core.specs.Holding.{CoreData, Stands, Takes}
+use Rattle.ccr_core.specs.Holding.{CoreData, Stands, TakesStep}
 use Rattle.ccr_core.specs.Opening.{HasVersion}
 use Rattle.ccr_core.specs.State.{State, no_pipeline, resources_of, scope_in, with_history}
 use Rattle.ccr_core.proofs.Refusing.{none_met}
@@ -54,7 +54,7 @@ module _ (c : CoreData) (name : Text) (place : ℕ) (p : PipelineData) (piped : 
 
 -- ---- the place is there
 pub disabled_so : (c : CoreData) (name : Text) (place : ℕ) (scope : ScopeData) → HasVersion c name place scope → (h : HistoryData) → h ≡ edited (disabled (scope_number scope c.history.tables) place) c.history
-    → Takes c (record { history = h; pipeline = c.pipeline; budget = c.budget; names = c.names; runs = c.runs }) (disable name place) (Ok Disabled)
+    → TakesStep c (record { history = h; pipeline = c.pipeline; budget = c.budget; names = c.names; runs = c.runs }) (disable name place) (Ok Disabled)
 disabled_so c name place scope (p, r, piped, found, is, there) h to = λ s st.
     let same : scope_number (scope_of r) c.history.tables ≡ scope_number scope c.history.tables = ap (λ (z : ScopeData). scope_number z c.history.tables) (sym is) in
     let here : has_place c.history.tables (scope_number (scope_of r) c.history.tables) place ≡ true = ap (λ n. has_place c.history.tables n place) same ∙ there in
@@ -65,7 +65,7 @@ disabled_so c name place scope (p, r, piped, found, is, there) h to = λ s st.
     )
 
 pub enabled_so : (c : CoreData) (name : Text) (place : ℕ) (scope : ScopeData) → HasVersion c name place scope → (h : HistoryData) → h ≡ edited (enabled (scope_number scope c.history.tables) place) c.history
-    → Takes c (record { history = h; pipeline = c.pipeline; budget = c.budget; names = c.names; runs = c.runs }) (enable name place) (Ok Enabled)
+    → TakesStep c (record { history = h; pipeline = c.pipeline; budget = c.budget; names = c.names; runs = c.runs }) (enable name place) (Ok Enabled)
 enabled_so c name place scope (p, r, piped, found, is, there) h to = λ s st.
     let same : scope_number (scope_of r) c.history.tables ≡ scope_number scope c.history.tables = ap (λ (z : ScopeData). scope_number z c.history.tables) (sym is) in
     let here : has_place c.history.tables (scope_number (scope_of r) c.history.tables) place ≡ true = ap (λ n. has_place c.history.tables n place) same ∙ there in

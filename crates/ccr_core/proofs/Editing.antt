@@ -2,7 +2,7 @@
 use Rattle.std.proofs.Common.{◌≡◌, ◌≢◌, inr, ℕ, ◌==◌, Bool, true, false, List, [], ◌∷◌, length, map, Some, Ok, Err, refl, sym, ap, ◌∙◌, subst, arith}
 use Rattle.std.proofs.lemmas.Bool.{eqb-true}
 use Rattle.ccr_history.specs.Text.{Text}
-use Rattle.ccr_history.specs.Changes.{EditData, text, edited, changed, TakesAll}
+use Rattle.ccr_history.specs.Changes.{EditData, text, edited, changed, AdmitsAll}
 use Rattle.ccr_history.specs.History.{HistoryData}
 use Rattle.ccr_pipeline.specs.Pipelines.{PipelineData}
 use Rattle.ccr_steps.specs.Runs.{RunData}
@@ -11,7 +11,7 @@ use Rattle.ccr_core.specs.declared.reply.Reply.TheVariants.{Set, Restarted}
 use Rattle.ccr_core.specs.Builds.{cut}
 use Rattle.ccr_core.specs.Events.{set_pipeline, restart}
 use Rattle.ccr_core.specs.Faults.{Meets}
-use Rattle.ccr_core.specs.Holding.{CoreData, AreRuns, Stands, HasEdits, IsCore, Takes}
+use Rattle.ccr_core.specs.Holding.{CoreData, AreRuns, Stands, HasEdits, IsCore, TakesStep}
 use Rattle.ccr_core.specs.Picking.{name_of}
 use Rattle.ccr_core.specs.Resumed.{cut_name}
 use Rattle.ccr_core.specs.State.{RunningData, State, moved_on}
@@ -35,10 +35,10 @@ module _ (c : CoreData) where
   none_stands [] (b ∷ bs) are = absurd are
   none_stands (n ∷ ns) bs are = absurd are
 
-  pub builds_open : (p : PipelineData) → (c.runs ≢ []) → Takes c c (set_pipeline p) (Err BuildsOpen)
+  pub builds_open : (p : PipelineData) → (c.runs ≢ []) → TakesStep c c (set_pipeline p) (Err BuildsOpen)
   builds_open p some = refuses c (set_pipeline p) BuildsOpen (λ s st. inr ((λ none. some (none_left c.names c.runs (subst (AreRuns c.names c.runs) none st.3))), none_before (Meets s (set_pipeline p)) 5 (λ _ h. h) (λ _ h. h) (λ _ h. h) (λ _ h. h) (λ _ h. h) (λ lt _. absurd (omega (arith, lt))) (λ lt _. absurd (omega (arith, lt))) (λ lt _. absurd (omega (arith, lt))) (λ lt _. absurd (omega (arith, lt))) (λ lt _. absurd (omega (arith, lt)))))
 
-  pub piped_so : (p : PipelineData) (g : HistoryData) → c.runs ≡ [] → g ≡ edited (text p.text) c.history → Takes c (record { history = g; pipeline = Some p; budget = c.budget; names = c.names; runs = c.runs }) (set_pipeline p) (Ok Set)
+  pub piped_so : (p : PipelineData) (g : HistoryData) → c.runs ≡ [] → g ≡ edited (text p.text) c.history → TakesStep c (record { history = g; pipeline = Some p; budget = c.budget; names = c.names; runs = c.runs }) (set_pipeline p) (Ok Set)
   piped_so p g none is s st =
       let idle : s.running ≡ [] = none_stands c.names s.running (subst (λ rs. AreRuns c.names rs s.running) none st.3) in (
         with_pipeline s p,
@@ -54,14 +54,14 @@ module _ (c : CoreData) where
   cuts_of : (s : State) → Stands c s → map cut s.running ≡ map cut_name c.names
   cuts_of s st = cuts_are s.running ∙ ap (map cut_name) (names_are c.names c.runs s.running st.3)
 
-  pub all_taken : IsCore c → TakesAll c.history (map cut_name c.names)
+  pub all_taken : IsCore c → AdmitsAll c.history (map cut_name c.names)
   all_taken core =
       let t = firm c core in
-      subst (λ es. TakesAll c.history es) (cuts_of t.state t.stands)
-      (subst (λ h. TakesAll h (map cut t.state.running)) (sym t.stands.0)
+      subst (λ es. AdmitsAll c.history es) (cuts_of t.state t.stands)
+      (subst (λ h. AdmitsAll h (map cut t.state.running)) (sym t.stands.0)
       (cut_takes t.state.running t.state.history t.sound.apart (all_weaker (λ b own. is_running t.state.history b own.held) t.state.running t.sound.each)))
 
-  pub restarted_so : (g : HistoryData) (ms : List (Text × ℕ)) (rs : List RunData) → g ≡ changed (map cut_name c.names) c.history → ms ≡ [] → rs ≡ [] → Takes c (record { history = g; pipeline = c.pipeline; budget = c.budget; names = ms; runs = rs }) restart (Ok Restarted)
+  pub restarted_so : (g : HistoryData) (ms : List (Text × ℕ)) (rs : List RunData) → g ≡ changed (map cut_name c.names) c.history → ms ≡ [] → rs ≡ [] → TakesStep c (record { history = g; pipeline = c.pipeline; budget = c.budget; names = ms; runs = rs }) restart (Ok Restarted)
   restarted_so g ms rs is none left s st = (
     moved_on s (changed (map cut s.running) s.history) [],
     (none_met (Meets s restart) (λ h. h) (λ h. h) (λ h. h) (λ h. h) (λ h. h) (λ h. h) (λ h. h) (λ h. h) (λ h. h) (λ h. h), refl),

@@ -22,7 +22,7 @@ use Rattle.ccr_core.specs.declared.fault.CoreFault.TheVariants.{TableFull}
 use Rattle.ccr_core.specs.declared.reply.Reply.{Reply}
 use Rattle.ccr_core.specs.declared.reply.Reply.TheVariants.{Set, New, Made, NotNew, Goes, Ends, Pinned, Unpinned, Disabled, Enabled, Restarted}
 use Rattle.ccr_problem.specs.ProblemOf.{job_of}
-use Rattle.ccr_core.specs.Builds.{status_of, Settles, begun, history_with, with_made, Makes, with_answer, Takes, cut}
+use Rattle.ccr_core.specs.Builds.{status_of, Settles, begun, history_with, with_made, Makes, with_answer, GoesOnWith, cut}
 use Rattle.ccr_core.specs.Choices.{best, Finds, used_at}
 use Rattle.ccr_core.specs.Addressed.{AnswerTo, addressed}
 use Rattle.ccr_core.specs.Events.{EventData, set_pipeline, checked, schedule, trigger, pin, unpin, disable, enable, restart}
@@ -33,7 +33,7 @@ use Rattle.ccr_core.specs.Seen.{AreThoseUsed, pairs_of, report_by}
 use Rattle.ccr_core.specs.Replies.{Replied}
 use Rattle.ccr_core.specs.State.{RunningData, State, pipeline_of, moved_on, running_at, without}
 use Rattle.ccr_core.specs.Steps.{Schedules, Triggers, Answers, DoesBy, Step, Run}
-use Rattle.ccr_core.specs.Told.{EndsIn, EndsAsMeant, EachEndsAsMeant, EachIsCutShort, EndsAgree}
+use Rattle.ccr_core.specs.EachBuild.{EndsIn, EndsAsMeant, EachEndsAsMeant, EachIsCutShort, EndsAgree}
 use Rattle.ccr_core.proofs.Placing.{moved_fit}
 use Rattle.ccr_core.proofs.RunningLists.{all_weaker, all_at, id_same, id_refl, at_id}
 use Rattle.ccr_core.proofs.Seeing.{report_builds, pushed_builds}
@@ -173,7 +173,7 @@ module _ (s before : State) (es : List EventData) (rs : List Replied) (start : I
           passed = passed_by o c (ap (λ y. y.status) same);
         }
 
-    ends_taken : (after : State) → Takes before b w.given (Some o) after → EndsTo before (own c.job c.number (es ++ e ∷ []) (rs ++ Ok (Ends o) ∷ [])) c after
+    ends_taken : (after : State) → GoesOnWith before b w.given (Some o) after → EndsTo before (own c.job c.number (es ++ e ∷ []) (rs ++ Ok (Ends o) ∷ [])) c after
     ends_taken after (a, next, (h, (g, means, is), to)) =
         subst (EndsTo before (own c.job c.number (es ++ e ∷ []) (rs ++ Ok (Ends o) ∷ [])) c) (sym to)
         (subst (λ y. EndsTo before (own c.job c.number (es ++ e ∷ []) (rs ++ Ok (Ends o) ∷ [])) c (moved_on before y (without b.job b.number before.running))) (sym is)
@@ -253,7 +253,7 @@ module _ (s before : State) (es : List EventData) (rs : List Replied) (start : I
   ends_triggered name j r after at room (held, is) c ends = absurd (none_ends before after c (ap (λ y. y.history.builds) is) ends)
 
   -- a build that goes on hasn't ended
-  pub goes_on : (b : RunningData) (x : AnswerData) (after : State) → Takes before b x None after → after.history.builds ≡ before.history.builds
+  pub goes_on : (b : RunningData) (x : AnswerData) (after : State) → GoesOnWith before b x None after → after.history.builds ≡ before.history.builds
   goes_on b x after (a, next, (h, (begins, waits, is), to)) = ap (λ y. y.history.builds) to ∙ ap (λ y. y.builds) is ∙ pushed_builds (pipeline_of before) a x before.history
 
   ends_other : (e : EventData) (r : Reply) (after : State) → ((f : CoreFault) → ¬ MeetsBy before None e f) → DoesBy before None e r after → e ≢ restart → (c : BuildData) → EndsIn before after c → EndsAsMeant after (own c.job c.number (es ++ e ∷ []) (rs ++ Ok r ∷ [])) c

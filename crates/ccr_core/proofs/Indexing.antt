@@ -6,7 +6,7 @@ use Rattle.ccr_history.specs.declared.build.Status.TheVariants.{Errored}
 use Rattle.ccr_history.specs.declared.change.Reported.{Reported}
 use Rattle.ccr_history.specs.Text.{Text}
 use Rattle.ccr_history.specs.Builds.{UsedData, is_of, count_of, new_build, is_succeeded}
-use Rattle.ccr_history.specs.Changes.{build, versions, edited, changed, TakesAll}
+use Rattle.ccr_history.specs.Changes.{build, versions, edited, changed, AdmitsAll}
 use Rattle.ccr_history.specs.History.{HistoryData, IsHistory}
 use Rattle.ccr_history.proofs.ChangeLaws.{kept}
 use Rattle.ccr_pipeline.specs.Inputs.{inputs}
@@ -78,12 +78,12 @@ brought_so p h mid job number used pairs ps (Some o) bs is same brought =
     subst (λ y. IsBrought p y job number (status_of o) pairs bs) (sym is) (subst (λ l. IsBrought p h job number (status_of o) l bs) same brought)
 
 -- ---- builds that are cut short
-pub cuts_on : UnsuccessfulEndLeaves → (p : PipelineData) (ns : List (Text × ℕ)) (h : HistoryData) (xs : List IndexValue) → IsHistory h → TakesAll h (map cut_name ns) → AreIndexes p h xs → AreIndexes p (changed (map cut_name ns) h) xs
+pub cuts_on : UnsuccessfulEndLeaves → (p : PipelineData) (ns : List (Text × ℕ)) (h : HistoryData) (xs : List IndexValue) → IsHistory h → AdmitsAll h (map cut_name ns) → AreIndexes p h xs → AreIndexes p (changed (map cut_name ns) h) xs
 cuts_on leaves p [] h xs rules takes are = are
 cuts_on leaves p (n ∷ ns) h xs rules (take, takes) are =
     cuts_on leaves p ns (edited (cut_name n) h) xs (kept (cut_name n) h rules take) takes
     (are ∙ sym (map_same (λ (j : JobData). problem_with p (edited (cut_name n) h) j.name (inputs j.plan)) (λ j. problem_with p h j.name (inputs j.plan)) p.jobs (λ j. leaves p h j.name (inputs j.plan) n.0 n.1 Errored [] rules take.0 refl)))
 
-pub cuts_on_of : UnsuccessfulEndLeaves → (o : Option PipelineData) (ns : List (Text × ℕ)) (h : HistoryData) (xs : List IndexValue) → IsHistory h → TakesAll h (map cut_name ns) → AreIndexesOf o h xs → AreIndexesOf o (changed (map cut_name ns) h) xs
+pub cuts_on_of : UnsuccessfulEndLeaves → (o : Option PipelineData) (ns : List (Text × ℕ)) (h : HistoryData) (xs : List IndexValue) → IsHistory h → AdmitsAll h (map cut_name ns) → AreIndexesOf o h xs → AreIndexesOf o (changed (map cut_name ns) h) xs
 cuts_on_of leaves None ns h xs rules takes are = are
 cuts_on_of leaves (Some p) ns h xs rules takes are = cuts_on leaves p ns h xs rules takes are

@@ -7,7 +7,7 @@ use Rattle.ccr_history.specs.declared.build.Status.{Status}
 use Rattle.ccr_history.specs.Text.{Text}
 use Rattle.ccr_history.specs.Builds.{UsedData, BuildData, is_of, is_build_of, count_of, build_of, new_build, ended as ended_build, with_build, with_end}
 use Rattle.ccr_history.specs.declared.build.Status.TheVariants.{Running}
-use Rattle.ccr_history.specs.Changes.{EditData, text, versions, build, ended, pin_set, pin_cleared, disabled, enabled, edited, changed, IsRunning, Takes, TakesAll}
+use Rattle.ccr_history.specs.Changes.{EditData, text, versions, build, ended, pin_set, pin_cleared, disabled, enabled, edited, changed, IsRunning, Admits, AdmitsAll}
 use Rattle.ccr_history.specs.History.{HistoryData, AreNumbered}
 use Rattle.ccr_core.proofs.Counting.{count_cons, count_new, count_end}
 use Rattle.ccr_core.proofs.RunningLists.{all_weaker, all_append, id_same, id_refl}
@@ -121,7 +121,7 @@ known_end job number st mv bs known =
     known_more bs (with_end job number st mv bs) (with_end job number st mv bs) (λ j. let e = count_end j job number st mv bs in omega (arith, e)) (known_ended bs job number st mv bs known)
 
 -- ---- what has ended stays as it is
-pub ended_stays : (e : EditData) (h : HistoryData) → Takes h e → (j : Text) (n : ℕ) (c : BuildData) → build_of j n h.builds ≡ Some c → c.status ≢ Running → build_of j n (edited e h).builds ≡ Some c
+pub ended_stays : (e : EditData) (h : HistoryData) → Admits h e → (j : Text) (n : ℕ) (c : BuildData) → build_of j n h.builds ≡ Some c → c.status ≢ Running → build_of j n (edited e h).builds ≡ Some c
 ended_stays (text t) h takes j n c found done = found
 ended_stays (versions scope vs) h takes j n c found done = found
 ended_stays (build job used) h takes j n c found done = found_there j n h.builds (new_build job (count_of job h.builds + 1) used) c found
@@ -140,6 +140,6 @@ ended_stays (pin_cleared resource) h takes j n c found done = found
 ended_stays (disabled scope place) h takes j n c found done = found
 ended_stays (enabled scope place) h takes j n c found done = found
 
-pub all_stay : (es : List EditData) (h : HistoryData) → TakesAll h es → (j : Text) (n : ℕ) (c : BuildData) → build_of j n h.builds ≡ Some c → c.status ≢ Running → build_of j n (changed es h).builds ≡ Some c
+pub all_stay : (es : List EditData) (h : HistoryData) → AdmitsAll h es → (j : Text) (n : ℕ) (c : BuildData) → build_of j n h.builds ≡ Some c → c.status ≢ Running → build_of j n (changed es h).builds ≡ Some c
 all_stay [] h takes j n c found done = found
 all_stay (e ∷ es) h takes j n c found done = all_stay es (edited e h) takes.1 j n c (ended_stays e h takes.0 j n c found done) done

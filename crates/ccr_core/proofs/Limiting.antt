@@ -18,7 +18,7 @@ use Rattle.ccr_core.specs.declared.limit.TheConstants.{MOST_RUNNING}
 use Rattle.ccr_core.specs.declared.reply.Reply.{Reply}
 use Rattle.ccr_core.specs.declared.reply.Reply.TheVariants.{Set, New, Made, NotNew, Goes, Ends, Pinned, Unpinned, Disabled, Enabled, Restarted}
 use Rattle.ccr_problem.specs.ProblemOf.{job_of}
-use Rattle.ccr_core.specs.Builds.{begun, with_made, Makes, with_answer, with_answered, Takes, cut}
+use Rattle.ccr_core.specs.Builds.{begun, with_made, Makes, with_answer, with_answered, GoesOnWith, cut}
 use Rattle.ccr_core.specs.Busy.{limit_of, running_of, has_reached, share, is_shut_out, is_busy}
 use Rattle.ccr_core.specs.Addressed.{AnswerTo, addressed}
 use Rattle.ccr_core.specs.Events.{EventData, set_pipeline, checked, schedule, trigger, pin, unpin, disable, enable, restart}
@@ -218,7 +218,7 @@ limited_made s name j places m after l at idle room (number, (o, h, settles, is)
     by None = limited_more s h (begun (pipeline_of s) s.history j places) j l (job_at name (pipeline_of s).jobs j at) refl idle room
     by (Some o) = limited_history s h l
 
-limited_taken : (s : State) (b : RunningData) (x : AnswerData) (o : Option Outcome) (after : State) → IsLimited s → Takes s b x o after → IsLimited after
+limited_taken : (s : State) (b : RunningData) (x : AnswerData) (o : Option Outcome) (after : State) → IsLimited s → GoesOnWith s b x o after → IsLimited after
 limited_taken s b x o after l (a, next, (h, settles, is)) = subst IsLimited (sym is) (by o)
   where
     by : (o : Option Outcome) → IsLimited (moved_on s h (with_answered (with_answer b a x) o s.running))

@@ -7,7 +7,7 @@ use Rattle.ccr_history.specs.Edits.{edit_data, row_of, HaveTheirNumbers}
 use Rattle.ccr_history.specs.Text.{Text}
 use Rattle.ccr_history.specs.TextMap.{TextMap}
 use Rattle.ccr_history.specs.Builds.{UsedData, count_of, new_build}
-use Rattle.ccr_history.specs.Changes.{EditData, build, edited, changed, AreUsed, IsRunning, TakesAll}
+use Rattle.ccr_history.specs.Changes.{EditData, build, edited, changed, AreUsed, IsRunning, AdmitsAll}
 use Rattle.ccr_history.specs.History.{HistoryData, IsHistory}
 use Rattle.ccr_pipeline.specs.Inputs.{InputData, inputs}
 use Rattle.ccr_pipeline.specs.JobData.{JobData}
@@ -19,7 +19,7 @@ use Rattle.ccr_steps.specs.declared.outcome.Outcome.{Outcome}
 use Rattle.ccr_core.specs.Builds.{Settles, history_with}
 use Rattle.ccr_core.specs.Choices.{used_at, versions_at}
 use Rattle.ccr_core.specs.Edits.{AreBuildEdits}
-use Rattle.ccr_core.specs.Endings.{Stands, end_edits, PairsFit}
+use Rattle.ccr_core.specs.Endings.{IsAtEnding, end_edits, PairsFit}
 use Rattle.ccr_core.specs.Going.{named, CanMake, IsMade}
 use Rattle.ccr_core.proofs.Answering.{settles_so, pairs_fit, end_taken}
 use Rattle.ccr_core.proofs.Keeping.{known_start, new_found}
@@ -50,7 +50,7 @@ made_numbers h mid all es b nm us is job used to row number more =
     subst (HaveTheirNumbers h) (sym is)
     ((row, number ∙ ap (λ y. count_of y h.builds + 1) (sym job)), subst (λ y. HaveTheirNumbers y es) (to ∙ ap (λ e. edited e h) (sym edit)) more)
 
-module _ (p : PipelineData) (h mid after : HistoryData) (j : JobData) (places : List ℕ) (can : CanMake p h j places) (run : RunData) (vs : List TextMap) (us : List UsedData) (nm : Text) (n : ℕ) (o : Option Outcome) (pairs : List (ℕ × ℕ)) (name : nm ≡ j.name) (number : n ≡ count_of nm h.builds + 1) (versions : vs ≡ versions_at p h (inputs j.plan) places) (used : us ≡ used_at p h (inputs j.plan) places) (begins : StandsFor run j.plan (chosen (input_names j.plan) vs) []) (stands : Stands p h run o pairs) (is : mid ≡ edited (build nm us) h) where
+module _ (p : PipelineData) (h mid after : HistoryData) (j : JobData) (places : List ℕ) (can : CanMake p h j places) (run : RunData) (vs : List TextMap) (us : List UsedData) (nm : Text) (n : ℕ) (o : Option Outcome) (pairs : List (ℕ × ℕ)) (name : nm ≡ j.name) (number : n ≡ count_of nm h.builds + 1) (versions : vs ≡ versions_at p h (inputs j.plan) places) (used : us ≡ used_at p h (inputs j.plan) places) (begins : StandsFor run j.plan (chosen (input_names j.plan) vs) []) (stands : IsAtEnding p h run o pairs) (is : mid ≡ edited (build nm us) h) where
   there : StandsFor run j.plan (chosen (input_names j.plan) (versions_at p h (inputs j.plan) places)) []
   there = subst (λ l. StandsFor run j.plan (chosen (input_names j.plan) l) []) versions begins
 
@@ -83,10 +83,10 @@ module _ (p : PipelineData) (h mid after : HistoryData) (j : JobData) (places : 
         let here = settles_so p (history_with p h j places) j.name n j.plan (chosen (input_names j.plan) (versions_at p h (inputs j.plan) places)) [] o pairs after (stands j.plan (chosen (input_names j.plan) (versions_at p h (inputs j.plan) places)) [] there) ends in
         (its, there, subst (λ m. Settles p (history_with p h j places) (named j.name m j.plan (chosen (input_names j.plan) (versions_at p h (inputs j.plan) places)) []) o after) its here)
 
-    pub made_change : (all : List EditData) → all ≡ build nm us ∷ end_edits nm n o pairs → IsRunning nm n mid.builds → TakesAll h all × (changed all h ≡ after)
+    pub made_change : (all : List EditData) → all ≡ build nm us ∷ end_edits nm n o pairs → IsRunning nm n mid.builds → AdmitsAll h all × (changed all h ≡ after)
     made_change all e runs =
-        let takes : TakesAll mid (end_edits nm n o pairs) = end_taken mid nm n o pairs runs made_fits in
+        let takes : AdmitsAll mid (end_edits nm n o pairs) = end_taken mid nm n o pairs runs made_fits in
         let first : AreUsed h.tables us = subst (AreUsed h.tables) (sym used) can.used in (
-          subst (TakesAll h) (sym e) ((can.room, first), subst (λ y. TakesAll y (end_edits nm n o pairs)) is takes),
+          subst (AdmitsAll h) (sym e) ((can.room, first), subst (λ y. AdmitsAll y (end_edits nm n o pairs)) is takes),
           ap (λ l. changed l h) e ∙ ap (changed (end_edits nm n o pairs)) (sym is) ∙ sym to,
         )

@@ -9,7 +9,7 @@ use Rattle.ccr_history.specs.Tables.{ScopeData, TableData, is_scope, has_version
 use Rattle.ccr_history.specs.declared.change.Edit.TheVariants.{Versions}
 use Rattle.ccr_history.specs.declared.change.Reported.{Reported}
 use Rattle.ccr_history.specs.Edits.{edit_data, HasItsNumbers}
-use Rattle.ccr_history.specs.Changes.{EditData, versions, edited, changed, TakesAll}
+use Rattle.ccr_history.specs.Changes.{EditData, versions, edited, changed, AdmitsAll}
 use Rattle.ccr_history.specs.History.{HistoryData}
 use Rattle.ccr_history.proofs.TableLaws.{versions_of-with_report}
 use Rattle.ccr_pipeline.specs.JobData.{ResourceData}
@@ -82,9 +82,9 @@ news_reported s (v ∷ vs) ts = by (new_to (versions_of s ts) (v ∷ vs)) refl
 -- ---- changes
 -- where the history takes a report, it takes what is new of it, and that leads to the same
 abbrev pub IsSame : HistoryData → List EditData → List EditData → Type 0
-IsSame h es fs = TakesAll h fs × (changed fs h ≡ changed es h)
+IsSame h es fs = AdmitsAll h fs × (changed fs h ≡ changed es h)
 
-news_one : (h : HistoryData) (s : ScopeData) (vs : List TextMap) → TakesAll h (versions s vs ∷ []) → IsSame h (versions s vs ∷ []) (news_in h (versions s vs ∷ []))
+news_one : (h : HistoryData) (s : ScopeData) (vs : List TextMap) → AdmitsAll h (versions s vs ∷ []) → IsSame h (versions s vs ∷ []) (news_in h (versions s vs ∷ []))
 news_one h s vs takes =
     let same = news_reported s vs h.tables in
     let full : is_table_full s (new_to (versions_of s h.tables) vs) h.tables ≡ is_table_full s vs h.tables = ap (λ ts. nat_lt MOST_VERSIONS (length (versions_of s ts)) || nat_lt MOST_SCOPES (length ts)) same in (
@@ -92,17 +92,17 @@ news_one h s vs takes =
       ap (λ ts. record { tables = ts; builds = h.builds; pins = h.pins; disabled = h.disabled; text = h.text }) same,
     )
 
-pub news_report : (p : PipelineData) (h : HistoryData) (resource : Text) (vs : List TextMap) → TakesAll h (report p resource vs) → IsSame h (report p resource vs) (news_in h (report p resource vs))
+pub news_report : (p : PipelineData) (h : HistoryData) (resource : Text) (vs : List TextMap) → AdmitsAll h (report p resource vs) → IsSame h (report p resource vs) (news_in h (report p resource vs))
 news_report p h resource vs = by (resource_of resource p.resources)
   where
-    by : (o : Option ResourceData) → TakesAll h (option_map_or (λ r. versions (scope_of r) vs ∷ []) o []) → IsSame h (option_map_or (λ r. versions (scope_of r) vs ∷ []) o []) (news_in h (option_map_or (λ r. versions (scope_of r) vs ∷ []) o []))
+    by : (o : Option ResourceData) → AdmitsAll h (option_map_or (λ r. versions (scope_of r) vs ∷ []) o []) → IsSame h (option_map_or (λ r. versions (scope_of r) vs ∷ []) o []) (news_in h (option_map_or (λ r. versions (scope_of r) vs ∷ []) o []))
     by None takes = (tt, refl)
     by (Some x) takes = news_one h (scope_of x) vs takes
 
-pub news_push : (p : PipelineData) (h : HistoryData) (a : AskData) (x : AnswerData) → TakesAll h (report_by p a x) → IsSame h (report_by p a x) (news_in h (report_by p a x))
+pub news_push : (p : PipelineData) (h : HistoryData) (a : AskData) (x : AnswerData) → AdmitsAll h (report_by p a x) → IsSame h (report_by p a x) (news_in h (report_by p a x))
 news_push p h a x = by (pushed_by a x)
   where
-    by : (o : Option (Text × TextMap)) → TakesAll h (option_map_or (λ m. report p m.0 (m.1 ∷ [])) o []) → IsSame h (option_map_or (λ m. report p m.0 (m.1 ∷ [])) o []) (news_in h (option_map_or (λ m. report p m.0 (m.1 ∷ [])) o []))
+    by : (o : Option (Text × TextMap)) → AdmitsAll h (option_map_or (λ m. report p m.0 (m.1 ∷ [])) o []) → IsSame h (option_map_or (λ m. report p m.0 (m.1 ∷ [])) o []) (news_in h (option_map_or (λ m. report p m.0 (m.1 ∷ [])) o []))
     by None takes = (tt, refl)
     by (Some m) takes = news_report p h m.0 (m.1 ∷ []) takes
 

@@ -26,7 +26,7 @@ use Rattle.ccr_core.specs.Choices.{best, Finds}
 use Rattle.ccr_core.specs.Edits.{AreBuildEdits, AreMadeEdits, AreEdits}
 use Rattle.ccr_core.specs.Faults.{Meets, MayRefuse, IsFree}
 use Rattle.ccr_core.specs.Going.{CanMake, IsMade}
-use Rattle.ccr_core.specs.Holding.{CoreData, name_data, AreRuns, Stands, HasEdits, IsCore, Takes}
+use Rattle.ccr_core.specs.Holding.{CoreData, name_data, AreRuns, Stands, HasEdits, IsCore, TakesStep}
 use Rattle.ccr_core.specs.Opening.{asked, LacksRoom, IsOpened}
 use Rattle.ccr_core.specs.Picking.{name_of, Picks, IsPicked}
 use Rattle.ccr_core.specs.State.{RunningData, State, no_pipeline, pipeline_of, jobs_of, moved_on}
@@ -135,14 +135,14 @@ module _ (c : CoreData) (by_command : Bool) (name : Text) where
       is_job : (s : State) → Stands c s → ¬ (job_of name (jobs_of s) ≡ None)
       is_job s st none = let no : Some j ≡ None = sym (there s st) ∙ none in absurd (cc no)
 
-      pub too_many : MOST_RUNNING ≤ length c.names → Takes c c (asked by_command name) (Err TooManyOpen)
+      pub too_many : MOST_RUNNING ≤ length c.names → TakesStep c c (asked by_command name) (Err TooManyOpen)
       too_many many = refuses c (asked by_command name) TooManyOpen (λ s st. refuses_open by_command s name (is_piped s st) (is_job s st) (let same = (as_many c.names c.runs s.running st.3).0 in omega (arith, same, many)))
 
       module _ (less : length c.names < MOST_RUNNING) where
         few : (s : State) → Stands c s → ¬ (MOST_RUNNING ≤ length s.running)
         few s st many = let same = (as_many c.names c.runs s.running st.3).0 in absurd (omega (arith, same, many, less))
 
-        pub table_full : MOST_BUILDS ≤ length c.history.builds → Takes c c (asked by_command name) (Err TableFull)
+        pub table_full : MOST_BUILDS ≤ length c.history.builds → TakesStep c c (asked by_command name) (Err TableFull)
         table_full many = refuses c (asked by_command name) TableFull (λ s st. refuses_room by_command s name (is_piped s st) (is_job s st) (few s st) (subst (λ h. MOST_BUILDS ≤ length h.builds) st.0 many))
 
         module _ (room : length c.history.builds < MOST_BUILDS) where
@@ -155,16 +155,16 @@ module _ (c : CoreData) (by_command : Bool) (name : Text) where
           pub picks : (x : Picked) → IsPicked p c.history c.budget c.names j by_command x → (s : State) → Stands c s → Picks s j by_command x
           picks x is s st = is s (sym st.1 ∙ piped) (sym st.0) (sym st.2) (names_are c.names c.runs s.running st.3)
 
-          pub busy : IsPicked p c.history c.budget c.names j by_command pick.Busy → Takes c c (asked by_command name) (Ok Busy)
+          pub busy : IsPicked p c.history c.budget c.names j by_command pick.Busy → TakesStep c c (asked by_command name) (Ok Busy)
           busy is s st = (s, step_held by_command s name j Busy (free s st) (there s st) (picks pick.Busy is s st), st)
 
-          pub none_satisfies : IsPicked p c.history c.budget c.names j by_command pick.NoneSatisfies → Takes c c (asked by_command name) (Ok NoneSatisfies)
+          pub none_satisfies : IsPicked p c.history c.budget c.names j by_command pick.NoneSatisfies → TakesStep c c (asked by_command name) (Ok NoneSatisfies)
           none_satisfies is s st = (s, step_held by_command s name j NoneSatisfies (free s st) (there s st) (picks pick.NoneSatisfies is s st), st)
 
-          pub over_budget : (n : ℕ) → IsPicked p c.history c.budget c.names j by_command (pick.OverBudget n) → Takes c c (asked by_command name) (Ok (OverBudget n))
+          pub over_budget : (n : ℕ) → IsPicked p c.history c.budget c.names j by_command (pick.OverBudget n) → TakesStep c c (asked by_command name) (Ok (OverBudget n))
           over_budget n is s st = (s, step_held by_command s name j (OverBudget n) (free s st) (there s st) (picks (pick.OverBudget n) is s st), st)
 
-          pub not_new : IsPicked p c.history c.budget c.names j by_command pick.NotNew → Takes c c (asked by_command name) (Ok NotNew)
+          pub not_new : IsPicked p c.history c.budget c.names j by_command pick.NotNew → TakesStep c c (asked by_command name) (Ok NotNew)
           not_new is s st = (let (scheduled, idle, found) = picks pick.NotNew is s st in (s, step_not_new by_command s name j (free s st) (there s st) scheduled idle found, st))
 
           module _ (places : List ℕ) (is : (s : State) → Stands c s → IsIdle s j × Finds s j.name (best places) × ((by_command ≡ true) ⊎ (has_news s j places ≡ true))) where
@@ -176,7 +176,7 @@ module _ (c : CoreData) (by_command : Bool) (name : Text) where
                 (subst (λ q. CanMake q t.state.history j places) (sym (pipe t.state t.stands))
                 (can_make t.state name j places t.sound (there t.state t.stands) finds (has_room t.state t.stands)))
 
-            pub made : (number : ℕ) (h : HistoryData) (ms : List (Text × ℕ)) (qs : List RunData) → IsOpened p c.history j places number h c.names ms c.runs qs → Takes c (record { history = h; pipeline = c.pipeline; budget = c.budget; names = ms; runs = qs }) (asked by_command name) (Ok (Made number))
+            pub made : (number : ℕ) (h : HistoryData) (ms : List (Text × ℕ)) (qs : List RunData) → IsOpened p c.history j places number h c.names ms c.runs qs → TakesStep c (record { history = h; pipeline = c.pipeline; budget = c.budget; names = ms; runs = qs }) (asked by_command name) (Ok (Made number))
             made number h ms qs opened s st =
                 let (idle, finds, news) = is s st in
                 let here : IsOpened (pipeline_of s) s.history j places number h c.names ms c.runs qs = subst (λ g. IsOpened (pipeline_of s) g j places number h c.names ms c.runs qs) st.0 (subst (λ q. IsOpened q c.history j places number h c.names ms c.runs qs) (pipe s st) opened) in
@@ -214,7 +214,7 @@ name_more ns ms name m job number is called numbered =
     ap (map name_data) is ∙ map_more name_data ns (name, m) ∙ ap (λ j. map name_data ns ++ (j, m) ∷ []) called ∙ ap (λ n. map name_data ns ++ (job, n) ∷ []) numbered
 
 -- a schedule or a trigger is refused where there is no room
-pub no_room : (c : CoreData) (by_command : Bool) (name : Text) (p : PipelineData) (piped : c.pipeline ≡ Some p) (j : JobData) (at : job_of name p.jobs ≡ Some j) (running : ℕ) (f : CoreFault) → running ≡ length c.names → LacksRoom c.history running f → Takes c c (asked by_command name) (Err f)
+pub no_room : (c : CoreData) (by_command : Bool) (name : Text) (p : PipelineData) (piped : c.pipeline ≡ Some p) (j : JobData) (at : job_of name p.jobs ≡ Some j) (running : ℕ) (f : CoreFault) → running ≡ length c.names → LacksRoom c.history running f → TakesStep c c (asked by_command name) (Err f)
 no_room c by_command name p piped j at running TooManyOpen same many = too_many c by_command name p piped j at (omega (arith, same, many))
 no_room c by_command name p piped j at running TableFull same (less, many) = table_full c by_command name p piped j at (omega (arith, same, less)) many
 no_room c by_command name p piped j at running NoPipeline same lacks = absurd lacks

@@ -12,7 +12,7 @@ use Rattle.ccr_steps.specs.Asks.{AnswerData}
 use Rattle.ccr_steps.specs.declared.outcome.Outcome.{Outcome}
 use Rattle.ccr_core.specs.declared.reply.Reply.{Reply}
 use Rattle.ccr_core.specs.declared.reply.Reply.TheVariants.{Set, New, Made, NotNew, Goes, Ends, Pinned, Unpinned, Disabled, Enabled, Restarted}
-use Rattle.ccr_core.specs.Builds.{begun, history_with, Makes, with_answer, Takes as TakesAnswer}
+use Rattle.ccr_core.specs.Builds.{begun, history_with, Makes, with_answer, GoesOnWith}
 use Rattle.ccr_core.specs.Choices.{used_at}
 use Rattle.ccr_core.specs.Addressed.{AnswerTo, addressed}
 use Rattle.ccr_core.specs.Events.{EventData, set_pipeline, checked, schedule, trigger, pin, unpin, disable, enable, restart}
@@ -126,7 +126,7 @@ module _ (s : State) (ordered : IsOrdered s) where
       (order_kept bs _ (made_end _ _ _ (pairs_of (pipeline_of s) (history_with (pipeline_of s) s.history j places) g.moved) bs) (map name_of s.running) 0
       (order_kept s.history.builds bs (made_more s.history.builds x) (map name_of s.running) 0 ordered)))
 
-  ordered_taken : (b : RunningData) (x : AnswerData) (o : Option Outcome) (after : State) → TakesAnswer s b x o after → IsOrdered after
+  ordered_taken : (b : RunningData) (x : AnswerData) (o : Option Outcome) (after : State) → GoesOnWith s b x o after → IsOrdered after
   ordered_taken b x None after (a, next, (h, (begins, waits, same), to)) =
       subst IsOrdered (sym to)
       (ordered_same h.builds (replaced (with_answer b a x) s.running) (ap (λ y. y.builds) same ∙ pushed_builds (pipeline_of s) a x s.history) (names_replaced (with_answer b a x) s.running))

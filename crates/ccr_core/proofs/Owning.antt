@@ -19,7 +19,7 @@ use Rattle.ccr_core.specs.declared.fault.CoreFault.TheVariants.{BuildsOpen}
 use Rattle.ccr_core.specs.declared.reply.Reply.{Reply}
 use Rattle.ccr_core.specs.declared.reply.Reply.TheVariants.{Set, New, Made, NotNew, Goes, Ends, Pinned, Unpinned, Disabled, Enabled, Restarted}
 use Rattle.ccr_problem.specs.ProblemOf.{job_of}
-use Rattle.ccr_core.specs.Builds.{status_of, Settles, begun, history_with, with_made, Makes, with_answer, with_answered, Takes, cut}
+use Rattle.ccr_core.specs.Builds.{status_of, Settles, begun, history_with, with_made, Makes, with_answer, with_answered, GoesOnWith, cut}
 use Rattle.ccr_core.specs.Choices.{used_at}
 use Rattle.ccr_core.specs.Addressed.{AnswerTo, addressed}
 use Rattle.ccr_core.specs.Events.{EventData, set_pipeline, checked, schedule, trigger, pin, unpin, disable, enable, restart}
@@ -29,7 +29,7 @@ use Rattle.ccr_core.specs.Seen.{pairs_of, report, report_by}
 use Rattle.ccr_core.specs.Replies.{Replied}
 use Rattle.ccr_core.specs.State.{RunningData, State, pipeline_of, moved_on, with_history, is_run_of, running_at, replaced, without, scope_in}
 use Rattle.ccr_core.specs.Steps.{with_pipeline, Schedules, Triggers, Answers, DoesBy, Step, Run}
-use Rattle.ccr_core.specs.Told.{HasItsOwn, EachHasItsOwn, RunsAgree, NoneRunsOn}
+use Rattle.ccr_core.specs.EachBuild.{HasItsOwn, EachHasItsOwn, RunsAgree, NoneRunsOn}
 use Rattle.ccr_core.proofs.Counting.{count_new, count_edited, count_changed, fresh}
 use Rattle.ccr_core.proofs.RunningLists.{all_weaker, all_append, id_same, id_refl, id_flip, at_id, IsApart, apart_with, apart_less, apart_more, all_with, all_less, all_at}
 
@@ -183,7 +183,7 @@ at_own j n bs b at =
     let (p, q) = at_id j n bs b at in
     ap (λ y. running_at y b.number bs) p ∙ ap (λ y. running_at j y bs) q ∙ at
 
-taken_kept : (past : Past) (s : State) (j : Text) (n : ℕ) (b : RunningData) (x : AnswerData) (o : Option Outcome) (after : State) → IsKept past s → running_at j n s.running ≡ Some b → Takes s b x o after → IsKept (with_own past j n x) after
+taken_kept : (past : Past) (s : State) (j : Text) (n : ℕ) (b : RunningData) (x : AnswerData) (o : Option Outcome) (after : State) → IsKept past s → running_at j n s.running ≡ Some b → GoesOnWith s b x o after → IsKept (with_own past j n x) after
 taken_kept past s j n b x o after k at (a, next, (h, settles, is)) =
     let (p, q) = at_id j n s.running b at in
     let kept = settled_taken past s b a x k (at_own j n s.running b at) o h settles in

@@ -21,7 +21,7 @@ use Rattle.ccr_steps.specs.Gains.{MovedData, GainsData, no_gains, is_same, has_m
 use Rattle.ccr_steps.specs.Means.{Means}
 use Rattle.ccr_steps.specs.declared.outcome.Outcome.{Outcome}
 use Rattle.ccr_problem.specs.ProblemOf.{resource_of, scope_of, history_number}
-use Rattle.ccr_core.specs.Seen.{seen_of, pair_of, pairs_of}
+use Rattle.ccr_core.specs.Seen.{versions_seen, pair_of, pairs_of}
 use Rattle.ccr_core.proofs.Choosing.{IsSeen, all_map}
 use Rattle.ccr_core.proofs.Moving.{ArePushed, IsGot, means_keep}
 use Rattle.ccr_core.proofs.RunningLists.{all_weaker, all_append, all_both}
@@ -69,12 +69,12 @@ module _ (p : PipelineData) (h : HistoryData) where
   number_of_seen : (m : MovedData) (x : ResourceData) → resource_of m.resource p.resources ≡ Some x → history_number p h m.resource ≡ scope_number (scope_of x) h.tables
   number_of_seen m x at = ap (λ o. option_map_or (λ r. scope_number (scope_of r) h.tables) o 0) at
 
-  list_of_seen : (m : MovedData) (x : ResourceData) → resource_of m.resource p.resources ≡ Some x → seen_of p h m.resource ≡ versions_of (scope_of x) h.tables
+  list_of_seen : (m : MovedData) (x : ResourceData) → resource_of m.resource p.resources ≡ Some x → versions_seen p h m.resource ≡ versions_of (scope_of x) h.tables
   list_of_seen m x at = ap (λ o. option_map_or (λ r. versions_of (scope_of r) h.tables) o []) at
 
   has_pair : (m : MovedData) → IsSeen p h m → IsTrue (has_place h.tables (pair_of p h m).0 (pair_of p h m).1)
   has_pair m (x, at, has) =
-      subst (λ n. IsTrue (has_place h.tables n (place_in m.version (seen_of p h m.resource)))) (sym (number_of_seen m x at))
+      subst (λ n. IsTrue (has_place h.tables n (place_in m.version (versions_seen p h m.resource)))) (sym (number_of_seen m x at))
       (subst (λ vs. IsTrue (has_place h.tables (scope_number (scope_of x) h.tables) (place_in m.version vs))) (sym (list_of_seen m x at))
       (has_its_place (scope_of x) m.version h.tables has))
 
@@ -84,7 +84,7 @@ module _ (p : PipelineData) (h : HistoryData) where
       let low = (number_there (scope_of y) h.tables (some_there n.version (versions_of (scope_of y) h.tables) owns)).0 in
       let one : x.name ≡ y.name = number_same (scope_of x) (scope_of y) m.version h.tables has low numbers in
       let names : m.resource ≡ n.resource = resource_named m.resource p.resources x at ∙ one ∙ sym (resource_named n.resource p.resources y there) in
-      let lists : versions_of (scope_of y) h.tables ≡ versions_of (scope_of x) h.tables = sym (list_of_seen n y there) ∙ ap (seen_of p h) (sym names) ∙ list_of_seen m x at in
+      let lists : versions_of (scope_of y) h.tables ≡ versions_of (scope_of x) h.tables = sym (list_of_seen n y there) ∙ ap (versions_seen p h) (sym names) ∙ list_of_seen m x at in
       let places : place_in m.version (versions_of (scope_of x) h.tables) ≡ place_in n.version (versions_of (scope_of x) h.tables) = sym (ap (place_in m.version) (list_of_seen m x at)) ∙ ap (λ q. q.1) e ∙ ap (place_in n.version) (list_of_seen n y there ∙ lists) in
       let keys = place_same m.version n.version (versions_of (scope_of x) h.tables) has (subst (λ vs. has_version vs n.version ≡ true) lists owns) places in
       let yes : is_same m n.resource (key_text n.version) ≡ true = and_from _ _ ((bytes_eq-Decides m.resource n.resource).1 names) ((bytes_eq-Decides (key_text m.version) (key_text n.version)).1 keys) in

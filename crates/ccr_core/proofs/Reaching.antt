@@ -11,12 +11,12 @@ use Rattle.ccr_problem.specs.ProblemOf.{job_of}
 use Rattle.ccr_core.specs.declared.fault.CoreFault.{CoreFault}
 use Rattle.ccr_core.specs.declared.reply.Reply.{Reply}
 use Rattle.ccr_core.specs.Events.{EventData}
-use Rattle.ccr_core.specs.Holding.{CoreData, AreRuns, Stands, IsCore, Takes}
+use Rattle.ccr_core.specs.Holding.{CoreData, AreRuns, Stands, IsCore, TakesStep}
 use Rattle.ccr_core.specs.Kept.{IsPipeline, IsEvent}
 use Rattle.ccr_core.specs.Replies.{Replied}
 use Rattle.ccr_core.specs.State.{RunningData, State, no_pipeline, pipeline_of}
 use Rattle.ccr_core.specs.Steps.{Step, Run}
-use Rattle.ccr_core.specs.Told.{IsPlanned}
+use Rattle.ccr_core.specs.EachBuild.{IsPlanned}
 use Rattle.ccr_core.proofs.Owning.{each_has_its_own}
 use Rattle.ccr_core.proofs.RunningLists.{all_weaker, all_append}
 use Rattle.ccr_core.proofs.Sound.{IsSound, leaves_run, starts}
@@ -29,7 +29,7 @@ run_more s mid after (d ∷ es) [] e r run step = absurd run
 run_more s mid after (d ∷ es) (q ∷ rs) e r (first, one, rest) step = (first, one, run_more first mid after es rs e r rest step)
 
 -- a step leads from what is reached to what is reached
-pub core_on : (old new : CoreData) (e : EventData) (r : Replied) → new.budget ≡ old.budget → IsEvent e → Takes old new e r → IsCore old → IsCore new
+pub core_on : (old new : CoreData) (e : EventData) (r : Replied) → new.budget ≡ old.budget → IsEvent e → TakesStep old new e r → IsCore old → IsCore new
 core_on old new e r same up takes core =
     let (start, es, rs, s, is, ups, run, stands) = core.reached in
     let (after, step, then) = takes s stands in
@@ -82,7 +82,7 @@ pub paired : (c : CoreData) → IsCore c → length c.runs ≡ length c.names
 paired c core = let t = firm c core in (as_many c.names c.runs t.state.running t.stands.3).1
 
 -- ---- a core goes on
-pub step_kept : {X : Type 0} → (old new : CoreData) (e : EventData) (r : Result (Reply × X) CoreFault) → IsCore old → new.budget ≡ old.budget → IfOk r (λ x. Takes old new e (Ok x.0)) → OnOk r (IsEvent e) → OnErr r (new ≡ old) → IsCore new
+pub step_kept : {X : Type 0} → (old new : CoreData) (e : EventData) (r : Result (Reply × X) CoreFault) → IsCore old → new.budget ≡ old.budget → IfOk r (λ x. TakesStep old new e (Ok x.0)) → OnOk r (IsEvent e) → OnErr r (new ≡ old) → IsCore new
 step_kept old new e (Ok x) core same takes up unchanged = core_on old new e (Ok x.0) same up takes core
 step_kept old new e (Err f) core same takes up unchanged = subst IsCore (sym unchanged) core
 

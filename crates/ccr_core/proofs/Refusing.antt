@@ -6,7 +6,7 @@ use Rattle.ccr_core.specs.declared.reply.Reply.{Reply}
 use Rattle.ccr_core.specs.Addressed.{AnswerTo, addressed}
 use Rattle.ccr_core.specs.Events.{EventData}
 use Rattle.ccr_core.specs.Faults.{AnswerMeets, MeetsBy, fault_number, MayRefuse}
-use Rattle.ccr_core.specs.Holding.{CoreData, Stands, Takes}
+use Rattle.ccr_core.specs.Holding.{CoreData, Stands, TakesStep}
 use Rattle.ccr_core.specs.State.{State}
 use Rattle.ccr_core.specs.Steps.{Answers, DoesBy, Step}
 
@@ -37,7 +37,7 @@ none_before P n v a b c d e f g h i NoMemory = i
 none_before P n v a b c d e f g h i NoVersion = v
 
 -- a refusal leads from each state that a core stands for to itself
-pub refuses : (c : CoreData) (e : EventData) (f : CoreFault) → ((s : State) → Stands c s → MayRefuse s e f) → Takes c c e (Err f)
+pub refuses : (c : CoreData) (e : EventData) (f : CoreFault) → ((s : State) → Stands c s → MayRefuse s e f) → TakesStep c c e (Err f)
 refuses c e f may s stands = (s, (may s stands, refl), stands)
 
 -- ---- what is said to a build

@@ -4,7 +4,7 @@ use Rattle.std.specs.List.{AllByRecursion}
 use Rattle.std.proofs.lemmas.Slice.Eq.{bytes_eq-Decides}
 use Rattle.ccr_history.specs.Text.{Text}
 use Rattle.ccr_history.specs.Builds.{BuildData, count_of, build_of, is_running}
-use Rattle.ccr_history.specs.Changes.{edited, IsRunning, TakesAll}
+use Rattle.ccr_history.specs.Changes.{edited, IsRunning, AdmitsAll}
 use Rattle.ccr_history.specs.History.{HistoryData, AreNumbered}
 use Rattle.ccr_history.specs.declared.build.Status.{Status}
 use Rattle.ccr_history.specs.declared.build.Status.TheVariants as status
@@ -23,7 +23,7 @@ abbrev pub AreApart : List (Text × ℕ) → Type 0
 AreApart [] = Unit {0}
 AreApart (n ∷ ns) = AllByRecursion (IsOther n) ns × AreApart ns
 
-names_take : (ns : List (Text × ℕ)) (h : HistoryData) → AreApart ns → AllByRecursion (λ n. IsRunning n.0 n.1 h.builds) ns → TakesAll h (map cut_name ns)
+names_take : (ns : List (Text × ℕ)) (h : HistoryData) → AreApart ns → AllByRecursion (λ n. IsRunning n.0 n.1 h.builds) ns → AdmitsAll h (map cut_name ns)
 names_take [] h apart runs = tt
 names_take (n ∷ ns) h (others, apart) (first, rest) = (
   (first, (λ e. absurd (cc (e))), ((λ i j d before within. absurd (omega (arith, within))), tt)),
@@ -108,7 +108,7 @@ are_apart before (b ∷ bs) next = by (is_running b.status) (are_apart (before +
     by false rest = rest
 
 -- a history takes it that each build that runs in it is cut short
-pub all_cut : (h : HistoryData) → AreNumbered h.builds → TakesAll h (map cut_name (running_in h.builds))
+pub all_cut : (h : HistoryData) → AreNumbered h.builds → AdmitsAll h (map cut_name (running_in h.builds))
 all_cut h numbered =
     names_take (running_in h.builds) h (are_apart [] h.builds numbered) (each_runs h.builds h.builds (each_found [] h.builds numbered))
 

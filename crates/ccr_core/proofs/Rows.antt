@@ -10,7 +10,7 @@ use Rattle.ccr_history.specs.declared.change.Edit.TheVariants as edit
 use Rattle.ccr_history.specs.declared.change.Ended.{Ended as EndedEdit}
 use Rattle.ccr_history.specs.Text.{Text}
 use Rattle.ccr_history.specs.Builds.{UsedData, BuildData, is_build_of, count_of, build_of, new_build, ended as ended_build, with_build, with_end}
-use Rattle.ccr_history.specs.Changes.{EditData, ended, edited, changed, TakesAll}
+use Rattle.ccr_history.specs.Changes.{EditData, ended, edited, changed, AdmitsAll}
 use Rattle.ccr_history.specs.Edits.{edit_data, row_of, HasItsNumbers, HaveTheirNumbers}
 use Rattle.ccr_history.specs.History.{HistoryData}
 use Rattle.ccr_core.specs.Going.{Changes}
@@ -58,7 +58,7 @@ rows_cut j n (m ∷ ns) h = rows_cut j n ns (edited (cut_name m) h) ∙ row_end 
 
 -- ---- edits
 -- changes that the history takes, and the numbers of the edits that make them
-pub changes_so : (es : List Edit) (h after : HistoryData) → TakesAll h (map edit_data es) × (changed (map edit_data es) h ≡ after) → HaveTheirNumbers h es → Changes es h after
+pub changes_so : (es : List Edit) (h after : HistoryData) → AdmitsAll h (map edit_data es) × (changed (map edit_data es) h ≡ after) → HaveTheirNumbers h es → Changes es h after
 changes_so es h after leads numbers = ((leads.0, numbers), leads.1)
 
 -- one edit more

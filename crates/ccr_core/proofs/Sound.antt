@@ -10,7 +10,7 @@ use Rattle.ccr_history.specs.Text.{Text}
 use Rattle.ccr_history.specs.TextMap.{TextMap, IsAscending}
 use Rattle.ccr_history.specs.Tables.{has_version, versions_of, is_table_full}
 use Rattle.ccr_history.specs.Builds.{BuildData, count_of, build_of, new_build}
-use Rattle.ccr_history.specs.Changes.{EditData, text, versions, build, ended, pin_set, pin_cleared, disabled, enabled, edited, changed, IsRunning, Takes, TakesAll}
+use Rattle.ccr_history.specs.Changes.{EditData, text, versions, build, ended, pin_set, pin_cleared, disabled, enabled, edited, changed, IsRunning, Admits, AdmitsAll}
 use Rattle.ccr_history.specs.History.{HistoryData, has_place}
 use Rattle.ccr_pipeline.specs.Inputs.{inputs}
 use Rattle.ccr_pipeline.specs.JobData.{ResourceData, JobData}
@@ -31,7 +31,7 @@ use Rattle.ccr_core.specs.declared.fault.CoreFault.TheVariants.{TableFull, NoVer
 use Rattle.ccr_core.specs.declared.reply.Reply.{Reply}
 use Rattle.ccr_core.specs.declared.reply.Reply.TheVariants.{Set, New, Made, NotNew, Goes, Ends, Pinned, Unpinned, Disabled, Enabled, Restarted}
 use Rattle.ccr_problem.specs.ProblemOf.{resource_of, scope_of, job_of, problem_with}
-use Rattle.ccr_core.specs.Builds.{status_of, begun, history_with, Makes, with_answer, Takes as TakesAnswer, cut}
+use Rattle.ccr_core.specs.Builds.{status_of, begun, history_with, Makes, with_answer, GoesOnWith, cut}
 use Rattle.ccr_core.specs.Choices.{best, Finds, used_at}
 use Rattle.ccr_core.specs.Addressed.{AnswerTo, addressed}
 use Rattle.ccr_core.specs.Events.{EventData, set_pipeline, checked, schedule, trigger, pin, unpin, disable, enable, restart}
@@ -59,14 +59,14 @@ changed_more : (es fs : List EditData) (h : HistoryData) → changed (es ++ fs) 
 changed_more [] fs h = refl
 changed_more (e ∷ es) fs h = changed_more es fs (edited e h)
 
-takes_more : (es fs : List EditData) (h : HistoryData) → TakesAll h es → TakesAll (changed es h) fs → TakesAll h (es ++ fs)
+takes_more : (es fs : List EditData) (h : HistoryData) → AdmitsAll h es → AdmitsAll (changed es h) fs → AdmitsAll h (es ++ fs)
 takes_more [] fs h first then = then
 takes_more (e ∷ es) fs h first then = (first.0, takes_more es fs (edited e h) first.1 then)
 
 -- changes that come to the same, and then more
-taken_then : (h : HistoryData) (es fs more : List EditData) → IsSame h es fs → TakesAll (changed es h) more → TakesAll h (fs ++ more) × (changed more (changed es h) ≡ changed (fs ++ more) h)
+taken_then : (h : HistoryData) (es fs more : List EditData) → IsSame h es fs → AdmitsAll (changed es h) more → AdmitsAll h (fs ++ more) × (changed more (changed es h) ≡ changed (fs ++ more) h)
 taken_then h es fs more (takes, same) then =
-    (takes_more fs more h takes (subst (λ y. TakesAll y more) (sym same) then), ap (changed more) (sym same) ∙ sym (changed_more fs more h))
+    (takes_more fs more h takes (subst (λ y. AdmitsAll y more) (sym same) then), ap (changed more) (sym same) ∙ sym (changed_more fs more h))
 
 -- ---- what holds of a build that runs
 -- the history has it, running, and its inputs are the versions at the places that it used
@@ -125,14 +125,14 @@ sound_history s es same k = record {
 }
 
 -- ---- reports
-takes_report : (s : State) (resource : Text) (vs : List TextMap) → ¬ Overfills s resource vs → AllByRecursion IsAscending vs → TakesAll s.history (report (pipeline_of s) resource vs)
+takes_report : (s : State) (resource : Text) (vs : List TextMap) → ¬ Overfills s resource vs → AllByRecursion IsAscending vs → AdmitsAll s.history (report (pipeline_of s) resource vs)
 takes_report s resource vs room up = by (resource_of resource (pipeline_of s).resources) refl
   where
     full : (x : ResourceData) → resource_of resource (pipeline_of s).resources ≡ Some x → (t : Bool) → is_table_full (scope_of x) vs s.history.tables ≡ t → is_table_full (scope_of x) vs s.history.tables ≡ false
     full x at true is = absurd (room (subst (λ o. IsSomeAnd o (λ r. is_table_full (scope_of r) vs s.history.tables ≡ true)) (sym at) is))
     full x at false is = is
 
-    by : (o : Option ResourceData) → resource_of resource (pipeline_of s).resources ≡ o → TakesAll s.history (option_map_or (λ r. versions (scope_of r) vs ∷ []) o [])
+    by : (o : Option ResourceData) → resource_of resource (pipeline_of s).resources ≡ o → AdmitsAll s.history (option_map_or (λ r. versions (scope_of r) vs ∷ []) o [])
     by None at = tt
     by (Some x) at = ((full x at (is_table_full (scope_of x) vs s.history.tables) refl, up), tt)
 
@@ -182,7 +182,7 @@ module _ (s : State) (name : Text) (j : JobData) (places : List ℕ) (k : IsSoun
   abbrev b : RunningData
   b = begun (pipeline_of s) s.history j places
 
-  pub takes_build : Takes s.history (build j.name (used_at (pipeline_of s) s.history (inputs j.plan) places))
+  pub takes_build : Admits s.history (build j.name (used_at (pipeline_of s) s.history (inputs j.plan) places))
   takes_build =
       (omega (arith, room), are_used (pipeline_of s) s.history (inputs j.plan) places placed plan_kept.distinct (inputs_named j.plan (recursion_from_All (λ n. is_name n ≡ true) (names j.plan) plan_kept.well_named)))
 
@@ -287,10 +287,10 @@ module _ (s : State) (job : Text) (number : ℕ) (b : RunningData) (a : AskData)
   numbers_then = subst (λ bs. AreKnown bs bs) (sym same_builds) k.numbers
 
   module _ (next : IsNext b.inputs b.plan b.exchanges a) (room : ¬ PushOverfills s job number x) (up : IsAnswer x) where
-    takes_push : TakesAll s.history (report_by (pipeline_of s) a x)
+    takes_push : AdmitsAll s.history (report_by (pipeline_of s) a x)
     takes_push = by (pushed_by a x) refl
       where
-        by : (o : Option (Text × TextMap)) → pushed_by a x ≡ o → TakesAll s.history (option_map_or (λ m. report (pipeline_of s) m.0 (m.1 ∷ [])) o [])
+        by : (o : Option (Text × TextMap)) → pushed_by a x ≡ o → AdmitsAll s.history (option_map_or (λ m. report (pipeline_of s) m.0 (m.1 ∷ [])) o [])
         by None is = tt
         by (Some (r, v)) is = takes_report s r (v ∷ []) (λ full. room (b, a, r, v, at, next, is, full)) (pushed_up a x r v up is, tt)
 
@@ -327,7 +327,7 @@ module _ (s : State) (job : Text) (number : ℕ) (b : RunningData) (a : AskData)
           taken = (news_in s.history edits ++ end ∷ [], (a, next, (end ∷ [], (mv, (g, means, refl), refl), refl)), taken_then s.history edits (news_in s.history edits) (end ∷ []) same ((is_running then b sound_answered.held, ends_not o, fits), tt));
         }
 
-leaves_taken : (s : State) (w : AnswerTo) (b : RunningData) (o : Option Outcome) (after : State) → IsSound s → running_at w.job w.number s.running ≡ Some b → ¬ PushOverfills s w.job w.number w.given → IsAnswer w.given → TakesAnswer s b w.given o after → Leaves (AreAnswerEdits s w o) s after
+leaves_taken : (s : State) (w : AnswerTo) (b : RunningData) (o : Option Outcome) (after : State) → IsSound s → running_at w.job w.number s.running ≡ Some b → ¬ PushOverfills s w.job w.number w.given → IsAnswer w.given → GoesOnWith s b w.given o after → Leaves (AreAnswerEdits s w o) s after
 leaves_taken s w b None after k at room up (a, next, (h, (begins, waits, is), to)) =
     subst (Leaves (AreAnswerEdits s w None) s) (sym to) (subst (λ y. Leaves (AreAnswerEdits s w None) s (moved_on s y (replaced (with_answer b a w.given) s.running))) (sym is)
     (leaves_as (AreNextEdits (pipeline_of s) s.history b w.given None) (AreAnswerEdits s w None) s (moved_on s (changed (report_by (pipeline_of s) a w.given) s.history) (replaced (with_answer b a w.given) s.running)) (λ edits are. (b, at, are))
@@ -338,7 +338,7 @@ leaves_taken s w b (Some o) after k at room up (a, next, (h, (g, means, is), to)
     (answered_ended s w.job w.number b a w.given k at next room up o g means)))
 
 -- ---- a restart
-pub cut_takes : (bs : List RunningData) (h : HistoryData) → IsApart bs → AllByRecursion (λ b. IsRunning b.job b.number h.builds) bs → TakesAll h (map cut bs)
+pub cut_takes : (bs : List RunningData) (h : HistoryData) → IsApart bs → AllByRecursion (λ b. IsRunning b.job b.number h.builds) bs → AdmitsAll h (map cut bs)
 cut_takes [] h apart runs = tt
 cut_takes (b ∷ bs) h (none, apart) (first, rest) = (
   (first, (λ e. absurd (cc (e))), ((λ i j d before within. absurd (omega (arith, within))), tt)),
@@ -448,7 +448,7 @@ leaves_run s (e ∷ es) (r ∷ rs) after up k (mid, step, run) =
     let (more, any, (then, on)) = rest.taken in
     record {
       sound = rest.sound;
-      taken = (fs ++ more, tt, (takes_more fs more s.history first (subst (λ y. TakesAll y more) to then), on ∙ ap (changed more) to ∙ sym (changed_more fs more s.history)));
+      taken = (fs ++ more, tt, (takes_more fs more s.history first (subst (λ y. AdmitsAll y more) to then), on ∙ ap (changed more) to ∙ sym (changed_more fs more s.history)));
     }
 
 taken_run : (s : State) (es : List EventData) (rs : List Replied) (after : State) → AllByRecursion IsEvent es → IsSound s → Run s es rs after → (changes : List (List EditData)) × AreTaken s es rs changes after

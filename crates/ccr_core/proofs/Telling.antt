@@ -12,13 +12,13 @@ use Rattle.ccr_core.specs.declared.reply.Reply.TheVariants.{Goes, Ends}
 use Rattle.ccr_core.specs.Addressed.{AnswerTo, addressed}
 use Rattle.ccr_core.specs.Edits.{AreEdits}
 use Rattle.ccr_core.specs.Events.{EventData, set_pipeline, checked, schedule, trigger, answer, abort, pin, unpin, disable, enable, restart}
-use Rattle.ccr_core.specs.Fates.{Moment, HasFate, EachHasItsFate, EndedStays}
+use Rattle.ccr_core.specs.EndedInRun.{Moment, EndedInRun, EachEndedInRun, EndedStays}
 use Rattle.ccr_core.specs.Kept.{IsEvent, IsStart}
 use Rattle.ccr_core.specs.Own.{said_to, own, own_of}
 use Rattle.ccr_core.specs.Replies.{Replied}
 use Rattle.ccr_core.specs.State.{RunningData, State, pipeline_of, running_at}
 use Rattle.ccr_core.specs.Steps.{Answers, DoesBy, Step, Run}
-use Rattle.ccr_core.specs.Told.{HasEnded, EndsIn, EndsAsMeant}
+use Rattle.ccr_core.specs.EachBuild.{HasEnded, EndsIn, EndsAsMeant}
 use Rattle.ccr_core.proofs.Causing.{caused, ran, none_own}
 use Rattle.ccr_core.proofs.Ending.{each_ends_as_meant, each_is_cut_short}
 use Rattle.ccr_core.proofs.Keeping.{all_stay}
@@ -135,7 +135,7 @@ module _ (start : State) (begins : IsStart start) where
       leads = rest;
     }
 
-    meant_here : (e : EventData) → e ≢ restart → IsSound s → Step s e r mid → HasFate start after (es₀ ++ e ∷ es) (rs₀ ++ r ∷ rs) c
+    meant_here : (e : EventData) → e ≢ restart → IsSound s → Step s e r mid → EndedInRun start after (es₀ ++ e ∷ es) (rs₀ ++ r ∷ rs) c
     unfolding here
     meant_here e other k step = record {
       at = here e step;
@@ -147,7 +147,7 @@ module _ (start : State) (begins : IsStart start) where
       );
     }
 
-    cut_here : Step s restart r mid → HasFate start after (es₀ ++ restart ∷ es) (rs₀ ++ r ∷ rs) c
+    cut_here : Step s restart r mid → EndedInRun start after (es₀ ++ restart ∷ es) (rs₀ ++ r ∷ rs) c
     unfolding here
     cut_here step =
         let (status, moved) = each_is_cut_short s mid r step c ends in
@@ -166,7 +166,7 @@ module _ (start : State) (begins : IsStart start) where
         }
 
     -- a build that ends in a step
-    ends_here : (e : EventData) → IsSound s → Step s e r mid → HasFate start after (es₀ ++ e ∷ es) (rs₀ ++ r ∷ rs) c
+    ends_here : (e : EventData) → IsSound s → Step s e r mid → EndedInRun start after (es₀ ++ e ∷ es) (rs₀ ++ r ∷ rs) c
     ends_here (set_pipeline p) k step = meant_here (set_pipeline p) (λ e. cc (e)) k step
     ends_here (checked resource vs) k step = meant_here (checked resource vs) (λ e. cc (e)) k step
     ends_here (schedule job) k step = meant_here (schedule job) (λ e. cc (e)) k step
@@ -179,15 +179,15 @@ module _ (start : State) (begins : IsStart start) where
     ends_here (enable resource place) k step = meant_here (enable resource place) (λ e. cc (e)) k step
     ends_here restart k step = cut_here step
 
-  told : (s after : State) (es₀ es : List EventData) (rs₀ rs : List Replied) → AllByRecursion IsEvent es₀ → Run start es₀ rs₀ s → AllByRecursion IsEvent es → IsSound s → Run s es rs after → (c : BuildData) → build_of c.job c.number after.history.builds ≡ Some c → c.status ≢ Running → ¬ HasEnded s c.job c.number → HasFate start after (es₀ ++ es) (rs₀ ++ rs) c
+  told : (s after : State) (es₀ es : List EventData) (rs₀ rs : List Replied) → AllByRecursion IsEvent es₀ → Run start es₀ rs₀ s → AllByRecursion IsEvent es → IsSound s → Run s es rs after → (c : BuildData) → build_of c.job c.number after.history.builds ≡ Some c → c.status ≢ Running → ¬ HasEnded s c.job c.number → EndedInRun start after (es₀ ++ es) (rs₀ ++ rs) c
   told s after es₀ [] rs₀ [] before run up k rest c found done fresh = absurd (fresh (c, ap (λ y. build_of c.job c.number y.history.builds) (sym rest) ∙ found, done))
   told s after es₀ [] rs₀ (r ∷ rs) before run up k rest c found done fresh = absurd rest
   told s after es₀ (e ∷ es) rs₀ [] before run up k rest c found done fresh = absurd rest
   told s after es₀ (e ∷ es) rs₀ (r ∷ rs) before run up k (mid, step, rest) c found done fresh =
       by (is_ended mid c.job c.number) (told mid after (es₀ ++ e ∷ []) es (rs₀ ++ r ∷ []) rs (all_append IsEvent es₀ e before up.0) (run_more start s mid es₀ rs₀ e r run step) up.1 (leaves_step s e r mid up.0 k step).sound rest c found done)
     where
-      by : HasEnded mid c.job c.number ⊎ ¬ HasEnded mid c.job c.number → (¬ HasEnded mid c.job c.number → HasFate start after ((es₀ ++ e ∷ []) ++ es) ((rs₀ ++ r ∷ []) ++ rs) c) → HasFate start after (es₀ ++ e ∷ es) (rs₀ ++ r ∷ rs) c
-      by (inr open_) more = subst (λ l. HasFate start after l (rs₀ ++ r ∷ rs) c) (append_assoc es₀ (e ∷ []) es) (subst (λ l. HasFate start after ((es₀ ++ e ∷ []) ++ es) l c) (append_assoc rs₀ (r ∷ []) rs) (more open_))
+      by : HasEnded mid c.job c.number ⊎ ¬ HasEnded mid c.job c.number → (¬ HasEnded mid c.job c.number → EndedInRun start after ((es₀ ++ e ∷ []) ++ es) ((rs₀ ++ r ∷ []) ++ rs) c) → EndedInRun start after (es₀ ++ e ∷ es) (rs₀ ++ r ∷ rs) c
+      by (inr open_) more = subst (λ l. EndedInRun start after l (rs₀ ++ r ∷ rs) c) (append_assoc es₀ (e ∷ []) es) (subst (λ l. EndedInRun start after ((es₀ ++ e ∷ []) ++ es) l c) (append_assoc rs₀ (r ∷ []) rs) (more open_))
       by (inl (d, there, over)) more =
           let l = leaves_step s e r mid up.0 k step in
           let end : build_of c.job c.number after.history.builds ≡ Some d = step_stays Any mid after (leaves_run mid es rs after up.1 l.sound rest) c.job c.number d there over in
@@ -200,10 +200,10 @@ module _ (start : State) (begins : IsStart start) where
 pub ended_stay : EndedStays
 ended_stay s after es rs start up run c found done = step_stays Any s after (leaves_run s es rs after up (starts s start) run) c.job c.number c found done
 
-pub each_has_its_fate : EachHasItsFate
+pub each_has_its_fate : EachEndedInRun
 each_has_its_fate s after es rs start up run c found done = by (is_ended s c.job c.number)
   where
-    by : HasEnded s c.job c.number ⊎ ¬ HasEnded s c.job c.number → (build_of c.job c.number s.history.builds ≡ Some c) ⊎ HasFate s after es rs c
+    by : HasEnded s c.job c.number ⊎ ¬ HasEnded s c.job c.number → (build_of c.job c.number s.history.builds ≡ Some c) ⊎ EndedInRun s after es rs c
     by (inl (d, there, over)) =
         let end : build_of c.job c.number after.history.builds ≡ Some d = step_stays Any s after (leaves_run s es rs after up (starts s start) run) c.job c.number d there over in
         let both : Some d ≡ Some c = sym end ∙ found in

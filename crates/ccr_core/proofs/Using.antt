@@ -18,7 +18,7 @@ use Rattle.ccr_pipeline.specs.Pipelines.{PipelineData}
 use Rattle.ccr_steps.specs.Asks.{Chosen, chosen, version_of}
 use Rattle.ccr_problem.specs.ProblemOf.{scope_of, history_number}
 use Rattle.ccr_core.specs.Choices.{used_at, versions_at}
-use Rattle.ccr_core.specs.Seen.{seen_of, version_at, version_in, is_used_for}
+use Rattle.ccr_core.specs.Seen.{versions_seen, version_at, version_in, is_used_for}
 use Rattle.ccr_core.proofs.Choosing.{IsPlaced, ArePlaced, used_names}
 use Rattle.ccr_core.proofs.RunningLists.{all_weaker, all_both}
 use Rattle.ccr_core.proofs.Seeing.{number_there}
@@ -131,7 +131,7 @@ right_one p h i n (x, at, low, high) =
     let some : 1 ≤ length (versions_of (scope_of x) h.tables) = omega (arith, low, high) in
     let (one, same) = number_there (scope_of x) h.tables some in
     let number : history_number p h i.resource ≡ scope_number (scope_of x) h.tables = ap (λ o. option_map_or (λ r. scope_number (scope_of r) h.tables) o 0) at in
-    let list : seen_of p h i.resource ≡ versions_of (scope_of x) h.tables = ap (λ o. option_map_or (λ r. versions_of (scope_of r) h.tables) o []) at in
+    let list : versions_seen p h i.resource ≡ versions_of (scope_of x) h.tables = ap (λ o. option_map_or (λ r. versions_of (scope_of r) h.tables) o []) at in
     let there : n ≤ places_at h.tables (scope_number (scope_of x) h.tables) = omega (arith, high, same) in (
       subst (λ m. IsAt h.tables m n) (sym number) (low, there),
       ap (λ vs. slice_index_or vs (n - 1) []) list ∙ sym (number_versions (scope_of x) h.tables n some) ∙ ap (λ m. version_in h.tables m n) (sym number),

@@ -81,8 +81,8 @@ with_answered b None running = replaced b running
 with_answered b (Some o) running = without b.job b.number running
 
 -- the build goes on with an answer to what it asks; what it pushed so is reported
-abbrev pub Takes : State → RunningData → AnswerData → Option Outcome → State → Type 0
-Takes s b x o after =
+abbrev pub GoesOnWith : State → RunningData → AnswerData → Option Outcome → State → Type 0
+GoesOnWith s b x o after =
     let p = pipeline_of s in
     (a : AskData) × IsNext b.inputs b.plan b.exchanges a
     × ((h : HistoryData) × Settles p (changed (report_by p a x) s.history) (with_answer b a x) o h

@@ -9,7 +9,7 @@ use Rattle.ccr_pipeline.specs.Pipelines.{PipelineData}
 use Rattle.ccr_choice.specs.Problem.{ProblemValue}
 use Rattle.ccr_choice.specs.Preference.{order_of}
 use Rattle.ccr_choice.specs.Optimal.{IsOptimal, HasNoChoice}
-use Rattle.ccr_resolve.specs.Room.{IsBelowRoom}
+use Rattle.ccr_resolve.specs.NodeBound.{IsBelowNodeBound}
 use Rattle.ccr_problem.specs.ProblemOf.{history_number, IsProblemOf}
 use Rattle.ccr_core.specs.State.{State, pipeline_of}
 use Rattle.ccr_core.specs.Seen.{version_at}
@@ -21,11 +21,11 @@ pub data Finding : Type 0 where
   over_budget : Finding
 
 -- what may be found for a problem: the places of an optimal choice; nothing only where no choice satisfies it; over the
--- budget only where this is below the problem's room
+-- budget only where this is below the problem's node bound
 abbrev pub IsFinding : ℕ → ProblemValue → Finding → Type 0
 IsFinding budget problem (best places) = (builds : List ℕ) × IsOptimal (order_of problem) problem places builds
 IsFinding budget problem nothing = HasNoChoice problem
-IsFinding budget problem over_budget = IsBelowRoom (order_of problem) problem budget
+IsFinding budget problem over_budget = IsBelowNodeBound (order_of problem) problem budget
 
 -- this may be found for the job's next build
 abbrev pub Finds : State → Text → Finding → Type 0

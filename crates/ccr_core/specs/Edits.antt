@@ -3,7 +3,7 @@ use Rattle.std.specs.Prelude.{◌≡◌, ℕ, List, [], ◌∷◌, ◌++◌, map
 use Rattle.ccr_history.specs.Text.{Text}
 use Rattle.ccr_history.specs.TextMap.{TextMap}
 use Rattle.ccr_history.specs.Tables.{has_version, versions_of}
-use Rattle.ccr_history.specs.Changes.{EditData, text, versions, build, ended, pin_set, pin_cleared, disabled, enabled, changed, TakesAll}
+use Rattle.ccr_history.specs.Changes.{EditData, text, versions, build, ended, pin_set, pin_cleared, disabled, enabled, changed, AdmitsAll}
 use Rattle.ccr_history.specs.History.{HistoryData}
 use Rattle.ccr_pipeline.specs.Inputs.{inputs}
 use Rattle.ccr_pipeline.specs.JobData.{JobData}
@@ -113,4 +113,4 @@ AreEdits s e (Err f) edits = edits ≡ []
 
 -- the history takes these edits, each by then, and they lead to the history after: nothing else has changed
 abbrev pub AreTakenTo : State → List EditData → State → Type 0
-AreTakenTo before edits after = TakesAll before.history edits × (after.history ≡ changed edits before.history)
+AreTakenTo before edits after = AdmitsAll before.history edits × (after.history ≡ changed edits before.history)

@@ -2,7 +2,7 @@
 use Rattle.std.specs.Prelude.{◌≡◌, ℕ, true, List, [], ◌∷◌, Option, Some, None, ⊤}
 use Rattle.ccr_history.specs.Text.{Text}
 use Rattle.ccr_history.specs.Tables.{TableData, is_table_full}
-use Rattle.ccr_history.specs.Changes.{EditData, versions, ended, changed, AreMoved, TakesAll}
+use Rattle.ccr_history.specs.Changes.{EditData, versions, ended, changed, AreMoved, AdmitsAll}
 use Rattle.ccr_history.specs.History.{HistoryData}
 use Rattle.ccr_history.specs.declared.change.Edit.{Edit}
 use Rattle.ccr_history.specs.declared.change.Edit.TheVariants.{Versions}
@@ -44,8 +44,8 @@ IsEnding p h inputs plan es (Some o) pairs =
     (g : GainsData) × Means inputs plan no_gains es o g × (pairs ≡ pairs_of p h g.moved)
 
 -- the machine stands so, whatever exchanges it stands for
-abbrev pub Stands : PipelineData → HistoryData → RunData → Option Outcome → List (ℕ × ℕ) → Type 0
-Stands p h r o pairs =
+abbrev pub IsAtEnding : PipelineData → HistoryData → RunData → Option Outcome → List (ℕ × ℕ) → Type 0
+IsAtEnding p h r o pairs =
     (plan : Tree) (inputs : Chosen) (es : List Exchange) → StandsFor r plan inputs es
     → IsEnding p h inputs plan es o pairs
 
@@ -69,5 +69,5 @@ EndFits p h r =
 -- THE CONDITION of a report and what follows: if there is room for it the history takes it, and then the end fits
 abbrev pub ReportFits : PipelineData → HistoryData → Option Report → RunData → Type 0
 ReportFits p h report r =
-    ((IsOver report h → ⊥) → TakesAll h (reports report))
-    × (TakesAll h (reports report) → EndFits p (changed (reports report) h) r)
+    ((IsOver report h → ⊥) → AdmitsAll h (reports report))
+    × (AdmitsAll h (reports report) → EndFits p (changed (reports report) h) r)

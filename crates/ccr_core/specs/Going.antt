@@ -5,7 +5,7 @@ use Rattle.ccr_history.specs.Text.{Text}
 use Rattle.ccr_history.specs.TextMap.{TextMap}
 use Rattle.ccr_history.specs.Tables.{is_table_full}
 use Rattle.ccr_history.specs.Builds.{count_of}
-use Rattle.ccr_history.specs.Changes.{changed, AreUsed, AreMoved, IsRunning, TakesAll}
+use Rattle.ccr_history.specs.Changes.{changed, AreUsed, AreMoved, IsRunning, AdmitsAll}
 use Rattle.ccr_history.specs.Edits.{change_data, Accepts}
 use Rattle.ccr_history.specs.declared.change.Edit.{Edit}
 use Rattle.ccr_history.specs.History.{HistoryData}
@@ -52,7 +52,7 @@ Waits r plan inputs es = StandsFor r plan inputs es × (IsAllowed inputs plan es
 abbrev pub EndsFit : PipelineData → HistoryData → Tree → Chosen → List Exchange → Type 0
 EndsFit p h plan inputs es =
     (a : AskData) (x : AnswerData) (o : Outcome) (g : GainsData) → IsNext inputs plan es a → IsAnswer x
-    → TakesAll h (report_by p a x) → Means inputs plan no_gains (es ++ exchange a x ∷ []) o g
+    → AdmitsAll h (report_by p a x) → Means inputs plan no_gains (es ++ exchange a x ∷ []) o g
     → AreMoved (changed (report_by p a x) h).tables (pairs_of p (changed (report_by p a x) h) g.moved)
 
 -- THE CONDITION of an answer: the build runs in the history, it waits, and its end will fit

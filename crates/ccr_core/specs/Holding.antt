@@ -67,12 +67,12 @@ pub record IsCore (c : CoreData) : Type 0 where
 
 -- ---- what the machine promises
 -- A STEP leads from each state that the core stood for to one that it stands for
-abbrev pub Takes : CoreData → CoreData → EventData → Replied → Type 0
-Takes old new e r = (s : State) → Stands old s → (after : State) × Step s e r after × Stands new after
+abbrev pub TakesStep : CoreData → CoreData → EventData → Replied → Type 0
+TakesStep old new e r = (s : State) → Stands old s → (after : State) × Step s e r after × Stands new after
 
 -- A STEP by whatever event says this to a build
-abbrev pub TakesSaid : CoreData → CoreData → AnswerTo → Replied → Type 0
-TakesSaid old new a r = (e : EventData) → addressed e ≡ Some a → Takes old new e r
+abbrev pub TakesSaidStep : CoreData → CoreData → AnswerTo → Replied → Type 0
+TakesSaidStep old new a r = (e : EventData) → addressed e ≡ Some a → TakesStep old new e r
 
 -- THE CHANGE of a step holds its edits, in each state that the core stood for: these and no others
 abbrev pub HasEdits : CoreData → EventData → Replied → List EditData → Type 0

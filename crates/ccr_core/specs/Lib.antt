@@ -12,8 +12,8 @@ pub mod Own
 pub mod Limits
 pub mod Edits
 pub mod Kept
-pub mod Told
-pub mod Fates
+pub mod EachBuild
+pub mod EndedInRun
 pub mod Holding
 pub mod Cores
 pub mod Resumed

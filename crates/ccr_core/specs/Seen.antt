@@ -16,12 +16,12 @@ use Rattle.ccr_problem.specs.ProblemOf.{resource_of, scope_of, history_number}
 use Rattle.ccr_core.specs.State.{State, resources_of}
 
 -- the versions seen of a resource, in its present scope
-abbrev pub seen_of : PipelineData → HistoryData → Text → List TextMap
-seen_of p h resource = option_map_or (λ r. versions_of (scope_of r) h.tables) (resource_of resource p.resources) []
+abbrev pub versions_seen : PipelineData → HistoryData → Text → List TextMap
+versions_seen p h resource = option_map_or (λ r. versions_of (scope_of r) h.tables) (resource_of resource p.resources) []
 
 -- the version at a place of a resource; places begin at 1
 abbrev pub version_at : PipelineData → HistoryData → Text → ℕ → TextMap
-version_at p h resource place = slice_index_or (seen_of p h resource) (place - 1) []
+version_at p h resource place = slice_index_or (versions_seen p h resource) (place - 1) []
 
 -- the version at a place of the scope of this number; both begin at 1
 abbrev pub version_in : List TableData → ℕ → ℕ → TextMap
@@ -41,7 +41,7 @@ AreThoseUsed tables used inputs =
 
 -- where a moved version stands: its scope's number, and its place there
 abbrev pub pair_of : PipelineData → HistoryData → MovedData → ℕ × ℕ
-pair_of p h m = (history_number p h m.resource, place_in m.version (seen_of p h m.resource))
+pair_of p h m = (history_number p h m.resource, place_in m.version (versions_seen p h m.resource))
 
 -- where moved versions stand
 abbrev pub pairs_of : PipelineData → HistoryData → List MovedData → List (ℕ × ℕ)

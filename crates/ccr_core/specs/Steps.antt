@@ -9,7 +9,7 @@ use Rattle.ccr_core.specs.declared.reply.Reply.TheVariants.{Set, New, Made, None
 use Rattle.ccr_problem.specs.ProblemOf.{job_of}
 use Rattle.ccr_core.specs.Addressed.{AnswerTo, addressed}
 use Rattle.ccr_core.specs.Busy.{is_busy}
-use Rattle.ccr_core.specs.Builds.{Makes, Takes, cut}
+use Rattle.ccr_core.specs.Builds.{Makes, GoesOnWith, cut}
 use Rattle.ccr_core.specs.Choices.{best, nothing, over_budget, Finds, used_at, is_new}
 use Rattle.ccr_core.specs.Events.{EventData, set_pipeline, checked, schedule, trigger, answer, abort, pin, unpin, disable, enable, restart}
 use Rattle.ccr_core.specs.Faults.{MayRefuse, IsFree}
@@ -64,9 +64,9 @@ Triggers s j r after = IsHeld s j r × (after ≡ s)
 -- given to it
 abbrev pub Answers : State → AnswerTo → Reply → State → Type 0
 Answers s a Goes after =
-    (b : RunningData) × (running_at a.job a.number s.running ≡ Some b) × Takes s b a.given None after
+    (b : RunningData) × (running_at a.job a.number s.running ≡ Some b) × GoesOnWith s b a.given None after
 Answers s a (Ends o) after =
-    (b : RunningData) × (running_at a.job a.number s.running ≡ Some b) × Takes s b a.given (Some o) after
+    (b : RunningData) × (running_at a.job a.number s.running ≡ Some b) × GoesOnWith s b a.given (Some o) after
 Answers s a r after = ⊥
 
 -- what an event that meets no fault does by what it says to a build, or, where it says nothing to one, by what it is;

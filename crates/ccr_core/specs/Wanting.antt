@@ -6,7 +6,7 @@ use Rattle.ccr_steps.specs.declared.ask.Ask.{Ask}
 use Rattle.ccr_core.specs.declared.fault.CoreFault.{CoreFault}
 use Rattle.ccr_core.specs.declared.fault.CoreFault.TheVariants.{TableFull, NoMemory}
 use Rattle.ccr_core.specs.Events.{answer, abort}
-use Rattle.ccr_core.specs.Holding.{CoreData, IsCore, Takes, Wants}
+use Rattle.ccr_core.specs.Holding.{CoreData, IsCore, TakesStep, Wants}
 
 -- EACH BUILD THAT RUNS in a core wants something
 abbrev pub EachWants : Type 0
@@ -18,11 +18,11 @@ EachWants =
 abbrev pub WantedIsTaken : Type 0
 WantedIsTaken =
     (c : CoreData) (job : Text) (number turn : ℕ) (ask : Ask) (x : AnswerData) (f : CoreFault)
-    → IsCore c → Wants c job number (Some (turn, ask)) → Takes c c (answer job number turn x) (Err f)
+    → IsCore c → Wants c job number (Some (turn, ask)) → TakesStep c c (answer job number turn x) (Err f)
     → (f ≡ TableFull) ⊎ (f ≡ NoMemory)
 
 -- AN ABORT of a build that wants something is refused only out of memory
 abbrev pub AbortIsTaken : Type 0
 AbortIsTaken =
     (c : CoreData) (job : Text) (number turn : ℕ) (ask : Ask) (f : CoreFault)
-    → IsCore c → Wants c job number (Some (turn, ask)) → Takes c c (abort job number) (Err f) → f ≡ NoMemory
+    → IsCore c → Wants c job number (Some (turn, ask)) → TakesStep c c (abort job number) (Err f) → f ≡ NoMemory

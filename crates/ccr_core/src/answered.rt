@@ -7,7 +7,7 @@ ghost use Rattle.ccr_core.specs.Addressed.{answer_to};
 ghost use Rattle.ccr_core.specs.Cores.{core_data};
 ghost use Rattle.ccr_core.specs.Going.{Changes};
 ghost use Rattle.ccr_core.specs.Indexed.{IsIndexed};
-ghost use Rattle.ccr_core.specs.Holding.{HasSaidEdits, IsCore, TakesSaid};
+ghost use Rattle.ccr_core.specs.Holding.{HasSaidEdits, IsCore, TakesSaidStep};
 ghost use Rattle.ccr_core.specs.Kept.{IsAnswer};
 
 use crate::fault::CoreFault;
@@ -43,12 +43,12 @@ impl Parts {
     ) -> Result<(Reply, Change), CoreFault>
         requires core { IsCore (core_data self.old) }
         requires indexed { IsIndexed self.old }
-        ensures step { IfOk result (λ r. TakesSaid (core_data self.old) (core_data self.new)
+        ensures step { IfOk result (λ r. TakesSaidStep (core_data self.old) (core_data self.new)
             (answer_to job.now number turn (answer_data answered)) (Ok r.0)) }
         ensures change { IfOk result (λ r. Changes r.1.items self.old.history self.new.history) }
         ensures edits { IfOk result (λ r. HasSaidEdits (core_data self.old)
             (answer_to job.now number turn (answer_data answered)) (Ok r.0) (change_data r.1.items)) }
-        ensures refused { IfErr result (λ f. TakesSaid (core_data self.old) (core_data self.old)
+        ensures refused { IfErr result (λ f. TakesSaidStep (core_data self.old) (core_data self.old)
             (answer_to job.now number turn (answer_data answered)) (Err f)) }
         ensures unchanged { OnErr result (core_data self.new ≡ core_data self.old) }
         ensures kept { OnOk result (IsAnswer (answer_data answered)) }

@@ -8,7 +8,7 @@ ghost use Rattle.ccr_core.specs.Cores.{core_data};
 ghost use Rattle.ccr_core.specs.Events.{disable, enable};
 ghost use Rattle.ccr_core.specs.Going.{Changes};
 ghost use Rattle.ccr_core.specs.Indexed.{AreIndexesOf, IsIndexed};
-ghost use Rattle.ccr_core.specs.Holding.{HasEdits, Takes};
+ghost use Rattle.ccr_core.specs.Holding.{HasEdits, TakesStep};
 ghost use Rattle.ccr_core.specs.Opening.{HasVersion, LacksVersion};
 
 use crate::change::change_of;
@@ -106,12 +106,12 @@ impl Parts {
         place: u32,
     ) -> Result<(Reply, Change), CoreFault>
         requires { IsIndexed self.old }
-        ensures step { IfOk result (λ r. Takes (core_data self.old) (core_data self.new)
+        ensures step { IfOk result (λ r. TakesStep (core_data self.old) (core_data self.new)
             (disable resource.now place) (Ok r.0)) }
         ensures change { IfOk result (λ r. Changes r.1.items self.old.history self.new.history) }
         ensures edits { IfOk result (λ r. HasEdits (core_data self.old) (disable resource.now place) (Ok r.0)
             (change_data r.1.items)) }
-        ensures refused { IfErr result (λ f. Takes (core_data self.old) (core_data self.old)
+        ensures refused { IfErr result (λ f. TakesStep (core_data self.old) (core_data self.old)
             (disable resource.now place) (Err f)) }
         ensures unchanged { OnErr result (core_data self.new ≡ core_data self.old) }
         ensures budget { self.new.budget ≡ self.old.budget }
@@ -138,12 +138,12 @@ impl Parts {
         place: u32,
     ) -> Result<(Reply, Change), CoreFault>
         requires { IsIndexed self.old }
-        ensures step { IfOk result (λ r. Takes (core_data self.old) (core_data self.new)
+        ensures step { IfOk result (λ r. TakesStep (core_data self.old) (core_data self.new)
             (enable resource.now place) (Ok r.0)) }
         ensures change { IfOk result (λ r. Changes r.1.items self.old.history self.new.history) }
         ensures edits { IfOk result (λ r. HasEdits (core_data self.old) (enable resource.now place) (Ok r.0)
             (change_data r.1.items)) }
-        ensures refused { IfErr result (λ f. Takes (core_data self.old) (core_data self.old)
+        ensures refused { IfErr result (λ f. TakesStep (core_data self.old) (core_data self.old)
             (enable resource.now place) (Err f)) }
         ensures unchanged { OnErr result (core_data self.new ≡ core_data self.old) }
         ensures budget { self.new.budget ≡ self.old.budget }

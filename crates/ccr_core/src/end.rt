@@ -9,7 +9,7 @@ ghost use Rattle.ccr_history.specs.Builds.{is_succeeded};
 ghost use Rattle.ccr_problem.specs.Follows.{has_newer};
 ghost use Rattle.ccr_indexes.specs.Indexes.{AreIndexes, IsBrought, HaveRoom};
 ghost use Rattle.ccr_core.specs.Builds.{status_of};
-ghost use Rattle.ccr_core.specs.Endings.{Stands, end_edits, PairsFit};
+ghost use Rattle.ccr_core.specs.Endings.{IsAtEnding, end_edits, PairsFit};
 
 use crate::place::places_of;
 use ccr_history::{Edit, Ended, History, Status};
@@ -51,7 +51,7 @@ pub(crate) fn ending_of(
     number: u32,
     row: u32,
 ) -> Result<Ending, AllocError>
-    ensures stands { IfOk result (λ e. Stands (pipeline_data pipeline.now) history.now (run_data run.now)
+    ensures stands { IfOk result (λ e. IsAtEnding (pipeline_data pipeline.now) history.now (run_data run.now)
         e.outcome e.pairs.items) }
     ensures edits { IfOk result (λ e. map edit_data e.edits.items
         ≡ end_edits job.now number e.outcome e.pairs.items) }

@@ -1,9 +1,9 @@
 //! The laws over every list of events.
 ghost use Rattle.ccr_core.specs.Aborting.{AbortIsAnswer, AbortMeetsNoBuild};
-ghost use Rattle.ccr_core.specs.Fates.{EachHasItsFate, EndedStays};
+ghost use Rattle.ccr_core.specs.EndedInRun.{EachEndedInRun, EndedStays};
 ghost use Rattle.ccr_core.specs.Kept.{EachChangeIsTaken, EachChangeIsOne};
 ghost use Rattle.ccr_core.specs.Limits.{LimitsAreKept};
-ghost use Rattle.ccr_core.specs.Told.{EachHasItsOwn, EachEndsAsMeant, EachIsCutShort, RunsAgree, EndsAgree, NoneRunsOn};
+ghost use Rattle.ccr_core.specs.EachBuild.{EachHasItsOwn, EachEndsAsMeant, EachIsCutShort, RunsAgree, EndsAgree, NoneRunsOn};
 
 use ccr_steps::{answers_decide, beginnings_decide};
 
@@ -37,7 +37,7 @@ pub fn each_ends_as_meant()
 ///
 /// It is a law over the definitions alone; nothing runs.
 pub fn each_has_its_fate()
-    ensures fate { EachHasItsFate }
+    ensures fate { EachEndedInRun }
     ensures stays { EndedStays }
 {}
 

@@ -9,7 +9,7 @@ ghost use Rattle.ccr_core.specs.Cores.{core_data};
 ghost use Rattle.ccr_core.specs.Events.{pin, unpin};
 ghost use Rattle.ccr_core.specs.Going.{Changes};
 ghost use Rattle.ccr_core.specs.Indexed.{AreIndexesOf, IsIndexed};
-ghost use Rattle.ccr_core.specs.Holding.{HasEdits, Takes};
+ghost use Rattle.ccr_core.specs.Holding.{HasEdits, TakesStep};
 ghost use Rattle.ccr_core.specs.Opening.{HasResource, LacksResource};
 
 use crate::change::change_of;
@@ -104,12 +104,12 @@ impl Parts {
         given: Pin,
     ) -> Result<(Reply, Change), CoreFault>
         requires { IsIndexed self.old }
-        ensures step { IfOk result (λ r. Takes (core_data self.old) (core_data self.new)
+        ensures step { IfOk result (λ r. TakesStep (core_data self.old) (core_data self.new)
             (pin resource.now given) (Ok r.0)) }
         ensures change { IfOk result (λ r. Changes r.1.items self.old.history self.new.history) }
         ensures edits { IfOk result (λ r. HasEdits (core_data self.old) (pin resource.now given) (Ok r.0)
             (change_data r.1.items)) }
-        ensures refused { IfErr result (λ f. Takes (core_data self.old) (core_data self.old)
+        ensures refused { IfErr result (λ f. TakesStep (core_data self.old) (core_data self.old)
             (pin resource.now given) (Err f)) }
         ensures unchanged { OnErr result (core_data self.new ≡ core_data self.old) }
         ensures kept { OnOk result (IsAscending given) }
@@ -139,12 +139,12 @@ impl Parts {
         resource: &str,
     ) -> Result<(Reply, Change), CoreFault>
         requires { IsIndexed self.old }
-        ensures step { IfOk result (λ r. Takes (core_data self.old) (core_data self.new)
+        ensures step { IfOk result (λ r. TakesStep (core_data self.old) (core_data self.new)
             (unpin resource.now) (Ok r.0)) }
         ensures change { IfOk result (λ r. Changes r.1.items self.old.history self.new.history) }
         ensures edits { IfOk result (λ r. HasEdits (core_data self.old) (unpin resource.now) (Ok r.0)
             (change_data r.1.items)) }
-        ensures refused { IfErr result (λ f. Takes (core_data self.old) (core_data self.old)
+        ensures refused { IfErr result (λ f. TakesStep (core_data self.old) (core_data self.old)
             (unpin resource.now) (Err f)) }
         ensures unchanged { OnErr result (core_data self.new ≡ core_data self.old) }
         ensures budget { self.new.budget ≡ self.old.budget }

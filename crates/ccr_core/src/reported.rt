@@ -11,7 +11,7 @@ ghost use Rattle.ccr_core.specs.Edits.{news_in};
 ghost use Rattle.ccr_core.specs.Events.{checked};
 ghost use Rattle.ccr_core.specs.Going.{Changes};
 ghost use Rattle.ccr_core.specs.Indexed.{IsIndexed};
-ghost use Rattle.ccr_core.specs.Holding.{HasEdits, Takes};
+ghost use Rattle.ccr_core.specs.Holding.{HasEdits, TakesStep};
 ghost use Rattle.ccr_core.specs.Opening.{IsReported, IsNotReported};
 
 use crate::fault::CoreFault;
@@ -106,12 +106,12 @@ impl Parts {
         seen: Vec<Version>,
     ) -> Result<(Reply, Change), CoreFault>
         requires { IsIndexed self.old }
-        ensures step { IfOk result (λ r. Takes (core_data self.old) (core_data self.new)
+        ensures step { IfOk result (λ r. TakesStep (core_data self.old) (core_data self.new)
             (checked resource.now seen.items) (Ok r.0)) }
         ensures change { IfOk result (λ r. Changes r.1.items self.old.history self.new.history) }
         ensures edits { IfOk result (λ r. HasEdits (core_data self.old) (checked resource.now seen.items) (Ok r.0)
             (change_data r.1.items)) }
-        ensures refused { IfErr result (λ f. Takes (core_data self.old) (core_data self.old)
+        ensures refused { IfErr result (λ f. TakesStep (core_data self.old) (core_data self.old)
             (checked resource.now seen.items) (Err f)) }
         ensures unchanged { OnErr result (core_data self.new ≡ core_data self.old) }
         ensures kept { OnOk result (AllByRecursion IsAscending seen.items) }

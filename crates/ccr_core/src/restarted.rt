@@ -1,12 +1,12 @@
 //! Restarts.
 ghost use Rattle.std.specs.Prelude.{◌≡◌, Ok, Err, map, IfOk, IfErr, OnErr};
-ghost use Rattle.ccr_history.specs.Changes.{changed, TakesAll};
+ghost use Rattle.ccr_history.specs.Changes.{changed, AdmitsAll};
 ghost use Rattle.ccr_history.specs.Edits.{change_data, edit_data, HaveTheirNumbers};
 ghost use Rattle.ccr_core.specs.Cores.{core_data};
 ghost use Rattle.ccr_core.specs.Events.{restart};
 ghost use Rattle.ccr_core.specs.Going.{Changes};
 ghost use Rattle.ccr_core.specs.Indexed.{IsIndexed};
-ghost use Rattle.ccr_core.specs.Holding.{name_data, HasEdits, IsCore, Takes};
+ghost use Rattle.ccr_core.specs.Holding.{name_data, HasEdits, IsCore, TakesStep};
 ghost use Rattle.ccr_core.specs.Resumed.{cut_name};
 
 use crate::fault::CoreFault;
@@ -41,7 +41,7 @@ pub(crate) fn cuts(
 
 /// Cuts builds short that run. It takes no memory.
 pub(crate) fn cut_all(alloc: Global, history: &mut History, names: &[(String, u32)])
-    requires { TakesAll history.old (map cut_name (map name_data names.now)) }
+    requires { AdmitsAll history.old (map cut_name (map name_data names.now)) }
     ensures { history.new ≡ changed (map cut_name (map name_data names.now)) history.old }
 {
     for name in names {
@@ -55,11 +55,11 @@ impl Parts {
     pub(crate) fn restart(&mut self, alloc: Global) -> Result<(Reply, Change), CoreFault>
         requires core { IsCore (core_data self.old) }
         requires indexed { IsIndexed self.old }
-        ensures step { IfOk result (λ r. Takes (core_data self.old) (core_data self.new) restart (Ok r.0)) }
+        ensures step { IfOk result (λ r. TakesStep (core_data self.old) (core_data self.new) restart (Ok r.0)) }
         ensures change { IfOk result (λ r. Changes r.1.items self.old.history self.new.history) }
         ensures edits { IfOk result (λ r. HasEdits (core_data self.old) restart (Ok r.0)
             (change_data r.1.items)) }
-        ensures refused { IfErr result (λ f. Takes (core_data self.old) (core_data self.old) restart (Err f)) }
+        ensures refused { IfErr result (λ f. TakesStep (core_data self.old) (core_data self.old) restart (Err f)) }
         ensures unchanged { OnErr result (core_data self.new ≡ core_data self.old) }
         ensures budget { self.new.budget ≡ self.old.budget }
         ensures indexed { IsIndexed self.new }

@@ -4,7 +4,7 @@ ghost use Rattle.ccr_history.specs.Edits.{change_data};
 ghost use Rattle.ccr_core.specs.Cores.{core_data};
 ghost use Rattle.ccr_core.specs.Going.{Changes};
 ghost use Rattle.ccr_core.specs.Indexed.{IsIndexed};
-ghost use Rattle.ccr_core.specs.Holding.{HasEdits, IsCore, Takes};
+ghost use Rattle.ccr_core.specs.Holding.{HasEdits, IsCore, TakesStep};
 ghost use Rattle.ccr_core.specs.Opening.{asked, HasRoom, LacksRoom};
 
 use crate::fault::CoreFault;
@@ -41,12 +41,12 @@ impl Parts {
     ) -> Result<(Reply, Change), CoreFault>
         requires core { IsCore (core_data self.old) }
         requires indexed { IsIndexed self.old }
-        ensures step { IfOk result (λ r. Takes (core_data self.old) (core_data self.new)
+        ensures step { IfOk result (λ r. TakesStep (core_data self.old) (core_data self.new)
             (asked by_command job.now) (Ok r.0)) }
         ensures change { IfOk result (λ r. Changes r.1.items self.old.history self.new.history) }
         ensures edits { IfOk result (λ r. HasEdits (core_data self.old) (asked by_command job.now) (Ok r.0)
             (change_data r.1.items)) }
-        ensures refused { IfErr result (λ f. Takes (core_data self.old) (core_data self.old)
+        ensures refused { IfErr result (λ f. TakesStep (core_data self.old) (core_data self.old)
             (asked by_command job.now) (Err f)) }
         ensures unchanged { OnErr result (core_data self.new ≡ core_data self.old) }
         ensures budget { self.new.budget ≡ self.old.budget }

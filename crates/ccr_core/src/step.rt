@@ -5,7 +5,7 @@ ghost use Rattle.ccr_core.specs.Cores.{core_data};
 ghost use Rattle.ccr_core.specs.Events.{event_data};
 ghost use Rattle.ccr_core.specs.Going.{Changes};
 ghost use Rattle.ccr_core.specs.Indexed.{IsIndexed};
-ghost use Rattle.ccr_core.specs.Holding.{HasEdits, IsCore, Takes};
+ghost use Rattle.ccr_core.specs.Holding.{HasEdits, IsCore, TakesStep};
 ghost use Rattle.ccr_core.specs.Kept.{IsEvent};
 
 use crate::event::Event;
@@ -21,11 +21,11 @@ impl Parts {
     pub(crate) fn take(&mut self, alloc: Global, event: Event) -> Result<(Reply, Change), CoreFault>
         requires core { IsCore (core_data self.old) }
         requires indexed { IsIndexed self.old }
-        ensures step { IfOk result (λ r. Takes (core_data self.old) (core_data self.new) (event_data event) (Ok r.0)) }
+        ensures step { IfOk result (λ r. TakesStep (core_data self.old) (core_data self.new) (event_data event) (Ok r.0)) }
         ensures change { IfOk result (λ r. Changes r.1.items self.old.history self.new.history) }
         ensures edits { IfOk result (λ r. HasEdits (core_data self.old) (event_data event) (Ok r.0)
             (change_data r.1.items)) }
-        ensures refused { IfErr result (λ f. Takes (core_data self.old) (core_data self.old)
+        ensures refused { IfErr result (λ f. TakesStep (core_data self.old) (core_data self.old)
             (event_data event) (Err f)) }
         ensures unchanged { OnErr result (core_data self.new ≡ core_data self.old) }
         ensures kept { OnOk result (IsEvent (event_data event)) }

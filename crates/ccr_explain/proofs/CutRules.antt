@@ -11,7 +11,7 @@ use Rattle.ccr_choice.proofs.Numbering.{named_below}
 use Rattle.std.proofs.Math.Nat.{mul-le-mul_left, mul-le-mul_right}
 use Rattle.ccr_choice.specs.Ascending.{AreRising}
 use Rattle.ccr_choice.proofs.Lookups.{places_rise}
-use Rattle.ccr_resolve.specs.Room.{product}
+use Rattle.ccr_resolve.specs.NodeBound.{product}
 use Rattle.ccr_explain.specs.declared.demand.Demand.{Demand}
 use Rattle.ccr_explain.specs.Cut.{is_allowed_of, is_passed_of, jobs_left, with_job, with_jobs, order_from, place_in, top_for, cut_input, cut_from, is_of_use, builds_from, order_left, inputs_cut, cut_to}
 use Rattle.ccr_explain.proofs.Lists.{length_filter, all_contained, from_filter}

@@ -9,7 +9,7 @@ use Rattle.std.proofs.lemmas.List.Elements.{All-cons, All-head, All-tail, Contai
 use Rattle.std.proofs.lemmas.List.Sums.{sum_by-cons, sum_by-set}
 use Rattle.ccr_choice.specs.Problem.{BuildValue, are_distinct}
 use Rattle.ccr_choice.proofs.Members.{contains_none, contains_first, contains_later, contains_cases, tests_contains, same_number}
-use Rattle.ccr_resolve.specs.Room.{product}
+use Rattle.ccr_resolve.specs.NodeBound.{product}
 use Rattle.ccr_explain.specs.Cut.{with_job, with_jobs, place_in}
 use Rattle.ccr_explain.proofs.Lists.{from_filter}
 

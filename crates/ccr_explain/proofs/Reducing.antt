@@ -6,7 +6,7 @@ use Rattle.std.proofs.lemmas.List.{append-nil, append_assoc, length_push, drop_a
 use Rattle.std.proofs.lemmas.List.Elements.{All-contains, Contains-append_left, Contains-append_right, Contains-append_cases}
 use Rattle.ccr_choice.specs.Problem.{ProblemValue}
 use Rattle.ccr_choice.proofs.Members.{contains_later}
-use Rattle.ccr_resolve.specs.Room.{product}
+use Rattle.ccr_resolve.specs.NodeBound.{product}
 use Rattle.ccr_explain.specs.declared.demand.Demand.{Demand}
 use Rattle.ccr_explain.specs.declared.demand.Demand.TheVariants.{Allowed}
 use Rattle.ccr_explain.specs.declared.met.Met.{Met}

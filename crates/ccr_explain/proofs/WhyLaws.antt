@@ -10,7 +10,7 @@ use Rattle.ccr_choice.specs.Preference.{Preference, IsOrder, IsBetter}
 use Rattle.ccr_choice.proofs.Bounds.{rules_of}
 use Rattle.ccr_explain.specs.declared.demand.Demand.{Demand}
 use Rattle.ccr_explain.specs.Clash.{IsClash}
-use Rattle.ccr_explain.specs.WhyNot.{Takes, CannotTake, may_take, narrowed_from, asked}
+use Rattle.ccr_explain.specs.WhyNot.{TakesPlace, CannotTake, may_take, narrowed_from, asked}
 use Rattle.ccr_explain.proofs.Lists.{contains_filter, from_filter}
 use Rattle.ccr_explain.proofs.DemandLaws.{no_choice, passed_of, passed_each}
 
@@ -124,7 +124,7 @@ module _ (prefers : Preference) (p : ProblemValue) (places : List ℕ) (i place 
       let P : InputValue → Type 0 = λ x. Contains x.places (slice_index others k) in
       from_filter (may k) (slice_index others k) (input_at p k).places (subst P (input_asked k within) (s.allowed k (omega (arith, within, inputs_asked))))
 
-  pub takes_of : i < length p.inputs → (others builds : List ℕ) → Satisfies q others builds → Takes prefers p places i place others builds
+  pub takes_of : i < length p.inputs → (others builds : List ℕ) → Satisfies q others builds → TakesPlace prefers p places i place others builds
   unfolding IsAllowed IsSuccessful
   takes_of inside others builds s = record {
     satisfies = record {
@@ -140,7 +140,7 @@ module _ (prefers : Preference) (p : ProblemValue) (places : List ℕ) (i place 
         absurd (false≢true (sym fine ∙ worse)));
   }
 
-  may_so : (others builds : List ℕ) → Takes prefers p places i place others builds → (k : ℕ) → may k (slice_index others k) ≡ true
+  may_so : (others builds : List ℕ) → TakesPlace prefers p places i place others builds → (k : ℕ) → may k (slice_index others k) ≡ true
   may_so others builds t k =
       elim (cases_lt k i) [
         | inl less ↦ before_may prefers places i place k (slice_index others k) less
@@ -153,7 +153,7 @@ module _ (prefers : Preference) (p : ProblemValue) (places : List ℕ) (i place 
         ]
       ]
 
-  pub takes_back : (others builds : List ℕ) → Takes prefers p places i place others builds → Satisfies q others builds
+  pub takes_back : (others builds : List ℕ) → TakesPlace prefers p places i place others builds → Satisfies q others builds
   unfolding IsAllowed IsSuccessful
   takes_back others builds t = record {
     lengths = record { place_each = t.satisfies.lengths.place_each ∙ sym inputs_asked; build_each = t.satisfies.lengths.build_each };

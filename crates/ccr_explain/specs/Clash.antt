@@ -3,7 +3,7 @@ use Rattle.std.specs.Prelude.{◌≡◌, ℕ, ◌<◌, List, false, IsTrue, All}
 use Rattle.ccr_choice.specs.Problem.{ProblemValue}
 use Rattle.ccr_choice.specs.Preference.{Preference}
 use Rattle.ccr_choice.specs.Optimal.{IsOptimal}
-use Rattle.ccr_resolve.specs.Room.{product, IsBelowRoom}
+use Rattle.ccr_resolve.specs.NodeBound.{product, IsBelowNodeBound}
 use Rattle.ccr_explain.specs.declared.demand.Demand.{Demand}
 use Rattle.ccr_explain.specs.declared.explanation.Explanation.{Explanation}
 use Rattle.ccr_explain.specs.declared.explanation.Explanation.TheVariants.{Clash, Fits, OverBudget}
@@ -22,8 +22,8 @@ pub record IsClashWithin (p : ProblemValue) (budget : ℕ) (c : ClashValue) : Ty
   pub irreducible : IsTrue c.is_irreducible → AreIrreducible p c.demands
   pub perhaps_fewer : c.is_irreducible ≡ false → budget < product p.jobs
 
--- A clash is one of the problem; a choice that fits is optimal; over budget names the budget, which is below the room.
+-- A clash is one of the problem; a choice that fits is optimal; over budget names the budget, which is below the node bound.
 abbrev pub IsExplanation : Preference → ProblemValue → ℕ → Explanation → Type 0
 IsExplanation prefers p budget (Clash c) = IsClashWithin p budget c
 IsExplanation prefers p budget (Fits c) = IsOptimal prefers p c.places c.builds
-IsExplanation prefers p budget (OverBudget n) = (n ≡ budget) × IsBelowRoom prefers p budget
+IsExplanation prefers p budget (OverBudget n) = (n ≡ budget) × IsBelowNodeBound prefers p budget

@@ -2,7 +2,7 @@
 use Rattle.std.specs.Prelude.{◌≡◌, ℕ, suc, ◌+◌, ◌<◌, ◌≤◌, List, [], ◌∷◌, ◌++◌, map, filter, Bool, false, not, ◌&&◌, ◌||◌, ◌==◌, if◌then◌else◌, All}
 use Rattle.std.specs.List.{list_any, list_all, range_with_len}
 use Rattle.ccr_choice.specs.Problem.{ProblemValue, InputValue, BuildValue, builds_at}
-use Rattle.ccr_resolve.specs.Room.{product}
+use Rattle.ccr_resolve.specs.NodeBound.{product}
 use Rattle.ccr_explain.specs.declared.demand.Demand.{Demand}
 use Rattle.ccr_explain.specs.declared.demand.Demand.TheVariants.{Allowed, Passed}
 use Rattle.ccr_choice.specs.Preference.{order_of}

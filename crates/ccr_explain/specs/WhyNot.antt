@@ -3,14 +3,14 @@ use Rattle.std.specs.Prelude.{◌≡◌, ℕ, ◌+◌, ◌<◌, List, [], ◌∷
 use Rattle.ccr_choice.specs.Problem.{ProblemValue, InputValue}
 use Rattle.ccr_choice.specs.Satisfies.{Satisfies}
 use Rattle.ccr_choice.specs.Preference.{Preference}
-use Rattle.ccr_resolve.specs.Room.{product}
+use Rattle.ccr_resolve.specs.NodeBound.{product}
 use Rattle.ccr_explain.specs.declared.explanation.Explanation.{Explanation}
 use Rattle.ccr_explain.specs.declared.explanation.Explanation.TheVariants.{Clash, Fits, OverBudget}
 use Rattle.ccr_explain.specs.Clash.{IsClashWithin}
 
 -- Other places and builds take a place at input i without an input before it getting worse: they satisfy the problem, and at
 -- no input before i is its place in the choice preferred to the other.
-pub record Takes (prefers : Preference) (p : ProblemValue) (places : List ℕ) (i place : ℕ) (others their_builds : List ℕ) : Type 0 where
+pub record TakesPlace (prefers : Preference) (p : ProblemValue) (places : List ℕ) (i place : ℕ) (others their_builds : List ℕ) : Type 0 where
   pub satisfies : Satisfies p others their_builds
   pub taken : slice_index others i ≡ place
   pub none_worse : (k : ℕ) → k < i → ¬ IsTrue (prefers k (slice_index places k) (slice_index others k))
@@ -18,7 +18,7 @@ pub record Takes (prefers : Preference) (p : ProblemValue) (places : List ℕ) (
 -- Input i can't take the place without an input before it getting worse.
 abbrev pub CannotTake : Preference → ProblemValue → List ℕ → ℕ → ℕ → Type 0
 CannotTake prefers p places i place =
-    (others their_builds : List ℕ) → ¬ Takes prefers p places i place others their_builds
+    (others their_builds : List ℕ) → ¬ TakesPlace prefers p places i place others their_builds
 
 -- ---- the question
 -- Whether input k may take place x, where input i is to take a place: input i takes this place alone, an input before it
@@ -42,5 +42,5 @@ asked prefers p places i place = record p { inputs = narrowed_from (may_take pre
 abbrev pub IsWhyNot : Preference → ProblemValue → List ℕ → ℕ → ℕ → ℕ → Explanation → Type 0
 IsWhyNot prefers p places i place budget (Clash c) =
     CannotTake prefers p places i place × IsClashWithin (asked prefers p places i place) budget c
-IsWhyNot prefers p places i place budget (Fits c) = Takes prefers p places i place c.places c.builds
+IsWhyNot prefers p places i place budget (Fits c) = TakesPlace prefers p places i place c.places c.builds
 IsWhyNot prefers p places i place budget (OverBudget n) = (n ≡ budget) × (budget < product p.jobs)

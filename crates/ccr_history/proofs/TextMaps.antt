@@ -137,7 +137,7 @@ fields_again d fs text is reads =
 pub is_key : (fs : TextMap) (text : List ℕ) → text ≡ key_text fs → fields_in text ≡ fs → IsAscending fs → IsKey text
 is_key fs text is again ascends = (is ∙ ap key_text (sym again), rw again ascends)
 
--- want of memory is no other fault
+-- out of memory is no other fault
 pub memory_alone : {T : Type 0} (r : Result T HistoryFault) → IsErrAnd r (λ fault. fault ≡ NoMemory) → IsErrOf r VersionNotText → ⊥
 memory_alone (Ok v) h e = cc
 memory_alone (Err f) h e = cc

@@ -121,18 +121,18 @@ abbrev pub IsRunning : Text → ℕ → List BuildData → Type 0
 IsRunning job number builds = (b : BuildData) × (build_of job number builds ≡ Some b) × (b.status ≡ Running)
 
 -- the caller's conditions of the change hold, and no limit refuses it
-abbrev pub Takes : HistoryData → EditData → Type 0
-Takes h (text t) = ⊤
-Takes h (versions scope vs) = (is_table_full scope vs h.tables ≡ false) × AllByRecursion IsAscending vs
-Takes h (build job used) = (length h.builds < MOST_BUILDS) × AreUsed h.tables used
-Takes h (ended job number status moved) =
+abbrev pub Admits : HistoryData → EditData → Type 0
+Admits h (text t) = ⊤
+Admits h (versions scope vs) = (is_table_full scope vs h.tables ≡ false) × AllByRecursion IsAscending vs
+Admits h (build job used) = (length h.builds < MOST_BUILDS) × AreUsed h.tables used
+Admits h (ended job number status moved) =
     IsRunning job number h.builds × (status ≢ Running) × AreMoved h.tables moved
-Takes h (pin_set resource pin) = IsAscending pin
-Takes h (pin_cleared resource) = ⊤
-Takes h (disabled scope place) = IsTrue (has_place h.tables scope place)
-Takes h (enabled scope place) = IsTrue (has_place h.tables scope place)
+Admits h (pin_set resource pin) = IsAscending pin
+Admits h (pin_cleared resource) = ⊤
+Admits h (disabled scope place) = IsTrue (has_place h.tables scope place)
+Admits h (enabled scope place) = IsTrue (has_place h.tables scope place)
 
 -- each change is one that the history takes by then
-abbrev pub TakesAll : HistoryData → List EditData → Type 0
-TakesAll h [] = ⊤
-TakesAll h (e ∷ es) = Takes h e × TakesAll (edited e h) es
+abbrev pub AdmitsAll : HistoryData → List EditData → Type 0
+AdmitsAll h [] = ⊤
+AdmitsAll h (e ∷ es) = Admits h e × AdmitsAll (edited e h) es

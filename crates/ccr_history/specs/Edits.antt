@@ -8,7 +8,7 @@ use Rattle.ccr_history.specs.Tables.{with_versions, versions_of, reported, scope
 use Rattle.ccr_history.specs.Builds.{BuildData, count_of, is_build_of}
 use Rattle.ccr_history.specs.Pairs.{has_pair}
 use Rattle.ccr_history.specs.History.{HistoryData}
-use Rattle.ccr_history.specs.Changes.{EditData, text, versions, build, ended, pin_set, pin_cleared, disabled, enabled, edited, TakesAll}
+use Rattle.ccr_history.specs.Changes.{EditData, text, versions, build, ended, pin_set, pin_cleared, disabled, enabled, edited, AdmitsAll}
 
 -- what an edit holds, without where it lies in memory and without its numbers
 abbrev pub edit_data : Edit → EditData
@@ -61,4 +61,4 @@ HaveTheirNumbers h (e ∷ es) = HasItsNumbers h e × HaveTheirNumbers (edited (e
 
 -- the history takes the edits, each by then, and they carry its numbers
 abbrev pub Accepts : HistoryData → List Edit → Type 0
-Accepts h es = TakesAll h (change_data es) × HaveTheirNumbers h es
+Accepts h es = AdmitsAll h (change_data es) × HaveTheirNumbers h es

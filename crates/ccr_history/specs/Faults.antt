@@ -3,7 +3,7 @@ use Rattle.std.specs.Prelude.{Bool, true, false}
 use Rattle.ccr_history.specs.declared.fault.HistoryFault.{HistoryFault}
 use Rattle.ccr_history.specs.declared.fault.HistoryFault.TheVariants.{NotObject, VersionNotText, NoMemory, TableFull, BuildsFull, NoBuild, AlreadyEnded, NoVersion}
 
--- the faults of a JSON value that is no version and no pin, and want of memory
+-- the faults of a JSON value that is no version and no pin, and out of memory
 abbrev pub is_fault_of_value : HistoryFault → Bool
 is_fault_of_value NotObject = true
 is_fault_of_value VersionNotText = true
@@ -14,7 +14,7 @@ is_fault_of_value NoBuild = false
 is_fault_of_value AlreadyEnded = false
 is_fault_of_value NoVersion = false
 
--- the faults of a report of versions: a full table, and want of memory
+-- the faults of a report of versions: a full table, and out of memory
 abbrev pub is_fault_of_report : HistoryFault → Bool
 is_fault_of_report NotObject = false
 is_fault_of_report VersionNotText = false
@@ -47,7 +47,7 @@ is_fault_of_end NoBuild = true
 is_fault_of_end AlreadyEnded = true
 is_fault_of_end NoVersion = false
 
--- the faults of a place that is disabled: the table lacks it, and want of memory
+-- the faults of a place that is disabled: the table lacks it, and out of memory
 abbrev pub is_fault_of_disable : HistoryFault → Bool
 is_fault_of_disable NotObject = false
 is_fault_of_disable VersionNotText = false

@@ -14,7 +14,7 @@ pub enum HistoryFault {
     /// A field of the object isn't a text.
     #[error("version not text")]
     VersionNotText,
-    /// A growth of memory was refused.
+    /// Out of memory.
     #[error("out of memory")]
     NoMemory,
     /// A scope would have too many versions, or there would be too many scopes.

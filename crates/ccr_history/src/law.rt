@@ -1,7 +1,7 @@
 //! Laws over the definitions alone: what every history keeps, changes keep.
 ghost use Rattle.std.specs.Prelude.{List};
 ghost use Rattle.ccr_history.specs.History.{HistoryData, no_history, IsHistory};
-ghost use Rattle.ccr_history.specs.Changes.{EditData, edited, changed, Takes, TakesAll};
+ghost use Rattle.ccr_history.specs.Changes.{EditData, edited, changed, Admits, AdmitsAll};
 
 /// What every history keeps, the first one keeps, and each change that a history takes.
 ///
@@ -11,8 +11,8 @@ pub fn changes_keep_histories()
     ensures first { IsHistory no_history }
 
     // After a change that it takes, a history is one again.
-    ensures one { (e : EditData) (h : HistoryData) → IsHistory h → Takes h e → IsHistory (edited e h) }
+    ensures one { (e : EditData) (h : HistoryData) → IsHistory h → Admits h e → IsHistory (edited e h) }
 
     // So it is after any number of them.
-    ensures all { (es : List EditData) (h : HistoryData) → IsHistory h → TakesAll h es → IsHistory (changed es h) }
+    ensures all { (es : List EditData) (h : HistoryData) → IsHistory h → AdmitsAll h es → IsHistory (changed es h) }
 {}

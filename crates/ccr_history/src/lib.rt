@@ -15,7 +15,7 @@
 //! A refused call changes nothing. A JSON value that is no version is refused: `NotObject` where it is no object,
 //! `VersionNotText` where a field isn't a text. A history has its limits, `TableFull` and `BuildsFull`, and refuses to
 //! end a build that isn't there, `NoBuild`, or that doesn't run, `AlreadyEnded`. A place that its table lacks is neither
-//! disabled nor enabled, `NoVersion`. `NoMemory` comes only where a growth was refused.
+//! disabled nor enabled, `NoVersion`. `NoMemory` comes only where memory runs out.
 #![tactic(auto)]
 
 mod build;

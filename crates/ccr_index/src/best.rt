@@ -110,7 +110,7 @@ impl Index {
     {
         match self.fixed_pairs(job, fixed) {
             Some(pairs) => has_pair(pairs, scope, place),
-            None => self.rows(job).has_seen(scope, place),
+            None => self.rows(job).has_passed(scope, place),
         }
     }
 

@@ -102,7 +102,7 @@ fn top_of(problem: &Problem, jobs: &[JobRows], input: usize) -> u32
     let ranks = ranks_of(rows.after(), places);
     for rank in 0..ranks.to {
         let place = places[ranks.position(rank)];
-        if have_seen(problem, jobs, input, place) {
+        if have_passed(problem, jobs, input, place) {
             return place;
         }
     }
@@ -110,14 +110,14 @@ fn top_of(problem: &Problem, jobs: &[JobRows], input: usize) -> u32
 }
 
 /// Whether each job that input `input` names has a build with a place.
-fn have_seen(problem: &Problem, jobs: &[JobRows], input: usize, place: u32) -> bool
+fn have_passed(problem: &Problem, jobs: &[JobRows], input: usize, place: u32) -> bool
     requires input { input < length problem.now.inputs }
     requires jobs { map (λ r. r.builds) jobs.now ≡ problem.now.jobs }
     ensures { IsTrue result ↔ HasPassed problem.now nothing_fixed input place }
 {
     let scope = problem.inputs()[input].scope();
     for job in problem.named(input) {
-        if !jobs[*job as usize].has_seen(scope, place) {
+        if !jobs[*job as usize].has_passed(scope, place) {
             return false;
         }
     }

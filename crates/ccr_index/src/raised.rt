@@ -91,7 +91,7 @@ impl Index {
         let scope = self.input(input).scope();
         for name in self.named(input) {
             let named = *name as usize;
-            if named != job && !self.rows(named).has_seen(scope, place) {
+            if named != job && !self.rows(named).has_passed(scope, place) {
                 return false;
             }
         }

@@ -137,7 +137,7 @@ impl JobRows {
     }
 
     /// Whether some build has this pair.
-    pub fn has_seen(&self, scope: u32, place: u32) -> bool
+    pub fn has_passed(&self, scope: u32, place: u32) -> bool
         ensures { IsTrue result ↔ Any (λ b. Contains b.pairs (scope, place)) self.now.builds }
     {
         self.last_with(scope, place) > 0

@@ -14,7 +14,7 @@ ghost use Rattle.ccr_lines.specs.Outlooks.{outlook_words};
 use crate::edge::puts;
 use crate::json::{array_line, array_text, bool_text, string_text};
 use crate::outlook::{Outlook, outlook_of, push_outlook};
-use crate::tell::word_of;
+use crate::print::word_of;
 use crate::texts::push_pieces;
 use ccr_core::Core;
 use ccr_history::{BuildRef, History, Status};

@@ -24,6 +24,7 @@ mod label;
 mod lines;
 mod outlook;
 mod past;
+mod print;
 mod printed;
 mod problem;
 mod reason;
@@ -35,7 +36,6 @@ mod shows;
 mod standing;
 mod subject;
 mod taken;
-mod tell;
 mod texts;
 mod trace;
 mod trace_json;
@@ -48,10 +48,10 @@ pub use form::Form;
 pub use held::{pin_of, resource_held};
 pub use lines::Lines;
 pub use outlook::Outlook;
+pub use print::{
+    pipeline_room, print_cause, print_disabled, print_enabled, print_end, print_full, print_job,
+    print_new, print_pinned, print_pipeline, print_refused_job, print_unpinned,
+};
 pub use printed::Printed;
 pub use shown::{ShowFault, Shown};
 pub use shows::show;
-pub use tell::{
-    pipeline_room, tell_cause, tell_disabled, tell_enabled, tell_end, tell_full, tell_job,
-    tell_new, tell_pinned, tell_pipeline, tell_refused_job, tell_unpinned,
-};

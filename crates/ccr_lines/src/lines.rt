@@ -16,7 +16,7 @@ pub trait Lines {
 
     ghost notes: { Self → List Text };
 
-    /// Makes room for so many bytes. The only error is that a growth of memory was refused; what was written stays.
+    /// Makes room for so many bytes. The only error is out of memory; what was written stays.
     fn make_room(&mut self, bytes: usize) -> Result<(), AllocError>
         ensures same { written self.new ≡ written self.old }
         ensures waiting { waiting self.new ≡ waiting self.old }

@@ -10,8 +10,8 @@ ghost use Rattle.ccr_lines.specs.ReleaseJson.{version_json, took_json, moved_jso
 ghost use Rattle.ccr_lines.specs.Releases.{pairs_naming};
 
 use crate::json::{array_text, on_a_line, string_text};
+use crate::print::word_of;
 use crate::release::{inputs_in_plan, newest_together, pairs_naming, resource_at, used_at};
-use crate::tell::word_of;
 use crate::texts::push_pieces;
 use ccr_history::{BuildRef, History};
 use ccr_pipeline::{Input, Job, Pipeline};

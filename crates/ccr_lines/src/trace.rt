@@ -14,9 +14,9 @@ ghost use Rattle.ccr_lines.specs.Traces.{is_sought, has_taken, took_word, moved_
 
 use crate::form::Form;
 use crate::held::{pin_of, resource_held};
+use crate::print::word_of;
 use crate::release::{resource_at, used_at};
 use crate::shown::ShowFault;
-use crate::tell::word_of;
 use crate::texts::push_line;
 use crate::trace_json::trace_json;
 use ccr_core::Core;

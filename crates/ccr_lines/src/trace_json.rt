@@ -5,7 +5,7 @@ ghost use Rattle.ccr_lines.specs.Json.{json_line, after_comma};
 ghost use Rattle.ccr_lines.specs.TraceJson.{went_json, went_json_if, build_traced, trace_json};
 
 use crate::json::{array_line, bool_text, string_text};
-use crate::tell::word_of;
+use crate::print::word_of;
 use crate::texts::push_pieces;
 use crate::trace::{has_sought, has_taken, is_succeeded};
 use ccr_history::{BuildRef, History, Pin, Status};

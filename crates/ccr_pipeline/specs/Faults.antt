@@ -48,7 +48,7 @@ StartsWith fs None = ⊤
 StartsWith [] (Some f) = ⊥
 StartsWith (g ∷ gs) (Some f) = g ≡ f
 
--- a refusal tells the first fault, or want of memory
+-- a refusal names the first fault, or says that memory ran out
 abbrev pub IsFirst : Faults → ReadFault → Type 0
 IsFirst fs e = StartsWith fs (fault_of e)
 

@@ -14,7 +14,7 @@ use crate::walk::LEVELS;
 use serde_json::Value;
 use std::alloc::{AllocError, Global};
 
-/// A step, or a growth of memory was refused.
+/// A step, or out of memory.
 type Built = Result<Step, AllocError>;
 
 fn add_attempts(alloc: Global, value: &Value, step: Step) -> Built

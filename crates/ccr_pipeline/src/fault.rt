@@ -55,7 +55,7 @@ pub enum ReadFault {
     /// A number that isn't whole, or is out of the range of 64 bits, in `source`, `params` or `get_params`.
     #[error("number not whole at {0}")]
     NumberNotWhole(String),
-    /// A growth of memory was refused.
+    /// Out of memory.
     #[error("out of memory")]
     NoMemory,
 }

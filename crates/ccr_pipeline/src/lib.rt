@@ -13,8 +13,8 @@
 //! `on_failure`, `on_success`, the attempts and the step in this order, and no JSON. [`inputs_of`] gives the gets of a
 //! job in the order of its plan, which is another.
 //!
-//! Refusals are the variants of [`ReadFault`], each with a path but `NoMemory`, which comes only where a growth was
-//! refused. `docs/FORMATS.md` has the keys, the rules and what to do about each refusal.
+//! Refusals are the variants of [`ReadFault`], each with a path but `NoMemory`, which comes only where memory
+//! runs out. `docs/FORMATS.md` has the keys, the rules and what to do about each refusal.
 #![tactic(auto)]
 
 mod build;

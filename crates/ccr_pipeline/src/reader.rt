@@ -65,8 +65,8 @@ fn read_value(alloc: Global, text: &[u8], value: Value) -> Checked<Pipeline>
 ///
 /// `TooLong` above 1,048,576 bytes, `NotJson` where the bytes are no JSON value, both at `pipeline`; else the first
 /// fault that is present in the value: the first broken rule of the resources, then of the jobs, keys in the order of
-/// the format's table, and then the first name of a resource or a job that isn't there. `NoMemory` where a growth was
-/// refused.
+/// the format's table, and then the first name of a resource or a job that isn't there. `NoMemory` where memory
+/// runs out.
 pub fn read(alloc: Global, text: &[u8]) -> Result<Pipeline, ReadFault>
     // The text is a JSON value in which no fault is present, and the pipeline has its resources and jobs.
     ensures ok { IfOk result
@@ -92,7 +92,7 @@ pub fn read(alloc: Global, text: &[u8]) -> Result<Pipeline, ReadFault>
 /// Reads a task file from JSON (Concourse: tasks).
 ///
 /// `TooLong` above 1,048,576 bytes, `NotJson` where the bytes are no JSON value, both at `task`; else the first fault
-/// that is present in the value, at a path that begins with `task`. `NoMemory` where a growth was refused.
+/// that is present in the value, at a path that begins with `task`. `NoMemory` where memory runs out.
 #[tactic(auto, unfolding(crate::specs::JobRules::config_faults))]
 pub fn read_task(alloc: Global, text: &[u8]) -> Result<TaskConfig, ReadFault>
     // The text is a JSON value in which no fault is present, and the config has its keys.

@@ -22,7 +22,7 @@ pub enum Ended {
     /// It wrote more than 1,048,576 bytes where its output is kept, or its output wasn't at its end after
     /// 1,000,000,000 reads.
     OutputTooLong,
-    /// A growth of memory was refused.
+    /// Out of memory.
     NoMemory,
 }
 

@@ -12,7 +12,7 @@ pub enum RequestFault {
     /// The text has more than 65,536 bytes.
     #[error("request too long")]
     TooLong,
-    /// A growth of memory was refused.
+    /// Out of memory.
     #[error("out of memory")]
     NoMemory,
 }
@@ -32,7 +32,7 @@ pub enum ReplyFault {
     /// The reply has no version.
     #[error("missing version")]
     MissingVersion,
-    /// A growth of memory was refused.
+    /// Out of memory.
     #[error("out of memory")]
     NoMemory,
 }

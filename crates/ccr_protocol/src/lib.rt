@@ -5,7 +5,7 @@
 //!
 //! [`read_check`], [`read_in`] and [`read_out`] read what a program wrote on its standard output, on any bytes.
 //! Contracts see the bytes as the JSON value that they spell, and `specs/Replies.antt` says what each value is read as.
-//! Refusals are the variants of [`RequestFault`] and [`ReplyFault`]; `NoMemory` comes only where a growth was refused.
+//! Refusals are the variants of [`RequestFault`] and [`ReplyFault`]; `NoMemory` comes only where memory runs out.
 #![tactic(auto)]
 
 mod fault;

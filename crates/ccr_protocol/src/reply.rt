@@ -71,7 +71,7 @@ fn version_in(alloc: Global, value: &Value) -> Result<Version, ReplyFault>
 ///
 /// `NotJson` where the bytes are no JSON value, `WrongKind` where the value is no list; else the fault of the first
 /// member that has one: `WrongKind` where it is no object, `VersionNotText` where a field isn't a text. `NoMemory`
-/// where a growth was refused.
+/// where memory runs out.
 pub fn read_check(alloc: Global, reply: &[u8]) -> Result<Vec<Version>, ReplyFault>
     ensures { ReadsReply check_reply (λ v. v.items) reply.now result }
 {
@@ -84,7 +84,7 @@ pub fn read_check(alloc: Global, reply: &[u8]) -> Result<Vec<Version>, ReplyFaul
 ///
 /// `NotJson` where the bytes are no JSON value, `WrongKind` where the value or its version is no object,
 /// `MissingVersion` where the version is absent or null, `VersionNotText` where a field of it isn't a text. `NoMemory`
-/// where a growth was refused.
+/// where memory runs out.
 pub fn read_in(alloc: Global, reply: &[u8]) -> Result<Version, ReplyFault>
     ensures { ReadsReply step_reply (λ v. v) reply.now result }
 {

@@ -86,7 +86,7 @@ fn request(
 /// What `check` is given: the resource's source, and the version with the greatest place, if there is one
 /// (Concourse: implementing a resource type, check).
 ///
-/// `TooLong` exactly where the text has more than 65,536 bytes; `NoMemory` where a growth was refused.
+/// `TooLong` exactly where the text has more than 65,536 bytes; `NoMemory` where memory runs out.
 pub fn check_request(
     alloc: Global,
     source: Option<&Object>,
@@ -100,7 +100,7 @@ pub fn check_request(
 /// What `in` is given: the step's params, if there are such, the resource's source and the version that is asked for
 /// (Concourse: implementing a resource type, in).
 ///
-/// `TooLong` exactly where the text has more than 65,536 bytes; `NoMemory` where a growth was refused.
+/// `TooLong` exactly where the text has more than 65,536 bytes; `NoMemory` where memory runs out.
 pub fn in_request(
     alloc: Global,
     source: Option<&Object>,
@@ -116,7 +116,7 @@ pub fn in_request(
 /// What `out` is given: the step's params, if there are such, and the resource's source
 /// (Concourse: implementing a resource type, out).
 ///
-/// `TooLong` exactly where the text has more than 65,536 bytes; `NoMemory` where a growth was refused.
+/// `TooLong` exactly where the text has more than 65,536 bytes; `NoMemory` where memory runs out.
 pub fn out_request(
     alloc: Global,
     source: Option<&Object>,

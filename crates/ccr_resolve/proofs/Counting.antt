@@ -3,7 +3,7 @@ use Rattle.std.proofs.Common.{◌≡◌, ◌≢◌, ℕ, zero, suc, ◌+◌, ◌
 use Rattle.std.proofs.lemmas.Bool.{eq-eqb, ne_eqb, cond-true, cond-false}
 use Rattle.std.proofs.Math.Nat.{mul-le-mul_left, mul_left_comm}
 use Rattle.ccr_choice.specs.Problem.{BuildValue}
-use Rattle.ccr_resolve.specs.Room.{product, total}
+use Rattle.ccr_resolve.specs.NodeBound.{product, total}
 use Rattle.ccr_resolve.specs.Search.{free_product, free_sum, free_jobs}
 
 factor : ℕ → List BuildValue → ℕ

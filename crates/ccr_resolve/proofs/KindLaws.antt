@@ -11,7 +11,7 @@ use Rattle.ccr_choice.specs.Dominated.{IsNamedIn, IsDominated}
 use Rattle.ccr_choice.proofs.Members.{contains_cases, tests_any, tests_contains, same_number}
 use Rattle.ccr_index.proofs.AlikeLaws.{filter_has, has_filter}
 use Rattle.ccr_resolve.specs.Kinds.{is_named_in, counting, are_equal, kinds_after, kinds_from, repeats_from, product_of}
-use Rattle.ccr_resolve.specs.Room.{product}
+use Rattle.ccr_resolve.specs.NodeBound.{product}
 use Rattle.ccr_resolve.specs.Search.{free_kinds}
 
 -- ---- builds with the same pairs that count dominate each other

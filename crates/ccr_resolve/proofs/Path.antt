@@ -14,7 +14,7 @@ use Rattle.ccr_choice.proofs.Members.{any_of}
 use Rattle.ccr_choice.proofs.PossibleLaws.{best_is, length-best_places, best_places_at, are_only, bounded_by}
 use Rattle.ccr_proof.proofs.Sound.{AreKnown, place_possible, still_better}
 use Rattle.ccr_choice.proofs.TableLaws.{build_among}
-use Rattle.ccr_resolve.specs.Room.{newest_number, newest, TopFits}
+use Rattle.ccr_resolve.specs.NodeBound.{newest_number, newest, TopFits}
 use Rattle.ccr_resolve.specs.Search.{OnPath, ReachesTop, IsNeeded, IsNoWorse}
 
 -- ---- the order of place lists

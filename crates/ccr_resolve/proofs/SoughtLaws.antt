@@ -22,7 +22,7 @@ use Rattle.ccr_proof.specs.Refutes.{HasNoPlace, IsBounded, Refutes}
 use Rattle.ccr_proof.proofs.Sound.{refutes_holds}
 use Rattle.ccr_index.specs.Rows.{no_build}
 use Rattle.ccr_resolve.specs.Kinds.{kinds_from, repeats_from, product_of}
-use Rattle.ccr_resolve.specs.Room.{TopFits, IsBelowRoom}
+use Rattle.ccr_resolve.specs.NodeBound.{TopFits, IsBelowNodeBound}
 use Rattle.ccr_resolve.specs.Search.{FoundSatisfies, places_of, free_kinds, IsNoWorse, IsSearched}
 use Rattle.ccr_resolve.specs.Sought.{IsRuledOut, AreDistinct, IsSought, Sought, IsSplit}
 use Rattle.ccr_resolve.proofs.KindLaws.{marked, AreFresh, marked_kinds, length-kinds, kinds_set, kinds_same, kinds_one, kinds_empty, kinds_few, kinds_here}
@@ -122,21 +122,21 @@ module _ (prefers : Preference) (p : ProblemValue) where
   needs table j = free_kinds (kinds_from p 0 p.jobs) (slice_set table j 1)
 
   -- the first t of these builds are tried; those that were gone into are marked, and none of them has a dominator
-  pub record IsTrying (table : List ℕ) (j : ℕ) (list : List ℕ) (before : Option (List ℕ)) (room t : ℕ) (best : Option ChoiceValue) (left : ℕ) : Type 0 where
+  pub record IsTrying (table : List ℕ) (j : ℕ) (list : List ℕ) (before : Option (List ℕ)) (limit t : ℕ) (best : Option ChoiceValue) (left : ℕ) : Type 0 where
     pub done : (m : ℕ) (b : BuildValue) → m < t → slice_get (builds_at p j) (slice_index list m) ≡ Some b
         → IsRuledOut prefers p (places_of best) (with_build (assigned p table) j b) ⊎ HasDominator j (slice_index list m)
     pub kept : IsNoWorse prefers before (places_of best)
     pub satisfies : FoundSatisfies p best
     pub used : ℕ
-    pub spent : room ≡ left + (1 + used)
+    pub spent : limit ≡ left + (1 + used)
     pub marks : List Bool
     pub long : length marks ≡ length (builds_at p j)
     pub fresh : AreFresh p j [] (builds_at p j) marks
     pub tried : (k : ℕ) → slice_get marks k ≡ Some true → (m : ℕ) × (m < t) × (slice_index list m ≡ k)
     pub few : used ≤ marked marks * needs table j
 
-  pub try_first : (table : List ℕ) (j : ℕ) (list : List ℕ) (best : Option ChoiceValue) (room left : ℕ) → FoundSatisfies p best → room ≡ left + 1 → IsTrying table j list (places_of best) room 0 best left
-  try_first table j list best room left found spent =
+  pub try_first : (table : List ℕ) (j : ℕ) (list : List ℕ) (best : Option ChoiceValue) (limit left : ℕ) → FoundSatisfies p best → limit ≡ left + 1 → IsTrying table j list (places_of best) limit 0 best left
+  try_first table j list best limit left found spent =
       let n = length (builds_at p j) in
       record {
         done = λ m b less. absurd (omega arith);
@@ -152,9 +152,9 @@ module _ (prefers : Preference) (p : ProblemValue) where
       }
 
   -- a build that is dominated is left out
-  pub try_skip : (table : List ℕ) (j : ℕ) (list : List ℕ) (before : Option (List ℕ)) (room t : ℕ) (best : Option ChoiceValue) (left : ℕ) → HasDominator j (slice_index list t)
-      → IsTrying table j list before room t best left → IsTrying table j list before room (t + 1) best left
-  try_skip table j list before room t best left dominated so = record {
+  pub try_skip : (table : List ℕ) (j : ℕ) (list : List ℕ) (before : Option (List ℕ)) (limit t : ℕ) (best : Option ChoiceValue) (left : ℕ) → HasDominator j (slice_index list t)
+      → IsTrying table j list before limit t best left → IsTrying table j list before limit (t + 1) best left
+  try_skip table j list before limit t best left dominated so = record {
     done = λ m b less e. elim (cases_lt m t) [
       | inl old ↦ so.done m b old e
       | inr reached ↦ (let now : m ≡ t = omega (arith, reached, less) in
@@ -172,8 +172,8 @@ module _ (prefers : Preference) (p : ProblemValue) where
   }
 
   -- a build that wasn't tried isn't marked
-  module _ (table : List ℕ) (j : ℕ) (list : List ℕ) (before : Option (List ℕ)) (room t : ℕ) (best : Option ChoiceValue) (left : ℕ)
-      (distinct : AreDistinct list) (less : t < length list) (inside : slice_index list t < length (builds_at p j)) (own : IsOwn j (slice_index list t)) (so : IsTrying table j list before room t best left) where
+  module _ (table : List ℕ) (j : ℕ) (list : List ℕ) (before : Option (List ℕ)) (limit t : ℕ) (best : Option ChoiceValue) (left : ℕ)
+      (distinct : AreDistinct list) (less : t < length list) (inside : slice_index list t < length (builds_at p j)) (own : IsOwn j (slice_index list t)) (so : IsTrying table j list before limit t best left) where
     unmarked : slice_get so.marks (slice_index list t) ≡ Some false
     unmarked = get_false so.marks (slice_index list t) (omega (arith, inside, so.long)) (λ mark. let old = so.tried (slice_index list t) mark in distinct old.0 t old.1 less old.2)
 
@@ -215,7 +215,7 @@ module _ (prefers : Preference) (p : ProblemValue) where
     needs_same : free_kinds (kinds_from p 0 p.jobs) (slice_set table j (slice_index list t + 1)) ≡ needs table j
     needs_same = kinds_same (kinds_from p 0 p.jobs) table j (slice_index list t + 1) 1 (λ z. absurd (omega (arith, z))) (λ z. absurd (omega (arith, z)))
 
-    pub try_next : (after : Option ChoiceValue) (left' : ℕ) → j < length table → IsSought prefers p (slice_set table j (slice_index list t + 1)) best after left left' → IsTrying table j list before room (t + 1) after left'
+    pub try_next : (after : Option ChoiceValue) (left' : ℕ) → j < length table → IsSought prefers p (slice_set table j (slice_index list t + 1)) best after left left' → IsTrying table j list before limit (t + 1) after left'
     try_next after left' wide child = record {
       done = λ m b low e. elim (cases_lt m t) [
         | inl old ↦ elim (so.done m b old e) [
@@ -239,7 +239,7 @@ module _ (prefers : Preference) (p : ProblemValue) where
     }
 
     pub try_over : (bound : Option (List ℕ)) → IsSplit p table bound j list → j < length table → left + 1 ≤ free_kinds (kinds_from p 0 p.jobs) (slice_set table j (slice_index list t + 1))
-        → room + 1 ≤ free_kinds (kinds_from p 0 p.jobs) table
+        → limit + 1 ≤ free_kinds (kinds_from p 0 p.jobs) table
     try_over bound split wide over =
         let d = slice_index (kinds_from p 0 p.jobs) j in
         let most = kinds_most j more_marks split.inside more_long more_fresh in
@@ -252,8 +252,8 @@ module _ (prefers : Preference) (order : IsOrder prefers) (p : ProblemValue) (ru
   refuted_out table None t h = refutes_holds prefers order p rules None (assigned p table) t (known_of prefers order p rules table) h
   refuted_out table (Some x) t h = refutes_holds prefers order p rules (Some x) (assigned p table) t (known_of prefers order p rules table) h
 
-  pub sought_of : (table : List ℕ) (before after : Option ChoiceValue) (room left : ℕ) (t : Tree) → room ≡ left + 1 → IsSearched prefers p table before after room left t → IsSought prefers p table before after room left
-  sought_of table before after room left t one s = record {
+  pub sought_of : (table : List ℕ) (before after : Option ChoiceValue) (limit left : ℕ) (t : Tree) → limit ≡ left + 1 → IsSearched prefers p table before after limit left t → IsSought prefers p table before after limit left
+  sought_of table before after limit left t one s = record {
     ruled_out = refuted_out table (places_of after) t s.refuted;
     kept = s.kept;
     satisfies = s.satisfies;
@@ -262,21 +262,21 @@ module _ (prefers : Preference) (order : IsOrder prefers) (p : ProblemValue) (ru
     few = (let least = kinds_one (kinds_from p 0 p.jobs) table in omega (arith, least, one, s.spent));
   }
 
-  few_of : (table : List ℕ) (j : ℕ) (list : List ℕ) (before : Option (List ℕ)) (room t : ℕ) (best : Option ChoiceValue) (left : ℕ) → j < length p.jobs → slice_index table j ≡ 0 → j < length table
-      → (so : IsTrying prefers p table j list before room t best left) → 1 + so.used ≤ free_kinds (kinds_from p 0 p.jobs) table
-  few_of table j list before room t best left inside free wide so =
+  few_of : (table : List ℕ) (j : ℕ) (list : List ℕ) (before : Option (List ℕ)) (limit t : ℕ) (best : Option ChoiceValue) (left : ℕ) → j < length p.jobs → slice_index table j ≡ 0 → j < length table
+      → (so : IsTrying prefers p table j list before limit t best left) → 1 + so.used ≤ free_kinds (kinds_from p 0 p.jobs) table
+  few_of table j list before limit t best left inside free wide so =
       let all = within_all so.used (marked so.marks) (slice_index (kinds_from p 0 p.jobs) j) (needs prefers p table j) so.few (kinds_most prefers p j so.marks inside so.long so.fresh) (kinds_one (kinds_from p 0 p.jobs) (slice_set table j 1)) in
       omega (arith, all, parted prefers p table j inside free wide)
 
-  pub try_closed : (table : List ℕ) (j : ℕ) (list : List ℕ) (bound : Option (List ℕ)) (room t : ℕ) (before best : Option ChoiceValue) (left : ℕ) → IsSplit p table bound j list → j < length table
-      → IsTrying prefers p table j list (places_of before) room t best left → IsBounded prefers p (places_of best) (assigned p table) → IsSought prefers p table before best room left
-  try_closed table j list bound room t before best left split wide so closed = record {
+  pub try_closed : (table : List ℕ) (j : ℕ) (list : List ℕ) (bound : Option (List ℕ)) (limit t : ℕ) (before best : Option ChoiceValue) (left : ℕ) → IsSplit p table bound j list → j < length table
+      → IsTrying prefers p table j list (places_of before) limit t best left → IsBounded prefers p (places_of best) (assigned p table) → IsSought prefers p table before best limit left
+  try_closed table j list bound limit t before best left split wide so closed = record {
     ruled_out = refuted_out table (places_of best) bounded closed;
     kept = so.kept;
     satisfies = so.satisfies;
     used = 1 + so.used;
     spent = so.spent;
-    few = few_of table j list (places_of before) room t best left split.inside split.free wide so;
+    few = few_of table j list (places_of before) limit t best left split.inside split.free wide so;
   }
 
   -- ---- a build that is dominated is ruled out where the one that dominates it is
@@ -305,8 +305,8 @@ module _ (prefers : Preference) (order : IsOrder prefers) (p : ProblemValue) (ru
   there : (bs : List BuildValue) (k : ℕ) → k < length bs → Contains bs (slice_index_or bs k no_build)
   there bs k within = (k, within, get_or_default bs k (slice_index_or bs k no_build) no_build within)
 
-module _ (p : ProblemValue) (rules : is_problem p ≡ true) (table : List ℕ) (j : ℕ) (list : List ℕ) (room t : ℕ) (before best : Option ChoiceValue) (left : ℕ) (split : IsSplit p table (places_of before) j list) (all : t ≡ length list)
-    (so : IsTrying (order_of p) p table j list (places_of before) room t best left) where
+module _ (p : ProblemValue) (rules : is_problem p ≡ true) (table : List ℕ) (j : ℕ) (list : List ℕ) (limit t : ℕ) (before best : Option ChoiceValue) (left : ℕ) (split : IsSplit p table (places_of before) j list) (all : t ≡ length list)
+    (so : IsTrying (order_of p) p table j list (places_of before) limit t best left) where
   -- each build that is tried, dominated or left out is ruled out, the newer ones first
   each_out : (n k : ℕ) (b : BuildValue) → k < n → k < length (builds_at p j) → slice_get (builds_at p j) k ≡ Some b → IsRuledOut (order_of p) p (places_of best) (with_build (assigned p table) j b)
   each_out zero k b less within got = absurd (omega (arith, less))
@@ -331,7 +331,7 @@ module _ (p : ProblemValue) (rules : is_problem p ≡ true) (table : List ℕ) (
         | inr e ↦ ruled_more (order_of p) p (with_build (assigned p table) j b) (places_of before) (places_of best) so.kept (split.left_out k b within got (λ h. false≢true (sym e ∙ test.1 h)))
       ]
 
-  pub try_end : j < length table → IsSought (order_of p) p table before best room left
+  pub try_end : j < length table → IsSought (order_of p) p table before best limit left
   try_end wide = record {
     ruled_out = with_each (order_of p) p (assigned p table) j (places_of best) split.inside (λ b among.
         each_out (among.0 + 1) among.0 b (omega arith) among.1 (slice_get-get_or (builds_at p j) among.0 b among.1 ∙ ap (λ x. Some x) among.2));
@@ -339,20 +339,20 @@ module _ (p : ProblemValue) (rules : is_problem p ≡ true) (table : List ℕ) (
     satisfies = so.satisfies;
     used = 1 + so.used;
     spent = so.spent;
-    few = few_of (order_of p) (is_order p) p rules table j list (places_of before) room t best left split.inside split.free wide so;
+    few = few_of (order_of p) (is_order p) p rules table j list (places_of before) limit t best left split.inside split.free wide so;
   }
 
 -- ---- the whole
-pub over_is : (prefers : Preference) (p : ProblemValue) (table : List ℕ) (before after : Option ChoiceValue) (room left : ℕ) (o : Bool) → Sought prefers p table before after room left o → o ≡ true → room + 1 ≤ free_kinds (kinds_from p 0 p.jobs) table
-over_is prefers p table before after room left true h e = h
-over_is prefers p table before after room left false h e = absurd (false≢true e)
+pub over_is : (prefers : Preference) (p : ProblemValue) (table : List ℕ) (before after : Option ChoiceValue) (limit left : ℕ) (o : Bool) → Sought prefers p table before after limit left o → o ≡ true → limit + 1 ≤ free_kinds (kinds_from p 0 p.jobs) table
+over_is prefers p table before after limit left true h e = h
+over_is prefers p table before after limit left false h e = absurd (false≢true e)
 
-pub sought_is : (prefers : Preference) (p : ProblemValue) (table : List ℕ) (before after : Option ChoiceValue) (room left : ℕ) (o : Bool) → Sought prefers p table before after room left o → o ≡ false → IsSought prefers p table before after room left
-sought_is prefers p table before after room left false h e = h
-sought_is prefers p table before after room left true h e = absurd (false≢true (sym e))
+pub sought_is : (prefers : Preference) (p : ProblemValue) (table : List ℕ) (before after : Option ChoiceValue) (limit left : ℕ) (o : Bool) → Sought prefers p table before after limit left o → o ≡ false → IsSought prefers p table before after limit left
+sought_is prefers p table before after limit left false h e = h
+sought_is prefers p table before after limit left true h e = absurd (false≢true (sym e))
 
 pub over_room : (prefers : Preference) (p : ProblemValue) (budget n : ℕ) → (TopFits prefers p → ⊥) → ((i : ℕ) → HasNoPlace p nothing_fixed i → ⊥) → budget + 1 ≤ free_kinds (kinds_from p 0 p.jobs) (replicate n 0)
-    → IsBelowRoom prefers p budget
+    → IsBelowNodeBound prefers p budget
 over_room prefers p budget n fits some over =
     let few = kinds_few p p.jobs 0 in
     let P = product_of (kinds_from p 0 p.jobs) in
@@ -366,16 +366,16 @@ over_room prefers p budget n fits some over =
       lacking = λ i none. absurd (some i none);
     }
 
-pub none_sought : (prefers : Preference) (p : ProblemValue) (before after : Option ChoiceValue) (room left : ℕ) → IsSought prefers p (replicate 32 0) before after room left → after ≡ None → HasNoChoice p
-none_sought prefers p before None room left s e = λ places builds sat.
+pub none_sought : (prefers : Preference) (p : ProblemValue) (before after : Option ChoiceValue) (limit left : ℕ) → IsSought prefers p (replicate 32 0) before after limit left → after ≡ None → HasNoChoice p
+none_sought prefers p before None limit left s e = λ places builds sat.
     let P : Assignment → Type 0 = λ a. IsRuledOut prefers p None a in
     let out : P nothing_fixed = subst P (table_empty p 32) s.ruled_out in
     out places builds sat (λ j b e. absurd (cc (e)))
-none_sought prefers p before (Some c) room left s e = absurd (cc (e))
+none_sought prefers p before (Some c) limit left s e = absurd (cc (e))
 
-pub best_sought : (prefers : Preference) (p : ProblemValue) (before after : Option ChoiceValue) (room left : ℕ) (c : ChoiceValue) → IsSought prefers p (replicate 32 0) before after room left → after ≡ Some c → IsOptimal prefers p c.places c.builds
-best_sought prefers p before None room left c s e = absurd (cc (e))
-best_sought prefers p before (Some d) room left c s e =
+pub best_sought : (prefers : Preference) (p : ProblemValue) (before after : Option ChoiceValue) (limit left : ℕ) (c : ChoiceValue) → IsSought prefers p (replicate 32 0) before after limit left → after ≡ Some c → IsOptimal prefers p c.places c.builds
+best_sought prefers p before None limit left c s e = absurd (cc (e))
+best_sought prefers p before (Some d) limit left c s e =
     let same : d ≡ c = cc (e) in
     let Q : ChoiceValue → Type 0 = λ x. IsOptimal prefers p x.places x.builds in
     let P : Assignment → Type 0 = λ a. IsRuledOut prefers p (Some d.places) a in

@@ -22,7 +22,7 @@ use Rattle.ccr_choice.proofs.TableLaws.{table_set}
 use Rattle.ccr_proof.proofs.Trees.{tree_of_job}
 use Rattle.ccr_index.specs.Rows.{no_build}
 use Rattle.ccr_resolve.specs.Kinds.{kinds_after, kinds_from, repeats_from, kinds_bound}
-use Rattle.ccr_resolve.specs.Room.{newest, TopFits, IsBelowRoom}
+use Rattle.ccr_resolve.specs.NodeBound.{newest, TopFits, IsBelowNodeBound}
 use Rattle.ccr_resolve.specs.Search.{FixesKnown, FoundSatisfies, places_of, free_product, free_kinds, kinds_left, free_sum, free_jobs, OnPath, ReachesTop, IsNeeded, IsNoWorse, IsSearched, Searched}
 use Rattle.ccr_resolve.proofs.Counting.{product_set, product_same, sum_set, sum_same, product_one, product_empty, free_set}
 use Rattle.ccr_resolve.proofs.KindLaws.{marked, AreFresh, marked_kinds, kinds_at, repeats_at, length-kinds, kinds_set, kinds_same, kinds_one, kinds_empty, kinds_whole, kinds_more}
@@ -167,7 +167,7 @@ module _ (prefers : Preference) (p : ProblemValue) where
   PathSoFar table j k n best = ((k ≡ 0) × (n ≡ 0) × (best ≡ None)) ⊎ (ReachesTop prefers p best × (n ≤ free_sum p.jobs (slice_set table j 1) + k))
 
   -- the first k builds of the job have their trees
-  pub record IsLooping (table : List ℕ) (j : ℕ) (before : Option (List ℕ)) (room k : ℕ) (children : Trees) (best : Option ChoiceValue) (left : ℕ) : Type 0 where
+  pub record IsLooping (table : List ℕ) (j : ℕ) (before : Option (List ℕ)) (limit k : ℕ) (children : Trees) (best : Option ChoiceValue) (left : ℕ) : Type 0 where
     pub each : (rest : Trees) → RefuteEach prefers p (places_of best) (assigned p table) j (joined children rest) 0 (take k (builds_at p j)) children
     pub wide : width children ≡ k
     pub fresh : AreFresh p j [] (builds_at p j) (own_marks children)
@@ -176,16 +176,16 @@ module _ (prefers : Preference) (p : ProblemValue) where
     pub shallow : levels_all children < free_jobs table
     pub used : ℕ
     pub counted : count_all children ≤ used
-    pub spent : room ≡ left + (1 + used)
+    pub spent : limit ≡ left + (1 + used)
     pub product : used ≤ k * free_product p.jobs (slice_set table j 1)
     pub kinds : used + marked (own_marks children) ≤ k + marked (own_marks children) * kinds_left p (slice_set table j 1)
     pub path : OnPath prefers p table before → PathSoFar table j k used (places_of best)
 
 module _ (prefers : Preference) (order : IsOrder prefers) (p : ProblemValue) (rules : is_problem p ≡ true) where
   -- ---- the leaves
-  pub leaf_empty : (table : List ℕ) (before : Option ChoiceValue) (room left i : ℕ) → HasNoPlace p (assigned p table) i → FoundSatisfies p before → room ≡ left + 1
-      → IsSearched prefers p table before before room left (empty i)
-  leaf_empty table before room left i none found spent = record {
+  pub leaf_empty : (table : List ℕ) (before : Option ChoiceValue) (limit left i : ℕ) → HasNoPlace p (assigned p table) i → FoundSatisfies p before → limit ≡ left + 1
+      → IsSearched prefers p table before before limit left (empty i)
+  leaf_empty table before limit left i none found spent = record {
     refuted = none;
     kept = no_worse_refl prefers (places_of before);
     satisfies = found;
@@ -201,9 +201,9 @@ module _ (prefers : Preference) (order : IsOrder prefers) (p : ProblemValue) (ru
   path_unbounded table None path h = h
   path_unbounded table (Some x) path h = absurd (let e = path.nothing in cc)
 
-  pub leaf_bounded : (table : List ℕ) (before : Option ChoiceValue) (room left : ℕ) → IsBounded prefers p (places_of before) (assigned p table) → FoundSatisfies p before → room ≡ left + 1
-      → IsSearched prefers p table before before room left bounded
-  leaf_bounded table before room left h found spent = record {
+  pub leaf_bounded : (table : List ℕ) (before : Option ChoiceValue) (limit left : ℕ) → IsBounded prefers p (places_of before) (assigned p table) → FoundSatisfies p before → limit ≡ left + 1
+      → IsSearched prefers p table before before limit left bounded
+  leaf_bounded table before limit left h found spent = record {
     refuted = h;
     kept = no_worse_refl prefers (places_of before);
     satisfies = found;
@@ -220,9 +220,9 @@ module _ (prefers : Preference) (order : IsOrder prefers) (p : ProblemValue) (ru
   unbounded_kept table (Some x) h = λ places worse better.
       h ((bounded_by prefers order p (assigned p table) x).0 (λ best. worse (better_trans prefers order places (best_places prefers p (assigned p table)) x better best)))
 
-  pub leaf_full : (table : List ℕ) (before : Option ChoiceValue) (c : ChoiceValue) (room left : ℕ) → (IsBounded prefers p (places_of before) (assigned p table) → ⊥)
-      → AreBestPlaces prefers p (assigned p table) c.places → Satisfies p c.places c.builds → room ≡ left + 1 → IsSearched prefers p table before (Some c) room left bounded
-  leaf_full table before c room left h best found spent =
+  pub leaf_full : (table : List ℕ) (before : Option ChoiceValue) (c : ChoiceValue) (limit left : ℕ) → (IsBounded prefers p (places_of before) (assigned p table) → ⊥)
+      → AreBestPlaces prefers p (assigned p table) c.places → Satisfies p c.places c.builds → limit ≡ left + 1 → IsSearched prefers p table before (Some c) limit left bounded
+  leaf_full table before c limit left h best found spent =
       let u = best_places prefers p (assigned p table) in
       let is : c.places ≡ u = are_only prefers order p (assigned p table) c.places best in
       let P : List ℕ → Type 0 = λ xs. AreBoundedBy prefers p (assigned p table) xs in
@@ -245,8 +245,8 @@ module _ (prefers : Preference) (order : IsOrder prefers) (p : ProblemValue) (ru
     pub fewer_free : (k : ℕ) → free_jobs (slice_set table j (k + 1)) < free_jobs table
     fewer_free k = free_set table j (k + 1) (λ z. absurd (omega arith)) now.free now.wide
 
-    pub loop_first : (best : Option ChoiceValue) (room left : ℕ) → places_of best ≡ before → FoundSatisfies p best → room ≡ left + 1 → IsLooping prefers p table j before room 0 no_child best left
-    loop_first best room left same found spent =
+    pub loop_first : (best : Option ChoiceValue) (limit left : ℕ) → places_of best ≡ before → FoundSatisfies p best → limit ≡ left + 1 → IsLooping prefers p table j before limit 0 no_child best left
+    loop_first best limit left same found spent =
         let P : Option (List ℕ) → Type 0 = λ x. IsNoWorse prefers x (places_of best) in
         let some = fewer_free 0 in
         record {
@@ -357,9 +357,9 @@ module _ (prefers : Preference) (order : IsOrder prefers) (p : ProblemValue) (ru
     ]
 
     -- the budget ends in a child
-    pub loop_over : (room k : ℕ) (children : Trees) (best : Option ChoiceValue) (left : ℕ) → k < length (builds_at p j) → IsOwn k → IsLooping prefers p table j before room k children best left
-        → IsNeeded prefers p (slice_set table j (k + 1)) (places_of best) (left + 1) → IsNeeded prefers p table before (room + 1)
-    loop_over room k children best left l own loop needed =
+    pub loop_over : (limit k : ℕ) (children : Trees) (best : Option ChoiceValue) (left : ℕ) → k < length (builds_at p j) → IsOwn k → IsLooping prefers p table j before limit k children best left
+        → IsNeeded prefers p (slice_set table j (k + 1)) (places_of best) (left + 1) → IsNeeded prefers p table before (limit + 1)
+    loop_over limit k children best left l own loop needed =
         let m = loop.used in
         let more = marked_one children bounded in
         let kinds = kinds_needed (k + 1) (m + (left + 1)) (own_marks (with_child children bounded)) (omega (arith, l))
@@ -369,7 +369,7 @@ module _ (prefers : Preference) (order : IsOrder prefers) (p : ProblemValue) (ru
         let whole : IsNeeded prefers p table before (1 + (m + (left + 1))) =
         needed_whole (k + 1) (m + (left + 1)) (omega (arith, l)) (child_product k m (left + 1) (places_of best) loop.product needed) kinds
         (λ path. child_path k m (left + 1) (places_of best) (loop.path path) needed path) in
-        let same : 1 + (m + (left + 1)) ≡ room + 1 = omega (arith, loop.spent) in
+        let same : 1 + (m + (left + 1)) ≡ limit + 1 = omega (arith, loop.spent) in
         subst (λ t. IsNeeded prefers p table before t) same whole
 
     -- ---- a child that is the same case as an earlier one
@@ -380,9 +380,9 @@ module _ (prefers : Preference) (order : IsOrder prefers) (p : ProblemValue) (ru
     same_product : (k m : ℕ) → m ≤ k * free_product p.jobs (slice_set table j 1) → m + 1 ≤ (k + 1) * free_product p.jobs (slice_set table j 1)
     same_product k m h = one_more k (free_product p.jobs (slice_set table j 1)) m 1 h (product_one p.jobs (slice_set table j 1))
 
-    pub same_over : (room k : ℕ) (children : Trees) (best : Option ChoiceValue) (left : ℕ) → k < length (builds_at p j) → 0 < k → left ≡ 0 → IsLooping prefers p table j before room k children best left
-        → IsNeeded prefers p table before (room + 1)
-    same_over room k children best left l some none loop =
+    pub same_over : (limit k : ℕ) (children : Trees) (best : Option ChoiceValue) (left : ℕ) → k < length (builds_at p j) → 0 < k → left ≡ 0 → IsLooping prefers p table j before limit k children best left
+        → IsNeeded prefers p table before (limit + 1)
+    same_over limit k children best left l some none loop =
         let m = loop.used in
         let more = marked_one children (same_as 0) in
         let kinds = kinds_needed (k + 1) (m + 1) (own_marks (with_child children (same_as 0))) (omega (arith, l))
@@ -393,17 +393,17 @@ module _ (prefers : Preference) (order : IsOrder prefers) (p : ProblemValue) (ru
         let whole : IsNeeded prefers p table before (1 + (m + 1)) =
         needed_whole (k + 1) (m + 1) (omega (arith, l)) (same_product k m loop.product) kinds
         (λ path. same_few k m (places_of best) (same_path k m (places_of best) some (loop.path path))) in
-        let same : 1 + (m + 1) ≡ room + 1 = omega (arith, loop.spent, none) in
+        let same : 1 + (m + 1) ≡ limit + 1 = omega (arith, loop.spent, none) in
         subst (λ t. IsNeeded prefers p table before t) same whole
       where
         same_few : (k m : ℕ) (o : Option (List ℕ)) → PathSoFar prefers p table j (k + 1) (m + 1) o → m + 1 ≤ free_sum p.jobs (slice_set table j 1) + (k + 1)
         same_few k m o (inl so) = absurd (omega (arith, so.0))
         same_few k m o (inr so) = so.1
 
-    pub same_next : (room k r : ℕ) (children : Trees) (best : Option ChoiceValue) (left left' : ℕ) → k < length (builds_at p j) → 0 < k → left ≡ left' + 1
+    pub same_next : (limit k r : ℕ) (children : Trees) (best : Option ChoiceValue) (left left' : ℕ) → k < length (builds_at p j) → 0 < k → left ≡ left' + 1
         → ((rest : Trees) → IsSameCase p j (joined children rest) k (slice_index_or (builds_at p j) k no_build) r)
-        → IsLooping prefers p table j before room k children best left → IsLooping prefers p table j before room (k + 1) (with_child children (same_as r)) best left'
-    same_next room k r children best left left' l some spent case loop =
+        → IsLooping prefers p table j before limit k children best left → IsLooping prefers p table j before limit (k + 1) (with_child children (same_as r)) best left'
+    same_next limit k r children best left left' l some spent case loop =
         let bs = builds_at p j in
         let b = slice_index_or bs k no_build in
         let m = loop.used in
@@ -432,22 +432,22 @@ module _ (prefers : Preference) (order : IsOrder prefers) (p : ProblemValue) (ru
           path = λ path. same_path k m (places_of best) some (loop.path path);
         }
 
-    pub same_next_node : (room k r : ℕ) (children more : List Node) (best : Option ChoiceValue) (left left' : ℕ) (c : Node) → k < length (builds_at p j) → 0 < k → left ≡ left' + 1
+    pub same_next_node : (limit k r : ℕ) (children more : List Node) (best : Option ChoiceValue) (left left' : ℕ) (c : Node) → k < length (builds_at p j) → 0 < k → left ≡ left' + 1
         → more ≡ children ++ c ∷ [] → tree_of c ≡ same_as r
         → ((rest : Trees) → IsSameCase p j (joined (trees_of children) rest) k (slice_index_or (builds_at p j) k no_build) r)
-        → IsLooping prefers p table j before room k (trees_of children) best left → IsLooping prefers p table j before room (k + 1) (trees_of more) best left'
-    same_next_node room k r children more best left left' c l some spent is same case loop =
-        let P : Trees → Type 0 = λ ts. IsLooping prefers p table j before room (k + 1) ts best left' in
-        subst P (ap (with_child (trees_of children)) (sym same) ∙ trees_more children c ∙ ap trees_of (sym is)) (same_next room k r (trees_of children) best left left' l some spent case loop)
+        → IsLooping prefers p table j before limit k (trees_of children) best left → IsLooping prefers p table j before limit (k + 1) (trees_of more) best left'
+    same_next_node limit k r children more best left left' c l some spent is same case loop =
+        let P : Trees → Type 0 = λ ts. IsLooping prefers p table j before limit (k + 1) ts best left' in
+        subst P (ap (with_child (trees_of children)) (sym same) ∙ trees_more children c ∙ ap trees_of (sym is)) (same_next limit k r (trees_of children) best left left' l some spent case loop)
 
-    path_next : (m k room left : ℕ) (t : Tree) (best best' : Option ChoiceValue) → PathSoFar prefers p table j k m (places_of best) → IsSearched prefers p (slice_set table j (k + 1)) best best' room left t → OnPath prefers p table before → ReachesTop prefers p (places_of best')
-    path_next m k room left t best best' (inl so) searched path = searched.reached (path_first k (places_of best) so.0 so.2 path)
-    path_next m k room left t best best' (inr so) searched path = reach_more prefers p (places_of best) (places_of best') searched.kept so.0
+    path_next : (m k limit left : ℕ) (t : Tree) (best best' : Option ChoiceValue) → PathSoFar prefers p table j k m (places_of best) → IsSearched prefers p (slice_set table j (k + 1)) best best' limit left t → OnPath prefers p table before → ReachesTop prefers p (places_of best')
+    path_next m k limit left t best best' (inl so) searched path = searched.reached (path_first k (places_of best) so.0 so.2 path)
+    path_next m k limit left t best best' (inr so) searched path = reach_more prefers p (places_of best) (places_of best') searched.kept so.0
 
     -- one build more
-    pub loop_next : (room k : ℕ) (children : Trees) (best best' : Option ChoiceValue) (left left' : ℕ) (t : Tree) → k < length (builds_at p j) → IsOwn k
-        → IsLooping prefers p table j before room k children best left → IsSearched prefers p (slice_set table j (k + 1)) best best' left left' t → IsLooping prefers p table j before room (k + 1) (with_child children t) best' left'
-    loop_next room k children best best' left left' t l own loop searched =
+    pub loop_next : (limit k : ℕ) (children : Trees) (best best' : Option ChoiceValue) (left left' : ℕ) (t : Tree) → k < length (builds_at p j) → IsOwn k
+        → IsLooping prefers p table j before limit k children best left → IsSearched prefers p (slice_set table j (k + 1)) best best' left left' t → IsLooping prefers p table j before limit (k + 1) (with_child children t) best' left'
+    loop_next limit k children best best' left left' t l own loop searched =
         let bs = builds_at p j in
         let b = get_or bs k (record { number = 0; pairs = [] }) in
         let m = loop.used in
@@ -483,21 +483,21 @@ module _ (prefers : Preference) (order : IsOrder prefers) (p : ProblemValue) (ru
           path = λ path. inr (path_next m k left left' t best best' (loop.path path) searched path, child_path k m n (places_of best) (loop.path path) searched.needed path);
         }
 
-    pub loop_next_node : (room k : ℕ) (children more : List Node) (best best' : Option ChoiceValue) (left left' : ℕ) (c : Node) → k < length (builds_at p j) → IsOwn k → more ≡ children ++ c ∷ []
-        → IsLooping prefers p table j before room k (trees_of children) best left → IsSearched prefers p (slice_set table j (k + 1)) best best' left left' (tree_of c)
-        → IsLooping prefers p table j before room (k + 1) (trees_of more) best' left'
-    loop_next_node room k children more best best' left left' c l own is loop searched =
-        let P : Trees → Type 0 = λ ts. IsLooping prefers p table j before room (k + 1) ts best' left' in
-        subst P (trees_more children c ∙ ap trees_of (sym is)) (loop_next room k (trees_of children) best best' left left' (tree_of c) l own loop searched)
+    pub loop_next_node : (limit k : ℕ) (children more : List Node) (best best' : Option ChoiceValue) (left left' : ℕ) (c : Node) → k < length (builds_at p j) → IsOwn k → more ≡ children ++ c ∷ []
+        → IsLooping prefers p table j before limit k (trees_of children) best left → IsSearched prefers p (slice_set table j (k + 1)) best best' left left' (tree_of c)
+        → IsLooping prefers p table j before limit (k + 1) (trees_of more) best' left'
+    loop_next_node limit k children more best best' left left' c l own is loop searched =
+        let P : Trees → Type 0 = λ ts. IsLooping prefers p table j before limit (k + 1) ts best' left' in
+        subst P (trees_more children c ∙ ap trees_of (sym is)) (loop_next limit k (trees_of children) best best' left left' (tree_of c) l own loop searched)
 
     -- on the path a job has a build
     end_path : (k m : ℕ) (best : Option (List ℕ)) → 0 < length (builds_at p j) → k ≡ length (builds_at p j) → PathSoFar prefers p table j k m best → OnPath prefers p table before → ReachesTop prefers p best × (m ≤ free_sum p.jobs (slice_set table j 1) + k)
     end_path k m best some e (inl so) path = absurd (omega (arith, some, e, so.0))
     end_path k m best some e (inr so) path = so
 
-    pub loop_end : (room k : ℕ) (children : Trees) (before' best : Option ChoiceValue) (left : ℕ) → places_of before' ≡ before → (OnPath prefers p table before → 0 < length (builds_at p j)) → k ≡ length (builds_at p j)
-        → IsLooping prefers p table j before room k children best left → IsSearched prefers p table before' best room left (job j children)
-    loop_end room k children before' best left same some e loop =
+    pub loop_end : (limit k : ℕ) (children : Trees) (before' best : Option ChoiceValue) (left : ℕ) → places_of before' ≡ before → (OnPath prefers p table before → 0 < length (builds_at p j)) → k ≡ length (builds_at p j)
+        → IsLooping prefers p table j before limit k children best left → IsSearched prefers p table before' best limit left (job j children)
+    loop_end limit k children before' best left same some e loop =
         let bs = builds_at p j in
         let all : take k bs ≡ bs = take_all k bs (omega (arith, e)) in
         let Q : List BuildValue → Type 0 = λ x. RefuteEach prefers p (places_of best) (assigned p table) j children 0 x children in
@@ -521,16 +521,16 @@ module _ (prefers : Preference) (order : IsOrder prefers) (p : ProblemValue) (ru
         free_none bs zero e = refl
         free_none bs (suc k) e = absurd (omega arith)
 
-    pub loop_end_node : (room k : ℕ) (children : Vec Node Global) (before' best : Option ChoiceValue) (left : ℕ) → places_of before' ≡ before → (OnPath prefers p table before → 0 < length (builds_at p j)) → k ≡ length (builds_at p j)
-        → IsLooping prefers p table j before room k (trees_of children.items) best left → IsSearched prefers p table before' best room left (tree_of (Job j children))
-    loop_end_node room k children before' best left same some e loop =
-        let T : Tree → Type 0 = λ t. IsSearched prefers p table before' best room left t in
-        subst T (sym (tree_of_job j children)) (loop_end room k (trees_of children.items) before' best left same some e loop)
+    pub loop_end_node : (limit k : ℕ) (children : Vec Node Global) (before' best : Option ChoiceValue) (left : ℕ) → places_of before' ≡ before → (OnPath prefers p table before → 0 < length (builds_at p j)) → k ≡ length (builds_at p j)
+        → IsLooping prefers p table j before limit k (trees_of children.items) best left → IsSearched prefers p table before' best limit left (tree_of (Job j children))
+    loop_end_node limit k children before' best left same some e loop =
+        let T : Tree → Type 0 = λ t. IsSearched prefers p table before' best limit left t in
+        subst T (sym (tree_of_job j children)) (loop_end limit k (trees_of children.items) before' best left same some e loop)
 
     -- nothing under the table is better than what its first builds led to
-    pub loop_closed : (room k : ℕ) (children : Trees) (before' best : Option ChoiceValue) (left : ℕ) → places_of before' ≡ before → k ≤ length (builds_at p j) → IsBounded prefers p (places_of best) (assigned p table)
-        → IsLooping prefers p table j before room k children best left → IsSearched prefers p table before' best room left bounded
-    loop_closed room k children before' best left same l closed loop =
+    pub loop_closed : (limit k : ℕ) (children : Trees) (before' best : Option ChoiceValue) (left : ℕ) → places_of before' ≡ before → k ≤ length (builds_at p j) → IsBounded prefers p (places_of best) (assigned p table)
+        → IsLooping prefers p table j before limit k children best left → IsSearched prefers p table before' best limit left bounded
+    loop_closed limit k children before' best left same l closed loop =
         let B : Option (List ℕ) → Type 0 = λ x. IsNoWorse prefers x (places_of best) in
         let N : Option (List ℕ) → Type 0 = λ x. IsNeeded prefers p table x (1 + loop.used) in
         let R : Option (List ℕ) → Type 0 = λ x. OnPath prefers p table x → ReachesTop prefers p (places_of best) in
@@ -578,11 +578,11 @@ child_known p table j k known wide within m =
     ]
 
 -- what no tree was given for
-pub none_needed : (prefers : Preference) (p : ProblemValue) (table : List ℕ) (before after : Option ChoiceValue) (room left : ℕ) (o : Option Node) → Searched prefers p table before after room left o → o ≡ None → IsNeeded prefers p table (places_of before) (room + 1)
-none_needed prefers p table before after room left o h e = let P : Option Node → Type 0 = λ x. Searched prefers p table before after room left x in subst P e h
+pub none_needed : (prefers : Preference) (p : ProblemValue) (table : List ℕ) (before after : Option ChoiceValue) (limit left : ℕ) (o : Option Node) → Searched prefers p table before after limit left o → o ≡ None → IsNeeded prefers p table (places_of before) (limit + 1)
+none_needed prefers p table before after limit left o h e = let P : Option Node → Type 0 = λ x. Searched prefers p table before after limit left x in subst P e h
 
-pub some_searched : (prefers : Preference) (p : ProblemValue) (table : List ℕ) (before after : Option ChoiceValue) (room left : ℕ) (o : Option Node) (c : Node) → Searched prefers p table before after room left o → o ≡ Some c → IsSearched prefers p table before after room left (tree_of c)
-some_searched prefers p table before after room left o c h e = let P : Option Node → Type 0 = λ x. Searched prefers p table before after room left x in subst P e h
+pub some_searched : (prefers : Preference) (p : ProblemValue) (table : List ℕ) (before after : Option ChoiceValue) (limit left : ℕ) (o : Option Node) (c : Node) → Searched prefers p table before after limit left o → o ≡ Some c → IsSearched prefers p table before after limit left (tree_of c)
+some_searched prefers p table before after limit left o c h e = let P : Option Node → Type 0 = λ x. Searched prefers p table before after limit left x in subst P e h
 
 pub kinds_root : (p : ProblemValue) (n : ℕ) → kinds_left p (replicate n 0) ≡ kinds_bound p
 kinds_root p n = ap (λ x. (1 + repeats_from p 0 p.jobs) * x) (kinds_empty (kinds_from p 0 p.jobs) n)
@@ -590,9 +590,9 @@ kinds_root p n = ap (λ x. (1 + repeats_from p 0 p.jobs) * x) (kinds_empty (kind
 pub bound_one : (p : ProblemValue) → 1 ≤ kinds_bound p
 bound_one p = let one = kinds_left_one p (replicate 0 0) in let same = kinds_root p 0 in omega (arith, one, same)
 
--- the room is as much, where a place is possible for each input and the best places don't fit the newest builds
+-- the limit is as much, where a place is possible for each input and the best places don't fit the newest builds
 pub room_over_found : (prefers : Preference) (p : ProblemValue) (budget n : ℕ) (best : Option (List ℕ)) → (TopFits prefers p → ⊥) → ((i : ℕ) → HasNoPlace p nothing_fixed i → ⊥)
-    → IsNeeded prefers p (replicate n 0) best (budget + 1) → IsBelowRoom prefers p budget
+    → IsNeeded prefers p (replicate n 0) best (budget + 1) → IsBelowNodeBound prefers p budget
 room_over_found prefers p budget n best fits some needed = record {
   product = (let h = needed.product in omega (arith, h, product_empty p.jobs n));
   kinds = (let same = kinds_root p n in let h = needed.kinds in omega (arith, h, same));
@@ -601,14 +601,14 @@ room_over_found prefers p budget n best fits some needed = record {
 }
 
 -- what was found in the end
-pub found_in : (prefers : Preference) (p : ProblemValue) (table : List ℕ) (before after : Option ChoiceValue) (room left : ℕ) (o : Option Node) (c : Node) (choice : ChoiceValue)
-    → Searched prefers p table before after room left o → o ≡ Some c → after ≡ Some choice → IsSearched prefers p table before (Some choice) room left (tree_of c)
-found_in prefers p table before after room left o c choice h e f =
-    let P : Option ChoiceValue → Type 0 = λ x. IsSearched prefers p table before x room left (tree_of c) in
-    subst P f (some_searched prefers p table before after room left o c h e)
+pub found_in : (prefers : Preference) (p : ProblemValue) (table : List ℕ) (before after : Option ChoiceValue) (limit left : ℕ) (o : Option Node) (c : Node) (choice : ChoiceValue)
+    → Searched prefers p table before after limit left o → o ≡ Some c → after ≡ Some choice → IsSearched prefers p table before (Some choice) limit left (tree_of c)
+found_in prefers p table before after limit left o c choice h e f =
+    let P : Option ChoiceValue → Type 0 = λ x. IsSearched prefers p table before x limit left (tree_of c) in
+    subst P f (some_searched prefers p table before after limit left o c h e)
 
-pub none_found : (prefers : Preference) (p : ProblemValue) (table : List ℕ) (before after : Option ChoiceValue) (room left : ℕ) (o : Option Node) (c : Node)
-    → Searched prefers p table before after room left o → o ≡ Some c → after ≡ None → IsSearched prefers p table before None room left (tree_of c)
-none_found prefers p table before after room left o c h e f =
-    let P : Option ChoiceValue → Type 0 = λ x. IsSearched prefers p table before x room left (tree_of c) in
-    subst P f (some_searched prefers p table before after room left o c h e)
+pub none_found : (prefers : Preference) (p : ProblemValue) (table : List ℕ) (before after : Option ChoiceValue) (limit left : ℕ) (o : Option Node) (c : Node)
+    → Searched prefers p table before after limit left o → o ≡ Some c → after ≡ None → IsSearched prefers p table before None limit left (tree_of c)
+none_found prefers p table before after limit left o c h e f =
+    let P : Option ChoiceValue → Type 0 = λ x. IsSearched prefers p table before x limit left (tree_of c) in
+    subst P f (some_searched prefers p table before after limit left o c h e)

@@ -14,7 +14,7 @@ use Rattle.ccr_choice.proofs.Orders.{is_order}
 use Rattle.ccr_choice.proofs.PossibleLaws.{are_only, bounded_by, best_place_is, best_places_at}
 use Rattle.ccr_proof.specs.Refutes.{HasNoPlace}
 use Rattle.ccr_index.proofs.BestLaws.{best_some, best_zero}
-use Rattle.ccr_resolve.specs.Room.{TopFits}
+use Rattle.ccr_resolve.specs.NodeBound.{TopFits}
 use Rattle.ccr_resolve.specs.Search.{AreUpper, IsFull, IsNewest, IsTopChoice, OnPath}
 use Rattle.ccr_resolve.proofs.FullLaws.{full_satisfies}
 use Rattle.ccr_resolve.proofs.Path.{better_irreflexive, known_of, path_possible, possible_free}

@@ -85,7 +85,7 @@ walk_less bs pair last next build list old most so some e is =
 
 pub walk_next : (bs : List BuildValue) (pair : ℕ × ℕ) (last next build : ℕ) (list list' old : List ℕ) (most : ℕ) → IsWalked bs pair last list old most → last ≢ 0 → build ≡ length bs - last
     → next ≡ last_with (drop (build + 1) bs) pair → list' ≡ list ++ build ∷ [] → length list < most → IsWalked bs pair next list' old most
-walk_next bs pair last next build list list' old most so some e is pushed room =
+walk_next bs pair last next build list list' old most so some e is pushed below =
     let inside = walk_inside bs pair last build list old most so some e in
     let low = step_low bs pair build next inside is in
     let P : List ℕ → Type 0 = λ xs. IsWalked bs pair next xs old most in
@@ -102,7 +102,7 @@ walk_next bs pair last next build list list' old most so some e is pushed room =
         ]
       ];
       within = All-append (λ k. k < length bs) list (build ∷ []) so.within (All-cons (λ k. k < length bs) build [] inside (All-nil (λ k. k < length bs)));
-      few = omega (arith, room, length-append list (build ∷ []));
+      few = omega (arith, below, length-append list (build ∷ []));
       kept = λ k h. Contains-append_left list (build ∷ []) k (so.kept k h);
     })
 

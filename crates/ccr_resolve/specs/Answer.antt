@@ -10,7 +10,7 @@ use Rattle.ccr_proof.specs.declared.proof.Proof.{Proof}
 use Rattle.ccr_resolve.specs.declared.answer.Answer.{Answer}
 use Rattle.ccr_resolve.specs.declared.answer.Answer.TheVariants.{Best, Nothing, OverBudget}
 use Rattle.ccr_resolve.specs.Kinds.{kinds_bound}
-use Rattle.ccr_resolve.specs.Room.{IsBelowRoom}
+use Rattle.ccr_resolve.specs.NodeBound.{IsBelowNodeBound}
 
 -- A proof that may be given for a problem within a budget: it is accepted, its claim is right, and it has at most so
 -- many nodes, and no more than where builds that the inputs see as one are gone into once.
@@ -21,9 +21,9 @@ pub record IsWithin (prefers : Preference) (p : ProblemValue) (budget : ℕ) (pr
   pub few_kinds : count (tree_of proof.tree) ≤ kinds_bound p
 
 -- An answer of the best choice, or of none, has such a proof of its claim; over budget names the budget, which is below
--- the room.
+-- the node bound.
 abbrev pub IsAnswer : Preference → ProblemValue → ℕ → Answer → Type 0
 IsAnswer prefers p budget (Best proof) =
     ((c : ChoiceValue) × (proof.claim ≡ claim.Best c)) × IsWithin prefers p budget proof
 IsAnswer prefers p budget (Nothing proof) = (proof.claim ≡ claim.Nothing) × IsWithin prefers p budget proof
-IsAnswer prefers p budget (OverBudget n) = (n ≡ budget) × IsBelowRoom prefers p budget
+IsAnswer prefers p budget (OverBudget n) = (n ≡ budget) × IsBelowNodeBound prefers p budget

@@ -1,5 +1,5 @@
 pub mod Kinds
-pub mod Room
+pub mod NodeBound
 pub mod Answer
 pub mod Cases
 pub mod Search

@@ -10,7 +10,7 @@ use Rattle.ccr_proof.specs.Tree.{Tree, tree_of, count, levels}
 use Rattle.ccr_proof.specs.Refutes.{HasNoPlace, IsBounded, Refutes}
 use Rattle.ccr_choice.specs.Table.{assigned}
 use Rattle.ccr_resolve.specs.Kinds.{kinds_from, repeats_from}
-use Rattle.ccr_resolve.specs.Room.{TopFits}
+use Rattle.ccr_resolve.specs.NodeBound.{TopFits}
 
 -- the number of a fixed build, 0 where none is fixed
 abbrev pub number_or_0 : Option BuildValue → ℕ
@@ -95,23 +95,23 @@ IsNoWorse prefers (Some before) (Some found) =
 
 -- A tree that refutes the table under what was found in the end, with its nodes counted.
 pub record IsSearched (prefers : Preference) (p : ProblemValue) (table : List ℕ) (before after : Option ChoiceValue)
-    (room left : ℕ) (tree : Tree) : Type 0 where
+    (limit left : ℕ) (tree : Tree) : Type 0 where
   pub refuted : Refutes prefers p (places_of after) (assigned p table) tree
   pub kept : IsNoWorse prefers (places_of before) (places_of after)
   pub satisfies : FoundSatisfies p after
   pub shallow : levels tree ≤ free_jobs table
   pub used : ℕ
   pub counted : count tree ≤ used
-  pub spent : room ≡ left + used
+  pub spent : limit ≡ left + used
   pub needed : IsNeeded prefers p table (places_of before) used
   pub reached : OnPath prefers p table (places_of before) → ReachesTop prefers p (places_of after)
 
--- No tree is given only where the room is less than what the table may need.
+-- No tree is given only where the limit is less than what the table may need.
 abbrev pub Searched : Preference → ProblemValue → List ℕ → Option ChoiceValue → Option ChoiceValue → ℕ → ℕ
     → Option Node → Type 0
-Searched prefers p table before after room left None = IsNeeded prefers p table (places_of before) (room + 1)
-Searched prefers p table before after room left (Some node) =
-    IsSearched prefers p table before after room left (tree_of node)
+Searched prefers p table before after limit left None = IsNeeded prefers p table (places_of before) (limit + 1)
+Searched prefers p table before after limit left (Some node) =
+    IsSearched prefers p table before after limit left (tree_of node)
 
 -- ---- best places that are handed down
 -- For each input the best place, in a row that may be longer.

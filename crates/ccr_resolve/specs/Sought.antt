@@ -20,18 +20,18 @@ IsRuledOut prefers p (Some best) a =
 -- Whatever agrees with the table is ruled out by what was found in the end, and no more boxes were looked at than the table
 -- may need.
 pub record IsSought (prefers : Preference) (p : ProblemValue) (table : List ℕ) (before after : Option ChoiceValue)
-    (room left : ℕ) : Type 0 where
+    (limit left : ℕ) : Type 0 where
   pub ruled_out : IsRuledOut prefers p (places_of after) (assigned p table)
   pub kept : IsNoWorse prefers (places_of before) (places_of after)
   pub satisfies : FoundSatisfies p after
   pub used : ℕ
-  pub spent : room ≡ left + used
+  pub spent : limit ≡ left + used
   pub few : used ≤ free_kinds (kinds_from p 0 p.jobs) table
 
--- The search is over only where the room is less than what the table may need.
+-- The search is over only where the limit is less than what the table may need.
 abbrev pub Sought : Preference → ProblemValue → List ℕ → Option ChoiceValue → Option ChoiceValue → ℕ → ℕ → Bool → Type 0
-Sought prefers p table before after room left true = room + 1 ≤ free_kinds (kinds_from p 0 p.jobs) table
-Sought prefers p table before after room left false = IsSought prefers p table before after room left
+Sought prefers p table before after limit left true = limit + 1 ≤ free_kinds (kinds_from p 0 p.jobs) table
+Sought prefers p table before after limit left false = IsSought prefers p table before after limit left
 
 -- ---- the builds of a job that are gone into
 -- No number stands twice.

@@ -2,7 +2,7 @@
 //!
 //! [`resolve`] answers the best choice that satisfies a problem, or that none does, with a proof of at most `budget`
 //! nodes that the checker accepts; or that the budget is over, which it says only where the budget is below what the
-//! problem may need (`specs/Room.antt`). It takes what is possible from the problem's index. [`resolve_indexed`] is the
+//! problem may need (`specs/NodeBound.antt`). It takes what is possible from the problem's index. [`resolve_indexed`] is the
 //! same over the index alone, which stands for its problem.
 //!
 //! It looks for a good choice first. Then it goes down the jobs with a bound that only rises: it splits the job that

@@ -6,7 +6,7 @@ ghost use Rattle.ccr_choice.specs.Preference.{order_of};
 ghost use Rattle.ccr_choice.specs.Assignment.{nothing_fixed};
 ghost use Rattle.ccr_choice.specs.Table.{assigned};
 ghost use Rattle.ccr_proof.specs.Refutes.{HasNoPlace};
-ghost use Rattle.ccr_resolve.specs.Room.{TopFits};
+ghost use Rattle.ccr_resolve.specs.NodeBound.{TopFits};
 ghost use Rattle.ccr_resolve.specs.Search.{AreUpper, IsNewest, IsTopChoice};
 
 use crate::choice::full_choice;

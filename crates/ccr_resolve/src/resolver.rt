@@ -16,7 +16,7 @@ use std::alloc::{AllocError, Global};
 
 /// The best choice that satisfies a problem, or that none does, rightly so, with a proof that is accepted and has at
 /// most `budget` nodes, from 1 to 1,000,000; or that the budget is over, only where it is below both bounds of the problem.
-/// The index is that of the problem. The only error is want of memory.
+/// The index is that of the problem. The only error is out of memory.
 ///
 /// An index stands for its problem, so whoever holds one alone calls [`resolve_indexed`].
 pub fn resolve(
@@ -35,8 +35,8 @@ pub fn resolve(
 }
 
 /// The best choice that satisfies the problem of an index, or that none does, rightly so, with a proof that is accepted
-/// and has at most `budget` nodes, from 1 to 1,000,000; or that the budget is over, only where it is below the room of
-/// the problem. The only error is want of memory.
+/// and has at most `budget` nodes, from 1 to 1,000,000; or that the budget is over, only where it is below the node bound of
+/// the problem. The only error is out of memory.
 ///
 /// Its work grows with what has to be refuted. Where the newest builds have the best places, or an input has no place,
 /// that is one node, whatever the number of builds ever made.

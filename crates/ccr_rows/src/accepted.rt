@@ -6,7 +6,7 @@ ghost use Rattle.ccr_proof.specs.declared.claim.Claim.{Claim};
 ghost use Rattle.ccr_proof.specs.Refutes.{IsAccepted};
 ghost use Rattle.ccr_proof.specs.Right.{IsRight};
 ghost use Rattle.ccr_proof.specs.Tree.{tree_of};
-ghost use Rattle.ccr_resolve.specs.Room.{IsBelowRoom};
+ghost use Rattle.ccr_resolve.specs.NodeBound.{IsBelowNodeBound};
 ghost use Rattle.ccr_check.specs.Judged.{accepted_line};
 
 use ccr_check::judge;
@@ -30,7 +30,7 @@ fn judged(alloc: Global, problem: &Problem, proof: &Proof) -> Result<(String, u8
 
 /// What the checker says of the text of a problem that is followed by the text of the resolver's proof: `accepted `,
 /// the line of a claim that is right, and status 0. None where the budget, from 1 to 1,000,000 nodes, is over; it is
-/// then below the room.
+/// then below the node bound.
 ///
 /// This follows from what [`build_index`], [`resolve`], [`write_problem`], [`write_proof`] and [`judge`] promise, and from
 /// nothing else.
@@ -41,7 +41,7 @@ pub fn resolved(
 ) -> Result<Option<(String, u8)>, AllocError>
     requires least { 1 ≤ budget }
     requires most { budget ≤ MOST_NODES }
-    ensures { IfOk result (λ told. MatchOption told (IsBelowRoom (order_of problem.now) problem.now budget)
+    ensures { IfOk result (λ told. MatchOption told (IsBelowNodeBound (order_of problem.now) problem.now budget)
         (λ x. (c : Claim) × IsRight (order_of problem.now) problem.now c
         × (string_bytes x.0 ≡ accepted_line c) × (x.1 ≡ 0))) }
 {

@@ -129,7 +129,7 @@ fn add_next(index: &mut Index, problem: &Problem, row: usize) -> Result<bool, Al
 }
 
 /// Whether an index that begins without places and builds, and gets those of a problem in an order of chance, is in the end as the
-/// one that is made at once. A refused growth is tried again, once the index has been compared with a twin.
+/// one that is made at once. A refused allocation is tried again, once the index has been compared with a twin.
 pub(crate) fn grows_the_same(
     alloc: Global,
     problem: &Problem,

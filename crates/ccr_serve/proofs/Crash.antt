@@ -7,7 +7,7 @@ use Rattle.ccr_history.specs.declared.change.Edit.{Edit}
 use Rattle.ccr_core.specs.declared.reply.Reply.{Reply}
 use Rattle.ccr_core.specs.Events.{EventData}
 use Rattle.ccr_core.specs.Going.{Changes}
-use Rattle.ccr_core.specs.Holding.{CoreData, Stands, Takes}
+use Rattle.ccr_core.specs.Holding.{CoreData, Stands, TakesStep}
 use Rattle.ccr_core.specs.State.{State}
 use Rattle.ccr_serve.specs.Crash.{IsTorn, LeavesAt}
 use Rattle.ccr_serve.specs.Views.{View, IsReady}
@@ -25,7 +25,7 @@ stored P before after es change same changes left =
     subst P made.1 (left made.0)
 
 -- a server whose storage failed at an event that the core took
-pub torn : (leaves : List HistoryData → Type 0) (old new : CoreData) (e : EventData) (r : Reply) → Takes old new e (Ok r)
+pub torn : (leaves : List HistoryData → Type 0) (old new : CoreData) (e : EventData) (r : Reply) → TakesStep old new e (Ok r)
     → leaves (new.history ∷ old.history ∷ []) → (s : State) → Stands old s → IsTorn leaves s
 torn leaves old new e r takes left s is =
     let step = takes s is in record {

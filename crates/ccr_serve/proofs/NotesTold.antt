@@ -4,7 +4,7 @@ use Rattle.std.specs.declared.alloc.Global.{Global}
 use Rattle.ccr_history.specs.Text.{Text}
 use Rattle.ccr_core.specs.declared.reply.Reply.{Reply}
 use Rattle.ccr_core.specs.Events.{EventData}
-use Rattle.ccr_core.specs.Holding.{CoreData, Takes}
+use Rattle.ccr_core.specs.Holding.{CoreData, TakesStep}
 use Rattle.ccr_task.specs.declared.said.StepFault.{StepFault}
 use Rattle.ccr_serve.specs.Noted.{NotesOf, IsFaultOf}
 
@@ -19,7 +19,7 @@ notes_by None IsIt fault old new is (inr (text, f, made, has, told)) = absurd (c
 
 -- the core took the answer
 pub fault_own : (c after : CoreData) (e : EventData) (reply : Reply) (own told : Option StepFault) → told ≡ own
-    → Takes c after e (Ok reply) → IsFaultOf c e own told
+    → TakesStep c after e (Ok reply) → IsFaultOf c e own told
 fault_own c after e reply own told same takes = inl (same, reply, after, takes)
 
 -- ---- results

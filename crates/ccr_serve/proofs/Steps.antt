@@ -131,7 +131,7 @@ pub item_begun : (places : PlacesData) (i : Item) (v : View) (calls : List CallD
     → MayBegin (Items (Serves places) (i ∷ [])) v calls lost
 item_begun places i v calls lost begins s is = ([], i ∷ [], refl, world_of v s, refl, inr (begins s is))
 
--- ---- stopped by want of memory, or by a failure of the storage
+-- ---- stopped where memory ran out, or by a failure of the storage
 pub stands_back : (closed : Bool) (v new : View) (s : State) (calls : List CallData) (lost : Option Pair)
     → Stands new.core s → new.last ≡ v.last → StandsAt false closed (begun_at v s calls lost) new
 stands_back true v new s calls lost is last = tt

@@ -15,7 +15,7 @@ use Rattle.ccr_task.specs.declared.said.StepFault.TheVariants.{TableFull, Aborte
 use Rattle.ccr_core.specs.declared.fault.CoreFault.TheVariants as core_fault
 use Rattle.ccr_core.specs.declared.reply.Reply.{Reply}
 use Rattle.ccr_core.specs.Events.{EventData, answer}
-use Rattle.ccr_core.specs.Holding.{CoreData, Takes, Wants, step_in}
+use Rattle.ccr_core.specs.Holding.{CoreData, TakesStep, Wants, step_in}
 use Rattle.ccr_lines.specs.Noted.{IsNoted}
 use Rattle.ccr_serve.specs.Aborts.{AbortIsAsked}
 use Rattle.ccr_serve.specs.Due.{IsDue, AnswersWant}
@@ -49,8 +49,8 @@ NotesOf IsIt fault old new =
 -- the core refused it so
 abbrev pub IsFaultOf : CoreData → EventData → Option StepFault → Option StepFault → Type 0
 IsFaultOf c e own told =
-    ((told ≡ own) × (reply : Reply) × (after : CoreData) × Takes c after e (Ok reply))
-    ⊎ ((told ≡ Some TableFull) × Takes c c e (Err core_fault.TableFull))
+    ((told ≡ own) × (reply : Reply) × (after : CoreData) × TakesStep c after e (Ok reply))
+    ⊎ ((told ≡ Some TableFull) × TakesStep c c e (Err core_fault.TableFull))
 
 -- what is told of an answer to what the job's build of this number wants, with the runner's pairs and the shelf's calls before
 -- and after it

@@ -11,7 +11,7 @@ use Rattle.ccr_task.specs.declared.shelf.Shelf as shelf
 use Rattle.ccr_core.specs.declared.fault.CoreFault.TheVariants as core_fault
 use Rattle.ccr_core.specs.Cores.{core_data}
 use Rattle.ccr_core.specs.Events.{EventData}
-use Rattle.ccr_core.specs.Holding.{CoreData, Stands, Takes}
+use Rattle.ccr_core.specs.Holding.{CoreData, Stands, TakesStep}
 use Rattle.ccr_core.specs.Replies.{Replied}
 use Rattle.ccr_core.specs.State.{State, no_pipeline}
 use Rattle.ccr_lines.specs.declared.lines.Lines as out
@@ -148,7 +148,7 @@ pub record Calls (part : Part) (old : View) (whole : Bool) (new : View) : Type 0
 abbrev pub IsFailed : StoreFault → View → Type 0
 IsFailed f v = (v.closed ≡ true) × (v.tally.fault ≡ Some f)
 
--- why a call of items ends early, of a server that had closed before or not: a growth of memory was refused, and the server
+-- why a call of items ends early, of a server that had closed before or not: memory ran out, and the server
 -- goes on; its storage failed so, and it has closed; or it had closed before
 abbrev pub StopsItem : Bool → ServeFault → View → Type 0
 StopsItem closed NoMemory v = IsReady v
@@ -199,7 +199,7 @@ pub record IsElse (old new : View) : Type 0 where
 -- an event was made: the core took it, and a commit stored what it changed; or it refused it, for another cause than
 -- memory, stayed as it was, and there was no commit
 pub record Made (e : EventData) (r : Replied) (old new : View) : Type 0 where
-  pub takes : Takes old.core new.core e r
+  pub takes : TakesStep old.core new.core e r
   pub refused : OnErr r (new.core ≡ old.core)
   pub found_memory : r ≢ Err core_fault.NoMemory
   pub ready : IsReady new

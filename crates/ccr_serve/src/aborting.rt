@@ -12,7 +12,7 @@ ghost use Rattle.ccr_serve.specs.Views.{IsReady, Made, Unmade, bare_view, Commit
 ghost use Rattle.ccr_serve.specs.Served.{ServingLooked, AfterItems};
 
 use crate::due::Due;
-use crate::ended::{clear_away, tell_ended};
+use crate::ended::{clear_away, print_ended};
 use crate::fault::ServeFault;
 use crate::notes::{tell_fault, waiting_head};
 use crate::server::Server;
@@ -89,7 +89,7 @@ impl<R: Runner, S: Shelf, T: Storage> Server<R, S, T> {
             Ok(reply) => {
                 self.last = due.rank;
                 tell_fault(self.alloc, out, &head, &Some(StepFault::Aborted));
-                tell_ended(out, job, due.number, reply);
+                print_ended(out, job, due.number, reply);
                 clear_away(
                     self.alloc,
                     &mut self.shelf,

@@ -7,7 +7,7 @@ use crate::fault::ServeFault;
 use crate::items::{begin, line_room};
 use crate::server::Server;
 use ccr_core::Event;
-use ccr_lines::{Lines, tell_disabled, tell_enabled};
+use ccr_lines::{Lines, print_disabled, print_enabled};
 use ccr_process::Runner;
 use ccr_storage::Storage;
 use ccr_task::Shelf;
@@ -30,7 +30,7 @@ impl<R: Runner, S: Shelf, T: Storage> Server<R, S, T> {
         };
         match self.make(Event::Disable(copy, place)) {
             Ok(Ok(_)) => {
-                tell_disabled(out, name, place);
+                print_disabled(out, name, place);
                 out.hand_out();
                 Ok(0)
             }
@@ -56,7 +56,7 @@ impl<R: Runner, S: Shelf, T: Storage> Server<R, S, T> {
         };
         match self.make(Event::Enable(copy, place)) {
             Ok(Ok(_)) => {
-                tell_enabled(out, name, place);
+                print_enabled(out, name, place);
                 out.hand_out();
                 Ok(0)
             }

@@ -10,12 +10,12 @@ ghost use Rattle.ccr_serve.specs.Aborts.{Clears};
 
 use crate::aborting::take_abort;
 use ccr_core::Reply;
-use ccr_lines::{Lines, tell_end};
+use ccr_lines::{Lines, print_end};
 use ccr_task::{Places, Shelf, ShelfFault};
 use std::alloc::Global;
 
 /// Writes the line of a build that ended.
-pub(crate) fn tell_ended<O: Lines>(out: &mut O, job: &str, number: u32, reply: Reply)
+pub(crate) fn print_ended<O: Lines>(out: &mut O, job: &str, number: u32, reply: Reply)
     requires { length job.now + 64 ≤ O.room out.old }
     ensures answered { (turn : ℕ) (x : AnswerData) (h : HistoryData)
         → O.written out.new ≡ O.written out.old ++ lines_of (answer job.now number turn x) (Ok reply) h }
@@ -25,7 +25,7 @@ pub(crate) fn tell_ended<O: Lines>(out: &mut O, job: &str, number: u32, reply: R
     ensures waiting { O.waiting out.old ≡ [] → O.waiting out.new ≡ [] }
 {
     if let Reply::Ends(outcome) = reply {
-        tell_end(out, job, number, outcome);
+        print_end(out, job, number, outcome);
         out.hand_out();
     }
 }

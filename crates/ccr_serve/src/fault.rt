@@ -17,7 +17,7 @@ pub enum ServeFault {
     File,
     /// A pin's text is no JSON object of texts.
     BadPin,
-    /// A growth of memory was refused.
+    /// Out of memory.
     NoMemory,
     /// The storage failed at an earlier call.
     Closed,

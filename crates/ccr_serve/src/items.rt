@@ -23,7 +23,7 @@ use crate::found::{Found, find};
 use crate::server::Server;
 use ccr_core::{Core, CoreFault, Event, Reply};
 use ccr_history::History;
-use ccr_lines::{Lines, tell_cause, tell_full, tell_job, tell_new, tell_refused_job};
+use ccr_lines::{Lines, print_cause, print_full, print_job, print_new, print_refused_job};
 use ccr_process::Runner;
 use ccr_storage::Storage;
 use ccr_task::{Places, Shelf};
@@ -93,15 +93,15 @@ fn find_named<R: Runner, S: Shelf>(
 }
 
 /// Writes the lines of a check's event.
-fn tell_checked<O: Lines>(out: &mut O, resource: &str, replied: &Result<Reply, CoreFault>)
+fn print_checked<O: Lines>(out: &mut O, resource: &str, replied: &Result<Reply, CoreFault>)
     requires { length resource.now + 64 ≤ O.room out.old }
     ensures told { (vs : List TextMap) (h : HistoryData)
         → O.written out.new ≡ O.written out.old ++ lines_of (event.checked resource.now vs) replied.now h }
     ensures shown { O.waiting out.new ≡ [] }
 {
     match replied {
-        Ok(Reply::New(new)) => tell_new(out, resource, *new),
-        Err(CoreFault::TableFull) => tell_full(out, resource),
+        Ok(Reply::New(new)) => print_new(out, resource, *new),
+        Err(CoreFault::TableFull) => print_full(out, resource),
         Ok(
             Reply::Set
             | Reply::Made(_)
@@ -133,7 +133,7 @@ fn tell_checked<O: Lines>(out: &mut O, resource: &str, replied: &Result<Reply, C
 }
 
 /// Writes the lines of a schedule's event.
-fn tell_scheduled<O: Lines>(
+fn print_scheduled<O: Lines>(
     out: &mut O,
     job: &str,
     replied: Result<Reply, CoreFault>,
@@ -144,8 +144,8 @@ fn tell_scheduled<O: Lines>(
     ensures shown { O.waiting out.new ≡ [] }
 {
     match replied {
-        Ok(reply) => tell_job(out, job, reply, history),
-        Err(fault) => tell_refused_job(out, job, fault),
+        Ok(reply) => print_job(out, job, reply, history),
+        Err(fault) => print_refused_job(out, job, fault),
     }
     out.hand_out();
 }
@@ -180,13 +180,13 @@ impl<R: Runner, S: Shelf, T: Storage> Server<R, S, T> {
         match found {
             Found::Versions(versions) => match self.make(Event::Checked(copy, versions)) {
                 Ok(replied) => {
-                    tell_checked(out, name, &replied);
+                    print_checked(out, name, &replied);
                     Ok(replied.is_ok())
                 }
                 Err(fault) => Err(fault),
             },
             Found::Nothing(cause) => {
-                tell_cause(out, name, cause);
+                print_cause(out, name, cause);
                 out.hand_out();
                 Ok(false)
             }
@@ -209,7 +209,7 @@ impl<R: Runner, S: Shelf, T: Storage> Server<R, S, T> {
         };
         match self.make(Event::Schedule(copy)) {
             Ok(replied) => {
-                tell_scheduled(out, name, replied, self.core.history());
+                print_scheduled(out, name, replied, self.core.history());
                 Ok(())
             }
             Err(fault) => Err(fault),

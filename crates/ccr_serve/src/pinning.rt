@@ -7,7 +7,7 @@ use crate::fault::ServeFault;
 use crate::items::{begin, line_room};
 use crate::server::Server;
 use ccr_core::Event;
-use ccr_lines::{Lines, pin_of, resource_held, tell_pinned, tell_unpinned};
+use ccr_lines::{Lines, pin_of, print_pinned, print_unpinned, resource_held};
 use ccr_process::Runner;
 use ccr_storage::Storage;
 use ccr_task::Shelf;
@@ -39,7 +39,7 @@ impl<R: Runner, S: Shelf, T: Storage> Server<R, S, T> {
         };
         match self.make(Event::Pin(copy, pin)) {
             Ok(Ok(_)) => {
-                tell_pinned(out, name);
+                print_pinned(out, name);
                 out.hand_out();
                 Ok(0)
             }
@@ -64,7 +64,7 @@ impl<R: Runner, S: Shelf, T: Storage> Server<R, S, T> {
         };
         match self.make(Event::Unpin(copy)) {
             Ok(Ok(_)) => {
-                tell_unpinned(out, name);
+                print_unpinned(out, name);
                 out.hand_out();
                 Ok(0)
             }

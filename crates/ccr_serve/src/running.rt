@@ -10,7 +10,7 @@ use crate::items::{begin, job_room};
 use crate::server::Server;
 use ccr_core::{CoreFault, Event, Reply};
 use ccr_history::{BuildRef, History, Status};
-use ccr_lines::{Lines, tell_job};
+use ccr_lines::{Lines, print_job};
 use ccr_process::Runner;
 use ccr_storage::Storage;
 use ccr_task::Shelf;
@@ -69,7 +69,7 @@ impl<R: Runner, S: Shelf, T: Storage> Server<R, S, T> {
         match self.make(Event::Trigger(copy)) {
             Ok(replied) => match replied {
                 Ok(reply) => {
-                    tell_job(out, job, reply, self.core.history());
+                    print_job(out, job, reply, self.core.history());
                     out.hand_out();
                     Ok(reply)
                 }

@@ -17,7 +17,7 @@ ghost use Rattle.ccr_serve.specs.Served.{Came, AfterCommand};
 use crate::fault::ServeFault;
 use crate::server::Server;
 use ccr_core::{Core, Event};
-use ccr_lines::{Lines, pipeline_room, tell_pipeline};
+use ccr_lines::{Lines, pipeline_room, print_pipeline};
 use ccr_pipeline::{Pipeline, ReadFault, read};
 use ccr_process::Runner;
 use ccr_storage::Storage;
@@ -70,14 +70,14 @@ fn make_pipeline_room<O: Lines>(pipeline: &Pipeline, out: &mut O) -> Result<(), 
 }
 
 /// Writes the lines of the pipeline that was set.
-fn tell_set<O: Lines>(out: &mut O, core: &Core)
+fn print_set<O: Lines>(out: &mut O, core: &Core)
     requires { IsSomeAnd (core_data core.now).pipeline (λ p. lines_room p ≤ O.room out.old) }
     ensures told { O.written out.new ≡ O.written out.old
         ++ pipeline_lines (unwrap_or (core_data core.now).pipeline no_pipeline) }
     ensures shown { O.waiting out.new ≡ [] }
 {
     if let Some(pipeline) = core.pipeline() {
-        tell_pipeline(out, pipeline);
+        print_pipeline(out, pipeline);
     }
     out.hand_out();
 }
@@ -106,7 +106,7 @@ impl<R: Runner, S: Shelf, T: Storage> Server<R, S, T> {
         self.core.rules();
         match self.make(Event::SetPipeline(pipeline)) {
             Ok(Ok(_)) => {
-                tell_set(out, &self.core);
+                print_set(out, &self.core);
                 Ok(0)
             }
             Ok(Err(fault)) => Err(ServeFault::Core(fault)),

@@ -16,7 +16,7 @@ ghost use Rattle.ccr_serve.specs.Served.{Serving, ServingLooked, AfterItems};
 
 use crate::aborting::take_abort;
 use crate::due::{Due, due_build};
-use crate::ended::{clear_away, tell_ended};
+use crate::ended::{clear_away, print_ended};
 use crate::fault::ServeFault;
 use crate::items::{begin, line_room};
 use crate::notes::{asking_head, tell_fault};
@@ -146,7 +146,7 @@ impl<R: Runner, S: Shelf, T: Storage> Server<R, S, T> {
             Ok(reply) => {
                 self.last = due.rank;
                 tell_fault(self.alloc, out, &head, &fault);
-                tell_ended(out, job, due.number, reply);
+                print_ended(out, job, due.number, reply);
                 clear_away(
                     self.alloc,
                     &mut self.shelf,

@@ -12,7 +12,7 @@ use Rattle.ccr_history.specs.Tables.{ScopeData, versions_of}
 use Rattle.ccr_history.specs.Builds.{UsedData, BuildData, new_build, count_of, with_build, with_end, with_moved}
 use Rattle.ccr_history.specs.Pairs.{has_pair, without_pair}
 use Rattle.ccr_history.specs.History.{HistoryData, IsHistory, IsBuild}
-use Rattle.ccr_history.specs.Changes.{EditData, text, versions, build, ended, pin_set, pin_cleared, disabled, enabled, edited, changed, Takes, TakesAll, IsRunning}
+use Rattle.ccr_history.specs.Changes.{EditData, text, versions, build, ended, pin_set, pin_cleared, disabled, enabled, edited, changed, Admits, AdmitsAll, IsRunning}
 use Rattle.ccr_history.proofs.ChangeLaws.{kept}
 use Rattle.sqlite.specs.Tree.{Trees}
 use Rattle.ccr_tables.specs.Contents.{Contents, Keeps}
@@ -174,7 +174,7 @@ enable_law scope place h = by (has_pair (scope, place) h.disabled) refl
     by false none = subst (λ (ps : List (ℕ × ℕ)). HasSameRows (rows_of (record h { disabled = ps })) (rows_of h)) (sym (without_none (scope, place) h.disabled none)) (same_rows (rows_of h))
 
 -- ---- each change, and many
-pub change_rows : (e : EditData) (h : HistoryData) → IsHistory h → Takes h e → HasSameRows (rows_of (edited e h)) (all_made (writes_of e h) (rows_of h))
+pub change_rows : (e : EditData) (h : HistoryData) → IsHistory h → Admits h e → HasSameRows (rows_of (edited e h)) (all_made (writes_of e h) (rows_of h))
 change_rows (text t) h rules takes = text_law t h
 change_rows (versions s []) h rules takes = same_rows (rows_of h)
 change_rows (versions s (v ∷ vs)) h rules takes = report_law s v vs h
@@ -185,7 +185,7 @@ change_rows (pin_cleared resource) h rules takes = clear_law resource h
 change_rows (disabled scope place) h rules takes = disable_law scope place h
 change_rows (enabled scope place) h rules takes = enable_law scope place h
 
-pub changes_rows : (es : List EditData) (h : HistoryData) → IsHistory h → TakesAll h es → HasSameRows (rows_of (changed es h)) (all_made (all_writes_of es h) (rows_of h))
+pub changes_rows : (es : List EditData) (h : HistoryData) → IsHistory h → AdmitsAll h es → HasSameRows (rows_of (changed es h)) (all_made (all_writes_of es h) (rows_of h))
 changes_rows [] h rules takes = same_rows (rows_of h)
 changes_rows (e ∷ es) h rules takes =
     let later : List WriteData = all_writes_of es (edited e h) in
@@ -195,6 +195,6 @@ changes_rows (e ∷ es) h rules takes =
     (all_made-alike later (rows_of (edited e h)) (all_made (writes_of e h) (rows_of h)) (change_rows e h rules takes.0)))
 
 -- trees that show what the writes make show the rows of the changed history
-pub changes_kept : (es : List EditData) (h : HistoryData) (trees : Trees) → IsHistory h → TakesAll h es → Keeps (all_made (all_writes_of es h) (rows_of h)) trees → Keeps (rows_of (changed es h)) trees
+pub changes_kept : (es : List EditData) (h : HistoryData) (trees : Trees) → IsHistory h → AdmitsAll h es → Keeps (all_made (all_writes_of es h) (rows_of h)) trees → Keeps (rows_of (changed es h)) trees
 changes_kept es h trees rules takes made =
     keeps_same (rows_of (changed es h)) (all_made (all_writes_of es h) (rows_of h)) trees (changes_rows es h rules takes) made

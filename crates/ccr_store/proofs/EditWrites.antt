@@ -12,7 +12,7 @@ use Rattle.ccr_history.specs.Text.{Text}
 use Rattle.ccr_history.specs.TextMap.{TextMap}
 use Rattle.ccr_history.specs.Tables.{ScopeData, TableData, is_scope, with_versions, with_report, reported, versions_of, scope_number}
 use Rattle.ccr_history.specs.Builds.{BuildData, is_build_of, build_of}
-use Rattle.ccr_history.specs.Changes.{versions, edited, changed, Takes}
+use Rattle.ccr_history.specs.Changes.{versions, edited, changed, Admits}
 use Rattle.ccr_history.specs.Edits.{edit_data, change_data, row_of, AreNew, HasItsNumbers, Accepts}
 use Rattle.ccr_history.specs.History.{HistoryData, IsHistory}
 use Rattle.ccr_history.specs.Pairs.{has_pair}
@@ -120,7 +120,7 @@ pub row_is : (job : Text) (number : ℕ) (bs : List BuildData) (b : BuildData) �
 row_is job number bs b found = let it = row_id 0 job number bs b found in omega arith
 
 -- ---- each edit, and many
-pub edit_same : (e : Edit) (h : HistoryData) → Takes h (edit_data e) → HasItsNumbers h e → edit_writes e ≡ writes_of (edit_data e) h
+pub edit_same : (e : Edit) (h : HistoryData) → Admits h (edit_data e) → HasItsNumbers h e → edit_writes e ≡ writes_of (edit_data e) h
 edit_same (edit.Text bytes) h takes numbers = refl
 edit_same (edit.Versions r) h takes numbers = report_same r r.versions.items h numbers.0 numbers.1 numbers.2 numbers.3
 edit_same (edit.Build b) h takes numbers =
@@ -138,7 +138,7 @@ change_same (e ∷ es) h accepts =
     ap₂ (λ (ws vs : List WriteData). ws ++ vs) (edit_same e h accepts.0.0 accepts.1.0) (change_same es (edited (edit_data e) h) (accepts.0.1, accepts.1.1))
 
 -- ---- the rows
-pub edit_rows : (e : Edit) (h : HistoryData) → IsHistory h → Takes h (edit_data e) → HasItsNumbers h e → HasSameRows (rows_of (edited (edit_data e) h)) (all_made (edit_writes e) (rows_of h))
+pub edit_rows : (e : Edit) (h : HistoryData) → IsHistory h → Admits h (edit_data e) → HasItsNumbers h e → HasSameRows (rows_of (edited (edit_data e) h)) (all_made (edit_writes e) (rows_of h))
 edit_rows e h rules takes numbers =
     subst (λ (ws : List WriteData). HasSameRows (rows_of (edited (edit_data e) h)) (all_made ws (rows_of h))) (sym (edit_same e h takes numbers)) (change_rows (edit_data e) h rules takes)
 
@@ -153,7 +153,7 @@ edits_kept es h trees rules accepts made =
 
 -- ---- places
 -- reported versions have places of a table
-has_places : (e : Edit) (h : HistoryData) → Takes h (edit_data e) → HasItsNumbers h e → HasPlaces e
+has_places : (e : Edit) (h : HistoryData) → Admits h (edit_data e) → HasItsNumbers h e → HasPlaces e
 has_places (edit.Text bytes) h takes numbers = tt
 has_places (edit.Versions r) h takes numbers =
     let all = new_alone r.scope r.versions.items h.tables numbers.3 in

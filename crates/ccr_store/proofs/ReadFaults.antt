@@ -19,7 +19,7 @@ use Rattle.ccr_tables.specs.Shown.{Shows, ShowsOther}
 use Rattle.ccr_tables.proofs.FailedReads.{failed_after}
 use Rattle.ccr_store.specs.Causes.{ComesOfRows, IsUnloaded, IsForeign}
 use Rattle.ccr_store.specs.Faults.{read_fault_of}
-use Rattle.ccr_store.specs.Listed.{ListsSeen, ListsBuilt, KeepsSeen, history_pairs, seen_of}
+use Rattle.ccr_store.specs.Listed.{ListsSeen, ListsBuilt, KeepsSeen, history_pairs, without_builds}
 use Rattle.ccr_store.specs.Readable.{IsReadable}
 use Rattle.ccr_store.specs.Rows.{Fits, meta_rows, scope_rows, table_rows, build_rows, pin_row}
 use Rattle.ccr_store.specs.Shown.{ShowsSeen, ShowsBuilt, ShowsHistory, ShowsNone, IsSeenOf}
@@ -60,7 +60,7 @@ unseen g old f P (Err of.NotOurs) meta scopes versions shown only comes =
 unseen g old f P (Err _) meta scopes versions shown only comes = absurd comes
 
 pub seen_shown : (f : Format) (db : Database) (r : Result HistoryData StoreFault) (meta scopes versions : List Row) → ShowsSeen db meta scopes versions → IfOk r (λ history. ListsSeen f history meta scopes versions)
-    → ((h : HistoryData) → IsHistory h → HasTexts h → IfSome h.text IsReadable → ListsSeen f h meta scopes versions → OrNoMemory (λ history. history ≡ seen_of h) r)
+    → ((h : HistoryData) → IsHistory h → HasTexts h → IfSome h.text IsReadable → ListsSeen f h meta scopes versions → OrNoMemory (λ history. history ≡ without_builds h) r)
     → IfOk r (IsSeenOf f db)
 seen_shown f db (Err e) meta scopes versions shown lists only = tt
 seen_shown f db (Ok history) meta scopes versions shown lists only =
@@ -68,7 +68,7 @@ seen_shown f db (Ok history) meta scopes versions shown lists only =
 
 pub unbuilt : {X S : Type 0} (g : Ghosts S) (old : State) (f : Format) (history : HistoryData) (r : Result X StoreFault) (builds pairs pins : List Row)
     → IsSeenOf f old.now history → ShowsBuilt old.now builds pairs pins
-    → ((h : HistoryData) → IsHistory h → HasTexts h → Fits f h → history ≡ seen_of h → ListsBuilt h builds pairs pins → IfErr r (λ k. k ≡ of.NoMemory))
+    → ((h : HistoryData) → IsHistory h → HasTexts h → Fits f h → history ≡ without_builds h → ListsBuilt h builds pairs pins → IfErr r (λ k. k ≡ of.NoMemory))
     → IfErr r ComesOfRows → IfErr r (IsUnloaded g old f)
 unbuilt g old f history (Ok x) builds pairs pins seen shown only comes = tt
 unbuilt g old f history (Err of.NoMemory) builds pairs pins seen shown only comes = inl refl

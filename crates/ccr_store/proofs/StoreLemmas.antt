@@ -30,7 +30,7 @@ use Rattle.ccr_store.specs.declared.format.Format.{Format}
 use Rattle.ccr_store.specs.declared.format.Format.TheVariants.{Two}
 use Rattle.ccr_store.specs.StoreData.{StoreData, IsStored, IsKept}
 use Rattle.ccr_store.specs.Texts.{HasTexts, OrNoMemory, OrFault}
-use Rattle.ccr_store.specs.Listed.{AreSeen, AreBuilt, ListsSeen, ListsBuilt, KeepsSeen, seen_of}
+use Rattle.ccr_store.specs.Listed.{AreSeen, AreBuilt, ListsSeen, ListsBuilt, KeepsSeen, without_builds}
 use Rattle.ccr_store.proofs.ListedRows.{loaded}
 use Rattle.sqlite.specs.Order.{Row}
 use Rattle.ccr_history.specs.Text.{Text}
@@ -120,7 +120,7 @@ pub on_ok_none : {X E : Type 0} (P : Type 0) (r : Result X E) → IfOk r (λ _. 
 on_ok_none P (Ok x) none = absurd none
 on_ok_none P (Err e) none = tt
 
--- want of memory needs no answer
+-- out of memory needs no answer
 pub no_memory_no_answer : {X : Type 0} (r : Result X StoreFault) (P : StoreFault → Type 0) → IfErr r (λ e. e ≡ NoMemory) → IfErr r (λ e. e ≢ NoMemory → P e)
 no_memory_no_answer (Ok x) P is = tt
 no_memory_no_answer (Err e) P is = λ other. absurd (other is)
@@ -155,7 +155,7 @@ fault_on (Ok x) fault is h = tt
 fault_on (Err e) fault is h = λ ours. h (sym is ∙ ours)
 
 -- ---- a history in two parts
-pub seen_lists : (f : Format) (h history : HistoryData) (meta scopes versions : List Row) → history ≡ seen_of h → ListsSeen f h meta scopes versions → ListsSeen f history meta scopes versions
+pub seen_lists : (f : Format) (h history : HistoryData) (meta scopes versions : List Row) → history ≡ without_builds h → ListsSeen f h meta scopes versions → ListsSeen f history meta scopes versions
 seen_lists f h history meta scopes versions is lists = subst (λ (k : HistoryData). ListsSeen f k meta scopes versions) (sym is) (record { set = lists.set; named = lists.named; reported = lists.reported })
 
 pub rows_loaded : (f : Format) (r : Result HistoryData StoreFault) (old : HistoryData) (db mid : Database) → (db.schema ≡ our_schema → mid ≡ db)

@@ -36,7 +36,7 @@ pub record HasAnswer {S : Type 0} (g : Ghosts S) (es : List Edit) (old : State) 
   pub answered : IsAnswered g writes old error
 
 -- ---- a load
--- want of memory, or rows that no history has, for which SQLite need not fail
+-- out of memory, or rows that no history has, for which SQLite need not fail
 abbrev pub ComesOfRows : StoreFault → Type 0
 ComesOfRows NoMemory = ⊤
 ComesOfRows NotOurs = ⊤

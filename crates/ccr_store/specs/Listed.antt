@@ -50,8 +50,8 @@ pub record ListsBuilt (h : HistoryData) (builds pairs pins : List Row) : Type 0 
 
 -- ---- a history in two parts
 -- a history without its builds, disabled places and pins
-abbrev pub seen_of : HistoryData → HistoryData
-seen_of h = record no_history { tables = h.tables; text = h.text }
+abbrev pub without_builds : HistoryData → HistoryData
+without_builds h = record no_history { tables = h.tables; text = h.text }
 
 -- the tables and the text are what they were
 abbrev pub KeepsSeen : HistoryData → HistoryData → Type 0

@@ -6,7 +6,7 @@ use Rattle.sqlite.specs.State.{State, IsUnchanged}
 use Rattle.ccr_history.specs.History.{HistoryData, IsHistory}
 use Rattle.ccr_tables.specs.Read.{meta_text, scopes_text, versions_text, builds_text, pairs_text, pins_text}
 use Rattle.ccr_tables.specs.Shown.{Shows}
-use Rattle.ccr_store.specs.Listed.{ListsSeen, ListsBuilt, history_pairs, seen_of}
+use Rattle.ccr_store.specs.Listed.{ListsSeen, ListsBuilt, history_pairs, without_builds}
 use Rattle.ccr_store.specs.Readable.{IsReadable}
 use Rattle.ccr_store.specs.Rows.{Fits, format_row, meta_rows, scope_rows, table_rows, build_rows, pin_row}
 use Rattle.ccr_store.specs.Texts.{HasTexts}
@@ -53,7 +53,7 @@ abbrev pub IsSeenOf : Format → Database → HistoryData → Type 0
 IsSeenOf f db history =
     (meta : List Row) × (scopes : List Row) × (versions : List Row) × ShowsSeen db meta scopes versions
     × ListsSeen f history meta scopes versions
-    × ((h : HistoryData) → IsServable f h → ListsSeen f h meta scopes versions → history ≡ seen_of h)
+    × ((h : HistoryData) → IsServable f h → ListsSeen f h meta scopes versions → history ≡ without_builds h)
 
 -- no history has these builds
 abbrev pub NoneHasBuilds : Format → Database → Type 0

@@ -1,7 +1,7 @@
 //! Laws over the definitions alone: what a change writes gives the rows of the changed history.
 ghost use Rattle.std.specs.Prelude.{◌≡◌, List, map};
 ghost use Rattle.ccr_history.specs.History.{HistoryData, IsHistory};
-ghost use Rattle.ccr_history.specs.Changes.{edited, changed, Takes};
+ghost use Rattle.ccr_history.specs.Changes.{edited, changed, Admits};
 ghost use Rattle.ccr_history.specs.Edits.{edit_data, change_data, HasItsNumbers, Accepts};
 ghost use Rattle.ccr_history.specs.declared.change.Edit.{Edit};
 ghost use Rattle.ccr_tables.specs.Contents.{Contents, Keeps};
@@ -18,7 +18,7 @@ ghost use Rattle.ccr_store.specs.Writes.{edit_writes, change_writes};
 /// It is a law over the definitions alone; nothing runs.
 pub fn changes_write_their_rows()
     // The writes of one edit that the history takes, and whose numbers it gave.
-    ensures one { (e : Edit) (h : HistoryData) → IsHistory h → Takes h (edit_data e) → HasItsNumbers h e
+    ensures one { (e : Edit) (h : HistoryData) → IsHistory h → Admits h (edit_data e) → HasItsNumbers h e
         → HasSameRows (rows_of (edited (edit_data e) h)) (all_made (edit_writes e) (rows_of h)) }
 
     // The writes of any number of them.

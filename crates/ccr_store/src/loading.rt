@@ -10,7 +10,7 @@ ghost use Rattle.ccr_tables.specs.Contents.{Contents, Holds};
 ghost use Rattle.ccr_tables.specs.Left.{OnlyReads};
 ghost use Rattle.ccr_store.specs.Causes.{ComesOfRows, IsUnloaded, IsForeign};
 ghost use Rattle.ccr_store.specs.Faults as spec;
-ghost use Rattle.ccr_store.specs.Listed.{AreSeen, AreBuilt, ListsSeen, ListsBuilt, KeepsSeen, seen_of};
+ghost use Rattle.ccr_store.specs.Listed.{AreSeen, AreBuilt, ListsSeen, ListsBuilt, KeepsSeen, without_builds};
 ghost use Rattle.ccr_store.specs.Readable.{IsReadable};
 ghost use Rattle.ccr_store.specs.Reordered.{HasSameRows};
 ghost use Rattle.ccr_store.specs.Rows.{HasFormat, Fits, rows_in};
@@ -126,7 +126,7 @@ fn tables_of(alloc: Global, seen: &Seen, format: Format) -> Result<History, Stor
     ensures readable { IfOk result (λ history. IfSome history.text IsReadable) }
     ensures only { (h : HistoryData) → IsHistory h → HasTexts h → IfSome h.text IsReadable
         → ListsSeen format h seen.now.meta.items seen.now.scopes.items seen.now.versions.items
-        → OrNoMemory (λ history. history ≡ seen_of h) result }
+        → OrNoMemory (λ history. history ≡ without_builds h) result }
     ensures comes { IfErr result ComesOfRows }
 {
     let history = match read_tables(alloc, seen) {
@@ -151,7 +151,7 @@ fn load_seen<S: Alter>(
     ensures readable { IfOk result (λ history. IfSome history.text IsReadable) }
     ensures only { HasCleanDisk (state S.Store conn.new) → (h : HistoryData) → IsHistory h → HasTexts h
         → IfSome h.text IsReadable → Holds (rows_in format h) (state S.Store conn.old).now
-        → OrFault (λ history. history ≡ seen_of h) result }
+        → OrFault (λ history. history ≡ without_builds h) result }
     ensures seen { HasCleanDisk (state S.Store conn.new)
         → IfOk result (λ history. IsSeenOf format (state S.Store conn.old).now history) }
     ensures answered { HasCleanDisk (state S.Store conn.new)
@@ -191,7 +191,7 @@ fn add_built(
     ensures kept { OnOk result (KeepsSeen history.old history.new) }
     ensures rules { OnOk result (IsHistory history.new) }
     ensures fits { OnOk result (Fits format history.new) }
-    ensures only { (h : HistoryData) → IsHistory h → HasTexts h → Fits format h → history.old ≡ seen_of h
+    ensures only { (h : HistoryData) → IsHistory h → HasTexts h → Fits format h → history.old ≡ without_builds h
         → ListsBuilt h built.now.builds.items built.now.pairs.items built.now.pins.items
         → IfErr result (λ fault. fault ≡ NoMemory) }
 {
@@ -218,7 +218,7 @@ fn history_of(
     ensures kept { IfOk result (KeepsSeen history) }
     ensures rules { IfOk result IsHistory }
     ensures fits { IfOk result (Fits format) }
-    ensures only { (h : HistoryData) → IsHistory h → HasTexts h → Fits format h → history ≡ seen_of h
+    ensures only { (h : HistoryData) → IsHistory h → HasTexts h → Fits format h → history ≡ without_builds h
         → ListsBuilt h built.now.builds.items built.now.pairs.items built.now.pins.items
         → IfErr result (λ fault. fault ≡ NoMemory) }
     ensures comes { IfErr result ComesOfRows }
@@ -268,7 +268,7 @@ fn load_built<S: Alter>(
     ensures rules { IfOk result IsHistory }
     ensures fits { IfOk result (Fits format) }
     ensures only { HasCleanDisk (state S.Store conn.new) → (h : HistoryData) → IsHistory h → HasTexts h → Fits format h
-        → history ≡ seen_of h → Holds (rows_in format h) (state S.Store conn.old).now
+        → history ≡ without_builds h → Holds (rows_in format h) (state S.Store conn.old).now
         → IfErr result (λ fault. fault ≢ NotOurs) }
     ensures shown { HasCleanDisk (state S.Store conn.new) → IfOk result (λ it. (builds pairs pins : List Row)
         × ShowsBuilt (state S.Store conn.old).now builds pairs pins × ListsBuilt it builds pairs pins) }

@@ -15,7 +15,7 @@ ghost use Rattle.ccr_history.specs.declared.build.Status.TheVariants.{Running};
 ghost use Rattle.ccr_history.specs.declared.table.TheConstants.{MOST_SCOPES};
 ghost use Rattle.ccr_history.specs.declared.builds.TheConstants.{MOST_BUILDS};
 ghost use Rattle.ccr_storage.specs.declared.fault.StoreFault.TheVariants.{NoMemory, NotOurs};
-ghost use Rattle.ccr_store.specs.Listed.{listed_pairs, ListsSeen, ListsBuilt, KeepsSeen, seen_of};
+ghost use Rattle.ccr_store.specs.Listed.{listed_pairs, ListsSeen, ListsBuilt, KeepsSeen, without_builds};
 ghost use Rattle.ccr_store.specs.Readable.{IsReadable};
 ghost use Rattle.ccr_store.specs.Rows.{meta_rows, text_row, scope_row, scope_rows, version_rows, table_rows, status_number, build_row, build_rows, used_row, moved_row, pin_row};
 ghost use Rattle.ccr_store.specs.declared.format.Format.{Format};
@@ -33,7 +33,7 @@ use serde_json::Value;
 use sqlite::Row;
 use std::alloc::Global;
 
-/// Want of memory stays so; for every other reason the rows are no history's.
+/// Out of memory stays so; for every other reason the rows are no history's.
 fn fault_of(fault: HistoryFault) -> StoreFault
     ensures { fault ≡ HistoryFault.NoMemory → result ≡ NoMemory }
 {
@@ -439,7 +439,7 @@ pub(crate) fn check_text(alloc: Global, text: Option<&[u8]>) -> Result<(), Store
 fn add_seen(alloc: Global, history: &mut History, seen: &Seen) -> Result<(), StoreFault>
     ensures { history.old ≡ no_history → (h : HistoryData) → IsHistory h → HasTexts h
         → (format : Format) → ListsSeen format h seen.now.meta.items seen.now.scopes.items seen.now.versions.items
-        → OrNoMemory (λ _. history.new ≡ seen_of h) result }
+        → OrNoMemory (λ _. history.new ≡ without_builds h) result }
 {
     read_text(history, &seen.meta)?;
     add_tables(alloc, history, &seen.scopes, &seen.versions)
@@ -449,7 +449,7 @@ fn add_seen(alloc: Global, history: &mut History, seen: &Seen) -> Result<(), Sto
 pub(crate) fn read_tables(alloc: Global, seen: &Seen) -> Result<History, StoreFault>
     ensures { (h : HistoryData) → IsHistory h → HasTexts h
         → (format : Format) → ListsSeen format h seen.now.meta.items seen.now.scopes.items seen.now.versions.items
-        → OrNoMemory (λ history. history ≡ seen_of h) result }
+        → OrNoMemory (λ history. history ≡ without_builds h) result }
 {
     let mut history = History::new(alloc);
     match add_seen(alloc, &mut history, seen) {
@@ -465,7 +465,7 @@ pub(crate) fn read_builds(
     history: &mut History,
     built: &Built,
 ) -> Result<(), StoreFault>
-    ensures read { (h : HistoryData) → IsHistory h → HasTexts h → history.old ≡ seen_of h
+    ensures read { (h : HistoryData) → IsHistory h → HasTexts h → history.old ≡ without_builds h
         → ListsBuilt h built.now.builds.items built.now.pairs.items built.now.pins.items
         → OrNoMemory (λ _. history.new ≡ h) result }
     ensures kept { OnOk result (KeepsSeen history.old history.new) }

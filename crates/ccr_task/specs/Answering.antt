@@ -38,7 +38,7 @@ abbrev pub AnswersExit : Bool → AskData → ℕ → List ℕ → SaidData → 
 AnswersExit true ask status output x = AnswersOutput ask output x
 AnswersExit false ask status output x = x ≡ bad failed (Status status)
 
--- what the end of an ask's program answers, which was launched at this path; want of memory answers nothing
+-- what the end of an ask's program answers, which was launched at this path; out of memory answers nothing
 abbrev pub AnswersEnd : String Global → AskData → EndData → SaidData → Type 0
 AnswersEnd path ask (exited status output) x = AnswersExit (status == 0) ask status output x
 AnswersEnd path ask (killed signal) x = x ≡ bad errored (Signal signal)
@@ -57,7 +57,7 @@ AnswersConfig bytes x =
     ⊎ ((fault : ReadFault) × IsSome (fault_of fault)
     × Refuses (codes "task") (config_faults (codes "task")) bytes (fault_of fault) × (x ≡ bad errored (NoTask fault)))
 
--- what an answer of a shelf to a task's file answers; want of memory answers nothing
+-- what an answer of a shelf to a task's file answers; out of memory answers nothing
 abbrev pub AnswersFile : Result (Vec ℕ Global) ShelfFault → SaidData → Type 0
 AnswersFile (Ok bytes) x = AnswersConfig bytes.items x
 AnswersFile (Err Failed) x = x ≡ bad errored (NoFile Failed)

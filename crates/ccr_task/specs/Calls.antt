@@ -54,15 +54,15 @@ is_there (Ok is) = is
 is_there (Err fault) = false
 
 -- the call saw a folder
-abbrev pub is_seen : CallData → Bool
-is_seen (make path answer) = false
-is_seen (read path answer) = false
-is_seen (remove path answer) = false
-is_seen (has path answer) = is_there answer
+abbrev pub found_folder : CallData → Bool
+found_folder (make path answer) = false
+found_folder (read path answer) = false
+found_folder (remove path answer) = false
+found_folder (has path answer) = is_there answer
 
 -- WHAT A SHELF HAS COUNTED of its calls: at how many it failed, and how many saw a folder; the greatest count stays
 abbrev pub counts_of : List CallData → ShelfCounts
-counts_of calls = record { failures = min (count_by is_failed calls) greatest; seen = min (count_by is_seen calls) greatest }
+counts_of calls = record { failures = min (count_by is_failed calls) greatest; seen = min (count_by found_folder calls) greatest }
 
 -- ---- calls in order
 -- a call for a folder, which is answered that it is done, or a fault

@@ -75,7 +75,7 @@ Launches l (Ok launch) = (launch_data launch ≡ l) × (length l.input ≤ MOST_
 Launches l (Err TooLong) = MOST_REQUEST < length l.input
 Launches l (Err NoMemory) = ⊤
 
--- a task's launch is refused for want of memory alone
+-- a task's launch is refused only where memory runs out
 abbrev pub LaunchesTask : Text → ConfigData → Variables → Result Launch RequestFault → Type 0
 LaunchesTask build config step (Ok launch) = IsTaskLaunch build config step (launch_data launch)
 LaunchesTask build config step (Err TooLong) = ⊥

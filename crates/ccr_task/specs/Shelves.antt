@@ -12,7 +12,7 @@ use Rattle.ccr_task.specs.declared.script.ShelfAnswer.TheVariants.{Done, Read, F
 use Rattle.ccr_task.specs.declared.script.ShelfScript.{ShelfScript}
 use Rattle.ccr_task.specs.Calls.{CallData}
 
--- the fault that an error of the system is: want of memory is one of its own, and all else a failure
+-- the fault that an error of the system is: out of memory is one of its own, and all else a failure
 abbrev pub IsFaultOf : ErrorKind → ShelfFault → Type 0
 IsFaultOf kind fault = ((kind ≡ OutOfMemory) × (fault ≡ NoMemory)) ⊎ ((kind ≢ OutOfMemory) × (fault ≡ Failed))
 
@@ -41,12 +41,12 @@ file_answer (Read bytes ∷ rest) = if nat_le (vec_len bytes) MOST_FILE then Ok 
 file_answer (Fault fault ∷ rest) = Err fault
 
 -- on whether a folder is there, where these answers are left: the first, if it is one for a folder; else that it isn't
-abbrev pub seen_answer : List (Result Bool ShelfFault) → Result Bool ShelfFault
-seen_answer [] = Ok false
-seen_answer (Ok is_there ∷ rest) = Ok is_there
-seen_answer (Err Failed ∷ rest) = Err Failed
-seen_answer (Err TooLong ∷ rest) = Err Failed
-seen_answer (Err NoMemory ∷ rest) = Err NoMemory
+abbrev pub sight_answer : List (Result Bool ShelfFault) → Result Bool ShelfFault
+sight_answer [] = Ok false
+sight_answer (Ok is_there ∷ rest) = Ok is_there
+sight_answer (Err Failed ∷ rest) = Err Failed
+sight_answer (Err TooLong ∷ rest) = Err Failed
+sight_answer (Err NoMemory ∷ rest) = Err NoMemory
 
 -- the answers that a script has left
 abbrev pub answers_left : ShelfScript → List ShelfAnswer

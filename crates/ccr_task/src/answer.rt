@@ -59,8 +59,8 @@ fn exited(alloc: Global, ask: &Ask<'_>, output: &[u8]) -> Result<Said, AllocErro
 ///
 /// With status 0 a fetch is done and a push gives its version, where the reply has one and can be read; a task is done.
 /// Another status is a failure; all else, an unreadable reply too, is an error. An ask for a file starts no program:
-/// its end with status 0 is an error. With it comes what was wrong, where that is no success. `AllocError` where a growth
-/// was refused, here or in the runner.
+/// its end with status 0 is an error. With it comes what was wrong, where that is no success. `AllocError` where memory
+/// runs out, here or in the runner.
 pub fn answered_of(
     alloc: Global,
     ask: &Ask<'_>,
@@ -94,8 +94,8 @@ fn config_in(alloc: Global, bytes: &[u8]) -> Result<Said, AllocError>
 
 /// What a shelf's answer to a task's file answers (Concourse: task step, file).
 ///
-/// The config that the file holds; an error where there is no such file, or a fault is in it. `AllocError` where a
-/// growth was refused, here or to the shelf.
+/// The config that the file holds; an error where there is no such file, or a fault is in it. `AllocError` where
+/// memory runs out, here or for the shelf.
 pub fn config_of(alloc: Global, file: Result<Vec<u8>, ShelfFault>) -> Result<Said, AllocError>
     ensures { IfOk result (λ a. AnswersFile file (said_data a)) }
 {

@@ -1,7 +1,7 @@
 //! The calls of a shelf, which are there for contracts alone.
 ghost use Rattle.std.specs.Prelude.{◌≡◌, List, [], ◌∷◌, ◌++◌};
 ghost use base.Fml.{ftrue};
-ghost use Rattle.ccr_task.specs.Calls.{CallData, call_data, is_failed, is_seen};
+ghost use Rattle.ccr_task.specs.Calls.{CallData, call_data, is_failed, found_folder};
 
 use crate::fault::ShelfFault;
 use std::marker::Model;
@@ -60,8 +60,8 @@ impl Call<'_> {
     }
 
     /// Whether the call saw a folder.
-    pub(crate) fn is_seen(&self) -> bool
-        ensures { result ≡ is_seen (call_data self.now) }
+    pub(crate) fn found_folder(&self) -> bool
+        ensures { result ≡ found_folder (call_data self.now) }
     {
         match self {
             Call::Make(_, _) | Call::Read(_, _) | Call::Remove(_, _) => false,

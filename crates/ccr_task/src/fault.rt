@@ -14,7 +14,7 @@ pub enum ShelfFault {
     /// The file has more than 1,048,576 bytes.
     #[error("too long")]
     TooLong,
-    /// A growth of memory was refused, to this program or by the system.
+    /// Out of memory, of this program or of the system.
     #[error("out of memory")]
     NoMemory,
 }

@@ -40,7 +40,7 @@ fn only(alloc: Global, arg: String) -> Result<Vec<String>, AllocError>
 /// (Concourse: implementing a resource type, check).
 ///
 /// It runs in the folder of all builds, without an argument. `TooLong` exactly where its request has more than 65,536
-/// bytes; `NoMemory` where a growth was refused.
+/// bytes; `NoMemory` where memory runs out.
 pub fn check_launch(
     alloc: Global,
     places: &Places,
@@ -183,7 +183,7 @@ pub fn can_launch(pipeline: &Pipeline, ask: &Ask<'_>) -> bool
 /// in the folder below it that its config names. The only argument of `in` is the artifact's folder, that of `out` the
 /// build folder. A task's path that begins with `/` or has none is used as it stands, another is taken from the build
 /// folder; its variables are the config's, those of the step replacing equal names, names ascending. `TooLong` exactly
-/// where the request has more than 65,536 bytes; `NoMemory` where a growth was refused.
+/// where the request has more than 65,536 bytes; `NoMemory` where memory runs out.
 pub fn launch_of(
     alloc: Global,
     places: &Places,

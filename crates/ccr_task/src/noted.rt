@@ -40,7 +40,10 @@ impl Noted {
                 .counts
                 .failures
                 .saturating_add(u64::from(call.is_failed())),
-            seen: self.counts.seen.saturating_add(u64::from(call.is_seen())),
+            seen: self
+                .counts
+                .seen
+                .saturating_add(u64::from(call.found_folder())),
         };
         *self = Noted {
             counts,

@@ -1,7 +1,7 @@
 //! A shelf that holds nothing.
 ghost use Rattle.std.specs.Prelude.{◌≡◌, ◌++◌, ◌∷◌, [], drop};
 ghost use Rattle.ccr_task.specs.Calls.{counts_of, make, read, remove, has, file_data};
-ghost use Rattle.ccr_task.specs.Shelves.{folder_answer, file_answer, seen_answer, answers_left, sights_left, script_calls};
+ghost use Rattle.ccr_task.specs.Shelves.{folder_answer, file_answer, sight_answer, answers_left, sights_left, script_calls};
 
 use crate::calls::Call;
 use crate::counts::ShelfCounts;
@@ -114,7 +114,7 @@ impl Shelf for ShelfScript {
     }
 
     fn has_folder(&mut self, path: &str) -> Result<bool, ShelfFault>
-        ensures answer { result ≡ seen_answer (sights_left self.old) }
+        ensures answer { result ≡ sight_answer (sights_left self.old) }
         ensures left { sights_left self.new ≡ drop 1 (sights_left self.old) }
         ensures answers { answers_left self.new ≡ answers_left self.old }
         ensures called { script_calls self.new ≡ script_calls self.old ++ has path.now result ∷ [] }

@@ -38,7 +38,7 @@ impl From<AllocError> for InputFault {
     }
 }
 
-/// What an error of the system says: want of memory, or that there is nothing to read.
+/// What an error of the system says: out of memory, or that there is nothing to read.
 fn fault_of(error: &io::Error) -> InputFault
     ensures memory { (result ≡ InputFault.NoMemory) ↔ (error_kind error.now ≡ ErrorKind.OutOfMemory) }
     ensures words { result ≢ InputFault.WrongWords }

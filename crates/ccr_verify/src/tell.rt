@@ -2,7 +2,7 @@
 
 ghost use Rattle.std.specs.Prelude.{◌≡◌, IfOk};
 ghost use Rattle.std.specs.Process.{exit_status};
-ghost use Rattle.ccr_verify.specs.Told.{status_of};
+ghost use Rattle.ccr_verify.specs.Statuses.{status_of};
 
 use crate::input::InputFault;
 use std::io;

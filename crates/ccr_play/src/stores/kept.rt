@@ -1,7 +1,7 @@
 //! A history that a storage keeps.
 ghost use Rattle.std.specs.Prelude.{◌≢◌};
 ghost use Rattle.std.specs.List.{AllByRecursion};
-ghost use Rattle.ccr_history.specs.Changes.{AreUsed, AreMoved, Takes};
+ghost use Rattle.ccr_history.specs.Changes.{AreUsed, AreMoved, Admits};
 ghost use Rattle.ccr_history.specs.Edits.{edit_data, HasItsNumbers};
 ghost use Rattle.ccr_history.specs.TextMap.{IsAscending};
 ghost use Rattle.ccr_history.specs.declared.build.Status.TheVariants.{Running};
@@ -31,7 +31,7 @@ fn versions_ascend(versions: &[Version])
 impl<S: Storage + Drop> Kept<S> {
     /// Has the storage write a change that the history has made just now.
     fn commit(&mut self, alloc: Global, before: Snapshot<History>, edit: Edit) -> Result<()>
-        requires takes { Takes before.value (edit_data edit) }
+        requires takes { Admits before.value (edit_data edit) }
         requires numbered { HasItsNumbers before.value edit }
     {
         let mut change = Vec::new(alloc);

@@ -1,5 +1,5 @@
 use Rattle.std.proofs.Common.{ap, sym, ◌∙◌, subst}
-use Rattle.ccr_history.specs.Changes.{changed, TakesAll}
+use Rattle.ccr_history.specs.Changes.{changed, AdmitsAll}
 use Rattle.ccr_pipeline.specs.Pipelines.{pipeline_data}
 use Rattle.ccr_steps.specs.Runs.{run_data}
 use Rattle.ccr_core.proofs.Answering.{settles_so, pairs_fit, end_taken}
@@ -19,7 +19,7 @@ returns-clause-change c =
     let h = c.args.history.now in
     let fits = pairs_fit (pipeline_data c.args.pipeline.now) c.args.history.now (run_data c.args.run.now) c.in_ok-outcome.field-0.outcome c.in_ok-outcome.field-0.pairs.items c.requires.fits c.in_ok-outcome.ensures.stands in
     changes_so c.in_ok-outcome.field-0.edits.items h c.follow.new.history (
-      subst (TakesAll h) (sym c.in_ok-outcome.ensures.edits) (end_taken h c.args.job.now c.args.number c.in_ok-outcome.field-0.outcome c.in_ok-outcome.field-0.pairs.items c.requires.running fits),
+      subst (AdmitsAll h) (sym c.in_ok-outcome.ensures.edits) (end_taken h c.args.job.now c.args.number c.in_ok-outcome.field-0.outcome c.in_ok-outcome.field-0.pairs.items c.requires.running fits),
       ap (λ l. changed l h) c.in_ok-outcome.ensures.edits ∙ sym c.in_ok-follow.ensures.ok,
     )
     (c.in_ok-outcome.ensures.numbered h c.row_of-row.ensures)

@@ -18,8 +18,8 @@ ranks_of-ranks-requires c =
     let is = input_is p c.inputs.result.now i c.index-inputs-input.result c.inputs.ensures.value c.requires.input c.index-inputs-input.is in
     places_rise c.places-places.result.now 0 (ap (are_places_after 0) (c.places-places.ensures ∙ ap (λ x. x.places) is) ∙ places_kept p i c.inputs.ensures.kept c.requires.input)
 
-pub returns-then-have_seen : goal.returns-then-have_seen
-returns-then-have_seen c =
+pub returns-then-have_passed : goal.returns-then-have_passed
+returns-then-have_passed c =
     let p = c.args.problem.now in
     let i = c.args.input in
     let xs = c.places-places.result.now in
@@ -38,7 +38,7 @@ returns-then-have_seen c =
     let K : ℕ → Type 0 = λ m. HasPassed p nothing_fixed i (slice_index (input_at p i).places m) in
     let R : List ℕ → Type 0 = λ ys. IsBestPlace (order_of p) p nothing_fixed i (slice_index ys k) in
     let S : ℕ → Type 0 = λ m. IsBestPlace (order_of p) p nothing_fixed i (slice_index (input_at p i).places m) in
-    subst R (sym same) (subst S (sym c.position.ensures.value) (first_passed p i above to ranks c.loop-rank.rank c.loop-rank-test.true (subst K c.position.ensures.value (subst H same (c.have_seen.ensures.0 c.if-have_seen.true))) none))
+    subst R (sym same) (subst S (sym c.position.ensures.value) (first_passed p i above to ranks c.loop-rank.rank c.loop-rank-test.true (subst K c.position.ensures.value (subst H same (c.have_passed.ensures.0 c.if-have_passed.true))) none))
 
 pub loop-rank-preserved : goal.loop-rank-preserved
 loop-rank-preserved c =
@@ -51,7 +51,7 @@ loop-rank-preserved c =
       | inr late ↦ (let now : s ≡ c.loop-rank.rank = omega (arith, late, less) in
           let at : ranked c.ranks_of-ranks.result.above c.ranks_of-ranks.result.to s ≡ k = ap (ranked c.ranks_of-ranks.result.above c.ranks_of-ranks.result.to) now ∙ sym c.position.ensures.value in
           let K : ℕ → Type 0 = λ m. HasPassed p nothing_fixed i (slice_index xs m) in
-          false≢true (sym c.if-have_seen.false ∙ c.have_seen.ensures.1 (subst K at h)))
+          false≢true (sym c.if-have_passed.false ∙ c.have_passed.ensures.1 (subst K at h)))
     ]
 
 pub returns : goal.returns

@@ -8,7 +8,7 @@ use Rattle.ccr_choice.proofs.TableLaws.{zeros, table_empty}
 use Rattle.ccr_proof.specs.declared.claim.Claim.TheVariants.{Best, Nothing}
 use Rattle.ccr_proof.specs.Tree.{empty, bounded}
 use Rattle.ccr_proof.proofs.Sound.{accepted_right}
-use Rattle.ccr_resolve.specs.Room.{TopFits}
+use Rattle.ccr_resolve.specs.NodeBound.{TopFits}
 use Rattle.ccr_resolve.specs.Search.{AreUpper, IsTopChoice}
 use Rattle.ccr_resolve.proofs.SoughtLaws.{over_is, sought_is, over_room, none_sought, best_sought}
 use Rattle.ccr_resolve.proofs.chosen.choose.Goals as goal

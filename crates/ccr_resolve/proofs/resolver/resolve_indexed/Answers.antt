@@ -9,7 +9,7 @@ use Rattle.ccr_proof.specs.declared.claim.Claim.TheVariants.{Best, Nothing}
 use Rattle.ccr_proof.specs.Tree.{tree_of, empty, bounded}
 use Rattle.ccr_proof.specs.Refutes.{Refutes, IsAccepted}
 use Rattle.ccr_proof.proofs.Sound.{accepted_right}
-use Rattle.ccr_resolve.specs.Room.{TopFits}
+use Rattle.ccr_resolve.specs.NodeBound.{TopFits}
 use Rattle.ccr_resolve.specs.Search.{AreUpper, IsTopChoice, places_of}
 use Rattle.ccr_resolve.proofs.Counting.{free_empty}
 use Rattle.ccr_resolve.proofs.ClaimFits.{short_claim}

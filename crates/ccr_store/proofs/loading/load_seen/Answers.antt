@@ -1,6 +1,6 @@
 use Rattle.std.proofs.lemmas.Result.{IfOk-weaker}
 use Rattle.ccr_history.specs.History.{HistoryData}
-use Rattle.ccr_store.specs.Listed.{seen_of}
+use Rattle.ccr_store.specs.Listed.{without_builds}
 use Rattle.ccr_store.specs.Rows.{rows_in}
 use Rattle.ccr_store.proofs.ShownRows.{shown_seen}
 use Rattle.ccr_store.proofs.StoreLemmas.{or_fault}
@@ -16,7 +16,7 @@ returns-in-Ok-clause-rows g c clean =
 
 pub returns-in-Ok-clause-only : goal.returns-in-Ok-clause-only
 returns-in-Ok-clause-only g c clean h rules texts readable holds =
-    or_fault (λ (history : HistoryData). history ≡ seen_of h) c.tables_of.result
+    or_fault (λ (history : HistoryData). history ≡ without_builds h) c.tables_of.result
     (c.tables_of.ensures.only h rules texts readable (shown_seen c.args.format h c.in-Ok.seen.meta.items c.in-Ok.seen.scopes.items c.in-Ok.seen.versions.items (c.in-Ok.ensures.rows clean (rows_in c.args.format h) holds)))
 
 pub returns-in-Err-clause-only : goal.returns-in-Err-clause-only
@@ -30,7 +30,7 @@ returns-in-Err-clause-reads g c = reads_failed (state g.S.Store c.args.conn.now)
 
 pub returns-in-Ok-clause-answered : goal.returns-in-Ok-clause-answered
 returns-in-Ok-clause-answered g c clean =
-    unseen g.S.Store (state g.S.Store c.args.conn.now) c.args.format (λ h (history : HistoryData). history ≡ seen_of h) c.tables_of.result c.in-Ok.seen.meta.items c.in-Ok.seen.scopes.items c.in-Ok.seen.versions.items (c.in-Ok.ensures.shown clean)
+    unseen g.S.Store (state g.S.Store c.args.conn.now) c.args.format (λ h (history : HistoryData). history ≡ without_builds h) c.tables_of.result c.in-Ok.seen.meta.items c.in-Ok.seen.scopes.items c.in-Ok.seen.versions.items (c.in-Ok.ensures.shown clean)
     c.tables_of.ensures.only c.tables_of.ensures.comes
 
 pub returns-in-Ok-clause-seen : goal.returns-in-Ok-clause-seen

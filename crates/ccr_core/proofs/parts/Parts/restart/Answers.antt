@@ -1,5 +1,5 @@
 use Rattle.std.proofs.Common.{map, option_map, sym, ap, ◌∙◌, subst}
-use Rattle.ccr_history.specs.Changes.{changed, TakesAll}
+use Rattle.ccr_history.specs.Changes.{changed, AdmitsAll}
 use Rattle.ccr_history.specs.Edits.{edit_data}
 use Rattle.ccr_steps.specs.Runs.{run_data}
 use Rattle.ccr_core.specs.Cores.{core_data}
@@ -15,7 +15,7 @@ use Rattle.ccr_core.proofs.parts.Parts.restart.Goals as goal
 
 pub cut_all-requires : goal.cut_all-requires
 cut_all-requires c =
-    subst (λ l. TakesAll c.args.self.now.history (map cut_name (map name_data l))) (sym c.deref-in-Ok.ensures.value) (all_taken (core_data c.args.self.now) c.requires.core)
+    subst (λ l. AdmitsAll c.args.self.now.history (map cut_name (map name_data l))) (sym c.deref-in-Ok.ensures.value) (all_taken (core_data c.args.self.now) c.requires.core)
 
 pub returns-in-Ok-clause-step : goal.returns-in-Ok-clause-step
 returns-in-Ok-clause-step c =
@@ -27,7 +27,7 @@ pub returns-in-Ok-clause-change : goal.returns-in-Ok-clause-change
 returns-in-Ok-clause-change c =
     let same = c.in-Ok.ensures.is ∙ ap (λ l. map cut_name (map name_data l)) c.deref.ensures.value in
     changes_so c.in-Ok.change.items c.args.self.now.history c.cut_all.new.history (
-      subst (TakesAll c.args.self.now.history) (sym same) (all_taken (core_data c.args.self.now) c.requires.core),
+      subst (AdmitsAll c.args.self.now.history) (sym same) (all_taken (core_data c.args.self.now) c.requires.core),
       ap (λ es. changed es c.args.self.now.history) same ∙ sym (c.cut_all.ensures ∙ ap (λ l. changed (map cut_name (map name_data l)) c.args.self.now.history) c.deref-in-Ok.ensures.value),
     )
     c.in-Ok.ensures.numbered

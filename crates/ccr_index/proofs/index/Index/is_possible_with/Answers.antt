@@ -4,8 +4,8 @@ use Rattle.std.proofs.lemmas.Bool.{false≢true}
 use Rattle.ccr_choice.specs.Problem.{BuildValue, input_at, builds_at}
 use Rattle.ccr_index.proofs.index.Index.is_possible_with.Goals as goal
 
-pub returns-then-not-has_seen : goal.returns-then-not-has_seen
-returns-then-not-has_seen c = (
+pub returns-then-not-has_passed : goal.returns-then-not-has_passed
+returns-then-not-has_passed c = (
   λ t. absurd (false≢true t),
   λ h. absurd (
       let p = c.args.self.now.problem in
@@ -18,6 +18,6 @@ returns-then-not-has_seen c = (
       c.scope-scope.ensures ∙ ap (λ x. x.scope) c.input.ensures.value in
       let P : List BuildValue → Type 0 = λ bs. Any (λ b. Contains b.pairs (c.scope-scope.result, c.args.place)) bs in
       let Q : ℕ → Type 0 = λ s. Any (λ b. Contains b.pairs (s, c.args.place)) (builds_at p (slice_index js k)) in
-      false≢true (sym c.if-not-has_seen.true ∙ c.has_seen.ensures.1 (subst P (sym c.rows.ensures.value) (subst Q (sym named) any)))
+      false≢true (sym c.if-not-has_passed.true ∙ c.has_passed.ensures.1 (subst P (sym c.rows.ensures.value) (subst Q (sym named) any)))
       ),
 )

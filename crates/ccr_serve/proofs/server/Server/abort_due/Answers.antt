@@ -32,19 +32,19 @@ returns-in-Ok-clause-served g c before asked =
     let name : c.as_str-job.result.now ≡ string_bytes c.args.due.job = c.as_str-job.ensures.value in
     abort_served (places_data c.args.self.now.places) v looked (string_bytes c.args.due.job) c.args.due.number
     c.args.due.rank c.in-Ok.reply (bare c.abort.new.self) (g.S.Shelf.calls c.clear_away.new.shelf)
-    (g.O.Lines.written c.tell_ended.new.out) asked (rw c.requires.name at c.in-Ok.ensures.made)
-    (rw (c.in-Ok.ensures.made.rest.places, name, c.in-Ok.ensures.made.rest.calls) at c.clear_away.ensures) c.requires.due (λ h. subst (λ j. g.O.Lines.written c.tell_ended.new.out
+    (g.O.Lines.written c.print_ended.new.out) asked (rw c.requires.name at c.in-Ok.ensures.made)
+    (rw (c.in-Ok.ensures.made.rest.places, name, c.in-Ok.ensures.made.rest.calls) at c.clear_away.ensures) c.requires.due (λ h. subst (λ j. g.O.Lines.written c.print_ended.new.out
     ≡ g.O.Lines.written c.args.out.now ++ lines_of (abort j c.args.due.number) (Ok c.in-Ok.reply) h) name
-    (subst (λ w. g.O.Lines.written c.tell_ended.new.out
+    (subst (λ w. g.O.Lines.written c.print_ended.new.out
     ≡ w ++ lines_of (abort c.as_str-job.result.now c.args.due.number) (Ok c.in-Ok.reply) h)
-    c.tell_fault.ensures.same (c.tell_ended.ensures.aborted h)))
+    c.tell_fault.ensures.same (c.print_ended.ensures.aborted h)))
 
 pub returns-in-Ok-clause-noted : goal.returns-in-Ok-clause-noted
 returns-in-Ok-clause-noted g c =
     let core = core_data c.args.self.now.core in
     let job = string_bytes c.args.due.job in
     let told = g.O.Lines.notes c.args.out.now in
-    rw c.tell_ended.ensures.notes
+    rw c.print_ended.ensures.notes
     (notes_by c.waiting_head-head.result (IsStepHead core job c.args.due.number) (Some Aborted) told
     (g.O.Lines.notes c.tell_fault.new.out)
     (rw c.as_str-job.ensures.value at c.waiting_head-head.ensures) c.tell_fault.ensures.noted)

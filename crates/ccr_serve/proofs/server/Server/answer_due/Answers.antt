@@ -40,13 +40,13 @@ returns-in-Ok-give-clause-served g c before asked =
     turn_served (places_data c.args.self.now.places) v looked job c.args.due.number c.args.due.rank
     c.in-Ok.turn (said_data c.in-Ok.said) c.in-Ok-give.reply
     (g.S.Shelf.calls c.answer_wanted.new.shelf) (g.R.Runner.pairs c.answer_wanted.new.runner)
-    (bare c.give.new.self) (g.S.Shelf.calls c.clear_away.new.shelf) (g.O.Lines.written c.tell_ended.new.out) asked
+    (bare c.give.new.self) (g.S.Shelf.calls c.clear_away.new.shelf) (g.O.Lines.written c.print_ended.new.out) asked
     (rw name at c.in-Ok.ensures.ok) (rw c.requires.one at c.in-Ok-give.ensures.gives)
-    (rw (c.in-Ok-give.ensures.gives.rest.places, name, c.in-Ok-give.ensures.gives.rest.calls) at c.clear_away.ensures) c.requires.due (λ t y h. subst (λ j. g.O.Lines.written c.tell_ended.new.out
+    (rw (c.in-Ok-give.ensures.gives.rest.places, name, c.in-Ok-give.ensures.gives.rest.calls) at c.clear_away.ensures) c.requires.due (λ t y h. subst (λ j. g.O.Lines.written c.print_ended.new.out
     ≡ g.O.Lines.written c.args.out.now ++ lines_of (answer j c.args.due.number t y) (Ok c.in-Ok-give.reply) h) name
-    (subst (λ w. g.O.Lines.written c.tell_ended.new.out
+    (subst (λ w. g.O.Lines.written c.print_ended.new.out
     ≡ w ++ lines_of (answer c.as_str-job.result.now c.args.due.number t y) (Ok c.in-Ok-give.reply) h)
-    c.tell_fault.ensures.same (c.tell_ended.ensures.answered t y h)))
+    c.tell_fault.ensures.same (c.print_ended.ensures.answered t y h)))
 
 pub returns-in-Ok-give-clause-noted : goal.returns-in-Ok-give-clause-noted
 returns-in-Ok-give-clause-noted g c =
@@ -65,7 +65,7 @@ returns-in-Ok-give-clause-noted g c =
         answered = rw (name, ← c.in-Ok-give.ensures.gives.rest.pairs) at c.in-Ok.ensures.ok;
         fault = c.give.new.fault;
         is_fault = rw c.requires.one at c.in-Ok-give.ensures.fault;
-        notes = rw c.tell_ended.ensures.notes
+        notes = rw c.print_ended.ensures.notes
             (notes_by c.asking_head-head.result (IsHead core job c.args.due.number) c.give.new.fault told
             (g.O.Lines.notes c.tell_fault.new.out) (rw name at c.asking_head-head.ensures) c.tell_fault.ensures.noted);
       },

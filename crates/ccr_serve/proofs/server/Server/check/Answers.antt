@@ -23,7 +23,7 @@ returns-in-Ok-make-clause-served g c =
     let o = c.in-Ok-find_named.ensures.ok in
     check_made (places_data c.args.self.now.places) o.1 c.in-Ok.ensures.copied o.2 c.begin.ensures.same o.3
     (rw c.in-Versions.is at o.4) c.in-Ok-make.ensures.made
-    (c.tell_checked.ensures.told c.in-Versions.versions.items c.make.new.self.core.history) c.is_ok.ensures.value
+    (c.print_checked.ensures.told c.in-Versions.versions.items c.make.new.self.core.history) c.is_ok.ensures.value
 
 pub returns-in-Err-clause-served : goal.returns-in-Err-clause-served
 returns-in-Err-clause-served g c =
@@ -39,4 +39,4 @@ pub returns-in-Nothing-clause-served : goal.returns-in-Nothing-clause-served
 returns-in-Nothing-clause-served g c =
     let o = c.in-Ok-find_named.ensures.ok in
     check_found_nothing (places_data c.args.self.now.places) c.args.name.now o.1 c.in-Nothing.cause c.requires.ready o.2
-    c.begin.ensures.same o.3 (rw c.in-Nothing.is at o.4) (c.hand_out.ensures.same ∙ c.tell_cause.ensures)
+    c.begin.ensures.same o.3 (rw c.in-Nothing.is at o.4) (c.hand_out.ensures.same ∙ c.print_cause.ensures)

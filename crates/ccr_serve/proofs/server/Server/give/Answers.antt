@@ -2,7 +2,7 @@ use Rattle.std.proofs.Common.{◌∙◌, Err, ap, refl, string_bytes, subst}
 use Rattle.ccr_steps.specs.Asks.{answer_data}
 use Rattle.ccr_core.specs.Cores.{core_data}
 use Rattle.ccr_core.specs.Events.{answer}
-use Rattle.ccr_core.specs.Holding.{Takes}
+use Rattle.ccr_core.specs.Holding.{TakesStep}
 use Rattle.ccr_core.specs.Replies.{Replied}
 use Rattle.ccr_serve.specs.Views.{bare_view, Made}
 use Rattle.ccr_serve.proofs.Again.{gives_again, unmade_again}
@@ -36,5 +36,5 @@ returns-in-Ok-Ok-clause-fault g c =
     let core = core_data c.args.self.now.core in
     let e = answer (string_bytes c.args.names.0) c.args.number c.args.turn (answer_data c.args.answered) in
     fault_own core (core_data c.make.new.self.core) e c.in-Ok-Ok.reply c.args.fault.now c.args.fault.now refl
-    (subst (λ (r : Replied). Takes core (core_data c.make.new.self.core) e r) c.in-Ok-Ok.field-0-is
+    (subst (λ (r : Replied). TakesStep core (core_data c.make.new.self.core) e r) c.in-Ok-Ok.field-0-is
     c.in-Ok-Ok.ensures.made.takes)

@@ -24,7 +24,7 @@ pub returns-in-Ok-Ok-clause-came : goal.returns-in-Ok-Ok-clause-came
 returns-in-Ok-Ok-clause-came g c =
     pin_made _ c.args.text.now _ c.in-Ok-begin.ensures.copied
     (sym c.in-Ok-Some.field-0-is ∙ c.in-Ok-Some.ensures) c.in-Ok-Ok.field-0-is c.begin.ensures.same
-    c.in-Ok-Ok.ensures.made (c.hand_out.ensures.same ∙ c.tell_pinned.ensures)
+    c.in-Ok-Ok.ensures.made (c.hand_out.ensures.same ∙ c.print_pinned.ensures)
 
 pub returns-in-Ok-Err-clause-came : goal.returns-in-Ok-Err-clause-came
 returns-in-Ok-Err-clause-came g c =

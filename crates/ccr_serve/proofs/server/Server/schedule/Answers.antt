@@ -12,7 +12,7 @@ returns-in_default-clause-served g c =
 pub returns-in-Ok-make-clause-served : goal.returns-in-Ok-make-clause-served
 returns-in-Ok-make-clause-served g c =
     schedule_made (places_data c.args.self.now.places) c.in-Ok.ensures.copied c.begin.ensures.same
-    c.in-Ok-make.ensures.made (c.tell_scheduled.ensures.told
+    c.in-Ok-make.ensures.made (c.print_scheduled.ensures.told
     ∙ ap (λ h. g.O.Lines.written c.begin.new.out ++ lines_of (event.schedule c.args.name.now) c.in-Ok-make.replied h)
     c.history.ensures)
 

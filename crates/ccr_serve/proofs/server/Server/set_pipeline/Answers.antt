@@ -26,7 +26,7 @@ pub returns-in-Ok-Ok-clause-came : goal.returns-in-Ok-Ok-clause-came
 returns-in-Ok-Ok-clause-came g c =
     let v = full_view g.R.Runner g.S.Shelf g.T.Storage g.O.Lines c.args.self.now c.args.out.now in
     set_made (places_data c.args.self.now.places) c.args.path.now v c.in-Ok.ensures.ok c.in-Ok-Ok.field-0-is
-    c.make_pipeline_room.ensures.same c.in-Ok-Ok.ensures.made c.tell_set.ensures.told
+    c.make_pipeline_room.ensures.same c.in-Ok-Ok.ensures.made c.print_set.ensures.told
 
 pub returns-in-Ok-Err-clause-came : goal.returns-in-Ok-Err-clause-came
 returns-in-Ok-Err-clause-came g c =

@@ -13,7 +13,7 @@ returns-in_default-clause-came g c =
 pub returns-in-Ok-replied-clause-replied : goal.returns-in-Ok-replied-clause-replied
 returns-in-Ok-replied-clause-replied g c =
     trigger_made _ c.in-Ok.ensures.copied c.in-Ok-replied.is c.begin.ensures.same
-    c.in-Ok-make.ensures.made (c.hand_out.ensures.same ∙ (c.tell_job.ensures
+    c.in-Ok-make.ensures.made (c.hand_out.ensures.same ∙ (c.print_job.ensures
     ∙ ap (λ h. g.O.Lines.written c.begin.new.out ++ lines_of (event.trigger c.args.job.now) (Ok c.in-Ok-replied.reply)
     h) c.history.ensures))
 

@@ -11,7 +11,7 @@ returns-in_default-clause-came g c =
 pub returns-in-Ok-Ok-clause-came : goal.returns-in-Ok-Ok-clause-came
 returns-in-Ok-Ok-clause-came g c =
     unpin_made _ _ c.in-Ok.ensures.copied c.in-Ok-Ok.field-0-is c.begin.ensures.same
-    c.in-Ok-Ok.ensures.made (c.hand_out.ensures.same ∙ c.tell_unpinned.ensures)
+    c.in-Ok-Ok.ensures.made (c.hand_out.ensures.same ∙ c.print_unpinned.ensures)
 
 pub returns-in-Ok-Err-clause-came : goal.returns-in-Ok-Err-clause-came
 returns-in-Ok-Err-clause-came g c =

@@ -1,7 +1,7 @@
 use Rattle.std.proofs.Common.{◌≡◌, ◌+◌, length, take, map, string_bytes}
 use Rattle.std.specs.List.{sum_by}
 use Rattle.ccr_pipeline.specs.Pipelines.{pipeline_data}
-use Rattle.ccr_lines.proofs.tell.pipeline_room.Given as goal
+use Rattle.ccr_lines.proofs.print.pipeline_room.Given as goal
 
 abbrev pub invariant-loop-path : goal.invariant-loop-path
 invariant-loop-path l = record {

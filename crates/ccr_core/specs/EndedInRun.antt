@@ -14,7 +14,7 @@ use Rattle.ccr_core.specs.Own.{own}
 use Rattle.ccr_core.specs.Replies.{Replied}
 use Rattle.ccr_core.specs.State.{RunningData, State, pipeline_of, running_at}
 use Rattle.ccr_core.specs.Steps.{Step, Run}
-use Rattle.ccr_core.specs.Told.{HasItsOwn, EndsIn, EndsAsMeant}
+use Rattle.ccr_core.specs.EachBuild.{HasItsOwn, EndsIn, EndsAsMeant}
 
 -- A MOMENT of a run: one of its events, the events before it and those behind it, each with their replies. Those before
 -- lead from the start to a state, the event's step leads from there to the next, and those behind lead on to the end.
@@ -58,7 +58,7 @@ IsCutShort before e xs c =
 -- HOW A BUILD ENDED in a run: at one moment of it, and no answer behind that is its own. It ended by its own answer, or
 -- in the event that made it, as its plan means, by the answers that were its own in the whole run; or a restart cut it
 -- short.
-pub record HasFate (start after : State) (es : List EventData) (rs : List Replied) (c : BuildData) : Type 0 where
+pub record EndedInRun (start after : State) (es : List EventData) (rs : List Replied) (c : BuildData) : Type 0 where
   pub at : Moment start after es rs
   pub ends : EndsIn at.before at.then c
   pub silent : own c.job c.number at.rest at.rest_replies ≡ []
@@ -68,12 +68,12 @@ pub record HasFate (start after : State) (es : List EventData) (rs : List Replie
       ⊎ IsCutShort at.before at.event (own c.job c.number es rs) c
 
 -- EACH BUILD that has ended after a list of events had ended before it, and is as it was; or it ended among them
-abbrev pub EachHasItsFate : Type 0
-EachHasItsFate =
+abbrev pub EachEndedInRun : Type 0
+EachEndedInRun =
     (s after : State) (es : List EventData) (rs : List Replied)
     → IsStart s → AllByRecursion IsEvent es → Run s es rs after
     → (c : BuildData) → build_of c.job c.number after.history.builds ≡ Some c → c.status ≢ Running
-    → (build_of c.job c.number s.history.builds ≡ Some c) ⊎ HasFate s after es rs c
+    → (build_of c.job c.number s.history.builds ≡ Some c) ⊎ EndedInRun s after es rs c
 
 -- WHAT HAS ENDED stays as it is, whatever events come
 abbrev pub EndedStays : Type 0

@@ -1,4 +1,4 @@
--- The room of a problem: how many nodes a proof about it may need at the most.
+-- The node bound of a problem: how many nodes a proof about it may need at the most.
 use Rattle.std.specs.Prelude.{ℕ, ◌+◌, ◌*◌, ◌<◌, List, [], ◌∷◌, length}
 use Rattle.ccr_choice.specs.Problem.{ProblemValue, BuildValue}
 use Rattle.ccr_choice.specs.Satisfies.{Satisfies}
@@ -32,10 +32,10 @@ newest (job ∷ jobs) = newest_number job ∷ newest jobs
 abbrev pub TopFits : Preference → ProblemValue → Type 0
 TopFits prefers p = (top : List ℕ) × AreBestPlaces prefers p nothing_fixed top × Satisfies p top (newest p.jobs)
 
--- The room is 1, where an input has no possible place; else one plus the number of all builds, where the best places
+-- The bound is 1, where an input has no possible place; else one plus the number of all builds, where the best places
 -- fit the newest builds; else the product, or the bound where builds that the inputs see as one are gone into once,
--- whichever is less. A number is below the room where it is below each that applies.
-pub record IsBelowRoom (prefers : Preference) (p : ProblemValue) (n : ℕ) : Type 0 where
+-- whichever is less. A number is below the bound where it is below each that applies.
+pub record IsBelowNodeBound (prefers : Preference) (p : ProblemValue) (n : ℕ) : Type 0 where
   pub product : n < product p.jobs
   pub kinds : n < kinds_bound p
   pub fitting : TopFits prefers p → n < 1 + total p.jobs

@@ -1,7 +1,7 @@
 use Rattle.std.proofs.Common.{◌≡◌, ◌≤◌, ◌+◌, ◌++◌, ◌∷◌, [], length, take, flat_map, codes, string_bytes}
 use Rattle.std.specs.List.{sum_by}
 use Rattle.ccr_lines.specs.Lines.{line}
-use Rattle.ccr_lines.proofs.tell.tell_each_unused.Given as goal
+use Rattle.ccr_lines.proofs.print.print_each_unused.Given as goal
 
 abbrev pub invariant-loop-path : goal.invariant-loop-path
 invariant-loop-path g l = record {

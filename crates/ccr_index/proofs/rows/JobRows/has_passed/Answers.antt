@@ -2,7 +2,7 @@ use Rattle.std.proofs.Common.{◌≢◌, ◌<◌, ℕ, inl, inr, arith}
 use Rattle.std.proofs.lemmas.Bool.{cases_lt, ltb-true, lt-ltb}
 use Rattle.ccr_index.specs.Rows.{last_with}
 use Rattle.ccr_index.proofs.RowLaws.{last_some}
-use Rattle.ccr_index.proofs.rows.JobRows.has_seen.Goals as goal
+use Rattle.ccr_index.proofs.rows.JobRows.has_passed.Goals as goal
 
 above : (n : ℕ) → n ≢ 0 → 0 < n
 above n some = elim (cases_lt 0 n) [ inl less ↦ less | inr none ↦ absurd (some (omega (arith, none))) ]

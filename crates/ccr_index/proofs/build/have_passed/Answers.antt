@@ -6,10 +6,10 @@ use Rattle.ccr_choice.specs.Assignment.{nothing_fixed}
 use Rattle.ccr_choice.specs.Possible.{CanHavePassed}
 use Rattle.ccr_choice.proofs.Places.{input_is}
 use Rattle.ccr_index.proofs.IndexLaws.{rows_are}
-use Rattle.ccr_index.proofs.build.have_seen.Goals as goal
+use Rattle.ccr_index.proofs.build.have_passed.Goals as goal
 
-pub returns-then-not-has_seen : goal.returns-then-not-has_seen
-returns-then-not-has_seen c = (
+pub returns-then-not-has_passed : goal.returns-then-not-has_passed
+returns-then-not-has_passed c = (
   λ t. absurd (false≢true t),
   λ h. absurd (
       let p = c.args.problem.now in
@@ -22,7 +22,7 @@ returns-then-not-has_seen c = (
       let same = rows_are p c.args.jobs.now c.requires.jobs (slice_index js k) c.index-jobs-job.result (c.named-job-items.ensures.below k c.loop-job-test.true) c.index-jobs-job.is in
       let P : List BuildValue → Type 0 = λ bs. Any (λ b. Contains b.pairs (c.scope-scope.result, c.args.place)) bs in
       let Q : ℕ → Type 0 = λ s. Any (λ b. Contains b.pairs (s, c.args.place)) (builds_at p (slice_index js k)) in
-      false≢true (sym c.if-not-has_seen.true ∙ c.has_seen.ensures.1 (subst P (sym same) (subst Q (sym named) (passed k c.loop-job-test.true))))
+      false≢true (sym c.if-not-has_passed.true ∙ c.has_passed.ensures.1 (subst P (sym same) (subst Q (sym named) (passed k c.loop-job-test.true))))
       ),
 )
 
@@ -34,7 +34,7 @@ loop-job-preserved c =
     let same = rows_are p c.args.jobs.now c.requires.jobs (slice_index js k) c.index-jobs-job.result (c.named-job-items.ensures.below k c.loop-job-test.true) c.index-jobs-job.is in
     let P : List BuildValue → Type 0 = λ bs. Any (λ b. Contains b.pairs (c.scope-scope.result, c.args.place)) bs in
     let R : List ℕ → Type 0 = λ ys. P (builds_at p (slice_index ys k)) in
-    below_more _ _ c.loop-job.invariant (subst R c.named-job-items.ensures.value (subst P same (c.has_seen.ensures.0 c.if-not-has_seen.false)))
+    below_more _ _ c.loop-job.invariant (subst R c.named-job-items.ensures.value (subst P same (c.has_passed.ensures.0 c.if-not-has_passed.false)))
 
 pub returns : goal.returns
 returns c = (

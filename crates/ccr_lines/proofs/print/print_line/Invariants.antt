@@ -1,6 +1,6 @@
 use Rattle.std.proofs.Common.{◌≡◌, ◌≤◌, ◌+◌, ◌++◌, length, take, flat_map}
 use Rattle.std.specs.List.{sum_by}
-use Rattle.ccr_lines.proofs.tell.tell_line.Given as goal
+use Rattle.ccr_lines.proofs.print.print_line.Given as goal
 
 abbrev pub invariant-loop-part : goal.invariant-loop-part
 invariant-loop-part g l = record {
