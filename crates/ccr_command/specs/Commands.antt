@@ -43,6 +43,10 @@ certify_named (Some job) None = Some (shows (certificate job))
 certify_named (Some job) (Some number) = option_map (λ n. shows (build_certificate job n)) (number_of number)
 certify_named None number = None
 
+-- a job whose next build is explained, where its name has a value
+abbrev pub explain_named : Form → Option Text → Option CommandData
+explain_named form job = option_map (λ name. shows (explanation form name)) job
+
 -- a version whose builds are shown, where both its arguments have a value
 abbrev pub trace_named : Form → Option Text → Option Text → Option CommandData
 trace_named form (Some resource) (Some pin) = Some (shows (trace form resource pin))
@@ -69,7 +73,8 @@ command_named word values =
     else if bytes_eq word (codes "run") then run_named (first_of (codes "rounds") values)
     else if bytes_eq word (codes "certify")
     then certify_named (first_of (codes "JOB") values) (first_of (codes "N") values)
-    else if bytes_eq word (codes "explain") then option_map (λ job. shows (explanation job)) (first_of (codes "JOB") values)
+    else if bytes_eq word (codes "explain")
+    then explain_named (form_in values) (first_of (codes "JOB") values)
     else if bytes_eq word (codes "build")
     then build_named (form_in values) (first_of (codes "JOB") values) (first_of (codes "N") values)
     else if bytes_eq word (codes "trace")

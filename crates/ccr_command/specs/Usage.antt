@@ -97,7 +97,7 @@ release_commands =
 abbrev pub choice_commands : List Shape
 choice_commands =
     command_shape (codes "certify") (value_rule (codes "JOB") ∷ as_number (extra_rule (codes "N")) ∷ [])
-    ∷ command_shape (codes "explain") (value_rule (codes "JOB") ∷ [])
+    ∷ command_shape (codes "explain") (value_rule (codes "JOB") ∷ flag_rule (codes "json") ∷ [])
     ∷ []
 
 -- ---- the line

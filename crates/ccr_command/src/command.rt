@@ -2,7 +2,7 @@
 ghost use Rattle.std.specs.Prelude.{◌≡◌, Some, IfOk, codes, option_map, string_bytes};
 ghost use Rattle.clap.specs.Words.{first_of, found_of, rows_of};
 ghost use Rattle.ccr_lines.specs.Commands.{command_data, disable_version, enable_version};
-ghost use Rattle.ccr_command.specs.Commands.{pin_named, place_named, run_named, form_in, build_named, trace_named, command_named, command_in};
+ghost use Rattle.ccr_command.specs.Commands.{pin_named, place_named, run_named, form_in, build_named, explain_named, trace_named, command_named, command_in};
 
 use crate::abort::text_of;
 use crate::certify::certify_of;
@@ -118,6 +118,18 @@ fn form_of(values: &ArgMatches<'_>) -> Form
     }
 }
 
+/// The job of these values, whose next build is to be explained; None where it is absent.
+fn explain_of(alloc: Global, values: &ArgMatches<'_>) -> Result<Option<Command>, AllocError>
+    ensures { IfOk result (λ command. option_map command_data command
+        ≡ explain_named (form_in (rows_of (found_of values.now))) (first_of (codes "JOB") (rows_of (found_of values.now)))) }
+{
+    let form = form_of(values);
+    match value_of(alloc, values, "JOB")? {
+        Some(job) => Ok(Some(Command::Explain(job, form))),
+        None => Ok(None),
+    }
+}
+
 /// The build of a job's name and a number as it was typed, which is to be shown; None where the number is out of its range.
 fn numbered(form: Form, job: String, number: &str) -> Option<Command>
     ensures { option_map command_data result ≡ build_named form (Some (string_bytes job)) (Some number.now) }
@@ -177,7 +189,7 @@ fn named(alloc: Global, word: &str, values: &ArgMatches<'_>) -> Result<Option<Co
         "builds" => Ok(Some(Command::Builds)),
         "run" => Ok(run_of(values)),
         "certify" => certify_of(alloc, values),
-        "explain" => Ok(value_of(alloc, values, "JOB")?.map(Command::Explain)),
+        "explain" => explain_of(alloc, values),
         "build" => build_of(alloc, values),
         "trace" => trace_of(alloc, values),
         "get-pipeline" => Ok(Some(Command::GetPipeline)),

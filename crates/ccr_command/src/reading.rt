@@ -203,7 +203,8 @@ Examples:
 
 /// Shows what the next build of a job would take, and why.
 pub(crate) fn explain<'a>(alloc: Global) -> Result<Command<'a>, AllocError>
-    ensures { IfOk result (IsCommand (codes "explain") (value_rule (codes "JOB") ∷ [])) }
+    ensures { IfOk result
+        (IsCommand (codes "explain") (value_rule (codes "JOB") ∷ flag_rule (codes "json") ∷ [])) }
 {
     let job = value(alloc, "JOB", "The job's name");
     command(
@@ -223,11 +224,16 @@ each of the three newest versions that is newer, with the reason why it isn't ta
 
 Where none satisfies, the demands follow that exclude each other. If any one of them is left out, a choice satisfies the rest.
 
+With --json: one line, an object: `job_name`, `next` (what a schedule would say), `has_new_inputs`, `inputs`, and `reason` (why
+none satisfies, or null). An input has its `name`, `resource`, `place` and `version`, in `passed` the builds through which it
+passed the jobs that it names, and in `newer` each newer version with its `place` and the `reason`.
+
 Exit statuses: 0 shown; 1 refused, because there is no pipeline or no such job; 2 usage; 3 the search would go over the
 budget; 4 disk or memory.
 
 Example:
   ccr_run --db ci.db explain deploy",
     )
-    .arg(job)
+    .arg(job)?
+    .arg(json(alloc))
 }

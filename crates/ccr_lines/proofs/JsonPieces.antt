@@ -2,7 +2,7 @@
 use Rattle.std.proofs.Common.{◌≡◌, ◌∷◌, [], List, ℕ, Bool, true, false, ◌&&◌, length, map, flat_map, Option, codes, decimal, refl}
 use Rattle.std.specs.List.{concat}
 use Rattle.serde_json.proofs.OnLiterals.{serde_json_on_literals}
-use Rattle.serde_json.specs.Data.{boolean, string}
+use Rattle.serde_json.specs.Data.{Data, boolean, string}
 use Rattle.serde_json.specs.Written.{compact_text}
 use Rattle.ccr_history.specs.Text.{Text}
 use Rattle.ccr_history.specs.Tables.{TableData, versions_of}
@@ -13,10 +13,14 @@ use Rattle.ccr_pipeline.specs.Inputs.{InputData, inputs}
 use Rattle.ccr_pipeline.specs.JobData.{ResourceData, JobData, scope_of}
 use Rattle.ccr_pipeline.specs.Pipelines.{PipelineData}
 use Rattle.ccr_lines.specs.declared.outlook.Outlook.{Outlook}
+use Rattle.ccr_lines.specs.declared.reason.Reason.{Reason}
+use Rattle.ccr_lines.specs.ExplainJson.{refusal_json, passed_json, taken_json, taken_text, explained_json, explained_text}
+use Rattle.ccr_lines.specs.Explained.{scope_at}
 use Rattle.ccr_lines.specs.JobsJson.{newest_that, build_json, newest_json, input_json, output_json, output_of, is_due, job_json}
 use Rattle.ccr_lines.specs.Json.{list, fields_json, after_comma}
 use Rattle.ccr_lines.specs.Lines.{status_word}
 use Rattle.ccr_lines.specs.Outlooks.{outlook_words}
+use Rattle.ccr_lines.specs.Reasons.{SubjectData, taken, reason_words}
 use Rattle.ccr_lines.specs.ReleaseJson.{version_json, took_json, moved_json, number_json, witness_json, all_together, release_json, release_text}
 use Rattle.ccr_lines.specs.Releases.{resource_at}
 use Rattle.ccr_lines.specs.ResourcesJson.{resource_json}
@@ -99,3 +103,20 @@ pub job_pieces : (rs : List ResourceData) (h : HistoryData) (j : JobData) (o : O
     ∷ codes ",\"outputs\":" ∷ compact_text (list (flat_map (λ r. output_of j.plan r) rs)) ∷ codes "}" ∷ [])
 unfolding job_json serde_json_on_literals
 job_pieces rs h j o = refl
+
+pub refusal_pieces : (s : SubjectData) (i : ℕ) (x : InputData) (place : ℕ) (r : Reason) → after_comma (refusal_json s i x place r)
+    ≡ concat (codes ",{\"place\":" ∷ decimal place
+    ∷ codes ",\"reason\":" ∷ compact_text (string (reason_words s i place r))
+    ∷ codes ",\"version\":" ∷ compact_text (version_json s.history.tables (scope_at s x) place) ∷ codes "}" ∷ [])
+unfolding refusal_json serde_json_on_literals
+refusal_pieces s i x place r = refl
+
+pub taken_pieces : (s : SubjectData) (i : ℕ) (x : InputData) (newer : List Data) → after_comma (taken_json s i x newer)
+    ≡ taken_text s i x (compact_text (list newer))
+unfolding taken_json taken_text serde_json_on_literals
+taken_pieces s i x newer = refl
+
+pub explained_pieces : (j : JobData) (o : Outlook) (each : List Data) (why : Data)
+    → compact_text (explained_json j o each why) ≡ explained_text j o (compact_text (list each)) (compact_text why)
+unfolding explained_json explained_text serde_json_on_literals
+explained_pieces j o each why = refl

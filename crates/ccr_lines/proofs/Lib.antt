@@ -3,6 +3,7 @@ mod Certifying
 mod Claiming
 mod Cores
 mod Explaining
+mod ExplainingJson
 mod Graphing
 mod JobsListing
 mod JsonPieces

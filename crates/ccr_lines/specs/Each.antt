@@ -1,10 +1,9 @@
--- Lines of several things, one behind the other.
+-- Lines, or values, of several things, one behind the other.
 use Rattle.std.specs.Prelude.{◌≡◌, ℕ, ◌+◌, List, [], ◌∷◌, ◌++◌}
-use Rattle.ccr_history.specs.Text.{Text}
 
--- the lines of each of these things, which have numbers from i on: the first thing's lines are some that it may have, and
--- behind them are those of the others
-abbrev pub AreLines : {X : Type 0} → (ℕ → X → Text → Type 0) → ℕ → List X → Text → Type 0
-AreLines May i [] lines = lines ≡ []
-AreLines May i (x ∷ xs) lines =
-    (own : Text) × (others : Text) × May i x own × AreLines May (i + 1) xs others × (lines ≡ own ++ others)
+-- all that is shown of each of these things, which have numbers from i on: first what may be shown of the first thing, and
+-- behind it what is shown of the others
+abbrev pub AreEach : {X Y : Type 0} → (ℕ → X → List Y → Type 0) → ℕ → List X → List Y → Type 0
+AreEach {X} {Y} May i [] all = all ≡ []
+AreEach {X} {Y} May i (x ∷ xs) all =
+    (own : List Y) × (others : List Y) × May i x own × AreEach May (i + 1) xs others × (all ≡ own ++ others)

@@ -19,7 +19,7 @@ use Rattle.ccr_explain.specs.Clash.{IsExplanation}
 use Rattle.ccr_lines.specs.declared.outlook.Outlook.{Outlook}
 use Rattle.ccr_lines.specs.declared.outlook.Outlook.TheVariants.{NoneSatisfies, OverBudget}
 use Rattle.ccr_lines.specs.declared.reason.Reason.{Reason}
-use Rattle.ccr_lines.specs.Each.{AreLines}
+use Rattle.ccr_lines.specs.Each.{AreEach}
 use Rattle.ccr_lines.specs.Lines.{line}
 use Rattle.ccr_lines.specs.Outlooks.{outlook_at, outlook_words}
 use Rattle.ccr_lines.specs.Reasons.{SubjectData, Question, any, taken, job_name, clash_words, reason_words, IsReason}
@@ -79,7 +79,7 @@ newest_three s x = newest_place s x ∷ (newest_place s x - 1) ∷ (newest_place
 -- WHAT INPUT i TAKES, and why it takes none of the three newest places that is newer
 abbrev pub IsInputExplained : SubjectData → ℕ → InputData → Text → Type 0
 IsInputExplained s i x lines =
-    (newer : Text) × AreLines (IsNewerRefused s i x) 0 (newest_three s x) newer × (lines ≡ taken_line s i x ++ newer)
+    (newer : Text) × AreEach (IsNewerRefused s i x) 0 (newest_three s x) newer × (lines ≡ taken_line s i x ++ newer)
 
 -- ---- a job
 -- the next build of a job, with the choice for it
@@ -103,26 +103,3 @@ abbrev pub clash_lines : JobData → Explanation → Text
 clash_lines j (explanation.Clash c) = line (clash_words any (inputs j.plan) (named_jobs [] (inputs j.plan)) c ∷ [])
 clash_lines j (explanation.Fits c) = []
 clash_lines j (explanation.OverBudget n) = line (codes "over budget " ∷ decimal n ∷ [])
-
--- what is said of a job by what was chosen: what each input takes; why there is none; or that the search went over the
--- budget, with status 3
-abbrev pub IsExplainedBy : PipelineData → HistoryData → ℕ → JobData → ProblemValue → Chosen → ℕ → Text → Type 0
-IsExplainedBy p h budget j q (chosen.Best c) status lines =
-    (status ≡ 0) × ((each : Text) × AreLines (IsInputExplained (subject_of p h budget j q c)) 0 (inputs j.plan) each
-    × (lines ≡ outlook_line j (outlook_at p h j c.places) ++ each))
-IsExplainedBy p h budget j q chosen.Nothing status lines =
-    (status ≡ 0) × ((e : Explanation) × IsExplanation (order_of q) q budget e
-    × (lines ≡ outlook_line j NoneSatisfies ++ clash_lines j e))
-IsExplainedBy p h budget j q (chosen.OverBudget n) status lines =
-    (status ≡ 3) × (lines ≡ outlook_line j (OverBudget n))
-
--- THE NEXT BUILD OF A JOB, explained by what may be chosen for its problem
-abbrev pub IsJobExplained : PipelineData → HistoryData → ℕ → JobData → ℕ → Text → Type 0
-IsJobExplained p h budget j status lines =
-    (q : ProblemValue) × (c : Chosen) × IsProblemOf p h j.name q × IsChosen (order_of q) q budget c
-    × IsExplainedBy p h budget j q c status lines
-
--- the same of the job of a name, which the pipeline has
-abbrev pub IsExplained : PipelineData → HistoryData → ℕ → Text → ℕ → Text → Type 0
-IsExplained p h budget job status lines =
-    IsSomeAnd (job_of job p.jobs) (λ j. IsJobExplained p h budget j status lines)

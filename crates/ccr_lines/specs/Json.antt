@@ -1,5 +1,5 @@
 -- JSON values that are shown, and their texts.
-use Rattle.std.specs.Prelude.{List, [], ◌∷◌, ◌++◌, drop, Option}
+use Rattle.std.specs.Prelude.{◌≡◌, List, [], ◌∷◌, ◌++◌, drop, flat_map, Option}
 use Rattle.std.specs.Option.{option_map_or}
 use Rattle.serde_json.specs.Data.{Data, null, array, object}
 use Rattle.serde_json.specs.View.{items_of}
@@ -28,3 +28,7 @@ after_comma d = 44 ∷ compact_text d
 -- an array of the values in this text, each of which stands behind a comma
 abbrev pub array_of : Text → Text
 array_of items = 91 ∷ (drop 1 items ++ 93 ∷ [])
+
+-- each of these values behind a comma, of some that there may be
+abbrev pub AreItems : (List Data → Type 0) → Text → Type 0
+AreItems May items = (ds : List Data) × May ds × (items ≡ flat_map after_comma ds)

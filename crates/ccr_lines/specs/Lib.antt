@@ -2,6 +2,7 @@ pub mod BuildCertificates
 pub mod Certificates
 pub mod Commands
 pub mod Each
+pub mod ExplainJson
 pub mod Explained
 pub mod Graphs
 pub mod JobsJson

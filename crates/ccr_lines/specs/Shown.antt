@@ -23,7 +23,7 @@ use Rattle.ccr_lines.specs.declared.shown.Shown.TheVariants as value
 use Rattle.ccr_lines.specs.declared.shown.ShowFault.{ShowFault}
 use Rattle.ccr_lines.specs.declared.shown.ShowFault.TheVariants as why
 use Rattle.ccr_lines.specs.declared.form.Form.{Form}
-use Rattle.ccr_lines.specs.Explained.{IsExplained}
+use Rattle.ccr_lines.specs.ExplainJson.{IsExplained}
 use Rattle.ccr_lines.specs.Lines.{line, build_line, status_word}
 use Rattle.ccr_lines.specs.Needs.{Need, no_need, a_pipeline, a_resource, a_job, a_pin, a_build, pin_in, IsMet, Lacks, LacksPin}
 use Rattle.ccr_lines.specs.ResourcesJson.{resources_shown}
@@ -44,7 +44,7 @@ pub data ShownData : Type 0 where
   problem : (job : Text) → ShownData
   proof : (job : Text) → ShownData
   certificate : (job : Text) → ShownData
-  explanation : (job : Text) → ShownData
+  explanation : (form : Form) (job : Text) → ShownData
   pipeline : ShownData
   resources : (form : Form) → ShownData
   jobs : (form : Form) → ShownData
@@ -60,7 +60,7 @@ shown_data (value.Versions resource) = versions resource.now
 shown_data (value.Problem job) = problem job.now
 shown_data (value.Proof job) = proof job.now
 shown_data (value.Certificate job) = certificate job.now
-shown_data (value.Explanation job) = explanation job.now
+shown_data (value.Explanation job form) = explanation form job.now
 shown_data value.Pipeline = pipeline
 shown_data (value.Resources form) = resources form
 shown_data (value.Jobs form) = jobs form
@@ -76,7 +76,7 @@ needs (versions resource) = a_resource resource
 needs (problem job) = a_job job
 needs (proof job) = a_job job
 needs (certificate job) = a_job job
-needs (explanation job) = a_job job
+needs (explanation form job) = a_job job
 needs pipeline = a_pipeline
 needs (resources form) = a_pipeline
 needs (jobs form) = a_pipeline
@@ -145,7 +145,7 @@ IsShown (versions resource) p h budget status lines = (status ≡ 0) × IsVersio
 IsShown (problem job) p h budget status lines = (status ≡ 0) × IsProblemShown p h job lines
 IsShown (proof job) p h budget status lines = IsProofShown p h budget job status lines
 IsShown (certificate job) p h budget status lines = IsCertificateShown p h budget job status lines
-IsShown (explanation job) p h budget status lines = IsExplained p h budget job status lines
+IsShown (explanation form job) p h budget status lines = IsExplained form p h budget job status lines
 IsShown pipeline p h budget status lines = (status ≡ 0) × (lines ≡ p.text)
 IsShown (resources form) p h budget status lines = (status ≡ 0) × (lines ≡ resources_shown form h p.resources)
 IsShown (jobs form) p h budget status lines = (status ≡ 0) × AreJobs form p h budget p.jobs lines

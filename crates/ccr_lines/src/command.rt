@@ -26,7 +26,7 @@ pub enum Command {
     /// Both are shown in one text, which the checker accepts.
     Certify(String),
     /// What the next build of the job of this name would take is shown, and why nothing newer, or why there is none.
-    Explain(String),
+    Explain(String, Form),
     /// What the job's build of this number took is shown in one text, of which the checker says that it satisfies.
     CertifyBuild(String, u32),
     /// A build of the job of this name is made, and run to its end.

@@ -17,13 +17,16 @@ ghost use Rattle.ccr_history.specs.Text.{Text};
 ghost use Rattle.ccr_resolve.specs.declared.chosen.Chosen.TheVariants as chosen;
 ghost use Rattle.ccr_lines.specs.Outlooks.{outlook_at};
 ghost use Rattle.ccr_resolve.specs.Chosen.{IsChosen};
-ghost use Rattle.ccr_lines.specs.Each.{AreLines};
-ghost use Rattle.ccr_lines.specs.Explained.{scope_at, place_words, build_words, further_builds, through_words, taken_line, newest_place, newest_three, IsRefusal, IsNewerRefused, IsInputExplained, subject_of, outlook_line, clash_lines, IsExplainedBy, IsJobExplained};
+ghost use Rattle.ccr_lines.specs.Each.{AreEach};
+ghost use Rattle.ccr_lines.specs.Explained.{scope_at, place_words, build_words, further_builds, through_words, taken_line, newest_place, newest_three, IsRefusal, IsNewerRefused, IsInputExplained, outlook_line, clash_lines};
+ghost use Rattle.ccr_lines.specs.ExplainJson.{IsBestShown, none_shown, over_shown, IsExplainedBy, IsJobExplained};
 ghost use Rattle.ccr_lines.specs.Reasons.{subject_data, reason_words, taken, IsSubject};
 ghost use Rattle.ccr_lines.specs.Shown.{needs, IsMade, IsUnshown};
 ghost use Rattle.ccr_lines.specs.Shown as spec;
 
 use crate::asked::Asked;
+use crate::explain_json::{best_json, none_json, over_json};
+use crate::form::Form;
 use crate::held::job_held;
 use crate::outlook::{Outlook, outlook_at, push_outlook};
 use crate::past::named_jobs;
@@ -46,7 +49,7 @@ use std::alloc::{AllocError, Global};
 // ---- one input
 
 /// The number that the history has for an input's scope.
-fn scope_at(subject: &Subject<'_>, input: &Input) -> u32
+pub(crate) fn scope_at(subject: &Subject<'_>, input: &Input) -> u32
     ensures { result ≡ scope_at (subject_data subject.now) (input_data input.now) }
 {
     history_number(subject.pipeline, subject.history, input.resource.as_str())
@@ -191,7 +194,7 @@ fn newer_text(
 }
 
 /// The place of the newest version in an input's scope; 0 where it has none.
-fn newest_place(subject: &Subject<'_>, input: &Input) -> u32
+pub(crate) fn newest_place(subject: &Subject<'_>, input: &Input) -> u32
     ensures { result ≡ newest_place (subject_data subject.now) (input_data input.now) }
 {
     // A scope has few versions.
@@ -209,7 +212,7 @@ fn newer_texts(
     requires subject { IsSubject (subject_data subject.now) }
     requires within { number < length (subject_data subject.now).inputs }
     ensures { let s = subject_data subject.now in let x = input_data input.now in
-        IfOk result (λ text. AreLines (IsNewerRefused s number x) 0 (newest_three s x) (string_bytes text)) }
+        IfOk result (λ text. AreEach (IsNewerRefused s number x) 0 (newest_three s x) (string_bytes text)) }
 {
     let newest = newest_place(subject, input);
     let mut text = newer_text(alloc, subject, number, input, newest)?;
@@ -242,7 +245,7 @@ fn input_text(
 fn inputs_text(alloc: Global, subject: &Subject<'_>) -> Result<String, AllocError>
     requires { IsSubject (subject_data subject.now) }
     ensures { let s = subject_data subject.now in
-        IfOk result (λ text. AreLines (IsInputExplained s) 0 s.inputs (string_bytes text)) }
+        IfOk result (λ text. AreEach (IsInputExplained s) 0 s.inputs (string_bytes text)) }
 {
     let mut text = String::new(alloc);
     for (number, input) in subject.inputs.iter().enumerate() {
@@ -266,15 +269,35 @@ fn outlook_text(alloc: Global, job: &Job, outlook: Outlook) -> Result<String, Al
     Ok(text)
 }
 
+/// What is said of a job for whose next build a choice was found, as lines.
+fn best_text(
+    alloc: Global,
+    subject: &Subject<'_>,
+    job: &Job,
+    outlook: Outlook,
+) -> Result<String, AllocError>
+    requires { IsSubject (subject_data subject.now) }
+    ensures { let s = subject_data subject.now in IfOk result (λ text. (each : Text)
+        × AreEach (IsInputExplained s) 0 s.inputs each
+        × (string_bytes text ≡ outlook_line (job_data job.now) outlook ++ each)) }
+{
+    let mut text = outlook_text(alloc, job, outlook)?;
+    let each = inputs_text(alloc, subject)?;
+    text.push_str(each.as_str())?;
+    Ok(text)
+}
+
 /// What is said of a job for whose next build a choice was found.
-fn best_text(alloc: Global, subject: &Subject<'_>, job: &Job) -> Result<String, AllocError>
+fn best_shown(
+    alloc: Global,
+    form: Form,
+    subject: &Subject<'_>,
+    job: &Job,
+) -> Result<Vec<u8>, AllocError>
     requires subject { IsSubject (subject_data subject.now) }
     requires found { let s = subject_data subject.now in
         IsFound s.pipeline s.history s.budget (job_data job.now).name (best s.choice.places) }
-    ensures { let s = subject_data subject.now in IfOk result (λ text. (each : Text)
-        × AreLines (IsInputExplained s) 0 s.inputs each
-        × (string_bytes text ≡ outlook_line (job_data job.now)
-        (outlook_at s.pipeline s.history (job_data job.now) s.choice.places) ++ each)) }
+    ensures { IfOk result (λ text. IsBestShown form (subject_data subject.now) (job_data job.now) text.items) }
 {
     let choice = subject.choice;
     let outlook = outlook_at(
@@ -285,29 +308,30 @@ fn best_text(alloc: Global, subject: &Subject<'_>, job: &Job) -> Result<String, 
         &choice.places,
         subject.budget,
     )?;
-    let mut text = outlook_text(alloc, job, outlook)?;
-    let each = inputs_text(alloc, subject)?;
-    text.push_str(each.as_str())?;
-    Ok(text)
+    match form {
+        Form::Lines => Ok(best_text(alloc, subject, job, outlook)?.into_bytes()),
+        Form::Json => best_json(alloc, subject, job, outlook),
+    }
 }
 
 /// What is said of a job by the choice for its problem.
-fn chosen_text(
+fn chosen_shown(
     alloc: Global,
+    form: Form,
     pipeline: &Pipeline,
     history: &History,
     job: &Job,
     problem: &Problem,
     choice: &Choice,
     budget: u32,
-) -> Result<String, AllocError>
+) -> Result<Vec<u8>, AllocError>
     requires problem { IsProblemOf (pipeline_data pipeline.now) history.now (job_data job.now).name problem.now }
     requires there { let j = job_data job.now in job_of j.name (pipeline_data pipeline.now).jobs ≡ Some j }
     requires best { IsOptimal (order_of problem.now) problem.now choice.now.places choice.now.builds }
     requires least { 1 ≤ budget }
     requires most { budget ≤ MOST_NODES }
-    ensures { IfOk result (λ text. IsExplainedBy (pipeline_data pipeline.now) history.now budget (job_data job.now)
-        problem.now (chosen.Best choice.now) 0 (string_bytes text)) }
+    ensures { IfOk result (λ text. IsExplainedBy form (pipeline_data pipeline.now) history.now budget
+        (job_data job.now) problem.now (chosen.Best choice.now) 0 text.items) }
 {
     let inputs = inputs_of(alloc, job)?;
     let jobs = named_jobs(alloc, &inputs)?;
@@ -320,10 +344,10 @@ fn chosen_text(
         choice,
         budget,
     };
-    best_text(alloc, &subject, job)
+    best_shown(alloc, form, &subject, job)
 }
 
-/// Why nothing satisfies, behind what is said of the job.
+/// Why nothing satisfies, behind what is said of the job, as lines.
 fn clash_text(
     alloc: Global,
     job: &Job,
@@ -351,48 +375,81 @@ fn clash_text(
     Ok(text)
 }
 
+/// Why nothing satisfies, with what is said of the job.
+fn clash_shown(
+    alloc: Global,
+    form: Form,
+    job: &Job,
+    gets: &[Input],
+    jobs: &[String],
+    shown: &Explanation,
+) -> Result<Vec<u8>, AllocError>
+    requires gets { map input_data gets.now ≡ inputs (job_data job.now).plan }
+    requires jobs { map string_bytes jobs.now ≡ named_jobs [] (inputs (job_data job.now).plan) }
+    ensures { IfOk result (λ text. text.items ≡ none_shown form (job_data job.now) shown.now) }
+{
+    match form {
+        Form::Lines => Ok(clash_text(alloc, job, gets, jobs, shown)?.into_bytes()),
+        Form::Json => none_json(alloc, job, gets, jobs, shown),
+    }
+}
+
 /// What is said of a job whose problem has no choice.
-fn none_text(alloc: Global, job: &Job, problem: &Problem, budget: u32) -> Result<String, AllocError>
+fn none_shown(
+    alloc: Global,
+    form: Form,
+    job: &Job,
+    problem: &Problem,
+    budget: u32,
+) -> Result<Vec<u8>, AllocError>
     requires least { 1 ≤ budget }
     requires most { budget ≤ MOST_NODES }
     ensures { IfOk result (λ text. (e : Explanation) × IsExplanation (order_of problem.now) problem.now budget e
-        × (string_bytes text ≡ outlook_line (job_data job.now) Outlook.NoneSatisfies ++ clash_lines (job_data job.now) e)) }
+        × (text.items ≡ none_shown form (job_data job.now) e)) }
 {
     let inputs = inputs_of(alloc, job)?;
     let jobs = named_jobs(alloc, &inputs)?;
     let shown = clash(alloc, problem, budget)?;
-    let text = clash_text(alloc, job, &inputs, &jobs, &shown)?;
+    let text = clash_shown(alloc, form, job, &inputs, &jobs, &shown)?;
     Ok(text)
+}
+
+/// What is said of a job where the search went over the budget.
+fn over_shown(alloc: Global, form: Form, job: &Job, budget: u32) -> Result<Vec<u8>, AllocError>
+    ensures { IfOk result (λ text. text.items ≡ over_shown form (job_data job.now) budget) }
+{
+    match form {
+        Form::Lines => Ok(outlook_text(alloc, job, Outlook::OverBudget(budget))?.into_bytes()),
+        Form::Json => over_json(alloc, job, budget),
+    }
 }
 
 /// What is said of a job by what was chosen, with the status.
 fn explained_by(
     alloc: Global,
+    form: Form,
     pipeline: &Pipeline,
     history: &History,
     job: &Job,
     problem: &Problem,
     chosen: &Chosen,
     budget: u32,
-) -> Result<(u8, String), AllocError>
+) -> Result<(u8, Vec<u8>), AllocError>
     requires problem { IsProblemOf (pipeline_data pipeline.now) history.now (job_data job.now).name problem.now }
     requires there { let j = job_data job.now in job_of j.name (pipeline_data pipeline.now).jobs ≡ Some j }
     requires chosen { IsChosen (order_of problem.now) problem.now budget chosen.now }
     requires least { 1 ≤ budget }
     requires most { budget ≤ MOST_NODES }
-    ensures { IfOk result (λ r. IsExplainedBy (pipeline_data pipeline.now) history.now budget (job_data job.now)
-        problem.now chosen.now r.0 (string_bytes r.1)) }
+    ensures { IfOk result (λ r. IsExplainedBy form (pipeline_data pipeline.now) history.now budget (job_data job.now)
+        problem.now chosen.now r.0 r.1.items) }
 {
     match chosen {
         Chosen::Best(choice) => {
-            let text = chosen_text(alloc, pipeline, history, job, problem, choice, budget)?;
+            let text = chosen_shown(alloc, form, pipeline, history, job, problem, choice, budget)?;
             Ok((0, text))
         }
-        Chosen::Nothing => Ok((0, none_text(alloc, job, problem, budget)?)),
-        Chosen::OverBudget(most) => {
-            let text = outlook_text(alloc, job, Outlook::OverBudget(*most))?;
-            Ok((3, text))
-        }
+        Chosen::Nothing => Ok((0, none_shown(alloc, form, job, problem, budget)?)),
+        Chosen::OverBudget(most) => Ok((3, over_shown(alloc, form, job, *most)?)),
     }
 }
 
@@ -400,21 +457,24 @@ fn explained_by(
 /// than `budget` nodes, from 1 to 1,000,000, would be needed. The pipeline has the job.
 fn explained_of(
     alloc: Global,
+    form: Form,
     pipeline: &Pipeline,
     history: &History,
     job: &Job,
     budget: u32,
-) -> Result<(u8, String), AllocError>
+) -> Result<(u8, Vec<u8>), AllocError>
     requires there { let j = job_data job.now in job_of j.name (pipeline_data pipeline.now).jobs ≡ Some j }
     requires least { 1 ≤ budget }
     requires most { budget ≤ MOST_NODES }
     ensures { IfOk result (λ r.
-        IsJobExplained (pipeline_data pipeline.now) history.now budget (job_data job.now) r.0 (string_bytes r.1)) }
+        IsJobExplained form (pipeline_data pipeline.now) history.now budget (job_data job.now) r.0 r.1.items) }
 {
     let problem = problem_in(alloc, pipeline, history, job.name.as_str())?;
     let index = build_index(alloc, &problem)?;
     let chosen = choose(alloc, &index, budget)?;
-    let explained = explained_by(alloc, pipeline, history, job, &problem, &chosen, budget)?;
+    let explained = explained_by(
+        alloc, form, pipeline, history, job, &problem, &chosen, budget,
+    )?;
     Ok(explained)
 }
 
@@ -422,11 +482,12 @@ fn explained_of(
 pub(crate) fn explained_made(
     alloc: Global,
     core: &Core,
+    form: Form,
     name: &str,
 ) -> Result<(u8, Vec<u8>), ShowFault>
-    ensures made { IfOk result (λ r. IsMade (spec.explanation name.now) (core_data core.now) r.0 r.1.items) }
+    ensures made { IfOk result (λ r. IsMade (spec.explanation form name.now) (core_data core.now) r.0 r.1.items) }
     ensures unshown { let c = core_data core.now in
-        IfErr result (IsUnshown (needs (spec.explanation name.now)) c.pipeline c.history) }
+        IfErr result (IsUnshown (needs (spec.explanation form name.now)) c.pipeline c.history) }
 {
     // What a core keeps says that its budget is one that a search takes.
     core.rules();
@@ -434,6 +495,6 @@ pub(crate) fn explained_made(
         Ok(held) => held,
         Err(fault) => return Err(ShowFault::Lacks(fault)),
     };
-    let (status, text) = explained_of(alloc, pipeline, core.history(), job, core.budget())?;
-    Ok((status, text.into_bytes()))
+    let explained = explained_of(alloc, form, pipeline, core.history(), job, core.budget())?;
+    Ok(explained)
 }

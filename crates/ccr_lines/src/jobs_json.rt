@@ -243,7 +243,7 @@ fn outputs_text(alloc: Global, job: &Job, resources: &[Resource]) -> Result<Vec<
 // ---- jobs
 
 /// Whether a schedule would make a build.
-fn is_due(outlook: Outlook) -> bool
+pub(crate) fn is_due(outlook: Outlook) -> bool
     ensures { result ≡ is_due outlook }
 {
     match outlook {
@@ -256,7 +256,7 @@ fn is_due(outlook: Outlook) -> bool
 }
 
 /// An outlook in words, as a JSON string.
-fn outlook_text(alloc: Global, outlook: Outlook) -> Result<Vec<u8>, AllocError>
+pub(crate) fn outlook_text(alloc: Global, outlook: Outlook) -> Result<Vec<u8>, AllocError>
     ensures { IfOk result (λ text. text.items ≡ compact_text (string (outlook_words outlook))) }
 {
     let mut words = String::new(alloc);

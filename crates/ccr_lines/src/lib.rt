@@ -15,6 +15,7 @@ mod certificate;
 mod command;
 mod edge;
 mod explain;
+mod explain_json;
 mod form;
 mod graph;
 mod held;

@@ -21,7 +21,7 @@ use std::alloc::{AllocError, Global};
 // ---- versions
 
 /// The version at a place of the scope of this number; null where there is none.
-fn version_text(
+pub(crate) fn version_text(
     alloc: Global,
     history: &History,
     scope: u32,
@@ -130,7 +130,7 @@ fn number_text(alloc: Global, found: Option<u32>) -> Result<Vec<u8>, AllocError>
 }
 
 /// Adds the build of a job that shows that pairs passed it together, behind a comma; null where there is none.
-fn push_witness(
+pub(crate) fn push_witness(
     alloc: Global,
     out: &mut Vec<u8>,
     job: &str,

@@ -21,7 +21,7 @@ pub enum Shown<'a> {
     /// Both in one text, which the checker accepts.
     Certificate(&'a str),
     /// What the next build of the job of this name would take, and why nothing newer, or why there is none.
-    Explanation(&'a str),
+    Explanation(&'a str, Form),
     /// The text of the pipeline, as it was set.
     Pipeline,
     /// The resources of the pipeline, with their versions counted and their pins.

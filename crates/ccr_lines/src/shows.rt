@@ -156,7 +156,7 @@ fn made(alloc: Global, what: Shown<'_>, core: &Core) -> Result<(u8, Vec<u8>), Sh
         Shown::Problem(job) => problem_made(alloc, core, job),
         Shown::Proof(job) => proof_made(alloc, core, job),
         Shown::Certificate(job) => certificate_made(alloc, core, job),
-        Shown::Explanation(job) => explained_made(alloc, core, job),
+        Shown::Explanation(job, form) => explained_made(alloc, core, form, job),
         Shown::Pipeline => pipeline_made(alloc, core),
         Shown::Resources(form) => resources_made(alloc, core, form),
         Shown::Jobs(form) => jobs_made(alloc, core, form),

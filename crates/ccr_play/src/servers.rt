@@ -89,7 +89,10 @@ fn command_of(alloc: Global, kind: &str, words: &str) -> Result<Option<Command>,
         "resolve" => Command::Resolve(name),
         "problem" => Command::Problem(name),
         "certify" => certify_of(alloc, words)?,
-        "explain" => Command::Explain(name),
+        "explain" => {
+            let (form, job) = form_of(words);
+            Command::Explain(String::from_str(alloc, job)?, form)
+        }
         "trigger-job" => Command::TriggerJob(name),
         "builds" => Command::Builds,
         "build" => {

@@ -63,7 +63,7 @@ impl<R: Runner, S: Shelf, T: Storage> Server<R, S, T> {
             Command::CertifyBuild(job, number) => {
                 self.show(Shown::BuildCertificate(job.as_str(), *number), out)
             }
-            Command::Explain(job) => self.show(Shown::Explanation(job.as_str()), out),
+            Command::Explain(job, form) => self.show(Shown::Explanation(job.as_str(), *form), out),
             Command::TriggerJob(job) => self.trigger_job(job.as_str(), out),
             Command::Builds => self.show(Shown::Builds, out),
             Command::Build(job, number, form) => {

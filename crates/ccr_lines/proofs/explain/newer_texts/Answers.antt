@@ -1,12 +1,15 @@
 use Rattle.std.proofs.Common.{◌++◌, ◌∙◌, ap, string_bytes}
 use Rattle.ccr_pipeline.specs.Inputs.{input_data}
+use Rattle.ccr_lines.specs.Explained.{IsNewerRefused}
 use Rattle.ccr_lines.specs.Reasons.{subject_data}
-use Rattle.ccr_lines.proofs.Explaining.{newer_so}
+use Rattle.ccr_lines.proofs.Explaining.{newest_so}
 use Rattle.ccr_lines.proofs.explain.newer_texts.Goals as goal
 
 pub returns : goal.returns
 returns c =
-    newer_so (subject_data c.args.subject.now) c.args.number (input_data c.args.input.now) c.newest_place-newest.result
+    let s = subject_data c.args.subject.now in
+    let x = input_data c.args.input.now in
+    newest_so (λ place text. IsNewerRefused s c.args.number x 0 place text) s x c.newest_place-newest.result
     c.saturating_sub.result c.saturating_sub-2.result (string_bytes c.in_ok-text.text)
     (string_bytes c.in_ok-second.second) (string_bytes c.in_ok-third.third) (string_bytes c.push_str-2.new.self)
     c.newest_place-newest.ensures c.saturating_sub.ensures c.saturating_sub-2.ensures c.in_ok-text.ensures
