@@ -65,6 +65,21 @@ fn form_of(words: &str) -> (Form, &str) {
     }
 }
 
+/// The command of a line that may ask for JSON, if it is one.
+fn formed_of(alloc: Global, kind: &str, words: &str) -> Result<Option<Command>, AllocError> {
+    let (form, words) = form_of(words);
+    let (name, other) = split(words);
+    let name = String::from_str(alloc, name)?;
+    Ok(Some(match kind {
+        "resources" => Command::Resources(form),
+        "jobs" => Command::Jobs(form),
+        "explain" => Command::Explain(name, form),
+        "build" => Command::Build(name, number_of(other), form),
+        "trace" => Command::Trace(name, String::from_str(alloc, other)?, form),
+        _ => return Ok(None),
+    }))
+}
+
 /// The command of a line, if it is one.
 fn command_of(alloc: Global, kind: &str, words: &str) -> Result<Option<Command>, AllocError> {
     let name = String::from_str(alloc, words)?;
@@ -89,29 +104,12 @@ fn command_of(alloc: Global, kind: &str, words: &str) -> Result<Option<Command>,
         "resolve" => Command::Resolve(name),
         "problem" => Command::Problem(name),
         "certify" => certify_of(alloc, words)?,
-        "explain" => {
-            let (form, job) = form_of(words);
-            Command::Explain(String::from_str(alloc, job)?, form)
-        }
         "trigger-job" => Command::TriggerJob(name),
         "builds" => Command::Builds,
-        "build" => {
-            let (form, words) = form_of(words);
-            let (job, number) = split(words);
-            Command::Build(String::from_str(alloc, job)?, number_of(number), form)
-        }
-        "trace" => {
-            let (form, words) = form_of(words);
-            let (resource, pin) = split(words);
-            let resource = String::from_str(alloc, resource)?;
-            Command::Trace(resource, String::from_str(alloc, pin)?, form)
-        }
         "get-pipeline" => Command::GetPipeline,
-        "resources" => Command::Resources(form_of(words).0),
-        "jobs" => Command::Jobs(form_of(words).0),
         "graph" => Command::Graph,
         "run" => Command::Run(number_of(words)),
-        _ => return Ok(None),
+        _ => return formed_of(alloc, kind, words),
     }))
 }
 
