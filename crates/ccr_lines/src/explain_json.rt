@@ -1,5 +1,5 @@
 //! What the next build of a job would take, and why nothing newer; or why there is none: as JSON.
-ghost use Rattle.std.specs.Prelude.{◌≡◌, ◌<◌, ◌++◌, ◌∷◌, [], length, true, flat_map, string_bytes, IfOk, OnOk};
+ghost use Rattle.std.specs.Prelude.{◌≡◌, ◌<◌, ◌++◌, ◌∷◌, [], List, length, map, true, flat_map, string_bytes, IfOk, OnOk};
 ghost use Rattle.serde_json.specs.Data.{Data, null, string};
 ghost use Rattle.serde_json.specs.Written.{compact_text};
 ghost use Rattle.ccr_pipeline.specs.Inputs.{input_data, inputs, named_jobs};
@@ -241,6 +241,13 @@ fn inputs_items(alloc: Global, subject: &Subject<'_>) -> Result<Vec<u8>, AllocEr
 
 // ---- a job
 
+/// No reason.
+fn null_text(alloc: Global) -> Result<Vec<u8>, AllocError>
+    ensures { IfOk result (λ text. text.items ≡ compact_text null) }
+{
+    Vec::from_slice(alloc, "null".as_bytes())
+}
+
 /// A job with what its next build would be, these texts of what each input takes, each behind a comma, and why there is no such
 /// build, on a line.
 fn job_line(
@@ -248,10 +255,10 @@ fn job_line(
     job: &Job,
     outlook: Outlook,
     each: &[u8],
-    why: &[u8],
+    why: Vec<u8>,
 ) -> Result<Vec<u8>, AllocError>
     ensures { IfOk result (λ line. line.items
-        ≡ explained_text (job_data job.now) outlook (array_of each.now) why.now ++ 10 ∷ []) }
+        ≡ explained_text (job_data job.now) outlook (array_of each.now) why.items ++ 10 ∷ []) }
 {
     let inputs = array_text(alloc, each)?;
     let name = string_text(alloc, job.name.as_str())?;
@@ -266,7 +273,7 @@ fn job_line(
         ",\"next\":".as_bytes(),
         next.as_slice(),
         ",\"reason\":".as_bytes(),
-        why,
+        why.as_slice(),
         "}".as_bytes(),
     ];
     let mut text = Vec::new(alloc);
@@ -288,7 +295,8 @@ pub(crate) fn best_json(
         × (text.items ≡ json_line (explained_json (job_data job.now) outlook each null))) }
 {
     let each = inputs_items(alloc, subject)?;
-    let line = job_line(alloc, job, outlook, &each, "null".as_bytes())?;
+    let why = null_text(alloc)?;
+    let line = job_line(alloc, job, outlook, &each, why)?;
     Ok(line)
 }
 
@@ -304,7 +312,7 @@ fn clash_text(
 {
     let mut words = String::new(alloc);
     match shown {
-        Explanation::Fits(_) => return Vec::from_slice(alloc, "null".as_bytes()),
+        Explanation::Fits(_) => return null_text(alloc),
         Explanation::Clash(clash) => push_clash(&mut words, Asked::Any, gets, jobs, clash)?,
         Explanation::OverBudget(budget) => push_number(&mut words, "over budget ", *budget)?,
     }
@@ -325,7 +333,7 @@ pub(crate) fn none_json(
         ≡ json_line (explained_json j Outlook.NoneSatisfies [] (clash_json is (named_jobs [] is) shown.now))) }
 {
     let why = clash_text(alloc, gets, jobs, shown)?;
-    let line = job_line(alloc, job, Outlook::NoneSatisfies, &[], &why)?;
+    let line = job_line(alloc, job, Outlook::NoneSatisfies, &[], why)?;
     Ok(line)
 }
 
@@ -334,12 +342,7 @@ pub(crate) fn over_json(alloc: Global, job: &Job, budget: u32) -> Result<Vec<u8>
     ensures { IfOk result (λ text. text.items
         ≡ json_line (explained_json (job_data job.now) (Outlook.OverBudget budget) [] null)) }
 {
-    let line = job_line(
-        alloc,
-        job,
-        Outlook::OverBudget(budget),
-        &[],
-        "null".as_bytes(),
-    )?;
+    let why = null_text(alloc)?;
+    let line = job_line(alloc, job, Outlook::OverBudget(budget), &[], why)?;
     Ok(line)
 }

@@ -9,6 +9,6 @@ returns c = (
   c.in_ok-each.ensures.0,
   c.in_ok-each.ensures.1,
   explained_told (job_data c.args.job.now) c.args.outlook c.in_ok-each.ensures.0 null c.deref.result.now
-      c.as_bytes.result.now c.in_ok-line.line.items (c.deref.ensures.value ∙ c.in_ok-each.ensures.2) c.as_bytes.ensures.value
+      c.in_ok-why.why.items c.in_ok-line.line.items (c.deref.ensures.value ∙ c.in_ok-each.ensures.2) c.in_ok-why.ensures
       c.in_ok-line.ensures,
 )

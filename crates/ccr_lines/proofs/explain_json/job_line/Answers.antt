@@ -11,7 +11,7 @@ pub returns : goal.returns
 unfolding explained_text
 returns c =
     let j = job_data c.args.job.now in
-    let whole = explained_text j c.args.outlook (array_of c.args.each.now) c.args.why.now in
+    let whole = explained_text j c.args.outlook (array_of c.args.each.now) c.args.why.items in
     c.in_ok-line.ensures ∙ ap (λ t. t ++ 10 ∷ [])
     (pieces_told c.new-text.result.items c.push_pieces.new.out.items whole
     (and c.as_bytes.ensures.value
@@ -23,6 +23,6 @@ returns c =
     (and c.as_bytes-5.ensures.value
     (and (c.as_slice-3.ensures.value ∙ c.in_ok-next.ensures)
     (and c.as_bytes-6.ensures.value
-    (and refl
+    (and c.as_slice-4.ensures.value
     (last c.as_bytes-7.ensures.value)))))))))))
     refl c.in_ok-push_pieces.ensures ∙ ap (λ t. t ++ whole) c.new-text.ensures.items)

@@ -11,8 +11,8 @@ pub returns : goal.returns
 returns c =
     let j = job_data c.args.job.now in
     let is = inputs j.plan in
-    explained_told j NoneSatisfies [] (clash_json is (named_jobs [] is) c.args.shown.now) [] c.deref.result.now
+    explained_told j NoneSatisfies [] (clash_json is (named_jobs [] is) c.args.shown.now) [] c.in_ok-why.why.items
     c.in_ok-line.line.items refl
-    (c.deref.ensures.value ∙ (c.in_ok-why.ensures
-    ∙ ap₂ (λ gets jobs. compact_text (clash_json gets jobs c.args.shown.now)) c.requires.gets c.requires.jobs))
+    (c.in_ok-why.ensures
+    ∙ ap₂ (λ gets jobs. compact_text (clash_json gets jobs c.args.shown.now)) c.requires.gets c.requires.jobs)
     c.in_ok-line.ensures

@@ -7,5 +7,5 @@ use Rattle.ccr_lines.proofs.explain_json.over_json.Goals as goal
 
 pub returns : goal.returns
 returns c =
-    explained_told (job_data c.args.job.now) (OverBudget c.args.budget) [] null [] c.as_bytes.result.now
-    c.in_ok-line.line.items refl c.as_bytes.ensures.value c.in_ok-line.ensures
+    explained_told (job_data c.args.job.now) (OverBudget c.args.budget) [] null [] c.in_ok-why.why.items
+    c.in_ok-line.line.items refl c.in_ok-why.ensures c.in_ok-line.ensures
