@@ -1,5 +1,5 @@
 -- Several things shown, one behind the other; and what is said of an input and of a job.
-use Rattle.std.proofs.Common.{◌≡◌, ◌+◌, ◌-◌, ◌<◌, ◌≤◌, ◌∷◌, ◌++◌, [], List, ℕ, zero, suc, length, take, map, get_or, refl, sym, ◌∙◌, ap, subst, append_assoc, append-nil, arith}
+use Rattle.std.proofs.Common.{◌≡◌, ◌+◌, ◌-◌, ◌<◌, ◌∷◌, ◌++◌, [], List, ℕ, length, take, map, get_or, refl, sym, ◌∙◌, ap, subst, append_assoc, append-nil, arith}
 use Rattle.std.proofs.lemmas.List.{take_more, map-append, length-map, length-take-le}
 use Rattle.ccr_history.specs.Text.{Text}
 use Rattle.ccr_history.specs.History.{HistoryData}

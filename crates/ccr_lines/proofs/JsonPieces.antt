@@ -14,13 +14,13 @@ use Rattle.ccr_pipeline.specs.JobData.{ResourceData, JobData, scope_of}
 use Rattle.ccr_pipeline.specs.Pipelines.{PipelineData}
 use Rattle.ccr_lines.specs.declared.outlook.Outlook.{Outlook}
 use Rattle.ccr_lines.specs.declared.reason.Reason.{Reason}
-use Rattle.ccr_lines.specs.ExplainJson.{refusal_json, passed_json, taken_json, taken_text, explained_json, explained_text}
+use Rattle.ccr_lines.specs.ExplainJson.{refusal_json, taken_json, taken_text, explained_json, explained_text}
 use Rattle.ccr_lines.specs.Explained.{scope_at}
 use Rattle.ccr_lines.specs.JobsJson.{newest_that, build_json, newest_json, input_json, output_json, output_of, is_due, job_json}
 use Rattle.ccr_lines.specs.Json.{list, fields_json, after_comma}
 use Rattle.ccr_lines.specs.Lines.{status_word}
 use Rattle.ccr_lines.specs.Outlooks.{outlook_words}
-use Rattle.ccr_lines.specs.Reasons.{SubjectData, taken, reason_words}
+use Rattle.ccr_lines.specs.Reasons.{SubjectData, reason_words}
 use Rattle.ccr_lines.specs.ReleaseJson.{version_json, took_json, moved_json, number_json, witness_json, all_together, release_json, release_text}
 use Rattle.ccr_lines.specs.Releases.{resource_at}
 use Rattle.ccr_lines.specs.ResourcesJson.{resource_json}

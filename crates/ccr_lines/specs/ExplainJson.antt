@@ -1,5 +1,5 @@
 -- What the next build of a job would take, and why nothing newer; or why there is none: as JSON, and in one of the forms.
-use Rattle.std.specs.Prelude.{◌≡◌, ℕ, List, [], ◌∷◌, ◌++◌, map, flat_map, slice_get, Bool, true, false, nat_lt, IsSomeAnd, codes, decimal}
+use Rattle.std.specs.Prelude.{◌≡◌, ℕ, List, [], ◌∷◌, ◌++◌, map, slice_get, Bool, true, false, nat_lt, IsSomeAnd, codes, decimal}
 use Rattle.std.specs.List.{concat}
 use Rattle.serde_json.specs.Data.{Data, null, boolean, number, unsigned, string, object, no_members, member}
 use Rattle.serde_json.specs.Written.{compact_text}
@@ -25,7 +25,7 @@ use Rattle.ccr_lines.specs.declared.reason.Reason.{Reason}
 use Rattle.ccr_lines.specs.Each.{AreEach}
 use Rattle.ccr_lines.specs.Explained.{scope_at, newest_three, subject_of, outlook_line, clash_lines, IsInputExplained}
 use Rattle.ccr_lines.specs.JobsJson.{is_due}
-use Rattle.ccr_lines.specs.Json.{list, json_line, after_comma}
+use Rattle.ccr_lines.specs.Json.{list, json_line}
 use Rattle.ccr_lines.specs.Outlooks.{outlook_at, outlook_words}
 use Rattle.ccr_lines.specs.Reasons.{SubjectData, any, taken, job_name, clash_words, reason_words, IsReason}
 use Rattle.ccr_lines.specs.ReleaseJson.{version_json, witness_json}

@@ -1,5 +1,5 @@
 -- What the next build of a job would take, and why nothing newer; or why there is none.
-use Rattle.std.specs.Prelude.{◌≡◌, ℕ, ◌+◌, ◌-◌, List, [], ◌∷◌, ◌++◌, length, slice_get, Bool, true, false, nat_lt, IsSomeAnd, codes, decimal}
+use Rattle.std.specs.Prelude.{◌≡◌, ℕ, ◌-◌, List, [], ◌∷◌, ◌++◌, length, slice_get, Bool, true, false, nat_lt, codes, decimal}
 use Rattle.std.specs.Option.{option_map_or}
 use Rattle.ccr_history.specs.Text.{Text}
 use Rattle.ccr_history.specs.Tables.{versions_at}
@@ -8,21 +8,15 @@ use Rattle.ccr_pipeline.specs.Inputs.{InputData, inputs, named_jobs}
 use Rattle.ccr_pipeline.specs.JobData.{JobData}
 use Rattle.ccr_pipeline.specs.Pipelines.{PipelineData}
 use Rattle.ccr_choice.specs.Problem.{ProblemValue, ChoiceValue, input_at}
-use Rattle.ccr_choice.specs.Preference.{order_of}
-use Rattle.ccr_problem.specs.ProblemOf.{job_of, history_number, is_disabled_at, IsProblemOf}
-use Rattle.ccr_resolve.specs.declared.chosen.Chosen.{Chosen}
-use Rattle.ccr_resolve.specs.declared.chosen.Chosen.TheVariants as chosen
-use Rattle.ccr_resolve.specs.Chosen.{IsChosen}
+use Rattle.ccr_problem.specs.ProblemOf.{history_number, is_disabled_at}
 use Rattle.ccr_explain.specs.declared.explanation.Explanation.{Explanation}
 use Rattle.ccr_explain.specs.declared.explanation.Explanation.TheVariants as explanation
-use Rattle.ccr_explain.specs.Clash.{IsExplanation}
 use Rattle.ccr_lines.specs.declared.outlook.Outlook.{Outlook}
-use Rattle.ccr_lines.specs.declared.outlook.Outlook.TheVariants.{NoneSatisfies, OverBudget}
 use Rattle.ccr_lines.specs.declared.reason.Reason.{Reason}
 use Rattle.ccr_lines.specs.Each.{AreEach}
 use Rattle.ccr_lines.specs.Lines.{line}
-use Rattle.ccr_lines.specs.Outlooks.{outlook_at, outlook_words}
-use Rattle.ccr_lines.specs.Reasons.{SubjectData, Question, any, taken, job_name, clash_words, reason_words, IsReason}
+use Rattle.ccr_lines.specs.Outlooks.{outlook_words}
+use Rattle.ccr_lines.specs.Reasons.{SubjectData, any, taken, job_name, clash_words, reason_words, IsReason}
 use Rattle.ccr_lines.specs.Releases.{key_at}
 
 -- ---- one input

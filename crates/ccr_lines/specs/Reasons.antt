@@ -1,5 +1,5 @@
 -- Why an input of a job's next build doesn't take a place that is newer than the one it takes.
-use Rattle.std.specs.Prelude.{◌≡◌, ℕ, ◌<◌, ◌≤◌, List, [], ◌∷◌, ◌++◌, length, map, find, slice_index, slice_get, Bool, true, false, not, nat_lt, ◌==◌, Option, Some, None, codes, decimal, string_bytes, if◌then◌else◌}
+use Rattle.std.specs.Prelude.{◌≡◌, ℕ, ◌≤◌, List, [], ◌∷◌, ◌++◌, length, map, find, slice_index, slice_get, Bool, true, false, not, nat_lt, ◌==◌, Option, Some, None, codes, decimal, string_bytes, if◌then◌else◌}
 use Rattle.std.specs.List.{list_any}
 use Rattle.std.specs.Option.{option_map_or}
 use Rattle.ccr_history.specs.Text.{Text}

@@ -1,4 +1,4 @@
-use Rattle.std.proofs.Common.{[], ◌∷◌, ◌++◌, refl}
+use Rattle.std.proofs.Common.{refl}
 use Rattle.ccr_pipeline.specs.Inputs.{input_data}
 use Rattle.ccr_lines.specs.ExplainJson.{taken_json, IsInputJson}
 use Rattle.ccr_lines.specs.Reasons.{subject_data}

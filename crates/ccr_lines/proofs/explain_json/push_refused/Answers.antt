@@ -1,4 +1,4 @@
-use Rattle.std.proofs.Common.{◌∙◌, ap, decimal}
+use Rattle.std.proofs.Common.{◌∙◌, ap}
 use Rattle.serde_json.specs.Written.{compact_text}
 use Rattle.ccr_pipeline.specs.Inputs.{input_data}
 use Rattle.ccr_lines.specs.ExplainJson.{refusal_json}
