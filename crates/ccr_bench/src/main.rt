@@ -1,7 +1,7 @@
 //! Measures calls, for `scripts/bench`: what `ccr_bench CALL [COUNT]` prints, or how much memory and time the whole run takes.
 //!
 //! Of a problem on standard input: `times` prints how long the calls of the index and the resolver take on it; `plain` prints
-//! the claim of the plain resolver and how many nodes its tree has. `grow BUILDS` grows an index event by event until each of
+//! the claim of the plain resolver and how many nodes its tree has; `why` prints how long the questions of `explain` take. `grow BUILDS` grows an index event by event until each of
 //! five jobs has so many builds, and prints how long the calls of the next thousand events take (`grow.rt`).
 //!
 //! Of a pipeline on standard input: `pipeline COUNT` reads it so often. `builds COUNT` starts so many builds of its first job,
@@ -21,6 +21,7 @@ mod plain;
 mod programs;
 mod times;
 mod versions;
+mod why;
 
 use anyhow::Result;
 use builds::Word;
@@ -40,6 +41,7 @@ fn told(rt: &HostRuntime, call: &str) -> Result<Option<String>> {
     match call {
         "times" => Ok(Some(times::times_told(rt, &text(rt)?)?)),
         "plain" => Ok(Some(plain::plain_told(rt.alloc(), &text(rt)?)?)),
+        "why" => Ok(Some(why::whys_told(rt, &text(rt)?)?)),
         _ => Ok(None),
     }
 }
@@ -89,7 +91,7 @@ fn main(rt: HostRuntime) -> io::Result<ExitCode> {
         }
         Ok(None) => {
             eprintln!(rt;
-                "usage: ccr_bench times|plain|grow BUILDS|pipeline COUNT|builds COUNT|done COUNT|failed COUNT|launch COUNT|launches COUNT|versions COUNT"
+                "usage: ccr_bench times|plain|why|grow BUILDS|pipeline COUNT|builds COUNT|done COUNT|failed COUNT|launch COUNT|launches COUNT|versions COUNT"
             )?;
             Ok(ExitCode::from(2))
         }

@@ -1,31 +1,30 @@
 -- A choice satisfies the cut problem exactly where some choice meets the demands.
-use Rattle.std.proofs.Common.{◌≡◌, ◌↔◌, ℕ, zero, suc, ◌+◌, ◌<◌, ◌≤◌, inl, inr, Bool, true, false, not, ◌==◌, ◌&&◌, ◌||◌, nat_le, cond, List, [], ◌∷◌, length, map, slice_index, slice_index_or, refl, sym, ap, ◌∙◌, subst, arith}
-use Rattle.std.specs.Prelude.{All, Any, Contains, filter}
+use Rattle.std.proofs.Common.{◌≡◌, ◌↔◌, ℕ, zero, suc, ◌+◌, ◌<◌, ◌≤◌, inl, inr, Bool, true, false, ◌==◌, nat_le, cond, List, [], ◌∷◌, length, map, slice_index, slice_index_or, refl, sym, ap, ◌∙◌, subst, arith}
+use Rattle.std.specs.Prelude.{All, Contains, filter}
 use Rattle.std.specs.List.{list_any, list_all, range_with_len}
-use Rattle.std.proofs.lemmas.Bool.{cases_Bool, cases_eq, cond-true, cond-false, and_parts, and_from, or_left, or_right, not_from_false, eq-eqb, eqb-true, false≢true}
+use Rattle.std.proofs.lemmas.Bool.{cases_Bool, cases_eq, cond-true, cond-false, and_parts, and_from, eq-eqb, eqb-true, false≢true}
 use Rattle.std.proofs.lemmas.List.{length-map, get_or-map, get_or_default}
 use Rattle.std.proofs.lemmas.List.FromFn.{length-map-range_with_len, get_or-map-range_with_len}
-use Rattle.std.proofs.lemmas.List.Recursion.{and_from_places}
-use Rattle.std.proofs.lemmas.List.Elements.{All-nil, All-contains, All-get_or, Contains-get_or}
+use Rattle.std.proofs.lemmas.List.Elements.{All-contains, Contains-get_or}
 use Rattle.ccr_choice.specs.Problem.{ProblemValue, InputValue, BuildValue, no_input, input_at, builds_at, is_problem, scopes_after, are_builds_below}
-use Rattle.ccr_choice.specs.Satisfies.{Satisfies, Moved, IsAllowed, IsSuccessful, HasPassed, HasPassedAll}
+use Rattle.ccr_choice.specs.Satisfies.{Satisfies, Moved, IsAllowed, HasPassed}
 use Rattle.ccr_choice.specs.Optimal.{HasNoChoice}
 use Rattle.ccr_choice.proofs.Bounds.{builds_kept}
-use Rattle.ccr_choice.proofs.Members.{contains_none, contains_first, contains_later, tests_contains, any_of, any_more}
-use Rattle.ccr_choice.proofs.Exchange.{build_at}
+use Rattle.ccr_choice.proofs.Members.{contains_none, contains_first, contains_later, tests_contains}
 use Rattle.ccr_choice.specs.Preference.{order_of}
+use Rattle.ccr_resolve.specs.NodeBound.{product}
 use Rattle.ccr_resolve.specs.Chosen.{IsChosen}
 use Rattle.ccr_resolve.specs.declared.chosen.Chosen.{Chosen}
 use Rattle.ccr_resolve.specs.declared.chosen.Chosen.TheVariants.{Best, Nothing, OverBudget}
 use Rattle.ccr_explain.specs.declared.demand.Demand.{Demand}
 use Rattle.ccr_explain.specs.declared.demand.Demand.TheVariants.{Allowed, Passed}
 use Rattle.ccr_explain.specs.Demand.{IsDemandOf, Meets, MeetsAll, CanBeMet, ExcludeEachOther}
-use Rattle.ccr_explain.specs.Cut.{is_allowed_of, is_passed_of, jobs_left, place_in, top_for, cut_input, cut_from, has_place_of, names, is_of_use, builds_from, order_left, inputs_cut, cut_to, IsTop, IsChosenOfCut, met_of, IsMet}
+use Rattle.ccr_explain.specs.Cut.{is_allowed_of, is_passed_of, jobs_left, place_in, top_for, cut_input, cut_from, has_place_of, names, is_of_use, order_left, inputs_cut, problem_with, IsTop, SuitsInputs, IsNarrowed, IsChosenOfCut}
 use Rattle.std.proofs.lemmas.List.Folds.{list_all-map}
-use Rattle.ccr_explain.proofs.Lists.{any_contained, contains_map, contains_filter, from_filter, all_passing}
+use Rattle.ccr_explain.proofs.Lists.{contains_map, contains_filter, from_filter, all_passing}
 use Rattle.ccr_explain.proofs.Orders.{has, has_it, it_has, place_below, place_at}
-use Rattle.ccr_explain.proofs.DemandLaws.{passed_of, passed_each}
-use Rattle.ccr_explain.proofs.CutRules.{builds_places, all_order, order_there, order_within, length_cut, length_builds, product_left}
+use Rattle.ccr_explain.proofs.CutRules.{builds_places, order_there, order_within, length_cut, cut_rules, product_left}
+use Rattle.ccr_explain.proofs.NarrowLaws.{narrowed_long, suits_fewer, suits_more, suits, satisfies}
 
 -- ---- which demands there are, as tests
 is_that_allowed : (i : ℕ) (d : Demand) → (is_allowed_of i d ≡ true) ↔ (d ≡ Allowed i)
@@ -61,13 +60,6 @@ cut_at ds order top n zero m (x ∷ xs) e within =
     let same : n ≡ m = omega arith in ap (λ k. cut_input ds order top k x) same
 cut_at ds order top n (suc i) m (x ∷ xs) e within = cut_at ds order top (n + 1) i m xs (omega arith) (omega arith)
 
-builds_from_at : (p : ProblemValue) (xs : List InputValue) (n i m : ℕ) (order : List ℕ) → n + i ≡ m → i < length order
-    → slice_index_or (builds_from p xs n order) i [] ≡ filter (is_of_use xs m) (builds_at p (slice_index order i))
-builds_from_at p xs n i m [] e within = absurd (omega arith)
-builds_from_at p xs n zero m (j ∷ order) e within =
-    let same : n ≡ m = omega arith in ap (λ k. filter (is_of_use xs k) (builds_at p j)) same
-builds_from_at p xs n (suc i) m (j ∷ order) e within = builds_from_at p xs (n + 1) i m order (omega arith) (omega arith)
-
 -- where a job is left, any place up to the top one may be taken
 top_left : (top : ℕ) (js : List ℕ) (j : ℕ) → Contains js j → top_for js top ≡ top
 top_left top [] j h = absurd (contains_none j h)
@@ -77,40 +69,27 @@ top_least : (top : ℕ) (js : List ℕ) → 1 ≤ top → 1 ≤ top_for js top
 top_least top [] least = omega arith
 top_least top (m ∷ js) least = least
 
--- what some builds moved, all of them did
-moved_filter : (test : BuildValue → Bool) (bs : List BuildValue) (number : ℕ) (pair : ℕ × ℕ) → Moved (filter test bs) number pair → Moved bs number pair
-moved_filter test bs number pair (k, b, within, at, both) =
-    any_of (λ c. (c.number ≡ number) × Contains c.pairs pair) b bs (from_filter test b bs (k, within, at)).0 both
-
-all_true : (test : InputValue → Bool) (xs : List InputValue) → ((i : ℕ) → i < length xs → test (slice_index_or xs i no_input) ≡ true) → list_all test xs ≡ true
-all_true test xs each = and_from_places (list_all test) test refl (λ x ys. refl) xs no_input each
-
 module _ (ds : List Demand) (top : ℕ) (p : ProblemValue) (rules : is_problem p ≡ true) (isTop : IsTop p (order_left ds p) top) (of_problem : All (IsDemandOf p) ds) where
   abbrev order : List ℕ
   order = order_left ds p
 
-  abbrev q : ProblemValue
-  q = cut_to ds top p
+  abbrev xs : List InputValue
+  xs = inputs_cut ds top p
+
+  abbrev x_at : ℕ → InputValue
+  x_at i = slice_index_or xs i no_input
 
   abbrev left : ℕ → List ℕ
   left i = jobs_left ds i (input_at p i).jobs
 
-  -- the parts of the cut problem
-  input_cut : (i : ℕ) → i < length p.inputs → input_at q i ≡ cut_input ds order top i (input_at p i)
-  unfolding cut_to inputs_cut
+  -- the cut inputs
+  input_cut : (i : ℕ) → i < length p.inputs → x_at i ≡ cut_input ds order top i (input_at p i)
+  unfolding inputs_cut
   input_cut i within = cut_at ds order top 0 i i p.inputs (omega arith) within
 
-  inputs_long : length q.inputs ≡ length p.inputs
-  unfolding cut_to inputs_cut
+  inputs_long : length xs ≡ length p.inputs
+  unfolding inputs_cut
   inputs_long = length_cut ds order top 0 p.inputs
-
-  jobs_long : length q.jobs ≡ length order
-  unfolding cut_to
-  jobs_long = length_builds p q.inputs 0 order
-
-  builds_cut : (n : ℕ) → n < length order → builds_at q n ≡ filter (is_of_use q.inputs n) (builds_at p (slice_index order n))
-  unfolding cut_to
-  builds_cut n within = builds_from_at p q.inputs 0 n n order (omega arith) within
 
   -- what is left is demanded, and has its place
   left_demanded : (i j : ℕ) → Contains (left i) j → Contains ds (Passed i j)
@@ -123,15 +102,8 @@ module _ (ds : List Demand) (top : ℕ) (p : ProblemValue) (rules : is_problem p
   unfolding order_left
   left_there i j within h = order_there ds 0 i i [] p.inputs j (omega arith) within h
 
-  -- the builds of a job under its new number
-  builds_of : (i j : ℕ) → i < length p.inputs → Contains (left i) j → builds_at q (place_in order j) ≡ filter (is_of_use q.inputs (place_in order j)) (builds_at p j)
-  builds_of i j within h =
-      let there = left_there i j within h in
-      let n = place_in order j in
-      builds_cut n (place_below order j there) ∙ ap (λ m. filter (is_of_use q.inputs n) (builds_at p m)) (place_at order j there)
-
-  -- ---- from the cut problem to the demands
-  module _ (places builds : List ℕ) (s : Satisfies q places builds) where
+  -- ---- from the cut inputs to the demands
+  module _ (places builds : List ℕ) (place_each : length places ≡ length p.inputs) (s : SuitsInputs p order xs places builds) where
     builds_back : List ℕ
     builds_back = map (λ j. slice_index builds (place_in order j)) (range_with_len 0 (length p.jobs))
 
@@ -147,24 +119,23 @@ module _ (ds : List Demand) (top : ℕ) (p : ProblemValue) (rules : is_problem p
     unfolding IsAllowed
     allowed_back i within h =
         let among = list_any (is_allowed_of i) ds in
-        let e : (input_at q i).places ≡ (input_at p i).places = ap (λ x. x.places) (input_cut i within)
+        let e : (x_at i).places ≡ (input_at p i).places = ap (λ x. x.places) (input_cut i within)
         ∙ cond-true among (input_at p i).places (range_with_len 1 (top_for (left i) top)) ((allowed_among ds i).1 h) in
-        let P : List ℕ → Type 0 = λ xs. Contains xs (slice_index places i) in
+        let P : List ℕ → Type 0 = λ ys. Contains ys (slice_index places i) in
         subst P e (s.allowed i (omega (arith, within, inputs_long)))
 
     passed_back : (i j : ℕ) → i < length p.inputs → j < length p.jobs → Contains (left i) j → HasPassed p places builds_back i j
     unfolding HasPassed
     passed_back i j within known h =
         let n = place_in order j in
-        let jobs : (input_at q i).jobs ≡ map (place_in order) (left i) = ap (λ x. x.jobs) (input_cut i within) in
-        let J : List ℕ → Type 0 = λ xs. Contains xs n in
-        let named : Contains (input_at q i).jobs n = subst J (sym jobs) (contains_map (place_in order) j (left i) h) in
-        let now : HasPassed q places builds i n = passed_of q places builds i n (s.passed i (omega (arith, within, inputs_long))) named in
-        let B : List BuildValue → Type 0 = λ bs. Moved bs (slice_index builds n) ((input_at q i).scope, slice_index places i) in
+        let jobs : (x_at i).jobs ≡ map (place_in order) (left i) = ap (λ x. x.jobs) (input_cut i within) in
+        let J : List ℕ → Type 0 = λ ys. Contains ys n in
+        let named : Contains (x_at i).jobs n = subst J (sym jobs) (contains_map (place_in order) j (left i) h) in
+        let B : ℕ → Type 0 = λ m. Moved (builds_at p m) (slice_index builds n) ((x_at i).scope, slice_index places i) in
         let S : ℕ → Type 0 = λ x. Moved (builds_at p j) (slice_index builds n) (x, slice_index places i) in
         let N : ℕ → Type 0 = λ x. Moved (builds_at p j) x ((input_at p i).scope, slice_index places i) in
-        let all = moved_filter (is_of_use q.inputs n) (builds_at p j) (slice_index builds n) ((input_at q i).scope, slice_index places i) (subst B (builds_of i j within h) now) in
-        subst N (sym (back_at j known)) (subst S (ap (λ x. x.scope) (input_cut i within)) all)
+        let now = subst B (place_at order j (left_there i j within h)) (s.passed i n (omega (arith, within, inputs_long)) named) in
+        subst N (sym (back_at j known)) (subst S (ap (λ x. x.scope) (input_cut i within)) now)
 
     one_met : (d : Demand) → IsDemandOf p d → Contains ds d → Meets p places builds_back d
     one_met (Allowed i) h among = allowed_back i h among
@@ -178,19 +149,19 @@ module _ (ds : List Demand) (top : ℕ) (p : ProblemValue) (rules : is_problem p
       places = places;
       builds = builds_back;
       meets = record {
-        lengths = record { place_each = s.lengths.place_each ∙ inputs_long; build_each = long };
+        lengths = record { place_each = place_each; build_each = long };
         each = λ k d within. one_met (slice_index_or ds k d) (of_problem k d within) (Contains-get_or ds k d within);
       };
     }
 
-  -- ---- from the demands to the cut problem
+  -- ---- from the demands to the cut inputs
   module _ (places builds : List ℕ) (m : MeetsAll p ds places builds) where
     met : (d : Demand) → Contains ds d → Meets p places builds d
     met d among = All-contains (Meets p places builds) ds d m.each among
 
     -- the place of the choice, where the input may take it, else the first
     pub fits : ℕ → Bool
-    fits i = has (input_at q i).places (slice_index places i)
+    fits i = has (x_at i).places (slice_index places i)
 
     pub pick : ℕ → ℕ
     pick i = cond (fits i) (slice_index places i) 1
@@ -218,10 +189,10 @@ module _ (ds : List Demand) (top : ℕ) (p : ProblemValue) (rules : is_problem p
     builds_long = length-map order (slice_index builds)
 
     -- the places of the cut input
-    places_kept : (i : ℕ) → i < length p.inputs → list_any (is_allowed_of i) ds ≡ true → (input_at q i).places ≡ (input_at p i).places
+    places_kept : (i : ℕ) → i < length p.inputs → list_any (is_allowed_of i) ds ≡ true → (x_at i).places ≡ (input_at p i).places
     places_kept i within holds = ap (λ x. x.places) (input_cut i within) ∙ cond-true (list_any (is_allowed_of i) ds) (input_at p i).places (range_with_len 1 (top_for (left i) top)) holds
 
-    places_free : (i : ℕ) → i < length p.inputs → list_any (is_allowed_of i) ds ≡ false → (input_at q i).places ≡ range_with_len 1 (top_for (left i) top)
+    places_free : (i : ℕ) → i < length p.inputs → list_any (is_allowed_of i) ds ≡ false → (x_at i).places ≡ range_with_len 1 (top_for (left i) top)
     places_free i within fails = ap (λ x. x.places) (input_cut i within) ∙ cond-false (list_any (is_allowed_of i) ds) (input_at p i).places (range_with_len 1 (top_for (left i) top)) fails
 
     -- where the allowed places are demanded, the choice's place fits
@@ -229,12 +200,12 @@ module _ (ds : List Demand) (top : ℕ) (p : ProblemValue) (rules : is_problem p
     unfolding fits IsAllowed
     demanded_fits i within holds =
         let P : List ℕ → Type 0 = λ xs. Contains xs (slice_index places i) in
-        it_has (input_at q i).places (slice_index places i) (subst P (sym (places_kept i within holds)) (met (Allowed i) ((allowed_among ds i).0 holds)))
+        it_has (x_at i).places (slice_index places i) (subst P (sym (places_kept i within holds)) (met (Allowed i) ((allowed_among ds i).0 holds)))
 
-    allowed_on : (i : ℕ) → i < length p.inputs → IsAllowed q places_on i
-    unfolding IsAllowed pick fits
+    allowed_on : (i : ℕ) → i < length p.inputs → Contains (x_at i).places (slice_index places_on i)
+    unfolding pick fits
     allowed_on i within =
-        let xs = (input_at q i).places in
+        let xs = (x_at i).places in
         let P : ℕ → Type 0 = λ x. Contains xs x in
         elim (cases_Bool (fits i)) [
           | inl holds ↦ subst P (sym (place_at_input i within ∙ cond-true (fits i) (slice_index places i) 1 holds)) (has_it xs (slice_index places i) holds)
@@ -265,141 +236,83 @@ module _ (ds : List Demand) (top : ℕ) (p : ProblemValue) (rules : is_problem p
           | inl holds ↦ demanded_fits i within holds
           | inr free ↦ (let P : List ℕ → Type 0 = λ xs. Contains xs (slice_index places i) in
               let between = moved_between j (slice_index places i) (input_at p i).scope (slice_index builds j) (left_there i j within left_over) h in
-              it_has (input_at q i).places (slice_index places i)
+              it_has (x_at i).places (slice_index places i)
               (subst P (sym (places_free i within free)) (range_has 1 (top_for (left i) top) (slice_index places i) between.0 (omega (arith, between.1, top_left top (left i) j left_over)))))
         ]
-
-    -- each job that is left has a build, which some input demands
-    pub record IsLeft (j : ℕ) : Type 0 where
-      pub input : ℕ
-      pub within : input < length p.inputs
-      pub left : Contains (jobs_left ds input (input_at p input).jobs) j
-
-    each_left : All IsLeft order
-    unfolding order_left
-    each_left = all_order IsLeft ds 0 [] p.inputs (All-nil IsLeft) (λ i n e within j h. (let same : n ≡ i = omega arith in
-        let P : ℕ → Type 0 = λ k. Contains (jobs_left ds k (input_at p i).jobs) j in
-        record { input = i; within = within; left = subst P same h }))
 
     passed_left : (i j : ℕ) → Contains (left i) j → HasPassed p places builds i j
     passed_left i j h = met (Passed i j) (left_demanded i j h)
 
-    -- the build that was chosen for a job is of use
-    has_it_too : (i j : ℕ) (pair : ℕ × ℕ) (b : BuildValue) → j < length p.jobs → Contains (builds_at p j) b → b.number ≡ slice_index builds j → Moved (builds_at p j) (slice_index builds j) pair
-        → (input_at q i).scope ≡ pair.0 → list_any (λ y. y == pair.1) (input_at q i).places ≡ true → has_place_of (input_at q i) b.pairs ≡ true
-    has_it_too i j pair b known among number (k, c, there, at, both) scope fine =
-        let same : c ≡ b = build_at p rules j c b known (k, there, at) among (both.0 ∙ sym number) in
-        let P : BuildValue → Type 0 = λ d. Contains d.pairs pair in
-        any_contained (λ r. r.0 == (input_at q i).scope && list_any (λ y. y == r.1) (input_at q i).places) pair b.pairs (subst P same both.1)
-        (and_from _ _ (eq-eqb pair.0 (input_at q i).scope (sym scope)) fine)
-
-    use_of : (n i : ℕ) (b : BuildValue) → n < length order → i < length p.inputs → Contains (builds_at p (slice_index order n)) b → b.number ≡ slice_index builds (slice_index order n)
-        → Contains (left i) (slice_index order n) → has_place_of (input_at q i) b.pairs ≡ true
-    unfolding HasPassed fits
-    use_of n i b inside within among number h =
-        let j = slice_index order n in
-        let pair : ℕ × ℕ = ((input_at p i).scope, slice_index places i) in
-        let passed = passed_left i j h in
-        let fine : list_any (λ y. y == slice_index places i) (input_at q i).places ≡ true = passed_fits i j within h passed in
-        let known = All-get_or (λ k. k < length p.jobs) order n 0 inside (order_within ds p rules) in
-        has_it_too i j pair b known among number passed (ap (λ y. y.scope) (input_cut i within)) fine
-
-    one_use : (n i : ℕ) (b : BuildValue) → n < length order → i < length p.inputs → Contains (builds_at p (slice_index order n)) b → b.number ≡ slice_index builds (slice_index order n)
-        → Contains (input_at q i).jobs n → has_place_of (input_at q i) b.pairs ≡ true
-    one_use n i b inside within among number named =
-        let jobs : (input_at q i).jobs ≡ map (place_in order) (left i) = ap (λ x. x.jobs) (input_cut i within) in
-        let P : List ℕ → Type 0 = λ xs. Contains xs n in
-        let there = subst P jobs named in
-        let k = there.0 in
-        let low : k < length (left i) = omega (arith, there.1, length-map (left i) (place_in order)) in
-        let j = slice_index (left i) k in
-        let one : Contains (left i) j = Contains-get_or (left i) k 0 low in
-        let e : place_in order j ≡ n = sym (get_or-map (place_in order) (left i) k 0 0 low) ∙ get_or_default (map (place_in order) (left i)) k 0 n there.1 ∙ there.2 in
-        let same : j ≡ slice_index order n = sym (place_at order j (left_there i j within one)) ∙ ap (slice_index order) e in
-        let Q : ℕ → Type 0 = λ m. Contains (left i) m in
-        use_of n i b inside within among number (subst Q same one)
-
-    of_use : (n : ℕ) (b : BuildValue) → n < length order → Contains (builds_at p (slice_index order n)) b → b.number ≡ slice_index builds (slice_index order n) → is_of_use q.inputs n b ≡ true
-    of_use n b inside among number =
-        all_true (λ x. not (list_any (λ m. m == n) x.jobs) || has_place_of x b.pairs) q.inputs (λ i below. (let within : i < length p.inputs = omega (arith, below, inputs_long) in
-        let x = input_at q i in
-        let named = list_any (λ m. m == n) x.jobs in
-        elim (cases_Bool named) [
-          | inr fails ↦ or_left (not named) (has_place_of x b.pairs) (not_from_false named fails)
-          | inl holds ↦ or_right (not named) (has_place_of x b.pairs) (one_use n i b inside within among number (has_it x.jobs n holds))
-        ]))
-
-    -- what was moved with the chosen build of a job, is moved with it in the cut problem
-    moved_on : (n j : ℕ) (pair : ℕ × ℕ) → n < length order → slice_index order n ≡ j → Moved (builds_at p j) (slice_index builds j) pair → Moved (builds_at q n) (slice_index builds j) pair
-    moved_on n j pair inside same (k, b, within, at, both) =
-        let J : ℕ → Type 0 = λ m. Contains (builds_at p m) b × (b.number ≡ slice_index builds m) in
-        let here = subst J (sym same) ((k, within, at), both.0) in
-        let B : List BuildValue → Type 0 = λ bs. Moved bs (slice_index builds j) pair in
-        subst B (sym (builds_cut n inside)) (any_of (λ c. (c.number ≡ slice_index builds j) × Contains c.pairs pair) b (filter (is_of_use q.inputs n) (builds_at p (slice_index order n)))
-        (contains_filter (is_of_use q.inputs n) b (builds_at p (slice_index order n)) here.0 (of_use n b inside here.0 here.1)) both)
-
-    successful_on : (n : ℕ) → n < length order → IsSuccessful q builds_on n
-    unfolding HasPassed IsSuccessful
-    successful_on n within =
-        let j = slice_index order n in
-        let by = All-get_or IsLeft order n 0 within each_left in
-        let pair : ℕ × ℕ = ((input_at p by.input).scope, slice_index places by.input) in
-        let now : Moved (builds_at q n) (slice_index builds j) pair = moved_on n j pair within refl (passed_left by.input j by.left) in
-        let N : ℕ → Type 0 = λ x. Any (λ b. b.number ≡ x) (builds_at q n) in
-        subst N (sym (build_at_job n within))
-        (any_more (λ b. (b.number ≡ slice_index builds j) × Contains b.pairs pair) (λ b. b.number ≡ slice_index builds j) (builds_at q n) (λ b both. both.0) now)
-
-    passed_on : (i j : ℕ) → i < length p.inputs → Contains (left i) j → HasPassed q places_on builds_on i (place_in order j)
+    passed_on : (i n : ℕ) → i < length p.inputs → (k : ℕ) → k < length (left i) → slice_index (map (place_in order) (left i)) k ≡ n
+        → Moved (builds_at p (slice_index order n)) (slice_index builds_on n) ((x_at i).scope, slice_index places_on i)
     unfolding HasPassed pick fits
-    passed_on i j within h =
-        let n = place_in order j in
-        let there = left_there i j within h in
-        let below = place_below order j there in
-        let passed = passed_left i j h in
-        let now = moved_on n j ((input_at p i).scope, slice_index places i) below (place_at order j there) passed in
-        let number : slice_index builds_on n ≡ slice_index builds j = build_at_job n below ∙ ap (slice_index builds) (place_at order j there) in
-        let place : slice_index places_on i ≡ slice_index places i = place_at_input i within ∙ cond-true (fits i) (slice_index places i) 1 (passed_fits i j within h passed) in
-        let S : ℕ → Type 0 = λ x. Moved (builds_at q n) (slice_index builds j) (x, slice_index places i) in
-        let N : ℕ → Type 0 = λ x. Moved (builds_at q n) x ((input_at q i).scope, slice_index places i) in
-        let L : ℕ → Type 0 = λ x. Moved (builds_at q n) (slice_index builds_on n) ((input_at q i).scope, x) in
-        subst L (sym place) (subst N (sym number) (subst S (sym (ap (λ x. x.scope) (input_cut i within))) now))
-
-    passed_number : (i n : ℕ) → i < length p.inputs → (k : ℕ) → k < length (left i) → slice_index (map (place_in order) (left i)) k ≡ n → HasPassed q places_on builds_on i n
-    passed_number i n within k inside e =
+    passed_on i n within k inside e =
         let j = slice_index (left i) k in
-        let P : ℕ → Type 0 = λ x. HasPassed q places_on builds_on i x in
-        subst P (sym (get_or-map (place_in order) (left i) k 0 0 inside) ∙ e) (passed_on i j within (Contains-get_or (left i) k 0 inside))
+        let h : Contains (left i) j = Contains-get_or (left i) k 0 inside in
+        let there = left_there i j within h in
+        let number : place_in order j ≡ n = sym (get_or-map (place_in order) (left i) k 0 0 inside) ∙ e in
+        let same : slice_index order n ≡ j = ap (slice_index order) (sym number) ∙ place_at order j there in
+        let below : n < length order = omega (arith, number, place_below order j there) in
+        let passed = passed_left i j h in
+        let place : slice_index places_on i ≡ slice_index places i = place_at_input i within ∙ cond-true (fits i) (slice_index places i) 1 (passed_fits i j within h passed) in
+        let B : ℕ → Type 0 = λ m. Moved (builds_at p m) (slice_index builds m) ((input_at p i).scope, slice_index places i) in
+        let N : ℕ → Type 0 = λ x. Moved (builds_at p (slice_index order n)) x ((input_at p i).scope, slice_index places i) in
+        let S : ℕ → Type 0 = λ x. Moved (builds_at p (slice_index order n)) (slice_index builds_on n) (x, slice_index places i) in
+        let L : ℕ → Type 0 = λ x. Moved (builds_at p (slice_index order n)) (slice_index builds_on n) ((x_at i).scope, x) in
+        subst L (sym place) (subst S (sym (ap (λ x. x.scope) (input_cut i within))) (subst N (sym (build_at_job n below)) (subst B (sym same) passed)))
 
-    passed_all : (i : ℕ) → i < length p.inputs → HasPassedAll q places_on builds_on i
-    passed_all i within =
-        passed_each q places_on builds_on i (λ n named. (let jobs : (input_at q i).jobs ≡ map (place_in order) (left i) = ap (λ x. x.jobs) (input_cut i within) in
-        let P : List ℕ → Type 0 = λ xs. Contains xs n in
-        let there = subst P jobs named in
-        let inside : there.0 < length (left i) = omega (arith, there.1, length-map (left i) (place_in order)) in
-        passed_number i n within there.0 inside (get_or_default (map (place_in order) (left i)) there.0 0 n there.1 ∙ there.2)))
-
-    pub satisfies_on : Satisfies q places_on builds_on
-    satisfies_on = record {
-      lengths = record { place_each = places_long ∙ sym inputs_long; build_each = builds_long ∙ sym jobs_long };
+    pub suits_on : SuitsInputs p order xs places_on builds_on
+    suits_on = record {
       allowed = λ i within. allowed_on i (omega (arith, within, inputs_long));
-      successful = λ n within. successful_on n (omega (arith, within, jobs_long));
-      passed = λ i within. passed_all i (omega (arith, within, inputs_long));
+      passed = λ i n within named. (let inside : i < length p.inputs = omega (arith, within, inputs_long) in
+          let jobs : (x_at i).jobs ≡ map (place_in order) (left i) = ap (λ x. x.jobs) (input_cut i inside) in
+          let P : List ℕ → Type 0 = λ ys. Contains ys n in
+          let there = subst P jobs named in
+          let low : there.0 < length (left i) = omega (arith, there.1, length-map (left i) (place_in order)) in
+          passed_on i n inside there.0 low (get_or_default (map (place_in order) (left i)) there.0 0 n there.1 ∙ there.2));
     }
 
-  -- where the cut problem has no choice, the demands exclude each other
-  pub none_excludes : HasNoChoice q → ExcludeEachOther p ds
-  none_excludes no_choice places builds m = no_choice (places_on places builds m) (builds_on places builds m) (satisfies_on places builds m)
+  -- ---- the cut problem
+  module _ (ys : List InputValue) (fewer : IsNarrowed p (order_left ds p) xs ys) where
+    kept : is_problem (problem_with ds p ys) ≡ true
+    kept = cut_rules ds top p ys rules isTop.least isTop.most fewer
+
+    within_jobs : All (λ j. j < length p.jobs) (order_left ds p)
+    within_jobs = order_within ds p rules
+
+    pub met_of_choice : (places builds : List ℕ) → Satisfies (problem_with ds p ys) places builds → CanBeMet p ds
+    unfolding problem_with
+    met_of_choice places builds s =
+        met_back places builds (s.lengths.place_each ∙ narrowed_long p order xs ys fewer ∙ inputs_long)
+        (suits_more p order xs ys fewer places builds (suits p rules order within_jobs ys kept places builds s))
+
+    -- where the cut problem has no choice, the demands exclude each other
+    pub none_excludes : HasNoChoice (problem_with ds p ys) → ExcludeEachOther p ds
+    unfolding problem_with
+    none_excludes no_choice places builds m =
+        no_choice (places_on places builds m) (builds_on places builds m)
+        (satisfies p rules order within_jobs ys kept (places_on places builds m) (builds_on places builds m)
+        (suits_fewer p order xs ys fewer (places_on places builds m) (builds_on places builds m) (suits_on places builds m))
+        (places_long places builds m ∙ sym (narrowed_long p order xs ys fewer ∙ inputs_long)) (builds_long places builds m))
 
 -- what is chosen for the cut problem tells whether the demands can be met
-pub chosen_met : (ds : List Demand) (p : ProblemValue) → is_problem p ≡ true → All (IsDemandOf p) ds → (budget : ℕ) (x : Chosen) → IsChosenOfCut ds p budget x → IsMet p ds budget (met_of x)
-chosen_met ds p rules of_problem budget x h =
+abbrev pub IsToldBy : ProblemValue → List Demand → ℕ → Chosen → Type 0
+IsToldBy p ds budget (Best c) = CanBeMet p ds
+IsToldBy p ds budget Nothing = ExcludeEachOther p ds
+IsToldBy p ds budget (OverBudget n) = budget < product p.jobs
+
+pub chosen_tells : (ds : List Demand) (p : ProblemValue) → is_problem p ≡ true → All (IsDemandOf p) ds → (budget : ℕ) (x y : Chosen) → IsChosenOfCut ds p budget x → x ≡ y → IsToldBy p ds budget y
+chosen_tells ds p rules of_problem budget x y h same =
     let P : ProblemValue → Type 0 = λ q. IsChosen (order_of q) q budget x in
-    told h.is_cut.top h.is_cut.is_top x (subst P h.is_cut.is h.chosen)
+    let Q : Chosen → Type 0 = λ z. IsToldBy p ds budget z in
+    let cut = h.is_cut in
+    subst Q same (told cut.top cut.is_top cut.inputs cut.narrowed x (subst P cut.is h.chosen))
   where
-    told : (top : ℕ) → IsTop p (order_left ds p) top → (y : Chosen) → IsChosen (order_of (cut_to ds top p)) (cut_to ds top p) budget y → IsMet p ds budget (met_of y)
-    told top isTop (Best c) h = met_back ds top p rules isTop of_problem c.places c.builds h.satisfies
-    told top isTop Nothing h = none_excludes ds top p rules isTop of_problem h
-    told top isTop (OverBudget n) h = omega (arith, h.1.product, product_left ds top p rules)
+    told : (top : ℕ) → IsTop p (order_left ds p) top → (ys : List InputValue) → IsNarrowed p (order_left ds p) (inputs_cut ds top p) ys → (y : Chosen)
+        → IsChosen (order_of (problem_with ds p ys)) (problem_with ds p ys) budget y → IsToldBy p ds budget y
+    told top isTop ys fewer (Best c) h = met_of_choice ds top p rules isTop of_problem ys fewer c.places c.builds h.satisfies
+    told top isTop ys fewer Nothing h = none_excludes ds top p rules isTop of_problem ys fewer h
+    told top isTop ys fewer (OverBudget n) h = omega (arith, h.1.product, product_left ds p ys rules)
 
 -- ---- a build of use, by the inputs that name its job
 -- where these are given by their names, a build is of use to them all exactly where it is of use

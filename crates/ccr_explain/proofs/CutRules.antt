@@ -13,7 +13,9 @@ use Rattle.ccr_choice.specs.Ascending.{AreRising}
 use Rattle.ccr_choice.proofs.Lookups.{places_rise}
 use Rattle.ccr_resolve.specs.NodeBound.{product}
 use Rattle.ccr_explain.specs.declared.demand.Demand.{Demand}
-use Rattle.ccr_explain.specs.Cut.{is_allowed_of, is_passed_of, jobs_left, with_job, with_jobs, order_from, place_in, top_for, cut_input, cut_from, is_of_use, builds_from, order_left, inputs_cut, cut_to}
+use Rattle.ccr_explain.specs.Cut.{is_allowed_of, is_passed_of, jobs_left, with_job, with_jobs, order_from, place_in, top_for, cut_input, cut_from, is_of_use, builds_from, order_left, inputs_cut, problem_with, IsNarrowed}
+use Rattle.ccr_explain.specs.WhyNot.{narrowed_from}
+use Rattle.ccr_explain.proofs.WhyLaws.{narrowed_rules, length_narrowed}
 use Rattle.ccr_explain.proofs.Lists.{length_filter, all_contained, from_filter}
 use Rattle.ccr_explain.proofs.Orders.{has, has_it, Grows, grows_none, grows_twice, grown_has, grows_jobs, jobs_there, all_jobs, Distinct, none, distinct_jobs, few_distinct, product_within, distinct_left, place_below, place_front, place_new}
 
@@ -54,7 +56,7 @@ distinct_order ds n order [] d = d
 distinct_order ds n order (x ∷ xs) d = distinct_order ds (n + 1) (with_jobs order (jobs_left ds n x.jobs)) xs (distinct_jobs order (jobs_left ds n x.jobs) d)
 
 -- what holds of each job that an input must still have passed holds of all
-pub all_order : (P : ℕ → Type 0) (ds : List Demand) (n : ℕ) (order : List ℕ) (xs : List InputValue) → All P order
+all_order : (P : ℕ → Type 0) (ds : List Demand) (n : ℕ) (order : List ℕ) (xs : List InputValue) → All P order
     → ((i m : ℕ) → n + i ≡ m → i < length xs → (j : ℕ) → Contains (jobs_left ds m (slice_index_or xs i no_input).jobs) j → P j)
     → All P (order_from ds n order xs)
 all_order P ds n order [] all each = all
@@ -103,10 +105,10 @@ fewer_product p xs n (j ∷ order) =
     let less : 1 + length kept ≤ 1 + length (builds_at p j) = omega (arith, length_filter (is_of_use xs n) (builds_at p j)) in
     omega (arith, mul-le-mul_left (1 + length kept) (fewer_product p xs (n + 1) order), mul-le-mul_right (product (map (builds_at p) order)) less)
 
-pub product_left : (ds : List Demand) (top : ℕ) (p : ProblemValue) → is_problem p ≡ true → product (cut_to ds top p).jobs ≤ product p.jobs
-unfolding cut_to order_left
-product_left ds top p rules =
-    omega (arith, fewer_product p (inputs_cut ds top p) 0 (order_left ds p), product_within p.jobs (order_left ds p) (distinct_order ds 0 [] p.inputs none) (order_within ds p rules))
+pub product_left : (ds : List Demand) (p : ProblemValue) (xs : List InputValue) → is_problem p ≡ true → product (problem_with ds p xs).jobs ≤ product p.jobs
+unfolding problem_with order_left
+product_left ds p xs rules =
+    omega (arith, fewer_product p xs 0 (order_left ds p), product_within p.jobs (order_left ds p) (distinct_order ds 0 [] p.inputs none) (order_within ds p rules))
 
 -- ---- the new numbers
 module _ (final : List ℕ) (few : length final ≤ 32) where
@@ -247,6 +249,10 @@ inputs_rise s used (x ∷ xs) h =
     let four = and_parts (is_after x.after) (are_places_after 0 x.places) three.1 in
     All-cons (λ y. AreRising y.places) x xs (places_rise x.places 0 four.1) (inputs_rise (next_used s x.scope) (used_after used x.jobs) xs parts.1)
 
+-- the places of each input of a problem ascend
+pub places_ascend : (p : ProblemValue) → is_problem p ≡ true → All (λ x. AreRising x.places) p.inputs
+places_ascend p rules = inputs_rise 0 0 p.inputs (rules_of p rules).inputs
+
 -- the places of each cut input ascend
 pub cut_rises : (ds : List Demand) (top : ℕ) (p : ProblemValue) (xs : List InputValue) → is_problem p ≡ true → 1 ≤ top → top ≤ 100000 → xs ≡ inputs_cut ds top p → All (λ x. AreRising x.places) xs
 unfolding inputs_cut
@@ -254,16 +260,21 @@ cut_rises ds top p xs rules least most e =
     let P : List InputValue → Type 0 = λ ys. All (λ x. AreRising x.places) ys in
     subst P (sym e) (inputs_rise 0 0 (cut_from ds (order_left ds p) top 0 p.inputs) (inputs_so ds top p rules least most).inputs)
 
--- a problem that is cut is a problem
-pub cut_rules : (ds : List Demand) (top : ℕ) (p : ProblemValue) → is_problem p ≡ true → 1 ≤ top → top ≤ 100000 → is_problem (cut_to ds top p) ≡ true
-unfolding cut_to inputs_cut
-cut_rules ds top p rules least most =
+-- a problem that is cut is a problem, also with fewer places
+pub cut_rules : (ds : List Demand) (top : ℕ) (p : ProblemValue) (xs : List InputValue) → is_problem p ≡ true → 1 ≤ top → top ≤ 100000
+    → IsNarrowed p (order_left ds p) (inputs_cut ds top p) xs → is_problem (problem_with ds p xs) ≡ true
+unfolding problem_with inputs_cut
+cut_rules ds top p xs rules least most narrowed =
     let r = rules_of p rules in
     let order = order_left ds p in
     let so = inputs_so ds top p rules least most in
     let inputs = cut_from ds order top 0 p.inputs in
-    let P : ℕ → Type 0 = λ s. list_all (are_builds s) (builds_from p inputs 0 order) ≡ true in
-    and_from _ _ (le-leb (length inputs) 32 (omega (arith, length_cut ds order top 0 p.inputs, r.few_inputs)))
-    (and_from _ _ so.inputs
-    (and_from _ _ (eq-eqb (length (builds_from p inputs 0 order)) (jobs_after 0 inputs) (length_builds p inputs 0 order ∙ sym so.jobs))
-    (subst P (sym so.scopes) (builds_left p rules inputs 0 order (order_within ds p rules)))))
+    let fewer = narrowed_rules narrowed.may 0 0 0 inputs so.inputs in
+    let left = narrowed_from narrowed.may 0 inputs in
+    let P : ℕ → Type 0 = λ s. list_all (are_builds s) (builds_from p left 0 order) ≡ true in
+    let Q : List InputValue → Type 0 = λ ys. is_problem (record { inputs = ys; jobs = builds_from p ys 0 order }) ≡ true in
+    subst Q (sym narrowed.is)
+    (and_from _ _ (le-leb (length left) 32 (omega (arith, length_narrowed narrowed.may 0 inputs, length_cut ds order top 0 p.inputs, r.few_inputs)))
+    (and_from _ _ fewer.inputs
+    (and_from _ _ (eq-eqb (length (builds_from p left 0 order)) (jobs_after 0 left) (length_builds p left 0 order ∙ sym (fewer.jobs ∙ so.jobs)))
+    (subst P (sym (fewer.scopes ∙ so.scopes)) (builds_left p rules left 0 order (order_within ds p rules))))))

@@ -5,7 +5,7 @@ use Rattle.std.proofs.lemmas.Bool.{and_parts, leb-true, cases_eq, cases_lt}
 use Rattle.std.proofs.lemmas.List.{get_or_default}
 use Rattle.std.proofs.lemmas.List.Elements.{All-nil, All-cons, All-append, All-map, All-contains, Contains-append_left, Contains-append_right, Contains-get_or}
 use Rattle.ccr_choice.specs.Problem.{ProblemValue, InputValue, no_input, input_at, builds_at, is_problem, is_after, is_input, are_inputs, are_distinct, are_numbered, are_places_after, next_used, used_after, jobs_after}
-use Rattle.ccr_choice.specs.Satisfies.{Satisfies, IsAllowed, IsSuccessful, HasPassed, HasPassedAll}
+use Rattle.ccr_choice.specs.Satisfies.{Satisfies, Moved, IsAllowed, IsSuccessful, HasPassed, HasPassedAll}
 use Rattle.ccr_choice.specs.Optimal.{HasNoChoice}
 use Rattle.ccr_choice.specs.Preference.{order_of}
 use Rattle.ccr_choice.proofs.Bounds.{rules_of}
@@ -109,6 +109,16 @@ pub named_by : (p : ProblemValue) → is_problem p ≡ true → (j : ℕ) → j 
 named_by p rules j within =
     let r = rules_of p rules in
     inputs_name 0 0 p.inputs j r.inputs (omega arith) (omega (arith, within, r.counted))
+
+-- ---- meeting a demand
+pub allowed_met : (p : ProblemValue) (places builds : List ℕ) (i : ℕ) (d : Demand) → d ≡ Allowed i → Contains (input_at p i).places (slice_index places i) → Meets p places builds d
+unfolding IsAllowed
+allowed_met p places builds i d is h = let P : Demand → Type 0 = λ e. Meets p places builds e in subst P (sym is) h
+
+pub passed_met : (p : ProblemValue) (places builds : List ℕ) (i j : ℕ) (d : Demand) → d ≡ Passed i j
+    → Moved (builds_at p j) (slice_index builds j) ((input_at p i).scope, slice_index places i) → Meets p places builds d
+unfolding HasPassed
+passed_met p places builds i j d is h = let P : Demand → Type 0 = λ e. Meets p places builds e in subst P (sym is) h
 
 -- ---- satisfying is meeting all demands
 -- what is passed with a job of the list

@@ -3,6 +3,7 @@ pub mod Orders
 pub mod DemandLaws
 pub mod Reducing
 pub mod CutRules
-pub mod CutLaws
 pub mod WhyLaws
+pub mod NarrowLaws
+pub mod CutLaws
 pub mod Steps

@@ -19,7 +19,7 @@ use Rattle.ccr_choice.specs.Problem.{ChoiceValue}
 use Rattle.ccr_explain.specs.Demand.{IsDemandOf, demands_from}
 use Rattle.ccr_explain.specs.Clash.{IsClash, IsExplanation}
 use Rattle.ccr_explain.specs.WhyNot.{may_take, narrowed_from, asked, IsWhyNot}
-use Rattle.ccr_explain.specs.Cut.{order_from, order_left, cut_from, builds_from, inputs_cut, cut_to, IsMet}
+use Rattle.ccr_explain.specs.Cut.{order_from, order_left, cut_from, builds_from, inputs_cut, problem_with, IsNarrowed, IsMet}
 use Rattle.ccr_explain.proofs.Lists.{all_contained}
 use Rattle.ccr_explain.proofs.Orders.{has_it, it_has}
 use Rattle.ccr_explain.proofs.CutRules.{builds_places}
@@ -80,19 +80,24 @@ places_more n xs ys e f =
     let last : 1 + n ≡ n + 1 = omega arith in
     f ∙ ap (λ zs. zs ++ (n + 1) ∷ []) e ∙ sym (ap (λ k. range_with_len 1 k) one ∙ range_more 1 n ∙ ap (λ k. range_with_len 1 n ++ k ∷ []) last)
 
-pub cut_is : (ds : List Demand) (top : ℕ) (p : ProblemValue) (order once twice : List ℕ) (inputs kept : List InputValue) (jobs : List (List BuildValue)) → order ≡ order_left ds p → once ≡ order → twice ≡ order
-    → inputs ≡ cut_from ds once top 0 p.inputs → kept ≡ inputs → jobs ≡ builds_from p kept 0 twice → record { inputs = inputs; jobs = jobs } ≡ cut_to ds top p
-unfolding cut_to inputs_cut
-cut_is ds top p order once twice inputs kept jobs is first second one same other =
-    let all : inputs ≡ cut_from ds (order_left ds p) top 0 p.inputs = one ∙ ap (λ o. cut_from ds o top 0 p.inputs) (first ∙ is) in
-    let f : List InputValue → ProblemValue = λ xs. record { inputs = xs; jobs = jobs } in
-    let g : List (List BuildValue) → ProblemValue = λ js. record { inputs = cut_from ds (order_left ds p) top 0 p.inputs; jobs = js } in
-    ap f all ∙ ap g (other ∙ ap (λ o. builds_from p kept 0 o) (second ∙ is) ∙ ap (λ xs. builds_from p xs 0 (order_left ds p)) (same ∙ all))
+pub cut_is : (ds : List Demand) (p : ProblemValue) (order twice : List ℕ) (inputs kept : List InputValue) (jobs : List (List BuildValue)) → order ≡ order_left ds p → twice ≡ order
+    → kept ≡ inputs → jobs ≡ builds_from p kept 0 twice → record { inputs = inputs; jobs = jobs } ≡ problem_with ds p inputs
+unfolding problem_with
+cut_is ds p order twice inputs kept jobs is second same other =
+    let g : List (List BuildValue) → ProblemValue = λ js. record { inputs = inputs; jobs = js } in
+    ap g (other ∙ ap (λ o. builds_from p kept 0 o) (second ∙ is) ∙ ap (λ xs. builds_from p xs 0 (order_left ds p)) same)
 
-pub inputs_are : (ds : List Demand) (top : ℕ) (p : ProblemValue) (order once : List ℕ) (inputs kept : List InputValue) → order ≡ order_left ds p → once ≡ order
-    → inputs ≡ cut_from ds once top 0 p.inputs → kept ≡ inputs → kept ≡ inputs_cut ds top p
+pub inputs_are : (ds : List Demand) (top : ℕ) (p : ProblemValue) (order once : List ℕ) (inputs : List InputValue) → order ≡ order_left ds p → once ≡ order
+    → inputs ≡ cut_from ds once top 0 p.inputs → inputs ≡ inputs_cut ds top p
 unfolding inputs_cut
-inputs_are ds top p order once inputs kept is first one same = same ∙ one ∙ ap (λ o. cut_from ds o top 0 p.inputs) (first ∙ is)
+inputs_are ds top p order once inputs is first one = one ∙ ap (λ o. cut_from ds o top 0 p.inputs) (first ∙ is)
+
+pub narrowed_cut : (ds : List Demand) (top : ℕ) (p : ProblemValue) (order once twice : List ℕ) (inputs others : List InputValue) → order ≡ order_left ds p → once ≡ order → twice ≡ order
+    → inputs ≡ cut_from ds once top 0 p.inputs → IsNarrowed p twice inputs others → IsNarrowed p (order_left ds p) (inputs_cut ds top p) others
+narrowed_cut ds top p order once twice inputs others is first second one narrowed =
+    let P : List ℕ → Type 0 = λ o. IsNarrowed p o inputs others in
+    let Q : List InputValue → Type 0 = λ xs. IsNarrowed p (order_left ds p) xs others in
+    subst Q (inputs_are ds top p order once inputs is first one) (subst P (second ∙ is) narrowed)
 
 -- a test that a fact decides is that of a list
 pub same_test : (b : Bool) (x : ℕ) (xs : List ℕ) → (IsTrue b ↔ Contains xs x) → b ≡ list_any (λ m. m == x) xs

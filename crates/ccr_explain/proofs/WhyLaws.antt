@@ -34,12 +34,12 @@ filtered_places test low (x ∷ xs) h =
           (lower_places low x (filter test xs) (omega (arith, ltb-true low x parts.0)) (filtered_places test x xs more.1))
     ]
 
-record AreNarrowed (may : ℕ → ℕ → Bool) (k s used : ℕ) (xs : List InputValue) : Type 0 where
+pub record AreNarrowed (may : ℕ → ℕ → Bool) (k s used : ℕ) (xs : List InputValue) : Type 0 where
   pub inputs : are_inputs s used (narrowed_from may k xs) ≡ true
   pub jobs : jobs_after used (narrowed_from may k xs) ≡ jobs_after used xs
   pub scopes : scopes_after s (narrowed_from may k xs) ≡ scopes_after s xs
 
-narrowed_rules : (may : ℕ → ℕ → Bool) (k s used : ℕ) (xs : List InputValue) → are_inputs s used xs ≡ true → AreNarrowed may k s used xs
+pub narrowed_rules : (may : ℕ → ℕ → Bool) (k s used : ℕ) (xs : List InputValue) → are_inputs s used xs ≡ true → AreNarrowed may k s used xs
 narrowed_rules may k s used [] h = record { inputs = refl; jobs = refl; scopes = refl }
 narrowed_rules may k s used (x ∷ xs) h =
     let parts = and_parts (is_input s used x) (are_inputs (next_used s x.scope) (used_after used x.jobs) xs) h in
@@ -54,11 +54,11 @@ narrowed_rules may k s used (x ∷ xs) h =
       scopes = rest.scopes;
     }
 
-length_narrowed : (may : ℕ → ℕ → Bool) (k : ℕ) (xs : List InputValue) → length (narrowed_from may k xs) ≡ length xs
+pub length_narrowed : (may : ℕ → ℕ → Bool) (k : ℕ) (xs : List InputValue) → length (narrowed_from may k xs) ≡ length xs
 length_narrowed may k [] = refl
 length_narrowed may k (x ∷ xs) = ap (λ n. suc n) (length_narrowed may (k + 1) xs)
 
-narrowed_at : (may : ℕ → ℕ → Bool) (n i m : ℕ) (xs : List InputValue) → n + i ≡ m → i < length xs
+pub narrowed_at : (may : ℕ → ℕ → Bool) (n i m : ℕ) (xs : List InputValue) → n + i ≡ m → i < length xs
     → slice_index_or (narrowed_from may n xs) i no_input
     ≡ record (slice_index_or xs i no_input) { places = filter (may m) (slice_index_or xs i no_input).places }
 narrowed_at may n i m [] e within = absurd (omega arith)

@@ -1,17 +1,18 @@
 -- A problem cut to some of its demands, so that the resolver can be asked. No public contract names these.
-use Rattle.std.specs.Prelude.{◌≡◌, ℕ, suc, ◌+◌, ◌<◌, ◌≤◌, List, [], ◌∷◌, ◌++◌, map, filter, Bool, false, not, ◌&&◌, ◌||◌, ◌==◌, if◌then◌else◌, All}
+use Rattle.std.specs.Prelude.{◌≡◌, ℕ, suc, ◌+◌, ◌<◌, ◌≤◌, List, [], ◌∷◌, ◌++◌, length, map, filter, slice_index, slice_index_or, Bool, false, not, ◌&&◌, ◌||◌, ◌==◌, if◌then◌else◌, IsTrue, All, Contains}
 use Rattle.std.specs.List.{list_any, list_all, range_with_len}
-use Rattle.ccr_choice.specs.Problem.{ProblemValue, InputValue, BuildValue, builds_at}
+use Rattle.ccr_choice.specs.Problem.{ProblemValue, InputValue, BuildValue, no_input, builds_at}
+use Rattle.ccr_choice.specs.Satisfies.{Moved}
 use Rattle.ccr_resolve.specs.NodeBound.{product}
 use Rattle.ccr_explain.specs.declared.demand.Demand.{Demand}
 use Rattle.ccr_explain.specs.declared.demand.Demand.TheVariants.{Allowed, Passed}
 use Rattle.ccr_choice.specs.Preference.{order_of}
 use Rattle.ccr_resolve.specs.Chosen.{IsChosen}
 use Rattle.ccr_resolve.specs.declared.chosen.Chosen.{Chosen}
-use Rattle.ccr_resolve.specs.declared.chosen.Chosen.TheVariants as chosen
 use Rattle.ccr_explain.specs.declared.met.Met.{Met}
 use Rattle.ccr_explain.specs.declared.met.Met.TheVariants.{Yes, No, OverBudget}
 use Rattle.ccr_explain.specs.Demand.{CanBeMet, ExcludeEachOther}
+use Rattle.ccr_explain.specs.WhyNot.{narrowed_from}
 
 -- Whether a demand is that of the allowed places of input i.
 abbrev pub is_allowed_of : ℕ → Demand → Bool
@@ -86,12 +87,9 @@ builds_from p xs n (j ∷ js) = filter (is_of_use xs n) (builds_at p j) ∷ buil
 unfoldable pub inputs_cut : List Demand → ℕ → ProblemValue → List InputValue
 inputs_cut ds top p = cut_from ds (order_left ds p) top 0 p.inputs
 
--- The problem cut to these demands.
-unfoldable pub cut_to : List Demand → ℕ → ProblemValue → ProblemValue
-cut_to ds top p = record {
-  inputs = inputs_cut ds top p;
-  jobs = builds_from p (inputs_cut ds top p) 0 (order_left ds p);
-}
+-- The problem of these inputs, and of the jobs that are left, with those of their builds that are of use to them.
+unfoldable pub problem_with : List Demand → ProblemValue → List InputValue → ProblemValue
+problem_with ds p xs = record { inputs = xs; jobs = builds_from p xs 0 (order_left ds p) }
 
 -- No build of these jobs has a pair of a place above the top one.
 pub record IsTop (p : ProblemValue) (order : List ℕ) (top : ℕ) : Type 0 where
@@ -99,11 +97,45 @@ pub record IsTop (p : ProblemValue) (order : List ℕ) (top : ℕ) : Type 0 wher
   pub most : top ≤ 100000
   pub covers : All (λ j. All (λ b. All (λ q. q.1 ≤ top) b.pairs) (builds_at p j)) order
 
--- The problem is the one that is cut to these demands, with some top place.
+-- ---- fewer places
+-- A place for each of these inputs that it may take, and for each job a build with which the places of all inputs that name it
+-- passed it.
+pub record SuitsInputs (p : ProblemValue) (order : List ℕ) (xs : List InputValue) (places builds : List ℕ) : Type 0 where
+  pub allowed : (i : ℕ) → i < length xs → Contains (slice_index_or xs i no_input).places (slice_index places i)
+  pub passed : (i n : ℕ) → i < length xs → Contains (slice_index_or xs i no_input).jobs n
+      → Moved (builds_at p (slice_index order n)) (slice_index builds n) ((slice_index_or xs i no_input).scope, slice_index places i)
+
+-- The others are these inputs with fewer places, and whatever suits these suits the others.
+pub record IsNarrowed (p : ProblemValue) (order : List ℕ) (xs others : List InputValue) : Type 0 where
+  pub may : ℕ → ℕ → Bool
+  pub is : others ≡ narrowed_from may 0 xs
+  pub keeps : (places builds : List ℕ) → SuitsInputs p order xs places builds → (i : ℕ) → i < length xs
+      → IsTrue (may i (slice_index places i))
+
+-- Among these builds are all those of job n that are of use.
+abbrev pub IsEnough : ProblemValue → List ℕ → List InputValue → ℕ → List BuildValue → Type 0
+IsEnough p order xs n builds =
+    filter (is_of_use xs n) builds ≡ filter (is_of_use xs n) (builds_at p (slice_index order n))
+
+-- Each of these pairs that is in the scope has a mark, by its place.
+abbrev pub AreMarked : ℕ → List Bool → List (ℕ × ℕ) → Type 0
+AreMarked scope marks pairs =
+    All (λ r. r.0 ≡ scope → r.1 < length marks → IsTrue (slice_index_or marks r.1 false)) pairs
+
+-- The input with fewer places: those that have a mark, which each place of these builds has.
+pub record IsInputNarrowed (top : ℕ) (useful : List BuildValue) (x y : InputValue) : Type 0 where
+  pub may : ℕ → Bool
+  pub is : y ≡ record x { places = filter may x.places }
+  pub keeps : (b : BuildValue) (place : ℕ) → Contains useful b → Contains b.pairs (x.scope, place) → place ≤ top
+      → IsTrue (may place)
+
+-- The problem is the one that is cut to these demands, with some top place, and without some places that no choice can have.
 pub record IsCutTo (ds : List Demand) (p q : ProblemValue) : Type 0 where
   pub top : ℕ
   pub is_top : IsTop p (order_left ds p) top
-  pub is : q ≡ cut_to ds top p
+  pub inputs : List InputValue
+  pub narrowed : IsNarrowed p (order_left ds p) (inputs_cut ds top p) inputs
+  pub is : q ≡ problem_with ds p inputs
 
 -- What is chosen is what is chosen for the problem cut to these demands.
 pub record IsChosenOfCut (ds : List Demand) (p : ProblemValue) (budget : ℕ) (x : Chosen) : Type 0 where
@@ -111,15 +143,9 @@ pub record IsChosenOfCut (ds : List Demand) (p : ProblemValue) (budget : ℕ) (x
   pub is_cut : IsCutTo ds p cut
   pub chosen : IsChosen (order_of cut) cut budget x
 
--- Whether some choice meets the demands, by what is chosen for the problem cut to them.
-abbrev pub met_of : Chosen → Met
-met_of (chosen.Best c) = Yes
-met_of chosen.Nothing = No
-met_of (chosen.OverBudget n) = OverBudget
-
 -- Whether some choice meets these demands; it is left open only where the budget is less than the product, over the named
 -- jobs, of one plus the number of successful builds.
 abbrev pub IsMet : ProblemValue → List Demand → ℕ → Met → Type 0
-IsMet p ds budget Yes = CanBeMet p ds
+IsMet p ds budget (Yes c) = CanBeMet p ds
 IsMet p ds budget No = ExcludeEachOther p ds
 IsMet p ds budget OverBudget = budget < product p.jobs

@@ -3,3 +3,4 @@ pub mod ClashValue
 pub mod Clash
 pub mod WhyNot
 pub mod Cut
+pub mod Reduced

@@ -10,8 +10,9 @@ use crate::copies::{copied_inputs, copied_jobs};
 use crate::demand::{Demand, demands_of};
 use crate::explanation::Explanation;
 use crate::grown::few_demands;
+use crate::met::{Met, are_met};
 use crate::reduced::reduced;
-use ccr_choice::{Input, Problem};
+use ccr_choice::{Choice, Input, Problem};
 use ccr_index::build_index;
 use ccr_proof::MOST_NODES;
 use ccr_resolve::{Chosen, choose};
@@ -20,7 +21,7 @@ use std::alloc::{AllocError, Global};
 /// Demands of a problem that exclude each other, and of which none can be left out; or the best choice, if one satisfies.
 ///
 /// Each call of the resolver has the budget, from 1 to 1,000,000, and there are at most twice as many calls as demands,
-/// and one where there are none. Where the budget doesn't suffice for one of them, the clash is one all the same, but says that
+/// and two where there are none. Where the budget doesn't suffice for one of them, the clash is one all the same, but says that
 /// perhaps fewer demands exclude each other. The only error is out of memory.
 pub fn clash(alloc: Global, problem: &Problem, budget: u32) -> Result<Explanation, AllocError>
     requires least { 1 ≤ budget }
@@ -29,15 +30,17 @@ pub fn clash(alloc: Global, problem: &Problem, budget: u32) -> Result<Explanatio
 {
     let inputs = problem.inputs();
     let few = few_demands(alloc, inputs, problem, budget)?;
-    explained(alloc, inputs, problem, few, budget)
+    explained(alloc, inputs, problem, few, None, budget)
 }
 
-/// The same of the problem of these inputs and the jobs of a problem, by a few demands that exclude each other, or else by all.
+/// The same of the problem of these inputs and the jobs of a problem, by a few demands that exclude each other, or else by all. A choice that
+/// is known to meet all demands but one spares calls of the resolver.
 pub(crate) fn explained(
     alloc: Global,
     inputs: &[Input],
     problem: &Problem,
     few: Option<Vec<Demand>>,
+    known: Option<&Choice>,
     budget: u32,
 ) -> Result<Explanation, AllocError>
     requires rules { IsProblem (record problem.now { inputs = inputs.now }) }
@@ -47,9 +50,9 @@ pub(crate) fn explained(
     ensures { let p = record problem.now { inputs = inputs.now } in IfOk result (IsExplanation (order_of p) p budget) }
 {
     match few {
-        None => explained_whole(alloc, inputs, problem, budget),
+        None => explained_whole(alloc, inputs, problem, known, budget),
         Some(demands) => {
-            let clash = reduced(alloc, inputs, problem, &demands, budget)?;
+            let clash = reduced(alloc, inputs, problem, demands, known, budget)?;
             Ok(Explanation::Clash(clash))
         }
     }
@@ -60,6 +63,7 @@ fn explained_whole(
     alloc: Global,
     inputs: &[Input],
     problem: &Problem,
+    known: Option<&Choice>,
     budget: u32,
 ) -> Result<Explanation, AllocError>
     requires rules { IsProblem (record problem.now { inputs = inputs.now }) }
@@ -67,12 +71,16 @@ fn explained_whole(
     requires most { budget ≤ MOST_NODES }
     ensures { let p = record problem.now { inputs = inputs.now } in IfOk result (IsExplanation (order_of p) p budget) }
 {
+    let demands = demands_of(alloc, inputs)?;
+    if let Met::No = are_met(alloc, inputs, problem, &demands, budget)? {
+        let clash = reduced(alloc, inputs, problem, demands, known, budget)?;
+        return Ok(Explanation::Clash(clash));
+    }
     match chosen_of_whole(alloc, inputs, problem, budget)? {
         Chosen::Best(choice) => Ok(Explanation::Fits(choice)),
         Chosen::OverBudget(budget) => Ok(Explanation::OverBudget(budget)),
         Chosen::Nothing => {
-            let demands = demands_of(alloc, inputs)?;
-            let clash = reduced(alloc, inputs, problem, &demands, budget)?;
+            let clash = reduced(alloc, inputs, problem, demands, known, budget)?;
             Ok(Explanation::Clash(clash))
         }
     }

@@ -3,17 +3,18 @@
 ghost use Rattle.std.specs.Prelude.{◌≡◌, ◌==◌, ◌<◌, ◌≤◌, ◌++◌, if◌then◌else◌, length, map, filter, All, EachIndex, slice_index, IfOk, OnOk};
 ghost use Rattle.std.specs.List.{list_all, list_any, range_with_len};
 ghost use Rattle.ccr_choice.specs.Problem.{builds_at, IsProblem};
-ghost use Rattle.ccr_explain.specs.Cut.{is_allowed_of, is_passed_of, jobs_left, with_job, with_jobs, place_in, top_for, cut_input, cut_from, has_place_of, names, is_of_use, builds_from, order_left, IsTop, IsCutTo};
+ghost use Rattle.ccr_explain.specs.Cut.{is_allowed_of, is_passed_of, jobs_left, with_job, with_jobs, place_in, top_for, cut_input, cut_from, has_place_of, names, is_of_use, builds_from, order_left, IsTop, IsEnough, IsCutTo};
 ghost use Rattle.ccr_choice.specs.Ascending.{AreRising};
 
-use crate::copies::copied_build;
+use crate::copies::copied_builds;
 use crate::demand::Demand;
+use crate::narrow::{Looked, narrow};
 use ccr_choice::possible::has_place;
 use ccr_choice::{Build, Input, JobBuilds, Problem};
 use std::alloc::{AllocError, Global};
 
 /// The problem of these inputs and the jobs of a problem, cut to these demands. An input without the demand of its allowed places may
-/// take any place up to a top one.
+/// take any place up to a top one. Places that no choice can have are left out, and builds that have none of the others.
 pub(crate) fn cut_to(
     alloc: Global,
     inputs: &[Input],
@@ -25,8 +26,9 @@ pub(crate) fn cut_to(
 {
     let order = order_left(alloc, inputs, problem, demands)?;
     let top = top_place(problem, &order);
-    let inputs = cut_inputs(alloc, inputs, demands, &order, top)?;
-    let jobs = jobs_of(alloc, problem, &inputs, &order)?;
+    let mut inputs = cut_inputs(alloc, inputs, demands, &order, top)?;
+    let looked = narrow(alloc, problem, &order, top, &mut inputs)?;
+    let jobs = jobs_of(alloc, problem, &inputs, &order, &looked)?;
     Ok(Problem::new(inputs, jobs))
 }
 
@@ -103,7 +105,7 @@ fn jobs_left(
 }
 
 /// The jobs that inputs must still have passed, in order of first mention.
-fn order_left(
+pub(crate) fn order_left(
     alloc: Global,
     inputs: &[Input],
     problem: &Problem,
@@ -143,7 +145,8 @@ fn add_job(order: &mut Vec<u32>, job: u32) -> Result<(), AllocError>
     Ok(())
 }
 
-fn is_among(order: &[u32], job: u32) -> bool
+/// Whether a job is among these.
+pub(crate) fn is_among(order: &[u32], job: u32) -> bool
     ensures { result ≡ list_any (λ m. m == job) order.now }
 {
     order.iter().any(|m| *m == job)
@@ -273,38 +276,87 @@ fn jobs_of(
     problem: &Problem,
     inputs: &[Input],
     order: &[u32],
+    looked: &[Looked<'_>],
 ) -> Result<Vec<JobBuilds>, AllocError>
     requires few { length order.now ≤ 32 }
     requires known { EachIndex order.now (λ k. slice_index order.now k < length problem.now.jobs) }
     requires rising { All (λ x. AreRising x.places) inputs.now }
+    requires enough { All (λ s. IsEnough problem.now order.now inputs.now s.0 (map (λ b. b.now) s.1.items)) looked.now }
     ensures { IfOk result (λ jobs. jobs.items ≡ builds_from problem.now inputs.now 0 order.now) }
 {
     let mut jobs = Vec::new(alloc);
     for n in 0..order.len() {
-        let builds = problem.builds(order[n] as usize);
-        jobs.push(useful_builds(alloc, inputs, n as u32, builds)?)?;
+        let useful = useful_of(alloc, problem, inputs, order, looked, n)?;
+        jobs.push(copied_builds(alloc, &useful)?)?;
     }
     Ok(jobs)
 }
 
-fn useful_builds(
+/// The builds of job `n` among those that are left that are of use to the cut inputs: of those that were looked at, if they were.
+fn useful_of<'a>(
+    alloc: Global,
+    problem: &'a Problem,
+    inputs: &[Input],
+    order: &[u32],
+    looked: &[Looked<'a>],
+    n: usize,
+) -> Result<Vec<&'a Build>, AllocError>
+    requires few { length order.now ≤ 32 }
+    requires known { EachIndex order.now (λ k. slice_index order.now k < length problem.now.jobs) }
+    requires within { n < length order.now }
+    requires rising { All (λ x. AreRising x.places) inputs.now }
+    requires enough { All (λ s. IsEnough problem.now order.now inputs.now s.0 (map (λ b. b.now) s.1.items)) looked.now }
+    ensures { IfOk result (λ useful. map (λ b. b.now) useful.items
+        ≡ filter (is_of_use inputs.now n) (builds_at problem.now (slice_index order.now n))) }
+{
+    for one in looked {
+        if one.0 == n {
+            return useful_among(alloc, inputs, n as u32, &one.1);
+        }
+    }
+    useful_builds(alloc, inputs, n as u32, problem.builds(order[n] as usize))
+}
+
+/// The builds among these that are of use to the inputs as builds of job `job`.
+fn useful_among<'a>(
     alloc: Global,
     inputs: &[Input],
     job: u32,
-    builds: &[Build],
-) -> Result<JobBuilds, AllocError>
+    builds: &[&'a Build],
+) -> Result<Vec<&'a Build>, AllocError>
     requires { All (λ x. AreRising x.places) inputs.now }
-    ensures { IfOk result (λ useful. useful ≡ filter (is_of_use inputs.now job) builds.now) }
+    ensures { IfOk result (λ useful. map (λ b. b.now) useful.items
+        ≡ filter (is_of_use inputs.now job) (map (λ b. b.now) builds.now)) }
+{
+    let naming = inputs_naming(alloc, inputs, job)?;
+    let mut useful = Vec::new(alloc);
+    for build in builds {
+        if is_of_use(&naming, build) {
+            useful.push(*build)?;
+        }
+    }
+    Ok(useful)
+}
+
+/// The builds among these that are of use to the inputs as builds of job `job`, where they are.
+pub(crate) fn useful_builds<'a>(
+    alloc: Global,
+    inputs: &[Input],
+    job: u32,
+    builds: &'a [Build],
+) -> Result<Vec<&'a Build>, AllocError>
+    requires { All (λ x. AreRising x.places) inputs.now }
+    ensures { IfOk result (λ useful. map (λ b. b.now) useful.items ≡ filter (is_of_use inputs.now job) builds.now) }
 {
     // A job has many builds, and few inputs name it.
     let naming = inputs_naming(alloc, inputs, job)?;
     let mut useful = Vec::new(alloc);
     for build in builds {
         if is_of_use(&naming, build) {
-            useful.push(copied_build(alloc, build)?)?;
+            useful.push(build)?;
         }
     }
-    Ok(JobBuilds::new(useful))
+    Ok(useful)
 }
 
 /// The inputs among these that name job `job`.
@@ -331,6 +383,12 @@ fn is_of_use(naming: &[&Input], build: &Build) -> bool
     requires { All (λ x. AreRising x.now.places) naming.now }
     ensures { result ≡ list_all (λ x. has_place_of x.now build.now.pairs) naming.now }
 {
+    // Most builds have none of the places of an input that has few.
+    for few in naming {
+        if few.places().len() <= FEW_PLACES && !has_place_of(few, build.pairs()) {
+            return false;
+        }
+    }
     for input in naming {
         if !has_place_of(input, build.pairs()) {
             return false;
@@ -338,6 +396,9 @@ fn is_of_use(naming: &[&Input], build: &Build) -> bool
     }
     true
 }
+
+/// How many places are looked through at once.
+const FEW_PLACES: usize = 4;
 
 fn has_place_of(input: &Input, pairs: &[(u32, u32)]) -> bool
     requires { AreRising input.now.places }

@@ -6,7 +6,7 @@ ghost use Rattle.ccr_explain.specs.Clash.{IsClash};
 
 use crate::demand::{Demand, demands_of_some};
 use crate::met::{Met, are_met};
-use ccr_choice::{Input, Problem};
+use ccr_choice::{Input, MOST_INPUTS, Problem};
 use ccr_proof::MOST_NODES;
 use std::alloc::{AllocError, Global};
 
@@ -31,16 +31,18 @@ pub(crate) fn few_demands(
             return Ok(Some(demands));
         }
     }
-    grown(alloc, inputs, problem, 0, budget)
+    grown(alloc, inputs, problem, 0, 1, budget)
 }
 
-/// The demands of one input, and of as many more that name a job as it takes until they exclude each other; None where that takes
-/// all of them, or the budget doesn't suffice to tell. Inputs that name a job in common are taken before others.
+/// The demands of one input, and of as few more that name a job as it takes until they exclude each other; None where that takes
+/// all of them, or the budget doesn't suffice to tell. Inputs that name a job in common are taken before others. Of the first `known`
+/// it is known that they don't exclude each other.
 pub(crate) fn grown(
     alloc: Global,
     inputs: &[Input],
     problem: &Problem,
     first: usize,
+    known: usize,
     budget: u32,
 ) -> Result<Option<Vec<Demand>>, AllocError>
     requires rules { IsProblem (record problem.now { inputs = inputs.now }) }
@@ -49,18 +51,50 @@ pub(crate) fn grown(
     ensures { IfOk result
         (λ found. IfSome found (λ ds. IsClash (record problem.now { inputs = inputs.now }) ds.items)) }
 {
+    let order = in_turn(alloc, inputs, first)?;
+    let mut found = None;
+    let mut few = known;
+    let mut many = MOST_INPUTS as usize;
+    for _ in 0..MOST_TRIES {
+        let count = next_count(few, many, order.len());
+        if count > few {
+            let demands = demands_of_some(alloc, inputs, &order[..count])?;
+            if let Met::No = are_met(alloc, inputs, problem, &demands, budget)? {
+                many = count;
+                found = Some(demands);
+            } else {
+                few = count;
+            }
+        }
+    }
+    Ok(found)
+}
+
+/// How often numbers of inputs are tried at the most: 1, 2, 4, 8, 16 and 31, and then half as far each time.
+const MOST_TRIES: usize = 10;
+
+/// How many inputs are tried next, where the demands of `few` don't exclude each other, and those of `many` do unless there aren't so
+/// many: twice as many as the last time, and then half of those between. It is `few` where there is nothing between.
+fn next_count(few: usize, many: usize, most: usize) -> usize
+    ensures { result ≤ most }
+{
+    let next = if many > most {
+        few.saturating_mul(2).max(1)
+    } else {
+        few.saturating_add(many.saturating_sub(few) / 2)
+    };
+    next.min(most)
+}
+
+/// The inputs that name a job, but for the last, in the order in which they are taken.
+fn in_turn(alloc: Global, inputs: &[Input], first: usize) -> Result<Vec<usize>, AllocError> {
     let mut taken = Vec::new(alloc);
     let mut next = first;
     for _ in 1..count_naming(inputs) {
         taken.push(next)?;
-        let demands = demands_of_some(alloc, inputs, &taken)?;
-        let met = are_met(alloc, inputs, problem, &demands, budget)?;
-        if let Met::No = met {
-            return Ok(Some(demands));
-        }
         next = next_input(inputs, &taken);
     }
-    Ok(None)
+    Ok(taken)
 }
 
 /// How many inputs name a job. The others clash with no input but themselves.

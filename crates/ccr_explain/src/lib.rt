@@ -7,9 +7,13 @@
 //!
 //! What a demand, a clash and a place that can't be taken are, is said of problems and choices alone (`specs/Demand.antt`,
 //! `specs/Clash.antt`, `specs/WhyNot.antt`). The resolver is called on the problem cut to some of its demands; no definition
-//! speaks of that. First a few inputs are looked for whose demands exclude each other: one input alone, else one with those that name
-//! a job in common with it, and so on. Then each demand is left out in turn, and stays out if the others still exclude each other. So
-//! the resolver is called at most twice as often as there are demands.
+//! speaks of that. Before it is, places are left out that no build leaves to their input, since most questions are decided by that, and
+//! builds without a place that is left.
+//!
+//! First a few inputs are looked for whose demands exclude each other: one input alone, else one with those that name a job in common
+//! with it, and so on. Then each demand is left out in turn, and stays out if the others still exclude each other. A choice that meets all
+//! demands but one shows that this one is needed; where one place or one build of it is changed, it may meet all but another one, which is
+//! needed, too. So most demands of a long clash need no call of the resolver, and there are at most twice as many calls as demands.
 #![tactic(auto)]
 
 mod clashes;
@@ -19,11 +23,14 @@ mod demand;
 mod explanation;
 mod grown;
 mod law;
+mod meets;
 mod met;
+mod narrow;
 mod reduced;
 #[cfg(test)]
 mod rows;
 mod why;
+mod witness;
 
 pub use clashes::clash;
 pub use demand::Demand;

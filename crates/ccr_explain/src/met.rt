@@ -1,23 +1,23 @@
 //! Whether some choice meets some of the demands.
 
-ghost use Rattle.std.specs.Prelude.{◌≡◌, ◌≤◌, ◌++◌, All, IfOk};
+ghost use Rattle.std.specs.Prelude.{◌≤◌, All, IfOk};
 ghost use Rattle.ccr_choice.specs.Problem.{IsProblem};
 ghost use Rattle.ccr_explain.specs.Demand.{IsDemandOf};
-ghost use Rattle.ccr_explain.specs.Cut.{met_of, IsChosenOfCut, IsMet};
+ghost use Rattle.ccr_explain.specs.Cut.{IsChosenOfCut, IsMet};
 
-use crate::cut::cut_to;
+use crate::cut::{cut_to, order_left};
 use crate::demand::Demand;
-use ccr_choice::{Input, Problem};
+use ccr_choice::{Choice, Input, Problem};
 use ccr_index::build_index;
 use ccr_proof::MOST_NODES;
 use ccr_resolve::{Chosen, choose};
 use std::alloc::{AllocError, Global};
 
 /// Whether some choice meets demands.
-#[derive(Clone, Copy)]
+#[derive(Drop)]
 pub(crate) enum Met {
-    /// Some choice does.
-    Yes,
+    /// Some choice does. This is mostly one: who relies on it looks whether it is.
+    Yes(Choice),
     /// No choice does.
     No,
     /// The budget didn't suffice to tell.
@@ -42,14 +42,30 @@ fn chosen_of_cut(
     choose(alloc, &index, budget)
 }
 
-/// Whether some choice meets the demands, by what is chosen for the problem cut to them.
-fn met_of(chosen: Chosen) -> Met
-    ensures { result ≡ met_of chosen }
+/// A choice of the cut problem as one of the whole: jobs have the numbers that they have there. A job that isn't left has no build.
+fn choice_of_cut(
+    alloc: Global,
+    inputs: &[Input],
+    problem: &Problem,
+    demands: &[Demand],
+    choice: Choice,
+) -> Result<Choice, AllocError>
+    requires { IsProblem (record problem.now { inputs = inputs.now }) }
 {
-    match chosen {
-        Chosen::Best(_) => Met::Yes,
-        Chosen::Nothing => Met::No,
-        Chosen::OverBudget(_) => Met::OverBudget,
+    let order = order_left(alloc, inputs, problem, demands)?;
+    let mut builds = Vec::new(alloc);
+    for job in 0..problem.jobs().len() {
+        let number = order.iter().position(|m| *m as usize == job);
+        builds.push(build_at(&choice.builds, number))?;
+    }
+    let Choice { places, .. } = choice;
+    Ok(Choice { places, builds })
+}
+
+fn build_at(builds: &[u32], job: Option<usize>) -> u32 {
+    match job {
+        Some(number) => builds.get(number).copied().unwrap_or(0),
+        None => 0,
     }
 }
 
@@ -67,26 +83,12 @@ pub(crate) fn are_met(
     requires most { budget ≤ MOST_NODES }
     ensures { IfOk result (IsMet (record problem.now { inputs = inputs.now }) demands.now budget) }
 {
-    let chosen = chosen_of_cut(alloc, inputs, problem, demands, budget)?;
-    Ok(met_of(chosen))
-}
-
-/// Whether some choice meets the demands of two lists.
-pub(crate) fn are_both_met(
-    alloc: Global,
-    inputs: &[Input],
-    problem: &Problem,
-    first: &[Demand],
-    second: &[Demand],
-    budget: u32,
-) -> Result<Met, AllocError>
-    requires rules { IsProblem (record problem.now { inputs = inputs.now }) }
-    requires demands { All (IsDemandOf (record problem.now { inputs = inputs.now })) (first.now ++ second.now) }
-    requires least { 1 ≤ budget }
-    requires most { budget ≤ MOST_NODES }
-    ensures { IfOk result (IsMet (record problem.now { inputs = inputs.now }) (first.now ++ second.now) budget) }
-{
-    let mut demands = Vec::from_slice(alloc, first)?;
-    demands.extend_from_slice(second)?;
-    are_met(alloc, inputs, problem, &demands, budget)
+    match chosen_of_cut(alloc, inputs, problem, demands, budget)? {
+        Chosen::Best(choice) => {
+            let choice = choice_of_cut(alloc, inputs, problem, demands, choice)?;
+            Ok(Met::Yes(choice))
+        }
+        Chosen::Nothing => Ok(Met::No),
+        Chosen::OverBudget(_) => Ok(Met::OverBudget),
+    }
 }

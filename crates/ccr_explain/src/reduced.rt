@@ -1,44 +1,309 @@
 //! Demands that exclude each other, without those that aren't needed for it.
 
-ghost use Rattle.std.specs.Prelude.{◌≤◌, IfOk};
+ghost use Rattle.std.specs.Prelude.{◌≡◌, ◌+◌, ◌-◌, ◌<◌, ◌≤◌, length, remove, IfOk};
 ghost use Rattle.ccr_choice.specs.Problem.{IsProblem};
 ghost use Rattle.ccr_explain.specs.Clash.{IsClash, IsClashWithin};
+ghost use Rattle.ccr_explain.specs.Cut.{IsMet};
+ghost use Rattle.ccr_explain.specs.Reduced.{marked, AreNeeded, IsReduced};
 
+use crate::copies::copied_choice;
 use crate::demand::Demand;
 use crate::explanation::ClashingDemands;
-use crate::met::{Met, are_both_met};
-use ccr_choice::{Input, Problem};
+use crate::met::{Met, are_met};
+use crate::witness::mark_needed;
+use ccr_choice::{Choice, Input, Problem};
 use ccr_proof::MOST_NODES;
 use std::alloc::{AllocError, Global};
+use std::marker::Model;
+
+/// Demands that exclude each other, some of which were tried: whether the others exclude each other without them.
+#[derive(Drop)]
+pub(crate) struct Reduction {
+    demands: Vec<Demand>,
+    /// Of each demand, whether it is known that it can't be left out.
+    is_needed: Vec<bool>,
+    /// The first demand that wasn't tried.
+    next: usize,
+    /// Whether all that were tried can't be left out. Else the budget didn't suffice for one of them.
+    is_irreducible: bool,
+}
+
+impl Model for Reduction {
+    ghost use Rattle.ccr_explain.specs.Reduced.{ReductionValue};
+
+    ghost Value = { ReductionValue };
+
+    ghost view = { λ a. record {
+      demands = a.demands.items;
+      is_needed = a.is_needed.items;
+      next = a.next;
+      is_irreducible = a.is_irreducible;
+    } };
+}
 
 /// What is left of these demands when each is left out in turn, and stays out if the others still exclude each other. Whatever
-/// is kept can't be left out later either, when there are fewer others.
+/// is kept can't be left out later either, when there are fewer others. A choice that is known to meet all but one tells of the first that
+/// are needed.
 pub(crate) fn reduced(
     alloc: Global,
     inputs: &[Input],
     problem: &Problem,
-    demands: &[Demand],
+    demands: Vec<Demand>,
+    known: Option<&Choice>,
     budget: u32,
 ) -> Result<ClashingDemands, AllocError>
     requires rules { IsProblem (record problem.now { inputs = inputs.now }) }
-    requires clash { IsClash (record problem.now { inputs = inputs.now }) demands.now }
+    requires clash { IsClash (record problem.now { inputs = inputs.now }) demands.items }
     requires least { 1 ≤ budget }
     requires most { budget ≤ MOST_NODES }
     ensures { IfOk result (IsClashWithin (record problem.now { inputs = inputs.now }) budget) }
 {
-    let mut kept = Vec::new(alloc);
-    let mut is_irreducible = true;
-    for k in 0..demands.len() {
-        let met = are_both_met(alloc, inputs, problem, &kept, &demands[k + 1..], budget)?;
-        match met {
-            Met::No => continue,
-            Met::Yes => {}
-            Met::OverBudget => is_irreducible = false,
-        }
-        kept.push(demands[k])?;
+    let count = demands.len();
+    let is_needed = needed_first(alloc, inputs, problem, &demands, known)?;
+    let mut reduction = Reduction {
+        demands,
+        is_needed,
+        next: 0,
+        is_irreducible: true,
+    };
+    for _ in 0..count {
+        reduction = turn(alloc, inputs, problem, reduction, budget)?;
     }
     Ok(ClashingDemands {
-        demands: kept,
+        demands: reduction.demands,
+        is_irreducible: reduction.is_irreducible,
+    })
+}
+
+/// Marks for the demands of which a choice that is known tells that they are needed.
+fn needed_first(
+    alloc: Global,
+    inputs: &[Input],
+    problem: &Problem,
+    demands: &[Demand],
+    known: Option<&Choice>,
+) -> Result<Vec<bool>, AllocError>
+    requires { IsProblem (record problem.now { inputs = inputs.now }) }
+    ensures length { IfOk result (λ marks. length marks.items ≡ length demands.now) }
+    ensures needed { IfOk result
+        (λ marks. AreNeeded (record problem.now { inputs = inputs.now }) demands.now marks.items) }
+{
+    let mut is_needed = vec![in alloc; false; demands.len()]?;
+    if let Some(choice) = known {
+        let choice = copied_choice(alloc, choice)?;
+        mark_needed(alloc, inputs, problem, demands, choice, &mut is_needed)?;
+    }
+    Ok(is_needed)
+}
+
+/// What is left once the next demand was tried, if there is one. Where that marked others, too, it is tried whether all that are marked
+/// exclude each other alone: mostly they do, and then all is done.
+fn turn(
+    alloc: Global,
+    inputs: &[Input],
+    problem: &Problem,
+    reduction: Reduction,
+    budget: u32,
+) -> Result<Reduction, AllocError>
+    requires rules { IsProblem (record problem.now { inputs = inputs.now }) }
+    requires least { 1 ≤ budget }
+    requires most { budget ≤ MOST_NODES }
+    requires reduced { IsReduced (record problem.now { inputs = inputs.now }) budget reduction }
+    ensures reduced { IfOk result (IsReduced (record problem.now { inputs = inputs.now }) budget) }
+    ensures fewer { IfOk result (λ r.
+        length r.demands - r.next ≤ length reduction.demands - reduction.next - 1) }
+{
+    let before = count_marks(&reduction.is_needed);
+    let after = tried(alloc, inputs, problem, reduction, budget)?;
+    if count_marks(&after.is_needed) > before.saturating_add(1) {
+        needed_alone(alloc, inputs, problem, after, budget)
+    } else {
+        Ok(after)
+    }
+}
+
+/// What is left once the next demand was tried, if there is one.
+fn tried(
+    alloc: Global,
+    inputs: &[Input],
+    problem: &Problem,
+    reduction: Reduction,
+    budget: u32,
+) -> Result<Reduction, AllocError>
+    requires rules { IsProblem (record problem.now { inputs = inputs.now }) }
+    requires least { 1 ≤ budget }
+    requires most { budget ≤ MOST_NODES }
+    requires reduced { IsReduced (record problem.now { inputs = inputs.now }) budget reduction }
+    ensures reduced { IfOk result (IsReduced (record problem.now { inputs = inputs.now }) budget) }
+    ensures fewer { IfOk result (λ r.
+        length r.demands - r.next ≤ length reduction.demands - reduction.next - 1) }
+{
+    let next = reduction.next;
+    if next >= reduction.demands.len() {
+        return Ok(reduction);
+    }
+    if reduction.is_needed[next] {
+        return Ok(past_next(reduction));
+    }
+    let mut others = Vec::from_slice(alloc, &reduction.demands)?;
+    others.remove(next);
+    let met = are_met(alloc, inputs, problem, &others, budget)?;
+    answered(alloc, inputs, problem, reduction, met, budget)
+}
+
+/// The same demands, where the next one is kept.
+fn past_next(reduction: Reduction) -> Reduction
+    requires { reduction.next < length reduction.demands }
+    ensures { result ≡ record reduction { next = reduction.next + 1 } }
+{
+    let Reduction {
+        demands,
+        is_needed,
+        next,
+        is_irreducible,
+    } = reduction;
+    Reduction {
+        demands,
+        is_needed,
+        next: next + 1,
+        is_irreducible,
+    }
+}
+
+/// What is left once it is known whether some choice meets all demands but the next.
+fn answered(
+    alloc: Global,
+    inputs: &[Input],
+    problem: &Problem,
+    reduction: Reduction,
+    met: Met,
+    budget: u32,
+) -> Result<Reduction, AllocError>
+    requires rules { IsProblem (record problem.now { inputs = inputs.now }) }
+    requires within { reduction.next < length reduction.demands }
+    requires reduced { IsReduced (record problem.now { inputs = inputs.now }) budget reduction }
+    requires met { IsMet (record problem.now { inputs = inputs.now }) (remove reduction.demands reduction.next) budget met }
+    ensures reduced { IfOk result (IsReduced (record problem.now { inputs = inputs.now }) budget) }
+    ensures fewer { IfOk result (λ r.
+        length r.demands - r.next ≤ length reduction.demands - reduction.next - 1) }
+{
+    let _ = budget;
+    let Reduction {
+        mut demands,
+        mut is_needed,
+        next,
+        mut is_irreducible,
+    } = reduction;
+    let mut after = next + 1;
+    match met {
+        Met::No => {
+            demands.remove(next);
+            is_needed.remove(next);
+            after = next;
+        }
+        Met::Yes(choice) => {
+            mark_needed(alloc, inputs, problem, &demands, choice, &mut is_needed)?;
+            is_needed[next] = true;
+        }
+        Met::OverBudget => is_irreducible = false,
+    }
+    Ok(Reduction {
+        demands,
+        is_needed,
+        next: after,
         is_irreducible,
     })
+}
+
+fn count_marks(marks: &[bool]) -> usize {
+    marks.iter().filter(|mark| **mark).count()
+}
+
+/// The demands that are known to be needed, where they alone exclude each other; else what was given, perhaps with more that are
+/// known to be needed.
+fn needed_alone(
+    alloc: Global,
+    inputs: &[Input],
+    problem: &Problem,
+    reduction: Reduction,
+    budget: u32,
+) -> Result<Reduction, AllocError>
+    requires rules { IsProblem (record problem.now { inputs = inputs.now }) }
+    requires least { 1 ≤ budget }
+    requires most { budget ≤ MOST_NODES }
+    requires reduced { IsReduced (record problem.now { inputs = inputs.now }) budget reduction }
+    ensures reduced { IfOk result (IsReduced (record problem.now { inputs = inputs.now }) budget) }
+    ensures fewer { IfOk result (λ r.
+        length r.demands - r.next ≤ length reduction.demands - reduction.next) }
+{
+    let mut now = reduction;
+    for _ in 0..now.demands.len() {
+        let count = count_marks(&now.is_needed);
+        now = tried_alone(alloc, inputs, problem, now, budget)?;
+        if count_marks(&now.is_needed) <= count {
+            return Ok(now);
+        }
+    }
+    Ok(now)
+}
+
+/// The same, tried once: a choice that meets those that are known may tell of more.
+fn tried_alone(
+    alloc: Global,
+    inputs: &[Input],
+    problem: &Problem,
+    reduction: Reduction,
+    budget: u32,
+) -> Result<Reduction, AllocError>
+    requires rules { IsProblem (record problem.now { inputs = inputs.now }) }
+    requires least { 1 ≤ budget }
+    requires most { budget ≤ MOST_NODES }
+    requires reduced { IsReduced (record problem.now { inputs = inputs.now }) budget reduction }
+    ensures reduced { IfOk result (IsReduced (record problem.now { inputs = inputs.now }) budget) }
+    ensures fewer { IfOk result (λ r.
+        length r.demands - r.next ≤ length reduction.demands - reduction.next) }
+{
+    let alone = marked(alloc, &reduction.demands, &reduction.is_needed)?;
+    match are_met(alloc, inputs, problem, &alone, budget)? {
+        Met::OverBudget => Ok(reduction),
+        Met::Yes(choice) => {
+            let Reduction {
+                demands,
+                mut is_needed,
+                next,
+                is_irreducible,
+            } = reduction;
+            mark_needed(alloc, inputs, problem, &demands, choice, &mut is_needed)?;
+            Ok(Reduction {
+                demands,
+                is_needed,
+                next,
+                is_irreducible,
+            })
+        }
+        Met::No => {
+            let count = alone.len();
+            let is_needed = vec![in alloc; true; count]?;
+            Ok(Reduction {
+                demands: alone,
+                is_needed,
+                next: count,
+                is_irreducible: true,
+            })
+        }
+    }
+}
+
+/// Those of these demands that have a mark.
+fn marked(alloc: Global, demands: &[Demand], marks: &[bool]) -> Result<Vec<Demand>, AllocError>
+    requires { length marks.now ≡ length demands.now }
+    ensures { IfOk result (λ ds. ds.items ≡ marked demands.now marks.now) }
+{
+    let mut some = Vec::new(alloc);
+    for k in 0..demands.len() {
+        if marks[k] {
+            some.push(demands[k])?;
+        }
+    }
+    Ok(some)
 }

@@ -39,8 +39,9 @@ pub fn why_not(
         → (other : ChoiceValue) → result ≢ Ok (Explanation.Fits other) }
 {
     let asked = narrowed(alloc, problem, &choice.places, input, place)?;
-    let few = grown(alloc, &asked, problem, input, budget)?;
-    explained(alloc, &asked, problem, few, budget)
+    let few = grown(alloc, &asked, problem, input, 0, budget)?;
+    // But for the place that the input is to take, the choice meets all that is asked.
+    explained(alloc, &asked, problem, few, Some(choice), budget)
 }
 
 /// The inputs of the problem in which input `input` takes a place and no input before it gets worse.

@@ -1,27 +1,43 @@
 use Rattle.std.proofs.Common.{◌≡◌, ℕ, List, true, subst, sym, ◌∙◌}
-use Rattle.ccr_choice.specs.Problem.{ProblemValue, is_problem}
+use Rattle.std.specs.Prelude.{All}
+use Rattle.ccr_choice.specs.Problem.{ProblemValue, InputValue, is_problem}
+use Rattle.ccr_choice.specs.Ascending.{AreRising}
 use Rattle.ccr_explain.specs.Cut.{IsTop}
 use Rattle.ccr_explain.proofs.CutRules.{cut_rules, cut_rises}
-use Rattle.ccr_explain.proofs.Steps.{cut_is, inputs_are}
+use Rattle.ccr_explain.proofs.NarrowLaws.{narrowed_of, rises_too}
+use Rattle.ccr_explain.proofs.Steps.{cut_is, inputs_are, narrowed_cut}
 use Rattle.ccr_explain.proofs.cut.cut_to.Goals as goal
+
+pub narrow-requires-clause-rising : goal.narrow-requires-clause-rising
+narrow-requires-clause-rising c =
+    let ds = c.args.demands.now in
+    let top = c.top_place-top.result in
+    let p : ProblemValue = record c.args.problem.now { inputs = c.args.inputs.now } in
+    cut_rises ds top p c.in_ok-inputs.inputs.items c.requires c.top_place-top.ensures.least c.top_place-top.ensures.most
+    (inputs_are ds top p c.in_ok-order.order.items c.deref-2.result.now c.in_ok-inputs.inputs.items c.in_ok-order.ensures.value c.deref-2.ensures.value c.in_ok-inputs.ensures)
 
 pub jobs_of-requires-clause-rising : goal.jobs_of-requires-clause-rising
 jobs_of-requires-clause-rising c =
     let ds = c.args.demands.now in
     let top = c.top_place-top.result in
     let p : ProblemValue = record c.args.problem.now { inputs = c.args.inputs.now } in
-    cut_rises ds top p c.deref-3.result.now c.requires c.top_place-top.ensures.least c.top_place-top.ensures.most
-    (inputs_are ds top p c.in_ok-order.order.items c.deref-2.result.now c.in_ok-inputs.inputs.items c.deref-3.result.now c.in_ok-order.ensures.value c.deref-2.ensures.value c.in_ok-inputs.ensures c.deref-3.ensures.value)
+    let P : List InputValue → Type 0 = λ xs. All (λ x. AreRising x.places) xs in
+    subst P (sym c.deref-4.ensures.value) (rises_too p c.deref-3.result.now c.in_ok-inputs.inputs.items c.narrow.new.inputs.items (narrowed_of c.args.problem.now c.args.inputs.now c.deref-3.result.now c.in_ok-inputs.inputs.items c.narrow.new.inputs.items c.in_ok-looked.ensures.narrowed)
+    (cut_rises ds top p c.in_ok-inputs.inputs.items c.requires c.top_place-top.ensures.least c.top_place-top.ensures.most
+    (inputs_are ds top p c.in_ok-order.order.items c.deref-2.result.now c.in_ok-inputs.inputs.items c.in_ok-order.ensures.value c.deref-2.ensures.value c.in_ok-inputs.ensures)))
 
 pub new-requires : goal.new-requires
 new-requires c =
     let ds = c.args.demands.now in
     let top = c.top_place-top.result in
     let p : ProblemValue = record c.args.problem.now { inputs = c.args.inputs.now } in
-    let same = cut_is ds top p c.in_ok-order.order.items c.deref-2.result.now c.deref-4.result.now c.in_ok-inputs.inputs.items c.deref-3.result.now c.in_ok-jobs.jobs.items
-    c.in_ok-order.ensures.value c.deref-2.ensures.value c.deref-4.ensures.value c.in_ok-inputs.ensures c.deref-3.ensures.value c.in_ok-jobs.ensures in
+    let same = cut_is ds p c.in_ok-order.order.items c.deref-5.result.now c.narrow.new.inputs.items c.deref-4.result.now c.in_ok-jobs.jobs.items
+    c.in_ok-order.ensures.value c.deref-5.ensures.value c.deref-4.ensures.value c.in_ok-jobs.ensures in
+    let narrowed = narrowed_cut ds top p c.in_ok-order.order.items c.deref-2.result.now c.deref-3.result.now c.in_ok-inputs.inputs.items c.narrow.new.inputs.items
+    c.in_ok-order.ensures.value c.deref-2.ensures.value c.deref-3.ensures.value c.in_ok-inputs.ensures
+    (narrowed_of c.args.problem.now c.args.inputs.now c.deref-3.result.now c.in_ok-inputs.inputs.items c.narrow.new.inputs.items c.in_ok-looked.ensures.narrowed) in
     let P : ProblemValue → Type 0 = λ q. is_problem q ≡ true in
-    subst P (sym same) (cut_rules ds top p c.requires c.top_place-top.ensures.least c.top_place-top.ensures.most)
+    subst P (sym same) (cut_rules ds top p c.narrow.new.inputs.items c.requires c.top_place-top.ensures.least c.top_place-top.ensures.most narrowed)
 
 pub returns : goal.returns
 returns c =
@@ -33,6 +49,10 @@ returns c =
     record {
       top = top;
       is_top = subst P (c.deref.ensures.value ∙ c.in_ok-order.ensures.value) (record { least = found.least; most = found.most; covers = found.covers });
-      is = c.new.ensures ∙ cut_is ds top p c.in_ok-order.order.items c.deref-2.result.now c.deref-4.result.now c.in_ok-inputs.inputs.items c.deref-3.result.now c.in_ok-jobs.jobs.items
-          c.in_ok-order.ensures.value c.deref-2.ensures.value c.deref-4.ensures.value c.in_ok-inputs.ensures c.deref-3.ensures.value c.in_ok-jobs.ensures;
+      inputs = c.narrow.new.inputs.items;
+      narrowed = narrowed_cut ds top p c.in_ok-order.order.items c.deref-2.result.now c.deref-3.result.now c.in_ok-inputs.inputs.items c.narrow.new.inputs.items
+          c.in_ok-order.ensures.value c.deref-2.ensures.value c.deref-3.ensures.value c.in_ok-inputs.ensures
+          (narrowed_of c.args.problem.now c.args.inputs.now c.deref-3.result.now c.in_ok-inputs.inputs.items c.narrow.new.inputs.items c.in_ok-looked.ensures.narrowed);
+      is = c.new.ensures ∙ cut_is ds p c.in_ok-order.order.items c.deref-5.result.now c.narrow.new.inputs.items c.deref-4.result.now c.in_ok-jobs.jobs.items
+          c.in_ok-order.ensures.value c.deref-5.ensures.value c.deref-4.ensures.value c.in_ok-jobs.ensures;
     }

@@ -1,9 +1,10 @@
 use Rattle.std.proofs.Common.{◌≡◌, ◌∷◌, [], ◌++◌, map, sym, ap, ◌∙◌}
+use Rattle.std.proofs.lemmas.List.{map-append}
 use Rattle.ccr_explain.specs.Cut.{is_of_use}
 use Rattle.ccr_explain.proofs.CutLaws.{of_use_naming}
 use Rattle.ccr_explain.proofs.Lists.{filter_takes, filter_leaves}
 use Rattle.ccr_explain.proofs.cut.useful_builds.Goals as goal
-use Rattle.ccr_explain.proofs.cut.useful_builds.Goals.{then-is_of_use+in_ok-copied_build+in_ok-push, else-is_of_use}
+use Rattle.ccr_explain.proofs.cut.useful_builds.Goals.{then-is_of_use+in_ok-push, else-is_of_use}
 
 pub loop-build-preserved : goal.loop-build-preserved
 loop-build-preserved c =
@@ -16,9 +17,10 @@ loop-build-preserved c =
     let are = ap (map (λ x. x.now)) c.deref.ensures.value ∙ c.in_ok-naming.ensures.are in
     let of_use : c.is_of_use.result ≡ test b = c.is_of_use.ensures ∙ of_use_naming (λ x. x.now) c.deref.result.now inputs c.args.job b are in
     elim c.if-is_of_use.branch [
-      | then-is_of_use+in_ok-copied_build+in_ok-push w ↦
-          ap (λ v. v.items) w.useful-is ∙ w.in_ok-push.ensures.items ∙ ap (λ y. before ++ y ∷ []) w.in_ok-copied_build.ensures
-          ∙ ap (λ ys. ys ++ b ∷ []) c.loop-build.invariant ∙ filter_takes test builds i b c.loop-build-test.true c.build-item.is (sym of_use ∙ w.if-is_of_use.true)
+      | then-is_of_use+in_ok-push w ↦
+          ap (λ v. map (λ y. y.now) v.items) w.useful-is ∙ ap (map (λ y. y.now)) w.in_ok-push.ensures.items
+          ∙ map-append (λ y. y.now) before _ ∙ ap (λ ys. ys ++ b ∷ []) c.loop-build.invariant
+          ∙ filter_takes test builds i b c.loop-build-test.true c.build-item.is (sym of_use ∙ w.if-is_of_use.true)
       | else-is_of_use w ↦
-          ap (λ v. v.items) w.useful-is ∙ c.loop-build.invariant ∙ filter_leaves test builds i b c.loop-build-test.true c.build-item.is (sym of_use ∙ w.if-is_of_use.false)
+          ap (λ v. map (λ y. y.now) v.items) w.useful-is ∙ c.loop-build.invariant ∙ filter_leaves test builds i b c.loop-build-test.true c.build-item.is (sym of_use ∙ w.if-is_of_use.false)
     ]

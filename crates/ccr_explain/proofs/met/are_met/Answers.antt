@@ -1,13 +1,18 @@
-use Rattle.std.proofs.Common.{subst, sym}
 use Rattle.ccr_choice.specs.Problem.{ProblemValue}
-use Rattle.ccr_explain.specs.declared.met.Met.{Met}
-use Rattle.ccr_explain.specs.Cut.{IsMet}
-use Rattle.ccr_explain.proofs.CutLaws.{chosen_met}
+use Rattle.ccr_explain.proofs.CutLaws.{chosen_tells}
 use Rattle.ccr_explain.proofs.met.are_met.Goals as goal
 
-pub returns : goal.returns
-returns c =
+pub returns-in_ok-choice-in-Best : goal.returns-in_ok-choice-in-Best
+returns-in_ok-choice-in-Best c =
     let p : ProblemValue = record c.args.problem.now { inputs = c.args.inputs.now } in
-    let P : Met → Type 0 = λ x. IsMet p c.args.demands.now c.args.budget x in
-    subst P (sym c.met_of.ensures)
-    (chosen_met c.args.demands.now p c.requires.rules c.requires.demands c.args.budget c.in_ok-chosen.chosen c.in_ok-chosen.ensures)
+    chosen_tells c.args.demands.now p c.requires.rules c.requires.demands c.args.budget c.in_ok-choice.field-0 _ c.in_ok-choice.ensures c.in-Best.is
+
+pub returns-in-Nothing : goal.returns-in-Nothing
+returns-in-Nothing c =
+    let p : ProblemValue = record c.args.problem.now { inputs = c.args.inputs.now } in
+    chosen_tells c.args.demands.now p c.requires.rules c.requires.demands c.args.budget c.in_ok-choice.field-0 _ c.in_ok-choice.ensures c.in-Nothing.is
+
+pub returns-in-OverBudget : goal.returns-in-OverBudget
+returns-in-OverBudget c =
+    let p : ProblemValue = record c.args.problem.now { inputs = c.args.inputs.now } in
+    chosen_tells c.args.demands.now p c.requires.rules c.requires.demands c.args.budget c.in_ok-choice.field-0 _ c.in_ok-choice.ensures c.in-OverBudget.is

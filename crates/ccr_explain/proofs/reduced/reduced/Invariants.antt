@@ -1,6 +1,9 @@
-use Rattle.std.proofs.Common.{drop}
-use Rattle.ccr_explain.proofs.Reducing.{IsReduced}
+use Rattle.std.proofs.Common.{◌≤◌, ◌+◌, ◌-◌, length}
+use Rattle.ccr_explain.specs.Reduced.{IsReduced}
 use Rattle.ccr_explain.proofs.reduced.reduced.Given as goal
 
-abbrev pub invariant-loop-k : goal.invariant-loop-k
-invariant-loop-k l = IsReduced (record l.problem { inputs = l.inputs }) l.budget l.kept.items (drop l.k l.demands) l.is_irreducible
+abbrev pub invariant-loop : goal.invariant-loop
+invariant-loop l = record {
+  reduced : IsReduced (record l.problem { inputs = l.inputs }) l.budget l.reduction;
+  fewer : length l.reduction.demands - l.reduction.next + l.counter ≤ l.count;
+}

@@ -1,0 +1,169 @@
+//! The places that builds leave to the inputs of a problem, found without a search.
+
+ghost use Rattle.std.specs.Prelude.{◌≡◌, ◌+◌, ◌<◌, ◌≤◌, ℕ, length, map, filter, slice_index, slice_index_or, false, IsTrue, IfOk, IfSome, OnOk, All, EachIndex};
+ghost use Rattle.ccr_choice.specs.Ascending.{AreRising};
+ghost use Rattle.ccr_choice.specs.Problem.{builds_at};
+ghost use Rattle.ccr_explain.specs.Cut.{is_of_use, IsTop, IsNarrowed, IsEnough, IsInputNarrowed, AreMarked};
+
+use crate::cut::{is_among, useful_builds};
+use ccr_choice::{Build, Input, Problem};
+use std::alloc::{AllocError, Global};
+
+/// A job that was looked at, and builds of it, of which those that were of no use are left out.
+pub(crate) type Looked<'a> = (usize, Vec<&'a Build>);
+
+/// Leaves to each of these inputs only places that came with builds of use of each job that it names, so that no choice is lost. Each
+/// job is looked at once: the next is the one whose inputs leave it the least. Gives what was looked at.
+pub(crate) fn narrow<'a>(
+    alloc: Global,
+    problem: &'a Problem,
+    order: &[u32],
+    top: u32,
+    inputs: &mut Vec<Input>,
+) -> Result<Vec<Looked<'a>>, AllocError>
+    requires known { EachIndex order.now (λ k. slice_index order.now k < length problem.now.jobs) }
+    requires few { length order.now ≤ 32 }
+    requires top { IsTop problem.now order.now top }
+    requires rising { All (λ x. AreRising x.places) inputs.old.items }
+    ensures narrowed { OnOk result (IsNarrowed problem.now order.now inputs.old.items inputs.new.items) }
+    ensures enough { IfOk result (λ looked. All (λ s. IsEnough problem.now order.now inputs.new.items s.0
+        (map (λ b. b.now) s.1.items)) looked.items) }
+{
+    let mut looked = Vec::new(alloc);
+    let mut is_done = vec![in alloc; false; order.len()]?;
+    for _ in 0..order.len() {
+        if let Some(job) = next_job(inputs, &is_done) {
+            is_done[job] = true;
+            let useful = narrow_by(alloc, problem, order, top, job, inputs)?;
+            looked.push((job, useful))?;
+        }
+    }
+    Ok(looked)
+}
+
+/// Of the jobs that aren't done, the one that an input with the fewest places names.
+fn next_job(inputs: &[Input], is_done: &[bool]) -> Option<usize>
+    requires { length is_done.now ≤ 32 }
+    ensures { IfSome result (λ job. job < length is_done.now) }
+{
+    let mut next = None;
+    let mut fewest = usize::MAX;
+    for job in 0..is_done.len() {
+        let count = fewest_places(inputs, job as u32);
+        if !is_done[job] && count < fewest {
+            fewest = count;
+            next = Some(job);
+        }
+    }
+    next
+}
+
+/// How many places an input has that names this job, the one with the fewest.
+fn fewest_places(inputs: &[Input], job: u32) -> usize {
+    inputs
+        .iter()
+        .filter(|x| is_among(x.jobs(), job))
+        .map(|x| x.places().len())
+        .min()
+        .unwrap_or(usize::MAX)
+}
+
+/// Leaves to each input that names job `job` only places that came with builds of use of this job. Gives these builds.
+fn narrow_by<'a>(
+    alloc: Global,
+    problem: &'a Problem,
+    order: &[u32],
+    top: u32,
+    job: usize,
+    inputs: &mut Vec<Input>,
+) -> Result<Vec<&'a Build>, AllocError>
+    requires known { EachIndex order.now (λ k. slice_index order.now k < length problem.now.jobs) }
+    requires few { length order.now ≤ 32 }
+    requires top { IsTop problem.now order.now top }
+    requires job { job < length order.now }
+    requires rising { All (λ x. AreRising x.places) inputs.old.items }
+    ensures narrowed { OnOk result (IsNarrowed problem.now order.now inputs.old.items inputs.new.items) }
+    ensures useful { IfOk result (λ useful. map (λ b. b.now) useful.items
+        ≡ filter (is_of_use inputs.old.items job) (builds_at problem.now (slice_index order.now job))) }
+{
+    let builds = problem.jobs()[order[job] as usize].builds();
+    let useful = useful_builds(alloc, inputs, job as u32, builds)?;
+    for i in 0..inputs.len() {
+        if is_among(inputs[i].jobs(), job as u32) {
+            let left = narrowed(alloc, &inputs[i], &useful, top)?;
+            inputs[i] = left;
+        }
+    }
+    Ok(useful)
+}
+
+/// The input without its places that none of these builds has.
+fn narrowed(alloc: Global, input: &Input, useful: &[&Build], top: u32) -> Result<Input, AllocError>
+    ensures { IfOk result (IsInputNarrowed top (map (λ b. b.now) useful.now) input.now) }
+{
+    let marks = marks_of(alloc, input.scope(), useful, top as usize + 1)?;
+    let places = places_marked(alloc, &marks, input.places())?;
+    let jobs = Vec::from_slice(alloc, input.jobs())?;
+    Ok(Input::new(input.scope(), jobs, input.after(), places))
+}
+
+// ---- marks
+
+/// Those of these places that have a mark.
+fn places_marked(alloc: Global, marks: &[bool], places: &[u32]) -> Result<Vec<u32>, AllocError>
+    ensures { IfOk result (λ left. left.items ≡ filter (λ place. slice_index_or marks.now place false) places.now) }
+{
+    places
+        .iter()
+        .copied()
+        .filter(|place| is_marked(marks, *place))
+        .collect(alloc)
+}
+
+fn is_marked(marks: &[bool], place: u32) -> bool
+    ensures { result ≡ slice_index_or marks.now place false }
+{
+    match marks.get(place as usize) {
+        Some(mark) => *mark,
+        None => false,
+    }
+}
+
+/// Marks for the places below `count`: those that these builds have in a scope.
+fn marks_of(
+    alloc: Global,
+    scope: u32,
+    builds: &[&Build],
+    count: usize,
+) -> Result<Vec<bool>, AllocError>
+    ensures length { IfOk result (λ marks. length marks.items ≡ count) }
+    ensures marked { IfOk result (λ marks. All (λ b. AreMarked scope marks.items b.now.pairs) builds.now) }
+{
+    let mut marks = vec![in alloc; false; count]?;
+    for build in builds {
+        mark_pairs(&mut marks, scope, build.pairs());
+    }
+    Ok(marks)
+}
+
+fn mark_pairs(marks: &mut [bool], scope: u32, pairs: &[(u32, u32)])
+    ensures length { length marks.new ≡ length marks.old }
+    ensures kept { (n : ℕ) → IsTrue (slice_index_or marks.old n false) → IsTrue (slice_index_or marks.new n false) }
+    ensures marked { AreMarked scope marks.new pairs.now }
+{
+    for pair in pairs {
+        if pair.0 == scope {
+            mark(marks, pair.1);
+        }
+    }
+}
+
+fn mark(marks: &mut [bool], place: u32)
+    ensures length { length marks.new ≡ length marks.old }
+    ensures kept { (n : ℕ) → IsTrue (slice_index_or marks.old n false) → IsTrue (slice_index_or marks.new n false) }
+    ensures marked { place < length marks.new → IsTrue (slice_index_or marks.new place false) }
+{
+    if (place as usize) < marks.len() {
+        marks[place as usize] = true;
+    }
+}
