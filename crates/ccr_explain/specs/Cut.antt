@@ -105,7 +105,7 @@ pub record SuitsInputs (p : ProblemValue) (order : List ℕ) (xs : List InputVal
   pub passed : (i n : ℕ) → i < length xs → Contains (slice_index_or xs i no_input).jobs n
       → Moved (builds_at p (slice_index order n)) (slice_index builds n) ((slice_index_or xs i no_input).scope, slice_index places i)
 
--- The others are these inputs with fewer places, and whatever suits these suits the others.
+-- The others are these inputs with fewer places, and whatever suits these inputs suits the others.
 pub record IsNarrowed (p : ProblemValue) (order : List ℕ) (xs others : List InputValue) : Type 0 where
   pub may : ℕ → ℕ → Bool
   pub is : others ≡ narrowed_from may 0 xs
@@ -122,7 +122,7 @@ abbrev pub AreMarked : ℕ → List Bool → List (ℕ × ℕ) → Type 0
 AreMarked scope marks pairs =
     All (λ r. r.0 ≡ scope → r.1 < length marks → IsTrue (slice_index_or marks r.1 false)) pairs
 
--- The input with fewer places: those that have a mark, which each place of these builds has.
+-- The input with fewer places: each that one of these builds has, up to the top one, is still there.
 pub record IsInputNarrowed (top : ℕ) (useful : List BuildValue) (x y : InputValue) : Type 0 where
   pub may : ℕ → Bool
   pub is : y ≡ record x { places = filter may x.places }

@@ -13,7 +13,7 @@ pub record ReductionValue : Type 0 where
   pub next : ℕ
   pub is_irreducible : Bool
 
--- Some choice meets all demands but one that has a mark.
+-- For each demand that has a mark, some choice meets all others.
 abbrev pub AreNeeded : ProblemValue → List Demand → List Bool → Type 0
 AreNeeded p ds marks = (m : ℕ) → m < length ds → IsTrue (slice_index_or marks m false) → CanBeMet p (remove ds m)
 

@@ -16,7 +16,7 @@ use std::alloc::{AllocError, Global};
 /// Whether some choice meets demands.
 #[derive(Drop)]
 pub(crate) enum Met {
-    /// Some choice does. This is mostly one: who relies on it looks whether it is.
+    /// Some choice does. Mostly this is one, but nothing is promised of it: look at it before you rely on it.
     Yes(Choice),
     /// No choice does.
     No,

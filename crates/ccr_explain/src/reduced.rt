@@ -75,7 +75,7 @@ pub(crate) fn reduced(
     })
 }
 
-/// Marks for the demands of which a choice that is known tells that they are needed.
+/// Marks for the demands that are needed, as far as a choice that is known tells.
 fn needed_first(
     alloc: Global,
     inputs: &[Input],
