@@ -11,7 +11,7 @@ pub(crate) trait Player {
 }
 
 /// What is told of a line.
-#[derive(Clone, Copy, PartialEq, Eq)]
+#[derive(Clone, Copy)]
 pub(crate) enum Telling {
     /// The line, and its answer below it.
     Answers,
