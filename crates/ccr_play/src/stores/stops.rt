@@ -172,6 +172,20 @@ impl Trial<'_> {
         }
         left_by_kill(alloc, &files)
     }
+
+    /// The lines that tell how often it is stopped, and the files that it leaves if it isn't.
+    fn told_and_left(self, alloc: Global, what: &str) -> Result<(String, Files<Memory>)> {
+        let told = self.told(alloc, what)?;
+        Ok((told, self.files_left(alloc)?))
+    }
+
+    /// The lines that tell how often it is stopped, behind those that were told before.
+    fn told_behind(self, alloc: Global, before: String, what: &str) -> Result<String> {
+        let own = self.told(alloc, what)?;
+        let mut told = before;
+        told.push_str(own.as_str())?;
+        Ok(told)
+    }
 }
 
 /// What is run where the history in files is taken and loaded. It is the last of these.
@@ -195,10 +209,8 @@ pub(super) fn stops_told(alloc: Global, lines: &str, frames: u32) -> Result<Stri
         lines,
         texts: &texts,
     };
-    let mut told = made.told(alloc, "made")?;
-    let loaded = loading(made.files_left(alloc)?, frames, &texts);
-    told.push_str(loaded.told(alloc, "loaded")?.as_str())?;
-    Ok(told)
+    let (told, files) = made.told_and_left(alloc, "made")?;
+    loading(files, frames, &texts).told_behind(alloc, told, "loaded")
 }
 
 /// Files in which these lines were kept.
@@ -218,8 +230,6 @@ pub(super) fn raises_told(alloc: Global, lines: &str, frames: u32) -> Result<Str
     let texts = texts_of(alloc, lines)?;
     let kept = files_with(alloc, lines, frames)?;
     let first = loading(lowered(alloc, kept)?, frames, &texts);
-    let mut told = first.told(alloc, "first format")?;
-    let again = loading(first.files_left(alloc)?, frames, &texts);
-    told.push_str(again.told(alloc, "written over")?.as_str())?;
-    Ok(told)
+    let (told, files) = first.told_and_left(alloc, "first format")?;
+    loading(files, frames, &texts).told_behind(alloc, told, "written over")
 }
