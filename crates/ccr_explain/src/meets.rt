@@ -24,18 +24,11 @@ pub(crate) fn build_of<'a>(builds: &'a [Build], number: u32) -> Option<&'a Build
     }
 }
 
-/// Whether a pair of scope and place is among these.
-pub(crate) fn has_pair(pairs: &[(u32, u32)], scope: u32, place: u32) -> bool
-    ensures { IsTrue result → Contains pairs.now (scope, place) }
-{
-    pairs.iter().any(|q| q.0 == scope && q.1 == place)
-}
-
 fn has_moved(builds: &[Build], number: u32, scope: u32, place: u32) -> bool
     ensures { IsTrue result → Moved builds.now number (scope, place) }
 {
     match build_of(builds, number) {
-        Some(build) => has_pair(build.pairs(), scope, place),
+        Some(build) => build.pairs().contains(&(scope, place)),
         None => false,
     }
 }

@@ -6,7 +6,7 @@ ghost use Rattle.ccr_explain.specs.Reduced.{AreNeeded};
 
 use crate::copies::copied_choice;
 use crate::demand::Demand;
-use crate::meets::{build_of, has_pair, only_unmet};
+use crate::meets::{build_of, only_unmet};
 use ccr_choice::{Choice, Input, Problem};
 use std::alloc::{AllocError, Global};
 
@@ -105,7 +105,7 @@ fn build_with(
     let scope = inputs.get(input)?.scope();
     let place = *choice.places.get(input)?;
     let builds = problem.jobs().get(job)?.builds();
-    let build = builds.iter().find(|b| has_pair(b.pairs(), scope, place))?;
+    let build = builds.iter().find(|b| b.pairs().contains(&(scope, place)))?;
     Some(build.number())
 }
 
