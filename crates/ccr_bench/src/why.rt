@@ -1,9 +1,11 @@
 //! How long the questions take that `explain` asks of a problem: why no input takes one of its newest places.
 
+ghost use Rattle.std.specs.Prelude.{◌≡◌};
+
 use anyhow::Result;
 use ccr_choice::{Choice, Problem, read_problem};
 use ccr_explain::{Explanation, clash, why_not};
-use ccr_index::build_index;
+use ccr_index::{Index, build_index};
 use ccr_resolve::{Chosen, choose};
 use std::io;
 use std::time::Instant;
@@ -27,16 +29,19 @@ struct Asked {
 fn ask(
     rt: &HostRuntime,
     problem: &Problem,
+    index: &Index,
     choice: &Choice,
     input: usize,
     place: u32,
     asked: &mut Asked,
-) -> Result<()> {
+) -> Result<()>
+    requires { index.now.problem ≡ problem.now }
+{
     if input >= problem.inputs().len() || choice.places.len() != problem.inputs().len() {
         return Ok(());
     }
     let start = Instant::now(rt)?;
-    let shown = why_not(rt.alloc(), problem, choice, input, place, BUDGET)?;
+    let shown = why_not(rt.alloc(), problem, index, choice, input, place, BUDGET)?;
     asked.nanos = asked.nanos.saturating_add(start.elapsed(rt)?.as_nanos());
     asked.questions = asked.questions.saturating_add(1);
     if let Explanation::Clash(found) = shown {
@@ -47,7 +52,14 @@ fn ask(
 }
 
 /// Asks of each input's newest places that are newer than the one it takes.
-fn ask_all(rt: &HostRuntime, problem: &Problem, choice: &Choice) -> Result<Asked> {
+fn ask_all(
+    rt: &HostRuntime,
+    problem: &Problem,
+    index: &Index,
+    choice: &Choice,
+) -> Result<Asked>
+    requires { index.now.problem ≡ problem.now }
+{
     let mut asked = Asked {
         questions: 0,
         clashes: 0,
@@ -62,7 +74,7 @@ fn ask_all(rt: &HostRuntime, problem: &Problem, choice: &Choice) -> Result<Asked
     {
         for place in x.places().iter().rev().take(NEWEST) {
             if place > now {
-                ask(rt, problem, choice, input, *place, &mut asked)?;
+                ask(rt, problem, index, choice, input, *place, &mut asked)?;
             }
         }
     }
@@ -70,9 +82,11 @@ fn ask_all(rt: &HostRuntime, problem: &Problem, choice: &Choice) -> Result<Asked
 }
 
 /// How long `clash` takes where nothing satisfies.
-fn clash_told(rt: &HostRuntime, problem: &Problem) -> Result<String> {
+fn clash_told(rt: &HostRuntime, problem: &Problem, index: &Index) -> Result<String>
+    requires { index.now.problem ≡ problem.now }
+{
     let start = Instant::now(rt)?;
-    let shown = clash(rt.alloc(), problem, BUDGET)?;
+    let shown = clash(rt.alloc(), problem, index, BUDGET)?;
     let nanos = start.elapsed(rt)?.as_nanos();
     let demands = match shown {
         Explanation::Clash(found) => found.demands.len(),
@@ -86,10 +100,10 @@ pub(crate) fn whys_told(rt: &HostRuntime, text: &[u8]) -> Result<String> {
     let problem = read_problem(rt.alloc(), text)?;
     let index = build_index(rt.alloc(), &problem)?;
     match choose(rt.alloc(), &index, BUDGET)? {
-        Chosen::Nothing => clash_told(rt, &problem),
+        Chosen::Nothing => clash_told(rt, &problem, &index),
         Chosen::OverBudget(budget) => Ok(format!(in rt.alloc(); "over budget {budget}\n")?),
         Chosen::Best(choice) => {
-            let all = ask_all(rt, &problem, &choice)?;
+            let all = ask_all(rt, &problem, &index, &choice)?;
             let (questions, clashes, demands, nanos) = (
                 all.questions,
                 all.clashes,

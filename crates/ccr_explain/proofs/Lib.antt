@@ -7,3 +7,4 @@ pub mod WhyLaws
 pub mod NarrowLaws
 pub mod CutLaws
 pub mod Steps
+pub mod PairLaws

@@ -35,7 +35,7 @@ filter_twice f g (x ∷ xs) =
     ]
 
 -- the first test changes nothing, where all that pass the second pass it
-filter_within : {X : Type 0} (f g : X → Bool) → ((x : X) → g x ≡ true → f x ≡ true) → (xs : List X) → filter g (filter f xs) ≡ filter g xs
+pub filter_within : {X : Type 0} (f g : X → Bool) → ((x : X) → g x ≡ true → f x ≡ true) → (xs : List X) → filter g (filter f xs) ≡ filter g xs
 filter_within f g within xs =
     filter_twice f g xs ∙ filter_agree (λ x. f x && g x) g (λ x. elim (cases_Bool (g x)) [
       | inl holds ↦ and_from _ _ (within x holds) holds ∙ sym holds

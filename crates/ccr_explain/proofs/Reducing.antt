@@ -243,6 +243,26 @@ stands_in (e ∷ ds) (false ∷ marks) m within =
 pub marked_demands : (p : ProblemValue) (ds : List Demand) (marks : List Bool) → All (IsDemandOf p) ds → All (IsDemandOf p) (marked ds marks)
 marked_demands p ds marks all = all_contained (IsDemandOf p) (marked ds marks) (λ d h. All-contains (IsDemandOf p) ds d all (marked_has ds marks d h))
 
+-- with any one of those that have a mark left out, some choice meets the others
+needed_among : (p : ProblemValue) (ds : List Demand) (marks : List Bool) (alone : List Demand) → AreNeeded p ds marks → alone ≡ marked ds marks
+    → (m : ℕ) → m < length alone → CanBeMet p (remove alone m)
+needed_among p ds marks alone needed are m within =
+    let at = stands_in ds marks m (omega (arith, within, ap length are)) in
+    let Q : List Demand → Type 0 = λ xs. CanBeMet p (remove xs m) in
+    subst Q (sym are) (fewer_met p (remove (marked ds marks) m) (remove ds at.place) (all_contained (Contains (remove ds at.place)) (remove (marked ds marks) m) at.others)
+    (needed at.place at.within at.marked_there))
+
+-- where they exclude each other, they are a clash, and irreducible
+pub needed_clash : (p : ProblemValue) (budget : ℕ) (ds : List Demand) (marks : List Bool) (alone : List Demand) → All (IsDemandOf p) ds → AreNeeded p ds marks → alone ≡ marked ds marks
+    → ExcludeEachOther p alone → IsClashWithin p budget (record { demands = alone; is_irreducible = true })
+needed_clash p budget ds marks alone all needed are exclude =
+    let P : List Demand → Type 0 = λ xs. All (IsDemandOf p) xs in
+    record {
+      clash = record { demands = subst P (sym are) (marked_demands p ds marks all); exclude = exclude };
+      irreducible = λ is. needed_among p ds marks alone needed are;
+      perhaps_fewer = λ e. absurd (false≢true (sym e));
+    }
+
 -- where those that have a mark exclude each other, all is done
 pub alone_reduced : (p : ProblemValue) (budget : ℕ) (r : ReductionValue) (alone : List Demand) (marks : List Bool) (count : ℕ) → IsReduced p budget r → alone ≡ marked r.demands r.is_needed
     → ExcludeEachOther p alone → length marks ≡ length alone → IsReduced p budget (record { demands = alone; is_needed = marks; next = count; is_irreducible = true })
@@ -257,11 +277,7 @@ alone_reduced p budget r alone marks count so are exclude long =
     }
   where
     needed : (m : ℕ) → m < length alone → CanBeMet p (remove alone m)
-    needed m within =
-        let at = stands_in r.demands r.is_needed m (omega (arith, within, ap length are)) in
-        let Q : List Demand → Type 0 = λ ds. CanBeMet p (remove ds m) in
-        subst Q (sym are) (fewer_met p (remove (marked r.demands r.is_needed) m) (remove r.demands at.place) (all_contained (Contains (remove r.demands at.place)) (remove (marked r.demands r.is_needed) m) at.others)
-        (so.needed at.place at.within at.marked_there))
+    needed = needed_among p r.demands r.is_needed alone so.needed are
 
 -- ---- the first and the last turn
 -- no demand has a mark

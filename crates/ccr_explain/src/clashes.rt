@@ -13,7 +13,7 @@ use crate::grown::few_demands;
 use crate::met::{Met, are_met};
 use crate::reduced::reduced;
 use ccr_choice::{Choice, Input, Problem};
-use ccr_index::build_index;
+use ccr_index::{Index, build_index};
 use ccr_proof::MOST_NODES;
 use ccr_resolve::{Chosen, choose};
 use std::alloc::{AllocError, Global};
@@ -23,14 +23,15 @@ use std::alloc::{AllocError, Global};
 /// Each call of the resolver has the budget, from 1 to 1,000,000, and there are at most twice as many calls as demands,
 /// and two where there are none. Where the budget doesn't suffice for one of them, the clash is one all the same, but says that
 /// perhaps fewer demands exclude each other. The only error is out of memory.
-pub fn clash(alloc: Global, problem: &Problem, budget: u32) -> Result<Explanation, AllocError>
+pub fn clash(alloc: Global, problem: &Problem, index: &Index, budget: u32) -> Result<Explanation, AllocError>
+    requires same { index.now.problem ≡ problem.now }
     requires least { 1 ≤ budget }
     requires most { budget ≤ MOST_NODES }
     ensures { IfOk result (IsExplanation (order_of problem.now) problem.now budget) }
 {
     let inputs = problem.inputs();
-    let few = few_demands(alloc, inputs, problem, budget)?;
-    explained(alloc, inputs, problem, few, None, budget)
+    let few = few_demands(alloc, inputs, problem, index, budget)?;
+    explained(alloc, inputs, problem, index, few, None, budget)
 }
 
 /// The same of the problem of these inputs and the jobs of a problem, by a few demands that exclude each other, or else by all. A choice that
@@ -39,20 +40,22 @@ pub(crate) fn explained(
     alloc: Global,
     inputs: &[Input],
     problem: &Problem,
+    index: &Index,
     few: Option<Vec<Demand>>,
     known: Option<&Choice>,
     budget: u32,
 ) -> Result<Explanation, AllocError>
     requires rules { IsProblem (record problem.now { inputs = inputs.now }) }
     requires few { IfSome few (λ ds. IsClash (record problem.now { inputs = inputs.now }) ds.items) }
+    requires same { index.now.problem ≡ problem.now }
     requires least { 1 ≤ budget }
     requires most { budget ≤ MOST_NODES }
     ensures { let p = record problem.now { inputs = inputs.now } in IfOk result (IsExplanation (order_of p) p budget) }
 {
     match few {
-        None => explained_whole(alloc, inputs, problem, known, budget),
+        None => explained_whole(alloc, inputs, problem, index, known, budget),
         Some(demands) => {
-            let clash = reduced(alloc, inputs, problem, demands, known, budget)?;
+            let clash = reduced(alloc, inputs, problem, index, demands, known, budget)?;
             Ok(Explanation::Clash(clash))
         }
     }
@@ -63,24 +66,26 @@ fn explained_whole(
     alloc: Global,
     inputs: &[Input],
     problem: &Problem,
+    index: &Index,
     known: Option<&Choice>,
     budget: u32,
 ) -> Result<Explanation, AllocError>
     requires rules { IsProblem (record problem.now { inputs = inputs.now }) }
+    requires same { index.now.problem ≡ problem.now }
     requires least { 1 ≤ budget }
     requires most { budget ≤ MOST_NODES }
     ensures { let p = record problem.now { inputs = inputs.now } in IfOk result (IsExplanation (order_of p) p budget) }
 {
     let demands = demands_of(alloc, inputs)?;
-    if let Met::No = are_met(alloc, inputs, problem, &demands, budget)? {
-        let clash = reduced(alloc, inputs, problem, demands, known, budget)?;
+    if let Met::No = are_met(alloc, inputs, problem, index, &demands, budget)? {
+        let clash = reduced(alloc, inputs, problem, index, demands, known, budget)?;
         return Ok(Explanation::Clash(clash));
     }
     match chosen_of_whole(alloc, inputs, problem, budget)? {
         Chosen::Best(choice) => Ok(Explanation::Fits(choice)),
         Chosen::OverBudget(budget) => Ok(Explanation::OverBudget(budget)),
         Chosen::Nothing => {
-            let clash = reduced(alloc, inputs, problem, demands, known, budget)?;
+            let clash = reduced(alloc, inputs, problem, index, demands, known, budget)?;
             Ok(Explanation::Clash(clash))
         }
     }

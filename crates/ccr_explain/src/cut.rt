@@ -11,6 +11,7 @@ use crate::demand::Demand;
 use crate::narrow::{Looked, narrow};
 use ccr_choice::possible::has_place;
 use ccr_choice::{Build, Input, JobBuilds, Problem};
+use ccr_index::{Index, JobRows};
 use std::alloc::{AllocError, Global};
 
 /// The problem of these inputs and the jobs of a problem, cut to these demands. An input without the demand of its allowed places may
@@ -19,41 +20,46 @@ pub(crate) fn cut_to(
     alloc: Global,
     inputs: &[Input],
     problem: &Problem,
+    index: &Index,
     demands: &[Demand],
 ) -> Result<Problem, AllocError>
-    requires { IsProblem (record problem.now { inputs = inputs.now }) }
+    requires rules { IsProblem (record problem.now { inputs = inputs.now }) }
+    requires same { index.now.problem ≡ problem.now }
     ensures { IfOk result (IsCutTo demands.now (record problem.now { inputs = inputs.now })) }
 {
     let order = order_left(alloc, inputs, problem, demands)?;
-    let top = top_place(problem, &order);
+    let top = top_place(index, &order);
     let mut inputs = cut_inputs(alloc, inputs, demands, &order, top)?;
-    let looked = narrow(alloc, problem, &order, top, &mut inputs)?;
+    let looked = narrow(alloc, problem, index, &order, top, &mut inputs)?;
     let jobs = jobs_of(alloc, problem, &inputs, &order, &looked)?;
     Ok(Problem::new(inputs, jobs))
 }
 
 /// The greatest place of a pair of these jobs, at least 1.
-fn top_place(problem: &Problem, order: &[u32]) -> u32
-    requires { EachIndex order.now (λ k. slice_index order.now k < length problem.now.jobs) }
-    ensures { IsTop problem.now order.now result }
+fn top_place(index: &Index, order: &[u32]) -> u32
+    requires { EachIndex order.now (λ k. slice_index order.now k < length index.now.problem.jobs) }
+    ensures { IsTop index.now.problem order.now result }
 {
+    // Each pair has a place of at most 100,000.
+    index.job_count();
     let mut top = 1;
     for job in order {
-        top = top_of_builds(problem.builds(*job as usize), top);
+        top = top_of_rows(index.rows(*job as usize), top);
     }
     top
 }
 
-fn top_of_builds(builds: &[Build], least: u32) -> u32
+fn top_of_rows(rows: &JobRows, least: u32) -> u32
     requires least { least ≤ 100000 }
-    requires few { All (λ b. All (λ q. q.1 ≤ 100000) b.pairs) builds.now }
+    requires few { All (λ b. All (λ q. q.1 ≤ 100000) b.pairs) rows.now.builds }
     ensures more { least ≤ result }
     ensures most { result ≤ 100000 }
-    ensures covers { All (λ b. All (λ q. q.1 ≤ result) b.pairs) builds.now }
+    ensures covers { All (λ b. All (λ q. q.1 ≤ result) b.pairs) rows.now.builds }
 {
+    // The rows have their pairs beside each other, which is why they are looked at and not the builds.
     let mut top = least;
-    for build in builds {
-        top = top_of_pairs(build.pairs(), top);
+    for build in 0..rows.len() {
+        top = top_of_pairs(rows.pairs(build), top);
     }
     top
 }
@@ -318,7 +324,7 @@ fn useful_of<'a>(
 }
 
 /// The builds among these that are of use to the inputs as builds of job `job`.
-fn useful_among<'a>(
+pub(crate) fn useful_among<'a>(
     alloc: Global,
     inputs: &[Input],
     job: u32,

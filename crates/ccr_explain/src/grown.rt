@@ -1,12 +1,13 @@
 //! A few inputs whose demands already exclude each other, so that the others needn't be looked at.
 
-ghost use Rattle.std.specs.Prelude.{◌≤◌, IfOk, IfSome};
+ghost use Rattle.std.specs.Prelude.{◌≡◌, ◌≤◌, IfOk, IfSome};
 ghost use Rattle.ccr_choice.specs.Problem.{IsProblem};
 ghost use Rattle.ccr_explain.specs.Clash.{IsClash};
 
 use crate::demand::{Demand, demands_of_some};
 use crate::met::{Met, are_met};
 use ccr_choice::{Input, MOST_INPUTS, Problem};
+use ccr_index::Index;
 use ccr_proof::MOST_NODES;
 use std::alloc::{AllocError, Global};
 
@@ -16,9 +17,11 @@ pub(crate) fn few_demands(
     alloc: Global,
     inputs: &[Input],
     problem: &Problem,
+    index: &Index,
     budget: u32,
 ) -> Result<Option<Vec<Demand>>, AllocError>
     requires rules { IsProblem (record problem.now { inputs = inputs.now }) }
+    requires same { index.now.problem ≡ problem.now }
     requires least { 1 ≤ budget }
     requires most { budget ≤ MOST_NODES }
     ensures { IfOk result
@@ -26,12 +29,12 @@ pub(crate) fn few_demands(
 {
     for i in 0..inputs.len() {
         let demands = demands_of_some(alloc, inputs, &[i])?;
-        let met = are_met(alloc, inputs, problem, &demands, budget)?;
+        let met = are_met(alloc, inputs, problem, index, &demands, budget)?;
         if let Met::No = met {
             return Ok(Some(demands));
         }
     }
-    grown(alloc, inputs, problem, 0, 1, budget)
+    grown(alloc, inputs, problem, index, 0, 1, budget)
 }
 
 /// The demands of one input, and of as few more that name a job as it takes until they exclude each other; None where that takes
@@ -41,11 +44,13 @@ pub(crate) fn grown(
     alloc: Global,
     inputs: &[Input],
     problem: &Problem,
+    index: &Index,
     first: usize,
     known: usize,
     budget: u32,
 ) -> Result<Option<Vec<Demand>>, AllocError>
     requires rules { IsProblem (record problem.now { inputs = inputs.now }) }
+    requires same { index.now.problem ≡ problem.now }
     requires least { 1 ≤ budget }
     requires most { budget ≤ MOST_NODES }
     ensures { IfOk result
@@ -59,7 +64,7 @@ pub(crate) fn grown(
         let count = next_count(few, many, order.len());
         if count > few {
             let demands = demands_of_some(alloc, inputs, &order[..count])?;
-            if let Met::No = are_met(alloc, inputs, problem, &demands, budget)? {
+            if let Met::No = are_met(alloc, inputs, problem, index, &demands, budget)? {
                 many = count;
                 found = Some(demands);
             } else {

@@ -16,6 +16,7 @@
 //! needed, too. So most demands of a long clash need no call of the resolver, and there are at most twice as many calls as demands.
 #![tactic(auto)]
 
+mod carried;
 mod clashes;
 mod copies;
 mod cut;
@@ -29,6 +30,7 @@ mod narrow;
 mod reduced;
 #[cfg(test)]
 mod rows;
+mod useful;
 mod why;
 mod witness;
 

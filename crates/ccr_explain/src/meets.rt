@@ -46,7 +46,8 @@ fn is_allowed(inputs: &[Input], choice: &Choice, input: usize) -> bool
     has_place(x.places(), *place)
 }
 
-fn has_passed(
+/// Whether the place of an input passed a job with the build of it.
+pub(crate) fn has_passed(
     inputs: &[Input],
     problem: &Problem,
     choice: &Choice,

@@ -1,6 +1,6 @@
 //! Whether some choice meets some of the demands.
 
-ghost use Rattle.std.specs.Prelude.{◌≤◌, All, IfOk};
+ghost use Rattle.std.specs.Prelude.{◌≡◌, ◌≤◌, All, IfOk};
 ghost use Rattle.ccr_choice.specs.Problem.{IsProblem};
 ghost use Rattle.ccr_explain.specs.Demand.{IsDemandOf};
 ghost use Rattle.ccr_explain.specs.Cut.{IsChosenOfCut, IsMet};
@@ -8,7 +8,7 @@ ghost use Rattle.ccr_explain.specs.Cut.{IsChosenOfCut, IsMet};
 use crate::cut::{cut_to, order_left};
 use crate::demand::Demand;
 use ccr_choice::{Choice, Input, Problem};
-use ccr_index::build_index;
+use ccr_index::{Index, build_index};
 use ccr_proof::MOST_NODES;
 use ccr_resolve::{Chosen, choose};
 use std::alloc::{AllocError, Global};
@@ -29,15 +29,17 @@ fn chosen_of_cut(
     alloc: Global,
     inputs: &[Input],
     problem: &Problem,
+    index: &Index,
     demands: &[Demand],
     budget: u32,
 ) -> Result<Chosen, AllocError>
     requires rules { IsProblem (record problem.now { inputs = inputs.now }) }
+    requires same { index.now.problem ≡ problem.now }
     requires least { 1 ≤ budget }
     requires most { budget ≤ MOST_NODES }
     ensures { IfOk result (IsChosenOfCut demands.now (record problem.now { inputs = inputs.now }) budget) }
 {
-    let cut = cut_to(alloc, inputs, problem, demands)?;
+    let cut = cut_to(alloc, inputs, problem, index, demands)?;
     let index = build_index(alloc, &cut)?;
     choose(alloc, &index, budget)
 }
@@ -69,21 +71,23 @@ fn build_at(builds: &[u32], job: Option<usize>) -> u32 {
     }
 }
 
-/// Whether some choice meets these demands of the problem of these inputs and the jobs of a problem.
+/// Whether some choice meets these demands of the problem of these inputs and the jobs of a problem, whose index this is.
 pub(crate) fn are_met(
     alloc: Global,
     inputs: &[Input],
     problem: &Problem,
+    index: &Index,
     demands: &[Demand],
     budget: u32,
 ) -> Result<Met, AllocError>
     requires rules { IsProblem (record problem.now { inputs = inputs.now }) }
+    requires same { index.now.problem ≡ problem.now }
     requires demands { All (IsDemandOf (record problem.now { inputs = inputs.now })) demands.now }
     requires least { 1 ≤ budget }
     requires most { budget ≤ MOST_NODES }
     ensures { IfOk result (IsMet (record problem.now { inputs = inputs.now }) demands.now budget) }
 {
-    match chosen_of_cut(alloc, inputs, problem, demands, budget)? {
+    match chosen_of_cut(alloc, inputs, problem, index, demands, budget)? {
         Chosen::Best(choice) => {
             let choice = choice_of_cut(alloc, inputs, problem, demands, choice)?;
             Ok(Met::Yes(choice))

@@ -5,8 +5,10 @@ ghost use Rattle.ccr_choice.specs.Ascending.{AreRising};
 ghost use Rattle.ccr_choice.specs.Problem.{builds_at};
 ghost use Rattle.ccr_explain.specs.Cut.{is_of_use, IsTop, IsNarrowed, IsEnough, IsInputNarrowed, AreMarked};
 
-use crate::cut::{is_among, useful_builds};
+use crate::cut::is_among;
+use crate::useful::useful_in;
 use ccr_choice::{Build, Input, Problem};
+use ccr_index::Index;
 use std::alloc::{AllocError, Global};
 
 /// A job that was looked at, and builds of it, of which those that were of no use are left out.
@@ -17,6 +19,7 @@ pub(crate) type Looked<'a> = (usize, Vec<&'a Build>);
 pub(crate) fn narrow<'a>(
     alloc: Global,
     problem: &'a Problem,
+    index: &Index,
     order: &[u32],
     top: u32,
     inputs: &mut Vec<Input>,
@@ -24,6 +27,7 @@ pub(crate) fn narrow<'a>(
     requires known { EachIndex order.now (λ k. slice_index order.now k < length problem.now.jobs) }
     requires few { length order.now ≤ 32 }
     requires top { IsTop problem.now order.now top }
+    requires same { index.now.problem ≡ problem.now }
     requires rising { All (λ x. AreRising x.places) inputs.old.items }
     ensures narrowed { OnOk result (IsNarrowed problem.now order.now inputs.old.items inputs.new.items) }
     ensures enough { IfOk result (λ looked. All (λ s. IsEnough problem.now order.now inputs.new.items s.0
@@ -34,44 +38,48 @@ pub(crate) fn narrow<'a>(
     for _ in 0..order.len() {
         if let Some(job) = next_job(inputs, &is_done) {
             is_done[job] = true;
-            let useful = narrow_by(alloc, problem, order, top, job, inputs)?;
+            let useful = narrow_by(alloc, problem, index, order, top, job, inputs)?;
             looked.push((job, useful))?;
         }
     }
     Ok(looked)
 }
 
-/// Of the jobs that aren't done, the one that an input with the fewest places names.
+/// Of the jobs that aren't done, one that an input with the fewest places names.
 fn next_job(inputs: &[Input], is_done: &[bool]) -> Option<usize>
-    requires { length is_done.now ≤ 32 }
     ensures { IfSome result (λ job. job < length is_done.now) }
 {
     let mut next = None;
     let mut fewest = usize::MAX;
-    for job in 0..is_done.len() {
-        let count = fewest_places(inputs, job as u32);
-        if !is_done[job] && count < fewest {
-            fewest = count;
-            next = Some(job);
+    for input in inputs {
+        let count = input.places().len();
+        if count < fewest {
+            if let Some(job) = first_left(input.jobs(), is_done) {
+                fewest = count;
+                next = Some(job);
+            }
         }
     }
     next
 }
 
-/// How many places an input has that names this job, the one with the fewest.
-fn fewest_places(inputs: &[Input], job: u32) -> usize {
-    inputs
-        .iter()
-        .filter(|x| is_among(x.jobs(), job))
-        .map(|x| x.places().len())
-        .min()
-        .unwrap_or(usize::MAX)
+/// The first of these jobs that isn't done.
+fn first_left(jobs: &[u32], is_done: &[bool]) -> Option<usize>
+    ensures { IfSome result (λ job. job < length is_done.now) }
+{
+    for job in jobs {
+        if let Some(false) = is_done.get(*job as usize) {
+            return Some(*job as usize);
+        }
+    }
+    None
 }
 
 /// Leaves to each input that names job `job` only places that came with builds of use of this job. Gives these builds.
 fn narrow_by<'a>(
     alloc: Global,
     problem: &'a Problem,
+    index: &Index,
     order: &[u32],
     top: u32,
     job: usize,
@@ -80,6 +88,7 @@ fn narrow_by<'a>(
     requires known { EachIndex order.now (λ k. slice_index order.now k < length problem.now.jobs) }
     requires few { length order.now ≤ 32 }
     requires top { IsTop problem.now order.now top }
+    requires same { index.now.problem ≡ problem.now }
     requires job { job < length order.now }
     requires rising { All (λ x. AreRising x.places) inputs.old.items }
     ensures narrowed { OnOk result (IsNarrowed problem.now order.now inputs.old.items inputs.new.items) }
@@ -87,7 +96,8 @@ fn narrow_by<'a>(
         ≡ filter (is_of_use inputs.old.items job) (builds_at problem.now (slice_index order.now job))) }
 {
     let builds = problem.jobs()[order[job] as usize].builds();
-    let useful = useful_builds(alloc, inputs, job as u32, builds)?;
+    let rows = index.rows(order[job] as usize);
+    let useful = useful_in(alloc, inputs, job as u32, rows, builds)?;
     for i in 0..inputs.len() {
         if is_among(inputs[i].jobs(), job as u32) {
             let left = narrowed(alloc, &inputs[i], &useful, top)?;

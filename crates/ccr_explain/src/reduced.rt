@@ -1,17 +1,18 @@
 //! Demands that exclude each other, without those that aren't needed for it.
 
-ghost use Rattle.std.specs.Prelude.{◌≡◌, ◌+◌, ◌-◌, ◌<◌, ◌≤◌, length, remove, IfOk};
+ghost use Rattle.std.specs.Prelude.{◌≡◌, ◌+◌, ◌-◌, ◌<◌, ◌≤◌, length, remove, IfOk, IfSome};
 ghost use Rattle.ccr_choice.specs.Problem.{IsProblem};
 ghost use Rattle.ccr_explain.specs.Clash.{IsClash, IsClashWithin};
 ghost use Rattle.ccr_explain.specs.Cut.{IsMet};
 ghost use Rattle.ccr_explain.specs.Reduced.{marked, AreNeeded, IsReduced};
 
 use crate::copies::copied_choice;
-use crate::demand::Demand;
+use crate::demand::{Demand, demands_of};
 use crate::explanation::ClashingDemands;
 use crate::met::{Met, are_met};
 use crate::witness::mark_needed;
 use ccr_choice::{Choice, Input, Problem};
+use ccr_index::Index;
 use ccr_proof::MOST_NODES;
 use std::alloc::{AllocError, Global};
 use std::marker::Model;
@@ -48,26 +49,29 @@ pub(crate) fn reduced(
     alloc: Global,
     inputs: &[Input],
     problem: &Problem,
+    index: &Index,
     demands: Vec<Demand>,
     known: Option<&Choice>,
     budget: u32,
 ) -> Result<ClashingDemands, AllocError>
     requires rules { IsProblem (record problem.now { inputs = inputs.now }) }
     requires clash { IsClash (record problem.now { inputs = inputs.now }) demands.items }
+    requires same { index.now.problem ≡ problem.now }
     requires least { 1 ≤ budget }
     requires most { budget ≤ MOST_NODES }
     ensures { IfOk result (IsClashWithin (record problem.now { inputs = inputs.now }) budget) }
 {
     let count = demands.len();
-    let is_needed = needed_first(alloc, inputs, problem, &demands, known)?;
-    let mut reduction = Reduction {
+    let is_needed = needed_first(alloc, inputs, problem, index, &demands, known)?;
+    let first = Reduction {
         demands,
         is_needed,
         next: 0,
         is_irreducible: true,
     };
+    let mut reduction = gathered(alloc, inputs, problem, index, first, budget)?;
     for _ in 0..count {
-        reduction = turn(alloc, inputs, problem, reduction, budget)?;
+        reduction = turn(alloc, inputs, problem, index, reduction, budget)?;
     }
     Ok(ClashingDemands {
         demands: reduction.demands,
@@ -75,11 +79,47 @@ pub(crate) fn reduced(
     })
 }
 
+/// The demands of a problem of which a choice that is known tells that none can be left out, if there are at least three and they alone
+/// exclude each other. The resolver is called once.
+pub(crate) fn clash_of_needed(
+    alloc: Global,
+    inputs: &[Input],
+    problem: &Problem,
+    index: &Index,
+    known: &Choice,
+    budget: u32,
+) -> Result<Option<ClashingDemands>, AllocError>
+    requires rules { IsProblem (record problem.now { inputs = inputs.now }) }
+    requires same { index.now.problem ≡ problem.now }
+    requires least { 1 ≤ budget }
+    requires most { budget ≤ MOST_NODES }
+    ensures { IfOk result
+        (λ found. IfSome found (IsClashWithin (record problem.now { inputs = inputs.now }) budget)) }
+{
+    let demands = demands_of(alloc, inputs)?;
+    let is_needed = needed_first(alloc, inputs, problem, index, &demands, Some(known))?;
+    let needed = marked(alloc, &demands, &is_needed)?;
+    if needed.len() < FEWEST_NEEDED {
+        return Ok(None);
+    }
+    match are_met(alloc, inputs, problem, index, &needed, budget)? {
+        Met::No => Ok(Some(ClashingDemands {
+            demands: needed,
+            is_irreducible: true,
+        })),
+        Met::Yes(_) | Met::OverBudget => Ok(None),
+    }
+}
+
+/// Of fewer demands it isn't asked first whether they exclude each other, since each can be left out in turn for as many calls.
+const FEWEST_NEEDED: usize = 3;
+
 /// Marks for the demands that are needed, as far as a choice that is known tells.
 fn needed_first(
     alloc: Global,
     inputs: &[Input],
     problem: &Problem,
+    index: &Index,
     demands: &[Demand],
     known: Option<&Choice>,
 ) -> Result<Vec<bool>, AllocError>
@@ -91,21 +131,132 @@ fn needed_first(
     let mut is_needed = vec![in alloc; false; demands.len()]?;
     if let Some(choice) = known {
         let choice = copied_choice(alloc, choice)?;
-        mark_needed(alloc, inputs, problem, demands, choice, &mut is_needed)?;
+        mark_needed(alloc, inputs, problem, index, demands, choice, &mut is_needed)?;
     }
     Ok(is_needed)
 }
 
-/// What is left once the next demand was tried, if there is one. Where that marked others, too, it is tried whether all that are marked
-/// exclude each other alone: mostly they do, and then all is done.
-fn turn(
+/// The demands that are needed where they alone exclude each other; else what was given, perhaps with more marks. Of many demands, those that
+/// a job is named in are left out one at a time first, as long as some choice meets the others, since each such choice mostly tells of
+/// several that are needed.
+fn gathered(
     alloc: Global,
     inputs: &[Input],
     problem: &Problem,
+    index: &Index,
     reduction: Reduction,
     budget: u32,
 ) -> Result<Reduction, AllocError>
     requires rules { IsProblem (record problem.now { inputs = inputs.now }) }
+    requires same { index.now.problem ≡ problem.now }
+    requires least { 1 ≤ budget }
+    requires most { budget ≤ MOST_NODES }
+    requires reduced { IsReduced (record problem.now { inputs = inputs.now }) budget reduction }
+    ensures reduced { IfOk result (IsReduced (record problem.now { inputs = inputs.now }) budget) }
+    ensures fewer { IfOk result (λ r.
+        length r.demands - r.next ≤ length reduction.demands - reduction.next) }
+{
+    if reduction.demands.len() < MANY_DEMANDS {
+        return Ok(reduction);
+    }
+    let mut now = reduction;
+    for k in 0..now.demands.len() {
+        if is_to_try(&now, k) {
+            let count = count_marks(&now.is_needed);
+            now = marked_without(alloc, inputs, problem, index, now, k, budget)?;
+            if count_marks(&now.is_needed) <= count {
+                return Ok(now);
+            }
+        }
+    }
+    needed_alone(alloc, inputs, problem, index, now, budget)
+}
+
+/// How many demands are many.
+const MANY_DEMANDS: usize = 8;
+
+/// Whether a demand names a job and has no mark.
+fn is_to_try(reduction: &Reduction, k: usize) -> bool {
+    matches!(
+        (reduction.demands.get(k), reduction.is_needed.get(k)),
+        (Some(Demand::Passed(_, _)), Some(false))
+    )
+}
+
+/// The same demands, with the marks of which a choice tells that meets all but demand `k`, if there is one.
+fn marked_without(
+    alloc: Global,
+    inputs: &[Input],
+    problem: &Problem,
+    index: &Index,
+    reduction: Reduction,
+    k: usize,
+    budget: u32,
+) -> Result<Reduction, AllocError>
+    requires rules { IsProblem (record problem.now { inputs = inputs.now }) }
+    requires same { index.now.problem ≡ problem.now }
+    requires least { 1 ≤ budget }
+    requires most { budget ≤ MOST_NODES }
+    requires reduced { IsReduced (record problem.now { inputs = inputs.now }) budget reduction }
+    ensures reduced { IfOk result (IsReduced (record problem.now { inputs = inputs.now }) budget) }
+    ensures fewer { IfOk result (λ r.
+        length r.demands - r.next ≤ length reduction.demands - reduction.next) }
+{
+    if k >= reduction.demands.len() {
+        return Ok(reduction);
+    }
+    let mut others = Vec::from_slice(alloc, &reduction.demands)?;
+    others.remove(k);
+    match are_met(alloc, inputs, problem, index, &others, budget)? {
+        Met::Yes(choice) => told_by(alloc, inputs, problem, index, reduction, choice, budget),
+        Met::No | Met::OverBudget => Ok(reduction),
+    }
+}
+
+/// The same demands, with the marks of which a choice tells.
+fn told_by(
+    alloc: Global,
+    inputs: &[Input],
+    problem: &Problem,
+    index: &Index,
+    reduction: Reduction,
+    choice: Choice,
+    budget: u32,
+) -> Result<Reduction, AllocError>
+    requires rules { IsProblem (record problem.now { inputs = inputs.now }) }
+    requires reduced { IsReduced (record problem.now { inputs = inputs.now }) budget reduction }
+    ensures reduced { IfOk result (IsReduced (record problem.now { inputs = inputs.now }) budget) }
+    ensures fewer { IfOk result (λ r.
+        length r.demands - r.next ≤ length reduction.demands - reduction.next) }
+{
+    let _ = budget;
+    let Reduction {
+        demands,
+        mut is_needed,
+        next,
+        is_irreducible,
+    } = reduction;
+    mark_needed(alloc, inputs, problem, index, &demands, choice, &mut is_needed)?;
+    Ok(Reduction {
+        demands,
+        is_needed,
+        next,
+        is_irreducible,
+    })
+}
+
+/// What is left once the next demand was tried, if there is one. Where that marked more others than were marked before, it is tried whether
+/// all that are marked exclude each other alone: mostly they do, and then all is done.
+fn turn(
+    alloc: Global,
+    inputs: &[Input],
+    problem: &Problem,
+    index: &Index,
+    reduction: Reduction,
+    budget: u32,
+) -> Result<Reduction, AllocError>
+    requires rules { IsProblem (record problem.now { inputs = inputs.now }) }
+    requires same { index.now.problem ≡ problem.now }
     requires least { 1 ≤ budget }
     requires most { budget ≤ MOST_NODES }
     requires reduced { IsReduced (record problem.now { inputs = inputs.now }) budget reduction }
@@ -114,9 +265,9 @@ fn turn(
         length r.demands - r.next ≤ length reduction.demands - reduction.next - 1) }
 {
     let before = count_marks(&reduction.is_needed);
-    let after = tried(alloc, inputs, problem, reduction, budget)?;
-    if count_marks(&after.is_needed) > before.saturating_add(1) {
-        needed_alone(alloc, inputs, problem, after, budget)
+    let after = tried(alloc, inputs, problem, index, reduction, budget)?;
+    if count_marks(&after.is_needed) > before.saturating_mul(2).saturating_add(1) {
+        needed_alone(alloc, inputs, problem, index, after, budget)
     } else {
         Ok(after)
     }
@@ -127,10 +278,12 @@ fn tried(
     alloc: Global,
     inputs: &[Input],
     problem: &Problem,
+    index: &Index,
     reduction: Reduction,
     budget: u32,
 ) -> Result<Reduction, AllocError>
     requires rules { IsProblem (record problem.now { inputs = inputs.now }) }
+    requires same { index.now.problem ≡ problem.now }
     requires least { 1 ≤ budget }
     requires most { budget ≤ MOST_NODES }
     requires reduced { IsReduced (record problem.now { inputs = inputs.now }) budget reduction }
@@ -147,8 +300,8 @@ fn tried(
     }
     let mut others = Vec::from_slice(alloc, &reduction.demands)?;
     others.remove(next);
-    let met = are_met(alloc, inputs, problem, &others, budget)?;
-    answered(alloc, inputs, problem, reduction, met, budget)
+    let met = are_met(alloc, inputs, problem, index, &others, budget)?;
+    answered(alloc, inputs, problem, index, reduction, met, budget)
 }
 
 /// The same demands, where the next one is kept.
@@ -175,6 +328,7 @@ fn answered(
     alloc: Global,
     inputs: &[Input],
     problem: &Problem,
+    index: &Index,
     reduction: Reduction,
     met: Met,
     budget: u32,
@@ -202,7 +356,7 @@ fn answered(
             after = next;
         }
         Met::Yes(choice) => {
-            mark_needed(alloc, inputs, problem, &demands, choice, &mut is_needed)?;
+            mark_needed(alloc, inputs, problem, index, &demands, choice, &mut is_needed)?;
             is_needed[next] = true;
         }
         Met::OverBudget => is_irreducible = false,
@@ -225,10 +379,12 @@ fn needed_alone(
     alloc: Global,
     inputs: &[Input],
     problem: &Problem,
+    index: &Index,
     reduction: Reduction,
     budget: u32,
 ) -> Result<Reduction, AllocError>
     requires rules { IsProblem (record problem.now { inputs = inputs.now }) }
+    requires same { index.now.problem ≡ problem.now }
     requires least { 1 ≤ budget }
     requires most { budget ≤ MOST_NODES }
     requires reduced { IsReduced (record problem.now { inputs = inputs.now }) budget reduction }
@@ -239,7 +395,7 @@ fn needed_alone(
     let mut now = reduction;
     for _ in 0..now.demands.len() {
         let count = count_marks(&now.is_needed);
-        now = tried_alone(alloc, inputs, problem, now, budget)?;
+        now = tried_alone(alloc, inputs, problem, index, now, budget)?;
         if count_marks(&now.is_needed) <= count {
             return Ok(now);
         }
@@ -252,10 +408,12 @@ fn tried_alone(
     alloc: Global,
     inputs: &[Input],
     problem: &Problem,
+    index: &Index,
     reduction: Reduction,
     budget: u32,
 ) -> Result<Reduction, AllocError>
     requires rules { IsProblem (record problem.now { inputs = inputs.now }) }
+    requires same { index.now.problem ≡ problem.now }
     requires least { 1 ≤ budget }
     requires most { budget ≤ MOST_NODES }
     requires reduced { IsReduced (record problem.now { inputs = inputs.now }) budget reduction }
@@ -264,23 +422,9 @@ fn tried_alone(
         length r.demands - r.next ≤ length reduction.demands - reduction.next) }
 {
     let alone = marked(alloc, &reduction.demands, &reduction.is_needed)?;
-    match are_met(alloc, inputs, problem, &alone, budget)? {
+    match are_met(alloc, inputs, problem, index, &alone, budget)? {
         Met::OverBudget => Ok(reduction),
-        Met::Yes(choice) => {
-            let Reduction {
-                demands,
-                mut is_needed,
-                next,
-                is_irreducible,
-            } = reduction;
-            mark_needed(alloc, inputs, problem, &demands, choice, &mut is_needed)?;
-            Ok(Reduction {
-                demands,
-                is_needed,
-                next,
-                is_irreducible,
-            })
-        }
+        Met::Yes(choice) => told_by(alloc, inputs, problem, index, reduction, choice, budget),
         Met::No => {
             let count = alone.len();
             let is_needed = vec![in alloc; true; count]?;

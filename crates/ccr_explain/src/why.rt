@@ -4,12 +4,15 @@ ghost use Rattle.std.specs.Prelude.{◌≡◌, ◌≢◌, ◌↔◌, ◌+◌, �
 ghost use Rattle.ccr_choice.specs.Problem.{ChoiceValue, input_at, IsProblem};
 ghost use Rattle.ccr_choice.specs.Preference.{order_of};
 ghost use Rattle.ccr_choice.specs.Optimal.{IsOptimal};
+ghost use Rattle.ccr_explain.specs.Clash.{IsExplanation};
 ghost use Rattle.ccr_explain.specs.WhyNot.{may_take, asked, IsWhyNot};
 
 use crate::clashes::explained;
 use crate::explanation::Explanation;
 use crate::grown::grown;
+use crate::reduced::clash_of_needed;
 use ccr_choice::{Choice, Input, Problem};
+use ccr_index::Index;
 use ccr_proof::MOST_NODES;
 use std::alloc::{AllocError, Global};
 
@@ -23,11 +26,13 @@ use std::alloc::{AllocError, Global};
 pub fn why_not(
     alloc: Global,
     problem: &Problem,
+    index: &Index,
     choice: &Choice,
     input: usize,
     place: u32,
     budget: u32,
 ) -> Result<Explanation, AllocError>
+    requires same { index.now.problem ≡ problem.now }
     requires input { input < length problem.now.inputs }
     requires place_each { length choice.now.places ≡ length problem.now.inputs }
     requires least { 1 ≤ budget }
@@ -39,9 +44,31 @@ pub fn why_not(
         → (other : ChoiceValue) → result ≢ Ok (Explanation.Fits other) }
 {
     let asked = narrowed(alloc, problem, &choice.places, input, place)?;
-    let few = grown(alloc, &asked, problem, input, 0, budget)?;
-    // But for the place that the input is to take, the choice meets all that is asked.
-    explained(alloc, &asked, problem, few, Some(choice), budget)
+    asked_of(alloc, &asked, problem, index, choice, input, budget)
+}
+
+/// Why the problem of these inputs, which ask that input `input` takes a place, and of the jobs of a problem has no choice; or its best
+/// choice. But for this place, the choice that is known meets all that is asked.
+fn asked_of(
+    alloc: Global,
+    inputs: &[Input],
+    problem: &Problem,
+    index: &Index,
+    known: &Choice,
+    input: usize,
+    budget: u32,
+) -> Result<Explanation, AllocError>
+    requires rules { IsProblem (record problem.now { inputs = inputs.now }) }
+    requires same { index.now.problem ≡ problem.now }
+    requires least { 1 ≤ budget }
+    requires most { budget ≤ MOST_NODES }
+    ensures { let p = record problem.now { inputs = inputs.now } in IfOk result (IsExplanation (order_of p) p budget) }
+{
+    if let Some(clash) = clash_of_needed(alloc, inputs, problem, index, known, budget)? {
+        return Ok(Explanation::Clash(clash));
+    }
+    let few = grown(alloc, inputs, problem, index, input, 0, budget)?;
+    explained(alloc, inputs, problem, index, few, Some(known), budget)
 }
 
 /// The inputs of the problem in which input `input` takes a place and no input before it gets worse.

@@ -1,13 +1,15 @@
-//! Demands that are needed, found from a choice that meets all others.
+//! Demands that are needed, found from choices that meet all others.
 
 ghost use Rattle.std.specs.Prelude.{◌≡◌, length, IfOk, OnOk, All};
 ghost use Rattle.ccr_choice.specs.Ascending.{AreRising};
 ghost use Rattle.ccr_explain.specs.Reduced.{AreNeeded};
 
+use crate::carried::{build_with, carried, place_with};
 use crate::copies::copied_choice;
 use crate::demand::Demand;
-use crate::meets::{build_of, only_unmet};
+use crate::meets::only_unmet;
 use ccr_choice::{Choice, Input, Problem};
+use ccr_index::Index;
 use std::alloc::{AllocError, Global};
 
 /// A choice that meets all demands but one.
@@ -19,11 +21,13 @@ struct Witness {
 }
 
 /// Marks demands that are needed, since some choice meets all others: where a choice meets all but one, this one, and those that are
-/// reached from there by changing one place or one build at a time, so that one demand alone isn't met.
+/// reached from there by changing one place or one build at a time, so that one demand alone isn't met. The index is to be that of the
+/// problem; with another one, fewer are marked.
 pub(crate) fn mark_needed(
     alloc: Global,
     inputs: &[Input],
     problem: &Problem,
+    index: &Index,
     demands: &[Demand],
     choice: Choice,
     is_needed: &mut Vec<bool>,
@@ -40,10 +44,10 @@ pub(crate) fn mark_needed(
         let Some(witness) = work.pop() else {
             return Ok(());
         };
-        if let Some(other) = with_other_build(alloc, inputs, problem, demands, &witness)? {
+        if let Some(other) = with_other_build(alloc, inputs, index, demands, &witness)? {
             mark(inputs, problem, demands, other, is_needed, &mut work)?;
         }
-        if let Some(other) = with_other_place(alloc, inputs, problem, demands, &witness)? {
+        if let Some(other) = with_other_place(alloc, inputs, problem, index, demands, &witness)? {
             mark(inputs, problem, demands, other, is_needed, &mut work)?;
         }
     }
@@ -79,14 +83,14 @@ fn mark(
 fn with_other_build(
     alloc: Global,
     inputs: &[Input],
-    problem: &Problem,
+    index: &Index,
     demands: &[Demand],
     witness: &Witness,
 ) -> Result<Option<Choice>, AllocError> {
     let Some(Demand::Passed(input, job)) = demands.get(witness.unmet) else {
         return Ok(None);
     };
-    let Some(number) = build_with(inputs, problem, &witness.choice, *input, *job) else {
+    let Some(number) = build_with(inputs, index, &witness.choice, *input, *job) else {
         return Ok(None);
     };
     let mut other = copied_choice(alloc, &witness.choice)?;
@@ -94,63 +98,34 @@ fn with_other_build(
     Ok(Some(other))
 }
 
-/// The newest build of a job with which the place of an input passed it.
-fn build_with(
-    inputs: &[Input],
-    problem: &Problem,
-    choice: &Choice,
-    input: usize,
-    job: usize,
-) -> Option<u32> {
-    let scope = inputs.get(input)?.scope();
-    let place = *choice.places.get(input)?;
-    let builds = problem.jobs().get(job)?.builds();
-    let build = builds.iter().find(|b| b.pairs().contains(&(scope, place)))?;
-    Some(build.number())
-}
-
-/// The choice with another place of the input whose demand isn't met: one that passed the job, or the newest that is allowed.
+/// The choice with another place of the input whose demand isn't met: one that passed the job, or the newest that is allowed, with what has
+/// to change for it.
 fn with_other_place(
     alloc: Global,
     inputs: &[Input],
     problem: &Problem,
+    index: &Index,
     demands: &[Demand],
     witness: &Witness,
 ) -> Result<Option<Choice>, AllocError> {
-    let Some(demand) = demands.get(witness.unmet) else {
-        return Ok(None);
-    };
-    let Some((input, place)) = place_for(inputs, problem, &witness.choice, demand) else {
-        return Ok(None);
-    };
-    let mut other = copied_choice(alloc, &witness.choice)?;
-    set(&mut other.places, input, place);
-    Ok(Some(other))
-}
-
-/// A place with which an input meets a demand.
-fn place_for(
-    inputs: &[Input],
-    problem: &Problem,
-    choice: &Choice,
-    demand: &Demand,
-) -> Option<(usize, u32)> {
-    match demand {
-        Demand::Allowed(input) => {
-            let place = inputs.get(*input)?.places().last()?;
-            Some((*input, *place))
+    match demands.get(witness.unmet) {
+        None => Ok(None),
+        Some(Demand::Allowed(input)) => {
+            carried(alloc, inputs, problem, index, &witness.choice, *input)
         }
-        Demand::Passed(input, job) => {
-            let scope = inputs.get(*input)?.scope();
-            let number = *choice.builds.get(*job)?;
-            let build = build_of(problem.jobs().get(*job)?.builds(), number)?;
-            let pair = build.pairs().iter().find(|q| q.0 == scope)?;
-            Some((*input, pair.1))
+        Some(Demand::Passed(input, job)) => {
+            let Some(place) = place_with(inputs, problem, &witness.choice, *input, *job) else {
+                return Ok(None);
+            };
+            let mut other = copied_choice(alloc, &witness.choice)?;
+            set(&mut other.places, *input, place);
+            Ok(Some(other))
         }
     }
 }
 
-fn set(numbers: &mut [u32], at: usize, number: u32) {
+/// Sets one of these numbers, if it is there.
+pub(crate) fn set(numbers: &mut [u32], at: usize, number: u32) {
     if let Some(place) = numbers.get_mut(at) {
         *place = number;
     }

@@ -46,10 +46,12 @@ subject_data s = record {
   budget = s.budget;
 }
 
--- it has an input for each of the problem's, the choice is the best, and the budget is one that a search takes
-pub record IsSubject (s : SubjectData) : Type 0 where
-  pub input_each : length s.inputs ≡ length s.problem.inputs
-  pub best : IsOptimal (order_of s.problem) s.problem s.choice.places s.choice.builds
+-- it has an input for each of the problem's, the index is the problem's, the choice is the best, and the budget is one that a search
+-- takes
+pub record IsSubject (s : Subject) : Type 0 where
+  pub input_each : length s.inputs.now ≡ length s.problem.now.inputs
+  pub index : s.index.now.problem ≡ s.problem.now
+  pub best : IsOptimal (order_of s.problem.now) s.problem.now s.choice.now.places s.choice.now.builds
   pub least : 1 ≤ s.budget
   pub most : s.budget ≤ MOST_NODES
 

@@ -41,7 +41,7 @@ use ccr_choice::{Choice, Problem};
 use ccr_core::Core;
 use ccr_explain::{Explanation, clash};
 use ccr_history::History;
-use ccr_index::build_index;
+use ccr_index::{Index, build_index};
 use ccr_pipeline::{Input, Job, Pipeline, inputs_of};
 use ccr_resolve::{Chosen, choose};
 use std::alloc::{AllocError, Global};
@@ -119,7 +119,7 @@ fn taken_text(
     number: usize,
     input: &Input,
 ) -> Result<String, AllocError>
-    requires subject { IsSubject (subject_data subject.now) }
+    requires subject { IsSubject subject.now }
     requires within { number < length (subject_data subject.now).inputs }
     ensures { IfOk result (λ text.
         string_bytes text ≡ taken_line (subject_data subject.now) number (input_data input.now)) }
@@ -160,7 +160,7 @@ fn refusal_text(
     input: &Input,
     place: u32,
 ) -> Result<String, AllocError>
-    requires subject { IsSubject (subject_data subject.now) }
+    requires subject { IsSubject subject.now }
     requires within { number < length (subject_data subject.now).inputs }
     ensures { IfOk result (λ text.
         IsRefusal (subject_data subject.now) number (input_data input.now) place (string_bytes text)) }
@@ -180,7 +180,7 @@ fn newer_text(
     input: &Input,
     place: u32,
 ) -> Result<String, AllocError>
-    requires subject { IsSubject (subject_data subject.now) }
+    requires subject { IsSubject subject.now }
     requires within { number < length (subject_data subject.now).inputs }
     ensures { IfOk result (λ text.
         IsNewerRefused (subject_data subject.now) number (input_data input.now) 0 place (string_bytes text)) }
@@ -209,7 +209,7 @@ fn newer_texts(
     number: usize,
     input: &Input,
 ) -> Result<String, AllocError>
-    requires subject { IsSubject (subject_data subject.now) }
+    requires subject { IsSubject subject.now }
     requires within { number < length (subject_data subject.now).inputs }
     ensures { let s = subject_data subject.now in let x = input_data input.now in
         IfOk result (λ text. AreEach (IsNewerRefused s number x) 0 (newest_three s x) (string_bytes text)) }
@@ -230,7 +230,7 @@ fn input_text(
     number: usize,
     input: &Input,
 ) -> Result<String, AllocError>
-    requires subject { IsSubject (subject_data subject.now) }
+    requires subject { IsSubject subject.now }
     requires within { number < length (subject_data subject.now).inputs }
     ensures { IfOk result (λ text.
         IsInputExplained (subject_data subject.now) number (input_data input.now) (string_bytes text)) }
@@ -243,7 +243,7 @@ fn input_text(
 
 /// What each input takes, and why nothing newer.
 fn inputs_text(alloc: Global, subject: &Subject<'_>) -> Result<String, AllocError>
-    requires { IsSubject (subject_data subject.now) }
+    requires { IsSubject subject.now }
     ensures { let s = subject_data subject.now in
         IfOk result (λ text. AreEach (IsInputExplained s) 0 s.inputs (string_bytes text)) }
 {
@@ -276,7 +276,7 @@ fn best_text(
     job: &Job,
     outlook: Outlook,
 ) -> Result<String, AllocError>
-    requires { IsSubject (subject_data subject.now) }
+    requires { IsSubject subject.now }
     ensures { let s = subject_data subject.now in IfOk result (λ text. (each : Text)
         × AreEach (IsInputExplained s) 0 s.inputs each
         × (string_bytes text ≡ outlook_line (job_data job.now) outlook ++ each)) }
@@ -294,7 +294,7 @@ fn best_shown(
     subject: &Subject<'_>,
     job: &Job,
 ) -> Result<Vec<u8>, AllocError>
-    requires subject { IsSubject (subject_data subject.now) }
+    requires subject { IsSubject subject.now }
     requires found { let s = subject_data subject.now in
         IsFound s.pipeline s.history s.budget (job_data job.now).name (best s.choice.places) }
     ensures { IfOk result (λ text. IsBestShown form (subject_data subject.now) (job_data job.now) text.items) }
@@ -322,9 +322,11 @@ fn chosen_shown(
     history: &History,
     job: &Job,
     problem: &Problem,
+    index: &Index,
     choice: &Choice,
     budget: u32,
 ) -> Result<Vec<u8>, AllocError>
+    requires index { index.now.problem ≡ problem.now }
     requires problem { IsProblemOf (pipeline_data pipeline.now) history.now (job_data job.now).name problem.now }
     requires there { let j = job_data job.now in job_of j.name (pipeline_data pipeline.now).jobs ≡ Some j }
     requires best { IsOptimal (order_of problem.now) problem.now choice.now.places choice.now.builds }
@@ -341,6 +343,7 @@ fn chosen_shown(
         inputs: &inputs,
         jobs: &jobs,
         problem,
+        index,
         choice,
         budget,
     };
@@ -400,8 +403,10 @@ fn none_shown(
     form: Form,
     job: &Job,
     problem: &Problem,
+    index: &Index,
     budget: u32,
 ) -> Result<Vec<u8>, AllocError>
+    requires index { index.now.problem ≡ problem.now }
     requires least { 1 ≤ budget }
     requires most { budget ≤ MOST_NODES }
     ensures { IfOk result (λ text. (e : Explanation) × IsExplanation (order_of problem.now) problem.now budget e
@@ -409,7 +414,7 @@ fn none_shown(
 {
     let inputs = inputs_of(alloc, job)?;
     let jobs = named_jobs(alloc, &inputs)?;
-    let shown = clash(alloc, problem, budget)?;
+    let shown = clash(alloc, problem, index, budget)?;
     let text = clash_shown(alloc, form, job, &inputs, &jobs, &shown)?;
     Ok(text)
 }
@@ -432,9 +437,11 @@ fn explained_by(
     history: &History,
     job: &Job,
     problem: &Problem,
+    index: &Index,
     chosen: &Chosen,
     budget: u32,
 ) -> Result<(u8, Vec<u8>), AllocError>
+    requires index { index.now.problem ≡ problem.now }
     requires problem { IsProblemOf (pipeline_data pipeline.now) history.now (job_data job.now).name problem.now }
     requires there { let j = job_data job.now in job_of j.name (pipeline_data pipeline.now).jobs ≡ Some j }
     requires chosen { IsChosen (order_of problem.now) problem.now budget chosen.now }
@@ -445,10 +452,12 @@ fn explained_by(
 {
     match chosen {
         Chosen::Best(choice) => {
-            let text = chosen_shown(alloc, form, pipeline, history, job, problem, choice, budget)?;
+            let text = chosen_shown(
+                alloc, form, pipeline, history, job, problem, index, choice, budget,
+            )?;
             Ok((0, text))
         }
-        Chosen::Nothing => Ok((0, none_shown(alloc, form, job, problem, budget)?)),
+        Chosen::Nothing => Ok((0, none_shown(alloc, form, job, problem, index, budget)?)),
         Chosen::OverBudget(most) => Ok((3, over_shown(alloc, form, job, *most)?)),
     }
 }
@@ -473,7 +482,7 @@ fn explained_of(
     let index = build_index(alloc, &problem)?;
     let chosen = choose(alloc, &index, budget)?;
     let explained = explained_by(
-        alloc, form, pipeline, history, job, &problem, &chosen, budget,
+        alloc, form, pipeline, history, job, &problem, &index, &chosen, budget,
     )?;
     Ok(explained)
 }

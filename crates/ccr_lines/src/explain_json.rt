@@ -82,7 +82,7 @@ fn refusal_item(
     input: &Input,
     place: u32,
 ) -> Result<Vec<u8>, AllocError>
-    requires subject { IsSubject (subject_data subject.now) }
+    requires subject { IsSubject subject.now }
     requires within { number < length (subject_data subject.now).inputs }
     ensures { IfOk result (λ item.
         AreItems (IsRefusedIf true (subject_data subject.now) number (input_data input.now) place) item.items) }
@@ -103,7 +103,7 @@ fn newer_item(
     input: &Input,
     place: u32,
 ) -> Result<Vec<u8>, AllocError>
-    requires subject { IsSubject (subject_data subject.now) }
+    requires subject { IsSubject subject.now }
     requires within { number < length (subject_data subject.now).inputs }
     ensures { IfOk result (λ item.
         AreItems (IsNewerJson (subject_data subject.now) number (input_data input.now) 0 place) item.items) }
@@ -123,7 +123,7 @@ fn newer_items(
     number: usize,
     input: &Input,
 ) -> Result<Vec<u8>, AllocError>
-    requires subject { IsSubject (subject_data subject.now) }
+    requires subject { IsSubject subject.now }
     requires within { number < length (subject_data subject.now).inputs }
     ensures { let s = subject_data subject.now in let x = input_data input.now in
         IfOk result (λ items. AreItems (AreEach (IsNewerJson s number x) 0 (newest_three s x)) items.items) }
@@ -174,7 +174,7 @@ fn push_taken(
     input: &Input,
     newer: &[u8],
 ) -> Result<(), AllocError>
-    requires subject { IsSubject (subject_data subject.now) }
+    requires subject { IsSubject subject.now }
     requires within { number < length (subject_data subject.now).inputs }
     ensures { OnOk result (out.new.items ≡ out.old.items
         ++ taken_text (subject_data subject.now) number (input_data input.now) (array_of newer.now)) }
@@ -214,7 +214,7 @@ fn input_item(
     number: usize,
     input: &Input,
 ) -> Result<Vec<u8>, AllocError>
-    requires subject { IsSubject (subject_data subject.now) }
+    requires subject { IsSubject subject.now }
     requires within { number < length (subject_data subject.now).inputs }
     ensures { IfOk result (λ item.
         AreItems (IsInputJson (subject_data subject.now) number (input_data input.now)) item.items) }
@@ -227,7 +227,7 @@ fn input_item(
 
 /// What each input takes, and why nothing newer, each behind a comma.
 fn inputs_items(alloc: Global, subject: &Subject<'_>) -> Result<Vec<u8>, AllocError>
-    requires { IsSubject (subject_data subject.now) }
+    requires { IsSubject subject.now }
     ensures { let s = subject_data subject.now in
         IfOk result (λ items. AreItems (AreEach (IsInputJson s) 0 s.inputs) items.items) }
 {
@@ -289,7 +289,7 @@ pub(crate) fn best_json(
     job: &Job,
     outlook: Outlook,
 ) -> Result<Vec<u8>, AllocError>
-    requires { IsSubject (subject_data subject.now) }
+    requires { IsSubject subject.now }
     ensures { let s = subject_data subject.now in IfOk result (λ text. (each : List Data)
         × AreEach (IsInputJson s) 0 s.inputs each
         × (text.items ≡ json_line (explained_json (job_data job.now) outlook each null))) }

@@ -78,7 +78,7 @@ fn first_unmoved(problem: &Problem, input: usize, place: u32) -> Option<u32>
 
 /// Whether a place is preferred to the one that an input takes.
 fn is_preferred(subject: &Subject<'_>, input: usize, place: u32) -> bool
-    requires subject { IsSubject (subject_data subject.now) }
+    requires subject { IsSubject subject.now }
     requires input { input < length (subject_data subject.now).inputs }
     ensures { result ≡ is_preferred (subject_data subject.now) input place }
 {
@@ -95,7 +95,7 @@ fn clash_at(
     input: usize,
     place: u32,
 ) -> Result<Reason, AllocError>
-    requires subject { IsSubject (subject_data subject.now) }
+    requires subject { IsSubject subject.now }
     requires input { input < length (subject_data subject.now).inputs }
     requires opened { IsOpen (subject_data subject.now) input place }
     ensures { IfOk result (IsReason (subject_data subject.now) input place false) }
@@ -103,6 +103,7 @@ fn clash_at(
     let shown = why_not(
         alloc,
         subject.problem,
+        subject.index,
         subject.choice,
         input,
         place,
@@ -123,7 +124,7 @@ pub(crate) fn reason_of(
     place: u32,
     is_disabled: bool,
 ) -> Result<Reason, AllocError>
-    requires subject { IsSubject (subject_data subject.now) }
+    requires subject { IsSubject subject.now }
     requires input { input < length (subject_data subject.now).inputs }
     ensures { IfOk result (IsReason (subject_data subject.now) input place is_disabled) }
 {

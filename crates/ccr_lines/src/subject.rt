@@ -2,6 +2,7 @@
 
 use ccr_choice::{Choice, Problem};
 use ccr_history::History;
+use ccr_index::Index;
 use ccr_pipeline::{Input, Pipeline};
 
 /// The next build of a job, with the choice for it.
@@ -14,6 +15,8 @@ pub struct Subject<'a> {
     /// The jobs that the inputs name in `passed`, each once, in order of first mention.
     pub jobs: &'a [String],
     pub problem: &'a Problem,
+    /// The index of the problem.
+    pub index: &'a Index,
     pub choice: &'a Choice,
     /// How many nodes a search may take, from 1 to 1,000,000.
     pub budget: u32,

@@ -27,6 +27,7 @@ reduced-requires-in-Nothing c =
       rules = c.requires.rules;
       clash = all_clash p c.in_ok-demands.demands.items c.requires.rules c.in_ok-demands.ensures
           (nothing_chosen p p c.args.budget c.in_ok-choice.field-0 refl c.in-Nothing.is c.in_ok-choice.ensures);
+      same = c.requires.same;
       least = c.requires.least;
       most = c.requires.most;
     }

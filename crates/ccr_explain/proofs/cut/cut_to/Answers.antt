@@ -13,7 +13,7 @@ narrow-requires-clause-rising c =
     let ds = c.args.demands.now in
     let top = c.top_place-top.result in
     let p : ProblemValue = record c.args.problem.now { inputs = c.args.inputs.now } in
-    cut_rises ds top p c.in_ok-inputs.inputs.items c.requires c.top_place-top.ensures.least c.top_place-top.ensures.most
+    cut_rises ds top p c.in_ok-inputs.inputs.items c.requires.rules c.top_place-top.ensures.least c.top_place-top.ensures.most
     (inputs_are ds top p c.in_ok-order.order.items c.deref-2.result.now c.in_ok-inputs.inputs.items c.in_ok-order.ensures.value c.deref-2.ensures.value c.in_ok-inputs.ensures)
 
 pub jobs_of-requires-clause-rising : goal.jobs_of-requires-clause-rising
@@ -23,7 +23,7 @@ jobs_of-requires-clause-rising c =
     let p : ProblemValue = record c.args.problem.now { inputs = c.args.inputs.now } in
     let P : List InputValue → Type 0 = λ xs. All (λ x. AreRising x.places) xs in
     subst P (sym c.deref-4.ensures.value) (rises_too p c.deref-3.result.now c.in_ok-inputs.inputs.items c.narrow.new.inputs.items (narrowed_of c.args.problem.now c.args.inputs.now c.deref-3.result.now c.in_ok-inputs.inputs.items c.narrow.new.inputs.items c.in_ok-looked.ensures.narrowed)
-    (cut_rises ds top p c.in_ok-inputs.inputs.items c.requires c.top_place-top.ensures.least c.top_place-top.ensures.most
+    (cut_rises ds top p c.in_ok-inputs.inputs.items c.requires.rules c.top_place-top.ensures.least c.top_place-top.ensures.most
     (inputs_are ds top p c.in_ok-order.order.items c.deref-2.result.now c.in_ok-inputs.inputs.items c.in_ok-order.ensures.value c.deref-2.ensures.value c.in_ok-inputs.ensures)))
 
 pub new-requires : goal.new-requires
@@ -37,7 +37,7 @@ new-requires c =
     c.in_ok-order.ensures.value c.deref-2.ensures.value c.deref-3.ensures.value c.in_ok-inputs.ensures
     (narrowed_of c.args.problem.now c.args.inputs.now c.deref-3.result.now c.in_ok-inputs.inputs.items c.narrow.new.inputs.items c.in_ok-looked.ensures.narrowed) in
     let P : ProblemValue → Type 0 = λ q. is_problem q ≡ true in
-    subst P (sym same) (cut_rules ds top p c.narrow.new.inputs.items c.requires c.top_place-top.ensures.least c.top_place-top.ensures.most narrowed)
+    subst P (sym same) (cut_rules ds top p c.narrow.new.inputs.items c.requires.rules c.top_place-top.ensures.least c.top_place-top.ensures.most narrowed)
 
 pub returns : goal.returns
 returns c =
@@ -45,7 +45,8 @@ returns c =
     let top = c.top_place-top.result in
     let p : ProblemValue = record c.args.problem.now { inputs = c.args.inputs.now } in
     let P : List ℕ → Type 0 = λ order. IsTop p order top in
-    let found = c.top_place-top.ensures in
+    let T : ProblemValue → Type 0 = λ q. IsTop q c.deref.result.now top in
+    let found = subst T c.requires.same c.top_place-top.ensures in
     record {
       top = top;
       is_top = subst P (c.deref.ensures.value ∙ c.in_ok-order.ensures.value) (record { least = found.least; most = found.most; covers = found.covers });

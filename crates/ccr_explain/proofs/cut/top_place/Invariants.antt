@@ -6,5 +6,5 @@ abbrev pub invariant-loop-job : goal.invariant-loop-job
 invariant-loop-job l = record {
   least : 1 ≤ l.top;
   most : l.top ≤ 100000;
-  covers : All (λ j. All (λ b. All (λ q. q.1 ≤ l.top) b.pairs) (builds_at l.problem j)) (take l.job-index l.order);
+  covers : All (λ j. All (λ b. All (λ q. q.1 ≤ l.top) b.pairs) (builds_at l.index.problem j)) (take l.job-index l.order);
 }

@@ -3,9 +3,8 @@ use Rattle.std.specs.Prelude.{All}
 use Rattle.ccr_choice.specs.Problem.{ProblemValue}
 use Rattle.ccr_explain.specs.declared.demand.Demand.{Demand}
 use Rattle.ccr_explain.specs.Demand.{IsDemandOf}
-use Rattle.ccr_explain.specs.Reduced.{ReductionValue, AreNeeded, marked, IsReduced}
-use Rattle.ccr_explain.proofs.CutRules.{places_ascend}
-use Rattle.ccr_explain.proofs.Reducing.{alone_reduced, more_known, marked_demands, told_no}
+use Rattle.ccr_explain.specs.Reduced.{ReductionValue, marked, IsReduced}
+use Rattle.ccr_explain.proofs.Reducing.{alone_reduced, marked_demands, told_no}
 use Rattle.ccr_explain.proofs.reduced.tried_alone.Goals as goal
 
 pub are_met-requires-clause-demands : goal.are_met-requires-clause-demands
@@ -29,19 +28,3 @@ returns-in_ok-is_needed-in-No-clause-reduced c =
     alone_reduced p c.args.budget r c.in_ok-alone.alone.items c.in_ok-is_needed-in-No.is_needed.items c.len-count.result so are
     (told_no p c.args.budget c.in_ok-alone.alone.items c.deref-3.result.now c.in_ok-are_met.field-0 c.deref-3.ensures.value c.in_ok-are_met.ensures c.in-No.is)
     (omega (arith, c.in_ok-is_needed-in-No.ensures.len, c.len-count.ensures))
-
-pub mark_needed-requires : goal.mark_needed-requires
-mark_needed-requires c =
-    let p : ProblemValue = record c.args.problem.now { inputs = c.args.inputs.now } in
-    places_ascend p c.requires.rules
-
-pub returns-in_ok-mark_needed-in-Yes-clause-reduced : goal.returns-in_ok-mark_needed-in-Yes-clause-reduced
-returns-in_ok-mark_needed-in-Yes-clause-reduced c =
-    let p : ProblemValue = record c.args.problem.now { inputs = c.args.inputs.now } in
-    let now = c.reduction.inside in
-    let r : ReductionValue = record { demands = now.demands.items; is_needed = now.is_needed.items; next = now.next; is_irreducible = now.is_irreducible } in
-    let P : ReductionValue → Type 0 = λ x. IsReduced p c.args.budget x in
-    let so : IsReduced p c.args.budget r = subst P (sym c.reduction.view_is) c.requires.reduced in
-    let marks = c.mark_needed.new.is_needed.items in
-    let N : List Demand → Type 0 = λ ds. AreNeeded p ds now.is_needed.items → AreNeeded p ds marks in
-    more_known p c.args.budget r marks so c.in_ok-mark_needed-in-Yes.ensures.length (subst N c.deref-in-Yes.ensures.value c.in_ok-mark_needed-in-Yes.ensures.needed)
