@@ -54,6 +54,11 @@ length_filter test (x ∷ xs) =
 pub any_contained : {X : Type 0} (test : X → Bool) (x : X) (xs : List X) → Contains xs x → test x ≡ true → list_any test xs ≡ true
 any_contained test x xs (k, within, at) passes = list_any_at test xs k x within (ap test at ∙ passes)
 
+-- two tests that agree find the same
+pub any_same : {X : Type 0} (f g : X → Bool) → ((x : X) → f x ≡ g x) → (xs : List X) → list_any f xs ≡ list_any g xs
+any_same f g same [] = refl
+any_same f g same (x ∷ xs) = ap (λ b. b || list_any f xs) (same x) ∙ ap (λ b. g x || b) (any_same f g same xs)
+
 -- what holds of each element holds of all
 pub all_contained : {X : Type 0} (P : X → Type 0) (xs : List X) → ((x : X) → Contains xs x → P x) → All P xs
 all_contained P [] h = All-nil P

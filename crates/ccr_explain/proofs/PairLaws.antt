@@ -67,20 +67,27 @@ followed_next bs pair found more left next k b so some e is added last =
   where
     test : BuildValue → Bool
     test = has_pair pair
+
     rest : List BuildValue
     rest = drop (k + 1) bs
+
     short : last_with rest pair ≤ length rest
     short = last_within rest pair
+
     long : length rest ≡ length bs - (k + 1)
     long = length-drop (k + 1) bs
+
     behind : List BuildValue
     behind = filter test (drop (length bs - last_with rest pair) bs)
+
     holds : test b ≡ true
     holds = let Q : BuildValue → Type 0 = λ c. Contains c.pairs pair in (among_is b.pairs pair).1 (subst Q (sym is) (so.has k no_build some e))
+
     behind_is : behind ≡ filter test rest
     behind_is =
         let far : length bs - last_with rest pair ≡ (k + 1) + (length rest - last_with rest pair) = omega (arith, short, long, e, some) in
         ap (λ n. filter test (drop n bs)) far ∙ sym (ap (filter test) (drop-drop (length rest - last_with rest pair) (k + 1) bs)) ∙ last_rest rest pair
+
     one : b ∷ behind ≡ filter test (drop (length bs - left) bs)
     one =
         let at : length bs - left ≡ k = omega (arith, e) in

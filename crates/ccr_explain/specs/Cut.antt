@@ -5,6 +5,7 @@ use Rattle.ccr_choice.specs.Problem.{ProblemValue, InputValue, BuildValue, no_in
 use Rattle.ccr_choice.specs.Satisfies.{Moved}
 use Rattle.ccr_resolve.specs.NodeBound.{product}
 use Rattle.ccr_explain.specs.declared.demand.Demand.{Demand}
+use Rattle.ccr_explain.specs.declared.table.Table.{Table}
 use Rattle.ccr_explain.specs.declared.demand.Demand.TheVariants.{Allowed, Passed}
 use Rattle.ccr_choice.specs.Preference.{order_of}
 use Rattle.ccr_resolve.specs.Chosen.{IsChosen}
@@ -69,6 +70,10 @@ order_left ds p = order_from ds 0 [] p.inputs
 -- One of these pairs has the scope of the input and one of its places.
 abbrev pub has_place_of : InputValue → List (ℕ × ℕ) → Bool
 has_place_of x pairs = list_any (λ r. r.0 == x.scope && list_any (λ y. y == r.1) x.places) pairs
+
+-- A table has a mark for one of these pairs: it has the scope of the table, and its place a mark.
+abbrev pub has_marked : Table → List (ℕ × ℕ) → Bool
+has_marked t pairs = list_any (λ r. r.0 == t.scope && slice_index_or t.marks.items r.1 false) pairs
 
 -- An input names job n.
 abbrev pub names : ℕ → InputValue → Bool

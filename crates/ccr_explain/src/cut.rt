@@ -9,6 +9,7 @@ ghost use Rattle.ccr_choice.specs.Ascending.{AreRising};
 use crate::copies::copied_builds;
 use crate::demand::Demand;
 use crate::narrow::{Looked, narrow};
+use crate::table::{have_marked, tables_of};
 use ccr_choice::possible::has_place;
 use ccr_choice::{Build, Input, JobBuilds, Problem};
 use ccr_index::{Index, JobRows};
@@ -356,9 +357,10 @@ pub(crate) fn useful_builds<'a>(
 {
     // A job has many builds, and few inputs name it.
     let naming = inputs_naming(alloc, inputs, job)?;
+    let tables = tables_of(alloc, &naming)?;
     let mut useful = Vec::new(alloc);
     for build in builds {
-        if is_of_use(&naming, build) {
+        if have_marked(&tables, build.pairs()) {
             useful.push(build)?;
         }
     }

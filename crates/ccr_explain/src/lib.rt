@@ -8,12 +8,15 @@
 //! What a demand, a clash and a place that can't be taken are, is said of problems and choices alone (`specs/Demand.antt`,
 //! `specs/Clash.antt`, `specs/WhyNot.antt`). The resolver is called on the problem cut to some of its demands; no definition
 //! speaks of that. Before it is, places are left out that no build leaves to their input, since most questions are decided by that, and
-//! builds without a place that is left.
+//! builds without a place that is left. Where an input has one place alone, the builds with it are found by the index of the problem, so
+//! that such a question doesn't look at the builds of all times.
 //!
-//! First a few inputs are looked for whose demands exclude each other: one input alone, else one with those that name a job in common
-//! with it, and so on. Then each demand is left out in turn, and stays out if the others still exclude each other. A choice that meets all
-//! demands but one shows that this one is needed; where one place or one build of it is changed, it may meet all but another one, which is
-//! needed, too. So most demands of a long clash need no call of the resolver, and there are at most twice as many calls as demands.
+//! A choice that meets all demands but one shows that this one is needed; where one place or one build of it is changed, it may meet all
+//! but another one, which is needed, too. The best choice is such a choice where an input is asked about: so it is asked first whether the
+//! demands of which it tells exclude each other alone, which is one call of the resolver. Else a few inputs are looked for whose demands
+//! exclude each other: one input alone, else one with those that name a job in common with it, and so on. Then each demand is left out in
+//! turn, and stays out if the others still exclude each other. Most demands of a long clash need no call for that, and there are at most
+//! twice as many calls as demands.
 #![tactic(auto)]
 
 mod carried;
@@ -30,6 +33,7 @@ mod narrow;
 mod reduced;
 #[cfg(test)]
 mod rows;
+mod table;
 mod useful;
 mod why;
 mod witness;

@@ -130,7 +130,7 @@ fn places_marked(alloc: Global, marks: &[bool], places: &[u32]) -> Result<Vec<u3
         .collect(alloc)
 }
 
-fn is_marked(marks: &[bool], place: u32) -> bool
+pub(crate) fn is_marked(marks: &[bool], place: u32) -> bool
     ensures { result ≡ slice_index_or marks.now place false }
 {
     match marks.get(place as usize) {

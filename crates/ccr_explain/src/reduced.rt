@@ -131,7 +131,15 @@ fn needed_first(
     let mut is_needed = vec![in alloc; false; demands.len()]?;
     if let Some(choice) = known {
         let choice = copied_choice(alloc, choice)?;
-        mark_needed(alloc, inputs, problem, index, demands, choice, &mut is_needed)?;
+        mark_needed(
+            alloc,
+            inputs,
+            problem,
+            index,
+            demands,
+            choice,
+            &mut is_needed,
+        )?;
     }
     Ok(is_needed)
 }
@@ -236,7 +244,15 @@ fn told_by(
         next,
         is_irreducible,
     } = reduction;
-    mark_needed(alloc, inputs, problem, index, &demands, choice, &mut is_needed)?;
+    mark_needed(
+        alloc,
+        inputs,
+        problem,
+        index,
+        &demands,
+        choice,
+        &mut is_needed,
+    )?;
     Ok(Reduction {
         demands,
         is_needed,
@@ -356,7 +372,15 @@ fn answered(
             after = next;
         }
         Met::Yes(choice) => {
-            mark_needed(alloc, inputs, problem, index, &demands, choice, &mut is_needed)?;
+            mark_needed(
+                alloc,
+                inputs,
+                problem,
+                index,
+                &demands,
+                choice,
+                &mut is_needed,
+            )?;
             is_needed[next] = true;
         }
         Met::OverBudget => is_irreducible = false,

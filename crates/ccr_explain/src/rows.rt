@@ -41,15 +41,7 @@ fn why_not(
         return Err(Fail::new("no such question"));
     }
     let index = build_index(rt.alloc(), problem)?;
-    Ok(crate::why_not(
-        rt.alloc(),
-        problem,
-        &index,
-        choice,
-        input,
-        place,
-        100,
-    )?)
+    Ok(crate::why_not(rt.alloc(), problem, &index, choice, input, place, 100)?)
 }
 
 /// Whether these demands clash, and none of them can be left out.

@@ -22,7 +22,8 @@ use std::alloc::{AllocError, Global};
 /// has.
 ///
 /// In the clash, the demand of the input's allowed places reads: it takes the place, which is allowed. That of an input before
-/// it reads: it takes an allowed place that is no worse. The calls of the resolver and the budget are those of [`crate::clash`].
+/// it reads: it takes an allowed place that is no worse. The calls of the resolver and the budget are those of [`crate::clash`], and the
+/// index is that of the problem.
 pub fn why_not(
     alloc: Global,
     problem: &Problem,
