@@ -261,8 +261,8 @@ fn told_by(
     })
 }
 
-/// What is left once the next demand was tried, if there is one. Where that marked more others than were marked before, it is tried whether
-/// all that are marked exclude each other alone: mostly they do, and then all is done.
+/// What is left once the next demand was tried, if there is one. Where that marked others, too, it is tried whether all that are marked
+/// exclude each other alone: mostly they do, and then all is done.
 fn turn(
     alloc: Global,
     inputs: &[Input],
@@ -282,7 +282,7 @@ fn turn(
 {
     let before = count_marks(&reduction.is_needed);
     let after = tried(alloc, inputs, problem, index, reduction, budget)?;
-    if count_marks(&after.is_needed) > before.saturating_mul(2).saturating_add(1) {
+    if count_marks(&after.is_needed) > before.saturating_add(1) {
         needed_alone(alloc, inputs, problem, index, after, budget)
     } else {
         Ok(after)
