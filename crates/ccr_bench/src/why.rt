@@ -52,12 +52,7 @@ fn ask(
 }
 
 /// Asks of each input's newest places that are newer than the one it takes.
-fn ask_all(
-    rt: &HostRuntime,
-    problem: &Problem,
-    index: &Index,
-    choice: &Choice,
-) -> Result<Asked>
+fn ask_all(rt: &HostRuntime, problem: &Problem, index: &Index, choice: &Choice) -> Result<Asked>
     requires { index.now.problem ≡ problem.now }
 {
     let mut asked = Asked {

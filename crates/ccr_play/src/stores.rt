@@ -84,10 +84,15 @@ fn told(rt: &HostRuntime, path: Option<&str>, number: usize, lines: &str) -> Res
     Ok(format!(in rt.alloc(); "history {number} of {count} lines: loaded as it was made")?)
 }
 
+/// How many microseconds the commits of so many builds more take in the database of this file.
+fn micros_of(rt: &HostRuntime, path: &str, count: u32) -> Result<u128> {
+    let store = opened(rt, path)?;
+    time_commits(rt, store, count)
+}
+
 /// Makes so many builds more in the database of this file, three commits each: how long the commits took.
 pub(crate) fn commits_told(rt: &HostRuntime, path: &str, count: u32) -> Result<String> {
-    let store = opened(rt, path)?;
-    let micros = time_commits(rt, store, count)?;
+    let micros = micros_of(rt, path, count)?;
     Ok(format!(in rt.alloc(); "{count} builds, {micros} microseconds\n")?)
 }
 

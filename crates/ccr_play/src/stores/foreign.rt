@@ -3,10 +3,11 @@ ghost use Rattle.std.specs.Prelude.{◌≡◌, ◌&&◌, false, IsTrue, IfOk};
 ghost use Rattle.sqlite_disk.specs.Memory.{memory_is_usable};
 
 use super::files::{bytes_of, empty_files, file_of};
+use super::runs::prepared;
 use anyhow::{Result, anyhow, bail};
 use ccr_storage::StoreFault;
 use ccr_store::{Store, open_fault_of, prepare};
-use sqlite::{Connection, FileStore, Files, Options};
+use sqlite::{Alter, Connection, FileStore, Files, Options};
 use sqlite_disk::Memory;
 use std::alloc::Global;
 
@@ -91,27 +92,32 @@ struct Looked {
     files: Files<Memory>,
 }
 
-/// Loads the history of a store.
-fn try_store(alloc: Global, store: Store<FileStore<Memory>>) -> Looked {
+/// Loads the history of a store: why it holds none, if so. Gives the connection back.
+fn loaded<S: Alter + Drop>(alloc: Global, store: Store<S>) -> (Option<StoreFault>, Connection<S>) {
     let mut store = store;
     let fault = store.load(alloc).err();
-    Looked {
-        fault,
-        files: store.into_connection().into_store().close(),
+    (fault, store.into_connection())
+}
+
+/// Has a store take a database, and loads its history: why there is none, if so. Gives the connection back.
+fn taken<S: Alter + Drop>(alloc: Global, conn: Connection<S>) -> (Option<StoreFault>, Connection<S>)
+    requires { conn.in_transaction ≡ false }
+{
+    let (conn, taken) = prepared(alloc, conn);
+    match taken {
+        Ok(()) => loaded(alloc, Store::over(conn)),
+        Err(fault) => (Some(fault), conn),
     }
 }
 
-/// Takes a database, and loads its history.
+/// Takes a database, loads its history, and closes it.
 fn try_opened(alloc: Global, conn: Filed) -> Looked
     requires { conn.in_transaction ≡ false }
 {
-    let mut conn = conn;
-    match prepare(alloc, &mut conn) {
-        Ok(()) => try_store(alloc, Store::over(conn)),
-        Err(fault) => Looked {
-            fault: Some(fault),
-            files: conn.into_store().close(),
-        },
+    let (fault, conn) = taken(alloc, conn);
+    Looked {
+        fault,
+        files: conn.into_store().close(),
     }
 }
 

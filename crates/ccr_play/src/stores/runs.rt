@@ -66,8 +66,12 @@ impl<S: Alter + Drop> Kept<Store<S>> {
     }
 }
 
-/// Keeps the lines in a store.
-fn run_store(alloc: Global, store: Store<FileStore<Fuse<Memory>>>, lines: &str) -> Reached {
+/// Keeps the lines in a store: how far this came, and how many were kept. Gives the connection back.
+fn keep_in<S: Alter + Drop>(
+    alloc: Global,
+    store: Store<S>,
+    lines: &str,
+) -> (Stage, usize, Connection<S>) {
     let mut kept = Kept {
         history: History::new(alloc),
         storage: store,
@@ -77,25 +81,46 @@ fn run_store(alloc: Global, store: Store<FileStore<Fuse<Memory>>>, lines: &str) 
         history: _,
         storage,
     } = kept;
-    Reached {
-        stage,
-        kept: count,
-        files: storage.into_connection().into_store().close(),
+    (stage, count, storage.into_connection())
+}
+
+/// Keeps the lines in a database, if a store takes it: how far this came, and how many were kept. Gives the connection back.
+fn keep_over<S: Alter + Drop>(
+    alloc: Global,
+    conn: Connection<S>,
+    lines: &str,
+) -> (Stage, usize, Connection<S>)
+    requires { conn.in_transaction ≡ false }
+{
+    let (conn, taken) = prepared(alloc, conn);
+    match taken {
+        Ok(()) => keep_in(alloc, Store::over(conn), lines),
+        Err(_) => (Stage::Adopting, 0, conn),
     }
 }
 
-/// Takes a database, and keeps the lines in it.
+/// Has a store take a database, or refuse it. Gives the connection back.
+pub(super) fn prepared<S: Alter + Drop>(
+    alloc: Global,
+    conn: Connection<S>,
+) -> (Connection<S>, Result<(), StoreFault>)
+    requires { conn.in_transaction ≡ false }
+    ensures { result.0.in_transaction ≡ false }
+{
+    let mut conn = conn;
+    let taken = prepare(alloc, &mut conn);
+    (conn, taken)
+}
+
+/// Takes a database, keeps the lines in it, and closes it.
 fn run_opened(alloc: Global, conn: Connection<FileStore<Fuse<Memory>>>, lines: &str) -> Reached
     requires { conn.in_transaction ≡ false }
 {
-    let mut conn = conn;
-    match prepare(alloc, &mut conn) {
-        Ok(()) => run_store(alloc, Store::over(conn), lines),
-        Err(_) => Reached {
-            stage: Stage::Adopting,
-            kept: 0,
-            files: conn.into_store().close(),
-        },
+    let (stage, kept, conn) = keep_over(alloc, conn, lines);
+    Reached {
+        stage,
+        kept,
+        files: conn.into_store().close(),
     }
 }
 

@@ -3,6 +3,8 @@
 //! What is left is looked at twice: as a program that is killed leaves it, with all that was written, and as a crash of the machine leaves
 //! it, without what wasn't synced.
 
+ghost use Rattle.std.specs.Prelude.{◌≡◌, false};
+
 use super::files::{Fused, empty_files, fused, left_by_crash, left_by_kill, options};
 use super::foreign::lowered;
 use super::kept::Kept;
@@ -12,7 +14,7 @@ use anyhow::{Result, anyhow, bail};
 use ccr_history::History;
 use ccr_storage::Storage;
 use ccr_store::Store;
-use sqlite::{Connection, Files};
+use sqlite::{Alter, Connection, Files};
 use sqlite_disk::{Disk, Memory};
 use std::alloc::Global;
 
@@ -79,9 +81,17 @@ fn found<D: Disk + Drop>(alloc: Global, files: Files<D>, frames: u32) -> Result<
         bail!("the files can't be used")
     }
     match Connection::open_files(alloc, files, options(frames)) {
-        Ok(conn) => held(alloc, Store::adopt(alloc, conn)?),
+        Ok(conn) => held_over(alloc, conn),
         Err((error, _)) => Err(error.into()),
     }
+}
+
+/// The history in a database, as text.
+fn held_over<S: Alter + Drop>(alloc: Global, conn: Connection<S>) -> Result<String>
+    requires { conn.in_transaction ≡ false }
+{
+    let store = Store::adopt(alloc, conn)?;
+    held(alloc, store)
 }
 
 /// An error where a history isn't the one after so many lines, or, where the next line's change was being committed, the one after that.
