@@ -31,8 +31,6 @@ mod meets;
 mod met;
 mod narrow;
 mod reduced;
-#[cfg(test)]
-mod rows;
 mod table;
 mod useful;
 mod why;

@@ -1,5 +1,5 @@
 //! Tests in code, of what lines can't tell: readers, writers and programs that fail at a call, real programs and folders, texts
-//! of many lines, and the resolver beside two others. Each test is named by what it shows. What is data is in the lines of
+//! of many lines, clashes that were found by hand, and the resolver beside two others. Each test is named by what it shows. What is data is in the lines of
 //! `ccr_play`.
 //!
 //! Beside the tests stand one law, [`resolved`]: the checker accepts what the resolver answers; and the plain resolver,
@@ -11,6 +11,8 @@ mod accepted;
 mod brute;
 #[cfg(test)]
 mod compare;
+#[cfg(test)]
+mod explained;
 #[cfg(test)]
 mod faults;
 #[cfg(test)]

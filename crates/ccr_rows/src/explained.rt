@@ -1,7 +1,7 @@
-//! Worked rows, whose clashes were found by hand.
+//! What `explain` is told about small problems, whose clashes were found by hand.
 
-use crate::{Demand, Explanation};
 use ccr_choice::{Choice, Problem, read_problem};
+use ccr_explain::{Demand, Explanation};
 use ccr_index::build_index;
 use std::test::Fail;
 
@@ -26,7 +26,7 @@ fn clash(rt: &HostRuntime, problem: &Problem, budget: u32) -> Result<Explanation
         return Err(Fail::new("no budget"));
     }
     let index = build_index(rt.alloc(), problem)?;
-    Ok(crate::clash(rt.alloc(), problem, &index, budget)?)
+    Ok(ccr_explain::clash(rt.alloc(), problem, &index, budget)?)
 }
 
 /// Why an input doesn't take a place.
@@ -41,7 +41,7 @@ fn why_not(
         return Err(Fail::new("no such question"));
     }
     let index = build_index(rt.alloc(), problem)?;
-    Ok(crate::why_not(rt.alloc(), problem, &index, choice, input, place, 100)?)
+    Ok(ccr_explain::why_not(rt.alloc(), problem, &index, choice, input, place, 100)?)
 }
 
 /// Whether these demands clash, and none of them can be left out.
