@@ -10,10 +10,12 @@ use Rattle.std.proofs.lemmas.List.{get_or_default}
 use Rattle.ccr_choice.specs.Problem.{ProblemValue, InputValue, BuildValue, no_input, builds_at, is_problem}
 use Rattle.ccr_choice.specs.Satisfies.{Satisfies, Moved, IsAllowed, HasPassed}
 use Rattle.ccr_choice.specs.Ascending.{AreRising}
-use Rattle.ccr_choice.proofs.Members.{any_of}
+use Rattle.ccr_choice.proofs.Members.{any_of, contains_none}
 use Rattle.ccr_choice.proofs.Numbering.{named_below}
 use Rattle.ccr_choice.proofs.Exchange.{build_at}
-use Rattle.ccr_explain.specs.Cut.{has_place_of, names, is_of_use, builds_from, IsTop, SuitsInputs, IsNarrowed, IsEnough, IsInputNarrowed, AreMarked}
+use Rattle.ccr_choice.specs.Optimal.{HasNoChoice}
+use Rattle.ccr_explain.specs.declared.demand.Demand.{Demand}
+use Rattle.ccr_explain.specs.Cut.{has_place_of, names, is_of_use, builds_from, problem_with, IsTop, SuitsInputs, IsNarrowed, IsEnough, IsInputNarrowed, AreMarked}
 use Rattle.ccr_explain.specs.WhyNot.{narrowed_from}
 use Rattle.ccr_explain.proofs.Lists.{any_contained, contains_filter, from_filter}
 use Rattle.ccr_explain.proofs.Orders.{has_it, it_has}
@@ -53,6 +55,13 @@ filter_all (x ∷ xs) = ap (λ ys. x ∷ ys) (filter_all xs)
 and_true : (b : Bool) → b ≡ (b && true)
 and_true true = refl
 and_true false = refl
+
+-- where an input has no place left, there is no choice
+pub none_left : (ds : List Demand) (p : ProblemValue) (ys : List InputValue) (i : ℕ) → i < length ys → (slice_index_or ys i no_input).places ≡ [] → HasNoChoice (problem_with ds p ys)
+unfolding problem_with IsAllowed
+none_left ds p ys i within empty places builds s =
+    let P : List ℕ → Type 0 = λ ps. Contains ps (slice_index places i) in
+    contains_none (slice_index places i) (subst P empty (s.allowed i within))
 
 -- ---- inputs with fewer places
 narrowed_same : (f g : ℕ → ℕ → Bool) (n : ℕ) (xs : List InputValue) → ((k y : ℕ) → n ≤ k → f k y ≡ g k y) → narrowed_from f n xs ≡ narrowed_from g n xs

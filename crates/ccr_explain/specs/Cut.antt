@@ -7,6 +7,7 @@ use Rattle.ccr_resolve.specs.NodeBound.{product}
 use Rattle.ccr_explain.specs.declared.demand.Demand.{Demand}
 use Rattle.ccr_explain.specs.declared.table.Table.{Table}
 use Rattle.ccr_explain.specs.declared.demand.Demand.TheVariants.{Allowed, Passed}
+use Rattle.ccr_choice.specs.Optimal.{HasNoChoice}
 use Rattle.ccr_choice.specs.Preference.{order_of}
 use Rattle.ccr_resolve.specs.Chosen.{IsChosen}
 use Rattle.ccr_resolve.specs.declared.chosen.Chosen.{Chosen}
@@ -141,6 +142,12 @@ pub record IsCutTo (ds : List Demand) (p q : ProblemValue) : Type 0 where
   pub inputs : List InputValue
   pub narrowed : IsNarrowed p (order_left ds p) (inputs_cut ds top p) inputs
   pub is : q ≡ problem_with ds p inputs
+
+-- The problem that is cut to these demands has no choice.
+pub record IsEmptied (ds : List Demand) (p : ProblemValue) : Type 0 where
+  pub cut : ProblemValue
+  pub is_cut : IsCutTo ds p cut
+  pub none : HasNoChoice cut
 
 -- What is chosen is what is chosen for the problem cut to these demands.
 pub record IsChosenOfCut (ds : List Demand) (p : ProblemValue) (budget : ℕ) (x : Chosen) : Type 0 where

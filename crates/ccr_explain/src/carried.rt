@@ -1,6 +1,7 @@
 //! A choice in which an input takes another place, with what has to change for it.
 
 use crate::copies::copied_choice;
+use crate::demand::Demand;
 use crate::meets::{build_of, has_passed};
 use crate::witness::set;
 use ccr_choice::{Choice, Input, Problem};
@@ -28,14 +29,34 @@ struct Change {
     work: Vec<Changed>,
 }
 
-/// The choice where an input takes its newest allowed place, each job that it names the newest build with which this place passed the job,
-/// each other input of the job the place that it has there, and so on; but each place and each build is changed once. So around a ring of
-/// jobs mostly one demand alone isn't met. None where the input may take no place.
+/// Which demands are followed where a place or a build changes.
+#[derive(Clone, Copy)]
+pub(crate) struct Followed<'a> {
+    pub(crate) demands: &'a [Demand],
+    /// One of them that isn't.
+    pub(crate) left_out: Option<usize>,
+}
+
+impl Followed<'_> {
+    /// Whether it is followed that the place of an input has passed a job.
+    fn asks(&self, input: usize, job: usize) -> bool {
+        let passed = Demand::Passed(input, job);
+        match self.demands.iter().position(|d| *d == passed) {
+            Some(k) => self.left_out != Some(k),
+            None => false,
+        }
+    }
+}
+
+/// The choice where an input takes its newest allowed place, each job that it is to have passed the newest build with which this place
+/// passed the job, each other input that is to have passed the job the place that it has there, and so on; but each place and each build is
+/// changed once. So around a ring of jobs mostly one demand alone isn't met. None where the input may take no place.
 pub(crate) fn carried(
     alloc: Global,
     inputs: &[Input],
     problem: &Problem,
     index: &Index,
+    followed: Followed<'_>,
     choice: &Choice,
     input: usize,
 ) -> Result<Option<Choice>, AllocError> {
@@ -51,8 +72,8 @@ pub(crate) fn carried(
     change.take_place(input, place)?;
     for _ in 0..inputs.len().saturating_add(problem.jobs().len()) {
         match change.work.pop() {
-            Some(Changed::Place(i)) => change.follow_place(inputs, problem, index, i)?,
-            Some(Changed::Build(j)) => change.follow_build(inputs, problem, j)?,
+            Some(Changed::Place(i)) => change.follow_place(inputs, problem, index, followed, i)?,
+            Some(Changed::Build(j)) => change.follow_build(inputs, problem, followed, j)?,
             None => return Ok(Some(change.choice)),
         }
     }
@@ -83,12 +104,13 @@ impl Change {
         Ok(())
     }
 
-    /// Lets the jobs that an input names take builds with which its place passed them, where it didn't.
+    /// Lets the jobs that an input is to have passed take builds with which its place did, where it didn't.
     fn follow_place(
         &mut self,
         inputs: &[Input],
         problem: &Problem,
         index: &Index,
+        followed: Followed<'_>,
         input: usize,
     ) -> Result<(), AllocError> {
         let Some(one) = inputs.get(input) else {
@@ -96,7 +118,7 @@ impl Change {
         };
         for job in one.jobs() {
             let job = *job as usize;
-            if !has_passed(inputs, problem, &self.choice, input, job) {
+            if !has_passed(inputs, problem, &self.choice, input, job) && followed.asks(input, job) {
                 if let Some(number) = build_with(inputs, index, &self.choice, input, job) {
                     self.take_build(job, number)?;
                 }
@@ -105,16 +127,18 @@ impl Change {
         Ok(())
     }
 
-    /// Lets the inputs that name a job take the places that they have in its build, where theirs didn't pass it.
+    /// Lets the inputs that are to have passed a job take the places that they have in its build, where theirs didn't pass it.
     fn follow_build(
         &mut self,
         inputs: &[Input],
         problem: &Problem,
+        followed: Followed<'_>,
         job: usize,
     ) -> Result<(), AllocError> {
         for input in 0..inputs.len() {
             if inputs[input].jobs().iter().any(|j| *j as usize == job)
                 && !has_passed(inputs, problem, &self.choice, input, job)
+                && followed.asks(input, job)
             {
                 if let Some(place) = place_with(inputs, problem, &self.choice, input, job) {
                     self.take_place(input, place)?;

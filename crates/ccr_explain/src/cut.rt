@@ -1,14 +1,14 @@
 //! A problem cut to some of its demands.
 
-ghost use Rattle.std.specs.Prelude.{◌≡◌, ◌==◌, ◌<◌, ◌≤◌, ◌++◌, if◌then◌else◌, length, map, filter, All, EachIndex, slice_index, IfOk, OnOk};
+ghost use Rattle.std.specs.Prelude.{◌≡◌, ◌==◌, ◌<◌, ◌≤◌, ◌++◌, if◌then◌else◌, length, map, filter, All, EachIndex, slice_index, IfOk, OnOk, IfSome, IfNone};
 ghost use Rattle.std.specs.List.{list_all, list_any, range_with_len};
 ghost use Rattle.ccr_choice.specs.Problem.{builds_at, IsProblem};
-ghost use Rattle.ccr_explain.specs.Cut.{is_allowed_of, is_passed_of, jobs_left, with_job, with_jobs, place_in, top_for, cut_input, cut_from, has_place_of, names, is_of_use, builds_from, order_left, IsTop, IsEnough, IsCutTo};
+ghost use Rattle.ccr_explain.specs.Cut.{is_allowed_of, is_passed_of, jobs_left, with_job, with_jobs, place_in, top_for, cut_input, cut_from, has_place_of, names, is_of_use, builds_from, order_left, IsTop, IsEnough, IsCutTo, IsEmptied};
 ghost use Rattle.ccr_choice.specs.Ascending.{AreRising};
 
 use crate::copies::copied_builds;
 use crate::demand::Demand;
-use crate::narrow::{Looked, narrow};
+use crate::narrow::{Looked, first_emptied, narrow};
 use crate::table::{have_marked, tables_of};
 use ccr_choice::possible::has_place;
 use ccr_choice::{Build, Input, JobBuilds, Problem};
@@ -16,24 +16,31 @@ use ccr_index::{Index, JobRows};
 use std::alloc::{AllocError, Global};
 
 /// The problem of these inputs and the jobs of a problem, cut to these demands. An input without the demand of its allowed places may
-/// take any place up to a top one. Places that no choice can have are left out, and builds that have none of the others.
+/// take any place up to a top one. Places that no choice can have are left out, and builds that have none of the others. None where an input has no
+/// place left, so that there is no choice.
 pub(crate) fn cut_to(
     alloc: Global,
     inputs: &[Input],
     problem: &Problem,
     index: &Index,
     demands: &[Demand],
-) -> Result<Problem, AllocError>
+) -> Result<Option<Problem>, AllocError>
     requires rules { IsProblem (record problem.now { inputs = inputs.now }) }
     requires same { index.now.problem ≡ problem.now }
-    ensures { IfOk result (IsCutTo demands.now (record problem.now { inputs = inputs.now })) }
+    ensures cut { IfOk result
+        (λ found. IfSome found (IsCutTo demands.now (record problem.now { inputs = inputs.now }))) }
+    ensures none { IfOk result
+        (λ found. IfNone found (IsEmptied demands.now (record problem.now { inputs = inputs.now }))) }
 {
     let order = order_left(alloc, inputs, problem, demands)?;
     let top = top_place(index, &order);
     let mut inputs = cut_inputs(alloc, inputs, demands, &order, top)?;
     let looked = narrow(alloc, problem, index, &order, top, &mut inputs)?;
+    if let Some(_) = first_emptied(&inputs) {
+        return Ok(None);
+    }
     let jobs = jobs_of(alloc, problem, &inputs, &order, &looked)?;
-    Ok(Problem::new(inputs, jobs))
+    Ok(Some(Problem::new(inputs, jobs)))
 }
 
 /// The greatest place of a pair of these jobs, at least 1.

@@ -39,9 +39,13 @@ fn chosen_of_cut(
     requires most { budget ≤ MOST_NODES }
     ensures { IfOk result (IsChosenOfCut demands.now (record problem.now { inputs = inputs.now }) budget) }
 {
-    let cut = cut_to(alloc, inputs, problem, index, demands)?;
-    let index = build_index(alloc, &cut)?;
-    choose(alloc, &index, budget)
+    match cut_to(alloc, inputs, problem, index, demands)? {
+        Some(cut) => {
+            let index = build_index(alloc, &cut)?;
+            choose(alloc, &index, budget)
+        }
+        None => Ok(Chosen::Nothing),
+    }
 }
 
 /// A choice of the cut problem as one of the whole: jobs have the numbers that they have there. A job that isn't left has no build.

@@ -1,8 +1,8 @@
 //! The places that builds leave to the inputs of a problem, found without a search.
 
-ghost use Rattle.std.specs.Prelude.{◌≡◌, ◌+◌, ◌<◌, ◌≤◌, ℕ, length, map, filter, slice_index, slice_index_or, false, IsTrue, IfOk, IfSome, OnOk, All, EachIndex};
+ghost use Rattle.std.specs.Prelude.{◌≡◌, [], ◌+◌, ◌<◌, ◌≤◌, ℕ, length, map, filter, slice_index, slice_index_or, false, IsTrue, IfOk, IfSome, OnOk, All, EachIndex};
 ghost use Rattle.ccr_choice.specs.Ascending.{AreRising};
-ghost use Rattle.ccr_choice.specs.Problem.{builds_at};
+ghost use Rattle.ccr_choice.specs.Problem.{builds_at, no_input};
 ghost use Rattle.ccr_explain.specs.Cut.{is_of_use, IsTop, IsNarrowed, IsEnough, IsInputNarrowed, AreMarked};
 
 use crate::cut::is_among;
@@ -45,10 +45,13 @@ pub(crate) fn narrow<'a>(
     Ok(looked)
 }
 
-/// Of the jobs that aren't done, one that an input with the fewest places names.
+/// Of the jobs that aren't done, one that an input with the fewest places names; None where an input has none, since there is no choice then.
 fn next_job(inputs: &[Input], is_done: &[bool]) -> Option<usize>
     ensures { IfSome result (λ job. job < length is_done.now) }
 {
+    if let Some(_) = first_emptied(inputs) {
+        return None;
+    }
     let mut next = None;
     let mut fewest = usize::MAX;
     for input in inputs {
@@ -61,6 +64,18 @@ fn next_job(inputs: &[Input], is_done: &[bool]) -> Option<usize>
         }
     }
     next
+}
+
+/// The first of these inputs that has no place.
+pub(crate) fn first_emptied(inputs: &[Input]) -> Option<usize>
+    ensures { IfSome result (λ i. (i < length inputs.now) × ((slice_index_or inputs.now i no_input).places ≡ [])) }
+{
+    for i in 0..inputs.len() {
+        if inputs[i].places().is_empty() {
+            return Some(i);
+        }
+    }
+    None
 }
 
 /// The first of these jobs that isn't done.

@@ -10,7 +10,7 @@ use crate::copies::copied_choice;
 use crate::demand::{Demand, demands_of};
 use crate::explanation::ClashingDemands;
 use crate::met::{Met, are_met};
-use crate::witness::mark_needed;
+use crate::witness::{is_to_leave_out, mark_needed, mark_one_by_one};
 use ccr_choice::{Choice, Input, Problem};
 use ccr_index::Index;
 use ccr_proof::MOST_NODES;
@@ -62,14 +62,14 @@ pub(crate) fn reduced(
     ensures { IfOk result (IsClashWithin (record problem.now { inputs = inputs.now }) budget) }
 {
     let count = demands.len();
-    let is_needed = needed_first(alloc, inputs, problem, index, &demands, known)?;
+    let is_needed = needed_each(alloc, inputs, problem, index, &demands, known)?;
     let first = Reduction {
         demands,
         is_needed,
         next: 0,
         is_irreducible: true,
     };
-    let mut reduction = gathered(alloc, inputs, problem, index, first, budget)?;
+    let mut reduction = begun(alloc, inputs, problem, index, first, budget)?;
     for _ in 0..count {
         reduction = turn(alloc, inputs, problem, index, reduction, budget)?;
     }
@@ -144,9 +144,34 @@ fn needed_first(
     Ok(is_needed)
 }
 
-/// The demands that are needed where they alone exclude each other; else what was given, perhaps with more marks. Of many demands, those that
-/// a job is named in are left out one at a time first, as long as some choice meets the others, since each such choice mostly tells of
-/// several that are needed.
+/// The demands that have a mark where they alone exclude each other, which is asked if there are some; else what was given, perhaps with more
+/// marks.
+fn begun(
+    alloc: Global,
+    inputs: &[Input],
+    problem: &Problem,
+    index: &Index,
+    reduction: Reduction,
+    budget: u32,
+) -> Result<Reduction, AllocError>
+    requires rules { IsProblem (record problem.now { inputs = inputs.now }) }
+    requires same { index.now.problem ≡ problem.now }
+    requires least { 1 ≤ budget }
+    requires most { budget ≤ MOST_NODES }
+    requires reduced { IsReduced (record problem.now { inputs = inputs.now }) budget reduction }
+    ensures reduced { IfOk result (IsReduced (record problem.now { inputs = inputs.now }) budget) }
+    ensures fewer { IfOk result (λ r.
+        length r.demands - r.next ≤ length reduction.demands - reduction.next) }
+{
+    if count_marks(&reduction.is_needed) == 0 {
+        return gathered(alloc, inputs, problem, index, reduction, budget);
+    }
+    let now = needed_alone(alloc, inputs, problem, index, reduction, budget)?;
+    gathered(alloc, inputs, problem, index, now, budget)
+}
+
+/// The same, of many demands: those that name a job are left out one at a time, as long as some choice meets the others, since each such
+/// choice mostly tells of several that are needed.
 fn gathered(
     alloc: Global,
     inputs: &[Input],
@@ -185,10 +210,7 @@ const MANY_DEMANDS: usize = 8;
 
 /// Whether a demand names a job and has no mark.
 fn is_to_try(reduction: &Reduction, k: usize) -> bool {
-    matches!(
-        (reduction.demands.get(k), reduction.is_needed.get(k)),
-        (Some(Demand::Passed(_, _)), Some(false))
-    )
+    is_to_leave_out(&reduction.demands, &reduction.is_needed, k)
 }
 
 /// The same demands, with the marks of which a choice tells that meets all but demand `k`, if there is one.
@@ -259,6 +281,35 @@ fn told_by(
         next,
         is_irreducible,
     })
+}
+
+/// The same, with what is told by the choices that meet what can be met once a demand is left out, found without a search.
+fn needed_each(
+    alloc: Global,
+    inputs: &[Input],
+    problem: &Problem,
+    index: &Index,
+    demands: &[Demand],
+    known: Option<&Choice>,
+) -> Result<Vec<bool>, AllocError>
+    requires { IsProblem (record problem.now { inputs = inputs.now }) }
+    ensures length { IfOk result (λ marks. length marks.items ≡ length demands.now) }
+    ensures needed { IfOk result
+        (λ marks. AreNeeded (record problem.now { inputs = inputs.now }) demands.now marks.items) }
+{
+    let mut is_needed = needed_first(alloc, inputs, problem, index, demands, known)?;
+    if let Some(choice) = known {
+        mark_one_by_one(
+            alloc,
+            inputs,
+            problem,
+            index,
+            demands,
+            choice,
+            &mut is_needed,
+        )?;
+    }
+    Ok(is_needed)
 }
 
 /// What is left once the next demand was tried, if there is one. Where that marked others, too, it is tried whether all that are marked

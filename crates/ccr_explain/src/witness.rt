@@ -4,7 +4,7 @@ ghost use Rattle.std.specs.Prelude.{◌≡◌, length, IfOk, OnOk, All};
 ghost use Rattle.ccr_choice.specs.Ascending.{AreRising};
 ghost use Rattle.ccr_explain.specs.Reduced.{AreNeeded};
 
-use crate::carried::{build_with, carried, place_with};
+use crate::carried::{Followed, build_with, carried, place_with};
 use crate::copies::copied_choice;
 use crate::demand::Demand;
 use crate::meets::only_unmet;
@@ -52,6 +52,80 @@ pub(crate) fn mark_needed(
         }
     }
     Ok(())
+}
+
+/// The same, where each demand that names a job and has no mark is left out in turn, and the input that is asked about takes its place: its
+/// demand is the only one that a choice which is known doesn't meet.
+pub(crate) fn mark_one_by_one(
+    alloc: Global,
+    inputs: &[Input],
+    problem: &Problem,
+    index: &Index,
+    demands: &[Demand],
+    known: &Choice,
+    is_needed: &mut Vec<bool>,
+) -> Result<(), AllocError>
+    requires { All (λ x. AreRising x.places) inputs.now }
+    ensures length { OnOk result (length is_needed.new.items ≡ length is_needed.old.items) }
+    ensures needed { OnOk result (let p = record problem.now { inputs = inputs.now } in
+        AreNeeded p demands.now is_needed.old.items → AreNeeded p demands.now is_needed.new.items) }
+{
+    let unmet = only_unmet(inputs, problem, demands, known);
+    let Some(input) = input_allowed(demands, unmet) else {
+        return Ok(());
+    };
+    for k in 0..demands.len() {
+        mark_without(
+            alloc, inputs, problem, index, demands, k, known, input, is_needed,
+        )?;
+    }
+    Ok(())
+}
+
+/// The same, where demand `k` alone is left out, if it names a job and has no mark.
+fn mark_without(
+    alloc: Global,
+    inputs: &[Input],
+    problem: &Problem,
+    index: &Index,
+    demands: &[Demand],
+    k: usize,
+    known: &Choice,
+    input: usize,
+    is_needed: &mut Vec<bool>,
+) -> Result<(), AllocError>
+    requires { All (λ x. AreRising x.places) inputs.now }
+    ensures length { OnOk result (length is_needed.new.items ≡ length is_needed.old.items) }
+    ensures needed { OnOk result (let p = record problem.now { inputs = inputs.now } in
+        AreNeeded p demands.now is_needed.old.items → AreNeeded p demands.now is_needed.new.items) }
+{
+    if !is_to_leave_out(demands, is_needed, k) {
+        return Ok(());
+    }
+    let followed = Followed {
+        demands,
+        left_out: Some(k),
+    };
+    match carried(alloc, inputs, problem, index, followed, known, input)? {
+        Some(other) => mark_needed(alloc, inputs, problem, index, demands, other, is_needed),
+        None => Ok(()),
+    }
+}
+
+/// The input whose allowed places a demand speaks of.
+fn input_allowed(demands: &[Demand], at: Option<usize>) -> Option<usize> {
+    match demands.get(at?)? {
+        Demand::Allowed(input) => Some(*input),
+        Demand::Passed(_, _) => None,
+    }
+}
+
+/// Whether a demand names a job and has no mark.
+pub(crate) fn is_to_leave_out(demands: &[Demand], is_needed: &[bool], k: usize) -> bool {
+    matches!(
+        (demands.get(k), is_needed.get(k)),
+        (Some(Demand::Passed(_, _)), Some(false))
+    )
 }
 
 /// Marks the demand that a choice doesn't meet, if it is the only one; where it wasn't marked, the choice is one to go on from.
@@ -111,7 +185,19 @@ fn with_other_place(
     match demands.get(witness.unmet) {
         None => Ok(None),
         Some(Demand::Allowed(input)) => {
-            carried(alloc, inputs, problem, index, &witness.choice, *input)
+            let followed = Followed {
+                demands,
+                left_out: None,
+            };
+            carried(
+                alloc,
+                inputs,
+                problem,
+                index,
+                followed,
+                &witness.choice,
+                *input,
+            )
         }
         Some(Demand::Passed(input, job)) => {
             let Some(place) = place_with(inputs, problem, &witness.choice, *input, *job) else {
