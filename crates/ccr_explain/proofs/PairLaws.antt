@@ -1,73 +1,55 @@
--- The builds that have a pair, by the newest one and, from each, the one before.
-use Rattle.std.proofs.Common.{◌≡◌, ℕ, suc, ◌+◌, ◌-◌, ◌<◌, ◌≤◌, inl, inr, Bool, true, List, [], ◌∷◌, ◌++◌, drop, length, slice_index_or, refl, sym, ap, ◌∙◌, subst, arith}
-use Rattle.std.specs.Prelude.{Contains, filter}
-use Rattle.std.proofs.lemmas.Bool.{cases_Bool, cond-true, cond-false}
-use Rattle.std.proofs.lemmas.List.{append_assoc, append-nil, drop_more, drop_all, drop-drop, length-drop, get_or-drop}
-use Rattle.ccr_choice.specs.Problem.{BuildValue}
-use Rattle.ccr_index.specs.Rows.{no_build, is_among, last_with}
-use Rattle.ccr_index.proofs.RowLaws.{among_is, last_within, last_has}
+-- The builds that have a pair, each marked: from the newest one on and, from each, the one before.
+use Rattle.std.proofs.Common.{◌≡◌, ℕ, ◌+◌, ◌-◌, ◌<◌, ◌≤◌, inl, inr, Bool, true, false, ◌==◌, ◌&&◌, List, drop, length, slice_index_or, slice_set, refl, sym, ap, ◌∙◌, subst, arith}
+use Rattle.std.specs.Prelude.{All, Any, Contains}
+use Rattle.std.specs.List.{list_any}
+use Rattle.std.proofs.lemmas.Bool.{cases_eq, cases_lt, and_parts, eqb-true}
+use Rattle.std.proofs.lemmas.List.{length-drop, get_or-drop, get_or-set_same, get_or-set_other}
+use Rattle.std.proofs.lemmas.List.Elements.{All-contains}
+use Rattle.std.proofs.lemmas.List.Folds.{Any-from_list_any}
+use Rattle.ccr_choice.specs.Problem.{BuildValue, InputValue}
+use Rattle.ccr_index.specs.Rows.{no_build, last_with}
+use Rattle.ccr_index.proofs.RowLaws.{last_within, last_has, none_newer}
+use Rattle.ccr_explain.specs.Cut.{has_place_of, MarksBuilds}
+use Rattle.ccr_explain.proofs.Orders.{has_it}
 
--- Whether a build has the pair.
-abbrev pub has_pair : ℕ × ℕ → BuildValue → Bool
-has_pair pair b = is_among b.pairs pair
-
--- none before the newest one has it
-last_rest : (bs : List BuildValue) (pair : ℕ × ℕ) → filter (has_pair pair) (drop (length bs - last_with bs pair) bs) ≡ filter (has_pair pair) bs
-last_rest [] pair = refl
-last_rest (b ∷ bs) pair =
-    let test = has_pair pair in
-    elim (cases_Bool (is_among b.pairs pair)) [
-      | inl holds ↦ (let is = cond-true (is_among b.pairs pair) (length bs + 1) (last_with bs pair) holds in
-          let none : suc (length bs) - last_with (b ∷ bs) pair ≡ 0 = omega (arith, is) in
-          ap (λ k. filter test (drop k (b ∷ bs))) none)
-      | inr fails ↦ (let is = cond-false (is_among b.pairs pair) (length bs + 1) (last_with bs pair) fails in
-          let less = last_within bs pair in
-          let more : suc (length bs) - last_with (b ∷ bs) pair ≡ suc (length bs - last_with bs pair) = omega (arith, is, less) in
-          ap (λ k. filter test (drop k (b ∷ bs))) more ∙ last_rest bs pair ∙ sym (cond-false (test b) (b ∷ filter test bs) (filter test bs) fails))
-    ]
-
--- What is known once the builds were followed down to one, of which there are so many up to it: what was found and what is left are all
--- that have the pair, and the one has it.
-pub record IsFollowed (bs : List BuildValue) (pair : ℕ × ℕ) (found : List BuildValue) (left : ℕ) : Type 0 where
+-- Builds with the pair were marked down to one, of which there are so many up to it, and which has it.
+pub record IsMarkedTo (bs : List BuildValue) (pair : ℕ × ℕ) (marks : List Bool) (left : ℕ) : Type 0 where
   pub within : left ≤ length bs
-  pub all : found ++ filter (has_pair pair) (drop (length bs - left) bs) ≡ filter (has_pair pair) bs
+  pub done : (k : ℕ) (d : BuildValue) → k + left < length bs → Contains (slice_index_or bs k d).pairs pair → slice_index_or marks k false ≡ true
   pub has : (k : ℕ) (d : BuildValue) → 0 < left → k + left ≡ length bs → Contains (slice_index_or bs k d).pairs pair
 
-pub followed_first : (bs : List BuildValue) (pair : ℕ × ℕ) (found : List BuildValue) (left : ℕ) → found ≡ [] → left ≡ last_with bs pair → IsFollowed bs pair found left
-followed_first bs pair found left none is =
-    let P : ℕ → Type 0 = λ n. IsFollowed bs pair found n in
+pub marked_first : (bs : List BuildValue) (pair : ℕ × ℕ) (marks : List Bool) (left : ℕ) → left ≡ last_with bs pair → IsMarkedTo bs pair marks left
+marked_first bs pair marks left is =
+    let P : ℕ → Type 0 = λ n. IsMarkedTo bs pair marks n in
     subst P (sym is) (record {
       within = last_within bs pair;
-      all = ap (λ xs. xs ++ filter (has_pair pair) (drop (length bs - last_with bs pair) bs)) none ∙ last_rest bs pair;
+      done = λ k d before h. absurd (none_newer bs pair k d before h);
       has = λ k d some e. last_has bs pair k d (λ z. omega (arith, some, z)) e;
     })
 
--- one build more: the newest of those behind it is the next
-pub record IsNext (bs : List BuildValue) (pair : ℕ × ℕ) (found : List BuildValue) (left next : ℕ) : Type 0 where
-  pub followed : IsFollowed bs pair found next
+-- a mark stays when another is set
+pub mark_stays : (marks : List Bool) (k n : ℕ) → k < length marks → slice_index_or marks n false ≡ true → slice_index_or (slice_set marks k true) n false ≡ true
+mark_stays marks k n within h =
+    elim (cases_eq n k) [
+      | inl same ↦ (let P : ℕ → Type 0 = λ m. slice_index_or (slice_set marks k true) m false ≡ true in subst P (sym same) (get_or-set_same marks k true false within))
+      | inr other ↦ get_or-set_other marks k n true false other ∙ h
+    ]
+
+-- one build more
+pub record IsNext (bs : List BuildValue) (pair : ℕ × ℕ) (marks : List Bool) (left next : ℕ) : Type 0 where
+  pub marked : IsMarkedTo bs pair marks next
   pub fewer : next < left
 
-pub followed_next : (bs : List BuildValue) (pair : ℕ × ℕ) (found more : List BuildValue) (left next k : ℕ) (b : BuildValue) → IsFollowed bs pair found left → 0 < left → k + left ≡ length bs
-    → b ≡ slice_index_or bs k no_build → more ≡ found ++ b ∷ [] → next ≡ last_with (drop (k + 1) bs) pair → IsNext bs pair more left next
-followed_next bs pair found more left next k b so some e is added last =
+pub marked_next : (bs : List BuildValue) (pair : ℕ × ℕ) (marks more : List Bool) (left next k : ℕ) → IsMarkedTo bs pair marks left → 0 < left → k + left ≡ length bs → k < length marks
+    → more ≡ slice_set marks k true → next ≡ last_with (drop (k + 1) bs) pair → IsNext bs pair more left next
+marked_next bs pair marks more left next k so some e inside set last =
     let P : ℕ → Type 0 = λ n. IsNext bs pair more left n in
-    subst P (sym last) (record {
-      followed = record {
-        within = omega (arith, short, long);
-        all = ap (λ xs. xs ++ behind) added ∙ append_assoc found (b ∷ []) behind ∙ ap (λ xs. found ++ xs) one ∙ so.all;
-        has = λ j d others f.
-            let m = j - (k + 1) in
-            let there : k + 1 + m ≡ j = omega (arith, f, short, long, others) in
-            let Q : BuildValue → Type 0 = λ c. Contains c.pairs pair in
-            subst Q (get_or-drop (k + 1) bs m d ∙ ap (λ i. slice_index_or bs i d) there)
-            (last_has rest pair m d (λ z. omega (arith, others, z)) (omega (arith, there, f, long, e)));
-      };
+    let Q : List Bool → Type 0 = λ ms. IsNext bs pair ms left (last_with rest pair) in
+    subst P (sym last) (subst Q (sym set) (record {
+      marked = record { within = omega (arith, short, long); done = done; has = has };
       fewer = omega (arith, short, long, e);
-    })
+    }))
   where
-    test : BuildValue → Bool
-    test = has_pair pair
-
     rest : List BuildValue
     rest = drop (k + 1) bs
 
@@ -77,25 +59,57 @@ followed_next bs pair found more left next k b so some e is added last =
     long : length rest ≡ length bs - (k + 1)
     long = length-drop (k + 1) bs
 
-    behind : List BuildValue
-    behind = filter test (drop (length bs - last_with rest pair) bs)
+    behind : (j : ℕ) (d : BuildValue) → k < j → slice_index_or rest (j - (k + 1)) d ≡ slice_index_or bs j d
+    behind j d after =
+        let there : k + 1 + (j - (k + 1)) ≡ j = omega (arith, after) in
+        get_or-drop (k + 1) bs (j - (k + 1)) d ∙ ap (λ i. slice_index_or bs i d) there
 
-    holds : test b ≡ true
-    holds = let Q : BuildValue → Type 0 = λ c. Contains c.pairs pair in (among_is b.pairs pair).1 (subst Q (sym is) (so.has k no_build some e))
+    done : (j : ℕ) (d : BuildValue) → j + last_with rest pair < length bs → Contains (slice_index_or bs j d).pairs pair → slice_index_or (slice_set marks k true) j false ≡ true
+    done j d before h =
+        elim (cases_eq j k) [
+          | inl same ↦ (let R : ℕ → Type 0 = λ m. slice_index_or (slice_set marks k true) m false ≡ true in subst R (sym same) (get_or-set_same marks k true false inside))
+          | inr other ↦ elim (cases_lt j k) [
+            | inl newer ↦ mark_stays marks k j inside (so.done j d (omega (arith, newer, e)) h)
+            | inr from ↦ (let after : k < j = grind (arith, from, other) in
+                let S : BuildValue → Type 0 = λ c. Contains c.pairs pair in
+                absurd (none_newer rest pair (j - (k + 1)) d (omega (arith, before, long, after)) (subst S (sym (behind j d after)) h)))
+          ]
+        ]
 
-    behind_is : behind ≡ filter test rest
-    behind_is =
-        let far : length bs - last_with rest pair ≡ (k + 1) + (length rest - last_with rest pair) = omega (arith, short, long, e, some) in
-        ap (λ n. filter test (drop n bs)) far ∙ sym (ap (filter test) (drop-drop (length rest - last_with rest pair) (k + 1) bs)) ∙ last_rest rest pair
+    has : (j : ℕ) (d : BuildValue) → 0 < last_with rest pair → j + last_with rest pair ≡ length bs → Contains (slice_index_or bs j d).pairs pair
+    has j d others f =
+        let after : k < j = omega (arith, f, short, long, others) in
+        let S : BuildValue → Type 0 = λ c. Contains c.pairs pair in
+        subst S (behind j d after) (last_has rest pair (j - (k + 1)) d (λ z. omega (arith, others, z)) (omega (arith, after, f, long, e)))
 
-    one : b ∷ behind ≡ filter test (drop (length bs - left) bs)
-    one =
-        let at : length bs - left ≡ k = omega (arith, e) in
-        sym (ap (λ n. filter test (drop n bs)) at ∙ ap (filter test) (drop_more bs k no_build (omega (arith, e, some)) ∙ ap (λ c. c ∷ rest) (sym is))
-        ∙ cond-true (test b) (b ∷ filter test rest) (filter test rest) holds ∙ ap (λ xs. b ∷ xs) (sym behind_is))
+-- all were marked
+pub marked_last : (bs : List BuildValue) (pair : ℕ × ℕ) (marks : List Bool) (left : ℕ) → left ≡ 0 → IsMarkedTo bs pair marks left → MarksBuilds bs marks pair
+marked_last bs pair marks left none so k within h = so.done k no_build (omega (arith, none, within)) h
 
--- all were found
-pub followed_last : (bs : List BuildValue) (pair : ℕ × ℕ) (found : List BuildValue) (left : ℕ) → left ≡ 0 → IsFollowed bs pair found left → found ≡ filter (has_pair pair) bs
-followed_last bs pair found left none so =
-    let end : length bs ≤ length bs - left = omega (arith, none) in
-    sym (ap (λ xs. found ++ filter (has_pair pair) xs) (drop_all (length bs - left) bs end) ∙ append-nil found) ∙ so.all
+-- the place that a build has of an input
+pub place_found : (x : InputValue) (pairs : List (ℕ × ℕ)) → has_place_of x pairs ≡ true → (place : ℕ) × Contains x.places place × Contains pairs (x.scope, place)
+place_found x pairs h = of (Any-from_list_any test pairs h)
+  where
+    test : ℕ × ℕ → Bool
+    test r = r.0 == x.scope && list_any (λ y. y == r.1) x.places
+
+    of : Any (λ r. test r ≡ true) pairs → (place : ℕ) × Contains x.places place × Contains pairs (x.scope, place)
+    of (k, r, within, at, holds) =
+        let parts = and_parts (r.0 == x.scope) (list_any (λ y. y == r.1) x.places) holds in
+        let P : ℕ × ℕ → Type 0 = λ q. Contains pairs q in
+        let same : r ≡ (x.scope, r.1) = ap (λ s. (s, r.1)) (eqb-true r.0 x.scope parts.0) in
+        (r.1, has_it x.places r.1 parts.1, subst P same (k, within, at))
+
+-- a build that is of use has a mark, where each that has a place of the input has one
+pub use_is_marked : (x : InputValue) (bs : List BuildValue) (marks : List Bool) → All (λ place. MarksBuilds bs marks (x.scope, place)) x.places
+    → (k : ℕ) → k < length bs → has_place_of x (slice_index_or bs k no_build).pairs ≡ true → slice_index_or marks k false ≡ true
+use_is_marked x bs marks all k within h = of (place_found x (slice_index_or bs k no_build).pairs h)
+  where
+    of : (place : ℕ) × Contains x.places place × Contains (slice_index_or bs k no_build).pairs (x.scope, place) → slice_index_or marks k false ≡ true
+    of (place, allowed, moved) = All-contains (λ y. MarksBuilds bs marks (x.scope, y)) x.places place all allowed k within moved
+
+-- what is tested and has a mark is what is tested, where all that pass have one
+pub only_marked : (mark test : Bool) → (test ≡ true → mark ≡ true) → (mark && test) ≡ test
+only_marked true test h = refl
+only_marked false true h = h refl
+only_marked false false h = refl

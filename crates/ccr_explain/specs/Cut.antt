@@ -11,6 +11,7 @@ use Rattle.ccr_choice.specs.Optimal.{HasNoChoice}
 use Rattle.ccr_choice.specs.Preference.{order_of}
 use Rattle.ccr_resolve.specs.Chosen.{IsChosen}
 use Rattle.ccr_resolve.specs.declared.chosen.Chosen.{Chosen}
+use Rattle.ccr_index.specs.Rows.{no_build}
 use Rattle.ccr_explain.specs.declared.met.Met.{Met}
 use Rattle.ccr_explain.specs.declared.met.Met.TheVariants.{Yes, No, OverBudget}
 use Rattle.ccr_explain.specs.Demand.{CanBeMet, ExcludeEachOther}
@@ -122,6 +123,11 @@ pub record IsNarrowed (p : ProblemValue) (order : List ℕ) (xs others : List In
 abbrev pub IsEnough : ProblemValue → List ℕ → List InputValue → ℕ → List BuildValue → Type 0
 IsEnough p order xs n builds =
     filter (is_of_use xs n) builds ≡ filter (is_of_use xs n) (builds_at p (slice_index order n))
+
+-- Each of these builds that has the pair has a mark.
+abbrev pub MarksBuilds : List BuildValue → List Bool → ℕ × ℕ → Type 0
+MarksBuilds bs marks pair =
+    (k : ℕ) → k < length bs → Contains (slice_index_or bs k no_build).pairs pair → IsTrue (slice_index_or marks k false)
 
 -- Each of these pairs that is in the scope has a mark, by its place.
 abbrev pub AreMarked : ℕ → List Bool → List (ℕ × ℕ) → Type 0

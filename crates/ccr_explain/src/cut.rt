@@ -332,7 +332,7 @@ fn useful_of<'a>(
 }
 
 /// The builds among these that are of use to the inputs as builds of job `job`.
-pub(crate) fn useful_among<'a>(
+fn useful_among<'a>(
     alloc: Global,
     inputs: &[Input],
     job: u32,
@@ -375,7 +375,7 @@ pub(crate) fn useful_builds<'a>(
 }
 
 /// The inputs among these that name job `job`.
-fn inputs_naming<'a>(
+pub(crate) fn inputs_naming<'a>(
     alloc: Global,
     inputs: &'a [Input],
     job: u32,
@@ -394,7 +394,7 @@ fn inputs_naming<'a>(
 }
 
 /// Whether each of these inputs can have one of its places with a build.
-fn is_of_use(naming: &[&Input], build: &Build) -> bool
+pub(crate) fn is_of_use(naming: &[&Input], build: &Build) -> bool
     requires { All (λ x. AreRising x.now.places) naming.now }
     ensures { result ≡ list_all (λ x. has_place_of x.now build.now.pairs) naming.now }
 {

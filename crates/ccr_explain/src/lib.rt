@@ -8,8 +8,8 @@
 //! What a demand, a clash and a place that can't be taken are, is said of problems and choices alone (`specs/Demand.antt`,
 //! `specs/Clash.antt`, `specs/WhyNot.antt`). The resolver is called on the problem cut to some of its demands; no definition
 //! speaks of that. Before it is, places are left out that no build leaves to their input, since most questions are decided by that, and
-//! builds without a place that is left. Where an input has one place alone, the builds with it are found by the index of the problem, so
-//! that such a question doesn't look at the builds of all times.
+//! builds without a place that is left. Where an input has few places, the builds with one of them are found by the index of the problem,
+//! so that such a question doesn't look at the builds of all times.
 //!
 //! A choice that meets all demands but one shows that this one is needed; where one place or one build of it is changed, it may meet all
 //! but another one, which is needed, too. The best choice is such a choice where an input is asked about: so it is asked first whether the

@@ -1,18 +1,19 @@
 //! The builds of a job that are of use, found without a look at all.
 
-ghost use Rattle.std.specs.Prelude.{◌≡◌, ◌<◌, ◌≤◌, map, filter, length, IsTrue, IfOk, IfSome, All};
+ghost use Rattle.std.specs.Prelude.{◌≡◌, ◌<◌, ◌≤◌, ◌&&◌, ℕ, map, filter, length, slice_index_or, false, IsTrue, IfOk, IfSome, All, Contains};
+ghost use Rattle.std.specs.List.{list_all};
 ghost use Rattle.ccr_choice.specs.Ascending.{AreRising};
 ghost use Rattle.ccr_choice.specs.Problem.{BuildValue};
-ghost use Rattle.ccr_index.specs.Rows.{is_among};
-ghost use Rattle.ccr_explain.specs.Cut.{is_of_use};
+ghost use Rattle.ccr_index.specs.Rows.{no_build};
+ghost use Rattle.ccr_explain.specs.Cut.{has_place_of, is_of_use, MarksBuilds};
 
-use crate::cut::{is_among, useful_among, useful_builds};
+use crate::cut::{inputs_naming, is_among, is_of_use, useful_builds};
 use ccr_choice::{Build, Input};
 use ccr_index::JobRows;
 use std::alloc::{AllocError, Global};
 
-/// The builds among these, which the rows hold, that are of use to the inputs as builds of job `job`. Where one of the inputs has one
-/// place alone, only builds with it are looked at, and not those of all times.
+/// The builds among these, which the rows hold, that are of use to the inputs as builds of job `job`. Where one of the inputs has few
+/// places, only builds with one of them are looked at, and not those of all times.
 pub(crate) fn useful_in<'a>(
     alloc: Global,
     inputs: &[Input],
@@ -24,48 +25,95 @@ pub(crate) fn useful_in<'a>(
     requires rows { rows.now.builds ≡ builds.now }
     ensures { IfOk result (λ useful. map (λ b. b.now) useful.items ≡ filter (is_of_use inputs.now job) builds.now) }
 {
-    match needed_pair(inputs, job) {
-        Some(pair) => {
-            let with = builds_with(alloc, rows, builds, pair)?;
-            useful_among(alloc, inputs, job, &with)
+    match input_with_few(inputs, job) {
+        Some(input) => {
+            let marks = marks_for(alloc, rows, input.scope(), input.places())?;
+            useful_marked(alloc, inputs, job, builds, &marks)
         }
         None => useful_builds(alloc, inputs, job, builds),
     }
 }
 
-/// A pair that each build has that is of use as one of job `job`, where an input that names the job has one place alone.
-fn needed_pair(inputs: &[Input], job: u32) -> Option<(u32, u32)>
-    ensures { IfSome result (λ pair. (b : BuildValue) → IsTrue (is_of_use inputs.now job b) → IsTrue (is_among b.pairs pair)) }
+/// How many places are few.
+const FEW_PLACES: usize = 8;
+
+/// An input that names a job and has few places: each build of the job that is of use has one of them.
+fn input_with_few<'a>(inputs: &'a [Input], job: u32) -> Option<&'a Input>
+    ensures { IfSome result (λ x. (b : BuildValue) → IsTrue (is_of_use inputs.now job b) → IsTrue (has_place_of x.now b.pairs)) }
 {
     for input in inputs {
-        if let [place] = input.places() {
-            if is_among(input.jobs(), job) {
-                return Some((input.scope(), *place));
-            }
+        if input.places().len() <= FEW_PLACES && is_among(input.jobs(), job) {
+            return Some(input);
         }
     }
     None
 }
 
-/// The builds among these, which the rows hold, that have a pair.
-fn builds_with<'a>(
+/// Marks for the builds, by their places in the rows, that have one of these places in a scope.
+fn marks_for(
     alloc: Global,
     rows: &JobRows,
-    builds: &'a [Build],
-    pair: (u32, u32),
-) -> Result<Vec<&'a Build>, AllocError>
-    requires { rows.now.builds ≡ builds.now }
-    ensures { IfOk result (λ with. map (λ b. b.now) with.items ≡ filter (λ b. is_among b.pairs pair) builds.now) }
+    scope: u32,
+    places: &[u32],
+) -> Result<Vec<bool>, AllocError>
+    ensures { IfOk result (λ marks. All (λ place. MarksBuilds rows.now.builds marks.items (scope, place)) places.now) }
 {
-    let mut with = Vec::new(alloc);
-    let mut left = rows.last_with(pair.0, pair.1);
-    for _ in 0..builds.len() {
-        if left == 0 {
-            return Ok(with);
-        }
-        let build = builds.len() - left;
-        with.push(&builds[build])?;
-        left = rows.last_before(build, pair.0, pair.1);
+    let mut marks = vec![in alloc; false; rows.len()]?;
+    for place in places {
+        mark_builds(&mut marks, rows, scope, *place);
     }
-    Ok(with)
+    Ok(marks)
+}
+
+/// Marks the builds that have a pair.
+fn mark_builds(marks: &mut Vec<bool>, rows: &JobRows, scope: u32, place: u32)
+    requires { length marks.old.items ≡ length rows.now.builds }
+    ensures long { length marks.new.items ≡ length marks.old.items }
+    ensures kept { (n : ℕ) → IsTrue (slice_index_or marks.old.items n false) → IsTrue (slice_index_or marks.new.items n false) }
+    ensures marked { MarksBuilds rows.now.builds marks.new.items (scope, place) }
+{
+    let mut left = rows.last_with(scope, place);
+    for _ in 0..rows.len() {
+        if left == 0 {
+            return;
+        }
+        let build = rows.len() - left;
+        marks[build] = true;
+        left = rows.last_before(build, scope, place);
+    }
+}
+
+/// The builds among these that are of use, where each of them has a mark.
+fn useful_marked<'a>(
+    alloc: Global,
+    inputs: &[Input],
+    job: u32,
+    builds: &'a [Build],
+    marks: &[bool],
+) -> Result<Vec<&'a Build>, AllocError>
+    requires rising { All (λ x. AreRising x.places) inputs.now }
+    requires marked { (k : ℕ) → k < length builds.now → IsTrue (is_of_use inputs.now job (slice_index_or builds.now k no_build))
+        → IsTrue (slice_index_or marks.now k false) }
+    ensures { IfOk result (λ useful. map (λ b. b.now) useful.items ≡ filter (is_of_use inputs.now job) builds.now) }
+{
+    let naming = inputs_naming(alloc, inputs, job)?;
+    let mut useful = Vec::new(alloc);
+    for k in 0..builds.len() {
+        let build = &builds[k];
+        if is_marked_and_of_use(&naming, build, marks, k) {
+            useful.push(build)?;
+        }
+    }
+    Ok(useful)
+}
+
+/// Whether a build has a mark, and each of these inputs can have one of its places with it.
+fn is_marked_and_of_use(naming: &[&Input], build: &Build, marks: &[bool], k: usize) -> bool
+    requires { All (λ x. AreRising x.now.places) naming.now }
+    ensures { result ≡ (slice_index_or marks.now k false && list_all (λ x. has_place_of x.now build.now.pairs) naming.now) }
+{
+    match marks.get(k) {
+        Some(true) => is_of_use(naming, build),
+        Some(false) | None => false,
+    }
 }
