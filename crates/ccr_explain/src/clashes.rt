@@ -20,9 +20,9 @@ use std::alloc::{AllocError, Global};
 
 /// Demands of a problem that exclude each other, and of which none can be left out; or the best choice, if one satisfies.
 ///
-/// Each call of the resolver has the budget, from 1 to 1,000,000, and there are at most twice as many calls as demands,
-/// and two where there are none. The index is that of the problem. Where the budget doesn't suffice for one of them, the clash is one all the same, but says that
-/// perhaps fewer demands exclude each other. The only error is out of memory.
+/// The index is that of the problem. Each call of the resolver has the budget, from 1 to 1,000,000, and there are at most
+/// twice as many calls as demands, and two where there are none. Where the budget doesn't suffice for one of them, the clash
+/// is one all the same, but says that perhaps fewer demands exclude each other. The only error is out of memory.
 pub fn clash(
     alloc: Global,
     problem: &Problem,

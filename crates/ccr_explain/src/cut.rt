@@ -15,9 +15,9 @@ use ccr_choice::{Build, Input, JobBuilds, Problem};
 use ccr_index::{Index, JobRows};
 use std::alloc::{AllocError, Global};
 
-/// The problem of these inputs and the jobs of a problem, cut to these demands. An input without the demand of its allowed places may
-/// take any place up to a top one. Places that no choice can have are left out, and builds that have none of the others. None where an input has no
-/// place left, so that there is no choice.
+/// The problem of these inputs and the jobs of a problem, whose index this is, cut to these demands. An input without the demand of its
+/// allowed places may take any place up to a top one. Places that no choice can have are left out, and builds that have none of the
+/// others. None where an input has no place left, so that there is no choice.
 pub(crate) fn cut_to(
     alloc: Global,
     inputs: &[Input],
@@ -398,12 +398,6 @@ pub(crate) fn is_of_use(naming: &[&Input], build: &Build) -> bool
     requires { All (λ x. AreRising x.now.places) naming.now }
     ensures { result ≡ list_all (λ x. has_place_of x.now build.now.pairs) naming.now }
 {
-    // Most builds have none of the places of an input that has few.
-    for few in naming {
-        if few.places().len() <= FEW_PLACES && !has_place_of(few, build.pairs()) {
-            return false;
-        }
-    }
     for input in naming {
         if !has_place_of(input, build.pairs()) {
             return false;
@@ -411,9 +405,6 @@ pub(crate) fn is_of_use(naming: &[&Input], build: &Build) -> bool
     }
     true
 }
-
-/// How many places are looked through at once.
-const FEW_PLACES: usize = 4;
 
 fn has_place_of(input: &Input, pairs: &[(u32, u32)]) -> bool
     requires { AreRising input.now.places }

@@ -69,11 +69,5 @@ fn marks_for(alloc: Global, places: &[u32]) -> Result<Vec<bool>, AllocError>
 fn greatest(places: &[u32]) -> u32
     ensures { All (λ y. y ≤ result) places.now }
 {
-    let mut top = 0;
-    for place in places {
-        if top < *place {
-            top = *place;
-        }
-    }
-    top
+    places.iter().copied().max().unwrap_or(0)
 }

@@ -27,7 +27,7 @@ pub(crate) fn useful_in<'a>(
 {
     match input_with_few(inputs, job) {
         Some(input) => {
-            let marks = marks_for(alloc, rows, input.scope(), input.places())?;
+            let marks = marks_of_builds(alloc, rows, input.scope(), input.places())?;
             useful_marked(alloc, inputs, job, builds, &marks)
         }
         None => useful_builds(alloc, inputs, job, builds),
@@ -50,7 +50,7 @@ fn input_with_few<'a>(inputs: &'a [Input], job: u32) -> Option<&'a Input>
 }
 
 /// Marks for the builds, by their places in the rows, that have one of these places in a scope.
-fn marks_for(
+fn marks_of_builds(
     alloc: Global,
     rows: &JobRows,
     scope: u32,

@@ -1,7 +1,7 @@
 use Rattle.std.proofs.Common.{◌≡◌, length, take}
 use Rattle.std.specs.Prelude.{All}
 use Rattle.ccr_explain.specs.Cut.{MarksBuilds}
-use Rattle.ccr_explain.proofs.useful.marks_for.Given as goal
+use Rattle.ccr_explain.proofs.useful.marks_of_builds.Given as goal
 
 abbrev pub invariant-loop-place : goal.invariant-loop-place
 invariant-loop-place l = record {

@@ -2,7 +2,7 @@ use Rattle.std.proofs.Common.{◌∙◌, take, arith}
 use Rattle.std.proofs.lemmas.List.Elements.{All-more, All-weaker}
 use Rattle.ccr_explain.specs.Cut.{MarksBuilds}
 use Rattle.ccr_explain.proofs.Steps.{all_taken}
-use Rattle.ccr_explain.proofs.useful.marks_for.Goals as goal
+use Rattle.ccr_explain.proofs.useful.marks_of_builds.Goals as goal
 
 pub loop-place-preserved : goal.loop-place-preserved
 loop-place-preserved c =
