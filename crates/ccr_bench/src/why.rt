@@ -1,7 +1,5 @@
 //! How long the questions take that `explain` asks of a problem: why no input takes one of its newest places.
 
-ghost use Rattle.std.specs.Prelude.{◌≡◌};
-
 use anyhow::Result;
 use ccr_choice::{Choice, Problem, read_problem};
 use ccr_explain::{Explanation, clash, why_not};
@@ -28,20 +26,17 @@ struct Asked {
 /// Asks why an input doesn't take a place, timed.
 fn ask(
     rt: &HostRuntime,
-    problem: &Problem,
     index: &Index,
     choice: &Choice,
     input: usize,
     place: u32,
     asked: &mut Asked,
-) -> Result<()>
-    requires { index.now.problem ≡ problem.now }
-{
-    if input >= problem.inputs().len() || choice.places.len() != problem.inputs().len() {
+) -> Result<()> {
+    if input >= index.input_count() || choice.places.len() != index.input_count() {
         return Ok(());
     }
     let start = Instant::now(rt)?;
-    let shown = why_not(rt.alloc(), problem, index, choice, input, place, BUDGET)?;
+    let shown = why_not(rt.alloc(), index, choice, input, place, BUDGET)?;
     asked.nanos = asked.nanos.saturating_add(start.elapsed(rt)?.as_nanos());
     asked.questions = asked.questions.saturating_add(1);
     if let Explanation::Clash(found) = shown {
@@ -52,9 +47,7 @@ fn ask(
 }
 
 /// Asks of each input's newest places that are newer than the one it takes.
-fn ask_all(rt: &HostRuntime, problem: &Problem, index: &Index, choice: &Choice) -> Result<Asked>
-    requires { index.now.problem ≡ problem.now }
-{
+fn ask_all(rt: &HostRuntime, problem: &Problem, index: &Index, choice: &Choice) -> Result<Asked> {
     let mut asked = Asked {
         questions: 0,
         clashes: 0,
@@ -69,7 +62,7 @@ fn ask_all(rt: &HostRuntime, problem: &Problem, index: &Index, choice: &Choice) 
     {
         for place in x.places().iter().rev().take(NEWEST) {
             if place > now {
-                ask(rt, problem, index, choice, input, *place, &mut asked)?;
+                ask(rt, index, choice, input, *place, &mut asked)?;
             }
         }
     }
@@ -77,11 +70,9 @@ fn ask_all(rt: &HostRuntime, problem: &Problem, index: &Index, choice: &Choice) 
 }
 
 /// How long `clash` takes where nothing satisfies.
-fn clash_told(rt: &HostRuntime, problem: &Problem, index: &Index) -> Result<String>
-    requires { index.now.problem ≡ problem.now }
-{
+fn clash_told(rt: &HostRuntime, index: &Index) -> Result<String> {
     let start = Instant::now(rt)?;
-    let shown = clash(rt.alloc(), problem, index, BUDGET)?;
+    let shown = clash(rt.alloc(), index, BUDGET)?;
     let nanos = start.elapsed(rt)?.as_nanos();
     let demands = match shown {
         Explanation::Clash(found) => found.demands.len(),
@@ -95,7 +86,7 @@ pub(crate) fn whys_told(rt: &HostRuntime, text: &[u8]) -> Result<String> {
     let problem = read_problem(rt.alloc(), text)?;
     let index = build_index(rt.alloc(), &problem)?;
     match choose(rt.alloc(), &index, BUDGET)? {
-        Chosen::Nothing => clash_told(rt, &problem, &index),
+        Chosen::Nothing => clash_told(rt, &index),
         Chosen::OverBudget(budget) => Ok(format!(in rt.alloc(); "over budget {budget}\n")?),
         Chosen::Best(choice) => {
             let all = ask_all(rt, &problem, &index, &choice)?;

@@ -5,7 +5,7 @@ use Rattle.std.specs.List.{list_any, list_all, range_with_len}
 use Rattle.std.proofs.lemmas.Bool.{cases_Bool, cases_eq, cond-true, cond-false, and_parts, and_from, eq-eqb, eqb-true, false≢true}
 use Rattle.std.proofs.lemmas.List.{length-map, get_or-map, get_or_default}
 use Rattle.std.proofs.lemmas.List.FromFn.{length-map-range_with_len, get_or-map-range_with_len}
-use Rattle.std.proofs.lemmas.List.Elements.{All-contains, Contains-get_or}
+use Rattle.std.proofs.lemmas.List.Elements.{All-contains, All-get_or, Contains-get_or}
 use Rattle.ccr_choice.specs.Problem.{ProblemValue, InputValue, BuildValue, no_input, input_at, builds_at, is_problem, scopes_after, are_builds_below}
 use Rattle.ccr_choice.specs.Satisfies.{Satisfies, Moved, IsAllowed, HasPassed}
 use Rattle.ccr_choice.specs.Optimal.{HasNoChoice}
@@ -69,7 +69,7 @@ top_least : (top : ℕ) (js : List ℕ) → 1 ≤ top → 1 ≤ top_for js top
 top_least top [] least = omega arith
 top_least top (m ∷ js) least = least
 
-module _ (ds : List Demand) (top : ℕ) (p : ProblemValue) (rules : is_problem p ≡ true) (isTop : IsTop p (order_left ds p) top) (of_problem : All (IsDemandOf p) ds) where
+module _ (ds : List Demand) (top : ℕ) (p : ProblemValue) (rules : is_problem p ≡ true) (isTop : IsTop p top) (of_problem : All (IsDemandOf p) ds) where
   abbrev order : List ℕ
   order = order_left ds p
 
@@ -225,7 +225,7 @@ module _ (ds : List Demand) (top : ℕ) (p : ProblemValue) (rules : is_problem p
         (and_parts (nat_le (length (builds_at p j)) 1000000) (are_builds_below scopes 1000001 (builds_at p j)) (builds_kept p j (builds_at p j) rules known refl)).1 in
         let among : Contains (builds_at p j) b = (k, inside, at) in
         let low = All-contains (λ r. (0 < r.1) × (r.1 ≤ 100000)) b.pairs (scope, place) (All-contains (λ c. All (λ r. (0 < r.1) × (r.1 ≤ 100000)) c.pairs) (builds_at p j) b kept among) has in
-        let covered = All-contains (λ n. All (λ c. All (λ r. r.1 ≤ top) c.pairs) (builds_at p n)) order j isTop.covers there in
+        let covered = All-get_or (λ bs. All (λ c. All (λ r. r.1 ≤ top) c.pairs) bs) p.jobs j [] known isTop.covers in
         let high = All-contains (λ r. r.1 ≤ top) b.pairs (scope, place) (All-contains (λ c. All (λ r. r.1 ≤ top) c.pairs) (builds_at p j) b covered among) has in
         (omega (arith, low.0), high)
 
@@ -301,18 +301,18 @@ IsToldBy p ds budget (Best c) = CanBeMet p ds
 IsToldBy p ds budget Nothing = ExcludeEachOther p ds
 IsToldBy p ds budget (OverBudget n) = budget < product p.jobs
 
-pub chosen_tells : (ds : List Demand) (p : ProblemValue) → is_problem p ≡ true → All (IsDemandOf p) ds → (budget : ℕ) (x y : Chosen) → IsChosenOfCut ds p budget x → x ≡ y → IsToldBy p ds budget y
-chosen_tells ds p rules of_problem budget x y h same =
+pub chosen_tells : (ds : List Demand) (p : ProblemValue) → All (IsDemandOf p) ds → (budget : ℕ) (x y : Chosen) → IsChosenOfCut ds p budget x → x ≡ y → IsToldBy p ds budget y
+chosen_tells ds p of_problem budget x y h same =
     let P : ProblemValue → Type 0 = λ q. IsChosen (order_of q) q budget x in
     let Q : Chosen → Type 0 = λ z. IsToldBy p ds budget z in
     let cut = h.is_cut in
-    subst Q same (told cut.top cut.is_top cut.inputs cut.narrowed x (subst P cut.is h.chosen))
+    subst Q same (told cut.rules cut.top cut.is_top cut.inputs cut.narrowed x (subst P cut.is h.chosen))
   where
-    told : (top : ℕ) → IsTop p (order_left ds p) top → (ys : List InputValue) → IsNarrowed p (order_left ds p) (inputs_cut ds top p) ys → (y : Chosen)
+    told : is_problem p ≡ true → (top : ℕ) → IsTop p top → (ys : List InputValue) → IsNarrowed p (order_left ds p) (inputs_cut ds top p) ys → (y : Chosen)
         → IsChosen (order_of (problem_with ds p ys)) (problem_with ds p ys) budget y → IsToldBy p ds budget y
-    told top isTop ys fewer (Best c) h = met_of_choice ds top p rules isTop of_problem ys fewer c.places c.builds h.satisfies
-    told top isTop ys fewer Nothing h = none_excludes ds top p rules isTop of_problem ys fewer h
-    told top isTop ys fewer (OverBudget n) h = omega (arith, h.1.product, product_left ds p ys rules)
+    told rules top isTop ys fewer (Best c) h = met_of_choice ds top p rules isTop of_problem ys fewer c.places c.builds h.satisfies
+    told rules top isTop ys fewer Nothing h = none_excludes ds top p rules isTop of_problem ys fewer h
+    told rules top isTop ys fewer (OverBudget n) h = omega (arith, h.1.product, product_left ds p ys rules)
 
 -- ---- a build of use, by the inputs that name its job
 -- where these are given by their names, a build is of use to them all exactly where it is of use

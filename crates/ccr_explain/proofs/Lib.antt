@@ -8,3 +8,4 @@ pub mod NarrowLaws
 pub mod CutLaws
 pub mod Steps
 pub mod PairLaws
+pub mod Those

@@ -15,7 +15,7 @@ use Rattle.ccr_choice.proofs.Numbering.{named_below}
 use Rattle.ccr_choice.proofs.Exchange.{build_at}
 use Rattle.ccr_choice.specs.Optimal.{HasNoChoice}
 use Rattle.ccr_explain.specs.declared.demand.Demand.{Demand}
-use Rattle.ccr_explain.specs.Cut.{has_place_of, names, is_of_use, builds_from, problem_with, IsTop, SuitsInputs, IsNarrowed, IsEnough, IsInputNarrowed, AreMarked}
+use Rattle.ccr_explain.specs.Cut.{has_place_of, names, is_of_use, builds_from, problem_with, build_in, IsTop, AreThose, SuitsInputs, IsNarrowed, IsEnough, IsInputNarrowed, AreMarked}
 use Rattle.ccr_explain.specs.WhyNot.{narrowed_from}
 use Rattle.ccr_explain.proofs.Lists.{any_contained, contains_filter, from_filter}
 use Rattle.ccr_explain.proofs.Orders.{has_it, it_has}
@@ -157,14 +157,6 @@ pub ok_weaker : {X E : Type 0} (P Q : X → Type 0) (r : Result X E) → ((x : X
 ok_weaker P Q (Ok x) weaker h = weaker x h
 ok_weaker P Q (Err e) weaker h = h
 
--- only the jobs of the problem matter
-pub narrowed_of : (p : ProblemValue) (inputs : List InputValue) (order : List ℕ) (xs ys : List InputValue) → IsNarrowed p order xs ys → IsNarrowed (record p { inputs = inputs }) order xs ys
-narrowed_of p inputs order xs ys h = record {
-  may = h.may;
-  is = h.is;
-  keeps = λ places builds s. h.keeps places builds (record { allowed = s.allowed; passed = s.passed });
-}
-
 -- ---- builds of use
 all_true : (test : InputValue → Bool) (xs : List InputValue) → ((i : ℕ) → i < length xs → test (slice_index_or xs i no_input) ≡ true) → list_all test xs ≡ true
 all_true test xs each = and_from_places (list_all test) test refl (λ x ys. refl) xs no_input each
@@ -208,18 +200,22 @@ use_wider may k (x ∷ xs) n b h =
     (use_wider may (k + 1) xs n b parts.1)
 
 -- what was enough is enough where fewer places are left
-pub enough_narrowed : (p : ProblemValue) (order : List ℕ) (xs ys : List InputValue) (n : ℕ) (bs : List BuildValue) → IsNarrowed p order xs ys → IsEnough p order xs n bs → IsEnough p order ys n bs
-enough_narrowed p order xs ys n bs h enough =
+pub enough_narrowed : (p : ProblemValue) (order : List ℕ) (xs ys : List InputValue) (n : ℕ) (ks : List ℕ) → IsNarrowed p order xs ys → IsEnough p order xs n ks → IsEnough p order ys n ks
+enough_narrowed p order xs ys n ks h enough =
     let f = is_of_use xs n in
     let g = is_of_use ys n in
     let all = builds_at p (slice_index order n) in
     let within : (b : BuildValue) → g b ≡ true → f b ≡ true = λ b use_of. use_wider h.may 0 xs n b (ap (λ zs. is_of_use zs n b) (sym h.is) ∙ use_of) in
-    sym (filter_within f g within bs) ∙ ap (filter g) enough ∙ filter_within f g within all
+    record {
+      within = enough.within;
+      all = sym (filter_within f g within (map (build_in all) ks)) ∙ ap (filter g) enough.all ∙ filter_within f g within all;
+    }
 
-pub enough_first : (p : ProblemValue) (order : List ℕ) (xs : List InputValue) (n : ℕ) (bs : List BuildValue) → bs ≡ filter (is_of_use xs n) (builds_at p (slice_index order n)) → IsEnough p order xs n bs
-enough_first p order xs n bs e =
+pub enough_first : (p : ProblemValue) (order : List ℕ) (xs : List InputValue) (n : ℕ) (ks : List ℕ)
+    → AreThose (is_of_use xs n) (builds_at p (slice_index order n)) (builds_at p (slice_index order n)) ks → IsEnough p order xs n ks
+enough_first p order xs n ks h =
     let f = is_of_use xs n in
-    ap (filter f) e ∙ filter_within f f (λ b holds. holds) (builds_at p (slice_index order n))
+    record { within = h.within; all = ap (filter f) h.are ∙ filter_within f f (λ b holds. holds) (builds_at p (slice_index order n)) }
 
 module _ (p : ProblemValue) (rules : is_problem p ≡ true) (order : List ℕ) (known : All (λ j. j < length p.jobs) order) (xs : List InputValue) where
   -- the build that suits the inputs is of use to them
@@ -292,7 +288,7 @@ module _ (p : ProblemValue) (rules : is_problem p ≡ true) (order : List ℕ) (
       }
 
   -- ---- one input fewer
-  module _ (top : ℕ) (isTop : IsTop p order top) (ys : List InputValue) (h : IsNarrowed p order xs ys) (n i : ℕ) (inside : n < length order) (within : i < length xs)
+  module _ (top : ℕ) (isTop : IsTop p top) (ys : List InputValue) (h : IsNarrowed p order xs ys) (n i : ℕ) (inside : n < length order) (within : i < length xs)
       (useful : List BuildValue) (are : useful ≡ filter (is_of_use xs n) (builds_at p (slice_index order n))) (named : Contains (slice_index_or ys i no_input).jobs n)
       (z : InputValue) (t : IsInputNarrowed top useful (slice_index_or ys i no_input) z) where
     abbrev x : InputValue
@@ -302,7 +298,7 @@ module _ (p : ProblemValue) (rules : is_problem p ≡ true) (order : List ℕ) (
     kept_there place b among useful_one has =
         let P : List BuildValue → Type 0 = λ bs. Contains bs b in
         let Q : InputValue → Type 0 = λ v. Contains b.pairs (v.scope, place) in
-        let covered = All-get_or (λ j. All (λ c. All (λ r. r.1 ≤ top) c.pairs) (builds_at p j)) order n 0 inside isTop.covers in
+        let covered = All-get_or (λ bs. All (λ c. All (λ r. r.1 ≤ top) c.pairs) bs) p.jobs (slice_index order n) [] (All-get_or (λ j. j < length p.jobs) order n 0 inside known) isTop.covers in
         let low = All-contains (λ r. r.1 ≤ top) b.pairs (x.scope, place) (All-contains (λ c. All (λ r. r.1 ≤ top) c.pairs) (builds_at p (slice_index order n)) b covered among) has in
         t.keeps b place (subst P (sym are) (contains_filter (is_of_use xs n) b (builds_at p (slice_index order n)) among useful_one))
         (subst Q (sym (narrowed_input p order xs ys h i within)) has) low
@@ -332,7 +328,7 @@ module _ (p : ProblemValue) (rules : is_problem p ≡ true) (order : List ℕ) (
 
 -- the same for what a turn of the loop has
 pub narrowed_turn : (p : ProblemValue) (order : List ℕ) (top : ℕ) (xs ys zs given : List InputValue) (n i : ℕ) (useful bs : List BuildValue) (x y z : InputValue)
-    → is_problem p ≡ true → EachIndex order (λ k. slice_index order k < length p.jobs) → IsTop p order top → n < length order → i < length ys → IsNarrowed p order xs ys
+    → is_problem p ≡ true → EachIndex order (λ k. slice_index order k < length p.jobs) → IsTop p top → n < length order → i < length ys → IsNarrowed p order xs ys
     → useful ≡ filter (is_of_use given n) bs → given ≡ xs → bs ≡ builds_at p (slice_index order n)
     → x ≡ slice_index_or ys i x → Contains x.jobs n → y ≡ slice_index_or ys i y → IsInputNarrowed top useful y z → zs ≡ slice_set ys i z → IsNarrowed p order xs zs
 narrowed_turn p order top xs ys zs given n i useful bs x y z rules known isTop inside within h are same all one named other t set =

@@ -5,7 +5,7 @@ use Rattle.std.specs.List.{list_any, range_with_len}
 use Rattle.std.proofs.lemmas.Bool.{and_parts, cases_Bool, false_from_ne_true, false≢true}
 use Rattle.std.proofs.lemmas.List.{append-nil, append_assoc, take_all, drop_more, drop_all, get_or_default}
 use Rattle.std.proofs.lemmas.List.Elements.{All-same, All-contains, All-cons, All-append, All-map, All-more, All-weaker}
-use Rattle.ccr_choice.specs.Problem.{ProblemValue, InputValue, BuildValue, no_input, input_at, builds_at, is_problem, are_builds}
+use Rattle.ccr_choice.specs.Problem.{ProblemValue, InputValue, BuildValue, no_input, input_at, is_problem, are_builds}
 use Rattle.ccr_choice.specs.Preference.{order_of}
 use Rattle.ccr_choice.specs.Optimal.{IsOptimal}
 use Rattle.ccr_choice.proofs.Orders.{is_order}
@@ -48,15 +48,13 @@ builds_more bs i a b c ps within up is same here all =
     let P : BuildValue → Type 0 = Below b in
     All-more P bs i c within (All-weaker (Below a) P (weaker a b up) (take i bs) all) (subst P is (All-same (λ q. q.1 ≤ b) c.pairs ps (sym same) here))
 
-abbrev pub JobBelow : ProblemValue → ℕ → ℕ → Type 0
-JobBelow p top j = All (Below top) (builds_at p j)
-
-pub jobs_more : (p : ProblemValue) (order : List ℕ) (i a b : ℕ) (bs : List BuildValue) → i < length order → a ≤ b → bs ≡ builds_at p (get_or order i 0) → All (Below b) bs
-    → All (JobBelow p a) (take i order) → All (JobBelow p b) (take (i + 1) order)
-jobs_more p order i a b bs within up is here all =
-    All-more (JobBelow p b) order i 0 within
-    (All-weaker (JobBelow p a) (JobBelow p b) (λ j h. All-weaker (Below a) (Below b) (weaker a b up) (builds_at p j) h) (take i order) all)
-    (All-same (Below b) (builds_at p (get_or order i 0)) bs (sym is) here)
+-- one job more
+pub jobs_more : (jobs : List (List BuildValue)) (i a b : ℕ) (bs : List BuildValue) → i < length jobs → a ≤ b → bs ≡ get_or jobs i [] → All (Below b) bs
+    → All (λ cs. All (Below a) cs) (take i jobs) → All (λ cs. All (Below b) cs) (take (i + 1) jobs)
+jobs_more jobs i a b bs within up is here all =
+    All-more (λ cs. All (Below b) cs) jobs i [] within
+    (All-weaker (λ cs. All (Below a) cs) (λ cs. All (Below b) cs) (λ cs h. All-weaker (Below a) (Below b) (weaker a b up) cs h) (take i jobs) all)
+    (All-same (Below b) (get_or jobs i []) bs (sym is) here)
 
 pub kept_places : (scopes : ℕ) (bs : List BuildValue) → are_builds scopes bs ≡ true → All (Below 100000) bs
 kept_places scopes bs kept =

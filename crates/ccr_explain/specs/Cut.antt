@@ -1,7 +1,7 @@
 -- A problem cut to some of its demands, so that the resolver can be asked. No public contract names these.
 use Rattle.std.specs.Prelude.{◌≡◌, ℕ, suc, ◌+◌, ◌<◌, ◌≤◌, List, [], ◌∷◌, ◌++◌, length, map, filter, slice_index, slice_index_or, Bool, false, not, ◌&&◌, ◌||◌, ◌==◌, if◌then◌else◌, IsTrue, All, Contains}
 use Rattle.std.specs.List.{list_any, list_all, range_with_len}
-use Rattle.ccr_choice.specs.Problem.{ProblemValue, InputValue, BuildValue, no_input, builds_at}
+use Rattle.ccr_choice.specs.Problem.{ProblemValue, InputValue, BuildValue, no_input, builds_at, IsProblem}
 use Rattle.ccr_choice.specs.Satisfies.{Moved}
 use Rattle.ccr_resolve.specs.NodeBound.{product}
 use Rattle.ccr_explain.specs.declared.demand.Demand.{Demand}
@@ -98,11 +98,26 @@ inputs_cut ds top p = cut_from ds (order_left ds p) top 0 p.inputs
 unfoldable pub problem_with : List Demand → ProblemValue → List InputValue → ProblemValue
 problem_with ds p xs = record { inputs = xs; jobs = builds_from p xs 0 (order_left ds p) }
 
--- No build of these jobs has a pair of a place above the top one.
-pub record IsTop (p : ProblemValue) (order : List ℕ) (top : ℕ) : Type 0 where
+-- No build has a pair of a place above the top one.
+pub record IsTop (p : ProblemValue) (top : ℕ) : Type 0 where
   pub least : 1 ≤ top
   pub most : top ≤ 100000
-  pub covers : All (λ j. All (λ b. All (λ q. q.1 ≤ top) b.pairs) (builds_at p j)) order
+  pub covers : All (λ builds. All (λ b. All (λ q. q.1 ≤ top) b.pairs) builds) p.jobs
+
+-- A problem keeps the rules, and its top place is known.
+pub record IsIndexed (p : ProblemValue) (top : ℕ) : Type 0 where
+  pub rules : IsProblem p
+  pub is_top : IsTop p top
+
+-- ---- builds by their places
+-- The build at a place among these, the newest being at place 0.
+abbrev pub build_in : List BuildValue → ℕ → BuildValue
+build_in bs k = slice_index_or bs k no_build
+
+-- At these places among the builds lie those of the others that pass a test, in their order.
+pub record AreThose (test : BuildValue → Bool) (bs others : List BuildValue) (ks : List ℕ) : Type 0 where
+  pub within : All (λ k. k < length bs) ks
+  pub are : map (build_in bs) ks ≡ filter test others
 
 -- ---- fewer places
 -- A place for each of these inputs that it may take, and for each job a build with which the places of all inputs that name it
@@ -119,10 +134,11 @@ pub record IsNarrowed (p : ProblemValue) (order : List ℕ) (xs others : List In
   pub keeps : (places builds : List ℕ) → SuitsInputs p order xs places builds → (i : ℕ) → i < length xs
       → IsTrue (may i (slice_index places i))
 
--- Among these builds are all those of job n that are of use.
-abbrev pub IsEnough : ProblemValue → List ℕ → List InputValue → ℕ → List BuildValue → Type 0
-IsEnough p order xs n builds =
-    filter (is_of_use xs n) builds ≡ filter (is_of_use xs n) (builds_at p (slice_index order n))
+-- Of job n, at these places lie builds, and among them all that are of use.
+pub record IsEnough (p : ProblemValue) (order : List ℕ) (xs : List InputValue) (n : ℕ) (ks : List ℕ) : Type 0 where
+  pub within : All (λ k. k < length (builds_at p (slice_index order n))) ks
+  pub all : filter (is_of_use xs n) (map (build_in (builds_at p (slice_index order n))) ks)
+      ≡ filter (is_of_use xs n) (builds_at p (slice_index order n))
 
 -- Each of these builds that has the pair has a mark.
 abbrev pub MarksBuilds : List BuildValue → List Bool → ℕ × ℕ → Type 0
@@ -143,8 +159,9 @@ pub record IsInputNarrowed (top : ℕ) (useful : List BuildValue) (x y : InputVa
 
 -- The problem is the one that is cut to these demands, with some top place, and without some places that no choice can have.
 pub record IsCutTo (ds : List Demand) (p q : ProblemValue) : Type 0 where
+  pub rules : IsProblem p
   pub top : ℕ
-  pub is_top : IsTop p (order_left ds p) top
+  pub is_top : IsTop p top
   pub inputs : List InputValue
   pub narrowed : IsNarrowed p (order_left ds p) (inputs_cut ds top p) inputs
   pub is : q ≡ problem_with ds p inputs

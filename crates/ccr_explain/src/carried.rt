@@ -2,10 +2,10 @@
 
 use crate::copies::copied_choice;
 use crate::demand::Demand;
+use crate::indexed::Indexed;
 use crate::meets::{build_of, has_passed};
 use crate::witness::set;
-use ccr_choice::{Choice, Input, Problem};
-use ccr_index::Index;
+use ccr_choice::Choice;
 use std::alloc::{AllocError, Global};
 
 /// What was changed last.
@@ -53,27 +53,27 @@ impl Followed<'_> {
 /// changed once. So around a ring of jobs mostly one demand alone isn't met. None where the input may take no place.
 pub(crate) fn carried(
     alloc: Global,
-    inputs: &[Input],
-    problem: &Problem,
-    index: &Index,
+    problem: &Indexed<'_>,
     followed: Followed<'_>,
     choice: &Choice,
     input: usize,
 ) -> Result<Option<Choice>, AllocError> {
-    let Some(place) = newest_allowed(inputs, input) else {
+    let Some(place) = newest_allowed(problem, input) else {
         return Ok(None);
     };
+    let inputs = problem.inputs().len();
+    let jobs = problem.job_count();
     let mut change = Change {
         choice: copied_choice(alloc, choice)?,
-        has_place: vec![in alloc; false; inputs.len()]?,
-        has_build: vec![in alloc; false; problem.jobs().len()]?,
+        has_place: vec![in alloc; false; inputs]?,
+        has_build: vec![in alloc; false; jobs]?,
         work: Vec::new(alloc),
     };
     change.take_place(input, place)?;
-    for _ in 0..inputs.len().saturating_add(problem.jobs().len()) {
+    for _ in 0..inputs.saturating_add(jobs) {
         match change.work.pop() {
-            Some(Changed::Place(i)) => change.follow_place(inputs, problem, index, followed, i)?,
-            Some(Changed::Build(j)) => change.follow_build(inputs, problem, followed, j)?,
+            Some(Changed::Place(i)) => change.follow_place(problem, followed, i)?,
+            Some(Changed::Build(j)) => change.follow_build(problem, followed, j)?,
             None => return Ok(Some(change.choice)),
         }
     }
@@ -81,8 +81,8 @@ pub(crate) fn carried(
 }
 
 /// The newest place that an input may take.
-fn newest_allowed(inputs: &[Input], input: usize) -> Option<u32> {
-    inputs.get(input)?.places().last().copied()
+fn newest_allowed(problem: &Indexed<'_>, input: usize) -> Option<u32> {
+    problem.inputs().get(input)?.places().last().copied()
 }
 
 impl Change {
@@ -107,19 +107,17 @@ impl Change {
     /// Lets the jobs that an input is to have passed take builds with which its place did, where it didn't.
     fn follow_place(
         &mut self,
-        inputs: &[Input],
-        problem: &Problem,
-        index: &Index,
+        problem: &Indexed<'_>,
         followed: Followed<'_>,
         input: usize,
     ) -> Result<(), AllocError> {
-        let Some(one) = inputs.get(input) else {
+        let Some(one) = problem.inputs().get(input) else {
             return Ok(());
         };
         for job in one.jobs() {
             let job = *job as usize;
-            if !has_passed(inputs, problem, &self.choice, input, job) && followed.asks(input, job) {
-                if let Some(number) = build_with(inputs, index, &self.choice, input, job) {
+            if !has_passed(problem, &self.choice, input, job) && followed.asks(input, job) {
+                if let Some(number) = build_with(problem, &self.choice, input, job) {
                     self.take_build(job, number)?;
                 }
             }
@@ -130,17 +128,17 @@ impl Change {
     /// Lets the inputs that are to have passed a job take the places that they have in its build, where theirs didn't pass it.
     fn follow_build(
         &mut self,
-        inputs: &[Input],
-        problem: &Problem,
+        problem: &Indexed<'_>,
         followed: Followed<'_>,
         job: usize,
     ) -> Result<(), AllocError> {
+        let inputs = problem.inputs();
         for input in 0..inputs.len() {
             if inputs[input].jobs().iter().any(|j| *j as usize == job)
-                && !has_passed(inputs, problem, &self.choice, input, job)
+                && !has_passed(problem, &self.choice, input, job)
                 && followed.asks(input, job)
             {
-                if let Some(place) = place_with(inputs, problem, &self.choice, input, job) {
+                if let Some(place) = place_with(problem, &self.choice, input, job) {
                     self.take_place(input, place)?;
                 }
             }
@@ -163,18 +161,17 @@ fn is_new(marks: &mut [bool], at: usize) -> bool {
 
 /// The number of the newest build of a job with which the place of an input passed it.
 pub(crate) fn build_with(
-    inputs: &[Input],
-    index: &Index,
+    problem: &Indexed<'_>,
     choice: &Choice,
     input: usize,
     job: usize,
 ) -> Option<u32> {
-    let scope = inputs.get(input)?.scope();
+    let scope = problem.inputs().get(input)?.scope();
     let place = *choice.places.get(input)?;
-    if job >= index.job_count() {
+    if job >= problem.job_count() {
         return None;
     }
-    let rows = index.rows(job);
+    let rows = problem.rows(job);
     let build = rows.len().checked_sub(rows.last_with(scope, place))?;
     if build < rows.len() {
         Some(rows.number(build))
@@ -185,15 +182,18 @@ pub(crate) fn build_with(
 
 /// The place that an input has in the build of a job, the first where it has several.
 pub(crate) fn place_with(
-    inputs: &[Input],
-    problem: &Problem,
+    problem: &Indexed<'_>,
     choice: &Choice,
     input: usize,
     job: usize,
 ) -> Option<u32> {
-    let scope = inputs.get(input)?.scope();
+    let scope = problem.inputs().get(input)?.scope();
     let number = *choice.builds.get(job)?;
-    let build = build_of(problem.jobs().get(job)?.builds(), number)?;
-    let pair = build.pairs().iter().find(|q| q.0 == scope)?;
+    if job >= problem.job_count() {
+        return None;
+    }
+    let rows = problem.rows(job);
+    let pairs = rows.pairs(build_of(rows, number)?);
+    let pair = pairs.iter().find(|q| q.0 == scope)?;
     Some(pair.1)
 }

@@ -1,66 +1,58 @@
 //! Why a problem has no choice.
 
 ghost use Rattle.std.specs.Prelude.{◌≡◌, ◌≤◌, IfOk, IfSome};
-ghost use Rattle.ccr_choice.specs.Problem.{IsProblem};
 ghost use Rattle.ccr_choice.specs.Preference.{order_of};
 ghost use Rattle.ccr_resolve.specs.Chosen.{IsChosen};
 ghost use Rattle.ccr_explain.specs.Clash.{IsClash, IsExplanation};
 
-use crate::copies::{copied_inputs, copied_jobs};
+use crate::copies::{copied_inputs, copied_jobs, inputs_of};
 use crate::demand::{Demand, demands_of};
 use crate::explanation::Explanation;
 use crate::grown::few_demands;
+use crate::indexed::Indexed;
 use crate::met::{Met, are_met};
 use crate::reduced::reduced;
-use ccr_choice::{Choice, Input, Problem};
+use ccr_choice::{Choice, Problem};
 use ccr_index::{Index, build_index};
 use ccr_proof::MOST_NODES;
 use ccr_resolve::{Chosen, choose};
 use std::alloc::{AllocError, Global};
 
-/// Demands of a problem that exclude each other, and of which none can be left out; or the best choice, if one satisfies.
+/// Demands of a problem that exclude each other, and of which none can be left out; or the best choice, if one satisfies. The index
+/// stands for the problem.
 ///
-/// The index is that of the problem. Each call of the resolver has the budget, from 1 to 1,000,000, and there are at most
-/// twice as many calls as demands, and two where there are none. Where the budget doesn't suffice for one of them, the clash
-/// is one all the same, but says that perhaps fewer demands exclude each other. The only error is out of memory.
-pub fn clash(
-    alloc: Global,
-    problem: &Problem,
-    index: &Index,
-    budget: u32,
-) -> Result<Explanation, AllocError>
-    requires same { index.now.problem ≡ problem.now }
+/// Each call of the resolver has the budget, from 1 to 1,000,000, and there are at most twice as many calls as demands, and two where
+/// there are none. Where the budget doesn't suffice for one of them, the clash is one all the same, but says that perhaps fewer demands
+/// exclude each other. The only error is out of memory.
+pub fn clash(alloc: Global, index: &Index, budget: u32) -> Result<Explanation, AllocError>
     requires least { 1 ≤ budget }
     requires most { budget ≤ MOST_NODES }
-    ensures { IfOk result (IsExplanation (order_of problem.now) problem.now budget) }
+    ensures { let p = index.now.problem in IfOk result (IsExplanation (order_of p) p budget) }
 {
-    let inputs = problem.inputs();
-    let few = few_demands(alloc, inputs, problem, index, budget)?;
-    explained(alloc, inputs, problem, index, few, None, budget)
+    let inputs = inputs_of(alloc, index)?;
+    let problem = Indexed::new(&inputs, index);
+    let few = few_demands(alloc, &problem, index, budget)?;
+    explained(alloc, &problem, few, None, budget)
 }
 
-/// The same of the problem of these inputs and the jobs of a problem, by a few demands that exclude each other, or else by all. A choice that
+/// The same, by a few demands that exclude each other, or else by all. A choice that
 /// is known to meet all demands but one spares calls of the resolver.
 pub(crate) fn explained(
     alloc: Global,
-    inputs: &[Input],
-    problem: &Problem,
-    index: &Index,
+    problem: &Indexed<'_>,
     few: Option<Vec<Demand>>,
     known: Option<&Choice>,
     budget: u32,
 ) -> Result<Explanation, AllocError>
-    requires rules { IsProblem (record problem.now { inputs = inputs.now }) }
-    requires few { IfSome few (λ ds. IsClash (record problem.now { inputs = inputs.now }) ds.items) }
-    requires same { index.now.problem ≡ problem.now }
+    requires few { IfSome few (λ ds. IsClash problem.now ds.items) }
     requires least { 1 ≤ budget }
     requires most { budget ≤ MOST_NODES }
-    ensures { let p = record problem.now { inputs = inputs.now } in IfOk result (IsExplanation (order_of p) p budget) }
+    ensures { let p = problem.now in IfOk result (IsExplanation (order_of p) p budget) }
 {
     match few {
-        None => explained_whole(alloc, inputs, problem, index, known, budget),
+        None => explained_whole(alloc, problem, known, budget),
         Some(demands) => {
-            let clash = reduced(alloc, inputs, problem, index, demands, known, budget)?;
+            let clash = reduced(alloc, problem, demands, known, budget)?;
             Ok(Explanation::Clash(clash))
         }
     }
@@ -69,46 +61,36 @@ pub(crate) fn explained(
 /// The same, by all inputs at once.
 fn explained_whole(
     alloc: Global,
-    inputs: &[Input],
-    problem: &Problem,
-    index: &Index,
+    problem: &Indexed<'_>,
     known: Option<&Choice>,
     budget: u32,
 ) -> Result<Explanation, AllocError>
-    requires rules { IsProblem (record problem.now { inputs = inputs.now }) }
-    requires same { index.now.problem ≡ problem.now }
     requires least { 1 ≤ budget }
     requires most { budget ≤ MOST_NODES }
-    ensures { let p = record problem.now { inputs = inputs.now } in IfOk result (IsExplanation (order_of p) p budget) }
+    ensures { let p = problem.now in IfOk result (IsExplanation (order_of p) p budget) }
 {
-    let demands = demands_of(alloc, inputs)?;
-    if let Met::No = are_met(alloc, inputs, problem, index, &demands, budget)? {
-        let clash = reduced(alloc, inputs, problem, index, demands, known, budget)?;
+    let demands = demands_of(alloc, problem.inputs())?;
+    if let Met::No = are_met(alloc, problem, &demands, budget)? {
+        let clash = reduced(alloc, problem, demands, known, budget)?;
         return Ok(Explanation::Clash(clash));
     }
-    match chosen_of_whole(alloc, inputs, problem, budget)? {
+    match chosen_of(alloc, problem, budget)? {
         Chosen::Best(choice) => Ok(Explanation::Fits(choice)),
         Chosen::OverBudget(budget) => Ok(Explanation::OverBudget(budget)),
         Chosen::Nothing => {
-            let clash = reduced(alloc, inputs, problem, index, demands, known, budget)?;
+            let clash = reduced(alloc, problem, demands, known, budget)?;
             Ok(Explanation::Clash(clash))
         }
     }
 }
 
-/// What the resolver chooses for the problem of these inputs and the jobs of a problem.
-fn chosen_of_whole(
-    alloc: Global,
-    inputs: &[Input],
-    problem: &Problem,
-    budget: u32,
-) -> Result<Chosen, AllocError>
-    requires rules { IsProblem (record problem.now { inputs = inputs.now }) }
+/// What the resolver chooses for a problem.
+fn chosen_of(alloc: Global, problem: &Indexed<'_>, budget: u32) -> Result<Chosen, AllocError>
     requires least { 1 ≤ budget }
     requires most { budget ≤ MOST_NODES }
-    ensures { let p = record problem.now { inputs = inputs.now } in IfOk result (IsChosen (order_of p) p budget) }
+    ensures { let p = problem.now in IfOk result (IsChosen (order_of p) p budget) }
 {
-    let inputs = copied_inputs(alloc, inputs)?;
+    let inputs = copied_inputs(alloc, problem.inputs())?;
     let jobs = copied_jobs(alloc, problem)?;
     let whole = Problem::new(inputs, jobs);
     let index = build_index(alloc, &whole)?;

@@ -2,88 +2,38 @@
 
 ghost use Rattle.std.specs.Prelude.{◌≡◌, ◌==◌, ◌<◌, ◌≤◌, ◌++◌, if◌then◌else◌, length, map, filter, All, EachIndex, slice_index, IfOk, OnOk, IfSome, IfNone};
 ghost use Rattle.std.specs.List.{list_all, list_any, range_with_len};
-ghost use Rattle.ccr_choice.specs.Problem.{builds_at, IsProblem};
-ghost use Rattle.ccr_explain.specs.Cut.{is_allowed_of, is_passed_of, jobs_left, with_job, with_jobs, place_in, top_for, cut_input, cut_from, has_place_of, names, is_of_use, builds_from, order_left, IsTop, IsEnough, IsCutTo, IsEmptied};
 ghost use Rattle.ccr_choice.specs.Ascending.{AreRising};
+ghost use Rattle.ccr_choice.specs.Problem.{builds_at};
+ghost use Rattle.ccr_explain.specs.Cut.{is_allowed_of, is_passed_of, jobs_left, with_job, with_jobs, place_in, top_for, cut_input, cut_from, has_place_of, names, is_of_use, builds_from, order_left, AreThose, IsEnough, IsCutTo, IsEmptied};
 
 use crate::copies::copied_builds;
 use crate::demand::Demand;
+use crate::indexed::Indexed;
 use crate::narrow::{Looked, first_emptied, narrow};
-use crate::table::{have_marked, tables_of};
+use crate::useful::{useful_among, useful_builds};
 use ccr_choice::possible::has_place;
-use ccr_choice::{Build, Input, JobBuilds, Problem};
-use ccr_index::{Index, JobRows};
+use ccr_choice::{Input, JobBuilds, Problem};
 use std::alloc::{AllocError, Global};
 
-/// The problem of these inputs and the jobs of a problem, whose index this is, cut to these demands. An input without the demand of its
-/// allowed places may take any place up to a top one. Places that no choice can have are left out, and builds that have none of the
-/// others. None where an input has no place left, so that there is no choice.
+/// The problem cut to these demands. An input without the demand of its allowed places may take any place up to a top one. Places that no
+/// choice can have are left out, and builds that have none of the others. None where an input has no place left, so that there is no
+/// choice.
 pub(crate) fn cut_to(
     alloc: Global,
-    inputs: &[Input],
-    problem: &Problem,
-    index: &Index,
+    problem: &Indexed<'_>,
     demands: &[Demand],
 ) -> Result<Option<Problem>, AllocError>
-    requires rules { IsProblem (record problem.now { inputs = inputs.now }) }
-    requires same { index.now.problem ≡ problem.now }
-    ensures cut { IfOk result
-        (λ found. IfSome found (IsCutTo demands.now (record problem.now { inputs = inputs.now }))) }
-    ensures none { IfOk result
-        (λ found. IfNone found (IsEmptied demands.now (record problem.now { inputs = inputs.now }))) }
+    ensures cut { IfOk result (λ found. IfSome found (IsCutTo demands.now problem.now)) }
+    ensures none { IfOk result (λ found. IfNone found (IsEmptied demands.now problem.now)) }
 {
-    let order = order_left(alloc, inputs, problem, demands)?;
-    let top = top_place(index, &order);
-    let mut inputs = cut_inputs(alloc, inputs, demands, &order, top)?;
-    let looked = narrow(alloc, problem, index, &order, top, &mut inputs)?;
+    let order = order_left(alloc, problem, demands)?;
+    let mut inputs = cut_inputs(alloc, problem.inputs(), demands, &order, problem.top())?;
+    let looked = narrow(alloc, problem, &order, &mut inputs)?;
     if let Some(_) = first_emptied(&inputs) {
         return Ok(None);
     }
     let jobs = jobs_of(alloc, problem, &inputs, &order, &looked)?;
     Ok(Some(Problem::new(inputs, jobs)))
-}
-
-/// The greatest place of a pair of these jobs, at least 1.
-fn top_place(index: &Index, order: &[u32]) -> u32
-    requires { EachIndex order.now (λ k. slice_index order.now k < length index.now.problem.jobs) }
-    ensures { IsTop index.now.problem order.now result }
-{
-    // Each pair has a place of at most 100,000.
-    index.job_count();
-    let mut top = 1;
-    for job in order {
-        top = top_of_rows(index.rows(*job as usize), top);
-    }
-    top
-}
-
-fn top_of_rows(rows: &JobRows, least: u32) -> u32
-    requires least { least ≤ 100000 }
-    requires few { All (λ b. All (λ q. q.1 ≤ 100000) b.pairs) rows.now.builds }
-    ensures more { least ≤ result }
-    ensures most { result ≤ 100000 }
-    ensures covers { All (λ b. All (λ q. q.1 ≤ result) b.pairs) rows.now.builds }
-{
-    // The rows have their pairs beside each other, which is why they are looked at and not the builds.
-    let mut top = least;
-    for build in 0..rows.len() {
-        top = top_of_pairs(rows.pairs(build), top);
-    }
-    top
-}
-
-fn top_of_pairs(pairs: &[(u32, u32)], least: u32) -> u32
-    requires least { least ≤ 100000 }
-    requires few { All (λ q. q.1 ≤ 100000) pairs.now }
-    ensures more { least ≤ result }
-    ensures most { result ≤ 100000 }
-    ensures covers { All (λ q. q.1 ≤ result) pairs.now }
-{
-    let mut top = least;
-    for pair in pairs {
-        top = top.max(pair.1);
-    }
-    top
 }
 
 // ---- the jobs that are left
@@ -121,18 +71,15 @@ fn jobs_left(
 /// The jobs that inputs must still have passed, in order of first mention.
 pub(crate) fn order_left(
     alloc: Global,
-    inputs: &[Input],
-    problem: &Problem,
+    problem: &Indexed<'_>,
     demands: &[Demand],
 ) -> Result<Vec<u32>, AllocError>
-    requires { IsProblem (record problem.now { inputs = inputs.now }) }
-    ensures value { IfOk result
-        (λ order. order.items ≡ order_left demands.now (record problem.now { inputs = inputs.now })) }
+    ensures value { IfOk result (λ order. order.items ≡ order_left demands.now problem.now) }
     ensures few { IfOk result (λ order. length order.items ≤ 32) }
     ensures known { IfOk result
         (λ order. EachIndex order.items (λ k. slice_index order.items k < length problem.now.jobs)) }
 {
-    let _ = problem;
+    let inputs = problem.inputs();
     let mut order = Vec::new(alloc);
     for i in 0..inputs.len() {
         let jobs = jobs_left(alloc, demands, i, inputs[i].jobs())?;
@@ -265,7 +212,7 @@ fn places_left(
 fn places_to(alloc: Global, top: u32) -> Result<Vec<u32>, AllocError>
     ensures { IfOk result (λ places. places.items ≡ range_with_len 1 top) }
 {
-    let mut places = Vec::new(alloc);
+    let mut places = Vec::with_capacity(alloc, top as usize)?;
     for k in 0..top {
         places.push(k + 1)?;
     }
@@ -287,91 +234,69 @@ fn numbers_of(alloc: Global, order: &[u32], jobs: &[u32]) -> Result<Vec<u32>, Al
 /// The builds of these jobs that are of use to the cut inputs.
 fn jobs_of(
     alloc: Global,
-    problem: &Problem,
+    problem: &Indexed<'_>,
     inputs: &[Input],
     order: &[u32],
-    looked: &[Looked<'_>],
+    looked: &[Looked],
 ) -> Result<Vec<JobBuilds>, AllocError>
     requires few { length order.now ≤ 32 }
     requires known { EachIndex order.now (λ k. slice_index order.now k < length problem.now.jobs) }
     requires rising { All (λ x. AreRising x.places) inputs.now }
-    requires enough { All (λ s. IsEnough problem.now order.now inputs.now s.0 (map (λ b. b.now) s.1.items)) looked.now }
+    requires enough { All (λ s. IsEnough problem.now order.now inputs.now s.0 s.1.items) looked.now }
     ensures { IfOk result (λ jobs. jobs.items ≡ builds_from problem.now inputs.now 0 order.now) }
 {
     let mut jobs = Vec::new(alloc);
     for n in 0..order.len() {
-        let useful = useful_of(alloc, problem, inputs, order, looked, n)?;
-        jobs.push(copied_builds(alloc, &useful)?)?;
+        jobs.push(builds_left(alloc, problem, inputs, order, looked, n)?)?;
     }
     Ok(jobs)
 }
 
-/// The builds of job `n` among those that are left that are of use to the cut inputs: of those that were looked at, if they were.
-fn useful_of<'a>(
+/// The builds of job `n` among those that are left that are of use to the cut inputs.
+fn builds_left(
     alloc: Global,
-    problem: &'a Problem,
+    problem: &Indexed<'_>,
     inputs: &[Input],
     order: &[u32],
-    looked: &[Looked<'a>],
+    looked: &[Looked],
     n: usize,
-) -> Result<Vec<&'a Build>, AllocError>
+) -> Result<JobBuilds, AllocError>
     requires few { length order.now ≤ 32 }
     requires known { EachIndex order.now (λ k. slice_index order.now k < length problem.now.jobs) }
     requires within { n < length order.now }
     requires rising { All (λ x. AreRising x.places) inputs.now }
-    requires enough { All (λ s. IsEnough problem.now order.now inputs.now s.0 (map (λ b. b.now) s.1.items)) looked.now }
-    ensures { IfOk result (λ useful. map (λ b. b.now) useful.items
-        ≡ filter (is_of_use inputs.now n) (builds_at problem.now (slice_index order.now n))) }
+    requires enough { All (λ s. IsEnough problem.now order.now inputs.now s.0 s.1.items) looked.now }
+    ensures { IfOk result
+        (λ builds. builds ≡ filter (is_of_use inputs.now n) (builds_at problem.now (slice_index order.now n))) }
 {
+    let useful = useful_of(alloc, problem, inputs, order, looked, n)?;
+    copied_builds(alloc, problem.rows(order[n] as usize), &useful)
+}
+
+/// Where these builds lie: among those that were looked at, if they were.
+fn useful_of(
+    alloc: Global,
+    problem: &Indexed<'_>,
+    inputs: &[Input],
+    order: &[u32],
+    looked: &[Looked],
+    n: usize,
+) -> Result<Vec<usize>, AllocError>
+    requires few { length order.now ≤ 32 }
+    requires known { EachIndex order.now (λ k. slice_index order.now k < length problem.now.jobs) }
+    requires within { n < length order.now }
+    requires rising { All (λ x. AreRising x.places) inputs.now }
+    requires enough { All (λ s. IsEnough problem.now order.now inputs.now s.0 s.1.items) looked.now }
+    ensures { let builds = builds_at problem.now (slice_index order.now n) in
+        IfOk result (λ useful. AreThose (is_of_use inputs.now n) builds builds useful.items) }
+{
+    let rows = problem.rows(order[n] as usize);
     for one in looked {
         if one.0 == n {
-            return useful_among(alloc, inputs, n as u32, &one.1);
+            return useful_among(alloc, inputs, n as u32, rows, &one.1);
         }
     }
-    useful_builds(alloc, inputs, n as u32, problem.builds(order[n] as usize))
-}
-
-/// The builds among these that are of use to the inputs as builds of job `job`.
-fn useful_among<'a>(
-    alloc: Global,
-    inputs: &[Input],
-    job: u32,
-    builds: &[&'a Build],
-) -> Result<Vec<&'a Build>, AllocError>
-    requires { All (λ x. AreRising x.places) inputs.now }
-    ensures { IfOk result (λ useful. map (λ b. b.now) useful.items
-        ≡ filter (is_of_use inputs.now job) (map (λ b. b.now) builds.now)) }
-{
-    let naming = inputs_naming(alloc, inputs, job)?;
-    let mut useful = Vec::new(alloc);
-    for build in builds {
-        if is_of_use(&naming, build) {
-            useful.push(*build)?;
-        }
-    }
-    Ok(useful)
-}
-
-/// The builds among these that are of use to the inputs as builds of job `job`, where they are.
-pub(crate) fn useful_builds<'a>(
-    alloc: Global,
-    inputs: &[Input],
-    job: u32,
-    builds: &'a [Build],
-) -> Result<Vec<&'a Build>, AllocError>
-    requires { All (λ x. AreRising x.places) inputs.now }
-    ensures { IfOk result (λ useful. map (λ b. b.now) useful.items ≡ filter (is_of_use inputs.now job) builds.now) }
-{
-    // A job has many builds, and few inputs name it.
-    let naming = inputs_naming(alloc, inputs, job)?;
-    let tables = tables_of(alloc, &naming)?;
-    let mut useful = Vec::new(alloc);
-    for build in builds {
-        if have_marked(&tables, build.pairs()) {
-            useful.push(build)?;
-        }
-    }
-    Ok(useful)
+    useful_builds(alloc, inputs, n as u32, rows)
 }
 
 /// The inputs among these that name job `job`.
@@ -393,13 +318,13 @@ pub(crate) fn inputs_naming<'a>(
     Ok(naming)
 }
 
-/// Whether each of these inputs can have one of its places with a build.
-pub(crate) fn is_of_use(naming: &[&Input], build: &Build) -> bool
+/// Whether each of these inputs can have one of its places with a build of these pairs.
+pub(crate) fn is_of_use(naming: &[&Input], pairs: &[(u32, u32)]) -> bool
     requires { All (λ x. AreRising x.now.places) naming.now }
-    ensures { result ≡ list_all (λ x. has_place_of x.now build.now.pairs) naming.now }
+    ensures { result ≡ list_all (λ x. has_place_of x.now pairs.now) naming.now }
 {
     for input in naming {
-        if !has_place_of(input, build.pairs()) {
+        if !has_place_of(input, pairs) {
             return false;
         }
     }

@@ -1,40 +1,44 @@
 //! A few inputs whose demands already exclude each other, so that the others needn't be looked at.
 
 ghost use Rattle.std.specs.Prelude.{◌≡◌, ◌≤◌, IfOk, IfSome};
-ghost use Rattle.ccr_choice.specs.Problem.{IsProblem};
 ghost use Rattle.ccr_explain.specs.Clash.{IsClash};
 
 use crate::demand::{Demand, demands_of_some};
+use crate::indexed::Indexed;
 use crate::met::{Met, are_met};
-use ccr_choice::{Input, MOST_INPUTS, Problem};
+use ccr_choice::{Input, MOST_INPUTS};
 use ccr_index::Index;
 use ccr_proof::MOST_NODES;
 use std::alloc::{AllocError, Global};
 
-/// The demands of an input that alone exclude each other, else those of a few inputs that do so together, looked for from input 0
-/// on; None where that takes all inputs, or the budget doesn't suffice to tell.
+/// The demands of an input of an index's problem that alone exclude each other, else those of a few inputs that do so together, looked
+/// for from input 0 on; None where that takes all inputs, or the budget doesn't suffice to tell.
 pub(crate) fn few_demands(
     alloc: Global,
-    inputs: &[Input],
-    problem: &Problem,
+    problem: &Indexed<'_>,
     index: &Index,
     budget: u32,
 ) -> Result<Option<Vec<Demand>>, AllocError>
-    requires rules { IsProblem (record problem.now { inputs = inputs.now }) }
-    requires same { index.now.problem ≡ problem.now }
     requires least { 1 ≤ budget }
     requires most { budget ≤ MOST_NODES }
     ensures { IfOk result
-        (λ found. IfSome found (λ ds. IsClash (record problem.now { inputs = inputs.now }) ds.items)) }
+        (λ found. IfSome found (λ ds. IsClash problem.now ds.items)) }
 {
+    let inputs = problem.inputs();
     for i in 0..inputs.len() {
-        let demands = demands_of_some(alloc, inputs, &[i])?;
-        let met = are_met(alloc, inputs, problem, index, &demands, budget)?;
-        if let Met::No = met {
-            return Ok(Some(demands));
+        if !has_place_alone(index, i) {
+            let demands = demands_of_some(alloc, inputs, &[i])?;
+            if let Met::No = are_met(alloc, problem, &demands, budget)? {
+                return Ok(Some(demands));
+            }
         }
     }
-    grown(alloc, inputs, problem, index, 0, 1, budget)
+    grown(alloc, problem, 0, 1, budget)
+}
+
+/// Whether an index knows a place that the input could take if the others had no demands. Most have one, and needn't be asked about.
+fn has_place_alone(index: &Index, input: usize) -> bool {
+    input < index.input_count() && index.top(input) > 0
 }
 
 /// The demands of one input, and of as few more that name a job as it takes until they exclude each other; None where that takes
@@ -42,20 +46,17 @@ pub(crate) fn few_demands(
 /// it is known that they don't exclude each other.
 pub(crate) fn grown(
     alloc: Global,
-    inputs: &[Input],
-    problem: &Problem,
-    index: &Index,
+    problem: &Indexed<'_>,
     first: usize,
     known: usize,
     budget: u32,
 ) -> Result<Option<Vec<Demand>>, AllocError>
-    requires rules { IsProblem (record problem.now { inputs = inputs.now }) }
-    requires same { index.now.problem ≡ problem.now }
     requires least { 1 ≤ budget }
     requires most { budget ≤ MOST_NODES }
     ensures { IfOk result
-        (λ found. IfSome found (λ ds. IsClash (record problem.now { inputs = inputs.now }) ds.items)) }
+        (λ found. IfSome found (λ ds. IsClash problem.now ds.items)) }
 {
+    let inputs = problem.inputs();
     let order = in_turn(alloc, inputs, first)?;
     let mut found = None;
     let mut few = known;
@@ -64,7 +65,7 @@ pub(crate) fn grown(
         let count = next_count(few, many, order.len());
         if count > few {
             let demands = demands_of_some(alloc, inputs, &order[..count])?;
-            if let Met::No = are_met(alloc, inputs, problem, index, &demands, budget)? {
+            if let Met::No = are_met(alloc, problem, &demands, budget)? {
                 many = count;
                 found = Some(demands);
             } else {

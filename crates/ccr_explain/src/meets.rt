@@ -2,42 +2,54 @@
 
 ghost use Rattle.std.specs.Prelude.{◌≡◌, ◌<◌, length, remove, slice_index, slice_index_or, IsTrue, IfSome, All, Contains};
 ghost use Rattle.ccr_choice.specs.Ascending.{AreRising};
-ghost use Rattle.ccr_choice.specs.Problem.{no_input, builds_at};
+ghost use Rattle.ccr_choice.specs.Problem.{no_input, input_at, builds_at};
 ghost use Rattle.ccr_choice.specs.Satisfies.{Moved};
+ghost use Rattle.ccr_explain.specs.Cut.{build_in};
 ghost use Rattle.ccr_explain.specs.Demand.{Meets, CanBeMet};
 
 use crate::demand::Demand;
+use crate::indexed::Indexed;
+use ccr_choice::Choice;
 use ccr_choice::possible::has_place;
-use ccr_choice::{Build, Choice, Input, Problem};
+use ccr_index::JobRows;
 
-/// The build with this number.
-pub(crate) fn build_of<'a>(builds: &'a [Build], number: u32) -> Option<&'a Build>
-    ensures { IfSome result (λ b. Contains builds.now b.now × (b.now.number ≡ number)) }
+/// Where the build with this number lies.
+pub(crate) fn build_of(rows: &JobRows, number: u32) -> Option<usize>
+    ensures { IfSome result
+        (λ k. (k < length rows.now.builds) × ((build_in rows.now.builds k).number ≡ number)) }
 {
     // Builds stand newest first.
-    let at = builds.partition_point(|b| b.number() > number);
-    let build = builds.get(at)?;
-    if build.number() == number {
-        Some(build)
+    let mut low = 0;
+    let mut high = rows.len();
+    while low < high {
+        let middle = low + (high - low) / 2;
+        if rows.number(middle) > number {
+            low = middle + 1;
+        } else {
+            high = middle;
+        }
+    }
+    if low < rows.len() && rows.number(low) == number {
+        Some(low)
     } else {
         None
     }
 }
 
-fn has_moved(builds: &[Build], number: u32, scope: u32, place: u32) -> bool
-    ensures { IsTrue result → Moved builds.now number (scope, place) }
+fn has_moved(rows: &JobRows, number: u32, scope: u32, place: u32) -> bool
+    ensures { IsTrue result → Moved rows.now.builds number (scope, place) }
 {
-    match build_of(builds, number) {
-        Some(build) => build.pairs().contains(&(scope, place)),
+    match build_of(rows, number) {
+        Some(k) => rows.pairs(k).contains(&(scope, place)),
         None => false,
     }
 }
 
-fn is_allowed(inputs: &[Input], choice: &Choice, input: usize) -> bool
-    requires { All (λ x. AreRising x.places) inputs.now }
-    ensures { IsTrue result → Contains (slice_index_or inputs.now input no_input).places (slice_index choice.now.places input) }
+fn is_allowed(problem: &Indexed<'_>, choice: &Choice, input: usize) -> bool
+    ensures { IsTrue result
+        → Contains (input_at problem.now input).places (slice_index choice.now.places input) }
 {
-    let Some(x) = inputs.get(input) else {
+    let Some(x) = problem.inputs().get(input) else {
         return false;
     };
     let Some(place) = choice.places.get(input) else {
@@ -47,61 +59,53 @@ fn is_allowed(inputs: &[Input], choice: &Choice, input: usize) -> bool
 }
 
 /// Whether the place of an input passed a job with the build of it.
-pub(crate) fn has_passed(
-    inputs: &[Input],
-    problem: &Problem,
-    choice: &Choice,
-    input: usize,
-    job: usize,
-) -> bool
+pub(crate) fn has_passed(problem: &Indexed<'_>, choice: &Choice, input: usize, job: usize) -> bool
     ensures { IsTrue result → Moved (builds_at problem.now job) (slice_index choice.now.builds job)
-        ((slice_index_or inputs.now input no_input).scope, slice_index choice.now.places input) }
+        ((input_at problem.now input).scope, slice_index choice.now.places input) }
 {
-    let Some(x) = inputs.get(input) else {
+    let Some(x) = problem.inputs().get(input) else {
         return false;
     };
     let Some(place) = choice.places.get(input) else {
         return false;
     };
-    let Some(builds) = problem.jobs().get(job) else {
-        return false;
-    };
     let Some(number) = choice.builds.get(job) else {
         return false;
     };
-    has_moved(builds.builds(), *number, x.scope(), *place)
+    if job >= problem.job_count() {
+        return false;
+    }
+    has_moved(problem.rows(job), *number, x.scope(), *place)
 }
 
 /// Whether a choice meets a demand of the problem of these inputs and the jobs of a problem.
-fn meets(inputs: &[Input], problem: &Problem, choice: &Choice, demand: &Demand) -> bool
-    requires { All (λ x. AreRising x.places) inputs.now }
+fn meets(problem: &Indexed<'_>, choice: &Choice, demand: &Demand) -> bool
     ensures { IsTrue result
-        → Meets (record problem.now { inputs = inputs.now }) choice.now.places choice.now.builds demand.now }
+        → Meets problem.now choice.now.places choice.now.builds demand.now }
 {
     match demand {
-        Demand::Allowed(i) => is_allowed(inputs, choice, *i),
-        Demand::Passed(i, j) => has_passed(inputs, problem, choice, *i, *j),
+        Demand::Allowed(i) => is_allowed(problem, choice, *i),
+        Demand::Passed(i, j) => has_passed(problem, choice, *i, *j),
     }
 }
 
 /// The demand that a choice doesn't meet, if it is the only one.
 pub(crate) fn only_unmet(
-    inputs: &[Input],
-    problem: &Problem,
+    problem: &Indexed<'_>,
     demands: &[Demand],
     choice: &Choice,
 ) -> Option<usize>
-    requires { All (λ x. AreRising x.places) inputs.now }
     ensures within { IfSome result (λ m. m < length demands.now) }
     ensures others { IfSome result
-        (λ m. CanBeMet (record problem.now { inputs = inputs.now }) (remove demands.now m)) }
+        (λ m. CanBeMet problem.now (remove demands.now m)) }
 {
-    if choice.places.len() != inputs.len() || choice.builds.len() != problem.jobs().len() {
+    let inputs = problem.inputs().len();
+    if choice.places.len() != inputs || choice.builds.len() != problem.job_count() {
         return None;
     }
     let mut unmet = None;
     for m in 0..demands.len() {
-        if !meets(inputs, problem, choice, &demands[m]) {
+        if !meets(problem, choice, &demands[m]) {
             match unmet {
                 Some(_) => return None,
                 None => unmet = Some(m),

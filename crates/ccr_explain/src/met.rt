@@ -1,14 +1,14 @@
 //! Whether some choice meets some of the demands.
 
 ghost use Rattle.std.specs.Prelude.{◌≡◌, ◌≤◌, All, IfOk};
-ghost use Rattle.ccr_choice.specs.Problem.{IsProblem};
 ghost use Rattle.ccr_explain.specs.Demand.{IsDemandOf};
 ghost use Rattle.ccr_explain.specs.Cut.{IsChosenOfCut, IsMet};
 
 use crate::cut::{cut_to, order_left};
 use crate::demand::Demand;
-use ccr_choice::{Choice, Input, Problem};
-use ccr_index::{Index, build_index};
+use crate::indexed::Indexed;
+use ccr_choice::Choice;
+use ccr_index::build_index;
 use ccr_proof::MOST_NODES;
 use ccr_resolve::{Chosen, choose};
 use std::alloc::{AllocError, Global};
@@ -27,19 +27,15 @@ pub(crate) enum Met {
 /// What the resolver chooses for the problem cut to these demands.
 fn chosen_of_cut(
     alloc: Global,
-    inputs: &[Input],
-    problem: &Problem,
-    index: &Index,
+    problem: &Indexed<'_>,
     demands: &[Demand],
     budget: u32,
 ) -> Result<Chosen, AllocError>
-    requires rules { IsProblem (record problem.now { inputs = inputs.now }) }
-    requires same { index.now.problem ≡ problem.now }
     requires least { 1 ≤ budget }
     requires most { budget ≤ MOST_NODES }
-    ensures { IfOk result (IsChosenOfCut demands.now (record problem.now { inputs = inputs.now }) budget) }
+    ensures { IfOk result (IsChosenOfCut demands.now problem.now budget) }
 {
-    match cut_to(alloc, inputs, problem, index, demands)? {
+    match cut_to(alloc, problem, demands)? {
         Some(cut) => {
             let index = build_index(alloc, &cut)?;
             choose(alloc, &index, budget)
@@ -51,16 +47,13 @@ fn chosen_of_cut(
 /// A choice of the cut problem as one of the whole: jobs have the numbers that they have there. A job that isn't left has no build.
 fn choice_of_cut(
     alloc: Global,
-    inputs: &[Input],
-    problem: &Problem,
+    problem: &Indexed<'_>,
     demands: &[Demand],
     choice: Choice,
-) -> Result<Choice, AllocError>
-    requires { IsProblem (record problem.now { inputs = inputs.now }) }
-{
-    let order = order_left(alloc, inputs, problem, demands)?;
+) -> Result<Choice, AllocError> {
+    let order = order_left(alloc, problem, demands)?;
     let mut builds = Vec::new(alloc);
-    for job in 0..problem.jobs().len() {
+    for job in 0..problem.job_count() {
         let number = order.iter().position(|m| *m as usize == job);
         builds.push(build_at(&choice.builds, number))?;
     }
@@ -75,25 +68,21 @@ fn build_at(builds: &[u32], job: Option<usize>) -> u32 {
     }
 }
 
-/// Whether some choice meets these demands of the problem of these inputs and the jobs of a problem, whose index this is.
+/// Whether some choice meets these demands of a problem.
 pub(crate) fn are_met(
     alloc: Global,
-    inputs: &[Input],
-    problem: &Problem,
-    index: &Index,
+    problem: &Indexed<'_>,
     demands: &[Demand],
     budget: u32,
 ) -> Result<Met, AllocError>
-    requires rules { IsProblem (record problem.now { inputs = inputs.now }) }
-    requires same { index.now.problem ≡ problem.now }
-    requires demands { All (IsDemandOf (record problem.now { inputs = inputs.now })) demands.now }
+    requires demands { All (IsDemandOf problem.now) demands.now }
     requires least { 1 ≤ budget }
     requires most { budget ≤ MOST_NODES }
-    ensures { IfOk result (IsMet (record problem.now { inputs = inputs.now }) demands.now budget) }
+    ensures { IfOk result (IsMet problem.now demands.now budget) }
 {
-    match chosen_of_cut(alloc, inputs, problem, index, demands, budget)? {
+    match chosen_of_cut(alloc, problem, demands, budget)? {
         Chosen::Best(choice) => {
-            let choice = choice_of_cut(alloc, inputs, problem, demands, choice)?;
+            let choice = choice_of_cut(alloc, problem, demands, choice)?;
             Ok(Met::Yes(choice))
         }
         Chosen::Nothing => Ok(Met::No),

@@ -3,42 +3,39 @@
 ghost use Rattle.std.specs.Prelude.{◌≡◌, [], ◌+◌, ◌<◌, ◌≤◌, ℕ, length, map, filter, slice_index, slice_index_or, false, IsTrue, IfOk, IfSome, OnOk, All, EachIndex};
 ghost use Rattle.ccr_choice.specs.Ascending.{AreRising};
 ghost use Rattle.ccr_choice.specs.Problem.{builds_at, no_input};
-ghost use Rattle.ccr_explain.specs.Cut.{is_of_use, IsTop, IsNarrowed, IsEnough, IsInputNarrowed, AreMarked};
+ghost use Rattle.ccr_explain.specs.Cut.{is_of_use, build_in, AreThose, IsNarrowed, IsEnough, IsInputNarrowed, AreMarked};
 
 use crate::cut::is_among;
+use crate::indexed::Indexed;
 use crate::useful::useful_in;
-use ccr_choice::{Build, Input, Problem};
-use ccr_index::Index;
+use ccr_choice::Input;
+use ccr_index::JobRows;
 use std::alloc::{AllocError, Global};
 
-/// A job that was looked at, and builds of it, of which those that were of no use are left out.
-pub(crate) type Looked<'a> = (usize, Vec<&'a Build>);
+/// A job that was looked at, and where builds of it lie, of which those that were of no use are left out.
+pub(crate) type Looked = (usize, Vec<usize>);
 
 /// Leaves to each of these inputs only places that came with builds of use of each job that it names, so that no choice is lost. Each
 /// job is looked at once: the next is the one whose inputs leave it the least. Gives what was looked at.
-pub(crate) fn narrow<'a>(
+pub(crate) fn narrow(
     alloc: Global,
-    problem: &'a Problem,
-    index: &Index,
+    problem: &Indexed<'_>,
     order: &[u32],
-    top: u32,
     inputs: &mut Vec<Input>,
-) -> Result<Vec<Looked<'a>>, AllocError>
+) -> Result<Vec<Looked>, AllocError>
     requires known { EachIndex order.now (λ k. slice_index order.now k < length problem.now.jobs) }
     requires few { length order.now ≤ 32 }
-    requires top { IsTop problem.now order.now top }
-    requires same { index.now.problem ≡ problem.now }
     requires rising { All (λ x. AreRising x.places) inputs.old.items }
     ensures narrowed { OnOk result (IsNarrowed problem.now order.now inputs.old.items inputs.new.items) }
-    ensures enough { IfOk result (λ looked. All (λ s. IsEnough problem.now order.now inputs.new.items s.0
-        (map (λ b. b.now) s.1.items)) looked.items) }
+    ensures enough { IfOk result
+        (λ looked. All (λ s. IsEnough problem.now order.now inputs.new.items s.0 s.1.items) looked.items) }
 {
     let mut looked = Vec::new(alloc);
     let mut is_done = vec![in alloc; false; order.len()]?;
     for _ in 0..order.len() {
         if let Some(job) = next_job(inputs, &is_done) {
             is_done[job] = true;
-            let useful = narrow_by(alloc, problem, index, order, top, job, inputs)?;
+            let useful = narrow_by(alloc, problem, order, job, inputs)?;
             looked.push((job, useful))?;
         }
     }
@@ -90,32 +87,27 @@ fn first_left(jobs: &[u32], is_done: &[bool]) -> Option<usize>
     None
 }
 
-/// Leaves to each input that names job `job` only places that came with builds of use of this job. Gives these builds.
-fn narrow_by<'a>(
+/// Leaves to each input that names job `job` only places that came with builds of use of this job. Gives where these builds lie.
+fn narrow_by(
     alloc: Global,
-    problem: &'a Problem,
-    index: &Index,
+    problem: &Indexed<'_>,
     order: &[u32],
-    top: u32,
     job: usize,
     inputs: &mut Vec<Input>,
-) -> Result<Vec<&'a Build>, AllocError>
+) -> Result<Vec<usize>, AllocError>
     requires known { EachIndex order.now (λ k. slice_index order.now k < length problem.now.jobs) }
     requires few { length order.now ≤ 32 }
-    requires top { IsTop problem.now order.now top }
-    requires same { index.now.problem ≡ problem.now }
     requires job { job < length order.now }
     requires rising { All (λ x. AreRising x.places) inputs.old.items }
     ensures narrowed { OnOk result (IsNarrowed problem.now order.now inputs.old.items inputs.new.items) }
-    ensures useful { IfOk result (λ useful. map (λ b. b.now) useful.items
-        ≡ filter (is_of_use inputs.old.items job) (builds_at problem.now (slice_index order.now job))) }
+    ensures useful { let builds = builds_at problem.now (slice_index order.now job) in
+        IfOk result (λ useful. AreThose (is_of_use inputs.old.items job) builds builds useful.items) }
 {
-    let builds = problem.jobs()[order[job] as usize].builds();
-    let rows = index.rows(order[job] as usize);
-    let useful = useful_in(alloc, inputs, job as u32, rows, builds)?;
+    let rows = problem.rows(order[job] as usize);
+    let useful = useful_in(alloc, inputs, job as u32, rows)?;
     for i in 0..inputs.len() {
         if is_among(inputs[i].jobs(), job as u32) {
-            let left = narrowed(alloc, &inputs[i], &useful, top)?;
+            let left = narrowed(alloc, &inputs[i], rows, &useful, problem.top())?;
             inputs[i] = left;
         }
     }
@@ -123,10 +115,17 @@ fn narrow_by<'a>(
 }
 
 /// The input without its places that none of these builds has.
-fn narrowed(alloc: Global, input: &Input, useful: &[&Build], top: u32) -> Result<Input, AllocError>
-    ensures { IfOk result (IsInputNarrowed top (map (λ b. b.now) useful.now) input.now) }
+fn narrowed(
+    alloc: Global,
+    input: &Input,
+    rows: &JobRows,
+    useful: &[usize],
+    top: u32,
+) -> Result<Input, AllocError>
+    requires { All (λ k. k < length rows.now.builds) useful.now }
+    ensures { IfOk result (IsInputNarrowed top (map (build_in rows.now.builds) useful.now) input.now) }
 {
-    let marks = marks_of(alloc, input.scope(), useful, top as usize + 1)?;
+    let marks = marks_of(alloc, input.scope(), rows, useful, top as usize + 1)?;
     let places = places_marked(alloc, &marks, input.places())?;
     let jobs = Vec::from_slice(alloc, input.jobs())?;
     Ok(Input::new(input.scope(), jobs, input.after(), places))
@@ -158,15 +157,18 @@ pub(crate) fn is_marked(marks: &[bool], place: u32) -> bool
 fn marks_of(
     alloc: Global,
     scope: u32,
-    builds: &[&Build],
+    rows: &JobRows,
+    builds: &[usize],
     count: usize,
 ) -> Result<Vec<bool>, AllocError>
+    requires { All (λ k. k < length rows.now.builds) builds.now }
     ensures length { IfOk result (λ marks. length marks.items ≡ count) }
-    ensures marked { IfOk result (λ marks. All (λ b. AreMarked scope marks.items b.now.pairs) builds.now) }
+    ensures marked { IfOk result
+        (λ marks. All (λ k. AreMarked scope marks.items (build_in rows.now.builds k).pairs) builds.now) }
 {
     let mut marks = vec![in alloc; false; count]?;
-    for build in builds {
-        mark_pairs(&mut marks, scope, build.pairs());
+    for k in builds {
+        mark_pairs(&mut marks, scope, rows.pairs(*k));
     }
     Ok(marks)
 }

@@ -1,7 +1,6 @@
 //! Demands that exclude each other, without those that aren't needed for it.
 
 ghost use Rattle.std.specs.Prelude.{◌≡◌, ◌+◌, ◌-◌, ◌<◌, ◌≤◌, length, remove, IfOk, IfSome};
-ghost use Rattle.ccr_choice.specs.Problem.{IsProblem};
 ghost use Rattle.ccr_explain.specs.Clash.{IsClash, IsClashWithin};
 ghost use Rattle.ccr_explain.specs.Cut.{IsMet};
 ghost use Rattle.ccr_explain.specs.Reduced.{marked, AreNeeded, IsReduced};
@@ -9,10 +8,10 @@ ghost use Rattle.ccr_explain.specs.Reduced.{marked, AreNeeded, IsReduced};
 use crate::copies::copied_choice;
 use crate::demand::{Demand, demands_of};
 use crate::explanation::ClashingDemands;
+use crate::indexed::Indexed;
 use crate::met::{Met, are_met};
 use crate::witness::{is_to_leave_out, mark_needed, mark_one_by_one};
-use ccr_choice::{Choice, Input, Problem};
-use ccr_index::Index;
+use ccr_choice::Choice;
 use ccr_proof::MOST_NODES;
 use std::alloc::{AllocError, Global};
 use std::marker::Model;
@@ -47,31 +46,27 @@ impl Model for Reduction {
 /// are needed.
 pub(crate) fn reduced(
     alloc: Global,
-    inputs: &[Input],
-    problem: &Problem,
-    index: &Index,
+    problem: &Indexed<'_>,
     demands: Vec<Demand>,
     known: Option<&Choice>,
     budget: u32,
 ) -> Result<ClashingDemands, AllocError>
-    requires rules { IsProblem (record problem.now { inputs = inputs.now }) }
-    requires clash { IsClash (record problem.now { inputs = inputs.now }) demands.items }
-    requires same { index.now.problem ≡ problem.now }
+    requires clash { IsClash problem.now demands.items }
     requires least { 1 ≤ budget }
     requires most { budget ≤ MOST_NODES }
-    ensures { IfOk result (IsClashWithin (record problem.now { inputs = inputs.now }) budget) }
+    ensures { IfOk result (IsClashWithin problem.now budget) }
 {
     let count = demands.len();
-    let is_needed = needed_each(alloc, inputs, problem, index, &demands, known)?;
+    let is_needed = needed_each(alloc, problem, &demands, known)?;
     let first = Reduction {
         demands,
         is_needed,
         next: 0,
         is_irreducible: true,
     };
-    let mut reduction = begun(alloc, inputs, problem, index, first, budget)?;
+    let mut reduction = begun(alloc, problem, first, budget)?;
     for _ in 0..count {
-        reduction = turn(alloc, inputs, problem, index, reduction, budget)?;
+        reduction = turn(alloc, problem, reduction, budget)?;
     }
     Ok(ClashingDemands {
         demands: reduction.demands,
@@ -83,26 +78,22 @@ pub(crate) fn reduced(
 /// exclude each other. The resolver is called once.
 pub(crate) fn clash_of_needed(
     alloc: Global,
-    inputs: &[Input],
-    problem: &Problem,
-    index: &Index,
+    problem: &Indexed<'_>,
     known: &Choice,
     budget: u32,
 ) -> Result<Option<ClashingDemands>, AllocError>
-    requires rules { IsProblem (record problem.now { inputs = inputs.now }) }
-    requires same { index.now.problem ≡ problem.now }
     requires least { 1 ≤ budget }
     requires most { budget ≤ MOST_NODES }
     ensures { IfOk result
-        (λ found. IfSome found (IsClashWithin (record problem.now { inputs = inputs.now }) budget)) }
+        (λ found. IfSome found (IsClashWithin problem.now budget)) }
 {
-    let demands = demands_of(alloc, inputs)?;
-    let is_needed = needed_first(alloc, inputs, problem, index, &demands, Some(known))?;
+    let demands = demands_of(alloc, problem.inputs())?;
+    let is_needed = needed_first(alloc, problem, &demands, Some(known))?;
     let needed = marked(alloc, &demands, &is_needed)?;
     if needed.len() < FEWEST_NEEDED {
         return Ok(None);
     }
-    match are_met(alloc, inputs, problem, index, &needed, budget)? {
+    match are_met(alloc, problem, &needed, budget)? {
         Met::No => Ok(Some(ClashingDemands {
             demands: needed,
             is_irreducible: true,
@@ -117,29 +108,18 @@ const FEWEST_NEEDED: usize = 3;
 /// Marks for the demands that are needed, as far as a choice that is known tells.
 fn needed_first(
     alloc: Global,
-    inputs: &[Input],
-    problem: &Problem,
-    index: &Index,
+    problem: &Indexed<'_>,
     demands: &[Demand],
     known: Option<&Choice>,
 ) -> Result<Vec<bool>, AllocError>
-    requires { IsProblem (record problem.now { inputs = inputs.now }) }
     ensures length { IfOk result (λ marks. length marks.items ≡ length demands.now) }
     ensures needed { IfOk result
-        (λ marks. AreNeeded (record problem.now { inputs = inputs.now }) demands.now marks.items) }
+        (λ marks. AreNeeded problem.now demands.now marks.items) }
 {
     let mut is_needed = vec![in alloc; false; demands.len()]?;
     if let Some(choice) = known {
         let choice = copied_choice(alloc, choice)?;
-        mark_needed(
-            alloc,
-            inputs,
-            problem,
-            index,
-            demands,
-            choice,
-            &mut is_needed,
-        )?;
+        mark_needed(alloc, problem, demands, choice, &mut is_needed)?;
     }
     Ok(is_needed)
 }
@@ -148,44 +128,36 @@ fn needed_first(
 /// marks.
 fn begun(
     alloc: Global,
-    inputs: &[Input],
-    problem: &Problem,
-    index: &Index,
+    problem: &Indexed<'_>,
     reduction: Reduction,
     budget: u32,
 ) -> Result<Reduction, AllocError>
-    requires rules { IsProblem (record problem.now { inputs = inputs.now }) }
-    requires same { index.now.problem ≡ problem.now }
     requires least { 1 ≤ budget }
     requires most { budget ≤ MOST_NODES }
-    requires reduced { IsReduced (record problem.now { inputs = inputs.now }) budget reduction }
-    ensures reduced { IfOk result (IsReduced (record problem.now { inputs = inputs.now }) budget) }
+    requires reduced { IsReduced problem.now budget reduction }
+    ensures reduced { IfOk result (IsReduced problem.now budget) }
     ensures fewer { IfOk result (λ r.
         length r.demands - r.next ≤ length reduction.demands - reduction.next) }
 {
     if count_marks(&reduction.is_needed) == 0 {
-        return gathered(alloc, inputs, problem, index, reduction, budget);
+        return gathered(alloc, problem, reduction, budget);
     }
-    let now = needed_alone(alloc, inputs, problem, index, reduction, budget)?;
-    gathered(alloc, inputs, problem, index, now, budget)
+    let now = needed_alone(alloc, problem, reduction, budget)?;
+    gathered(alloc, problem, now, budget)
 }
 
 /// The same, of many demands: those that name a job are left out one at a time, as long as some choice meets the others, since each such
 /// choice mostly tells of several that are needed.
 fn gathered(
     alloc: Global,
-    inputs: &[Input],
-    problem: &Problem,
-    index: &Index,
+    problem: &Indexed<'_>,
     reduction: Reduction,
     budget: u32,
 ) -> Result<Reduction, AllocError>
-    requires rules { IsProblem (record problem.now { inputs = inputs.now }) }
-    requires same { index.now.problem ≡ problem.now }
     requires least { 1 ≤ budget }
     requires most { budget ≤ MOST_NODES }
-    requires reduced { IsReduced (record problem.now { inputs = inputs.now }) budget reduction }
-    ensures reduced { IfOk result (IsReduced (record problem.now { inputs = inputs.now }) budget) }
+    requires reduced { IsReduced problem.now budget reduction }
+    ensures reduced { IfOk result (IsReduced problem.now budget) }
     ensures fewer { IfOk result (λ r.
         length r.demands - r.next ≤ length reduction.demands - reduction.next) }
 {
@@ -196,13 +168,13 @@ fn gathered(
     for k in 0..now.demands.len() {
         if is_to_try(&now, k) {
             let count = count_marks(&now.is_needed);
-            now = marked_without(alloc, inputs, problem, index, now, k, budget)?;
+            now = marked_without(alloc, problem, now, k, budget)?;
             if count_marks(&now.is_needed) <= count {
                 return Ok(now);
             }
         }
     }
-    needed_alone(alloc, inputs, problem, index, now, budget)
+    needed_alone(alloc, problem, now, budget)
 }
 
 /// How many demands are many.
@@ -216,19 +188,15 @@ fn is_to_try(reduction: &Reduction, k: usize) -> bool {
 /// The same demands, with the marks of which a choice tells that meets all but demand `k`, if there is one.
 fn marked_without(
     alloc: Global,
-    inputs: &[Input],
-    problem: &Problem,
-    index: &Index,
+    problem: &Indexed<'_>,
     reduction: Reduction,
     k: usize,
     budget: u32,
 ) -> Result<Reduction, AllocError>
-    requires rules { IsProblem (record problem.now { inputs = inputs.now }) }
-    requires same { index.now.problem ≡ problem.now }
     requires least { 1 ≤ budget }
     requires most { budget ≤ MOST_NODES }
-    requires reduced { IsReduced (record problem.now { inputs = inputs.now }) budget reduction }
-    ensures reduced { IfOk result (IsReduced (record problem.now { inputs = inputs.now }) budget) }
+    requires reduced { IsReduced problem.now budget reduction }
+    ensures reduced { IfOk result (IsReduced problem.now budget) }
     ensures fewer { IfOk result (λ r.
         length r.demands - r.next ≤ length reduction.demands - reduction.next) }
 {
@@ -237,8 +205,8 @@ fn marked_without(
     }
     let mut others = Vec::from_slice(alloc, &reduction.demands)?;
     others.remove(k);
-    match are_met(alloc, inputs, problem, index, &others, budget)? {
-        Met::Yes(choice) => told_by(alloc, inputs, problem, index, reduction, choice, budget),
+    match are_met(alloc, problem, &others, budget)? {
+        Met::Yes(choice) => told_by(alloc, problem, reduction, choice, budget),
         Met::No | Met::OverBudget => Ok(reduction),
     }
 }
@@ -246,16 +214,13 @@ fn marked_without(
 /// The same demands, with the marks of which a choice tells.
 fn told_by(
     alloc: Global,
-    inputs: &[Input],
-    problem: &Problem,
-    index: &Index,
+    problem: &Indexed<'_>,
     reduction: Reduction,
     choice: Choice,
     budget: u32,
 ) -> Result<Reduction, AllocError>
-    requires rules { IsProblem (record problem.now { inputs = inputs.now }) }
-    requires reduced { IsReduced (record problem.now { inputs = inputs.now }) budget reduction }
-    ensures reduced { IfOk result (IsReduced (record problem.now { inputs = inputs.now }) budget) }
+    requires reduced { IsReduced problem.now budget reduction }
+    ensures reduced { IfOk result (IsReduced problem.now budget) }
     ensures fewer { IfOk result (λ r.
         length r.demands - r.next ≤ length reduction.demands - reduction.next) }
 {
@@ -266,15 +231,7 @@ fn told_by(
         next,
         is_irreducible,
     } = reduction;
-    mark_needed(
-        alloc,
-        inputs,
-        problem,
-        index,
-        &demands,
-        choice,
-        &mut is_needed,
-    )?;
+    mark_needed(alloc, problem, &demands, choice, &mut is_needed)?;
     Ok(Reduction {
         demands,
         is_needed,
@@ -286,28 +243,17 @@ fn told_by(
 /// The same, with what is told by the choices that meet what can be met once a demand is left out, found without a search.
 fn needed_each(
     alloc: Global,
-    inputs: &[Input],
-    problem: &Problem,
-    index: &Index,
+    problem: &Indexed<'_>,
     demands: &[Demand],
     known: Option<&Choice>,
 ) -> Result<Vec<bool>, AllocError>
-    requires { IsProblem (record problem.now { inputs = inputs.now }) }
     ensures length { IfOk result (λ marks. length marks.items ≡ length demands.now) }
     ensures needed { IfOk result
-        (λ marks. AreNeeded (record problem.now { inputs = inputs.now }) demands.now marks.items) }
+        (λ marks. AreNeeded problem.now demands.now marks.items) }
 {
-    let mut is_needed = needed_first(alloc, inputs, problem, index, demands, known)?;
+    let mut is_needed = needed_first(alloc, problem, demands, known)?;
     if let Some(choice) = known {
-        mark_one_by_one(
-            alloc,
-            inputs,
-            problem,
-            index,
-            demands,
-            choice,
-            &mut is_needed,
-        )?;
+        mark_one_by_one(alloc, problem, demands, choice, &mut is_needed)?;
     }
     Ok(is_needed)
 }
@@ -316,25 +262,21 @@ fn needed_each(
 /// exclude each other alone: mostly they do, and then all is done.
 fn turn(
     alloc: Global,
-    inputs: &[Input],
-    problem: &Problem,
-    index: &Index,
+    problem: &Indexed<'_>,
     reduction: Reduction,
     budget: u32,
 ) -> Result<Reduction, AllocError>
-    requires rules { IsProblem (record problem.now { inputs = inputs.now }) }
-    requires same { index.now.problem ≡ problem.now }
     requires least { 1 ≤ budget }
     requires most { budget ≤ MOST_NODES }
-    requires reduced { IsReduced (record problem.now { inputs = inputs.now }) budget reduction }
-    ensures reduced { IfOk result (IsReduced (record problem.now { inputs = inputs.now }) budget) }
+    requires reduced { IsReduced problem.now budget reduction }
+    ensures reduced { IfOk result (IsReduced problem.now budget) }
     ensures fewer { IfOk result (λ r.
         length r.demands - r.next ≤ length reduction.demands - reduction.next - 1) }
 {
     let before = count_marks(&reduction.is_needed);
-    let after = tried(alloc, inputs, problem, index, reduction, budget)?;
+    let after = tried(alloc, problem, reduction, budget)?;
     if count_marks(&after.is_needed) > before.saturating_add(1) {
-        needed_alone(alloc, inputs, problem, index, after, budget)
+        needed_alone(alloc, problem, after, budget)
     } else {
         Ok(after)
     }
@@ -343,18 +285,14 @@ fn turn(
 /// What is left once the next demand was tried, if there is one.
 fn tried(
     alloc: Global,
-    inputs: &[Input],
-    problem: &Problem,
-    index: &Index,
+    problem: &Indexed<'_>,
     reduction: Reduction,
     budget: u32,
 ) -> Result<Reduction, AllocError>
-    requires rules { IsProblem (record problem.now { inputs = inputs.now }) }
-    requires same { index.now.problem ≡ problem.now }
     requires least { 1 ≤ budget }
     requires most { budget ≤ MOST_NODES }
-    requires reduced { IsReduced (record problem.now { inputs = inputs.now }) budget reduction }
-    ensures reduced { IfOk result (IsReduced (record problem.now { inputs = inputs.now }) budget) }
+    requires reduced { IsReduced problem.now budget reduction }
+    ensures reduced { IfOk result (IsReduced problem.now budget) }
     ensures fewer { IfOk result (λ r.
         length r.demands - r.next ≤ length reduction.demands - reduction.next - 1) }
 {
@@ -367,8 +305,8 @@ fn tried(
     }
     let mut others = Vec::from_slice(alloc, &reduction.demands)?;
     others.remove(next);
-    let met = are_met(alloc, inputs, problem, index, &others, budget)?;
-    answered(alloc, inputs, problem, index, reduction, met, budget)
+    let met = are_met(alloc, problem, &others, budget)?;
+    answered(alloc, problem, reduction, met, budget)
 }
 
 /// The same demands, where the next one is kept.
@@ -393,18 +331,15 @@ fn past_next(reduction: Reduction) -> Reduction
 /// What is left once it is known whether some choice meets all demands but the next.
 fn answered(
     alloc: Global,
-    inputs: &[Input],
-    problem: &Problem,
-    index: &Index,
+    problem: &Indexed<'_>,
     reduction: Reduction,
     met: Met,
     budget: u32,
 ) -> Result<Reduction, AllocError>
-    requires rules { IsProblem (record problem.now { inputs = inputs.now }) }
     requires within { reduction.next < length reduction.demands }
-    requires reduced { IsReduced (record problem.now { inputs = inputs.now }) budget reduction }
-    requires met { IsMet (record problem.now { inputs = inputs.now }) (remove reduction.demands reduction.next) budget met }
-    ensures reduced { IfOk result (IsReduced (record problem.now { inputs = inputs.now }) budget) }
+    requires reduced { IsReduced problem.now budget reduction }
+    requires met { IsMet problem.now (remove reduction.demands reduction.next) budget met }
+    ensures reduced { IfOk result (IsReduced problem.now budget) }
     ensures fewer { IfOk result (λ r.
         length r.demands - r.next ≤ length reduction.demands - reduction.next - 1) }
 {
@@ -423,15 +358,7 @@ fn answered(
             after = next;
         }
         Met::Yes(choice) => {
-            mark_needed(
-                alloc,
-                inputs,
-                problem,
-                index,
-                &demands,
-                choice,
-                &mut is_needed,
-            )?;
+            mark_needed(alloc, problem, &demands, choice, &mut is_needed)?;
             is_needed[next] = true;
         }
         Met::OverBudget => is_irreducible = false,
@@ -452,25 +379,21 @@ fn count_marks(marks: &[bool]) -> usize {
 /// known to be needed.
 fn needed_alone(
     alloc: Global,
-    inputs: &[Input],
-    problem: &Problem,
-    index: &Index,
+    problem: &Indexed<'_>,
     reduction: Reduction,
     budget: u32,
 ) -> Result<Reduction, AllocError>
-    requires rules { IsProblem (record problem.now { inputs = inputs.now }) }
-    requires same { index.now.problem ≡ problem.now }
     requires least { 1 ≤ budget }
     requires most { budget ≤ MOST_NODES }
-    requires reduced { IsReduced (record problem.now { inputs = inputs.now }) budget reduction }
-    ensures reduced { IfOk result (IsReduced (record problem.now { inputs = inputs.now }) budget) }
+    requires reduced { IsReduced problem.now budget reduction }
+    ensures reduced { IfOk result (IsReduced problem.now budget) }
     ensures fewer { IfOk result (λ r.
         length r.demands - r.next ≤ length reduction.demands - reduction.next) }
 {
     let mut now = reduction;
     for _ in 0..now.demands.len() {
         let count = count_marks(&now.is_needed);
-        now = tried_alone(alloc, inputs, problem, index, now, budget)?;
+        now = tried_alone(alloc, problem, now, budget)?;
         if count_marks(&now.is_needed) <= count {
             return Ok(now);
         }
@@ -481,25 +404,21 @@ fn needed_alone(
 /// The same, tried once: a choice that meets those that are known may tell of more.
 fn tried_alone(
     alloc: Global,
-    inputs: &[Input],
-    problem: &Problem,
-    index: &Index,
+    problem: &Indexed<'_>,
     reduction: Reduction,
     budget: u32,
 ) -> Result<Reduction, AllocError>
-    requires rules { IsProblem (record problem.now { inputs = inputs.now }) }
-    requires same { index.now.problem ≡ problem.now }
     requires least { 1 ≤ budget }
     requires most { budget ≤ MOST_NODES }
-    requires reduced { IsReduced (record problem.now { inputs = inputs.now }) budget reduction }
-    ensures reduced { IfOk result (IsReduced (record problem.now { inputs = inputs.now }) budget) }
+    requires reduced { IsReduced problem.now budget reduction }
+    ensures reduced { IfOk result (IsReduced problem.now budget) }
     ensures fewer { IfOk result (λ r.
         length r.demands - r.next ≤ length reduction.demands - reduction.next) }
 {
     let alone = marked(alloc, &reduction.demands, &reduction.is_needed)?;
-    match are_met(alloc, inputs, problem, index, &alone, budget)? {
+    match are_met(alloc, problem, &alone, budget)? {
         Met::OverBudget => Ok(reduction),
-        Met::Yes(choice) => told_by(alloc, inputs, problem, index, reduction, choice, budget),
+        Met::Yes(choice) => told_by(alloc, problem, reduction, choice, budget),
         Met::No => {
             let count = alone.len();
             let is_needed = vec![in alloc; true; count]?;

@@ -1,37 +1,80 @@
-//! The builds of a job that are of use, found without a look at all.
+//! The builds of a job that are of use to inputs, by their places in the job's rows.
 
-ghost use Rattle.std.specs.Prelude.{◌≡◌, ◌<◌, ◌≤◌, ◌&&◌, ℕ, map, filter, length, slice_index_or, false, IsTrue, IfOk, IfSome, All, Contains};
+ghost use Rattle.std.specs.Prelude.{◌≡◌, ◌<◌, ◌≤◌, ◌&&◌, ℕ, map, length, slice_index_or, false, IsTrue, IfOk, IfSome, All};
 ghost use Rattle.std.specs.List.{list_all};
 ghost use Rattle.ccr_choice.specs.Ascending.{AreRising};
 ghost use Rattle.ccr_choice.specs.Problem.{BuildValue};
-ghost use Rattle.ccr_index.specs.Rows.{no_build};
-ghost use Rattle.ccr_explain.specs.Cut.{has_place_of, is_of_use, MarksBuilds};
+ghost use Rattle.ccr_explain.specs.Cut.{has_place_of, is_of_use, build_in, AreThose, MarksBuilds};
 
-use crate::cut::{inputs_naming, is_among, is_of_use, useful_builds};
-use ccr_choice::{Build, Input};
+use crate::cut::{inputs_naming, is_among, is_of_use};
+use crate::table::{have_marked, tables_of};
+use ccr_choice::Input;
 use ccr_index::JobRows;
 use std::alloc::{AllocError, Global};
 
-/// The builds among these, which the rows hold, that are of use to the inputs as builds of job `job`. Where one of the inputs has few
+/// The builds that are of use to the inputs as builds of job `job`, of those that the rows hold. Where one of the inputs has few
 /// places, only builds with one of them are looked at, and not those of all times.
-pub(crate) fn useful_in<'a>(
+pub(crate) fn useful_in(
     alloc: Global,
     inputs: &[Input],
     job: u32,
     rows: &JobRows,
-    builds: &'a [Build],
-) -> Result<Vec<&'a Build>, AllocError>
-    requires rising { All (λ x. AreRising x.places) inputs.now }
-    requires rows { rows.now.builds ≡ builds.now }
-    ensures { IfOk result (λ useful. map (λ b. b.now) useful.items ≡ filter (is_of_use inputs.now job) builds.now) }
+) -> Result<Vec<usize>, AllocError>
+    requires { All (λ x. AreRising x.places) inputs.now }
+    ensures { IfOk result (λ useful. AreThose (is_of_use inputs.now job) rows.now.builds rows.now.builds useful.items) }
 {
     match input_with_few(inputs, job) {
         Some(input) => {
             let marks = marks_of_builds(alloc, rows, input.scope(), input.places())?;
-            useful_marked(alloc, inputs, job, builds, &marks)
+            useful_marked(alloc, inputs, job, rows, &marks)
         }
-        None => useful_builds(alloc, inputs, job, builds),
+        None => useful_builds(alloc, inputs, job, rows),
     }
+}
+
+/// Those of these builds that are of use to the inputs as builds of job `job`.
+pub(crate) fn useful_among(
+    alloc: Global,
+    inputs: &[Input],
+    job: u32,
+    rows: &JobRows,
+    builds: &[usize],
+) -> Result<Vec<usize>, AllocError>
+    requires rising { All (λ x. AreRising x.places) inputs.now }
+    requires within { All (λ k. k < length rows.now.builds) builds.now }
+    ensures { IfOk result (λ useful. AreThose (is_of_use inputs.now job) rows.now.builds
+        (map (build_in rows.now.builds) builds.now) useful.items) }
+{
+    let naming = inputs_naming(alloc, inputs, job)?;
+    let mut useful = Vec::new(alloc);
+    for k in builds {
+        if is_of_use(&naming, rows.pairs(*k)) {
+            useful.push(*k)?;
+        }
+    }
+    Ok(useful)
+}
+
+/// The builds that are of use, where all are looked at.
+pub(crate) fn useful_builds(
+    alloc: Global,
+    inputs: &[Input],
+    job: u32,
+    rows: &JobRows,
+) -> Result<Vec<usize>, AllocError>
+    requires { All (λ x. AreRising x.places) inputs.now }
+    ensures { IfOk result (λ useful. AreThose (is_of_use inputs.now job) rows.now.builds rows.now.builds useful.items) }
+{
+    // A job has many builds, and few inputs name it.
+    let naming = inputs_naming(alloc, inputs, job)?;
+    let tables = tables_of(alloc, &naming)?;
+    let mut useful = Vec::new(alloc);
+    for k in 0..rows.len() {
+        if have_marked(&tables, rows.pairs(k)) {
+            useful.push(k)?;
+        }
+    }
+    Ok(useful)
 }
 
 /// How many places are few.
@@ -83,37 +126,36 @@ fn mark_builds(marks: &mut Vec<bool>, rows: &JobRows, scope: u32, place: u32)
     }
 }
 
-/// The builds among these that are of use, where each of them has a mark.
-fn useful_marked<'a>(
+/// The builds that are of use, where each of them has a mark.
+fn useful_marked(
     alloc: Global,
     inputs: &[Input],
     job: u32,
-    builds: &'a [Build],
+    rows: &JobRows,
     marks: &[bool],
-) -> Result<Vec<&'a Build>, AllocError>
+) -> Result<Vec<usize>, AllocError>
     requires rising { All (λ x. AreRising x.places) inputs.now }
-    requires marked { (k : ℕ) → k < length builds.now → IsTrue (is_of_use inputs.now job (slice_index_or builds.now k no_build))
+    requires marked { (k : ℕ) → k < length rows.now.builds → IsTrue (is_of_use inputs.now job (build_in rows.now.builds k))
         → IsTrue (slice_index_or marks.now k false) }
-    ensures { IfOk result (λ useful. map (λ b. b.now) useful.items ≡ filter (is_of_use inputs.now job) builds.now) }
+    ensures { IfOk result (λ useful. AreThose (is_of_use inputs.now job) rows.now.builds rows.now.builds useful.items) }
 {
     let naming = inputs_naming(alloc, inputs, job)?;
     let mut useful = Vec::new(alloc);
-    for k in 0..builds.len() {
-        let build = &builds[k];
-        if is_marked_and_of_use(&naming, build, marks, k) {
-            useful.push(build)?;
+    for k in 0..rows.len() {
+        if is_marked_and_of_use(&naming, rows.pairs(k), marks, k) {
+            useful.push(k)?;
         }
     }
     Ok(useful)
 }
 
 /// Whether a build has a mark, and each of these inputs can have one of its places with it.
-fn is_marked_and_of_use(naming: &[&Input], build: &Build, marks: &[bool], k: usize) -> bool
+fn is_marked_and_of_use(naming: &[&Input], pairs: &[(u32, u32)], marks: &[bool], k: usize) -> bool
     requires { All (λ x. AreRising x.now.places) naming.now }
-    ensures { result ≡ (slice_index_or marks.now k false && list_all (λ x. has_place_of x.now build.now.pairs) naming.now) }
+    ensures { result ≡ (slice_index_or marks.now k false && list_all (λ x. has_place_of x.now pairs.now) naming.now) }
 {
     match marks.get(k) {
-        Some(true) => is_of_use(naming, build),
+        Some(true) => is_of_use(naming, pairs),
         Some(false) | None => false,
     }
 }

@@ -10,8 +10,9 @@ ghost use Rattle.ccr_explain.specs.WhyNot.{may_take, asked, IsWhyNot};
 use crate::clashes::explained;
 use crate::explanation::Explanation;
 use crate::grown::grown;
+use crate::indexed::Indexed;
 use crate::reduced::clash_of_needed;
-use ccr_choice::{Choice, Input, Problem};
+use ccr_choice::{Choice, Input, is_preferred};
 use ccr_index::Index;
 use ccr_proof::MOST_NODES;
 use std::alloc::{AllocError, Global};
@@ -22,74 +23,69 @@ use std::alloc::{AllocError, Global};
 /// has.
 ///
 /// In the clash, the demand of the input's allowed places reads: it takes the place, which is allowed. That of an input before
-/// it reads: it takes an allowed place that is no worse. The calls of the resolver and the budget are those of [`crate::clash`], and the
-/// index is that of the problem.
+/// it reads: it takes an allowed place that is no worse. The index stands for the problem, and the calls of the
+/// resolver and the budget are those of [`crate::clash`].
 pub fn why_not(
     alloc: Global,
-    problem: &Problem,
     index: &Index,
     choice: &Choice,
     input: usize,
     place: u32,
     budget: u32,
 ) -> Result<Explanation, AllocError>
-    requires same { index.now.problem ≡ problem.now }
-    requires input { input < length problem.now.inputs }
-    requires place_each { length choice.now.places ≡ length problem.now.inputs }
+    requires input { input < length index.now.problem.inputs }
+    requires place_each { length choice.now.places ≡ length index.now.problem.inputs }
     requires least { 1 ≤ budget }
     requires most { budget ≤ MOST_NODES }
-    ensures shown { IfOk result
-        (IsWhyNot (order_of problem.now) problem.now choice.now.places input place budget) }
-    ensures not_of_the_best { IsOptimal (order_of problem.now) problem.now choice.now.places choice.now.builds
-        → IsTrue (order_of problem.now input place (slice_index choice.now.places input))
+    ensures shown { let p = index.now.problem in
+        IfOk result (IsWhyNot (order_of p) p choice.now.places input place budget) }
+    ensures not_of_the_best { let p = index.now.problem in IsOptimal (order_of p) p choice.now.places choice.now.builds
+        → IsTrue (order_of p input place (slice_index choice.now.places input))
         → (other : ChoiceValue) → result ≢ Ok (Explanation.Fits other) }
 {
-    let asked = narrowed(alloc, problem, &choice.places, input, place)?;
-    asked_of(alloc, &asked, problem, index, choice, input, budget)
+    let inputs = narrowed(alloc, index, &choice.places, input, place)?;
+    let problem = Indexed::new(&inputs, index);
+    asked_of(alloc, &problem, choice, input, budget)
 }
 
-/// Why the problem of these inputs, which ask that input `input` takes a place, and of the jobs of a problem has no choice; or its best
-/// choice. But for this place, the choice that is known meets all that is asked.
+/// Why a problem, which asks that input `input` takes a place, has no choice; or its best choice. But for this place, the choice that is
+/// known meets all that is asked.
 fn asked_of(
     alloc: Global,
-    inputs: &[Input],
-    problem: &Problem,
-    index: &Index,
+    problem: &Indexed<'_>,
     known: &Choice,
     input: usize,
     budget: u32,
 ) -> Result<Explanation, AllocError>
-    requires rules { IsProblem (record problem.now { inputs = inputs.now }) }
-    requires same { index.now.problem ≡ problem.now }
     requires least { 1 ≤ budget }
     requires most { budget ≤ MOST_NODES }
-    ensures { let p = record problem.now { inputs = inputs.now } in IfOk result (IsExplanation (order_of p) p budget) }
+    ensures { let p = problem.now in IfOk result (IsExplanation (order_of p) p budget) }
 {
-    if let Some(clash) = clash_of_needed(alloc, inputs, problem, index, known, budget)? {
+    if let Some(clash) = clash_of_needed(alloc, problem, known, budget)? {
         return Ok(Explanation::Clash(clash));
     }
-    let few = grown(alloc, inputs, problem, index, input, 0, budget)?;
-    explained(alloc, inputs, problem, index, few, Some(known), budget)
+    let few = grown(alloc, problem, input, 0, budget)?;
+    explained(alloc, problem, few, Some(known), budget)
 }
 
 /// The inputs of the problem in which input `input` takes a place and no input before it gets worse.
 fn narrowed(
     alloc: Global,
-    problem: &Problem,
+    index: &Index,
     places: &[u32],
     input: usize,
     place: u32,
 ) -> Result<Vec<Input>, AllocError>
-    requires { length places.now ≡ length problem.now.inputs }
-    ensures value { IfOk result (λ inputs. record problem.now { inputs = inputs.items }
-        ≡ asked (order_of problem.now) problem.now places.now input place) }
-    ensures rules { IfOk result (λ inputs. IsProblem (record problem.now { inputs = inputs.items })) }
+    requires { length places.now ≡ length index.now.problem.inputs }
+    ensures value { let p = index.now.problem in IfOk result (λ inputs. record p { inputs = inputs.items }
+        ≡ asked (order_of p) p places.now input place) }
+    ensures rules { let p = index.now.problem in IfOk result (λ inputs. IsProblem (record p { inputs = inputs.items })) }
 {
     let mut inputs = Vec::new(alloc);
-    for k in 0..problem.inputs().len() {
-        let jobs = Vec::from_slice(alloc, problem.named(k))?;
-        let places = may_take_of(alloc, problem, places, input, place, k)?;
-        let whole = &problem.inputs()[k];
+    for k in 0..index.input_count() {
+        let whole = index.input(k);
+        let jobs = Vec::from_slice(alloc, whole.jobs())?;
+        let places = may_take_of(alloc, index, places, input, place, k)?;
         inputs.push(Input::new(whole.scope(), jobs, whole.after(), places))?;
     }
     Ok(inputs)
@@ -98,35 +94,30 @@ fn narrowed(
 /// The allowed places of input `k` that it may take.
 fn may_take_of(
     alloc: Global,
-    problem: &Problem,
+    index: &Index,
     places: &[u32],
     input: usize,
     place: u32,
     k: usize,
 ) -> Result<Vec<u32>, AllocError>
-    requires within { k < length problem.now.inputs }
-    requires place_each { length places.now ≡ length problem.now.inputs }
-    ensures { IfOk result (λ v. v.items
-        ≡ filter (may_take (order_of problem.now) places.now input place k) (input_at problem.now k).places) }
+    requires within { k < length index.now.problem.inputs }
+    requires place_each { length places.now ≡ length index.now.problem.inputs }
+    ensures { let p = index.now.problem in IfOk result
+        (λ v. v.items ≡ filter (may_take (order_of p) places.now input place k) (input_at p k).places) }
 {
     let now = places[k];
-    problem.inputs()[k]
+    let whole = index.input(k);
+    let after = whole.after();
+    whole
         .places()
         .iter()
         .copied()
         .filter(|x| {
             if k < input {
-                !is_preferred(problem, k, now, *x)
+                !is_preferred(after, now, *x)
             } else {
                 k != input || *x == place
             }
         })
         .collect(alloc)
-}
-
-/// Whether the first of two places of an input is preferred to the second.
-fn is_preferred(problem: &Problem, input: usize, place: u32, other: u32) -> bool
-    ensures { result ≡ order_of problem.now input place other }
-{
-    ccr_choice::is_preferred(problem.after(input), place, other)
 }

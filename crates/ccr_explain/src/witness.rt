@@ -1,15 +1,14 @@
 //! Demands that are needed, found from choices that meet all others.
 
 ghost use Rattle.std.specs.Prelude.{◌≡◌, length, IfOk, OnOk, All};
-ghost use Rattle.ccr_choice.specs.Ascending.{AreRising};
 ghost use Rattle.ccr_explain.specs.Reduced.{AreNeeded};
 
 use crate::carried::{Followed, build_with, carried, place_with};
 use crate::copies::copied_choice;
 use crate::demand::Demand;
+use crate::indexed::Indexed;
 use crate::meets::only_unmet;
-use ccr_choice::{Choice, Input, Problem};
-use ccr_index::Index;
+use ccr_choice::Choice;
 use std::alloc::{AllocError, Global};
 
 /// A choice that meets all demands but one.
@@ -21,34 +20,30 @@ struct Witness {
 }
 
 /// Marks demands that are needed, since some choice meets all others: where a choice meets all but one, this one, and those that are
-/// reached from there by changing one place or one build at a time, so that one demand alone isn't met. The index is to be that of the
-/// problem; with another one, fewer are marked.
+/// reached from there by changing one place or one build at a time, so that one demand alone isn't met.
 pub(crate) fn mark_needed(
     alloc: Global,
-    inputs: &[Input],
-    problem: &Problem,
-    index: &Index,
+    problem: &Indexed<'_>,
     demands: &[Demand],
     choice: Choice,
     is_needed: &mut Vec<bool>,
 ) -> Result<(), AllocError>
-    requires { All (λ x. AreRising x.places) inputs.now }
     ensures length { OnOk result (length is_needed.new.items ≡ length is_needed.old.items) }
-    ensures needed { OnOk result (let p = record problem.now { inputs = inputs.now } in
+    ensures needed { OnOk result (let p = problem.now in
         AreNeeded p demands.now is_needed.old.items → AreNeeded p demands.now is_needed.new.items) }
 {
     let mut work = Vec::new(alloc);
-    mark(inputs, problem, demands, choice, is_needed, &mut work)?;
+    mark(problem, demands, choice, is_needed, &mut work)?;
     // Each turn takes what marked a demand.
     for _ in 0..demands.len() {
         let Some(witness) = work.pop() else {
             return Ok(());
         };
-        if let Some(other) = with_other_build(alloc, inputs, index, demands, &witness)? {
-            mark(inputs, problem, demands, other, is_needed, &mut work)?;
+        if let Some(other) = with_other_build(alloc, problem, demands, &witness)? {
+            mark(problem, demands, other, is_needed, &mut work)?;
         }
-        if let Some(other) = with_other_place(alloc, inputs, problem, index, demands, &witness)? {
-            mark(inputs, problem, demands, other, is_needed, &mut work)?;
+        if let Some(other) = with_other_place(alloc, problem, demands, &witness)? {
+            mark(problem, demands, other, is_needed, &mut work)?;
         }
     }
     Ok(())
@@ -58,26 +53,21 @@ pub(crate) fn mark_needed(
 /// demand is the only one that a choice which is known doesn't meet.
 pub(crate) fn mark_one_by_one(
     alloc: Global,
-    inputs: &[Input],
-    problem: &Problem,
-    index: &Index,
+    problem: &Indexed<'_>,
     demands: &[Demand],
     known: &Choice,
     is_needed: &mut Vec<bool>,
 ) -> Result<(), AllocError>
-    requires { All (λ x. AreRising x.places) inputs.now }
     ensures length { OnOk result (length is_needed.new.items ≡ length is_needed.old.items) }
-    ensures needed { OnOk result (let p = record problem.now { inputs = inputs.now } in
+    ensures needed { OnOk result (let p = problem.now in
         AreNeeded p demands.now is_needed.old.items → AreNeeded p demands.now is_needed.new.items) }
 {
-    let unmet = only_unmet(inputs, problem, demands, known);
+    let unmet = only_unmet(problem, demands, known);
     let Some(input) = input_allowed(demands, unmet) else {
         return Ok(());
     };
     for k in 0..demands.len() {
-        mark_without(
-            alloc, inputs, problem, index, demands, k, known, input, is_needed,
-        )?;
+        mark_without(alloc, problem, demands, k, known, input, is_needed)?;
     }
     Ok(())
 }
@@ -85,18 +75,15 @@ pub(crate) fn mark_one_by_one(
 /// The same, where demand `k` alone is left out, if it names a job and has no mark.
 fn mark_without(
     alloc: Global,
-    inputs: &[Input],
-    problem: &Problem,
-    index: &Index,
+    problem: &Indexed<'_>,
     demands: &[Demand],
     k: usize,
     known: &Choice,
     input: usize,
     is_needed: &mut Vec<bool>,
 ) -> Result<(), AllocError>
-    requires { All (λ x. AreRising x.places) inputs.now }
     ensures length { OnOk result (length is_needed.new.items ≡ length is_needed.old.items) }
-    ensures needed { OnOk result (let p = record problem.now { inputs = inputs.now } in
+    ensures needed { OnOk result (let p = problem.now in
         AreNeeded p demands.now is_needed.old.items → AreNeeded p demands.now is_needed.new.items) }
 {
     if !is_to_leave_out(demands, is_needed, k) {
@@ -106,8 +93,8 @@ fn mark_without(
         demands,
         left_out: Some(k),
     };
-    match carried(alloc, inputs, problem, index, followed, known, input)? {
-        Some(other) => mark_needed(alloc, inputs, problem, index, demands, other, is_needed),
+    match carried(alloc, problem, followed, known, input)? {
+        Some(other) => mark_needed(alloc, problem, demands, other, is_needed),
         None => Ok(()),
     }
 }
@@ -130,19 +117,17 @@ pub(crate) fn is_to_leave_out(demands: &[Demand], is_needed: &[bool], k: usize) 
 
 /// Marks the demand that a choice doesn't meet, if it is the only one; where it wasn't marked, the choice is one to go on from.
 fn mark(
-    inputs: &[Input],
-    problem: &Problem,
+    problem: &Indexed<'_>,
     demands: &[Demand],
     choice: Choice,
     is_needed: &mut Vec<bool>,
     work: &mut Vec<Witness>,
 ) -> Result<(), AllocError>
-    requires { All (λ x. AreRising x.places) inputs.now }
     ensures length { OnOk result (length is_needed.new.items ≡ length is_needed.old.items) }
-    ensures needed { OnOk result (let p = record problem.now { inputs = inputs.now } in
+    ensures needed { OnOk result (let p = problem.now in
         AreNeeded p demands.now is_needed.old.items → AreNeeded p demands.now is_needed.new.items) }
 {
-    let Some(unmet) = only_unmet(inputs, problem, demands, &choice) else {
+    let Some(unmet) = only_unmet(problem, demands, &choice) else {
         return Ok(());
     };
     if unmet >= is_needed.len() || is_needed[unmet] {
@@ -156,15 +141,14 @@ fn mark(
 /// The choice with another build of the job that an input's place hasn't passed: the newest with which it did.
 fn with_other_build(
     alloc: Global,
-    inputs: &[Input],
-    index: &Index,
+    problem: &Indexed<'_>,
     demands: &[Demand],
     witness: &Witness,
 ) -> Result<Option<Choice>, AllocError> {
     let Some(Demand::Passed(input, job)) = demands.get(witness.unmet) else {
         return Ok(None);
     };
-    let Some(number) = build_with(inputs, index, &witness.choice, *input, *job) else {
+    let Some(number) = build_with(problem, &witness.choice, *input, *job) else {
         return Ok(None);
     };
     let mut other = copied_choice(alloc, &witness.choice)?;
@@ -176,9 +160,7 @@ fn with_other_build(
 /// to change for it.
 fn with_other_place(
     alloc: Global,
-    inputs: &[Input],
-    problem: &Problem,
-    index: &Index,
+    problem: &Indexed<'_>,
     demands: &[Demand],
     witness: &Witness,
 ) -> Result<Option<Choice>, AllocError> {
@@ -189,18 +171,10 @@ fn with_other_place(
                 demands,
                 left_out: None,
             };
-            carried(
-                alloc,
-                inputs,
-                problem,
-                index,
-                followed,
-                &witness.choice,
-                *input,
-            )
+            carried(alloc, problem, followed, &witness.choice, *input)
         }
         Some(Demand::Passed(input, job)) => {
-            let Some(place) = place_with(inputs, problem, &witness.choice, *input, *job) else {
+            let Some(place) = place_with(problem, &witness.choice, *input, *job) else {
                 return Ok(None);
             };
             let mut other = copied_choice(alloc, &witness.choice)?;

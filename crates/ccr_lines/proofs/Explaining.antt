@@ -1,19 +1,14 @@
 -- Several things shown, one behind the other; and what is said of an input and of a job.
-use Rattle.std.proofs.Common.{◌≡◌, ◌+◌, ◌-◌, ◌<◌, ◌∷◌, ◌++◌, [], List, ℕ, length, take, map, get_or, refl, sym, ◌∙◌, ap, subst, append_assoc, append-nil, arith}
+use Rattle.std.proofs.Common.{Result, IfOk, ◌≡◌, ◌+◌, ◌-◌, ◌<◌, ◌∷◌, ◌++◌, [], List, ℕ, length, take, map, get_or, refl, sym, ◌∙◌, ap, subst, append_assoc, append-nil, arith}
 use Rattle.std.proofs.lemmas.List.{take_more, map-append, length-map, length-take-le}
 use Rattle.ccr_history.specs.Text.{Text}
 use Rattle.ccr_history.specs.History.{HistoryData}
 use Rattle.ccr_pipeline.specs.Inputs.{InputData}
 use Rattle.ccr_pipeline.specs.JobData.{JobData}
 use Rattle.ccr_pipeline.specs.Pipelines.{PipelineData}
-use Rattle.ccr_choice.specs.Preference.{order_of}
-use Rattle.ccr_choice.specs.Problem.{ProblemValue}
-use Rattle.ccr_problem.specs.ProblemOf.{IsProblemOf}
-use Rattle.ccr_resolve.specs.Chosen.{IsChosen}
-use Rattle.ccr_resolve.specs.declared.chosen.Chosen.{Chosen}
 use Rattle.ccr_lines.specs.Each.{AreEach}
 use Rattle.ccr_lines.specs.Explained.{newest_place, newest_three}
-use Rattle.ccr_lines.specs.ExplainJson.{IsExplainedBy, IsJobExplained}
+use Rattle.ccr_lines.specs.ExplainJson.{IsJobExplained}
 use Rattle.ccr_lines.specs.declared.form.Form.{Form}
 use Rattle.ccr_lines.specs.Reasons.{SubjectData}
 
@@ -70,15 +65,10 @@ newest_so P s x n second third a b c whole newest next last first_is second_is t
     (subst (λ m. P m c) (last ∙ ap (λ m. m - 2) newest) third_is) told
 
 -- ---- a job
--- what is said of a job by what was chosen for its problem, which an index stands for
-pub job_explained : (f : Form) (p : PipelineData) (h : HistoryData) (budget : ℕ) (j : JobData) (name : Text)
-    (q indexed : ProblemValue) (c : Chosen) (status : ℕ) (text : Text) → IsProblemOf p h name q → name ≡ j.name
-    → IsChosen (order_of indexed) indexed budget c → indexed ≡ q → IsExplainedBy f p h budget j q c status text
-    → IsJobExplained f p h budget j status text
-job_explained f p h budget j name q indexed c status text problem named chosen same explained = (
-  q,
-  c,
-  subst (λ n. IsProblemOf p h n q) named problem,
-  subst (λ z. IsChosen (order_of z) z budget c) same chosen,
-  explained,
-)
+-- what is said by a history and a budget is said by those that are the same
+pub explained_same : {E X : Type 0} (status : X → ℕ) (text : X → Text) (f : Form) (p : PipelineData) (h : HistoryData) (b : ℕ) (j : JobData)
+    (g : HistoryData) (n : ℕ) (r : Result X E) → g ≡ h → n ≡ b → IfOk r (λ x. IsJobExplained f p g n j (status x) (text x))
+    → IfOk r (λ x. IsJobExplained f p h b j (status x) (text x))
+explained_same status text f p h b j g n r same budget has =
+    subst (λ m. IfOk r (λ x. IsJobExplained f p h m j (status x) (text x))) budget
+    (subst (λ o. IfOk r (λ x. IsJobExplained f p o n j (status x) (text x))) same has)

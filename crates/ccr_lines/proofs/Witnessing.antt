@@ -2,7 +2,8 @@
 use Rattle.std.proofs.Common.{◌≡◌, inl, inr, ℕ, zero, suc, ◌<◌, List, [], ◌∷◌, length, slice_index, slice_index_or, Bool, true, false, not, ◌==◌, ◌↔◌, cond, Some, option_map, refl, sym, ap, ◌∙◌, arith}
 use Rattle.std.specs.Prelude.{find, Any, Contains}
 use Rattle.std.specs.List.{list_any}
-use Rattle.std.proofs.lemmas.Bool.{and_parts, and_from, or_cases, both_ways, not-true, eqb-true, eq-eqb}
+use Rattle.std.proofs.lemmas.Bool.{and_parts, and_from, or_cases, both_ways, not-true, eqb-true, eq-eqb, cases_Bool, false_from_ne_true, false≢true}
+use Rattle.std.proofs.lemmas.List.Folds.{Any-from_list_any, list_any-from_Any}
 use Rattle.std.proofs.lemmas.List.{get_or_default}
 use Rattle.ccr_choice.specs.Problem.{InputValue, BuildValue, ProblemValue, input_at, builds_at, no_input, is_problem}
 use Rattle.ccr_choice.specs.Satisfies.{Moved, Satisfies, IsAllowed, IsSuccessful, HasPassed, HasPassedAll}
@@ -53,6 +54,19 @@ same_pair p q = (
 
 contains_pair : (p : ℕ × ℕ) (ps : List (ℕ × ℕ)) → list_any (is_pair p) ps ≡ true → Contains ps p
 contains_pair p ps h = (tests_contains (is_pair p) p ps (λ q. same_pair p q)).0 h
+
+-- what says whether some build has the pair is the test that looks for it
+pub moved_test : (p : ℕ × ℕ) (bs : List BuildValue) (is : Bool) → ((is ≡ true) ↔ Any (λ b. Contains b.pairs p) bs)
+    → is ≡ list_any (λ b. list_any (is_pair p) b.pairs) bs
+moved_test p bs is decides =
+    let test : BuildValue → Bool = λ b. list_any (is_pair p) b.pairs in
+    let Has : BuildValue → Type 0 = λ b. Contains b.pairs p in
+    let Passing : BuildValue → Type 0 = λ b. test b ≡ true in
+    elim (cases_Bool (list_any test bs)) [
+      | inl holds ↦ decides.1 (any_more Passing Has bs (λ b h. contains_pair p b.pairs h) (Any-from_list_any test bs holds)) ∙ sym holds
+      | inr fails ↦ false_from_ne_true is (λ h. false≢true (sym fails
+          ∙ list_any-from_Any test bs (any_more Has Passing bs (λ b has. (tests_contains (is_pair p) p b.pairs (λ q. same_pair p q)).1 has) (decides.0 h)))) ∙ sym fails
+    ]
 
 named_at : (x : InputValue) (k : ℕ) → k < length x.jobs → names_job (slice_index x.jobs k) x ≡ true
 named_at x k within =

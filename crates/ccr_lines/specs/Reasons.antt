@@ -41,17 +41,15 @@ subject_data s = record {
   history = s.history.now;
   inputs = map input_data s.inputs.now;
   jobs = map string_bytes s.jobs.now;
-  problem = s.problem.now;
+  problem = s.index.now.problem;
   choice = s.choice.now;
   budget = s.budget;
 }
 
--- it has an input for each of the problem's, the index is the problem's, the choice is the best, and the budget is one that a search
--- takes
+-- it has an input for each of the problem's, the choice is the best, and the budget is one that a search takes
 pub record IsSubject (s : Subject) : Type 0 where
-  pub input_each : length s.inputs.now ≡ length s.problem.now.inputs
-  pub index : s.index.now.problem ≡ s.problem.now
-  pub best : IsOptimal (order_of s.problem.now) s.problem.now s.choice.now.places s.choice.now.builds
+  pub input_each : length s.inputs.now ≡ length s.index.now.problem.inputs
+  pub best : IsOptimal (order_of s.index.now.problem) s.index.now.problem s.choice.now.places s.choice.now.builds
   pub least : 1 ≤ s.budget
   pub most : s.budget ≤ MOST_NODES
 

@@ -30,18 +30,17 @@ use crate::form::Form;
 use crate::held::job_held;
 use crate::outlook::{Outlook, outlook_at, push_outlook};
 use crate::past::named_jobs;
-use crate::problem::problem_in;
 use crate::reason::{Reason, reason_of};
 use crate::release::key_at;
 use crate::shown::ShowFault;
 use crate::subject::Subject;
 use crate::taken::history_number;
 use crate::words::{job_name, push_clash, push_number, push_reason};
-use ccr_choice::{Choice, Problem};
+use ccr_choice::Choice;
 use ccr_core::Core;
 use ccr_explain::{Explanation, clash};
 use ccr_history::History;
-use ccr_index::{Index, build_index};
+use ccr_index::Index;
 use ccr_pipeline::{Input, Job, Pipeline, inputs_of};
 use ccr_resolve::{Chosen, choose};
 use std::alloc::{AllocError, Global};
@@ -128,7 +127,7 @@ fn taken_text(
     let choice = subject.choice;
     let place = choice.places[number];
     push_place(alloc, &mut text, subject, input, place)?;
-    push_through(&mut text, subject, subject.problem.named(number))?;
+    push_through(&mut text, subject, subject.index.input(number).jobs())?;
     text.push_str("\n")?;
     Ok(text)
 }
@@ -321,19 +320,17 @@ fn chosen_shown(
     pipeline: &Pipeline,
     history: &History,
     job: &Job,
-    problem: &Problem,
     index: &Index,
     choice: &Choice,
     budget: u32,
 ) -> Result<Vec<u8>, AllocError>
-    requires index { index.now.problem ≡ problem.now }
-    requires problem { IsProblemOf (pipeline_data pipeline.now) history.now (job_data job.now).name problem.now }
+    requires problem { IsProblemOf (pipeline_data pipeline.now) history.now (job_data job.now).name index.now.problem }
     requires there { let j = job_data job.now in job_of j.name (pipeline_data pipeline.now).jobs ≡ Some j }
-    requires best { IsOptimal (order_of problem.now) problem.now choice.now.places choice.now.builds }
+    requires best { let q = index.now.problem in IsOptimal (order_of q) q choice.now.places choice.now.builds }
     requires least { 1 ≤ budget }
     requires most { budget ≤ MOST_NODES }
     ensures { IfOk result (λ text. IsExplainedBy form (pipeline_data pipeline.now) history.now budget
-        (job_data job.now) problem.now (chosen.Best choice.now) 0 text.items) }
+        (job_data job.now) index.now.problem (chosen.Best choice.now) 0 text.items) }
 {
     let inputs = inputs_of(alloc, job)?;
     let jobs = named_jobs(alloc, &inputs)?;
@@ -342,7 +339,6 @@ fn chosen_shown(
         history,
         inputs: &inputs,
         jobs: &jobs,
-        problem,
         index,
         choice,
         budget,
@@ -402,19 +398,17 @@ fn none_shown(
     alloc: Global,
     form: Form,
     job: &Job,
-    problem: &Problem,
     index: &Index,
     budget: u32,
 ) -> Result<Vec<u8>, AllocError>
-    requires index { index.now.problem ≡ problem.now }
     requires least { 1 ≤ budget }
     requires most { budget ≤ MOST_NODES }
-    ensures { IfOk result (λ text. (e : Explanation) × IsExplanation (order_of problem.now) problem.now budget e
-        × (text.items ≡ none_shown form (job_data job.now) e)) }
+    ensures { let q = index.now.problem in IfOk result (λ text. (e : Explanation)
+        × IsExplanation (order_of q) q budget e × (text.items ≡ none_shown form (job_data job.now) e)) }
 {
     let inputs = inputs_of(alloc, job)?;
     let jobs = named_jobs(alloc, &inputs)?;
-    let shown = clash(alloc, problem, index, budget)?;
+    let shown = clash(alloc, index, budget)?;
     let text = clash_shown(alloc, form, job, &inputs, &jobs, &shown)?;
     Ok(text)
 }
@@ -436,55 +430,78 @@ fn explained_by(
     pipeline: &Pipeline,
     history: &History,
     job: &Job,
-    problem: &Problem,
     index: &Index,
     chosen: &Chosen,
     budget: u32,
 ) -> Result<(u8, Vec<u8>), AllocError>
-    requires index { index.now.problem ≡ problem.now }
-    requires problem { IsProblemOf (pipeline_data pipeline.now) history.now (job_data job.now).name problem.now }
+    requires problem { IsProblemOf (pipeline_data pipeline.now) history.now (job_data job.now).name index.now.problem }
     requires there { let j = job_data job.now in job_of j.name (pipeline_data pipeline.now).jobs ≡ Some j }
-    requires chosen { IsChosen (order_of problem.now) problem.now budget chosen.now }
+    requires chosen { let q = index.now.problem in IsChosen (order_of q) q budget chosen.now }
     requires least { 1 ≤ budget }
     requires most { budget ≤ MOST_NODES }
     ensures { IfOk result (λ r. IsExplainedBy form (pipeline_data pipeline.now) history.now budget (job_data job.now)
-        problem.now chosen.now r.0 r.1.items) }
+        index.now.problem chosen.now r.0 r.1.items) }
 {
     match chosen {
         Chosen::Best(choice) => {
-            let text = chosen_shown(
-                alloc, form, pipeline, history, job, problem, index, choice, budget,
-            )?;
+            let text = chosen_shown(alloc, form, pipeline, history, job, index, choice, budget)?;
             Ok((0, text))
         }
-        Chosen::Nothing => Ok((0, none_shown(alloc, form, job, problem, index, budget)?)),
+        Chosen::Nothing => Ok((0, none_shown(alloc, form, job, index, budget)?)),
         Chosen::OverBudget(most) => Ok((3, over_shown(alloc, form, job, *most)?)),
     }
 }
 
-/// What the next build of a job would take, and why nothing newer, or why there is none: status 0; or 3 where a search of more
-/// than `budget` nodes, from 1 to 1,000,000, would be needed. The pipeline has the job.
+/// What the next build of a job would take, and why nothing newer, or why there is none, by the index of its problem: status 0; or
+/// 3 where a search of more than `budget` nodes, from 1 to 1,000,000, would be needed. The pipeline has the job.
 fn explained_of(
     alloc: Global,
     form: Form,
     pipeline: &Pipeline,
     history: &History,
     job: &Job,
+    index: &Index,
     budget: u32,
 ) -> Result<(u8, Vec<u8>), AllocError>
+    requires problem { IsProblemOf (pipeline_data pipeline.now) history.now (job_data job.now).name index.now.problem }
     requires there { let j = job_data job.now in job_of j.name (pipeline_data pipeline.now).jobs ≡ Some j }
     requires least { 1 ≤ budget }
     requires most { budget ≤ MOST_NODES }
     ensures { IfOk result (λ r.
         IsJobExplained form (pipeline_data pipeline.now) history.now budget (job_data job.now) r.0 r.1.items) }
 {
-    let problem = problem_in(alloc, pipeline, history, job.name.as_str())?;
-    let index = build_index(alloc, &problem)?;
-    let chosen = choose(alloc, &index, budget)?;
-    let explained = explained_by(
-        alloc, form, pipeline, history, job, &problem, &index, &chosen, budget,
-    )?;
+    let chosen = choose(alloc, index, budget)?;
+    let explained = explained_by(alloc, form, pipeline, history, job, index, &chosen, budget)?;
     Ok(explained)
+}
+
+/// The same, by what a core keeps. Its pipeline has the job.
+fn explained_in(
+    alloc: Global,
+    form: Form,
+    core: &Core,
+    pipeline: &Pipeline,
+    job: &Job,
+) -> Result<(u8, Vec<u8>), AllocError>
+    requires held { (core_data core.now).pipeline ≡ Some (pipeline_data pipeline.now) }
+    requires there { let j = job_data job.now in job_of j.name (pipeline_data pipeline.now).jobs ≡ Some j }
+    ensures { let c = core_data core.now in IfOk result (λ r.
+        IsJobExplained form (pipeline_data pipeline.now) c.history c.budget (job_data job.now) r.0 r.1.items) }
+{
+    // What a core keeps says that its budget is one that a search takes.
+    core.rules();
+    match core.index(job.name.as_str()) {
+        Some(index) => explained_of(
+            alloc,
+            form,
+            pipeline,
+            core.history(),
+            job,
+            index,
+            core.budget(),
+        ),
+        None => unreachable!(),
+    }
 }
 
 /// What is shown of what the next build of the job of this name would take, and why.
@@ -498,12 +515,10 @@ pub(crate) fn explained_made(
     ensures unshown { let c = core_data core.now in
         IfErr result (IsUnshown (needs (spec.explanation form name.now)) c.pipeline c.history) }
 {
-    // What a core keeps says that its budget is one that a search takes.
-    core.rules();
     let (pipeline, job) = match job_held(core, name) {
         Ok(held) => held,
         Err(fault) => return Err(ShowFault::Lacks(fault)),
     };
-    let explained = explained_of(alloc, form, pipeline, core.history(), job, core.budget())?;
+    let explained = explained_in(alloc, form, core, pipeline, job)?;
     Ok(explained)
 }

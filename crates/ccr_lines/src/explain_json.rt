@@ -183,7 +183,7 @@ fn push_taken(
     let place = choice.places[number];
     let name = string_text(alloc, input.name.as_str())?;
     let newer = array_text(alloc, newer)?;
-    let passed = each_passed(alloc, subject, subject.problem.named(number))?;
+    let passed = each_passed(alloc, subject, subject.index.input(number).jobs())?;
     let passed = array_text(alloc, &passed)?;
     let mut digits = Buffer::new();
     let resource = string_text(alloc, input.resource.as_str())?;

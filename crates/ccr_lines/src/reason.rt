@@ -1,14 +1,11 @@
 //! Why an input of a job's next build doesn't take a place that is newer than the one it takes.
 ghost use Rattle.std.specs.Prelude.{◌≡◌, ◌<◌, ◌≤◌, true, false, not, find, length, slice_index_or, IfOk};
-ghost use Rattle.std.specs.List.{list_any};
-ghost use Rattle.ccr_choice.specs.Problem.{input_at, builds_at};
-ghost use Rattle.ccr_lines.specs.Releases.{is_pair};
 ghost use Rattle.ccr_lines.specs.Reasons.{subject_data, is_allowed, has_moved, first_unmoved, is_preferred, IsOpen, IsReason, IsSubject};
 
-use crate::release::has_pair;
 use crate::subject::Subject;
-use ccr_choice::{Build, Problem};
+use ccr_choice::possible::has_place;
 use ccr_explain::{ClashingDemands, Explanation, why_not};
+use ccr_index::Index;
 use std::alloc::{AllocError, Global};
 
 /// Why an input doesn't take a place that is newer than the one it takes.
@@ -29,47 +26,30 @@ pub enum Reason {
 }
 
 /// Whether a place is one of those that are allowed to an input.
-fn is_allowed(problem: &Problem, input: usize, place: u32) -> bool
-    requires { input < length problem.now.inputs }
-    ensures { result ≡ is_allowed problem.now input place }
+fn is_allowed(index: &Index, input: usize, place: u32) -> bool
+    requires { input < length index.now.problem.inputs }
+    ensures { result ≡ is_allowed index.now.problem input place }
 {
-    for other in problem.inputs()[input].places() {
-        if *other == place {
-            return true;
-        }
-    }
-    false
-}
-
-/// Whether one of these builds moved a pair.
-fn some_has_moved(builds: &[Build], pair: (u32, u32)) -> bool
-    ensures { result ≡ list_any (λ b. list_any (is_pair pair) b.pairs) builds.now }
-{
-    for build in builds {
-        if has_pair(build.pairs(), pair) {
-            return true;
-        }
-    }
-    false
+    has_place(index.input(input).places(), place)
 }
 
 /// Whether a successful build of a job moved a place, in the scope of an input.
-fn has_moved(problem: &Problem, input: usize, place: u32, job: u32) -> bool
-    requires input { input < length problem.now.inputs }
-    requires job { job < length problem.now.jobs }
-    ensures { result ≡ has_moved problem.now input place job }
+fn has_moved(index: &Index, input: usize, place: u32, job: u32) -> bool
+    requires input { input < length index.now.problem.inputs }
+    requires job { job < length index.now.problem.jobs }
+    ensures { result ≡ has_moved index.now.problem input place job }
 {
-    let scope = problem.inputs()[input].scope();
-    some_has_moved(problem.builds(job as usize), (scope, place))
+    let scope = index.input(input).scope();
+    index.rows(job as usize).has_passed(scope, place)
 }
 
 /// Of the jobs that an input names, the first of which no successful build moved the place.
-fn first_unmoved(problem: &Problem, input: usize, place: u32) -> Option<u32>
-    requires { input < length problem.now.inputs }
-    ensures { result ≡ first_unmoved problem.now input place }
+fn first_unmoved(index: &Index, input: usize, place: u32) -> Option<u32>
+    requires { input < length index.now.problem.inputs }
+    ensures { result ≡ first_unmoved index.now.problem input place }
 {
-    for job in problem.named(input) {
-        if !has_moved(problem, input, place, *job) {
+    for job in index.input(input).jobs() {
+        if !has_moved(index, input, place, *job) {
             return Some(*job);
         }
     }
@@ -84,7 +64,7 @@ fn is_preferred(subject: &Subject<'_>, input: usize, place: u32) -> bool
 {
     let choice = subject.choice;
     let taken = choice.places[input];
-    ccr_choice::is_preferred(subject.problem.after(input), place, taken)
+    ccr_choice::is_preferred(subject.index.input(input).after(), place, taken)
 }
 
 /// The demands that exclude each other where an input takes a place and no input before it gets worse, and nothing concerns the
@@ -102,7 +82,6 @@ fn clash_at(
 {
     let shown = why_not(
         alloc,
-        subject.problem,
         subject.index,
         subject.choice,
         input,
@@ -131,10 +110,10 @@ pub(crate) fn reason_of(
     if is_disabled {
         return Ok(Reason::Disabled);
     }
-    if !is_allowed(subject.problem, input, place) {
+    if !is_allowed(subject.index, input, place) {
         return Ok(Reason::Pinned);
     }
-    if let Some(job) = first_unmoved(subject.problem, input, place) {
+    if let Some(job) = first_unmoved(subject.index, input, place) {
         return Ok(Reason::Unmoved(job));
     }
     if is_preferred(subject, input, place) {

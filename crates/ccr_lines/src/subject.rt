@@ -1,6 +1,6 @@
 //! What is explained.
 
-use ccr_choice::{Choice, Problem};
+use ccr_choice::Choice;
 use ccr_history::History;
 use ccr_index::Index;
 use ccr_pipeline::{Input, Pipeline};
@@ -14,8 +14,7 @@ pub struct Subject<'a> {
     pub inputs: &'a [Input],
     /// The jobs that the inputs name in `passed`, each once, in order of first mention.
     pub jobs: &'a [String],
-    pub problem: &'a Problem,
-    /// The index of the problem.
+    /// The index, which stands for the problem of the job.
     pub index: &'a Index,
     pub choice: &'a Choice,
     /// How many nodes a search may take, from 1 to 1,000,000.

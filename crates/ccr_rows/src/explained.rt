@@ -26,7 +26,7 @@ fn clash(rt: &HostRuntime, problem: &Problem, budget: u32) -> Result<Explanation
         return Err(Fail::new("no budget"));
     }
     let index = build_index(rt.alloc(), problem)?;
-    Ok(ccr_explain::clash(rt.alloc(), problem, &index, budget)?)
+    Ok(ccr_explain::clash(rt.alloc(), &index, budget)?)
 }
 
 /// Why an input doesn't take a place.
@@ -41,7 +41,7 @@ fn why_not(
         return Err(Fail::new("no such question"));
     }
     let index = build_index(rt.alloc(), problem)?;
-    Ok(ccr_explain::why_not(rt.alloc(), problem, &index, choice, input, place, 100)?)
+    Ok(ccr_explain::why_not(rt.alloc(), &index, choice, input, place, 100)?)
 }
 
 /// Whether these demands clash, and none of them can be left out.

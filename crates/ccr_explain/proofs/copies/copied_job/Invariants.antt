@@ -1,5 +1,5 @@
 use Rattle.std.proofs.Common.{◌≡◌, take}
 use Rattle.ccr_explain.proofs.copies.copied_job.Given as goal
 
-abbrev pub invariant-loop-build : goal.invariant-loop-build
-invariant-loop-build l = l.copies.items ≡ take l.build-index l.builds
+abbrev pub invariant-loop-k : goal.invariant-loop-k
+invariant-loop-k l = l.copies.items ≡ take l.k l.rows.builds

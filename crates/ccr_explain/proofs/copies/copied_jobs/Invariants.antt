@@ -2,4 +2,4 @@ use Rattle.std.proofs.Common.{◌≡◌, take}
 use Rattle.ccr_explain.proofs.copies.copied_jobs.Given as goal
 
 abbrev pub invariant-loop-job : goal.invariant-loop-job
-invariant-loop-job l = l.copies.items ≡ take l.job-index l.problem.jobs
+invariant-loop-job l = l.copies.items ≡ take l.job l.problem.jobs

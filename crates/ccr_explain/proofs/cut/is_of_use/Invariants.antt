@@ -5,4 +5,4 @@ use Rattle.ccr_explain.proofs.cut.is_of_use.Given as goal
 
 abbrev pub invariant-loop-input : goal.invariant-loop-input
 invariant-loop-input l =
-    list_all (λ x. has_place_of x.now l.build.pairs) (drop l.input-index l.naming) ≡ list_all (λ x. has_place_of x.now l.build.pairs) l.naming
+    list_all (λ x. has_place_of x.now l.pairs) (drop l.input-index l.naming) ≡ list_all (λ x. has_place_of x.now l.pairs) l.naming

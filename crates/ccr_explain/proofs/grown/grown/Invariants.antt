@@ -3,4 +3,4 @@ use Rattle.ccr_explain.specs.Clash.{IsClash}
 use Rattle.ccr_explain.proofs.grown.grown.Given as goal
 
 abbrev pub invariant-loop : goal.invariant-loop
-invariant-loop l = IfSome l.found (λ ds. IsClash (record l.problem { inputs = l.inputs }) ds.items)
+invariant-loop l = IfSome l.found (λ ds. IsClash l.problem ds.items)

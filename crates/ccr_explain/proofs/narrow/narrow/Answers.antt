@@ -1,9 +1,8 @@
-use Rattle.std.proofs.Common.{◌∙◌, [], ℕ, List, Vec, Global, Bor, length, map, subst, sym, ap, arith}
+use Rattle.std.proofs.Common.{◌∙◌, [], ℕ, List, Vec, Global, length, subst, sym, ap, arith}
 use Rattle.std.specs.Prelude.{All}
 use Rattle.std.proofs.lemmas.List.{length-set}
 use Rattle.std.proofs.lemmas.List.Elements.{All-nil, All-cons, All-append, All-weaker}
 use Rattle.ccr_choice.specs.Problem.{InputValue}
-use Rattle.ccr_choice.specs.declared.problem.Build.{Build}
 use Rattle.ccr_explain.specs.Cut.{IsNarrowed, IsEnough}
 use Rattle.ccr_explain.proofs.NarrowLaws.{narrowed_first, narrowed_twice, rises_too, enough_first, enough_narrowed}
 use Rattle.ccr_explain.proofs.narrow.narrow.Goals.{in-Some+in_ok-useful+in_ok-push, in_default}
@@ -11,7 +10,7 @@ use Rattle.ccr_explain.proofs.narrow.narrow.Goals as goal
 
 pub loop-init : goal.loop-init
 loop-init c =
-    let P : List (ℕ × Vec (Bor Build) Global) → Type 0 = λ ss. All (λ s. IsEnough c.args.problem.now c.args.order.now c.args.inputs.now.items s.0 (map (λ b. b.now) s.1.items)) ss in
+    let P : List (ℕ × Vec ℕ Global) → Type 0 = λ ss. All (λ s. IsEnough c.args.problem.now c.args.order.now c.args.inputs.now.items s.0 s.1.items) ss in
     record {
       narrowed = narrowed_first c.args.problem.now c.args.order.now c.args.inputs.now.items;
       enough = subst P (sym c.new-looked.ensures.items) (All-nil _);
@@ -28,17 +27,17 @@ loop-preserved c =
     let order = c.args.order.now in
     let first = c.args.inputs.now.items in
     let now = c.loop.inputs.items in
-    let E : List InputValue → ℕ × Vec (Bor Build) Global → Type 0 = λ zs s. IsEnough p order zs s.0 (map (λ b. b.now) s.1.items) in
+    let E : List InputValue → ℕ × Vec ℕ Global → Type 0 = λ zs s. IsEnough p order zs s.0 s.1.items in
     let P : List InputValue → Type 0 = λ zs. IsNarrowed p order first zs in
-    let Q : List (ℕ × Vec (Bor Build) Global) → Type 0 = λ ss. All (E c.match-next_job.inputs.items) ss in
+    let Q : List (ℕ × Vec ℕ Global) → Type 0 = λ ss. All (E c.match-next_job.inputs.items) ss in
     elim c.match-next_job.branch [
       | in-Some+in_ok-useful+in_ok-push w ↦ (let next = w.narrow_by.new.inputs.items in
           let R : List InputValue → Type 0 = λ zs. All (E zs) w.push.new.self.items in
-          let S : List (ℕ × Vec (Bor Build) Global) → Type 0 = λ ss. All (E next) ss in
+          let S : List (ℕ × Vec ℕ Global) → Type 0 = λ ss. All (E next) ss in
           let narrowed = w.in_ok-useful.ensures.narrowed in
-          let before = All-weaker (E now) (E next) (λ s h. enough_narrowed p order now next s.0 (map (λ b. b.now) s.1.items) narrowed h) c.loop.looked.items c.loop.invariant.enough in
-          let one : E next (w.in-Some.job, w.in_ok-useful.useful) = enough_narrowed p order now next w.in-Some.job (map (λ b. b.now) w.in_ok-useful.useful.items) narrowed
-          (enough_first p order now w.in-Some.job (map (λ b. b.now) w.in_ok-useful.useful.items) w.in_ok-useful.ensures.useful) in
+          let before = All-weaker (E now) (E next) (λ s h. enough_narrowed p order now next s.0 s.1.items narrowed h) c.loop.looked.items c.loop.invariant.enough in
+          let one : E next (w.in-Some.job, w.in_ok-useful.useful) = enough_narrowed p order now next w.in-Some.job w.in_ok-useful.useful.items narrowed
+          (enough_first p order now w.in-Some.job w.in_ok-useful.useful.items w.in_ok-useful.ensures.useful) in
           record {
             narrowed = subst P (sym (ap (λ v. v.items) w.inputs-is)) (narrowed_twice p order first now next c.loop.invariant.narrowed narrowed);
             enough = subst Q (sym (ap (λ v. v.items) w.looked-is)) (subst R (sym (ap (λ v. v.items) w.inputs-is)) (subst S (sym w.in_ok-push.ensures.items)

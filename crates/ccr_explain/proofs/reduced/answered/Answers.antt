@@ -1,22 +1,15 @@
 use Rattle.std.proofs.Common.{◌∙◌, ◌<◌, List, length, refl, sym, ap, subst}
 use Rattle.std.specs.Prelude.{remove}
-use Rattle.ccr_choice.specs.Problem.{ProblemValue}
 use Rattle.ccr_explain.specs.declared.demand.Demand.{Demand}
 use Rattle.ccr_explain.specs.Cut.{IsMet}
 use Rattle.ccr_explain.specs.Reduced.{ReductionValue, AreNeeded, IsReduced}
-use Rattle.ccr_explain.proofs.CutRules.{places_ascend}
 use Rattle.ccr_explain.proofs.Reducing.{stays_out, is_kept, is_open, told_no, told_yes, told_over, same_parts}
 use Rattle.ccr_explain.proofs.reduced.answered.Goals.{in-No, in-Yes+in_ok-mark_needed-in-Yes, in-OverBudget}
 use Rattle.ccr_explain.proofs.reduced.answered.Goals as goal
 
-pub mark_needed-requires : goal.mark_needed-requires
-mark_needed-requires c =
-    let p : ProblemValue = record c.args.problem.now { inputs = c.args.inputs.now } in
-    places_ascend p c.requires.rules
-
 pub returns-clause-reduced : goal.returns-clause-reduced
 returns-clause-reduced c =
-    let p : ProblemValue = record c.args.problem.now { inputs = c.args.inputs.now } in
+    let p = c.args.problem.now in
     let budget = c.args.budget in
     let now = c.reduction.inside in
     let k = now.next in

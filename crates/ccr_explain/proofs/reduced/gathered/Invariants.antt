@@ -4,6 +4,6 @@ use Rattle.ccr_explain.proofs.reduced.gathered.Given as goal
 
 abbrev pub invariant-loop-k : goal.invariant-loop-k
 invariant-loop-k l = record {
-  reduced : IsReduced (record l.problem { inputs = l.inputs }) l.budget l.now;
+  reduced : IsReduced l.problem l.budget l.now;
   fewer : length l.now.demands - l.now.next ≤ length l.initial.now.demands - l.initial.now.next;
 }

@@ -4,6 +4,6 @@ use Rattle.ccr_explain.proofs.reduced.needed_alone.Given as goal
 
 abbrev pub invariant-loop : goal.invariant-loop
 invariant-loop l = record {
-  reduced : IsReduced (record l.problem { inputs = l.inputs }) l.budget l.now;
+  reduced : IsReduced l.problem l.budget l.now;
   fewer : length l.now.demands - l.now.next ≤ length l.initial.now.demands - l.initial.now.next;
 }

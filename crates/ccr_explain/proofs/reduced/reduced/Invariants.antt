@@ -4,6 +4,6 @@ use Rattle.ccr_explain.proofs.reduced.reduced.Given as goal
 
 abbrev pub invariant-loop : goal.invariant-loop
 invariant-loop l = record {
-  reduced : IsReduced (record l.problem { inputs = l.inputs }) l.budget l.reduction;
+  reduced : IsReduced l.problem l.budget l.reduction;
   fewer : length l.reduction.demands - l.reduction.next + l.counter ≤ l.count;
 }

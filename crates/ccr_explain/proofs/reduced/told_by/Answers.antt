@@ -1,19 +1,12 @@
 use Rattle.std.proofs.Common.{List, sym, subst}
-use Rattle.ccr_choice.specs.Problem.{ProblemValue}
 use Rattle.ccr_explain.specs.declared.demand.Demand.{Demand}
 use Rattle.ccr_explain.specs.Reduced.{ReductionValue, AreNeeded, IsReduced}
-use Rattle.ccr_explain.proofs.CutRules.{places_ascend}
 use Rattle.ccr_explain.proofs.Reducing.{more_known}
 use Rattle.ccr_explain.proofs.reduced.told_by.Goals as goal
 
-pub mark_needed-requires : goal.mark_needed-requires
-mark_needed-requires c =
-    let p : ProblemValue = record c.args.problem.now { inputs = c.args.inputs.now } in
-    places_ascend p c.requires.rules
-
 pub returns-clause-reduced : goal.returns-clause-reduced
 returns-clause-reduced c =
-    let p : ProblemValue = record c.args.problem.now { inputs = c.args.inputs.now } in
+    let p = c.args.problem.now in
     let now = c.reduction.inside in
     let r : ReductionValue = record { demands = now.demands.items; is_needed = now.is_needed.items; next = now.next; is_irreducible = now.is_irreducible } in
     let P : ReductionValue → Type 0 = λ x. IsReduced p c.args.budget x in

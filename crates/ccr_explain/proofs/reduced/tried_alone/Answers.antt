@@ -1,6 +1,5 @@
 use Rattle.std.proofs.Common.{◌∙◌, List, sym, ap, subst, arith}
 use Rattle.std.specs.Prelude.{All}
-use Rattle.ccr_choice.specs.Problem.{ProblemValue}
 use Rattle.ccr_explain.specs.declared.demand.Demand.{Demand}
 use Rattle.ccr_explain.specs.Demand.{IsDemandOf}
 use Rattle.ccr_explain.specs.Reduced.{ReductionValue, marked, IsReduced}
@@ -9,7 +8,7 @@ use Rattle.ccr_explain.proofs.reduced.tried_alone.Goals as goal
 
 pub are_met-requires-clause-demands : goal.are_met-requires-clause-demands
 are_met-requires-clause-demands c =
-    let p : ProblemValue = record c.args.problem.now { inputs = c.args.inputs.now } in
+    let p = c.args.problem.now in
     let now = c.reduction.inside in
     let P : ReductionValue → Type 0 = λ x. IsReduced p c.args.budget x in
     let so = subst P (sym c.reduction.view_is) c.requires.reduced in
@@ -19,7 +18,7 @@ are_met-requires-clause-demands c =
 
 pub returns-in_ok-is_needed-in-No-clause-reduced : goal.returns-in_ok-is_needed-in-No-clause-reduced
 returns-in_ok-is_needed-in-No-clause-reduced c =
-    let p : ProblemValue = record c.args.problem.now { inputs = c.args.inputs.now } in
+    let p = c.args.problem.now in
     let now = c.reduction.inside in
     let r : ReductionValue = record { demands = now.demands.items; is_needed = now.is_needed.items; next = now.next; is_irreducible = now.is_irreducible } in
     let P : ReductionValue → Type 0 = λ x. IsReduced p c.args.budget x in

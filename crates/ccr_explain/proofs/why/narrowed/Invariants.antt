@@ -5,5 +5,5 @@ use Rattle.ccr_explain.proofs.why.narrowed.Given as goal
 
 abbrev pub invariant-loop-k : goal.invariant-loop-k
 invariant-loop-k l =
-    l.inputs.items ++ narrowed_from (may_take (order_of l.problem) l.places l.input l.place) l.k (drop l.k l.problem.inputs)
-    ≡ narrowed_from (may_take (order_of l.problem) l.places l.input l.place) 0 l.problem.inputs
+    l.inputs.items ++ narrowed_from (may_take (order_of l.index.problem) l.places l.input l.place) l.k (drop l.k l.index.problem.inputs)
+    ≡ narrowed_from (may_take (order_of l.index.problem) l.places l.input l.place) 0 l.index.problem.inputs

@@ -7,19 +7,19 @@ use Rattle.ccr_explain.proofs.why.why_not.Goals as goal
 
 pub returns-clause-shown : goal.returns-clause-shown
 returns-clause-shown c =
-    let p = c.args.problem.now in
+    let p = c.args.index.now.problem in
     let places = c.args.choice.now.places in
     let f : List InputValue → ProblemValue = λ xs. record p { inputs = xs } in
     let places_are : c.deref.result.now ≡ places = c.deref.ensures.value ∙ ap (λ v. v.places) c.choice.view_is in
-    let same = ap f c.deref-2.ensures.value ∙ c.in_ok-asked.ensures.value ∙ ap (λ ns. asked (order_of p) p ns c.args.input c.args.place) places_are in
-    why_result p (f c.deref-2.result.now) places c.args.input c.args.place c.args.budget c.asked_of.result c.requires.input same c.asked_of.ensures
+    let same = c.new-problem.ensures ∙ ap f c.deref-2.ensures.value ∙ c.in_ok-inputs.ensures.value ∙ ap (λ ns. asked (order_of p) p ns c.args.input c.args.place) places_are in
+    why_result p c.new-problem.result places c.args.input c.args.place c.args.budget c.asked_of.result c.requires.input same c.asked_of.ensures
 
 pub returns-clause-not_of_the_best : goal.returns-clause-not_of_the_best
 returns-clause-not_of_the_best c = λ best preferred other is.
-    let p = c.args.problem.now in
+    let p = c.args.index.now.problem in
     let places = c.args.choice.now.places in
     let f : List InputValue → ProblemValue = λ xs. record p { inputs = xs } in
     let places_are : c.deref.result.now ≡ places = c.deref.ensures.value ∙ ap (λ v. v.places) c.choice.view_is in
-    let same = ap f c.deref-2.ensures.value ∙ c.in_ok-asked.ensures.value ∙ ap (λ ns. asked (order_of p) p ns c.args.input c.args.place) places_are in
+    let same = c.new-problem.ensures ∙ ap f c.deref-2.ensures.value ∙ c.in_ok-inputs.ensures.value ∙ ap (λ ns. asked (order_of p) p ns c.args.input c.args.place) places_are in
     not_the_best p places c.args.choice.now.builds c.args.input c.args.place c.args.budget c.asked_of.result c.requires.input
-    (why_result p (f c.deref-2.result.now) places c.args.input c.args.place c.args.budget c.asked_of.result c.requires.input same c.asked_of.ensures) best preferred other is
+    (why_result p c.new-problem.result places c.args.input c.args.place c.args.budget c.asked_of.result c.requires.input same c.asked_of.ensures) best preferred other is

@@ -1,5 +1,4 @@
 use Rattle.std.proofs.Common.{List, Bool, ap, sym, subst}
-use Rattle.ccr_choice.specs.Problem.{ProblemValue}
 use Rattle.ccr_explain.proofs.Reducing.{GoesOn, goes_none, goes_both}
 use Rattle.ccr_explain.proofs.witness.mark_needed.Goals.{in-Some-2+in_ok-mark-2, in_default-2, in-Some-3+in_ok-mark-3, in_default-3}
 use Rattle.ccr_explain.proofs.witness.mark_needed.Goals as goal
@@ -9,7 +8,7 @@ loop-init c = record { long = c.in_ok-mark.ensures.length; needed = c.in_ok-mark
 
 pub loop-preserved : goal.loop-preserved
 loop-preserved c =
-    let p : ProblemValue = record c.args.problem.now { inputs = c.args.inputs.now } in
+    let p = c.args.problem.now in
     let ds = c.args.demands.now in
     let before = c.loop.is_needed.items in
     let middle = c.match-branch-3.is_needed.items in

@@ -2,4 +2,4 @@ use Rattle.ccr_explain.proofs.Reducing.{GoesOn}
 use Rattle.ccr_explain.proofs.witness.mark_one_by_one.Given as goal
 
 abbrev pub invariant-loop-k : goal.invariant-loop-k
-invariant-loop-k l = GoesOn (record l.problem { inputs = l.inputs }) l.demands l.fn.is_needed.items l.is_needed.items
+invariant-loop-k l = GoesOn l.problem l.demands l.fn.is_needed.items l.is_needed.items

@@ -28,7 +28,7 @@ returns c =
     (and (c.as_slice-3.ensures.value ∙ (c.in_ok-passed-2.ensures
     ∙ array_of_each (λ j. passed_json s j) (input_at s.problem i).jobs c.deref.result.now
     (c.deref.ensures.value ∙ (c.in_ok-passed.ensures
-    ∙ ap (λ js. flat_map (λ j. after_comma (passed_json s j)) js) c.named.ensures.value))))
+    ∙ ap (λ js. flat_map (λ j. after_comma (passed_json s j)) js) (c.jobs.ensures ∙ ap (λ y. y.jobs) c.input.ensures.value)))))
     (and c.as_bytes-4.ensures.value
     (and (c.as_bytes-5.ensures.value ∙ (c.format.ensures.text ∙ ap decimal place))
     (and c.as_bytes-6.ensures.value

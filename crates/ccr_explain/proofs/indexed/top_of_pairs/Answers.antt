@@ -1,7 +1,7 @@
 use Rattle.std.proofs.Common.{◌≤◌, arith}
 use Rattle.std.proofs.lemmas.List.Elements.{All-get_or}
 use Rattle.ccr_explain.proofs.Steps.{all_taken, pairs_more}
-use Rattle.ccr_explain.proofs.cut.top_of_pairs.Goals as goal
+use Rattle.ccr_explain.proofs.indexed.top_of_pairs.Goals as goal
 
 pub loop-pair-preserved : goal.loop-pair-preserved
 loop-pair-preserved c =

@@ -1,5 +1,5 @@
 use Rattle.std.proofs.Common.{◌≤◌, take, All}
-use Rattle.ccr_explain.proofs.cut.top_of_rows.Given as goal
+use Rattle.ccr_explain.proofs.indexed.top_of_rows.Given as goal
 
 abbrev pub invariant-loop-build : goal.invariant-loop-build
 invariant-loop-build l = record {

@@ -3,7 +3,7 @@ use Rattle.std.proofs.lemmas.List.{get_or_default}
 use Rattle.std.proofs.lemmas.List.Elements.{All-get_or, All-same}
 use Rattle.ccr_index.specs.Rows.{no_build}
 use Rattle.ccr_explain.proofs.Steps.{all_taken, builds_more, Below}
-use Rattle.ccr_explain.proofs.cut.top_of_rows.Goals as goal
+use Rattle.ccr_explain.proofs.indexed.top_of_rows.Goals as goal
 
 pub top_of_pairs-top-requires-clause-few : goal.top_of_pairs-top-requires-clause-few
 top_of_pairs-top-requires-clause-few c =
