@@ -7,7 +7,7 @@ ghost use Rattle.ccr_explain.specs.Cut.{is_of_use, build_in, AreThose, IsNarrowe
 
 use crate::cut::is_among;
 use crate::indexed::Indexed;
-use crate::useful::useful_in;
+use crate::useful::{useful_among, useful_in};
 use ccr_choice::Input;
 use ccr_index::JobRows;
 use std::alloc::{AllocError, Global};
@@ -16,7 +16,8 @@ use std::alloc::{AllocError, Global};
 pub(crate) type Looked = (usize, Vec<usize>);
 
 /// Leaves to each of these inputs only places that came with builds of use of each job that it names, so that no choice is lost. Each
-/// job is looked at once: the next is the one whose inputs leave it the least. Gives what was looked at.
+/// job is looked at once: the next is the one whose inputs leave it the least. Then they are looked at once more, the last one first:
+/// where jobs stand in a row, each place that is left is then one of some choice. Gives what was looked at.
 pub(crate) fn narrow(
     alloc: Global,
     problem: &Indexed<'_>,
@@ -29,6 +30,32 @@ pub(crate) fn narrow(
     ensures narrowed { OnOk result (IsNarrowed problem.now order.now inputs.old.items inputs.new.items) }
     ensures enough { IfOk result
         (λ looked. All (λ s. IsEnough problem.now order.now inputs.new.items s.0 s.1.items) looked.items) }
+{
+    let looked = narrow_each(alloc, problem, order, inputs)?;
+    if let Some(_) = first_emptied(inputs) {
+        return Ok(looked);
+    }
+    for turn in 0..looked.len() {
+        let last = &looked[looked.len() - 1 - turn];
+        narrow_again(alloc, problem, order, last, inputs)?;
+    }
+    Ok(looked)
+}
+
+/// The same, where each job is looked at once.
+fn narrow_each(
+    alloc: Global,
+    problem: &Indexed<'_>,
+    order: &[u32],
+    inputs: &mut Vec<Input>,
+) -> Result<Vec<Looked>, AllocError>
+    requires known { EachIndex order.now (λ k. slice_index order.now k < length problem.now.jobs) }
+    requires few { length order.now ≤ 32 }
+    requires rising { All (λ x. AreRising x.places) inputs.old.items }
+    ensures narrowed { OnOk result (IsNarrowed problem.now order.now inputs.old.items inputs.new.items) }
+    ensures enough { IfOk result
+        (λ looked. All (λ s. IsEnough problem.now order.now inputs.new.items s.0 s.1.items) looked.items) }
+    ensures within { IfOk result (λ looked. All (λ s. s.0 < length order.now) looked.items) }
 {
     let mut looked = Vec::new(alloc);
     let mut is_done = vec![in alloc; false; order.len()]?;
@@ -105,13 +132,54 @@ fn narrow_by(
 {
     let rows = problem.rows(order[job] as usize);
     let useful = useful_in(alloc, inputs, job as u32, rows)?;
+    narrow_to(alloc, problem, order, job, &useful, inputs)?;
+    Ok(useful)
+}
+
+/// The same, where a job was looked at.
+fn narrow_again(
+    alloc: Global,
+    problem: &Indexed<'_>,
+    order: &[u32],
+    looked: &Looked,
+    inputs: &mut Vec<Input>,
+) -> Result<(), AllocError>
+    requires known { EachIndex order.now (λ k. slice_index order.now k < length problem.now.jobs) }
+    requires few { length order.now ≤ 32 }
+    requires job { looked.now.0 < length order.now }
+    requires rising { All (λ x. AreRising x.places) inputs.old.items }
+    requires enough { IsEnough problem.now order.now inputs.old.items looked.now.0 looked.now.1.items }
+    ensures { OnOk result (IsNarrowed problem.now order.now inputs.old.items inputs.new.items) }
+{
+    let rows = problem.rows(order[looked.0] as usize);
+    let useful = useful_among(alloc, inputs, looked.0 as u32, rows, &looked.1)?;
+    narrow_to(alloc, problem, order, looked.0, &useful, inputs)
+}
+
+/// Leaves to each input that names job `job` only places that came with these builds, which are those of use of this job.
+fn narrow_to(
+    alloc: Global,
+    problem: &Indexed<'_>,
+    order: &[u32],
+    job: usize,
+    useful: &[usize],
+    inputs: &mut Vec<Input>,
+) -> Result<(), AllocError>
+    requires known { EachIndex order.now (λ k. slice_index order.now k < length problem.now.jobs) }
+    requires few { length order.now ≤ 32 }
+    requires job { job < length order.now }
+    requires useful { let builds = builds_at problem.now (slice_index order.now job) in
+        AreThose (is_of_use inputs.old.items job) builds builds useful.now }
+    ensures { OnOk result (IsNarrowed problem.now order.now inputs.old.items inputs.new.items) }
+{
+    let rows = problem.rows(order[job] as usize);
     for i in 0..inputs.len() {
         if is_among(inputs[i].jobs(), job as u32) {
-            let left = narrowed(alloc, &inputs[i], rows, &useful, problem.top())?;
+            let left = narrowed(alloc, &inputs[i], rows, useful, problem.top())?;
             inputs[i] = left;
         }
     }
-    Ok(useful)
+    Ok(())
 }
 
 /// The input without its places that none of these builds has.
