@@ -16,8 +16,8 @@ use std::alloc::{AllocError, Global};
 pub(crate) type Looked = (usize, Vec<usize>);
 
 /// Leaves to each of these inputs only places that came with builds of use of each job that it names, so that no choice is lost. Each
-/// job is looked at once: the next is the one whose inputs leave it the least. Then they are looked at once more, the last one first:
-/// where jobs stand in a row, each place that is left is then one of some choice. Gives what was looked at.
+/// job is looked at once: the next is the one whose inputs leave it the least. Then they are looked at once more, the last one first,
+/// since what is left to the last inputs rules out places of the first. Gives what was looked at.
 pub(crate) fn narrow(
     alloc: Global,
     problem: &Indexed<'_>,
