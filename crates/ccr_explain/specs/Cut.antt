@@ -104,8 +104,8 @@ pub record IsTop (p : ProblemValue) (top : ℕ) : Type 0 where
   pub most : top ≤ 100000
   pub covers : All (λ builds. All (λ b. All (λ q. q.1 ≤ top) b.pairs) builds) p.jobs
 
--- A problem keeps the rules, and its top place is known.
-pub record IsIndexed (p : ProblemValue) (top : ℕ) : Type 0 where
+-- A problem keeps the rules, and no build has a pair of a place above the top one.
+pub record IsProblemUpTo (p : ProblemValue) (top : ℕ) : Type 0 where
   pub rules : IsProblem p
   pub is_top : IsTop p top
 

@@ -21,13 +21,13 @@ pub(crate) struct Indexed<'a> {
 
 impl<'a> Model for Indexed<'a> {
     ghost use Rattle.ccr_choice.specs.Problem.{ProblemValue};
-    ghost use Rattle.ccr_explain.specs.Cut.{IsIndexed};
+    ghost use Rattle.ccr_explain.specs.Cut.{IsProblemUpTo};
 
     ghost Value = { ProblemValue };
 
     ghost view = { λ a. record a.index.now.problem { inputs = a.inputs.now } };
 
-    ghost invariant = { λ a. IsIndexed (record a.index.now.problem { inputs = a.inputs.now }) a.top };
+    ghost invariant = { λ a. IsProblemUpTo (record a.index.now.problem { inputs = a.inputs.now }) a.top };
 }
 
 impl<'a> Indexed<'a> {
