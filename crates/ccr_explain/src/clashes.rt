@@ -35,8 +35,8 @@ pub fn clash(alloc: Global, index: &Index, budget: u32) -> Result<Explanation, A
     explained(alloc, &problem, few, None, budget)
 }
 
-/// The same, by a few demands that exclude each other, or else by all. A choice that
-/// is known to meet all demands but one spares calls of the resolver.
+/// The same, by a few demands that exclude each other, or else by all. A choice that is known to meet all demands but one spares calls of
+/// the resolver.
 pub(crate) fn explained(
     alloc: Global,
     problem: &Indexed<'_>,

@@ -21,8 +21,7 @@ pub(crate) fn few_demands(
 ) -> Result<Option<Vec<Demand>>, AllocError>
     requires least { 1 ≤ budget }
     requires most { budget ≤ MOST_NODES }
-    ensures { IfOk result
-        (λ found. IfSome found (λ ds. IsClash problem.now ds.items)) }
+    ensures { IfOk result (λ found. IfSome found (λ ds. IsClash problem.now ds.items)) }
 {
     let inputs = problem.inputs();
     for i in 0..inputs.len() {
@@ -53,8 +52,7 @@ pub(crate) fn grown(
 ) -> Result<Option<Vec<Demand>>, AllocError>
     requires least { 1 ≤ budget }
     requires most { budget ≤ MOST_NODES }
-    ensures { IfOk result
-        (λ found. IfSome found (λ ds. IsClash problem.now ds.items)) }
+    ensures { IfOk result (λ found. IfSome found (λ ds. IsClash problem.now ds.items)) }
 {
     let inputs = problem.inputs();
     let order = in_turn(alloc, inputs, first)?;

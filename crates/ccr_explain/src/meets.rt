@@ -1,8 +1,7 @@
 //! Which demands a choice meets.
 
-ghost use Rattle.std.specs.Prelude.{◌≡◌, ◌<◌, length, remove, slice_index, slice_index_or, IsTrue, IfSome, All, Contains};
-ghost use Rattle.ccr_choice.specs.Ascending.{AreRising};
-ghost use Rattle.ccr_choice.specs.Problem.{no_input, input_at, builds_at};
+ghost use Rattle.std.specs.Prelude.{◌≡◌, ◌<◌, length, remove, slice_index, IsTrue, IfSome, Contains};
+ghost use Rattle.ccr_choice.specs.Problem.{input_at, builds_at};
 ghost use Rattle.ccr_choice.specs.Satisfies.{Moved};
 ghost use Rattle.ccr_explain.specs.Cut.{build_in};
 ghost use Rattle.ccr_explain.specs.Demand.{Meets, CanBeMet};
@@ -15,8 +14,7 @@ use ccr_index::JobRows;
 
 /// Where the build with this number lies.
 pub(crate) fn build_of(rows: &JobRows, number: u32) -> Option<usize>
-    ensures { IfSome result
-        (λ k. (k < length rows.now.builds) × ((build_in rows.now.builds k).number ≡ number)) }
+    ensures { IfSome result (λ k. (k < length rows.now.builds) × ((build_in rows.now.builds k).number ≡ number)) }
 {
     // Builds stand newest first.
     let mut low = 0;
@@ -46,8 +44,7 @@ fn has_moved(rows: &JobRows, number: u32, scope: u32, place: u32) -> bool
 }
 
 fn is_allowed(problem: &Indexed<'_>, choice: &Choice, input: usize) -> bool
-    ensures { IsTrue result
-        → Contains (input_at problem.now input).places (slice_index choice.now.places input) }
+    ensures { IsTrue result → Contains (input_at problem.now input).places (slice_index choice.now.places input) }
 {
     let Some(x) = problem.inputs().get(input) else {
         return false;
@@ -78,10 +75,9 @@ pub(crate) fn has_passed(problem: &Indexed<'_>, choice: &Choice, input: usize, j
     has_moved(problem.rows(job), *number, x.scope(), *place)
 }
 
-/// Whether a choice meets a demand of the problem of these inputs and the jobs of a problem.
+/// Whether a choice meets a demand of a problem.
 fn meets(problem: &Indexed<'_>, choice: &Choice, demand: &Demand) -> bool
-    ensures { IsTrue result
-        → Meets problem.now choice.now.places choice.now.builds demand.now }
+    ensures { IsTrue result → Meets problem.now choice.now.places choice.now.builds demand.now }
 {
     match demand {
         Demand::Allowed(i) => is_allowed(problem, choice, *i),
@@ -96,8 +92,7 @@ pub(crate) fn only_unmet(
     choice: &Choice,
 ) -> Option<usize>
     ensures within { IfSome result (λ m. m < length demands.now) }
-    ensures others { IfSome result
-        (λ m. CanBeMet problem.now (remove demands.now m)) }
+    ensures others { IfSome result (λ m. CanBeMet problem.now (remove demands.now m)) }
 {
     let inputs = problem.inputs().len();
     if choice.places.len() != inputs || choice.builds.len() != problem.job_count() {

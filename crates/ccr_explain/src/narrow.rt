@@ -35,9 +35,8 @@ pub(crate) fn narrow(
     if let Some(_) = first_emptied(inputs) {
         return Ok(looked);
     }
-    for turn in 0..looked.len() {
-        let last = &looked[looked.len() - 1 - turn];
-        narrow_again(alloc, problem, order, last, inputs)?;
+    for at in (0..looked.len()).rev() {
+        narrow_again(alloc, problem, order, &looked[at], inputs)?;
     }
     Ok(looked)
 }

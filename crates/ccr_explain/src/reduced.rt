@@ -84,8 +84,7 @@ pub(crate) fn clash_of_needed(
 ) -> Result<Option<ClashingDemands>, AllocError>
     requires least { 1 ≤ budget }
     requires most { budget ≤ MOST_NODES }
-    ensures { IfOk result
-        (λ found. IfSome found (IsClashWithin problem.now budget)) }
+    ensures { IfOk result (λ found. IfSome found (IsClashWithin problem.now budget)) }
 {
     let demands = demands_of(alloc, problem.inputs())?;
     let is_needed = needed_first(alloc, problem, &demands, Some(known))?;
@@ -113,8 +112,7 @@ fn needed_first(
     known: Option<&Choice>,
 ) -> Result<Vec<bool>, AllocError>
     ensures length { IfOk result (λ marks. length marks.items ≡ length demands.now) }
-    ensures needed { IfOk result
-        (λ marks. AreNeeded problem.now demands.now marks.items) }
+    ensures needed { IfOk result (λ marks. AreNeeded problem.now demands.now marks.items) }
 {
     let mut is_needed = vec![in alloc; false; demands.len()]?;
     if let Some(choice) = known {
@@ -248,8 +246,7 @@ fn needed_each(
     known: Option<&Choice>,
 ) -> Result<Vec<bool>, AllocError>
     ensures length { IfOk result (λ marks. length marks.items ≡ length demands.now) }
-    ensures needed { IfOk result
-        (λ marks. AreNeeded problem.now demands.now marks.items) }
+    ensures needed { IfOk result (λ marks. AreNeeded problem.now demands.now marks.items) }
 {
     let mut is_needed = needed_first(alloc, problem, demands, known)?;
     if let Some(choice) = known {

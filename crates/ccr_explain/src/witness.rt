@@ -1,6 +1,6 @@
 //! Demands that are needed, found from choices that meet all others.
 
-ghost use Rattle.std.specs.Prelude.{◌≡◌, length, IfOk, OnOk, All};
+ghost use Rattle.std.specs.Prelude.{◌≡◌, length, OnOk};
 ghost use Rattle.ccr_explain.specs.Reduced.{AreNeeded};
 
 use crate::carried::{Followed, build_with, carried, place_with};

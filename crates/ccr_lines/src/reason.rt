@@ -1,5 +1,5 @@
 //! Why an input of a job's next build doesn't take a place that is newer than the one it takes.
-ghost use Rattle.std.specs.Prelude.{◌≡◌, ◌<◌, ◌≤◌, true, false, not, find, length, slice_index_or, IfOk};
+ghost use Rattle.std.specs.Prelude.{◌≡◌, ◌<◌, ◌≤◌, false, length, IfOk};
 ghost use Rattle.ccr_lines.specs.Reasons.{subject_data, is_allowed, has_moved, first_unmoved, is_preferred, IsOpen, IsReason, IsSubject};
 
 use crate::subject::Subject;
