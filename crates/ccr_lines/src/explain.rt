@@ -1,13 +1,12 @@
 //! What the next build of a job would take, and why nothing newer; or why there is none.
-ghost use Rattle.std.specs.Prelude.{◌≡◌, ◌<◌, ◌≤◌, ◌++◌, ◌∷◌, [], Some, map, codes, decimal, length, string_bytes, IfOk, IfErr, OnOk, IsSome};
-ghost use Rattle.ccr_choice.specs.Optimal.{HasNoChoice, IsOptimal};
-ghost use Rattle.ccr_choice.specs.Problem.{input_at};
+ghost use Rattle.std.specs.Prelude.{◌≡◌, ◌<◌, ◌≤◌, ◌++◌, ◌∷◌, [], Some, map, codes, length, string_bytes, IfOk, IfErr, OnOk};
+ghost use Rattle.ccr_choice.specs.Optimal.{IsOptimal};
 ghost use Rattle.ccr_choice.specs.Preference.{order_of};
 ghost use Rattle.ccr_history.specs.Tables.{versions_at};
 ghost use Rattle.ccr_pipeline.specs.Inputs.{input_data, inputs, named_jobs};
 ghost use Rattle.ccr_pipeline.specs.JobData.{job_data};
 ghost use Rattle.ccr_pipeline.specs.Pipelines.{pipeline_data};
-ghost use Rattle.ccr_problem.specs.ProblemOf.{is_disabled_at, job_of, IsProblemOf};
+ghost use Rattle.ccr_problem.specs.ProblemOf.{job_of, IsProblemOf};
 ghost use Rattle.ccr_proof.specs.declared.proof.TheConstants.{MOST_NODES};
 ghost use Rattle.ccr_explain.specs.Clash.{IsExplanation};
 ghost use Rattle.ccr_core.specs.Choices.{best};
@@ -20,7 +19,7 @@ ghost use Rattle.ccr_resolve.specs.Chosen.{IsChosen};
 ghost use Rattle.ccr_lines.specs.Each.{AreEach};
 ghost use Rattle.ccr_lines.specs.Explained.{scope_at, place_words, build_words, further_builds, through_words, taken_line, newest_place, newest_three, IsRefusal, IsNewerRefused, IsInputExplained, outlook_line, clash_lines};
 ghost use Rattle.ccr_lines.specs.ExplainJson.{IsBestShown, none_shown, over_shown, IsExplainedBy, IsJobExplained};
-ghost use Rattle.ccr_lines.specs.Reasons.{subject_data, reason_words, taken, IsSubject};
+ghost use Rattle.ccr_lines.specs.Reasons.{subject_data, reason_words, IsSubject};
 ghost use Rattle.ccr_lines.specs.Shown.{needs, IsMade, IsUnshown};
 ghost use Rattle.ccr_lines.specs.Shown as spec;
 
