@@ -4,11 +4,12 @@ use Rattle.std.specs.Prelude.{All, Contains, IfOk}
 use Rattle.std.specs.List.{list_any, range_with_len}
 use Rattle.std.proofs.lemmas.Bool.{and_parts, cases_Bool, false_from_ne_true, false≢true}
 use Rattle.std.proofs.lemmas.List.{append-nil, append_assoc, take_all, drop_more, drop_all, get_or_default}
-use Rattle.std.proofs.lemmas.List.Elements.{All-same, All-contains, All-cons, All-append, All-map, All-more, All-weaker}
+use Rattle.std.proofs.lemmas.List.Elements.{All-same, All-cons, All-append, All-map, All-more, All-weaker}
 use Rattle.ccr_choice.specs.Problem.{ProblemValue, InputValue, BuildValue, no_input, input_at, is_problem, are_builds}
 use Rattle.ccr_choice.specs.Preference.{order_of}
 use Rattle.ccr_choice.specs.Optimal.{IsOptimal}
 use Rattle.ccr_choice.proofs.Orders.{is_order}
+use Rattle.ccr_index.proofs.TopLaws.{Below, weaker}
 use Rattle.ccr_explain.specs.declared.demand.Demand.{Demand}
 use Rattle.ccr_explain.specs.declared.demand.Demand.TheVariants.{Allowed, Passed}
 use Rattle.ccr_explain.specs.declared.met.Met.{Met}
@@ -29,25 +30,6 @@ pub all_taken : {X : Type 0} (P : X → Type 0) (xs : List X) (i : ℕ) → leng
 all_taken P xs i end all = All-same P xs (take i xs) (sym (take_all i xs end)) all
 
 -- ---- the top place
-pub pairs_more : (ps : List (ℕ × ℕ)) (i a b : ℕ) → i < length ps → a ≤ b → (get_or ps i (0, 0)).1 ≤ b → All (λ q. q.1 ≤ a) (take i ps) → All (λ q. q.1 ≤ b) (take (i + 1) ps)
-pairs_more ps i a b within up here all =
-    All-more (λ q. q.1 ≤ b) ps i (0, 0) within (All-weaker (λ q. q.1 ≤ a) (λ q. q.1 ≤ b) (λ q h. omega arith) (take i ps) all) here
-
-abbrev pub Below : ℕ → BuildValue → Type 0
-Below top b = All (λ q. q.1 ≤ top) b.pairs
-
-pub pairs_of : (top : ℕ) (bs : List BuildValue) (i : ℕ) (b : BuildValue) (ps : List (ℕ × ℕ)) → i < length bs → b ≡ get_or bs i b → ps ≡ b.pairs → All (Below top) bs → All (λ q. q.1 ≤ top) ps
-pairs_of top bs i b ps within is same all = All-same (λ q. q.1 ≤ top) ps b.pairs same (All-contains (Below top) bs b all (i, within, sym is))
-
-weaker : (a b : ℕ) → a ≤ b → (c : BuildValue) → Below a c → Below b c
-weaker a b up c all = All-weaker (λ q. q.1 ≤ a) (λ q. q.1 ≤ b) (λ q h. omega arith) c.pairs all
-
-pub builds_more : (bs : List BuildValue) (i a b : ℕ) (c : BuildValue) (ps : List (ℕ × ℕ)) → i < length bs → a ≤ b → c ≡ get_or bs i c → ps ≡ c.pairs → All (λ q. q.1 ≤ b) ps
-    → All (Below a) (take i bs) → All (Below b) (take (i + 1) bs)
-builds_more bs i a b c ps within up is same here all =
-    let P : BuildValue → Type 0 = Below b in
-    All-more P bs i c within (All-weaker (Below a) P (weaker a b up) (take i bs) all) (subst P is (All-same (λ q. q.1 ≤ b) c.pairs ps (sym same) here))
-
 -- one job more
 pub jobs_more : (jobs : List (List BuildValue)) (i a b : ℕ) (bs : List BuildValue) → i < length jobs → a ≤ b → bs ≡ get_or jobs i [] → All (Below b) bs
     → All (λ cs. All (Below a) cs) (take i jobs) → All (λ cs. All (Below b) cs) (take (i + 1) jobs)

@@ -12,6 +12,8 @@ use Rattle.ccr_choice.specs.Preference.{order_of}
 use Rattle.ccr_resolve.specs.Chosen.{IsChosen}
 use Rattle.ccr_resolve.specs.declared.chosen.Chosen.{Chosen}
 use Rattle.ccr_index.specs.Rows.{no_build}
+use Rattle.ccr_explain.specs.declared.cut.Cut.{Cut}
+use Rattle.ccr_explain.specs.declared.cut.Cut.TheVariants.{Left, Met as CutMet, Emptied}
 use Rattle.ccr_explain.specs.declared.met.Met.{Met}
 use Rattle.ccr_explain.specs.declared.met.Met.TheVariants.{Yes, No, OverBudget}
 use Rattle.ccr_explain.specs.Demand.{CanBeMet, ExcludeEachOther}
@@ -171,6 +173,13 @@ pub record IsEmptied (ds : List Demand) (p : ProblemValue) : Type 0 where
   pub cut : ProblemValue
   pub is_cut : IsCutTo ds p cut
   pub none : HasNoChoice cut
+
+-- What becomes of a problem that is cut to these demands: the problem that is left, a choice that meets them, or nothing, where there
+-- is no choice.
+abbrev pub IsCut : List Demand → ProblemValue → Cut → Type 0
+IsCut ds p (Left q) = IsCutTo ds p q
+IsCut ds p (CutMet c) = CanBeMet p ds
+IsCut ds p Emptied = IsEmptied ds p
 
 -- What is chosen is what is chosen for the problem cut to these demands.
 pub record IsChosenOfCut (ds : List Demand) (p : ProblemValue) (budget : ℕ) (x : Chosen) : Type 0 where

@@ -1,39 +1,54 @@
 //! A problem cut to some of its demands.
 
-ghost use Rattle.std.specs.Prelude.{◌≡◌, ◌==◌, ◌<◌, ◌≤◌, ◌++◌, if◌then◌else◌, length, map, filter, All, EachIndex, slice_index, IfOk, OnOk, IfSome, IfNone};
+ghost use Rattle.std.specs.Prelude.{◌≡◌, ◌==◌, ◌<◌, ◌≤◌, ◌++◌, if◌then◌else◌, length, map, filter, All, EachIndex, slice_index, IfOk, OnOk};
 ghost use Rattle.std.specs.List.{list_all, list_any, range_with_len};
 ghost use Rattle.ccr_choice.specs.Ascending.{AreRising};
 ghost use Rattle.ccr_choice.specs.Problem.{builds_at};
-ghost use Rattle.ccr_explain.specs.Cut.{is_allowed_of, is_passed_of, jobs_left, with_job, with_jobs, place_in, top_for, cut_input, cut_from, has_place_of, names, is_of_use, builds_from, order_left, AreThose, IsEnough, IsCutTo, IsEmptied};
+ghost use Rattle.ccr_explain.specs.Cut.{is_allowed_of, is_passed_of, jobs_left, with_job, with_jobs, place_in, top_for, cut_input, cut_from, has_place_of, names, is_of_use, builds_from, order_left, AreThose, IsEnough, IsCut};
 
 use crate::copies::copied_builds;
 use crate::demand::Demand;
+use crate::guessed::guessed;
 use crate::indexed::Indexed;
+use crate::meets::meets_all;
 use crate::narrow::{Looked, first_emptied, narrow};
 use crate::useful::{useful_among, useful_builds};
 use ccr_choice::possible::has_place;
-use ccr_choice::{Input, JobBuilds, Problem};
+use ccr_choice::{Choice, Input, JobBuilds, Problem};
 use std::alloc::{AllocError, Global};
 
+/// What becomes of a problem that is cut to demands.
+#[derive(Drop)]
+pub(crate) enum Cut {
+    /// This problem is left.
+    Left(Problem),
+    /// This choice meets the demands, so that no problem was made.
+    Met(Choice),
+    /// An input has no place left, so that there is no choice.
+    Emptied,
+}
+
 /// The problem cut to these demands. An input without the demand of its allowed places may take any place up to a top one. Places that no
-/// choice can have are left out, and builds that have none of the others. None where an input has no place left, so that there is no
-/// choice.
+/// choice can have are left out, and builds that have none of the others.
 pub(crate) fn cut_to(
     alloc: Global,
     problem: &Indexed<'_>,
     demands: &[Demand],
-) -> Result<Option<Problem>, AllocError>
-    ensures cut { IfOk result (λ found. IfSome found (IsCutTo demands.now problem.now)) }
-    ensures none { IfOk result (λ found. IfNone found (IsEmptied demands.now problem.now)) }
+) -> Result<Cut, AllocError>
+    ensures { IfOk result (IsCut demands.now problem.now) }
 {
     let order = order_left(alloc, problem, demands)?;
     let mut inputs = cut_inputs(alloc, problem.inputs(), demands, &order, problem.top())?;
     let looked = narrow(alloc, problem, &order, &mut inputs)?;
     if let Some(_) = first_emptied(&inputs) {
-        return Ok(None);
+        return Ok(Cut::Emptied);
+    }
+    let choice = guessed(alloc, problem, &order, &inputs, &looked)?;
+    if meets_all(problem, demands, &choice) {
+        return Ok(Cut::Met(choice));
     }
     let jobs = jobs_of(alloc, problem, &inputs, &order, &looked)?;
-    Ok(Some(Problem::new(inputs, jobs)))
+    Ok(Cut::Left(Problem::new(inputs, jobs)))
 }
 
 // ---- the jobs that are left

@@ -1,6 +1,6 @@
 //! A problem whose builds an index holds.
 
-ghost use Rattle.std.specs.Prelude.{◌≡◌, ◌<◌, ◌≤◌, length, All};
+ghost use Rattle.std.specs.Prelude.{◌≡◌, ◌<◌, length, All};
 ghost use Rattle.ccr_choice.specs.Ascending.{AreRising};
 ghost use Rattle.ccr_choice.specs.Problem.{builds_at, IsProblem};
 ghost use Rattle.ccr_explain.specs.Cut.{IsTop};
@@ -79,35 +79,7 @@ fn top_place(index: &Index) -> u32
 {
     let mut top = 1;
     for job in 0..index.job_count() {
-        top = top_of_rows(index.rows(job), top);
-    }
-    top
-}
-
-fn top_of_rows(rows: &JobRows, least: u32) -> u32
-    requires least { least ≤ 100000 }
-    requires few { All (λ b. All (λ q. q.1 ≤ 100000) b.pairs) rows.now.builds }
-    ensures more { least ≤ result }
-    ensures most { result ≤ 100000 }
-    ensures covers { All (λ b. All (λ q. q.1 ≤ result) b.pairs) rows.now.builds }
-{
-    let mut top = least;
-    for build in 0..rows.len() {
-        top = top_of_pairs(rows.pairs(build), top);
-    }
-    top
-}
-
-fn top_of_pairs(pairs: &[(u32, u32)], least: u32) -> u32
-    requires least { least ≤ 100000 }
-    requires few { All (λ q. q.1 ≤ 100000) pairs.now }
-    ensures more { least ≤ result }
-    ensures most { result ≤ 100000 }
-    ensures covers { All (λ q. q.1 ≤ result) pairs.now }
-{
-    let mut top = least;
-    for pair in pairs {
-        top = top.max(pair.1);
+        top = index.rows(job).top_place().max(top);
     }
     top
 }

@@ -10,7 +10,8 @@
 //! `specs/Clash.antt`, `specs/WhyNot.antt`). The resolver is called on the problem cut to some of its demands; no definition
 //! speaks of that. Before it is, places are left out that no build leaves to their input, since most questions are decided by that, and
 //! builds without a place that is left. Where an input has few places, the index finds the builds with one of them, so that such a question
-//! doesn't look at the builds of all times.
+//! doesn't look at the builds of all times. Then a choice is guessed among what is left: one job after the other takes a build that agrees with
+//! the places taken by then. Mostly it meets the demands, and the resolver isn't called.
 //!
 //! A choice that meets all demands but one shows that this one is needed; where one place or one build of it is changed, it may meet all
 //! but another one, which is needed, too. The best choice is such a choice where an input is asked about: so it is asked first whether the
@@ -27,6 +28,7 @@ mod cut;
 mod demand;
 mod explanation;
 mod grown;
+mod guessed;
 mod indexed;
 mod law;
 mod meets;

@@ -1,6 +1,6 @@
 //! Which demands a choice meets.
 
-ghost use Rattle.std.specs.Prelude.{◌≡◌, ◌<◌, length, remove, slice_index, IsTrue, IfSome, Contains};
+ghost use Rattle.std.specs.Prelude.{◌≡◌, ◌<◌, length, remove, slice_index, IsTrue, IfSome, Contains, All};
 ghost use Rattle.ccr_choice.specs.Problem.{input_at, builds_at};
 ghost use Rattle.ccr_choice.specs.Satisfies.{Moved};
 ghost use Rattle.ccr_explain.specs.Cut.{build_in};
@@ -83,6 +83,26 @@ fn meets(problem: &Indexed<'_>, choice: &Choice, demand: &Demand) -> bool
         Demand::Allowed(i) => is_allowed(problem, choice, *i),
         Demand::Passed(i, j) => has_passed(problem, choice, *i, *j),
     }
+}
+
+/// Whether a choice meets each of these demands of a problem.
+pub(crate) fn meets_all(problem: &Indexed<'_>, demands: &[Demand], choice: &Choice) -> bool
+    ensures { IsTrue result → CanBeMet problem.now demands.now }
+{
+    choice.places.len() == problem.inputs().len()
+        && choice.builds.len() == problem.job_count()
+        && meet_each(problem, demands, choice)
+}
+
+fn meet_each(problem: &Indexed<'_>, demands: &[Demand], choice: &Choice) -> bool
+    ensures { IsTrue result → All (Meets problem.now choice.now.places choice.now.builds) demands.now }
+{
+    for demand in demands {
+        if !meets(problem, choice, demand) {
+            return false;
+        }
+    }
+    true
 }
 
 /// The demand that a choice doesn't meet, if it is the only one.

@@ -2,12 +2,12 @@
 
 ghost use Rattle.std.specs.Prelude.{◌≡◌, ◌≤◌, All, IfOk};
 ghost use Rattle.ccr_explain.specs.Demand.{IsDemandOf};
-ghost use Rattle.ccr_explain.specs.Cut.{IsChosenOfCut, IsMet};
+ghost use Rattle.ccr_explain.specs.Cut.{IsChosenOfCut, IsCutTo, IsMet};
 
-use crate::cut::{cut_to, order_left};
+use crate::cut::{Cut, cut_to, order_left};
 use crate::demand::Demand;
 use crate::indexed::Indexed;
-use ccr_choice::Choice;
+use ccr_choice::{Choice, Problem};
 use ccr_index::build_index;
 use ccr_proof::MOST_NODES;
 use ccr_resolve::{Chosen, choose};
@@ -22,26 +22,6 @@ pub(crate) enum Met {
     No,
     /// The budget didn't suffice to tell.
     OverBudget,
-}
-
-/// What the resolver chooses for the problem cut to these demands.
-fn chosen_of_cut(
-    alloc: Global,
-    problem: &Indexed<'_>,
-    demands: &[Demand],
-    budget: u32,
-) -> Result<Chosen, AllocError>
-    requires least { 1 ≤ budget }
-    requires most { budget ≤ MOST_NODES }
-    ensures { IfOk result (IsChosenOfCut demands.now problem.now budget) }
-{
-    match cut_to(alloc, problem, demands)? {
-        Some(cut) => {
-            let index = build_index(alloc, &cut)?;
-            choose(alloc, &index, budget)
-        }
-        None => Ok(Chosen::Nothing),
-    }
 }
 
 /// A choice of the cut problem as one of the whole: jobs have the numbers that they have there. A job that isn't left has no build.
@@ -68,6 +48,47 @@ fn build_at(builds: &[u32], job: Option<usize>) -> u32 {
     }
 }
 
+/// What the resolver chooses for the problem cut to these demands.
+fn chosen_of_cut(
+    alloc: Global,
+    problem: &Indexed<'_>,
+    demands: &[Demand],
+    cut: &Problem,
+    budget: u32,
+) -> Result<Chosen, AllocError>
+    requires cut { IsCutTo demands.now problem.now cut.now }
+    requires least { 1 ≤ budget }
+    requires most { budget ≤ MOST_NODES }
+    ensures { IfOk result (IsChosenOfCut demands.now problem.now budget) }
+{
+    let index = build_index(alloc, cut)?;
+    choose(alloc, &index, budget)
+}
+
+/// What the resolver says of the problem cut to these demands.
+fn met_of_cut(
+    alloc: Global,
+    problem: &Indexed<'_>,
+    demands: &[Demand],
+    cut: &Problem,
+    budget: u32,
+) -> Result<Met, AllocError>
+    requires demands { All (IsDemandOf problem.now) demands.now }
+    requires cut { IsCutTo demands.now problem.now cut.now }
+    requires least { 1 ≤ budget }
+    requires most { budget ≤ MOST_NODES }
+    ensures { IfOk result (IsMet problem.now demands.now budget) }
+{
+    match chosen_of_cut(alloc, problem, demands, cut, budget)? {
+        Chosen::Best(choice) => {
+            let choice = choice_of_cut(alloc, problem, demands, choice)?;
+            Ok(Met::Yes(choice))
+        }
+        Chosen::Nothing => Ok(Met::No),
+        Chosen::OverBudget(_) => Ok(Met::OverBudget),
+    }
+}
+
 /// Whether some choice meets these demands of a problem.
 pub(crate) fn are_met(
     alloc: Global,
@@ -80,12 +101,9 @@ pub(crate) fn are_met(
     requires most { budget ≤ MOST_NODES }
     ensures { IfOk result (IsMet problem.now demands.now budget) }
 {
-    match chosen_of_cut(alloc, problem, demands, budget)? {
-        Chosen::Best(choice) => {
-            let choice = choice_of_cut(alloc, problem, demands, choice)?;
-            Ok(Met::Yes(choice))
-        }
-        Chosen::Nothing => Ok(Met::No),
-        Chosen::OverBudget(_) => Ok(Met::OverBudget),
+    match cut_to(alloc, problem, demands)? {
+        Cut::Left(cut) => met_of_cut(alloc, problem, demands, &cut, budget),
+        Cut::Met(choice) => Ok(Met::Yes(choice)),
+        Cut::Emptied => Ok(Met::No),
     }
 }

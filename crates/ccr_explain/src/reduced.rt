@@ -255,8 +255,8 @@ fn needed_each(
     Ok(is_needed)
 }
 
-/// What is left once the next demand was tried, if there is one. Where that marked others, too, it is tried whether all that are marked
-/// exclude each other alone: mostly they do, and then all is done.
+/// What is left once the next demand was tried, if there is one. Where twice as many are marked by then as when that was tried last, it is tried
+/// whether all that are marked exclude each other alone: mostly they do in the end, and then all is done.
 fn turn(
     alloc: Global,
     problem: &Indexed<'_>,
@@ -272,7 +272,7 @@ fn turn(
 {
     let before = count_marks(&reduction.is_needed);
     let after = tried(alloc, problem, reduction, budget)?;
-    if count_marks(&after.is_needed) > before.saturating_add(1) {
+    if is_doubled(before, count_marks(&after.is_needed)) {
         needed_alone(alloc, problem, after, budget)
     } else {
         Ok(after)
@@ -366,6 +366,11 @@ fn answered(
         next: after,
         is_irreducible,
     })
+}
+
+/// Whether a power of two lies above one number, and not above the other.
+fn is_doubled(before: usize, after: usize) -> bool {
+    after.checked_ilog2() > before.checked_ilog2()
 }
 
 fn count_marks(marks: &[bool]) -> usize {

@@ -1,4 +1,5 @@
 pub mod RowLaws
+pub mod TopLaws
 pub mod BestLaws
 pub mod GrowLaws
 pub mod InputLaws

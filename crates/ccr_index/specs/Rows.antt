@@ -97,3 +97,8 @@ pub record AreRows (pool : List (ℕ × ℕ)) (rows : List Row) (earlier : List 
 -- The least of four numbers of places that are left.
 abbrev pub least : ℕ → ℕ → ℕ → ℕ → ℕ
 least a b c d = min a (min b (min c d))
+
+-- No build has a pair of a greater place, and this is the least number of which that is so.
+pub record IsTopPlace (bs : List BuildValue) (top : ℕ) : Type 0 where
+  pub covers : All (λ b. All (λ q. q.1 ≤ top) b.pairs) bs
+  pub least : (n : ℕ) → All (λ b. All (λ q. q.1 ≤ n) b.pairs) bs → top ≤ n

@@ -4,7 +4,7 @@ ghost use Rattle.std.specs.Prelude.{◌≡◌, ◌+◌, ◌-◌, ◌<◌, ◌≤
 ghost use Rattle.std.specs.HashMap.{spare};
 ghost use Rattle.ccr_choice.specs.Ascending.{AreAscending};
 ghost use Rattle.ccr_choice.specs.Table.{build_of};
-ghost use Rattle.ccr_index.specs.Rows.{no_build, number_for, size_for, is_among, last_with, AreDescending, numbered};
+ghost use Rattle.ccr_index.specs.Rows.{no_build, number_for, size_for, is_among, last_with, AreDescending, numbered, IsTopPlace};
 ghost use Rattle.ccr_index.specs.Alike.{does_count, counting, AreAmong, HasSmall, row_for};
 
 use crate::alike::{Scopes, does_count, has_first, print_of};
@@ -51,12 +51,14 @@ pub struct JobRows {
     /// To the print of builds of one kind, one more than the row of the last one with this print. A build with a pair that no earlier one
     /// has is of a new kind, and isn't noted here.
     prints: HashMap<u32, u32>,
+    /// The greatest place of a pair, 0 where there is none.
+    top: u32,
 }
 
 impl Model for JobRows {
     ghost use Rattle.std.specs.Prelude.{◌-◌, vec_len, vec_capacity, min};
     ghost use Rattle.std.specs.HashMap.{spare as room};
-    ghost use Rattle.ccr_index.specs.Rows.{JobRowsValue, builds_of, AreRows, number_for, size_for, least};
+    ghost use Rattle.ccr_index.specs.Rows.{JobRowsValue, builds_of, AreRows, IsTopPlace, number_for, size_for, least};
     ghost use Rattle.ccr_index.specs.Alike.{ArePrinted, row_for};
 
     ghost Value = { JobRowsValue };
@@ -69,7 +71,8 @@ impl Model for JobRows {
     } };
 
     ghost invariant = { λ a. AreRows a.pairs.items a.rows.items a.earlier.items (λ pair. number_for a.seen pair)
-        × ArePrinted a.scopes (builds_of a.pairs.items a.rows.items) (λ n. row_for a.prints n) (λ pair. size_for a.seen pair) };
+        × ArePrinted a.scopes (builds_of a.pairs.items a.rows.items) (λ n. row_for a.prints n) (λ pair. size_for a.seen pair)
+        × IsTopPlace (builds_of a.pairs.items a.rows.items) a.top };
 }
 
 impl JobRows {
@@ -85,6 +88,7 @@ impl JobRows {
             seen: HashMap::new(alloc),
             scopes,
             prints: HashMap::new(alloc),
+            top: 0,
         }
     }
 
@@ -134,6 +138,13 @@ impl JobRows {
             Some(row) if row.number == number => self.rows.len() - at,
             _ => 0,
         }
+    }
+
+    /// The greatest place of a pair of these builds, 0 where there is none.
+    pub fn top_place(&self) -> u32
+        ensures { IsTopPlace self.now.builds result }
+    {
+        self.top
     }
 
     /// Whether some build has this pair.
@@ -231,6 +242,7 @@ impl JobRows {
         let print = print_of(&self.scopes, pairs);
         let next = row as u32 + 1;
         let size = print.size as u32;
+        let top = self.top.max(top_of(pairs));
         note(&mut self.earlier, &mut self.seen, pairs, next, size);
         let is_new_kind = has_first(&self.scopes, pairs, &self.earlier[from..]);
         let has_pairs = self.pairs.extend_from_slice(pairs).is_ok();
@@ -245,7 +257,20 @@ impl JobRows {
             .is_ok();
         prove!(has_row);
         note_print(&mut self.prints, is_new_kind, print.number, row as u32 + 1);
+        self.top = top;
     }
+}
+
+/// The greatest place of these pairs, 0 where there is none.
+fn top_of(pairs: &[(u32, u32)]) -> u32
+    ensures covers { All (λ q. q.1 ≤ result) pairs.now }
+    ensures least { (n : ℕ) → All (λ q. q.1 ≤ n) pairs.now → result ≤ n }
+{
+    let mut top: u32 = 0;
+    for pair in pairs {
+        top = top.max(pair.1);
+    }
+    top
 }
 
 /// Where a pair stands among pairs that ascend, if it does.

@@ -2,7 +2,7 @@ use Rattle.std.proofs.Common.{◌≡◌, ◌∙◌, ◌<◌, List, [], length, s
 use Rattle.std.specs.Prelude.{All}
 use Rattle.ccr_choice.specs.Problem.{ProblemValue, InputValue, no_input, is_problem}
 use Rattle.ccr_choice.specs.Ascending.{AreRising}
-use Rattle.ccr_explain.specs.Cut.{cut_from, problem_with, IsCutTo}
+use Rattle.ccr_explain.specs.Cut.{cut_from, problem_with}
 use Rattle.ccr_explain.proofs.CutRules.{cut_rules, cut_rises}
 use Rattle.ccr_explain.proofs.NarrowLaws.{rises_too, none_left}
 use Rattle.ccr_explain.proofs.Steps.{cut_is, inputs_are, narrowed_cut}
@@ -23,7 +23,7 @@ jobs_of-requires-clause-rising c =
     let top = c.top.result in
     let p = c.args.problem.now in
     let P : List InputValue → Type 0 = λ xs. All (λ x. AreRising x.places) xs in
-    subst P (sym c.deref-4.ensures.value) (rises_too p c.deref-2.result.now c.in_ok-inputs.inputs.items c.narrow.new.inputs.items c.in_ok-looked.ensures.narrowed
+    subst P (sym c.deref-7.ensures.value) (rises_too p c.deref-2.result.now c.in_ok-inputs.inputs.items c.narrow.new.inputs.items c.in_ok-looked.ensures.narrowed
     (cut_rises ds top p c.in_ok-inputs.inputs.items c.inputs.ensures.kept c.top.ensures.least c.top.ensures.most
     (inputs_are ds top p c.in_ok-order.order.items c.deref.result.now c.in_ok-inputs.inputs.items c.in_ok-order.ensures.value c.deref.ensures.value
     (c.in_ok-inputs.ensures ∙ ap (cut_from ds c.deref.result.now top 0) c.inputs.ensures.value))))
@@ -33,8 +33,8 @@ new-requires c =
     let ds = c.args.demands.now in
     let top = c.top.result in
     let p = c.args.problem.now in
-    let same = cut_is ds p c.in_ok-order.order.items c.deref-5.result.now c.narrow.new.inputs.items c.deref-4.result.now c.in_ok-jobs.jobs.items
-    c.in_ok-order.ensures.value c.deref-5.ensures.value c.deref-4.ensures.value c.in_ok-jobs.ensures in
+    let same = cut_is ds p c.in_ok-order.order.items c.deref-8.result.now c.narrow.new.inputs.items c.deref-7.result.now c.in_ok-jobs.jobs.items
+    c.in_ok-order.ensures.value c.deref-8.ensures.value c.deref-7.ensures.value c.in_ok-jobs.ensures in
     let narrowed = narrowed_cut ds top p c.in_ok-order.order.items c.deref.result.now c.deref-2.result.now c.in_ok-inputs.inputs.items c.narrow.new.inputs.items
     c.in_ok-order.ensures.value c.deref.ensures.value c.deref-2.ensures.value
     (c.in_ok-inputs.ensures ∙ ap (cut_from ds c.deref.result.now top 0) c.inputs.ensures.value) c.in_ok-looked.ensures.narrowed in
@@ -46,7 +46,7 @@ returns c =
     let ds = c.args.demands.now in
     let top = c.top.result in
     let p = c.args.problem.now in
-    let cut : IsCutTo ds p c.new.result = record {
+    record {
       rules = c.inputs.ensures.kept;
       top = top;
       is_top = c.top.ensures;
@@ -54,13 +54,12 @@ returns c =
       narrowed = narrowed_cut ds top p c.in_ok-order.order.items c.deref.result.now c.deref-2.result.now c.in_ok-inputs.inputs.items c.narrow.new.inputs.items
           c.in_ok-order.ensures.value c.deref.ensures.value c.deref-2.ensures.value
           (c.in_ok-inputs.ensures ∙ ap (cut_from ds c.deref.result.now top 0) c.inputs.ensures.value) c.in_ok-looked.ensures.narrowed;
-      is = c.new.ensures ∙ cut_is ds p c.in_ok-order.order.items c.deref-5.result.now c.narrow.new.inputs.items c.deref-4.result.now c.in_ok-jobs.jobs.items
-          c.in_ok-order.ensures.value c.deref-5.ensures.value c.deref-4.ensures.value c.in_ok-jobs.ensures;
-    } in
-    record { cut = cut; none = tt }
+      is = c.new.ensures ∙ cut_is ds p c.in_ok-order.order.items c.deref-8.result.now c.narrow.new.inputs.items c.deref-7.result.now c.in_ok-jobs.jobs.items
+          c.in_ok-order.ensures.value c.deref-8.ensures.value c.deref-7.ensures.value c.in_ok-jobs.ensures;
+    }
 
-pub returns-in-Some-clause-none : goal.returns-in-Some-clause-none
-returns-in-Some-clause-none c =
+pub returns-in-Some : goal.returns-in-Some
+returns-in-Some c =
     let ds = c.args.demands.now in
     let top = c.top.result in
     let p = c.args.problem.now in

@@ -8,6 +8,7 @@ use Rattle.std.proofs.Math.Seq.{take-length}
 use Rattle.ccr_index.specs.Rows.{JobRowsValue, number_for, size_for, builds_of, build_of_row}
 use Rattle.ccr_index.specs.Alike.{row_for}
 use Rattle.ccr_index.proofs.RowLaws.{rows_added}
+use Rattle.ccr_index.proofs.TopLaws.{top_added}
 use Rattle.ccr_index.proofs.AlikeLaws.{printed_noted, printed_first, first_among}
 use Rattle.ccr_index.proofs.rows.JobRows.add.Goals as goal
 
@@ -40,6 +41,7 @@ invariant_of-self c =
         | inr f ↦ printed_noted c.self.inside.scopes bs b (λ n. row_for c.self.inside.prints n) sizes sized size c.self.invariant.1 is.size c.note.ensures.sized _ _ c.print_of-print.result.number (c.len-row.result + 1) rows.1 is.number (omega (arith, last, many))
             (c.note_print.ensures.told (ap not f))
       ],
+      top_added _ b bs c.self.inside.top c.top_of.result c.max-top.result c.self.invariant.2 c.top_of.ensures.covers c.top_of.ensures.least (omega (arith, c.max-top.ensures)) rows.1,
     )
 
 pub returns-clause-builds : goal.returns-clause-builds
