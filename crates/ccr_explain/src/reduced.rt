@@ -255,8 +255,8 @@ fn needed_each(
     Ok(is_needed)
 }
 
-/// What is left once the next demand was tried, if there is one. Where twice as many are marked by then as when that was tried last, it is tried
-/// whether all that are marked exclude each other alone: mostly they do in the end, and then all is done.
+/// What is left once the next demand was tried, if there is one. Where that marked others, too, and the marks passed a power of two, it is tried
+/// whether all that are marked exclude each other alone: if they do, all is done. Each call of the resolver is paid for by a demand of its own.
 fn turn(
     alloc: Global,
     problem: &Indexed<'_>,
@@ -272,7 +272,7 @@ fn turn(
 {
     let before = count_marks(&reduction.is_needed);
     let after = tried(alloc, problem, reduction, budget)?;
-    if is_doubled(before, count_marks(&after.is_needed)) {
+    if has_many_more(before, count_marks(&after.is_needed)) {
         needed_alone(alloc, problem, after, budget)
     } else {
         Ok(after)
@@ -368,9 +368,9 @@ fn answered(
     })
 }
 
-/// Whether a power of two lies above one number, and not above the other.
-fn is_doubled(before: usize, after: usize) -> bool {
-    after.checked_ilog2() > before.checked_ilog2()
+/// Whether a number rose by more than one, and passed a power of two.
+fn has_many_more(before: usize, after: usize) -> bool {
+    after > before.saturating_add(1) && after.checked_ilog2() > before.checked_ilog2()
 }
 
 fn count_marks(marks: &[bool]) -> usize {

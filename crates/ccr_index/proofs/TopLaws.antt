@@ -1,6 +1,6 @@
 -- The greatest place of builds, once there is one build more.
-use Rattle.std.proofs.Common.{◌≡◌, ℕ, suc, ◌≤◌, List, [], ◌∷◌, max, sym, arith, subst, All}
-use Rattle.std.proofs.lemmas.List.Elements.{All-cons, All-nil, All-weaker}
+use Rattle.std.proofs.Common.{◌≡◌, ℕ, suc, ◌≤◌, List, ◌∷◌, max, sym, arith, subst, All}
+use Rattle.std.proofs.lemmas.List.Elements.{All-cons, All-weaker}
 use Rattle.ccr_choice.specs.Problem.{BuildValue}
 use Rattle.ccr_index.specs.Rows.{IsTopPlace}
 
@@ -9,9 +9,6 @@ Below top b = All (λ q. q.1 ≤ top) b.pairs
 
 pub weaker : (a b : ℕ) → a ≤ b → (c : BuildValue) → Below a c → Below b c
 weaker a b up c all = All-weaker (λ q. q.1 ≤ a) (λ q. q.1 ≤ b) (λ q h. omega arith) c.pairs all
-
-pub top_of_none : IsTopPlace [] 0
-top_of_none = record { covers = All-nil (Below 0); least = λ n all. omega arith }
 
 added : (b : BuildValue) (bs : List BuildValue) (top more next : ℕ) → IsTopPlace bs top → Below more b → ((n : ℕ) → Below n b → more ≤ n)
     → next ≡ max top more → IsTopPlace (b ∷ bs) next
