@@ -10,17 +10,20 @@
 //! for an input's best place among the pairs of the builds that each possible place must have passed.
 //!
 //! [`judge`] does the same from bytes to bytes. It is given the text of a problem, followed by that of a proof or of a claim, and
-//! says in one line what is to be thought of it (`specs/Judged.antt`, `specs/Accepted.antt`).
+//! says in one line what is to be thought of it (`specs/Judged.antt`, `specs/Accepted.antt`). [`read_words`] reads what the program
+//! of the checker judges.
 #![tactic(auto)]
 
 mod accept;
 mod cut;
 mod fault;
+mod input;
 mod judging;
 mod law;
 mod tree;
 
 pub use accept::check;
 pub use fault::CheckFault;
+pub use input::{InputFault, read_both, read_whole, read_words};
 pub use judging::judge;
 pub use law::accepted_is_right;

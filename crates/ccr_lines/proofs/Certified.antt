@@ -15,7 +15,8 @@ use Rattle.ccr_core.specs.Holding.{CoreData}
 use Rattle.ccr_core.specs.State.{no_pipeline}
 use Rattle.ccr_lines.specs.BuildCertificates.{place_for, has_input, took_these, is_plan_kept, plan_changed, IsRefused, IsTakenShown}
 use Rattle.ccr_lines.specs.Releases.{inputs_in_plan}
-use Rattle.ccr_lines.specs.Shown.{build_certificate, IsMade}
+use Rattle.ccr_commands.specs.Commands.{build_certificate}
+use Rattle.ccr_lines.specs.Shown.{IsMade}
 use Rattle.ccr_lines.proofs.Cores.{made_before}
 use Rattle.ccr_lines.proofs.Taking.{all_there, took_all}
 

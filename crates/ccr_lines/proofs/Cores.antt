@@ -14,8 +14,9 @@ use Rattle.ccr_core.specs.State.{no_pipeline}
 use Rattle.ccr_lines.specs.Outlooks.{HasOutlook}
 use Rattle.ccr_lines.specs.ReleaseJson.{release_shown}
 use Rattle.ccr_lines.specs.ResourcesJson.{resources_shown}
-use Rattle.ccr_lines.specs.Shown.{build, resources, IsMade}
-use Rattle.ccr_lines.specs.declared.form.Form.{Form}
+use Rattle.ccr_commands.specs.Commands.{build, resources}
+use Rattle.ccr_lines.specs.Shown.{IsMade}
+use Rattle.ccr_commands.specs.declared.form.Form.{Form}
 use Rattle.ccr_lines.specs.declared.outlook.Outlook.{Outlook}
 use Rattle.ccr_lines.proofs.Showing.{drop_there}
 

@@ -9,7 +9,7 @@ use Rattle.ccr_pipeline.specs.Pipelines.{PipelineData}
 use Rattle.ccr_lines.specs.Each.{AreEach}
 use Rattle.ccr_lines.specs.Explained.{newest_place, newest_three}
 use Rattle.ccr_lines.specs.ExplainJson.{IsJobExplained}
-use Rattle.ccr_lines.specs.declared.form.Form.{Form}
+use Rattle.ccr_commands.specs.declared.form.Form.{Form}
 use Rattle.ccr_lines.specs.Reasons.{SubjectData}
 
 -- what is shown of one thing more, at the end

@@ -8,7 +8,8 @@ use Rattle.ccr_pipeline.specs.Pipelines.{PipelineData}
 use Rattle.ccr_core.specs.Holding.{CoreData}
 use Rattle.ccr_core.specs.State.{no_pipeline}
 use Rattle.ccr_lines.specs.Graphs.{numbered, graph_lines}
-use Rattle.ccr_lines.specs.Shown.{graph, IsMade}
+use Rattle.ccr_commands.specs.Commands.{graph}
+use Rattle.ccr_lines.specs.Shown.{IsMade}
 
 -- ---- one more of a list
 -- where this is the text of one at a position

@@ -17,8 +17,8 @@ use Rattle.ccr_resolve.specs.Chosen.{IsChosen}
 use Rattle.ccr_explain.specs.declared.explanation.Explanation.{Explanation}
 use Rattle.ccr_explain.specs.declared.explanation.Explanation.TheVariants as explanation
 use Rattle.ccr_explain.specs.Clash.{IsExplanation}
-use Rattle.ccr_lines.specs.declared.form.Form.{Form}
-use Rattle.ccr_lines.specs.declared.form.Form.TheVariants as form
+use Rattle.ccr_commands.specs.declared.form.Form.{Form}
+use Rattle.ccr_commands.specs.declared.form.Form.TheVariants as form
 use Rattle.ccr_lines.specs.declared.outlook.Outlook.{Outlook}
 use Rattle.ccr_lines.specs.declared.outlook.Outlook.TheVariants.{NoneSatisfies, OverBudget}
 use Rattle.ccr_lines.specs.declared.reason.Reason.{Reason}

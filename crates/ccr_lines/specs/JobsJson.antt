@@ -11,8 +11,8 @@ use Rattle.ccr_pipeline.specs.JobData.{ResourceData, JobData}
 use Rattle.ccr_pipeline.specs.Names.{has_name}
 use Rattle.ccr_pipeline.specs.Pipelines.{PipelineData}
 use Rattle.ccr_pipeline.specs.Tree.{Tree, gathered}
-use Rattle.ccr_lines.specs.declared.form.Form.{Form}
-use Rattle.ccr_lines.specs.declared.form.Form.TheVariants as form
+use Rattle.ccr_commands.specs.declared.form.Form.{Form}
+use Rattle.ccr_commands.specs.declared.form.Form.TheVariants as form
 use Rattle.ccr_lines.specs.declared.outlook.Outlook.{Outlook}
 use Rattle.ccr_lines.specs.declared.outlook.Outlook.TheVariants.{Due, NothingNew, ByCommandOnly, NoneSatisfies, OverBudget}
 use Rattle.ccr_lines.specs.Graphs.{own_put}

@@ -8,8 +8,8 @@ use Rattle.ccr_history.specs.Text.{Text}
 use Rattle.ccr_history.specs.Tables.{TableData, at_place, versions_at}
 use Rattle.ccr_history.specs.Builds.{UsedData, BuildData}
 use Rattle.ccr_pipeline.specs.Pipelines.{PipelineData}
-use Rattle.ccr_lines.specs.declared.form.Form.{Form}
-use Rattle.ccr_lines.specs.declared.form.Form.TheVariants as form
+use Rattle.ccr_commands.specs.declared.form.Form.{Form}
+use Rattle.ccr_commands.specs.declared.form.Form.TheVariants as form
 use Rattle.ccr_lines.specs.Json.{list, fields_json, json_line}
 use Rattle.ccr_lines.specs.Lines.{status_word}
 use Rattle.ccr_lines.specs.Releases.{resource_at, newest_together, pairs_naming, inputs_in_plan, release_lines}

@@ -7,8 +7,8 @@ use Rattle.ccr_history.specs.Changes.{pin_of}
 use Rattle.ccr_history.specs.History.{HistoryData}
 use Rattle.ccr_pipeline.specs.JobData.{ResourceData}
 use Rattle.ccr_problem.specs.ProblemOf.{scope_of}
-use Rattle.ccr_lines.specs.declared.form.Form.{Form}
-use Rattle.ccr_lines.specs.declared.form.Form.TheVariants as form
+use Rattle.ccr_commands.specs.declared.form.Form.{Form}
+use Rattle.ccr_commands.specs.declared.form.Form.TheVariants as form
 use Rattle.ccr_lines.specs.Json.{list, fields_json, json_line}
 use Rattle.ccr_lines.specs.Standing.{resources_lines}
 

@@ -18,11 +18,11 @@ use Rattle.ccr_resolve.specs.declared.answer.Answer.TheVariants.{Best, Nothing, 
 use Rattle.ccr_resolve.specs.Answer.{IsAnswer}
 use Rattle.ccr_core.specs.Holding.{CoreData}
 use Rattle.ccr_core.specs.State.{no_pipeline}
+use Rattle.ccr_commands.specs.Commands.{ShownData, builds, versions, problem, proof, certificate, explanation, pipeline, resources, jobs, graph, build, trace, build_certificate}
 use Rattle.ccr_lines.specs.declared.shown.Shown.{Shown}
 use Rattle.ccr_lines.specs.declared.shown.Shown.TheVariants as value
 use Rattle.ccr_lines.specs.declared.shown.ShowFault.{ShowFault}
 use Rattle.ccr_lines.specs.declared.shown.ShowFault.TheVariants as why
-use Rattle.ccr_lines.specs.declared.form.Form.{Form}
 use Rattle.ccr_lines.specs.ExplainJson.{IsExplained}
 use Rattle.ccr_lines.specs.Lines.{line, build_line, status_word}
 use Rattle.ccr_lines.specs.Needs.{Need, no_need, a_pipeline, a_resource, a_job, a_pin, a_build, pin_in, IsMet, Lacks, LacksPin}
@@ -34,24 +34,6 @@ use Rattle.ccr_lines.specs.TraceJson.{trace_shown}
 use Rattle.ccr_lines.specs.Certificates.{IsCertificateShown}
 use Rattle.ccr_lines.specs.Graphs.{graph_lines}
 use Rattle.ccr_lines.specs.BuildCertificates.{IsBuildCertificateShown}
-
--- all builds, the versions of a resource, the problem of a job's next build, the proof of the choice for it, both in one
--- text, or what it takes and why; the pipeline's text, its resources, its jobs, its graph; a build, or the builds that a
--- version went through; a build's problem with its choice, in one text. A form says how it is shown, where there are two
-pub data ShownData : Type 0 where
-  builds : ShownData
-  versions : (resource : Text) → ShownData
-  problem : (job : Text) → ShownData
-  proof : (job : Text) → ShownData
-  certificate : (job : Text) → ShownData
-  explanation : (form : Form) (job : Text) → ShownData
-  pipeline : ShownData
-  resources : (form : Form) → ShownData
-  jobs : (form : Form) → ShownData
-  graph : ShownData
-  build : (form : Form) (job : Text) (number : ℕ) → ShownData
-  trace : (form : Form) (resource pin : Text) → ShownData
-  build_certificate : (job : Text) (number : ℕ) → ShownData
 
 -- what a value of the program's type stands for
 abbrev pub shown_data : Shown → ShownData

@@ -6,8 +6,8 @@ use Rattle.ccr_history.specs.TextMap.{TextMap}
 use Rattle.ccr_history.specs.Tables.{TableData}
 use Rattle.ccr_history.specs.Builds.{BuildData, is_succeeded}
 use Rattle.ccr_history.specs.History.{HistoryData}
-use Rattle.ccr_lines.specs.declared.form.Form.{Form}
-use Rattle.ccr_lines.specs.declared.form.Form.TheVariants as form
+use Rattle.ccr_commands.specs.declared.form.Form.{Form}
+use Rattle.ccr_commands.specs.declared.form.Form.TheVariants as form
 use Rattle.ccr_lines.specs.Json.{list, json_line}
 use Rattle.ccr_lines.specs.Lines.{status_word}
 use Rattle.ccr_lines.specs.Traces.{has_taken, has_moved, trace_lines}

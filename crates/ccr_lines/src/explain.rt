@@ -25,7 +25,7 @@ ghost use Rattle.ccr_lines.specs.Shown as spec;
 
 use crate::asked::Asked;
 use crate::explain_json::{best_json, none_json, over_json};
-use crate::form::Form;
+use ccr_commands::Form;
 use crate::held::job_held;
 use crate::outlook::{Outlook, outlook_at, push_outlook};
 use crate::past::named_jobs;

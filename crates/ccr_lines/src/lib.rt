@@ -4,19 +4,17 @@
 //! writes each kind of line into a sink. The sink is a [`Lines`]: room for a line is made before the event, so that a
 //! whole line always follows. A vector is one, and [`Printed`] prints what it is handed.
 //!
-//! A [`Command`] is what a server is told to do. What a command shows that changes nothing is a [`Shown`]: [`show`] writes
-//! its lines from what the core holds (`specs/Shown.antt`), some in either [`Form`]: as lines, or as JSON.
+//! What a command shows that changes nothing is a [`Shown`]: [`show`] writes its lines from what the core holds
+//! (`specs/Shown.antt`), some in either form: as lines, or as JSON.
 #![tactic(auto)]
 
 mod asked;
 mod build_certificate;
 mod cause;
 mod certificate;
-mod command;
 mod edge;
 mod explain;
 mod explain_json;
-mod form;
 mod graph;
 mod held;
 mod jobs_json;
@@ -44,8 +42,6 @@ mod witness;
 mod words;
 
 pub use cause::Cause;
-pub use command::Command;
-pub use form::Form;
 pub use held::{pin_of, resource_held};
 pub use lines::Lines;
 pub use outlook::Outlook;

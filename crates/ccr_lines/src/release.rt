@@ -13,7 +13,7 @@ ghost use Rattle.ccr_lines.specs.ReleaseJson.{release_shown};
 ghost use Rattle.ccr_lines.specs.Shown.{needs, IsMade, IsUnshown};
 ghost use Rattle.ccr_lines.specs.Shown as spec;
 
-use crate::form::Form;
+use ccr_commands::Form;
 use crate::release_json::release_json;
 use crate::shown::ShowFault;
 use crate::shows::push_build;

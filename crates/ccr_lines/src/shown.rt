@@ -2,7 +2,7 @@
 ghost use Rattle.std.specs.Prelude.{◌≡◌};
 ghost use Rattle.ccr_lines.specs.declared.shown.ShowFault.TheVariants.{NoMemory};
 
-use crate::form::Form;
+use ccr_commands::Form;
 use ccr_core::CoreFault;
 use std::alloc::AllocError;
 

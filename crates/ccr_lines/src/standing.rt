@@ -9,7 +9,7 @@ ghost use Rattle.ccr_lines.specs.Shown.{needs, IsMade, IsUnshown};
 ghost use Rattle.ccr_lines.specs.Shown as spec;
 ghost use Rattle.ccr_lines.specs.Standing.{pin_words, resource_line, resources_lines, newest_words, newest_build, job_state, AreJobsShown};
 
-use crate::form::Form;
+use ccr_commands::Form;
 use crate::held::pipeline_held;
 use crate::jobs_json::jobs_json;
 use crate::outlook::{Outlook, outlook_of, push_outlook};

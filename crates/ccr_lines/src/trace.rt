@@ -12,7 +12,7 @@ ghost use Rattle.ccr_lines.specs.Shown as spec;
 ghost use Rattle.ccr_lines.specs.TraceJson.{trace_shown};
 ghost use Rattle.ccr_lines.specs.Traces.{is_sought, has_taken, took_word, moved_word, went_line, went_line_if, trace_line, trace_lines};
 
-use crate::form::Form;
+use ccr_commands::Form;
 use crate::held::{pin_of, resource_held};
 use crate::print::word_of;
 use crate::release::{resource_at, used_at};

@@ -1,7 +1,6 @@
 //! Answers to what a build asked, as words.
 
-use crate::fault::LineFault;
-use crate::words::version_of;
+use ccr_cases::{LineFault, version_of};
 use ccr_pipeline::read_task;
 use ccr_steps::Answered;
 use std::alloc::Global;

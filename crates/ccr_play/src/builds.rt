@@ -5,12 +5,12 @@
 //! or `config CONFIG`. The answer to a line is what the build asks then, as JSON, or how it ended and which versions it
 //! moved.
 
+use crate::reply::outcome_name;
 use crate::answer::answered_of;
 use crate::ask::ask_value;
-use crate::play::Player;
 use crate::steps::started;
-use crate::words::{outcome_name, split, versions_of};
 use anyhow::{Result, anyhow};
+use ccr_cases::{Player, split, versions_of};
 use ccr_pipeline::{Pipeline, read};
 use ccr_steps::{BuildRun, FeedFault};
 use serde_json::Value;

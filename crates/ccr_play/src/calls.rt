@@ -3,22 +3,13 @@ ghost use Rattle.std.specs.Prelude.{◌≤◌};
 ghost use Rattle.ccr_proof.specs.Claim.{IsClaim};
 
 use crate::problems::proof_text;
+use ccr_cases::Answer;
 use ccr_choice::{Problem, ProblemFault, read_problem};
 use ccr_index::build_index;
 use ccr_pipeline::{ReadFault, read, read_task};
 use ccr_proof::{Claim, write_claim};
 use ccr_resolve::{Chosen, choose};
 use std::alloc::{AllocError, Global};
-
-/// The status where a node budget is over; its line goes to standard error.
-pub(crate) const OVER_BUDGET: u8 = 3;
-
-/// Lines, each ended by LF, and the status to end with.
-#[derive(Drop)]
-pub(crate) struct Answer {
-    pub(crate) lines: String,
-    pub(crate) status: u8,
-}
 
 /// A line that tells why a text is refused.
 fn refused(alloc: Global, what: &str, fault: &ReadFault) -> Result<Answer, AllocError> {
@@ -120,6 +111,6 @@ fn claimed(alloc: Global, claim: &Claim) -> Result<Answer, AllocError>
 fn over_budget(alloc: Global, budget: u32) -> Result<Answer, AllocError> {
     Ok(Answer {
         lines: format!(in alloc; "over budget {budget}\n")?,
-        status: OVER_BUDGET,
+        status: 3,
     })
 }

@@ -1,8 +1,7 @@
 //! Events, as lines.
 
 use crate::answer::answered_of;
-use crate::fault::LineFault;
-use crate::words::{number_of, numbered, pin_of, split, turn_of, versions_of};
+use ccr_cases::{LineFault, number_of, numbered, pin_of, split, turn_of, versions_of};
 use ccr_core::Event;
 use ccr_pipeline::read;
 use std::alloc::{AllocError, Global};

@@ -1,7 +1,7 @@
 //! Large histories, for benchmarks.
 
-use crate::words::version_numbered;
 use anyhow::{Result, bail};
+use ccr_cases::version_numbered;
 use ccr_history::{History, Scope, Status, Used};
 use std::alloc::Global;
 

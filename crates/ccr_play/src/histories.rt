@@ -12,14 +12,9 @@
 ghost use Rattle.std.specs.Prelude.{◌≤◌};
 
 use crate::grow::{extend, grow, one_more};
-use crate::history_text::text_of;
-use crate::play::Player;
 use crate::problems::proof_text;
-use crate::words::{
-    number_of, numbered, pair_of, pairs_of, pin_of, scope_in, split, status_of, used_places,
-    version_of, versions_of,
-};
 use anyhow::{Result, anyhow, bail};
+use ccr_cases::{Player, number_of, numbered, pair_of, pairs_of, pin_of, scope_in, split, status_of, text_of, used_places, version_of, versions_of};
 use ccr_choice::{Problem, write_problem};
 use ccr_history::{History, HistoryFault, Scope, Status, Version};
 use ccr_pipeline::{Pipeline, read};

@@ -4,65 +4,52 @@ use crate::builds::Builds;
 use crate::events::Events;
 use crate::histories::Histories;
 use crate::pipelines::Pipelines;
-use crate::play::{Telling, played};
 use crate::problems::Problems;
 use crate::programs::Programs;
-use crate::servers::Servers;
 use crate::steps::Steps;
-use crate::stores::Stores;
 use crate::versions::Versions;
+use ccr_cases::{Kind, Telling, played};
 use std::io;
 
-/// A kind of lines; that of stores with the name of the files in which histories are kept besides in memory, if there is one.
+/// The kinds that this program plays.
 #[derive(Clone, Copy)]
-pub(crate) enum Kind<'a> {
+pub(crate) enum LineKind {
     Builds,
     Events,
     Histories,
     Pipelines,
     Problems,
     Programs,
-    Servers,
     Steps,
-    Stores(Option<&'a str>),
     Versions,
 }
 
-/// The kind of this name.
-pub(crate) fn kind_of(name: &str) -> Option<Kind<'_>> {
-    match name {
-        "builds" => Some(Kind::Builds),
-        "events" => Some(Kind::Events),
-        "histories" => Some(Kind::Histories),
-        "pipelines" => Some(Kind::Pipelines),
-        "problems" => Some(Kind::Problems),
-        "programs" => Some(Kind::Programs),
-        "servers" => Some(Kind::Servers),
-        "steps" => Some(Kind::Steps),
-        "stores" => Some(Kind::Stores(None)),
-        "versions" => Some(Kind::Versions),
-        _ => None,
+impl Kind for LineKind {
+    fn of_name(name: &str) -> Option<LineKind> {
+        match name {
+            "builds" => Some(LineKind::Builds),
+            "events" => Some(LineKind::Events),
+            "histories" => Some(LineKind::Histories),
+            "pipelines" => Some(LineKind::Pipelines),
+            "problems" => Some(LineKind::Problems),
+            "programs" => Some(LineKind::Programs),
+            "steps" => Some(LineKind::Steps),
+            "versions" => Some(LineKind::Versions),
+            _ => None,
+        }
     }
-}
 
-/// What is told of the lines of a text.
-pub(crate) fn play(
-    rt: &HostRuntime,
-    kind: Kind<'_>,
-    lines: &str,
-    telling: Telling,
-) -> io::Result<String> {
-    let alloc = rt.alloc();
-    match kind {
-        Kind::Builds => played(rt, Builds::new(), lines, telling),
-        Kind::Events => played(rt, Events::new(), lines, telling),
-        Kind::Histories => played(rt, Histories::new(alloc), lines, telling),
-        Kind::Pipelines => played(rt, Pipelines::new(alloc), lines, telling),
-        Kind::Problems => played(rt, Problems::new(alloc), lines, telling),
-        Kind::Programs => played(rt, Programs, lines, telling),
-        Kind::Servers => played(rt, Servers::new(alloc)?, lines, telling),
-        Kind::Steps => played(rt, Steps, lines, telling),
-        Kind::Stores(path) => played(rt, Stores::new(rt, path), lines, telling),
-        Kind::Versions => played(rt, Versions, lines, telling),
+    fn play(self, rt: &HostRuntime, lines: &str, telling: Telling) -> io::Result<String> {
+        let alloc = rt.alloc();
+        match self {
+            LineKind::Builds => played(rt, Builds::new(), lines, telling),
+            LineKind::Events => played(rt, Events::new(), lines, telling),
+            LineKind::Histories => played(rt, Histories::new(alloc), lines, telling),
+            LineKind::Pipelines => played(rt, Pipelines::new(alloc), lines, telling),
+            LineKind::Problems => played(rt, Problems::new(alloc), lines, telling),
+            LineKind::Programs => played(rt, Programs, lines, telling),
+            LineKind::Steps => played(rt, Steps, lines, telling),
+            LineKind::Versions => played(rt, Versions, lines, telling),
+        }
     }
 }

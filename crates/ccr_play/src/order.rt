@@ -1,9 +1,9 @@
 //! What the program's words ask for.
 ghost use Rattle.std.specs.Prelude.{◌≤◌};
 
-use crate::kind::{Kind, kind_of};
-use crate::play::Telling;
+use crate::kind::LineKind;
 use crate::trial::Trial;
+use ccr_cases::{Kind, Telling};
 
 /// A node budget, from 1 to 1,000,000.
 #[derive(Clone, Copy, Debug, PartialEq, Eq)]
@@ -17,8 +17,7 @@ pub(crate) struct Budget {
 #[derive(Clone, Copy)]
 pub(crate) enum Call<'a> {
     Check(&'a [String]),
-    Lines(Kind<'a>, Telling),
-    Commits(&'a str, u32),
+    Lines(LineKind, Telling),
     Pipeline,
     Task,
     Resolve(Budget),
@@ -40,20 +39,7 @@ fn call_of_two<'a>(first: &'a str, second: &'a str) -> Option<Call<'a>> {
     match (first, second) {
         ("resolve", budget) => Some(Call::Resolve(budget_of(budget)?)),
         ("choose", budget) => Some(Call::Choose(budget_of(budget)?)),
-        (kind, "--timed") => Some(Call::Lines(kind_of(kind)?, Telling::Times)),
-        ("stores", path) => Some(Call::Lines(Kind::Stores(Some(path)), Telling::Answers)),
-        _ => None,
-    }
-}
-
-/// The call of three words.
-fn call_of_three<'a>(first: &str, second: &'a str, third: &'a str) -> Option<Call<'a>> {
-    match first {
-        "commits" => Some(Call::Commits(second, third.parse::<u32>().ok()?)),
-        "type" => Some(Call::Type(Trial {
-            programs: second,
-            folder: third,
-        })),
+        (kind, "--timed") => Some(Call::Lines(LineKind::of_name(kind)?, Telling::Times)),
         _ => None,
     }
 }
@@ -65,10 +51,13 @@ pub(crate) fn call_of(words: &[String]) -> Option<Call<'_>> {
         [first] => match first.as_str() {
             "pipeline" => Some(Call::Pipeline),
             "task" => Some(Call::Task),
-            kind => Some(Call::Lines(kind_of(kind)?, Telling::Answers)),
+            kind => Some(Call::Lines(LineKind::of_name(kind)?, Telling::Answers)),
         },
         [first, second] => call_of_two(first.as_str(), second.as_str()),
-        [first, second, third] => call_of_three(first.as_str(), second.as_str(), third.as_str()),
+        [first, programs, folder] if first.as_str() == "type" => Some(Call::Type(Trial {
+            programs: programs.as_str(),
+            folder: folder.as_str(),
+        })),
         _ => None,
     }
 }

@@ -5,8 +5,7 @@
 //! it stands first. `pipeline-parts`, `pipeline-unused` and `pipeline-inputs` tell more of a pipeline, `task-variables` of a task file.
 //! `pipeline-bytes` has the bytes of a text in hexadecimal, and `pipeline-of COUNT WHAT` makes one with so many of something.
 
-use crate::play::Player;
-use crate::words::split;
+use ccr_cases::{Player, split};
 use ccr_pipeline::{
     Input, Job, Pipeline, ReadFault, TaskConfig, Wanted, inputs_of, read, read_task,
 };

@@ -8,9 +8,8 @@
 ghost use Rattle.std.specs.Prelude.{◌≤◌};
 ghost use Rattle.ccr_proof.specs.Claim.{IsClaim};
 
-use crate::play::Player;
-use crate::words::{number_of, split};
 use anyhow::{Result, anyhow};
+use ccr_cases::{Player, number_of, split};
 use ccr_check::{CheckFault, check, judge};
 use ccr_choice::{Choice, Problem, later, preferred, read_problem, satisfies, write_problem};
 use ccr_index::build_index;

@@ -9,12 +9,9 @@ mod requests;
 mod scripts;
 mod whole;
 
-use crate::play::Player;
-use crate::words::{split, version_of};
 use anyhow::{Result, anyhow};
+use ccr_cases::{Player, split, version_of};
 use ccr_history::{Object, Version};
-pub(crate) use launches::{end_of, places};
-pub(crate) use scripts::sights_of;
 use serde_json::Value;
 use std::alloc::{AllocError, Global};
 

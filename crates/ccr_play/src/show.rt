@@ -2,7 +2,7 @@
 
 use crate::ask::ask_value;
 use crate::json::{put, put_text, value_of, version_of};
-use crate::words::status_name;
+use ccr_cases::status_name;
 use ccr_core::Core;
 use ccr_history::{BuildRef, History, Scope, Status, Version};
 use serde_json::{Map, Value};

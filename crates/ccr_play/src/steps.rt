@@ -8,9 +8,8 @@
 //! was asked.
 
 use crate::answer::answered_of;
-use crate::play::Player;
-use crate::words::{split, versions_of};
 use anyhow::{Result, anyhow, bail};
+use ccr_cases::{Player, split, versions_of};
 use ccr_history::{Object, Version};
 use ccr_pipeline::{Job, Pipeline, inputs_of, read};
 use ccr_steps::{Answered, Ask, Before, BuildRun, FeedFault, start};

@@ -1,6 +1,6 @@
 //! The programs of a resource type are tried.
 
-use crate::calls::Answer;
+use ccr_cases::Answer;
 use ccr_history::{Object, Version};
 use ccr_process::{Ended, Launch, Machine, Runner};
 use ccr_protocol::{

@@ -1,6 +1,6 @@
 //! Tests in code, of what lines can't tell: readers, writers and programs that fail at a call, real programs and folders, texts
 //! of many lines, clashes that were found by hand, and the resolver beside two others. Each test is named by what it shows. What is data is in the lines of
-//! `ccr_play`.
+//! `ccr_play` and `ccr_play_server`.
 //!
 //! Beside the tests stand one law, [`resolved`]: the checker accepts what the resolver answers; and the plain resolver,
 //! [`plain`].
@@ -31,6 +31,8 @@ mod limits;
 mod pipes;
 #[cfg(test)]
 mod problems;
+#[cfg(test)]
+mod readers;
 #[cfg(test)]
 mod same;
 mod search;

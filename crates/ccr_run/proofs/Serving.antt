@@ -11,7 +11,7 @@ use Rattle.ccr_storage.specs.declared.tally.Tally.{Tally}
 use Rattle.ccr_serve.specs.declared.fault.ServeFault.{ServeFault}
 use Rattle.ccr_serve.specs.declared.server.Server.{Server}
 use Rattle.ccr_serve.specs.Commanding.{CameOf}
-use Rattle.ccr_lines.specs.Commands.{command_data}
+use Rattle.ccr_commands.specs.Commands.{command_data}
 use Rattle.ccr_serve.specs.Views.{view_of}
 use Rattle.ccr_run.specs.declared.failure.Failure.{Failure}
 use Rattle.ccr_run.specs.declared.order.Order.{Order}

@@ -15,7 +15,7 @@ use Rattle.ccr_serve.specs.declared.fault.ServeFault.TheVariants.{NoMemory, Stor
 use Rattle.ccr_serve.specs.declared.server.Server.{Server}
 use Rattle.ccr_serve.specs.Commanding.{CameOf}
 use Rattle.ccr_serve.specs.Unopened.{KeepsFromOpening}
-use Rattle.ccr_lines.specs.Commands.{command_data}
+use Rattle.ccr_commands.specs.Commands.{command_data}
 use Rattle.ccr_serve.specs.Views.{View, view_of, IsReady}
 use Rattle.ccr_run.specs.declared.failure.Failure.{Failure}
 use Rattle.ccr_run.specs.declared.failure.Failure.TheVariants.{Refused}

@@ -13,7 +13,7 @@ use Rattle.ccr_core.specs.Replies.{Replied}
 use Rattle.ccr_core.specs.State.{State}
 use Rattle.ccr_core.specs.Steps.{Step}
 use Rattle.ccr_serve.specs.Commanding.{IsFirstReply, Commanded, CameOf}
-use Rattle.ccr_lines.specs.Commands.{check_resource}
+use Rattle.ccr_commands.specs.Commands.{check_resource}
 use Rattle.ccr_serve.specs.Found.{FoundData, found}
 use Rattle.ccr_serve.specs.Found as what_is
 use Rattle.ccr_serve.specs.Items.{World, check, Done, Each, Items, Noting}

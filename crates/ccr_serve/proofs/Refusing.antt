@@ -9,7 +9,8 @@ use Rattle.ccr_core.specs.Events.{EventData}
 use Rattle.ccr_core.specs.Faults.{MayRefuse, IsFirstFault}
 use Rattle.ccr_core.specs.Holding.{Stands}
 use Rattle.ccr_core.specs.State.{State}
-use Rattle.ccr_lines.specs.Commands.{CommandData, need_of}
+use Rattle.ccr_commands.specs.Commands.{CommandData}
+use Rattle.ccr_lines.specs.Commands.{need_of}
 use Rattle.ccr_lines.specs.Needs.{Lacks}
 use Rattle.ccr_task.specs.Calls.{CallData}
 use Rattle.ccr_serve.specs.Commanding.{Commanded, IsRefused, WasRefused, CameOf}

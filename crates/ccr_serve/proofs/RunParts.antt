@@ -7,7 +7,7 @@ use Rattle.ccr_history.specs.History.{HistoryData}
 use Rattle.ccr_task.specs.Places.{PlacesData, places_data}
 use Rattle.ccr_task.specs.declared.places.Places.{Places}
 use Rattle.ccr_serve.specs.Commanding.{IsFirstReply, trigger_status, Triggered, Commanded, Unended, WasRefused, CameOf}
-use Rattle.ccr_lines.specs.Commands.{run, trigger_job}
+use Rattle.ccr_commands.specs.Commands.{run, trigger_job}
 use Rattle.ccr_serve.specs.Items.{World, Done, Then}
 use Rattle.ccr_serve.specs.Runs.{Rounds, ToTheEnd, UsedUp, TurnsTo, TriggerAndRun}
 use Rattle.ccr_serve.specs.Views.{View, IsReady, Calls, StopsItem}

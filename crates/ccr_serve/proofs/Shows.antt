@@ -4,9 +4,10 @@ use Rattle.ccr_history.specs.Text.{Text}
 use Rattle.ccr_task.specs.Places.{PlacesData}
 use Rattle.ccr_core.specs.Holding.{CoreData, Stands}
 use Rattle.ccr_core.specs.State.{State, no_pipeline, pipeline_of}
-use Rattle.ccr_lines.specs.Commands.{shows}
+use Rattle.ccr_commands.specs.Commands.{shows}
 use Rattle.ccr_lines.specs.Needs.{IsMet, LacksPin}
-use Rattle.ccr_lines.specs.Shown.{ShownData, needs, IsShown, Showing}
+use Rattle.ccr_commands.specs.Commands.{ShownData}
+use Rattle.ccr_lines.specs.Shown.{needs, IsShown, Showing}
 use Rattle.ccr_serve.specs.Commanding.{Commanded, CameOf}
 use Rattle.ccr_serve.specs.Items.{Done}
 use Rattle.ccr_serve.specs.Views.{View, world_of, IsReady}

@@ -25,7 +25,7 @@ use Rattle.ccr_task.specs.Calls as shelf
 use Rattle.ccr_task.specs.declared.fault.ShelfFault.{ShelfFault}
 use Rattle.ccr_lines.specs.Needs.{pin_in}
 use Rattle.ccr_serve.specs.Commanding.{HasResource, called, Commanded, IsRead, IsRefused, CameOf}
-use Rattle.ccr_lines.specs.Commands.{set_pipeline, pin_resource, unpin_resource}
+use Rattle.ccr_commands.specs.Commands.{set_pipeline, pin_resource, unpin_resource}
 use Rattle.ccr_serve.specs.Items.{World, tell, Done, Part, Items}
 use Rattle.ccr_serve.specs.Reads.{KeepsFromReading}
 use Rattle.ccr_serve.specs.Serving.{Tells, Serves}

@@ -14,7 +14,7 @@ use Rattle.ccr_lines.specs.Lines.{lines_of}
 use Rattle.ccr_task.specs.Places.{PlacesData}
 use Rattle.ccr_task.specs.Calls.{CallData}
 use Rattle.ccr_serve.specs.Commanding.{HasJob, Triggered, IsRefused, Commanded, CameOf}
-use Rattle.ccr_lines.specs.Commands.{trigger_job}
+use Rattle.ccr_commands.specs.Commands.{trigger_job}
 use Rattle.ccr_serve.specs.Items.{World, Done, tell}
 use Rattle.ccr_serve.specs.Serving.{Tells}
 use Rattle.ccr_serve.specs.Views.{View, Calls, Made}

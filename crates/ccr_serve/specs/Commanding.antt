@@ -28,7 +28,8 @@ use Rattle.ccr_lines.specs.Needs.{pin_in, IsMet, Lacks, LacksPin}
 use Rattle.ccr_lines.specs.Shown.{needs}
 use Rattle.ccr_serve.specs.declared.fault.ServeFault.{ServeFault}
 use Rattle.ccr_serve.specs.declared.fault.ServeFault.TheVariants.{Core, Store, Read, File, BadPin, NoMemory, TurnsUsedUp}
-use Rattle.ccr_lines.specs.Commands.{CommandData, set_pipeline, check_resource, pin_resource, unpin_resource, disable_version, enable_version, trigger_job, run, shows, need_of}
+use Rattle.ccr_commands.specs.Commands.{CommandData, set_pipeline, check_resource, pin_resource, unpin_resource, disable_version, enable_version, trigger_job, run, shows}
+use Rattle.ccr_lines.specs.Commands.{need_of}
 use Rattle.ccr_serve.specs.Items.{World, check, tell, show, Done, Each, Part, Items, Then}
 use Rattle.ccr_serve.specs.Runs.{Rounds, UsedUp, Run, TriggerAndRun}
 use Rattle.ccr_serve.specs.Serving.{Serves}

@@ -6,7 +6,7 @@ use Rattle.ccr_task.specs.Calls.{CallData}
 use Rattle.ccr_core.specs.Events.{EventData}
 use Rattle.ccr_core.specs.Replies.{Replied}
 use Rattle.ccr_core.specs.State.{State}
-use Rattle.ccr_lines.specs.Shown.{ShownData}
+use Rattle.ccr_commands.specs.Commands.{ShownData}
 
 -- where a server stands: the core's state, the rank of the build served last, which counts from 1 in order of making,
 -- or 0 where none was served, the calls of its shelf, and the pair of a program that answered nothing, if an item was cut

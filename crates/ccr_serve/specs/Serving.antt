@@ -21,7 +21,8 @@ use Rattle.ccr_serve.specs.Aborts.{AbortIsAsked, Clears}
 use Rattle.ccr_serve.specs.Asked.{Answers, BeginsAnswer}
 use Rattle.ccr_serve.specs.Found.{FoundData, found, newest, Finds, BeginsFind}
 use Rattle.ccr_serve.specs.Found as what_is
-use Rattle.ccr_lines.specs.Shown.{ShownData, IsShown}
+use Rattle.ccr_commands.specs.Commands.{ShownData}
+use Rattle.ccr_lines.specs.Shown.{IsShown}
 use Rattle.ccr_serve.specs.Items.{World, Item, check, schedule, turn, tell, show, Done, nothing, Serve, Part, Items}
 use Rattle.ccr_lines.specs.Lines.{lines_of, refused_line, cause_words}
 use Rattle.ccr_serve.specs.Turns.{rank_in, next_after}

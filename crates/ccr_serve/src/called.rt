@@ -2,7 +2,7 @@
 ghost use Rattle.std.specs.Prelude.{◌≡◌, [], ◌∷◌, true, false, IfOk, Err};
 ghost use Rattle.ccr_task.specs.Places.{places_data};
 ghost use Rattle.ccr_core.specs.Cores.{core_data};
-ghost use Rattle.ccr_lines.specs.Commands.{command_data};
+ghost use Rattle.ccr_commands.specs.Commands.{command_data};
 ghost use Rattle.ccr_serve.specs.Items as item;
 ghost use Rattle.ccr_serve.specs.Noted.{NotesTurn};
 ghost use Rattle.ccr_serve.specs.Runs.{Round};
@@ -13,7 +13,8 @@ ghost use Rattle.ccr_serve.specs.Served.{Serving, Came, AfterItems, AfterCommand
 
 use crate::fault::ServeFault;
 use crate::server::Server;
-use ccr_lines::{Command, Lines, Shown};
+use ccr_commands::Command;
+use ccr_lines::{Lines, Shown};
 use ccr_process::Runner;
 use ccr_storage::Storage;
 use ccr_task::Shelf;

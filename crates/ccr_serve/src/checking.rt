@@ -1,5 +1,5 @@
 //! Checks by command.
-ghost use Rattle.ccr_lines.specs.Commands.{check_resource};
+ghost use Rattle.ccr_commands.specs.Commands.{check_resource};
 ghost use Rattle.ccr_serve.specs.Views.{IsReady, bare_view};
 ghost use Rattle.ccr_serve.specs.Served.{Came, AfterCommand};
 

@@ -1,5 +1,5 @@
 //! Versions that are disabled and enabled.
-ghost use Rattle.ccr_lines.specs.Commands.{disable_version, enable_version};
+ghost use Rattle.ccr_commands.specs.Commands.{disable_version, enable_version};
 ghost use Rattle.ccr_serve.specs.Views.{IsReady, bare_view};
 ghost use Rattle.ccr_serve.specs.Served.{Came, AfterCommand};
 

@@ -1,5 +1,5 @@
 //! Pins by command.
-ghost use Rattle.ccr_lines.specs.Commands.{pin_resource, unpin_resource};
+ghost use Rattle.ccr_commands.specs.Commands.{pin_resource, unpin_resource};
 ghost use Rattle.ccr_serve.specs.Views.{IsReady, bare_view};
 ghost use Rattle.ccr_serve.specs.Served.{Came, AfterCommand};
 

@@ -1,7 +1,7 @@
 //! Builds that run to their ends.
 ghost use Rattle.std.specs.Prelude.{◌≡◌, Some, Err, IfOk, IfErr};
 ghost use Rattle.ccr_serve.specs.Commanding.{build_status, trigger_status, Triggered};
-ghost use Rattle.ccr_lines.specs.Commands.{run, trigger_job};
+ghost use Rattle.ccr_commands.specs.Commands.{run, trigger_job};
 ghost use Rattle.ccr_serve.specs.Views.{IsReady, bare_view};
 ghost use Rattle.ccr_serve.specs.Served.{Serving, Came, AfterCommand};
 

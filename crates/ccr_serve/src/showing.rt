@@ -1,5 +1,5 @@
 //! What commands show.
-ghost use Rattle.ccr_lines.specs.Commands.{shows};
+ghost use Rattle.ccr_commands.specs.Commands.{shows};
 ghost use Rattle.ccr_lines.specs.Shown.{shown_data};
 ghost use Rattle.ccr_serve.specs.Views.{IsReady, bare_view};
 ghost use Rattle.ccr_serve.specs.Served.{Came, AfterCommand};

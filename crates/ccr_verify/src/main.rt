@@ -4,16 +4,12 @@
 //! ends with that line's status. All that it decides is decided by [`judge`], whose contract names the definitions.
 #![tactic(auto)]
 
-mod input;
 mod tell;
-#[cfg(test)]
-mod tests;
 
 ghost use Rattle.std.specs.Prelude.{ℕ, List, IfOk, string_bytes};
 ghost use Rattle.ccr_check.specs.Judged.{IsJudged};
 
-use ccr_check::judge;
-use input::{InputFault, read_words};
+use ccr_check::{InputFault, judge, read_words};
 use std::io;
 use std::process::ExitCode;
 use tell::tell;

@@ -4,7 +4,7 @@ ghost use Rattle.std.specs.Prelude.{◌≡◌, IfOk};
 ghost use Rattle.std.specs.Process.{exit_status};
 ghost use Rattle.ccr_verify.specs.Statuses.{status_of};
 
-use crate::input::InputFault;
+use ccr_check::InputFault;
 use std::io;
 use std::process::ExitCode;
 

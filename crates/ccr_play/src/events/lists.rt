@@ -2,8 +2,7 @@
 ghost use Rattle.std.specs.Prelude.{◌≤◌, ◌<◌};
 
 use crate::events::index::first_other;
-use crate::fault::LineFault;
-use crate::words::{add, number_of, pin_of, split, value_of, version_numbered};
+use ccr_cases::{LineFault, add, number_of, pin_of, split, value_of, version_numbered};
 use ccr_core::{Core, CoreFault, Event, Reply};
 use ccr_history::{History, Version};
 use ccr_pipeline::read;

@@ -2,23 +2,15 @@
 
 use super::{object, part, some_version, source_text, version};
 use anyhow::{Result, anyhow};
+use ccr_cases::{end_of, fault_of, places};
 use ccr_history::{Object, Version};
 use ccr_pipeline::{Pipeline, TaskConfig, Variable, read, read_task};
-use ccr_process::{Ended, Launch};
+use ccr_process::Launch;
 use ccr_steps::{Answered, Ask};
 use ccr_task::{
-    Places, Said, ShelfFault, answered_of, can_launch, check_launch, config_of, launch_of,
+    Said, answered_of, can_launch, check_launch, config_of, launch_of,
 };
 use std::alloc::{AllocError, Global};
-use std::collections::VecDeque;
-
-/// Types in `/t`, builds in `/w`.
-pub(crate) fn places(alloc: Global) -> Result<Places, AllocError> {
-    Ok(Places {
-        types: String::from_str(alloc, "/t")?,
-        work: String::from_str(alloc, "/w")?,
-    })
-}
 
 /// A pipeline of the resource `a` without a source, and of `b` with such a source.
 fn pipeline(alloc: Global, part: &str) -> Result<Pipeline> {
@@ -175,58 +167,6 @@ fn word(alloc: Global, said: Result<Said, AllocError>) -> Result<String, AllocEr
     }
 }
 
-/// A status and an output, with a blank or a colon between.
-fn halves(words: &str) -> (&str, &str) {
-    match words.split_once(" ") {
-        Some((status, output)) if !status.contains(":") => (status, output),
-        _ => words.split_once(":").unwrap_or((words, "")),
-    }
-}
-
-/// The reply of a check that found the versions `{"n":"1"}` to `{"n":"COUNT"}`.
-fn numbers(alloc: Global, count: u32) -> Result<Vec<u8>> {
-    let mut reply = String::from_str(alloc, "[")?;
-    for before in 0..count {
-        let number = u64::from(before) + 1;
-        let mark = if before == 0 { "" } else { "," };
-        write!(reply, "{mark}{{\"n\":\"{number}\"}}")?;
-    }
-    reply.push_str("]")?;
-    Ok(reply.into_bytes())
-}
-
-/// The exit of a word: `numbers:COUNT`, or a status, with what was printed behind a colon.
-fn exit_of(alloc: Global, word: &str) -> Result<Ended> {
-    if let Some(count) = word.strip_prefix("numbers:") {
-        return Ok(Ended::Exit(0, numbers(alloc, count.parse::<u32>()?)?));
-    }
-    let (status, output) = halves(word);
-    let status = status.parse::<u8>()?;
-    Ok(Ended::Exit(status, Vec::from_slice(alloc, output.as_bytes())?))
-}
-
-/// The end of the words `STATUS OUTPUT` or `STATUS:OUTPUT`, or of a word for another end.
-pub(crate) fn end_of(alloc: Global, words: &str) -> Result<Ended> {
-    Ok(match words {
-        "killed" => Ended::Killed(9),
-        "not-started" => Ended::NotStarted,
-        "input-fault" => Ended::InputFault,
-        "read-fault" => Ended::ReadFault,
-        "too-long" => Ended::OutputTooLong,
-        "no-memory" => Ended::NoMemory,
-        _ => exit_of(alloc, words)?,
-    })
-}
-
-/// The ends of words with blanks between.
-pub(super) fn ends_of(alloc: Global, words: &str) -> Result<VecDeque<Ended>> {
-    let mut ends = VecDeque::new(alloc);
-    for word in words.split_whitespace() {
-        ends.push_back(end_of(alloc, word)?)?;
-    }
-    Ok(ends)
-}
-
 /// What an end of a fetch, of a push and of a task answers.
 pub(super) fn ended(alloc: Global, given: &str) -> Result<String> {
     let end = end_of(alloc, given)?;
@@ -251,15 +191,6 @@ pub(super) fn ended(alloc: Global, given: &str) -> Result<String> {
 pub(super) fn task_file(alloc: Global, given: &str) -> Result<String> {
     let bytes = Vec::from_slice(alloc, given.as_bytes())?;
     Ok(word(alloc, config_of(alloc, Ok(bytes)))?)
-}
-
-/// The fault of a word.
-pub(super) fn fault_of(word: &str) -> ShelfFault {
-    match word {
-        "too-long" => ShelfFault::TooLong,
-        "no-memory" => ShelfFault::NoMemory,
-        _ => ShelfFault::Failed,
-    }
 }
 
 /// What a task's file answers that a shelf doesn't give.

@@ -1,8 +1,8 @@
 //! Runners and shelves whose answers are handed in.
 
-use super::launches::{ends_of, fault_of};
 use super::{letters, part};
 use anyhow::Result;
+use ccr_cases::{ends_of, fault_of};
 use ccr_process::{Ended, Launch, Runner, Scripted};
 use ccr_task::{Shelf, ShelfAnswer, ShelfFault, ShelfScript};
 use std::alloc::{AllocError, Global};
@@ -158,19 +158,6 @@ fn answers_of(alloc: Global, words: &str) -> Result<VecDeque<ShelfAnswer>> {
         answers.push_back(shelf_answer(alloc, word)?)?;
     }
     Ok(answers)
-}
-
-/// Whether folders are there, of words: `there`, `absent`, or a fault.
-pub(crate) fn sights_of(alloc: Global, words: &str) -> Result<VecDeque<Result<bool, ShelfFault>>> {
-    let mut sights = VecDeque::new(alloc);
-    for word in words.split_whitespace() {
-        sights.push_back(match word {
-            "there" => Ok(true),
-            "absent" => Ok(false),
-            _ => Err(fault_of(word)),
-        })?;
-    }
-    Ok(sights)
 }
 
 /// What a shelf with these answers answers to these calls: `ANSWERS | CALLS`, or `ANSWERS | CALLS | SIGHTS`, words each.

@@ -3,11 +3,10 @@
 //! The members are those of the only job, but its name; `<x>` stands for the members of a task that runs x. The file is
 //! what the build's tasks read. An end is a status, `0:OUTPUT`, `killed`, `not-started` or `too-long`.
 
-use super::launches::{ends_of, places};
 use super::part;
 use crate::steps::{pipeline_of, started};
-use crate::words::versions_of;
 use anyhow::{Result, anyhow};
+use ccr_cases::{ends_of, places, versions_of};
 use ccr_pipeline::Pipeline;
 use ccr_process::{Launch, Runner, Scripted};
 use ccr_steps::{Answered, Ask, BuildRun};

@@ -2,7 +2,8 @@ use Rattle.std.proofs.Common.{◌≡◌, ◌∙◌, Some, sym, ap, subst, option
 use Rattle.ccr_history.specs.Text.{Text}
 use Rattle.ccr_pipeline.specs.Pipelines.{pipeline_data}
 use Rattle.ccr_core.specs.Cores.{core_data}
-use Rattle.ccr_lines.specs.Shown.{build_certificate, IsMade}
+use Rattle.ccr_commands.specs.Commands.{build_certificate}
+use Rattle.ccr_lines.specs.Shown.{IsMade}
 use Rattle.ccr_lines.proofs.Certified.{certified_made}
 use Rattle.ccr_lines.proofs.build_certificate.build_certificate_made.Goals as goal
 
