@@ -8,7 +8,7 @@
 //! refused with a [`LineFault`].
 #![tactic(auto)]
 
-mod check;
+mod files;
 mod ends;
 mod fault;
 mod history_text;
@@ -16,7 +16,7 @@ mod play;
 mod program;
 mod words;
 
-pub use check::{Kind, check};
+pub use files::{Kind, check};
 pub use ends::{end_of, ends_of, fault_of, places, sights_of};
 pub use fault::LineFault;
 pub use history_text::text_of;

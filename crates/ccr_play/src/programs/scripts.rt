@@ -2,7 +2,7 @@
 
 use super::{letters, part};
 use anyhow::Result;
-use ccr_cases::{ends_of, fault_of};
+use ccr_cases::{ends_of, fault_of, sights_of};
 use ccr_process::{Ended, Launch, Runner, Scripted};
 use ccr_task::{Shelf, ShelfAnswer, ShelfFault, ShelfScript};
 use std::alloc::{AllocError, Global};
