@@ -18,6 +18,7 @@ use Rattle.ccr_resolve.specs.declared.answer.Answer.TheVariants.{Best, Nothing, 
 use Rattle.ccr_resolve.specs.Answer.{IsAnswer}
 use Rattle.ccr_core.specs.Holding.{CoreData}
 use Rattle.ccr_core.specs.State.{no_pipeline}
+use Rattle.ccr_commands.specs.declared.form.Form.{Form}
 use Rattle.ccr_commands.specs.Commands.{ShownData, builds, versions, problem, proof, certificate, explanation, pipeline, resources, jobs, graph, build, trace, build_certificate}
 use Rattle.ccr_lines.specs.declared.shown.Shown.{Shown}
 use Rattle.ccr_lines.specs.declared.shown.Shown.TheVariants as value

@@ -9,7 +9,7 @@ ghost use Rattle.ccr_core.specs.State.{no_pipeline};
 ghost use Rattle.ccr_lines.specs.BuildCertificates.{place_for, took_these, is_plan_kept, plan_changed, not_together, IsRefused, IsSatisfiedOf, IsSaidOf, IsTakenShown};
 ghost use Rattle.ccr_lines.specs.Releases.{inputs_in_plan};
 ghost use Rattle.ccr_lines.specs.Shown.{needs, IsMade, IsUnshown};
-ghost use Rattle.ccr_lines.specs.Shown as spec;
+ghost use Rattle.ccr_commands.specs.Commands as spec;
 
 use crate::past::{named_jobs, past_problem};
 use crate::shown::ShowFault;

@@ -11,7 +11,7 @@ ghost use Rattle.ccr_resolve.specs.Answer.{IsAnswer};
 ghost use Rattle.ccr_core.specs.Cores.{core_data};
 ghost use Rattle.ccr_lines.specs.Certificates.{IsAcceptedOf, IsCertificateOf, IsCertificateShown};
 ghost use Rattle.ccr_lines.specs.Shown.{needs, IsMade, IsUnshown};
-ghost use Rattle.ccr_lines.specs.Shown as spec;
+ghost use Rattle.ccr_commands.specs.Commands as spec;
 
 use crate::held::pipeline_with_job;
 use crate::problem::problem_in;

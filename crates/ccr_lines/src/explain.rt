@@ -21,7 +21,7 @@ ghost use Rattle.ccr_lines.specs.Explained.{scope_at, place_words, build_words, 
 ghost use Rattle.ccr_lines.specs.ExplainJson.{IsBestShown, none_shown, over_shown, IsExplainedBy, IsJobExplained};
 ghost use Rattle.ccr_lines.specs.Reasons.{subject_data, reason_words, IsSubject};
 ghost use Rattle.ccr_lines.specs.Shown.{needs, IsMade, IsUnshown};
-ghost use Rattle.ccr_lines.specs.Shown as spec;
+ghost use Rattle.ccr_commands.specs.Commands as spec;
 
 use crate::asked::Asked;
 use crate::explain_json::{best_json, none_json, over_json};

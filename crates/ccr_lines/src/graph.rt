@@ -6,7 +6,7 @@ ghost use Rattle.ccr_core.specs.Cores.{core_data};
 ghost use Rattle.ccr_lines.specs.Graphs.{resource_node, job_line, state_line, job_node, class_lines, graph_lines, numbered};
 ghost use Rattle.ccr_lines.specs.Lines.{line};
 ghost use Rattle.ccr_lines.specs.Shown.{needs, IsMade, IsUnshown};
-ghost use Rattle.ccr_lines.specs.Shown as spec;
+ghost use Rattle.ccr_commands.specs.Commands as spec;
 
 use crate::edge::{push_put_edges, push_taken_edges};
 use crate::held::pipeline_held;

@@ -5,7 +5,7 @@ ghost use Rattle.ccr_problem.specs.ProblemOf.{job_of, IsProblemOf};
 ghost use Rattle.ccr_proof.specs.declared.proof.TheConstants.{MOST_NODES};
 ghost use Rattle.ccr_core.specs.Cores.{core_data};
 ghost use Rattle.ccr_lines.specs.Shown.{needs, IsProblemShown, IsProofShown, IsTextOf, IsMade, IsUnshown};
-ghost use Rattle.ccr_lines.specs.Shown as spec;
+ghost use Rattle.ccr_commands.specs.Commands as spec;
 
 use crate::held::pipeline_with_job;
 use crate::shown::ShowFault;

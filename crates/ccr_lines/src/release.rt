@@ -11,7 +11,7 @@ ghost use Rattle.ccr_core.specs.State.{no_pipeline};
 ghost use Rattle.ccr_lines.specs.Releases.{key_at, resource_at, place_line, took_line, moved_line, is_pair, pairs_for, pairs_naming, passed_all, newest_together, witness_line, together_line, inputs_in_plan, together_lines, release_lines};
 ghost use Rattle.ccr_lines.specs.ReleaseJson.{release_shown};
 ghost use Rattle.ccr_lines.specs.Shown.{needs, IsMade, IsUnshown};
-ghost use Rattle.ccr_lines.specs.Shown as spec;
+ghost use Rattle.ccr_commands.specs.Commands as spec;
 
 use ccr_commands::Form;
 use crate::release_json::release_json;

@@ -6,7 +6,7 @@ ghost use Rattle.ccr_problem.specs.ProblemOf.{scope_of};
 ghost use Rattle.ccr_core.specs.Cores.{core_data};
 ghost use Rattle.ccr_lines.specs.Lines.{line, build_line, status_word};
 ghost use Rattle.ccr_lines.specs.Shown.{shown_data, builds_lines, disabled_word, scope_lines, needs, IsMade, IsUnshown, Showing};
-ghost use Rattle.ccr_lines.specs.Shown as spec;
+ghost use Rattle.ccr_commands.specs.Commands as spec;
 
 use crate::build_certificate::build_certificate_made;
 use crate::certificate::certificate_made;

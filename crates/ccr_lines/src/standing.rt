@@ -6,7 +6,7 @@ ghost use Rattle.ccr_core.specs.Cores.{core_data};
 ghost use Rattle.ccr_lines.specs.JobsJson.{AreJobs};
 ghost use Rattle.ccr_lines.specs.ResourcesJson.{resources_shown};
 ghost use Rattle.ccr_lines.specs.Shown.{needs, IsMade, IsUnshown};
-ghost use Rattle.ccr_lines.specs.Shown as spec;
+ghost use Rattle.ccr_commands.specs.Commands as spec;
 ghost use Rattle.ccr_lines.specs.Standing.{pin_words, resource_line, resources_lines, newest_words, newest_build, job_state, AreJobsShown};
 
 use ccr_commands::Form;

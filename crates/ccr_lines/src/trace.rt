@@ -8,7 +8,7 @@ ghost use Rattle.ccr_history.specs.TextMap.{meets};
 ghost use Rattle.ccr_core.specs.Cores.{core_data};
 ghost use Rattle.ccr_lines.specs.Lines.{line};
 ghost use Rattle.ccr_lines.specs.Shown.{needs, IsMade, IsUnshown};
-ghost use Rattle.ccr_lines.specs.Shown as spec;
+ghost use Rattle.ccr_commands.specs.Commands as spec;
 ghost use Rattle.ccr_lines.specs.TraceJson.{trace_shown};
 ghost use Rattle.ccr_lines.specs.Traces.{is_sought, has_taken, took_word, moved_word, went_line, went_line_if, trace_line, trace_lines};
 
