@@ -12,7 +12,8 @@ fn started(alloc: Global, pipeline: &Pipeline) -> Result<BuildRun> {
     if !inputs_of(alloc, job)?.is_empty() {
         bail!("the job has inputs");
     }
-    Ok(start(alloc, job, &[])?)
+    let versions = Vec::new(alloc);
+    Ok(start(alloc, job, &versions)?)
 }
 
 /// So many builds.

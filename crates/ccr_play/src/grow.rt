@@ -56,6 +56,13 @@ pub(crate) fn grow(
     Ok(())
 }
 
+/// A report of the version of this number alone: how many were new.
+fn append_one(alloc: Global, history: &mut History, scope: &Scope, number: u64) -> Result<u32> {
+    let mut versions = Vec::new(alloc);
+    versions.push(version_numbered(alloc, number)?)?;
+    Ok(history.append_versions(alloc, scope, &versions)?)
+}
+
 /// Reports of one version each: `{"n":"FIRST"}` and so on.
 pub(crate) fn extend(
     alloc: Global,
@@ -67,9 +74,7 @@ pub(crate) fn extend(
     let mut new: u32 = 0;
     for i in 0..count {
         let number = u64::from(first) + u64::from(i);
-        let version = version_numbered(alloc, number)?;
-        let added = history.append_versions(alloc, scope, &[version])?;
-        new = new.saturating_add(added);
+        new = new.saturating_add(append_one(alloc, history, scope, number)?);
     }
     Ok(new)
 }

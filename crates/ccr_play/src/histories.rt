@@ -41,17 +41,31 @@ fn taken_back(
     Ok(report.versions.len())
 }
 
+/// How many resources and jobs a pipeline has.
+fn sizes_told(alloc: Global, pipeline: &Pipeline) -> Result<String> {
+    let resources = pipeline.resources().len();
+    let jobs = pipeline.jobs().len();
+    Ok(format!(in alloc; "{resources} resources, {jobs} jobs")?)
+}
+
 /// Room for the answer to a change. It is made before the change, so that no answer is refused memory after one.
 fn room(alloc: Global) -> Result<String, AllocError> {
     String::with_capacity(alloc, 32)
+}
+
+/// Makes a build of a job, and ends it as failed: its number.
+fn fail_one(alloc: Global, history: &mut History, job: &str) -> Result<u32> {
+    let nothing = Vec::new(alloc);
+    let number = history.add_build(alloc, job, &nothing)?;
+    history.end_build(alloc, job, number, Status::Failed, &[])?;
+    Ok(number)
 }
 
 /// Makes so many builds of a job, and ends each as failed: the number of the last.
 fn fail(alloc: Global, history: &mut History, job: &str, count: u32) -> Result<u32> {
     let mut last = 0;
     for _ in 0..count {
-        last = history.add_build(alloc, job, &[])?;
-        history.end_build(alloc, job, last, Status::Failed, &[])?;
+        last = fail_one(alloc, history, job)?;
     }
     Ok(last)
 }
@@ -107,13 +121,12 @@ impl Histories {
     }
 
     fn set(&mut self, alloc: Global, text: &str) -> Result<String> {
+        let bytes = Vec::from_slice(alloc, text.as_bytes())?;
         let pipeline = read(alloc, text.as_bytes())?;
-        let resources = pipeline.resources().len();
-        let jobs = pipeline.jobs().len();
-        self.history
-            .set_text(Vec::from_slice(alloc, text.as_bytes())?);
+        let told = sizes_told(alloc, &pipeline);
+        self.history.set_text(bytes);
         self.pipeline = Some(pipeline);
-        Ok(format!(in alloc; "{resources} resources, {jobs} jobs")?)
+        told
     }
 
     fn pipeline(&self) -> Result<&Pipeline> {

@@ -155,14 +155,21 @@ pub(super) fn in_build(alloc: Global, given: &str) -> Result<String> {
 }
 
 /// An answer in a word; a version by its key, a config by its program.
+fn answered_word(alloc: Global, answered: &Answered) -> Result<String, AllocError> {
+    match answered {
+        Answered::Done => String::from_str(alloc, "done"),
+        Answered::Pushed(version) => version.key(alloc),
+        Answered::Config(config) => config.run.path.clone(),
+        Answered::Failed => String::from_str(alloc, "failed"),
+        Answered::Errored => String::from_str(alloc, "errored"),
+        Answered::Aborted => String::from_str(alloc, "aborted"),
+    }
+}
+
+/// What is answered in a word, or that there is no memory.
 fn word(alloc: Global, said: Result<Said, AllocError>) -> Result<String, AllocError> {
-    match said.map(|said| said.answered) {
-        Ok(Answered::Done) => String::from_str(alloc, "done"),
-        Ok(Answered::Pushed(version)) => version.key(alloc),
-        Ok(Answered::Config(config)) => config.run.path.clone(),
-        Ok(Answered::Failed) => String::from_str(alloc, "failed"),
-        Ok(Answered::Errored) => String::from_str(alloc, "errored"),
-        Ok(Answered::Aborted) => String::from_str(alloc, "aborted"),
+    match &said {
+        Ok(said) => answered_word(alloc, &said.answered),
         Err(_) => String::from_str(alloc, "no memory"),
     }
 }
@@ -179,7 +186,8 @@ pub(super) fn ended(alloc: Global, given: &str) -> Result<String> {
         end.copy()?,
     );
     let pushed = answered_of(alloc, &push("a", None), String::new(alloc), end.copy()?);
-    let done = answered_of(alloc, &run(&config, &[]), String::new(alloc), end);
+    let env = Vec::new(alloc);
+    let done = answered_of(alloc, &run(&config, &env), String::new(alloc), end);
     let fetched = word(alloc, fetched)?;
     let pushed = word(alloc, pushed)?;
     let done = word(alloc, done)?;

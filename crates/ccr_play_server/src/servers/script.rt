@@ -83,8 +83,9 @@ impl Script {
         } else {
             number_of(number)?
         };
+        let nothing = Vec::new(alloc);
         for _ in 0..count {
-            self.history.add_build(alloc, job, &[])?;
+            self.history.add_build(alloc, job, &nothing)?;
         }
         Ok(())
     }

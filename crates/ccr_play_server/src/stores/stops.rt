@@ -225,11 +225,12 @@ pub(super) fn stops_told(alloc: Global, lines: &str, frames: u32) -> Result<Stri
 
 /// Files in which these lines were kept.
 fn files_with(alloc: Global, lines: &str, frames: u32) -> Result<Files<Memory>> {
+    let nothing = Vec::new(alloc);
     let kept = Trial {
         files: empty_files(alloc),
         frames,
         lines,
-        texts: &[],
+        texts: &nothing,
     };
     kept.files_left(alloc)
 }
