@@ -8,17 +8,17 @@
 //! refused with a [`LineFault`].
 #![tactic(auto)]
 
-mod files;
 mod ends;
 mod fault;
+mod files;
 mod history_text;
 mod play;
 mod program;
 mod words;
 
-pub use files::{Kind, check};
 pub use ends::{end_of, ends_of, fault_of, places, sights_of};
 pub use fault::LineFault;
+pub use files::{Kind, check};
 pub use history_text::text_of;
 pub use play::{Player, Telling, is_played, played};
 pub use program::{Answer, arguments, input, tell};

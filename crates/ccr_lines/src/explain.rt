@@ -25,7 +25,6 @@ ghost use Rattle.ccr_commands.specs.Commands as spec;
 
 use crate::asked::Asked;
 use crate::explain_json::{best_json, none_json, over_json};
-use ccr_commands::Form;
 use crate::held::job_held;
 use crate::outlook::{Outlook, outlook_at, push_outlook};
 use crate::past::named_jobs;
@@ -36,6 +35,7 @@ use crate::subject::Subject;
 use crate::taken::history_number;
 use crate::words::{job_name, push_clash, push_number, push_reason};
 use ccr_choice::Choice;
+use ccr_commands::Form;
 use ccr_core::Core;
 use ccr_explain::{Explanation, clash};
 use ccr_history::History;

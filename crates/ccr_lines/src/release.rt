@@ -13,11 +13,11 @@ ghost use Rattle.ccr_lines.specs.ReleaseJson.{release_shown};
 ghost use Rattle.ccr_lines.specs.Shown.{needs, IsMade, IsUnshown};
 ghost use Rattle.ccr_commands.specs.Commands as spec;
 
-use ccr_commands::Form;
 use crate::release_json::release_json;
 use crate::shown::ShowFault;
 use crate::shows::push_build;
 use crate::texts::push_line;
+use ccr_commands::Form;
 use ccr_core::{Core, CoreFault};
 use ccr_history::{BuildRef, History, Status};
 use ccr_pipeline::{Input, Job, Pipeline, inputs_of};

@@ -9,7 +9,6 @@ ghost use Rattle.ccr_lines.specs.Shown.{needs, IsMade, IsUnshown};
 ghost use Rattle.ccr_commands.specs.Commands as spec;
 ghost use Rattle.ccr_lines.specs.Standing.{pin_words, resource_line, resources_lines, newest_words, newest_build, job_state, AreJobsShown};
 
-use ccr_commands::Form;
 use crate::held::pipeline_held;
 use crate::jobs_json::jobs_json;
 use crate::outlook::{Outlook, outlook_of, push_outlook};
@@ -17,6 +16,7 @@ use crate::print::word_of;
 use crate::resources_json::resources_json;
 use crate::shown::ShowFault;
 use crate::texts::push_line;
+use ccr_commands::Form;
 use ccr_core::Core;
 use ccr_history::{History, Pin};
 use ccr_pipeline::{Job, Pipeline, Resource};

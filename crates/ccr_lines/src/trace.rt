@@ -12,13 +12,13 @@ ghost use Rattle.ccr_commands.specs.Commands as spec;
 ghost use Rattle.ccr_lines.specs.TraceJson.{trace_shown};
 ghost use Rattle.ccr_lines.specs.Traces.{is_sought, has_taken, took_word, moved_word, went_line, went_line_if, trace_line, trace_lines};
 
-use ccr_commands::Form;
 use crate::held::{pin_of, resource_held};
 use crate::print::word_of;
 use crate::release::{resource_at, used_at};
 use crate::shown::ShowFault;
 use crate::texts::push_line;
 use crate::trace_json::trace_json;
+use ccr_commands::Form;
 use ccr_core::Core;
 use ccr_history::{BuildRef, History, Pin, Status};
 use itoa::Buffer;

@@ -5,9 +5,9 @@
 //! or `config CONFIG`. The answer to a line is what the build asks then, as JSON, or how it ended and which versions it
 //! moved.
 
-use crate::reply::outcome_name;
 use crate::answer::answered_of;
 use crate::ask::ask_value;
+use crate::reply::outcome_name;
 use crate::steps::started;
 use anyhow::{Result, anyhow};
 use ccr_cases::{Player, split, versions_of};

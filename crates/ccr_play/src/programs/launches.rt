@@ -7,9 +7,7 @@ use ccr_history::{Object, Version};
 use ccr_pipeline::{Pipeline, TaskConfig, Variable, read, read_task};
 use ccr_process::Launch;
 use ccr_steps::{Answered, Ask};
-use ccr_task::{
-    Said, answered_of, can_launch, check_launch, config_of, launch_of,
-};
+use ccr_task::{Said, answered_of, can_launch, check_launch, config_of, launch_of};
 use std::alloc::{AllocError, Global};
 
 /// A pipeline of the resource `a` without a source, and of `b` with such a source.

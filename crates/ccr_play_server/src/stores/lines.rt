@@ -2,7 +2,9 @@
 
 use super::kept::Kept;
 use anyhow::{Result, anyhow};
-use ccr_cases::{number_of, numbered, pairs_of, pin_of, scope_in, split, status_of, used_places, versions_of};
+use ccr_cases::{
+    number_of, numbered, pairs_of, pin_of, scope_in, split, status_of, used_places, versions_of,
+};
 use ccr_history::{Status, Version};
 use ccr_pipeline::{Pipeline, read};
 use ccr_storage::Storage;
