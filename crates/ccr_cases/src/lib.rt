@@ -20,8 +20,8 @@ pub use ends::{end_of, ends_of, fault_of, places, sights_of};
 pub use fault::LineFault;
 pub use files::{Kind, check};
 pub use history_text::text_of;
-pub use play::{Player, Telling, is_played, played};
-pub use program::{Answer, arguments, input, tell};
+pub use play::{Player, Telling, played};
+pub use program::{Answer, OVER_BUDGET, arguments, input, play_input, tell};
 pub use words::{
     add, number_of, numbered, pair_of, pairs_of, pin_of, scope_in, split, status_name, status_of,
     turn_of, used_places, value_of, version_numbered, version_of, versions_of,

@@ -37,7 +37,7 @@ fn answer_of<P: Player>(alloc: Global, player: &mut P, line: &str) -> Result<Str
 }
 
 /// Whether a line is played: it isn't empty, a comment, or an answer.
-pub fn is_played(line: &str) -> bool {
+pub(crate) fn is_played(line: &str) -> bool {
     !line.is_empty() && !line.starts_with("#") && !line.starts_with(MARK)
 }
 

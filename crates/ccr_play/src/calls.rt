@@ -3,7 +3,7 @@ ghost use Rattle.std.specs.Prelude.{◌≤◌};
 ghost use Rattle.ccr_proof.specs.Claim.{IsClaim};
 
 use crate::problems::proof_text;
-use ccr_cases::Answer;
+use ccr_cases::{Answer, OVER_BUDGET};
 use ccr_choice::{Problem, ProblemFault, read_problem};
 use ccr_index::build_index;
 use ccr_pipeline::{ReadFault, read, read_task};
@@ -111,6 +111,6 @@ fn claimed(alloc: Global, claim: &Claim) -> Result<Answer, AllocError>
 fn over_budget(alloc: Global, budget: u32) -> Result<Answer, AllocError> {
     Ok(Answer {
         lines: format!(in alloc; "over budget {budget}\n")?,
-        status: 3,
+        status: OVER_BUDGET,
     })
 }

@@ -49,24 +49,18 @@ mod trial;
 mod versions;
 
 use calls::{answer_choose, answer_pipeline, answer_resolve, answer_task};
-use ccr_cases::{Answer, Kind, Telling, arguments, check, input, tell};
+use ccr_cases::{Answer, arguments, check, input, play_input, tell};
 use kind::LineKind;
 use order::{Call, call_of};
 use std::io;
 use std::process::ExitCode;
 use trial::answer_type;
 
-/// What is told of the lines of standard input.
-fn play(rt: &HostRuntime, kind: LineKind, telling: Telling) -> io::Result<Answer> {
-    let lines = kind.play(rt, input(rt)?.as_str(), telling)?;
-    Ok(Answer { lines, status: 0 })
-}
-
 fn answer_of(rt: &HostRuntime, call: Call<'_>) -> io::Result<Answer> {
     let alloc = rt.alloc();
     match call {
         Call::Check(names) => check::<LineKind>(rt, names),
-        Call::Lines(kind, telling) => play(rt, kind, telling),
+        Call::Lines(kind, telling) => play_input(rt, kind, telling),
         Call::Pipeline => Ok(answer_pipeline(alloc, input(rt)?.as_bytes())?),
         Call::Task => Ok(answer_task(alloc, input(rt)?.as_bytes())?),
         Call::Resolve(budget) => Ok(answer_resolve(alloc, input(rt)?.as_bytes(), budget.nodes)?),

@@ -20,20 +20,14 @@ mod order;
 mod servers;
 mod stores;
 
-use ccr_cases::{Answer, Kind, Telling, arguments, check, input, played, tell};
+use ccr_cases::{Answer, Telling, arguments, check, input, play_input, played, tell};
 use kind::LineKind;
 use order::{Call, call_of};
 use std::io;
 use std::process::ExitCode;
 use stores::{Stores, commits_told};
 
-/// What is told of the lines of standard input.
-fn play(rt: &HostRuntime, kind: LineKind, telling: Telling) -> io::Result<Answer> {
-    let lines = kind.play(rt, input(rt)?.as_str(), telling)?;
-    Ok(Answer { lines, status: 0 })
-}
-
-/// The same of lines of stores, whose histories are kept in files of this name too.
+/// What is told of lines of stores on standard input, whose histories are kept in files of this name too.
 fn keep(rt: &HostRuntime, path: &str) -> io::Result<Answer> {
     let stores = Stores::new(rt, Some(path));
     let lines = played(rt, stores, input(rt)?.as_str(), Telling::Answers)?;
@@ -54,7 +48,7 @@ fn commits(rt: &HostRuntime, path: &str, count: u32) -> io::Result<Answer> {
 fn answer_of(rt: &HostRuntime, call: Call<'_>) -> io::Result<Answer> {
     match call {
         Call::Check(names) => check::<LineKind>(rt, names),
-        Call::Lines(kind, telling) => play(rt, kind, telling),
+        Call::Lines(kind, telling) => play_input(rt, kind, telling),
         Call::Kept(path) => keep(rt, path),
         Call::Commits(path, count) => commits(rt, path, count),
     }
