@@ -1,15 +1,9 @@
 pub mod Numbering
 pub mod LaterLemmas
-pub mod Cuts
-pub mod Many
 pub mod Keeps
-pub mod Lines
-pub mod Words
-pub mod Texts
 pub mod Bounds
 pub mod Found
 pub mod Whole
-pub mod Formats
 pub mod ReadLaws
 pub mod Members
 pub mod BestPlaces

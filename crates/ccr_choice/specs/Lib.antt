@@ -8,7 +8,5 @@ pub mod Optimal
 pub mod Dominated
 pub mod Table
 pub mod Ascending
-pub mod Text
-pub mod Reading
 pub mod ProblemText
 pub mod Words

@@ -11,9 +11,8 @@
 //! (`specs/Preference.antt`), and so is what the best choice is (`specs/Optimal.antt`); the order of a problem is said
 //! in one place, `order_of`.
 //!
-//! A problem has one text and each text one problem: [`write_problem`], [`read_problem`]. The texts of claims and
-//! proofs are made of the same words and lines, so [`text`] is public. A text is refused with the first line that
-//! breaks a rule.
+//! A problem has one text and each text one problem: [`write_problem`], [`read_problem`]. It is made of the words and lines of
+//! `ccr_text`. A text is refused with the first line that breaks a rule.
 #![tactic(auto)]
 
 mod choice;
@@ -26,7 +25,6 @@ pub mod possible;
 mod problem;
 mod read;
 mod rules;
-pub mod text;
 mod verdict;
 mod write;
 

@@ -7,7 +7,7 @@ use crate::number::number_of;
 use clap::ArgMatches;
 
 /// A build that is to be aborted.
-#[derive(Clone, Copy, Debug, PartialEq, Eq)]
+#[derive(Clone, Copy, PartialEq, Eq)]
 pub struct AbortRequest<'a> {
     /// The name of its job, as it was typed.
     pub job: &'a str,

@@ -11,7 +11,7 @@ use serde_json::Value;
 use std::alloc::{AllocError, Global};
 
 /// What a finding says.
-#[derive(Clone, Copy, Debug, PartialEq, Eq)]
+#[derive(Clone, Copy, PartialEq, Eq)]
 pub enum Kind {
     /// What has to hold of the version that a job's input takes.
     Gate,
@@ -32,7 +32,7 @@ pub enum Kind {
 }
 
 /// A finding: its kind, and its line without a line end.
-#[derive(Debug, Drop)]
+#[derive(Drop)]
 pub struct Finding {
     /// Its kind.
     pub kind: Kind,

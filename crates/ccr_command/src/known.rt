@@ -1,7 +1,7 @@
 //! The keys of Concourse's pipelines: those with an effect, and those that are known and have none here.
 
 /// The objects of a pipeline, by their keys.
-#[derive(Clone, Copy, Debug, PartialEq, Eq)]
+#[derive(Clone, Copy, PartialEq, Eq)]
 pub(crate) enum Object {
     Pipeline,
     Resource,

@@ -8,7 +8,7 @@ use clap::ArgMatches;
 use thiserror::Error;
 
 /// The options of the program.
-#[derive(Clone, Copy, Debug, PartialEq, Eq)]
+#[derive(Clone, Copy, PartialEq, Eq)]
 pub struct Options<'a> {
     /// The database's file.
     pub database: &'a str,

@@ -1,6 +1,6 @@
 -- What a server is commanded.
 use Rattle.std.specs.Prelude.{ℕ, string_bytes}
-use Rattle.ccr_history.specs.Text.{Text}
+use Rattle.ccr_values.specs.Text.{Text}
 use Rattle.ccr_commands.specs.declared.command.Command.{Command}
 use Rattle.ccr_commands.specs.declared.command.Command.TheVariants as command
 use Rattle.ccr_commands.specs.declared.form.Form.{Form}

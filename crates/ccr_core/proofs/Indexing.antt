@@ -4,7 +4,7 @@ use Rattle.std.specs.Prelude.{IfSome}
 use Rattle.std.proofs.lemmas.List.Sums.{sum_by_push}
 use Rattle.ccr_history.specs.declared.build.Status.TheVariants.{Errored}
 use Rattle.ccr_history.specs.declared.change.Reported.{Reported}
-use Rattle.ccr_history.specs.Text.{Text}
+use Rattle.ccr_values.specs.Text.{Text}
 use Rattle.ccr_history.specs.Builds.{UsedData, is_of, count_of, new_build, is_succeeded}
 use Rattle.ccr_history.specs.Changes.{build, versions, edited, changed, AdmitsAll}
 use Rattle.ccr_history.specs.History.{HistoryData, IsHistory}
@@ -18,7 +18,7 @@ use Rattle.ccr_problem.specs.Follows.{UnsuccessfulEndLeaves, has_newer}
 use Rattle.ccr_problem.specs.ProblemOf.{problem_with}
 use Rattle.ccr_problem.proofs.Ends.{map_same}
 use Rattle.ccr_problem.proofs.Newer.{none_newer_than}
-use Rattle.ccr_indexes.specs.Indexes.{problems, AreIndexes, AreBefore, IsBrought}
+use Rattle.ccr_problem.specs.Indexes.{problems, AreIndexes, AreBefore, IsBrought}
 use Rattle.ccr_steps.specs.declared.outcome.Outcome.{Outcome}
 use Rattle.ccr_core.specs.Builds.{status_of}
 use Rattle.ccr_core.specs.Endings.{report_edits}

@@ -5,7 +5,7 @@ use Rattle.std.specs.List.{list_any, AllByRecursion}
 use Rattle.std.specs.Option.{option_map_or}
 use Rattle.std.proofs.lemmas.List.Sums.{sum_by-cons}
 use Rattle.std.proofs.lemmas.Slice.Eq.{bytes_eq-Decides}
-use Rattle.ccr_history.specs.Text.{Text}
+use Rattle.ccr_values.specs.Text.{Text}
 use Rattle.ccr_history.specs.Changes.{changed}
 use Rattle.ccr_history.specs.History.{HistoryData}
 use Rattle.ccr_pipeline.specs.JobData.{JobData}
@@ -19,7 +19,8 @@ use Rattle.ccr_core.specs.declared.reply.Reply.{Reply}
 use Rattle.ccr_core.specs.declared.reply.Reply.TheVariants.{Set, New, Made, NotNew, Goes, Ends, Pinned, Unpinned, Disabled, Enabled, Restarted}
 use Rattle.ccr_problem.specs.ProblemOf.{job_of}
 use Rattle.ccr_core.specs.Builds.{begun, with_made, Makes, with_answer, with_answered, GoesOnWith, cut}
-use Rattle.ccr_core.specs.Busy.{limit_of, running_of, has_reached, share, is_shut_out, is_busy}
+use Rattle.ccr_core.specs.Busy.{running_of, share, is_shut_out, is_busy}
+use Rattle.ccr_problem.specs.Limit.{limit_of, has_reached}
 use Rattle.ccr_core.specs.Addressed.{AnswerTo, addressed}
 use Rattle.ccr_core.specs.Events.{EventData, set_pipeline, checked, schedule, trigger, pin, unpin, disable, enable, restart}
 use Rattle.ccr_core.specs.Faults.{MeetsBy}

@@ -1,7 +1,7 @@
 -- The choice of versions for a job's next build.
 use Rattle.std.specs.Prelude.{ℕ, Bool, false, not, ◌&&◌, ◌||◌, List, [], ◌∷◌}
-use Rattle.ccr_history.specs.Text.{Text}
-use Rattle.ccr_history.specs.TextMap.{TextMap}
+use Rattle.ccr_values.specs.Text.{Text}
+use Rattle.ccr_values.specs.TextMap.{TextMap}
 use Rattle.ccr_history.specs.Builds.{UsedData, BuildData, has_used}
 use Rattle.ccr_history.specs.History.{HistoryData}
 use Rattle.ccr_pipeline.specs.Inputs.{InputData}
@@ -43,8 +43,3 @@ used_at p h is ns = []
 abbrev pub versions_at : PipelineData → HistoryData → List InputData → List ℕ → List TextMap
 versions_at p h (i ∷ is) (n ∷ ns) = version_at p h i.resource n ∷ versions_at p h is ns
 versions_at p h is ns = []
-
--- one of the inputs with trigger has a place that it had in no earlier build of the job, of whatever status
-abbrev pub is_new : Text → List BuildData → List InputData → List UsedData → Bool
-is_new job builds (i ∷ is) (u ∷ us) = (i.trigger && not (has_used job u builds)) || is_new job builds is us
-is_new job builds is us = false

@@ -4,7 +4,7 @@ use Rattle.ccr_history.specs.History.{HistoryData}
 use Rattle.ccr_history.specs.declared.change.Reported.{Reported}
 use Rattle.ccr_pipeline.specs.Pipelines.{PipelineData, pipeline_data}
 use Rattle.ccr_index.specs.Index.{IndexValue}
-use Rattle.ccr_indexes.specs.Indexes.{AreIndexes, AreBefore}
+use Rattle.ccr_problem.specs.Indexes.{AreIndexes, AreBefore}
 use Rattle.ccr_core.specs.declared.parts.Parts.{Parts}
 
 -- the indexes are those of the pipeline's jobs with a history; where no pipeline is set there is none

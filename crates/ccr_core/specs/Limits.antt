@@ -1,10 +1,11 @@
 -- How many builds run.
 use Rattle.std.specs.Prelude.{◌≡◌, ◌≢◌, ℕ, ◌≤◌, true, List, [], Option, Some, None, length, ⊤}
-use Rattle.ccr_history.specs.Text.{Text}
+use Rattle.ccr_values.specs.Text.{Text}
 use Rattle.ccr_pipeline.specs.JobData.{JobData}
 use Rattle.ccr_core.specs.declared.limit.TheConstants.{MOST_RUNNING}
 use Rattle.ccr_problem.specs.ProblemOf.{job_of}
-use Rattle.ccr_core.specs.Busy.{limit_of, running_of, share}
+use Rattle.ccr_core.specs.Busy.{running_of, share}
+use Rattle.ccr_problem.specs.Limit.{limit_of}
 use Rattle.ccr_core.specs.Events.{EventData}
 use Rattle.ccr_core.specs.State.{RunningData, State, jobs_of}
 use Rattle.ccr_core.specs.Replies.{Replied}

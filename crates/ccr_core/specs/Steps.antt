@@ -10,7 +10,8 @@ use Rattle.ccr_problem.specs.ProblemOf.{job_of}
 use Rattle.ccr_core.specs.Addressed.{AnswerTo, addressed}
 use Rattle.ccr_core.specs.Busy.{is_busy}
 use Rattle.ccr_core.specs.Builds.{Makes, GoesOnWith, cut}
-use Rattle.ccr_core.specs.Choices.{best, nothing, over_budget, Finds, used_at, is_new}
+use Rattle.ccr_core.specs.Choices.{best, nothing, over_budget, Finds, used_at}
+use Rattle.ccr_problem.specs.Triggers.{is_new}
 use Rattle.ccr_core.specs.Events.{EventData, set_pipeline, checked, schedule, trigger, answer, abort, pin, unpin, disable, enable, restart}
 use Rattle.ccr_core.specs.Faults.{MayRefuse, IsFree}
 use Rattle.ccr_core.specs.Replies.{Replied}

@@ -7,32 +7,13 @@ ghost use Rattle.ccr_pipeline.specs.JobData.{job_data};
 ghost use Rattle.ccr_pipeline.specs.Names.{has_name};
 ghost use Rattle.ccr_pipeline.specs.Pipelines.{pipeline_data};
 ghost use Rattle.ccr_problem.specs.ProblemOf.{job_of};
-ghost use Rattle.ccr_core.specs.Busy.{is_grouped, limit_of, has_reached, share, is_busy};
+ghost use Rattle.ccr_problem.specs.Limit.{limit_of, has_reached};
+ghost use Rattle.ccr_core.specs.Busy.{share, is_busy};
 ghost use Rattle.ccr_core.specs.Holding.{name_data};
 ghost use Rattle.ccr_core.specs.Picking.{name_of, shuts_out};
 ghost use Rattle.ccr_core.specs.State.{RunningData};
 
 use ccr_pipeline::{Job, Pipeline};
-
-/// Whether the job is in a serial group.
-fn is_grouped(job: &Job) -> bool
-    ensures { result ≡ is_grouped (job_data job.now) }
-{
-    !job.serial_groups.as_slice().is_empty()
-}
-
-/// How many builds of the job may run, if there is a limit.
-fn limit_of(job: &Job) -> Option<u64>
-    ensures { result ≡ limit_of (job_data job.now) }
-{
-    if job.serial || is_grouped(job) {
-        Some(1)
-    } else if job.max_in_flight == 0 {
-        None
-    } else {
-        Some(job.max_in_flight)
-    }
-}
 
 /// How many of these builds are the job's.
 fn count_of(names: &[(String, u32)], job: &str) -> usize
@@ -52,10 +33,7 @@ fn has_reached(job: &Job, names: &[(String, u32)]) -> bool
     ensures { result ≡ has_reached (limit_of (job_data job.now))
         (count_by (λ n. bytes_eq (job_data job.now).name n.0) (map name_data names.now)) }
 {
-    match limit_of(job) {
-        Some(most) => most <= count_of(names, job.name.as_str()) as u64,
-        None => false,
-    }
+    ccr_problem::has_reached(job, count_of(names, job.name.as_str()))
 }
 
 /// Whether the job is in this serial group.

@@ -17,8 +17,8 @@ use crate::indexed::indexes_of;
 use crate::parts::Parts;
 use crate::reply::Reply;
 use ccr_history::{Change, Edit, History, Scope};
-use ccr_indexes::Indexes;
 use ccr_pipeline::Pipeline;
+use ccr_problem::Indexes;
 use std::alloc::{AllocError, Global};
 
 /// A history with a place of a scope disabled, the indexes then, and the change that this is.

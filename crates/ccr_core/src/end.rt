@@ -7,14 +7,14 @@ ghost use Rattle.ccr_pipeline.specs.Pipelines.{pipeline_data};
 ghost use Rattle.ccr_steps.specs.Runs.{run_data};
 ghost use Rattle.ccr_history.specs.Builds.{is_succeeded};
 ghost use Rattle.ccr_problem.specs.Follows.{has_newer};
-ghost use Rattle.ccr_indexes.specs.Indexes.{AreIndexes, IsBrought, HaveRoom};
+ghost use Rattle.ccr_problem.specs.Indexes.{AreIndexes, IsBrought, HaveRoom};
 ghost use Rattle.ccr_core.specs.Builds.{status_of};
 ghost use Rattle.ccr_core.specs.Endings.{IsAtEnding, end_edits, PairsFit};
 
 use crate::place::places_of;
 use ccr_history::{Edit, Ended, History, Status};
-use ccr_indexes::{Brought, Indexes};
 use ccr_pipeline::Pipeline;
+use ccr_problem::{Brought, Indexes};
 use ccr_steps::{BuildRun, Outcome};
 use std::alloc::{AllocError, Global};
 

@@ -12,7 +12,7 @@ ghost use Rattle.ccr_core.specs.Builds.{Settles};
 ghost use Rattle.ccr_core.specs.Edits.{AreEndEdits, AreMoreEdits, AreNextEdits};
 ghost use Rattle.ccr_core.specs.Going.{CanGoOn, GoesOn, IsRefused, Changes, Waits, named};
 ghost use Rattle.ccr_core.specs.Kept.{IsAnswer};
-ghost use Rattle.ccr_indexes.specs.Indexes.{problems, AreIndexes};
+ghost use Rattle.ccr_problem.specs.Indexes.{problems, AreIndexes};
 ghost use Rattle.ccr_core.specs.Indexed.{AreReported};
 ghost use Rattle.ccr_core.specs.Endings.{reports, report_edits, IsOver, EndFits, ReportFits};
 
@@ -21,8 +21,8 @@ use crate::fault::CoreFault;
 use crate::indexed::follow;
 use crate::pushed::{Report, append, report_by, rules_of, take_back};
 use ccr_history::{Edit, History, Reported};
-use ccr_indexes::Indexes;
 use ccr_pipeline::Pipeline;
+use ccr_problem::Indexes;
 use ccr_steps::{Answered, BuildRun, Outcome};
 use std::alloc::{AllocError, Global};
 

@@ -5,16 +5,15 @@ ghost use Rattle.ccr_history.specs.Builds.{is_succeeded};
 ghost use Rattle.ccr_history.specs.Changes.{changed, IsRunning};
 ghost use Rattle.ccr_pipeline.specs.Pipelines.{pipeline_data};
 ghost use Rattle.ccr_problem.specs.Follows.{has_newer};
-ghost use Rattle.ccr_indexes.specs.Indexes.{problems, AreIndexes, IsBrought, HaveRoom};
+ghost use Rattle.ccr_problem.specs.Indexes.{problems, AreIndexes, IsBrought, HaveRoom};
 ghost use Rattle.ccr_core.specs.Builds.{status_of};
 ghost use Rattle.ccr_core.specs.Endings.{end_edits, PairsFit};
 ghost use Rattle.ccr_core.specs.Indexed.{AreIndexesOf, AreReported};
 
 use crate::end::{finish, status_of};
 use ccr_history::{History, Reported};
-use ccr_indexes::{Brought, Indexes};
 use ccr_pipeline::Pipeline;
-use ccr_problem::has_newer;
+use ccr_problem::{Brought, Indexes, has_newer};
 use ccr_steps::Outcome;
 use std::alloc::{AllocError, Global};
 

@@ -9,7 +9,7 @@ ghost use Rattle.ccr_pipeline.specs.JobData.{job_data};
 ghost use Rattle.ccr_pipeline.specs.Pipelines.{pipeline_data};
 ghost use Rattle.ccr_steps.specs.Runs.{run_data};
 ghost use Rattle.ccr_problem.specs.Follows.{has_newer};
-ghost use Rattle.ccr_indexes.specs.Indexes.{AreIndexes, HaveRoom};
+ghost use Rattle.ccr_problem.specs.Indexes.{AreIndexes, HaveRoom};
 ghost use Rattle.ccr_core.specs.Edits.{AreBuildEdits};
 ghost use Rattle.ccr_core.specs.Going.{CanMake, IsMade, Changes};
 
@@ -17,8 +17,8 @@ use crate::end::{Ending, ending_of, finish};
 use crate::indexed::brought_by;
 use crate::used::{used_at, versions_at};
 use ccr_history::{Edit, History, Made, Used};
-use ccr_indexes::Indexes;
 use ccr_pipeline::{Job, Pipeline, inputs_of};
+use ccr_problem::Indexes;
 use ccr_steps::{BuildRun, Outcome, start};
 use std::alloc::{AllocError, Global};
 

@@ -4,7 +4,7 @@ ghost use Rattle.ccr_history.specs.Edits.{change_data};
 ghost use Rattle.ccr_pipeline.specs.JobData.{job_data};
 ghost use Rattle.ccr_pipeline.specs.Pipelines.{pipeline_data};
 ghost use Rattle.ccr_steps.specs.Runs.{run_data};
-ghost use Rattle.ccr_indexes.specs.Indexes.{AreIndexes};
+ghost use Rattle.ccr_problem.specs.Indexes.{AreIndexes};
 ghost use Rattle.ccr_core.specs.Edits.{AreBuildEdits};
 ghost use Rattle.ccr_core.specs.Going.{CanMake, Changes};
 ghost use Rattle.ccr_core.specs.Holding.{name_data};
@@ -12,8 +12,8 @@ ghost use Rattle.ccr_core.specs.Opening.{IsOpened};
 
 use crate::made::{MadeBuild, make_build};
 use ccr_history::{Change, History};
-use ccr_indexes::Indexes;
 use ccr_pipeline::{Job, Pipeline};
+use ccr_problem::Indexes;
 use ccr_steps::BuildRun;
 use std::alloc::{AllocError, Global};
 

@@ -1,8 +1,8 @@
 //! The parts of a core.
 
 use ccr_history::History;
-use ccr_indexes::Indexes;
 use ccr_pipeline::Pipeline;
+use ccr_problem::Indexes;
 use ccr_steps::BuildRun;
 
 /// The parts of a core, which its events change: what each event does is a method.

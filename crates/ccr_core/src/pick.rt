@@ -5,17 +5,18 @@ ghost use Rattle.ccr_pipeline.specs.JobData.{job_data};
 ghost use Rattle.ccr_pipeline.specs.Pipelines.{pipeline_data};
 ghost use Rattle.ccr_problem.specs.ProblemOf.{job_of};
 ghost use Rattle.ccr_proof.specs.declared.proof.TheConstants.{MOST_NODES};
-ghost use Rattle.ccr_indexes.specs.Indexes.{AreIndexes};
-ghost use Rattle.ccr_core.specs.Choices.{used_at, is_new};
+ghost use Rattle.ccr_problem.specs.Indexes.{AreIndexes};
+ghost use Rattle.ccr_core.specs.Choices.{used_at};
+ghost use Rattle.ccr_problem.specs.Triggers.{is_new};
 ghost use Rattle.ccr_core.specs.Holding.{name_data};
 ghost use Rattle.ccr_core.specs.Picking.{IsPicked};
 
 use crate::busy::is_busy;
 use crate::search::found;
-use crate::used::{is_new, used_at};
+use crate::used::used_at;
 use ccr_history::History;
-use ccr_indexes::Indexes;
 use ccr_pipeline::{Job, Pipeline, inputs_of};
+use ccr_problem::{Indexes, is_new};
 use ccr_resolve::Chosen;
 use std::alloc::{AllocError, Global};
 

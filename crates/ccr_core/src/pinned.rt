@@ -3,7 +3,7 @@ ghost use Rattle.std.specs.Prelude.{◌≡◌, [], ◌∷◌, Ok, Err, map, opti
 ghost use Rattle.ccr_history.specs.Changes.{pin_set, pin_cleared, edited};
 ghost use Rattle.ccr_history.specs.Edits.{change_data, edit_data, HaveTheirNumbers};
 ghost use Rattle.ccr_history.specs.History.{HistoryData};
-ghost use Rattle.ccr_history.specs.TextMap.{IsAscending};
+ghost use Rattle.ccr_values.specs.TextMap.{IsAscending};
 ghost use Rattle.ccr_pipeline.specs.Pipelines.{pipeline_data};
 ghost use Rattle.ccr_core.specs.Cores.{core_data};
 ghost use Rattle.ccr_core.specs.Events.{pin, unpin};
@@ -18,8 +18,8 @@ use crate::indexed::indexes_of;
 use crate::parts::Parts;
 use crate::reply::Reply;
 use ccr_history::{Change, Edit, History, Pin};
-use ccr_indexes::Indexes;
 use ccr_pipeline::Pipeline;
+use ccr_problem::Indexes;
 use std::alloc::{AllocError, Global};
 
 /// The change that a pin by command is.

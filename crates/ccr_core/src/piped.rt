@@ -4,7 +4,7 @@ ghost use Rattle.ccr_history.specs.Changes.{text};
 ghost use Rattle.ccr_history.specs.Edits.{change_data, edit_data, HaveTheirNumbers};
 ghost use Rattle.ccr_history.specs.History.{HistoryData};
 ghost use Rattle.ccr_pipeline.specs.Pipelines.{pipeline_data};
-ghost use Rattle.ccr_indexes.specs.Indexes.{AreIndexes};
+ghost use Rattle.ccr_problem.specs.Indexes.{AreIndexes};
 ghost use Rattle.ccr_core.specs.Cores.{core_data};
 ghost use Rattle.ccr_core.specs.Events.{set_pipeline};
 ghost use Rattle.ccr_core.specs.Going.{Changes};
@@ -17,8 +17,8 @@ use crate::fault::CoreFault;
 use crate::parts::Parts;
 use crate::reply::Reply;
 use ccr_history::{Change, Edit, History};
-use ccr_indexes::Indexes;
 use ccr_pipeline::Pipeline;
+use ccr_problem::Indexes;
 use std::alloc::{AllocError, Global};
 
 /// The text of a pipeline, the change that it is, and the indexes of the pipeline's jobs.

@@ -3,7 +3,7 @@
 use ccr_steps::Outcome;
 
 /// What an event that isn't refused is replied.
-#[derive(Clone, Copy, Debug, PartialEq, Eq)]
+#[derive(Clone, Copy, PartialEq, Eq)]
 pub enum Reply {
     /// To `SetPipeline`.
     Set,

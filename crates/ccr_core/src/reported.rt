@@ -3,9 +3,9 @@ ghost use Rattle.std.specs.Prelude.{◌≡◌, [], ◌∷◌, Ok, Err, map, IfOk
 ghost use Rattle.std.specs.List.{AllByRecursion};
 ghost use Rattle.ccr_history.specs.Changes.{versions};
 ghost use Rattle.ccr_history.specs.Edits.{change_data};
-ghost use Rattle.ccr_history.specs.TextMap.{IsAscending};
+ghost use Rattle.ccr_values.specs.TextMap.{IsAscending};
 ghost use Rattle.ccr_pipeline.specs.Pipelines.{pipeline_data};
-ghost use Rattle.ccr_indexes.specs.Indexes.{problems, AreIndexes, AreBefore};
+ghost use Rattle.ccr_problem.specs.Indexes.{problems, AreIndexes, AreBefore};
 ghost use Rattle.ccr_core.specs.Cores.{core_data};
 ghost use Rattle.ccr_core.specs.Edits.{news_in};
 ghost use Rattle.ccr_core.specs.Events.{checked};
@@ -19,8 +19,8 @@ use crate::named::scope_named;
 use crate::parts::Parts;
 use crate::reply::Reply;
 use ccr_history::{Change, Edit, History, HistoryFault, Reported, Scope, Version};
-use ccr_indexes::Indexes;
 use ccr_pipeline::Pipeline;
+use ccr_problem::Indexes;
 use std::alloc::{AllocError, Global};
 
 /// Each version has its keys in order. Nothing runs.

@@ -13,7 +13,7 @@ use crate::fault::CoreFault;
 use crate::parts::Parts;
 use crate::reply::Reply;
 use ccr_history::{Change, Edit, Ended, History, Status};
-use ccr_problem::builds_change_problems;
+use ccr_problem::{builds_change_problems, cut_short};
 use std::alloc::{AllocError, Global};
 
 /// The ends of builds that are cut short, in order: each is errored, and has moved nothing.
@@ -46,7 +46,7 @@ pub(crate) fn cut_all(alloc: Global, history: &mut History, names: &[(String, u3
 {
     for name in names {
         let job = name.0.as_str();
-        let _ended = history.end_build_with(job, name.1, Status::Errored, Vec::new(alloc));
+        cut_short(alloc, history, job, name.1);
     }
 }
 

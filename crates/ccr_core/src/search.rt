@@ -4,12 +4,12 @@ ghost use Rattle.ccr_pipeline.specs.JobData.{JobData};
 ghost use Rattle.ccr_pipeline.specs.Pipelines.{pipeline_data};
 ghost use Rattle.ccr_problem.specs.ProblemOf.{job_of};
 ghost use Rattle.ccr_proof.specs.declared.proof.TheConstants.{MOST_NODES};
-ghost use Rattle.ccr_indexes.specs.Indexes.{AreIndexes};
+ghost use Rattle.ccr_problem.specs.Indexes.{AreIndexes};
 ghost use Rattle.ccr_core.specs.Picking.{IsFound, finding_of};
 
 use ccr_history::History;
-use ccr_indexes::Indexes;
 use ccr_pipeline::Pipeline;
+use ccr_problem::Indexes;
 use ccr_resolve::{Chosen, choose};
 use std::alloc::{AllocError, Global};
 

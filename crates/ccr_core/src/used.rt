@@ -3,7 +3,7 @@ ghost use Rattle.std.specs.Prelude.{◌≡◌, [], map, IfOk};
 ghost use Rattle.ccr_pipeline.specs.Inputs.{input_data};
 ghost use Rattle.ccr_pipeline.specs.Pipelines.{pipeline_data};
 ghost use Rattle.ccr_problem.specs.ProblemOf.{history_number};
-ghost use Rattle.ccr_core.specs.Choices.{used_at, versions_at, is_new};
+ghost use Rattle.ccr_core.specs.Choices.{used_at, versions_at};
 ghost use Rattle.ccr_core.specs.Seen.{version_at};
 
 use ccr_history::{History, Used, Version};
@@ -101,17 +101,4 @@ pub(crate) fn versions_at(
         versions.push(version_at(alloc, pipeline, history, resource, *place)?)?;
     }
     Ok(versions)
-}
-
-/// Whether one of the inputs with trigger has a place that it had in no earlier build of the job, of whatever status.
-pub(crate) fn is_new(history: &History, job: &str, inputs: &[Input], used: &[Used]) -> bool
-    ensures { result ≡ is_new job.now history.now.builds (map input_data inputs.now) used.now }
-{
-    for (input, used) in inputs.iter().zip(used) {
-        let name = used.input.as_str();
-        if input.trigger && !history.has_used(job, name, used.scope, used.place) {
-            return true;
-        }
-    }
-    false
 }

@@ -10,7 +10,7 @@ use std::alloc::{AllocError, Global};
 
 /// A demand that a problem makes of a choice. Inputs are counted from 0 in plan order, named jobs from 0 in order of first
 /// mention.
-#[derive(Clone, Copy, Debug, PartialEq, Eq)]
+#[derive(Clone, Copy, PartialEq, Eq)]
 pub enum Demand {
     /// This input takes one of its allowed places.
     Allowed(usize),

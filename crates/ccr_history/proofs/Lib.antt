@@ -1,6 +1,3 @@
-pub mod Members
-pub mod TextMaps
-pub mod Items
 pub mod Lists
 pub mod TableLaws
 pub mod BuildLaws

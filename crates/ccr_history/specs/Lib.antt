@@ -1,13 +1,5 @@
-pub mod TextMap
-pub mod Members
-pub mod Scan
-pub mod Objects
-pub mod ObjectData
-pub mod Sources
 pub mod Faults
-pub mod Text
 pub mod Tables
-pub mod Keys
 pub mod Names
 pub mod Builds
 pub mod Newest

@@ -1,29 +1,14 @@
 -- Version tables: what has been seen in each scope, in order of first report.
 use Rattle.std.specs.Prelude.{◌≡◌, ℕ, ◌+◌, ◌-◌, ◌≤◌, List, [], ◌∷◌, ◌++◌, length, map, slice_get, Bool, false, ◌&&◌, ◌||◌, ◌==◌, nat_lt, if◌then◌else◌, Option, None, option_map, unwrap_or, AllPairs}
 use Rattle.std.specs.List.{list_any, AllByRecursion}
-use Rattle.std.specs.Str.{bytes_eq}
 use Rattle.ccr_history.specs.declared.table.TheConstants.{MOST_VERSIONS, MOST_SCOPES}
-use Rattle.ccr_history.specs.Text.{Text}
-use Rattle.ccr_history.specs.TextMap.{TextMap, key_text, IsAscending}
-
--- a scope: a resource's name, its type, and its source as compact JSON text; a changed source is another scope
-pub record ScopeData : Type 0 where
-  pub resource : Text
-  pub kind : Text
-  pub source : Text
+use Rattle.ccr_values.specs.Scopes.{ScopeData, is_scope}
+use Rattle.ccr_values.specs.TextMap.{TextMap, is_version, IsAscending}
 
 -- a scope with its versions; a version's place is its position in the list, from 1
 pub record TableData : Type 0 where
   pub scope : ScopeData
   pub versions : List TextMap
-
--- the two scopes are one: same resource, type and source
-abbrev pub is_scope : ScopeData → ScopeData → Bool
-is_scope a b = bytes_eq a.resource b.resource && (bytes_eq a.kind b.kind && bytes_eq a.source b.source)
-
--- the two versions are one: same key
-abbrev pub is_version : TextMap → TextMap → Bool
-is_version v w = bytes_eq (key_text v) (key_text w)
 
 -- the list has the version
 abbrev pub has_version : List TextMap → TextMap → Bool

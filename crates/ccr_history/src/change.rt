@@ -1,9 +1,7 @@
 //! Changes of a history, call by call.
 
 use crate::build::{Status, Used};
-use crate::pin::Pin;
-use crate::scope::Scope;
-use crate::version::Version;
+use ccr_values::{Pin, Scope, Version};
 
 /// Versions that came to the table of a scope.
 #[derive(Drop)]

@@ -5,17 +5,11 @@
 //! `IsHistory`. Each call that changes a history gives the named change of it, an [`Edit`]; a [`Change`] is a list of
 //! edits, in the order in which they are made.
 //!
-//! A [`Version`] and a [`Pin`] are maps from texts to texts, as a JSON object has them whose fields are all texts.
-//! Clauses see either as the list of its fields, a key with its text, keys ascending by bytes: so two are equal
-//! exactly where their maps are. Both keep their key, the map's compact JSON text, and nothing beside it.
-//!
-//! An [`Object`] is a source or params: a JSON object whose numbers are all whole, so that its text is exact.
-//! Clauses see it as its JSON value.
-//!
-//! A refused call changes nothing. A JSON value that is no version is refused: `NotObject` where it is no object,
-//! `VersionNotText` where a field isn't a text. A history has its limits, `TableFull` and `BuildsFull`, and refuses to
+//! A refused call changes nothing. A history has its limits, `TableFull` and `BuildsFull`, and refuses to
 //! end a build that isn't there, `NoBuild`, or that doesn't run, `AlreadyEnded`. A place that its table lacks is neither
 //! disabled nor enabled, `NoVersion`. `NoMemory` comes only where memory runs out.
+//!
+//! The values that it holds, versions, pins and scopes, are those of `ccr_values`.
 #![tactic(auto)]
 
 mod build;
@@ -23,36 +17,26 @@ mod build_ref;
 mod builds;
 mod change;
 mod conditions;
-mod fault;
 mod history;
 mod job_builds;
-mod key_text;
 mod law;
 mod names;
-mod object;
 mod pair_set;
-mod pin;
 mod pins;
 mod reported;
 mod row;
 mod rows;
-mod scope;
 mod switched;
 mod table;
 mod tables;
 mod used_row;
-mod version;
 
 pub use build::{Status, Used};
 pub use build_ref::BuildRef;
 pub use builds::MOST_BUILDS;
+pub use ccr_values::{HistoryFault, Object, Pin, Scope, Version, has_float};
 pub use change::{Change, Edit, Ended, Made, Reported, Switched};
-pub use fault::HistoryFault;
 pub use history::History;
 pub use law::changes_keep_histories;
-pub use object::{Object, has_float};
-pub use pin::Pin;
 pub use pins::Pins;
-pub use scope::Scope;
 pub use table::{MOST_SCOPES, MOST_VERSIONS};
-pub use version::Version;

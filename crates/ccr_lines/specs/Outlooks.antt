@@ -1,12 +1,13 @@
 -- What the next build of a job would be, were the job scheduled.
 use Rattle.std.specs.Prelude.{◌≡◌, ℕ, List, Bool, true, false, codes, decimal, ◌++◌, if◌then◌else◌}
 use Rattle.std.specs.List.{list_any}
-use Rattle.ccr_history.specs.Text.{Text}
+use Rattle.ccr_values.specs.Text.{Text}
 use Rattle.ccr_history.specs.History.{HistoryData}
 use Rattle.ccr_pipeline.specs.Inputs.{InputData, inputs}
 use Rattle.ccr_pipeline.specs.JobData.{JobData}
 use Rattle.ccr_pipeline.specs.Pipelines.{PipelineData}
-use Rattle.ccr_core.specs.Choices.{best, nothing, over_budget, used_at, is_new}
+use Rattle.ccr_core.specs.Choices.{best, nothing, over_budget, used_at}
+use Rattle.ccr_problem.specs.Triggers.{is_new}
 use Rattle.ccr_core.specs.Picking.{IsFound}
 use Rattle.ccr_lines.specs.declared.outlook.Outlook.{Outlook}
 use Rattle.ccr_lines.specs.declared.outlook.Outlook.TheVariants.{Due, NothingNew, ByCommandOnly, NoneSatisfies, OverBudget}

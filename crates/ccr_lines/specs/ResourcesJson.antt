@@ -1,7 +1,7 @@
 -- How the resources of a pipeline stand, as JSON.
 use Rattle.std.specs.Prelude.{List, length, map, codes}
 use Rattle.serde_json.specs.Data.{Data, number, unsigned, string, object, no_members, member}
-use Rattle.ccr_history.specs.Text.{Text}
+use Rattle.ccr_values.specs.Text.{Text}
 use Rattle.ccr_history.specs.Tables.{versions_of}
 use Rattle.ccr_history.specs.Changes.{pin_of}
 use Rattle.ccr_history.specs.History.{HistoryData}

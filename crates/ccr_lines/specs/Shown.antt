@@ -1,10 +1,11 @@
 -- What a command shows. Each line ends with a line feed.
 use Rattle.std.specs.Prelude.{◌≡◌, ℕ, ◌+◌, List, [], ◌∷◌, ◌++◌, flat_map, codes, decimal, Bool, true, false, IsSomeAnd, Option, Some, unwrap_or, Result, Ok, Err, ⊤}
-use Rattle.ccr_history.specs.Text.{Text}
-use Rattle.ccr_history.specs.TextMap.{TextMap, key_text}
+use Rattle.ccr_values.specs.Text.{Text}
+use Rattle.ccr_values.specs.TextMap.{TextMap, key_text}
 use Rattle.ccr_history.specs.Builds.{BuildData, build_of}
 use Rattle.ccr_history.specs.Pairs.{has_pair}
-use Rattle.ccr_history.specs.Tables.{ScopeData, versions_of, scope_number}
+use Rattle.ccr_values.specs.Scopes.{ScopeData}
+use Rattle.ccr_history.specs.Tables.{versions_of, scope_number}
 use Rattle.ccr_history.specs.History.{HistoryData}
 use Rattle.ccr_pipeline.specs.Pipelines.{PipelineData}
 use Rattle.ccr_choice.specs.Preference.{order_of}

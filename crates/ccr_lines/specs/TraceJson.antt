@@ -1,8 +1,8 @@
 -- Where a version went, as JSON.
 use Rattle.std.specs.Prelude.{List, [], ◌∷◌, flat_map, Bool, ◌&&◌, ◌||◌, if◌then◌else◌, codes, decimal}
 use Rattle.serde_json.specs.Data.{Data, boolean, string, object, no_members, member}
-use Rattle.ccr_history.specs.Text.{Text}
-use Rattle.ccr_history.specs.TextMap.{TextMap}
+use Rattle.ccr_values.specs.Text.{Text}
+use Rattle.ccr_values.specs.TextMap.{TextMap}
 use Rattle.ccr_history.specs.Tables.{TableData}
 use Rattle.ccr_history.specs.Builds.{BuildData, is_succeeded}
 use Rattle.ccr_history.specs.History.{HistoryData}

@@ -1,7 +1,7 @@
 //! Why a check finds nothing.
 
 /// Why a check of a resource finds no list of versions.
-#[derive(Clone, Copy, Debug, PartialEq, Eq)]
+#[derive(Clone, Copy, PartialEq, Eq)]
 pub enum Cause {
     /// Its request has more than 65,536 bytes.
     RequestTooLong,

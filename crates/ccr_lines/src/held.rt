@@ -14,7 +14,7 @@ use serde_json::Value;
 use std::alloc::{AllocError, Global};
 
 /// The pipeline; or why there is none.
-pub(crate) fn pipeline_held(core: &Core) -> Result<&Pipeline, CoreFault>
+pub fn pipeline_held(core: &Core) -> Result<&Pipeline, CoreFault>
     ensures held { IfOk result (λ p. (core_data core.now).pipeline ≡ Some (pipeline_data p.now)) }
     ensures lacks { let c = core_data core.now in IfErr result (Lacks a_pipeline c.pipeline c.history) }
 {
@@ -40,7 +40,7 @@ pub fn resource_held<'c>(core: &'c Core, name: &str) -> Result<&'c Resource, Cor
 }
 
 /// The pipeline, which has a job of this name; or why there is none.
-pub(crate) fn pipeline_with_job<'c>(core: &'c Core, name: &str) -> Result<&'c Pipeline, CoreFault>
+pub fn pipeline_with_job<'c>(core: &'c Core, name: &str) -> Result<&'c Pipeline, CoreFault>
     ensures held { IfOk result (λ p. (core_data core.now).pipeline ≡ Some (pipeline_data p.now)) }
     ensures there { IfOk result (λ p. IsSome (job_of name.now (pipeline_data p.now).jobs)) }
     ensures lacks { let c = core_data core.now in IfErr result (Lacks (a_job name.now) c.pipeline c.history) }
@@ -55,7 +55,7 @@ pub(crate) fn pipeline_with_job<'c>(core: &'c Core, name: &str) -> Result<&'c Pi
 }
 
 /// The job of a name, with the pipeline that has it; or why there is none.
-pub(crate) fn job_held<'c>(core: &'c Core, name: &str) -> Result<(&'c Pipeline, &'c Job), CoreFault>
+pub fn job_held<'c>(core: &'c Core, name: &str) -> Result<(&'c Pipeline, &'c Job), CoreFault>
     ensures held { IfOk result (λ r. (core_data core.now).pipeline ≡ Some (pipeline_data r.0.now)) }
     ensures there { IfOk result (λ r. job_of name.now (pipeline_data r.0.now).jobs ≡ Some (job_data r.1.now)) }
     ensures lacks { let c = core_data core.now in IfErr result (Lacks (a_job name.now) c.pipeline c.history) }

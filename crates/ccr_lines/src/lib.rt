@@ -4,51 +4,33 @@
 //! writes each kind of line into a sink. The sink is a [`Lines`]: room for a line is made before the event, so that a
 //! whole line always follows. A vector is one, and [`Printed`] prints what it is handed.
 //!
-//! What a command shows that changes nothing is a [`Shown`]: [`show`] writes its lines from what the core holds
-//! (`specs/Shown.antt`), some in either form: as lines, or as JSON.
+//! What a command shows that changes nothing is a [`Shown`]: a [`Show`] writes its lines from what the core holds
+//! (`specs/Shown.antt`), some in either form: as lines, or as JSON. `ccr_show` has the one that the program takes.
 #![tactic(auto)]
 
 mod asked;
-mod build_certificate;
 mod cause;
-mod certificate;
-mod edge;
-mod explain;
-mod explain_json;
-mod graph;
 mod held;
-mod jobs_json;
-mod json;
-mod label;
 mod lines;
 mod outlook;
-mod past;
 mod print;
 mod printed;
-mod problem;
 mod reason;
-mod release;
-mod release_json;
-mod resources_json;
+mod show;
 mod shown;
-mod shows;
-mod standing;
 mod subject;
-mod taken;
-mod texts;
-mod trace;
-mod trace_json;
-mod witness;
-mod words;
 
+pub use asked::Asked;
 pub use cause::Cause;
-pub use held::{pin_of, resource_held};
+pub use held::{job_held, pin_of, pipeline_held, pipeline_with_job, resource_held};
 pub use lines::Lines;
 pub use outlook::Outlook;
 pub use print::{
     pipeline_room, print_cause, print_disabled, print_enabled, print_end, print_full, print_job,
-    print_new, print_pinned, print_pipeline, print_refused_job, print_unpinned,
+    print_new, print_pinned, print_pipeline, print_refused_job, print_unpinned, word_of,
 };
 pub use printed::Printed;
+pub use reason::Reason;
+pub use show::Show;
 pub use shown::{ShowFault, Shown};
-pub use shows::show;
+pub use subject::Subject;

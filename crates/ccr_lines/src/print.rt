@@ -98,7 +98,7 @@ pub fn print_full<O: Lines>(out: &mut O, resource: &str)
 // ---- builds
 
 /// How a build stands, in a word.
-pub(crate) fn word_of(status: Status) -> &'static str
+pub fn word_of(status: Status) -> &'static str
     ensures { result.now ≡ status_word status }
 {
     match status {

@@ -39,7 +39,7 @@ pub enum Shown<'a> {
 }
 
 /// Why nothing is shown.
-#[derive(Clone, Copy, Debug, PartialEq, Eq)]
+#[derive(Clone, Copy, PartialEq, Eq)]
 pub enum ShowFault {
     /// No pipeline was set, it has no resource or job of this name, or the job has no build of this number.
     Lacks(CoreFault),

@@ -6,7 +6,7 @@ use crate::trial::Trial;
 use ccr_cases::{Kind, Telling};
 
 /// A node budget, from 1 to 1,000,000.
-#[derive(Clone, Copy, Debug, PartialEq, Eq)]
+#[derive(Clone, Copy, PartialEq, Eq)]
 pub(crate) struct Budget {
     pub(crate) nodes: u32,
     ghost least: { 1 ≤ nodes },

@@ -11,3 +11,9 @@ pub mod Positions
 pub mod Ends
 pub mod Reports
 pub mod Newer
+mod Lists
+mod IndexPlaces
+mod Each
+mod IndexEnds
+mod IndexReports
+mod Takings

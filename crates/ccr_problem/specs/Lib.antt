@@ -3,3 +3,7 @@ pub mod Allowed
 pub mod Passed
 pub mod ProblemOf
 pub mod Follows
+pub mod Indexes
+pub mod Passing
+pub mod Limit
+pub mod Triggers

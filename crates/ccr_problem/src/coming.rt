@@ -18,7 +18,7 @@ use std::alloc::{AllocError, Global};
 
 /// What the success of a build brings to the problem of a job that names its job.
 #[derive(Drop)]
-pub struct Passed {
+pub(crate) struct Passed {
     /// The number of the build's job among those that the inputs name, from 0 in order of first mention.
     pub job: usize,
     /// What passed with the build in the inputs' scopes, ascending.
@@ -52,7 +52,7 @@ fn input_places(
 ///
 /// Of the history it reads the pins alone. The caller gives a report that a table has room for. The only error is out of
 /// memory.
-pub fn new_places(
+pub(crate) fn new_places(
     alloc: Global,
     pipeline: &Pipeline,
     history: &History,
@@ -110,7 +110,7 @@ fn place_taken(pipeline: &Pipeline, history: &History, used: &[Used], input: &In
 /// (Concourse: get step, `version: every`).
 ///
 /// Of the history it reads the numbers of scopes alone. The only error is out of memory.
-pub fn places_taken(
+pub(crate) fn places_taken(
     alloc: Global,
     pipeline: &Pipeline,
     history: &History,
@@ -141,7 +141,7 @@ fn sorted(alloc: Global, pairs: &[(u32, u32)]) -> Result<Vec<(u32, u32)>, AllocE
 /// What a build's success, with these pairs, brings to the problem of a job, if the job's inputs name the build's job.
 ///
 /// Of the history it reads the numbers of scopes alone. The caller gives each pair once. The only error is out of memory.
-pub fn passed_to(
+pub(crate) fn passed_to(
     alloc: Global,
     pipeline: &Pipeline,
     history: &History,

@@ -1,6 +1,6 @@
 -- The database that an order names is the one that was asked for.
 use Rattle.std.proofs.Common.{◌≡◌, List, ℕ, Option, Result, sym, subst}
-use Rattle.ccr_history.specs.Text.{Text}
+use Rattle.ccr_values.specs.Text.{Text}
 use Rattle.ccr_history.specs.History.{HistoryData}
 use Rattle.ccr_process.specs.Runs.{Pair}
 use Rattle.ccr_task.specs.Calls.{CallData}

@@ -1,6 +1,6 @@
 -- What came of an order, from what its parts say.
 use Rattle.std.proofs.Common.{◌≡◌, refl, ◌∙◌, inl, inr, ℕ, List, [], Bool, not, Option, Some, Result, Err, ap, subst, string_bytes}
-use Rattle.ccr_history.specs.Text.{Text}
+use Rattle.ccr_values.specs.Text.{Text}
 use Rattle.ccr_history.specs.History.{HistoryData}
 use Rattle.ccr_process.specs.Runs.{Pair}
 use Rattle.ccr_task.specs.declared.places.Places.{Places}

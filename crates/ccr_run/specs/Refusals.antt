@@ -1,6 +1,6 @@
 -- How a refusal reads, and the status that the program ends with.
 use Rattle.std.specs.Prelude.{ℕ, ◌++◌, Option, Some, None, option_map, codes, string_bytes}
-use Rattle.ccr_history.specs.Text.{Text}
+use Rattle.ccr_values.specs.Text.{Text}
 use Rattle.ccr_pipeline.specs.declared.fault.ReadFault.{ReadFault}
 use Rattle.ccr_pipeline.specs.declared.fault.ReadFault.TheVariants as text
 use Rattle.ccr_storage.specs.declared.fault.StoreFault.{StoreFault}

@@ -15,7 +15,7 @@ use std::io;
 use std::process::ExitCode;
 
 /// Why a build isn't asked to be aborted.
-#[derive(Clone, Copy, Debug, PartialEq, Eq)]
+#[derive(Clone, Copy, PartialEq, Eq)]
 pub enum AbortFault {
     /// No job can have the name.
     NoJob,

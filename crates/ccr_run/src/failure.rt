@@ -7,7 +7,7 @@ use ccr_serve::ServeFault;
 use ccr_store::StoreFault;
 
 /// Why a command has no status.
-#[derive(Debug, Drop)]
+#[derive(Drop)]
 pub enum Failure {
     /// Another program has the database open.
     Locked,

@@ -42,7 +42,7 @@ pub enum Ordered<'a> {
 }
 
 /// Why words order nothing.
-#[derive(Debug, Drop)]
+#[derive(Drop)]
 pub enum Misuse {
     /// A word isn't text in UTF-8.
     NotText,

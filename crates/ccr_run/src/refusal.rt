@@ -12,7 +12,7 @@ use std::fmt;
 
 /// The words of a refusal, with the path of what is refused where there is one, and the status that the program ends
 /// with.
-#[derive(Clone, Copy, Debug, PartialEq, Eq)]
+#[derive(Clone, Copy, PartialEq, Eq)]
 pub struct Refusal<'a> {
     /// The words.
     pub words: &'static str,

@@ -25,6 +25,7 @@ use ccr_history::History;
 use ccr_lines::{Lines, Printed};
 use ccr_process::{Machine, Runner};
 use ccr_serve::{ServeFault, Server, Unopened};
+use ccr_show::AsText;
 use ccr_storage::Storage;
 use ccr_task::{Folders, Places, Shelf};
 use sqlite::{Connection, FileFrom, FileStore, Start};
@@ -33,7 +34,7 @@ use std::alloc::{AllocError, Global};
 use std::io::Write;
 
 /// What came of an order.
-#[derive(Debug, Drop)]
+#[derive(Drop)]
 pub struct Outcome {
     /// The command's status, or why it has none.
     pub end: Result<u8, Failure>,
@@ -65,7 +66,7 @@ fn command<R: Runner, S: Shelf, T: Storage, W: Write, E: Write>(
         (view server.old (out.old.shown ++ out.old.waiting)) (view server.new (out.new.shown ++ out.new.waiting)) }
     ensures printed { out.new.failed ≡ false → out.new.waiting ≡ [] }
 {
-    let end = server.command(command, out);
+    let end = server.command(&AsText, command, out);
     out.hand_out();
     Ok(end?)
 }

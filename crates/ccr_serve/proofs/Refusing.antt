@@ -1,7 +1,7 @@
 -- Commands that are refused, or that are kept from beginning.
 use Rattle.std.proofs.Common.{◌≡◌, ℕ, List, [], false, Option, None, Some, IsSome, Err, refl, sym, ◌∙◌, ap, subst, append-nil, inl, inr}
 use Rattle.std.proofs.lemmas.Bool.{false≢true}
-use Rattle.ccr_history.specs.Text.{Text}
+use Rattle.ccr_values.specs.Text.{Text}
 use Rattle.ccr_task.specs.Places.{PlacesData}
 use Rattle.ccr_core.specs.declared.fault.CoreFault.{CoreFault}
 use Rattle.ccr_core.specs.declared.fault.CoreFault.TheVariants as core_fault

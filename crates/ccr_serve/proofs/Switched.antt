@@ -1,6 +1,6 @@
 -- Versions that commands disable and enable.
 use Rattle.std.proofs.Common.{◌≡◌, ◌++◌, ℕ, List, [], ◌∷◌, true, Some, codes, Ok, Err, refl, ap, arith, inl}
-use Rattle.ccr_history.specs.Text.{Text}
+use Rattle.ccr_values.specs.Text.{Text}
 use Rattle.ccr_problem.specs.ProblemOf.{resource_of}
 use Rattle.ccr_task.specs.Calls.{CallData}
 use Rattle.ccr_task.specs.Places.{PlacesData}

@@ -1,8 +1,8 @@
 -- Commands of one event: pins, and pipelines.
 use Rattle.std.proofs.Common.{◌≡◌, ◌++◌, ℕ, List, [], ◌∷◌, Bool, true, Option, Result, None, Some, IsSome, unwrap_or, codes, Ok, Err, refl, sym, ◌∙◌, ap, subst, arith, inl}
 use Rattle.std.specs.Option.{option_map_or}
-use Rattle.ccr_history.specs.Text.{Text}
-use Rattle.ccr_history.specs.TextMap.{TextMap}
+use Rattle.ccr_values.specs.Text.{Text}
+use Rattle.ccr_values.specs.TextMap.{TextMap}
 use Rattle.ccr_pipeline.specs.JobData.{ResourceData}
 use Rattle.ccr_pipeline.specs.Pipelines.{PipelineData, IsPipelineOf}
 use Rattle.ccr_pipeline.specs.Reading.{pipeline_faults, IsReading}

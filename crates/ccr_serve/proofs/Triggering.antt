@@ -9,7 +9,7 @@ use Rattle.ccr_core.specs.Faults.{IsFirstFault}
 use Rattle.ccr_core.specs.Replies.{Replied}
 use Rattle.ccr_core.specs.State.{State}
 use Rattle.ccr_core.specs.Steps.{Step}
-use Rattle.ccr_history.specs.Text.{Text}
+use Rattle.ccr_values.specs.Text.{Text}
 use Rattle.ccr_lines.specs.Lines.{lines_of}
 use Rattle.ccr_task.specs.Places.{PlacesData}
 use Rattle.ccr_task.specs.Calls.{CallData}

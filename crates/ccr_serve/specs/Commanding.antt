@@ -1,7 +1,7 @@
 -- What commands do, and how they are refused.
 use Rattle.std.specs.Prelude.{◌≡◌, ◌≢◌, ◌⊎◌, ℕ, List, [], ◌∷◌, ◌++◌, true, false, Option, Some, None, IsSome, codes, string_bytes, Result, Ok, Err, ⊤}
-use Rattle.ccr_history.specs.Text.{Text}
-use Rattle.ccr_history.specs.TextMap.{TextMap}
+use Rattle.ccr_values.specs.Text.{Text}
+use Rattle.ccr_values.specs.TextMap.{TextMap}
 use Rattle.ccr_history.specs.Builds.{BuildData, build_of}
 use Rattle.ccr_history.specs.History.{HistoryData}
 use Rattle.ccr_history.specs.declared.build.Status.{Status}

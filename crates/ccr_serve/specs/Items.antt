@@ -1,6 +1,6 @@
 -- What a call of the server is made of: items, one after another.
 use Rattle.std.specs.Prelude.{◌≡◌, ◌⊎◌, ℕ, List, [], ◌∷◌, ◌++◌, Bool, true, false, Option, None, flat_map, option_to_list}
-use Rattle.ccr_history.specs.Text.{Text}
+use Rattle.ccr_values.specs.Text.{Text}
 use Rattle.ccr_process.specs.Runs.{Pair}
 use Rattle.ccr_task.specs.Calls.{CallData}
 use Rattle.ccr_core.specs.Events.{EventData}

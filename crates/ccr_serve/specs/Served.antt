@@ -1,6 +1,6 @@
 -- What the contract of a server's call says: what was done, and how the server is left.
 use Rattle.std.specs.Prelude.{◌≡◌, ℕ, List, [], ◌∷◌, Bool, Result, is_ok}
-use Rattle.ccr_history.specs.Text.{Text}
+use Rattle.ccr_values.specs.Text.{Text}
 use Rattle.ccr_commands.specs.Commands.{CommandData}
 use Rattle.ccr_lines.specs.declared.lines.Lines as out
 use Rattle.ccr_process.specs.declared.runner.Runner as runner

@@ -1,6 +1,6 @@
 -- What a server does of each item.
 use Rattle.std.specs.Prelude.{◌≡◌, ◌≢◌, ◌⊎◌, ℕ, List, Bool, true, false, Option, Some, None, Ok, Err}
-use Rattle.ccr_history.specs.Text.{Text}
+use Rattle.ccr_values.specs.Text.{Text}
 use Rattle.ccr_pipeline.specs.JobData.{ResourceData}
 use Rattle.ccr_steps.specs.Asks.{AskData, AnswerData, errored}
 use Rattle.ccr_steps.specs.Progress.{IsNext}

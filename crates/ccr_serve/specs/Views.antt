@@ -1,6 +1,6 @@
 -- What a call of the server shows.
 use Rattle.std.specs.Prelude.{◌≡◌, ◌≢◌, ◌≤◌, ◌+◌, ℕ, List, [], ◌∷◌, ◌++◌, length, nat_lt, Bool, true, false, Option, None, Some, option_to_list, Result, Ok, Err, OnErr, unwrap_or, ⊤}
-use Rattle.ccr_history.specs.Text.{Text}
+use Rattle.ccr_values.specs.Text.{Text}
 use Rattle.ccr_history.specs.History.{HistoryData}
 use Rattle.ccr_pipeline.specs.JobData.{ResourceData, JobData}
 use Rattle.ccr_process.specs.Runs.{Pair}

@@ -14,13 +14,14 @@ ghost use Rattle.ccr_serve.specs.Served.{Serving, Came, AfterItems, AfterCommand
 use crate::fault::ServeFault;
 use crate::server::Server;
 use ccr_commands::Command;
-use ccr_lines::{Lines, Shown};
+use ccr_lines::{Lines, Show, Shown};
 use ccr_process::Runner;
 use ccr_storage::Storage;
 use ccr_task::Shelf;
 
 impl<R: Runner, S: Shelf, T: Storage> Server<R, S, T> {
-    /// Does what is commanded: the exit status. Its lines are printed as what they tell of is stored.
+    /// Does what is commanded: the exit status. Its lines are printed as what they tell of is stored; what changes nothing is
+    /// shown by what is given for it.
     ///
     /// The statuses are 0, 1 for what came to nothing (a check without versions, a build that didn't succeed, or one without
     /// a certificate), and 3 where a search would go over the budget. A command that is refused does nothing: `Core` where there is no
@@ -29,7 +30,12 @@ impl<R: Runner, S: Shelf, T: Storage> Server<R, S, T> {
     ///
     /// Early ends: `NoMemory` if out of memory, and the server goes on; `Store` where the storage failed, and
     /// the server has closed; `Closed` where it had closed before, and nothing is done.
-    pub fn command<O: Lines>(&mut self, command: &Command, out: &mut O) -> Result<u8, ServeFault>
+    pub fn command<V: Show, O: Lines>(
+        &mut self,
+        show: &V,
+        command: &Command,
+        out: &mut O,
+    ) -> Result<u8, ServeFault>
         requires kept { IsKept (bare_view R.Runner S.Shelf T.Storage self.old) }
         ensures came { self.old.closed ≡ false → Came R.Runner S.Shelf T.Storage O.Lines
             (command_data command.now) result self.old self.new out.old out.new }
@@ -46,7 +52,7 @@ impl<R: Runner, S: Shelf, T: Storage> Server<R, S, T> {
             Command::SetPipeline(path) => self.set_pipeline(path.as_str(), out),
             Command::CheckResource(resource) => self.check_resource(resource.as_str(), out),
             Command::ResourceVersions(resource) => {
-                self.show(Shown::Versions(resource.as_str()), out)
+                self.show(show, Shown::Versions(resource.as_str()), out)
             }
             Command::PinResource(resource, pin) => {
                 self.pin_resource(resource.as_str(), pin.as_str(), out)
@@ -58,25 +64,33 @@ impl<R: Runner, S: Shelf, T: Storage> Server<R, S, T> {
             Command::EnableResourceVersion(resource, place) => {
                 self.enable_version(resource.as_str(), *place, out)
             }
-            Command::Resolve(job) => self.show(Shown::Proof(job.as_str()), out),
-            Command::Problem(job) => self.show(Shown::Problem(job.as_str()), out),
-            Command::Certify(job) => self.show(Shown::Certificate(job.as_str()), out),
+            Command::Resolve(job) => self.show(show, Shown::Proof(job.as_str()), out),
+            Command::Problem(job) => self.show(show, Shown::Problem(job.as_str()), out),
+            Command::Certify(job) => self.show(show, Shown::Certificate(job.as_str()), out),
             Command::CertifyBuild(job, number) => {
-                self.show(Shown::BuildCertificate(job.as_str(), *number), out)
+                self.show(show, Shown::BuildCertificate(job.as_str(), *number), out)
             }
-            Command::Explain(job, form) => self.show(Shown::Explanation(job.as_str(), *form), out),
+            Command::Explain(job, form) => self.show(
+                show,
+                Shown::Explanation(job.as_str(), *form),
+                out,
+            ),
             Command::TriggerJob(job) => self.trigger_job(job.as_str(), out),
-            Command::Builds => self.show(Shown::Builds, out),
+            Command::Builds => self.show(show, Shown::Builds, out),
             Command::Build(job, number, form) => {
-                self.show(Shown::Build(job.as_str(), *number, *form), out)
+                self.show(show, Shown::Build(job.as_str(), *number, *form), out)
             }
             Command::Trace(resource, pin, form) => {
-                self.show(Shown::Trace(resource.as_str(), pin.as_str(), *form), out)
+                self.show(
+                    show,
+                    Shown::Trace(resource.as_str(), pin.as_str(), *form),
+                    out,
+                )
             }
-            Command::GetPipeline => self.show(Shown::Pipeline, out),
-            Command::Resources(form) => self.show(Shown::Resources(*form), out),
-            Command::Jobs(form) => self.show(Shown::Jobs(*form), out),
-            Command::Graph => self.show(Shown::Graph, out),
+            Command::GetPipeline => self.show(show, Shown::Pipeline, out),
+            Command::Resources(form) => self.show(show, Shown::Resources(*form), out),
+            Command::Jobs(form) => self.show(show, Shown::Jobs(*form), out),
+            Command::Graph => self.show(show, Shown::Graph, out),
             Command::Run(rounds) => self.run(*rounds, out),
         }
     }

@@ -1,6 +1,6 @@
 //! The items of a round that make events: checks and schedules.
 ghost use Rattle.std.specs.Prelude.{◌≡◌, ◌+◌, ◌*◌, ◌^◌, ◌≤◌, ◌++◌, [], ◌∷◌, List, length, string_bytes, is_ok, IfOk, OnOk, OnErr, IfSome, IfNone, IsSome, IsSomeAnd, Some, Option, false};
-ghost use Rattle.ccr_history.specs.TextMap.{TextMap};
+ghost use Rattle.ccr_values.specs.TextMap.{TextMap};
 ghost use Rattle.ccr_history.specs.History.{HistoryData};
 ghost use Rattle.ccr_pipeline.specs.JobData.{ResourceData};
 ghost use Rattle.ccr_problem.specs.ProblemOf.{resource_of};

@@ -2,7 +2,7 @@
 ghost use Rattle.std.specs.Prelude.{◌≡◌, ◌++◌, ◌≤◌, ℕ, List, unwrap_or, IfOk, IfErr, OnOk, IsSomeAnd, Ok, Err, []};
 ghost use Rattle.ccr_pipeline.specs.Pipelines.{pipeline_data, IsPipelineOf};
 ghost use Rattle.ccr_pipeline.specs.Reading.{pipeline_faults, IsReading};
-ghost use Rattle.ccr_history.specs.Text.{Text};
+ghost use Rattle.ccr_values.specs.Text.{Text};
 ghost use Rattle.ccr_task.specs.Calls.{CallData};
 ghost use Rattle.ccr_task.specs.declared.fault.ShelfFault.TheVariants.{TooLong};
 ghost use Rattle.ccr_core.specs.Cores.{core_data};

@@ -7,7 +7,7 @@ use Rattle.serde_json.specs.Data.{Data, object}
 use Rattle.sqlite.specs.declared.types.Value.{Value}
 use Rattle.sqlite.specs.declared.types.Value.TheVariants.{Int, Text as Words}
 use Rattle.sqlite.specs.Order.{Row, column}
-use Rattle.ccr_history.specs.TextMap.{TextMap, texts_of, text_map_of, members_of, key_text}
+use Rattle.ccr_values.specs.TextMap.{TextMap, texts_of, text_map_of, members_of, key_text}
 use Rattle.ccr_history.specs.Builds.{UsedData}
 use Rattle.ccr_history.specs.History.{HistoryData, ArePins}
 use Rattle.ccr_history.specs.Changes.{pin_set, edited, with_pin}

@@ -33,7 +33,7 @@ use Rattle.ccr_store.specs.Texts.{HasTexts, OrNoMemory, OrFault}
 use Rattle.ccr_store.specs.Listed.{AreSeen, AreBuilt, ListsSeen, ListsBuilt, KeepsSeen, without_builds}
 use Rattle.ccr_store.proofs.ListedRows.{loaded}
 use Rattle.sqlite.specs.Order.{Row}
-use Rattle.ccr_history.specs.Text.{Text}
+use Rattle.ccr_values.specs.Text.{Text}
 use Rattle.ccr_store.specs.WriteData.{WriteData, write_data, all_made}
 use Rattle.ccr_store.proofs.EditWrites.{edits_kept}
 use Rattle.ccr_store.proofs.SameRows.{all_written-made, keeps_same}

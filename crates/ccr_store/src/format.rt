@@ -5,7 +5,7 @@ ghost use Rattle.ccr_store.specs.Rows.{format_text, Fits};
 use ccr_history::History;
 
 /// How a history stands in the six tables.
-#[derive(Clone, Copy, Debug, PartialEq, Eq)]
+#[derive(Clone, Copy, PartialEq, Eq)]
 pub enum Format {
     /// The first one, which has no disabled places.
     One,

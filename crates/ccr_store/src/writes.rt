@@ -3,7 +3,7 @@ ghost use Rattle.std.specs.Prelude.{◌≡◌, ◌+◌, ◌≤◌, ◌++◌, [],
 ghost use Rattle.std.specs.List.{AllByRecursion};
 ghost use Rattle.ccr_history.specs.declared.change.Edit.TheVariants as edits;
 ghost use Rattle.ccr_history.specs.declared.table.TheConstants.{MOST_VERSIONS};
-ghost use Rattle.ccr_history.specs.TextMap.{key_text};
+ghost use Rattle.ccr_values.specs.TextMap.{key_text};
 ghost use Rattle.ccr_storage.specs.declared.fault.StoreFault.TheVariants.{NoMemory};
 ghost use Rattle.ccr_store.specs.Rows.{status_number};
 ghost use Rattle.ccr_store.specs.WriteData.{write_data};

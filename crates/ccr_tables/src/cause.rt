@@ -6,7 +6,7 @@ ghost use Rattle.ccr_tables.specs.Cause.{cause_of};
 use sqlite::{Error, ErrorCode};
 
 /// The four causes that a caller tells apart.
-#[derive(Clone, Copy, Debug, PartialEq, Eq)]
+#[derive(Clone, Copy, PartialEq, Eq)]
 pub enum Cause {
     /// The statement was refused; nothing is wrong with memory or disk.
     Refused,

@@ -15,7 +15,7 @@ use crate::{builds, meta, pairs, pins, scopes, versions};
 use sqlite::{Alter, Connection, Error, Transaction};
 
 /// What `create` found.
-#[derive(Clone, Copy, Debug, PartialEq, Eq)]
+#[derive(Clone, Copy, PartialEq, Eq)]
 pub enum Creation {
     /// The database was new; it has the six tables now, and the number of the format.
     Made,

@@ -12,7 +12,7 @@ use crate::{builds, meta, pairs, pins, scopes, versions};
 use sqlite::{Alter, Error, Transaction};
 
 /// What a commit writes, a row each. The columns are those of the tables; their rules are the caller's.
-#[derive(Debug, Drop)]
+#[derive(Drop)]
 pub enum Write {
     /// Row 1 of `meta`: the number of the format, in place of an earlier one.
     Format,
@@ -36,10 +36,8 @@ pub enum Write {
     NoPin(String),
 }
 
-pub(crate) fn write_one<S: Alter>(
-    tx: &mut Transaction<'_, S>,
-    write: &Write,
-) -> Result<usize, Error>
+/// Makes one write in a transaction: how many rows it changed. A failure of `sqlite` is answered.
+pub fn write_one<S: Alter>(tx: &mut Transaction<'_, S>, write: &Write) -> Result<usize, Error>
     ensures same_reference { tx.new.conn.ghost_name ≡ tx.old.conn.ghost_name }
     ensures step { let old = state S.Store tx.old.conn.now in
         let new = state S.Store tx.new.conn.now in

@@ -3,7 +3,7 @@ ghost use Rattle.std.specs.Prelude.{◌≡◌};
 ghost use Rattle.ccr_task.specs.Calls.{no_counts};
 
 /// How often a shelf failed, and how often it said that a folder is there. Each count stays at 2^64 - 1.
-#[derive(Clone, Copy, Debug, PartialEq, Eq)]
+#[derive(Clone, Copy, PartialEq, Eq)]
 pub struct ShelfCounts {
     /// How many calls answered `Failed`.
     pub failures: u64,

@@ -9,7 +9,7 @@ use ccr_protocol::ReplyFault;
 use ccr_steps::Answered;
 
 /// What was wrong with a step that isn't a success.
-#[derive(Debug, Drop)]
+#[derive(Drop)]
 pub enum StepFault {
     /// Its program ended with this status, which isn't 0.
     Status(u8),

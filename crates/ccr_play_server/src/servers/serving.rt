@@ -12,6 +12,7 @@ use ccr_commands::Command;
 use ccr_lines::Printed;
 use ccr_process::Scripted;
 use ccr_serve::{ServeFault, Server, Unopened};
+use ccr_show::AsText;
 use ccr_storage::Tally;
 use ccr_task::ShelfScript;
 use std::alloc::Global;
@@ -80,7 +81,7 @@ impl<W: Write + Drop> Serving<W> {
         command: &Command,
         out: &mut Printed<W, E>,
     ) -> Result<u8, ServeFault> {
-        self.server.command(command, out)
+        self.server.command(&AsText, command, out)
     }
 
     /// Goes a round.

@@ -3,7 +3,7 @@ ghost use Rattle.std.specs.Prelude.{◌≢◌};
 ghost use Rattle.std.specs.List.{AllByRecursion};
 ghost use Rattle.ccr_history.specs.Changes.{AreUsed, AreMoved, Admits};
 ghost use Rattle.ccr_history.specs.Edits.{edit_data, HasItsNumbers};
-ghost use Rattle.ccr_history.specs.TextMap.{IsAscending};
+ghost use Rattle.ccr_values.specs.TextMap.{IsAscending};
 ghost use Rattle.ccr_history.specs.declared.build.Status.TheVariants.{Running};
 
 use anyhow::{Result, bail};

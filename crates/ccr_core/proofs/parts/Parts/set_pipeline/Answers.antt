@@ -2,7 +2,7 @@ use Rattle.std.proofs.Common.{rules, ◌≡◌, true, false, length, map, sym, a
 use Rattle.ccr_history.specs.Changes.{text, edited}
 use Rattle.ccr_pipeline.specs.Pipelines.{pipeline_data}
 use Rattle.ccr_steps.specs.Runs.{run_data}
-use Rattle.ccr_indexes.specs.Indexes.{AreIndexes}
+use Rattle.ccr_problem.specs.Indexes.{AreIndexes}
 use Rattle.ccr_core.specs.Cores.{core_data}
 use Rattle.ccr_core.proofs.Choosing.{length_map}
 use Rattle.ccr_core.proofs.Editing.{builds_open, piped_so, no_length, is_zero, not_zero}

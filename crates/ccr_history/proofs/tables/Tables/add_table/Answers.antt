@@ -1,7 +1,8 @@
 use Rattle.std.proofs.Common.{◌≡◌, Err, ◌-◌, ◌<◌, ◌∙◌, [], ap, sym, length, None, unwrap_or, arith}
 use Rattle.std.specs.Map.{lookup}
 use Rattle.indexmap.specs.IndexMap.{insert_entry}
-use Rattle.ccr_history.specs.Tables.{is_scope, scope_number, tables_of, with_versions, reported, new_count}
+use Rattle.ccr_values.specs.Scopes.{is_scope}
+use Rattle.ccr_history.specs.Tables.{scope_number, tables_of, with_versions, reported, new_count}
 use Rattle.ccr_history.proofs.Results.{same_fault}
 use Rattle.ccr_history.proofs.VersionLists.{with_versions-some}
 use Rattle.ccr_history.proofs.TableEntries.{put, found, added_tables, reported-entries, new_count-entries, fits, too_many_scopes, too_many_versions}

@@ -1,6 +1,0 @@
-mod Lists
-mod Places
-mod Each
-mod Ends
-mod Reports
-mod Takings

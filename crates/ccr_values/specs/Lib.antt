@@ -1,0 +1,10 @@
+pub mod Text
+pub mod TextMap
+pub mod Members
+pub mod Scan
+pub mod Objects
+pub mod ObjectData
+pub mod Sources
+pub mod Scopes
+pub mod Keys
+pub mod Faults
