@@ -5,6 +5,7 @@ pub mod Queries
 pub mod Lists
 pub mod Inserts
 pub mod Turns
+pub mod Unnumbered
 pub mod Adds
 pub mod Updates
 pub mod Changes

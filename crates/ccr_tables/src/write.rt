@@ -36,8 +36,8 @@ pub enum Write {
     NoPin(String),
 }
 
-/// Makes one write in a transaction: how many rows it changed. A failure of `sqlite` is answered.
-pub fn write_one<S: Alter>(tx: &mut Transaction<'_, S>, write: &Write) -> Result<usize, Error>
+/// Makes one write in a transaction. A failure of `sqlite` is answered.
+pub fn write_one<S: Alter>(tx: &mut Transaction<'_, S>, write: &Write) -> Result<(), Error>
     ensures same_reference { tx.new.conn.ghost_name ≡ tx.old.conn.ghost_name }
     ensures step { let old = state S.Store tx.old.conn.now in
         let new = state S.Store tx.new.conn.now in
@@ -48,7 +48,7 @@ pub fn write_one<S: Alter>(tx: &mut Transaction<'_, S>, write: &Write) -> Result
         → IfErr result (λ e. ExecutesInside 0 (text_of write.now) (params_of write.now) old new (Err e)) }
     ensures survives { Survives (state S.Store tx.old.conn.now) (state S.Store tx.new.conn.now) (λ _. ⊥) }
 {
-    match write {
+    let _changed = match write {
         Write::Format => meta::put(tx, 1, FORMAT),
         Write::PipelineText(text) => meta::put(tx, 2, text),
         Write::Scope(id, resource, kind, source) => scopes::insert(tx, *id, resource, kind, source),
@@ -61,5 +61,6 @@ pub fn write_one<S: Alter>(tx: &mut Transaction<'_, S>, write: &Write) -> Result
         }
         Write::Pin(resource, body) => pins::put(tx, resource, body),
         Write::NoPin(resource) => pins::remove(tx, resource),
-    }
+    }?;
+    Ok(())
 }
