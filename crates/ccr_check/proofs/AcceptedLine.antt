@@ -2,11 +2,11 @@
 use Rattle.std.proofs.Common.{◌≡◌, ℕ, List, [], ◌∷◌, ◌++◌, map, ap, ◌∙◌, refl, sym, append_assoc, codes, Result, Ok, Err, IfOk}
 use Rattle.std.specs.List.{flat_map, join_with_byte}
 use Rattle.std.proofs.lemmas.List.{append-nil}
-use Rattle.ccr_text.specs.declared.word.Word.{Word}
-use Rattle.ccr_text.specs.declared.word.Word.TheVariants as word
+use Rattle.ccr_choice.specs.declared.word.Word.{Word}
+use Rattle.ccr_choice.specs.declared.word.Word.TheVariants as word
 use Rattle.ccr_choice.specs.Problem.{ChoiceValue}
-use Rattle.ccr_text.specs.Reading.{number_words}
-use Rattle.ccr_text.specs.Text.{spelled}
+use Rattle.ccr_choice.specs.Reading.{number_words}
+use Rattle.ccr_choice.specs.Text.{spelled}
 use Rattle.ccr_proof.specs.declared.claim.Claim.TheVariants.{Best}
 use Rattle.ccr_check.specs.Judged.{spaced, choice_line, accepted_line}
 

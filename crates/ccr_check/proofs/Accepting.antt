@@ -6,7 +6,7 @@ use Rattle.std.proofs.lemmas.List.{append-nil}
 use Rattle.std.proofs.Math.Seq.{take-append_seam, drop-append_seam}
 use Rattle.ccr_choice.specs.Problem.{ProblemValue, ChoiceValue, IsProblem}
 use Rattle.ccr_choice.specs.ProblemText.{problem_lines, problem_text, problem_in, IsProblemFault}
-use Rattle.ccr_text.specs.Reading.{Refusal}
+use Rattle.ccr_choice.specs.Reading.{Refusal}
 use Rattle.ccr_choice.specs.declared.fault.ProblemFault.{ProblemFault}
 use Rattle.ccr_choice.specs.declared.fault.ProblemFault.TheVariants as problem
 use Rattle.ccr_choice.specs.Words.{problem_fault_words, problem_refusal_words}

@@ -9,13 +9,13 @@ use Rattle.std.proofs.lemmas.Bool.Decides.{nat_tests}
 use Rattle.std.proofs.lemmas.Fmt.{digits_decimal, decimal_nonempty}
 use Rattle.std.proofs.lemmas.List.{get_or_append_left, get_or-append-add}
 use Rattle.std.proofs.Math.Seq.{drop-append-add, get_or-append_seam}
-use Rattle.ccr_text.specs.declared.word.Word.{Word}
-use Rattle.ccr_text.specs.declared.word.Word.TheVariants as word
+use Rattle.ccr_choice.specs.declared.word.Word.{Word}
+use Rattle.ccr_choice.specs.declared.word.Word.TheVariants as word
 use Rattle.ccr_choice.specs.Problem.{InputValue, BuildValue, ProblemValue}
 use Rattle.ccr_choice.specs.ProblemText.{input_line, build_line, job_lines, problem_lines}
-use Rattle.ccr_text.specs.Text.{spelled, IsWord, line_text, text_of}
-use Rattle.ccr_text.proofs.Words.{own}
-use Rattle.ccr_text.proofs.Texts.{is_clear, line_clear, IsLine}
+use Rattle.ccr_choice.specs.Text.{spelled, IsWord, line_text, text_of}
+use Rattle.ccr_choice.proofs.Words.{own}
+use Rattle.ccr_choice.proofs.Texts.{is_clear, line_clear, IsLine}
 use Rattle.ccr_check.specs.Cut.{begins, IsLineStart, IsMark}
 use Rattle.ccr_check.proofs.AcceptedLine.{behind_blanks, join_flat}
 

@@ -7,8 +7,8 @@ use Rattle.ccr_choice.specs.Satisfies.{Satisfies, IsFirstVerdict}
 use Rattle.ccr_choice.specs.ProblemText.{problem_in}
 use Rattle.ccr_choice.specs.declared.verdict.Verdict.{Verdict}
 use Rattle.ccr_choice.specs.declared.verdict.Verdict.TheVariants as verdict
-use Rattle.ccr_text.specs.Text.{spelled}
-use Rattle.ccr_text.specs.Reading.{Refusal}
+use Rattle.ccr_choice.specs.Text.{spelled}
+use Rattle.ccr_choice.specs.Reading.{Refusal}
 use Rattle.ccr_choice.specs.Words.{problem_refusal_words}
 use Rattle.ccr_proof.specs.ClaimText.{claim_in, claim_line}
 use Rattle.ccr_proof.specs.ProofText.{ProofRefusal, proof_in}

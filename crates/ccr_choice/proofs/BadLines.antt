@@ -4,10 +4,10 @@ use Rattle.std.proofs.lemmas.Bool.{cases_Bool, cases_lt, cond-true, cond-false, 
 use Rattle.std.proofs.lemmas.List.{append-nil}
 use Rattle.std.proofs.lemmas.List.Elements.{All-cons, All-nil, All-head, All-tail}
 use Rattle.std.proofs.lemmas.List.Splits.{slice_split_at, slice_split_none}
-use Rattle.ccr_text.specs.declared.word.Word.{Word}
-use Rattle.ccr_text.specs.Text.{words_of, lines_of, unended, first_lines, ended_lines}
-use Rattle.ccr_text.specs.Reading.{IsFirstBad}
-use Rattle.ccr_text.proofs.Cuts.{lines_step, lines_none, lines_unended}
+use Rattle.ccr_choice.specs.declared.word.Word.{Word}
+use Rattle.ccr_choice.specs.Text.{words_of, lines_of, unended, first_lines, ended_lines}
+use Rattle.ccr_choice.specs.Reading.{IsFirstBad}
+use Rattle.ccr_choice.proofs.Cuts.{lines_step, lines_none, lines_unended}
 use Rattle.ccr_choice.proofs.Forward.{Reader, Reach, took, halted, wants, broke, IsForward, within_err}
 
 -- ---- cutting a text behind its lines

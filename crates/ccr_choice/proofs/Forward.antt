@@ -1,9 +1,9 @@
 -- Reading goes from the first line to the last: what is read of a front of lines doesn't change with what follows.
 use Rattle.std.proofs.Common.{◌≡◌, ℕ, zero, suc, ◌+◌, ◌<◌, ◌≤◌, ◌⊎◌, inl, inr, List, [], ◌∷◌, ◌++◌, length, Option, Some, None, Result, Ok, Err, refl, sym, ap, ◌∙◌, arith, length-append}
 use Rattle.std.proofs.lemmas.List.{append-nil}
-use Rattle.ccr_text.specs.declared.word.Word.{Word}
-use Rattle.ccr_text.specs.Text.{unended}
-use Rattle.ccr_text.specs.Reading.{◌>>=◌, or_broken, one_line, next_many}
+use Rattle.ccr_choice.specs.declared.word.Word.{Word}
+use Rattle.ccr_choice.specs.Text.{unended}
+use Rattle.ccr_choice.specs.Reading.{◌>>=◌, or_broken, one_line, next_many}
 use Rattle.ccr_choice.proofs.Keeps.{bind_ok}
 
 abbrev pub Reader : Type 0 → Type 0 → Type 0

@@ -1,10 +1,10 @@
 -- What a line says, both ways.
 use Rattle.std.proofs.Common.{◌≡◌, ℕ, List, [], ◌∷◌, ◌++◌, length, Bool, true, false, cond, ◌==◌, Option, Some, None, ap, ◌∙◌, refl, arith, eqb-true}
 use Rattle.std.proofs.lemmas.List.{append-nil}
-use Rattle.ccr_text.specs.declared.word.Word.{Word}
-use Rattle.ccr_text.specs.declared.word.Word.TheVariants.{Number, Jobs, After, Places}
+use Rattle.ccr_choice.specs.declared.word.Word.{Word}
+use Rattle.ccr_choice.specs.declared.word.Word.TheVariants.{Number, Jobs, After, Places}
 use Rattle.ccr_choice.specs.Problem.{InputValue}
-use Rattle.ccr_text.specs.Reading.{number_words, front_numbers, after_numbers}
+use Rattle.ccr_choice.specs.Reading.{number_words, front_numbers, after_numbers}
 use Rattle.ccr_choice.specs.ProblemText.{after_words, input_line, after_on, places_on, input_on}
 
 -- numbers, and then something else

@@ -3,9 +3,9 @@ use Rattle.std.proofs.Common.{◌≡◌, ℕ, zero, suc, List, [], ◌∷◌, le
 use Rattle.std.specs.Prelude.{is_some}
 use Rattle.std.specs.List.{list_all}
 use Rattle.std.proofs.lemmas.Bool.{and_parts, and_from, le-leb}
-use Rattle.ccr_text.specs.declared.word.Word.{Word}
+use Rattle.ccr_choice.specs.declared.word.Word.{Word}
 use Rattle.ccr_choice.specs.Problem.{InputValue, BuildValue, ProblemValue, is_input, are_inputs, is_build, are_builds, are_builds_below, jobs_after, scopes_after, is_problem}
-use Rattle.ccr_text.specs.Reading.{◌>>=◌, keep_if, or_broken, one_line, next_many}
+use Rattle.ccr_choice.specs.Reading.{◌>>=◌, keep_if, or_broken, one_line, next_many}
 use Rattle.ccr_choice.specs.ProblemText.{format_of, is_input_in, next_counts, input_on, build_on, next_input, next_build, next_inputs, next_builds, next_job, next_jobs, build_count, builds_number, problem_head, input_count, job_count, next_problem}
 
 pub bind_ok : {A B E : Type 0} (r : Result A E) (f : A → Result B E) (y : B) → (r >>= f) ≡ Ok y → (x : A) × (r ≡ Ok x) × (f x ≡ Ok y)

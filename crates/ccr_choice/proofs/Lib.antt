@@ -1,3 +1,9 @@
+pub mod Cuts
+pub mod Many
+pub mod Joined
+pub mod Words
+pub mod Texts
+pub mod Formats
 pub mod Numbering
 pub mod LaterLemmas
 pub mod Keeps

@@ -1,8 +1,8 @@
 -- A problem is read from the first line to the last.
 use Rattle.std.proofs.Common.{◌≡◌, ℕ, ◌+◌, ◌-◌, List, length, Bool, true, false, cond, ◌==◌, Ok, Err, refl}
-use Rattle.ccr_text.specs.declared.word.Word.{Word}
+use Rattle.ccr_choice.specs.declared.word.Word.{Word}
 use Rattle.ccr_choice.specs.Problem.{InputValue, BuildValue, ProblemValue, is_build, scopes_after, jobs_after}
-use Rattle.ccr_text.specs.Reading.{bad_line, trailing, Read, ◌>>=◌, keep_if, one_line, whole, IsFirstBad}
+use Rattle.ccr_choice.specs.Reading.{bad_line, trailing, Read, ◌>>=◌, keep_if, one_line, whole, IsFirstBad}
 use Rattle.ccr_choice.specs.ProblemText.{format_of, is_input_in, input_on, build_on, next_counts, next_input, next_build, next_inputs, next_builds, next_job, next_jobs, problem_head, input_count, job_count, build_count, next_problem, problem_in}
 use Rattle.ccr_choice.proofs.Forward.{IsForward, forward_bind, forward_done, forward_line, forward_many}
 use Rattle.ccr_choice.proofs.BadLines.{bad_there, bad_back}

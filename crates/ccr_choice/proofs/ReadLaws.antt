@@ -3,15 +3,15 @@ use Rattle.std.proofs.Common.{◌≡◌, ℕ, ◌+◌, ◌^◌, ◌<◌, ◌≤�
 use Rattle.std.specs.Prelude.{is_some}
 use Rattle.std.specs.List.{flat_map, list_all, list_any, AllByRecursion}
 use Rattle.std.proofs.lemmas.Bool.{and_parts, ltb-true, leb-true}
-use Rattle.ccr_text.specs.declared.word.Word.{Word}
+use Rattle.ccr_choice.specs.declared.word.Word.{Word}
 use Rattle.ccr_choice.specs.declared.fault.ProblemFault.{ProblemFault}
 use Rattle.ccr_choice.specs.declared.fault.ProblemFault.TheVariants.{BadLine, Trailing, NoMemory}
 use Rattle.ccr_choice.specs.Problem.{InputValue, BuildValue, ProblemValue, IsProblem, is_problem, is_after, is_input, are_inputs, are_builds, are_builds_below, are_numbered, are_places_after, are_pairs_after, next_used, used_after, scopes_after}
-use Rattle.ccr_text.specs.Text.{IsWord, lines_of}
-use Rattle.ccr_text.specs.Reading.{Refusal, bad_line, trailing, whole, number_words}
+use Rattle.ccr_choice.specs.Text.{IsWord, lines_of}
+use Rattle.ccr_choice.specs.Reading.{Refusal, bad_line, trailing, whole, number_words}
 use Rattle.ccr_choice.specs.ProblemText.{format_of, after_words, pair_words, input_line, build_line, job_lines, problem_lines, problem_text, next_problem, problem_in, IsRead, IsReadAs, NothingFollows}
-use Rattle.ccr_text.proofs.Texts.{IsLine}
-use Rattle.ccr_text.proofs.Formats.{IsFormat, text_read, text_found, text_again, text_alone}
+use Rattle.ccr_choice.proofs.Texts.{IsLine}
+use Rattle.ccr_choice.proofs.Formats.{IsFormat, text_read, text_found, text_again, text_alone}
 use Rattle.ccr_choice.proofs.Bounds.{rules_of, next_used-more}
 use Rattle.ccr_choice.proofs.Whole.{problem_found, problem_again, problem_kept}
 

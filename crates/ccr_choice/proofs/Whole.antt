@@ -4,10 +4,10 @@ use Rattle.std.specs.Prelude.{is_some}
 use Rattle.std.specs.List.{flat_map, list_all, list_any}
 use Rattle.std.proofs.lemmas.Bool.{and_parts, and_from, or_left, or_right, eqb-true, eq-eqb, leb-true, cases_eq, cases_Bool, cond-true, cond-false}
 use Rattle.std.proofs.lemmas.List.Concat.{flat_map_single}
-use Rattle.ccr_text.specs.declared.word.Word.{Word}
-use Rattle.ccr_text.specs.declared.word.Word.TheVariants.{Number, Problem, Inputs, Jobs, Builds, Pairs}
+use Rattle.ccr_choice.specs.declared.word.Word.{Word}
+use Rattle.ccr_choice.specs.declared.word.Word.TheVariants.{Number, Problem, Inputs, Jobs, Builds, Pairs}
 use Rattle.ccr_choice.specs.Problem.{InputValue, BuildValue, ProblemValue, is_input, is_build, are_builds, are_builds_below, are_inputs, jobs_after, scopes_after, is_problem}
-use Rattle.ccr_text.specs.Reading.{◌>>=◌, keep_if, or_broken, one_line, next_many}
+use Rattle.ccr_choice.specs.Reading.{◌>>=◌, keep_if, or_broken, one_line, next_many}
 use Rattle.ccr_choice.specs.ProblemText.{format_of, is_input_in, next_counts, pair_words, input_line, build_line, job_lines, problem_lines, pairs_on, input_on, build_on, next_input, next_build, next_inputs, next_builds, next_job, next_jobs, next_problem, problem_head, input_count, job_count, build_count, problem_number, inputs_number, jobs_number, builds_number}
 use Rattle.ccr_choice.proofs.Keeps.{bind_ok, all_along, or_ok, one_kept, builds_keep, inputs_keep, jobs_keep, builds_are, jobs_are, problem_keeps, problem_read}
 use Rattle.ccr_choice.proofs.Found.{input_again, input_found}

@@ -1,3 +1,5 @@
+pub mod Text
+pub mod Reading
 pub mod Problem
 pub mod Satisfies
 pub mod Later

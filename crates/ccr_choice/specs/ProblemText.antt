@@ -1,15 +1,15 @@
 -- The text of a problem: how it is written, and how it is read from the first line to the last.
 use Rattle.std.specs.Prelude.{◌≡◌, ℕ, ◌+◌, List, [], ◌∷◌, ◌++◌, length, map, nat_le, Option, Some, None, is_some, option_and_then, Result, Ok, Err, Bool, not, ◌&&◌, ◌||◌, ◌==◌, if◌then◌else◌}
 use Rattle.std.specs.List.{flat_map, list_any}
-use Rattle.ccr_text.specs.declared.word.Word.{Word}
-use Rattle.ccr_text.specs.declared.word.Word.TheVariants.{Number, Problem, Inputs, Jobs, After, Places, Builds, Pairs}
+use Rattle.ccr_choice.specs.declared.word.Word.{Word}
+use Rattle.ccr_choice.specs.declared.word.Word.TheVariants.{Number, Problem, Inputs, Jobs, After, Places, Builds, Pairs}
 use Rattle.ccr_choice.specs.declared.problem.TheConstants.{MOST_INPUTS, MOST_BUILDS}
 use Rattle.ccr_choice.specs.declared.format.TheConstants.{PLAIN_FORMAT, AFTER_FORMAT}
 use Rattle.ccr_choice.specs.declared.fault.ProblemFault.{ProblemFault}
 use Rattle.ccr_choice.specs.declared.fault.ProblemFault.TheVariants.{BadLine, Trailing, NoMemory}
 use Rattle.ccr_choice.specs.Problem.{InputValue, BuildValue, ProblemValue, IsProblem, next_used, used_after, is_input, is_build, scopes_after, jobs_after}
-use Rattle.ccr_text.specs.Text.{text_of, lines_of}
-use Rattle.ccr_text.specs.Reading.{Refusal, bad_line, trailing, Read, ◌>>=◌, keep_if, one_line, next_many, whole, number_words, front_numbers, after_numbers}
+use Rattle.ccr_choice.specs.Text.{text_of, lines_of}
+use Rattle.ccr_choice.specs.Reading.{Refusal, bad_line, trailing, Read, ◌>>=◌, keep_if, one_line, next_many, whole, number_words, front_numbers, after_numbers}
 
 -- ---- writing
 abbrev pub pair_words : List (ℕ × ℕ) → List Word

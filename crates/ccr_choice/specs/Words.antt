@@ -3,7 +3,7 @@ use Rattle.std.specs.Prelude.{ℕ, List, ◌++◌, codes}
 use Rattle.std.specs.Fmt.{decimal}
 use Rattle.ccr_choice.specs.declared.fault.ProblemFault.{ProblemFault}
 use Rattle.ccr_choice.specs.declared.fault.ProblemFault.TheVariants.{BadLine, Trailing, NoMemory}
-use Rattle.ccr_text.specs.Reading.{Refusal, bad_line, trailing}
+use Rattle.ccr_choice.specs.Reading.{Refusal, bad_line, trailing}
 use Rattle.ccr_choice.specs.declared.verdict.Verdict.{Verdict}
 use Rattle.ccr_choice.specs.declared.verdict.Verdict.TheVariants.{Satisfies, WrongLength, NotAllowed, NotSuccessful, NotPassed}
 

@@ -1,7 +1,7 @@
 //! Laws over the definitions alone: what best places are, what a dominating build can do, and that a problem has one text.
 
 ghost use Rattle.std.specs.Prelude.{◌≡◌, ◌<◌, ◌↔◌, ◌++◌, ℕ, List, [], length, slice_index, slice_set, Contains, IsTrue, Ok, Err};
-ghost use Rattle.ccr_text.specs.Reading.{bad_line, IsFirstBad};
+ghost use Rattle.ccr_choice.specs.Reading.{bad_line, IsFirstBad};
 ghost use Rattle.ccr_choice.specs.Problem.{ProblemValue, BuildValue, builds_at, IsProblem};
 ghost use Rattle.ccr_choice.specs.Satisfies.{Satisfies};
 ghost use Rattle.ccr_choice.specs.Dominated.{IsDominated};

@@ -3,14 +3,17 @@
 ghost use Rattle.std.specs.Prelude.{◌≡◌, ◌+◌, ◌≤◌, ◌==◌, Some, length, IfOk};
 ghost use Rattle.std.specs.Option.{option_map};
 ghost use Rattle.ccr_choice.specs.Problem.{ProblemValue, IsProblem, used_after, scopes_after, jobs_after};
-ghost use Rattle.ccr_text.specs.Reading.{one_line, Gives};
+ghost use Rattle.ccr_choice.specs.Reading.{one_line, Gives};
 ghost use Rattle.ccr_choice.specs.ProblemText.{format_of, after_on, input_on, pairs_on, build_on, next_input, next_build, next_inputs, next_builds, next_job, next_jobs, problem_head, input_count, job_count, build_count, next_problem, problem_in, problem_text, IsRead, IsReadAs, NothingFollows};
 
 use crate::fault::ProblemFault;
 use crate::format::{AFTER_FORMAT, PLAIN_FORMAT, format_of};
+use crate::line::{Line, Lines};
+use crate::numbers::front_numbers;
 use crate::problem::{Build, Input, JobBuilds, MOST_BUILDS, MOST_INPUTS, Problem};
 use crate::rules::{is_build, jobs_after_input, next_used};
-use ccr_text::{Line, Lines, Stop, Word, front_numbers};
+use crate::stop::Stop;
+use crate::word::Word;
 use std::alloc::{AllocError, Global};
 
 /// The next line, which must be there.

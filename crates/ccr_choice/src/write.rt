@@ -2,13 +2,15 @@
 
 ghost use Rattle.std.specs.Prelude.{◌≡◌, ◌<◌, ◌≤◌, ◌++◌, ◌∷◌, [], length, map, Ok, OnOk, IfOk, string_bytes};
 ghost use Rattle.std.specs.List.{flat_map, AllByRecursion};
-ghost use Rattle.ccr_text.specs.declared.word.Word.TheVariants.{Number};
-ghost use Rattle.ccr_text.specs.Text.{line_text, text_of};
+ghost use Rattle.ccr_choice.specs.declared.word.Word.TheVariants.{Number};
+ghost use Rattle.ccr_choice.specs.Text.{line_text, text_of};
 ghost use Rattle.ccr_choice.specs.ProblemText.{after_words, input_line, build_line, job_lines, problem_text, problem_in};
 
 use crate::format::format_of;
+use crate::numbers::push_numbers;
 use crate::problem::{Build, Input, JobBuilds, MOST_BUILDS, Problem};
-use ccr_text::{Word, push_numbers, put_line};
+use crate::put::put_line;
+use crate::word::Word;
 use std::alloc::{AllocError, Global};
 
 /// Adds `after` and the place that is kept, if one is.

@@ -3,10 +3,10 @@ use Rattle.std.specs.Prelude.{ℕ, List, Option, Some, None, option_map, option_
 use Rattle.std.specs.Str.{bytes_eq}
 use Rattle.clap.specs.declared.parser.matches.ArgMatches.{ArgMatches}
 use Rattle.clap.specs.Words.{Row, Text, first_of, subcommand_rows_of}
-use Rattle.ccr_commands.specs.declared.form.Form.{Form}
-use Rattle.ccr_commands.specs.declared.form.Form.TheVariants.{Lines, Json}
-use Rattle.ccr_commands.specs.Commands.{CommandData, set_pipeline, check_resource, pin_resource, unpin_resource, disable_version, enable_version, trigger_job, run, shows}
-use Rattle.ccr_commands.specs.Commands.{versions, problem, proof, certificate, explanation, builds, build, trace, build_certificate, pipeline, resources, jobs, graph}
+use Rattle.ccr_core.specs.declared.form.Form.{Form}
+use Rattle.ccr_core.specs.declared.form.Form.TheVariants.{Lines, Json}
+use Rattle.ccr_core.specs.Commands.{CommandData, set_pipeline, check_resource, pin_resource, unpin_resource, disable_version, enable_version, trigger_job, run, shows}
+use Rattle.ccr_core.specs.Commands.{versions, problem, proof, certificate, explanation, builds, build, trace, build_certificate, pipeline, resources, jobs, graph}
 use Rattle.ccr_command.specs.Numbers.{number_of, place_of}
 
 -- a pin of a resource, where both its arguments have a value

@@ -1,12 +1,12 @@
 //! The command `certify`, of a job's next build or of one that was made.
 ghost use Rattle.std.specs.Prelude.{◌≡◌, None, Some, IfOk, codes, option_map, string_bytes};
 ghost use Rattle.clap.specs.Words.{first_of, found_of, rows_of};
-ghost use Rattle.ccr_commands.specs.Commands.{command_data};
+ghost use Rattle.ccr_core.specs.Commands.{command_data};
 ghost use Rattle.ccr_command.specs.Commands.{certify_named};
 
 use crate::command::value_of;
 use crate::number::number_of;
-use ccr_commands::Command;
+use ccr_core::Command;
 use clap::ArgMatches;
 use std::alloc::{AllocError, Global};
 

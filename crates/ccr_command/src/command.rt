@@ -1,13 +1,13 @@
 //! The command that a command line names.
 ghost use Rattle.std.specs.Prelude.{◌≡◌, Some, IfOk, codes, option_map, string_bytes};
 ghost use Rattle.clap.specs.Words.{first_of, found_of, rows_of};
-ghost use Rattle.ccr_commands.specs.Commands.{command_data, disable_version, enable_version};
+ghost use Rattle.ccr_core.specs.Commands.{command_data, disable_version, enable_version};
 ghost use Rattle.ccr_command.specs.Commands.{pin_named, place_named, run_named, form_in, build_named, explain_named, trace_named, command_named, command_in};
 
 use crate::abort::text_of;
 use crate::certify::certify_of;
 use crate::number::{number_of, place_of};
-use ccr_commands::{Command, Form};
+use ccr_core::{Command, Form};
 use clap::ArgMatches;
 use std::alloc::{AllocError, Global};
 

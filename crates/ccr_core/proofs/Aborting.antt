@@ -1,6 +1,6 @@
 -- Aborts of builds.
 use Rattle.std.proofs.Common.{◌≡◌, inl, inr, ℕ, Some, None, Ok, Err, refl, sym, ◌∙◌, subst}
-use Rattle.ccr_values.specs.Text.{Text}
+use Rattle.ccr_history.specs.Text.{Text}
 use Rattle.ccr_steps.specs.Asks.{AskData, fetch, push, read_config, run_task, aborted}
 use Rattle.ccr_steps.specs.Runs.{HasTurn}
 use Rattle.ccr_core.specs.declared.fault.CoreFault.{CoreFault}

@@ -4,8 +4,8 @@ use Rattle.std.proofs.lemmas.List.{map-append}
 use Rattle.std.specs.Prelude.{IsSomeAnd, option_map}
 use Rattle.std.specs.Option.{option_map_or}
 use Rattle.ccr_history.specs.declared.build.Status.TheVariants as status
-use Rattle.ccr_values.specs.Text.{Text}
-use Rattle.ccr_values.specs.TextMap.{TextMap}
+use Rattle.ccr_history.specs.Text.{Text}
+use Rattle.ccr_history.specs.TextMap.{TextMap}
 use Rattle.ccr_history.specs.Tables.{is_table_full}
 use Rattle.ccr_history.specs.Changes.{EditData, versions, ended, edited, changed, IsRunning, AdmitsAll}
 use Rattle.ccr_history.specs.History.{HistoryData}

@@ -3,7 +3,7 @@ use Rattle.std.proofs.Common.{◌≡◌, ℕ, ◌+◌, cond, ◌||◌, List, [],
 use Rattle.std.specs.Prelude.{count_by}
 use Rattle.std.specs.List.{list_any}
 use Rattle.std.proofs.lemmas.List.Sums.{sum_by-cons}
-use Rattle.ccr_values.specs.Text.{Text}
+use Rattle.ccr_history.specs.Text.{Text}
 use Rattle.ccr_pipeline.specs.JobData.{JobData}
 use Rattle.ccr_core.specs.Busy.{running_of, is_shut_out, is_busy}
 use Rattle.ccr_problem.specs.Limit.{limit_of, has_reached}

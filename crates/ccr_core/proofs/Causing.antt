@@ -1,7 +1,7 @@
 -- Which event ends a build.
 use Rattle.std.proofs.Common.{◌≡◌, ◌≢◌, ◌⊎◌, inl, inr, ℕ, ◌+◌, ◌<◌, Bool, true, false, cond, List, [], ◌∷◌, Option, Some, None, Ok, Err, map, refl, sym, ap, ◌∙◌, arith}
 use Rattle.ccr_history.specs.declared.build.Status.TheVariants.{Running, Errored}
-use Rattle.ccr_values.specs.Text.{Text}
+use Rattle.ccr_history.specs.Text.{Text}
 use Rattle.ccr_history.specs.Builds.{BuildData, count_of, build_of, new_build}
 use Rattle.ccr_history.specs.Changes.{edited, changed}
 use Rattle.ccr_history.specs.History.{HistoryData}

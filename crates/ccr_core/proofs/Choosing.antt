@@ -7,7 +7,7 @@ use Rattle.std.proofs.lemmas.List.Elements.{All-from_recursion}
 use Rattle.std.proofs.lemmas.List.Kept.{AllPairs-cons}
 use Rattle.std.proofs.lemmas.Map.Keys.{IsDistinct-head, IsDistinct-tail}
 use Rattle.std.proofs.lemmas.Slice.Eq.{bytes_eq-Decides}
-use Rattle.ccr_values.specs.TextMap.{TextMap, is_version}
+use Rattle.ccr_history.specs.TextMap.{TextMap, is_version}
 use Rattle.ccr_history.specs.Tables.{has_version, versions_of, scope_number}
 use Rattle.ccr_history.specs.Changes.{AreUsed}
 use Rattle.ccr_history.specs.History.{HistoryData, IsUsed, has_place}

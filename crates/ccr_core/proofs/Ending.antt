@@ -4,7 +4,7 @@ use Rattle.std.specs.List.{AllByRecursion}
 use Rattle.ccr_history.specs.declared.build.Status.{Status}
 use Rattle.ccr_history.specs.declared.builds.TheConstants.{MOST_BUILDS}
 use Rattle.ccr_history.specs.declared.build.Status.TheVariants.{Running, Errored}
-use Rattle.ccr_values.specs.Text.{Text}
+use Rattle.ccr_history.specs.Text.{Text}
 use Rattle.ccr_history.specs.Builds.{BuildData, is_build_of, count_of, build_of, new_build, ended as ended_build, with_end, is_succeeded, passed_pairs}
 use Rattle.ccr_history.specs.Changes.{ended, edited, changed, AreMoved}
 use Rattle.ccr_history.specs.History.{HistoryData}

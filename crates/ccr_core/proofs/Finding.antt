@@ -1,7 +1,7 @@
 -- Builds that run, by their names in a core.
 use Rattle.std.proofs.Common.{◌≡◌, ℕ, zero, suc, ◌+◌, ◌<◌, ◌≤◌, ◌==◌, Bool, true, false, cond, ◌&&◌, List, [], ◌∷◌, ◌++◌, Some, None, length, map, get_or, take, drop, set, String, string_bytes, bytes_eq, refl, sym, ap, ◌∙◌, subst, arith}
 use Rattle.std.specs.declared.alloc.Global.{Global}
-use Rattle.ccr_values.specs.Text.{Text}
+use Rattle.ccr_history.specs.Text.{Text}
 use Rattle.ccr_steps.specs.Asks.{Exchange}
 use Rattle.ccr_steps.specs.Progress.{IsAllowed}
 use Rattle.ccr_steps.specs.Runs.{run_data, StandsFor}

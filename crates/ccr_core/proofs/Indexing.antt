@@ -4,7 +4,7 @@ use Rattle.std.specs.Prelude.{IfSome}
 use Rattle.std.proofs.lemmas.List.Sums.{sum_by_push}
 use Rattle.ccr_history.specs.declared.build.Status.TheVariants.{Errored}
 use Rattle.ccr_history.specs.declared.change.Reported.{Reported}
-use Rattle.ccr_values.specs.Text.{Text}
+use Rattle.ccr_history.specs.Text.{Text}
 use Rattle.ccr_history.specs.Builds.{UsedData, is_of, count_of, new_build, is_succeeded}
 use Rattle.ccr_history.specs.Changes.{build, versions, edited, changed, AdmitsAll}
 use Rattle.ccr_history.specs.History.{HistoryData, IsHistory}

@@ -4,8 +4,8 @@ use Rattle.ccr_history.specs.declared.change.Edit.{Edit}
 use Rattle.ccr_history.specs.declared.change.Edit.TheVariants.{Build}
 use Rattle.ccr_history.specs.declared.change.Made.{Made}
 use Rattle.ccr_history.specs.Edits.{edit_data, row_of, HaveTheirNumbers}
-use Rattle.ccr_values.specs.Text.{Text}
-use Rattle.ccr_values.specs.TextMap.{TextMap}
+use Rattle.ccr_history.specs.Text.{Text}
+use Rattle.ccr_history.specs.TextMap.{TextMap}
 use Rattle.ccr_history.specs.Builds.{UsedData, count_of, new_build}
 use Rattle.ccr_history.specs.Changes.{EditData, build, edited, changed, AreUsed, IsRunning, AdmitsAll}
 use Rattle.ccr_history.specs.History.{HistoryData, IsHistory}

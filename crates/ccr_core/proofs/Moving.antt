@@ -1,7 +1,7 @@
 -- What a build moves: versions of its inputs, and versions that it pushed.
 use Rattle.std.proofs.Common.{ℕ, zero, suc, ◌-◌, Bool, true, false, List, [], ◌∷◌, ◌++◌, Option, IfSome, sym, subst}
 use Rattle.std.specs.List.{AllByRecursion}
-use Rattle.ccr_values.specs.TextMap.{TextMap}
+use Rattle.ccr_history.specs.TextMap.{TextMap}
 use Rattle.ccr_pipeline.specs.declared.step.When.{When}
 use Rattle.ccr_pipeline.specs.declared.step.When.TheVariants.{OnError, OnAbort}
 use Rattle.ccr_pipeline.specs.Inputs.{InputData, inputs, inputs_in}

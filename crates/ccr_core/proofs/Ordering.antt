@@ -3,7 +3,7 @@ use Rattle.std.proofs.Common.{◌≡◌, ℕ, zero, suc, ◌+◌, ◌≤◌, Boo
 use Rattle.std.specs.List.{AllByRecursion}
 use Rattle.std.proofs.lemmas.Option.{slice_get_within}
 use Rattle.ccr_history.specs.declared.build.Status.{Status}
-use Rattle.ccr_values.specs.Text.{Text}
+use Rattle.ccr_history.specs.Text.{Text}
 use Rattle.ccr_history.specs.Builds.{BuildData, is_build_of, count_of, build_of, new_build, ended as ended_build, with_end}
 use Rattle.ccr_history.specs.Changes.{changed}
 use Rattle.ccr_pipeline.specs.Inputs.{inputs}

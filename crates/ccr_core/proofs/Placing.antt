@@ -6,8 +6,8 @@ use Rattle.std.proofs.lemmas.Bool.{and_from, or_parts}
 use Rattle.std.proofs.lemmas.List.Elements.{All-from_recursion}
 use Rattle.std.proofs.lemmas.List.Kept.{AllPairs-cons}
 use Rattle.std.proofs.lemmas.Slice.Eq.{bytes_eq-Decides}
-use Rattle.ccr_values.specs.Text.{Text}
-use Rattle.ccr_values.specs.TextMap.{key_text}
+use Rattle.ccr_history.specs.Text.{Text}
+use Rattle.ccr_history.specs.TextMap.{key_text}
 use Rattle.ccr_history.specs.Tables.{has_version, versions_of, scope_number, place_in}
 use Rattle.ccr_history.specs.Changes.{AreMoved}
 use Rattle.ccr_history.specs.History.{HistoryData, has_place}

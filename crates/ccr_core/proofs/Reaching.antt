@@ -2,7 +2,7 @@
 use Rattle.std.proofs.Common.{◌≡◌, ℕ, ◌≤◌, List, [], ◌∷◌, ◌++◌, length, Some, None, Ok, Err, refl, sym, ap, ◌∙◌, subst, arith}
 use Rattle.std.specs.Prelude.{unwrap_or, Result, IfOk, OnOk, OnErr}
 use Rattle.std.specs.List.{AllByRecursion}
-use Rattle.ccr_values.specs.Text.{Text}
+use Rattle.ccr_history.specs.Text.{Text}
 use Rattle.ccr_history.specs.History.{IsHistory}
 use Rattle.ccr_pipeline.specs.Pipelines.{PipelineData}
 use Rattle.ccr_steps.specs.Runs.{RunData}

@@ -8,7 +8,7 @@ use Rattle.ccr_history.specs.declared.build.Status.TheVariants.{Errored}
 use Rattle.ccr_history.specs.declared.change.Edit.{Edit}
 use Rattle.ccr_history.specs.declared.change.Edit.TheVariants as edit
 use Rattle.ccr_history.specs.declared.change.Ended.{Ended as EndedEdit}
-use Rattle.ccr_values.specs.Text.{Text}
+use Rattle.ccr_history.specs.Text.{Text}
 use Rattle.ccr_history.specs.Builds.{UsedData, BuildData, is_build_of, count_of, build_of, new_build, ended as ended_build, with_build, with_end}
 use Rattle.ccr_history.specs.Changes.{EditData, ended, edited, changed, AdmitsAll}
 use Rattle.ccr_history.specs.Edits.{edit_data, row_of, HasItsNumbers, HaveTheirNumbers}

@@ -6,8 +6,8 @@ use Rattle.std.specs.Option.{option_map_or}
 use Rattle.std.proofs.lemmas.List.Elements.{recursion_from_All}
 use Rattle.ccr_history.specs.declared.build.Status.TheVariants.{Running, Errored}
 use Rattle.ccr_history.specs.declared.builds.TheConstants.{MOST_BUILDS}
-use Rattle.ccr_values.specs.Text.{Text}
-use Rattle.ccr_values.specs.TextMap.{TextMap, IsAscending}
+use Rattle.ccr_history.specs.Text.{Text}
+use Rattle.ccr_history.specs.TextMap.{TextMap, IsAscending}
 use Rattle.ccr_history.specs.Tables.{has_version, versions_of, is_table_full}
 use Rattle.ccr_history.specs.Builds.{BuildData, count_of, build_of, new_build}
 use Rattle.ccr_history.specs.Changes.{EditData, text, versions, build, ended, pin_set, pin_cleared, disabled, enabled, edited, changed, IsRunning, Admits, AdmitsAll}

@@ -1,6 +1,6 @@
 -- Builds found by their numbers.
 use Rattle.std.proofs.Common.{◌≡◌, ◌⊎◌, ℕ, zero, suc, ◌+◌, ◌<◌, ◌≤◌, List, [], ◌∷◌, Some, None, length, slice_get, ap, ◌∙◌, arith}
-use Rattle.ccr_values.specs.Text.{Text}
+use Rattle.ccr_history.specs.Text.{Text}
 use Rattle.ccr_history.specs.Builds.{BuildData, build_of, positions_of}
 use Rattle.ccr_history.specs.History.{AreNumbered}
 use Rattle.ccr_history.proofs.Numbered.{build_of-only, numbered_only, numbered_none}

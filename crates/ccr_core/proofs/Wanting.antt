@@ -1,6 +1,6 @@
 -- Builds of a core that want something.
 use Rattle.std.proofs.Common.{◌≡◌, ◌≢◌, ◌⊎◌, inl, inr, ℕ, zero, suc, ◌==◌, Bool, true, false, cond, ◌&&◌, List, [], ◌∷◌, slice_get, Option, Some, None, bytes_eq, refl, sym, ap, ◌∙◌, subst}
-use Rattle.ccr_values.specs.Text.{Text}
+use Rattle.ccr_history.specs.Text.{Text}
 use Rattle.ccr_steps.specs.Asks.{AnswerData}
 use Rattle.ccr_steps.specs.Runs.{RunData, HasTurn}
 use Rattle.ccr_steps.specs.declared.ask.Ask.{Ask}

@@ -1,6 +1,6 @@
 -- What an abort of a build is.
 use Rattle.std.specs.Prelude.{◌≡◌, ℕ, ◌↔◌, Some, None}
-use Rattle.ccr_values.specs.Text.{Text}
+use Rattle.ccr_history.specs.Text.{Text}
 use Rattle.ccr_steps.specs.Asks.{aborted}
 use Rattle.ccr_steps.specs.Runs.{HasTurn}
 use Rattle.ccr_core.specs.declared.fault.CoreFault.{CoreFault}

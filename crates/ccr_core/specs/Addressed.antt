@@ -1,6 +1,6 @@
 -- What an event says to a build.
 use Rattle.std.specs.Prelude.{ℕ, Option, Some, None}
-use Rattle.ccr_values.specs.Text.{Text}
+use Rattle.ccr_history.specs.Text.{Text}
 use Rattle.ccr_steps.specs.Asks.{AnswerData, aborted}
 use Rattle.ccr_core.specs.Events.{EventData, set_pipeline, checked, schedule, trigger, answer, abort, pin, unpin, disable, enable, restart}
 

@@ -1,7 +1,7 @@
 -- What is true of each build, after any list of events.
 use Rattle.std.specs.Prelude.{◌≡◌, ◌≢◌, ℕ, List, [], ◌∷◌, ◌++◌, Some}
 use Rattle.std.specs.List.{AllByRecursion}
-use Rattle.ccr_values.specs.Text.{Text}
+use Rattle.ccr_history.specs.Text.{Text}
 use Rattle.ccr_history.specs.Builds.{BuildData, build_of, by_place, passed_pairs}
 use Rattle.ccr_history.specs.Changes.{AreMoved}
 use Rattle.ccr_history.specs.declared.build.Status.TheVariants.{Running, Errored}

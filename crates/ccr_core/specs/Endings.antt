@@ -1,6 +1,6 @@
 -- How one build stands once it was answered or made, with the edits that say so.
 use Rattle.std.specs.Prelude.{◌≡◌, ℕ, true, List, [], ◌∷◌, Option, Some, None, ⊤}
-use Rattle.ccr_values.specs.Text.{Text}
+use Rattle.ccr_history.specs.Text.{Text}
 use Rattle.ccr_history.specs.Tables.{TableData, is_table_full}
 use Rattle.ccr_history.specs.Changes.{EditData, versions, ended, changed, AreMoved, AdmitsAll}
 use Rattle.ccr_history.specs.History.{HistoryData}

@@ -1,7 +1,7 @@
 -- What the core is told.
 use Rattle.std.specs.Prelude.{ℕ, List, string_bytes}
-use Rattle.ccr_values.specs.Text.{Text}
-use Rattle.ccr_values.specs.TextMap.{TextMap}
+use Rattle.ccr_history.specs.Text.{Text}
+use Rattle.ccr_history.specs.TextMap.{TextMap}
 use Rattle.ccr_pipeline.specs.Pipelines.{PipelineData, pipeline_data}
 use Rattle.ccr_steps.specs.Asks.{AnswerData, answer_data}
 use Rattle.ccr_core.specs.declared.event.Event.{Event}

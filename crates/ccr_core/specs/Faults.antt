@@ -1,7 +1,7 @@
 -- Which fault an event meets.
 use Rattle.std.specs.Prelude.{◌≡◌, ◌≢◌, ◌⊎◌, ℕ, ◌≤◌, ◌<◌, [], ◌∷◌, List, false, length, Option, Some, None, IsSomeAnd}
-use Rattle.ccr_values.specs.Text.{Text}
-use Rattle.ccr_values.specs.TextMap.{TextMap}
+use Rattle.ccr_history.specs.Text.{Text}
+use Rattle.ccr_history.specs.TextMap.{TextMap}
 use Rattle.ccr_history.specs.declared.builds.TheConstants.{MOST_BUILDS}
 use Rattle.ccr_steps.specs.Asks.{AskData, AnswerData}
 use Rattle.ccr_steps.specs.Progress.{IsNext}

@@ -1,8 +1,8 @@
 -- How one build goes on or is made, said of its machine and of the history alone.
 use Rattle.std.specs.Prelude.{◌≡◌, ◌⊎◌, ℕ, ◌+◌, ◌<◌, true, List, [], ◌∷◌, ◌++◌, length, Option, Some, IsSomeAnd}
 use Rattle.ccr_history.specs.declared.builds.TheConstants.{MOST_BUILDS}
-use Rattle.ccr_values.specs.Text.{Text}
-use Rattle.ccr_values.specs.TextMap.{TextMap}
+use Rattle.ccr_history.specs.Text.{Text}
+use Rattle.ccr_history.specs.TextMap.{TextMap}
 use Rattle.ccr_history.specs.Tables.{is_table_full}
 use Rattle.ccr_history.specs.Builds.{count_of}
 use Rattle.ccr_history.specs.Changes.{changed, AreUsed, AreMoved, IsRunning, AdmitsAll}

@@ -1,7 +1,7 @@
 -- What a history takes, over any list of events.
 use Rattle.std.specs.Prelude.{◌≡◌, List, [], ◌∷◌, Option, Some, None, All, ⊤}
 use Rattle.std.specs.List.{AllByRecursion}
-use Rattle.ccr_values.specs.TextMap.{IsAscending}
+use Rattle.ccr_history.specs.TextMap.{IsAscending}
 use Rattle.ccr_history.specs.declared.build.Status.TheVariants.{Running}
 use Rattle.ccr_history.specs.Builds.{BuildData, build_of}
 use Rattle.ccr_history.specs.Changes.{EditData}

@@ -6,6 +6,7 @@ pub mod Seen
 pub mod Faults
 pub mod Busy
 pub mod Choices
+pub mod Commands
 pub mod Builds
 pub mod Steps
 pub mod Own

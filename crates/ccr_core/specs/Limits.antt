@@ -1,6 +1,6 @@
 -- How many builds run.
 use Rattle.std.specs.Prelude.{◌≡◌, ◌≢◌, ℕ, ◌≤◌, true, List, [], Option, Some, None, length, ⊤}
-use Rattle.ccr_values.specs.Text.{Text}
+use Rattle.ccr_history.specs.Text.{Text}
 use Rattle.ccr_pipeline.specs.JobData.{JobData}
 use Rattle.ccr_core.specs.declared.limit.TheConstants.{MOST_RUNNING}
 use Rattle.ccr_problem.specs.ProblemOf.{job_of}

@@ -1,9 +1,9 @@
 -- What the parts of a core do at an event.
 use Rattle.std.specs.Prelude.{◌≡◌, ◌⊎◌, ℕ, ◌<◌, ◌≤◌, Bool, true, false, List, [], ◌∷◌, ◌++◌, length, Option, Some, None, IsTrue}
 use Rattle.ccr_history.specs.declared.builds.TheConstants.{MOST_BUILDS}
-use Rattle.ccr_values.specs.Text.{Text}
-use Rattle.ccr_values.specs.TextMap.{TextMap}
-use Rattle.ccr_values.specs.Scopes.{ScopeData}
+use Rattle.ccr_history.specs.Text.{Text}
+use Rattle.ccr_history.specs.TextMap.{TextMap}
+use Rattle.ccr_history.specs.Scopes.{ScopeData}
 use Rattle.ccr_history.specs.Tables.{new_count, is_table_full, scope_number}
 use Rattle.ccr_history.specs.Changes.{versions, edited}
 use Rattle.ccr_history.specs.History.{HistoryData, has_place}

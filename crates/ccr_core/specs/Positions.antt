@@ -1,6 +1,6 @@
 -- Where builds stand in a history, in order of making.
 use Rattle.std.specs.Prelude.{◌≡◌, ℕ, ◌+◌, ◌≤◌, List, [], ◌∷◌, Option, Some, None, slice_get, ⊤}
-use Rattle.ccr_values.specs.Text.{Text}
+use Rattle.ccr_history.specs.Text.{Text}
 use Rattle.ccr_history.specs.Builds.{BuildData, build_of}
 
 -- where a job's build of this number stands among all builds, counted from 0; nothing where there is none

@@ -1,7 +1,7 @@
 -- What a core begins with: the history that it is given, in which what still runs is cut short.
 use Rattle.std.specs.Prelude.{◌≡◌, ℕ, List, [], ◌∷◌, map, Option, Some, None, if◌then◌else◌, ⊤}
 use Rattle.serde_json.specs.Data.{Data}
-use Rattle.ccr_values.specs.Text.{Text}
+use Rattle.ccr_history.specs.Text.{Text}
 use Rattle.ccr_history.specs.Builds.{BuildData, is_running}
 use Rattle.ccr_history.specs.Changes.{EditData, ended, changed}
 use Rattle.ccr_history.specs.History.{HistoryData}

@@ -1,6 +1,6 @@
 -- What wants are good for.
 use Rattle.std.specs.Prelude.{◌≡◌, ◌≢◌, ◌⊎◌, ℕ, Option, Some, None, Err, slice_get}
-use Rattle.ccr_values.specs.Text.{Text}
+use Rattle.ccr_history.specs.Text.{Text}
 use Rattle.ccr_steps.specs.Asks.{AnswerData}
 use Rattle.ccr_steps.specs.declared.ask.Ask.{Ask}
 use Rattle.ccr_core.specs.declared.fault.CoreFault.{CoreFault}

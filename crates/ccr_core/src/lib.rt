@@ -12,15 +12,20 @@
 //! A [`Core`] is the machine. Its contracts see the states that it stands for: from each of them, [`Core::step`] leads
 //! to one that it stands for then. What a core stands for is reached by events from a state in which nothing runs, so
 //! the laws over every list of events hold of it.
+//!
+//! A [`Command`] is what a whole server is told to do, with its arguments, and a [`Form`] how it shows something. The command line is read
+//! as one, without a server. Clauses see it as `command_data` says (`specs/Commands.antt`). The core itself takes events alone.
 #![tactic(auto)]
 
 mod answered;
 mod busy;
 mod change;
+mod command;
 mod disabled;
 mod end;
 mod event;
 mod fault;
+mod form;
 mod going;
 mod indexed;
 mod law;
@@ -46,8 +51,10 @@ mod step;
 mod used;
 mod wanted;
 
+pub use command::Command;
 pub use event::Event;
 pub use fault::CoreFault;
+pub use form::Form;
 pub use law::{
     aborts_are_answers, each_change_is_taken, each_ends_as_meant, each_has_its_fate,
     each_has_its_own, limits_are_kept, runs_agree,

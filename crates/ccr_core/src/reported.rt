@@ -3,7 +3,7 @@ ghost use Rattle.std.specs.Prelude.{◌≡◌, [], ◌∷◌, Ok, Err, map, IfOk
 ghost use Rattle.std.specs.List.{AllByRecursion};
 ghost use Rattle.ccr_history.specs.Changes.{versions};
 ghost use Rattle.ccr_history.specs.Edits.{change_data};
-ghost use Rattle.ccr_values.specs.TextMap.{IsAscending};
+ghost use Rattle.ccr_history.specs.TextMap.{IsAscending};
 ghost use Rattle.ccr_pipeline.specs.Pipelines.{pipeline_data};
 ghost use Rattle.ccr_problem.specs.Indexes.{problems, AreIndexes, AreBefore};
 ghost use Rattle.ccr_core.specs.Cores.{core_data};

@@ -11,7 +11,7 @@ use Rattle.ccr_history.specs.declared.build.Status.{Status}
 use Rattle.ccr_history.specs.declared.build.Status.TheVariants.{Running, Succeeded, Failed, Errored, Aborted}
 use Rattle.ccr_history.specs.declared.used_row.UsedRow.{UsedRow}
 use Rattle.ccr_history.specs.declared.used_row.InputScope.{InputScope}
-use Rattle.ccr_values.specs.Text.{Text}
+use Rattle.ccr_history.specs.Text.{Text}
 use Rattle.ccr_history.specs.Names.{AreApart, HasMore}
 use Rattle.ccr_history.specs.Builds.{UsedData, BuildData, is_of, is_build_of, is_running, count_of, build_of, by_input, by_place, with_build, with_end}
 use Rattle.ccr_history.specs.Rows.{RowData, JobData, used_data, build_data, builds_data, new_row, ended_row, is_same, is_row_of, is_input_scope, row_if_at, IsLinked, HasOneMore}

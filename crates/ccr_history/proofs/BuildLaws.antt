@@ -6,7 +6,7 @@ use Rattle.std.proofs.lemmas.Bool.{cond_both}
 use Rattle.ccr_history.specs.declared.build.Status.{Status}
 use Rattle.ccr_history.specs.declared.build.Status.TheVariants.{Running}
 use Rattle.ccr_history.specs.declared.builds.TheConstants.{MOST_BUILDS}
-use Rattle.ccr_values.specs.Text.{Text}
+use Rattle.ccr_history.specs.Text.{Text}
 use Rattle.ccr_history.specs.Tables.{TableData}
 use Rattle.ccr_history.specs.Builds.{UsedData, BuildData, with_used, by_input, is_before, with_moved, by_place, is_build_of, count_of, new_build, with_build, ended, with_end}
 use Rattle.ccr_history.specs.History.{has_place, IsUsed, IsBuild, AreBuilds}

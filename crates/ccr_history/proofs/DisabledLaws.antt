@@ -1,8 +1,8 @@
 -- Disabled places stay places of the tables, in their order.
 use Rattle.std.proofs.Common.{◌≡◌, ℕ, List, Result, Ok, Err, OnOk, OnErr, IsTrue, sym, subst}
-use Rattle.ccr_values.specs.Scopes.{ScopeData}
+use Rattle.ccr_history.specs.Scopes.{ScopeData}
 use Rattle.ccr_history.specs.Tables.{TableData, reported}
-use Rattle.ccr_values.specs.TextMap.{TextMap}
+use Rattle.ccr_history.specs.TextMap.{TextMap}
 use Rattle.ccr_history.specs.History.{has_place, AreDisabled}
 use Rattle.ccr_history.specs.Pairs.{with_pair, without_pair}
 use Rattle.ccr_history.proofs.Lists.{each_weaker}

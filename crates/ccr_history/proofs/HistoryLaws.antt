@@ -3,11 +3,11 @@ use Rattle.std.proofs.Common.{◌≡◌, ◌≢◌, ◌↔◌, ℕ, ◌<◌, ◌
 use Rattle.ccr_history.specs.declared.build.Status.{Status}
 use Rattle.ccr_history.specs.declared.build.Status.TheVariants.{Running}
 use Rattle.ccr_history.specs.declared.builds.TheConstants.{MOST_BUILDS}
-use Rattle.ccr_values.specs.declared.fault.HistoryFault.{HistoryFault}
-use Rattle.ccr_values.specs.declared.fault.HistoryFault.TheVariants.{BuildsFull}
-use Rattle.ccr_values.specs.Text.{Text}
-use Rattle.ccr_values.specs.TextMap.{TextMap}
-use Rattle.ccr_values.specs.Scopes.{ScopeData}
+use Rattle.ccr_history.specs.declared.fault.HistoryFault.{HistoryFault}
+use Rattle.ccr_history.specs.declared.fault.HistoryFault.TheVariants.{BuildsFull}
+use Rattle.ccr_history.specs.Text.{Text}
+use Rattle.ccr_history.specs.TextMap.{TextMap}
+use Rattle.ccr_history.specs.Scopes.{ScopeData}
 use Rattle.ccr_history.specs.Tables.{TableData, reported}
 use Rattle.ccr_history.specs.Builds.{UsedData, BuildData, with_build, with_end}
 use Rattle.ccr_history.specs.History.{AreTables, AreBuilds, ArePins, AreDisabled}

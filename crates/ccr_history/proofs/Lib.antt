@@ -1,3 +1,6 @@
+pub mod Members
+pub mod TextMaps
+pub mod Items
 pub mod Lists
 pub mod TableLaws
 pub mod BuildLaws

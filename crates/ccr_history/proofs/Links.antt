@@ -13,7 +13,7 @@ use Rattle.ccr_history.specs.declared.build.Status.{Status}
 use Rattle.ccr_history.specs.declared.build.Status.TheVariants.{Running}
 use Rattle.ccr_history.specs.declared.used_row.UsedRow.{UsedRow}
 use Rattle.ccr_history.specs.declared.used_row.InputScope.{InputScope}
-use Rattle.ccr_values.specs.Text.{Text}
+use Rattle.ccr_history.specs.Text.{Text}
 use Rattle.ccr_history.specs.Names.{has_name, name_at, AreApart, HasMore}
 use Rattle.ccr_history.specs.Builds.{UsedData, BuildData, is_of, is_build_of, count_of, new_build, with_build, by_input, by_place, ended, with_end, positions, positions_of, is_used, has_used}
 use Rattle.ccr_history.specs.Newest.{last_given, place_if_at, place_used, newest_used}

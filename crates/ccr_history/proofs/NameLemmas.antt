@@ -9,7 +9,7 @@ use Rattle.std.proofs.lemmas.Cmp.{nat_list_eq_equiv}
 use Rattle.std.proofs.lemmas.Option.{slice_get-map, slice_get-get_or}
 use Rattle.std.proofs.lemmas.Slice.Eq.{bytes_eq-Decides}
 use Rattle.indexmap.specs.IndexSet.{insert_key}
-use Rattle.ccr_values.specs.Text.{Text}
+use Rattle.ccr_history.specs.Text.{Text}
 use Rattle.ccr_history.specs.Names.{texts_of, has_name, with_name, AreApart, HasMore}
 
 pub has_name-by_text : (name : Text) (keys : List (String Global)) → list_any (λ k. bytes_eq name (string_bytes k)) keys ≡ has_name (texts_of keys) name

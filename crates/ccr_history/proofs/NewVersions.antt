@@ -7,8 +7,8 @@ use Rattle.std.specs.List.{AllByRecursion}
 use Rattle.ccr_history.specs.declared.table.TheConstants.{MOST_VERSIONS, MOST_SCOPES}
 use Rattle.ccr_history.specs.History.{HistoryData, IsTable, IsHistory}
 use Rattle.ccr_history.specs.Changes.{edited, versions}
-use Rattle.ccr_values.specs.TextMap.{TextMap}
-use Rattle.ccr_values.specs.Scopes.{ScopeData, is_scope}
+use Rattle.ccr_history.specs.TextMap.{TextMap}
+use Rattle.ccr_history.specs.Scopes.{ScopeData, is_scope}
 use Rattle.ccr_history.specs.Tables.{TableData, has_version, with_versions, with_report, reported, versions_of, new_count, is_table_full}
 use Rattle.ccr_history.specs.Edits.{AreNew}
 use Rattle.ccr_history.proofs.TableLaws.{versions_of-with_report}

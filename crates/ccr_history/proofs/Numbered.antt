@@ -7,7 +7,7 @@ use Rattle.std.proofs.lemmas.Option.{slice_get-map, slice_get_within, get_or_fro
 use Rattle.std.proofs.lemmas.Bool.{and_left, and_right, and_from, cases_eq, cases_order, cases_Bool, ne_eqb, eq-eqb}
 use Rattle.std.proofs.lemmas.Slice.Eq.{bytes_eq-Decides}
 use Rattle.ccr_history.specs.declared.build.Status.{Status}
-use Rattle.ccr_values.specs.Text.{Text}
+use Rattle.ccr_history.specs.Text.{Text}
 use Rattle.ccr_history.specs.Builds.{BuildData, is_of, is_build_of, count_of, build_of, ended, with_end, positions_of}
 use Rattle.ccr_history.specs.History.{AreNumbered}
 use Rattle.ccr_history.specs.Orderly.{IsOnly}

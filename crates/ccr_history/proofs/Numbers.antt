@@ -4,8 +4,8 @@ use Rattle.std.proofs.lemmas.Bool.{ne_eqb, ltb-true, ltb-false}
 use Rattle.std.specs.List.{prefix_len}
 use Rattle.std.specs.Map.{keys_of, lookup}
 use Rattle.indexmap.proofs.MapLemmas.{Missing-position}
-use Rattle.ccr_values.specs.TextMap.{TextMap, is_version}
-use Rattle.ccr_values.specs.Scopes.{ScopeData, is_scope}
+use Rattle.ccr_history.specs.TextMap.{TextMap, is_version}
+use Rattle.ccr_history.specs.Scopes.{ScopeData, is_scope}
 use Rattle.ccr_history.specs.Tables.{TableData, scope_number, place_in, at_place, versions_at, tables_of}
 use Rattle.ccr_history.specs.History.{places_at}
 

@@ -5,7 +5,7 @@ use Rattle.std.proofs.lemmas.List.{length-map, length_push}
 use Rattle.ccr_history.specs.declared.builds.TheConstants.{MOST_BUILDS}
 use Rattle.ccr_history.specs.declared.build.Status.{Status}
 use Rattle.ccr_history.specs.declared.build.Status.TheVariants.{Running}
-use Rattle.ccr_values.specs.Text.{Text}
+use Rattle.ccr_history.specs.Text.{Text}
 use Rattle.ccr_history.specs.Builds.{UsedData, BuildData, is_build_of, count_of, new_build, with_build, ended, with_end}
 use Rattle.ccr_history.specs.Orderly.{IsOrderly, AreOrderly}
 use Rattle.ccr_history.proofs.Lists.{each_map, each_push}

@@ -6,8 +6,8 @@ use Rattle.std.specs.Ordering.{ordering_reverse}
 use Rattle.std.specs.Cmp.Lexicographic.{slice_cmp}
 use Rattle.std.proofs.lemmas.Bool.{cond_both}
 use Rattle.std.proofs.lemmas.Cmp.{nat_list_cmp_total}
-use Rattle.ccr_values.specs.Text.{Text}
-use Rattle.ccr_values.specs.TextMap.{TextMap, IsAscending}
+use Rattle.ccr_history.specs.Text.{Text}
+use Rattle.ccr_history.specs.TextMap.{TextMap, IsAscending}
 use Rattle.ccr_history.specs.History.{ArePins}
 use Rattle.ccr_history.specs.Changes.{with_pin, without_pin}
 use Rattle.ccr_history.proofs.Lists.{each_weaker, each_map, each_from_map, match_each}

@@ -8,10 +8,10 @@ use Rattle.std.specs.Prelude.{AllPairs}
 use Rattle.indexmap.specs.IndexMap.{insert_entry, set_value_at}
 use Rattle.indexmap.proofs.MapLemmas.{insert_entry-first, Found-position}
 use Rattle.ccr_history.specs.declared.table.TheConstants.{MOST_VERSIONS, MOST_SCOPES}
-use Rattle.ccr_values.specs.TextMap.{TextMap}
-use Rattle.ccr_values.specs.Scopes.{ScopeData, is_scope}
+use Rattle.ccr_history.specs.TextMap.{TextMap}
+use Rattle.ccr_history.specs.Scopes.{ScopeData, is_scope}
 use Rattle.ccr_history.specs.Tables.{TableData, with_versions, with_report, reported, versions_of, new_count, is_table_full, table_of, tables_of, AreVersions}
-use Rattle.ccr_values.specs.Keys.{scope_equiv}
+use Rattle.ccr_history.specs.Keys.{scope_equiv}
 use Rattle.ccr_history.specs.History.{AreTables, IsTable}
 use Rattle.ccr_history.proofs.VersionLists.{with_versions-longer, take-with_versions}
 

@@ -5,11 +5,11 @@ use Rattle.std.proofs.lemmas.Bool.{cond_both, cond-true, cond-false, and_from, a
 use Rattle.std.proofs.lemmas.List.Elements.{All-from_recursion, recursion_from_All}
 use Rattle.std.proofs.lemmas.List.Kept.{AllPairs-cons}
 use Rattle.ccr_history.specs.declared.table.TheConstants.{MOST_VERSIONS, MOST_SCOPES}
-use Rattle.ccr_values.specs.TextMap.{TextMap, IsAscending, is_version}
-use Rattle.ccr_values.specs.Scopes.{ScopeData, is_scope}
+use Rattle.ccr_history.specs.TextMap.{TextMap, IsAscending, is_version}
+use Rattle.ccr_history.specs.Scopes.{ScopeData, is_scope}
 use Rattle.ccr_history.specs.Tables.{TableData, has_version, with_version, with_versions, with_report, reported, versions_of, is_table_full}
 use Rattle.ccr_history.specs.History.{IsTable, AreTables, places_at, has_place}
-use Rattle.ccr_values.specs.Keys.{scope_equiv, version_equiv}
+use Rattle.ccr_history.specs.Keys.{scope_equiv, version_equiv}
 use Rattle.ccr_history.proofs.VersionLists.{with_versions-longer, with_versions-some}
 use Rattle.ccr_history.proofs.Lists.{each_push, pairs_none, pairs_one, pairs_head, pairs_tail, apart_push}
 

@@ -6,7 +6,7 @@ use Rattle.std.specs.Cmp.Lexicographic.{slice_cmp}
 use Rattle.std.proofs.lemmas.List.{get_or-map, length-map, map-append, take-map, drop-map, drop_more}
 use Rattle.std.proofs.lemmas.Option.{slice_get_within, get_or_from_slice_get}
 use Rattle.ccr_history.specs.declared.used_row.UsedRow.{UsedRow}
-use Rattle.ccr_values.specs.Text.{Text}
+use Rattle.ccr_history.specs.Text.{Text}
 use Rattle.ccr_history.specs.Names.{name_at, HasMore}
 use Rattle.ccr_history.specs.Builds.{UsedData, with_used, by_input}
 use Rattle.ccr_history.specs.Rows.{used_data}

@@ -5,7 +5,7 @@ use Rattle.std.proofs.lemmas.Map.Keys.{apart_from_distinct}
 use Rattle.std.specs.List.{IsDistinct}
 use Rattle.std.specs.Prelude.{AllPairs}
 use Rattle.ccr_history.specs.declared.table.TheConstants.{MOST_VERSIONS}
-use Rattle.ccr_values.specs.TextMap.{TextMap, IsAscending, is_version}
+use Rattle.ccr_history.specs.TextMap.{TextMap, IsAscending, is_version}
 use Rattle.ccr_history.specs.Tables.{has_version, with_version, with_versions, AreVersions}
 use Rattle.ccr_history.proofs.Lists.{each_push}
 

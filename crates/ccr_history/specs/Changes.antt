@@ -8,9 +8,9 @@ use Rattle.std.specs.Cmp.Lexicographic.{slice_cmp}
 use Rattle.ccr_history.specs.declared.build.Status.{Status}
 use Rattle.ccr_history.specs.declared.build.Status.TheVariants.{Running}
 use Rattle.ccr_history.specs.declared.builds.TheConstants.{MOST_BUILDS}
-use Rattle.ccr_values.specs.Text.{Text}
-use Rattle.ccr_values.specs.TextMap.{TextMap, IsAscending}
-use Rattle.ccr_values.specs.Scopes.{ScopeData}
+use Rattle.ccr_history.specs.Text.{Text}
+use Rattle.ccr_history.specs.TextMap.{TextMap, IsAscending}
+use Rattle.ccr_history.specs.Scopes.{ScopeData}
 use Rattle.ccr_history.specs.Tables.{TableData, reported, is_table_full}
 use Rattle.ccr_history.specs.Builds.{UsedData, BuildData, build_of, with_build, with_end}
 use Rattle.ccr_history.specs.Pairs.{with_pair, without_pair}

@@ -2,8 +2,8 @@
 use Rattle.std.specs.Prelude.{◌≡◌, ℕ, ◌+◌, List, [], ◌∷◌, ◌++◌, length, map, string_bytes, not, ◌==◌, if◌then◌else◌, ⊤}
 use Rattle.ccr_history.specs.declared.change.Edit.{Edit}
 use Rattle.ccr_history.specs.declared.change.Edit.TheVariants.{Text, Versions, Build, Ended, PinSet, PinCleared, Disabled, Enabled}
-use Rattle.ccr_values.specs.Text.{Text as Bytes}
-use Rattle.ccr_values.specs.TextMap.{TextMap}
+use Rattle.ccr_history.specs.Text.{Text as Bytes}
+use Rattle.ccr_history.specs.TextMap.{TextMap}
 use Rattle.ccr_history.specs.Tables.{with_versions, versions_of, reported, scope_number}
 use Rattle.ccr_history.specs.Builds.{BuildData, count_of, is_build_of}
 use Rattle.ccr_history.specs.Pairs.{has_pair}

@@ -7,10 +7,10 @@ use Rattle.std.specs.Cmp.Lexicographic.{slice_cmp}
 use Rattle.ccr_history.specs.declared.table.TheConstants.{MOST_VERSIONS, MOST_SCOPES}
 use Rattle.ccr_history.specs.declared.builds.TheConstants.{MOST_BUILDS}
 use Rattle.ccr_history.specs.declared.build.Status.TheVariants.{Running}
-use Rattle.ccr_values.specs.Text.{Text}
-use Rattle.ccr_values.specs.TextMap.{TextMap, IsAscending, is_version}
+use Rattle.ccr_history.specs.Text.{Text}
+use Rattle.ccr_history.specs.TextMap.{TextMap, IsAscending, is_version}
 use Rattle.ccr_history.specs.Tables.{TableData}
-use Rattle.ccr_values.specs.Scopes.{is_scope}
+use Rattle.ccr_history.specs.Scopes.{is_scope}
 use Rattle.ccr_history.specs.Builds.{UsedData, BuildData, is_before, count_of}
 use Rattle.ccr_history.specs.Pairs.{ArePairs}
 

@@ -1,3 +1,14 @@
+pub mod Counts
+pub mod Crash
+pub mod Text
+pub mod TextMap
+pub mod Members
+pub mod Scan
+pub mod Objects
+pub mod ObjectData
+pub mod Sources
+pub mod Scopes
+pub mod Keys
 pub mod Faults
 pub mod Tables
 pub mod Names

@@ -6,7 +6,7 @@ use Rattle.ccr_history.specs.declared.build.Status.{Status}
 use Rattle.ccr_history.specs.declared.build.Status.TheVariants.{Running}
 use Rattle.ccr_history.specs.declared.used_row.UsedRow.{UsedRow}
 use Rattle.ccr_history.specs.declared.used_row.InputScope.{InputScope}
-use Rattle.ccr_values.specs.Text.{Text}
+use Rattle.ccr_history.specs.Text.{Text}
 use Rattle.ccr_history.specs.Names.{name_at}
 use Rattle.ccr_history.specs.Builds.{UsedData, BuildData, positions}
 use Rattle.ccr_history.specs.Newest.{last_given}

@@ -2,8 +2,8 @@
 use Rattle.std.specs.Prelude.{◌≡◌, ℕ, ◌+◌, ◌-◌, ◌≤◌, List, [], ◌∷◌, ◌++◌, length, map, slice_get, Bool, false, ◌&&◌, ◌||◌, ◌==◌, nat_lt, if◌then◌else◌, Option, None, option_map, unwrap_or, AllPairs}
 use Rattle.std.specs.List.{list_any, AllByRecursion}
 use Rattle.ccr_history.specs.declared.table.TheConstants.{MOST_VERSIONS, MOST_SCOPES}
-use Rattle.ccr_values.specs.Scopes.{ScopeData, is_scope}
-use Rattle.ccr_values.specs.TextMap.{TextMap, is_version, IsAscending}
+use Rattle.ccr_history.specs.Scopes.{ScopeData, is_scope}
+use Rattle.ccr_history.specs.TextMap.{TextMap, is_version, IsAscending}
 
 -- a scope with its versions; a version's place is its position in the list, from 1
 pub record TableData : Type 0 where

@@ -13,11 +13,11 @@ ghost use Rattle.ccr_history.specs.Faults.{is_fault_of_add, is_fault_of_end};
 
 use crate::build::{Status, Used};
 use crate::build_ref::BuildRef;
+use crate::fault::HistoryFault;
 use crate::job_builds::JobBuilds;
 use crate::names::Names;
 use crate::rows::Rows;
 use crate::used_row::{InputScope, UsedRow, used_rows};
-use ccr_values::HistoryFault;
 use std::alloc::{AllocError, Global};
 use std::marker::Model;
 

@@ -1,7 +1,9 @@
 //! Changes of a history, call by call.
 
 use crate::build::{Status, Used};
-use ccr_values::{Pin, Scope, Version};
+use crate::pin::Pin;
+use crate::scope::Scope;
+use crate::version::Version;
 
 /// Versions that came to the table of a scope.
 #[derive(Drop)]

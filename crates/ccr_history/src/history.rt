@@ -1,7 +1,7 @@
 //! Histories: what has been seen, what was built, and what is set.
 ghost use Rattle.std.specs.Prelude.{◌≡◌, ◌≢◌, ◌↔◌, ◌⊎◌, ◌+◌, List, length, slice_get, false, None, is_some, not, option_map, option_copied, IsTrue, IsOk, IsErrOf, IfOk, IfErr, IfSome, IfNone, OnOk, OnErr};
 ghost use Rattle.ccr_history.specs.declared.build.Status.TheVariants.{Running};
-ghost use Rattle.ccr_values.specs.TextMap.{TextMap};
+ghost use Rattle.ccr_history.specs.TextMap.{TextMap};
 ghost use Rattle.ccr_history.specs.Tables.{versions_of, new_count, is_table_full, scope_number, place_in, at_place, versions_at};
 ghost use Rattle.ccr_history.specs.Builds.{build_of, is_build_of, count_of, positions_of, has_used, HasEnded};
 ghost use Rattle.ccr_history.specs.Newest.{newest_used};
@@ -14,10 +14,13 @@ ghost use Rattle.ccr_history.specs.Faults.{is_fault_of_report, is_fault_of_add, 
 use crate::build::{Status, Used};
 use crate::build_ref::BuildRef;
 use crate::builds::{Builds, MOST_BUILDS};
+use crate::fault::HistoryFault;
 use crate::pair_set::PairSet;
+use crate::pin::Pin;
 use crate::pins::Pins;
+use crate::scope::Scope;
 use crate::tables::Tables;
-use ccr_values::{HistoryFault, Pin, Scope, Version};
+use crate::version::Version;
 use std::alloc::{AllocError, Global};
 use std::marker::Model;
 

@@ -4,7 +4,7 @@ ghost use Rattle.ccr_history.specs.Changes.{with_pin, without_pin, pin_of};
 ghost use Rattle.ccr_history.specs.History.{ArePins};
 ghost use Rattle.ccr_history.specs.Pins.{pins_of};
 
-use ccr_values::Pin;
+use crate::pin::Pin;
 use std::alloc::{AllocError, Global};
 use std::collections::BTreeMap;
 use std::marker::Model;
@@ -17,8 +17,8 @@ pub struct Pins {
 
 impl Model for Pins {
     ghost use Rattle.std.specs.Prelude.{List};
-    ghost use Rattle.ccr_values.specs.Text.{Text};
-    ghost use Rattle.ccr_values.specs.TextMap.{TextMap};
+    ghost use Rattle.ccr_history.specs.Text.{Text};
+    ghost use Rattle.ccr_history.specs.TextMap.{TextMap};
     ghost use Rattle.ccr_history.specs.Pins.{pins_of};
     ghost use Rattle.ccr_history.specs.History.{ArePins};
 

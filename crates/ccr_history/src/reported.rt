@@ -8,8 +8,10 @@ ghost use Rattle.ccr_history.specs.Tables.{is_table_full, new_count};
 ghost use Rattle.ccr_history.specs.declared.change.Edit.TheVariants.{Versions};
 
 use crate::change::Reported;
+use crate::fault::HistoryFault;
 use crate::history::History;
-use ccr_values::{HistoryFault, Scope, Version};
+use crate::scope::Scope;
+use crate::version::Version;
 use std::alloc::{AllocError, Global};
 
 /// Copies of the versions behind so many.

@@ -9,8 +9,9 @@ ghost use Rattle.ccr_history.specs.Faults.{is_fault_of_disable};
 ghost use Rattle.ccr_history.specs.declared.change.Edit.TheVariants.{Disabled, Enabled};
 
 use crate::change::Switched;
+use crate::fault::HistoryFault;
 use crate::history::History;
-use ccr_values::{HistoryFault, Scope};
+use crate::scope::Scope;
 
 impl History {
     /// Disables a place of a scope: no input takes its version until it is enabled again (Concourse: disabled versions).

@@ -3,7 +3,8 @@ ghost use Rattle.std.specs.Prelude.{◌≡◌, ◌-◌, ◌<◌, ◌≤◌, [], 
 ghost use Rattle.ccr_history.specs.Faults.{is_fault_of_report};
 ghost use Rattle.ccr_history.specs.Tables.{with_version, with_versions, place_in, AreVersions};
 
-use ccr_values::{HistoryFault, Version};
+use crate::fault::HistoryFault;
+use crate::version::Version;
 use indexmap::IndexSet;
 use std::alloc::{AllocError, Global};
 use std::marker::Model;
@@ -21,7 +22,7 @@ pub(crate) struct Table {
 
 impl Model for Table {
     ghost use Rattle.std.specs.Prelude.{List};
-    ghost use Rattle.ccr_values.specs.TextMap.{TextMap};
+    ghost use Rattle.ccr_history.specs.TextMap.{TextMap};
     ghost use Rattle.ccr_history.specs.Tables.{AreVersions};
 
     ghost Value = { List TextMap };

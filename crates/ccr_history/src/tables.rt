@@ -1,12 +1,14 @@
 //! The version tables of a history, in order of making.
 ghost use Rattle.std.specs.Prelude.{◌≡◌, ◌<◌, [], length, false, option_map, option_copied, IfOk, IfErr, OnOk, OnErr, IsTrue, IsErrOf, List};
-ghost use Rattle.ccr_values.specs.TextMap.{TextMap};
+ghost use Rattle.ccr_history.specs.TextMap.{TextMap};
 ghost use Rattle.ccr_history.specs.Faults.{is_fault_of_report};
 ghost use Rattle.ccr_history.specs.Tables.{TableData, table_of, reported, versions_of, new_count, is_table_full, scope_number, place_in, at_place, versions_at};
 ghost use Rattle.ccr_history.specs.History.{AreTables, has_place};
 
+use crate::fault::HistoryFault;
+use crate::scope::Scope;
 use crate::table::{MOST_SCOPES, Table};
-use ccr_values::{HistoryFault, Scope, Version};
+use crate::version::Version;
 use indexmap::IndexMap;
 use std::alloc::{AllocError, Global};
 use std::marker::Model;

@@ -3,7 +3,7 @@ use Rattle.std.specs.Prelude.{◌≡◌, ℕ, List, [], ◌∷◌, ◌++◌, map
 use Rattle.std.specs.List.{concat}
 use Rattle.serde_json.specs.Data.{Data, null, boolean, number, unsigned, string, object, no_members, member}
 use Rattle.serde_json.specs.Written.{compact_text}
-use Rattle.ccr_values.specs.Text.{Text}
+use Rattle.ccr_history.specs.Text.{Text}
 use Rattle.ccr_history.specs.History.{HistoryData}
 use Rattle.ccr_pipeline.specs.Inputs.{InputData, inputs, named_jobs}
 use Rattle.ccr_pipeline.specs.JobData.{JobData}
@@ -17,8 +17,8 @@ use Rattle.ccr_resolve.specs.Chosen.{IsChosen}
 use Rattle.ccr_explain.specs.declared.explanation.Explanation.{Explanation}
 use Rattle.ccr_explain.specs.declared.explanation.Explanation.TheVariants as explanation
 use Rattle.ccr_explain.specs.Clash.{IsExplanation}
-use Rattle.ccr_commands.specs.declared.form.Form.{Form}
-use Rattle.ccr_commands.specs.declared.form.Form.TheVariants as form
+use Rattle.ccr_core.specs.declared.form.Form.{Form}
+use Rattle.ccr_core.specs.declared.form.Form.TheVariants as form
 use Rattle.ccr_lines.specs.declared.outlook.Outlook.{Outlook}
 use Rattle.ccr_lines.specs.declared.outlook.Outlook.TheVariants.{NoneSatisfies, OverBudget}
 use Rattle.ccr_lines.specs.declared.reason.Reason.{Reason}

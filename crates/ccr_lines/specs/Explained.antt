@@ -1,7 +1,7 @@
 -- What the next build of a job would take, and why nothing newer; or why there is none.
 use Rattle.std.specs.Prelude.{◌≡◌, ℕ, ◌-◌, List, [], ◌∷◌, ◌++◌, length, slice_get, Bool, true, false, nat_lt, codes, decimal}
 use Rattle.std.specs.Option.{option_map_or}
-use Rattle.ccr_values.specs.Text.{Text}
+use Rattle.ccr_history.specs.Text.{Text}
 use Rattle.ccr_history.specs.Tables.{versions_at}
 use Rattle.ccr_history.specs.History.{HistoryData}
 use Rattle.ccr_pipeline.specs.Inputs.{InputData, inputs, named_jobs}

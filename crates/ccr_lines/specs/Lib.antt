@@ -1,6 +1,6 @@
 pub mod BuildCertificates
 pub mod Certificates
-pub mod Commands
+pub mod CommandNeeds
 pub mod Each
 pub mod ExplainJson
 pub mod Explained

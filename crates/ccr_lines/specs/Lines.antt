@@ -1,7 +1,7 @@
 -- What is printed of events. Each line ends with a line feed.
 use Rattle.std.specs.Prelude.{ℕ, List, [], ◌∷◌, ◌++◌, length, flat_map, codes, decimal, Option, Some, None, Ok, Err}
 use Rattle.std.specs.List.{concat}
-use Rattle.ccr_values.specs.Text.{Text}
+use Rattle.ccr_history.specs.Text.{Text}
 use Rattle.ccr_history.specs.Builds.{BuildData, build_of}
 use Rattle.ccr_history.specs.History.{HistoryData}
 use Rattle.ccr_history.specs.declared.build.Status.{Status}

@@ -1,8 +1,8 @@
 -- What has to be there for a command.
 use Rattle.std.specs.Prelude.{◌≡◌, ℕ, Option, None, IsSome, unwrap_or, option_and_then, ⊤}
 use Rattle.serde_json.specs.Read.{read as json}
-use Rattle.ccr_values.specs.Text.{Text}
-use Rattle.ccr_values.specs.TextMap.{TextMap, text_map_of}
+use Rattle.ccr_history.specs.Text.{Text}
+use Rattle.ccr_history.specs.TextMap.{TextMap, text_map_of}
 use Rattle.ccr_history.specs.Builds.{build_of}
 use Rattle.ccr_history.specs.History.{HistoryData}
 use Rattle.ccr_pipeline.specs.Pipelines.{PipelineData}

@@ -1,7 +1,7 @@
 -- What the next build of a job would be, were the job scheduled.
 use Rattle.std.specs.Prelude.{◌≡◌, ℕ, List, Bool, true, false, codes, decimal, ◌++◌, if◌then◌else◌}
 use Rattle.std.specs.List.{list_any}
-use Rattle.ccr_values.specs.Text.{Text}
+use Rattle.ccr_history.specs.Text.{Text}
 use Rattle.ccr_history.specs.History.{HistoryData}
 use Rattle.ccr_pipeline.specs.Inputs.{InputData, inputs}
 use Rattle.ccr_pipeline.specs.JobData.{JobData}

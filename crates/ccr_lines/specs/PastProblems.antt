@@ -1,7 +1,7 @@
 -- The problem that a build answered: what it could take, where the versions are those of today.
 use Rattle.std.specs.Prelude.{ℕ, List, [], map, None}
 use Rattle.std.specs.List.{range_with_len}
-use Rattle.ccr_values.specs.Text.{Text}
+use Rattle.ccr_history.specs.Text.{Text}
 use Rattle.ccr_history.specs.Builds.{BuildData}
 use Rattle.ccr_history.specs.History.{HistoryData, places_at}
 use Rattle.ccr_pipeline.specs.Inputs.{InputData, named_jobs}

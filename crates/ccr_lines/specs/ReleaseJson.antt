@@ -4,12 +4,12 @@ use Rattle.std.specs.List.{concat}
 use Rattle.std.specs.Option.{option_map_or}
 use Rattle.serde_json.specs.Data.{Data, null, number, unsigned, string, object, no_members, member}
 use Rattle.serde_json.specs.Written.{compact_text}
-use Rattle.ccr_values.specs.Text.{Text}
+use Rattle.ccr_history.specs.Text.{Text}
 use Rattle.ccr_history.specs.Tables.{TableData, at_place, versions_at}
 use Rattle.ccr_history.specs.Builds.{UsedData, BuildData}
 use Rattle.ccr_pipeline.specs.Pipelines.{PipelineData}
-use Rattle.ccr_commands.specs.declared.form.Form.{Form}
-use Rattle.ccr_commands.specs.declared.form.Form.TheVariants as form
+use Rattle.ccr_core.specs.declared.form.Form.{Form}
+use Rattle.ccr_core.specs.declared.form.Form.TheVariants as form
 use Rattle.ccr_lines.specs.Json.{list, fields_json, json_line}
 use Rattle.ccr_lines.specs.Lines.{status_word}
 use Rattle.ccr_lines.specs.Releases.{resource_at, newest_together, pairs_naming, inputs_in_plan, release_lines}

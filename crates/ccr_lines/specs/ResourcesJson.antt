@@ -1,14 +1,14 @@
 -- How the resources of a pipeline stand, as JSON.
 use Rattle.std.specs.Prelude.{List, length, map, codes}
 use Rattle.serde_json.specs.Data.{Data, number, unsigned, string, object, no_members, member}
-use Rattle.ccr_values.specs.Text.{Text}
+use Rattle.ccr_history.specs.Text.{Text}
 use Rattle.ccr_history.specs.Tables.{versions_of}
 use Rattle.ccr_history.specs.Changes.{pin_of}
 use Rattle.ccr_history.specs.History.{HistoryData}
 use Rattle.ccr_pipeline.specs.JobData.{ResourceData}
 use Rattle.ccr_problem.specs.ProblemOf.{scope_of}
-use Rattle.ccr_commands.specs.declared.form.Form.{Form}
-use Rattle.ccr_commands.specs.declared.form.Form.TheVariants as form
+use Rattle.ccr_core.specs.declared.form.Form.{Form}
+use Rattle.ccr_core.specs.declared.form.Form.TheVariants as form
 use Rattle.ccr_lines.specs.Json.{list, fields_json, json_line}
 use Rattle.ccr_lines.specs.Standing.{resources_lines}
 

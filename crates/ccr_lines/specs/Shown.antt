@@ -1,10 +1,10 @@
 -- What a command shows. Each line ends with a line feed.
 use Rattle.std.specs.Prelude.{◌≡◌, ℕ, ◌+◌, List, [], ◌∷◌, ◌++◌, flat_map, codes, decimal, Bool, true, false, IsSomeAnd, Option, Some, unwrap_or, Result, Ok, Err, ⊤}
-use Rattle.ccr_values.specs.Text.{Text}
-use Rattle.ccr_values.specs.TextMap.{TextMap, key_text}
+use Rattle.ccr_history.specs.Text.{Text}
+use Rattle.ccr_history.specs.TextMap.{TextMap, key_text}
 use Rattle.ccr_history.specs.Builds.{BuildData, build_of}
 use Rattle.ccr_history.specs.Pairs.{has_pair}
-use Rattle.ccr_values.specs.Scopes.{ScopeData}
+use Rattle.ccr_history.specs.Scopes.{ScopeData}
 use Rattle.ccr_history.specs.Tables.{versions_of, scope_number}
 use Rattle.ccr_history.specs.History.{HistoryData}
 use Rattle.ccr_pipeline.specs.Pipelines.{PipelineData}
@@ -19,8 +19,8 @@ use Rattle.ccr_resolve.specs.declared.answer.Answer.TheVariants.{Best, Nothing, 
 use Rattle.ccr_resolve.specs.Answer.{IsAnswer}
 use Rattle.ccr_core.specs.Holding.{CoreData}
 use Rattle.ccr_core.specs.State.{no_pipeline}
-use Rattle.ccr_commands.specs.declared.form.Form.{Form}
-use Rattle.ccr_commands.specs.Commands.{ShownData, builds, versions, problem, proof, certificate, explanation, pipeline, resources, jobs, graph, build, trace, build_certificate}
+use Rattle.ccr_core.specs.declared.form.Form.{Form}
+use Rattle.ccr_core.specs.Commands.{ShownData, builds, versions, problem, proof, certificate, explanation, pipeline, resources, jobs, graph, build, trace, build_certificate}
 use Rattle.ccr_lines.specs.declared.shown.Shown.{Shown}
 use Rattle.ccr_lines.specs.declared.shown.Shown.TheVariants as value
 use Rattle.ccr_lines.specs.declared.shown.ShowFault.{ShowFault}

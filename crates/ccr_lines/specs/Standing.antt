@@ -1,7 +1,7 @@
 -- How the resources and the jobs of a pipeline stand.
 use Rattle.std.specs.Prelude.{◌≡◌, ℕ, List, [], ◌∷◌, ◌++◌, length, flat_map, codes, decimal, Option, Some, None}
-use Rattle.ccr_values.specs.Text.{Text}
-use Rattle.ccr_values.specs.TextMap.{TextMap, key_text}
+use Rattle.ccr_history.specs.Text.{Text}
+use Rattle.ccr_history.specs.TextMap.{TextMap, key_text}
 use Rattle.ccr_history.specs.Tables.{versions_of}
 use Rattle.ccr_history.specs.Builds.{BuildData, build_of, count_of}
 use Rattle.ccr_history.specs.Changes.{pin_of}

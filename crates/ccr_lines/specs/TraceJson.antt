@@ -1,13 +1,13 @@
 -- Where a version went, as JSON.
 use Rattle.std.specs.Prelude.{List, [], ◌∷◌, flat_map, Bool, ◌&&◌, ◌||◌, if◌then◌else◌, codes, decimal}
 use Rattle.serde_json.specs.Data.{Data, boolean, string, object, no_members, member}
-use Rattle.ccr_values.specs.Text.{Text}
-use Rattle.ccr_values.specs.TextMap.{TextMap}
+use Rattle.ccr_history.specs.Text.{Text}
+use Rattle.ccr_history.specs.TextMap.{TextMap}
 use Rattle.ccr_history.specs.Tables.{TableData}
 use Rattle.ccr_history.specs.Builds.{BuildData, is_succeeded}
 use Rattle.ccr_history.specs.History.{HistoryData}
-use Rattle.ccr_commands.specs.declared.form.Form.{Form}
-use Rattle.ccr_commands.specs.declared.form.Form.TheVariants as form
+use Rattle.ccr_core.specs.declared.form.Form.{Form}
+use Rattle.ccr_core.specs.declared.form.Form.TheVariants as form
 use Rattle.ccr_lines.specs.Json.{list, json_line}
 use Rattle.ccr_lines.specs.Lines.{status_word}
 use Rattle.ccr_lines.specs.Traces.{has_taken, has_moved, trace_lines}

@@ -3,8 +3,8 @@ use Rattle.std.specs.Prelude.{ℕ, List, [], ◌∷◌, flat_map, Bool, false, �
 use Rattle.std.specs.List.{list_any}
 use Rattle.std.specs.Option.{option_map_or}
 use Rattle.std.specs.Str.{bytes_eq}
-use Rattle.ccr_values.specs.Text.{Text}
-use Rattle.ccr_values.specs.TextMap.{TextMap, meets}
+use Rattle.ccr_history.specs.Text.{Text}
+use Rattle.ccr_history.specs.TextMap.{TextMap, meets}
 use Rattle.ccr_history.specs.Tables.{TableData, at_place, versions_at}
 use Rattle.ccr_history.specs.Builds.{BuildData, is_succeeded}
 use Rattle.ccr_history.specs.History.{HistoryData}

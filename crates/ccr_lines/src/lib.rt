@@ -5,20 +5,43 @@
 //! whole line always follows. A vector is one, and [`Printed`] prints what it is handed.
 //!
 //! What a command shows that changes nothing is a [`Shown`]: a [`Show`] writes its lines from what the core holds
-//! (`specs/Shown.antt`), some in either form: as lines, or as JSON. `ccr_show` has the one that the program takes.
+//! (`specs/Shown.antt`), some in either form: as lines, or as JSON. The program takes [`AsText`]: for each kind of [`Shown`] a function gives
+//! the status and the bytes.
 #![tactic(auto)]
 
 mod asked;
+mod build_certificate;
 mod cause;
+mod certificate;
+mod edge;
+mod explain;
+mod explain_json;
+mod graph;
 mod held;
+mod jobs_json;
+mod json;
+mod label;
 mod lines;
 mod outlook;
+mod past;
 mod print;
 mod printed;
+mod problem;
 mod reason;
+mod release;
+mod release_json;
+mod resources_json;
 mod show;
 mod shown;
+mod shows;
+mod standing;
 mod subject;
+mod taken;
+mod texts;
+mod trace;
+mod trace_json;
+mod witness;
+mod words;
 
 pub use asked::Asked;
 pub use cause::Cause;
@@ -33,4 +56,5 @@ pub use printed::Printed;
 pub use reason::Reason;
 pub use show::Show;
 pub use shown::{ShowFault, Shown};
+pub use shows::AsText;
 pub use subject::Subject;

@@ -1,6 +1,6 @@
 //! Where lines go.
 ghost use Rattle.std.specs.Prelude.{◌≡◌, ◌+◌, ◌-◌, ◌≤◌, ◌++◌, ℕ, List, [], length, OnOk, string_bytes, vec_len, vec_capacity};
-ghost use Rattle.ccr_values.specs.Text.{Text};
+ghost use Rattle.ccr_history.specs.Text.{Text};
 ghost use Rattle.ccr_lines.specs.Noted.{IsNoted};
 
 use std::alloc::AllocError;

@@ -2,8 +2,7 @@
 ghost use Rattle.std.specs.Prelude.{◌≡◌};
 ghost use Rattle.ccr_lines.specs.declared.shown.ShowFault.TheVariants.{NoMemory};
 
-use ccr_commands::Form;
-use ccr_core::CoreFault;
+use ccr_core::{CoreFault, Form};
 use std::alloc::AllocError;
 
 /// What a command shows that changes nothing. A name is that of a resource or a job, as it was typed; a form says how it is

@@ -6,8 +6,8 @@ use Rattle.std.specs.Option.{IfSome}
 use Rattle.serde_json.specs.Data.{Data, null, boolean, number, string, array, object, Items, no_items, item, Members}
 use Rattle.serde_json.specs.Find.{as_str, as_object}
 use Rattle.serde_json.specs.Written.{members_have_float}
-use Rattle.ccr_values.specs.Objects.{object_of}
-use Rattle.ccr_values.specs.TextMap.{TextMap, texts_of, text_map_of, members_of}
+use Rattle.ccr_history.specs.Objects.{object_of}
+use Rattle.ccr_history.specs.TextMap.{TextMap, texts_of, text_map_of, members_of}
 use Rattle.ccr_pipeline.specs.declared.fault.Rule.TheVariants as rule
 use Rattle.ccr_pipeline.specs.declared.schema.Kind.{Kind}
 use Rattle.ccr_pipeline.specs.declared.schema.Kind.TheVariants as kind

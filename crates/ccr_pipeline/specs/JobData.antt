@@ -1,9 +1,9 @@
 -- What resources and jobs hold, without where it lies in memory.
 use Rattle.std.specs.Prelude.{ℕ, Bool, List, Option, map, option_map, string_bytes}
 use Rattle.serde_json.specs.Data.{Data}
-use Rattle.ccr_values.specs.ObjectData.{object_data}
-use Rattle.ccr_values.specs.Scopes.{ScopeData}
-use Rattle.ccr_values.specs.TextMap.{TextMap}
+use Rattle.ccr_history.specs.ObjectData.{object_data}
+use Rattle.ccr_history.specs.Scopes.{ScopeData}
+use Rattle.ccr_history.specs.TextMap.{TextMap}
 use Rattle.ccr_pipeline.specs.declared.resource.Resource.{Resource}
 use Rattle.ccr_pipeline.specs.declared.resource.Job.{Job}
 use Rattle.ccr_pipeline.specs.Scopes.{scope_with}

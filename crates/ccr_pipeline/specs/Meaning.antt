@@ -4,8 +4,8 @@ use Rattle.std.specs.Str.{bytes_eq}
 use Rattle.serde_json.specs.Data.{Data, null, Items, no_items, item, Members, no_members, member}
 use Rattle.serde_json.specs.Find.{as_null, as_str, as_bool, as_number, as_u64, as_object}
 use Rattle.serde_json.specs.Written.{has_float, compact_text}
-use Rattle.ccr_values.specs.Objects.{object_of}
-use Rattle.ccr_values.specs.TextMap.{TextMap, text_map_of}
+use Rattle.ccr_history.specs.Objects.{object_of}
+use Rattle.ccr_history.specs.TextMap.{TextMap, text_map_of}
 use Rattle.ccr_pipeline.specs.Keys.{at_key, or_else, list_at}
 use Rattle.ccr_pipeline.specs.Names.{text_at, texts_in}
 use Rattle.ccr_pipeline.specs.Tree.{Text, WantedData, latest, every, pinned, GetData, PutData, RunData, ConfigData, SourceData, config, file, TaskData}

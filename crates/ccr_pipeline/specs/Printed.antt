@@ -1,7 +1,7 @@
 -- What was read of a pipeline, printed as a JSON value.
 use Rattle.std.specs.Prelude.{ℕ, List, [], ◌∷◌, ◌++◌, Bool, Option, Some, None, option_map, unwrap_or, codes}
 use Rattle.serde_json.specs.Data.{unsigned, Data, null, boolean, number, string, array, object, Items, no_items, item, Members, no_members, put as put_member}
-use Rattle.ccr_values.specs.TextMap.{members_of}
+use Rattle.ccr_history.specs.TextMap.{members_of}
 use Rattle.ccr_pipeline.specs.declared.step.When.{When}
 use Rattle.ccr_pipeline.specs.declared.step.When.TheVariants.{OnSuccess, OnFailure, OnError, OnAbort, Ensure}
 use Rattle.ccr_pipeline.specs.JobData.{ResourceData, JobData}

@@ -2,8 +2,8 @@
 use Rattle.std.specs.Prelude.{Option}
 use Rattle.serde_json.specs.Data.{Data}
 use Rattle.serde_json.specs.Written.{compact_text}
-use Rattle.ccr_values.specs.Sources.{source_or_empty}
-use Rattle.ccr_values.specs.Scopes.{ScopeData}
+use Rattle.ccr_history.specs.Sources.{source_or_empty}
+use Rattle.ccr_history.specs.Scopes.{ScopeData}
 use Rattle.ccr_pipeline.specs.Tree.{Text}
 
 -- the scope that versions belong to of a resource with this name, type and source: the source is there as compact text

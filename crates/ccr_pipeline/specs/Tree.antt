@@ -1,8 +1,8 @@
 -- What the types of this crate hold, without where it lies in memory.
 use Rattle.std.specs.Prelude.{ℕ, Bool, List, [], ◌∷◌, ◌++◌, Option, map, option_map, string_bytes, codes}
 use Rattle.serde_json.specs.Data.{Data}
-use Rattle.ccr_values.specs.ObjectData.{object_data}
-use Rattle.ccr_values.specs.TextMap.{TextMap}
+use Rattle.ccr_history.specs.ObjectData.{object_data}
+use Rattle.ccr_history.specs.TextMap.{TextMap}
 use Rattle.ccr_pipeline.specs.declared.task.Run.{Run}
 use Rattle.ccr_pipeline.specs.declared.task.TaskInput.{TaskInput}
 use Rattle.ccr_pipeline.specs.declared.task.Variable.{Variable}

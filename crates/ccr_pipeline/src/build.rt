@@ -4,7 +4,7 @@
 //! empty, false or none.
 ghost use Rattle.std.specs.Prelude.{◌≡◌, [], map, option_map, IfOk, string_bytes};
 ghost use Rattle.serde_json.specs.View.{view, members_view};
-ghost use Rattle.ccr_values.specs.ObjectData.{object_data};
+ghost use Rattle.ccr_history.specs.ObjectData.{object_data};
 ghost use Rattle.ccr_pipeline.specs.Keys.{at_key, list_at};
 ghost use Rattle.ccr_pipeline.specs.Names.{text_at};
 ghost use Rattle.ccr_pipeline.specs.Tree.{run_data, input_data, variable_data, config_data, source_data, task_data};
@@ -18,7 +18,7 @@ use crate::key::{at_key, list_at};
 use crate::names::text_at;
 use crate::step::{Get, Put, Wanted};
 use crate::task::{Run, Task, TaskConfig, TaskInput, TaskSource, Variable};
-use ccr_values::{HistoryFault, Object, Pin, has_float};
+use ccr_history::{HistoryFault, Object, Pin, has_float};
 use serde_json::Value;
 use std::alloc::{AllocError, Global};
 use std::collections::BTreeMap;

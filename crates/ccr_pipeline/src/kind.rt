@@ -11,7 +11,7 @@ use crate::cursor::Cursor;
 use crate::fault::{Checked, Rule};
 use crate::place::Place;
 use crate::schema::Kind;
-use ccr_values::has_float;
+use ccr_history::has_float;
 use serde_json::Value;
 use std::alloc::Global;
 use std::collections::BTreeMap;

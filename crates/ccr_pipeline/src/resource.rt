@@ -1,6 +1,6 @@
 //! Resources and jobs.
 ghost use Rattle.std.specs.Prelude.{◌≡◌, IsTrue, ◌&&◌, option_map, string_bytes};
-ghost use Rattle.ccr_values.specs.ObjectData.{object_data};
+ghost use Rattle.ccr_history.specs.ObjectData.{object_data};
 ghost use Rattle.ccr_pipeline.specs.Inputs.{are_few, inputs};
 ghost use Rattle.ccr_pipeline.specs.Kinds.{is_name};
 ghost use Rattle.ccr_pipeline.specs.Limits.{IsShallow, TriesFit, TriesFit-prop, IsWellNamed, HasDistinctInputs};
@@ -9,7 +9,7 @@ ghost use Rattle.std.proofs.Props.{props};
 ghost use Rattle.ccr_pipeline.specs.Tree.{tree_of};
 
 use crate::step::Step;
-use ccr_values::{Object, Pin, Scope};
+use ccr_history::{Object, Pin, Scope};
 use std::rc::Rc;
 
 /// A resource (Concourse: resources).

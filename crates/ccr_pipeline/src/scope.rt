@@ -1,13 +1,13 @@
 //! The scopes of resources' versions.
 ghost use Rattle.std.specs.Prelude.{◌≡◌, option_map, string_bytes, IfOk};
 ghost use Rattle.serde_json.specs.Written.{compact_text};
-ghost use Rattle.ccr_values.specs.ObjectData.{object_data};
-ghost use Rattle.ccr_values.specs.Sources.{source_or_empty};
+ghost use Rattle.ccr_history.specs.ObjectData.{object_data};
+ghost use Rattle.ccr_history.specs.Sources.{source_or_empty};
 ghost use Rattle.ccr_pipeline.specs.JobData.{resource_data, scope_of};
 ghost use Rattle.ccr_pipeline.specs.Scopes.{scope_with};
 
 use crate::resource::Resource;
-use ccr_values::{Object, Scope};
+use ccr_history::{Object, Scope};
 use std::alloc::{AllocError, Global};
 
 /// A source as compact text; an absent one is the object without members.

@@ -3,7 +3,7 @@ ghost use Rattle.std.specs.Prelude.{◌≡◌};
 ghost use Rattle.ccr_pipeline.specs.Tree.{hook_key};
 
 use crate::task::Task;
-use ccr_values::{Object, Pin};
+use ccr_history::{Object, Pin};
 
 /// Which versions a get wants.
 #[derive(Drop)]

@@ -1,7 +1,7 @@
 //! Answers to what a build asked, as words.
 
-use ccr_cases::{LineFault, version_of};
 use ccr_pipeline::read_task;
+use ccr_rows::{LineFault, version_of};
 use ccr_steps::Answered;
 use std::alloc::Global;
 

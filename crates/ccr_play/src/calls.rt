@@ -3,12 +3,12 @@ ghost use Rattle.std.specs.Prelude.{◌≤◌};
 ghost use Rattle.ccr_proof.specs.Claim.{IsClaim};
 
 use crate::problems::proof_text;
-use ccr_cases::{Answer, OVER_BUDGET};
 use ccr_choice::{Problem, ProblemFault, read_problem};
 use ccr_index::build_index;
 use ccr_pipeline::{ReadFault, read, read_task};
 use ccr_proof::{Claim, write_claim};
 use ccr_resolve::{Chosen, choose};
+use ccr_rows::{Answer, OVER_BUDGET};
 use std::alloc::{AllocError, Global};
 
 /// A line that tells why a text is refused.

@@ -20,9 +20,9 @@ use crate::events::index::{first_other, index_text};
 use crate::events::lists::lists_text;
 use crate::reply::{MOST_BYTES, fault_name, push_reply};
 use crate::show::{builds_text, tables_text, wants_text};
-use ccr_cases::{LineFault, Player, number_of, split};
 use ccr_core::{Core, CoreFault, Event};
 use ccr_history::History;
+use ccr_rows::{LineFault, Player, number_of, split};
 use std::alloc::{AllocError, Global};
 
 /// The core that was begun last, if one was, and whether its indexes are compared after each event.

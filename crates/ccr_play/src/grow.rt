@@ -1,8 +1,8 @@
 //! Large histories, for benchmarks.
 
 use anyhow::{Result, bail};
-use ccr_cases::version_numbered;
 use ccr_history::{History, Scope, Status, Used};
+use ccr_rows::version_numbered;
 use std::alloc::Global;
 
 /// A used place of the input of this name.

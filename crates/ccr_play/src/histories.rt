@@ -14,14 +14,14 @@ ghost use Rattle.std.specs.Prelude.{◌≤◌};
 use crate::grow::{extend, grow, one_more};
 use crate::problems::proof_text;
 use anyhow::{Result, anyhow, bail};
-use ccr_cases::{
-    Player, number_of, numbered, pair_of, pairs_of, pin_of, scope_in, split, status_of, text_of,
-    used_places, version_of, versions_of,
-};
 use ccr_choice::{Problem, write_problem};
 use ccr_history::{History, HistoryFault, Scope, Status, Version};
 use ccr_pipeline::{Pipeline, read};
 use ccr_problem::problem_of;
+use ccr_rows::{
+    Player, number_of, numbered, pair_of, pairs_of, pin_of, scope_in, split, status_of, text_of,
+    used_places, version_of, versions_of,
+};
 use std::alloc::{AllocError, Global};
 
 /// The history, and the pipeline that was set last.

@@ -7,8 +7,9 @@ use crate::pipelines::Pipelines;
 use crate::problems::Problems;
 use crate::programs::Programs;
 use crate::steps::Steps;
+use crate::stores::Stores;
 use crate::versions::Versions;
-use ccr_cases::{Kind, Telling, played};
+use ccr_rows::{Kind, Telling, played};
 use std::io;
 
 /// The kinds that this program plays.
@@ -21,6 +22,7 @@ pub(crate) enum LineKind {
     Problems,
     Programs,
     Steps,
+    Stores,
     Versions,
 }
 
@@ -34,6 +36,7 @@ impl Kind for LineKind {
             "problems" => Some(LineKind::Problems),
             "programs" => Some(LineKind::Programs),
             "steps" => Some(LineKind::Steps),
+            "stores" => Some(LineKind::Stores),
             "versions" => Some(LineKind::Versions),
             _ => None,
         }
@@ -49,6 +52,7 @@ impl Kind for LineKind {
             LineKind::Problems => played(rt, Problems::new(alloc), lines, telling),
             LineKind::Programs => played(rt, Programs, lines, telling),
             LineKind::Steps => played(rt, Steps, lines, telling),
+            LineKind::Stores => played(rt, Stores::new(rt, None), lines, telling),
             LineKind::Versions => played(rt, Versions, lines, telling),
         }
     }

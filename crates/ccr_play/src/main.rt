@@ -13,9 +13,10 @@
 //! | `programs` | requests, replies, launches, ends, and builds whose programs are a script |
 //! | `histories` | a history, and the problems of its jobs |
 //! | `events` | events of a core |
+//! | `stores` | histories that a store keeps and loads |
 //!
 //! Each has a module of its name, which says what its lines are. With the word `--timed` behind it, nothing but each line's
-//! time is printed. `ccr_play_server` plays the kinds that need a server or a database.
+//! time is printed. `ccr_play_server` plays those of servers. `ccr_play stores DATABASE` keeps the histories in files of this name too.
 //!
 //! `ccr_play check KIND.cases ..` plays the lines of files, and compares what is told with the files: a line for each file. The
 //! gate runs this on the files of `data/`, whose answers were worked out by hand.
@@ -24,12 +25,14 @@
 //! the proof of its best choice, or that none satisfies, of at most BUDGET nodes; `ccr_play choose BUDGET` prints the line of
 //! the same claim alone. `ccr_play type PROGRAMS FOLDER` reads `{"source":..,"params":..}` and tries a resource type: it starts
 //! PROGRAMS/check, PROGRAMS/in for the last version and PROGRAMS/out in FOLDER, with FOLDER/in as the artifact's folder, and
-//! prints each version. Statuses: 0 done, 1 refused or answered otherwise, 2 usage, 3 over budget, 4 out of memory
+//! prints each version. `ccr_play commits DATABASE COUNT` makes so many builds more in a
+//! database, three commits each, and prints how long the commits took. `ccr_play bench CALL [COUNT]` measures a call (`bench.rt`). Statuses: 0 done, 1 refused or answered otherwise, 2 usage, 3 over budget, 4 out of memory
 //! or unreadable.
 #![tactic(auto)]
 
 mod answer;
 mod ask;
+mod bench;
 mod builds;
 mod calls;
 mod event;
@@ -40,21 +43,43 @@ mod json;
 mod kind;
 mod order;
 mod pipelines;
+mod plain;
 mod problems;
 mod programs;
 mod reply;
 mod show;
 mod steps;
+mod stores;
 mod trial;
 mod versions;
 
+use bench::answer_bench;
 use calls::{answer_choose, answer_pipeline, answer_resolve, answer_task};
-use ccr_cases::{Answer, arguments, check, input, play_input, tell};
+use ccr_rows::{Answer, Telling, arguments, check, input, play_input, played, tell};
 use kind::LineKind;
 use order::{Call, call_of};
 use std::io;
 use std::process::ExitCode;
+use stores::{Stores, commits_told};
 use trial::answer_type;
+
+/// What is told of lines of stores on standard input, whose histories are kept in files of this name too.
+fn keep(rt: &HostRuntime, path: &str) -> io::Result<Answer> {
+    let stores = Stores::new(rt, Some(path));
+    let lines = played(rt, stores, input(rt)?.as_str(), Telling::Answers)?;
+    Ok(Answer { lines, status: 0 })
+}
+
+/// Makes builds in a database, and tells how long their commits took, or why there is none.
+fn commits(rt: &HostRuntime, path: &str, count: u32) -> io::Result<Answer> {
+    match commits_told(rt, path, count) {
+        Ok(lines) => Ok(Answer { lines, status: 0 }),
+        Err(error) => Ok(Answer {
+            lines: format!(in rt.alloc(); "{error}\n")?,
+            status: 1,
+        }),
+    }
+}
 
 fn answer_of(rt: &HostRuntime, call: Call<'_>) -> io::Result<Answer> {
     let alloc = rt.alloc();
@@ -66,6 +91,9 @@ fn answer_of(rt: &HostRuntime, call: Call<'_>) -> io::Result<Answer> {
         Call::Resolve(budget) => Ok(answer_resolve(alloc, input(rt)?.as_bytes(), budget.nodes)?),
         Call::Choose(budget) => Ok(answer_choose(alloc, input(rt)?.as_bytes(), budget.nodes)?),
         Call::Type(trial) => Ok(answer_type(rt, alloc, input(rt)?.as_bytes(), &trial)?),
+        Call::Bench(bench) => answer_bench(rt, bench),
+        Call::Kept(path) => keep(rt, path),
+        Call::Commits(path, count) => commits(rt, path, count),
     }
 }
 
@@ -83,7 +111,7 @@ fn main(rt: HostRuntime) -> io::Result<ExitCode> {
         Ok(Some(answer)) => tell(&rt, &answer),
         Ok(None) => {
             eprintln!(rt;
-                "usage: ccr_play KIND [--timed]|check FILE..|pipeline|task|resolve BUDGET|choose BUDGET|type PROGRAMS FOLDER"
+                "usage: ccr_play KIND [--timed]|check FILE..|pipeline|task|resolve BUDGET|choose BUDGET|type PROGRAMS FOLDER|stores DATABASE|commits DATABASE COUNT|bench CALL [COUNT]"
             )?;
             Ok(ExitCode::from(2))
         }

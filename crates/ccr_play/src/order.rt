@@ -1,9 +1,10 @@
 //! What the program's words ask for.
 ghost use Rattle.std.specs.Prelude.{◌≤◌};
 
+use crate::bench::Bench;
 use crate::kind::LineKind;
 use crate::trial::Trial;
-use ccr_cases::{Kind, Telling};
+use ccr_rows::{Kind, Telling};
 
 /// A node budget, from 1 to 1,000,000.
 #[derive(Clone, Copy, PartialEq, Eq)]
@@ -23,6 +24,10 @@ pub(crate) enum Call<'a> {
     Resolve(Budget),
     Choose(Budget),
     Type(Trial<'a>),
+    Bench(Bench),
+    /// Lines of stores, whose histories are kept in files of this name too.
+    Kept(&'a str),
+    Commits(&'a str, u32),
 }
 
 fn budget_of(word: &str) -> Option<Budget> {
@@ -39,6 +44,7 @@ fn call_of_two<'a>(first: &'a str, second: &'a str) -> Option<Call<'a>> {
     match (first, second) {
         ("resolve", budget) => Some(Call::Resolve(budget_of(budget)?)),
         ("choose", budget) => Some(Call::Choose(budget_of(budget)?)),
+        ("stores", path) if path != "--timed" => Some(Call::Kept(path)),
         (kind, "--timed") => Some(Call::Lines(LineKind::of_name(kind)?, Telling::Times)),
         _ => None,
     }
@@ -48,12 +54,18 @@ fn call_of_two<'a>(first: &'a str, second: &'a str) -> Option<Call<'a>> {
 pub(crate) fn call_of(words: &[String]) -> Option<Call<'_>> {
     match words {
         [first, names @ ..] if first.as_str() == "check" => Some(Call::Check(names)),
+        [first, words @ ..] if first.as_str() == "bench" => Some(Call::Bench(Bench::of_words(
+            words,
+        )?)),
         [first] => match first.as_str() {
             "pipeline" => Some(Call::Pipeline),
             "task" => Some(Call::Task),
             kind => Some(Call::Lines(LineKind::of_name(kind)?, Telling::Answers)),
         },
         [first, second] => call_of_two(first.as_str(), second.as_str()),
+        [first, path, count] if first.as_str() == "commits" => {
+            Some(Call::Commits(path.as_str(), count.as_str().parse::<u32>().ok()?))
+        }
         [first, programs, folder] if first.as_str() == "type" => Some(Call::Type(Trial {
             programs: programs.as_str(),
             folder: folder.as_str(),

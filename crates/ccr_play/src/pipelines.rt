@@ -5,10 +5,10 @@
 //! it stands first. `pipeline-parts`, `pipeline-unused` and `pipeline-inputs` tell more of a pipeline, `task-variables` of a task file.
 //! `pipeline-bytes` has the bytes of a text in hexadecimal, and `pipeline-of COUNT WHAT` makes one with so many of something.
 
-use ccr_cases::{Player, split};
 use ccr_pipeline::{
     Input, Job, Pipeline, ReadFault, TaskConfig, Wanted, inputs_of, read, read_task,
 };
+use ccr_rows::{Player, split};
 use std::alloc::{AllocError, Global};
 
 /// Plays lines of pipelines and task files, with the example that was given last.

@@ -10,8 +10,8 @@ mod scripts;
 mod whole;
 
 use anyhow::{Result, anyhow};
-use ccr_cases::{Player, split, version_of};
 use ccr_history::{Object, Version};
+use ccr_rows::{Player, split, version_of};
 use serde_json::Value;
 use std::alloc::{AllocError, Global};
 

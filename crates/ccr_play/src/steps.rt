@@ -9,9 +9,9 @@
 
 use crate::answer::answered_of;
 use anyhow::{Result, anyhow, bail};
-use ccr_cases::{Player, split, versions_of};
 use ccr_history::{Object, Version};
 use ccr_pipeline::{Job, Pipeline, inputs_of, read};
+use ccr_rows::{Player, split, versions_of};
 use ccr_steps::{Answered, Ask, Before, BuildRun, FeedFault, start};
 use std::alloc::{AllocError, Global};
 

@@ -1,11 +1,11 @@
 //! The programs of a resource type are tried.
 
-use ccr_cases::Answer;
 use ccr_history::{Object, Version};
 use ccr_process::{Ended, Launch, Machine, Runner};
 use ccr_protocol::{
     ReplyFault, RequestFault, check_request, in_request, out_request, read_check, read_in, read_out,
 };
+use ccr_rows::Answer;
 use serde_json::Value;
 use std::alloc::{AllocError, AllocFailed, Global};
 use std::process::Processes;

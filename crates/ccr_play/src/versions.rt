@@ -3,8 +3,8 @@
 //! `version JSON`, `pin JSON` and `object JSON` ask for the text of one; `meets VERSION PIN`, texts without blanks, whether the
 //! version meets the pin.
 
-use ccr_cases::{LineFault, Player, pin_of, split, value_of, version_of};
 use ccr_history::{HistoryFault, Object, Pin, Version, has_float};
+use ccr_rows::{LineFault, Player, pin_of, split, value_of, version_of};
 use serde_json::Value;
 use std::alloc::{AllocError, Global};
 

@@ -21,9 +21,9 @@ mod unkept;
 
 use anyhow::Result;
 use aside::Aside;
-use ccr_cases::{Player, split};
-use ccr_commands::{Command, Form};
+use ccr_core::{Command, Form};
 use ccr_lines::{Lines, Printed};
+use ccr_rows::{Player, split};
 use ccr_serve::ServeFault;
 use script::Script;
 use serving::Serving;

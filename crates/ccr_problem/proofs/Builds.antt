@@ -6,7 +6,7 @@ use Rattle.std.proofs.lemmas.Bool.{and_from, lt-ltb, le-leb}
 use Rattle.std.proofs.lemmas.List.{length-map, length-reverse, reverse-append, append-nil, take_at}
 use Rattle.std.proofs.lemmas.List.Elements.{filter-append}
 use Rattle.std.proofs.lemmas.List.Sums.{length-filter, count_by-le-length, sum_by_push}
-use Rattle.ccr_values.specs.Text.{Text}
+use Rattle.ccr_history.specs.Text.{Text}
 use Rattle.ccr_history.specs.Builds.{BuildData, is_of, count_of, is_succeeded, passed_pairs}
 use Rattle.ccr_history.specs.History.{HistoryData, IsTable, IsBuild, AreNumbered, IsHistory}
 use Rattle.ccr_history.specs.Tables.{TableData}

@@ -4,8 +4,8 @@ use Rattle.std.specs.Prelude.{filter, nat_lt, nat_le}
 use Rattle.std.specs.List.{AllByRecursion, enumerate_from}
 use Rattle.std.proofs.lemmas.Bool.{and_parts, and_from, cond-true, ltb-true, leb-true, lt-ltb, eqb-true, ne_eqb, false_from_ne_true}
 use Rattle.ccr_history.specs.Pairs.{is_same_pair, has_pair}
-use Rattle.ccr_values.specs.TextMap.{TextMap}
-use Rattle.ccr_values.specs.Scopes.{ScopeData, is_scope}
+use Rattle.ccr_history.specs.TextMap.{TextMap}
+use Rattle.ccr_history.specs.Scopes.{ScopeData, is_scope}
 use Rattle.ccr_history.specs.Tables.{TableData, versions_of, scope_number}
 use Rattle.ccr_history.specs.History.{places_at, has_place}
 use Rattle.ccr_choice.specs.Problem.{are_places_after}

@@ -9,7 +9,7 @@ use Rattle.std.proofs.lemmas.List.{reverse-append, append-nil, take_at}
 use Rattle.std.proofs.lemmas.List.Sums.{sum_by_push}
 use Rattle.ccr_history.specs.declared.build.Status.{Status}
 use Rattle.ccr_history.specs.declared.build.Status.TheVariants.{Running, Succeeded}
-use Rattle.ccr_values.specs.Text.{Text}
+use Rattle.ccr_history.specs.Text.{Text}
 use Rattle.ccr_history.specs.Newest.{last_given, place_if_at, newest_used}
 use Rattle.ccr_history.specs.Changes.{build, ended as ended_edit, edited}
 use Rattle.ccr_history.specs.Builds.{UsedData, BuildData, is_of, is_build_of, count_of, build_of, new_build, ended, with_end, is_succeeded, by_place}

@@ -1,7 +1,7 @@
 -- The job of a name is there exactly where a job has the name.
 use Rattle.std.proofs.Common.{◌≡◌, List, [], ◌∷◌, Bool, true, false, ◌||◌, cond, refl, Option, Some, None}
 use Rattle.std.specs.Str.{bytes_eq}
-use Rattle.ccr_values.specs.Text.{Text}
+use Rattle.ccr_history.specs.Text.{Text}
 use Rattle.ccr_pipeline.specs.JobData.{JobData}
 use Rattle.ccr_pipeline.specs.Links.{job_names}
 use Rattle.ccr_pipeline.specs.Names.{has_name}

@@ -8,7 +8,7 @@ use Rattle.std.proofs.lemmas.Bool.Decides.{nat_tests}
 use Rattle.std.proofs.lemmas.List.{append-nil, take_at}
 use Rattle.std.proofs.lemmas.List.Sums.{sum_by_push}
 use Rattle.ccr_history.specs.declared.build.Status.TheVariants.{Running}
-use Rattle.ccr_values.specs.Text.{Text}
+use Rattle.ccr_history.specs.Text.{Text}
 use Rattle.ccr_history.specs.Builds.{BuildData, is_of, is_build_of, count_of, build_of, is_succeeded}
 use Rattle.ccr_history.specs.History.{AreNumbered}
 use Rattle.ccr_problem.specs.Follows.{has_newer}

@@ -5,7 +5,7 @@ use Rattle.std.specs.Str.{bytes_eq}
 use Rattle.std.proofs.lemmas.Bool.{and_from, or_parts, or_from, le-leb, lt-ltb, ne_eqb, false≢true, not_from_false}
 use Rattle.std.proofs.lemmas.Bool.Decides.{nat_tests}
 use Rattle.std.proofs.lemmas.List.{length_push}
-use Rattle.ccr_values.specs.Text.{Text}
+use Rattle.ccr_history.specs.Text.{Text}
 use Rattle.ccr_pipeline.specs.Names.{has_name, with_name, with_names}
 use Rattle.ccr_choice.specs.Problem.{next_used, used_after, are_numbered, are_distinct}
 use Rattle.ccr_problem.specs.Numbering.{number_of}

@@ -6,16 +6,16 @@ use Rattle.std.specs.Option.{option_map_or}
 use Rattle.std.proofs.lemmas.Bool.{and_parts, ltb-true, leb-true, eqb-true, ne_eqb}
 use Rattle.std.proofs.lemmas.List.{append-nil, reverse-append}
 use Rattle.std.proofs.lemmas.List.Elements.{filter-append}
-use Rattle.ccr_values.specs.Text.{Text}
-use Rattle.ccr_values.specs.TextMap.{TextMap}
+use Rattle.ccr_history.specs.Text.{Text}
+use Rattle.ccr_history.specs.TextMap.{TextMap}
 use Rattle.ccr_history.specs.Builds.{BuildData, is_of, is_succeeded, passed_pairs}
-use Rattle.ccr_values.specs.Scopes.{ScopeData, is_scope}
+use Rattle.ccr_history.specs.Scopes.{ScopeData, is_scope}
 use Rattle.ccr_history.specs.Tables.{TableData, with_versions, with_report, reported, versions_of, scope_number}
 use Rattle.ccr_history.specs.Changes.{versions, edited}
 use Rattle.ccr_history.specs.Edits.{AreNew}
 use Rattle.ccr_history.specs.History.{HistoryData, IsBuild, IsHistory, places_at, has_place}
 use Rattle.ccr_history.specs.Newest.{newest_used}
-use Rattle.ccr_values.specs.Keys.{scope_equiv}
+use Rattle.ccr_history.specs.Keys.{scope_equiv}
 use Rattle.ccr_history.proofs.TableLaws.{versions_of-with_report}
 use Rattle.ccr_pipeline.specs.Inputs.{InputData, named_jobs}
 use Rattle.ccr_pipeline.specs.JobData.{ResourceData}

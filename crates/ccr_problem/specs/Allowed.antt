@@ -1,7 +1,7 @@
 -- Which versions an input may take.
 use Rattle.std.specs.Prelude.{ℕ, List, map, filter, not, Bool, true, ◌&&◌, Option, Some, None}
 use Rattle.std.specs.List.{enumerate_from}
-use Rattle.ccr_values.specs.TextMap.{TextMap, meets}
+use Rattle.ccr_history.specs.TextMap.{TextMap, meets}
 
 -- the pins that hold an input to some of its versions, as far as there are such: the pipeline's for the resource, the
 -- get's, and the one by command

@@ -1,7 +1,7 @@
 -- The indexes of a pipeline's jobs, and what comes to them.
 use Rattle.std.specs.Prelude.{◌≡◌, ℕ, ◌+◌, ◌<◌, ◌≤◌, List, length, map, slice_get, slice_index_or, Option, Some, None, if◌then◌else◌, ⊤}
 use Rattle.ccr_history.specs.declared.build.Status.{Status}
-use Rattle.ccr_values.specs.Text.{Text}
+use Rattle.ccr_history.specs.Text.{Text}
 use Rattle.ccr_history.specs.Builds.{is_succeeded}
 use Rattle.ccr_history.specs.Changes.{edited}
 use Rattle.ccr_history.specs.Edits.{edit_data, HasItsNumbers}

@@ -1,7 +1,7 @@
 -- What passed a job, as a problem has it.
 use Rattle.std.specs.Prelude.{ℕ, List, map, filter, reverse, ◌==◌}
 use Rattle.std.specs.List.{enumerate_from, flat_map}
-use Rattle.ccr_values.specs.Text.{Text}
+use Rattle.ccr_history.specs.Text.{Text}
 use Rattle.ccr_history.specs.Builds.{BuildData, is_of, is_succeeded, passed_pairs}
 use Rattle.ccr_choice.specs.Problem.{BuildValue}
 

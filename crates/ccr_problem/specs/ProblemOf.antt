@@ -1,8 +1,8 @@
 -- The problem of a job: what has to be chosen for its next build, in a pipeline with a history.
 use Rattle.std.specs.Prelude.{◌≡◌, ℕ, List, [], map, Bool, true, false, Option, Some, None, IsSomeAnd, if◌then◌else◌}
 use Rattle.std.specs.Option.{option_map_or}
-use Rattle.ccr_values.specs.Text.{Text}
-use Rattle.ccr_values.specs.TextMap.{TextMap}
+use Rattle.ccr_history.specs.Text.{Text}
+use Rattle.ccr_history.specs.TextMap.{TextMap}
 use Rattle.ccr_history.specs.Tables.{versions_of, scope_number}
 use Rattle.ccr_history.specs.Newest.{newest_used}
 use Rattle.ccr_history.specs.Pairs.{has_pair}

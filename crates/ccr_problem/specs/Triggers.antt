@@ -1,6 +1,6 @@
 -- Whether there is something new for a job.
 use Rattle.std.specs.Prelude.{Bool, false, not, ◌&&◌, ◌||◌, List, ◌∷◌}
-use Rattle.ccr_values.specs.Text.{Text}
+use Rattle.ccr_history.specs.Text.{Text}
 use Rattle.ccr_history.specs.Builds.{UsedData, BuildData, has_used}
 use Rattle.ccr_pipeline.specs.Inputs.{InputData}
 

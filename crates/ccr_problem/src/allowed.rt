@@ -1,7 +1,7 @@
 //! Which versions an input may take.
 ghost use Rattle.std.specs.Prelude.{◌≡◌, ◌≤◌, ◌+◌, length, IfOk};
 ghost use Rattle.std.specs.Option.{option_copied};
-ghost use Rattle.ccr_values.specs.TextMap.{meets};
+ghost use Rattle.ccr_history.specs.TextMap.{meets};
 ghost use Rattle.ccr_problem.specs.Allowed.{meets_if, meets_all, places_from, allowed_places};
 ghost use Rattle.ccr_problem.specs.ProblemOf.{is_disabled_at};
 

@@ -3,15 +3,15 @@ use Rattle.std.proofs.Common.{◌≡◌, ℕ, ◌^◌, ◌<◌, ◌≤◌, List,
 use Rattle.std.specs.List.{AllByRecursion}
 use Rattle.std.proofs.lemmas.Bool.{and_parts, and_from, leb-true, le-leb}
 use Rattle.std.proofs.lemmas.List.{append-nil}
-use Rattle.ccr_text.specs.declared.word.Word.{Word}
-use Rattle.ccr_text.specs.declared.word.Word.TheVariants as word
-use Rattle.ccr_text.specs.Text.{IsWord, lines_of}
-use Rattle.ccr_text.specs.Reading.{Refusal, bad_line, trailing, ◌>>=◌, or_broken, whole, number_words, front_numbers, after_numbers}
-use Rattle.ccr_text.proofs.Words.{IsFit}
-use Rattle.ccr_text.proofs.Texts.{IsLine, lines_fit}
+use Rattle.ccr_choice.specs.declared.word.Word.{Word}
+use Rattle.ccr_choice.specs.declared.word.Word.TheVariants as word
+use Rattle.ccr_choice.specs.Text.{IsWord, lines_of}
+use Rattle.ccr_choice.specs.Reading.{Refusal, bad_line, trailing, ◌>>=◌, or_broken, whole, number_words, front_numbers, after_numbers}
+use Rattle.ccr_choice.proofs.Words.{IsFit}
+use Rattle.ccr_choice.proofs.Texts.{IsLine, lines_fit}
 use Rattle.ccr_choice.proofs.Keeps.{bind_ok, or_ok}
 use Rattle.ccr_choice.proofs.Found.{front-number_words, after-number_words, numbers_are, front-all, after-all, none_left}
-use Rattle.ccr_text.proofs.Formats.{IsFormat, text_found, text_again, text_alone, text_read}
+use Rattle.ccr_choice.proofs.Formats.{IsFormat, text_found, text_again, text_alone, text_read}
 use Rattle.ccr_proof.specs.Claim.{IsClaim}
 use Rattle.ccr_proof.specs.ClaimText.{claim_line, claim_lines, claim_text, builds_part, claim_on, next_claim, claim_in, IsRead, IsReadAs, NothingFollows}
 use Rattle.ccr_proof.specs.declared.claim.Claim.{Claim}

@@ -2,10 +2,10 @@
 use Rattle.std.proofs.Common.{◌≡◌, ℕ, zero, suc, ◌+◌, ◌-◌, ◌<◌, ◌≤◌, ◌⊎◌, inl, inr, Bool, true, false, cond, ◌==◌, List, [], ◌∷◌, ◌++◌, length, Option, Some, None, Ok, Err, refl, sym, ap, ◌∙◌, arith, length-append}
 use Rattle.std.proofs.lemmas.Bool.{cases_lt, cases_Bool}
 use Rattle.std.proofs.lemmas.List.{append-nil}
-use Rattle.ccr_text.specs.declared.word.Word.{Word}
-use Rattle.ccr_text.specs.Text.{lines_of, unended, first_lines, ended_lines}
-use Rattle.ccr_text.specs.Reading.{Read, ◌>>=◌, or_broken, one_line, whole, IsFirstBad}
-use Rattle.ccr_text.specs.Reading as text
+use Rattle.ccr_choice.specs.declared.word.Word.{Word}
+use Rattle.ccr_choice.specs.Text.{lines_of, unended, first_lines, ended_lines}
+use Rattle.ccr_choice.specs.Reading.{Read, ◌>>=◌, or_broken, one_line, whole, IsFirstBad}
+use Rattle.ccr_choice.specs.Reading as text
 use Rattle.ccr_choice.proofs.Forward.{Reader, Reach, took, halted, wants, broke, IsForward, bind_err, forward_bind, forward_done, forward_same, forward_line}
 use Rattle.ccr_choice.proofs.BadLines.{bad_there, bad_back, tail_lines, first_rest}
 use Rattle.ccr_choice.proofs.Keeps.{bind_ok}

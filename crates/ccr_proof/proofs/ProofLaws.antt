@@ -3,14 +3,14 @@ use Rattle.std.proofs.Common.{◌≡◌, ℕ, zero, suc, ◌+◌, ◌^◌, ◌<�
 use Rattle.std.specs.List.{AllByRecursion}
 use Rattle.std.proofs.lemmas.Bool.{cases_lt, le-leb, or_left, or_right, eq-eqb}
 use Rattle.std.proofs.lemmas.List.{append-nil}
-use Rattle.ccr_text.specs.declared.word.Word.{Word}
-use Rattle.ccr_text.specs.declared.word.Word.TheVariants as word
-use Rattle.ccr_text.specs.Text.{lines_of, text_of}
-use Rattle.ccr_text.specs.Reading.{Read, ◌>>=◌, or_broken, one_line, whole}
+use Rattle.ccr_choice.specs.declared.word.Word.{Word}
+use Rattle.ccr_choice.specs.declared.word.Word.TheVariants as word
+use Rattle.ccr_choice.specs.Text.{lines_of, text_of}
+use Rattle.ccr_choice.specs.Reading.{Read, ◌>>=◌, or_broken, one_line, whole}
 use Rattle.ccr_choice.proofs.Keeps.{bind_ok, or_ok}
-use Rattle.ccr_text.proofs.Words.{IsFit}
-use Rattle.ccr_text.proofs.Texts.{IsLine, lines_fit}
-use Rattle.ccr_text.proofs.Formats.{IsFormat, text_read, text_found, text_again, text_alone}
+use Rattle.ccr_choice.proofs.Words.{IsFit}
+use Rattle.ccr_choice.proofs.Texts.{IsLine, lines_fit}
+use Rattle.ccr_choice.proofs.Formats.{IsFormat, text_read, text_found, text_again, text_alone}
 use Rattle.ccr_proof.specs.declared.claim.Claim.{Claim}
 use Rattle.ccr_proof.specs.declared.proof.Proof.{Proof}
 use Rattle.ccr_proof.specs.declared.fault.ProofFault.{ProofFault}

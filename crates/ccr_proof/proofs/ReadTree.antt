@@ -1,8 +1,8 @@
 -- Reading a tree, one node after the other.
 use Rattle.std.proofs.Common.{◌≡◌, ℕ, zero, suc, ◌+◌, ◌-◌, ◌<◌, ◌≤◌, List, [], ◌∷◌, ◌++◌, length, refl, sym, ap, ◌∙◌, subst, arith, Option, Some, Result, Ok, Err, nat_le, Vec, Global}
 use Rattle.std.proofs.lemmas.Bool.{le-leb, cond-true, cond-false, false_from_ne_true, leb-true}
-use Rattle.ccr_text.specs.declared.word.Word.{Word}
-use Rattle.ccr_text.specs.Reading.{◌>>=◌}
+use Rattle.ccr_choice.specs.declared.word.Word.{Word}
+use Rattle.ccr_choice.specs.Reading.{◌>>=◌}
 use Rattle.ccr_proof.specs.declared.node.Node.{Node, Job}
 use Rattle.ccr_proof.specs.declared.halt.Halt.{Halt}
 use Rattle.ccr_proof.specs.declared.halt.Halt.TheVariants.{Memory, Left, TooMany}

@@ -1,9 +1,9 @@
 -- The text of a claim: how it is written, and how it is read.
 use Rattle.std.specs.Prelude.{◌≡◌, ℕ, List, [], ◌∷◌, ◌++◌, length, ◌&&◌, ◌==◌, nat_le, Option, Some, None, Result, Ok, Err, if◌then◌else◌}
-use Rattle.ccr_text.specs.declared.word.Word.{Word}
-use Rattle.ccr_text.specs.declared.word.Word.TheVariants as word
-use Rattle.ccr_text.specs.Text.{text_of, lines_of}
-use Rattle.ccr_text.specs.Reading.{Refusal, bad_line, trailing, Read, one_line, whole, number_words, front_numbers, after_numbers}
+use Rattle.ccr_choice.specs.declared.word.Word.{Word}
+use Rattle.ccr_choice.specs.declared.word.Word.TheVariants as word
+use Rattle.ccr_choice.specs.Text.{text_of, lines_of}
+use Rattle.ccr_choice.specs.Reading.{Refusal, bad_line, trailing, Read, one_line, whole, number_words, front_numbers, after_numbers}
 use Rattle.ccr_proof.specs.Claim.{IsClaim}
 use Rattle.ccr_proof.specs.declared.claim.TheConstants.{MOST_NUMBERS}
 use Rattle.ccr_proof.specs.declared.claim.Claim.{Claim}

@@ -1,9 +1,9 @@
 -- Where reading a proof stops.
 use Rattle.std.specs.Prelude.{◌≡◌, ℕ, Result, Ok, Err, List}
-use Rattle.ccr_text.specs.declared.word.Word.{Word}
-use Rattle.ccr_text.specs.declared.stop.Stop.{Stop}
-use Rattle.ccr_text.specs.declared.stop.Stop.TheVariants as stop
-use Rattle.ccr_text.specs.Reading.{Read}
+use Rattle.ccr_choice.specs.declared.word.Word.{Word}
+use Rattle.ccr_choice.specs.declared.stop.Stop.{Stop}
+use Rattle.ccr_choice.specs.declared.stop.Stop.TheVariants as stop
+use Rattle.ccr_choice.specs.Reading.{Read}
 use Rattle.ccr_proof.specs.declared.halt.Halt.{Halt}
 use Rattle.ccr_proof.specs.declared.halt.Halt.TheVariants.{Memory, Left, TooMany}
 

@@ -1,9 +1,9 @@
 -- The text of a proof: how it is written, and how it is read from the first line to the last.
 use Rattle.std.specs.Prelude.{◌≡◌, ℕ, zero, suc, ◌+◌, ◌-◌, List, [], ◌∷◌, ◌++◌, length, ◌==◌, ◌||◌, nat_le, Option, Some, None, Result, Ok, Err, if◌then◌else◌}
-use Rattle.ccr_text.specs.declared.word.Word.{Word}
-use Rattle.ccr_text.specs.declared.word.Word.TheVariants as word
-use Rattle.ccr_text.specs.Text.{text_of, lines_of}
-use Rattle.ccr_text.specs.Reading.{◌>>=◌, keep_if, one_line}
+use Rattle.ccr_choice.specs.declared.word.Word.{Word}
+use Rattle.ccr_choice.specs.declared.word.Word.TheVariants as word
+use Rattle.ccr_choice.specs.Text.{text_of, lines_of}
+use Rattle.ccr_choice.specs.Reading.{◌>>=◌, keep_if, one_line}
 use Rattle.ccr_proof.specs.declared.claim.Claim.{Claim}
 use Rattle.ccr_proof.specs.declared.proof.TheConstants.{MOST_NODES, MOST_LEVELS}
 use Rattle.ccr_proof.specs.declared.format.TheConstants.{PROOF_FORMAT, SAME_FORMAT}

@@ -3,7 +3,7 @@
 ghost use Rattle.std.specs.Prelude.{◌≡◌};
 ghost use Rattle.ccr_proof.specs.declared.halt.Halt.TheVariants.{Memory};
 
-use ccr_text::Stop;
+use ccr_choice::Stop;
 use std::alloc::{AllocError, AllocFailed};
 
 /// Where a reader of a proof's lines stopped.

@@ -1,8 +1,8 @@
 //! Laws over the definitions alone: that a claim and a proof have one text each.
 
 ghost use Rattle.std.specs.Prelude.{◌≡◌, ◌↔◌, ◌≤◌, ◌++◌, ℕ, List, [], Ok, Err};
-ghost use Rattle.ccr_text.specs.Text.{first_lines, ended_lines};
-ghost use Rattle.ccr_text.specs.Reading.{bad_line as bad_claim_line, IsFirstBad};
+ghost use Rattle.ccr_choice.specs.Text.{first_lines, ended_lines};
+ghost use Rattle.ccr_choice.specs.Reading.{bad_line as bad_claim_line, IsFirstBad};
 ghost use Rattle.ccr_proof.specs.declared.claim.Claim.{Claim};
 ghost use Rattle.ccr_proof.specs.Claim.{IsClaim};
 ghost use Rattle.ccr_proof.specs.ClaimText.{claim_text, claim_in};

@@ -1,7 +1,7 @@
 //! Reading a proof from its text, from the first line to the last.
 
 ghost use Rattle.std.specs.Prelude.{◌≡◌, ◌≤◌, ◌+◌, IfOk, OnOk};
-ghost use Rattle.ccr_text.specs.Reading.{one_line, Gives};
+ghost use Rattle.ccr_choice.specs.Reading.{one_line, Gives};
 ghost use Rattle.ccr_proof.specs.declared.claim.Claim.{Claim};
 ghost use Rattle.ccr_proof.specs.Tree.{Tree, tree_of, count};
 ghost use Rattle.ccr_proof.specs.Proof.{IsProof};
@@ -16,7 +16,7 @@ use crate::halt::Halt;
 use crate::node::Node;
 use crate::proof::{MOST_LEVELS, MOST_NODES, Proof};
 use crate::read::next_claim;
-use ccr_text::{Line, Lines, Stop, Word};
+use ccr_choice::{Line, Lines, Stop, Word};
 use std::alloc::Global;
 
 /// What a node's line says.

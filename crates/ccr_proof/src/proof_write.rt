@@ -1,7 +1,7 @@
 //! Writing a proof as its text.
 
 ghost use Rattle.std.specs.Prelude.{◌≡◌, ◌≤◌, ◌++◌, Ok, OnOk, IfOk, string_bytes};
-ghost use Rattle.ccr_text.specs.Text.{text_of};
+ghost use Rattle.ccr_choice.specs.Text.{text_of};
 ghost use Rattle.ccr_proof.specs.Tree.{tree_of, count};
 ghost use Rattle.ccr_proof.specs.Proof.{IsSmall, IsProof};
 ghost use Rattle.ccr_proof.specs.ProofText.{tree_lines, proof_text, proof_in};
@@ -10,7 +10,7 @@ use crate::format::format_of;
 use crate::node::Node;
 use crate::proof::{MOST_NODES, Proof};
 use crate::write::claim_words;
-use ccr_text::{Word, put_line};
+use ccr_choice::{Word, put_line};
 use std::alloc::{AllocError, Global};
 
 /// Adds the lines of the tree with this root, in preorder.

@@ -1,15 +1,14 @@
 //! Reading a claim from its text.
 
 ghost use Rattle.std.specs.Prelude.{◌≡◌, IfOk};
-ghost use Rattle.ccr_text.specs.Reading.{Gives};
+ghost use Rattle.ccr_choice.specs.Reading.{Gives};
 ghost use Rattle.ccr_proof.specs.declared.claim.Claim.{Claim};
 ghost use Rattle.ccr_proof.specs.Claim.{IsClaim};
 ghost use Rattle.ccr_proof.specs.ClaimText.{claim_on, next_claim, claim_in, claim_text, IsRead, IsReadAs, NothingFollows};
 
 use crate::claim::{Claim, MOST_NUMBERS};
 use crate::fault::ClaimFault;
-use ccr_choice::Choice;
-use ccr_text::{Lines, Stop, Word, front_numbers};
+use ccr_choice::{Choice, Lines, Stop, Word, front_numbers};
 use std::alloc::{AllocError, Global};
 
 /// What a claim's line says.

@@ -5,7 +5,7 @@ ghost use Rattle.ccr_proof.specs.Claim.{IsClaim};
 ghost use Rattle.ccr_proof.specs.ClaimText.{claim_line, claim_text, claim_in};
 
 use crate::claim::Claim;
-use ccr_text::{Word, push_numbers, put_line};
+use ccr_choice::{Word, push_numbers, put_line};
 use std::alloc::{AllocError, Global};
 
 /// The words of a claim's line.

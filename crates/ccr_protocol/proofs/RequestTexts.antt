@@ -4,8 +4,8 @@ use Rattle.std.specs.Option.{option_map_or}
 use Rattle.serde_json.proofs.OnLiterals.{serde_json_on_literals}
 use Rattle.serde_json.specs.Data.{Data}
 use Rattle.serde_json.specs.Written.{compact_text}
-use Rattle.ccr_values.specs.Sources.{source_or_empty}
-use Rattle.ccr_values.specs.TextMap.{TextMap, key_text}
+use Rattle.ccr_history.specs.Sources.{source_or_empty}
+use Rattle.ccr_history.specs.TextMap.{TextMap, key_text}
 use Rattle.ccr_protocol.specs.Requests.{request_text}
 
 abbrev pub params_piece : Option Data → List ℕ

@@ -3,7 +3,7 @@ use Rattle.std.specs.Prelude.{◌≡◌, ◌⊎◌, ℕ, List, [], ◌∷◌, Op
 use Rattle.serde_json.specs.Data.{Data, null, boolean, number, string, array, object, Items, no_items, item}
 use Rattle.serde_json.specs.Find.{get_member}
 use Rattle.serde_json.specs.Read.{read as json}
-use Rattle.ccr_values.specs.TextMap.{TextMap, texts_of}
+use Rattle.ccr_history.specs.TextMap.{TextMap, texts_of}
 use Rattle.ccr_protocol.specs.declared.fault.ReplyFault.{ReplyFault}
 use Rattle.ccr_protocol.specs.declared.fault.ReplyFault.TheVariants.{NotJson, WrongKind, VersionNotText, MissingVersion, NoMemory}
 

@@ -4,10 +4,10 @@ use Rattle.std.specs.Borrow.{Bor}
 use Rattle.std.specs.declared.alloc.Global.{Global}
 use Rattle.serde_json.specs.Data.{Data, object, Members, no_members, member}
 use Rattle.serde_json.specs.Written.{compact_text}
-use Rattle.ccr_values.specs.declared.object.Object.{Object}
-use Rattle.ccr_values.specs.ObjectData.{object_data}
-use Rattle.ccr_values.specs.Sources.{source_or_empty}
-use Rattle.ccr_values.specs.TextMap.{TextMap, members_of}
+use Rattle.ccr_history.specs.declared.object.Object.{Object}
+use Rattle.ccr_history.specs.ObjectData.{object_data}
+use Rattle.ccr_history.specs.Sources.{source_or_empty}
+use Rattle.ccr_history.specs.TextMap.{TextMap, members_of}
 use Rattle.ccr_protocol.specs.declared.request.TheConstants.{MOST_REQUEST}
 use Rattle.ccr_protocol.specs.declared.fault.RequestFault.{RequestFault}
 use Rattle.ccr_protocol.specs.declared.fault.RequestFault.TheVariants.{TooLong, NoMemory}

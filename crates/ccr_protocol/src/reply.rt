@@ -6,7 +6,7 @@ ghost use Rattle.ccr_protocol.specs.Replies.{version_reading, check_reply, step_
 ghost use Rattle.ccr_protocol.specs.declared.fault.ReplyFault.TheVariants.{NotJson, NoMemory};
 
 use crate::fault::ReplyFault;
-use ccr_values::{HistoryFault, Version};
+use ccr_history::{HistoryFault, Version};
 use serde_json::Value;
 use std::alloc::Global;
 

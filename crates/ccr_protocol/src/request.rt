@@ -2,12 +2,12 @@
 ghost use Rattle.std.specs.Prelude.{◌≡◌, ◌++◌, [], Some, None, IfOk, string_bytes, codes};
 ghost use Rattle.std.specs.Option.{option_map_or, option_copied};
 ghost use Rattle.serde_json.specs.Written.{compact_text};
-ghost use Rattle.ccr_values.specs.Sources.{source_or_empty};
-ghost use Rattle.ccr_values.specs.TextMap.{key_text};
+ghost use Rattle.ccr_history.specs.Sources.{source_or_empty};
+ghost use Rattle.ccr_history.specs.TextMap.{key_text};
 ghost use Rattle.ccr_protocol.specs.Requests.{data_of, request_text, Sends};
 
 use crate::fault::RequestFault;
-use ccr_values::{Object, Version};
+use ccr_history::{Object, Version};
 use std::alloc::{AllocError, Global};
 
 /// The greatest number of bytes of a request.

@@ -1,7 +1,6 @@
 //! What is in a problem that was read, and in the lines of a text.
 
-use ccr_choice::{Problem, read_problem, write_problem};
-use ccr_text::{Lines, Word};
+use ccr_choice::{Lines, Problem, Word, read_problem, write_problem};
 use std::alloc::{AllocError, Global};
 use std::test::Fail;
 

@@ -1,11 +1,11 @@
 -- The database that an order names is the one that was asked for.
 use Rattle.std.proofs.Common.{◌≡◌, List, ℕ, Option, Result, sym, subst}
-use Rattle.ccr_values.specs.Text.{Text}
+use Rattle.ccr_history.specs.Text.{Text}
 use Rattle.ccr_history.specs.History.{HistoryData}
 use Rattle.ccr_process.specs.Runs.{Pair}
 use Rattle.ccr_task.specs.Calls.{CallData}
-use Rattle.ccr_storage.specs.declared.fault.StoreFault.{StoreFault}
-use Rattle.ccr_storage.specs.declared.tally.Tally.{Tally}
+use Rattle.ccr_history.specs.declared.store_fault.StoreFault.{StoreFault}
+use Rattle.ccr_history.specs.declared.tally.Tally.{Tally}
 use Rattle.ccr_run.specs.declared.failure.Failure.{Failure}
 use Rattle.ccr_run.specs.declared.order.Order.{Order}
 use Rattle.ccr_run.specs.Served.{Served}

@@ -1,6 +1,6 @@
 -- What comes of it that a build is asked to be aborted.
 use Rattle.std.specs.Prelude.{◌≡◌, ℕ, List, [], ◌∷◌, Bool, true, false, Result, Ok, Err, codes}
-use Rattle.ccr_values.specs.Text.{Text}
+use Rattle.ccr_history.specs.Text.{Text}
 use Rattle.ccr_pipeline.specs.Kinds.{is_name}
 use Rattle.ccr_task.specs.Calls.{CallData, making, Does}
 use Rattle.ccr_task.specs.Places.{PlacesData, abort_folder}

@@ -1,6 +1,6 @@
 -- Which database was opened.
 use Rattle.std.specs.Prelude.{Option, option_map}
-use Rattle.ccr_values.specs.Text.{Text}
+use Rattle.ccr_history.specs.Text.{Text}
 use Rattle.ccr_run.specs.declared.opener.Opener.{Opener}
 
 -- the path that an opener was asked for, if it was

@@ -6,7 +6,7 @@ use Rattle.sqlite_wal.specs.Recovery.{Image}
 use Rattle.sqlite.specs.State.{HasCleanDisk}
 use Rattle.sqlite.specs.Files.{file_state, over_files}
 use Rattle.ccr_history.specs.History.{HistoryData}
-use Rattle.ccr_storage.specs.declared.tally.Tally.{Tally}
+use Rattle.ccr_history.specs.declared.tally.Tally.{Tally}
 use Rattle.ccr_store.specs.Crash.{Leaves}
 use Rattle.ccr_store.specs.StoreData.{IsKept}
 use Rattle.ccr_run.specs.Opening.{HoldsHistory, AreOurs}

@@ -1,8 +1,8 @@
 -- What a command tells on standard error as it ends.
 use Rattle.std.specs.Prelude.{ℕ, Bool, true, false, not, ◌==◌, ◌&&◌, Option, None, Some, option_map, Result, Ok, Err, if◌then◌else◌}
-use Rattle.ccr_values.specs.Text.{Text}
-use Rattle.ccr_commands.specs.declared.command.Command.{Command}
-use Rattle.ccr_commands.specs.declared.command.Command.TheVariants.{Resolve, Certify}
+use Rattle.ccr_history.specs.Text.{Text}
+use Rattle.ccr_core.specs.declared.command.Command.{Command}
+use Rattle.ccr_core.specs.declared.command.Command.TheVariants.{Resolve, Certify}
 use Rattle.ccr_run.specs.declared.failure.Failure.{Failure}
 use Rattle.ccr_run.specs.declared.order.Order.{Order}
 use Rattle.ccr_run.specs.declared.run.Outcome.{Outcome}

@@ -1,7 +1,7 @@
 -- What to do about how a command ended, where that helps.
 use Rattle.std.specs.Prelude.{ℕ, Option, Some, None, Result, Ok, Err, codes, nat_eq, if◌then◌else◌}
-use Rattle.ccr_values.specs.Text.{Text}
-use Rattle.ccr_storage.specs.declared.fault.StoreFault.TheVariants as store
+use Rattle.ccr_history.specs.Text.{Text}
+use Rattle.ccr_history.specs.declared.store_fault.StoreFault.TheVariants as store
 use Rattle.ccr_pipeline.specs.declared.fault.ReadFault.TheVariants.{NotJson}
 use Rattle.ccr_core.specs.declared.fault.CoreFault.TheVariants.{NoPipeline, NoJob, NoResource, NoVersion}
 use Rattle.ccr_serve.specs.declared.fault.ServeFault.{ServeFault}

@@ -2,7 +2,7 @@
 use Rattle.std.specs.Prelude.{◌≡◌, ◌≢◌, ℕ, List, true, Some, None, Ok, Err, ⊤}
 use Rattle.clap.specs.declared.parser.matches.ArgMatches.{ArgMatches}
 use Rattle.clap.specs.Words.{HasMatchesOf, Text, found_of, takes}
-use Rattle.ccr_commands.specs.Commands.{command_data}
+use Rattle.ccr_core.specs.Commands.{command_data}
 use Rattle.ccr_command.specs.Aborts.{abort_data, abort_in}
 use Rattle.ccr_command.specs.Commands.{command_in}
 use Rattle.ccr_command.specs.Options.{options_data, options_in}

@@ -5,7 +5,7 @@ use Rattle.sqlite_wal.specs.Recovery.{Image}
 use Rattle.sqlite.specs.Held.{Held, state}
 use Rattle.sqlite.specs.Start.{FindsIn}
 use Rattle.sqlite.specs.State.{State, HasCleanDisk}
-use Rattle.ccr_storage.specs.declared.fault.StoreFault.{StoreFault}
+use Rattle.ccr_history.specs.declared.store_fault.StoreFault.{StoreFault}
 use Rattle.ccr_tables.specs.Contents.{Holds, new_contents}
 use Rattle.ccr_tables.specs.Schema.{no_schema}
 use Rattle.ccr_store.specs.Causes.{IsLetGo, IsUnread}

@@ -15,8 +15,7 @@ ghost use Rattle.ccr_store.specs.StoreData.{IsKept};
 ghost use Rattle.ccr_run.specs.Databases.{holds, leaves, begins_with};
 ghost use Rattle.ccr_run.specs.Unfound.{IsUnfound};
 
-use ccr_history::{Edit, History};
-use ccr_storage::Storage;
+use ccr_history::{Edit, History, Storage};
 use ccr_store::{Store, StoreFault};
 use sqlite::{Alter, Connection, FileFrom, FileStore, Start};
 use sqlite_trees::store::Store as Trees;

@@ -3,7 +3,7 @@
 use crate::failure::Failure;
 use crate::refusal::refusal_of;
 use ccr_command::{Findings, Kind, findings_of, is_faultless};
-use ccr_commands::Command;
+use ccr_core::Command;
 use ccr_pipeline::{ReadFault, read};
 use ccr_serve::ServeFault;
 use ccr_task::{Folders, Shelf, ShelfFault};

@@ -28,9 +28,9 @@ ghost use Rattle.ccr_run.specs.Unfound.{IsUnfound};
 ghost use Rattle.ccr_run.specs.Obeyed.{Obeyed};
 
 use abort::abort_build;
+use ccr_history::Storage;
 use ccr_lines::Printed;
 use ccr_process::{Machine, Runner};
-use ccr_storage::Storage;
 use ccr_task::{Folders, Shelf};
 use database::Database;
 use found::{is_validation, tell_gates, validate};

@@ -9,7 +9,7 @@ ghost use Rattle.ccr_run.specs.declared.order.Misuse.TheVariants.{Line, NoMemory
 use ccr_command::{
     AbortRequest, OptionFault, Options, abort_of, command_line, command_of, options_of,
 };
-use ccr_commands::Command;
+use ccr_core::Command;
 use clap::Error as LineError;
 use clap::error::ErrorKind;
 use std::alloc::{AllocError, AllocFailed, Global};

@@ -12,7 +12,7 @@ use crate::order::{Misuse, Order};
 use crate::refusal::refusal_of;
 use crate::run::Outcome;
 use crate::telling::Telling;
-use ccr_commands::Command;
+use ccr_core::Command;
 use std::io;
 use std::process::ExitCode;
 

@@ -1,7 +1,7 @@
 -- What was answered or found was begun.
 use Rattle.std.proofs.Common.{List, Option, Some, None, Result, Ok, Err, inr}
-use Rattle.ccr_values.specs.Text.{Text}
-use Rattle.ccr_values.specs.TextMap.{TextMap}
+use Rattle.ccr_history.specs.Text.{Text}
+use Rattle.ccr_history.specs.TextMap.{TextMap}
 use Rattle.ccr_pipeline.specs.JobData.{ResourceData}
 use Rattle.ccr_process.specs.Runs.{Pair}
 use Rattle.ccr_process.specs.declared.launch.Launch.{Launch}

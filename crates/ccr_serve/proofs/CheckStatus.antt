@@ -2,8 +2,8 @@
 use Rattle.std.proofs.Common.{◌≡◌, ◌&&◌, ℕ, List, [], ◌∷◌, true, false, Some, is_ok, Ok, Err, refl, sym, ◌∙◌, ap, inl}
 use Rattle.std.proofs.lemmas.Bool.{false≢true}
 use Rattle.std.specs.Option.{option_map_or}
-use Rattle.ccr_values.specs.Text.{Text}
-use Rattle.ccr_values.specs.TextMap.{TextMap}
+use Rattle.ccr_history.specs.Text.{Text}
+use Rattle.ccr_history.specs.TextMap.{TextMap}
 use Rattle.ccr_pipeline.specs.JobData.{ResourceData}
 use Rattle.ccr_problem.specs.ProblemOf.{resource_of}
 use Rattle.ccr_task.specs.Places.{PlacesData}
@@ -13,7 +13,7 @@ use Rattle.ccr_core.specs.Replies.{Replied}
 use Rattle.ccr_core.specs.State.{State}
 use Rattle.ccr_core.specs.Steps.{Step}
 use Rattle.ccr_serve.specs.Commanding.{IsFirstReply, Commanded, CameOf}
-use Rattle.ccr_commands.specs.Commands.{check_resource}
+use Rattle.ccr_core.specs.Commands.{check_resource}
 use Rattle.ccr_serve.specs.Found.{FoundData, found}
 use Rattle.ccr_serve.specs.Found as what_is
 use Rattle.ccr_serve.specs.Items.{World, check, Done, Each, Items, Noting}

@@ -1,6 +1,6 @@
 -- Commits that are counted.
 use Rattle.std.proofs.Common.{◌≡◌, ◌+◌, ℕ, List, [], ◌∷◌, ◌++◌, Bool, true, false, sym, ◌∙◌, ap, subst, arith}
-use Rattle.ccr_storage.specs.Counts.{RoseBy}
+use Rattle.ccr_history.specs.Counts.{RoseBy}
 use Rattle.ccr_serve.specs.Items.{Done}
 use Rattle.ccr_serve.specs.Taken.{taken_of, taken_in}
 use Rattle.ccr_serve.specs.Views.{HasAsked}

@@ -3,7 +3,7 @@ use Rattle.std.proofs.Common.{◌≡◌, ◌≢◌, ◌≤◌, ◌<◌, ◌+◌,
 use Rattle.std.proofs.lemmas.List.{replicate-append-replicate}
 use Rattle.ccr_core.specs.Holding.{AreRuns}
 use Rattle.ccr_core.specs.State.{RunningData}
-use Rattle.ccr_values.specs.Text.{Text}
+use Rattle.ccr_history.specs.Text.{Text}
 use Rattle.ccr_steps.specs.Runs.{RunData}
 use Rattle.ccr_task.specs.Places.{PlacesData}
 use Rattle.ccr_serve.specs.Items.{World, turn, Done, Each, IsCut, Part, Items, Then}

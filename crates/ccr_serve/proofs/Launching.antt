@@ -1,7 +1,7 @@
 -- A program that was run: its pair is there, unless memory was wanted.
 use Rattle.std.proofs.Common.{◌≡◌, ◌≢◌, ◌≤◌, List, length, IfOk, OnErr, Option, Some, None, Result, Ok, Err, refl, sym, ◌∙◌, subst, append-nil, inl, inr}
-use Rattle.ccr_values.specs.Text.{Text}
-use Rattle.ccr_values.specs.TextMap.{TextMap}
+use Rattle.ccr_history.specs.Text.{Text}
+use Rattle.ccr_history.specs.TextMap.{TextMap}
 use Rattle.ccr_pipeline.specs.JobData.{ResourceData}
 use Rattle.ccr_process.specs.Ends.{EndData}
 use Rattle.ccr_process.specs.Launches.{LaunchData, launch_data}

@@ -1,7 +1,7 @@
 -- Ranks of builds in order of making.
 use Rattle.std.proofs.Common.{◌≡◌, ℕ, zero, suc, ◌+◌, ◌<◌, ◌≤◌, List, [], ◌∷◌, length, take, slice_get, Bool, true, false, cond, Some, None, refl, sym, ◌∙◌, ap, subst, arith}
 use Rattle.std.proofs.lemmas.Slice.Eq.{bytes_eq-Decides}
-use Rattle.ccr_values.specs.Text.{Text}
+use Rattle.ccr_history.specs.Text.{Text}
 use Rattle.ccr_history.specs.Builds.{BuildData, is_of, is_build_of, count_of, build_of}
 use Rattle.ccr_history.specs.History.{AreNumbered}
 use Rattle.ccr_history.proofs.Positions.{count_rises}

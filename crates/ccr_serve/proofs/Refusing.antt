@@ -1,7 +1,7 @@
 -- Commands that are refused, or that are kept from beginning.
 use Rattle.std.proofs.Common.{◌≡◌, ℕ, List, [], false, Option, None, Some, IsSome, Err, refl, sym, ◌∙◌, ap, subst, append-nil, inl, inr}
 use Rattle.std.proofs.lemmas.Bool.{false≢true}
-use Rattle.ccr_values.specs.Text.{Text}
+use Rattle.ccr_history.specs.Text.{Text}
 use Rattle.ccr_task.specs.Places.{PlacesData}
 use Rattle.ccr_core.specs.declared.fault.CoreFault.{CoreFault}
 use Rattle.ccr_core.specs.declared.fault.CoreFault.TheVariants as core_fault
@@ -9,8 +9,8 @@ use Rattle.ccr_core.specs.Events.{EventData}
 use Rattle.ccr_core.specs.Faults.{MayRefuse, IsFirstFault}
 use Rattle.ccr_core.specs.Holding.{Stands}
 use Rattle.ccr_core.specs.State.{State}
-use Rattle.ccr_commands.specs.Commands.{CommandData}
-use Rattle.ccr_lines.specs.Commands.{need_of}
+use Rattle.ccr_core.specs.Commands.{CommandData}
+use Rattle.ccr_lines.specs.CommandNeeds.{need_of}
 use Rattle.ccr_lines.specs.Needs.{Lacks}
 use Rattle.ccr_task.specs.Calls.{CallData}
 use Rattle.ccr_serve.specs.Commanding.{Commanded, IsRefused, WasRefused, CameOf}

@@ -3,7 +3,7 @@ use Rattle.std.proofs.Common.{◌≡◌, ◌≤◌, ◌<◌, ◌+◌, ◌++◌, 
 use Rattle.std.specs.declared.alloc.Global.{Global}
 use Rattle.ccr_core.specs.Holding.{AreRuns}
 use Rattle.ccr_core.specs.State.{RunningData, no_pipeline}
-use Rattle.ccr_values.specs.Text.{Text}
+use Rattle.ccr_history.specs.Text.{Text}
 use Rattle.ccr_pipeline.specs.Pipelines.{PipelineData}
 use Rattle.ccr_task.specs.Places.{PlacesData}
 use Rattle.ccr_serve.specs.Items.{World, Item, check, schedule, turn, Done, Each, IsCut, Items, Then}

@@ -2,12 +2,12 @@
 use Rattle.std.proofs.Common.{◌≡◌, ◌++◌, ℕ, List, [], ◌∷◌, Bool, true, false, None, IsSome, Err, refl, sym, ap, subst, ◌∙◌, inl, inr}
 use Rattle.ccr_core.specs.declared.fault.CoreFault.TheVariants as core_fault
 use Rattle.ccr_core.specs.declared.reply.Reply.{Reply}
-use Rattle.ccr_values.specs.Text.{Text}
+use Rattle.ccr_history.specs.Text.{Text}
 use Rattle.ccr_history.specs.History.{HistoryData}
 use Rattle.ccr_task.specs.Places.{PlacesData, places_data}
 use Rattle.ccr_task.specs.declared.places.Places.{Places}
 use Rattle.ccr_serve.specs.Commanding.{IsFirstReply, trigger_status, Triggered, Commanded, Unended, WasRefused, CameOf}
-use Rattle.ccr_commands.specs.Commands.{run, trigger_job}
+use Rattle.ccr_core.specs.Commands.{run, trigger_job}
 use Rattle.ccr_serve.specs.Items.{World, Done, Then}
 use Rattle.ccr_serve.specs.Runs.{Rounds, ToTheEnd, UsedUp, TurnsTo, TriggerAndRun}
 use Rattle.ccr_serve.specs.Views.{View, IsReady, Calls, StopsItem}

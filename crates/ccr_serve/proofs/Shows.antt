@@ -1,12 +1,12 @@
 -- What is shown: a command prints lines, and does nothing else.
 use Rattle.std.proofs.Common.{◌≡◌, ℕ, [], None, unwrap_or, Ok, Err, refl, sym, subst, append-nil, inl}
-use Rattle.ccr_values.specs.Text.{Text}
+use Rattle.ccr_history.specs.Text.{Text}
 use Rattle.ccr_task.specs.Places.{PlacesData}
 use Rattle.ccr_core.specs.Holding.{CoreData, Stands}
 use Rattle.ccr_core.specs.State.{State, no_pipeline, pipeline_of}
-use Rattle.ccr_commands.specs.Commands.{shows}
+use Rattle.ccr_core.specs.Commands.{shows}
 use Rattle.ccr_lines.specs.Needs.{IsMet, LacksPin}
-use Rattle.ccr_commands.specs.Commands.{ShownData}
+use Rattle.ccr_core.specs.Commands.{ShownData}
 use Rattle.ccr_lines.specs.Shown.{needs, IsShown, Showing}
 use Rattle.ccr_serve.specs.Commanding.{Commanded, CameOf}
 use Rattle.ccr_serve.specs.Items.{Done}

@@ -2,8 +2,8 @@
 use Rattle.std.proofs.Common.{◌≡◌, ◌++◌, ◌⊎◌, ◌&&◌, List, [], ◌∷◌, Bool, true, false, is_ok, Option, Some, None, option_to_list, unwrap_or, Ok, Err, refl, sym, ◌∙◌, ap, subst, append-nil, inl, inr}
 use Rattle.std.proofs.lemmas.Bool.{false≢true}
 use Rattle.std.specs.Option.{option_map_or}
-use Rattle.ccr_values.specs.Text.{Text}
-use Rattle.ccr_values.specs.TextMap.{TextMap}
+use Rattle.ccr_history.specs.Text.{Text}
+use Rattle.ccr_history.specs.TextMap.{TextMap}
 use Rattle.ccr_pipeline.specs.JobData.{ResourceData}
 use Rattle.ccr_problem.specs.ProblemOf.{resource_of}
 use Rattle.ccr_process.specs.Runs.{Pair}
@@ -25,7 +25,7 @@ use Rattle.ccr_serve.specs.Items as item
 use Rattle.ccr_serve.specs.Pairs.{Adds}
 use Rattle.ccr_serve.specs.Serving.{Tells, BeginsItem, Serves}
 use Rattle.ccr_serve.specs.Taken.{all_taken, taken_of}
-use Rattle.ccr_storage.specs.Counts.{RoseBy}
+use Rattle.ccr_history.specs.Counts.{RoseBy}
 use Rattle.ccr_serve.specs.Views.{View, world_of, resources_held, IsReady, HasAsked, StandsAt, Calls, StopsItem, Made, Unmade}
 use Rattle.ccr_serve.specs.declared.fault.ServeFault.{ServeFault}
 use Rattle.ccr_serve.specs.declared.fault.ServeFault.TheVariants as fault

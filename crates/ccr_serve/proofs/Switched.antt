@@ -1,6 +1,6 @@
 -- Versions that commands disable and enable.
 use Rattle.std.proofs.Common.{◌≡◌, ◌++◌, ℕ, List, [], ◌∷◌, true, Some, codes, Ok, Err, refl, ap, arith, inl}
-use Rattle.ccr_values.specs.Text.{Text}
+use Rattle.ccr_history.specs.Text.{Text}
 use Rattle.ccr_problem.specs.ProblemOf.{resource_of}
 use Rattle.ccr_task.specs.Calls.{CallData}
 use Rattle.ccr_task.specs.Places.{PlacesData}
@@ -13,7 +13,7 @@ use Rattle.ccr_core.specs.Faults.{IsFirstFault}
 use Rattle.ccr_core.specs.Replies.{Replied}
 use Rattle.ccr_core.specs.State.{State, resources_of}
 use Rattle.ccr_core.specs.Steps.{Step}
-use Rattle.ccr_commands.specs.Commands.{disable_version, enable_version}
+use Rattle.ccr_core.specs.Commands.{disable_version, enable_version}
 use Rattle.ccr_lines.specs.Lines.{place_line, lines_of}
 use Rattle.ccr_serve.specs.Commanding.{Commanded, IsRefused, CameOf}
 use Rattle.ccr_serve.specs.Items.{World, Done}

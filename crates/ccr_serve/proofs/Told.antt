@@ -1,8 +1,8 @@
 -- Commands of one event: pins, and pipelines.
 use Rattle.std.proofs.Common.{◌≡◌, ◌++◌, ℕ, List, [], ◌∷◌, Bool, true, Option, Result, None, Some, IsSome, unwrap_or, codes, Ok, Err, refl, sym, ◌∙◌, ap, subst, arith, inl}
 use Rattle.std.specs.Option.{option_map_or}
-use Rattle.ccr_values.specs.Text.{Text}
-use Rattle.ccr_values.specs.TextMap.{TextMap}
+use Rattle.ccr_history.specs.Text.{Text}
+use Rattle.ccr_history.specs.TextMap.{TextMap}
 use Rattle.ccr_pipeline.specs.JobData.{ResourceData}
 use Rattle.ccr_pipeline.specs.Pipelines.{PipelineData, IsPipelineOf}
 use Rattle.ccr_pipeline.specs.Reading.{pipeline_faults, IsReading}
@@ -25,7 +25,7 @@ use Rattle.ccr_task.specs.Calls as shelf
 use Rattle.ccr_task.specs.declared.fault.ShelfFault.{ShelfFault}
 use Rattle.ccr_lines.specs.Needs.{pin_in}
 use Rattle.ccr_serve.specs.Commanding.{HasResource, called, Commanded, IsRead, IsRefused, CameOf}
-use Rattle.ccr_commands.specs.Commands.{set_pipeline, pin_resource, unpin_resource}
+use Rattle.ccr_core.specs.Commands.{set_pipeline, pin_resource, unpin_resource}
 use Rattle.ccr_serve.specs.Items.{World, tell, Done, Part, Items}
 use Rattle.ccr_serve.specs.Reads.{KeepsFromReading}
 use Rattle.ccr_serve.specs.Serving.{Tells, Serves}

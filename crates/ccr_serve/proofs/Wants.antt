@@ -1,7 +1,7 @@
 -- What the builds of a core want, and which answers to it are refused.
 use Rattle.std.proofs.Common.{◌≡◌, ℕ, List, [], ◌∷◌, true, false, is_some, IsSome, Option, Some, None, option_map, option_copied, Bor, unwrap_or, refl, sym, ◌∙◌, ap, subst}
 use Rattle.std.proofs.lemmas.Bool.{false≢true}
-use Rattle.ccr_values.specs.Text.{Text}
+use Rattle.ccr_history.specs.Text.{Text}
 use Rattle.ccr_pipeline.specs.Pipelines.{PipelineData}
 use Rattle.ccr_steps.specs.Asks.{AskData, fetch, push, read_config, run_task}
 use Rattle.ccr_task.proofs.Known.{is_found}

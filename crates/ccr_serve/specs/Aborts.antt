@@ -1,6 +1,6 @@
 -- Whether it is asked that a build be aborted.
 use Rattle.std.specs.Prelude.{◌≡◌, ◌⊎◌, ℕ, List, [], ◌∷◌, ◌++◌, Bool, true, false, Result, Ok, Err}
-use Rattle.ccr_values.specs.Text.{Text}
+use Rattle.ccr_history.specs.Text.{Text}
 use Rattle.ccr_core.specs.declared.reply.Reply.{Reply}
 use Rattle.ccr_core.specs.declared.reply.Reply.TheVariants.{Ends}
 use Rattle.ccr_task.specs.declared.fault.ShelfFault.{ShelfFault}

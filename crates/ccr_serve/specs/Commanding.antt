@@ -1,7 +1,7 @@
 -- What commands do, and how they are refused.
 use Rattle.std.specs.Prelude.{◌≡◌, ◌≢◌, ◌⊎◌, ℕ, List, [], ◌∷◌, ◌++◌, true, false, Option, Some, None, IsSome, codes, string_bytes, Result, Ok, Err, ⊤}
-use Rattle.ccr_values.specs.Text.{Text}
-use Rattle.ccr_values.specs.TextMap.{TextMap}
+use Rattle.ccr_history.specs.Text.{Text}
+use Rattle.ccr_history.specs.TextMap.{TextMap}
 use Rattle.ccr_history.specs.Builds.{BuildData, build_of}
 use Rattle.ccr_history.specs.History.{HistoryData}
 use Rattle.ccr_history.specs.declared.build.Status.{Status}
@@ -28,12 +28,12 @@ use Rattle.ccr_lines.specs.Needs.{pin_in, IsMet, Lacks, LacksPin}
 use Rattle.ccr_lines.specs.Shown.{needs}
 use Rattle.ccr_serve.specs.declared.fault.ServeFault.{ServeFault}
 use Rattle.ccr_serve.specs.declared.fault.ServeFault.TheVariants.{Core, Store, Read, File, BadPin, NoMemory, TurnsUsedUp}
-use Rattle.ccr_commands.specs.Commands.{CommandData, set_pipeline, check_resource, pin_resource, unpin_resource, disable_version, enable_version, trigger_job, run, shows}
-use Rattle.ccr_lines.specs.Commands.{need_of}
+use Rattle.ccr_core.specs.Commands.{CommandData, set_pipeline, check_resource, pin_resource, unpin_resource, disable_version, enable_version, trigger_job, run, shows}
+use Rattle.ccr_lines.specs.CommandNeeds.{need_of}
 use Rattle.ccr_serve.specs.Items.{World, check, tell, show, Done, Each, Part, Items, Then}
 use Rattle.ccr_serve.specs.Runs.{Rounds, UsedUp, Run, TriggerAndRun}
 use Rattle.ccr_serve.specs.Serving.{Serves}
-use Rattle.ccr_storage.specs.Counts.{RoseBy}
+use Rattle.ccr_history.specs.Counts.{RoseBy}
 use Rattle.ccr_serve.specs.Views.{View, with_calls, Calls}
 
 -- ---- what is needed

@@ -1,7 +1,7 @@
 -- The build whose turn it is, and what came of its turn.
 use Rattle.std.specs.Prelude.{◌≡◌, ◌⊎◌, ℕ, List, [], find, nat_lt, slice_get, Option, Some, None, Ok, Err, string_bytes}
 use Rattle.std.specs.Option.{option_or}
-use Rattle.ccr_values.specs.Text.{Text}
+use Rattle.ccr_history.specs.Text.{Text}
 use Rattle.ccr_history.specs.History.{HistoryData}
 use Rattle.ccr_process.specs.Runs.{Pair}
 use Rattle.ccr_steps.specs.Asks.{ask_data, AnswerData, errored}
@@ -15,7 +15,7 @@ use Rattle.ccr_core.specs.Events.{answer}
 use Rattle.ccr_core.specs.Holding.{CoreData, Stands, Wants}
 use Rattle.ccr_core.specs.State.{RunningData, State, running_at}
 use Rattle.ccr_core.specs.Steps.{Step}
-use Rattle.ccr_storage.specs.Counts.{RoseBy}
+use Rattle.ccr_history.specs.Counts.{RoseBy}
 use Rattle.ccr_serve.specs.Asked.{Answers, BeginsAnswer}
 use Rattle.ccr_serve.specs.Pairs.{Adds}
 use Rattle.ccr_serve.specs.Turns.{rank_of, rank_in, next_after}

@@ -1,12 +1,12 @@
 -- What a call of the server is made of: items, one after another.
 use Rattle.std.specs.Prelude.{◌≡◌, ◌⊎◌, ℕ, List, [], ◌∷◌, ◌++◌, Bool, true, false, Option, None, flat_map, option_to_list}
-use Rattle.ccr_values.specs.Text.{Text}
+use Rattle.ccr_history.specs.Text.{Text}
 use Rattle.ccr_process.specs.Runs.{Pair}
 use Rattle.ccr_task.specs.Calls.{CallData}
 use Rattle.ccr_core.specs.Events.{EventData}
 use Rattle.ccr_core.specs.Replies.{Replied}
 use Rattle.ccr_core.specs.State.{State}
-use Rattle.ccr_commands.specs.Commands.{ShownData}
+use Rattle.ccr_core.specs.Commands.{ShownData}
 
 -- where a server stands: the core's state, the rank of the build served last, which counts from 1 in order of making,
 -- or 0 where none was served, the calls of its shelf, and the pair of a program that answered nothing, if an item was cut

@@ -1,6 +1,6 @@
 -- What a turn tells on standard error, and what a restart does.
 use Rattle.std.specs.Prelude.{◌≡◌, ◌⊎◌, ℕ, List, [], ◌∷◌, ◌++◌, Bool, true, false, Option, Some, Result, Ok, Err, string_bytes}
-use Rattle.ccr_values.specs.Text.{Text}
+use Rattle.ccr_history.specs.Text.{Text}
 use Rattle.ccr_history.specs.Changes.{EditData, ended}
 use Rattle.ccr_pipeline.specs.Tree.{Tree}
 use Rattle.ccr_process.specs.Runs.{Pair}

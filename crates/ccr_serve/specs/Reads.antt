@@ -1,7 +1,7 @@
 -- Pipelines that are read from a file.
 use Rattle.std.specs.Prelude.{◌+◌, ℕ, List, length, sum_by, Result, Err}
 use Rattle.ccr_pipeline.specs.Pipelines.{PipelineData}
-use Rattle.ccr_values.specs.Text.{Text}
+use Rattle.ccr_history.specs.Text.{Text}
 use Rattle.ccr_task.specs.Calls.{CallData}
 use Rattle.ccr_task.specs.declared.fault.ShelfFault.{ShelfFault}
 use Rattle.ccr_task.specs.declared.fault.ShelfFault.TheVariants.{Failed}

@@ -6,7 +6,7 @@ use Rattle.ccr_problem.specs.ProblemOf.{resource_of}
 use Rattle.ccr_task.specs.Places.{PlacesData}
 use Rattle.ccr_core.specs.Events as event
 use Rattle.ccr_core.specs.State.{State, resources_of, jobs_of}
-use Rattle.ccr_values.specs.Text.{Text}
+use Rattle.ccr_history.specs.Text.{Text}
 use Rattle.ccr_serve.specs.Items.{World, Item, check, schedule, turn, tell, Done, Each, Part, IsCut, Items, Then}
 use Rattle.ccr_serve.specs.Serving.{Serves}
 use Rattle.ccr_serve.specs.declared.fault.ServeFault.{ServeFault}

@@ -1,10 +1,10 @@
 -- What the contract of a server's call says: what was done, and how the server is left.
 use Rattle.std.specs.Prelude.{◌≡◌, ℕ, List, [], ◌∷◌, Bool, Result, is_ok}
-use Rattle.ccr_values.specs.Text.{Text}
-use Rattle.ccr_commands.specs.Commands.{CommandData}
+use Rattle.ccr_history.specs.Text.{Text}
+use Rattle.ccr_core.specs.Commands.{CommandData}
 use Rattle.ccr_lines.specs.declared.lines.Lines as out
 use Rattle.ccr_process.specs.declared.runner.Runner as runner
-use Rattle.ccr_storage.specs.declared.storage.Storage as storage
+use Rattle.ccr_history.specs.declared.storage.Storage as storage
 use Rattle.ccr_task.specs.Calls.{CallData}
 use Rattle.ccr_task.specs.Places.{PlacesData, places_data, abort_folder}
 use Rattle.ccr_task.specs.declared.shelf.Shelf as shelf

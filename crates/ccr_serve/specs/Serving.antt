@@ -1,6 +1,6 @@
 -- What a server does of each item.
 use Rattle.std.specs.Prelude.{◌≡◌, ◌≢◌, ◌⊎◌, ℕ, List, Bool, true, false, Option, Some, None, Ok, Err}
-use Rattle.ccr_values.specs.Text.{Text}
+use Rattle.ccr_history.specs.Text.{Text}
 use Rattle.ccr_pipeline.specs.JobData.{ResourceData}
 use Rattle.ccr_steps.specs.Asks.{AskData, AnswerData, errored}
 use Rattle.ccr_steps.specs.Progress.{IsNext}
@@ -21,7 +21,7 @@ use Rattle.ccr_serve.specs.Aborts.{AbortIsAsked, Clears}
 use Rattle.ccr_serve.specs.Asked.{Answers, BeginsAnswer}
 use Rattle.ccr_serve.specs.Found.{FoundData, found, newest, Finds, BeginsFind}
 use Rattle.ccr_serve.specs.Found as what_is
-use Rattle.ccr_commands.specs.Commands.{ShownData}
+use Rattle.ccr_core.specs.Commands.{ShownData}
 use Rattle.ccr_lines.specs.Shown.{IsShown}
 use Rattle.ccr_serve.specs.Items.{World, Item, check, schedule, turn, tell, show, Done, nothing, Serve, Part, Items}
 use Rattle.ccr_lines.specs.Lines.{lines_of, refused_line, cause_words}

@@ -1,6 +1,6 @@
 -- What a call of the server shows.
 use Rattle.std.specs.Prelude.{◌≡◌, ◌≢◌, ◌≤◌, ◌+◌, ℕ, List, [], ◌∷◌, ◌++◌, length, nat_lt, Bool, true, false, Option, None, Some, option_to_list, Result, Ok, Err, OnErr, unwrap_or, ⊤}
-use Rattle.ccr_values.specs.Text.{Text}
+use Rattle.ccr_history.specs.Text.{Text}
 use Rattle.ccr_history.specs.History.{HistoryData}
 use Rattle.ccr_pipeline.specs.JobData.{ResourceData, JobData}
 use Rattle.ccr_process.specs.Runs.{Pair}
@@ -15,10 +15,10 @@ use Rattle.ccr_core.specs.Holding.{CoreData, Stands, TakesStep}
 use Rattle.ccr_core.specs.Replies.{Replied}
 use Rattle.ccr_core.specs.State.{State, no_pipeline}
 use Rattle.ccr_lines.specs.declared.lines.Lines as out
-use Rattle.ccr_storage.specs.Counts.{RoseBy}
-use Rattle.ccr_storage.specs.declared.fault.StoreFault.{StoreFault}
-use Rattle.ccr_storage.specs.declared.storage.Storage as storage
-use Rattle.ccr_storage.specs.declared.tally.Tally.{Tally}
+use Rattle.ccr_history.specs.Counts.{RoseBy}
+use Rattle.ccr_history.specs.declared.store_fault.StoreFault.{StoreFault}
+use Rattle.ccr_history.specs.declared.storage.Storage as storage
+use Rattle.ccr_history.specs.declared.tally.Tally.{Tally}
 use Rattle.ccr_serve.specs.declared.fault.ServeFault.{ServeFault}
 use Rattle.ccr_serve.specs.declared.fault.ServeFault.TheVariants.{Store, NoMemory, Closed}
 use Rattle.ccr_serve.specs.declared.server.Server.{Server}

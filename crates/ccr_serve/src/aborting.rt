@@ -17,9 +17,9 @@ use crate::fault::ServeFault;
 use crate::notes::{tell_fault, waiting_head};
 use crate::server::Server;
 use ccr_core::{Event, Reply};
+use ccr_history::Storage;
 use ccr_lines::Lines;
 use ccr_process::Runner;
-use ccr_storage::Storage;
 use ccr_task::{Places, Shelf, StepFault};
 use std::alloc::{AllocError, Global};
 

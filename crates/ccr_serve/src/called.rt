@@ -2,7 +2,7 @@
 ghost use Rattle.std.specs.Prelude.{◌≡◌, [], ◌∷◌, true, false, IfOk, Err};
 ghost use Rattle.ccr_task.specs.Places.{places_data};
 ghost use Rattle.ccr_core.specs.Cores.{core_data};
-ghost use Rattle.ccr_commands.specs.Commands.{command_data};
+ghost use Rattle.ccr_core.specs.Commands.{command_data};
 ghost use Rattle.ccr_serve.specs.Items as item;
 ghost use Rattle.ccr_serve.specs.Noted.{NotesTurn};
 ghost use Rattle.ccr_serve.specs.Runs.{Round};
@@ -13,10 +13,10 @@ ghost use Rattle.ccr_serve.specs.Served.{Serving, Came, AfterItems, AfterCommand
 
 use crate::fault::ServeFault;
 use crate::server::Server;
-use ccr_commands::Command;
+use ccr_core::Command;
+use ccr_history::Storage;
 use ccr_lines::{Lines, Show, Shown};
 use ccr_process::Runner;
-use ccr_storage::Storage;
 use ccr_task::Shelf;
 
 impl<R: Runner, S: Shelf, T: Storage> Server<R, S, T> {

@@ -1,13 +1,13 @@
 //! Checks by command.
-ghost use Rattle.ccr_commands.specs.Commands.{check_resource};
+ghost use Rattle.ccr_core.specs.Commands.{check_resource};
 ghost use Rattle.ccr_serve.specs.Views.{IsReady, bare_view};
 ghost use Rattle.ccr_serve.specs.Served.{Came, AfterCommand};
 
 use crate::fault::ServeFault;
 use crate::server::Server;
+use ccr_history::Storage;
 use ccr_lines::{Lines, resource_held};
 use ccr_process::Runner;
-use ccr_storage::Storage;
 use ccr_task::Shelf;
 
 impl<R: Runner, S: Shelf, T: Storage> Server<R, S, T> {

@@ -1,5 +1,5 @@
 //! Versions that are disabled and enabled.
-ghost use Rattle.ccr_commands.specs.Commands.{disable_version, enable_version};
+ghost use Rattle.ccr_core.specs.Commands.{disable_version, enable_version};
 ghost use Rattle.ccr_serve.specs.Views.{IsReady, bare_view};
 ghost use Rattle.ccr_serve.specs.Served.{Came, AfterCommand};
 
@@ -7,9 +7,9 @@ use crate::fault::ServeFault;
 use crate::items::{begin, line_room};
 use crate::server::Server;
 use ccr_core::Event;
+use ccr_history::Storage;
 use ccr_lines::{Lines, print_disabled, print_enabled};
 use ccr_process::Runner;
-use ccr_storage::Storage;
 use ccr_task::Shelf;
 
 impl<R: Runner, S: Shelf, T: Storage> Server<R, S, T> {

@@ -6,9 +6,9 @@ ghost use Rattle.ccr_serve.specs.Served.{Serving, AfterItems};
 
 use crate::fault::ServeFault;
 use crate::server::Server;
+use ccr_history::Storage;
 use ccr_lines::Lines;
 use ccr_process::Runner;
-use ccr_storage::Storage;
 use ccr_task::Shelf;
 
 // How many turns a command may take beside those of its rounds.

@@ -1,8 +1,8 @@
 //! Why a call of the server ends early.
 
 use ccr_core::CoreFault;
+use ccr_history::StoreFault;
 use ccr_pipeline::ReadFault;
-use ccr_storage::StoreFault;
 
 /// Why a call ends early. What it did before stays done, with its lines.
 #[derive(Debug, Drop)]

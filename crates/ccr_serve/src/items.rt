@@ -1,6 +1,6 @@
 //! The items of a round that make events: checks and schedules.
 ghost use Rattle.std.specs.Prelude.{◌≡◌, ◌+◌, ◌*◌, ◌^◌, ◌≤◌, ◌++◌, [], ◌∷◌, List, length, string_bytes, is_ok, IfOk, OnOk, OnErr, IfSome, IfNone, IsSome, IsSomeAnd, Some, Option, false};
-ghost use Rattle.ccr_values.specs.TextMap.{TextMap};
+ghost use Rattle.ccr_history.specs.TextMap.{TextMap};
 ghost use Rattle.ccr_history.specs.History.{HistoryData};
 ghost use Rattle.ccr_pipeline.specs.JobData.{ResourceData};
 ghost use Rattle.ccr_problem.specs.ProblemOf.{resource_of};
@@ -22,10 +22,9 @@ use crate::fault::ServeFault;
 use crate::found::{Found, find};
 use crate::server::Server;
 use ccr_core::{Core, CoreFault, Event, Reply};
-use ccr_history::History;
+use ccr_history::{History, Storage};
 use ccr_lines::{Lines, print_cause, print_full, print_job, print_new, print_refused_job};
 use ccr_process::Runner;
-use ccr_storage::Storage;
 use ccr_task::{Places, Shelf};
 use std::alloc::{AllocError, Global};
 

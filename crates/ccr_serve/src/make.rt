@@ -6,8 +6,8 @@ ghost use Rattle.ccr_serve.specs.Views.{IsReady, Made, Unmade, bare_view};
 use crate::fault::ServeFault;
 use crate::server::Server;
 use ccr_core::{CoreFault, Event, Reply};
+use ccr_history::Storage;
 use ccr_process::Runner;
-use ccr_storage::Storage;
 use ccr_task::Shelf;
 
 impl<R: Runner, S: Shelf, T: Storage> Server<R, S, T> {

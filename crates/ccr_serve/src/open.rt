@@ -12,10 +12,9 @@ use crate::fault::ServeFault;
 use crate::notes::tell_cut;
 use crate::server::Server;
 use ccr_core::Core;
-use ccr_history::History;
+use ccr_history::{History, Storage};
 use ccr_lines::Lines;
 use ccr_process::Runner;
-use ccr_storage::Storage;
 use ccr_task::{Places, Shelf};
 use std::alloc::Global;
 

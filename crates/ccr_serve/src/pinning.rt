@@ -1,5 +1,5 @@
 //! Pins by command.
-ghost use Rattle.ccr_commands.specs.Commands.{pin_resource, unpin_resource};
+ghost use Rattle.ccr_core.specs.Commands.{pin_resource, unpin_resource};
 ghost use Rattle.ccr_serve.specs.Views.{IsReady, bare_view};
 ghost use Rattle.ccr_serve.specs.Served.{Came, AfterCommand};
 
@@ -7,9 +7,9 @@ use crate::fault::ServeFault;
 use crate::items::{begin, line_room};
 use crate::server::Server;
 use ccr_core::Event;
+use ccr_history::Storage;
 use ccr_lines::{Lines, pin_of, print_pinned, print_unpinned, resource_held};
 use ccr_process::Runner;
-use ccr_storage::Storage;
 use ccr_task::Shelf;
 
 impl<R: Runner, S: Shelf, T: Storage> Server<R, S, T> {

@@ -10,9 +10,9 @@ ghost use Rattle.ccr_serve.specs.Served.{Serving, AfterItems};
 use crate::fault::ServeFault;
 use crate::names::names_held;
 use crate::server::Server;
+use ccr_history::Storage;
 use ccr_lines::Lines;
 use ccr_process::Runner;
-use ccr_storage::Storage;
 use ccr_task::Shelf;
 
 impl<R: Runner, S: Shelf, T: Storage> Server<R, S, T> {

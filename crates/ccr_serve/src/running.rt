@@ -1,7 +1,7 @@
 //! Builds that run to their ends.
 ghost use Rattle.std.specs.Prelude.{◌≡◌, Some, Err, IfOk, IfErr};
 ghost use Rattle.ccr_serve.specs.Commanding.{build_status, trigger_status, Triggered};
-ghost use Rattle.ccr_commands.specs.Commands.{run, trigger_job};
+ghost use Rattle.ccr_core.specs.Commands.{run, trigger_job};
 ghost use Rattle.ccr_serve.specs.Views.{IsReady, bare_view};
 ghost use Rattle.ccr_serve.specs.Served.{Serving, Came, AfterCommand};
 
@@ -9,10 +9,9 @@ use crate::fault::ServeFault;
 use crate::items::{begin, job_room};
 use crate::server::Server;
 use ccr_core::{CoreFault, Event, Reply};
-use ccr_history::{BuildRef, History, Status};
+use ccr_history::{BuildRef, History, Status, Storage};
 use ccr_lines::{Lines, print_job};
 use ccr_process::Runner;
-use ccr_storage::Storage;
 use ccr_task::Shelf;
 
 /// The status of a command that made this build: 0 where it has succeeded.

@@ -2,14 +2,14 @@
 ghost use Rattle.std.specs.Prelude.{◌≡◌, ◌++◌, ◌≤◌, ℕ, List, unwrap_or, IfOk, IfErr, OnOk, IsSomeAnd, Ok, Err, []};
 ghost use Rattle.ccr_pipeline.specs.Pipelines.{pipeline_data, IsPipelineOf};
 ghost use Rattle.ccr_pipeline.specs.Reading.{pipeline_faults, IsReading};
-ghost use Rattle.ccr_values.specs.Text.{Text};
+ghost use Rattle.ccr_history.specs.Text.{Text};
 ghost use Rattle.ccr_task.specs.Calls.{CallData};
 ghost use Rattle.ccr_task.specs.declared.fault.ShelfFault.TheVariants.{TooLong};
 ghost use Rattle.ccr_core.specs.Cores.{core_data};
 ghost use Rattle.ccr_core.specs.State.{no_pipeline};
 ghost use Rattle.ccr_lines.specs.Lines.{pipeline_lines};
 ghost use Rattle.ccr_serve.specs.Commanding.{IsRead};
-ghost use Rattle.ccr_commands.specs.Commands.{set_pipeline};
+ghost use Rattle.ccr_core.specs.Commands.{set_pipeline};
 ghost use Rattle.ccr_serve.specs.Reads.{lines_room, KeepsFromReading};
 ghost use Rattle.ccr_serve.specs.Views.{IsReady, bare_view};
 ghost use Rattle.ccr_serve.specs.Served.{Came, AfterCommand};
@@ -17,10 +17,10 @@ ghost use Rattle.ccr_serve.specs.Served.{Came, AfterCommand};
 use crate::fault::ServeFault;
 use crate::server::Server;
 use ccr_core::{Core, Event};
+use ccr_history::Storage;
 use ccr_lines::{Lines, pipeline_room, print_pipeline};
 use ccr_pipeline::{Pipeline, ReadFault, read};
 use ccr_process::Runner;
-use ccr_storage::Storage;
 use ccr_task::{Shelf, ShelfFault};
 use std::alloc::{AllocError, Global};
 

@@ -1,14 +1,14 @@
 //! What commands show.
-ghost use Rattle.ccr_commands.specs.Commands.{shows};
+ghost use Rattle.ccr_core.specs.Commands.{shows};
 ghost use Rattle.ccr_lines.specs.Shown.{shown_data};
 ghost use Rattle.ccr_serve.specs.Views.{IsReady, bare_view};
 ghost use Rattle.ccr_serve.specs.Served.{Came, AfterCommand};
 
 use crate::fault::ServeFault;
 use crate::server::Server;
+use ccr_history::Storage;
 use ccr_lines::{Lines, Show, ShowFault, Shown};
 use ccr_process::Runner;
-use ccr_storage::Storage;
 use ccr_task::Shelf;
 
 impl<R: Runner, S: Shelf, T: Storage> Server<R, S, T> {

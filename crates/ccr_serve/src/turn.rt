@@ -23,10 +23,10 @@ use crate::notes::{asking_head, tell_fault};
 use crate::server::Server;
 use crate::wanted::answer_wanted;
 use ccr_core::{CoreFault, Event, Reply};
+use ccr_history::Storage;
 use ccr_lines::Lines;
 use ccr_process::Runner;
 use ccr_steps::Answered;
-use ccr_storage::Storage;
 use ccr_task::{Said, Shelf, StepFault};
 use std::alloc::{AllocError, Global};
 

@@ -3,8 +3,8 @@ use Rattle.std.specs.Prelude.{List, [], ◌∷◌, Option, Some, None, IsTrue, m
 use Rattle.std.specs.Option.{IfSome}
 use Rattle.std.specs.Str.{bytes_eq}
 use Rattle.serde_json.specs.Data.{Data}
-use Rattle.ccr_values.specs.ObjectData.{object_data}
-use Rattle.ccr_values.specs.TextMap.{TextMap}
+use Rattle.ccr_history.specs.ObjectData.{object_data}
+use Rattle.ccr_history.specs.TextMap.{TextMap}
 use Rattle.ccr_pipeline.specs.Links.{used_resources}
 use Rattle.ccr_pipeline.specs.Names.{has_name}
 use Rattle.ccr_pipeline.specs.Tree.{Text, ConfigData, config_data, variable_data, GetData, PutData, Tree}

@@ -1,6 +1,6 @@
 -- Where a build waits: a path of frames down to a step that asks, and what is left to do when that step has ended.
 use Rattle.std.specs.Prelude.{◌≡◌, ℕ, zero, suc, ◌+◌, Bool, true, false, List, ◌∷◌, ◌++◌, take, drop, map, slice_get, Option, Some, None, IsSome}
-use Rattle.ccr_values.specs.TextMap.{TextMap}
+use Rattle.ccr_history.specs.TextMap.{TextMap}
 use Rattle.ccr_pipeline.specs.declared.step.Step.{Step}
 use Rattle.ccr_pipeline.specs.Tree.{Text, ConfigData, config_data, SourceData, config, file, TaskData, Tree, Trees, get, put, task, in_order, in_parallel, tried, attempts, hook, no_trees, tree, tree_of, trees_of}
 use Rattle.ccr_steps.specs.declared.outcome.Outcome.{Outcome}

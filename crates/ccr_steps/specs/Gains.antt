@@ -2,7 +2,7 @@
 use Rattle.std.specs.Prelude.{◌≡◌, Bool, ◌&&◌, ◌||◌, ◌++◌, List, [], ◌∷◌, map, string_bytes, if◌then◌else◌}
 use Rattle.std.specs.List.{list_any, list_all}
 use Rattle.std.specs.Str.{bytes_eq}
-use Rattle.ccr_values.specs.TextMap.{TextMap, key_text}
+use Rattle.ccr_history.specs.TextMap.{TextMap, key_text}
 use Rattle.ccr_pipeline.specs.Names.{has_name, with_name, with_names}
 use Rattle.ccr_pipeline.specs.Tree.{Text}
 use Rattle.ccr_steps.specs.declared.moved.Moved.{Moved}

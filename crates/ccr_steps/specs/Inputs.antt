@@ -1,6 +1,6 @@
 -- The inputs of a build, by name.
 use Rattle.std.specs.Prelude.{◌≡◌, List, map, string_bytes, IsTrue, ⊤}
-use Rattle.ccr_values.specs.TextMap.{TextMap}
+use Rattle.ccr_history.specs.TextMap.{TextMap}
 use Rattle.ccr_pipeline.specs.Limits.{input_names}
 use Rattle.ccr_pipeline.specs.Names.{has_name}
 use Rattle.ccr_pipeline.specs.Tree.{Text, Tree, get}

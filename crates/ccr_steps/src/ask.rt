@@ -1,7 +1,7 @@
 //! What a build asks for, and what it is answered.
 
+use ccr_history::{Object, Version};
 use ccr_pipeline::{TaskConfig, Variable};
-use ccr_values::{Object, Version};
 
 /// What a build waits for.
 #[derive(Clone, Copy)]

@@ -3,8 +3,8 @@ ghost use Rattle.std.specs.Prelude.{◌≡◌, ◌<◌, length, slice_get, IsSom
 ghost use Rattle.ccr_steps.specs.FrameKinds.{at_frame, is_in_frame, left_frame, hook_frame};
 
 use crate::outcome::Outcome;
+use ccr_history::Version;
 use ccr_pipeline::TaskConfig;
-use ccr_values::Version;
 
 /// Where a step that was begun stands, one level of a path down to the step that asks.
 #[derive(Clone, Copy, PartialEq, Eq)]

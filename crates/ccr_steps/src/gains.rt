@@ -6,8 +6,8 @@ ghost use Rattle.ccr_steps.specs.Gains.{gains_data, moved_data, Grew, no_gains, 
 ghost use Rattle.ccr_steps.specs.Gains.{register, register_all, move, has_input, has_inputs};
 
 use crate::moved::Moved;
+use ccr_history::Version;
 use ccr_pipeline::{Names, TaskInput};
-use ccr_values::Version;
 use std::alloc::{AllocError, Global};
 
 /// The names of the registered artifacts, and the moved versions, each once.

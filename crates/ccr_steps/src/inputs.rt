@@ -7,8 +7,8 @@ ghost use Rattle.ccr_pipeline.specs.Tree.{tree_of};
 ghost use Rattle.ccr_steps.specs.Asks.{chosen, version_of};
 ghost use Rattle.ccr_steps.specs.Inputs.{inputs_data, chosen_names};
 
+use ccr_history::Version;
 use ccr_pipeline::{Job, inputs_of};
-use ccr_values::Version;
 use std::alloc::{AllocError, Global};
 
 /// An input's name, and the version that was chosen for it.

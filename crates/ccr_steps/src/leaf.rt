@@ -13,8 +13,8 @@ use crate::frame::Leaf;
 use crate::gains::Gains;
 use crate::inputs::Inputs;
 use crate::outcome::Outcome;
+use ccr_history::Version;
 use ccr_pipeline::{Get, Put, Step, Task, TaskSource};
-use ccr_values::Version;
 use std::alloc::{AllocError, Global};
 
 fn first_ask<'r>(step: &'r Step, inputs: &'r Inputs) -> Option<Ask<'r>>

@@ -1,8 +1,8 @@
 //! Versions that a build moved.
 ghost use Rattle.std.specs.Prelude.{◌≡◌, string_bytes};
-ghost use Rattle.ccr_values.specs.TextMap.{key_text};
+ghost use Rattle.ccr_history.specs.TextMap.{key_text};
 
-use ccr_values::Version;
+use ccr_history::Version;
 
 /// A version of a resource that a build fetched for an input, or pushed.
 #[derive(Drop)]

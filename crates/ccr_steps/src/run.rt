@@ -25,8 +25,8 @@ use crate::leaf::{answer_leaf, leaf_ask};
 use crate::moment::Moment;
 use crate::moved::Moved;
 use crate::outcome::Outcome;
+use ccr_history::Version;
 use ccr_pipeline::{Job, Step};
-use ccr_values::Version;
 use std::alloc::{AllocError, Global};
 use std::mem;
 

@@ -7,7 +7,7 @@ use Rattle.std.proofs.lemmas.List.Sorted.{IsPermutation-refl, IsPermutation-sym,
 use Rattle.sqlite.specs.declared.types.Value.TheVariants.{Int, Text as Words}
 use Rattle.sqlite.specs.Order.{Row}
 use Rattle.sqlite_keyed.proofs.ListLemmas.{IsPermutation-same}
-use Rattle.ccr_values.specs.Text.{Text}
+use Rattle.ccr_history.specs.Text.{Text}
 use Rattle.ccr_history.specs.Builds.{UsedData, BuildData, with_used, by_input, is_before, with_moved, by_place, new_build, count_of, with_build}
 use Rattle.ccr_history.proofs.Lists.{match_each}
 use Rattle.ccr_tables.specs.Contents.{Contents}

@@ -6,9 +6,9 @@ use Rattle.sqlite.specs.Order.{Row, value_cmp}
 use Rattle.sqlite_value.proofs.OrderLemmas.{value_cmp-Int}
 use Rattle.sqlite_keyed.proofs.ListLemmas.{IsPermutation-same}
 use Rattle.ccr_history.specs.declared.build.Status.{Status}
-use Rattle.ccr_values.specs.Text.{Text}
-use Rattle.ccr_values.specs.TextMap.{TextMap}
-use Rattle.ccr_values.specs.Scopes.{ScopeData}
+use Rattle.ccr_history.specs.Text.{Text}
+use Rattle.ccr_history.specs.TextMap.{TextMap}
+use Rattle.ccr_history.specs.Scopes.{ScopeData}
 use Rattle.ccr_history.specs.Tables.{versions_of}
 use Rattle.ccr_history.specs.Builds.{UsedData, BuildData, new_build, count_of, with_build, with_end, with_moved}
 use Rattle.ccr_history.specs.Pairs.{has_pair, without_pair}

@@ -8,9 +8,9 @@ use Rattle.ccr_history.specs.declared.change.Edit.{Edit}
 use Rattle.ccr_history.specs.declared.change.Edit.TheVariants as edit
 use Rattle.ccr_history.specs.declared.change.Reported.{Reported}
 use Rattle.ccr_history.specs.declared.table.TheConstants.{MOST_VERSIONS, MOST_SCOPES}
-use Rattle.ccr_values.specs.Text.{Text}
-use Rattle.ccr_values.specs.TextMap.{TextMap}
-use Rattle.ccr_values.specs.Scopes.{ScopeData, is_scope}
+use Rattle.ccr_history.specs.Text.{Text}
+use Rattle.ccr_history.specs.TextMap.{TextMap}
+use Rattle.ccr_history.specs.Scopes.{ScopeData, is_scope}
 use Rattle.ccr_history.specs.Tables.{TableData, with_versions, with_report, reported, versions_of, scope_number}
 use Rattle.ccr_history.specs.Builds.{BuildData, is_build_of, build_of}
 use Rattle.ccr_history.specs.Changes.{versions, edited, changed, Admits}
@@ -19,7 +19,7 @@ use Rattle.ccr_history.specs.History.{HistoryData, IsHistory}
 use Rattle.ccr_history.specs.Pairs.{has_pair}
 use Rattle.sqlite.specs.Tree.{Trees}
 use Rattle.ccr_tables.specs.Contents.{Keeps}
-use Rattle.ccr_values.specs.Keys.{scope_equiv}
+use Rattle.ccr_history.specs.Keys.{scope_equiv}
 use Rattle.ccr_history.proofs.NewVersions.{new_alone}
 use Rattle.ccr_store.specs.Reordered.{HasSameRows}
 use Rattle.ccr_store.specs.Rows.{status_number, rows_of}

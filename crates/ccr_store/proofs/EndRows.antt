@@ -11,7 +11,7 @@ use Rattle.sqlite.specs.Order.{Row, value_cmp}
 use Rattle.sqlite_value.proofs.OrderLemmas.{value_cmp-Int}
 use Rattle.sqlite_keyed.proofs.ListLemmas.{IsPermutation-same}
 use Rattle.ccr_history.specs.declared.build.Status.{Status}
-use Rattle.ccr_values.specs.Text.{Text}
+use Rattle.ccr_history.specs.Text.{Text}
 use Rattle.ccr_history.specs.Builds.{BuildData, by_place, is_of, is_build_of, build_of, count_of, ended, with_end}
 use Rattle.ccr_history.specs.History.{AreNumbered}
 use Rattle.ccr_history.proofs.Positions.{count_rises}

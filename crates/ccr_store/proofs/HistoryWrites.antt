@@ -1,9 +1,9 @@
 -- What a change of a history writes, with the numbers that the history gives.
 use Rattle.std.specs.Prelude.{ℕ, ◌+◌, [], ◌∷◌, ◌++◌, List, map, length, Bool, if◌then◌else◌}
 use Rattle.std.specs.List.{list_any}
-use Rattle.ccr_values.specs.Text.{Text}
-use Rattle.ccr_values.specs.TextMap.{TextMap, key_text}
-use Rattle.ccr_values.specs.Scopes.{ScopeData, is_scope}
+use Rattle.ccr_history.specs.Text.{Text}
+use Rattle.ccr_history.specs.TextMap.{TextMap, key_text}
+use Rattle.ccr_history.specs.Scopes.{ScopeData, is_scope}
 use Rattle.ccr_history.specs.Tables.{TableData, has_version, versions_of}
 use Rattle.ccr_history.specs.Builds.{UsedData, BuildData, is_build_of, count_of}
 use Rattle.ccr_history.specs.History.{HistoryData}

@@ -8,7 +8,7 @@ use Rattle.ccr_history.specs.Edits.{change_data, Accepts}
 use Rattle.ccr_history.specs.declared.change.Edit.{Edit}
 use Rattle.ccr_history.proofs.ChangeLaws.{all_kept as history_kept}
 use Rattle.ccr_tables.specs.Contents.{Keeps}
-use Rattle.ccr_storage.specs.Crash.{left_by}
+use Rattle.ccr_history.specs.Crash.{left_by}
 use Rattle.ccr_store.specs.Crash.{Leaves}
 use Rattle.ccr_store.specs.Rows.{rows_of}
 use Rattle.ccr_store.specs.StoreData.{StoreData, IsKept}

@@ -17,16 +17,16 @@ use Rattle.sqlite_value.specs.Order.{row_cmp}
 use Rattle.sqlite_value.proofs.OrderLemmas.{row_cmp_total, value_cmp_total, value_cmp-Int, value_cmp-Text}
 use Rattle.std.specs.List.Sorted.{IsStrictlySortedBy}
 use Rattle.std.proofs.lemmas.List.Elements.{recursion_from_All}
-use Rattle.ccr_values.specs.Scopes.{ScopeData}
+use Rattle.ccr_history.specs.Scopes.{ScopeData}
 use Rattle.ccr_history.specs.Tables.{TableData}
 use Rattle.ccr_history.specs.Builds.{UsedData, BuildData, is_before}
 use Rattle.ccr_history.specs.History.{HistoryData, IsHistory, IsUsed, IsBuild, AreDisabled}
-use Rattle.ccr_values.specs.Text.{Text}
+use Rattle.ccr_history.specs.Text.{Text}
 use Rattle.ccr_history.specs.declared.build.Status.{Status}
 use Rattle.ccr_history.specs.declared.build.Status.TheVariants.{Running, Succeeded, Failed, Errored, Aborted}
 use Rattle.ccr_history.proofs.Lists.{pairs_head, pairs_tail}
 use Rattle.ccr_store.specs.Listed.{listed_pairs, history_pairs}
-use Rattle.ccr_values.specs.TextMap.{TextMap, key_text}
+use Rattle.ccr_history.specs.TextMap.{TextMap, key_text}
 use Rattle.ccr_store.specs.Rows.{scope_row, scope_rows, version_row, version_rows, table_rows, build_row, build_rows, used_row, moved_row, disabled_rows, pin_row, meta_rows, status_number, rows_of}
 use Rattle.ccr_store.specs.Reordered.{HasSameRows}
 use Rattle.ccr_store.specs.declared.format.Format.TheVariants.{Two}

@@ -1,9 +1,9 @@
 -- The compact text of a map of texts says which map it is.
 use Rattle.std.proofs.Common.{◌≡◌, ℕ, List, [], ◌∷◌, ◌++◌, get_or, drop, take, length, ◌-◌, refl, sym, ap, ap₂, ◌∙◌, arith}
-use Rattle.ccr_values.specs.Scan.{after_string}
-use Rattle.ccr_values.specs.TextMap.{TextMap, key_text}
-use Rattle.ccr_values.specs.Members.{member_text, rest_text}
-use Rattle.ccr_values.proofs.Members.{member_passes, before_rest, same_member, rest_left, key_left}
+use Rattle.ccr_history.specs.Scan.{after_string}
+use Rattle.ccr_history.specs.TextMap.{TextMap, key_text}
+use Rattle.ccr_history.specs.Members.{member_text, rest_text}
+use Rattle.ccr_history.proofs.Members.{member_passes, before_rest, same_member, rest_left, key_left}
 use Rattle.std.proofs.Common.{false}
 
 -- what stands behind a member

@@ -11,8 +11,8 @@ use Rattle.sqlite.specs.declared.types.Value.TheVariants.{Text as Words}
 use Rattle.sqlite.specs.Order.{value_cmp}
 use Rattle.sqlite_value.proofs.OrderLemmas.{value_cmp-Text}
 use Rattle.sqlite_keyed.proofs.ListLemmas.{IsPermutation-same, filter-map, filter_same, filter_all}
-use Rattle.ccr_values.specs.Text.{Text}
-use Rattle.ccr_values.specs.TextMap.{TextMap}
+use Rattle.ccr_history.specs.Text.{Text}
+use Rattle.ccr_history.specs.TextMap.{TextMap}
 use Rattle.ccr_history.specs.Changes.{with_pin, without_pin}
 use Rattle.ccr_history.proofs.Lists.{each_weaker, each_from_map, match_each}
 use Rattle.ccr_history.proofs.PinLaws.{Entry, Ascend}

@@ -7,14 +7,14 @@ use Rattle.serde_json.specs.Data.{Data, object}
 use Rattle.sqlite.specs.declared.types.Value.{Value}
 use Rattle.sqlite.specs.declared.types.Value.TheVariants.{Int, Text as Words}
 use Rattle.sqlite.specs.Order.{Row, column}
-use Rattle.ccr_values.specs.TextMap.{TextMap, texts_of, text_map_of, members_of, key_text}
+use Rattle.ccr_history.specs.TextMap.{TextMap, texts_of, text_map_of, members_of, key_text}
 use Rattle.ccr_history.specs.Builds.{UsedData}
 use Rattle.ccr_history.specs.History.{HistoryData, ArePins}
 use Rattle.ccr_history.specs.Changes.{pin_set, edited, with_pin}
 use Rattle.ccr_history.proofs.Links.{all-at}
 use Rattle.ccr_history.proofs.PinMaps.{with_pin-last}
-use Rattle.ccr_storage.specs.declared.fault.StoreFault.{StoreFault}
-use Rattle.ccr_storage.specs.declared.fault.StoreFault.TheVariants.{NoMemory}
+use Rattle.ccr_history.specs.declared.store_fault.StoreFault.{StoreFault}
+use Rattle.ccr_history.specs.declared.store_fault.StoreFault.TheVariants.{NoMemory}
 use Rattle.ccr_tables.specs.Pairs.{pair}
 use Rattle.ccr_store.specs.Rows.{version_row, version_rows, used_row, moved_row, pin_row}
 use Rattle.ccr_store.specs.Texts.{IsSpelled, IsTextPin, OrNoMemory}

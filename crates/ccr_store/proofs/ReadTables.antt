@@ -8,12 +8,12 @@ use Rattle.std.proofs.lemmas.Bool.{cond-false, le-ltb}
 use Rattle.sqlite.specs.declared.types.Value.TheVariants.{Int}
 use Rattle.sqlite.specs.Order.{Row, column}
 use Rattle.ccr_history.specs.declared.table.TheConstants.{MOST_VERSIONS, MOST_SCOPES}
-use Rattle.ccr_values.specs.TextMap.{TextMap, is_version}
-use Rattle.ccr_values.specs.Scopes.{ScopeData, is_scope}
+use Rattle.ccr_history.specs.TextMap.{TextMap, is_version}
+use Rattle.ccr_history.specs.Scopes.{ScopeData, is_scope}
 use Rattle.ccr_history.specs.Tables.{TableData, has_version, with_versions, with_report, reported, versions_of, is_table_full}
 use Rattle.ccr_history.specs.History.{HistoryData, IsTable, AreTables}
 use Rattle.ccr_history.specs.Changes.{versions, edited}
-use Rattle.ccr_values.specs.Keys.{scope_equiv, version_equiv}
+use Rattle.ccr_history.specs.Keys.{scope_equiv, version_equiv}
 use Rattle.ccr_history.proofs.Links.{all-at}
 use Rattle.ccr_history.proofs.Lists.{each_weaker, pairs_head, pairs_tail}
 use Rattle.ccr_history.proofs.Positions.{any-none}

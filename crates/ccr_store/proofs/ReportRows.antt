@@ -4,8 +4,8 @@ use Rattle.std.proofs.lemmas.List.{append_assoc, append-nil}
 use Rattle.std.proofs.lemmas.List.Sorted.{IsPermutation-refl, IsPermutation-trans, IsPermutation-cons, IsPermutation-append_right}
 use Rattle.sqlite.specs.Order.{Row}
 use Rattle.sqlite_keyed.proofs.ListLemmas.{IsPermutation-same}
-use Rattle.ccr_values.specs.TextMap.{TextMap}
-use Rattle.ccr_values.specs.Scopes.{ScopeData, is_scope}
+use Rattle.ccr_history.specs.TextMap.{TextMap}
+use Rattle.ccr_history.specs.Scopes.{ScopeData, is_scope}
 use Rattle.ccr_history.specs.Tables.{TableData, has_version, with_versions, with_report, versions_of}
 use Rattle.ccr_tables.specs.Contents.{Contents}
 use Rattle.ccr_store.specs.Rows.{scope_row, scope_rows, version_row, version_rows, table_rows}

@@ -20,8 +20,8 @@ use Rattle.ccr_tables.specs.Written.{all_written}
 use Rattle.ccr_tables.specs.declared.write.Write.{Write}
 use Rattle.ccr_store.specs.Writes.{change_writes}
 use Rattle.ccr_store.specs.Reordered.{HasSameRows}
-use Rattle.ccr_storage.specs.declared.fault.StoreFault.{StoreFault}
-use Rattle.ccr_storage.specs.declared.fault.StoreFault.TheVariants.{NoMemory, NotOurs}
+use Rattle.ccr_history.specs.declared.store_fault.StoreFault.{StoreFault}
+use Rattle.ccr_history.specs.declared.store_fault.StoreFault.TheVariants.{NoMemory, NotOurs}
 use Rattle.ccr_store.specs.Crash.{HoldOneOf, Leaves, IsChangedIn}
 use Rattle.ccr_store.specs.Left.{IsAsItWas}
 use Rattle.ccr_store.specs.Readable.{IsReadable}
@@ -33,7 +33,7 @@ use Rattle.ccr_store.specs.Texts.{HasTexts, OrNoMemory, OrFault}
 use Rattle.ccr_store.specs.Listed.{AreSeen, AreBuilt, ListsSeen, ListsBuilt, KeepsSeen, without_builds}
 use Rattle.ccr_store.proofs.ListedRows.{loaded}
 use Rattle.sqlite.specs.Order.{Row}
-use Rattle.ccr_values.specs.Text.{Text}
+use Rattle.ccr_history.specs.Text.{Text}
 use Rattle.ccr_store.specs.WriteData.{WriteData, write_data, all_made}
 use Rattle.ccr_store.proofs.EditWrites.{edits_kept}
 use Rattle.ccr_store.proofs.SameRows.{all_written-made, keeps_same}

@@ -7,8 +7,8 @@ use Rattle.sqlite.specs.Held.{state}
 use Rattle.sqlite.specs.State.{State, HasCleanDisk, Survives}
 use Rattle.sqlite.specs.Tree.{Trees}
 use Rattle.sqlite.proofs.StateLemmas.{survives_weaker, survives_then}
-use Rattle.ccr_storage.specs.declared.fault.StoreFault.{StoreFault}
-use Rattle.ccr_storage.specs.declared.fault.StoreFault.TheVariants as of
+use Rattle.ccr_history.specs.declared.store_fault.StoreFault.{StoreFault}
+use Rattle.ccr_history.specs.declared.store_fault.StoreFault.TheVariants as of
 use Rattle.ccr_tables.specs.Answered.{IsAnswered}
 use Rattle.ccr_tables.specs.Cause.{cause_of}
 use Rattle.ccr_tables.specs.declared.cause.Cause.{Cause}

@@ -1,8 +1,8 @@
 -- One write more.
 use Rattle.std.proofs.Common.{◌≡◌, ℕ, ◌+◌, ◌<◌, List, [], ◌∷◌, ◌++◌, map, length, take, get_or, sym, ap, ◌∙◌, arith, le_of_lt}
 use Rattle.std.proofs.lemmas.List.{append_assoc, map-append, length-take-le, take_more}
-use Rattle.ccr_values.specs.Text.{Text}
-use Rattle.ccr_values.specs.TextMap.{TextMap, key_text}
+use Rattle.ccr_history.specs.Text.{Text}
+use Rattle.ccr_history.specs.TextMap.{TextMap, key_text}
 use Rattle.ccr_tables.specs.declared.write.Write.{Write}
 use Rattle.ccr_store.specs.WriteData.{WriteData, write_data}
 use Rattle.ccr_store.specs.WriteData as write

@@ -5,8 +5,8 @@ use Rattle.sqlite.specs.declared.error.Error.{Error}
 use Rattle.sqlite.specs.Held.{Held, state}
 use Rattle.sqlite.specs.State.{State, HasCleanDisk, Survives}
 use Rattle.ccr_history.specs.declared.change.Edit.{Edit}
-use Rattle.ccr_storage.specs.declared.fault.StoreFault.{StoreFault}
-use Rattle.ccr_storage.specs.declared.fault.StoreFault.TheVariants.{NoMemory, NotOurs}
+use Rattle.ccr_history.specs.declared.store_fault.StoreFault.{StoreFault}
+use Rattle.ccr_history.specs.declared.store_fault.StoreFault.TheVariants.{NoMemory, NotOurs}
 use Rattle.ccr_tables.specs.Answered.{IsAnswered}
 use Rattle.ccr_tables.specs.Cause.{cause_of}
 use Rattle.sqlite.specs.Tree.{Trees}

@@ -5,8 +5,8 @@ use Rattle.sqlite.specs.declared.error.ErrorCode.TheVariants.{NotADatabase}
 use Rattle.ccr_tables.specs.Cause.{cause_of}
 use Rattle.ccr_tables.specs.declared.cause.Cause.{Cause}
 use Rattle.ccr_tables.specs.declared.cause.Cause.TheVariants as cause
-use Rattle.ccr_storage.specs.declared.fault.StoreFault.{StoreFault}
-use Rattle.ccr_storage.specs.declared.fault.StoreFault.TheVariants.{Refused, NoMemory, Disk, Interrupted, NotOurs}
+use Rattle.ccr_history.specs.declared.store_fault.StoreFault.{StoreFault}
+use Rattle.ccr_history.specs.declared.store_fault.StoreFault.TheVariants.{Refused, NoMemory, Disk, Interrupted, NotOurs}
 
 -- each cause has a fault of its name
 abbrev pub fault_of : Cause → StoreFault

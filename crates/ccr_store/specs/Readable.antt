@@ -1,7 +1,7 @@
 -- Texts that a pipeline can be read from.
 use Rattle.std.specs.Prelude.{◌≡◌, []}
 use Rattle.serde_json.specs.Data.{Data}
-use Rattle.ccr_values.specs.Text.{Text}
+use Rattle.ccr_history.specs.Text.{Text}
 use Rattle.ccr_pipeline.specs.Reading.{IsTextOf, pipeline_faults}
 
 -- a pipeline can be read from the text

@@ -6,9 +6,9 @@ use Rattle.ccr_tables.specs.Contents.{Contents}
 use Rattle.ccr_tables.specs.Written.{with_meta}
 use Rattle.ccr_history.specs.declared.build.Status.{Status}
 use Rattle.ccr_history.specs.declared.build.Status.TheVariants.{Running, Succeeded, Failed, Errored, Aborted}
-use Rattle.ccr_values.specs.Text.{Text}
-use Rattle.ccr_values.specs.TextMap.{TextMap, key_text}
-use Rattle.ccr_values.specs.Scopes.{ScopeData}
+use Rattle.ccr_history.specs.Text.{Text}
+use Rattle.ccr_history.specs.TextMap.{TextMap, key_text}
+use Rattle.ccr_history.specs.Scopes.{ScopeData}
 use Rattle.ccr_history.specs.Tables.{TableData}
 use Rattle.ccr_history.specs.Builds.{UsedData, BuildData}
 use Rattle.ccr_history.specs.History.{HistoryData}

@@ -7,8 +7,8 @@ use Rattle.sqlite.specs.State.{HasCleanDisk}
 use Rattle.sqlite.specs.Held.{Held, held_code, state}
 use Rattle.ccr_tables.specs.Contents.{Holds}
 use Rattle.ccr_history.specs.History.{HistoryData, IsHistory}
-use Rattle.ccr_storage.specs.declared.tally.Tally.{Tally}
-use Rattle.ccr_storage.specs.contracts.tally.Tally as tally
+use Rattle.ccr_history.specs.declared.tally.Tally.{Tally}
+use Rattle.ccr_history.specs.contracts.tally.Tally as tally
 use Rattle.ccr_store.specs.Rows.{rows_of}
 
 -- a connection, and the tally of its commits

@@ -3,13 +3,13 @@ use Rattle.std.specs.Prelude.{◌≡◌, ◌≢◌, Some, Ok, Err, Result, IsUtf
 use Rattle.std.specs.List.{AllByRecursion}
 use Rattle.serde_json.specs.Data.{object}
 use Rattle.serde_json.specs.Read.{read}
-use Rattle.ccr_values.specs.Text.{Text}
-use Rattle.ccr_values.specs.TextMap.{TextMap, members_of, key_text}
+use Rattle.ccr_history.specs.Text.{Text}
+use Rattle.ccr_history.specs.TextMap.{TextMap, members_of, key_text}
 use Rattle.ccr_history.specs.Tables.{TableData}
 use Rattle.ccr_history.specs.Builds.{BuildData}
 use Rattle.ccr_history.specs.History.{HistoryData}
-use Rattle.ccr_storage.specs.declared.fault.StoreFault.{StoreFault}
-use Rattle.ccr_storage.specs.declared.fault.StoreFault.TheVariants.{NoMemory, NotOurs}
+use Rattle.ccr_history.specs.declared.store_fault.StoreFault.{StoreFault}
+use Rattle.ccr_history.specs.declared.store_fault.StoreFault.TheVariants.{NoMemory, NotOurs}
 
 -- the key of a version, or the text of a pin, is UTF-8, and JSON reads it as that map
 abbrev pub IsSpelled : TextMap → Type 0

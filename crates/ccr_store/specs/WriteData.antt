@@ -4,7 +4,7 @@ use Rattle.ccr_tables.specs.Contents.{Contents}
 use Rattle.ccr_tables.specs.Written.{with_meta, with_scope, with_version, with_build, with_pair, with_status, without_pair, with_pin, without_pin}
 use Rattle.ccr_tables.specs.declared.write.Write.{Write}
 use Rattle.ccr_tables.specs.declared.write.Write.TheVariants as written
-use Rattle.ccr_values.specs.Text.{Text}
+use Rattle.ccr_history.specs.Text.{Text}
 
 -- a write, its texts by their bytes
 pub data WriteData : Type 0 where

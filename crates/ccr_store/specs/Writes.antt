@@ -4,8 +4,8 @@ use Rattle.ccr_history.specs.declared.change.Edit.{Edit}
 use Rattle.ccr_history.specs.declared.change.Edit.TheVariants.{Text, Versions, Build, Ended, PinSet, PinCleared, Disabled, Enabled}
 use Rattle.ccr_history.specs.declared.change.Reported.{Reported}
 use Rattle.ccr_history.specs.declared.table.TheConstants.{MOST_VERSIONS}
-use Rattle.ccr_values.specs.TextMap.{TextMap, key_text}
-use Rattle.ccr_values.specs.Scopes.{ScopeData}
+use Rattle.ccr_history.specs.TextMap.{TextMap, key_text}
+use Rattle.ccr_history.specs.Scopes.{ScopeData}
 use Rattle.ccr_history.specs.Builds.{UsedData}
 use Rattle.ccr_store.specs.Rows.{status_number}
 use Rattle.ccr_store.specs.WriteData.{WriteData}

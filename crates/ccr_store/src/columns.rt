@@ -1,10 +1,10 @@
 //! Columns of a row.
 ghost use Rattle.std.specs.Prelude.{◌≡◌, ◌<◌, [], pos, length, IsTrue, IfOk, IfErr};
-ghost use Rattle.ccr_storage.specs.declared.fault.StoreFault.TheVariants.{NoMemory};
+ghost use Rattle.ccr_history.specs.declared.store_fault.StoreFault.TheVariants.{NoMemory};
 ghost use Rattle.sqlite.specs.declared.types.Value.TheVariants.{Int, Text, Blob};
 ghost use Rattle.sqlite.specs.Order.{column};
 
-use ccr_storage::StoreFault;
+use ccr_history::StoreFault;
 use ccr_tables::Cause;
 use ccr_tables::pairs::Pair;
 use sqlite::Row;

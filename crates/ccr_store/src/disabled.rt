@@ -8,8 +8,7 @@ ghost use Rattle.ccr_store.specs.Rows.{moved_row, disabled_rows};
 ghost use Rattle.ccr_store.specs.Texts.{OrNoMemory};
 
 use crate::reading::pair_count;
-use ccr_history::History;
-use ccr_storage::StoreFault;
+use ccr_history::{History, StoreFault};
 use ccr_tables::pairs::Pair;
 
 /// Disables the place of a row, if the tables have it.

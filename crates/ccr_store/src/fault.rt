@@ -3,7 +3,7 @@ ghost use Rattle.std.specs.Prelude.{◌≡◌};
 ghost use Rattle.ccr_tables.specs.Cause.{cause_of};
 ghost use Rattle.ccr_store.specs.Faults as spec;
 
-use ccr_storage::StoreFault;
+use ccr_history::StoreFault;
 use ccr_tables::Cause;
 use sqlite::{Error as SqlError, ErrorCode};
 

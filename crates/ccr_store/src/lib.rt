@@ -4,7 +4,7 @@
 //! edit carries the numbers of its rows, so its writes are made from it alone. What the columns hold is told in
 //! docs/FORMATS.md.
 //!
-//! A [`Store`] keeps a history in a database by these, and is a server's [`Storage`](ccr_storage::Storage).
+//! A [`Store`] keeps a history in a database by these, and is a server's [`Storage`](ccr_history::Storage).
 #![tactic(auto)]
 
 mod columns;
@@ -21,7 +21,7 @@ mod storage;
 mod store;
 mod writes;
 
-pub use ccr_storage::StoreFault;
+pub use ccr_history::StoreFault;
 pub use fault::open_fault_of;
 pub use format::Format;
 pub use law::{changes_write_their_rows, rows_tell_the_history};

@@ -4,7 +4,7 @@ ghost use Rattle.sqlite.specs.Order.{Row};
 ghost use Rattle.sqlite.specs.State.{HasCleanDisk};
 ghost use Rattle.sqlite.specs.Held.{state};
 ghost use Rattle.ccr_history.specs.History.{HistoryData, IsHistory};
-ghost use Rattle.ccr_storage.specs.declared.fault.StoreFault.TheVariants.{NoMemory, NotOurs};
+ghost use Rattle.ccr_history.specs.declared.store_fault.StoreFault.TheVariants.{NoMemory, NotOurs};
 ghost use Rattle.ccr_tables.specs.Cause.{cause_of};
 ghost use Rattle.ccr_tables.specs.Contents.{Contents, Holds};
 ghost use Rattle.ccr_tables.specs.Left.{OnlyReads};
@@ -24,8 +24,7 @@ use crate::matching::{
     are_builds, are_meta, are_pairs, are_pins, are_scopes, are_versions, format_in,
 };
 use crate::reading::{check_text, read_builds, read_tables};
-use ccr_history::History;
-use ccr_storage::StoreFault;
+use ccr_history::{History, StoreFault};
 use ccr_tables::{Cause, meta};
 use sqlite::{Alter, Connection, Error as SqlError};
 use std::alloc::{AllocError, Global};

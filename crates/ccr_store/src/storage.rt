@@ -3,14 +3,13 @@ ghost use Rattle.std.specs.Prelude.{◌≡◌, [], ◌∷◌, OnOk, OnErr};
 ghost use Rattle.ccr_history.specs.History.{HistoryData, IsHistory};
 ghost use Rattle.ccr_history.specs.Edits.{change_data, Accepts};
 ghost use Rattle.ccr_history.specs.Changes.{changed};
-ghost use Rattle.ccr_storage.specs.Crash.{left_by};
+ghost use Rattle.ccr_history.specs.Crash.{left_by};
 ghost use Rattle.ccr_store.specs.Crash.{Leaves};
 ghost use Rattle.ccr_store.specs.StoreData.{IsKept};
 
 use crate::still::writes_nothing;
 use crate::store::Store;
-use ccr_history::Edit;
-use ccr_storage::{Storage, StoreFault};
+use ccr_history::{Edit, Storage, StoreFault};
 use sqlite::Alter;
 use std::alloc::Global;
 

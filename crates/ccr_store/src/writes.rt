@@ -3,15 +3,16 @@ ghost use Rattle.std.specs.Prelude.{◌≡◌, ◌+◌, ◌≤◌, ◌++◌, [],
 ghost use Rattle.std.specs.List.{AllByRecursion};
 ghost use Rattle.ccr_history.specs.declared.change.Edit.TheVariants as edits;
 ghost use Rattle.ccr_history.specs.declared.table.TheConstants.{MOST_VERSIONS};
-ghost use Rattle.ccr_values.specs.TextMap.{key_text};
-ghost use Rattle.ccr_storage.specs.declared.fault.StoreFault.TheVariants.{NoMemory};
+ghost use Rattle.ccr_history.specs.TextMap.{key_text};
+ghost use Rattle.ccr_history.specs.declared.store_fault.StoreFault.TheVariants.{NoMemory};
 ghost use Rattle.ccr_store.specs.Rows.{status_number};
 ghost use Rattle.ccr_store.specs.WriteData.{write_data};
 ghost use Rattle.ccr_store.specs.WriteData as write;
 ghost use Rattle.ccr_store.specs.Writes.{scope_writes, version_writes, used_write, moved_write, edit_writes, change_writes, HasPlaces};
 
-use ccr_history::{Edit, Ended, Made, Pin, Reported, Scope, Status, Switched, Used, Version};
-use ccr_storage::StoreFault;
+use ccr_history::{
+    Edit, Ended, Made, Pin, Reported, Scope, Status, StoreFault, Switched, Used, Version,
+};
 use ccr_tables::Write;
 use std::alloc::Global;
 

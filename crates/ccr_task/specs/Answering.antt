@@ -1,7 +1,7 @@
 -- What ends and task files answer, with what was wrong where that is no success.
 use Rattle.std.specs.Prelude.{◌≡◌, ◌⊎◌, ◌==◌, ℕ, List, Bool, true, false, IsSome, Result, Ok, Err, Vec, String, codes}
 use Rattle.std.specs.declared.alloc.Global.{Global}
-use Rattle.ccr_values.specs.TextMap.{TextMap}
+use Rattle.ccr_history.specs.TextMap.{TextMap}
 use Rattle.ccr_pipeline.specs.Faults.{fault_of}
 use Rattle.ccr_pipeline.specs.Meaning.{config_from}
 use Rattle.ccr_pipeline.specs.Reading.{IsReading, Refuses}

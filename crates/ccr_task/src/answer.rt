@@ -7,11 +7,11 @@ ghost use Rattle.ccr_task.specs.Faulty.{said_data, bad};
 
 use crate::fault::ShelfFault;
 use crate::said::{Said, StepFault};
+use ccr_history::Version;
 use ccr_pipeline::{ReadFault, read_task};
 use ccr_process::Ended;
 use ccr_protocol::{ReplyFault, read_in, read_out};
 use ccr_steps::{Answered, Ask};
-use ccr_values::Version;
 use std::alloc::{AllocError, Global};
 
 /// The answer where something was wrong that is no failure that a program told.

@@ -13,11 +13,11 @@ ghost use Rattle.ccr_task.specs.Launching.{check_launch, fetch_launch, push_laun
 
 use crate::environment::environment;
 use crate::places::Places;
+use ccr_history::{Object, Version};
 use ccr_pipeline::{Pipeline, Resource, TaskConfig, Variable};
 use ccr_process::Launch;
 use ccr_protocol::{RequestFault, check_request, in_request, out_request};
 use ccr_steps::Ask;
-use ccr_values::{Object, Version};
 use std::alloc::{AllocError, Global};
 
 /// A path below a folder.

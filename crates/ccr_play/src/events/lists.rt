@@ -2,10 +2,10 @@
 ghost use Rattle.std.specs.Prelude.{◌≤◌, ◌<◌};
 
 use crate::events::index::first_other;
-use ccr_cases::{LineFault, add, number_of, pin_of, split, value_of, version_numbered};
 use ccr_core::{Core, CoreFault, Event, Reply};
 use ccr_history::{History, Version};
 use ccr_pipeline::read;
+use ccr_rows::{LineFault, add, number_of, pin_of, split, value_of, version_numbered};
 use ccr_steps::{Answered, Ask, Outcome};
 use rand_core::Rng;
 use rand_pcg::Pcg32;

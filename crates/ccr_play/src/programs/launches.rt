@@ -2,10 +2,10 @@
 
 use super::{object, part, some_version, source_text, version};
 use anyhow::{Result, anyhow};
-use ccr_cases::{end_of, fault_of, places};
 use ccr_history::{Object, Version};
 use ccr_pipeline::{Pipeline, TaskConfig, Variable, read, read_task};
 use ccr_process::Launch;
+use ccr_rows::{end_of, fault_of, places};
 use ccr_steps::{Answered, Ask};
 use ccr_task::{Said, answered_of, can_launch, check_launch, config_of, launch_of};
 use std::alloc::{AllocError, Global};

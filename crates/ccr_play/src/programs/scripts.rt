@@ -2,8 +2,8 @@
 
 use super::{letters, part};
 use anyhow::Result;
-use ccr_cases::{ends_of, fault_of, sights_of};
 use ccr_process::{Ended, Launch, Runner, Scripted};
+use ccr_rows::{ends_of, fault_of, sights_of};
 use ccr_task::{Shelf, ShelfAnswer, ShelfFault, ShelfScript};
 use std::alloc::{AllocError, Global};
 use std::collections::VecDeque;

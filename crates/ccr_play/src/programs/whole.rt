@@ -6,9 +6,9 @@
 use super::part;
 use crate::steps::{pipeline_of, started};
 use anyhow::{Result, anyhow};
-use ccr_cases::{ends_of, places, versions_of};
 use ccr_pipeline::Pipeline;
 use ccr_process::{Launch, Runner, Scripted};
+use ccr_rows::{ends_of, places, versions_of};
 use ccr_steps::{Answered, Ask, BuildRun};
 use ccr_task::{
     Places, Shelf, ShelfAnswer, ShelfScript, answered_of, can_launch, config_of, launch_of,

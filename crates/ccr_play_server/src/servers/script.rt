@@ -1,10 +1,9 @@
 //! Scripts: how programs end, what folders and files answer, how many commits are taken, and how the next one fails.
 
 use anyhow::Result;
-use ccr_cases::{end_of, number_of, sights_of, split};
-use ccr_history::History;
+use ccr_history::{History, StoreFault};
 use ccr_process::Ended;
-use ccr_storage::StoreFault;
+use ccr_rows::{end_of, number_of, sights_of, split};
 use ccr_task::{ShelfAnswer, ShelfFault};
 use std::alloc::{AllocError, Global};
 use std::collections::VecDeque;

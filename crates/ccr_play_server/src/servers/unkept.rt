@@ -1,8 +1,7 @@
 //! A storage that keeps nothing.
 ghost use Rattle.std.specs.Prelude.{⊤};
 
-use ccr_history::Edit;
-use ccr_storage::{Storage, StoreFault, Tally};
+use ccr_history::{Edit, Storage, StoreFault, Tally};
 use std::alloc::Global;
 
 /// Takes so many commits, and fails with this fault at each later one. It keeps nothing of what it is given.

@@ -1,6 +1,6 @@
 use Rattle.std.proofs.Common.{◌-◌, arith, rules}
 use Rattle.ccr_choice.specs.ProblemText.{next_build, next_builds}
-use Rattle.ccr_text.proofs.Many.{many_start, many_step}
+use Rattle.ccr_choice.proofs.Many.{many_start, many_step}
 use Rattle.ccr_choice.proofs.read.next_builds.Goals as goal
 
 pub loop-init : goal.loop-init

@@ -1,7 +1,7 @@
 use Rattle.std.proofs.Common.{◌≡◌, ◌-◌}
-use Rattle.ccr_text.specs.Reading.{next_many}
+use Rattle.ccr_choice.specs.Reading.{next_many}
 use Rattle.ccr_choice.specs.ProblemText.{next_build, next_builds}
-use Rattle.ccr_text.proofs.Many.{with_front}
+use Rattle.ccr_choice.proofs.Many.{with_front}
 use Rattle.ccr_choice.proofs.read.next_builds.Given as goal
 
 abbrev pub invariant-loop : goal.invariant-loop

@@ -1,7 +1,7 @@
 use Rattle.std.proofs.Common.{◌-◌, arith, rules}
 use Rattle.std.proofs.lemmas.Grind.{common_steps}
 use Rattle.ccr_choice.specs.ProblemText.{next_input, next_inputs, next_counts}
-use Rattle.ccr_text.proofs.Many.{many_start, many_step}
+use Rattle.ccr_choice.proofs.Many.{many_start, many_step}
 use Rattle.ccr_choice.proofs.Numbering.{scopes_after-push, jobs_after-push, next_used-le}
 use Rattle.ccr_choice.proofs.read.next_inputs.Goals as goal
 

@@ -1,8 +1,8 @@
 use Rattle.std.proofs.Common.{◌≡◌, ◌-◌, ◌≤◌}
 use Rattle.ccr_choice.specs.Problem.{scopes_after, jobs_after}
-use Rattle.ccr_text.specs.Reading.{next_many}
+use Rattle.ccr_choice.specs.Reading.{next_many}
 use Rattle.ccr_choice.specs.ProblemText.{next_input, next_counts, next_inputs}
-use Rattle.ccr_text.proofs.Many.{with_front}
+use Rattle.ccr_choice.proofs.Many.{with_front}
 use Rattle.ccr_choice.proofs.read.next_inputs.Given as goal
 
 abbrev pub invariant-loop : goal.invariant-loop

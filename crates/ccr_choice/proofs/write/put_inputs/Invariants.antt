@@ -1,5 +1,5 @@
 use Rattle.std.proofs.Common.{◌≡◌, ◌++◌, length, map, string_bytes}
-use Rattle.ccr_text.specs.Text.{text_of}
+use Rattle.ccr_choice.specs.Text.{text_of}
 use Rattle.ccr_choice.specs.ProblemText.{input_line}
 use Rattle.ccr_choice.proofs.write.put_inputs.Given as goal
 

@@ -1,6 +1,6 @@
 use Rattle.std.proofs.Common.{◌≡◌, ◌++◌, ◌≤◌, length, string_bytes}
 use Rattle.std.specs.List.{flat_map, AllByRecursion}
-use Rattle.ccr_text.specs.Text.{text_of}
+use Rattle.ccr_choice.specs.Text.{text_of}
 use Rattle.ccr_choice.specs.ProblemText.{job_lines}
 use Rattle.ccr_choice.proofs.write.put_jobs.Given as goal
 

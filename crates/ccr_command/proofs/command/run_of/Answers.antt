@@ -2,7 +2,7 @@ use Rattle.std.proofs.Common.{◌∙◌, ap, codes, option_map}
 use Rattle.clap.specs.Words.{found_of}
 use Rattle.clap.proofs.WalkLemmas.{first_value-rows}
 use Rattle.ccr_command.specs.Commands.{run_named}
-use Rattle.ccr_commands.specs.Commands.{run}
+use Rattle.ccr_core.specs.Commands.{run}
 use Rattle.ccr_command.proofs.command.run_of.Goals as goal
 
 pub returns-in-Some-number_of : goal.returns-in-Some-number_of

@@ -1,6 +1,6 @@
 use Rattle.std.proofs.Common.{drop}
 use Rattle.std.specs.List.{AllByRecursion}
-use Rattle.ccr_values.specs.TextMap.{IsAscending}
+use Rattle.ccr_history.specs.TextMap.{IsAscending}
 use Rattle.ccr_core.proofs.reported.versions_ascend.Given as goal
 
 abbrev pub invariant-loop-version : goal.invariant-loop-version

@@ -1,6 +1,6 @@
 use Rattle.std.proofs.Common.{◌≡◌, ◌∙◌, ap, sym, arith, Some, slice_get, subst, insert, map}
 use Rattle.ccr_history.specs.declared.used_row.UsedRow.{UsedRow}
-use Rattle.ccr_values.specs.Text.{Text}
+use Rattle.ccr_history.specs.Text.{Text}
 use Rattle.ccr_history.specs.Names.{HasMore}
 use Rattle.ccr_history.specs.Builds.{with_used}
 use Rattle.ccr_history.specs.Rows.{used_data}

@@ -1,7 +1,7 @@
 use Rattle.std.proofs.Common.{◌≡◌, ◌++◌, map, string_bytes}
 use Rattle.serde_json.specs.View.{items_view}
 use Rattle.ccr_pipeline.specs.Names.{texts_in}
-use Rattle.ccr_values.proofs.Items.{left}
+use Rattle.ccr_history.proofs.Items.{left}
 use Rattle.ccr_pipeline.proofs.build.texts.Given as goal
 
 abbrev pub invariant-loop-member : goal.invariant-loop-member

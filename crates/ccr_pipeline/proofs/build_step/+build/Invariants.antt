@@ -2,7 +2,7 @@ use Rattle.std.proofs.Common.{◌≡◌, ◌+◌, ◌*◌, ◌++◌, map}
 use Rattle.serde_json.specs.View.{items_view}
 use Rattle.ccr_pipeline.specs.Tree.{tree_of}
 use Rattle.ccr_pipeline.specs.Steps.{each_tree, step_tree}
-use Rattle.ccr_values.proofs.Items.{left}
+use Rattle.ccr_history.proofs.Items.{left}
 use Rattle.ccr_pipeline.proofs.build_step.+build.Given as goal
 
 abbrev pub decreases-step_of : goal.decreases-step_of

@@ -2,7 +2,7 @@ use Rattle.std.proofs.Common.{◌≡◌}
 use Rattle.serde_json.specs.View.{items_view}
 use Rattle.ccr_pipeline.specs.Keys.{path_of}
 use Rattle.ccr_pipeline.specs.Kinds.{broken_texts}
-use Rattle.ccr_values.proofs.Items.{left}
+use Rattle.ccr_history.proofs.Items.{left}
 use Rattle.ccr_pipeline.proofs.kind.check_texts.Given as goal
 
 abbrev pub invariant-loop-i : goal.invariant-loop-i

@@ -1,6 +1,6 @@
 use Rattle.std.proofs.Common.{◌≡◌}
 use Rattle.serde_json.specs.View.{items_view}
-use Rattle.ccr_values.proofs.Items.{left}
+use Rattle.ccr_history.proofs.Items.{left}
 use Rattle.ccr_pipeline.specs.JobRules.{names_in}
 use Rattle.ccr_pipeline.specs.Names.{with_names}
 use Rattle.ccr_pipeline.proofs.lists.add_names.Given as goal

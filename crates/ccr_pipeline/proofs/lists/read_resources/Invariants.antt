@@ -1,6 +1,6 @@
 use Rattle.std.proofs.Common.{◌≡◌, ◌++◌, map, codes}
 use Rattle.serde_json.specs.View.{items_view}
-use Rattle.ccr_values.proofs.Items.{left}
+use Rattle.ccr_history.proofs.Items.{left}
 use Rattle.ccr_pipeline.specs.JobData.{resource_data}
 use Rattle.ccr_pipeline.specs.JobRules.{resource_faults, members, names_in}
 use Rattle.ccr_pipeline.specs.Pipelines.{resources_in}

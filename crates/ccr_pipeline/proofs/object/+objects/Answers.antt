@@ -1,5 +1,5 @@
 use Rattle.std.proofs.Common.{◌<◌, arith}
-use Rattle.ccr_values.proofs.Items.{left_of-cons}
+use Rattle.ccr_history.proofs.Items.{left_of-cons}
 use Rattle.ccr_pipeline.specs.Objects.{value_faults}
 use Rattle.ccr_pipeline.proofs.Faulted.{checks_fault, first_append}
 use Rattle.ccr_pipeline.proofs.ObjectLemmas.{rows_first, value_first, value_inside, inside_none}

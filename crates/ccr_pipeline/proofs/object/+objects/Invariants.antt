@@ -1,5 +1,5 @@
 use Rattle.std.proofs.Common.{◌≡◌, ◌+◌, ◌*◌, ◌++◌, [], drop}
-use Rattle.ccr_values.proofs.Items.{left}
+use Rattle.ccr_history.proofs.Items.{left}
 use Rattle.ccr_pipeline.specs.Keys.{data_of, path_to, items_in}
 use Rattle.ccr_pipeline.specs.Objects.{key_faults, new_names, each_object, value_faults}
 use Rattle.ccr_pipeline.specs.Schema.{rows}

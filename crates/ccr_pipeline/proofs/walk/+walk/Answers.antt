@@ -1,6 +1,6 @@
 use Rattle.std.proofs.Common.{[], ◌∷◌, ◌∙◌, refl, sym, arith}
 use Rattle.serde_json.specs.View.{view}
-use Rattle.ccr_values.proofs.Items.{left_of-cons, left_of-end}
+use Rattle.ccr_history.proofs.Items.{left_of-cons, left_of-end}
 use Rattle.ccr_pipeline.specs.Places.{Closing, spot_of, steps_in, step_at, own_steps, hook_steps}
 use Rattle.ccr_pipeline.proofs.Faulted.{first_append}
 use Rattle.ccr_pipeline.proofs.Visits.{walked_none, walks_then, walks_fault, goes_on, goes_fault, goes_end, walked_opening, walked_closing, opening_fault, steps_none, steps_below}

@@ -1,6 +1,6 @@
 use Rattle.std.proofs.Common.{◌+◌, ◌*◌}
 use Rattle.serde_json.specs.View.{items_view}
-use Rattle.ccr_values.proofs.Items.{left}
+use Rattle.ccr_history.proofs.Items.{left}
 use Rattle.ccr_pipeline.specs.Keys.{path_to}
 use Rattle.ccr_pipeline.specs.Notes.{notes_data}
 use Rattle.ccr_pipeline.specs.Places.{each_step, steps_from}

@@ -1,5 +1,5 @@
 use Rattle.std.proofs.Common.{refl}
-use Rattle.ccr_text.proofs.Formats.{text_alone}
+use Rattle.ccr_choice.proofs.Formats.{text_alone}
 use Rattle.ccr_proof.specs.ClaimText.{claim_text}
 use Rattle.ccr_proof.proofs.ClaimLaws.{claim_lines_format, claim_text_again, claim_kept, claim_text_found}
 use Rattle.ccr_proof.proofs.law.claim_has_one_text.Goals as goal

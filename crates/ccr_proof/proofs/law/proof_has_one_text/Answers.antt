@@ -1,5 +1,5 @@
 use Rattle.std.proofs.Common.{refl}
-use Rattle.ccr_text.proofs.Formats.{text_alone}
+use Rattle.ccr_choice.proofs.Formats.{text_alone}
 use Rattle.ccr_proof.specs.ProofText.{proof_text}
 use Rattle.ccr_proof.proofs.ProofLaws.{proof_format, proof_text_again, text_kept, proof_text_found}
 use Rattle.ccr_proof.proofs.law.proof_has_one_text.Goals as goal

@@ -1,6 +1,6 @@
 use Rattle.std.proofs.Common.{◌<◌, ◌^◌, ◌++◌, [], ◌∷◌, arith, ap, ◌∙◌, sym, subst, append_assoc, string_bytes}
-use Rattle.ccr_text.specs.declared.word.Word.TheVariants as word
-use Rattle.ccr_text.specs.Text.{line_text, text_of}
+use Rattle.ccr_choice.specs.declared.word.Word.TheVariants as word
+use Rattle.ccr_choice.specs.Text.{line_text, text_of}
 use Rattle.ccr_proof.specs.Tree.{Tree, trees_of}
 use Rattle.ccr_proof.specs.Proof.{IsSmall}
 use Rattle.ccr_proof.specs.ProofText.{tree_lines, trees_lines}

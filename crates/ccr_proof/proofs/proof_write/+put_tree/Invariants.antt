@@ -1,5 +1,5 @@
 use Rattle.std.proofs.Common.{◌≡◌, ◌++◌, ◌≤◌, drop, string_bytes}
-use Rattle.ccr_text.specs.Text.{text_of}
+use Rattle.ccr_choice.specs.Text.{text_of}
 use Rattle.ccr_proof.specs.Tree.{tree_of, trees_of, count_all}
 use Rattle.ccr_proof.specs.Proof.{IsSmall, AreSmall}
 use Rattle.ccr_proof.specs.ProofText.{tree_lines, trees_lines}

@@ -1,6 +1,6 @@
 use Rattle.std.proofs.Common.{map, string_bytes, subst}
 use Rattle.clap.specs.Words.{HasMatchesOf, found_of}
-use Rattle.ccr_commands.specs.Commands.{command_data}
+use Rattle.ccr_core.specs.Commands.{command_data}
 use Rattle.ccr_command.specs.Aborts.{abort_data, abort_in}
 use Rattle.ccr_command.specs.Commands.{command_in}
 use Rattle.ccr_command.specs.Options.{options_data}

@@ -1,5 +1,5 @@
 use Rattle.std.proofs.Common.{◌∙◌, ◌++◌, [], ◌∷◌, Bool, false, Ok, Err, ap, refl}
-use Rattle.ccr_values.specs.Text.{Text}
+use Rattle.ccr_history.specs.Text.{Text}
 use Rattle.ccr_task.specs.Calls.{has}
 use Rattle.ccr_serve.proofs.aborting.take_abort.Goals as goal
 

@@ -1,5 +1,5 @@
 use Rattle.std.proofs.Common.{◌≡◌, List, drop}
-use Rattle.ccr_values.specs.Text.{Text}
+use Rattle.ccr_history.specs.Text.{Text}
 use Rattle.ccr_history.specs.Edits.{change_data}
 use Rattle.ccr_serve.specs.Noted.{NotesCut}
 use Rattle.ccr_serve.proofs.notes.tell_cut.Given as goal

@@ -1,5 +1,5 @@
 use Rattle.std.proofs.Common.{refl}
-use Rattle.ccr_storage.specs.declared.fault.StoreFault.TheVariants.{NoMemory}
+use Rattle.ccr_history.specs.declared.store_fault.StoreFault.TheVariants.{NoMemory}
 use Rattle.ccr_store.proofs.StoreLemmas.{out_of_memory}
 use Rattle.ccr_store.proofs.loading.add_built.Goals as goal
 

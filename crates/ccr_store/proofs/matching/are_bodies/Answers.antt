@@ -2,7 +2,7 @@ use Rattle.std.proofs.Common.{◌≡◌, ℕ, pos, ◌<◌, ◌+◌, [], ◌∷�
 use Rattle.std.proofs.lemmas.Option.{same_Some, slice_get-get_or}
 use Rattle.sqlite.specs.declared.types.Value.TheVariants.{Int, Text as Words}
 use Rattle.sqlite.specs.Order.{Row}
-use Rattle.ccr_values.specs.TextMap.{key_text}
+use Rattle.ccr_history.specs.TextMap.{key_text}
 use Rattle.ccr_store.specs.Rows.{version_row, version_rows}
 use Rattle.ccr_store.proofs.FrontRows.{rows_length, row_there}
 use Rattle.ccr_store.proofs.matching.are_bodies.Goals as goal

@@ -1,7 +1,7 @@
 use Rattle.std.proofs.Common.{◌==◌, ℕ, List, [], ◌∷◌, map, length, get_or, String, Global, sym, ap, ap₂, ◌∙◌, arith}
 use Rattle.sqlite.specs.declared.types.Value.TheVariants.{Text as Words}
 use Rattle.sqlite.specs.Order.{Row}
-use Rattle.ccr_values.specs.TextMap.{TextMap}
+use Rattle.ccr_history.specs.TextMap.{TextMap}
 use Rattle.ccr_history.specs.Pins.{pins_of}
 use Rattle.ccr_store.specs.Rows.{pin_row}
 use Rattle.ccr_store.proofs.matching.are_pins.Goals as goal

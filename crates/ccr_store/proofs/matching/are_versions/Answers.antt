@@ -1,7 +1,7 @@
 use Rattle.std.proofs.Common.{◌≡◌, ◌==◌, ◌<◌, ◌≤◌, ◌+◌, ◌++◌, [], length, length-append, refl, drop, sym, ap, ap₂, ◌∙◌, subst, List, arith}
 use Rattle.std.proofs.lemmas.List.{take-append-drop, drop_all}
 use Rattle.sqlite.specs.Order.{Row}
-use Rattle.ccr_values.specs.TextMap.{TextMap}
+use Rattle.ccr_history.specs.TextMap.{TextMap}
 use Rattle.ccr_history.specs.declared.table.TheConstants.{MOST_VERSIONS}
 use Rattle.ccr_history.specs.History.{IsTable}
 use Rattle.ccr_history.proofs.Links.{all-at}

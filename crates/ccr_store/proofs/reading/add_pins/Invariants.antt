@@ -1,6 +1,6 @@
 use Rattle.std.proofs.Common.{◌≡◌, List, ℕ, [], take, map}
 use Rattle.std.specs.List.{AllByRecursion}
-use Rattle.ccr_values.specs.TextMap.{TextMap}
+use Rattle.ccr_history.specs.TextMap.{TextMap}
 use Rattle.ccr_history.specs.History.{ArePins}
 use Rattle.ccr_store.specs.Listed.{KeepsSeen}
 use Rattle.ccr_store.specs.Rows.{pin_row}

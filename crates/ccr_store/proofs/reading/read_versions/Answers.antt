@@ -1,5 +1,5 @@
 use Rattle.std.proofs.Common.{List, ◌++◌, ◌∷◌, [], ap₂, sym, ◌∙◌}
-use Rattle.ccr_values.specs.TextMap.{TextMap}
+use Rattle.ccr_history.specs.TextMap.{TextMap}
 use Rattle.ccr_store.proofs.ReadRows.{handed_on, version_read, versions_whole}
 use Rattle.ccr_store.proofs.reading.read_versions.Goals as goal
 

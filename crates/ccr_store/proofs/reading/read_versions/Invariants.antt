@@ -1,6 +1,6 @@
 use Rattle.std.proofs.Common.{◌≡◌, ℕ, List, take}
 use Rattle.std.specs.List.{AllByRecursion}
-use Rattle.ccr_values.specs.TextMap.{TextMap}
+use Rattle.ccr_history.specs.TextMap.{TextMap}
 use Rattle.ccr_store.specs.Rows.{version_rows}
 use Rattle.ccr_store.specs.Texts.{IsSpelled}
 use Rattle.ccr_store.proofs.reading.read_versions.Given as goal

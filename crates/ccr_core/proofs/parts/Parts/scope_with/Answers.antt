@@ -1,6 +1,6 @@
 use Rattle.std.proofs.Common.{option_map, sym, ap, ◌∙◌}
 use Rattle.ccr_history.specs.History.{has_place}
-use Rattle.ccr_values.specs.Scopes.{ScopeData}
+use Rattle.ccr_history.specs.Scopes.{ScopeData}
 use Rattle.ccr_history.specs.Tables.{scope_number}
 use Rattle.ccr_pipeline.specs.JobData.{resource_data}
 use Rattle.ccr_pipeline.specs.Pipelines.{pipeline_data}

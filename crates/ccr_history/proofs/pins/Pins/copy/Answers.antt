@@ -1,5 +1,5 @@
 use Rattle.std.proofs.Common.{◌≡◌, List, ◌∷◌, ◌++◌, String, Global, string_bytes, ap, sym, ◌∙◌, subst, append-nil}
-use Rattle.ccr_values.specs.TextMap.{TextMap}
+use Rattle.ccr_history.specs.TextMap.{TextMap}
 use Rattle.ccr_history.specs.Pins.{pins_of}
 use Rattle.ccr_history.proofs.PinLaws.{Ascend}
 use Rattle.ccr_history.proofs.PinMaps.{with_pin-next}

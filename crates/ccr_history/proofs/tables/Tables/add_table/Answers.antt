@@ -1,7 +1,7 @@
 use Rattle.std.proofs.Common.{◌≡◌, Err, ◌-◌, ◌<◌, ◌∙◌, [], ap, sym, length, None, unwrap_or, arith}
 use Rattle.std.specs.Map.{lookup}
 use Rattle.indexmap.specs.IndexMap.{insert_entry}
-use Rattle.ccr_values.specs.Scopes.{is_scope}
+use Rattle.ccr_history.specs.Scopes.{is_scope}
 use Rattle.ccr_history.specs.Tables.{scope_number, tables_of, with_versions, reported, new_count}
 use Rattle.ccr_history.proofs.Results.{same_fault}
 use Rattle.ccr_history.proofs.VersionLists.{with_versions-some}

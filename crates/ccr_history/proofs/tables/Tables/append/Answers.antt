@@ -3,7 +3,7 @@ use Rattle.std.proofs.lemmas.Bool.{eqb-false}
 use Rattle.std.proofs.lemmas.List.{nil_from_length}
 use Rattle.std.proofs.lemmas.Result.{on_ok_weaker, on_err_weaker}
 use Rattle.std.specs.Map.{lookup}
-use Rattle.ccr_values.specs.Scopes.{is_scope}
+use Rattle.ccr_history.specs.Scopes.{is_scope}
 use Rattle.ccr_history.specs.Tables.{tables_of, with_versions, reported, new_count}
 use Rattle.ccr_history.proofs.Numbers.{number_of, scope_number-entries}
 use Rattle.ccr_history.proofs.Results.{both_ok}

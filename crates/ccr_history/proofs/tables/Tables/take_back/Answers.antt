@@ -1,6 +1,6 @@
 use Rattle.std.proofs.Common.{◌≡◌, ◌-◌, ◌<◌, ◌≤◌, ◌∙◌, ap, sym, length, take, length-take, None, Some, arith, rules}
 use Rattle.std.specs.Map.{lookup}
-use Rattle.ccr_values.specs.Scopes.{is_scope}
+use Rattle.ccr_history.specs.Scopes.{is_scope}
 use Rattle.ccr_history.specs.Tables.{tables_of}
 use Rattle.ccr_history.proofs.TableEntries.{put, set_value_at-put, written_tables, removed_tables, missing, missing_back, all_back, some_back, back}
 use Rattle.ccr_history.proofs.tables.Tables.take_back.Goals as goal

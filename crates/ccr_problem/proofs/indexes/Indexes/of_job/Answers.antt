@@ -2,7 +2,7 @@ use Rattle.std.proofs.Common.{◌≡◌, ◌∙◌, ℕ, List, Option, Some, Non
 use Rattle.std.specs.List.{position_or_len}
 use Rattle.std.specs.Option.{option_copied}
 use Rattle.std.specs.Str.{bytes_eq}
-use Rattle.ccr_values.specs.Text.{Text}
+use Rattle.ccr_history.specs.Text.{Text}
 use Rattle.ccr_history.specs.History.{HistoryData}
 use Rattle.ccr_index.specs.Index.{IndexValue}
 use Rattle.ccr_pipeline.specs.JobData.{JobData}

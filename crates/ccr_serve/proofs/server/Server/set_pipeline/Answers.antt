@@ -1,6 +1,6 @@
 use Rattle.std.proofs.Common.{[], None, Ok}
 use Rattle.ccr_task.specs.Places.{places_data}
-use Rattle.ccr_commands.specs.Commands.{set_pipeline}
+use Rattle.ccr_core.specs.Commands.{set_pipeline}
 use Rattle.ccr_serve.specs.Views.{full_view, bare_view}
 use Rattle.ccr_serve.proofs.Refusing.{came_stopped}
 use Rattle.ccr_serve.proofs.Steps.{after, cut_by_memory, none_added, calls_unmade, stops_item}

@@ -1,6 +1,6 @@
 use Rattle.std.proofs.Common.{subst}
 use Rattle.ccr_task.specs.Places.{places_data}
-use Rattle.ccr_commands.specs.Commands.{shows}
+use Rattle.ccr_core.specs.Commands.{shows}
 use Rattle.ccr_lines.specs.Shown.{shown_data, needs, IsUnshown}
 use Rattle.ccr_lines.specs.declared.shown.ShowFault.{ShowFault}
 use Rattle.ccr_serve.specs.Views.{full_view}

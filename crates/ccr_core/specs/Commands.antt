@@ -1,0 +1,60 @@
+-- What a server is commanded.
+use Rattle.std.specs.Prelude.{ℕ, string_bytes}
+use Rattle.ccr_history.specs.Text.{Text}
+use Rattle.ccr_core.specs.declared.command.Command.{Command}
+use Rattle.ccr_core.specs.declared.command.Command.TheVariants as command
+use Rattle.ccr_core.specs.declared.form.Form.{Form}
+
+-- what is shown: all builds, the versions of a resource, the problem of a job's next build, the proof of the choice for
+-- it, both in one text, or what it takes and why; the pipeline's text, its resources, its jobs, its graph; a build, or the builds that a
+-- version went through; a build's problem with its choice, in one text. A form says how it is shown, where there are two
+pub data ShownData : Type 0 where
+  builds : ShownData
+  versions : (resource : Text) → ShownData
+  problem : (job : Text) → ShownData
+  proof : (job : Text) → ShownData
+  certificate : (job : Text) → ShownData
+  explanation : (form : Form) (job : Text) → ShownData
+  pipeline : ShownData
+  resources : (form : Form) → ShownData
+  jobs : (form : Form) → ShownData
+  graph : ShownData
+  build : (form : Form) (job : Text) (number : ℕ) → ShownData
+  trace : (form : Form) (resource pin : Text) → ShownData
+  build_certificate : (job : Text) (number : ℕ) → ShownData
+
+-- a command with its arguments; one that changes nothing shows something
+pub data CommandData : Type 0 where
+  set_pipeline : (file : Text) → CommandData
+  check_resource : (resource : Text) → CommandData
+  pin_resource : (resource pin : Text) → CommandData
+  unpin_resource : (resource : Text) → CommandData
+  disable_version : (resource : Text) (place : ℕ) → CommandData
+  enable_version : (resource : Text) (place : ℕ) → CommandData
+  trigger_job : (job : Text) → CommandData
+  run : (rounds : ℕ) → CommandData
+  shows : (what : ShownData) → CommandData
+
+-- what a value of the program's type stands for
+abbrev pub command_data : Command → CommandData
+command_data (command.SetPipeline path) = set_pipeline (string_bytes path)
+command_data (command.CheckResource resource) = check_resource (string_bytes resource)
+command_data (command.ResourceVersions resource) = shows (versions (string_bytes resource))
+command_data (command.PinResource resource pin) = pin_resource (string_bytes resource) (string_bytes pin)
+command_data (command.UnpinResource resource) = unpin_resource (string_bytes resource)
+command_data (command.DisableResourceVersion resource place) = disable_version (string_bytes resource) place
+command_data (command.EnableResourceVersion resource place) = enable_version (string_bytes resource) place
+command_data (command.Resolve job) = shows (proof (string_bytes job))
+command_data (command.Problem job) = shows (problem (string_bytes job))
+command_data (command.TriggerJob job) = trigger_job (string_bytes job)
+command_data (command.Certify job) = shows (certificate (string_bytes job))
+command_data (command.Explain job form) = shows (explanation form (string_bytes job))
+command_data (command.CertifyBuild job number) = shows (build_certificate (string_bytes job) number)
+command_data command.Builds = shows builds
+command_data (command.Build job number form) = shows (build form (string_bytes job) number)
+command_data (command.Trace resource pin form) = shows (trace form (string_bytes resource) (string_bytes pin))
+command_data command.GetPipeline = shows pipeline
+command_data (command.Resources form) = shows (resources form)
+command_data (command.Jobs form) = shows (jobs form)
+command_data command.Graph = shows graph
+command_data (command.Run rounds) = run rounds

@@ -1,0 +1,11 @@
+use Rattle.std.proofs.Common.{map, take}
+use Rattle.ccr_pipeline.specs.Inputs.{input_data}
+use Rattle.ccr_lines.specs.Each.{AreEach}
+use Rattle.ccr_lines.specs.ExplainJson.{IsInputJson}
+use Rattle.ccr_lines.specs.Json.{AreItems}
+use Rattle.ccr_lines.specs.Reasons.{subject_data}
+use Rattle.ccr_lines.proofs.explain_json.inputs_items.Given as goal
+
+abbrev pub invariant-loop-number : goal.invariant-loop-number
+invariant-loop-number l =
+    AreItems (AreEach (IsInputJson (subject_data l.subject)) 0 (map input_data (take l.number l.input-items))) l.items.items

@@ -1,0 +1,12 @@
+use Rattle.std.proofs.Common.{sym}
+use Rattle.ccr_pipeline.specs.JobData.{job_data}
+use Rattle.ccr_lines.specs.Graphs.{job_node}
+use Rattle.ccr_lines.proofs.Graphing.{numbered_told}
+use Rattle.ccr_lines.proofs.graph.push_jobs.Goals as goal
+
+pub loop-k-preserved : goal.loop-k-preserved
+loop-k-preserved c =
+    numbered_told (job_node c.args.history.now) job_data
+    c.args.jobs.now c.loop-k.k c.index-jobs-k.result
+    c.args.out.now.items c.loop-k.out.items c.push_job.new.out.items c.loop-k-test.true (sym c.index-jobs-k.is)
+    c.loop-k.invariant c.in_ok-push_job.ensures

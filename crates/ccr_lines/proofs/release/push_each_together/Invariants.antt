@@ -1,0 +1,13 @@
+use Rattle.std.proofs.Common.{◌≡◌, ◌++◌, map, take, flat_map, string_bytes}
+use Rattle.ccr_pipeline.specs.Inputs.{input_data}
+use Rattle.ccr_pipeline.specs.JobData.{job_data}
+use Rattle.ccr_lines.specs.Releases.{pairs_naming, together_line}
+use Rattle.ccr_lines.proofs.release.push_each_together.Given as goal
+
+abbrev pub invariant-loop-job : goal.invariant-loop-job
+invariant-loop-job l =
+    string_bytes l.text
+    ≡ string_bytes l.fn.text
+    ++ flat_map (λ j. together_line (job_data j).name
+    (pairs_naming (job_data j).name (map input_data l.inputs) l.build.used) (take l.before l.history.builds))
+    (take l.job-index l.jobs)

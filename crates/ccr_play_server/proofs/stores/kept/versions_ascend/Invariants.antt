@@ -1,8 +1,0 @@
-use Rattle.std.proofs.Common.{drop}
-use Rattle.std.specs.List.{AllByRecursion}
-use Rattle.ccr_values.specs.TextMap.{IsAscending}
-use Rattle.ccr_play_server.proofs.stores.kept.versions_ascend.Given as goal
-
-abbrev pub invariant-loop-version : goal.invariant-loop-version
-invariant-loop-version l =
-    AllByRecursion IsAscending (drop l.version-index l.versions) → AllByRecursion IsAscending l.versions

@@ -1,9 +1,0 @@
-use Rattle.ccr_pipeline.specs.Pipelines.{pipeline_data}
-use Rattle.ccr_core.specs.Cores.{core_data}
-use Rattle.ccr_show.proofs.Graphing.{graph_made}
-use Rattle.ccr_show.proofs.graph.graph_made.Goals as goal
-
-pub returns-clause-made : goal.returns-clause-made
-returns-clause-made c =
-    graph_made (core_data c.args.core.now) (pipeline_data c.in-Ok.pipeline.now) c.history.result.now
-    c.in_ok-text.text.items c.in-Ok.ensures.held c.history.ensures c.in_ok-text.ensures

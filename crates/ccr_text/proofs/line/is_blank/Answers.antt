@@ -1,6 +1,0 @@
-use Rattle.std.proofs.Common.{◌∙◌}
-use Rattle.ccr_text.proofs.Cuts.{blank_lines}
-use Rattle.ccr_text.proofs.line.is_blank.Goals as goal
-
-pub returns : goal.returns
-returns c = c.is_empty.ensures ∙ blank_lines c.args.bytes.now
