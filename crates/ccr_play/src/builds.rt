@@ -5,13 +5,10 @@
 //! or `config CONFIG`. The answer to a line is what the build asks then, as JSON, or how it ended and which versions it
 //! moved.
 
-use crate::answer::answered_of;
-use crate::ask::ask_value;
-use crate::reply::outcome_name;
 use crate::steps::started;
 use anyhow::{Result, anyhow};
 use ccr_pipeline::{Pipeline, read};
-use ccr_rows::{Player, split, versions_of};
+use ccr_rows::{Player, answered_of, ask_value, outcome_name, split, versions_of};
 use ccr_steps::{BuildRun, FeedFault};
 use serde_json::Value;
 use std::alloc::{AllocError, Global};

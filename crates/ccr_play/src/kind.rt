@@ -1,7 +1,6 @@
 //! Kinds of lines.
 
 use crate::builds::Builds;
-use crate::events::Events;
 use crate::histories::Histories;
 use crate::pipelines::Pipelines;
 use crate::problems::Problems;
@@ -16,7 +15,6 @@ use std::io;
 #[derive(Clone, Copy)]
 pub(crate) enum LineKind {
     Builds,
-    Events,
     Histories,
     Pipelines,
     Problems,
@@ -30,7 +28,6 @@ impl Kind for LineKind {
     fn of_name(name: &str) -> Option<LineKind> {
         match name {
             "builds" => Some(LineKind::Builds),
-            "events" => Some(LineKind::Events),
             "histories" => Some(LineKind::Histories),
             "pipelines" => Some(LineKind::Pipelines),
             "problems" => Some(LineKind::Problems),
@@ -46,7 +43,6 @@ impl Kind for LineKind {
         let alloc = rt.alloc();
         match self {
             LineKind::Builds => played(rt, Builds::new(), lines, telling),
-            LineKind::Events => played(rt, Events::new(), lines, telling),
             LineKind::Histories => played(rt, Histories::new(alloc), lines, telling),
             LineKind::Pipelines => played(rt, Pipelines::new(alloc), lines, telling),
             LineKind::Problems => played(rt, Problems::new(alloc), lines, telling),

@@ -12,7 +12,6 @@
 //! | `problems` | problems, claims, proofs, and what the checker says of them |
 //! | `programs` | requests, replies, launches, ends, and builds whose programs are a script |
 //! | `histories` | a history, and the problems of its jobs |
-//! | `events` | events of a core |
 //! | `stores` | histories that a store keeps and loads |
 //!
 //! Each has a module of its name, which says what its lines are. With the word `--timed` behind it, nothing but each line's
@@ -30,24 +29,17 @@
 //! or unreadable.
 #![tactic(auto)]
 
-mod answer;
-mod ask;
 mod bench;
 mod builds;
 mod calls;
-mod event;
-mod events;
 mod grow;
 mod histories;
-mod json;
 mod kind;
 mod order;
 mod pipelines;
 mod plain;
 mod problems;
 mod programs;
-mod reply;
-mod show;
 mod steps;
 mod stores;
 mod trial;

@@ -7,11 +7,10 @@
 //! `steps-repeated JOB | VERSIONS | ANSWER` gives each ask that answer, up to the build's end, and tells how often each
 //! was asked.
 
-use crate::answer::answered_of;
 use anyhow::{Result, anyhow, bail};
 use ccr_history::{Object, Version};
 use ccr_pipeline::{Job, Pipeline, inputs_of, read};
-use ccr_rows::{Player, split, versions_of};
+use ccr_rows::{Player, answered_of, split, versions_of};
 use ccr_steps::{Answered, Ask, Before, BuildRun, FeedFault, start};
 use std::alloc::{AllocError, Global};
 

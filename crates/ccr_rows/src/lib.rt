@@ -7,11 +7,13 @@
 //!
 //! A [`Player`] answers lines of one kind, and [`played`] tells each line with its answer below it, after `> `. A program has
 //! its [`Kind`]s of lines; with [`check`] it plays the lines of files, `KIND.cases`, and compares what is told with the files. [`Answer`]
-//! is what a program prints, and with which status it ends. The words of lines stand for versions, pins, places and statuses, for how
-//! programs end and what folders answer, or they are refused with a [`LineFault`].
+//! is what a program prints, and with which status it ends. The words of lines stand for versions, pins, places, statuses and
+//! answers, for how programs end and what folders answer, or they are refused with a [`LineFault`]. What a build asks is told as JSON, by [`ask_value`].
 #![tactic(auto)]
 
 mod accepted;
+mod answer;
+mod ask;
 #[cfg(test)]
 mod brute;
 #[cfg(test)]
@@ -34,6 +36,7 @@ mod history_text;
 mod hostile;
 #[cfg(test)]
 mod index;
+pub mod json;
 #[cfg(test)]
 mod limits;
 #[cfg(test)]
@@ -56,6 +59,8 @@ mod small;
 mod words;
 
 pub use accepted::resolved;
+pub use answer::answered_of;
+pub use ask::ask_value;
 pub use ends::{end_of, ends_of, fault_of, places, sights_of};
 pub use fault::LineFault;
 pub use files::{Kind, check};
@@ -64,6 +69,7 @@ pub use play::{Player, Telling, played};
 pub use program::{Answer, OVER_BUDGET, arguments, input, play_input, tell};
 pub use search::{PlainAnswer, plain};
 pub use words::{
-    add, number_of, numbered, pair_of, pairs_of, pin_of, scope_in, split, status_name, status_of,
-    turn_of, used_places, value_of, version_numbered, version_of, versions_of,
+    add, number_of, numbered, outcome_name, pair_of, pairs_of, pin_of, scope_in, split,
+    status_name, status_of, turn_of, used_places, value_of, version_numbered, version_of,
+    versions_of,
 };

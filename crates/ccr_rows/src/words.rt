@@ -5,6 +5,7 @@ ghost use Rattle.ccr_history.specs.declared.build.Status.TheVariants.{Running};
 use crate::fault::LineFault;
 use ccr_history::{HistoryFault, Pin, Scope, Status, Used, Version};
 use ccr_pipeline::Pipeline;
+use ccr_steps::Outcome;
 use serde_json::Value;
 use std::alloc::{AllocError, Global};
 
@@ -164,5 +165,15 @@ pub fn status_name(status: Status) -> &'static str {
         Status::Failed => "failed",
         Status::Errored => "errored",
         Status::Aborted => "aborted",
+    }
+}
+
+/// The name of an outcome.
+pub fn outcome_name(outcome: Outcome) -> &'static str {
+    match outcome {
+        Outcome::Succeeded => "succeeded",
+        Outcome::Failed => "failed",
+        Outcome::Errored => "errored",
+        Outcome::Aborted => "aborted",
     }
 }

@@ -1,9 +1,8 @@
 //! Events, as lines.
 
-use crate::answer::answered_of;
 use ccr_core::Event;
 use ccr_pipeline::read;
-use ccr_rows::{LineFault, number_of, numbered, pin_of, split, turn_of, versions_of};
+use ccr_rows::{LineFault, answered_of, number_of, numbered, pin_of, split, turn_of, versions_of};
 use std::alloc::{AllocError, Global};
 
 fn name_of(alloc: Global, word: &str) -> Result<String, AllocError> {

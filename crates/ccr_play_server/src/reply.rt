@@ -1,7 +1,7 @@
 //! Replies, in words.
 
 use ccr_core::{CoreFault, Reply};
-use ccr_steps::Outcome;
+use ccr_rows::outcome_name;
 use std::alloc::AllocError;
 
 /// So many bytes are enough for the words of each reply and fault.
@@ -40,15 +40,5 @@ pub(crate) fn fault_name(fault: CoreFault) -> &'static str {
         CoreFault::TableFull => "TableFull",
         CoreFault::NoVersion => "NoVersion",
         CoreFault::NoMemory => "NoMemory",
-    }
-}
-
-/// The name of an outcome.
-pub(crate) fn outcome_name(outcome: Outcome) -> &'static str {
-    match outcome {
-        Outcome::Succeeded => "succeeded",
-        Outcome::Failed => "failed",
-        Outcome::Errored => "errored",
-        Outcome::Aborted => "aborted",
     }
 }

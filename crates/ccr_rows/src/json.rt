@@ -5,15 +5,15 @@ use serde_json::{Map, Value};
 use std::alloc::{AllocError, Global};
 
 /// The members of an object.
-pub(crate) type Members = Map<String, Value>;
+pub type Members = Map<String, Value>;
 
 /// A text as a value.
-pub(crate) fn text_of(alloc: Global, text: &str) -> Result<Value, AllocError> {
+pub fn text_of(alloc: Global, text: &str) -> Result<Value, AllocError> {
     Ok(Value::String(String::from_str(alloc, text)?))
 }
 
 /// Texts as a list.
-pub(crate) fn texts_of(alloc: Global, texts: &[String]) -> Result<Value, AllocError> {
+pub fn texts_of(alloc: Global, texts: &[String]) -> Result<Value, AllocError> {
     let mut items = Vec::new(alloc);
     for text in texts {
         items.push(text_of(alloc, text.as_str())?)?;
@@ -22,18 +22,18 @@ pub(crate) fn texts_of(alloc: Global, texts: &[String]) -> Result<Value, AllocEr
 }
 
 /// The value of a JSON text that is one.
-pub(crate) fn value_of(alloc: Global, text: &str) -> Result<Value, AllocError> {
+pub fn value_of(alloc: Global, text: &str) -> Result<Value, AllocError> {
     Value::from_str(alloc, text).map_err(|_| AllocError)
 }
 
 /// A version as an object.
-pub(crate) fn version_of(alloc: Global, version: &Version) -> Result<Value, AllocError> {
+pub fn version_of(alloc: Global, version: &Version) -> Result<Value, AllocError> {
     let key = version.key(alloc)?;
     value_of(alloc, key.as_str())
 }
 
 /// Puts a value at a key.
-pub(crate) fn put(
+pub fn put(
     alloc: Global,
     members: &mut Members,
     key: &str,
@@ -44,7 +44,7 @@ pub(crate) fn put(
 }
 
 /// Puts a text at a key.
-pub(crate) fn put_text(
+pub fn put_text(
     alloc: Global,
     members: &mut Members,
     key: &str,
@@ -55,7 +55,7 @@ pub(crate) fn put_text(
 }
 
 /// Puts what a program is given at `params`, if there is such.
-pub(crate) fn put_params(
+pub fn put_params(
     alloc: Global,
     members: &mut Members,
     params: Option<&Object>,

@@ -1,10 +1,9 @@
 //! What a core holds, as JSON.
 
-use crate::ask::ask_value;
-use crate::json::{put, put_text, value_of, version_of};
 use ccr_core::Core;
 use ccr_history::{BuildRef, History, Scope, Status, Version};
-use ccr_rows::status_name;
+use ccr_rows::json::{put, put_text, value_of, version_of};
+use ccr_rows::{ask_value, status_name};
 use serde_json::{Map, Value};
 use std::alloc::{AllocError, Global};
 

@@ -64,7 +64,7 @@ fn put_task(
 }
 
 /// What a build asks, as the members of an object.
-pub(crate) fn ask_value(alloc: Global, ask: &Ask<'_>) -> Result<Map<String, Value>, AllocError> {
+pub fn ask_value(alloc: Global, ask: &Ask<'_>) -> Result<Map<String, Value>, AllocError> {
     let mut members = Map::new(alloc);
     match ask {
         Ask::Fetch {
