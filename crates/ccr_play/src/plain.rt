@@ -1,5 +1,6 @@
 //! The plain resolver.
 
+use crate::problems::push_numbers;
 use anyhow::Result;
 use ccr_choice::{Choice, Problem, read_problem};
 use ccr_rows::{PlainAnswer, plain};
@@ -7,13 +8,6 @@ use std::alloc::{AllocError, Global};
 
 /// The most nodes of a tree.
 const BUDGET: u32 = 1_000_000;
-
-fn push_numbers(line: &mut String, numbers: &[u32]) -> Result<(), AllocError> {
-    for number in numbers {
-        write!(line, " {number}")?;
-    }
-    Ok(())
-}
 
 /// The line of a claim.
 fn claim_line(alloc: Global, best: &Option<Choice>) -> Result<String, AllocError> {

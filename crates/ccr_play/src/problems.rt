@@ -45,7 +45,8 @@ fn back(is_same: bool) -> &'static str {
     }
 }
 
-fn push_numbers(text: &mut String, numbers: &[u32]) -> Result<(), AllocError> {
+/// Adds numbers, each behind a blank.
+pub(crate) fn push_numbers(text: &mut String, numbers: &[u32]) -> Result<(), AllocError> {
     for number in numbers {
         write!(text, " {number}")?;
     }
