@@ -4,8 +4,7 @@ use Rattle.std.specs.Option.{option_map_or}
 use Rattle.ccr_history.specs.Text.{Text}
 use Rattle.ccr_history.specs.TextMap.{TextMap}
 use Rattle.ccr_pipeline.specs.JobData.{ResourceData}
-use Rattle.ccr_pipeline.specs.Pipelines.{PipelineData, IsPipelineOf}
-use Rattle.ccr_pipeline.specs.Reading.{pipeline_faults, IsReading}
+use Rattle.ccr_pipeline.specs.Pipelines.{PipelineData}
 use Rattle.ccr_problem.specs.ProblemOf.{resource_of}
 use Rattle.ccr_task.specs.Places.{PlacesData}
 use Rattle.ccr_core.specs.declared.fault.CoreFault.{CoreFault}
@@ -24,7 +23,7 @@ use Rattle.ccr_task.specs.Calls.{CallData}
 use Rattle.ccr_task.specs.Calls as shelf
 use Rattle.ccr_task.specs.declared.fault.ShelfFault.{ShelfFault}
 use Rattle.ccr_lines.specs.Needs.{pin_in}
-use Rattle.ccr_serve.specs.Commanding.{HasResource, called, Commanded, IsRead, IsRefused, CameOf}
+use Rattle.ccr_serve.specs.Commanding.{HasResource, called, Commanded, ArePipeline, IsRead, IsRefused, CameOf}
 use Rattle.ccr_core.specs.Commands.{set_pipeline, pin_resource, unpin_resource}
 use Rattle.ccr_serve.specs.Items.{World, tell, Done, Part, Items}
 use Rattle.ccr_serve.specs.Reads.{KeepsFromReading}
@@ -222,7 +221,7 @@ set_told places p r w u d tells made = (u, (tells, (r, made)), refl)
 
 pub set_made : {p : PipelineData} {replied : Replied} {r : Reply} {n : View} {k : List CallData} {l m : Text}
     (places : PlacesData) (path : Text) (v : View)
-    → (bytes : List ℕ) × IsRead path (Ok bytes) v.calls k × IsReading pipeline_faults bytes (λ d. IsPipelineOf bytes d p)
+    → (bytes : List ℕ) × IsRead path (Ok bytes) v.calls k × ArePipeline bytes p
     → replied ≡ Ok r → l ≡ v.lines → Made (event.set_pipeline p) replied (after v k v.pairs []) n
     → m ≡ l ++ pipeline_lines (unwrap_or n.core.pipeline no_pipeline)
     → CameOf places (set_pipeline path) (Ok 0) v (printed n m)
@@ -233,17 +232,18 @@ set_made {p} {replied} {r} {n} {k} places path v was is lines made told =
     (λ s a step h. told_lines (event.set_pipeline p) (Ok r) a (pipeline_lines (unwrap_or n.core.pipeline no_pipeline))
     lines told (set_lines p r s a n.core step h)) (set_told places p r))
 
-set_refused_so : (path : Text) (p : PipelineData) (f : CoreFault) (bytes : List ℕ) (s : State)
-    (before after : List CallData) → IsRead path (Ok bytes) before after → IsFirstFault s (event.set_pipeline p) f
-    → IsRefused (set_pipeline path) (fault.Core f) s before after
-set_refused_so path p core_fault.BuildsOpen bytes s before after was first = (first.0, (bytes, was))
-set_refused_so path p f bytes s before after was first = absurd first.0
+set_refused_so : (path : Text) (p : PipelineData) (f : CoreFault) (s : State) (before after : List CallData)
+    → (bytes : List ℕ) × IsRead path (Ok bytes) before after × ArePipeline bytes p
+    → IsFirstFault s (event.set_pipeline p) f → IsRefused (set_pipeline path) (fault.Core f) s before after
+set_refused_so path p core_fault.BuildsOpen s before after was first = (was.0, p, was.2, first, was.1)
+set_refused_so path p f s before after was first = absurd first.0
 
 pub set_refused : {p : PipelineData} {replied : Replied} {f : CoreFault} {n : View} {k : List CallData} {l : Text}
-    (places : PlacesData) (path : Text) (bytes : List ℕ) (v : View) → replied ≡ Err f → IsRead path (Ok bytes) v.calls k
-    → l ≡ v.lines → Made (event.set_pipeline p) replied (after v k v.pairs []) n
+    (places : PlacesData) (path : Text) (v : View)
+    → (bytes : List ℕ) × IsRead path (Ok bytes) v.calls k × ArePipeline bytes p
+    → replied ≡ Err f → l ≡ v.lines → Made (event.set_pipeline p) replied (after v k v.pairs []) n
     → CameOf places (set_pipeline path) (Err (fault.Core f)) v (printed n l)
-set_refused {p} {replied} {f} {n} {k} places path bytes v is was lines made =
+set_refused {p} {replied} {f} {n} {k} places path v was is lines made =
     refused_by_core places (set_pipeline path) v lines
     (subst (λ q. Made (event.set_pipeline p) q (after v k v.pairs []) n) is made)
-    (λ s first. set_refused_so path p f bytes s v.calls n.calls (made.rest.calls ∙ was) first)
+    (λ s first. set_refused_so path p f s v.calls n.calls (was.0, made.rest.calls ∙ was.1, was.2) first)

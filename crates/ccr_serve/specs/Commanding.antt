@@ -1,5 +1,5 @@
 -- What commands do, and how they are refused.
-use Rattle.std.specs.Prelude.{◌≡◌, ◌≢◌, ◌⊎◌, ℕ, List, [], ◌∷◌, ◌++◌, true, false, Option, Some, None, IsSome, codes, string_bytes, Result, Ok, Err, ⊤}
+use Rattle.std.specs.Prelude.{◌≡◌, ◌⊎◌, ℕ, List, [], ◌∷◌, ◌++◌, true, false, Option, Some, None, IsSome, codes, string_bytes, Result, Ok, Err, ⊤}
 use Rattle.ccr_history.specs.Text.{Text}
 use Rattle.ccr_history.specs.TextMap.{TextMap}
 use Rattle.ccr_history.specs.Builds.{BuildData, build_of}
@@ -97,10 +97,14 @@ Triggered places job reply =
 abbrev pub called : CallData → World → World
 called call w = record { core = w.core; last = w.last; calls = w.calls ++ call ∷ []; lost = w.lost }
 
+-- these bytes are this pipeline
+abbrev pub ArePipeline : List ℕ → PipelineData → Type 0
+ArePipeline bytes p = IsReading pipeline_faults bytes (λ d. IsPipelineOf bytes d p)
+
 -- a pipeline is set that the bytes of the file at this path are, as they were read; cut short, the file was read
 abbrev pub SetsPipeline : PlacesData → Text → Part
 SetsPipeline places path old ds true new =
-    (bytes : List ℕ) × (p : PipelineData) × IsReading pipeline_faults bytes (λ d. IsPipelineOf bytes d p)
+    (bytes : List ℕ) × (p : PipelineData) × ArePipeline bytes p
     × Each (Serves places) (tell (event.set_pipeline p) ∷ []) (called (shelf.read path (Ok bytes)) old) ds new
 SetsPipeline places path old ds false new =
     (file : Result (List ℕ) ShelfFault) × Each (Serves places) [] (called (shelf.read path file) old) ds new
@@ -170,7 +174,8 @@ IsRefused c (Core NoResource) s before after = Lacks (need_of c) s.pipeline s.hi
 IsRefused c (Core NoJob) s before after = Lacks (need_of c) s.pipeline s.history NoJob × (after ≡ before)
 IsRefused c (Core NoBuild) s before after = Lacks (need_of c) s.pipeline s.history NoBuild × (after ≡ before)
 IsRefused (set_pipeline file) (Core BuildsOpen) s before after =
-    (s.running ≢ []) × ((bytes : List ℕ) × IsRead file (Ok bytes) before after)
+    (bytes : List ℕ) × (p : PipelineData) × ArePipeline bytes p × IsFirstFault s (event.set_pipeline p) BuildsOpen
+    × IsRead file (Ok bytes) before after
 IsRefused (trigger_job job) (Core TooManyOpen) s before after =
     IsFirstFault s (event.trigger job) TooManyOpen × (after ≡ before)
 IsRefused (trigger_job job) (Core TableFull) s before after =

@@ -1,14 +1,13 @@
 //! Sets a pipeline.
 ghost use Rattle.std.specs.Prelude.{◌≡◌, ◌++◌, ◌≤◌, ℕ, List, unwrap_or, IfOk, IfErr, OnOk, IsSomeAnd, Ok, Err, []};
-ghost use Rattle.ccr_pipeline.specs.Pipelines.{pipeline_data, IsPipelineOf};
-ghost use Rattle.ccr_pipeline.specs.Reading.{pipeline_faults, IsReading};
+ghost use Rattle.ccr_pipeline.specs.Pipelines.{pipeline_data};
 ghost use Rattle.ccr_history.specs.Text.{Text};
 ghost use Rattle.ccr_task.specs.Calls.{CallData};
 ghost use Rattle.ccr_task.specs.declared.fault.ShelfFault.TheVariants.{TooLong};
 ghost use Rattle.ccr_core.specs.Cores.{core_data};
 ghost use Rattle.ccr_core.specs.State.{no_pipeline};
 ghost use Rattle.ccr_lines.specs.Lines.{pipeline_lines};
-ghost use Rattle.ccr_serve.specs.Commanding.{IsRead};
+ghost use Rattle.ccr_serve.specs.Commanding.{IsRead, ArePipeline};
 ghost use Rattle.ccr_core.specs.Commands.{set_pipeline};
 ghost use Rattle.ccr_serve.specs.Reads.{lines_room, KeepsFromReading};
 ghost use Rattle.ccr_serve.specs.Views.{IsReady, bare_view};
@@ -39,8 +38,7 @@ fn too_long(alloc: Global) -> ServeFault
 /// can't be read, and `NoMemory`; no other fault.
 fn read_pipeline<S: Shelf>(alloc: Global, shelf: &mut S, path: &str) -> Result<Pipeline, ServeFault>
     ensures ok { IfOk result (λ p. (bytes : List ℕ)
-        × IsRead path.now (Ok bytes) (S.calls shelf.old) (S.calls shelf.new)
-        × IsReading pipeline_faults bytes (λ d. IsPipelineOf bytes d (pipeline_data p))) }
+        × IsRead path.now (Ok bytes) (S.calls shelf.old) (S.calls shelf.new) × ArePipeline bytes (pipeline_data p)) }
     ensures err { IfErr result (λ fault.
         KeepsFromReading path.now fault (S.calls shelf.old) (S.calls shelf.new)) }
 {

@@ -31,8 +31,8 @@ returns-in-Ok-Ok-clause-came g c =
 pub returns-in-Ok-Err-clause-came : goal.returns-in-Ok-Err-clause-came
 returns-in-Ok-Err-clause-came g c =
     let v = full_view g.R.Runner g.S.Shelf g.T.Storage g.O.Lines c.args.self.now c.args.out.now in
-    set_refused (places_data c.args.self.now.places) c.args.path.now c.in-Ok.ensures.ok.0 v c.in-Ok-Err.field-0-is
-    c.in-Ok.ensures.ok.1 c.make_pipeline_room.ensures.same c.in-Ok-Err.ensures.made
+    set_refused (places_data c.args.self.now.places) c.args.path.now v c.in-Ok.ensures.ok c.in-Ok-Err.field-0-is
+    c.make_pipeline_room.ensures.same c.in-Ok-Err.ensures.made
 
 pub returns-in-Err-make-clause-came : goal.returns-in-Err-make-clause-came
 returns-in-Err-make-clause-came g c =
