@@ -14,6 +14,7 @@ pub mod ReadLaws
 pub mod Members
 pub mod BestPlaces
 pub mod PossibleLaws
+pub mod OneBest
 pub mod Orders
 pub mod Places
 pub mod Lookups

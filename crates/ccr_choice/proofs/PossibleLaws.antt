@@ -176,6 +176,14 @@ are_best prefers order p a = record {
   best = λ i within. (best_possible prefers p a i, best_is prefers order p a i, best_places_at prefers p a i within);
 }
 
+-- lists of one length that are the same at each index are one
+pub same_at : (xs ys : List ℕ) → length xs ≡ length ys → ((i : ℕ) → i < length xs → slice_index xs i ≡ slice_index ys i) → xs ≡ ys
+same_at [] [] e each = refl
+same_at [] (y ∷ ys) e each = absurd (omega arith)
+same_at (x ∷ xs) [] e each = absurd (omega arith)
+same_at (x ∷ xs) (y ∷ ys) e each =
+    ap (λ z. z ∷ xs) (each 0 (omega arith)) ∙ ap (λ zs. y ∷ zs) (same_at xs ys (omega arith) (λ i within. each (suc i) (omega arith)))
+
 pub are_only : (prefers : Preference) → IsOrder prefers → (p : ProblemValue) (a : Assignment) (places : List ℕ)
     → AreBestPlaces prefers p a places → places ≡ best_places prefers p a
 are_only prefers order p a places are =
@@ -183,13 +191,6 @@ are_only prefers order p a places are =
     same_at places (best_places prefers p a) (are.place_each ∙ sym many) (λ i within.
     let inside : i < length p.inputs = omega (arith, within, are.place_each) in
     best_place_is prefers order p a i (slice_index places i) (are.best i inside) ∙ sym (best_places_at prefers p a i inside))
-  where
-    same_at : (xs ys : List ℕ) → length xs ≡ length ys → ((i : ℕ) → i < length xs → slice_index xs i ≡ slice_index ys i) → xs ≡ ys
-    same_at [] [] e each = refl
-    same_at [] (y ∷ ys) e each = absurd (omega arith)
-    same_at (x ∷ xs) [] e each = absurd (omega arith)
-    same_at (x ∷ xs) (y ∷ ys) e each =
-        ap (λ z. z ∷ xs) (each 0 (omega arith)) ∙ ap (λ zs. y ∷ zs) (same_at xs ys (omega arith) (λ i within. each (suc i) (omega arith)))
 
 pub bounded_by : (prefers : Preference) → IsOrder prefers → (p : ProblemValue) (a : Assignment) (bound : List ℕ)
     → (¬ IsBetter prefers (best_places prefers p a) bound) ↔ AreBoundedBy prefers p a bound

@@ -41,8 +41,8 @@ pub use choice::Choice;
 pub use dominated::is_dominated;
 pub use fault::ProblemFault;
 pub use law::{
-    bad_line_of_a_problem_is_the_first, best_places_are_one, dominating_build_takes_the_place,
-    problem_has_one_text,
+    bad_line_of_a_problem_is_the_first, best_choice_is_one, best_places_are_one,
+    dominating_build_takes_the_place, problem_has_one_text,
 };
 pub use line::{Line, Lines};
 pub use numbers::{front_numbers, push_numbers};

@@ -34,11 +34,14 @@ use Rattle.ccr_core.specs.Replies.{Replied}
 use Rattle.ccr_core.specs.State.{RunningData, State, pipeline_of, moved_on, running_at, without}
 use Rattle.ccr_core.specs.Steps.{Schedules, Triggers, Answers, DoesBy, Step, Run}
 use Rattle.ccr_core.specs.EachBuild.{EndsIn, EndsAsMeant, EachEndsAsMeant, EachIsCutShort, EndsAgree}
+use Rattle.ccr_core.proofs.Choosing.{IsSeen}
+use Rattle.ccr_core.proofs.Moving.{IsGot}
 use Rattle.ccr_core.proofs.Placing.{moved_fit}
 use Rattle.ccr_core.proofs.RunningLists.{all_weaker, all_at, id_same, id_refl, at_id}
+use Rattle.ccr_core.proofs.Scoping.{IsUsedIn}
 use Rattle.ccr_core.proofs.Seeing.{report_builds, pushed_builds}
 use Rattle.ccr_core.proofs.Sound.{IsSoundBuild, IsSound, sound_begun, sound_answered, leaves_run, starts}
-use Rattle.ccr_core.proofs.Using.{right_changed}
+use Rattle.ccr_core.proofs.Using.{IsRight, right_changed}
 use Rattle.ccr_core.proofs.Owning.{job_at, answers_more, kept_from, of_build}
 
 -- ---- builds of a history by their numbers
@@ -102,9 +105,16 @@ own_last j n e r s after [] (u ∷ rs) run = absurd run
 own_last j n e r s after (f ∷ es) [] run = absurd run
 own_last j n e r s after (f ∷ es) (u ∷ rs) (mid, step, run) = ap (λ l. own_of j n f u ++ l) (own_last j n e r mid after es rs run) ∙ sym (append_assoc (own_of j n f u) (own j n es rs) (own_of j n e r))
 
+-- a build that ended as meant, with what held of it while it ran
+pub record EndsSound (after : State) (xs : List AnswerData) (c : BuildData) : Type 0 where
+  pub meant : EndsAsMeant after xs c
+  pub right : AllByRecursion (IsRight after.history.tables meant.run.inputs) c.used
+  pub got : AllByRecursion (IsGot (IsSeen (pipeline_of after) after.history) meant.run.inputs) (inputs meant.run.plan)
+  pub used_in : AllByRecursion (IsUsedIn (pipeline_of after) after.history c.used) (inputs meant.run.plan)
+
 -- it ends as it means to end, if it ends in this step
 abbrev EndsTo : State → List AnswerData → BuildData → State → Type 0
-EndsTo before xs c after = EndsIn before after c → EndsAsMeant after xs c
+EndsTo before xs c after = EndsIn before after c → EndsSound after xs c
 
 -- the history once an answer is taken
 abbrev pub taken : State → AskData → AnswerData → HistoryData
@@ -152,25 +162,45 @@ module _ (s before : State) (es : List EventData) (rs : List Replied) (start : I
         subst (λ us. AreThoseUsed (taken before a w.given).tables us b.inputs) (sym (ap (λ y. y.used) same ∙ ap (λ y. y.used) one))
         (each, all_weaker (λ u r. (right_changed (report_by (pipeline_of before) a w.given) before.history b.inputs u r).1) d.used right)
 
+    -- what it used is what it used while it ran
+    uses_so : (a : AskData) (was : BuildData) (st : Status) (mv : List (ℕ × ℕ)) → c.job ≡ b.job → c.number ≡ b.number → c ≡ ended_build st mv was → build_of c.job c.number (taken before a w.given).builds ≡ Some was → (sound_answered before w.job w.number b a w.given sound at).held.0.used ≡ c.used
+    uses_so a was st mv p q same there =
+        let held = (sound_answered before w.job w.number b a w.given sound at).held in
+        let one : was ≡ held.0 = found_as c.job b.job c.number b.number (taken before a w.given).builds was held.0 p q there held.1 in
+        sym (ap (λ y. y.used) same ∙ ap (λ y. y.used) one)
+
+    right_so : (a : AskData) (was : BuildData) (st : Status) (mv : List (ℕ × ℕ)) → c.job ≡ b.job → c.number ≡ b.number → c ≡ ended_build st mv was → build_of c.job c.number (taken before a w.given).builds ≡ Some was → AllByRecursion (IsRight (taken before a w.given).tables b.inputs) c.used
+    right_so a was st mv p q same there =
+        subst (AllByRecursion (IsRight (taken before a w.given).tables b.inputs)) (uses_so a was st mv p q same there) (sound_answered before w.job w.number b a w.given sound at).held.3
+
+    used_in_so : (a : AskData) (was : BuildData) (st : Status) (mv : List (ℕ × ℕ)) → c.job ≡ b.job → c.number ≡ b.number → c ≡ ended_build st mv was → build_of c.job c.number (taken before a w.given).builds ≡ Some was → AllByRecursion (IsUsedIn (pipeline_of before) (taken before a w.given) c.used) (inputs b.plan)
+    used_in_so a was st mv p q same there =
+        subst (λ us. AllByRecursion (IsUsedIn (pipeline_of before) (taken before a w.given) us) (inputs b.plan)) (uses_so a was st mv p q same there) (sound_answered before w.job w.number b a w.given sound at).used_in
+
     ends_now : (a : AskData) (g : GainsData) → Means b.inputs b.plan no_gains (b.exchanges ++ exchange a w.given ∷ []) o g → EndsTo before (own c.job c.number (es ++ e ∷ []) (rs ++ Ok (Ends o) ∷ [])) c (moved_on before (done_with (pipeline_of before) b o g (taken before a w.given)) (without b.job b.number before.running))
     ends_now a g means (found, done, fresh) = by (found_end c.job c.number b.job b.number (status_of o) (pairs_of (pipeline_of before) (taken before a w.given) g.moved) c (taken before a w.given).builds found)
       where
-        by : IsEnded c.job c.number b.job b.number (status_of o) (pairs_of (pipeline_of before) (taken before a w.given) g.moved) c (taken before a w.given).builds ⊎ (build_of c.job c.number (taken before a w.given).builds ≡ Some c) → EndsAsMeant (moved_on before (done_with (pipeline_of before) b o g (taken before a w.given)) (without b.job b.number before.running)) (own c.job c.number (es ++ e ∷ []) (rs ++ Ok (Ends o) ∷ [])) c
+        by : IsEnded c.job c.number b.job b.number (status_of o) (pairs_of (pipeline_of before) (taken before a w.given) g.moved) c (taken before a w.given).builds ⊎ (build_of c.job c.number (taken before a w.given).builds ≡ Some c) → EndsSound (moved_on before (done_with (pipeline_of before) b o g (taken before a w.given)) (without b.job b.number before.running)) (own c.job c.number (es ++ e ∷ []) (rs ++ Ok (Ends o) ∷ [])) c
         by (inr old) = absurd (fresh (c, ap (build_of c.job c.number) (sym (pushed_builds (pipeline_of before) a w.given before.history)) ∙ old, done))
         by (inl (p, q, (was, same, there))) = record {
-          run = with_answer b a w.given;
-          outcome = o;
-          gains = g;
-          is_job = sym p;
-          is_number = sym q;
-          planned = (of_build s before es rs w.job w.number b none run at).planned;
-          used = used_so a was (status_of o) (pairs_of (pipeline_of before) (taken before a w.given) g.moved) p q same there;
-          answered = answered_so a p q;
-          meant = means;
-          status = ap (λ y. y.status) same;
-          moved = ap (λ y. y.moved) same;
-          once = fits_so a o g means;
-          passed = passed_by o c (ap (λ y. y.status) same);
+          meant = record {
+            run = with_answer b a w.given;
+            outcome = o;
+            gains = g;
+            is_job = sym p;
+            is_number = sym q;
+            planned = (of_build s before es rs w.job w.number b none run at).planned;
+            used = used_so a was (status_of o) (pairs_of (pipeline_of before) (taken before a w.given) g.moved) p q same there;
+            answered = answered_so a p q;
+            meant = means;
+            status = ap (λ y. y.status) same;
+            moved = ap (λ y. y.moved) same;
+            once = fits_so a o g means;
+            passed = passed_by o c (ap (λ y. y.status) same);
+          };
+          right = right_so a was (status_of o) (pairs_of (pipeline_of before) (taken before a w.given) g.moved) p q same there;
+          got = (sound_answered before w.job w.number b a w.given sound at).got;
+          used_in = used_in_so a was (status_of o) (pairs_of (pipeline_of before) (taken before a w.given) g.moved) p q same there;
         }
 
     ends_taken : (after : State) → GoesOnWith before b w.given (Some o) after → EndsTo before (own c.job c.number (es ++ e ∷ []) (rs ++ Ok (Ends o) ∷ [])) c after
@@ -211,25 +241,44 @@ module _ (s before : State) (es : List EventData) (rs : List Replied) (start : I
         let one : was ≡ d = found_as c.job j.name c.number (count_of j.name before.history.builds + 1) now.builds was d p q there found in
         subst (λ us. AreThoseUsed now.tables us b.inputs) (sym (ap (λ y. y.used) same ∙ ap (λ y. y.used) one)) (each, all_weaker (λ u r. r.1) d.used right)
 
+    uses_new : (was : BuildData) (st : Status) (mv : List (ℕ × ℕ)) → c.job ≡ j.name → c.number ≡ count_of j.name before.history.builds + 1 → c ≡ ended_build st mv was → build_of c.job c.number now.builds ≡ Some was → (sound_begun before name j places sound at finds room).held.0.used ≡ c.used
+    uses_new was st mv p q same there =
+        let held = (sound_begun before name j places sound at finds room).held in
+        let one : was ≡ held.0 = found_as c.job j.name c.number (count_of j.name before.history.builds + 1) now.builds was held.0 p q there held.1 in
+        sym (ap (λ y. y.used) same ∙ ap (λ y. y.used) one)
+
+    right_new : (was : BuildData) (st : Status) (mv : List (ℕ × ℕ)) → c.job ≡ j.name → c.number ≡ count_of j.name before.history.builds + 1 → c ≡ ended_build st mv was → build_of c.job c.number now.builds ≡ Some was → AllByRecursion (IsRight now.tables b.inputs) c.used
+    right_new was st mv p q same there =
+        subst (AllByRecursion (IsRight now.tables b.inputs)) (uses_new was st mv p q same there) (sound_begun before name j places sound at finds room).held.3
+
+    used_in_new : (was : BuildData) (st : Status) (mv : List (ℕ × ℕ)) → c.job ≡ j.name → c.number ≡ count_of j.name before.history.builds + 1 → c ≡ ended_build st mv was → build_of c.job c.number now.builds ≡ Some was → AllByRecursion (IsUsedIn (pipeline_of before) now c.used) (inputs b.plan)
+    used_in_new was st mv p q same there =
+        subst (λ us. AllByRecursion (IsUsedIn (pipeline_of before) now us) (inputs b.plan)) (uses_new was st mv p q same there) (sound_begun before name j places sound at finds room).used_in
+
     ends_at_once : (o : Outcome) (g : GainsData) → Means b.inputs b.plan no_gains [] o g → EndsTo before (own c.job c.number (es ++ e ∷ []) (rs ++ r ∷ [])) c (moved_on before (done_with (pipeline_of before) b o g now) before.running)
     ends_at_once o g means (found, done, fresh) = by (found_end c.job c.number b.job b.number (status_of o) (pairs_of (pipeline_of before) now g.moved) c now.builds found)
       where
-        by : IsEnded c.job c.number b.job b.number (status_of o) (pairs_of (pipeline_of before) now g.moved) c now.builds ⊎ (build_of c.job c.number now.builds ≡ Some c) → EndsAsMeant (moved_on before (done_with (pipeline_of before) b o g now) before.running) (own c.job c.number (es ++ e ∷ []) (rs ++ r ∷ [])) c
+        by : IsEnded c.job c.number b.job b.number (status_of o) (pairs_of (pipeline_of before) now g.moved) c now.builds ⊎ (build_of c.job c.number now.builds ≡ Some c) → EndsSound (moved_on before (done_with (pipeline_of before) b o g now) before.running) (own c.job c.number (es ++ e ∷ []) (rs ++ r ∷ [])) c
         by (inr old) = absurd (fresh (c, was_there done old, done))
         by (inl (p, q, (was, same, there))) = record {
-          run = begun (pipeline_of before) before.history j places;
-          outcome = o;
-          gains = g;
-          is_job = sym p;
-          is_number = sym q;
-          planned = (j, job_at name (pipeline_of before).jobs j at, refl);
-          used = used_new was (status_of o) (pairs_of (pipeline_of before) now g.moved) p q same there;
-          answered = not_answered p q;
-          meant = means;
-          status = ap (λ y. y.status) same;
-          moved = ap (λ y. y.moved) same;
-          once = fits_new o g means;
-          passed = passed_by o c (ap (λ y. y.status) same);
+          meant = record {
+            run = begun (pipeline_of before) before.history j places;
+            outcome = o;
+            gains = g;
+            is_job = sym p;
+            is_number = sym q;
+            planned = (j, job_at name (pipeline_of before).jobs j at, refl);
+            used = used_new was (status_of o) (pairs_of (pipeline_of before) now g.moved) p q same there;
+            answered = not_answered p q;
+            meant = means;
+            status = ap (λ y. y.status) same;
+            moved = ap (λ y. y.moved) same;
+            once = fits_new o g means;
+            passed = passed_by o c (ap (λ y. y.status) same);
+          };
+          right = right_new was (status_of o) (pairs_of (pipeline_of before) now g.moved) p q same there;
+          got = (sound_begun before name j places sound at finds room).got;
+          used_in = used_in_new was (status_of o) (pairs_of (pipeline_of before) now g.moved) p q same there;
         }
 
     ends_settled : (o : Option Outcome) (h : HistoryData) → Settles (pipeline_of before) now b o h → EndsTo before (own c.job c.number (es ++ e ∷ []) (rs ++ r ∷ [])) c (moved_on before h (with_made b o before.running))
@@ -243,12 +292,12 @@ module _ (s before : State) (es : List EventData) (rs : List Replied) (start : I
         subst (EndsTo before (own c.job c.number (es ++ e ∷ []) (rs ++ r ∷ [])) c) (sym to) (ends_settled o h settles)
 
   -- ---- each step
-  ends_scheduled : (name : Text) (j : JobData) (r : Reply) (after : State) → job_of name (pipeline_of before).jobs ≡ Some j → ¬ (MOST_BUILDS ≤ length before.history.builds) → Schedules before j r after → (c : BuildData) → EndsIn before after c → EndsAsMeant after (own c.job c.number (es ++ schedule name ∷ []) (rs ++ Ok r ∷ [])) c
+  ends_scheduled : (name : Text) (j : JobData) (r : Reply) (after : State) → job_of name (pipeline_of before).jobs ≡ Some j → ¬ (MOST_BUILDS ≤ length before.history.builds) → Schedules before j r after → (c : BuildData) → EndsIn before after c → EndsSound after (own c.job c.number (es ++ schedule name ∷ []) (rs ++ Ok r ∷ [])) c
   ends_scheduled name j (Made m) after at room (idle, (places, finds, news, makes)) c ends = ends_made (schedule name) (Ok (Made m)) (λ i n. refl) name j places at finds room c m after makes ends
   ends_scheduled name j NotNew after at room (idle, (places, finds, news, is)) c ends = absurd (none_ends before after c (ap (λ y. y.history.builds) is) ends)
   ends_scheduled name j r after at room (held, is) c ends = absurd (none_ends before after c (ap (λ y. y.history.builds) is) ends)
 
-  ends_triggered : (name : Text) (j : JobData) (r : Reply) (after : State) → job_of name (pipeline_of before).jobs ≡ Some j → ¬ (MOST_BUILDS ≤ length before.history.builds) → Triggers before j r after → (c : BuildData) → EndsIn before after c → EndsAsMeant after (own c.job c.number (es ++ trigger name ∷ []) (rs ++ Ok r ∷ [])) c
+  ends_triggered : (name : Text) (j : JobData) (r : Reply) (after : State) → job_of name (pipeline_of before).jobs ≡ Some j → ¬ (MOST_BUILDS ≤ length before.history.builds) → Triggers before j r after → (c : BuildData) → EndsIn before after c → EndsSound after (own c.job c.number (es ++ trigger name ∷ []) (rs ++ Ok r ∷ [])) c
   ends_triggered name j (Made m) after at room (idle, (places, finds, makes)) c ends = ends_made (trigger name) (Ok (Made m)) (λ i n. refl) name j places at finds room c m after makes ends
   ends_triggered name j r after at room (held, is) c ends = absurd (none_ends before after c (ap (λ y. y.history.builds) is) ends)
 
@@ -256,7 +305,7 @@ module _ (s before : State) (es : List EventData) (rs : List Replied) (start : I
   pub goes_on : (b : RunningData) (x : AnswerData) (after : State) → GoesOnWith before b x None after → after.history.builds ≡ before.history.builds
   goes_on b x after (a, next, (h, (begins, waits, is), to)) = ap (λ y. y.history.builds) to ∙ ap (λ y. y.builds) is ∙ pushed_builds (pipeline_of before) a x before.history
 
-  ends_other : (e : EventData) (r : Reply) (after : State) → ((f : CoreFault) → ¬ MeetsBy before None e f) → DoesBy before None e r after → e ≢ restart → (c : BuildData) → EndsIn before after c → EndsAsMeant after (own c.job c.number (es ++ e ∷ []) (rs ++ Ok r ∷ [])) c
+  ends_other : (e : EventData) (r : Reply) (after : State) → ((f : CoreFault) → ¬ MeetsBy before None e f) → DoesBy before None e r after → e ≢ restart → (c : BuildData) → EndsIn before after c → EndsSound after (own c.job c.number (es ++ e ∷ []) (rs ++ Ok r ∷ [])) c
   ends_other (set_pipeline p) Set after free is ne c ends = absurd (none_ends before after c (ap (λ y. y.history.builds) is) ends)
   ends_other (checked resource vs) (New n) after free (news, is) ne c ends = absurd (none_ends before after c (ap (λ y. y.history.builds) is ∙ report_builds (pipeline_of before) resource vs before.history) ends)
   ends_other (schedule job) r after free (j, at, how) ne c ends = ends_scheduled job j r after at (free TableFull) how c ends
@@ -268,21 +317,21 @@ module _ (s before : State) (es : List EventData) (rs : List Replied) (start : I
   ends_other restart r after free does ne c ends = absurd (ne refl)
   ends_other e r after free does ne c ends = absurd does
 
-  ends_answered : (e : EventData) (w : AnswerTo) (r : Reply) (after : State) → addressed e ≡ Some w → Answers before w r after → (c : BuildData) → EndsIn before after c → EndsAsMeant after (own c.job c.number (es ++ e ∷ []) (rs ++ Ok r ∷ [])) c
+  ends_answered : (e : EventData) (w : AnswerTo) (r : Reply) (after : State) → addressed e ≡ Some w → Answers before w r after → (c : BuildData) → EndsIn before after c → EndsSound after (own c.job c.number (es ++ e ∷ []) (rs ++ Ok r ∷ [])) c
   ends_answered e w Goes after said (b, at, takes) c ends = absurd (none_ends before after c (goes_on b w.given after takes) ends)
   ends_answered e w (Ends o) after said (b, at, takes) c ends = ends_taken e w said b o c at after takes ends
   ends_answered e w r after said answers c ends = absurd answers
 
-  ends_step : (e : EventData) (r : Replied) (after : State) → Step before e r after → e ≢ restart → (c : BuildData) → EndsIn before after c → EndsAsMeant after (own c.job c.number (es ++ e ∷ []) (rs ++ r ∷ [])) c
+  pub ends_step : (e : EventData) (r : Replied) (after : State) → Step before e r after → e ≢ restart → (c : BuildData) → EndsIn before after c → EndsSound after (own c.job c.number (es ++ e ∷ []) (rs ++ r ∷ [])) c
   ends_step e (Ok r) after (free, does) ne c ends = by (addressed e) refl free does
     where
-      by : (o : Option AnswerTo) → addressed e ≡ o → ((f : CoreFault) → ¬ MeetsBy before o e f) → DoesBy before o e r after → EndsAsMeant after (own c.job c.number (es ++ e ∷ []) (rs ++ Ok r ∷ [])) c
+      by : (o : Option AnswerTo) → addressed e ≡ o → ((f : CoreFault) → ¬ MeetsBy before o e f) → DoesBy before o e r after → EndsSound after (own c.job c.number (es ++ e ∷ []) (rs ++ Ok r ∷ [])) c
       by (Some w) said free answers = ends_answered e w r after said answers c ends
       by None said free other = ends_other e r after free other ne c ends
   ends_step e (Err f) after (may, is) ne c ends = absurd (none_ends before after c (ap (λ y. y.history.builds) is) ends)
 
 pub each_ends_as_meant : EachEndsAsMeant
-each_ends_as_meant s before after es rs e r start up run step ne c ends = ends_step s before es rs start up run e r after step ne c ends
+each_ends_as_meant s before after es rs e r start up run step ne c ends = (ends_step s before es rs start up run e r after step ne c ends).meant
 
 -- ---- a restart
 cut_found : (j : Text) (n : ℕ) (c : BuildData) (bs : List RunningData) (h : HistoryData) → build_of j n (changed (map cut bs) h).builds ≡ Some c → ((c.status ≡ Errored) × (c.moved ≡ [])) ⊎ (build_of j n h.builds ≡ Some c)

@@ -9,6 +9,7 @@ pub mod Keeping
 pub mod Placing
 pub mod Naming
 pub mod Using
+pub mod Scoping
 pub mod News
 pub mod Sound
 pub mod Ending
@@ -34,3 +35,6 @@ pub mod Changing
 pub mod Busying
 pub mod Indexing
 pub mod Disabling
+pub mod MadeBest
+pub mod FetchingUsed
+pub mod MovingUsed

@@ -1,6 +1,6 @@
 -- What a core stands for is reached, step by step.
 use Rattle.std.proofs.Common.{◌≡◌, ℕ, ◌≤◌, List, [], ◌∷◌, ◌++◌, length, Some, None, Ok, Err, refl, sym, ap, ◌∙◌, subst, arith}
-use Rattle.std.specs.Prelude.{unwrap_or, Result, IfOk, OnOk, OnErr}
+use Rattle.std.specs.Prelude.{unwrap_or, Result, IfOk, OnErr}
 use Rattle.std.specs.List.{AllByRecursion}
 use Rattle.ccr_history.specs.Text.{Text}
 use Rattle.ccr_history.specs.History.{IsHistory}
@@ -82,7 +82,7 @@ pub paired : (c : CoreData) → IsCore c → length c.runs ≡ length c.names
 paired c core = let t = firm c core in (as_many c.names c.runs t.state.running t.stands.3).1
 
 -- ---- a core goes on
-pub step_kept : {X : Type 0} → (old new : CoreData) (e : EventData) (r : Result (Reply × X) CoreFault) → IsCore old → new.budget ≡ old.budget → IfOk r (λ x. TakesStep old new e (Ok x.0)) → OnOk r (IsEvent e) → OnErr r (new ≡ old) → IsCore new
+pub step_kept : {X : Type 0} → (old new : CoreData) (e : EventData) (r : Result (Reply × X) CoreFault) → IsCore old → new.budget ≡ old.budget → IfOk r (λ x. TakesStep old new e (Ok x.0)) → IsEvent e → OnErr r (new ≡ old) → IsCore new
 step_kept old new e (Ok x) core same takes up unchanged = core_on old new e (Ok x.0) same up takes core
 step_kept old new e (Err f) core same takes up unchanged = subst IsCore (sym unchanged) core
 

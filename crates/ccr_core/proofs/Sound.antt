@@ -51,6 +51,7 @@ use Rattle.ccr_core.proofs.News.{IsSame, news_report, news_push}
 use Rattle.ccr_core.proofs.Owning.{job_at, none_runs}
 use Rattle.ccr_core.proofs.Placing.{IsKnown, moved_fit}
 use Rattle.ccr_core.proofs.RunningLists.{all_weaker, all_append, all_both, id_flip, IsApart, apart_with, apart_less, apart_more, none_all, all_with, all_less, all_at}
+use Rattle.ccr_core.proofs.Scoping.{IsUsedIn, used_in_changed, begun_used_in}
 use Rattle.ccr_core.proofs.Seeing.{has_report, has_changed, report_builds, pushed_builds}
 use Rattle.ccr_core.proofs.Using.{IsRight, right_changed, begun_right, begun_each}
 
@@ -83,6 +84,7 @@ pub record IsSoundBuild (p : PipelineData) (h : HistoryData) (b : RunningData) :
   pub got : AllByRecursion (IsGot (IsSeen p h) b.inputs) (inputs b.plan)
   pub known : AllByRecursion (IsKnown p) (used_resources b.plan)
   pub pushes : ArePushed (IsKnown p) (IsSeen p h) b.exchanges
+  pub used_in : AllByRecursion (IsUsedIn p h held.0.used) (inputs b.plan)
 
 pub record IsSound (s : State) : Type 0 where
   pub piped : IsPipeline (pipeline_of s)
@@ -110,6 +112,7 @@ module _ (p : PipelineData) (h : HistoryData) (es : List EditData) where
     got = all_weaker (λ i seen. (let (x, at, has) = seen in (x, at, has_changed (scope_of x) _ es h has))) (inputs b.plan) sb.got;
     known = sb.known;
     pushes = all_weaker (λ e f. pushed_on (pushed_by e.ask e.answer) f) b.exchanges sb.pushes;
+    used_in = all_both (λ i seen used. used_in_changed p es h b.inputs sb.held.0.used i seen used) (inputs b.plan) sb.got sb.used_in;
   }
 
 -- what holds of the number of a build that runs
@@ -198,6 +201,7 @@ module _ (s : State) (name : Text) (j : JobData) (places : List ℕ) (k : IsSoun
     got = all_weaker (λ i seen. (let (x, there, has) = seen in (x, there, has))) (inputs j.plan) (chosen_seen (pipeline_of s) s.history (inputs j.plan) places placed plan_kept.distinct);
     known = all_weaker (λ r has. known_by_name (pipeline_of s).resources r has) (used_resources j.plan) (recursion_from_All (λ r. has_name (resource_names (pipeline_of s).resources) r ≡ true) (used_resources j.plan) linked.0);
     pushes = tt;
+    used_in = all_weaker (λ i used. (let (place, there) = used in (place, there))) (inputs j.plan) (begun_used_in (pipeline_of s) s.history (inputs j.plan) places placed);
   }
 
   none_there : running_at (begun (pipeline_of s) s.history j places).job (begun (pipeline_of s) s.history j places).number s.running ≡ None
@@ -281,6 +285,7 @@ module _ (s : State) (job : Text) (number : ℕ) (b : RunningData) (a : AskData)
         got = was.got;
         known = was.known;
         pushes = all_append (λ e. IsPushed (IsKnown (pipeline_of s)) (IsSeen (pipeline_of s) then) (pushed_by e.ask e.answer)) b.exchanges (exchange a x) was.pushes (pushed_seen (pipeline_of s) s.history (pushed_by a x));
+        used_in = was.used_in;
       }
 
   numbers_then : AreKnown then.builds then.builds

@@ -105,7 +105,7 @@ is_ended s j n = by (build_of j n s.history.builds) refl
 module _ (start : State) (begins : IsStart start) where
   module _ (s mid after : State) (es₀ es : List EventData) (rs₀ rs : List Replied) (r : Replied) (up : AllByRecursion IsEvent es₀) (run : Run start es₀ rs₀ s) (rest : Run mid es rs after) (c : BuildData) (later : own c.job c.number es rs ≡ []) (ends : EndsIn s mid c) where
     -- the answers that were its own so far are those in all of the run
-    own_whole : (e : EventData) → own c.job c.number (es₀ ++ e ∷ []) (rs₀ ++ r ∷ []) ≡ own c.job c.number (es₀ ++ e ∷ es) (rs₀ ++ r ∷ rs)
+    pub own_whole : (e : EventData) → own c.job c.number (es₀ ++ e ∷ []) (rs₀ ++ r ∷ []) ≡ own c.job c.number (es₀ ++ e ∷ es) (rs₀ ++ r ∷ rs)
     own_whole e =
         own_join c.job c.number start s es₀ (e ∷ []) rs₀ (r ∷ []) run
         ∙ ap (λ l. own c.job c.number es₀ rs₀ ++ (own_of c.job c.number e r ++ l)) (sym later)

@@ -111,7 +111,7 @@ pub right_changed : (es : List EditData) (h : HistoryData) (inputs : Chosen) (u 
 right_changed es h inputs u (at, is) = let (then, same) = at_changed es h u.scope u.place at in (then, is ∙ sym same)
 
 -- a scope's versions are those under its number
-number_versions : (s : ScopeData) (ts : List TableData) (k : ℕ) → 1 ≤ length (versions_of s ts) → version_in ts (scope_number s ts) k ≡ slice_index_or (versions_of s ts) (k - 1) []
+pub number_versions : (s : ScopeData) (ts : List TableData) (k : ℕ) → 1 ≤ length (versions_of s ts) → version_in ts (scope_number s ts) k ≡ slice_index_or (versions_of s ts) (k - 1) []
 number_versions s [] k h = absurd (omega (arith, h))
 number_versions s (t ∷ ts) k h = by (is_scope s t.scope) (λ more. (number_there s ts more).0) (number_versions s ts k) h
   where

@@ -15,6 +15,9 @@ pub mod Edits
 pub mod Kept
 pub mod EachBuild
 pub mod EndedInRun
+pub mod MadeInRun
+pub mod FetchedInRun
+pub mod MovedInRun
 pub mod Holding
 pub mod Cores
 pub mod Resumed

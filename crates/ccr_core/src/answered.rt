@@ -1,5 +1,5 @@
 //! Answers to what builds asked.
-ghost use Rattle.std.specs.Prelude.{◌≡◌, ◌≢◌, Ok, Err, map, IsTrue, IsFalse, IsSomeAnd, IfOk, IfErr, OnOk, OnErr};
+ghost use Rattle.std.specs.Prelude.{◌≡◌, ◌≢◌, Ok, Err, map, IsTrue, IsFalse, IsSomeAnd, IfOk, IfErr, OnErr};
 ghost use Rattle.std.specs.Option.{IfSome};
 ghost use Rattle.ccr_history.specs.Edits.{change_data};
 ghost use Rattle.ccr_steps.specs.Asks.{answer_data};
@@ -13,6 +13,7 @@ ghost use Rattle.ccr_core.specs.Kept.{IsAnswer};
 use crate::fault::CoreFault;
 use crate::going::answer_build;
 use crate::parts::Parts;
+use crate::pushed::rules_of;
 use crate::reply::Reply;
 use crate::wanted::index_of;
 use ccr_history::Change;
@@ -51,10 +52,11 @@ impl Parts {
         ensures refused { IfErr result (λ f. TakesSaidStep (core_data self.old) (core_data self.old)
             (answer_to job.now number turn (answer_data answered)) (Err f)) }
         ensures unchanged { OnErr result (core_data self.new ≡ core_data self.old) }
-        ensures kept { OnOk result (IsAnswer (answer_data answered)) }
+        ensures kept { IsAnswer (answer_data answered) }
         ensures budget { self.new.budget ≡ self.old.budget }
         ensures indexed { IsIndexed self.new }
     {
+        rules_of(&answered);
         // Where no pipeline is set, nothing runs.
         let Some(pipeline) = &self.pipeline else {
             return Err(CoreFault::NoBuild);

@@ -11,7 +11,6 @@ ghost use Rattle.ccr_core.specs.declared.fault.CoreFault.TheVariants.{TableFull,
 ghost use Rattle.ccr_core.specs.Builds.{Settles};
 ghost use Rattle.ccr_core.specs.Edits.{AreEndEdits, AreMoreEdits, AreNextEdits};
 ghost use Rattle.ccr_core.specs.Going.{CanGoOn, GoesOn, IsRefused, Changes, Waits, named};
-ghost use Rattle.ccr_core.specs.Kept.{IsAnswer};
 ghost use Rattle.ccr_problem.specs.Indexes.{problems, AreIndexes};
 ghost use Rattle.ccr_core.specs.Indexed.{AreReported};
 ghost use Rattle.ccr_core.specs.Endings.{reports, report_edits, IsOver, EndFits, ReportFits};
@@ -141,7 +140,6 @@ pub(crate) fn answer_build(
     ensures run { OnErr result (run_data run.new ≡ run_data run.old) }
     ensures refused { IfErr result (IsRefused (pipeline_data pipeline.now) history.old (run_data run.old)
         (answer_data answer)) }
-    ensures kept { OnOk result (IsAnswer (answer_data answer)) }
 {
     rules_of(&answer);
     // It waits for an answer.

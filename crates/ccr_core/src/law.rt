@@ -1,11 +1,55 @@
 //! The laws over every list of events.
 ghost use Rattle.ccr_core.specs.Aborting.{AbortIsAnswer, AbortMeetsNoBuild};
 ghost use Rattle.ccr_core.specs.EndedInRun.{EachEndedInRun, EndedStays};
+ghost use Rattle.ccr_core.specs.FetchedInRun.{EachFetchesWhatItUsed};
+ghost use Rattle.ccr_core.specs.MovedInRun.{EachStepMovesItsOwn, EachMovesItsOwn};
+ghost use Rattle.ccr_core.specs.MadeInRun.{EachStepMakesBest, EachIsMadeBest, EachIsMadeSo, UsedStays, NoneIsSaidRightly};
 ghost use Rattle.ccr_core.specs.Kept.{EachChangeIsTaken, EachChangeIsOne};
 ghost use Rattle.ccr_core.specs.Limits.{LimitsAreKept};
 ghost use Rattle.ccr_core.specs.EachBuild.{EachHasItsOwn, EachEndsAsMeant, EachIsCutShort, RunsAgree, EndsAgree, NoneRunsOn};
 
 use ccr_steps::{answers_decide, beginnings_decide};
+
+/// Whatever events come, from a state in which nothing runs: each build in the history after them was there before them and used
+/// the same, or one of them made it. Then it used the best places for its job's inputs, by the pipeline and the history at that
+/// moment: places that went together through builds that had succeeded, one for each job that an input names in passed, and no
+/// places that went together so are better, input by input in the order of the plan. What a build used stays. That no choice
+/// satisfies is replied only where no places go together.
+///
+/// It is a law over the definitions alone; nothing runs.
+pub fn each_is_made_best()
+    // By the step that makes it.
+    ensures step { EachStepMakesBest }
+
+    // Over a list of events.
+    ensures best { EachIsMadeBest }
+
+    // Where nothing was before.
+    ensures all { EachIsMadeSo }
+    ensures stays { UsedStays }
+    ensures none { NoneIsSaidRightly }
+{}
+
+/// Whatever events come, from a state in which nothing runs: what a build that runs fetches next is the version at the place that
+/// the history's build used for the input of this name, or one that it has pushed.
+///
+/// It is a law over the definitions alone; nothing runs.
+pub fn each_fetches_what_it_used()
+    ensures { EachFetchesWhatItUsed }
+{}
+
+/// Whatever events come, from a state in which nothing runs: a build that ends, other than by a restart, has moved only places that
+/// it used for inputs of its job's plan, and whose versions it fetched, and places of versions that it pushed. So each build that
+/// has succeeded in the history after them had succeeded before them, or moved only these.
+///
+/// It is a law over the definitions alone; nothing runs.
+pub fn each_moves_its_own()
+    // By the step that ends it.
+    ensures step { EachStepMovesItsOwn }
+
+    // Over a list of events.
+    ensures moves { EachMovesItsOwn }
+{}
 
 /// Whatever events come, from a state in which nothing runs: each build that runs has had the answers that were
 /// addressed to it and not refused, in order, and no others. Its plan is that of its job, and its exchanges begin a

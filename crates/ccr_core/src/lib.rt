@@ -56,8 +56,9 @@ pub use event::Event;
 pub use fault::CoreFault;
 pub use form::Form;
 pub use law::{
-    aborts_are_answers, each_change_is_taken, each_ends_as_meant, each_has_its_fate,
-    each_has_its_own, limits_are_kept, runs_agree,
+    aborts_are_answers, each_change_is_taken, each_ends_as_meant, each_fetches_what_it_used,
+    each_has_its_fate, each_has_its_own, each_is_made_best, each_moves_its_own, limits_are_kept,
+    runs_agree,
 };
 pub use limit::MOST_RUNNING;
 pub use machine::Core;

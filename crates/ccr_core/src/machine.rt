@@ -51,6 +51,7 @@ impl Core {
     ghost use Rattle.ccr_core.specs.Going.{Changes};
     ghost use Rattle.ccr_steps.specs.Asks.{ask_data};
     ghost use Rattle.ccr_core.specs.Holding.{name_data, step_in, HasEdits, IsCore, NamesResource, Stands, TakesStep, Wants};
+    ghost use Rattle.ccr_core.specs.Kept.{IsEvent};
     ghost use Rattle.ccr_core.specs.Positions.{IsMadeAt, AreInOrder};
     ghost use Rattle.ccr_core.specs.State.{State};
     ghost use Rattle.ccr_core.specs.Resumed.{resumed, IsReadable, IsResumed};
@@ -82,6 +83,8 @@ impl Core {
     /// From each state that the core stood for, the event may have this reply, and leads to a state that the core
     /// stands for then: so it met no fault. The change holds the step's edits and no others. A refusal names the first
     /// fault that the event meets in such a state, and changes nothing; `NoMemory` where memory runs out.
+    ///
+    /// Each event that it is given, refused or not, is one that the laws over lists of events speak of.
     pub fn step(&mut self, alloc: Global, event: Event) -> Result<(Reply, Change), CoreFault>
         ensures step { IfOk result (λ r. TakesStep (core_data self.old) (core_data self.new) (event_data event) (Ok r.0)) }
         ensures change { IfOk result (λ r. Changes r.1.items
@@ -91,6 +94,7 @@ impl Core {
         ensures refused { IfErr result (λ f. TakesStep (core_data self.old) (core_data self.old)
             (event_data event) (Err f)) }
         ensures unchanged { OnErr result (core_data self.new ≡ core_data self.old) }
+        ensures kept { IsEvent (event_data event) }
     {
         self.parts.take(alloc, event)
     }

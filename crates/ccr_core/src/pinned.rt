@@ -26,9 +26,7 @@ use std::alloc::{AllocError, Global};
 fn pin_change(alloc: Global, resource: &str, pin: &Pin) -> Result<Change, AllocError>
     ensures is { IfOk result (λ change. map edit_data change.items ≡ pin_set resource.now pin.now ∷ []) }
     ensures numbered { IfOk result (λ change. (h : HistoryData) → HaveTheirNumbers h change.items) }
-    ensures ascends { OnOk result (IsAscending pin.now) }
 {
-    pin.rules();
     change_of(
         alloc,
         Edit::PinSet(String::from_str(alloc, resource)?, pin.copy()?),
@@ -112,10 +110,11 @@ impl Parts {
         ensures refused { IfErr result (λ f. TakesStep (core_data self.old) (core_data self.old)
             (pin resource.now given) (Err f)) }
         ensures unchanged { OnErr result (core_data self.new ≡ core_data self.old) }
-        ensures kept { OnOk result (IsAscending given) }
+        ensures kept { IsAscending given }
         ensures budget { self.new.budget ≡ self.old.budget }
         ensures indexed { IsIndexed self.new }
     {
+        given.rules();
         match self.has_resource(resource) {
             Ok(()) => match pin_change(alloc, resource, &given) {
                 Ok(change) => match pinned(alloc, &self.pipeline, &self.history, resource, given) {

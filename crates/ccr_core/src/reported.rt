@@ -114,17 +114,17 @@ impl Parts {
         ensures refused { IfErr result (λ f. TakesStep (core_data self.old) (core_data self.old)
             (checked resource.now seen.items) (Err f)) }
         ensures unchanged { OnErr result (core_data self.new ≡ core_data self.old) }
-        ensures kept { OnOk result (AllByRecursion IsAscending seen.items) }
+        ensures kept { AllByRecursion IsAscending seen.items }
         ensures budget { self.new.budget ≡ self.old.budget }
         ensures indexed { IsIndexed self.new }
     {
+        versions_ascend(&seen);
         let Some(pipeline) = &self.pipeline else {
             return Err(CoreFault::NoPipeline);
         };
         match scope_named(pipeline, resource) {
             Ok(found) => match found {
                 Some(scope) => {
-                    versions_ascend(&seen);
                     match append(
                         alloc,
                         pipeline,

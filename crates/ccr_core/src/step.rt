@@ -1,5 +1,5 @@
 //! Steps: what each event does.
-ghost use Rattle.std.specs.Prelude.{◌≡◌, Ok, Err, map, IfOk, IfErr, OnOk, OnErr};
+ghost use Rattle.std.specs.Prelude.{◌≡◌, Ok, Err, map, IfOk, IfErr, OnErr};
 ghost use Rattle.ccr_history.specs.Edits.{change_data};
 ghost use Rattle.ccr_core.specs.Cores.{core_data};
 ghost use Rattle.ccr_core.specs.Events.{event_data};
@@ -28,7 +28,7 @@ impl Parts {
         ensures refused { IfErr result (λ f. TakesStep (core_data self.old) (core_data self.old)
             (event_data event) (Err f)) }
         ensures unchanged { OnErr result (core_data self.new ≡ core_data self.old) }
-        ensures kept { OnOk result (IsEvent (event_data event)) }
+        ensures kept { IsEvent (event_data event) }
         ensures budget { self.new.budget ≡ self.old.budget }
         ensures indexed { IsIndexed self.new }
     {

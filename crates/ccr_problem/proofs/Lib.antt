@@ -17,3 +17,8 @@ mod Each
 mod IndexEnds
 mod IndexReports
 mod Takings
+pub mod Among
+pub mod Named
+pub mod Cutting
+pub mod Going
+pub mod BestNamed

@@ -7,3 +7,4 @@ pub mod Indexes
 pub mod Passing
 pub mod Limit
 pub mod Triggers
+pub mod Together

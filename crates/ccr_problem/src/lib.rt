@@ -40,7 +40,7 @@ pub use coming::has_newer;
 pub use cut::cut_short;
 pub use fault::ProblemFault;
 pub use indexes::Indexes;
-pub use law::{builds_change_problems, reports_change_problems};
+pub use law::{best_is_said_by_names, builds_change_problems, reports_change_problems};
 pub use limit::has_reached;
 pub use problem::{problem_of, problem_of_job};
 pub use triggers::is_new;

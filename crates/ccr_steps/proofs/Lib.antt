@@ -14,3 +14,6 @@ pub mod Advances
 pub mod Nexts
 pub mod Choosing
 pub mod Aborting
+pub mod Among
+pub mod Fetching
+pub mod Gaining

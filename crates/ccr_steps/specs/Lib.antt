@@ -9,3 +9,5 @@ pub mod Runs
 pub mod FrameKinds
 pub mod Moments
 pub mod Aborts
+pub mod Fetches
+pub mod Moves

@@ -39,7 +39,7 @@ pub use ask::{Answered, Ask};
 pub use before::Before;
 pub use build::BuildRun;
 pub use fault::FeedFault;
-pub use law::{answers_decide, beginnings_decide};
+pub use law::{answers_decide, beginnings_decide, fetches_its_own, moves_its_own};
 pub use moved::Moved;
 pub use outcome::Outcome;
 pub use run::start;
