@@ -36,6 +36,7 @@ gave_again job again number turn x r v w n same full made = record {
         is_given = inr ((t.1.0, refl), refl);
         after = u.0;
         step = subst (λ j. Step s (answer j number turn errored) (Ok r) u.0) same u.1;
+        kept = tt;
         stands = u.2;
       };
   ready = made.ready;

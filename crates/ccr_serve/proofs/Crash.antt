@@ -8,6 +8,7 @@ use Rattle.ccr_core.specs.declared.reply.Reply.{Reply}
 use Rattle.ccr_core.specs.Events.{EventData}
 use Rattle.ccr_core.specs.Going.{Changes}
 use Rattle.ccr_core.specs.Holding.{CoreData, Stands, TakesStep}
+use Rattle.ccr_core.specs.Kept.{IsEvent}
 use Rattle.ccr_core.specs.State.{State}
 use Rattle.ccr_serve.specs.Crash.{IsTorn, LeavesAt}
 use Rattle.ccr_serve.specs.Views.{View, IsReady}
@@ -26,13 +27,14 @@ stored P before after es change same changes left =
 
 -- a server whose storage failed at an event that the core took
 pub torn : (leaves : List HistoryData → Type 0) (old new : CoreData) (e : EventData) (r : Reply) → TakesStep old new e (Ok r)
-    → leaves (new.history ∷ old.history ∷ []) → (s : State) → Stands old s → IsTorn leaves s
-torn leaves old new e r takes left s is =
+    → IsEvent e → leaves (new.history ∷ old.history ∷ []) → (s : State) → Stands old s → IsTorn leaves s
+torn leaves old new e r takes kept left s is =
     let step = takes s is in record {
       event = e;
       reply = r;
       next = step.0;
       step = step.1;
+      kept = kept;
       either = subst (λ h. leaves (step.0.history ∷ h ∷ [])) is.0
           (subst (λ h. leaves (h ∷ old.history ∷ [])) step.2.0 left);
     }

@@ -1,6 +1,9 @@
 mod Folders
 mod Commits
 mod Crash
+mod Leading
+mod Making
+mod Openings
 mod Launching
 mod GoingRound
 mod Composing

@@ -215,7 +215,14 @@ made_did P e r v n m s made lines can is = let t = made.takes s is in
       state = t.0;
       stands = t.2;
       does = can (world_of v s) (world_of (printed n m) t.0) d (record {
-        makes = record { reply = r; step = t.1; found_memory = made.found_memory; event = refl; lines = refl };
+        makes = record {
+          reply = r;
+          step = t.1;
+          kept = made.kept;
+          found_memory = made.found_memory;
+          event = refl;
+          lines = refl;
+        };
         pair = refl;
         last = made.rest.last;
         calls = made.rest.calls;
@@ -281,7 +288,14 @@ check_made {name} {named} {one} {v} {f} {p} {l} {n} {m} {vs} {r} {good} places p
             finds = subst (λ h. Finds places one (newest one h) v.calls n.calls pair (found vs)) is.0
                 (subst (λ k. Finds places one (newest one v.core.history) v.calls k pair (found vs))
                 (sym made.rest.calls) finds);
-            reports = record { reply = r; step = t.1; found_memory = made.found_memory; event = refl; lines = refl };
+            reports = record {
+              reply = r;
+              step = t.1;
+              kept = made.kept;
+              found_memory = made.found_memory;
+              event = refl;
+              lines = refl;
+            };
             last = made.rest.last;
             lost = refl;
           },

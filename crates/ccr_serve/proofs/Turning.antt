@@ -11,6 +11,7 @@ use Rattle.ccr_core.specs.declared.fault.CoreFault.TheVariants.{TableFull}
 use Rattle.ccr_core.specs.declared.reply.Reply.{Reply}
 use Rattle.ccr_core.specs.Events.{answer, abort}
 use Rattle.ccr_core.specs.Holding.{IsAsked, Stands}
+use Rattle.ccr_core.specs.Kept.{IsEvent}
 use Rattle.ccr_core.specs.Picking.{name_of}
 use Rattle.ccr_core.specs.State.{RunningData, State, no_pipeline, resources_of}
 use Rattle.ccr_core.specs.Steps.{Step}
@@ -114,6 +115,7 @@ module _ (places : PlacesData) (v : View) (looked : List CallData) (job : Text) 
         is_given = named (λ j i. (g.given ≡ x.answer) ⊎ (Step s (answer j i turn x.answer) (Err TableFull) s × (g.given ≡ errored)))
             g.is_given;
         step = named (λ j i. Step s (answer j i turn g.given) (Ok reply) g.after) g.step;
+        kept = named (λ j i. IsEvent (answer j i turn g.given)) g.kept;
         event = named (λ j i. did.event ≡ Some (answer j i turn g.given, Ok reply)) refl;
         lines = named (λ j i. did.lines ≡ lines_of (answer j i turn g.given) (Ok reply) g.after.history) refl;
       };

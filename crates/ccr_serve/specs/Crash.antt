@@ -3,16 +3,18 @@ use Rattle.std.specs.Prelude.{List, [], ◌∷◌, Bool, true, false, Ok}
 use Rattle.ccr_history.specs.History.{HistoryData}
 use Rattle.ccr_core.specs.declared.reply.Reply.{Reply}
 use Rattle.ccr_core.specs.Events.{EventData}
+use Rattle.ccr_core.specs.Kept.{IsEvent}
 use Rattle.ccr_core.specs.State.{State}
 use Rattle.ccr_core.specs.Steps.{Step}
 
--- the storage failed while an event was being stored, which the core takes in this state: a crash leaves the history
--- with it, or without it
+-- the storage failed while an event was being stored, which the core takes in this state, and which keeps what every event
+-- keeps: a crash leaves the history with it, or without it
 pub record IsTorn (leaves : List HistoryData → Type 0) (s : State) : Type 0 where
   pub event : EventData
   pub reply : Reply
   pub next : State
   pub step : Step s event (Ok reply) next
+  pub kept : IsEvent event
   pub either : leaves (next.history ∷ s.history ∷ [])
 
 -- WHAT A CRASH LEAVES once the events that led to this state were acknowledged: while the server goes on, the history of

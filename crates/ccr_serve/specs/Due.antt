@@ -13,6 +13,7 @@ use Rattle.ccr_core.specs.declared.fault.CoreFault.TheVariants.{TableFull}
 use Rattle.ccr_core.specs.declared.reply.Reply.{Reply}
 use Rattle.ccr_core.specs.Events.{answer}
 use Rattle.ccr_core.specs.Holding.{CoreData, Stands, Wants}
+use Rattle.ccr_core.specs.Kept.{IsEvent}
 use Rattle.ccr_core.specs.State.{RunningData, State, running_at}
 use Rattle.ccr_core.specs.Steps.{Step}
 use Rattle.ccr_history.specs.Counts.{RoseBy}
@@ -63,13 +64,14 @@ pub record BeginsWant (places : PlacesData) (c : CoreData) (job : Text) (number 
   pub begins : BeginsAnswer places (resources_held c) (build_folder places job number) (ask_data ask) before after lost
 
 -- from a state an answer was given to the job's build of this number, or errored in its place, where there is no room
--- for it
+-- for it; what was given keeps what every event keeps
 pub record GivesFrom (job : Text) (number turn : ℕ) (x : AnswerData) (reply : Reply) (s : State) (new : CoreData)
     : Type 0 where
   pub given : AnswerData
   pub is_given : (given ≡ x) ⊎ (Step s (answer job number turn x) (Err TableFull) s × (given ≡ errored))
   pub after : State
   pub step : Step s (answer job number turn given) (Ok reply) after
+  pub kept : IsEvent (answer job number turn given)
   pub stands : Stands new after
 
 -- an answer was given to the job's build of this number, or errored in its place, and one commit stored what it changed

@@ -15,3 +15,6 @@ pub mod Served
 pub mod Taken
 pub mod Reads
 pub mod Unopened
+pub mod Told
+pub mod MadeInCall
+pub mod Openings

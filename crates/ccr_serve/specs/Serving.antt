@@ -14,6 +14,7 @@ use Rattle.ccr_core.specs.declared.fault.CoreFault.TheVariants.{TableFull, NoMem
 use Rattle.ccr_core.specs.declared.reply.Reply.{Reply}
 use Rattle.ccr_core.specs.Events.{EventData, checked, answer, abort}
 use Rattle.ccr_core.specs.Events as event
+use Rattle.ccr_core.specs.Kept.{IsEvent}
 use Rattle.ccr_core.specs.Replies.{Replied}
 use Rattle.ccr_core.specs.State.{RunningData, State, pipeline_of, resources_of}
 use Rattle.ccr_core.specs.Steps.{Step}
@@ -28,10 +29,11 @@ use Rattle.ccr_lines.specs.Lines.{lines_of, refused_line, cause_words}
 use Rattle.ccr_serve.specs.Turns.{rank_in, next_after}
 
 -- ---- events
--- the event was made, with its reply and its lines; out of memory, there is none
+-- the event was made, which keeps what every event keeps, with its reply and its lines; out of memory, there is none
 pub record Makes (e : EventData) (old : State) (did : Done) (new : State) : Type 0 where
   pub reply : Replied
   pub step : Step old e reply new
+  pub kept : IsEvent e
   pub found_memory : reply ≢ Err NoMemory
   pub event : did.event ≡ Some (e, reply)
   pub lines : did.lines ≡ lines_of e reply new.history
@@ -79,7 +81,8 @@ abbrev pub IsGiven : State → RunningData → ℕ → AnswerData → AnswerData
 IsGiven s b t x given =
     (given ≡ x) ⊎ (Step s (answer b.job b.number t x) (Err TableFull) s × (given ≡ errored))
 
--- the one ask of a build is answered: from a state, with the shelf's calls before and after
+-- the one ask of a build is answered: from a state, with the shelf's calls before and after; the answer keeps what every event
+-- keeps
 pub record AnswersBuild (places : PlacesData) (b : RunningData) (old : State) (before : List CallData) (did : Done)
     (reply : Reply) (after : List CallData) (new : State) : Type 0 where
   pub turn : ℕ
@@ -91,6 +94,7 @@ pub record AnswersBuild (places : PlacesData) (b : RunningData) (old : State) (b
   pub given : AnswerData
   pub is_given : IsGiven old b turn x.answer given
   pub step : Step old (answer b.job b.number turn given) (Ok reply) new
+  pub kept : IsEvent (answer b.job b.number turn given)
   pub event : did.event ≡ Some (answer b.job b.number turn given, Ok reply)
   pub lines : did.lines ≡ lines_of (answer b.job b.number turn given) (Ok reply) new.history
 

@@ -12,6 +12,7 @@ use Rattle.ccr_core.specs.declared.fault.CoreFault.TheVariants as core_fault
 use Rattle.ccr_core.specs.Cores.{core_data}
 use Rattle.ccr_core.specs.Events.{EventData}
 use Rattle.ccr_core.specs.Holding.{CoreData, Stands, TakesStep}
+use Rattle.ccr_core.specs.Kept.{IsEvent}
 use Rattle.ccr_core.specs.Replies.{Replied}
 use Rattle.ccr_core.specs.State.{State, no_pipeline}
 use Rattle.ccr_lines.specs.declared.lines.Lines as out
@@ -196,10 +197,11 @@ pub record IsElse (old new : View) : Type 0 where
   pub places : new.places ≡ old.places
   pub lines : new.lines ≡ old.lines
 
--- an event was made: the core took it, and a commit stored what it changed; or it refused it, for another cause than
--- memory, stayed as it was, and there was no commit
+-- an event was made, which keeps what every event keeps: the core took it, and a commit stored what it changed; or it
+-- refused it, for another cause than memory, stayed as it was, and there was no commit
 pub record Made (e : EventData) (r : Replied) (old new : View) : Type 0 where
   pub takes : TakesStep old.core new.core e r
+  pub kept : IsEvent e
   pub refused : OnErr r (new.core ≡ old.core)
   pub found_memory : r ≢ Err core_fault.NoMemory
   pub ready : IsReady new

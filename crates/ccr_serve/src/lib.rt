@@ -35,6 +35,6 @@ mod turn;
 mod wanted;
 
 pub use fault::ServeFault;
-pub use law::turns_go_round;
+pub use law::{calls_are_runs, calls_make_best, openings_make_best, turns_go_round};
 pub use open::Unopened;
 pub use server::Server;

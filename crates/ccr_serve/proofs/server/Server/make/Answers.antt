@@ -13,6 +13,7 @@ returns-in-Ok-commit-clause-made g c =
     let after = (core_data c.step.new.self).history in
     record {
       takes = c.in-Ok.ensures.step;
+      kept = c.in-Ok.ensures.kept;
       refused = tt;
       found_memory = λ is. absurd cc;
       ready = record {
@@ -38,7 +39,7 @@ returns-in-Ok-clause-unmade g c =
       back = (refl, c.in-Err-commit.ensures.told);
       holds = c.in-Err-commit.ensures.refused _ c.requires.ready.holds;
       crash = torn (g.T.Storage.leaves c.commit.new.self) (core_data c.args.self.now.core) (core_data c.step.new.self)
-          (event_data c.args.event) c.in-Ok.reply c.in-Ok.ensures.step
+          (event_data c.args.event) c.in-Ok.reply c.in-Ok.ensures.step c.in-Ok.ensures.kept
           (stored (λ h. g.T.Storage.leaves c.commit.new.self (h ∷ before ∷ [])) before after c.deref.result.now
           c.in-Ok.change.items c.deref.ensures.value c.in-Ok.ensures.change
           (λ accepts. c.in-Err-commit.ensures.crash before (subst IsHistory c.history.ensures c.rules.ensures)
