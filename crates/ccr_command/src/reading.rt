@@ -183,9 +183,10 @@ pub(crate) fn certify<'a>(alloc: Global) -> Result<Command<'a>, AllocError>
 Without N: prints what `problem` prints, and behind it what `resolve` prints, both from one opening of the database.
 `ccr_verify` reads it on standard input, and prints `accepted` with the choice. No build is made.
 
-With N: prints the problem that build N answered, and behind it what the build took, with the newest builds made before it
-that moved it together. `ccr_verify` prints `satisfies` with it: these versions went together through builds that succeeded.
-It doesn't say that there were no better ones. Pins and disabled versions count for nothing here.
+With N: prints the problem of today's plan with the builds made before build N, and behind it what build N took, with the
+newest of these builds that moved it together. `ccr_verify` prints `satisfies` with it: these versions went together through
+builds that were made before and have succeeded. It doesn't say that they had succeeded when build N was made, or that there
+were no better versions. Pins and disabled versions count for nothing here.
 
 With N, one line on standard output and status 1 instead: `refused: plan changed` if the job's inputs are no longer those of
 the build; `refused: no build of JOB moved them together` for the first job in `passed` without such a build.

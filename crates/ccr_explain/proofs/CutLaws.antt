@@ -12,18 +12,17 @@ use Rattle.ccr_choice.specs.Optimal.{HasNoChoice}
 use Rattle.ccr_choice.proofs.Bounds.{builds_kept}
 use Rattle.ccr_choice.proofs.Members.{contains_none, contains_first, contains_later, tests_contains}
 use Rattle.ccr_choice.specs.Preference.{order_of}
-use Rattle.ccr_resolve.specs.NodeBound.{product}
 use Rattle.ccr_resolve.specs.Chosen.{IsChosen}
 use Rattle.ccr_resolve.specs.declared.chosen.Chosen.{Chosen}
 use Rattle.ccr_resolve.specs.declared.chosen.Chosen.TheVariants.{Best, Nothing, OverBudget}
 use Rattle.ccr_explain.specs.declared.demand.Demand.{Demand}
 use Rattle.ccr_explain.specs.declared.demand.Demand.TheVariants.{Allowed, Passed}
 use Rattle.ccr_explain.specs.Demand.{IsDemandOf, Meets, MeetsAll, CanBeMet, ExcludeEachOther}
-use Rattle.ccr_explain.specs.Cut.{is_allowed_of, is_passed_of, jobs_left, place_in, top_for, cut_input, cut_from, has_place_of, names, is_of_use, order_left, inputs_cut, problem_with, IsTop, SuitsInputs, IsNarrowed, IsChosenOfCut}
+use Rattle.ccr_explain.specs.Cut.{is_allowed_of, is_passed_of, jobs_left, place_in, top_for, cut_input, cut_from, has_place_of, names, is_of_use, order_left, inputs_cut, problem_with, IsTop, SuitsInputs, IsNarrowed, IsChosenOfCut, IsOverAt}
 use Rattle.std.proofs.lemmas.List.Folds.{list_all-map}
 use Rattle.ccr_explain.proofs.Lists.{contains_map, contains_filter, from_filter, all_passing}
 use Rattle.ccr_explain.proofs.Orders.{has, has_it, it_has, place_below, place_at}
-use Rattle.ccr_explain.proofs.CutRules.{builds_places, order_there, order_within, length_cut, cut_rules, product_left}
+use Rattle.ccr_explain.proofs.CutRules.{builds_places, order_there, order_within, length_cut, cut_rules}
 use Rattle.ccr_explain.proofs.NarrowLaws.{narrowed_long, suits_fewer, suits_more, suits, satisfies}
 
 -- ---- which demands there are, as tests
@@ -299,7 +298,7 @@ module _ (ds : List Demand) (top : ℕ) (p : ProblemValue) (rules : is_problem p
 abbrev pub IsToldBy : ProblemValue → List Demand → ℕ → Chosen → Type 0
 IsToldBy p ds budget (Best c) = CanBeMet p ds
 IsToldBy p ds budget Nothing = ExcludeEachOther p ds
-IsToldBy p ds budget (OverBudget n) = budget < product p.jobs
+IsToldBy p ds budget (OverBudget n) = IsOverAt ds p budget
 
 pub chosen_tells : (ds : List Demand) (p : ProblemValue) → All (IsDemandOf p) ds → (budget : ℕ) (x y : Chosen) → IsChosenOfCut ds p budget x → x ≡ y → IsToldBy p ds budget y
 chosen_tells ds p of_problem budget x y h same =
@@ -312,7 +311,11 @@ chosen_tells ds p of_problem budget x y h same =
         → IsChosen (order_of (problem_with ds p ys)) (problem_with ds p ys) budget y → IsToldBy p ds budget y
     told rules top isTop ys fewer (Best c) h = met_of_choice ds top p rules isTop of_problem ys fewer c.places c.builds h.satisfies
     told rules top isTop ys fewer Nothing h = none_excludes ds top p rules isTop of_problem ys fewer h
-    told rules top isTop ys fewer (OverBudget n) h = omega (arith, h.1.product, product_left ds p ys rules)
+    told rules top isTop ys fewer (OverBudget n) h = record {
+      cut = problem_with ds p ys;
+      is_cut = record { rules = rules; top = top; is_top = isTop; inputs = ys; narrowed = fewer; is = refl };
+      below = h.1;
+    }
 
 -- ---- a build of use, by the inputs that name its job
 -- where these are given by their names, a build is of use to them all exactly where it is of use

@@ -8,16 +8,14 @@ use Rattle.std.proofs.lemmas.List.Elements.{All-nil, All-cons, All-head, All-tai
 use Rattle.ccr_choice.specs.Problem.{ProblemValue, InputValue, BuildValue, no_input, input_at, builds_at, next_used, used_after, scopes_after, jobs_after, are_numbered, are_distinct, are_places_after, are_pairs_after, is_after, is_input, are_inputs, is_build, are_builds_below, are_builds, is_problem}
 use Rattle.ccr_choice.proofs.Bounds.{rules_of, builds_kept}
 use Rattle.ccr_choice.proofs.Numbering.{named_below}
-use Rattle.std.proofs.Math.Nat.{mul-le-mul_left, mul-le-mul_right}
 use Rattle.ccr_choice.specs.Ascending.{AreRising}
 use Rattle.ccr_choice.proofs.Lookups.{places_rise}
-use Rattle.ccr_resolve.specs.NodeBound.{product}
 use Rattle.ccr_explain.specs.declared.demand.Demand.{Demand}
 use Rattle.ccr_explain.specs.Cut.{is_allowed_of, is_passed_of, jobs_left, with_job, with_jobs, order_from, place_in, top_for, cut_input, cut_from, is_of_use, builds_from, order_left, inputs_cut, problem_with, IsNarrowed}
 use Rattle.ccr_explain.specs.WhyNot.{narrowed_from}
 use Rattle.ccr_explain.proofs.WhyLaws.{narrowed_rules, length_narrowed}
 use Rattle.ccr_explain.proofs.Lists.{length_filter, all_contained, from_filter}
-use Rattle.ccr_explain.proofs.Orders.{has, has_it, Grows, grows_none, grows_twice, grown_has, grows_jobs, jobs_there, all_jobs, Distinct, none, distinct_jobs, few_distinct, product_within, distinct_left, place_below, place_front, place_new}
+use Rattle.ccr_explain.proofs.Orders.{has, has_it, Grows, grows_none, grows_twice, grown_has, grows_jobs, jobs_there, all_jobs, Distinct, none, distinct_jobs, few_distinct, distinct_left, place_below, place_front, place_new}
 
 -- ---- places
 top_for-le : (top : ℕ) (js : List ℕ) → 1 ≤ top → top_for js top ≤ top
@@ -97,18 +95,6 @@ pub order_known : (ds : List Demand) (p : ProblemValue) (order : List ℕ) → i
 order_known ds p order rules e =
     let P : List ℕ → Type 0 = λ xs. EachIndex xs (λ k. slice_index xs k < length p.jobs) in
     subst P (sym e) (λ k within. All-get_or (λ j. j < length p.jobs) (order_left ds p) k 0 within (order_within ds p rules))
-
-fewer_product : (p : ProblemValue) (xs : List InputValue) (n : ℕ) (order : List ℕ) → product (builds_from p xs n order) ≤ product (map (builds_at p) order)
-fewer_product p xs n [] = omega arith
-fewer_product p xs n (j ∷ order) =
-    let kept = filter (is_of_use xs n) (builds_at p j) in
-    let less : 1 + length kept ≤ 1 + length (builds_at p j) = omega (arith, length_filter (is_of_use xs n) (builds_at p j)) in
-    omega (arith, mul-le-mul_left (1 + length kept) (fewer_product p xs (n + 1) order), mul-le-mul_right (product (map (builds_at p) order)) less)
-
-pub product_left : (ds : List Demand) (p : ProblemValue) (xs : List InputValue) → is_problem p ≡ true → product (problem_with ds p xs).jobs ≤ product p.jobs
-unfolding problem_with order_left
-product_left ds p xs rules =
-    omega (arith, fewer_product p xs 0 (order_left ds p), product_within p.jobs (order_left ds p) (distinct_order ds 0 [] p.inputs none) (order_within ds p rules))
 
 -- ---- the new numbers
 module _ (final : List ℕ) (few : length final ≤ 32) where

@@ -1,15 +1,13 @@
 -- Jobs in order of first mention: each once, and numbered by how many stand before it.
-use Rattle.std.proofs.Common.{◌≡◌, ◌≢◌, ℕ, zero, suc, ◌+◌, ◌*◌, ◌<◌, ◌≤◌, inl, inr, Bool, true, false, not, ◌==◌, List, [], ◌∷◌, ◌++◌, length, map, replicate, slice_index, slice_index_or, slice_set, refl, sym, ap, ◌∙◌, subst, arith}
+use Rattle.std.proofs.Common.{◌≡◌, ◌≢◌, ℕ, zero, suc, ◌+◌, ◌<◌, ◌≤◌, inl, inr, Bool, true, false, not, ◌==◌, List, [], ◌∷◌, ◌++◌, length, map, replicate, slice_index, slice_set, refl, sym, ap, ◌∙◌, subst, arith}
 use Rattle.std.specs.Prelude.{All, Contains, filter, sum_by}
 use Rattle.std.specs.List.{list_any}
-use Rattle.std.proofs.Math.Nat.{mul_left_comm, mul-le-mul_left}
 use Rattle.std.proofs.lemmas.Bool.{cases_Bool, cond-true, cond-false, and_parts, and_from, or_left, or_right, not_from_false, not-true, eqb-true, eqb-false, eq-eqb, false_from_ne_true, false≢true}
 use Rattle.std.proofs.lemmas.List.{append-nil, append_assoc, length-set, get_or-set_other, get_or-replicate, length-replicate}
 use Rattle.std.proofs.lemmas.List.Elements.{All-cons, All-head, All-tail, Contains-append_left, Contains-push, Contains-push_cases}
 use Rattle.std.proofs.lemmas.List.Sums.{sum_by-cons, sum_by-set}
-use Rattle.ccr_choice.specs.Problem.{BuildValue, are_distinct}
+use Rattle.ccr_choice.specs.Problem.{are_distinct}
 use Rattle.ccr_choice.proofs.Members.{contains_none, contains_first, contains_later, contains_cases, tests_contains, same_number}
-use Rattle.ccr_resolve.specs.NodeBound.{product}
 use Rattle.ccr_explain.specs.Cut.{with_job, with_jobs, place_in}
 use Rattle.ccr_explain.proofs.Lists.{from_filter}
 
@@ -191,37 +189,6 @@ pub few_distinct : (n : ℕ) (order : List ℕ) → Distinct order → All (λ j
 few_distinct n order d all =
     let P : ℕ → Type 0 = λ m. All (λ k. k < m) order in
     omega (arith, sum_within (replicate n 1) order d (subst P (sym (length-replicate n 1)) all), sum_ones n, ones n order all)
-
-abbrev at : List (List BuildValue) → ℕ → List BuildValue
-at js j = slice_index_or js j []
-
-product_set : (js : List (List BuildValue)) (j : ℕ) → j < length js → product js ≡ (1 + length (at js j)) * product (slice_set js j [])
-product_set [] j inside = absurd (omega arith)
-product_set (job ∷ js) zero inside = omega arith
-product_set (job ∷ js) (suc j) inside =
-    ap (λ n. (1 + length job) * n) (product_set js j (omega arith))
-    ∙ mul_left_comm (1 + length job) (1 + length (at js j)) (product (slice_set js j []))
-
-at_apart : (js : List (List BuildValue)) (j : ℕ) (order : List ℕ) → (Contains order j → ⊥) → map (at (slice_set js j [])) order ≡ map (at js) order
-at_apart js j [] apart = refl
-at_apart js j (k ∷ order) apart =
-    let differs : k ≢ j = λ e. (let P : ℕ → Type 0 = λ n. Contains (n ∷ order) j in apart (subst P (sym e) (contains_first j order))) in
-    ap (λ x. x ∷ map (at (slice_set js j [])) order) (get_or-set_other js j k [] [] differs)
-    ∙ ap (λ xs. at js k ∷ xs) (at_apart js j order (λ h. apart (contains_later k j order h)))
-
--- the product over some jobs, each once, is no more than that over all
-pub product_within : (js : List (List BuildValue)) (order : List ℕ) → Distinct order → All (λ j. j < length js) order → product (map (at js) order) ≤ product js
-product_within js [] d all = positive js
-  where
-    positive : (js : List (List BuildValue)) → 1 ≤ product js
-    positive [] = omega arith
-    positive (job ∷ js) = let rest = positive js in omega (arith, rest, mul-le-mul_left (1 + length job) rest)
-product_within js (j ∷ order) (more apart d) all =
-    let inside : j < length js = All-head (λ k. k < length js) j order all in
-    let P : ℕ → Type 0 = λ n. All (λ k. k < n) order in
-    let rest = product_within (slice_set js j []) order d (subst P (sym (length-set js j [])) (All-tail (λ k. k < length js) j order all)) in
-    let here : product (map (at js) order) ≤ product (slice_set js j []) = omega (arith, rest, ap product (at_apart js j order apart)) in
-    omega (arith, product_set js j inside, mul-le-mul_left (1 + length (at js j)) here)
 
 -- ---- distinct numbers stay so
 distinct_filter : (test : ℕ → Bool) (xs : List ℕ) → are_distinct xs ≡ true → are_distinct (filter test xs) ≡ true

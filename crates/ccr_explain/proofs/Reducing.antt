@@ -7,13 +7,12 @@ use Rattle.std.proofs.lemmas.List.Edits.{length-remove, get_or-remove_below, get
 use Rattle.std.proofs.lemmas.List.Elements.{All-contains}
 use Rattle.ccr_choice.specs.Problem.{ProblemValue, ChoiceValue}
 use Rattle.ccr_choice.proofs.Members.{contains_none, contains_first, contains_later, contains_cases}
-use Rattle.ccr_resolve.specs.NodeBound.{product}
 use Rattle.ccr_explain.specs.declared.demand.Demand.{Demand}
 use Rattle.ccr_explain.specs.declared.demand.Demand.TheVariants.{Allowed}
 use Rattle.ccr_explain.specs.Demand.{IsDemandOf, Meets, CanBeMet, ExcludeEachOther}
 use Rattle.ccr_explain.specs.declared.met.Met.{Met}
 use Rattle.ccr_explain.specs.declared.met.Met.TheVariants.{Yes, No, OverBudget}
-use Rattle.ccr_explain.specs.Cut.{IsMet}
+use Rattle.ccr_explain.specs.Cut.{IsOver, IsMet}
 use Rattle.ccr_explain.specs.Clash.{IsClash, IsClashWithin}
 use Rattle.ccr_explain.specs.Reduced.{ReductionValue, AreNeeded, marked, IsReduced}
 use Rattle.ccr_explain.proofs.Lists.{all_contained}
@@ -83,6 +82,11 @@ module _ (p : ProblemValue) (budget : ℕ) (r : ReductionValue) (so : IsReduced 
   abbrev k : ℕ
   k = r.next
 
+  -- the others are demands of the problem
+  pub others_are : All (IsDemandOf p) (remove r.demands k)
+  others_are =
+      all_contained (IsDemandOf p) (remove r.demands k) (λ d h. All-contains (IsDemandOf p) r.demands d so.clash.demands (remove_has r.demands k d inside h))
+
   -- the next demand is left out
   pub stays_out : ExcludeEachOther p (remove r.demands k) → IsReduced p budget (record r { demands = remove r.demands k; is_needed = remove r.is_needed k })
   stays_out exclude =
@@ -90,7 +94,7 @@ module _ (p : ProblemValue) (budget : ℕ) (r : ReductionValue) (so : IsReduced 
       let marks_long = length-remove r.is_needed k (omega (arith, so.long)) in
       record {
         clash = record {
-          demands = all_contained (IsDemandOf p) (remove r.demands k) (λ d h. All-contains (IsDemandOf p) r.demands d so.clash.demands (remove_has r.demands k d inside h));
+          demands = others_are;
           exclude = exclude;
         };
         long = omega (arith, so.long, long, marks_long);
@@ -132,7 +136,7 @@ module _ (p : ProblemValue) (budget : ℕ) (r : ReductionValue) (so : IsReduced 
   }
 
   -- it can't be told, and it is kept
-  pub is_open : budget < product p.jobs → IsReduced p budget (record r { next = k + 1; is_irreducible = false })
+  pub is_open : IsOver p budget → IsReduced p budget (record r { next = k + 1; is_irreducible = false })
   is_open low = record { clash = so.clash; long = so.long; needed = so.needed; tried = λ is. absurd (false≢true is); perhaps = λ e. low }
 
 -- ---- what was told of the others
@@ -148,8 +152,10 @@ told_yes p budget ds asked met c same told is =
     let Q : List Demand → Type 0 = λ xs. CanBeMet p xs in
     subst Q same (subst P is told)
 
-pub told_over : (p : ProblemValue) (budget : ℕ) (ds : List Demand) (met : Met) → IsMet p ds budget met → met ≡ OverBudget → budget < product p.jobs
-told_over p budget ds met told is = let P : Met → Type 0 = λ x. IsMet p ds budget x in subst P is told
+pub told_over : (p : ProblemValue) (budget : ℕ) (ds : List Demand) (met : Met) → All (IsDemandOf p) ds → IsMet p ds budget met → met ≡ OverBudget → IsOver p budget
+told_over p budget ds met all told is =
+    let P : Met → Type 0 = λ x. IsMet p ds budget x in
+    record { asked = ds; demands = all; over = subst P is told }
 
 -- the same parts
 pub same_parts : (p : ProblemValue) (budget : ℕ) (r : ReductionValue) (ds : List Demand) (marks : List Bool) (next : ℕ) (known : Bool) → IsReduced p budget r

@@ -138,7 +138,7 @@ why_shown p q places i place budget e inside same h =
     of : (e : Explanation) → IsExplanation (order_of (asked (order_of p) p places i place)) (asked (order_of p) p places i place) budget e → IsWhyNot (order_of p) p places i place budget e
     of (Clash c) h = (clash_shows (order_of p) p places i place c.demands h.clash, h)
     of (Fits c) h = takes_of (order_of p) p places i place inside c.places c.builds h.satisfies
-    of (OverBudget n) h = (h.0, h.1.product)
+    of (OverBudget n) h = h
 
 pub why_result : {E : Type 0} (p q : ProblemValue) (places : List ℕ) (i place budget : ℕ) (r : Result Explanation E) → i < length p.inputs → q ≡ asked (order_of p) p places i place
     → IfOk r (IsExplanation (order_of q) q budget) → IfOk r (IsWhyNot (order_of p) p places i place budget)

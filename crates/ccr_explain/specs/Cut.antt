@@ -1,9 +1,10 @@
--- A problem cut to some of its demands, so that the resolver can be asked. No public contract names these.
+-- A problem cut to some of its demands, so that the resolver can be asked. Public contracts name these only where such a question was over
+-- its budget.
 use Rattle.std.specs.Prelude.{◌≡◌, ℕ, suc, ◌+◌, ◌<◌, ◌≤◌, List, [], ◌∷◌, ◌++◌, length, map, filter, slice_index, slice_index_or, Bool, false, not, ◌&&◌, ◌||◌, ◌==◌, if◌then◌else◌, IsTrue, All, Contains}
 use Rattle.std.specs.List.{list_any, list_all, range_with_len}
 use Rattle.ccr_choice.specs.Problem.{ProblemValue, InputValue, BuildValue, no_input, builds_at, IsProblem}
 use Rattle.ccr_choice.specs.Satisfies.{Moved}
-use Rattle.ccr_resolve.specs.NodeBound.{product}
+use Rattle.ccr_resolve.specs.NodeBound.{IsBelowNodeBound}
 use Rattle.ccr_explain.specs.declared.demand.Demand.{Demand}
 use Rattle.ccr_explain.specs.declared.table.Table.{Table}
 use Rattle.ccr_explain.specs.declared.demand.Demand.TheVariants.{Allowed, Passed}
@@ -16,8 +17,8 @@ use Rattle.ccr_explain.specs.declared.cut.Cut.{Cut}
 use Rattle.ccr_explain.specs.declared.cut.Cut.TheVariants.{Left, Met as CutMet, Emptied}
 use Rattle.ccr_explain.specs.declared.met.Met.{Met}
 use Rattle.ccr_explain.specs.declared.met.Met.TheVariants.{Yes, No, OverBudget}
-use Rattle.ccr_explain.specs.Demand.{CanBeMet, ExcludeEachOther}
-use Rattle.ccr_explain.specs.WhyNot.{narrowed_from}
+use Rattle.ccr_explain.specs.Demand.{IsDemandOf, CanBeMet, ExcludeEachOther}
+use Rattle.ccr_explain.specs.Narrowed.{narrowed_from}
 
 -- Whether a demand is that of the allowed places of input i.
 abbrev pub is_allowed_of : ℕ → Demand → Bool
@@ -187,9 +188,20 @@ pub record IsChosenOfCut (ds : List Demand) (p : ProblemValue) (budget : ℕ) (x
   pub is_cut : IsCutTo ds p cut
   pub chosen : IsChosen (order_of cut) cut budget x
 
--- Whether some choice meets these demands; it is left open only where the budget is less than the product, over the named
--- jobs, of one plus the number of successful builds.
+-- A budget doesn't suffice to tell whether some choice meets these demands: it is below the node bound of the problem that is cut to them.
+pub record IsOverAt (ds : List Demand) (p : ProblemValue) (budget : ℕ) : Type 0 where
+  pub cut : ProblemValue
+  pub is_cut : IsCutTo ds p cut
+  pub below : IsBelowNodeBound (order_of cut) cut budget
+
+-- A budget doesn't suffice to tell whether some choice meets demands of the problem that were asked about.
+pub record IsOver (p : ProblemValue) (budget : ℕ) : Type 0 where
+  pub asked : List Demand
+  pub demands : All (IsDemandOf p) asked
+  pub over : IsOverAt asked p budget
+
+-- Whether some choice meets these demands; it is left open only where the budget doesn't suffice to tell.
 abbrev pub IsMet : ProblemValue → List Demand → ℕ → Met → Type 0
 IsMet p ds budget (Yes c) = CanBeMet p ds
 IsMet p ds budget No = ExcludeEachOther p ds
-IsMet p ds budget OverBudget = budget < product p.jobs
+IsMet p ds budget OverBudget = IsOverAt ds p budget

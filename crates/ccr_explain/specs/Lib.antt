@@ -1,4 +1,5 @@
 pub mod Demand
+pub mod Narrowed
 pub mod ClashValue
 pub mod Clash
 pub mod WhyNot

@@ -1,10 +1,10 @@
 -- Demands that exclude each other, of which one after the other is left out. No public contract names these.
 use Rattle.std.specs.Prelude.{◌≡◌, ℕ, ◌<◌, List, [], ◌∷◌, length, remove, slice_index_or, Bool, false, if◌then◌else◌, IsTrue}
 use Rattle.ccr_choice.specs.Problem.{ProblemValue}
-use Rattle.ccr_resolve.specs.NodeBound.{product}
 use Rattle.ccr_explain.specs.declared.demand.Demand.{Demand}
 use Rattle.ccr_explain.specs.Demand.{CanBeMet}
 use Rattle.ccr_explain.specs.Clash.{IsClash}
+use Rattle.ccr_explain.specs.Cut.{IsOver}
 
 -- Demands, which of them are known to be needed, how many were tried, and whether all of these are needed.
 pub record ReductionValue : Type 0 where
@@ -29,4 +29,4 @@ pub record IsReduced (p : ProblemValue) (budget : ℕ) (r : ReductionValue) : Ty
   pub long : length r.is_needed ≡ length r.demands
   pub needed : AreNeeded p r.demands r.is_needed
   pub tried : IsTrue r.is_irreducible → (m : ℕ) → m < r.next → m < length r.demands → CanBeMet p (remove r.demands m)
-  pub perhaps : r.is_irreducible ≡ false → budget < product p.jobs
+  pub perhaps : r.is_irreducible ≡ false → IsOver p budget

@@ -1,12 +1,13 @@
 -- Why an input doesn't take a place that is preferred to the one it has.
-use Rattle.std.specs.Prelude.{◌≡◌, ℕ, ◌+◌, ◌<◌, List, [], ◌∷◌, slice_index, filter, Bool, true, not, nat_lt, ◌==◌, IsTrue, if◌then◌else◌}
-use Rattle.ccr_choice.specs.Problem.{ProblemValue, InputValue}
+use Rattle.std.specs.Prelude.{◌≡◌, ℕ, ◌<◌, List, slice_index, Bool, true, not, nat_lt, ◌==◌, IsTrue, if◌then◌else◌}
+use Rattle.ccr_choice.specs.Problem.{ProblemValue}
 use Rattle.ccr_choice.specs.Satisfies.{Satisfies}
-use Rattle.ccr_choice.specs.Preference.{Preference}
-use Rattle.ccr_resolve.specs.NodeBound.{product}
+use Rattle.ccr_choice.specs.Preference.{Preference, order_of}
+use Rattle.ccr_resolve.specs.NodeBound.{IsBelowNodeBound}
 use Rattle.ccr_explain.specs.declared.explanation.Explanation.{Explanation}
 use Rattle.ccr_explain.specs.declared.explanation.Explanation.TheVariants.{Clash, Fits, OverBudget}
 use Rattle.ccr_explain.specs.Clash.{IsClashWithin}
+pub use Rattle.ccr_explain.specs.Narrowed.{narrowed_from}
 
 -- Other places and builds take a place at input i without an input before it getting worse: they satisfy the problem, and at
 -- no input before i is its place in the choice preferred to the other.
@@ -27,20 +28,15 @@ abbrev pub may_take : Preference → List ℕ → ℕ → ℕ → ℕ → ℕ �
 may_take prefers places i place k x =
     if nat_lt k i then not (prefers k (slice_index places k) x) else (if k == i then x == place else true)
 
--- Input k and the inputs behind it, with those of their allowed places that they may take.
-abbrev pub narrowed_from : (ℕ → ℕ → Bool) → ℕ → List InputValue → List InputValue
-narrowed_from may k [] = []
-narrowed_from may k (x ∷ xs) = record x { places = filter (may k) x.places } ∷ narrowed_from may (k + 1) xs
-
 -- The problem in which input i takes a place and no input before it gets worse.
 abbrev pub asked : Preference → ProblemValue → List ℕ → ℕ → ℕ → ProblemValue
 asked prefers p places i place = record p { inputs = narrowed_from (may_take prefers places i place) 0 p.inputs }
 
 -- A clash shows that the place can't be taken: it is one of the problem in which it is, so there is no such choice. A choice
--- that fits takes the place. Over budget names the budget, which is less than the product, over the named jobs, of one plus
--- the number of successful builds.
+-- that fits takes the place. Over budget names the budget, which is below the node bound of the problem in which it is.
 abbrev pub IsWhyNot : Preference → ProblemValue → List ℕ → ℕ → ℕ → ℕ → Explanation → Type 0
 IsWhyNot prefers p places i place budget (Clash c) =
     CannotTake prefers p places i place × IsClashWithin (asked prefers p places i place) budget c
 IsWhyNot prefers p places i place budget (Fits c) = TakesPlace prefers p places i place c.places c.builds
-IsWhyNot prefers p places i place budget (OverBudget n) = (n ≡ budget) × (budget < product p.jobs)
+IsWhyNot prefers p places i place budget (OverBudget n) =
+    let q = asked prefers p places i place in (n ≡ budget) × IsBelowNodeBound (order_of q) q budget

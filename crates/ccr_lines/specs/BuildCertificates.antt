@@ -73,7 +73,8 @@ IsSaidOf q jobs places status lines =
     ⊎ ((j : ℕ) × (job : Text) × IsFirstFailure (length q.jobs) (λ k. IsSome (witness q places k)) j
     × (slice_get jobs j ≡ Some job) × IsRefused (not_together job) status lines)
 
--- the problem of these inputs, which the build took, with the builds that were made before it, and with its places
+-- the problem of these inputs, which the build took, with the builds that were made before it and have succeeded by now, and
+-- with its places
 abbrev pub IsTakenShown : PipelineData → HistoryData → List BuildData → List InputData → List UsedData → ℕ → Text → Type 0
 IsTakenShown p h before is used status lines =
     (places : List ℕ) × (map Some places ≡ map (place_for p h used) is)

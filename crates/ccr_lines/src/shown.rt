@@ -33,7 +33,8 @@ pub enum Shown<'a> {
     Build(&'a str, u32, Form),
     /// The builds that took or moved a version of the resource of this name that meets this JSON text.
     Trace(&'a str, &'a str, Form),
-    /// What the job's build of this number took, in one text, of which the checker says that it satisfies.
+    /// What the job's build of this number took, in one text, of which the checker says that it satisfies: by today's plan, it went together
+    /// through builds that were made before and have succeeded.
     BuildCertificate(&'a str, u32),
 }
 

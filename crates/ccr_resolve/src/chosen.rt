@@ -31,8 +31,10 @@ pub enum Chosen {
 }
 
 /// The best choice that satisfies the problem of an index, or that none does, rightly so; or that the budget, from 1 to
-/// 1,000,000, is over, only where it is below the node bound of the problem. It is the answer of [`crate::resolve_indexed`]
-/// without the proof. The only error is out of memory.
+/// 1,000,000, is over, only where it is below the node bound of the problem. The only error is out of memory.
+///
+/// Where [`crate::resolve_indexed`] answers too, it has the same places, since the best choice is one list; its builds may be
+/// others. With a small budget one of the two may be over it and the other not, since they look at different boxes.
 ///
 /// Where a job has few builds that can be part of a better choice than the one found, it goes into these alone, and into no
 /// build that a newer one dominates.

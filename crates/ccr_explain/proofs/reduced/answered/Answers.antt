@@ -3,7 +3,7 @@ use Rattle.std.specs.Prelude.{remove}
 use Rattle.ccr_explain.specs.declared.demand.Demand.{Demand}
 use Rattle.ccr_explain.specs.Cut.{IsMet}
 use Rattle.ccr_explain.specs.Reduced.{ReductionValue, AreNeeded, IsReduced}
-use Rattle.ccr_explain.proofs.Reducing.{stays_out, is_kept, is_open, told_no, told_yes, told_over, same_parts}
+use Rattle.ccr_explain.proofs.Reducing.{others_are, stays_out, is_kept, is_open, told_no, told_yes, told_over, same_parts}
 use Rattle.ccr_explain.proofs.reduced.answered.Goals.{in-No, in-Yes+in_ok-mark_needed-in-Yes, in-OverBudget}
 use Rattle.ccr_explain.proofs.reduced.answered.Goals as goal
 
@@ -33,6 +33,6 @@ returns-clause-reduced c =
           (subst N w.deref.ensures.value w.in_ok-mark_needed-in-Yes.ensures.needed))
           (ap (λ v. v.items) w.demands-is) (ap (λ v. v.items) w.is_needed-is) w.after-is w.is_irreducible-is)
       | in-OverBudget w ↦
-          same_parts p budget _ end.demands.items end.is_needed.items end.after end.is_irreducible (is_open p budget r so inside (told_over p budget others c.args.met told w.in-OverBudget.is))
+          same_parts p budget _ end.demands.items end.is_needed.items end.after end.is_irreducible (is_open p budget r so inside (told_over p budget others c.args.met (others_are p budget r so inside) told w.in-OverBudget.is))
           (ap (λ v. v.items) w.demands-is) (ap (λ v. v.items) w.is_needed-is) w.after-is w.is_irreducible-is
     ]
