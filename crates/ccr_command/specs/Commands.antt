@@ -32,6 +32,15 @@ form_named (Some given) = if bytes_eq given (codes "true") then Json else Lines
 abbrev pub form_in : List Row → Form
 form_in values = form_named (first_of (codes "json") values)
 
+-- a resource whose versions are shown, where its name has a value
+abbrev pub versions_named : Form → Option Text → Option CommandData
+versions_named form resource = option_map (λ name. shows (versions form name)) resource
+
+-- the builds that are shown: of a job, where it has a value; the newest ones, where their number has one and is in its range
+abbrev pub builds_named : Form → Option Text → Option Text → Option CommandData
+builds_named form job None = Some (shows (builds form job None))
+builds_named form job (Some count) = option_map (λ n. shows (builds form job (Some n))) (number_of count)
+
 -- a build that is shown, where both its arguments have a value and its number is in its range
 abbrev pub build_named : Form → Option Text → Option Text → Option CommandData
 build_named form (Some job) (Some number) = option_map (λ n. shows (build form job n)) (number_of number)
@@ -59,7 +68,7 @@ command_named word values =
     if bytes_eq word (codes "set-pipeline") then option_map set_pipeline (first_of (codes "FILE") values)
     else if bytes_eq word (codes "check-resource") then option_map check_resource (first_of (codes "NAME") values)
     else if bytes_eq word (codes "resource-versions")
-    then option_map (λ resource. shows (versions resource)) (first_of (codes "NAME") values)
+    then versions_named (form_in values) (first_of (codes "NAME") values)
     else if bytes_eq word (codes "pin-resource") then pin_named (first_of (codes "NAME") values) (first_of (codes "JSON") values)
     else if bytes_eq word (codes "unpin-resource") then option_map unpin_resource (first_of (codes "NAME") values)
     else if bytes_eq word (codes "disable-resource-version")
@@ -69,7 +78,8 @@ command_named word values =
     else if bytes_eq word (codes "resolve") then option_map (λ job. shows (proof job)) (first_of (codes "JOB") values)
     else if bytes_eq word (codes "problem") then option_map (λ job. shows (problem job)) (first_of (codes "JOB") values)
     else if bytes_eq word (codes "trigger-job") then option_map trigger_job (first_of (codes "JOB") values)
-    else if bytes_eq word (codes "builds") then Some (shows builds)
+    else if bytes_eq word (codes "builds")
+    then builds_named (form_in values) (first_of (codes "job") values) (first_of (codes "count") values)
     else if bytes_eq word (codes "run") then run_named (first_of (codes "rounds") values)
     else if bytes_eq word (codes "certify")
     then certify_named (first_of (codes "JOB") values) (first_of (codes "N") values)

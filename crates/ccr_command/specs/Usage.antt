@@ -55,7 +55,7 @@ abbrev pub resource_commands : List Shape
 resource_commands =
     command_shape (codes "set-pipeline") (value_rule (codes "FILE") ∷ [])
     ∷ command_shape (codes "check-resource") (value_rule (codes "NAME") ∷ [])
-    ∷ command_shape (codes "resource-versions") (value_rule (codes "NAME") ∷ [])
+    ∷ command_shape (codes "resource-versions") (value_rule (codes "NAME") ∷ flag_rule (codes "json") ∷ [])
     ∷ command_shape (codes "pin-resource") (value_rule (codes "NAME") ∷ value_rule (codes "JSON") ∷ [])
     ∷ command_shape (codes "unpin-resource") (value_rule (codes "NAME") ∷ [])
     ∷ command_shape (codes "disable-resource-version")
@@ -71,7 +71,8 @@ job_commands =
     ∷ command_shape (codes "problem") (value_rule (codes "JOB") ∷ [])
     ∷ command_shape (codes "trigger-job") (value_rule (codes "JOB") ∷ [])
     ∷ command_shape (codes "abort-build") (value_rule (codes "JOB") ∷ as_number (value_rule (codes "N")) ∷ [])
-    ∷ command_shape (codes "builds") []
+    ∷ command_shape (codes "builds")
+    (option_rule (codes "job") ∷ as_number (option_rule (codes "count")) ∷ flag_rule (codes "json") ∷ [])
     ∷ command_shape (codes "run") (as_number (required_rule (codes "rounds")) ∷ [])
     ∷ []
 

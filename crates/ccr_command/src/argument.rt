@@ -22,8 +22,8 @@ pub(crate) fn extra<'a>(alloc: Global, id: &'a str, help: &'a str) -> Arg<'a>
     Arg::new(alloc, id).help(help)
 }
 
-/// An option, which is named by two dashes and its id.
-fn option<'a>(alloc: Global, id: &'a str, value: &'a str, help: &'a str) -> Arg<'a>
+/// An option, which is named by two dashes and its id; it may be left out.
+pub(crate) fn option<'a>(alloc: Global, id: &'a str, value: &'a str, help: &'a str) -> Arg<'a>
     ensures rule { rule_of result ≡ option_rule id.now }
     ensures local { result.global ≡ false }
 {

@@ -2,7 +2,7 @@
 ghost use Rattle.std.specs.Prelude.{◌≡◌, Some, IfOk, codes, option_map, string_bytes};
 ghost use Rattle.clap.specs.Words.{first_of, found_of, rows_of};
 ghost use Rattle.ccr_core.specs.Commands.{command_data, disable_version, enable_version};
-ghost use Rattle.ccr_command.specs.Commands.{pin_named, place_named, run_named, form_in, build_named, explain_named, trace_named, command_named, command_in};
+ghost use Rattle.ccr_command.specs.Commands.{pin_named, place_named, run_named, form_in, versions_named, builds_named, build_named, explain_named, trace_named, command_named, command_in};
 
 use crate::abort::text_of;
 use crate::certify::certify_of;
@@ -170,6 +170,44 @@ fn trace_of(alloc: Global, values: &ArgMatches<'_>) -> Result<Option<Command>, A
     }
 }
 
+/// The resource of these values, whose versions are to be shown; None where it is absent.
+fn versions_of(alloc: Global, values: &ArgMatches<'_>) -> Result<Option<Command>, AllocError>
+    ensures { IfOk result (λ command. option_map command_data command
+        ≡ versions_named (form_in (rows_of (found_of values.now))) (first_of (codes "NAME") (rows_of (found_of values.now)))) }
+{
+    let form = form_of(values);
+    match value_of(alloc, values, "NAME")? {
+        Some(resource) => Ok(Some(Command::ResourceVersions(resource, form))),
+        None => Ok(None),
+    }
+}
+
+/// The newest builds, of a job if one is named, so many as was typed, which are to be shown; None where the number is out of
+/// its range.
+fn counted(form: Form, job: Option<String>, count: &str) -> Option<Command>
+    ensures { option_map command_data result
+        ≡ builds_named form (option_map string_bytes job) (Some count.now) }
+{
+    match number_of(count) {
+        Some(count) => Some(Command::Builds(job, Some(count), form)),
+        None => None,
+    }
+}
+
+/// The builds of these values, which are to be shown; None where their number is out of its range.
+fn builds_of(alloc: Global, values: &ArgMatches<'_>) -> Result<Option<Command>, AllocError>
+    ensures { IfOk result (λ command. option_map command_data command
+        ≡ builds_named (form_in (rows_of (found_of values.now))) (first_of (codes "job") (rows_of (found_of values.now)))
+        (first_of (codes "count") (rows_of (found_of values.now)))) }
+{
+    let form = form_of(values);
+    let job = value_of(alloc, values, "job")?;
+    match value_of(alloc, values, "count")? {
+        Some(count) => Ok(counted(form, job, count.as_str())),
+        None => Ok(Some(Command::Builds(job, None, form))),
+    }
+}
+
 /// The command that a word names, with its values.
 fn named(alloc: Global, word: &str, values: &ArgMatches<'_>) -> Result<Option<Command>, AllocError>
     ensures { IfOk result (λ command.
@@ -178,7 +216,7 @@ fn named(alloc: Global, word: &str, values: &ArgMatches<'_>) -> Result<Option<Co
     match word {
         "set-pipeline" => Ok(value_of(alloc, values, "FILE")?.map(Command::SetPipeline)),
         "check-resource" => Ok(value_of(alloc, values, "NAME")?.map(Command::CheckResource)),
-        "resource-versions" => Ok(value_of(alloc, values, "NAME")?.map(Command::ResourceVersions)),
+        "resource-versions" => versions_of(alloc, values),
         "pin-resource" => pin_of(alloc, values),
         "unpin-resource" => Ok(value_of(alloc, values, "NAME")?.map(Command::UnpinResource)),
         "disable-resource-version" => disable_of(alloc, values),
@@ -186,7 +224,7 @@ fn named(alloc: Global, word: &str, values: &ArgMatches<'_>) -> Result<Option<Co
         "resolve" => Ok(value_of(alloc, values, "JOB")?.map(Command::Resolve)),
         "problem" => Ok(value_of(alloc, values, "JOB")?.map(Command::Problem)),
         "trigger-job" => Ok(value_of(alloc, values, "JOB")?.map(Command::TriggerJob)),
-        "builds" => Ok(Some(Command::Builds)),
+        "builds" => builds_of(alloc, values),
         "run" => Ok(run_of(values)),
         "certify" => certify_of(alloc, values),
         "explain" => explain_of(alloc, values),

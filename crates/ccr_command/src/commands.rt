@@ -61,26 +61,6 @@ Example:
     .arg(name)
 }
 
-/// Shows the versions of a resource.
-pub(crate) fn resource_versions<'a>(alloc: Global) -> Result<Command<'a>, AllocError>
-    ensures { IfOk result (IsCommand (codes "resource-versions") (value_rule (codes "NAME") ∷ [])) }
-{
-    let name = value(alloc, "NAME", "The resource's name");
-    command(
-        alloc,
-        "resource-versions",
-        "Shows the versions of a resource",
-        "\
-Prints `PLACE KEY` for each version: its place in the resource's version table, counted from 1, and its JSON text.
-
-Exit statuses: 0 shown; 1 refused, because there is no pipeline or no such resource; 2 usage; 4 disk or memory.
-
-Example:
-  ccr_run --db ci.db resource-versions repo",
-    )
-    .arg(name)
-}
-
 /// Pins a resource.
 pub(crate) fn pin_resource<'a>(alloc: Global) -> Result<Command<'a>, AllocError>
     ensures { IfOk result
@@ -221,24 +201,6 @@ Example:
     )
     .arg(job)?
     .arg(as_number(number))
-}
-
-/// Shows all builds.
-pub(crate) fn builds<'a>(alloc: Global) -> Command<'a>
-    ensures { IsCommand (codes "builds") [] result }
-{
-    command(
-        alloc,
-        "builds",
-        "Shows all builds",
-        "\
-Prints `JOB N STATUS` for each build, in the order in which they were made.
-
-Exit statuses: 0 shown; 2 usage; 4 disk or memory.
-
-Example:
-  ccr_run --db ci.db builds",
-    )
 }
 
 /// Runs rounds.

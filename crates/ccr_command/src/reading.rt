@@ -1,9 +1,9 @@
 //! The commands that only read, with their help.
 ghost use Rattle.std.specs.Prelude.{◌≡◌, ◌∷◌, [], false, IfOk, codes};
 ghost use Rattle.clap.specs.Words.{rule_of};
-ghost use Rattle.ccr_command.specs.Usage.{IsCommand, value_rule, extra_rule, flag_rule, as_number};
+ghost use Rattle.ccr_command.specs.Usage.{IsCommand, value_rule, extra_rule, option_rule, flag_rule, as_number};
 
-use crate::argument::{as_number, extra, flag, value};
+use crate::argument::{as_number, extra, flag, option, value};
 use crate::commands::command;
 use clap::{Arg, Command};
 use std::alloc::{AllocError, Global};
@@ -14,6 +14,65 @@ fn json<'a>(alloc: Global) -> Arg<'a>
     ensures local { result.global ≡ false }
 {
     flag(alloc, "json", "Prints JSON in place of the lines")
+}
+
+/// Shows the versions of a resource.
+pub(crate) fn resource_versions<'a>(alloc: Global) -> Result<Command<'a>, AllocError>
+    ensures { IfOk result (IsCommand (codes "resource-versions")
+        (value_rule (codes "NAME") ∷ flag_rule (codes "json") ∷ [])) }
+{
+    let name = value(alloc, "NAME", "The resource's name");
+    command(
+        alloc,
+        "resource-versions",
+        "Shows the versions of a resource",
+        "\
+Prints `PLACE KEY` for each version: its place in the resource's version table, counted from 1, and its JSON text; ` disabled`
+follows if it is disabled.
+
+With --json: one line, an array with an object for each version: `place`, `version` and `enabled`.
+
+Exit statuses: 0 shown; 1 refused, because there is no pipeline or no such resource; 2 usage; 4 disk or memory.
+
+Examples:
+  ccr_run --db ci.db resource-versions repo
+  ccr_run --db ci.db resource-versions repo --json",
+    )
+    .arg(name)?
+    .arg(json(alloc))
+}
+
+/// Shows builds.
+pub(crate) fn builds<'a>(alloc: Global) -> Result<Command<'a>, AllocError>
+    ensures { IfOk result (IsCommand (codes "builds")
+        (option_rule (codes "job") ∷ as_number (option_rule (codes "count")) ∷ flag_rule (codes "json") ∷ [])) }
+{
+    let job = option(alloc, "job", "JOB", "Only the builds of this job");
+    let count = option(
+        alloc,
+        "count",
+        "N",
+        "Only the newest N builds, from 1 to 1000000",
+    );
+    command(
+        alloc,
+        "builds",
+        "Shows builds: all, those of a job, or the newest ones",
+        "\
+Prints `JOB N STATUS` for each build, in the order in which they were made. With --count, the newest N of them; with --job too,
+the newest N of the job. A job that the pipeline no longer has is still shown, if it has builds.
+
+With --json: one line, an array with an object for each build: `job_name`, `name` (the build's number) and `status`.
+
+Exit statuses: 0 shown; 1 refused, because the pipeline has no such job and the job has no builds; 2 usage; 4 disk or memory.
+
+Examples:
+  ccr_run --db ci.db builds
+  ccr_run --db ci.db builds --job unit --count 10 --json",
+    )
+    .arg(job)?
+    .arg(as_number(count))?
+    .arg(json(alloc))
 }
 
 /// Shows the pipeline as it was set.
@@ -214,19 +273,22 @@ pub(crate) fn explain<'a>(alloc: Global) -> Result<Command<'a>, AllocError>
         "Shows what a job's next build would take, and why nothing newer",
         "\
 Prints `JOB: ` and what a schedule would say: `due`, `nothing new`, `by command only`, `none satisfies` or `over budget N`.
-Then a line for each input: its version, and the builds through which it passed the jobs that the input names. Below it stands
+Behind `nothing new` stands the build that took these versions already, and how it ended. Then a line for each input: its version, and the builds through which it passed the jobs that the input names. Below it stands
 each of the three newest versions that is newer, with the reason why it isn't taken. No build is made.
 
-  disabled                   the version is disabled
-  pinned                     a pin leaves it out
-  no build of JOB moved it   it hasn't passed this job
-  others come first          the input takes every version, and others are before it
-  clash: A, B                it can't be taken without an earlier input getting worse: these demands exclude each other
+  disabled                            the version is disabled
+  pinned by pin-resource              the pin by command leaves it out
+  pinned by the pipeline              the `version` of the get or of the resource leaves it out
+  JOB N failed, not built by JOB      it hasn't passed a job that the input names, and stopped here on the way
+  others come first                   the input takes every version, and others are before it
+  not passed JOB together with A, B   it passed the job, but in no build with what these inputs may take
+  clash: A, B                         an earlier input would get worse: these demands exclude each other
 
-Where none satisfies, the demands follow that exclude each other. If any one of them is left out, a choice satisfies the rest.
+Where none satisfies, a pin follows that no version has, or the demands that exclude each other. If any one of them is left out,
+a choice satisfies the rest.
 
-With --json: one line, an object: `job_name`, `next` (what a schedule would say), `has_new_inputs`, `inputs`, and `reason` (why
-none satisfies, or null). An input has its `name`, `resource`, `place` and `version`, in `passed` the builds through which it
+With --json: one line, an object: `job_name`, `next` (what a schedule would say), `has_new_inputs`, `inputs`, `last` (the build
+that took these versions already, where there is nothing new, or null) and `reason` (why none satisfies, or null). An input has its `name`, `resource`, `place` and `version`, in `passed` the builds through which it
 passed the jobs that it names, and in `newer` each newer version with its `place` and the `reason`.
 
 Exit statuses: 0 shown; 1 refused, because there is no pipeline or no such job; 2 usage; 3 the search would go over the

@@ -5,10 +5,12 @@ ghost use Rattle.ccr_command.specs.Usage.{program, options_line, with_all, resou
 
 use crate::argument::{as_number, optional, required};
 use crate::commands::{
-    abort_build, builds, check_resource, pin_resource, problem, resolve, resource_versions, run,
-    set_pipeline, trigger_job, unpin_resource,
+    abort_build, check_resource, pin_resource, problem, resolve, run, set_pipeline, trigger_job,
+    unpin_resource,
 };
-use crate::reading::{build, certify, explain, get_pipeline, graph, jobs, resources, trace};
+use crate::reading::{
+    build, builds, certify, explain, get_pipeline, graph, jobs, resource_versions, resources, trace,
+};
 use crate::versions::{disable_resource_version, enable_resource_version};
 use clap::Command;
 use std::alloc::{AllocError, Global};
@@ -96,7 +98,7 @@ fn with_job_commands<'a>(alloc: Global, line: Command<'a>) -> Result<Command<'a>
     let line = line.subcommand(problem(alloc)?)?;
     let line = line.subcommand(trigger_job(alloc)?)?;
     let line = line.subcommand(abort_build(alloc)?)?;
-    let line = line.subcommand(builds(alloc))?;
+    let line = line.subcommand(builds(alloc)?)?;
     line.subcommand(run(alloc)?)
 }
 

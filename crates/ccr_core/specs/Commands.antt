@@ -1,16 +1,16 @@
 -- What a server is commanded.
-use Rattle.std.specs.Prelude.{ℕ, string_bytes}
+use Rattle.std.specs.Prelude.{ℕ, Option, option_map, string_bytes}
 use Rattle.ccr_history.specs.Text.{Text}
 use Rattle.ccr_core.specs.declared.command.Command.{Command}
 use Rattle.ccr_core.specs.declared.command.Command.TheVariants as command
 use Rattle.ccr_core.specs.declared.form.Form.{Form}
 
--- what is shown: all builds, the versions of a resource, the problem of a job's next build, the proof of the choice for
+-- what is shown: builds, all or those of a job, and of them all or the newest ones; the versions of a resource, the problem of a job's next build, the proof of the choice for
 -- it, both in one text, or what it takes and why; the pipeline's text, its resources, its jobs, its graph; a build, or the builds that a
 -- version went through; a build's problem with its choice, in one text. A form says how it is shown, where there are two
 pub data ShownData : Type 0 where
-  builds : ShownData
-  versions : (resource : Text) → ShownData
+  builds : (form : Form) (job : Option Text) (count : Option ℕ) → ShownData
+  versions : (form : Form) (resource : Text) → ShownData
   problem : (job : Text) → ShownData
   proof : (job : Text) → ShownData
   certificate : (job : Text) → ShownData
@@ -39,7 +39,7 @@ pub data CommandData : Type 0 where
 abbrev pub command_data : Command → CommandData
 command_data (command.SetPipeline path) = set_pipeline (string_bytes path)
 command_data (command.CheckResource resource) = check_resource (string_bytes resource)
-command_data (command.ResourceVersions resource) = shows (versions (string_bytes resource))
+command_data (command.ResourceVersions resource form) = shows (versions form (string_bytes resource))
 command_data (command.PinResource resource pin) = pin_resource (string_bytes resource) (string_bytes pin)
 command_data (command.UnpinResource resource) = unpin_resource (string_bytes resource)
 command_data (command.DisableResourceVersion resource place) = disable_version (string_bytes resource) place
@@ -50,7 +50,7 @@ command_data (command.TriggerJob job) = trigger_job (string_bytes job)
 command_data (command.Certify job) = shows (certificate (string_bytes job))
 command_data (command.Explain job form) = shows (explanation form (string_bytes job))
 command_data (command.CertifyBuild job number) = shows (build_certificate (string_bytes job) number)
-command_data command.Builds = shows builds
+command_data (command.Builds job count form) = shows (builds form (option_map string_bytes job) count)
 command_data (command.Build job number form) = shows (build form (string_bytes job) number)
 command_data (command.Trace resource pin form) = shows (trace form (string_bytes resource) (string_bytes pin))
 command_data command.GetPipeline = shows pipeline

@@ -10,7 +10,7 @@ pub enum Command {
     /// The resource of this name is checked.
     CheckResource(String),
     /// The versions of the resource of this name are shown.
-    ResourceVersions(String),
+    ResourceVersions(String, Form),
     /// The resource of this name is pinned to the versions that meet this JSON text.
     PinResource(String, String),
     /// The pin by command of the resource of this name is taken away.
@@ -31,8 +31,8 @@ pub enum Command {
     CertifyBuild(String, u32),
     /// A build of the job of this name is made, and run to its end.
     TriggerJob(String),
-    /// All builds are shown.
-    Builds,
+    /// The builds of the job of this name are shown, or of all jobs; the newest ones, so many, or all.
+    Builds(Option<String>, Option<u32>, Form),
     /// The job's build of this number is shown: what it took and moved.
     Build(String, u32, Form),
     /// The builds are shown that took or moved a version of the resource of this name that meets this JSON text.

@@ -12,6 +12,7 @@ use Rattle.ccr_pipeline.specs.declared.resource.Resource.{Resource}
 use Rattle.ccr_core.specs.Holding.{CoreData}
 use Rattle.ccr_core.specs.State.{no_pipeline}
 use Rattle.ccr_lines.specs.Outlooks.{HasOutlook}
+use Rattle.ccr_lines.specs.Releases.{TogetherData, all_together}
 use Rattle.ccr_lines.specs.ReleaseJson.{release_shown}
 use Rattle.ccr_lines.specs.ResourcesJson.{resources_shown}
 use Rattle.ccr_core.specs.Commands.{build, resources}
@@ -34,10 +35,11 @@ made_before bs k b at =
     sym (take-append-drop k bs) ∙ ap (λ ds. take k bs ++ ds) (drop_there bs k b at)
 
 pub release_made : (f : Form) (c : CoreData) (job : Text) (number k : ℕ) (b : BuildData) (h : HistoryData)
-    (o : Option PipelineData) (lines : Text) → slice_get c.history.builds k ≡ Some b
+    (o : Option PipelineData) (ts : List TogetherData) (lines : Text) → slice_get c.history.builds k ≡ Some b
     → build_of job number c.history.builds ≡ Some b → h ≡ c.history → o ≡ c.pipeline
-    → lines ≡ release_shown f (unwrap_or o no_pipeline) h.tables (take k h.builds) b → IsMade (build f job number) c 0 lines
-release_made f c job number k b h o lines at there held set told = (
+    → ts ≡ all_together (unwrap_or o no_pipeline) (take k h.builds) b
+    → lines ≡ release_shown f h.tables b ts → IsMade (build f job number) c 0 lines
+release_made f c job number k b h o ts lines at there held set gone told = (
   subst (λ x. IsSome x) (sym there) refl,
   (
     refl,
@@ -46,8 +48,9 @@ release_made f c job number k b h o lines at there held set told = (
       take k c.history.builds,
       there,
       (drop (k + 1) c.history.builds, made_before c.history.builds k b at),
-      told ∙ (ap (λ x. release_shown f (unwrap_or o no_pipeline) x.tables (take k x.builds) b) held
-          ∙ ap (λ x. release_shown f (unwrap_or x no_pipeline) c.history.tables (take k c.history.builds) b) set),
+      told ∙ (ap (λ x. release_shown f h.tables b x) gone
+          ∙ (ap (λ x. release_shown f x.tables b (all_together (unwrap_or o no_pipeline) (take k x.builds) b)) held
+          ∙ ap (λ x. release_shown f c.history.tables b (all_together (unwrap_or x no_pipeline) (take k c.history.builds) b)) set)),
     ),
   ),
 )

@@ -1,16 +1,23 @@
 -- Several things shown, one behind the other; and what is said of an input and of a job.
 use Rattle.std.proofs.Common.{Result, IfOk, ◌≡◌, ◌+◌, ◌-◌, ◌<◌, ◌∷◌, ◌++◌, [], List, ℕ, length, take, map, get_or, refl, sym, ◌∙◌, ap, subst, append_assoc, append-nil, arith}
 use Rattle.std.proofs.lemmas.List.{take_more, map-append, length-map, length-take-le}
+use Rattle.std.specs.Prelude.{Some, unwrap_or, IsSome, IsSomeAnd}
 use Rattle.ccr_history.specs.Text.{Text}
 use Rattle.ccr_history.specs.History.{HistoryData}
 use Rattle.ccr_pipeline.specs.Inputs.{InputData}
 use Rattle.ccr_pipeline.specs.JobData.{JobData}
 use Rattle.ccr_pipeline.specs.Pipelines.{PipelineData}
-use Rattle.ccr_lines.specs.Each.{AreEach}
-use Rattle.ccr_lines.specs.Explained.{newest_place, newest_three}
-use Rattle.ccr_lines.specs.ExplainJson.{IsJobExplained}
+use Rattle.ccr_problem.specs.ProblemOf.{job_of}
+use Rattle.ccr_core.specs.Holding.{CoreData}
+use Rattle.ccr_core.specs.State.{no_pipeline}
+use Rattle.ccr_core.specs.Commands.{explanation}
 use Rattle.ccr_core.specs.declared.form.Form.{Form}
+use Rattle.ccr_lines.specs.Each.{AreEach}
+use Rattle.ccr_lines.specs.ExplainJson.{explained_shown, status_of, IsExplanationShown}
+use Rattle.ccr_lines.specs.Explained.{newest_place, newest_three, IsExplained}
+use Rattle.ccr_lines.specs.ExplainedData.{ExplainedData}
 use Rattle.ccr_lines.specs.Reasons.{SubjectData}
+use Rattle.ccr_lines.specs.Shown.{IsMade}
 
 -- what is shown of one thing more, at the end
 each_more : {X Y : Type 0} (May : ℕ → X → List Y → Type 0) (i n : ℕ) (xs : List X) (x : X) (old own : List Y)
@@ -66,9 +73,18 @@ newest_so P s x n second third a b c whole newest next last first_is second_is t
 
 -- ---- a job
 -- what is said by a history and a budget is said by those that are the same
-pub explained_same : {E X : Type 0} (status : X → ℕ) (text : X → Text) (f : Form) (p : PipelineData) (h : HistoryData) (b : ℕ) (j : JobData)
-    (g : HistoryData) (n : ℕ) (r : Result X E) → g ≡ h → n ≡ b → IfOk r (λ x. IsJobExplained f p g n j (status x) (text x))
-    → IfOk r (λ x. IsJobExplained f p h b j (status x) (text x))
-explained_same status text f p h b j g n r same budget has =
-    subst (λ m. IfOk r (λ x. IsJobExplained f p h m j (status x) (text x))) budget
-    (subst (λ o. IfOk r (λ x. IsJobExplained f p o n j (status x) (text x))) same has)
+pub explained_same : {E : Type 0} (p : PipelineData) (h : HistoryData) (b : ℕ) (j : JobData) (g : HistoryData) (n : ℕ)
+    (r : Result ExplainedData E) → g ≡ h → n ≡ b → IfOk r (IsExplained p g n j) → IfOk r (IsExplained p h b j)
+explained_same p h b j g n r same budget has =
+    subst (λ m. IfOk r (IsExplained p h m j)) budget (subst (λ o. IfOk r (IsExplained p o n j)) same has)
+
+-- what is shown of a job that the pipeline has
+pub explained_made : (f : Form) (c : CoreData) (p : PipelineData) (name : Text) (j : JobData) (e : ExplainedData) (status : ℕ)
+    (text : Text) → c.pipeline ≡ Some p → job_of name p.jobs ≡ Some j → IsExplained p c.history c.budget j e
+    → status ≡ status_of e.outlook → text ≡ explained_shown f e → IsMade (explanation f name) c status text
+explained_made f c p name j e status text set there is ends told = (
+  subst (λ o. IsSome (job_of name (unwrap_or o no_pipeline).jobs)) (sym set) (subst (λ x. IsSome x) (sym there) refl),
+  subst (λ o. IsExplanationShown f (unwrap_or o no_pipeline) c.history c.budget name status text) (sym set)
+      (subst (λ x. IsSomeAnd x (λ k. (d : ExplainedData) × IsExplained p c.history c.budget k d
+      × (status ≡ status_of d.outlook) × (text ≡ explained_shown f d))) (sym there) (e, is, ends, told)),
+)

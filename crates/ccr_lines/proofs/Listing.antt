@@ -1,44 +1,44 @@
 -- The jobs of a pipeline, one after another.
-use Rattle.std.proofs.Common.{◌≡◌, ◌+◌, ◌<◌, ◌∷◌, ◌++◌, [], List, ℕ, zero, suc, Bool, true, false, length, take, map, get_or, cond, Option, Some, refl, sym, ◌∙◌, ap, subst, append_assoc, append-nil, arith}
+use Rattle.std.proofs.Common.{◌≡◌, ◌+◌, ◌<◌, ◌∷◌, ◌++◌, [], List, ℕ, zero, suc, Bool, true, false, length, take, map, get_or, cond, Option, Some, refl, sym, ◌∙◌, ap, subst, arith}
 use Rattle.std.specs.Prelude.{IsSome}
 use Rattle.std.specs.Str.{bytes_eq}
 use Rattle.std.proofs.lemmas.List.{take_more, map-append}
 use Rattle.std.proofs.lemmas.Slice.Eq.{bytes_eq-Decides}
-use Rattle.ccr_history.specs.Text.{Text}
 use Rattle.ccr_history.specs.History.{HistoryData}
 use Rattle.ccr_pipeline.specs.JobData.{JobData, job_data}
 use Rattle.ccr_pipeline.specs.Pipelines.{PipelineData}
 use Rattle.ccr_pipeline.specs.declared.resource.Job.{Job}
 use Rattle.ccr_problem.specs.ProblemOf.{job_of}
 use Rattle.ccr_lines.specs.Outlooks.{HasOutlook}
-use Rattle.ccr_lines.specs.Standing.{job_state, AreJobsShown}
+use Rattle.ccr_lines.specs.Standing.{NextData, AreNext}
 use Rattle.ccr_lines.specs.declared.outlook.Outlook.{Outlook}
 
 -- one job more at the end
-jobs_more : (p : PipelineData) (h : HistoryData) (budget : ℕ) (js : List JobData) (lines : Text) (j : JobData) (o : Outlook)
-    → AreJobsShown p h budget js lines → HasOutlook p h budget j o
-    → AreJobsShown p h budget (js ++ j ∷ []) (lines ++ job_state h j o)
-jobs_more p h budget [] lines j o none has =
-    (o, [], has, refl, ap (λ t. t ++ job_state h j o) none ∙ sym (append-nil (job_state h j o)))
-jobs_more p h budget (k ∷ ks) lines j o shown has = (
+next_more : (p : PipelineData) (h : HistoryData) (budget : ℕ) (js : List JobData) (ns : List NextData) (j : JobData)
+    (o : Outlook) → AreNext p h budget js ns → HasOutlook p h budget j o
+    → AreNext p h budget (js ++ j ∷ []) (ns ++ record { job = j; outlook = o } ∷ [])
+next_more p h budget [] ns j o none has =
+    (o, [], has, refl, ap (λ t. t ++ record { job = j; outlook = o } ∷ []) none)
+next_more p h budget (k ∷ ks) ns j o shown has = (
   shown.0,
-  shown.1 ++ job_state h j o,
+  shown.1 ++ record { job = j; outlook = o } ∷ [],
   shown.2,
-  jobs_more p h budget ks shown.1 j o shown.3 has,
-  ap (λ t. t ++ job_state h j o) shown.4 ∙ append_assoc (job_state h k shown.0) shown.1 (job_state h j o),
+  next_more p h budget ks shown.1 j o shown.3 has,
+  ap (λ t. t ++ record { job = j; outlook = o } ∷ []) shown.4,
 )
 
--- its line comes to the lines
-pub jobs_told : (p : PipelineData) (h : HistoryData) (budget : ℕ) (js : List Job) (k : ℕ) (j : Job) (o : Outlook)
-    (old new : Text) → k < length js → get_or js k j ≡ j → AreJobsShown p h budget (map job_data (take k js)) old
-    → HasOutlook p h budget (job_data j) o → new ≡ old ++ job_state h (job_data j) o
-    → AreJobsShown p h budget (map job_data (take (k + 1) js)) new
-jobs_told p h budget js k j o old new within at shown has told =
-    subst (λ t. AreJobsShown p h budget (map job_data (take (k + 1) js)) t) (sym told)
-    (subst (λ xs. AreJobsShown p h budget (map job_data xs) (old ++ job_state h (job_data j) o)) (sym more)
-    (subst (λ xs. AreJobsShown p h budget xs (old ++ job_state h (job_data j) o))
+-- it comes to the others
+pub next_told : (p : PipelineData) (h : HistoryData) (budget : ℕ) (js : List Job) (k : ℕ) (j : Job) (o : Outlook)
+    (old new : List NextData) → k < length js → get_or js k j ≡ j → AreNext p h budget (map job_data (take k js)) old
+    → HasOutlook p h budget (job_data j) o → new ≡ old ++ record { job = job_data j; outlook = o } ∷ []
+    → AreNext p h budget (map job_data (take (k + 1) js)) new
+next_told p h budget js k j o old new within at shown has told =
+    let next : NextData = record { job = job_data j; outlook = o } in
+    subst (λ t. AreNext p h budget (map job_data (take (k + 1) js)) t) (sym told)
+    (subst (λ xs. AreNext p h budget (map job_data xs) (old ++ next ∷ [])) (sym more)
+    (subst (λ xs. AreNext p h budget xs (old ++ next ∷ []))
     (sym (map-append job_data (take k js) (j ∷ [])))
-    (jobs_more p h budget (map job_data (take k js)) old (job_data j) o shown has))) where
+    (next_more p h budget (map job_data (take k js)) old (job_data j) o shown has))) where
       more : take (k + 1) js ≡ take k js ++ j ∷ []
       more = take_more js k j within ∙ ap (λ x. take k js ++ x ∷ []) at
 

@@ -11,7 +11,7 @@ use Rattle.ccr_pipeline.specs.JobData.{job_data}
 use Rattle.ccr_pipeline.specs.Pipelines.{PipelineData}
 use Rattle.ccr_pipeline.specs.declared.resource.Job.{Job}
 use Rattle.ccr_core.specs.State.{no_pipeline}
-use Rattle.ccr_lines.specs.Releases.{pairs_for, pairs_naming, passed_all, newest_together, together_line, inputs_in_plan, together_lines}
+use Rattle.ccr_lines.specs.Releases.{TogetherData, pairs_for, pairs_naming, passed_all, newest_together, together, inputs_in_plan, all_together}
 use Rattle.ccr_lines.proofs.Showing.{one_more, drop_there}
 
 -- the first that passes a test, by a number of it
@@ -59,13 +59,13 @@ pairs_told input used k u old new all test at is told before =
 
 -- ---- the jobs of a pipeline
 pub together_told : (p : PipelineData) (o : Option PipelineData) (before : List BuildData) (b : BuildData)
-    (jobs : List Job) (is : List InputData) (start new : Text) → o ≡ Some p → map job_data jobs ≡ p.jobs
+    (jobs : List Job) (is : List InputData) (found : List TogetherData) → o ≡ Some p → map job_data jobs ≡ p.jobs
     → is ≡ inputs_in_plan p b.job
-    → new ≡ start ++ flat_map (λ j. together_line (job_data j).name (pairs_naming (job_data j).name is b.used) before) jobs
-    → new ≡ start ++ together_lines (unwrap_or o no_pipeline) before b
-together_told p o before b jobs is start new set same planned told =
+    → found ≡ flat_map (λ j. together (job_data j).name (pairs_naming (job_data j).name is b.used) before) jobs
+    → found ≡ all_together (unwrap_or o no_pipeline) before b
+together_told p o before b jobs is found set same planned told =
     told
-    ∙ (ap (λ t. start ++ t) (sym (flat_map-map (λ j. together_line j.name (pairs_naming j.name is b.used) before) job_data jobs))
-    ∙ (ap (λ js. start ++ flat_map (λ j. together_line j.name (pairs_naming j.name is b.used) before) js) same
-    ∙ (ap (λ x. start ++ flat_map (λ j. together_line j.name (pairs_naming j.name x b.used) before) p.jobs) planned
-    ∙ ap (λ x. start ++ together_lines (unwrap_or x no_pipeline) before b) (sym set))))
+    ∙ (sym (flat_map-map (λ j. together j.name (pairs_naming j.name is b.used) before) job_data jobs)
+    ∙ (ap (λ js. flat_map (λ j. together j.name (pairs_naming j.name is b.used) before) js) same
+    ∙ (ap (λ x. flat_map (λ j. together j.name (pairs_naming j.name x b.used) before) p.jobs) planned
+    ∙ ap (λ x. all_together (unwrap_or x no_pipeline) before b) (sym set))))

@@ -1,5 +1,5 @@
 -- How the jobs of a pipeline stand, as JSON.
-use Rattle.std.specs.Prelude.{◌≡◌, ℕ, zero, suc, List, [], ◌∷◌, ◌++◌, map, flat_map, Bool, true, false, not, Option, Some, None, if◌then◌else◌, codes, decimal}
+use Rattle.std.specs.Prelude.{◌≡◌, ℕ, zero, suc, List, [], ◌∷◌, map, flat_map, Bool, true, false, not, Option, Some, None, if◌then◌else◌, codes, decimal}
 use Rattle.std.specs.Option.{option_map_or, option_or}
 use Rattle.serde_json.specs.Data.{Data, null, boolean, string, object, no_members, member}
 use Rattle.ccr_history.specs.Text.{Text}
@@ -16,10 +16,10 @@ use Rattle.ccr_core.specs.declared.form.Form.TheVariants as form
 use Rattle.ccr_lines.specs.declared.outlook.Outlook.{Outlook}
 use Rattle.ccr_lines.specs.declared.outlook.Outlook.TheVariants.{Due, NothingNew, ByCommandOnly, NoneSatisfies, OverBudget}
 use Rattle.ccr_lines.specs.Graphs.{own_put}
-use Rattle.ccr_lines.specs.Json.{list, json_line, after_comma}
+use Rattle.ccr_lines.specs.Json.{list, json_line}
 use Rattle.ccr_lines.specs.Lines.{status_word}
-use Rattle.ccr_lines.specs.Outlooks.{HasOutlook, outlook_words}
-use Rattle.ccr_lines.specs.Standing.{AreJobsShown}
+use Rattle.ccr_lines.specs.Outlooks.{outlook_words}
+use Rattle.ccr_lines.specs.Standing.{NextData, AreNext, jobs_lines}
 
 -- ---- builds
 -- the status of a build that runs, if it is to run; that of one that has ended, if it isn't
@@ -43,7 +43,7 @@ abbrev pub newest_that : Bool → Text → HistoryData → Option BuildData
 newest_that runs job h = newest_up_to runs job h.builds (count_of job h.builds)
 
 -- a build, and how it stands
-unfoldable pub build_json : BuildData → Data
+abbrev pub build_json : BuildData → Data
 build_json b =
     object (member (codes "job_name") (string b.job)
     (member (codes "name") (string (decimal b.number))
@@ -55,7 +55,7 @@ newest_json found = option_map_or (λ b. build_json b) found null
 
 -- ---- inputs and outputs
 -- an input of a job
-unfoldable pub input_json : InputData → Data
+abbrev pub input_json : InputData → Data
 input_json i =
     object (member (codes "name") (string i.name)
     (member (codes "passed") (list (map (λ job. string job) i.passed))
@@ -63,7 +63,7 @@ input_json i =
     (member (codes "trigger") (boolean i.trigger) no_members))))
 
 -- a resource
-unfoldable pub output_json : Text → Data
+abbrev pub output_json : Text → Data
 output_json resource = object (member (codes "resource") (string resource) no_members)
 
 -- a resource, if a put of the plan means it
@@ -79,33 +79,34 @@ is_due ByCommandOnly = false
 is_due NoneSatisfies = false
 is_due (OverBudget n) = false
 
+-- a job of this name, with these newest builds, and these values of its inputs and outputs
+abbrev pub job_object : Text → Outlook → Option BuildData → List Data → Option BuildData → List Data → Data
+job_object name o finished ins running outs =
+    object (member (codes "finished_build") (newest_json finished)
+    (member (codes "has_new_inputs") (boolean (is_due o))
+    (member (codes "inputs") (list ins)
+    (member (codes "name") (string name)
+    (member (codes "next") (string (outlook_words o))
+    (member (codes "next_build") (newest_json running)
+    (member (codes "outputs") (list outs) no_members)))))))
+
 -- a job with its newest build that has ended, whether it has new inputs, its inputs, what its next build would be, its
 -- newest build that runs, and the resources that it puts
-unfoldable pub job_json : List ResourceData → HistoryData → JobData → Outlook → Data
+abbrev pub job_json : List ResourceData → HistoryData → JobData → Outlook → Data
 job_json rs h j o =
-    object (member (codes "finished_build") (newest_json (newest_that false j.name h))
-    (member (codes "has_new_inputs") (boolean (is_due o))
-    (member (codes "inputs") (list (map (λ i. input_json i) (inputs j.plan)))
-    (member (codes "name") (string j.name)
-    (member (codes "next") (string (outlook_words o))
-    (member (codes "next_build") (newest_json (newest_that true j.name h))
-    (member (codes "outputs") (list (flat_map (λ r. output_of j.plan r) rs)) no_members)))))))
+    job_object j.name o (newest_that false j.name h) (map (λ i. input_json i) (inputs j.plan)) (newest_that true j.name h)
+    (flat_map (λ r. output_of j.plan r) rs)
 
--- THE JOBS, in their order
-abbrev pub AreJobsJson : PipelineData → HistoryData → ℕ → List JobData → List Data → Type 0
-AreJobsJson p h budget [] ds = ds ≡ []
-AreJobsJson p h budget (j ∷ js) ds =
-    (o : Outlook) × (rest : List Data) × HasOutlook p h budget j o × AreJobsJson p h budget js rest
-    × (ds ≡ job_json p.resources h j o ∷ rest)
-
--- the jobs as texts, each behind a comma
-abbrev pub AreJobItems : PipelineData → HistoryData → ℕ → List JobData → Text → Type 0
-AreJobItems p h budget [] items = items ≡ []
-AreJobItems p h budget (j ∷ js) items =
-    (o : Outlook) × (rest : Text) × HasOutlook p h budget j o × AreJobItems p h budget js rest
-    × (items ≡ after_comma (job_json p.resources h j o) ++ rest)
+-- these jobs, as a list
+abbrev pub jobs_json : List ResourceData → HistoryData → List NextData → Data
+jobs_json rs h ns = list (map (λ n. job_json rs h n.job n.outlook) ns)
 
 -- the same in one of the forms
-abbrev pub AreJobs : Form → PipelineData → HistoryData → ℕ → List JobData → Text → Type 0
-AreJobs form.Lines p h budget js lines = AreJobsShown p h budget js lines
-AreJobs form.Json p h budget js lines = (ds : List Data) × AreJobsJson p h budget js ds × (lines ≡ json_line (list ds))
+abbrev pub jobs_shown : Form → List ResourceData → HistoryData → List NextData → Text
+jobs_shown form.Lines rs h ns = jobs_lines h ns
+jobs_shown form.Json rs h ns = json_line (jobs_json rs h ns)
+
+-- what is shown of the jobs of a pipeline
+abbrev pub AreJobs : Form → PipelineData → HistoryData → ℕ → Text → Type 0
+AreJobs form p h budget lines =
+    (ns : List NextData) × AreNext p h budget p.jobs ns × (lines ≡ jobs_shown form p.resources h ns)

@@ -11,6 +11,7 @@ use Rattle.ccr_pipeline.specs.Inputs.{InputData, inputs}
 use Rattle.ccr_pipeline.specs.Names.{has_name}
 use Rattle.ccr_pipeline.specs.Pipelines.{PipelineData}
 use Rattle.ccr_problem.specs.ProblemOf.{job_of}
+use Rattle.ccr_lines.specs.declared.release.Together.{Together}
 use Rattle.ccr_lines.specs.Lines.{line, build_line, status_word}
 
 -- ---- versions
@@ -64,20 +65,30 @@ abbrev pub witness_line : Text → Option ℕ → Text
 witness_line job (Some number) = line (codes "together " ∷ job ∷ codes " " ∷ decimal number ∷ [])
 witness_line job None = line (codes "no build of " ∷ job ∷ codes " moved them together" ∷ [])
 
--- the same of pairs that have to have passed the job, with a build that was made before; nothing where there are none
-abbrev pub together_line : Text → List (ℕ × ℕ) → List BuildData → Text
-together_line job [] before = []
-together_line job (p ∷ ps) before = witness_line job (option_map (λ b. b.number) (newest_together job (p ∷ ps) before))
+-- a job with the number of its newest build that shows that pairs passed it together, if there is one
+pub record TogetherData : Type 0 where
+  pub job : Text
+  pub number : Option ℕ
+
+-- what a value of the program's type stands for
+abbrev pub together_data : Together → TogetherData
+together_data t = record { job = t.job.now; number = t.number }
+
+-- the job with that build of these, where there are pairs that have to have passed it; nothing where there are none
+abbrev pub together : Text → List (ℕ × ℕ) → List BuildData → List TogetherData
+together job [] before = []
+together job (p ∷ ps) before =
+    record { job = job; number = option_map (λ b. b.number) (newest_together job (p ∷ ps) before) } ∷ []
 
 -- the inputs that a job has in a pipeline; none where it has no such job
 abbrev pub inputs_in_plan : PipelineData → Text → List InputData
 inputs_in_plan p job = option_map_or (λ j. inputs j.plan) (job_of job p.jobs) []
 
--- for each job that the inputs of the build's job name in passed today: the newest build before this one that moved
+-- THE JOBS that the inputs of the build's job name in passed today, each with its newest build before this one that moved
 -- together what this one took for them
-abbrev pub together_lines : PipelineData → List BuildData → BuildData → Text
-together_lines p before b =
-    flat_map (λ j. together_line j.name (pairs_naming j.name (inputs_in_plan p b.job) b.used) before) p.jobs
+abbrev pub all_together : PipelineData → List BuildData → BuildData → List TogetherData
+all_together p before b =
+    flat_map (λ j. together j.name (pairs_naming j.name (inputs_in_plan p b.job) b.used) before) p.jobs
 
 -- ---- a build
 -- these builds were made before it, and no other
@@ -85,9 +96,9 @@ abbrev pub AreMadeBefore : List BuildData → List BuildData → BuildData → T
 AreMadeBefore builds before b = (after : List BuildData) × (builds ≡ before ++ b ∷ after)
 
 -- HOW IT STANDS, what it took, through which builds that had gone together, and what it moved
-abbrev pub release_lines : PipelineData → List TableData → List BuildData → BuildData → Text
-release_lines p tables before b =
+abbrev pub release_lines : List TableData → BuildData → List TogetherData → Text
+release_lines tables b ts =
     build_line b.job b.number (status_word b.status)
     ++ flat_map (took_line tables) b.used
-    ++ together_lines p before b
+    ++ flat_map (λ t. witness_line t.job t.number) ts
     ++ flat_map (moved_line tables) b.moved

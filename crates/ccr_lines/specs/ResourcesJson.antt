@@ -14,7 +14,7 @@ use Rattle.ccr_lines.specs.Standing.{resources_lines}
 
 -- a resource with its type, how many versions its scope has, and the pins that hold all its inputs: that of the pipeline,
 -- and that by command
-unfoldable pub resource_json : HistoryData → ResourceData → Data
+abbrev pub resource_json : HistoryData → ResourceData → Data
 resource_json h r =
     object (member (codes "name") (string r.name)
     (member (codes "pinned_by_pipeline") (fields_json r.version)

@@ -1,11 +1,8 @@
 -- What a command shows. Each line ends with a line feed.
-use Rattle.std.specs.Prelude.{◌≡◌, ℕ, ◌+◌, List, [], ◌∷◌, ◌++◌, flat_map, codes, decimal, Bool, true, false, IsSomeAnd, Option, Some, unwrap_or, Result, Ok, Err, ⊤}
+use Rattle.std.specs.Prelude.{◌≡◌, ℕ, List, [], ◌++◌, IsSomeAnd, Option, Some, unwrap_or, Result, Ok, Err, ⊤}
 use Rattle.ccr_history.specs.Text.{Text}
-use Rattle.ccr_history.specs.TextMap.{TextMap, key_text}
+use Rattle.std.specs.Option.{option_map_or, option_copied}
 use Rattle.ccr_history.specs.Builds.{BuildData, build_of}
-use Rattle.ccr_history.specs.Pairs.{has_pair}
-use Rattle.ccr_history.specs.Scopes.{ScopeData}
-use Rattle.ccr_history.specs.Tables.{versions_of, scope_number}
 use Rattle.ccr_history.specs.History.{HistoryData}
 use Rattle.ccr_pipeline.specs.Pipelines.{PipelineData}
 use Rattle.ccr_choice.specs.Preference.{order_of}
@@ -25,13 +22,14 @@ use Rattle.ccr_lines.specs.declared.shown.Shown.{Shown}
 use Rattle.ccr_lines.specs.declared.shown.Shown.TheVariants as value
 use Rattle.ccr_lines.specs.declared.shown.ShowFault.{ShowFault}
 use Rattle.ccr_lines.specs.declared.shown.ShowFault.TheVariants as why
-use Rattle.ccr_lines.specs.ExplainJson.{IsExplained}
-use Rattle.ccr_lines.specs.Lines.{line, build_line, status_word}
-use Rattle.ccr_lines.specs.Needs.{Need, no_need, a_pipeline, a_resource, a_job, a_pin, a_build, pin_in, IsMet, Lacks, LacksPin}
+use Rattle.ccr_lines.specs.ExplainJson.{IsExplanationShown}
+use Rattle.ccr_lines.specs.Listed.{builds_of, builds_shown, versions_listed, versions_shown}
+use Rattle.ccr_lines.specs.Needs.{Need, no_need, a_pipeline, a_resource, a_job, a_known_job, a_pin, a_build, pin_in, IsMet, Lacks, LacksPin}
 use Rattle.ccr_lines.specs.ResourcesJson.{resources_shown}
 use Rattle.ccr_lines.specs.JobsJson.{AreJobs}
-use Rattle.ccr_lines.specs.Releases.{AreMadeBefore}
+use Rattle.ccr_lines.specs.Releases.{AreMadeBefore, all_together}
 use Rattle.ccr_lines.specs.ReleaseJson.{release_shown}
+use Rattle.ccr_lines.specs.Traces.{trace_of}
 use Rattle.ccr_lines.specs.TraceJson.{trace_shown}
 use Rattle.ccr_lines.specs.Certificates.{IsCertificateShown}
 use Rattle.ccr_lines.specs.Graphs.{graph_lines}
@@ -39,8 +37,8 @@ use Rattle.ccr_lines.specs.BuildCertificates.{IsBuildCertificateShown}
 
 -- what a value of the program's type stands for
 abbrev pub shown_data : Shown → ShownData
-shown_data value.Builds = builds
-shown_data (value.Versions resource) = versions resource.now
+shown_data (value.Builds job count form) = builds form (option_copied job) count
+shown_data (value.Versions resource form) = versions form resource.now
 shown_data (value.Problem job) = problem job.now
 shown_data (value.Proof job) = proof job.now
 shown_data (value.Certificate job) = certificate job.now
@@ -55,8 +53,8 @@ shown_data (value.BuildCertificate job number) = build_certificate job.now numbe
 
 -- what has to be there for it to be shown
 abbrev pub needs : ShownData → Need
-needs builds = no_need
-needs (versions resource) = a_resource resource
+needs (builds form job count) = option_map_or a_known_job job no_need
+needs (versions form resource) = a_resource resource
 needs (problem job) = a_job job
 needs (proof job) = a_job job
 needs (certificate job) = a_job job
@@ -69,32 +67,10 @@ needs (build form job number) = a_build job number
 needs (trace form resource pin) = a_pin resource pin
 needs (build_certificate job number) = a_build job number
 
--- how each build stands, in order of making
-abbrev pub builds_lines : HistoryData → Text
-builds_lines h = flat_map (λ b. build_line b.job b.number (status_word b.status)) h.builds
-
--- the word behind the key of a version, where it is disabled
-abbrev pub disabled_word : Bool → List Text
-disabled_word true = codes " disabled" ∷ []
-disabled_word false = []
-
--- the key of each version after its place, which counts from the one given, and a word where the test says that it is
--- disabled
-abbrev pub lines_from : (ℕ → Bool) → ℕ → List TextMap → Text
-lines_from is_disabled place [] = []
-lines_from is_disabled place (v ∷ vs) =
-    line (decimal place ∷ codes " " ∷ key_text v ∷ disabled_word (is_disabled place))
-    ++ lines_from is_disabled (place + 1) vs
-
--- the versions of a scope, each with its place
-abbrev pub scope_lines : ScopeData → HistoryData → Text
-scope_lines s h =
-    lines_from (λ place. has_pair (scope_number s h.tables, place) h.disabled) 1 (versions_of s h.tables)
-
 -- the versions of a resource of the pipeline
-abbrev pub IsVersionsShown : PipelineData → HistoryData → Text → Text → Type 0
-IsVersionsShown p h resource lines =
-    IsSomeAnd (resource_of resource p.resources) (λ r. lines ≡ scope_lines (scope_of r) h)
+abbrev pub IsVersionsShown : Form → PipelineData → HistoryData → Text → Text → Type 0
+IsVersionsShown form p h resource lines =
+    IsSomeAnd (resource_of resource p.resources) (λ r. lines ≡ versions_shown form (versions_listed (scope_of r) h))
 
 -- the problem of a job's next build
 abbrev pub IsProblemShown : PipelineData → HistoryData → Text → Text → Type 0
@@ -116,23 +92,23 @@ IsProofShown p h budget job status lines =
 abbrev pub IsReleaseShown : Form → PipelineData → HistoryData → Text → ℕ → Text → Type 0
 IsReleaseShown form p h job number lines =
     (b : BuildData) × (before : List BuildData) × (build_of job number h.builds ≡ Some b)
-    × AreMadeBefore h.builds before b × (lines ≡ release_shown form p h.tables before b)
+    × AreMadeBefore h.builds before b × (lines ≡ release_shown form h.tables b (all_together p before b))
 
 -- the builds that a version of a resource went through, which meets the pin that a text spells
 abbrev pub IsTraceShown : Form → HistoryData → Text → Text → Text → Type 0
-IsTraceShown form h resource pin lines = IsSomeAnd (pin_in pin) (λ p. lines ≡ trace_shown form h resource p)
+IsTraceShown form h resource pin lines = IsSomeAnd (pin_in pin) (λ p. lines ≡ trace_shown form (trace_of h resource p))
 
 -- WHAT IS SHOWN, in a pipeline with a history and a budget, and with which status
 abbrev pub IsShown : ShownData → PipelineData → HistoryData → ℕ → ℕ → Text → Type 0
-IsShown builds p h budget status lines = (status ≡ 0) × (lines ≡ builds_lines h)
-IsShown (versions resource) p h budget status lines = (status ≡ 0) × IsVersionsShown p h resource lines
+IsShown (builds form job count) p h budget status lines = (status ≡ 0) × (lines ≡ builds_shown form (builds_of job count h))
+IsShown (versions form resource) p h budget status lines = (status ≡ 0) × IsVersionsShown form p h resource lines
 IsShown (problem job) p h budget status lines = (status ≡ 0) × IsProblemShown p h job lines
 IsShown (proof job) p h budget status lines = IsProofShown p h budget job status lines
 IsShown (certificate job) p h budget status lines = IsCertificateShown p h budget job status lines
-IsShown (explanation form job) p h budget status lines = IsExplained form p h budget job status lines
+IsShown (explanation form job) p h budget status lines = IsExplanationShown form p h budget job status lines
 IsShown pipeline p h budget status lines = (status ≡ 0) × (lines ≡ p.text)
 IsShown (resources form) p h budget status lines = (status ≡ 0) × (lines ≡ resources_shown form h p.resources)
-IsShown (jobs form) p h budget status lines = (status ≡ 0) × AreJobs form p h budget p.jobs lines
+IsShown (jobs form) p h budget status lines = (status ≡ 0) × AreJobs form p h budget lines
 IsShown graph p h budget status lines = (status ≡ 0) × (lines ≡ graph_lines p h)
 IsShown (build form job number) p h budget status lines = (status ≡ 0) × IsReleaseShown form p h job number lines
 IsShown (trace form resource pin) p h budget status lines = (status ≡ 0) × IsTraceShown form h resource pin lines

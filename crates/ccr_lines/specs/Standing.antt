@@ -6,9 +6,10 @@ use Rattle.ccr_history.specs.Tables.{versions_of}
 use Rattle.ccr_history.specs.Builds.{BuildData, build_of, count_of}
 use Rattle.ccr_history.specs.Changes.{pin_of}
 use Rattle.ccr_history.specs.History.{HistoryData}
-use Rattle.ccr_pipeline.specs.JobData.{ResourceData, JobData}
+use Rattle.ccr_pipeline.specs.JobData.{ResourceData, JobData, job_data}
 use Rattle.ccr_pipeline.specs.Pipelines.{PipelineData}
 use Rattle.ccr_problem.specs.ProblemOf.{scope_of}
+use Rattle.ccr_lines.specs.declared.next_build.NextBuild.{NextBuild}
 use Rattle.ccr_lines.specs.declared.outlook.Outlook.{Outlook}
 use Rattle.ccr_lines.specs.Lines.{line, status_word}
 use Rattle.ccr_lines.specs.Outlooks.{HasOutlook, outlook_words}
@@ -44,9 +45,22 @@ newest_build job h = build_of job (count_of job h.builds) h.builds
 abbrev pub job_state : HistoryData → JobData → Outlook → Text
 job_state h j o = line (j.name ∷ newest_words (newest_build j.name h) ∷ outlook_words o ∷ [])
 
--- THE JOBS, in their order
-abbrev pub AreJobsShown : PipelineData → HistoryData → ℕ → List JobData → Text → Type 0
-AreJobsShown p h budget [] lines = lines ≡ []
-AreJobsShown p h budget (j ∷ js) lines =
-    (o : Outlook) × (rest : Text) × HasOutlook p h budget j o × AreJobsShown p h budget js rest
-    × (lines ≡ job_state h j o ++ rest)
+-- a job with what its next build would be
+pub record NextData : Type 0 where
+  pub job : JobData
+  pub outlook : Outlook
+
+-- what a value of the program's type stands for
+abbrev pub next_data : NextBuild → NextData
+next_data n = record { job = job_data n.job.now; outlook = n.outlook }
+
+-- THE JOBS, in their order, each with what its next build would be
+abbrev pub AreNext : PipelineData → HistoryData → ℕ → List JobData → List NextData → Type 0
+AreNext p h budget [] ns = ns ≡ []
+AreNext p h budget (j ∷ js) ns =
+    (o : Outlook) × (rest : List NextData) × HasOutlook p h budget j o × AreNext p h budget js rest
+    × (ns ≡ record { job = j; outlook = o } ∷ rest)
+
+-- the lines of these jobs
+abbrev pub jobs_lines : HistoryData → List NextData → Text
+jobs_lines h ns = flat_map (λ n. job_state h n.job n.outlook) ns

@@ -8,6 +8,7 @@ use Rattle.ccr_history.specs.TextMap.{TextMap, meets}
 use Rattle.ccr_history.specs.Tables.{TableData, at_place, versions_at}
 use Rattle.ccr_history.specs.Builds.{BuildData, is_succeeded}
 use Rattle.ccr_history.specs.History.{HistoryData}
+use Rattle.ccr_lines.specs.declared.trace.Went.{Went}
 use Rattle.ccr_lines.specs.Lines.{line, status_word}
 use Rattle.ccr_lines.specs.Releases.{resource_at}
 
@@ -25,6 +26,24 @@ has_taken tables resource pin b = list_any (λ u. is_sought tables resource pin 
 abbrev pub has_moved : List TableData → Text → TextMap → BuildData → Bool
 has_moved tables resource pin b = list_any (λ q. is_sought tables resource pin q.0 q.1) b.moved
 
+-- ---- the builds
+-- what became of such a version in a build
+abbrev pub went : List TableData → Text → TextMap → BuildData → Went
+went tables resource pin b = record {
+  build = b;
+  took = has_taken tables resource pin b;
+  moved = has_moved tables resource pin b;
+}
+
+-- it, if it was taken or moved; nothing of any other
+abbrev pub went_if : Went → List Went
+went_if w = if w.took || w.moved then w ∷ [] else []
+
+-- THE BUILDS that took or moved a version of the resource that meets the pin, in order of making
+abbrev pub trace_of : HistoryData → Text → TextMap → List Went
+trace_of h resource pin = flat_map (λ b. went_if (went h.tables resource pin b)) h.builds
+
+-- ---- as lines
 -- that it was taken
 abbrev pub took_word : Bool → Text
 took_word took = if took then codes " took" else []
@@ -34,20 +53,11 @@ abbrev pub moved_word : Bool → Bool → Text
 moved_word moved succeeded = if moved then (if succeeded then codes " passed" else codes " moved") else []
 
 -- a build with what became of it there
-abbrev pub went_line : BuildData → Bool → Bool → Text
-went_line b took moved =
-    line (b.job ∷ codes " " ∷ decimal b.number ∷ codes " " ∷ status_word b.status
-    ∷ took_word took ∷ moved_word moved (is_succeeded b.status) ∷ [])
+abbrev pub went_line : Went → Text
+went_line w =
+    line (w.build.job ∷ codes " " ∷ decimal w.build.number ∷ codes " " ∷ status_word w.build.status
+    ∷ took_word w.took ∷ moved_word w.moved (is_succeeded w.build.status) ∷ [])
 
--- a build that took or moved it; nothing of any other
-abbrev pub went_line_if : BuildData → Bool → Bool → Text
-went_line_if b took moved = if took || moved then went_line b took moved else []
-
--- a build that took or moved such a version; nothing of any other
-abbrev pub trace_line : List TableData → Text → TextMap → BuildData → Text
-trace_line tables resource pin b =
-    went_line_if b (has_taken tables resource pin b) (has_moved tables resource pin b)
-
--- THE BUILDS that took or moved a version of the resource that meets the pin, in order of making
-abbrev pub trace_lines : HistoryData → Text → TextMap → Text
-trace_lines h resource pin = flat_map (λ b. trace_line h.tables resource pin b) h.builds
+-- these lines, one behind the other
+abbrev pub trace_lines : List Went → Text
+trace_lines ws = flat_map went_line ws

@@ -1,11 +1,11 @@
 //! What a core has that is named.
-ghost use Rattle.std.specs.Prelude.{◌≡◌, IfOk, IfErr, IsSome, Some, unwrap_or};
+ghost use Rattle.std.specs.Prelude.{◌≡◌, IfOk, IfErr, OnOk, IsSome, Some, is_some, option_map, option_copied, unwrap_or};
 ghost use Rattle.ccr_pipeline.specs.JobData.{resource_data, job_data};
 ghost use Rattle.ccr_pipeline.specs.Pipelines.{pipeline_data};
 ghost use Rattle.ccr_problem.specs.ProblemOf.{resource_of, job_of};
 ghost use Rattle.ccr_core.specs.Cores.{core_data};
 ghost use Rattle.ccr_core.specs.State.{no_pipeline};
-ghost use Rattle.ccr_lines.specs.Needs.{Lacks, a_pipeline, a_resource, a_job, pin_in};
+ghost use Rattle.ccr_lines.specs.Needs.{IsMet, Lacks, a_pipeline, a_resource, a_job, a_known_job, pin_in};
 
 use ccr_core::{Core, CoreFault};
 use ccr_history::{HistoryFault, Pin};
@@ -54,6 +54,17 @@ pub fn pipeline_with_job<'c>(core: &'c Core, name: &str) -> Result<&'c Pipeline,
     }
 }
 
+/// Whether there is a pipeline that has a job of this name.
+fn has_job(pipeline: Option<&Pipeline>, name: &str) -> bool
+    ensures { let p = unwrap_or (option_map pipeline_data (option_copied pipeline.entry)) no_pipeline in
+        result ≡ is_some (job_of name.now p.jobs) }
+{
+    match pipeline {
+        Some(pipeline) => pipeline.job(name).is_some(),
+        None => false,
+    }
+}
+
 /// The job of a name, with the pipeline that has it; or why there is none.
 pub fn job_held<'c>(core: &'c Core, name: &str) -> Result<(&'c Pipeline, &'c Job), CoreFault>
     ensures held { IfOk result (λ r. (core_data core.now).pipeline ≡ Some (pipeline_data r.0.now)) }
@@ -66,6 +77,18 @@ pub fn job_held<'c>(core: &'c Core, name: &str) -> Result<(&'c Pipeline, &'c Job
     match pipeline.job(name) {
         Some(job) => Ok((pipeline, job)),
         None => Err(CoreFault::NoJob),
+    }
+}
+
+/// Whether the pipeline has a job of this name, or the job has builds; or that neither is so.
+pub(crate) fn known_job(core: &Core, name: &str) -> Result<(), CoreFault>
+    ensures known { let c = core_data core.now in OnOk result (IsMet (a_known_job name.now) c.pipeline c.history) }
+    ensures lacks { let c = core_data core.now in IfErr result (Lacks (a_known_job name.now) c.pipeline c.history) }
+{
+    if has_job(core.pipeline(), name) || core.history().count_of(name) > 0 {
+        Ok(())
+    } else {
+        Err(CoreFault::NoJob)
     }
 }
 

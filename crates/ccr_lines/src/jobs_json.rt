@@ -1,25 +1,23 @@
 //! How the jobs of a pipeline stand, as JSON.
-ghost use Rattle.std.specs.Prelude.{◌≡◌, ◌++◌, Some, List, map, flat_map, string_bytes, IfOk, OnOk};
+ghost use Rattle.std.specs.Prelude.{◌≡◌, ◌++◌, List, Option, map, flat_map, string_bytes, IfOk, OnOk};
 ghost use Rattle.serde_json.specs.Data.{Data, string};
 ghost use Rattle.serde_json.specs.Written.{compact_text};
-ghost use Rattle.ccr_history.specs.Builds.{build_of, is_running};
+ghost use Rattle.ccr_history.specs.Builds.{BuildData, build_of, is_running};
 ghost use Rattle.ccr_pipeline.specs.Inputs.{input_data, inputs};
 ghost use Rattle.ccr_pipeline.specs.JobData.{resource_data, job_data};
-ghost use Rattle.ccr_pipeline.specs.Pipelines.{pipeline_data};
-ghost use Rattle.ccr_core.specs.Cores.{core_data};
-ghost use Rattle.ccr_lines.specs.Json.{list, json_line, after_comma};
-ghost use Rattle.ccr_lines.specs.JobsJson.{stands, standing, newest_that, build_json, newest_json, input_json, output_json, output_of, is_due, job_json, AreJobsJson, AreJobItems};
+ghost use Rattle.ccr_lines.specs.Json.{list, json_line, after_comma, array_of};
+ghost use Rattle.ccr_lines.specs.JobsJson.{stands, standing, newest_that, build_json, newest_json, input_json, output_json, output_of, is_due, job_object, job_json, jobs_json};
 ghost use Rattle.ccr_lines.specs.Outlooks.{outlook_words};
+ghost use Rattle.ccr_lines.specs.Standing.{next_data};
 
+use crate::builds::push_build_json;
 use crate::edge::puts;
-use crate::json::{array_line, array_text, bool_text, string_text};
-use crate::outlook::{Outlook, outlook_of, push_outlook};
-use crate::print::word_of;
-use crate::texts::push_pieces;
-use ccr_core::Core;
+use crate::json::{array_line, string_text};
+use crate::next_build::NextBuild;
+use crate::object::{Field, push_item, push_string};
+use crate::outlook::{Outlook, push_outlook};
 use ccr_history::{BuildRef, History, Status};
-use ccr_pipeline::{Input, Job, Pipeline, Resource, inputs_of};
-use itoa::Buffer;
+use ccr_pipeline::{Input, Job, Resource, inputs_of};
 use std::alloc::{AllocError, Global};
 
 // ---- builds
@@ -79,21 +77,8 @@ fn newest_that<'h>(history: &'h History, runs: bool, job: &str) -> Option<BuildR
 fn build_text(alloc: Global, build: &BuildRef<'_>) -> Result<Vec<u8>, AllocError>
     ensures { IfOk result (λ text. text.items ≡ compact_text (build_json build.now)) }
 {
-    let job = string_text(alloc, build.job())?;
-    let mut number = Buffer::new();
-    let name = string_text(alloc, number.format(build.number()))?;
-    let word = string_text(alloc, word_of(build.status()))?;
-    let pieces = [
-        "{\"job_name\":".as_bytes(),
-        job.as_slice(),
-        ",\"name\":".as_bytes(),
-        name.as_slice(),
-        ",\"status\":".as_bytes(),
-        word.as_slice(),
-        "}".as_bytes(),
-    ];
     let mut text = Vec::new(alloc);
-    push_pieces(&mut text, &pieces)?;
+    push_build_json(alloc, &mut text, build)?;
     Ok(text)
 }
 
@@ -113,9 +98,8 @@ fn newest_text(alloc: Global, newest: Option<BuildRef<'_>>) -> Result<Vec<u8>, A
 fn push_name(alloc: Global, out: &mut Vec<u8>, name: &str) -> Result<(), AllocError>
     ensures { OnOk result (out.new.items ≡ out.old.items ++ after_comma (string name.now)) }
 {
-    let text = string_text(alloc, name)?;
     out.extend_from_slice(",".as_bytes())?;
-    out.extend_from_slice(&text)
+    push_string(alloc, out, name)
 }
 
 /// Names, each behind a comma.
@@ -130,35 +114,32 @@ fn each_name(alloc: Global, names: &[String]) -> Result<Vec<u8>, AllocError>
     Ok(out)
 }
 
-/// Names, as an array.
-fn names_text(alloc: Global, names: &[String]) -> Result<Vec<u8>, AllocError>
-    ensures { IfOk result (λ text. text.items
-        ≡ compact_text (list (map (λ name. string name) (map string_bytes names.now)))) }
+/// Adds an input with the names in its `passed`, of which each stands behind a comma; all behind a comma.
+fn push_input_of<'a>(
+    alloc: Global,
+    out: &mut Vec<u8>,
+    input: &'a Input,
+    passed: &'a [u8],
+) -> Result<(), AllocError>
+    ensures { let i = input_data input.now in
+        array_of passed.now ≡ compact_text (list (map (λ job. string job) i.passed))
+        → OnOk result (out.new.items ≡ out.old.items ++ after_comma (input_json i)) }
 {
-    let items = each_name(alloc, names)?;
-    let text = array_text(alloc, &items)?;
-    Ok(text)
+    let members = [
+        ("name", Field::Text(input.name.as_str())),
+        ("passed", Field::Items(passed)),
+        ("resource", Field::Text(input.resource.as_str())),
+        ("trigger", Field::Flag(input.trigger)),
+    ];
+    push_item(alloc, out, &members)
 }
 
 /// Adds an input, behind a comma.
 fn push_input(alloc: Global, out: &mut Vec<u8>, input: &Input) -> Result<(), AllocError>
     ensures { OnOk result (out.new.items ≡ out.old.items ++ after_comma (input_json (input_data input.now))) }
 {
-    let name = string_text(alloc, input.name.as_str())?;
-    let passed = names_text(alloc, &input.passed)?;
-    let resource = string_text(alloc, input.resource.as_str())?;
-    let pieces = [
-        ",{\"name\":".as_bytes(),
-        name.as_slice(),
-        ",\"passed\":".as_bytes(),
-        passed.as_slice(),
-        ",\"resource\":".as_bytes(),
-        resource.as_slice(),
-        ",\"trigger\":".as_bytes(),
-        bool_text(input.trigger).as_bytes(),
-        "}".as_bytes(),
-    ];
-    push_pieces(out, &pieces)?;
+    let passed = each_name(alloc, &input.passed)?;
+    push_input_of(alloc, out, input, &passed)?;
     Ok(())
 }
 
@@ -174,31 +155,23 @@ fn each_input(alloc: Global, inputs: &[Input]) -> Result<Vec<u8>, AllocError>
     Ok(out)
 }
 
-/// The inputs of a job, as an array.
-fn inputs_text(alloc: Global, job: &Job) -> Result<Vec<u8>, AllocError>
-    ensures { IfOk result (λ text. text.items
+/// The inputs of a job, each behind a comma.
+fn inputs_items(alloc: Global, job: &Job) -> Result<Vec<u8>, AllocError>
+    ensures { IfOk result (λ items. array_of items.items
         ≡ compact_text (list (map (λ i. input_json i) (inputs (job_data job.now).plan)))) }
 {
     let inputs = inputs_of(alloc, job)?;
     let items = each_input(alloc, &inputs)?;
-    let text = array_text(alloc, &items)?;
-    Ok(text)
+    Ok(items)
 }
 
 // ---- outputs
 
 /// Adds a resource, behind a comma.
-fn push_output(alloc: Global, out: &mut Vec<u8>, name: &str) -> Result<(), AllocError>
-    ensures { OnOk result (out.new.items ≡ out.old.items ++ after_comma (output_json name.now)) }
+fn push_output<'a>(alloc: Global, out: &mut Vec<u8>, resource: &'a str) -> Result<(), AllocError>
+    ensures { OnOk result (out.new.items ≡ out.old.items ++ after_comma (output_json resource.now)) }
 {
-    let name = string_text(alloc, name)?;
-    let pieces = [
-        ",{\"resource\":".as_bytes(),
-        name.as_slice(),
-        "}".as_bytes(),
-    ];
-    push_pieces(out, &pieces)?;
-    Ok(())
+    push_item(alloc, out, &[("resource", Field::Text(resource))])
 }
 
 /// Adds a resource if the job puts it, behind a comma.
@@ -230,16 +203,6 @@ fn each_output(alloc: Global, job: &Job, resources: &[Resource]) -> Result<Vec<u
     Ok(out)
 }
 
-/// The resources that a job puts, as an array.
-fn outputs_text(alloc: Global, job: &Job, resources: &[Resource]) -> Result<Vec<u8>, AllocError>
-    ensures { IfOk result (λ text. text.items
-        ≡ compact_text (list (flat_map (λ r. output_of (job_data job.now).plan r) (map resource_data resources.now)))) }
-{
-    let items = each_output(alloc, job, resources)?;
-    let text = array_text(alloc, &items)?;
-    Ok(text)
-}
-
 // ---- jobs
 
 /// Whether a schedule would make a build.
@@ -264,78 +227,95 @@ pub(crate) fn outlook_text(alloc: Global, outlook: Outlook) -> Result<Vec<u8>, A
     string_text(alloc, words.as_str())
 }
 
-/// Adds a job with this outlook, behind a comma.
+/// Adds a job of this name, with the texts of its newest builds, of what its next build would be, and of its inputs and outputs,
+/// of which each stands behind a comma; all behind a comma.
+fn push_job_of<'a>(
+    alloc: Global,
+    out: &mut Vec<u8>,
+    name: &'a str,
+    outlook: Outlook,
+    finished: &'a [u8],
+    inputs: &'a [u8],
+    words: &'a [u8],
+    running: &'a [u8],
+    outputs: &'a [u8],
+) -> Result<(), AllocError>
+    ensures { (f r : Option BuildData) (is os : List Data) → finished.now ≡ compact_text (newest_json f)
+        → array_of inputs.now ≡ compact_text (list is) → words.now ≡ compact_text (string (outlook_words outlook))
+        → running.now ≡ compact_text (newest_json r) → array_of outputs.now ≡ compact_text (list os)
+        → OnOk result (out.new.items ≡ out.old.items ++ after_comma (job_object name.now outlook f is r os)) }
+{
+    let members = [
+        ("finished_build", Field::Json(finished)),
+        ("has_new_inputs", Field::Flag(is_due(outlook))),
+        ("inputs", Field::Items(inputs)),
+        ("name", Field::Text(name)),
+        ("next", Field::Json(words)),
+        ("next_build", Field::Json(running)),
+        ("outputs", Field::Items(outputs)),
+    ];
+    push_item(alloc, out, &members)
+}
+
+/// Adds a job with what its next build would be, behind a comma.
 fn push_job(
     alloc: Global,
     out: &mut Vec<u8>,
     resources: &[Resource],
     history: &History,
-    job: &Job,
-    outlook: Outlook,
+    next: &NextBuild<'_>,
 ) -> Result<(), AllocError>
-    ensures { OnOk result (out.new.items ≡ out.old.items
-        ++ after_comma (job_json (map resource_data resources.now) history.now (job_data job.now) outlook)) }
+    ensures { OnOk result (out.new.items ≡ out.old.items ++ after_comma (job_json
+        (map resource_data resources.now) history.now (job_data next.now.job.now) next.now.outlook)) }
 {
-    let finished = newest_text(alloc, newest_that(history, false, job.name.as_str()))?;
-    let inputs = inputs_text(alloc, job)?;
-    let name = string_text(alloc, job.name.as_str())?;
-    let words = outlook_text(alloc, outlook)?;
-    let running = newest_text(alloc, newest_that(history, true, job.name.as_str()))?;
-    let outputs = outputs_text(alloc, job, resources)?;
-    let pieces = [
-        ",{\"finished_build\":".as_bytes(),
-        finished.as_slice(),
-        ",\"has_new_inputs\":".as_bytes(),
-        bool_text(is_due(outlook)).as_bytes(),
-        ",\"inputs\":".as_bytes(),
-        inputs.as_slice(),
-        ",\"name\":".as_bytes(),
-        name.as_slice(),
-        ",\"next\":".as_bytes(),
-        words.as_slice(),
-        ",\"next_build\":".as_bytes(),
-        running.as_slice(),
-        ",\"outputs\":".as_bytes(),
-        outputs.as_slice(),
-        "}".as_bytes(),
-    ];
-    push_pieces(out, &pieces)?;
+    let name = next.job.name.as_str();
+    let finished = newest_text(alloc, newest_that(history, false, name))?;
+    let inputs = inputs_items(alloc, next.job)?;
+    let words = outlook_text(alloc, next.outlook)?;
+    let running = newest_text(alloc, newest_that(history, true, name))?;
+    let outputs = each_output(alloc, next.job, resources)?;
+    push_job_of(
+        alloc,
+        out,
+        name,
+        next.outlook,
+        &finished,
+        &inputs,
+        &words,
+        &running,
+        &outputs,
+    )?;
     Ok(())
 }
 
-/// The jobs of a core's pipeline, each behind a comma.
-fn each_job(alloc: Global, core: &Core, pipeline: &Pipeline) -> Result<Vec<u8>, AllocError>
-    requires { (core_data core.now).pipeline ≡ Some (pipeline_data pipeline.now) }
-    ensures { let c = core_data core.now in let p = pipeline_data pipeline.now in
-        IfOk result (λ out. AreJobItems p c.history c.budget p.jobs out.items) }
+/// The jobs, each behind a comma.
+fn each_job(
+    alloc: Global,
+    resources: &[Resource],
+    history: &History,
+    next: &[NextBuild<'_>],
+) -> Result<Vec<u8>, AllocError>
+    ensures { IfOk result (λ out. out.items ≡ flat_map (λ n. after_comma (job_json
+        (map resource_data resources.now) history.now (job_data n.job.now) n.outlook)) next.now) }
 {
     let mut out = Vec::new(alloc);
-    for job in pipeline.jobs() {
-        let outlook = outlook_of(alloc, core, pipeline, job)?;
-        push_job(
-            alloc,
-            &mut out,
-            pipeline.resources(),
-            core.history(),
-            job,
-            outlook,
-        )?;
+    for it in next {
+        push_job(alloc, &mut out, resources, history, it)?;
     }
     Ok(out)
 }
 
-/// The jobs of a core's pipeline as JSON on a line.
+/// The jobs as JSON on a line.
 pub(crate) fn jobs_json(
     alloc: Global,
-    core: &Core,
-    pipeline: &Pipeline,
+    resources: &[Resource],
+    history: &History,
+    next: &[NextBuild<'_>],
 ) -> Result<Vec<u8>, AllocError>
-    requires { (core_data core.now).pipeline ≡ Some (pipeline_data pipeline.now) }
-    ensures { let c = core_data core.now in let p = pipeline_data pipeline.now in
-        IfOk result (λ text. (ds : List Data) × AreJobsJson p c.history c.budget p.jobs ds
-        × (text.items ≡ json_line (list ds))) }
+    ensures { IfOk result (λ text. text.items
+        ≡ json_line (jobs_json (map resource_data resources.now) history.now (map next_data next.now))) }
 {
-    let items = each_job(alloc, core, pipeline)?;
+    let items = each_job(alloc, resources, history, next)?;
     let text = array_line(alloc, &items)?;
     Ok(text)
 }

@@ -22,7 +22,7 @@ pub(crate) fn bool_text(value: bool) -> &'static str
 }
 
 /// What follows the first byte.
-fn without_first(text: &[u8]) -> &[u8]
+pub(crate) fn without_first(text: &[u8]) -> &[u8]
     ensures { result.now ≡ drop 1 text.now }
 {
     text.get(1..).unwrap_or(&[])

@@ -11,17 +11,24 @@
 
 mod asked;
 mod build_certificate;
+mod builds;
 mod cause;
 mod certificate;
 mod edge;
 mod explain;
 mod explain_json;
+mod explain_lines;
+mod explained;
 mod graph;
 mod held;
 mod jobs_json;
+mod joint;
 mod json;
 mod label;
 mod lines;
+mod newest;
+mod next_build;
+mod object;
 mod outlook;
 mod past;
 mod print;
@@ -35,11 +42,14 @@ mod show;
 mod shown;
 mod shows;
 mod standing;
+mod stop;
 mod subject;
 mod taken;
 mod texts;
 mod trace;
 mod trace_json;
+mod unmet;
+mod versions;
 mod witness;
 mod words;
 
@@ -53,8 +63,9 @@ pub use print::{
     print_new, print_pinned, print_pipeline, print_refused_job, print_unpinned, word_of,
 };
 pub use printed::Printed;
-pub use reason::Reason;
+pub use reason::{PinnedBy, Reason};
 pub use show::Show;
 pub use shown::{ShowFault, Shown};
 pub use shows::AsText;
+pub use stop::Stop;
 pub use subject::Subject;

@@ -1,11 +1,18 @@
 //! Why an input of a job's next build doesn't take a place that is newer than the one it takes.
-ghost use Rattle.std.specs.Prelude.{◌≡◌, ◌<◌, ◌≤◌, false, length, IfOk};
-ghost use Rattle.ccr_lines.specs.Reasons.{subject_data, is_allowed, has_moved, first_unmoved, is_preferred, IsOpen, IsReason, IsSubject};
+ghost use Rattle.std.specs.Prelude.{◌≡◌, ◌<◌, true, false, length, Some, IfOk};
+ghost use Rattle.ccr_pipeline.specs.Inputs.{input_data};
+ghost use Rattle.ccr_problem.specs.ProblemOf.{is_disabled_at};
+ghost use Rattle.ccr_lines.specs.Reasons.{subject_data, scope_at, is_allowed, has_moved, first_unmoved, is_preferred, IsOpen, is_excluded, pinned_by, IsReason, IsSubject};
 
+use crate::explain::scope_at;
+use crate::stop::{Stop, stop_of};
 use crate::subject::Subject;
+use crate::trace::meets_at;
+use crate::words::job_name;
 use ccr_choice::possible::has_place;
 use ccr_explain::{ClashingDemands, Explanation, why_not};
 use ccr_index::Index;
+use ccr_pipeline::Input;
 use std::alloc::{AllocError, Global};
 
 /// Why an input doesn't take a place that is newer than the one it takes.
@@ -14,15 +21,24 @@ pub enum Reason {
     /// Its version is disabled.
     Disabled,
     /// A pin excludes its version.
-    Pinned,
-    /// No successful build of this job of the problem, which the input names, moved it.
-    Unmoved(u32),
+    Pinned(PinnedBy),
+    /// It hasn't passed a job that the input names, and stopped here on the way.
+    Stopped(Stop),
     /// Others come first, since the input takes every version in turn.
     Later,
     /// These demands exclude each other, where the input takes it and no input before it gets worse.
     Clash(ClashingDemands),
     /// The budget, this many nodes, didn't suffice to find such demands.
     OverBudget(u32),
+}
+
+/// Where a pin comes from.
+#[derive(Clone, Copy, PartialEq, Eq)]
+pub enum PinnedBy {
+    /// The command `pin-resource`.
+    Command,
+    /// The `version` of the resource or of the get in the pipeline.
+    Pipeline,
 }
 
 /// Whether a place is one of those that are allowed to an input.
@@ -67,24 +83,73 @@ fn is_preferred(subject: &Subject<'_>, input: usize, place: u32) -> bool
     ccr_choice::is_preferred(subject.index.input(input).after(), place, taken)
 }
 
+/// Whether the pin by command of an input's resource excludes a place.
+fn is_excluded(subject: &Subject<'_>, input: &Input, place: u32) -> bool
+    ensures { result ≡ is_excluded (subject_data subject.now) (input_data input.now) place }
+{
+    match subject.history.pin(input.resource.as_str()) {
+        Some(pin) => !meets_at(subject.history, pin, scope_at(subject, input), place),
+        None => false,
+    }
+}
+
+/// Which pin excludes a place that isn't allowed to an input.
+fn pinned_by(subject: &Subject<'_>, input: &Input, place: u32) -> PinnedBy
+    ensures { result ≡ pinned_by (subject_data subject.now) (input_data input.now) place }
+{
+    if is_excluded(subject, input, place) {
+        PinnedBy::Command
+    } else {
+        PinnedBy::Pipeline
+    }
+}
+
+/// Where a place stopped that hasn't passed this job of the problem.
+fn stopped(
+    alloc: Global,
+    subject: &Subject<'_>,
+    number: usize,
+    input: &Input,
+    place: u32,
+    job: u32,
+) -> Result<Reason, AllocError>
+    requires enabled { let s = subject_data subject.now in
+        is_disabled_at s.history (scope_at s (input_data input.now)) place ≡ false }
+    requires allowed { is_allowed (subject_data subject.now).problem number place ≡ true }
+    requires unmoved { first_unmoved (subject_data subject.now).problem number place ≡ Some job }
+    ensures { IfOk result (IsReason (subject_data subject.now) number (input_data input.now) place) }
+{
+    let stop = stop_of(
+        alloc,
+        subject.pipeline,
+        subject.history,
+        (scope_at(subject, input), place),
+        job_name(subject.jobs, job as usize),
+    )?;
+    Ok(Reason::Stopped(stop))
+}
+
 /// The demands that exclude each other where an input takes a place and no input before it gets worse, and nothing concerns the
 /// place alone.
 fn clash_at(
     alloc: Global,
     subject: &Subject<'_>,
-    input: usize,
+    number: usize,
+    input: &Input,
     place: u32,
 ) -> Result<Reason, AllocError>
     requires subject { IsSubject subject.now }
-    requires input { input < length (subject_data subject.now).inputs }
-    requires opened { IsOpen (subject_data subject.now) input place }
-    ensures { IfOk result (IsReason (subject_data subject.now) input place false) }
+    requires input { number < length (subject_data subject.now).inputs }
+    requires enabled { let s = subject_data subject.now in
+        is_disabled_at s.history (scope_at s (input_data input.now)) place ≡ false }
+    requires opened { IsOpen (subject_data subject.now) number place }
+    ensures { IfOk result (IsReason (subject_data subject.now) number (input_data input.now) place) }
 {
     let shown = why_not(
         alloc,
         subject.index,
         subject.choice,
-        input,
+        number,
         place,
         subject.budget,
     )?;
@@ -95,29 +160,29 @@ fn clash_at(
     }
 }
 
-/// Why an input doesn't take a place, which may be disabled. The only error is out of memory.
+/// Why an input, which has this number, doesn't take a place. The only error is out of memory.
 pub(crate) fn reason_of(
     alloc: Global,
     subject: &Subject<'_>,
-    input: usize,
+    number: usize,
+    input: &Input,
     place: u32,
-    is_disabled: bool,
 ) -> Result<Reason, AllocError>
     requires subject { IsSubject subject.now }
-    requires input { input < length (subject_data subject.now).inputs }
-    ensures { IfOk result (IsReason (subject_data subject.now) input place is_disabled) }
+    requires input { number < length (subject_data subject.now).inputs }
+    ensures { IfOk result (IsReason (subject_data subject.now) number (input_data input.now) place) }
 {
-    if is_disabled {
+    if subject.history.is_disabled(scope_at(subject, input), place) {
         return Ok(Reason::Disabled);
     }
-    if !is_allowed(subject.index, input, place) {
-        return Ok(Reason::Pinned);
+    if !is_allowed(subject.index, number, place) {
+        return Ok(Reason::Pinned(pinned_by(subject, input, place)));
     }
-    if let Some(job) = first_unmoved(subject.index, input, place) {
-        return Ok(Reason::Unmoved(job));
+    if let Some(job) = first_unmoved(subject.index, number, place) {
+        return stopped(alloc, subject, number, input, place, job);
     }
-    if is_preferred(subject, input, place) {
-        clash_at(alloc, subject, input, place)
+    if is_preferred(subject, number, place) {
+        clash_at(alloc, subject, number, input, place)
     } else {
         Ok(Reason::Later)
     }

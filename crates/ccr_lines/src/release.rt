@@ -8,20 +8,27 @@ ghost use Rattle.ccr_pipeline.specs.Names.{has_name};
 ghost use Rattle.ccr_pipeline.specs.Pipelines.{pipeline_data};
 ghost use Rattle.ccr_core.specs.Cores.{core_data};
 ghost use Rattle.ccr_core.specs.State.{no_pipeline};
-ghost use Rattle.ccr_lines.specs.Releases.{key_at, resource_at, place_line, took_line, moved_line, is_pair, pairs_for, pairs_naming, passed_all, newest_together, witness_line, together_line, inputs_in_plan, together_lines, release_lines};
+ghost use Rattle.ccr_lines.specs.Releases.{key_at, resource_at, place_line, took_line, moved_line, is_pair, pairs_for, pairs_naming, passed_all, newest_together, witness_line, together_data, together, inputs_in_plan, all_together, release_lines};
 ghost use Rattle.ccr_lines.specs.ReleaseJson.{release_shown};
 ghost use Rattle.ccr_lines.specs.Shown.{needs, IsMade, IsUnshown};
 ghost use Rattle.ccr_core.specs.Commands as spec;
 
+use crate::builds::push_build;
 use crate::release_json::release_json;
 use crate::shown::ShowFault;
-use crate::shows::push_build;
 use crate::texts::push_line;
 use ccr_core::{Core, CoreFault, Form};
 use ccr_history::{BuildRef, History, Status};
 use ccr_pipeline::{Input, Job, Pipeline, inputs_of};
 use itoa::Buffer;
 use std::alloc::{AllocError, Global};
+
+/// A job with its newest build through which went together what a build took, if there is one.
+#[derive(Clone, Copy)]
+pub struct Together<'p> {
+    pub job: &'p str,
+    pub number: Option<u32>,
+}
 
 // ---- versions
 
@@ -212,7 +219,7 @@ pub(crate) fn has_pair(pairs: &[(u32, u32)], pair: (u32, u32)) -> bool
 }
 
 /// The pairs that passed a build's job with it.
-fn passed_pairs<'b>(build: &'b BuildRef<'_>) -> &'b [(u32, u32)]
+pub(crate) fn passed_pairs<'b>(build: &'b BuildRef<'_>) -> &'b [(u32, u32)]
     ensures { result.now ≡ passed_pairs build.now }
 {
     match build.status() {
@@ -266,36 +273,25 @@ pub(crate) fn newest_together(
     newest
 }
 
-/// Adds the number of the build of a job that shows that pairs passed it together, or that there is none.
-fn push_witness(text: &mut String, job: &str, number: Option<u32>) -> Result<(), AllocError>
-    ensures { OnOk result (string_bytes text.new ≡ string_bytes text.old ++ witness_line job.now number) }
-{
-    match number {
-        Some(number) => {
-            let mut buffer = Buffer::new();
-            push_line(text, &["together ", job, " ", buffer.format(number)])
-        }
-        None => push_line(text, &["no build of ", job, " moved them together"]),
-    }
-}
-
-/// Adds which of the first builds shows that pairs, which have to have passed a job, passed it together: nothing where there
-/// are none.
-fn push_together(
-    text: &mut String,
+/// Adds a job with its newest build among the first ones that shows that pairs, which have to have passed the job, passed it
+/// together: nothing where there are none.
+fn push_together<'p>(
+    found: &mut Vec<Together<'p>>,
     history: &History,
-    job: &str,
+    job: &'p str,
     pairs: &[(u32, u32)],
     before: usize,
 ) -> Result<(), AllocError>
     requires { before ≤ length history.now.builds }
-    ensures { OnOk result (string_bytes text.new ≡ string_bytes text.old
-        ++ together_line job.now pairs.now (take before history.now.builds)) }
+    ensures { OnOk result (map together_data found.new.items ≡ map together_data found.old.items
+        ++ together job.now pairs.now (take before history.now.builds)) }
 {
     if pairs.is_empty() {
         return Ok(());
     }
-    push_witness(text, job, newest_together(history, job, pairs, before))
+    let number = newest_together(history, job, pairs, before);
+    found.push(Together { job, number })?;
+    Ok(())
 }
 
 /// The inputs that a job has in a pipeline; none where it has no such job.
@@ -313,101 +309,110 @@ pub(crate) fn inputs_in_plan(
     }
 }
 
-/// Adds, for each of these jobs that the inputs of a build's job name in `passed`, the newest of the first builds that
-/// moved together what the build took for them.
-fn push_each_together(
+/// Those of these jobs that the inputs of a build's job name in `passed`, each with its newest build among the first ones
+/// that moved together what the build took for them.
+fn together_of<'p>(
     alloc: Global,
-    text: &mut String,
     history: &History,
-    jobs: &[Job],
+    jobs: &'p [Job],
     inputs: &[Input],
     build: &BuildRef<'_>,
     before: usize,
-) -> Result<(), AllocError>
+) -> Result<Vec<Together<'p>>, AllocError>
     requires { before ≤ length history.now.builds }
-    ensures { OnOk result (string_bytes text.new ≡ string_bytes text.old
-        ++ flat_map (λ j. together_line (job_data j).name
+    ensures { IfOk result (λ found. map together_data found.items
+        ≡ flat_map (λ j. together (job_data j).name
         (pairs_naming (job_data j).name (map input_data inputs.now) build.now.used)
         (take before history.now.builds)) jobs.now) }
 {
+    let mut found = Vec::new(alloc);
     for job in jobs {
         let pairs = pairs_naming(alloc, job.name.as_str(), inputs, build)?;
-        push_together(text, history, job.name.as_str(), &pairs, before)?;
+        push_together(&mut found, history, job.name.as_str(), &pairs, before)?;
     }
-    Ok(())
+    Ok(found)
+}
+
+/// The jobs that the inputs of a build's job name in `passed` today, each with its newest build among the first ones that
+/// moved together what the build took for them; none where there is no pipeline.
+fn all_together<'p>(
+    alloc: Global,
+    pipeline: Option<&'p Pipeline>,
+    history: &History,
+    build: &BuildRef<'_>,
+    before: usize,
+) -> Result<Vec<Together<'p>>, AllocError>
+    requires { before ≤ length history.now.builds }
+    ensures { let p = unwrap_or (option_map pipeline_data (option_copied pipeline.entry)) no_pipeline in
+        IfOk result (λ found. map together_data found.items
+        ≡ all_together p (take before history.now.builds) build.now) }
+{
+    let Some(pipeline) = pipeline else {
+        return Ok(Vec::new(alloc));
+    };
+    let inputs = inputs_in_plan(alloc, pipeline, build.job())?;
+    let found = together_of(alloc, history, pipeline.jobs(), &inputs, build, before)?;
+    Ok(found)
 }
 
 // ---- a build
 
-/// Adds, for each job that the inputs of a build's job name in `passed` today, the newest of the first builds that moved
-/// together what the build took for them; nothing where there is no pipeline.
-fn push_all_together(
-    alloc: Global,
-    text: &mut String,
-    pipeline: Option<&Pipeline>,
-    history: &History,
-    build: &BuildRef<'_>,
-    before: usize,
-) -> Result<(), AllocError>
-    requires { before ≤ length history.now.builds }
-    ensures { let p = unwrap_or (option_map pipeline_data (option_copied pipeline.entry)) no_pipeline in
-        OnOk result (string_bytes text.new ≡ string_bytes text.old
-        ++ together_lines p (take before history.now.builds) build.now) }
+/// Adds the number of the build of a job that shows that pairs passed it together, or that there is none.
+fn push_witness(text: &mut String, job: &str, number: Option<u32>) -> Result<(), AllocError>
+    ensures { OnOk result (string_bytes text.new ≡ string_bytes text.old ++ witness_line job.now number) }
 {
-    let Some(pipeline) = pipeline else {
-        return Ok(());
-    };
-    let inputs = inputs_in_plan(alloc, pipeline, build.job())?;
-    push_each_together(
-        alloc,
-        text,
-        history,
-        pipeline.jobs(),
-        &inputs,
-        build,
-        before,
-    )?;
+    match number {
+        Some(number) => {
+            let mut buffer = Buffer::new();
+            push_line(text, &["together ", job, " ", buffer.format(number)])
+        }
+        None => push_line(text, &["no build of ", job, " moved them together"]),
+    }
+}
+
+/// Adds the lines of jobs with the builds through which what a build took had gone together.
+fn push_witnesses(text: &mut String, together: &[Together<'_>]) -> Result<(), AllocError>
+    ensures { OnOk result (string_bytes text.new ≡ string_bytes text.old
+        ++ flat_map (λ t. witness_line t.job t.number) (map together_data together.now)) }
+{
+    for it in together {
+        push_witness(text, it.job, it.number)?;
+    }
     Ok(())
 }
 
-/// How a build stands, what it took, through which of the first builds that had gone together, and what it moved.
+/// How a build stands, what it took, through which builds that had gone together, and what it moved.
 fn release_text(
     alloc: Global,
-    pipeline: Option<&Pipeline>,
     history: &History,
     build: &BuildRef<'_>,
-    before: usize,
+    together: &[Together<'_>],
 ) -> Result<String, AllocError>
-    requires { before ≤ length history.now.builds }
-    ensures { let p = unwrap_or (option_map pipeline_data (option_copied pipeline.entry)) no_pipeline in
-        IfOk result (λ text. string_bytes text
-        ≡ release_lines p history.now.tables (take before history.now.builds) build.now) }
+    ensures { IfOk result (λ text. string_bytes text
+        ≡ release_lines history.now.tables build.now (map together_data together.now)) }
 {
     let mut text = String::new(alloc);
     push_build(&mut text, build)?;
     push_taken(alloc, &mut text, history, build)?;
-    push_all_together(alloc, &mut text, pipeline, history, build, before)?;
+    push_witnesses(&mut text, together)?;
     push_moved(alloc, &mut text, history, build.moved())?;
     Ok(text)
 }
 
-/// A build with what it took and moved, in one of the forms, where so many builds were made before it.
+/// The same in one of the forms.
 fn release_shown(
     alloc: Global,
     form: Form,
-    pipeline: Option<&Pipeline>,
     history: &History,
     build: &BuildRef<'_>,
-    before: usize,
+    together: &[Together<'_>],
 ) -> Result<Vec<u8>, AllocError>
-    requires { before ≤ length history.now.builds }
-    ensures { let p = unwrap_or (option_map pipeline_data (option_copied pipeline.entry)) no_pipeline in
-        IfOk result (λ text. text.items
-        ≡ release_shown form p history.now.tables (take before history.now.builds) build.now) }
+    ensures { IfOk result (λ text. text.items
+        ≡ release_shown form history.now.tables build.now (map together_data together.now)) }
 {
     match form {
-        Form::Lines => Ok(release_text(alloc, pipeline, history, build, before)?.into_bytes()),
-        Form::Json => release_json(alloc, pipeline, history, build, before),
+        Form::Lines => Ok(release_text(alloc, history, build, together)?.into_bytes()),
+        Form::Json => release_json(alloc, history, build, together),
     }
 }
 
@@ -428,13 +433,7 @@ pub(crate) fn release_made(
     };
     let history = core.history();
     let build = history.build_at(position as usize).unwrap();
-    let text = release_shown(
-        alloc,
-        form,
-        core.pipeline(),
-        history,
-        &build,
-        position as usize,
-    )?;
+    let together = all_together(alloc, core.pipeline(), history, &build, position as usize)?;
+    let text = release_shown(alloc, form, history, &build, &together)?;
     Ok((0, text))
 }

@@ -1,21 +1,17 @@
 //! What a build took and moved, and the earlier builds through which that went together, as JSON.
-ghost use Rattle.std.specs.Prelude.{◌≡◌, ◌≤◌, ◌++◌, length, map, take, flat_map, option_map, option_copied, unwrap_or, string_bytes, IfOk, OnOk};
+ghost use Rattle.std.specs.Prelude.{◌≡◌, ◌++◌, List, map, flat_map, string_bytes, IfOk, OnOk};
 ghost use Rattle.serde_json.specs.Written.{compact_text};
-ghost use Rattle.ccr_pipeline.specs.Inputs.{input_data};
-ghost use Rattle.ccr_pipeline.specs.JobData.{job_data};
-ghost use Rattle.ccr_pipeline.specs.Pipelines.{pipeline_data};
-ghost use Rattle.ccr_core.specs.State.{no_pipeline};
-ghost use Rattle.ccr_lines.specs.Json.{json_line, after_comma, array_of};
-ghost use Rattle.ccr_lines.specs.ReleaseJson.{version_json, took_json, moved_json, number_json, witness_json, together_json, all_together, release_text, release_json};
-ghost use Rattle.ccr_lines.specs.Releases.{pairs_naming};
+ghost use Rattle.serde_json.specs.Data.{Data};
+ghost use Rattle.ccr_lines.specs.Json.{list, json_line, after_comma, array_of};
+ghost use Rattle.ccr_lines.specs.Objects.{field_text};
+ghost use Rattle.ccr_lines.specs.ReleaseJson.{version_json, took_json, moved_json, number_json, witness_json, release_object, release_json};
+ghost use Rattle.ccr_lines.specs.Releases.{together_data};
 
-use crate::json::{array_text, on_a_line, string_text};
+use crate::json::on_a_line;
+use crate::object::{Field, push_item, push_object};
 use crate::print::word_of;
-use crate::release::{inputs_in_plan, newest_together, pairs_naming, resource_at, used_at};
-use crate::texts::push_pieces;
+use crate::release::{Together, resource_at, used_at};
 use ccr_history::{BuildRef, History};
-use ccr_pipeline::{Input, Job, Pipeline};
-use itoa::Buffer;
 use std::alloc::{AllocError, Global};
 
 // ---- versions
@@ -36,34 +32,24 @@ pub(crate) fn version_text(
 }
 
 /// Adds what a build took for an input, behind a comma.
-fn push_took(
+fn push_took<'a>(
     alloc: Global,
     out: &mut Vec<u8>,
-    history: &History,
-    input: &str,
+    history: &'a History,
+    input: &'a str,
     scope: u32,
     place: u32,
 ) -> Result<(), AllocError>
     ensures { OnOk result (out.new.items ≡ out.old.items ++ after_comma (took_json history.now.tables
         (record { input = input.now; scope = scope; place = place }))) }
 {
-    let name = string_text(alloc, input)?;
-    let mut number = Buffer::new();
-    let resource = string_text(alloc, resource_at(history, scope))?;
-    let version = version_text(alloc, history, scope, place)?;
-    let pieces = [
-        ",{\"name\":".as_bytes(),
-        name.as_slice(),
-        ",\"place\":".as_bytes(),
-        number.format(place).as_bytes(),
-        ",\"resource\":".as_bytes(),
-        resource.as_slice(),
-        ",\"version\":".as_bytes(),
-        version.as_bytes(),
-        "}".as_bytes(),
+    let members = [
+        ("name", Field::Text(input)),
+        ("place", Field::Number(place as u64)),
+        ("resource", Field::Text(resource_at(history, scope))),
+        ("version", Field::Version(history.version_at(scope, place))),
     ];
-    push_pieces(out, &pieces)?;
-    Ok(())
+    push_item(alloc, out, &members)
 }
 
 /// What a build took, each behind a comma.
@@ -80,28 +66,23 @@ fn each_taken(alloc: Global, history: &History, build: &BuildRef<'_>) -> Result<
 }
 
 /// Adds what a build moved, behind a comma.
-fn push_moved(
+fn push_moved<'a>(
     alloc: Global,
     out: &mut Vec<u8>,
-    history: &History,
+    history: &'a History,
     moved: (u32, u32),
 ) -> Result<(), AllocError>
     ensures { OnOk result (out.new.items ≡ out.old.items ++ after_comma (moved_json history.now.tables moved)) }
 {
-    let mut number = Buffer::new();
-    let resource = string_text(alloc, resource_at(history, moved.0))?;
-    let version = version_text(alloc, history, moved.0, moved.1)?;
-    let pieces = [
-        ",{\"place\":".as_bytes(),
-        number.format(moved.1).as_bytes(),
-        ",\"resource\":".as_bytes(),
-        resource.as_slice(),
-        ",\"version\":".as_bytes(),
-        version.as_bytes(),
-        "}".as_bytes(),
+    let members = [
+        ("place", Field::Number(moved.1 as u64)),
+        ("resource", Field::Text(resource_at(history, moved.0))),
+        (
+            "version",
+            Field::Version(history.version_at(moved.0, moved.1)),
+        ),
     ];
-    push_pieces(out, &pieces)?;
-    Ok(())
+    push_item(alloc, out, &members)
 }
 
 /// What a build moved, each behind a comma.
@@ -119,168 +100,85 @@ fn each_moved(alloc: Global, history: &History, moved: &[(u32, u32)]) -> Result<
 // ---- what went together
 
 /// The number of a build, as it is named; null where there is none.
-fn number_text(alloc: Global, found: Option<u32>) -> Result<Vec<u8>, AllocError>
-    ensures { IfOk result (λ text. text.items ≡ compact_text (number_json found)) }
+fn number_field<'a>(found: Option<u32>) -> Field<'a>
+    ensures { field_text result ≡ compact_text (number_json found) }
 {
-    let mut buffer = Buffer::new();
     match found {
-        Some(number) => string_text(alloc, buffer.format(number)),
-        None => Vec::from_slice(alloc, "null".as_bytes()),
+        Some(number) => Field::Numeral(number),
+        None => Field::Null,
     }
 }
 
 /// Adds the build of a job that shows that pairs passed it together, behind a comma; null where there is none.
-pub(crate) fn push_witness(
+pub(crate) fn push_witness<'a>(
     alloc: Global,
     out: &mut Vec<u8>,
-    job: &str,
+    job: &'a str,
     found: Option<u32>,
 ) -> Result<(), AllocError>
     ensures { OnOk result (out.new.items ≡ out.old.items ++ after_comma (witness_json job.now found)) }
 {
-    let job = string_text(alloc, job)?;
-    let name = number_text(alloc, found)?;
-    let pieces = [
-        ",{\"job_name\":".as_bytes(),
-        job.as_slice(),
-        ",\"name\":".as_bytes(),
-        name.as_slice(),
-        "}".as_bytes(),
+    let members = [
+        ("job_name", Field::Text(job)),
+        ("name", number_field(found)),
     ];
-    push_pieces(out, &pieces)?;
-    Ok(())
+    push_item(alloc, out, &members)
 }
 
-/// Adds which of the first builds shows that pairs, which have to have passed a job, passed it together, behind a comma:
-/// nothing where there are none.
-fn push_together(
-    alloc: Global,
-    out: &mut Vec<u8>,
-    history: &History,
-    job: &str,
-    pairs: &[(u32, u32)],
-    before: usize,
-) -> Result<(), AllocError>
-    requires { before ≤ length history.now.builds }
-    ensures { OnOk result (out.new.items ≡ out.old.items
-        ++ flat_map after_comma (together_json job.now pairs.now (take before history.now.builds))) }
-{
-    if pairs.is_empty() {
-        return Ok(());
-    }
-    push_witness(
-        alloc,
-        out,
-        job,
-        newest_together(history, job, pairs, before),
-    )
-}
-
-/// For each of these jobs that the inputs of a build's job name in `passed`, the newest of the first builds that moved
-/// together what the build took for them, each behind a comma.
-fn each_together(
-    alloc: Global,
-    history: &History,
-    jobs: &[Job],
-    inputs: &[Input],
-    build: &BuildRef<'_>,
-    before: usize,
-) -> Result<Vec<u8>, AllocError>
-    requires { before ≤ length history.now.builds }
+/// Jobs with the builds through which what a build took had gone together, each behind a comma.
+fn each_together(alloc: Global, together: &[Together<'_>]) -> Result<Vec<u8>, AllocError>
     ensures { IfOk result (λ out. out.items
-        ≡ flat_map (λ j. flat_map after_comma (together_json (job_data j).name
-        (pairs_naming (job_data j).name (map input_data inputs.now) build.now.used)
-        (take before history.now.builds))) jobs.now) }
+        ≡ flat_map (λ t. after_comma (witness_json (together_data t).job (together_data t).number)) together.now) }
 {
     let mut out = Vec::new(alloc);
-    for job in jobs {
-        let pairs = pairs_naming(alloc, job.name.as_str(), inputs, build)?;
-        push_together(alloc, &mut out, history, job.name.as_str(), &pairs, before)?;
+    for it in together {
+        push_witness(alloc, &mut out, it.job, it.number)?;
     }
-    Ok(out)
-}
-
-/// For each job that the inputs of a build's job name in `passed` today, the newest of the first builds that moved together
-/// what the build took for them, each behind a comma; nothing where there is no pipeline.
-fn all_together(
-    alloc: Global,
-    pipeline: Option<&Pipeline>,
-    history: &History,
-    build: &BuildRef<'_>,
-    before: usize,
-) -> Result<Vec<u8>, AllocError>
-    requires { before ≤ length history.now.builds }
-    ensures { let p = unwrap_or (option_map pipeline_data (option_copied pipeline.entry)) no_pipeline in
-        IfOk result (λ out. out.items
-        ≡ flat_map after_comma (all_together p (take before history.now.builds) build.now)) }
-{
-    let Some(pipeline) = pipeline else {
-        return Ok(Vec::new(alloc));
-    };
-    let inputs = inputs_in_plan(alloc, pipeline, build.job())?;
-    let out = each_together(alloc, history, pipeline.jobs(), &inputs, build, before)?;
     Ok(out)
 }
 
 // ---- a build
 
-/// A build with these texts of what it took, of what it moved, and of the builds through which that had gone together. In each
-/// of them, each value stands behind a comma.
-fn build_text(
+/// A build with what it took, what it moved, and the builds through which that had gone together, of which each stands behind
+/// a comma.
+fn release_object<'a>(
     alloc: Global,
-    build: &BuildRef<'_>,
-    taken: &[u8],
-    moved: &[u8],
-    together: &[u8],
+    build: &'a BuildRef<'_>,
+    inputs: &'a [u8],
+    moved: &'a [u8],
+    together: &'a [u8],
 ) -> Result<Vec<u8>, AllocError>
-    ensures { IfOk result (λ text. text.items
-        ≡ release_text build.now (array_of taken.now) (array_of moved.now) (array_of together.now)) }
+    ensures { (us ms ts : List Data) → array_of inputs.now ≡ compact_text (list us)
+        → array_of moved.now ≡ compact_text (list ms) → array_of together.now ≡ compact_text (list ts)
+        → IfOk result (λ text. text.items ≡ compact_text (release_object build.now us ms ts)) }
 {
-    let inputs = array_text(alloc, taken)?;
-    let job = string_text(alloc, build.job())?;
-    let moved = array_text(alloc, moved)?;
-    let mut number = Buffer::new();
-    let name = string_text(alloc, number.format(build.number()))?;
-    let word = string_text(alloc, word_of(build.status()))?;
-    let together = array_text(alloc, together)?;
-    let pieces = [
-        "{\"inputs\":".as_bytes(),
-        inputs.as_slice(),
-        ",\"job_name\":".as_bytes(),
-        job.as_slice(),
-        ",\"moved\":".as_bytes(),
-        moved.as_slice(),
-        ",\"name\":".as_bytes(),
-        name.as_slice(),
-        ",\"status\":".as_bytes(),
-        word.as_slice(),
-        ",\"together\":".as_bytes(),
-        together.as_slice(),
-        "}".as_bytes(),
+    let members = [
+        ("inputs", Field::Items(inputs)),
+        ("job_name", Field::Text(build.job())),
+        ("moved", Field::Items(moved)),
+        ("name", Field::Numeral(build.number())),
+        ("status", Field::Text(word_of(build.status()))),
+        ("together", Field::Items(together)),
     ];
-    let mut text = Vec::new(alloc);
-    push_pieces(&mut text, &pieces)?;
-    Ok(text)
+    let mut out = Vec::new(alloc);
+    push_object(alloc, &mut out, &members)?;
+    Ok(out)
 }
 
-/// A build with what it took, through which of the first builds that had gone together, and what it moved, as JSON on a
-/// line.
+/// A build with what it took, through which builds that had gone together, and what it moved, as JSON on a line.
 pub(crate) fn release_json(
     alloc: Global,
-    pipeline: Option<&Pipeline>,
     history: &History,
     build: &BuildRef<'_>,
-    before: usize,
+    together: &[Together<'_>],
 ) -> Result<Vec<u8>, AllocError>
-    requires { before ≤ length history.now.builds }
-    ensures { let p = unwrap_or (option_map pipeline_data (option_copied pipeline.entry)) no_pipeline in
-        IfOk result (λ text. text.items
-        ≡ json_line (release_json p history.now.tables (take before history.now.builds) build.now)) }
+    ensures { IfOk result (λ text. text.items
+        ≡ json_line (release_json history.now.tables build.now (map together_data together.now))) }
 {
-    let taken = each_taken(alloc, history, build)?;
+    let inputs = each_taken(alloc, history, build)?;
     let moved = each_moved(alloc, history, build.moved())?;
-    let together = all_together(alloc, pipeline, history, build, before)?;
-    let text = build_text(alloc, build, &taken, &moved, &together)?;
+    let together = each_together(alloc, together)?;
+    let text = release_object(alloc, build, &inputs, &moved, &together)?;
     let line = on_a_line(text)?;
     Ok(line)
 }

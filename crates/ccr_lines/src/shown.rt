@@ -9,10 +9,10 @@ use std::alloc::AllocError;
 /// shown, where there are two.
 #[derive(Clone, Copy)]
 pub enum Shown<'a> {
-    /// How each build stands, in order of making.
-    Builds,
+    /// How the builds of the job of this name stand, or of all jobs, in order of making; the newest ones, so many, or all.
+    Builds(Option<&'a str>, Option<u32>, Form),
     /// The versions of the resource of this name, each with its place.
-    Versions(&'a str),
+    Versions(&'a str, Form),
     /// The problem of the next build of the job of this name.
     Problem(&'a str),
     /// The proof of the choice for the next build of the job of this name, or that there is none.

@@ -3,22 +3,23 @@ ghost use Rattle.std.specs.Prelude.{◌≡◌, ◌++◌, Some, map, flat_map, op
 ghost use Rattle.ccr_pipeline.specs.JobData.{resource_data, job_data};
 ghost use Rattle.ccr_pipeline.specs.Pipelines.{pipeline_data};
 ghost use Rattle.ccr_core.specs.Cores.{core_data};
-ghost use Rattle.ccr_lines.specs.JobsJson.{AreJobs};
+ghost use Rattle.ccr_lines.specs.JobsJson.{jobs_shown, AreJobs};
 ghost use Rattle.ccr_lines.specs.ResourcesJson.{resources_shown};
 ghost use Rattle.ccr_lines.specs.Shown.{needs, IsMade, IsUnshown};
 ghost use Rattle.ccr_core.specs.Commands as spec;
-ghost use Rattle.ccr_lines.specs.Standing.{pin_words, resource_line, resources_lines, newest_words, newest_build, job_state, AreJobsShown};
+ghost use Rattle.ccr_lines.specs.Standing.{pin_words, resource_line, resources_lines, newest_words, newest_build, next_data, job_state, jobs_lines, AreNext};
 
 use crate::held::pipeline_held;
 use crate::jobs_json::jobs_json;
-use crate::outlook::{Outlook, outlook_of, push_outlook};
+use crate::next_build::NextBuild;
+use crate::outlook::{outlook_of, push_outlook};
 use crate::print::word_of;
 use crate::resources_json::resources_json;
 use crate::shown::ShowFault;
 use crate::texts::push_line;
 use ccr_core::{Core, Form};
 use ccr_history::{History, Pin};
-use ccr_pipeline::{Job, Pipeline, Resource};
+use ccr_pipeline::{Pipeline, Resource};
 use itoa::Buffer;
 use std::alloc::{AllocError, Global};
 
@@ -143,51 +144,90 @@ fn push_newest(text: &mut String, history: &History, job: &str) -> Result<(), Al
     text.push_str(" ")
 }
 
-/// Adds the line of a job with this outlook.
-fn push_job(
-    text: &mut String,
-    history: &History,
-    job: &Job,
-    outlook: Outlook,
-) -> Result<(), AllocError>
+/// Adds the line of a job with what its next build would be.
+fn push_job(text: &mut String, history: &History, next: &NextBuild<'_>) -> Result<(), AllocError>
     ensures { OnOk result (string_bytes text.new ≡ string_bytes text.old
-        ++ job_state history.now (job_data job.now) outlook) }
+        ++ job_state history.now (job_data next.now.job.now) next.now.outlook) }
 {
-    text.push_str(job.name.as_str())?;
-    push_newest(text, history, job.name.as_str())?;
-    push_outlook(text, outlook)?;
+    text.push_str(next.job.name.as_str())?;
+    push_newest(text, history, next.job.name.as_str())?;
+    push_outlook(text, next.outlook)?;
     text.push_str("\n")
 }
 
-/// The lines of the jobs of a core's pipeline.
-fn jobs_text(alloc: Global, core: &Core, pipeline: &Pipeline) -> Result<String, AllocError>
-    requires { (core_data core.now).pipeline ≡ Some (pipeline_data pipeline.now) }
-    ensures { let c = core_data core.now in let p = pipeline_data pipeline.now in
-        IfOk result (λ text. AreJobsShown p c.history c.budget p.jobs (string_bytes text)) }
+/// The lines of these jobs.
+fn jobs_text(alloc: Global, history: &History, next: &[NextBuild<'_>]) -> Result<String, AllocError>
+    ensures { IfOk result (λ text. string_bytes text
+        ≡ flat_map (λ n. job_state history.now (job_data n.job.now) n.outlook) next.now) }
 {
     let mut text = String::new(alloc);
-    for job in pipeline.jobs() {
-        let outlook = outlook_of(alloc, core, pipeline, job)?;
-        push_job(&mut text, core.history(), job, outlook)?;
+    for it in next {
+        push_job(&mut text, history, it)?;
     }
     Ok(text)
 }
 
-/// The jobs of a core's pipeline, in one of the forms.
+/// The lines of these jobs, as bytes.
+fn jobs_lines(
+    alloc: Global,
+    history: &History,
+    next: &[NextBuild<'_>],
+) -> Result<Vec<u8>, AllocError>
+    ensures { IfOk result (λ text. text.items ≡ jobs_lines history.now (map next_data next.now)) }
+{
+    let text = jobs_text(alloc, history, next)?;
+    Ok(text.into_bytes())
+}
+
+/// These jobs, in one of the forms.
 fn jobs_shown(
+    alloc: Global,
+    form: Form,
+    resources: &[Resource],
+    history: &History,
+    next: &[NextBuild<'_>],
+) -> Result<Vec<u8>, AllocError>
+    ensures { IfOk result (λ text. text.items
+        ≡ jobs_shown form (map resource_data resources.now) history.now (map next_data next.now)) }
+{
+    match form {
+        Form::Lines => jobs_lines(alloc, history, next),
+        Form::Json => jobs_json(alloc, resources, history, next),
+    }
+}
+
+/// The jobs of a core's pipeline, each with what its next build would be.
+fn next_builds<'p>(
+    alloc: Global,
+    core: &Core,
+    pipeline: &'p Pipeline,
+) -> Result<Vec<NextBuild<'p>>, AllocError>
+    requires { (core_data core.now).pipeline ≡ Some (pipeline_data pipeline.now) }
+    ensures { let c = core_data core.now in let p = pipeline_data pipeline.now in
+        IfOk result (λ next. AreNext p c.history c.budget p.jobs (map next_data next.items)) }
+{
+    let mut next = Vec::new(alloc);
+    for job in pipeline.jobs() {
+        let outlook = outlook_of(alloc, core, pipeline, job)?;
+        next.push(NextBuild { job, outlook })?;
+    }
+    Ok(next)
+}
+
+/// The jobs of a core's pipeline, with what their next builds would be, in one of the forms.
+fn jobs_text_of(
     alloc: Global,
     form: Form,
     core: &Core,
     pipeline: &Pipeline,
 ) -> Result<Vec<u8>, AllocError>
     requires { (core_data core.now).pipeline ≡ Some (pipeline_data pipeline.now) }
-    ensures { let c = core_data core.now in let p = pipeline_data pipeline.now in
-        IfOk result (λ text. AreJobs form p c.history c.budget p.jobs text.items) }
+    ensures { let c = core_data core.now in
+        IfOk result (λ text. AreJobs form (pipeline_data pipeline.now) c.history c.budget text.items) }
 {
-    match form {
-        Form::Lines => Ok(jobs_text(alloc, core, pipeline)?.into_bytes()),
-        Form::Json => jobs_json(alloc, core, pipeline),
-    }
+    let next = next_builds(alloc, core, pipeline)?;
+    let text = jobs_shown(alloc, form, pipeline.resources(), core.history(), &next)?;
+    Ok(text)
 }
 
 /// What is shown of the jobs of a core's pipeline.
@@ -200,6 +240,6 @@ pub(crate) fn jobs_made(alloc: Global, core: &Core, form: Form) -> Result<(u8, V
         Ok(pipeline) => pipeline,
         Err(fault) => return Err(ShowFault::Lacks(fault)),
     };
-    let text = jobs_shown(alloc, form, core, pipeline)?;
+    let text = jobs_text_of(alloc, form, core, pipeline)?;
     Ok((0, text))
 }

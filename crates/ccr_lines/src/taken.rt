@@ -44,7 +44,7 @@ fn place_in(build: &BuildRef<'_>, input: &str, scope: u32) -> Option<u32>
 }
 
 /// The place that a build took for an input, in the scope that the input's resource has today, if it took one there.
-fn place_for(
+pub(crate) fn place_for(
     pipeline: &Pipeline,
     history: &History,
     build: &BuildRef<'_>,

@@ -10,7 +10,7 @@ ghost use Rattle.ccr_lines.specs.Lines.{line};
 ghost use Rattle.ccr_lines.specs.Shown.{needs, IsMade, IsUnshown};
 ghost use Rattle.ccr_core.specs.Commands as spec;
 ghost use Rattle.ccr_lines.specs.TraceJson.{trace_shown};
-ghost use Rattle.ccr_lines.specs.Traces.{is_sought, has_taken, took_word, moved_word, went_line, went_line_if, trace_line, trace_lines};
+ghost use Rattle.ccr_lines.specs.Traces.{is_sought, has_taken, went, went_if, trace_of, took_word, moved_word, went_line, trace_lines};
 
 use crate::held::{pin_of, resource_held};
 use crate::print::word_of;
@@ -23,8 +23,18 @@ use ccr_history::{BuildRef, History, Pin, Status};
 use itoa::Buffer;
 use std::alloc::{AllocError, Global};
 
+/// What became of a version in a build: whether the build took it, and whether it moved it.
+#[derive(Drop)]
+pub struct Went<'h> {
+    pub build: BuildRef<'h>,
+    pub took: bool,
+    pub moved: bool,
+}
+
+// ---- what is sought
+
 /// Whether the version at a place of the scope of this number meets the pin.
-fn meets_at(history: &History, pin: &Pin, scope: u32, place: u32) -> bool
+pub(crate) fn meets_at(history: &History, pin: &Pin, scope: u32, place: u32) -> bool
     ensures { result ≡ option_map_or (λ v. meets v pin.now)
         (at_place place (versions_at scope history.now.tables)) false }
 {
@@ -46,7 +56,7 @@ fn is_sought(history: &History, resource: &str, pin: &Pin, scope: u32, place: u3
 }
 
 /// Whether a build took a version of the resource that meets the pin.
-pub(crate) fn has_taken(history: &History, resource: &str, pin: &Pin, build: &BuildRef<'_>) -> bool
+fn has_taken(history: &History, resource: &str, pin: &Pin, build: &BuildRef<'_>) -> bool
     ensures { result ≡ has_taken history.now.tables resource.now pin.now build.now }
 {
     for k in 0..build.used_count() {
@@ -59,7 +69,7 @@ pub(crate) fn has_taken(history: &History, resource: &str, pin: &Pin, build: &Bu
 }
 
 /// Whether one of these pairs is a place of a version of the resource that meets the pin.
-pub(crate) fn has_sought(history: &History, resource: &str, pin: &Pin, pairs: &[(u32, u32)]) -> bool
+fn has_sought(history: &History, resource: &str, pin: &Pin, pairs: &[(u32, u32)]) -> bool
     ensures { result ≡ list_any (λ q. is_sought history.now.tables resource.now pin.now q.0 q.1) pairs.now }
 {
     for pair in pairs {
@@ -97,6 +107,46 @@ fn moved_word(moved: bool, succeeded: bool) -> &'static str
     if succeeded { " passed" } else { " moved" }
 }
 
+// ---- the builds
+
+/// What became of a version in a build.
+fn went_in<'h>(history: &History, resource: &str, pin: &Pin, build: BuildRef<'h>) -> Went<'h>
+    ensures { result ≡ went history.now.tables resource.now pin.now build.entry }
+{
+    let took = has_taken(history, resource, pin, &build);
+    let moved = has_sought(history, resource, pin, build.moved());
+    Went { build, took, moved }
+}
+
+/// Adds what became of a version in a build, if it was taken or moved there.
+fn push_if<'h>(trace: &mut Vec<Went<'h>>, went: Went<'h>) -> Result<(), AllocError>
+    ensures { OnOk result (trace.new.items ≡ trace.old.items ++ went_if went.entry) }
+{
+    if went.took || went.moved {
+        trace.push(went)?;
+    }
+    Ok(())
+}
+
+/// The builds that took or moved a version of the resource that meets the pin.
+fn trace_of<'h>(
+    alloc: Global,
+    history: &'h History,
+    resource: &str,
+    pin: &Pin,
+) -> Result<Vec<Went<'h>>, AllocError>
+    ensures { IfOk result (λ trace. trace.items ≡ trace_of history.now resource.now pin.now) }
+{
+    let mut trace = Vec::new(alloc);
+    for k in 0..history.build_count() {
+        let build = history.build_at(k).unwrap();
+        push_if(&mut trace, went_in(history, resource, pin, build))?;
+    }
+    Ok(trace)
+}
+
+// ---- as lines
+
 /// Adds a job's build with these words.
 fn push_words<'a>(
     text: &mut String,
@@ -116,89 +166,40 @@ fn push_words<'a>(
     )
 }
 
-/// Adds a build with what became of a version there.
-fn push_went(
-    text: &mut String,
-    build: &BuildRef<'_>,
-    took: bool,
-    moved: bool,
-) -> Result<(), AllocError>
-    ensures { OnOk result (string_bytes text.new ≡ string_bytes text.old ++ went_line build.now took moved) }
+/// Adds the line of a build with what became of a version there.
+fn push_went_line(text: &mut String, went: &Went<'_>) -> Result<(), AllocError>
+    ensures { OnOk result (string_bytes text.new ≡ string_bytes text.old ++ went_line went.now) }
 {
-    let status = build.status();
-    let moved = moved_word(moved, is_succeeded(status));
+    let status = went.build.status();
+    let moved = moved_word(went.moved, is_succeeded(status));
     push_words(
         text,
-        build.job(),
-        build.number(),
+        went.build.job(),
+        went.build.number(),
         word_of(status),
-        took_word(took),
+        took_word(went.took),
         moved,
     )
 }
 
-/// Adds a build that took or moved a version; nothing of any other.
-fn push_went_if(
-    text: &mut String,
-    build: &BuildRef<'_>,
-    took: bool,
-    moved: bool,
-) -> Result<(), AllocError>
-    ensures { OnOk result (string_bytes text.new ≡ string_bytes text.old ++ went_line_if build.now took moved) }
-{
-    if took || moved {
-        push_went(text, build, took, moved)
-    } else {
-        Ok(())
-    }
-}
-
-/// Adds the line of a build that took or moved a version of the resource that meets the pin; nothing of any other.
-fn push_trace(
-    text: &mut String,
-    history: &History,
-    resource: &str,
-    pin: &Pin,
-    build: &BuildRef<'_>,
-) -> Result<(), AllocError>
-    ensures { OnOk result (string_bytes text.new ≡ string_bytes text.old
-        ++ trace_line history.now.tables resource.now pin.now build.now) }
-{
-    let took = has_taken(history, resource, pin, build);
-    let moved = has_sought(history, resource, pin, build.moved());
-    push_went_if(text, build, took, moved)
-}
-
-/// The lines of the builds that took or moved a version of the resource that meets the pin.
-fn trace_text(
-    alloc: Global,
-    history: &History,
-    resource: &str,
-    pin: &Pin,
-) -> Result<String, AllocError>
-    ensures { IfOk result (λ text. string_bytes text ≡ trace_lines history.now resource.now pin.now) }
+/// The lines of these builds.
+fn trace_lines(alloc: Global, trace: &[Went<'_>]) -> Result<String, AllocError>
+    ensures { IfOk result (λ text. string_bytes text ≡ trace_lines trace.now) }
 {
     let mut text = String::new(alloc);
-    for k in 0..history.build_count() {
-        let build = history.build_at(k).unwrap();
-        push_trace(&mut text, history, resource, pin, &build)?;
+    for went in trace {
+        push_went_line(&mut text, went)?;
     }
     Ok(text)
 }
 
-/// The builds that took or moved a version of the resource that meets the pin, in one of the forms.
-fn trace_shown(
-    alloc: Global,
-    form: Form,
-    history: &History,
-    resource: &str,
-    pin: &Pin,
-) -> Result<Vec<u8>, AllocError>
-    ensures { IfOk result (λ text. text.items ≡ trace_shown form history.now resource.now pin.now) }
+/// These builds, in one of the forms.
+fn trace_shown(alloc: Global, form: Form, trace: &[Went<'_>]) -> Result<Vec<u8>, AllocError>
+    ensures { IfOk result (λ text. text.items ≡ trace_shown form trace.now) }
 {
     match form {
-        Form::Lines => Ok(trace_text(alloc, history, resource, pin)?.into_bytes()),
-        Form::Json => trace_json(alloc, history, resource, pin),
+        Form::Lines => Ok(trace_lines(alloc, trace)?.into_bytes()),
+        Form::Json => trace_json(alloc, trace),
     }
 }
 
@@ -221,6 +222,7 @@ pub(crate) fn trace_made(
     let Some(pin) = pin_of(alloc, pin)? else {
         return Err(ShowFault::BadPin);
     };
-    let text = trace_shown(alloc, form, core.history(), resource, &pin)?;
+    let trace = trace_of(alloc, core.history(), resource, &pin)?;
+    let text = trace_shown(alloc, form, &trace)?;
     Ok((0, text))
 }

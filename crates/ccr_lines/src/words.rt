@@ -1,18 +1,21 @@
 //! Reasons and clashes in words.
-ghost use Rattle.std.specs.Prelude.{◌≡◌, ◌++◌, map, codes, decimal, string_bytes, option_copied, OnOk};
+ghost use Rattle.std.specs.Prelude.{◌≡◌, ◌++◌, map, decimal, string_bytes, option_copied, OnOk};
 ghost use Rattle.ccr_pipeline.specs.Inputs.{input_data};
-ghost use Rattle.ccr_lines.specs.Reasons.{question_of, subject_data, input_name, job_name, no_worse_words, allowed_words, demand_words, further_words, demands_words, fewer_words, clash_words, reason_words};
+ghost use Rattle.ccr_lines.specs.ClashWords.{question_of, input_name, job_name, no_worse_words, allowed_words, demand_words, further_words, demands_words, fewer_words, clash_words};
+ghost use Rattle.ccr_lines.specs.Reasons.{subject_data, pinned_words, reason_words};
 
 use crate::asked::Asked;
-use crate::reason::Reason;
+use crate::joint::push_taking;
+use crate::reason::{PinnedBy, Reason};
+use crate::stop::push_stop;
 use crate::subject::Subject;
 use ccr_explain::{ClashingDemands, Demand};
 use ccr_pipeline::Input;
 use itoa::Buffer;
-use std::alloc::AllocError;
+use std::alloc::{AllocError, Global};
 
 /// The name of an input.
-fn input_name(inputs: &[Input], input: usize) -> &str
+pub(crate) fn input_name(inputs: &[Input], input: usize) -> &str
     ensures { result.now ≡ input_name (map input_data inputs.now) input }
 {
     match inputs.get(input) {
@@ -161,19 +164,19 @@ fn fewer_words(is_irreducible: bool) -> &'static str
     }
 }
 
-/// Adds that no build of a job moved a place.
-fn push_unmoved(text: &mut String, job: &str) -> Result<(), AllocError>
-    ensures { OnOk result (string_bytes text.new
-        ≡ string_bytes text.old ++ (codes "no build of " ++ (job.now ++ codes " moved it"))) }
+/// Which pin excludes a place.
+fn pinned_words(pin: PinnedBy) -> &'static str
+    ensures { result.now ≡ pinned_words pin }
 {
-    text.push_str("no build of ")?;
-    text.push_str(job)?;
-    text.push_str(" moved it")?;
-    Ok(())
+    match pin {
+        PinnedBy::Command => "pinned by pin-resource",
+        PinnedBy::Pipeline => "pinned by the pipeline",
+    }
 }
 
 /// Adds the reason why an input doesn't take a place.
 pub(crate) fn push_reason(
+    alloc: Global,
     text: &mut String,
     subject: &Subject<'_>,
     input: usize,
@@ -185,14 +188,10 @@ pub(crate) fn push_reason(
 {
     match reason {
         Reason::Disabled => text.push_str("disabled"),
-        Reason::Pinned => text.push_str("pinned"),
-        Reason::Unmoved(job) => push_unmoved(text, job_name(subject.jobs, *job as usize)),
+        Reason::Pinned(pin) => text.push_str(pinned_words(*pin)),
+        Reason::Stopped(stop) => push_stop(text, stop),
         Reason::Later => text.push_str("others come first"),
-        Reason::Clash(clash) => {
-            let choice = subject.choice;
-            let asked = Asked::Taking(input, place, &choice.places);
-            push_clash(text, asked, subject.inputs, subject.jobs, clash)
-        }
+        Reason::Clash(clash) => push_taking(alloc, text, subject, input, place, clash),
         Reason::OverBudget(budget) => push_number(text, "over budget ", *budget),
     }
 }

@@ -65,12 +65,35 @@ fn form_of(words: &str) -> (Form, &str) {
     }
 }
 
+/// The value behind a word that words begin with, if they do; and the words behind it.
+fn option_of<'w>(option: &str, words: &'w str) -> (Option<&'w str>, &'w str) {
+    let (first, others) = split(words);
+    if first != option {
+        return (None, words);
+    }
+    let (value, others) = split(others);
+    (Some(value), others)
+}
+
+/// The command that shows builds, where `--job` with a name and `--count` with a number may stand before.
+fn builds_of(alloc: Global, form: Form, words: &str) -> Result<Command, AllocError> {
+    let (job, words) = option_of("--job", words);
+    let (count, _) = option_of("--count", words);
+    let count = count.map(|count| number_of(count));
+    match job {
+        Some(job) => Ok(Command::Builds(Some(String::from_str(alloc, job)?), count, form)),
+        None => Ok(Command::Builds(None, count, form)),
+    }
+}
+
 /// The command of a line that may ask for JSON, if it is one.
 fn formed_of(alloc: Global, kind: &str, words: &str) -> Result<Option<Command>, AllocError> {
     let (form, words) = form_of(words);
     let (name, other) = split(words);
     let name = String::from_str(alloc, name)?;
     Ok(Some(match kind {
+        "builds" => builds_of(alloc, form, words)?,
+        "resource-versions" => Command::ResourceVersions(name, form),
         "resources" => Command::Resources(form),
         "jobs" => Command::Jobs(form),
         "explain" => Command::Explain(name, form),
@@ -86,7 +109,6 @@ fn command_of(alloc: Global, kind: &str, words: &str) -> Result<Option<Command>,
     Ok(Some(match kind {
         "set-pipeline" => Command::SetPipeline(name),
         "check-resource" => Command::CheckResource(name),
-        "resource-versions" => Command::ResourceVersions(name),
         "pin-resource" => {
             let (resource, pin) = split(words);
             let resource = String::from_str(alloc, resource)?;
@@ -105,7 +127,6 @@ fn command_of(alloc: Global, kind: &str, words: &str) -> Result<Option<Command>,
         "problem" => Command::Problem(name),
         "certify" => certify_of(alloc, words)?,
         "trigger-job" => Command::TriggerJob(name),
-        "builds" => Command::Builds,
         "get-pipeline" => Command::GetPipeline,
         "graph" => Command::Graph,
         "run" => Command::Run(number_of(words)),

@@ -1,5 +1,5 @@
 //! What a server is called for: a command, a round, a turn.
-ghost use Rattle.std.specs.Prelude.{◌≡◌, [], ◌∷◌, true, false, IfOk, Err};
+ghost use Rattle.std.specs.Prelude.{◌≡◌, [], ◌∷◌, true, false, IfOk, Err, option_copied, option_map, string_bytes};
 ghost use Rattle.ccr_task.specs.Places.{places_data};
 ghost use Rattle.ccr_core.specs.Cores.{core_data};
 ghost use Rattle.ccr_core.specs.Commands.{command_data};
@@ -18,6 +18,16 @@ use ccr_history::Storage;
 use ccr_lines::{Lines, Show, Shown};
 use ccr_process::Runner;
 use ccr_task::Shelf;
+
+/// The text, if there is one.
+fn text_of(text: &Option<String>) -> Option<&str>
+    ensures { option_copied result ≡ option_map string_bytes text.now }
+{
+    match text {
+        Some(text) => Some(text.as_str()),
+        None => None,
+    }
+}
 
 impl<R: Runner, S: Shelf, T: Storage> Server<R, S, T> {
     /// Does what is commanded: the exit status. Its lines are printed as what they tell of is stored; what changes nothing is
@@ -51,8 +61,8 @@ impl<R: Runner, S: Shelf, T: Storage> Server<R, S, T> {
         match command {
             Command::SetPipeline(path) => self.set_pipeline(path.as_str(), out),
             Command::CheckResource(resource) => self.check_resource(resource.as_str(), out),
-            Command::ResourceVersions(resource) => {
-                self.show(show, Shown::Versions(resource.as_str()), out)
+            Command::ResourceVersions(resource, form) => {
+                self.show(show, Shown::Versions(resource.as_str(), *form), out)
             }
             Command::PinResource(resource, pin) => {
                 self.pin_resource(resource.as_str(), pin.as_str(), out)
@@ -76,7 +86,9 @@ impl<R: Runner, S: Shelf, T: Storage> Server<R, S, T> {
                 out,
             ),
             Command::TriggerJob(job) => self.trigger_job(job.as_str(), out),
-            Command::Builds => self.show(show, Shown::Builds, out),
+            Command::Builds(job, count, form) => {
+                self.show(show, Shown::Builds(text_of(job), *count, *form), out)
+            }
             Command::Build(job, number, form) => {
                 self.show(show, Shown::Build(job.as_str(), *number, *form), out)
             }

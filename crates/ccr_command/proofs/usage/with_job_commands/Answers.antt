@@ -10,5 +10,5 @@ returns c =
     let two = with_command _ _ _ _ _ c.in_ok-line-2.ensures one c.in_ok-problem.ensures in
     let three = with_command _ _ _ _ _ c.in_ok-line-3.ensures two c.in_ok-trigger_job.ensures in
     let four = with_command _ _ _ _ _ c.in_ok-line-4.ensures three c.in_ok-abort_build.ensures in
-    let five = with_command _ _ _ _ _ c.in_ok-line-5.ensures four c.builds.ensures in
+    let five = with_command _ _ _ _ _ c.in_ok-line-5.ensures four c.in_ok-builds.ensures in
     IfOk-weaker c.subcommand-6.result _ _ (λ made h. with_command _ _ _ _ _ h five c.in_ok-run.ensures) c.subcommand-6.ensures

@@ -1,26 +1,11 @@
-use Rattle.std.proofs.Common.{◌++◌, ◌∙◌, sym, ap, map, string_bytes}
+use Rattle.std.proofs.Common.{sym, string_bytes}
 use Rattle.ccr_pipeline.specs.JobData.{job_data}
-use Rattle.ccr_pipeline.specs.Pipelines.{pipeline_data}
-use Rattle.ccr_core.specs.Cores.{core_data}
 use Rattle.ccr_lines.specs.Standing.{job_state}
-use Rattle.ccr_lines.proofs.Listing.{jobs_told, job_there}
+use Rattle.ccr_lines.proofs.Showing.{lines_on}
 use Rattle.ccr_lines.proofs.standing.jobs_text.Goals as goal
 
-pub outlook_of-requires-clause-there : goal.outlook_of-requires-clause-there
-outlook_of-requires-clause-there c =
-    job_there c.jobs-job-items.result.now (map job_data c.args.pipeline.now.jobs.items) c.loop-job.job-index
-    c.job-item.result c.loop-job.invariant.jobs c.loop-job-test.true (sym c.job-item.is)
-
-pub loop-job-preserved : goal.loop-job-preserved
-loop-job-preserved c =
-    let held = core_data c.args.core.now in
-    record {
-      jobs = c.loop-job.invariant.jobs;
-      told = jobs_told (pipeline_data c.args.pipeline.now) held.history held.budget c.jobs-job-items.result.now
-          c.loop-job.job-index c.job-item.result c.in_ok-outlook.outlook (string_bytes c.loop-job.text)
-          (string_bytes c.push_job.new.text) c.loop-job-test.true (sym c.job-item.is) c.loop-job.invariant.told
-          c.in_ok-outlook.ensures
-          (c.in_ok-push_job.ensures
-          ∙ ap (λ x. string_bytes c.loop-job.text ++ job_state x (job_data c.job-item.result) c.in_ok-outlook.outlook)
-          c.history.ensures);
-    }
+pub loop-it-preserved : goal.loop-it-preserved
+loop-it-preserved c =
+    lines_on (λ n. job_state c.args.history.now (job_data n.job.now) n.outlook) c.args.next.now c.loop-it.it-index
+    c.it-item.result (string_bytes c.loop-it.text) (string_bytes c.push_job.new.text) c.loop-it-test.true
+    (sym c.it-item.is) c.loop-it.invariant c.in_ok-push_job.ensures

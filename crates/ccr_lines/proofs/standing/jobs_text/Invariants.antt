@@ -1,13 +1,9 @@
-use Rattle.std.proofs.Common.{◌≡◌, map, take, string_bytes}
+use Rattle.std.proofs.Common.{◌≡◌, take, flat_map, string_bytes}
 use Rattle.ccr_pipeline.specs.JobData.{job_data}
-use Rattle.ccr_pipeline.specs.Pipelines.{pipeline_data}
-use Rattle.ccr_core.specs.Cores.{core_data}
-use Rattle.ccr_lines.specs.Standing.{AreJobsShown}
+use Rattle.ccr_lines.specs.Standing.{job_state}
 use Rattle.ccr_lines.proofs.standing.jobs_text.Given as goal
 
-abbrev pub invariant-loop-job : goal.invariant-loop-job
-invariant-loop-job l = record {
-  jobs : map job_data l.job-items ≡ (pipeline_data l.fn.pipeline).jobs;
-  told : AreJobsShown (pipeline_data l.fn.pipeline) (core_data l.fn.core).history (core_data l.fn.core).budget
-      (map job_data (take l.job-index l.job-items)) (string_bytes l.text);
-}
+abbrev pub invariant-loop-it : goal.invariant-loop-it
+invariant-loop-it l =
+    string_bytes l.text
+    ≡ flat_map (λ n. job_state l.history (job_data n.job.now) n.outlook) (take l.it-index l.next)

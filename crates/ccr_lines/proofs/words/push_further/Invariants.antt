@@ -1,6 +1,6 @@
 use Rattle.std.proofs.Common.{◌≡◌, ◌++◌, drop, map, string_bytes}
 use Rattle.ccr_pipeline.specs.Inputs.{input_data}
-use Rattle.ccr_lines.specs.Reasons.{question_of, further_words}
+use Rattle.ccr_lines.specs.ClashWords.{question_of, further_words}
 use Rattle.ccr_lines.proofs.words.push_further.Given as goal
 
 abbrev pub invariant-loop-demand : goal.invariant-loop-demand

@@ -1,0 +1,22 @@
+-- The job at which a version stopped, one job after another.
+use Rattle.std.proofs.Common.{◌≡◌, ℕ, suc, Option, Some, None, sym, ◌∙◌, ap}
+use Rattle.std.specs.Option.{option_map_or}
+use Rattle.ccr_history.specs.Text.{Text}
+use Rattle.ccr_history.specs.History.{HistoryData}
+use Rattle.ccr_pipeline.specs.Pipelines.{PipelineData}
+use Rattle.ccr_lines.specs.Stops.{next_stop, stopping_job}
+
+module _ (p : PipelineData) (h : HistoryData) (pair : ℕ × ℕ) where
+  -- one job on
+  pub stop_on : (n m : ℕ) (job next all : Text) (found : Option Text) → n ≡ suc m → found ≡ next_stop p h pair job
+      → found ≡ Some next → stopping_job n p h pair job ≡ all → stopping_job m p h pair next ≡ all
+  stop_on n m job next all found more is some before =
+      sym (ap (λ f. option_map_or (λ x. stopping_job m p h pair x) f job) (sym is ∙ some))
+      ∙ (sym (ap (λ k. stopping_job k p h pair job) more) ∙ before)
+
+  -- it stopped here
+  pub stop_here : (n m : ℕ) (job all : Text) (found : Option Text) → n ≡ suc m → found ≡ next_stop p h pair job
+      → found ≡ None → stopping_job n p h pair job ≡ all → job ≡ all
+  stop_here n m job all found more is none before =
+      sym (ap (λ f. option_map_or (λ x. stopping_job m p h pair x) f job) (sym is ∙ none))
+      ∙ (sym (ap (λ k. stopping_job k p h pair job) more) ∙ before)

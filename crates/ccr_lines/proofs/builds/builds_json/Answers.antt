@@ -1,0 +1,12 @@
+use Rattle.std.proofs.Common.{◌++◌, ◌∷◌, [], ◌∙◌, ap}
+use Rattle.ccr_lines.specs.Json.{array_of}
+use Rattle.ccr_lines.specs.JobsJson.{build_json}
+use Rattle.ccr_lines.specs.Listed.{builds_json}
+use Rattle.ccr_lines.proofs.JsonTexts.{array_of_each, line_is}
+use Rattle.ccr_lines.proofs.builds.builds_json.Goals as goal
+
+pub returns : goal.returns
+returns c =
+    line_is (builds_json c.args.builds.now) c.in_ok-items.items.items c.in_ok-text.text.items
+    (array_of_each (λ b. build_json b) c.args.builds.now c.in_ok-items.items.items c.in_ok-items.ensures)
+    (c.in_ok-text.ensures ∙ ap (λ t. array_of t ++ 10 ∷ []) c.deref.ensures.value)

@@ -1,0 +1,13 @@
+use Rattle.std.proofs.Common.{◌≡◌, map, take}
+use Rattle.ccr_pipeline.specs.JobData.{job_data}
+use Rattle.ccr_pipeline.specs.Pipelines.{pipeline_data}
+use Rattle.ccr_core.specs.Cores.{core_data}
+use Rattle.ccr_lines.specs.Standing.{next_data, AreNext}
+use Rattle.ccr_lines.proofs.standing.next_builds.Given as goal
+
+abbrev pub invariant-loop-job : goal.invariant-loop-job
+invariant-loop-job l = record {
+  jobs : map job_data l.job-items ≡ (pipeline_data l.fn.pipeline).jobs;
+  told : AreNext (pipeline_data l.fn.pipeline) (core_data l.fn.core).history (core_data l.fn.core).budget
+      (map job_data (take l.job-index l.job-items)) (map next_data l.next.items);
+}
