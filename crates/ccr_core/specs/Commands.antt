@@ -4,10 +4,12 @@ use Rattle.ccr_history.specs.Text.{Text}
 use Rattle.ccr_core.specs.declared.command.Command.{Command}
 use Rattle.ccr_core.specs.declared.command.Command.TheVariants as command
 use Rattle.ccr_core.specs.declared.form.Form.{Form}
+use Rattle.ccr_core.specs.declared.shown.Shown.{Shown}
+use Rattle.ccr_core.specs.declared.shown.Shown.TheVariants as value
 
--- what is shown: builds, all or those of a job, and of them all or the newest ones; the versions of a resource, the problem of a job's next build, the proof of the choice for
--- it, both in one text, or what it takes and why; the pipeline's text, its resources, its jobs, its graph; a build, or the builds that a
--- version went through; a build's problem with its choice, in one text. A form says how it is shown, where there are two
+-- what is shown: builds, all or those of a job, and of them all or the newest ones; the versions of a resource; the problem of a job's next
+-- build, the proof of the choice for it, both in one text, or what it takes and why; the pipeline's text, its resources, its jobs, its graph; a
+-- build, or the builds that a version went through; a build's problem with its choice, in one text. A form says how it is shown, where there are two
 pub data ShownData : Type 0 where
   builds : (form : Form) (job : Option Text) (count : Option ℕ) → ShownData
   versions : (form : Form) (resource : Text) → ShownData
@@ -36,25 +38,29 @@ pub data CommandData : Type 0 where
   shows : (what : ShownData) → CommandData
 
 -- what a value of the program's type stands for
+abbrev pub shown_data : Shown → ShownData
+shown_data (value.Builds job count form) = builds form (option_map string_bytes job) count
+shown_data (value.Versions resource form) = versions form (string_bytes resource)
+shown_data (value.Problem job) = problem (string_bytes job)
+shown_data (value.Proof job) = proof (string_bytes job)
+shown_data (value.Certificate job) = certificate (string_bytes job)
+shown_data (value.Explanation job form) = explanation form (string_bytes job)
+shown_data value.Pipeline = pipeline
+shown_data (value.Resources form) = resources form
+shown_data (value.Jobs form) = jobs form
+shown_data value.Graph = graph
+shown_data (value.Build job number form) = build form (string_bytes job) number
+shown_data (value.Trace resource pin form) = trace form (string_bytes resource) (string_bytes pin)
+shown_data (value.BuildCertificate job number) = build_certificate (string_bytes job) number
+
+-- what a value of the program's type stands for
 abbrev pub command_data : Command → CommandData
 command_data (command.SetPipeline path) = set_pipeline (string_bytes path)
 command_data (command.CheckResource resource) = check_resource (string_bytes resource)
-command_data (command.ResourceVersions resource form) = shows (versions form (string_bytes resource))
 command_data (command.PinResource resource pin) = pin_resource (string_bytes resource) (string_bytes pin)
 command_data (command.UnpinResource resource) = unpin_resource (string_bytes resource)
 command_data (command.DisableResourceVersion resource place) = disable_version (string_bytes resource) place
 command_data (command.EnableResourceVersion resource place) = enable_version (string_bytes resource) place
-command_data (command.Resolve job) = shows (proof (string_bytes job))
-command_data (command.Problem job) = shows (problem (string_bytes job))
 command_data (command.TriggerJob job) = trigger_job (string_bytes job)
-command_data (command.Certify job) = shows (certificate (string_bytes job))
-command_data (command.Explain job form) = shows (explanation form (string_bytes job))
-command_data (command.CertifyBuild job number) = shows (build_certificate (string_bytes job) number)
-command_data (command.Builds job count form) = shows (builds form (option_map string_bytes job) count)
-command_data (command.Build job number form) = shows (build form (string_bytes job) number)
-command_data (command.Trace resource pin form) = shows (trace form (string_bytes resource) (string_bytes pin))
-command_data command.GetPipeline = shows pipeline
-command_data (command.Resources form) = shows (resources form)
-command_data (command.Jobs form) = shows (jobs form)
-command_data command.Graph = shows graph
 command_data (command.Run rounds) = run rounds
+command_data (command.Show what) = shows (shown_data what)

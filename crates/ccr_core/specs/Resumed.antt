@@ -41,3 +41,12 @@ pub record IsResumed (h : HistoryData) (budget : ℕ) (c : CoreData) : Type 0 wh
   pub budget_is : c.budget ≡ budget
   pub names : c.names ≡ []
   pub runs : c.runs ≡ []
+
+-- a core over a history as it stands: what runs in it does so still, though no build is among the machines, and the pipeline
+-- is that of the history's text
+pub record IsOver (h : HistoryData) (budget : ℕ) (c : CoreData) : Type 0 where
+  pub history : c.history ≡ h
+  pub pipeline : IsPipelineIn h.text c.pipeline
+  pub budget_is : c.budget ≡ budget
+  pub names : c.names ≡ []
+  pub runs : c.runs ≡ []

@@ -13,8 +13,9 @@
 //! to one that it stands for then. What a core stands for is reached by events from a state in which nothing runs, so
 //! the laws over every list of events hold of it.
 //!
-//! A [`Command`] is what a whole server is told to do, with its arguments, and a [`Form`] how it shows something. The command line is read
-//! as one, without a server. Clauses see it as `command_data` says (`specs/Commands.antt`). The core itself takes events alone.
+//! A [`Command`] is what a whole server is told to do, with its arguments; one that changes nothing has a [`Shown`], with the [`Form`] that
+//! it is shown in. The command line is read as one, without a server. Clauses see it as `command_data` says (`specs/Commands.antt`). The core itself
+//! takes events alone.
 #![tactic(auto)]
 
 mod answered;
@@ -47,6 +48,7 @@ mod restarted;
 mod resumed;
 mod scheduled;
 mod search;
+mod shown;
 mod step;
 mod used;
 mod wanted;
@@ -64,4 +66,5 @@ pub use limit::MOST_RUNNING;
 pub use machine::Core;
 pub use pick::has_news;
 pub use reply::Reply;
+pub use shown::Shown;
 pub use wanted::wants_are_answered;

@@ -5,7 +5,7 @@ use crate::fault::CoreFault;
 use crate::parts::Parts;
 use crate::position::position_of;
 use crate::reply::Reply;
-use crate::resumed::begin;
+use crate::resumed::{begin, over};
 use ccr_history::{Change, History};
 use ccr_index::Index;
 use ccr_pipeline::{Pipeline, Step};
@@ -54,7 +54,7 @@ impl Core {
     ghost use Rattle.ccr_core.specs.Kept.{IsEvent};
     ghost use Rattle.ccr_core.specs.Positions.{IsMadeAt, AreInOrder};
     ghost use Rattle.ccr_core.specs.State.{State};
-    ghost use Rattle.ccr_core.specs.Resumed.{resumed, IsReadable, IsResumed};
+    ghost use Rattle.ccr_core.specs.Resumed.{resumed, IsOver, IsReadable, IsResumed};
     ghost use Rattle.ccr_core.specs.declared.fault.CoreFault.TheVariants.{NoMemory};
 
     /// A core that begins with a history, whose searches take at most so many nodes, and what changed of the history:
@@ -74,6 +74,23 @@ impl Core {
     {
         match begin(alloc, history, budget) {
             Ok((parts, change)) => Ok((Core { parts }, change)),
+            Err(fault) => Err(fault),
+        }
+    }
+
+    /// A core over a history as it stands, for what only shows: a build that runs in it still does, though no machine runs it.
+    ///
+    /// The caller gives a text that `ccr_pipeline::read` accepts, and a budget from 1 to 1,000,000. The only error is
+    /// `NoMemory`.
+    pub fn over(alloc: Global, history: History, budget: u32) -> Result<Core, CoreFault>
+        requires least { 1 ≤ budget }
+        requires most { budget ≤ MOST_NODES }
+        requires readable { IfSome history.text IsReadable }
+        ensures over { IfOk result (λ core. IsOver history budget (core_data core)) }
+        ensures only { IfErr result (λ fault. fault ≡ NoMemory) }
+    {
+        match over(alloc, history, budget) {
+            Ok(parts) => Ok(Core { parts }),
             Err(fault) => Err(fault),
         }
     }

@@ -8,7 +8,7 @@ ghost use Rattle.ccr_core.specs.Cores.{core_data};
 ghost use Rattle.ccr_core.specs.Going.{Changes};
 ghost use Rattle.ccr_core.specs.Indexed.{IsIndexed};
 ghost use Rattle.ccr_core.specs.Holding.{name_data, IsCore};
-ghost use Rattle.ccr_core.specs.Resumed.{running_in, resumed, IsReadable, IsPipelineIn, IsResumed};
+ghost use Rattle.ccr_core.specs.Resumed.{running_in, resumed, IsReadable, IsPipelineIn, IsResumed, IsOver};
 ghost use Rattle.ccr_core.specs.declared.fault.CoreFault.TheVariants.{NoMemory};
 
 use crate::fault::CoreFault;
@@ -146,5 +146,33 @@ pub(crate) fn begin(
             }
         }
         Err(fault) => Err(fault),
+    }
+}
+
+/// The parts of a core over a history as it stands: what runs in it stays so, and takes no events.
+pub(crate) fn over(alloc: Global, history: History, budget: u32) -> Result<Parts, CoreFault>
+    requires least { 1 ≤ budget }
+    requires most { budget ≤ MOST_NODES }
+    requires readable { IfSome history.text IsReadable }
+    ensures over { IfOk result (λ parts. IsOver history budget (core_data parts)) }
+    ensures core { IfOk result (λ parts. IsCore (core_data parts)) }
+    ensures indexed { IfOk result IsIndexed }
+    ensures only { IfErr result (λ fault. fault ≡ NoMemory) }
+{
+    let pipeline = match pipeline_in(alloc, &history) {
+        Ok(pipeline) => pipeline,
+        Err(fault) => return Err(fault),
+    };
+    history.rules();
+    match indexes_of(alloc, &pipeline, &history) {
+        Ok(indexes) => Ok(Parts {
+            history,
+            pipeline,
+            budget,
+            names: Vec::new(alloc),
+            runs: Vec::new(alloc),
+            indexes,
+        }),
+        Err(_) => Err(CoreFault::NoMemory),
     }
 }
