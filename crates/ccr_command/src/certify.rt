@@ -6,7 +6,7 @@ ghost use Rattle.ccr_command.specs.Commands.{certify_named};
 
 use crate::command::value_of;
 use crate::number::number_of;
-use ccr_core::Command;
+use ccr_core::{Command, Shown};
 use clap::ArgMatches;
 use std::alloc::{AllocError, Global};
 
@@ -15,7 +15,7 @@ fn numbered(job: String, number: &str) -> Option<Command>
     ensures { option_map command_data result ≡ certify_named (Some (string_bytes job)) (Some number.now) }
 {
     match number_of(number) {
-        Some(number) => Some(Command::CertifyBuild(job, number)),
+        Some(number) => Some(Command::Show(Shown::BuildCertificate(job, number))),
         None => None,
     }
 }
@@ -34,7 +34,7 @@ pub(crate) fn certify_of(
     let number = value_of(alloc, values, "N")?;
     match (job, number) {
         (Some(job), Some(number)) => Ok(numbered(job, number.as_str())),
-        (Some(job), None) => Ok(Some(Command::Certify(job))),
+        (Some(job), None) => Ok(Some(Command::Show(Shown::Certificate(job)))),
         (None, _) => Ok(None),
     }
 }

@@ -7,7 +7,7 @@ ghost use Rattle.ccr_command.specs.Commands.{pin_named, place_named, run_named, 
 use crate::abort::text_of;
 use crate::certify::certify_of;
 use crate::number::{number_of, place_of};
-use ccr_core::{Command, Form};
+use ccr_core::{Command, Form, Shown};
 use clap::ArgMatches;
 use std::alloc::{AllocError, Global};
 
@@ -125,7 +125,7 @@ fn explain_of(alloc: Global, values: &ArgMatches<'_>) -> Result<Option<Command>,
 {
     let form = form_of(values);
     match value_of(alloc, values, "JOB")? {
-        Some(job) => Ok(Some(Command::Explain(job, form))),
+        Some(job) => Ok(Some(Command::Show(Shown::Explanation(job, form)))),
         None => Ok(None),
     }
 }
@@ -135,7 +135,7 @@ fn numbered(form: Form, job: String, number: &str) -> Option<Command>
     ensures { option_map command_data result ≡ build_named form (Some (string_bytes job)) (Some number.now) }
 {
     match number_of(number) {
-        Some(number) => Some(Command::Build(job, number, form)),
+        Some(number) => Some(Command::Show(Shown::Build(job, number, form))),
         None => None,
     }
 }
@@ -165,7 +165,7 @@ fn trace_of(alloc: Global, values: &ArgMatches<'_>) -> Result<Option<Command>, A
     let resource = value_of(alloc, values, "NAME")?;
     let pin = value_of(alloc, values, "JSON")?;
     match (resource, pin) {
-        (Some(resource), Some(pin)) => Ok(Some(Command::Trace(resource, pin, form))),
+        (Some(resource), Some(pin)) => Ok(Some(Command::Show(Shown::Trace(resource, pin, form)))),
         _ => Ok(None),
     }
 }
@@ -177,7 +177,7 @@ fn versions_of(alloc: Global, values: &ArgMatches<'_>) -> Result<Option<Command>
 {
     let form = form_of(values);
     match value_of(alloc, values, "NAME")? {
-        Some(resource) => Ok(Some(Command::ResourceVersions(resource, form))),
+        Some(resource) => Ok(Some(Command::Show(Shown::Versions(resource, form)))),
         None => Ok(None),
     }
 }
@@ -189,7 +189,7 @@ fn counted(form: Form, job: Option<String>, count: &str) -> Option<Command>
         ≡ builds_named form (option_map string_bytes job) (Some count.now) }
 {
     match number_of(count) {
-        Some(count) => Some(Command::Builds(job, Some(count), form)),
+        Some(count) => Some(Command::Show(Shown::Builds(job, Some(count), form))),
         None => None,
     }
 }
@@ -204,7 +204,7 @@ fn builds_of(alloc: Global, values: &ArgMatches<'_>) -> Result<Option<Command>, 
     let job = value_of(alloc, values, "job")?;
     match value_of(alloc, values, "count")? {
         Some(count) => Ok(counted(form, job, count.as_str())),
-        None => Ok(Some(Command::Builds(job, None, form))),
+        None => Ok(Some(Command::Show(Shown::Builds(job, None, form)))),
     }
 }
 
@@ -221,8 +221,16 @@ fn named(alloc: Global, word: &str, values: &ArgMatches<'_>) -> Result<Option<Co
         "unpin-resource" => Ok(value_of(alloc, values, "NAME")?.map(Command::UnpinResource)),
         "disable-resource-version" => disable_of(alloc, values),
         "enable-resource-version" => enable_of(alloc, values),
-        "resolve" => Ok(value_of(alloc, values, "JOB")?.map(Command::Resolve)),
-        "problem" => Ok(value_of(alloc, values, "JOB")?.map(Command::Problem)),
+        "resolve" => Ok(
+            value_of(alloc, values, "JOB")?
+                .map(Shown::Proof)
+                .map(Command::Show),
+        ),
+        "problem" => Ok(
+            value_of(alloc, values, "JOB")?
+                .map(Shown::Problem)
+                .map(Command::Show),
+        ),
         "trigger-job" => Ok(value_of(alloc, values, "JOB")?.map(Command::TriggerJob)),
         "builds" => builds_of(alloc, values),
         "run" => Ok(run_of(values)),
@@ -230,10 +238,10 @@ fn named(alloc: Global, word: &str, values: &ArgMatches<'_>) -> Result<Option<Co
         "explain" => explain_of(alloc, values),
         "build" => build_of(alloc, values),
         "trace" => trace_of(alloc, values),
-        "get-pipeline" => Ok(Some(Command::GetPipeline)),
-        "resources" => Ok(Some(Command::Resources(form_of(values)))),
-        "jobs" => Ok(Some(Command::Jobs(form_of(values)))),
-        "graph" => Ok(Some(Command::Graph)),
+        "get-pipeline" => Ok(Some(Command::Show(Shown::Pipeline))),
+        "resources" => Ok(Some(Command::Show(Shown::Resources(form_of(values))))),
+        "jobs" => Ok(Some(Command::Show(Shown::Jobs(form_of(values))))),
+        "graph" => Ok(Some(Command::Show(Shown::Graph))),
         _ => Ok(None),
     }
 }

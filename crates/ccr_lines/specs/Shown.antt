@@ -1,7 +1,7 @@
 -- What a command shows. Each line ends with a line feed.
 use Rattle.std.specs.Prelude.{◌≡◌, ℕ, List, [], ◌++◌, IsSomeAnd, Option, Some, unwrap_or, Result, Ok, Err, ⊤}
 use Rattle.ccr_history.specs.Text.{Text}
-use Rattle.std.specs.Option.{option_map_or, option_copied}
+use Rattle.std.specs.Option.{option_map_or}
 use Rattle.ccr_history.specs.Builds.{BuildData, build_of}
 use Rattle.ccr_history.specs.History.{HistoryData}
 use Rattle.ccr_pipeline.specs.Pipelines.{PipelineData}
@@ -18,8 +18,6 @@ use Rattle.ccr_core.specs.Holding.{CoreData}
 use Rattle.ccr_core.specs.State.{no_pipeline}
 use Rattle.ccr_core.specs.declared.form.Form.{Form}
 use Rattle.ccr_core.specs.Commands.{ShownData, builds, versions, problem, proof, certificate, explanation, pipeline, resources, jobs, graph, build, trace, build_certificate}
-use Rattle.ccr_lines.specs.declared.shown.Shown.{Shown}
-use Rattle.ccr_lines.specs.declared.shown.Shown.TheVariants as value
 use Rattle.ccr_lines.specs.declared.shown.ShowFault.{ShowFault}
 use Rattle.ccr_lines.specs.declared.shown.ShowFault.TheVariants as why
 use Rattle.ccr_lines.specs.ExplainJson.{IsExplanationShown}
@@ -34,22 +32,6 @@ use Rattle.ccr_lines.specs.TraceJson.{trace_shown}
 use Rattle.ccr_lines.specs.Certificates.{IsCertificateShown}
 use Rattle.ccr_lines.specs.Graphs.{graph_lines}
 use Rattle.ccr_lines.specs.BuildCertificates.{IsBuildCertificateShown}
-
--- what a value of the program's type stands for
-abbrev pub shown_data : Shown → ShownData
-shown_data (value.Builds job count form) = builds form (option_copied job) count
-shown_data (value.Versions resource form) = versions form resource.now
-shown_data (value.Problem job) = problem job.now
-shown_data (value.Proof job) = proof job.now
-shown_data (value.Certificate job) = certificate job.now
-shown_data (value.Explanation job form) = explanation form job.now
-shown_data value.Pipeline = pipeline
-shown_data (value.Resources form) = resources form
-shown_data (value.Jobs form) = jobs form
-shown_data value.Graph = graph
-shown_data (value.Build job number form) = build form job.now number
-shown_data (value.Trace resource pin form) = trace form resource.now pin.now
-shown_data (value.BuildCertificate job number) = build_certificate job.now number
 
 -- what has to be there for it to be shown
 abbrev pub needs : ShownData → Need

@@ -4,8 +4,8 @@
 //! writes each kind of line into a sink. The sink is a [`Lines`]: room for a line is made before the event, so that a
 //! whole line always follows. A vector is one, and [`Printed`] prints what it is handed.
 //!
-//! What a command shows that changes nothing is a [`Shown`]: a [`Show`] writes its lines from what the core holds
-//! (`specs/Shown.antt`), some in either form: as lines, or as JSON. The program takes [`AsText`]: for each kind of [`Shown`] a function gives
+//! What a command shows that changes nothing is a `Shown` of the core: a [`Show`] writes its lines from what the core holds
+//! (`specs/Shown.antt`), some in either form: as lines, or as JSON. The program takes [`AsText`]: for each kind of `Shown` a function gives
 //! the status and the bytes.
 #![tactic(auto)]
 
@@ -65,7 +65,7 @@ pub use print::{
 pub use printed::Printed;
 pub use reason::{PinnedBy, Reason};
 pub use show::Show;
-pub use shown::{ShowFault, Shown};
+pub use shown::ShowFault;
 pub use shows::AsText;
 pub use stop::Stop;
 pub use subject::Subject;

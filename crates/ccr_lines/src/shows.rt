@@ -1,8 +1,10 @@
 //! What commands show.
-ghost use Rattle.std.specs.Prelude.{◌≡◌, ◌++◌, [], IfOk, IfErr, OnOk, OnErr};
+ghost use Rattle.std.specs.Prelude.{◌≡◌, ◌++◌, [], IfOk, IfErr, OnOk, OnErr, option_map, string_bytes};
+ghost use Rattle.std.specs.Option.{option_copied};
 ghost use Rattle.ccr_core.specs.Cores.{core_data};
-ghost use Rattle.ccr_lines.specs.Shown.{shown_data, needs, IsMade, IsUnshown};
+ghost use Rattle.ccr_core.specs.Commands.{shown_data};
 ghost use Rattle.ccr_core.specs.Commands as spec;
+ghost use Rattle.ccr_lines.specs.Shown.{needs, IsMade, IsUnshown};
 
 use crate::build_certificate::build_certificate_made;
 use crate::builds::builds_made;
@@ -14,11 +16,11 @@ use crate::lines::Lines;
 use crate::problem::{problem_made, proof_made};
 use crate::release::release_made;
 use crate::show::Show;
-use crate::shown::{ShowFault, Shown};
+use crate::shown::ShowFault;
 use crate::standing::{jobs_made, resources_made};
 use crate::trace::trace_made;
 use crate::versions::versions_made;
-use ccr_core::Core;
+use ccr_core::{Core, Shown};
 use std::alloc::{AllocError, Global};
 
 // ---- the pipeline
@@ -36,26 +38,42 @@ fn pipeline_made(alloc: Global, core: &Core) -> Result<(u8, Vec<u8>), ShowFault>
 
 // ---- all that is shown
 
+/// The text, if there is one.
+fn text_of(text: &Option<String>) -> Option<&str>
+    ensures { option_copied result ≡ option_map string_bytes text.now }
+{
+    match text {
+        Some(text) => Some(text.as_str()),
+        None => None,
+    }
+}
+
 /// What is shown of what the core holds: the status, and the lines; or why nothing is.
-fn made(alloc: Global, what: Shown<'_>, core: &Core) -> Result<(u8, Vec<u8>), ShowFault>
-    ensures made { IfOk result (λ r. IsMade (shown_data what.entry) (core_data core.now) r.0 r.1.items) }
+fn made(alloc: Global, what: &Shown, core: &Core) -> Result<(u8, Vec<u8>), ShowFault>
+    ensures made { IfOk result (λ r. IsMade (shown_data what.now) (core_data core.now) r.0 r.1.items) }
     ensures unshown { let c = core_data core.now in
-        IfErr result (IsUnshown (needs (shown_data what.entry)) c.pipeline c.history) }
+        IfErr result (IsUnshown (needs (shown_data what.now)) c.pipeline c.history) }
 {
     match what {
-        Shown::Builds(job, count, form) => builds_made(alloc, core, form, job, count),
-        Shown::Versions(resource, form) => versions_made(alloc, core, form, resource),
-        Shown::Problem(job) => problem_made(alloc, core, job),
-        Shown::Proof(job) => proof_made(alloc, core, job),
-        Shown::Certificate(job) => certificate_made(alloc, core, job),
-        Shown::Explanation(job, form) => explained_made(alloc, core, form, job),
+        Shown::Builds(job, count, form) => builds_made(alloc, core, *form, text_of(job), *count),
+        Shown::Versions(resource, form) => versions_made(alloc, core, *form, resource.as_str()),
+        Shown::Problem(job) => problem_made(alloc, core, job.as_str()),
+        Shown::Proof(job) => proof_made(alloc, core, job.as_str()),
+        Shown::Certificate(job) => certificate_made(alloc, core, job.as_str()),
+        Shown::Explanation(job, form) => explained_made(alloc, core, *form, job.as_str()),
         Shown::Pipeline => pipeline_made(alloc, core),
-        Shown::Resources(form) => resources_made(alloc, core, form),
-        Shown::Jobs(form) => jobs_made(alloc, core, form),
+        Shown::Resources(form) => resources_made(alloc, core, *form),
+        Shown::Jobs(form) => jobs_made(alloc, core, *form),
         Shown::Graph => graph_made(alloc, core),
-        Shown::Build(job, number, form) => release_made(alloc, core, form, job, number),
-        Shown::Trace(resource, pin, form) => trace_made(alloc, core, form, resource, pin),
-        Shown::BuildCertificate(job, number) => { build_certificate_made(alloc, core, job, number) }
+        Shown::Build(job, number, form) => {
+            release_made(alloc, core, *form, job.as_str(), *number)
+        }
+        Shown::Trace(resource, pin, form) => {
+            trace_made(alloc, core, *form, resource.as_str(), pin.as_str())
+        }
+        Shown::BuildCertificate(job, number) => {
+            build_certificate_made(alloc, core, job.as_str(), *number)
+        }
     }
 }
 
@@ -80,7 +98,7 @@ impl Show for AsText {
         &self,
         alloc: Global,
         out: &mut O,
-        what: Shown<'_>,
+        what: &Shown,
         core: &Core,
     ) -> Result<u8, ShowFault> {
         let (status, bytes) = match made(alloc, what, core) {

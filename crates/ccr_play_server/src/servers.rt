@@ -21,7 +21,7 @@ mod unkept;
 
 use anyhow::Result;
 use aside::Aside;
-use ccr_core::{Command, Form};
+use ccr_core::{Command, Form, Shown};
 use ccr_lines::{Lines, Printed};
 use ccr_rows::{Player, split};
 use ccr_serve::ServeFault;
@@ -50,9 +50,9 @@ fn certify_of(alloc: Global, words: &str) -> Result<Command, AllocError> {
     let (job, number) = split(words);
     let job = String::from_str(alloc, job)?;
     if number.is_empty() {
-        return Ok(Command::Certify(job));
+        return Ok(Command::Show(Shown::Certificate(job)));
     }
-    Ok(Command::CertifyBuild(job, number_of(number)))
+    Ok(Command::Show(Shown::BuildCertificate(job, number_of(number))))
 }
 
 /// The form that words ask for, which begin with `--json` for JSON; and the words behind it.
@@ -75,14 +75,14 @@ fn option_of<'w>(option: &str, words: &'w str) -> (Option<&'w str>, &'w str) {
     (Some(value), others)
 }
 
-/// The command that shows builds, where `--job` with a name and `--count` with a number may stand before.
-fn builds_of(alloc: Global, form: Form, words: &str) -> Result<Command, AllocError> {
+/// Builds, as they are shown where `--job` with a name and `--count` with a number may stand before.
+fn builds_of(alloc: Global, form: Form, words: &str) -> Result<Shown, AllocError> {
     let (job, words) = option_of("--job", words);
     let (count, _) = option_of("--count", words);
     let count = count.map(|count| number_of(count));
     match job {
-        Some(job) => Ok(Command::Builds(Some(String::from_str(alloc, job)?), count, form)),
-        None => Ok(Command::Builds(None, count, form)),
+        Some(job) => Ok(Shown::Builds(Some(String::from_str(alloc, job)?), count, form)),
+        None => Ok(Shown::Builds(None, count, form)),
     }
 }
 
@@ -91,16 +91,17 @@ fn formed_of(alloc: Global, kind: &str, words: &str) -> Result<Option<Command>, 
     let (form, words) = form_of(words);
     let (name, other) = split(words);
     let name = String::from_str(alloc, name)?;
-    Ok(Some(match kind {
+    let what = match kind {
         "builds" => builds_of(alloc, form, words)?,
-        "resource-versions" => Command::ResourceVersions(name, form),
-        "resources" => Command::Resources(form),
-        "jobs" => Command::Jobs(form),
-        "explain" => Command::Explain(name, form),
-        "build" => Command::Build(name, number_of(other), form),
-        "trace" => Command::Trace(name, String::from_str(alloc, other)?, form),
+        "resource-versions" => Shown::Versions(name, form),
+        "resources" => Shown::Resources(form),
+        "jobs" => Shown::Jobs(form),
+        "explain" => Shown::Explanation(name, form),
+        "build" => Shown::Build(name, number_of(other), form),
+        "trace" => Shown::Trace(name, String::from_str(alloc, other)?, form),
         _ => return Ok(None),
-    }))
+    };
+    Ok(Some(Command::Show(what)))
 }
 
 /// The command of a line, if it is one.
@@ -123,12 +124,12 @@ fn command_of(alloc: Global, kind: &str, words: &str) -> Result<Option<Command>,
             let (resource, place) = split(words);
             Command::EnableResourceVersion(String::from_str(alloc, resource)?, number_of(place))
         }
-        "resolve" => Command::Resolve(name),
-        "problem" => Command::Problem(name),
+        "resolve" => Command::Show(Shown::Proof(name)),
+        "problem" => Command::Show(Shown::Problem(name)),
         "certify" => certify_of(alloc, words)?,
         "trigger-job" => Command::TriggerJob(name),
-        "get-pipeline" => Command::GetPipeline,
-        "graph" => Command::Graph,
+        "get-pipeline" => Command::Show(Shown::Pipeline),
+        "graph" => Command::Show(Shown::Graph),
         "run" => Command::Run(number_of(words)),
         _ => return formed_of(alloc, kind, words),
     }))

@@ -2,7 +2,9 @@
 use Rattle.std.specs.Prelude.{ℕ, Bool, true, false, not, ◌==◌, ◌&&◌, Option, None, Some, option_map, Result, Ok, Err, if◌then◌else◌}
 use Rattle.ccr_history.specs.Text.{Text}
 use Rattle.ccr_core.specs.declared.command.Command.{Command}
-use Rattle.ccr_core.specs.declared.command.Command.TheVariants.{Resolve, Certify}
+use Rattle.ccr_core.specs.declared.command.Command.TheVariants.{Show}
+use Rattle.ccr_core.specs.declared.shown.Shown.{Shown}
+use Rattle.ccr_core.specs.declared.shown.Shown.TheVariants.{Proof, Certificate}
 use Rattle.ccr_run.specs.declared.failure.Failure.{Failure}
 use Rattle.ccr_run.specs.declared.order.Order.{Order}
 use Rattle.ccr_run.specs.declared.run.Outcome.{Outcome}
@@ -32,10 +34,15 @@ told_data t = record {
 }
 
 -- ---- what is to be told
+-- what is shown is a proof
+abbrev pub is_proof : Shown → Bool
+is_proof (Proof job) = true
+is_proof (Certificate job) = true
+is_proof what = false
+
 -- the command is to show a proof
 abbrev pub shows_proof : Command → Bool
-shows_proof (Resolve job) = true
-shows_proof (Certify job) = true
+shows_proof (Show what) = is_proof what
 shows_proof command = false
 
 -- the command is to show a proof, and its search would go over the budget

@@ -12,7 +12,7 @@ use crate::order::{Misuse, Order};
 use crate::refusal::refusal_of;
 use crate::run::Outcome;
 use crate::telling::Telling;
-use ccr_core::Command;
+use ccr_core::{Command, Shown};
 use std::io;
 use std::process::ExitCode;
 
@@ -30,7 +30,10 @@ fn status_of(end: &Result<u8, Failure>) -> u8
 fn shows_proof(command: &Command) -> bool
     ensures { result ≡ shows_proof command.now }
 {
-    matches!(command, Command::Resolve(_) | Command::Certify(_))
+    match command {
+        Command::Show(what) => matches!(what, Shown::Proof(_) | Shown::Certificate(_)),
+        _ => false,
+    }
 }
 
 /// Whether a command that is to show a proof has none, since its search would go over the budget.

@@ -1,5 +1,5 @@
 //! What a server is called for: a command, a round, a turn.
-ghost use Rattle.std.specs.Prelude.{◌≡◌, [], ◌∷◌, true, false, IfOk, Err, option_copied, option_map, string_bytes};
+ghost use Rattle.std.specs.Prelude.{◌≡◌, [], ◌∷◌, true, false, IfOk, Err};
 ghost use Rattle.ccr_task.specs.Places.{places_data};
 ghost use Rattle.ccr_core.specs.Cores.{core_data};
 ghost use Rattle.ccr_core.specs.Commands.{command_data};
@@ -15,19 +15,9 @@ use crate::fault::ServeFault;
 use crate::server::Server;
 use ccr_core::Command;
 use ccr_history::Storage;
-use ccr_lines::{Lines, Show, Shown};
+use ccr_lines::{Lines, Show};
 use ccr_process::Runner;
 use ccr_task::Shelf;
-
-/// The text, if there is one.
-fn text_of(text: &Option<String>) -> Option<&str>
-    ensures { option_copied result ≡ option_map string_bytes text.now }
-{
-    match text {
-        Some(text) => Some(text.as_str()),
-        None => None,
-    }
-}
 
 impl<R: Runner, S: Shelf, T: Storage> Server<R, S, T> {
     /// Does what is commanded: the exit status. Its lines are printed as what they tell of is stored; what changes nothing is
@@ -61,9 +51,6 @@ impl<R: Runner, S: Shelf, T: Storage> Server<R, S, T> {
         match command {
             Command::SetPipeline(path) => self.set_pipeline(path.as_str(), out),
             Command::CheckResource(resource) => self.check_resource(resource.as_str(), out),
-            Command::ResourceVersions(resource, form) => {
-                self.show(show, Shown::Versions(resource.as_str(), *form), out)
-            }
             Command::PinResource(resource, pin) => {
                 self.pin_resource(resource.as_str(), pin.as_str(), out)
             }
@@ -74,36 +61,9 @@ impl<R: Runner, S: Shelf, T: Storage> Server<R, S, T> {
             Command::EnableResourceVersion(resource, place) => {
                 self.enable_version(resource.as_str(), *place, out)
             }
-            Command::Resolve(job) => self.show(show, Shown::Proof(job.as_str()), out),
-            Command::Problem(job) => self.show(show, Shown::Problem(job.as_str()), out),
-            Command::Certify(job) => self.show(show, Shown::Certificate(job.as_str()), out),
-            Command::CertifyBuild(job, number) => {
-                self.show(show, Shown::BuildCertificate(job.as_str(), *number), out)
-            }
-            Command::Explain(job, form) => self.show(
-                show,
-                Shown::Explanation(job.as_str(), *form),
-                out,
-            ),
             Command::TriggerJob(job) => self.trigger_job(job.as_str(), out),
-            Command::Builds(job, count, form) => {
-                self.show(show, Shown::Builds(text_of(job), *count, *form), out)
-            }
-            Command::Build(job, number, form) => {
-                self.show(show, Shown::Build(job.as_str(), *number, *form), out)
-            }
-            Command::Trace(resource, pin, form) => {
-                self.show(
-                    show,
-                    Shown::Trace(resource.as_str(), pin.as_str(), *form),
-                    out,
-                )
-            }
-            Command::GetPipeline => self.show(show, Shown::Pipeline, out),
-            Command::Resources(form) => self.show(show, Shown::Resources(*form), out),
-            Command::Jobs(form) => self.show(show, Shown::Jobs(*form), out),
-            Command::Graph => self.show(show, Shown::Graph, out),
             Command::Run(rounds) => self.run(*rounds, out),
+            Command::Show(what) => self.show(show, what, out),
         }
     }
 

@@ -41,6 +41,6 @@ returns c =
     let named = map string_bytes c.deref-3.result.now in
     let same = ap (λ x. map input_data x) c.deref-2.ensures.value ∙ c.in_ok-inputs.ensures.inputs in
     let names = ap (λ x. map string_bytes x) c.deref-3.ensures.value ∙ (c.in_ok-jobs.ensures
-        ∙ ap (λ x. named_jobs [] x) (ap (λ x. map input_data x) c.deref.ensures.value ∙ c.in_ok-inputs.ensures.inputs)) in
+    ∙ ap (λ x. named_jobs [] x) (ap (λ x. map input_data x) c.deref.ensures.value ∙ c.in_ok-inputs.ensures.inputs)) in
     told p h c.args.budget j q choice (at own named) c.best_of.result (ap (λ x. at x named) same ∙ ap (λ x. at (inputs j.plan) x) names)
     c.best_of.ensures.taken c.best_of.ensures.is
