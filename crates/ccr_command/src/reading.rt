@@ -278,7 +278,8 @@ each of the three newest versions that is newer, with the reason why it isn't ta
 
   disabled                            the version is disabled
   pinned by pin-resource              the pin by command leaves it out
-  pinned by the pipeline              the `version` of the get or of the resource leaves it out
+  pinned by the resource              the `version` of its resource in the pipeline leaves it out
+  pinned by the get                   the `version` of the get leaves it out
   JOB N failed, not built by JOB      it hasn't passed a job that the input names, and stopped here on the way
   others come first                   the input takes every version, and others are before it
   not passed JOB together with A, B   it passed the job, but in no build with what these inputs may take

@@ -1,5 +1,5 @@
 -- Why an input of a job's next build doesn't take a place that is newer than the one it takes.
-use Rattle.std.specs.Prelude.{◌≡◌, ℕ, ◌≤◌, List, ◌++◌, length, map, find, slice_index, Bool, true, false, not, ◌==◌, Option, Some, None, codes, decimal, string_bytes, if◌then◌else◌}
+use Rattle.std.specs.Prelude.{◌≡◌, ℕ, ◌≤◌, List, ◌++◌, length, map, find, slice_index, Bool, true, false, not, ◌==◌, Option, Some, None, option_and_then, codes, decimal, string_bytes, if◌then◌else◌}
 use Rattle.std.specs.List.{list_any}
 use Rattle.std.specs.Option.{option_map_or}
 use Rattle.ccr_history.specs.Text.{Text}
@@ -12,14 +12,14 @@ use Rattle.ccr_pipeline.specs.Pipelines.{PipelineData, pipeline_data}
 use Rattle.ccr_choice.specs.Problem.{ProblemValue, ChoiceValue, input_at, builds_at}
 use Rattle.ccr_choice.specs.Preference.{order_of}
 use Rattle.ccr_choice.specs.Optimal.{IsOptimal}
-use Rattle.ccr_problem.specs.ProblemOf.{history_number, is_disabled_at}
+use Rattle.ccr_problem.specs.ProblemOf.{resource_of, history_number, is_disabled_at}
 use Rattle.ccr_proof.specs.declared.proof.TheConstants.{MOST_NODES}
 use Rattle.ccr_explain.specs.WhyNot.{IsWhyNot}
 use Rattle.ccr_explain.specs.declared.explanation.Explanation.TheVariants as explanation
 use Rattle.ccr_lines.specs.declared.reason.Reason.{Reason}
 use Rattle.ccr_lines.specs.declared.reason.Reason.TheVariants.{Disabled, Pinned, Stopped, Later, Clash, OverBudget}
 use Rattle.ccr_lines.specs.declared.reason.PinnedBy.{PinnedBy}
-use Rattle.ccr_lines.specs.declared.reason.PinnedBy.TheVariants.{Command, Pipeline}
+use Rattle.ccr_lines.specs.declared.reason.PinnedBy.TheVariants.{Command, Resource, Get}
 use Rattle.ccr_lines.specs.declared.subject.Subject.{Subject}
 use Rattle.ccr_lines.specs.ClashWords.{job_name, taking_words}
 use Rattle.ccr_lines.specs.Releases.{is_pair}
@@ -92,15 +92,21 @@ abbrev pub meets_at : SubjectData → InputData → ℕ → TextMap → Bool
 meets_at s x place pin =
     option_map_or (λ v. meets v pin) (at_place place (versions_at (scope_at s x) s.history.tables)) false
 
--- the pin by command of an input's resource excludes a place; none does where there is no such pin
-abbrev pub is_excluded : SubjectData → InputData → ℕ → Bool
-is_excluded s x place = option_map_or (λ pin. not (meets_at s x place pin)) (pin_of x.resource s.history.pins) false
+-- a pin leaves out the version at a place of an input's scope; where there is no pin, none does
+abbrev pub is_left_out : SubjectData → InputData → ℕ → Option TextMap → Bool
+is_left_out s x place found = option_map_or (λ pin. not (meets_at s x place pin)) found false
 
--- which pin excludes a place that isn't allowed: the one by command, if it does; else one of the pipeline
+-- the pin that an input's resource has in the pipeline
+abbrev pub resource_pin : SubjectData → InputData → Option TextMap
+resource_pin s x = option_and_then (λ r. r.version) (resource_of x.resource s.pipeline.resources)
+
+-- which pin leaves out a place that isn't allowed: the one by command, if it does; else the resource's, if it does; else the get's
 abbrev pub pinned_by : SubjectData → InputData → ℕ → PinnedBy
-pinned_by s x place = if is_excluded s x place then Command else Pipeline
+pinned_by s x place =
+    if is_left_out s x place (pin_of x.resource s.history.pins) then Command
+    else (if is_left_out s x place (resource_pin s x) then Resource else Get)
 
--- WHY INPUT i, WHICH IS x, DOESN'T TAKE A PLACE. It is disabled; or a pin excludes it; or it stopped on the way to a job that the
+-- WHY INPUT i, WHICH IS x, DOESN'T TAKE A PLACE. It is disabled; or a pin leaves it out; or it stopped on the way to a job that the
 -- input names, the first of which no successful build moved it; or other places come first, since the input takes every version;
 -- or else it can't be taken without an input before it getting worse, as demands show that exclude each other; or the budget
 -- didn't suffice to find them
@@ -127,7 +133,8 @@ IsReason s i x place (OverBudget n) =
 -- which pin it is
 abbrev pub pinned_words : PinnedBy → Text
 pinned_words Command = codes "pinned by pin-resource"
-pinned_words Pipeline = codes "pinned by the pipeline"
+pinned_words Resource = codes "pinned by the resource"
+pinned_words Get = codes "pinned by the get"
 
 -- the reason why input i doesn't take a place, in words
 abbrev pub reason_words : SubjectData → ℕ → ℕ → Reason → Text

@@ -1,8 +1,8 @@
 //! Why an input of a job's next build doesn't take a place that is newer than the one it takes.
-ghost use Rattle.std.specs.Prelude.{◌≡◌, ◌<◌, true, false, length, Some, IfOk};
+ghost use Rattle.std.specs.Prelude.{◌≡◌, ◌<◌, true, false, length, Some, option_copied, IfOk};
 ghost use Rattle.ccr_pipeline.specs.Inputs.{input_data};
 ghost use Rattle.ccr_problem.specs.ProblemOf.{is_disabled_at};
-ghost use Rattle.ccr_lines.specs.Reasons.{subject_data, scope_at, is_allowed, has_moved, first_unmoved, is_preferred, IsOpen, is_excluded, pinned_by, IsReason, IsSubject};
+ghost use Rattle.ccr_lines.specs.Reasons.{subject_data, scope_at, is_allowed, has_moved, first_unmoved, is_preferred, IsOpen, is_left_out, resource_pin, pinned_by, IsReason, IsSubject};
 
 use crate::explain::scope_at;
 use crate::stop::{Stop, stop_of};
@@ -11,6 +11,7 @@ use crate::trace::meets_at;
 use crate::words::job_name;
 use ccr_choice::possible::has_place;
 use ccr_explain::{ClashingDemands, Explanation, why_not};
+use ccr_history::Pin;
 use ccr_index::Index;
 use ccr_pipeline::Input;
 use std::alloc::{AllocError, Global};
@@ -20,7 +21,7 @@ use std::alloc::{AllocError, Global};
 pub enum Reason {
     /// Its version is disabled.
     Disabled,
-    /// A pin excludes its version.
+    /// A pin leaves out its version.
     Pinned(PinnedBy),
     /// It hasn't passed a job that the input names, and stopped here on the way.
     Stopped(Stop),
@@ -37,8 +38,10 @@ pub enum Reason {
 pub enum PinnedBy {
     /// The command `pin-resource`.
     Command,
-    /// The `version` of the resource or of the get in the pipeline.
-    Pipeline,
+    /// The `version` of the resource in the pipeline.
+    Resource,
+    /// The `version` of the get.
+    Get,
 }
 
 /// Whether a place is one of those that are allowed to an input.
@@ -83,24 +86,39 @@ fn is_preferred(subject: &Subject<'_>, input: usize, place: u32) -> bool
     ccr_choice::is_preferred(subject.index.input(input).after(), place, taken)
 }
 
-/// Whether the pin by command of an input's resource excludes a place.
-fn is_excluded(subject: &Subject<'_>, input: &Input, place: u32) -> bool
-    ensures { result ≡ is_excluded (subject_data subject.now) (input_data input.now) place }
+/// Whether a pin, if there is one, leaves out the version at a place of an input's scope.
+fn is_left_out(subject: &Subject<'_>, input: &Input, place: u32, found: Option<&Pin>) -> bool
+    ensures { result
+        ≡ is_left_out (subject_data subject.now) (input_data input.now) place (option_copied found.entry) }
 {
-    match subject.history.pin(input.resource.as_str()) {
+    match found {
         Some(pin) => !meets_at(subject.history, pin, scope_at(subject, input), place),
         None => false,
     }
 }
 
-/// Which pin excludes a place that isn't allowed to an input.
+/// The pin that an input's resource has in the pipeline.
+fn resource_pin<'s>(subject: &Subject<'s>, input: &Input) -> Option<&'s Pin>
+    ensures { option_copied result ≡ resource_pin (subject_data subject.now) (input_data input.now) }
+{
+    match subject.pipeline.resource(input.resource.as_str()) {
+        Some(resource) => resource.version.as_ref(),
+        None => None,
+    }
+}
+
+/// Which pin leaves out a place that isn't allowed to an input.
 fn pinned_by(subject: &Subject<'_>, input: &Input, place: u32) -> PinnedBy
     ensures { result ≡ pinned_by (subject_data subject.now) (input_data input.now) place }
 {
-    if is_excluded(subject, input, place) {
+    let by_command = subject.history.pin(input.resource.as_str());
+    let by_resource = resource_pin(subject, input);
+    if is_left_out(subject, input, place, by_command) {
         PinnedBy::Command
+    } else if is_left_out(subject, input, place, by_resource) {
+        PinnedBy::Resource
     } else {
-        PinnedBy::Pipeline
+        PinnedBy::Get
     }
 }
 

@@ -164,13 +164,14 @@ fn fewer_words(is_irreducible: bool) -> &'static str
     }
 }
 
-/// Which pin excludes a place.
+/// Which pin leaves out a place.
 fn pinned_words(pin: PinnedBy) -> &'static str
     ensures { result.now ≡ pinned_words pin }
 {
     match pin {
         PinnedBy::Command => "pinned by pin-resource",
-        PinnedBy::Pipeline => "pinned by the pipeline",
+        PinnedBy::Resource => "pinned by the resource",
+        PinnedBy::Get => "pinned by the get",
     }
 }
 
