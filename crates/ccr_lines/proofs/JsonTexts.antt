@@ -1,6 +1,5 @@
 -- The texts of arrays, item by item.
 use Rattle.std.proofs.Common.{◌≡◌, true, List, [], ◌∷◌, ◌++◌, map, flat_map, refl, sym, ◌∙◌, ap, ap₂, append_assoc}
-use Rattle.std.specs.List.{concat}
 use Rattle.std.proofs.lemmas.Grind.{flat_map-append}
 use Rattle.std.proofs.lemmas.List.Folds.{flat_map-map}
 use Rattle.serde_json.specs.Data.{Data}
@@ -67,8 +66,3 @@ and is are = ap₂ (λ z zs. z ∷ zs) is are
 -- the last piece
 pub last : {x y : Text} → x ≡ y → x ∷ [] ≡ y ∷ []
 last is = ap (λ z. z ∷ []) is
-
--- these pieces were added, which are others, and those are the whole
-pub pieces_told : {xs ys : List Text} (old new whole : Text) → xs ≡ ys → whole ≡ concat ys → new ≡ old ++ concat xs
-    → new ≡ old ++ whole
-pieces_told old new whole same is told = told ∙ ap (λ t. old ++ t) (ap concat same ∙ sym is)

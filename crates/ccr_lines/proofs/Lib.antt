@@ -4,8 +4,6 @@ mod Claiming
 mod Cores
 mod Explaining
 mod Graphing
-mod JobsListing
-mod JsonPieces
 mod JsonTexts
 mod Listing
 mod Newer

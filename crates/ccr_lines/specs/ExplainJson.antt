@@ -21,7 +21,7 @@ use Rattle.ccr_lines.specs.Outlooks.{outlook_words}
 use Rattle.ccr_lines.specs.ReleaseJson.{witness_json}
 
 -- a place that an input doesn't take, and why
-unfoldable pub refusal_json : RefusalData → Data
+abbrev pub refusal_json : RefusalData → Data
 refusal_json r =
     object (member (codes "place") (number (unsigned r.place))
     (member (codes "reason") (string r.words)
@@ -32,7 +32,7 @@ abbrev pub passed_json : PassedData → Data
 passed_json b = witness_json b.job b.build
 
 -- what an input takes, and the newer places that it doesn't
-unfoldable pub taken_json : TakenData → Data
+abbrev pub taken_json : TakenData → Data
 taken_json t =
     object (member (codes "name") (string t.name)
     (member (codes "newer") (list (map (λ r. refusal_json r) t.newer))
@@ -42,7 +42,7 @@ taken_json t =
     (member (codes "version") (fields_json t.version) no_members))))))
 
 -- a build of the job, and how it stands
-unfoldable pub last_build_json : ℕ × Status → Data
+abbrev pub last_build_json : ℕ × Status → Data
 last_build_json b =
     object (member (codes "name") (string (decimal b.0))
     (member (codes "status") (string (status_word b.1)) no_members))
@@ -56,7 +56,7 @@ abbrev pub words_json : Option Text → Data
 words_json found = option_map_or (λ words. string words) found null
 
 -- THE VALUE of what is said of a job
-unfoldable pub explained_json : ExplainedData → Data
+abbrev pub explained_json : ExplainedData → Data
 explained_json e =
     object (member (codes "has_new_inputs") (boolean (is_due e.outlook))
     (member (codes "inputs") (list (map (λ t. taken_json t) e.inputs))

@@ -18,29 +18,14 @@ use Rattle.ccr_lines.specs.declared.outlook.Outlook.TheVariants.{Due, NothingNew
 use Rattle.ccr_lines.specs.Graphs.{own_put}
 use Rattle.ccr_lines.specs.Json.{list, json_line}
 use Rattle.ccr_lines.specs.Lines.{status_word}
+use Rattle.ccr_lines.specs.Newest.{stands, newest_of}
 use Rattle.ccr_lines.specs.Outlooks.{outlook_words}
 use Rattle.ccr_lines.specs.Standing.{NextData, AreNext, jobs_lines}
 
 -- ---- builds
--- the status of a build that runs, if it is to run; that of one that has ended, if it isn't
-abbrev pub stands : Bool → Status → Bool
-stands true s = is_running s
-stands false s = not (is_running s)
-
--- the build, if it stands so
-abbrev pub standing : Bool → Option BuildData → Option BuildData
-standing runs None = None
-standing runs (Some b) = if stands runs b.status then Some b else None
-
--- of a job's builds up to this number, the one with the highest number that stands so
-abbrev pub newest_up_to : Bool → Text → List BuildData → ℕ → Option BuildData
-newest_up_to runs job builds zero = None
-newest_up_to runs job builds (suc n) =
-    option_or (standing runs (build_of job (suc n) builds)) (newest_up_to runs job builds n)
-
--- of a job's builds, the one with the highest number that stands so
+-- of a job's builds, the newest one that runs, or the newest one that has ended
 abbrev pub newest_that : Bool → Text → HistoryData → Option BuildData
-newest_that runs job h = newest_up_to runs job h.builds (count_of job h.builds)
+newest_that runs job h = newest_of (stands runs) job h
 
 -- a build, and how it stands
 abbrev pub build_json : BuildData → Data

@@ -1,9 +1,9 @@
 -- The newest build of a job that passes a test.
-use Rattle.std.specs.Prelude.{◌≡◌, ℕ, zero, suc, List, [], ◌∷◌, length, map, Bool, true, false, ◌&&◌, ◌||◌, ◌==◌, Option, Some, None, option_map, if◌then◌else◌, ⊤}
+use Rattle.std.specs.Prelude.{◌≡◌, ℕ, zero, suc, List, [], ◌∷◌, length, map, Bool, true, false, not, ◌&&◌, ◌||◌, ◌==◌, Option, Some, None, option_map, if◌then◌else◌, ⊤}
 use Rattle.std.specs.List.{list_any, list_all}
 use Rattle.std.specs.Option.{option_map_or, option_or}
 use Rattle.ccr_history.specs.Text.{Text}
-use Rattle.ccr_history.specs.Builds.{BuildData, build_of, count_of, passed_pairs}
+use Rattle.ccr_history.specs.Builds.{BuildData, build_of, count_of, passed_pairs, is_running}
 use Rattle.ccr_history.specs.History.{HistoryData}
 use Rattle.ccr_history.specs.declared.build.Status.{Status}
 use Rattle.ccr_pipeline.specs.Inputs.{InputData, input_data}
@@ -11,7 +11,7 @@ use Rattle.ccr_pipeline.specs.Pipelines.{PipelineData, pipeline_data}
 use Rattle.ccr_lines.specs.BuildCertificates.{place_for, has_input}
 use Rattle.ccr_lines.specs.Releases.{is_pair}
 use Rattle.ccr_lines.specs.declared.newest.Sought.{Sought}
-use Rattle.ccr_lines.specs.declared.newest.Sought.TheVariants.{Met, Passed, Took}
+use Rattle.ccr_lines.specs.declared.newest.Sought.TheVariants.{Met, Passed, Stands, Took}
 
 -- ---- tests
 -- the build took this place of this scope for one of its inputs, or moved it
@@ -33,10 +33,16 @@ took_each p h (i ∷ is) (n ∷ ns) b =
 abbrev pub took_places : PipelineData → HistoryData → List InputData → List ℕ → BuildData → Bool
 took_places p h is places b = took_each p h is places b && list_all (λ u. has_input is u.input) b.used
 
+-- the build runs, if it is to run; it has ended, if it isn't
+abbrev pub stands : Bool → BuildData → Bool
+stands true b = is_running b.status
+stands false b = not (is_running b.status)
+
 -- what a build is looked for by
 abbrev pub is_sought : HistoryData → Sought → BuildData → Bool
 is_sought h (Met pair) b = has_met pair b
 is_sought h (Passed pair) b = passed_with pair b
+is_sought h (Stands runs) b = stands runs b
 is_sought h (Took pipeline inputs places) b =
     took_places (pipeline_data pipeline.now) h (map input_data inputs.now) places.now b
 
@@ -44,6 +50,7 @@ is_sought h (Took pipeline inputs places) b =
 abbrev pub IsSearch : Sought → Type 0
 IsSearch (Met pair) = ⊤
 IsSearch (Passed pair) = ⊤
+IsSearch (Stands runs) = ⊤
 IsSearch (Took pipeline inputs places) = length places.now ≡ length inputs.now
 
 -- ---- the newest

@@ -1,52 +1,39 @@
 //! What is said of a job's next build, as JSON; and in one of the forms.
 ghost use Rattle.std.specs.Prelude.{◌≡◌, ◌++◌, map, flat_map, option_map, option_copied, string_bytes, IfOk, OnOk};
+ghost use Rattle.serde_json.specs.Data.{string};
 ghost use Rattle.serde_json.specs.Written.{compact_text};
 ghost use Rattle.ccr_lines.specs.ExplainJson.{refusal_json, passed_json, taken_json, last_build_json, last_json, words_json, explained_json, explained_shown, status_of};
-ghost use Rattle.ccr_lines.specs.Json.{list, fields_json, json_line, after_comma};
+ghost use Rattle.ccr_lines.specs.Json.{list, json_line, after_comma, array_of};
+ghost use Rattle.ccr_lines.specs.Outlooks.{outlook_words};
 
 use crate::explain_lines::explained_lines;
 use crate::explained::{Explained, Passed, Refusal, Taken};
 use crate::jobs_json::{is_due, outlook_text};
-use crate::json::{array_text, bool_text, on_a_line, string_text};
+use crate::json::{on_a_line, string_text};
+use crate::object::{Field, push_item, push_object};
 use crate::outlook::Outlook;
 use crate::print::word_of;
 use crate::release_json::push_witness;
-use crate::texts::push_pieces;
 use ccr_core::Form;
-use ccr_history::{Status, Version};
-use itoa::Buffer;
+use ccr_history::Status;
 use std::alloc::{AllocError, Global};
 
 // ---- one input
 
-/// A version; null where there is none.
-fn fields_text(alloc: Global, version: Option<&Version>) -> Result<String, AllocError>
-    ensures { IfOk result (λ text. string_bytes text ≡ compact_text (fields_json (option_copied version.entry))) }
-{
-    match version {
-        Some(version) => version.key(alloc),
-        None => String::from_str(alloc, "null"),
-    }
-}
-
 /// Adds a place that an input doesn't take, and why, behind a comma.
-fn push_refusal(alloc: Global, out: &mut Vec<u8>, refusal: &Refusal) -> Result<(), AllocError>
+fn push_refusal<'a>(
+    alloc: Global,
+    out: &mut Vec<u8>,
+    refusal: &'a Refusal,
+) -> Result<(), AllocError>
     ensures { OnOk result (out.new.items ≡ out.old.items ++ after_comma (refusal_json refusal.now)) }
 {
-    let words = string_text(alloc, refusal.words.as_str())?;
-    let version = fields_text(alloc, refusal.version.as_ref())?;
-    let mut digits = Buffer::new();
-    let pieces = [
-        ",{\"place\":".as_bytes(),
-        digits.format(refusal.place).as_bytes(),
-        ",\"reason\":".as_bytes(),
-        words.as_slice(),
-        ",\"version\":".as_bytes(),
-        version.as_bytes(),
-        "}".as_bytes(),
+    let members = [
+        ("place", Field::Number(refusal.place as u64)),
+        ("reason", Field::Text(refusal.words.as_str())),
+        ("version", Field::Version(refusal.version.as_ref())),
     ];
-    push_pieces(out, &pieces)?;
-    Ok(())
+    push_item(alloc, out, &members)
 }
 
 /// The places that an input doesn't take, and why, each behind a comma.
@@ -58,15 +45,6 @@ fn each_newer(alloc: Global, newer: &[Refusal]) -> Result<Vec<u8>, AllocError>
         push_refusal(alloc, &mut out, refusal)?;
     }
     Ok(out)
-}
-
-/// The same, as an array.
-fn newer_text(alloc: Global, newer: &[Refusal]) -> Result<Vec<u8>, AllocError>
-    ensures { IfOk result (λ text. text.items ≡ compact_text (list (map (λ r. refusal_json r) newer.now))) }
-{
-    let items = each_newer(alloc, newer)?;
-    let text = array_text(alloc, &items)?;
-    Ok(text)
 }
 
 /// Adds a build of a job, behind a comma.
@@ -87,41 +65,37 @@ fn each_passed(alloc: Global, passed: &[Passed]) -> Result<Vec<u8>, AllocError>
     Ok(out)
 }
 
-/// The same, as an array.
-fn passed_text(alloc: Global, passed: &[Passed]) -> Result<Vec<u8>, AllocError>
-    ensures { IfOk result (λ text. text.items ≡ compact_text (list (map (λ b. passed_json b) passed.now))) }
+/// Adds what an input takes, with the texts of the newer places that it doesn't and of the builds through which it passed, of
+/// which each stands behind a comma; all behind a comma.
+fn push_taken_of<'a>(
+    alloc: Global,
+    out: &mut Vec<u8>,
+    taken: &'a Taken,
+    newer: &'a [u8],
+    passed: &'a [u8],
+) -> Result<(), AllocError>
+    ensures { array_of newer.now ≡ compact_text (list (map (λ r. refusal_json r) taken.now.newer))
+        → array_of passed.now ≡ compact_text (list (map (λ b. passed_json b) taken.now.passed))
+        → OnOk result (out.new.items ≡ out.old.items ++ after_comma (taken_json taken.now)) }
 {
-    let items = each_passed(alloc, passed)?;
-    let text = array_text(alloc, &items)?;
-    Ok(text)
+    let members = [
+        ("name", Field::Text(taken.name.as_str())),
+        ("newer", Field::Items(newer)),
+        ("passed", Field::Items(passed)),
+        ("place", Field::Number(taken.place as u64)),
+        ("resource", Field::Text(taken.resource.as_str())),
+        ("version", Field::Version(taken.version.as_ref())),
+    ];
+    push_item(alloc, out, &members)
 }
 
 /// Adds what an input takes, and the newer places that it doesn't, behind a comma.
 fn push_taken(alloc: Global, out: &mut Vec<u8>, taken: &Taken) -> Result<(), AllocError>
     ensures { OnOk result (out.new.items ≡ out.old.items ++ after_comma (taken_json taken.now)) }
 {
-    let name = string_text(alloc, taken.name.as_str())?;
-    let newer = newer_text(alloc, &taken.newer)?;
-    let passed = passed_text(alloc, &taken.passed)?;
-    let mut digits = Buffer::new();
-    let resource = string_text(alloc, taken.resource.as_str())?;
-    let version = fields_text(alloc, taken.version.as_ref())?;
-    let pieces = [
-        ",{\"name\":".as_bytes(),
-        name.as_slice(),
-        ",\"newer\":".as_bytes(),
-        newer.as_slice(),
-        ",\"passed\":".as_bytes(),
-        passed.as_slice(),
-        ",\"place\":".as_bytes(),
-        digits.format(taken.place).as_bytes(),
-        ",\"resource\":".as_bytes(),
-        resource.as_slice(),
-        ",\"version\":".as_bytes(),
-        version.as_bytes(),
-        "}".as_bytes(),
-    ];
-    push_pieces(out, &pieces)?;
+    let newer = each_newer(alloc, &taken.newer)?;
+    let passed = each_passed(alloc, &taken.passed)?;
+    push_taken_of(alloc, out, taken, &newer, &passed)?;
     Ok(())
 }
 
@@ -136,33 +110,18 @@ fn each_taken(alloc: Global, inputs: &[Taken]) -> Result<Vec<u8>, AllocError>
     Ok(out)
 }
 
-/// The same, as an array.
-fn inputs_text(alloc: Global, inputs: &[Taken]) -> Result<Vec<u8>, AllocError>
-    ensures { IfOk result (λ text. text.items ≡ compact_text (list (map (λ t. taken_json t) inputs.now))) }
-{
-    let items = each_taken(alloc, inputs)?;
-    let text = array_text(alloc, &items)?;
-    Ok(text)
-}
-
 // ---- a job
 
 /// A build of the job, and how it stands.
 fn build_text(alloc: Global, number: u32, status: Status) -> Result<Vec<u8>, AllocError>
     ensures { IfOk result (λ text. text.items ≡ compact_text (last_build_json (number, status))) }
 {
-    let mut digits = Buffer::new();
-    let name = string_text(alloc, digits.format(number))?;
-    let word = string_text(alloc, word_of(status))?;
-    let pieces = [
-        "{\"name\":".as_bytes(),
-        name.as_slice(),
-        ",\"status\":".as_bytes(),
-        word.as_slice(),
-        "}".as_bytes(),
+    let members = [
+        ("name", Field::Numeral(number)),
+        ("status", Field::Text(word_of(status))),
     ];
     let mut text = Vec::new(alloc);
-    push_pieces(&mut text, &pieces)?;
+    push_object(alloc, &mut text, &members)?;
     Ok(text)
 }
 
@@ -179,7 +138,7 @@ fn last_text(alloc: Global, last: Option<(u32, Status)>) -> Result<Vec<u8>, Allo
 /// Words, if there are some; else null.
 fn words_text(alloc: Global, words: Option<&String>) -> Result<Vec<u8>, AllocError>
     ensures { IfOk result (λ text. text.items
-        ≡ compact_text (words_json (option_map (λ words. string_bytes words.now) words.entry))) }
+        ≡ compact_text (words_json (option_map string_bytes (option_copied words.entry)))) }
 {
     match words {
         Some(words) => string_text(alloc, words.as_str()),
@@ -187,40 +146,44 @@ fn words_text(alloc: Global, words: Option<&String>) -> Result<Vec<u8>, AllocErr
     }
 }
 
-/// What is said of a job.
-fn explained_text(alloc: Global, explained: &Explained) -> Result<Vec<u8>, AllocError>
-    ensures { IfOk result (λ text. text.items ≡ compact_text (explained_json explained.now)) }
+/// Adds what is said of a job, with the texts of what each input takes, each behind a comma, of the build that has the same
+/// versions, of what the next build would be, and of why there is none.
+fn push_explained_of<'a>(
+    alloc: Global,
+    out: &mut Vec<u8>,
+    explained: &'a Explained,
+    inputs: &'a [u8],
+    last: &'a [u8],
+    next: &'a [u8],
+    why: &'a [u8],
+) -> Result<(), AllocError>
+    ensures { array_of inputs.now ≡ compact_text (list (map (λ t. taken_json t) explained.now.inputs))
+        → last.now ≡ compact_text (last_json explained.now.last)
+        → next.now ≡ compact_text (string (outlook_words explained.now.outlook))
+        → why.now ≡ compact_text (words_json explained.now.why)
+        → OnOk result (out.new.items ≡ out.old.items ++ compact_text (explained_json explained.now)) }
 {
-    let inputs = inputs_text(alloc, &explained.inputs)?;
-    let name = string_text(alloc, explained.job.as_str())?;
-    let last = last_text(alloc, explained.last)?;
-    let next = outlook_text(alloc, explained.outlook)?;
-    let why = words_text(alloc, explained.why.as_ref())?;
-    let pieces = [
-        "{\"has_new_inputs\":".as_bytes(),
-        bool_text(is_due(explained.outlook)).as_bytes(),
-        ",\"inputs\":".as_bytes(),
-        inputs.as_slice(),
-        ",\"job_name\":".as_bytes(),
-        name.as_slice(),
-        ",\"last\":".as_bytes(),
-        last.as_slice(),
-        ",\"next\":".as_bytes(),
-        next.as_slice(),
-        ",\"reason\":".as_bytes(),
-        why.as_slice(),
-        "}".as_bytes(),
+    let members = [
+        ("has_new_inputs", Field::Flag(is_due(explained.outlook))),
+        ("inputs", Field::Items(inputs)),
+        ("job_name", Field::Text(explained.job.as_str())),
+        ("last", Field::Json(last)),
+        ("next", Field::Json(next)),
+        ("reason", Field::Json(why)),
     ];
-    let mut text = Vec::new(alloc);
-    push_pieces(&mut text, &pieces)?;
-    Ok(text)
+    push_object(alloc, out, &members)
 }
 
-/// The same on a line.
+/// What is said of a job, on a line.
 fn explained_line(alloc: Global, explained: &Explained) -> Result<Vec<u8>, AllocError>
     ensures { IfOk result (λ text. text.items ≡ json_line (explained_json explained.now)) }
 {
-    let text = explained_text(alloc, explained)?;
+    let inputs = each_taken(alloc, &explained.inputs)?;
+    let last = last_text(alloc, explained.last)?;
+    let next = outlook_text(alloc, explained.outlook)?;
+    let why = words_text(alloc, explained.why.as_ref())?;
+    let mut text = Vec::new(alloc);
+    push_explained_of(alloc, &mut text, explained, &inputs, &last, &next, &why)?;
     let line = on_a_line(text)?;
     Ok(line)
 }

@@ -2,75 +2,32 @@
 ghost use Rattle.std.specs.Prelude.{◌≡◌, ◌++◌, List, Option, map, flat_map, string_bytes, IfOk, OnOk};
 ghost use Rattle.serde_json.specs.Data.{Data, string};
 ghost use Rattle.serde_json.specs.Written.{compact_text};
-ghost use Rattle.ccr_history.specs.Builds.{BuildData, build_of, is_running};
+ghost use Rattle.ccr_history.specs.Builds.{BuildData};
 ghost use Rattle.ccr_pipeline.specs.Inputs.{input_data, inputs};
 ghost use Rattle.ccr_pipeline.specs.JobData.{resource_data, job_data};
 ghost use Rattle.ccr_lines.specs.Json.{list, json_line, after_comma, array_of};
-ghost use Rattle.ccr_lines.specs.JobsJson.{stands, standing, newest_that, build_json, newest_json, input_json, output_json, output_of, is_due, job_object, job_json, jobs_json};
+ghost use Rattle.ccr_lines.specs.JobsJson.{newest_that, build_json, newest_json, input_json, output_json, output_of, is_due, job_object, job_json, jobs_json};
 ghost use Rattle.ccr_lines.specs.Outlooks.{outlook_words};
 ghost use Rattle.ccr_lines.specs.Standing.{next_data};
 
 use crate::builds::push_build_json;
 use crate::edge::puts;
 use crate::json::{array_line, string_text};
+use crate::newest::{Sought, newest_of};
 use crate::next_build::NextBuild;
 use crate::object::{Field, push_item, push_string};
 use crate::outlook::{Outlook, push_outlook};
-use ccr_history::{BuildRef, History, Status};
+use ccr_history::{BuildRef, History};
 use ccr_pipeline::{Input, Job, Resource, inputs_of};
 use std::alloc::{AllocError, Global};
 
 // ---- builds
 
-/// Whether a build of this status runs.
-fn is_running(status: Status) -> bool
-    ensures { result ≡ is_running status }
-{
-    match status {
-        Status::Running => true,
-        Status::Succeeded | Status::Failed | Status::Errored | Status::Aborted => false,
-    }
-}
-
-/// Whether a build of this status runs, if it is to run; whether it has ended, if it isn't.
-fn stands(runs: bool, status: Status) -> bool
-    ensures { result ≡ stands runs status }
-{
-    if runs {
-        is_running(status)
-    } else {
-        !is_running(status)
-    }
-}
-
-/// The job's build of this number, if there is one that stands so.
-fn standing<'h>(history: &'h History, runs: bool, job: &str, number: u32) -> Option<BuildRef<'h>>
-    ensures { result ≡ standing runs (build_of job.now number history.now.builds) }
-{
-    match history.build(job, number) {
-        Some(build) => {
-            if stands(runs, build.status()) {
-                Some(build)
-            } else {
-                None
-            }
-        }
-        None => None,
-    }
-}
-
-/// The newest of a job's builds that runs, or the newest that has ended, if there is one.
+/// The newest build of a job that runs, or the newest one that has ended.
 fn newest_that<'h>(history: &'h History, runs: bool, job: &str) -> Option<BuildRef<'h>>
     ensures { result ≡ newest_that runs job.now history.now }
 {
-    let count = history.count_of(job);
-    for newer in 0..count {
-        match standing(history, runs, job, count - newer) {
-            Some(build) => return Some(build),
-            None => {}
-        }
-    }
-    None
+    newest_of(history, Sought::Stands(runs), job)
 }
 
 /// A build, and how it stands.

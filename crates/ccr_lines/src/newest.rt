@@ -2,11 +2,11 @@
 ghost use Rattle.std.specs.Prelude.{◌≡◌, ◌==◌, false, length, map};
 ghost use Rattle.std.specs.List.{list_any};
 ghost use Rattle.std.specs.Option.{option_map_or};
-ghost use Rattle.ccr_history.specs.Builds.{build_of};
+ghost use Rattle.ccr_history.specs.Builds.{build_of, is_running};
 ghost use Rattle.ccr_pipeline.specs.Inputs.{input_data};
 ghost use Rattle.ccr_pipeline.specs.Pipelines.{pipeline_data};
 ghost use Rattle.ccr_lines.specs.BuildCertificates.{place_for};
-ghost use Rattle.ccr_lines.specs.Newest.{has_met, took_each, is_sought, IsSearch, if_so, newest_of, standing_of};
+ghost use Rattle.ccr_lines.specs.Newest.{has_met, took_each, stands, is_sought, IsSearch, if_so, newest_of, standing_of};
 ghost use Rattle.ccr_lines.specs.Releases.{is_pair};
 
 use crate::release::{has_pair, passed_pairs, used_at};
@@ -21,6 +21,8 @@ pub(crate) enum Sought<'a> {
     Met((u32, u32)),
     /// It succeeded and moved this pair of scope and place.
     Passed((u32, u32)),
+    /// It runs, or it has ended.
+    Stands(bool),
     /// It took these places for these inputs, one each, and none for any other.
     Took(&'a Pipeline, &'a [Input], &'a [u32]),
 }
@@ -89,6 +91,27 @@ fn took_each(
     true
 }
 
+/// Whether a build of this status runs.
+fn is_running(status: Status) -> bool
+    ensures { result ≡ is_running status }
+{
+    match status {
+        Status::Running => true,
+        Status::Succeeded | Status::Failed | Status::Errored | Status::Aborted => false,
+    }
+}
+
+/// Whether a build runs, if it is to run; whether it has ended, if it isn't.
+fn stands(runs: bool, build: &BuildRef<'_>) -> bool
+    ensures { result ≡ stands runs build.now }
+{
+    if runs {
+        is_running(build.status())
+    } else {
+        !is_running(build.status())
+    }
+}
+
 /// Whether a build passes a test.
 fn is_sought(history: &History, sought: Sought<'_>, build: &BuildRef<'_>) -> bool
     requires { IsSearch sought }
@@ -97,6 +120,7 @@ fn is_sought(history: &History, sought: Sought<'_>, build: &BuildRef<'_>) -> boo
     match sought {
         Sought::Met(pair) => has_met(pair, build),
         Sought::Passed(pair) => has_pair(passed_pairs(build), pair),
+        Sought::Stands(runs) => stands(runs, build),
         Sought::Took(pipeline, inputs, places) => {
             took_each(pipeline, history, build, inputs, places) && took_no_other(build, inputs)
         }

@@ -1,10 +1,10 @@
 //! What a build took and moved, and the earlier builds through which that went together, as JSON.
-ghost use Rattle.std.specs.Prelude.{◌≡◌, ◌++◌, List, map, flat_map, string_bytes, IfOk, OnOk};
+ghost use Rattle.std.specs.Prelude.{◌≡◌, ◌++◌, List, map, flat_map, IfOk, OnOk};
 ghost use Rattle.serde_json.specs.Written.{compact_text};
 ghost use Rattle.serde_json.specs.Data.{Data};
 ghost use Rattle.ccr_lines.specs.Json.{list, json_line, after_comma, array_of};
 ghost use Rattle.ccr_lines.specs.Objects.{field_text};
-ghost use Rattle.ccr_lines.specs.ReleaseJson.{version_json, took_json, moved_json, number_json, witness_json, release_object, release_json};
+ghost use Rattle.ccr_lines.specs.ReleaseJson.{took_json, moved_json, number_json, witness_json, release_object, release_json};
 ghost use Rattle.ccr_lines.specs.Releases.{together_data};
 
 use crate::json::on_a_line;
@@ -15,21 +15,6 @@ use ccr_history::{BuildRef, History};
 use std::alloc::{AllocError, Global};
 
 // ---- versions
-
-/// The version at a place of the scope of this number; null where there is none.
-pub(crate) fn version_text(
-    alloc: Global,
-    history: &History,
-    scope: u32,
-    place: u32,
-) -> Result<String, AllocError>
-    ensures { IfOk result (λ text. string_bytes text ≡ compact_text (version_json history.now.tables scope place)) }
-{
-    match history.version_at(scope, place) {
-        Some(version) => version.key(alloc),
-        None => String::from_str(alloc, "null"),
-    }
-}
 
 /// Adds what a build took for an input, behind a comma.
 fn push_took<'a>(
