@@ -1,14 +1,14 @@
 //! A new database.
 
-ghost use Rattle.std.specs.Prelude.{◌≡◌, ◌≢◌, false, IsTrue, IfOk, IfErr, OnOk};
-ghost use Rattle.sqlite.specs.State.{HasCleanDisk, KeepsCommit, Survives};
+ghost use Rattle.std.specs.Prelude.{◌≡◌, ◌≢◌, [], false, IsTrue, IfOk, IfErr, OnOk};
+ghost use Rattle.sqlite.specs.State.{HasCleanDisk, KeepsCommit, Survives, ExecutesInside};
 ghost use Rattle.sqlite.specs.Held.{state};
 ghost use Rattle.ccr_tables.specs.Cause.{cause_of};
 ghost use Rattle.ccr_tables.specs.Contents.{Holds, Keeps, new_contents};
 ghost use Rattle.ccr_tables.specs.Created.{FailedAtFirst, IsUnmade, WasRefused};
 ghost use Rattle.ccr_tables.specs.Schema.{no_schema, meta_schema, our_schema};
 ghost use Rattle.ccr_tables.specs.Step.{Creates, Founds, IsBare};
-ghost use Rattle.ccr_tables.specs.Tables.{schema_before, schema_with, schema_of_all, AreNext};
+ghost use Rattle.ccr_tables.specs.Tables.{creation_text, schema_before, schema_with, schema_of_all, AreNext};
 
 use crate::cause::Cause;
 use crate::table::Table;
@@ -46,8 +46,9 @@ fn create_table<S: Alter>(tx: &mut Transaction<'_, S>, table: Table) -> Result<(
         HasCleanDisk (state S.Store tx.new.conn.now) → IsTrue old.in_transaction
         → old.now.schema ≡ our_schema → table ≡ Table.Meta → IfOk result (λ _. ⊥) }
     ensures answered { let old = state S.Store tx.old.conn.now in
-        HasCleanDisk (state S.Store tx.new.conn.now) → IsTrue old.in_transaction
-        → IfErr result (FailedAtFirst S.Store old) }
+        let new = state S.Store tx.new.conn.now in
+        HasCleanDisk new → IsTrue old.in_transaction
+        → IfErr result (λ e. ExecutesInside 0 (creation_text table) [] old new (Err e)) }
     ensures survives { Survives (state S.Store tx.old.conn.now) (state S.Store tx.new.conn.now) (λ _. ⊥) }
 {
     tx.execute(table.creation(), &[])?;

@@ -2,7 +2,8 @@
 //!
 //! A contract sees the tables as their contents: for each table, the rows that its SELECT shows. [`create`] makes the
 //! tables of a new database. [`write_one`] makes one [`Write`] in a transaction; [`commit`] makes a list of them in
-//! one, all of them or none. [`select`] reads a table, and [`select_named`] one of the two that are long. What the columns hold is told in docs/FORMATS.md.
+//! one, all of them or none. [`select`] reads a table, and [`select_named`] one of the two that are long. What the
+//! columns hold is told in docs/FORMATS.md.
 #![tactic(auto)]
 
 mod cause;

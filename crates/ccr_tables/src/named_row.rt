@@ -106,8 +106,8 @@ fn with_row(
     Ok(Some(rows))
 }
 
-/// All rows of `builds` or of `pairs`, by the table's key; `None` where one of them is no [`NamedRow`]. A failure of `sqlite` is
-/// answered.
+/// All rows of `builds` or of `pairs`, by the table's key; `None` where one of them is no [`NamedRow`]. A failure of
+/// `sqlite` is answered.
 pub fn select_named<S: Alter>(
     alloc: Global,
     conn: &mut Connection<S>,
@@ -128,13 +128,12 @@ pub fn select_named<S: Alter>(
     let mut found = Some(Vec::new(alloc));
     let mut texts = SharedTexts::new(alloc);
     let mut rows = conn.query(table.listing(), &[])?;
-    // The label names the loop in its proof.
+    // A loop has to be seen to end, so it has a bound; memory ends before so many rows do. The label names it in its proof.
     'rows: for _ in 0..u64::MAX {
         let Some(row) = rows.next()? else {
             return Ok(found);
         };
         found = with_row(found, &mut texts, row)?;
     }
-    // Memory ends before so many rows do.
     Err(Error::SqliteFailure(ErrorCode::OutOfMemory))
 }

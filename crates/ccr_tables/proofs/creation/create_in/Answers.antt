@@ -3,7 +3,9 @@ use Rattle.sqlite.specs.State.{HasCleanDisk}
 use Rattle.sqlite.specs.Held.{state}
 use Rattle.ccr_tables.proofs.InTurn.{keeps_then, survives_both}
 use Rattle.ccr_tables.proofs.Founding.{not_made}
-use Rattle.ccr_tables.proofs.Created.{first_after, refusal_after, refusal_on, failed_otherwise}
+use Rattle.ccr_tables.specs.declared.table.Table.TheVariants.{Meta}
+use Rattle.ccr_tables.proofs.Created.{table_failed, first_after, refusal_after, refusal_on, failed_otherwise}
+use Rattle.ccr_tables.proofs.FailedReads.{survives_itself}
 use Rattle.ccr_tables.proofs.creation.create_in.Goals as goal
 
 pub returns-in-Ok-clause-kept : goal.returns-in-Ok-clause-kept
@@ -62,11 +64,11 @@ returns-in-Ok-clause-refusal g c clean inside =
 pub returns-in-Err-clause-answered : goal.returns-in-Err-clause-answered
 returns-in-Err-clause-answered g c clean inside =
     let s0 = state g.S.Store c.args.tx.now.conn.now in
-    failed_otherwise g.S.Store s0 _ c.if_refused.result c.if_refused.ensures.same
-    (c.in-Err.ensures.answered clean inside)
+    let failed = table_failed g.S.Store s0 c.args.tx.now.conn.now c.create_table.new.tx.conn.now Meta _ (survives_itself s0) (c.in-Err.ensures.answered clean inside) in
+    failed_otherwise g.S.Store s0 _ c.if_refused.result c.if_refused.ensures.same failed
 
 pub returns-in-Err-clause-refusal : goal.returns-in-Err-clause-refusal
 returns-in-Err-clause-refusal g c clean inside =
     let s0 = state g.S.Store c.args.tx.now.conn.now in
-    refusal_on g.S.Store s0 _ c.if_refused.result c.if_refused.ensures.refused
-    (c.in-Err.ensures.answered clean inside)
+    let failed = table_failed g.S.Store s0 c.args.tx.now.conn.now c.create_table.new.tx.conn.now Meta _ (survives_itself s0) (c.in-Err.ensures.answered clean inside) in
+    refusal_on g.S.Store s0 _ c.if_refused.result c.if_refused.ensures.refused failed

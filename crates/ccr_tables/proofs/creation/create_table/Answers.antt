@@ -1,11 +1,8 @@
-use Rattle.std.proofs.Common.{[], Err, IfOk, inl, refl, subst}
+use Rattle.std.proofs.Common.{IfOk, subst}
 use Rattle.sqlite.specs.Held.{state}
-use Rattle.sqlite.specs.State.{ExecutesInside}
 use Rattle.ccr_tables.specs.Step.{Creates}
-use Rattle.ccr_tables.specs.Tables.{creation_text, schema_before, schema_with}
-use Rattle.ccr_tables.proofs.Created.{failed_first}
+use Rattle.ccr_tables.specs.Tables.{schema_before, schema_with}
 use Rattle.ccr_tables.proofs.Creations.{creates_table, no_second_meta}
-use Rattle.ccr_tables.proofs.FailedReads.{survives_itself}
 use Rattle.ccr_tables.proofs.Founding.{creates_fails, creates_made}
 use Rattle.std.proofs.lemmas.Result.{err_from_is_err_and}
 use Rattle.ccr_tables.proofs.creation.create_table.Goals as goal
@@ -18,14 +15,6 @@ returns-in_err-execute-clause-step g c clean inside =
     let r = err_from_is_err_and c.from_residual.result c.from_residual.ensures.1 in
     creates_fails (schema_before t) (schema_with t) (schema_with t) old new _ r.0 c.from_residual.result r.1
     (subst (Creates (schema_before t) (schema_with t) old new) c.in_err-execute.was (creates_table t old new c.execute.result (rw (c.creation.ensures) at (c.execute.ensures.runs clean inside))))
-
-pub returns-in_err-execute-clause-answered : goal.returns-in_err-execute-clause-answered
-returns-in_err-execute-clause-answered g c clean inside =
-    let t = c.args.table in
-    let old = state g.S.Store c.args.tx.now.conn.now in
-    let new = state g.S.Store c.execute.new.self.conn.now in
-    failed_first g.S.Store old c.args.tx.now.conn.now c.execute.new.self.conn.now (creation_text t) [] _ c.from_residual.result (inl (t, refl, refl)) (survives_itself old)
-    (subst (ExecutesInside 0 (creation_text t) [] old new) c.in_err-execute.was (rw (c.creation.ensures) at (c.execute.ensures.runs clean inside))) c.from_residual.ensures.1
 
 pub returns-clause-step : goal.returns-clause-step
 returns-clause-step g c clean inside =

@@ -4,9 +4,8 @@ use Rattle.std.proofs.lemmas.Result.{err_from_is_err_and}
 use Rattle.sqlite.specs.State.{HasCleanDisk}
 use Rattle.sqlite.specs.Held.{state}
 use Rattle.ccr_tables.specs.Created.{FailedAtFirst}
-use Rattle.ccr_tables.proofs.Created.{first_after}
+use Rattle.ccr_tables.proofs.Created.{table_failed}
 use Rattle.ccr_tables.proofs.Founding.{creates_next, creates_stops}
-use Rattle.ccr_tables.proofs.FailedReads.{survives_itself}
 use Rattle.ccr_tables.proofs.InTurn.{survives_both, on_failed}
 use Rattle.ccr_tables.proofs.creation.create_tables.Goals as goal
 
@@ -42,5 +41,5 @@ returns-in_err-create_table-clause-answered g c clean inside =
     let mid = state g.S.Store c.loop-table.tx.conn.now in
     let early : HasCleanDisk mid = omega (arith, c.create_table.ensures.survives.clean) in
     let before = c.loop-table.invariant.steps early inside in
-    first_after g.S.Store old mid c.from_residual.result c.loop-table.invariant.survives
-    (on_failed c.from_residual.result _ (FailedAtFirst g.S.Store mid) c.from_residual.ensures.1 (c.in_err-create_table.ensures.answered clean before.made.0))
+    on_failed c.from_residual.result _ (FailedAtFirst g.S.Store old) c.from_residual.ensures.1
+    (table_failed g.S.Store old c.loop-table.tx.conn.now c.create_table.new.tx.conn.now _ _ c.loop-table.invariant.survives (c.in_err-create_table.ensures.answered clean before.made.0))
