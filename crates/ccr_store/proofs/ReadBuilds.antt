@@ -17,8 +17,7 @@ use Rattle.std.proofs.lemmas.Map.Text.{is_eq-slice_cmp}
 use Rattle.std.proofs.lemmas.Slice.Eq.{bytes_eq-Decides}
 use Rattle.sqlite_trees.specs.Tree.{IsAscending}
 use Rattle.sqlite_trees.proofs.ListLemmas.{all-append}
-use Rattle.ccr_tables.specs.Builds.{IsBuild as IsBuildRow}
-use Rattle.ccr_tables.specs.Pairs.{IsPair}
+use Rattle.ccr_tables.specs.NamedRows.{IsNamedRow}
 use Rattle.ccr_store.specs.Listed.{listed_pairs}
 use Rattle.sqlite.specs.declared.types.Value.TheVariants.{Text as Words}
 use Rattle.sqlite.specs.Order.{Row, column}
@@ -205,25 +204,25 @@ used_named ts id [] rules = tt
 used_named ts id (u ∷ us) rules = (λ none. rules.0.0 (same_words u.input [] none), used_named ts id us rules.1)
 
 -- ---- a history's pairs are pairs
-used_pairs : (id : ℕ) (us : List UsedData) → id < 2 ^ 32 → AllByRecursion (λ (u : UsedData). IsUtf8 u.input) us → AllByRecursion (λ (u : UsedData). (u.scope < 2 ^ 32) × (u.place < 2 ^ 32)) us → AllByRecursion IsPair (map (used_row id) us)
+used_pairs : (id : ℕ) (us : List UsedData) → id < 2 ^ 32 → AllByRecursion (λ (u : UsedData). IsUtf8 u.input) us → AllByRecursion (λ (u : UsedData). (u.scope < 2 ^ 32) × (u.place < 2 ^ 32)) us → AllByRecursion IsNamedRow (map (used_row id) us)
 used_pairs id [] low texts small = tt
 used_pairs id (u ∷ us) low texts small = ((id, u.input, u.scope, u.place, low, texts.0, small.0.0, small.0.1, refl), used_pairs id us low texts.1 small.1)
 
-moved_pairs : (id : ℕ) (ps : List (ℕ × ℕ)) → id < 2 ^ 32 → AllByRecursion (λ (p : ℕ × ℕ). (p.0 < 2 ^ 32) × (p.1 < 2 ^ 32)) ps → AllByRecursion IsPair (map (moved_row id) ps)
+moved_pairs : (id : ℕ) (ps : List (ℕ × ℕ)) → id < 2 ^ 32 → AllByRecursion (λ (p : ℕ × ℕ). (p.0 < 2 ^ 32) × (p.1 < 2 ^ 32)) ps → AllByRecursion IsNamedRow (map (moved_row id) ps)
 moved_pairs id [] low small = tt
 moved_pairs id (p ∷ ps) low small = ((id, [], p.0, p.1, low, search rules, small.0.0, small.0.1, refl), moved_pairs id ps low small.1)
 
-pub disabled_are : (ts : List TableData) (ps : List (ℕ × ℕ)) → AreTables ts → AllByRecursion (λ (p : ℕ × ℕ). IsTrue (has_place ts p.0 p.1)) ps → AllByRecursion IsPair (disabled_rows ps)
+pub disabled_are : (ts : List TableData) (ps : List (ℕ × ℕ)) → AreTables ts → AllByRecursion (λ (p : ℕ × ℕ). IsTrue (has_place ts p.0 p.1)) ps → AllByRecursion IsNamedRow (disabled_rows ps)
 disabled_are ts ps tables places =
     moved_pairs 0 ps (omega arith) (each_weaker (λ (p : ℕ × ℕ). IsTrue (has_place ts p.0 p.1)) (λ p. (p.0 < 2 ^ 32) × (p.1 < 2 ^ 32)) (λ p it. few ts p.0 p.1 tables it) ps places)
 
-pub listed_pairs_are : (ts : List TableData) (id : ℕ) (bs : List BuildData) → id + length bs ≤ 2 ^ 32 → AreTables ts → AllByRecursion (IsBuild ts) bs → AllByRecursion IsTextBuild bs → AllByRecursion IsPair (listed_pairs id bs)
+pub listed_pairs_are : (ts : List TableData) (id : ℕ) (bs : List BuildData) → id + length bs ≤ 2 ^ 32 → AreTables ts → AllByRecursion (IsBuild ts) bs → AllByRecursion IsTextBuild bs → AllByRecursion IsNamedRow (listed_pairs id bs)
 listed_pairs_are ts id [] room tables rules texts = tt
 listed_pairs_are ts id (b ∷ bs) room tables rules texts =
     let low : id < 2 ^ 32 = omega (arith, room) in
     let more : id + 1 + length bs ≤ 2 ^ 32 = omega (arith, room) in
-    all-append IsPair (map (moved_row id) b.moved ++ map (used_row id) b.used) (listed_pairs (id + 1) bs)
-    (all-append IsPair (map (moved_row id) b.moved) (map (used_row id) b.used) (moved_pairs id b.moved low (moved_few ts b tables rules.0)) (used_pairs id b.used low texts.0.1 (used_few ts b tables rules.0)))
+    all-append IsNamedRow (map (moved_row id) b.moved ++ map (used_row id) b.used) (listed_pairs (id + 1) bs)
+    (all-append IsNamedRow (map (moved_row id) b.moved) (map (used_row id) b.used) (moved_pairs id b.moved low (moved_few ts b tables rules.0)) (used_pairs id b.used low texts.0.1 (used_few ts b tables rules.0)))
     (listed_pairs_are ts (id + 1) bs more tables rules.1 texts.1)
 
 -- ---- a history's rows of builds are builds
@@ -243,7 +242,7 @@ numbers_few bs numbered few =
     each_at (λ (b : BuildData). b.number < 2 ^ 32) bs
     (λ i b at. omega (arith, numbered i b at, count_by-le-length (is_of b.job) (take i bs), length-take i bs, few))
 
-pub build_rows_are : (id : ℕ) (bs : List BuildData) → id + length bs ≤ 2 ^ 32 → AllByRecursion (λ b. b.number < 2 ^ 32) bs → AllByRecursion IsTextBuild bs → AllByRecursion IsBuildRow (build_rows id bs)
+pub build_rows_are : (id : ℕ) (bs : List BuildData) → id + length bs ≤ 2 ^ 32 → AllByRecursion (λ b. b.number < 2 ^ 32) bs → AllByRecursion IsTextBuild bs → AllByRecursion IsNamedRow (build_rows id bs)
 build_rows_are id [] room few texts = tt
 build_rows_are id (b ∷ bs) room few texts =
     let low : id < 2 ^ 32 = omega (arith, room) in

@@ -12,9 +12,10 @@ use Rattle.ccr_history.specs.declared.store_fault.StoreFault.{StoreFault}
 use Rattle.ccr_history.specs.declared.store_fault.StoreFault.TheVariants as of
 use Rattle.ccr_tables.specs.Cause.{cause_of}
 use Rattle.ccr_tables.specs.declared.cause.Cause.TheVariants.{NoMemory}
-use Rattle.ccr_tables.specs.Builds.{IsBuild}
-use Rattle.ccr_tables.specs.Pairs.{IsPair}
-use Rattle.ccr_tables.specs.Read.{FailedToRead, meta_text, scopes_text, versions_text, builds_text, pairs_text, pins_text}
+use Rattle.ccr_tables.specs.NamedRows.{IsNamedRow}
+use Rattle.ccr_tables.specs.Read.{FailedToRead}
+use Rattle.ccr_tables.specs.Tables.{listing_text}
+use Rattle.ccr_tables.specs.declared.table.Table.TheVariants as table
 use Rattle.ccr_tables.specs.Shown.{Shows, ShowsOther}
 use Rattle.ccr_tables.proofs.FailedReads.{failed_after}
 use Rattle.ccr_store.specs.Causes.{ComesOfRows, IsUnloaded, IsForeign}
@@ -90,9 +91,9 @@ unbuilt g old f history (Err of.NotOurs) builds pairs pins seen shown only comes
 unbuilt g old f history (Err _) builds pairs pins seen shown only comes = absurd comes
 
 -- a row that isn't of its kind is no history's
-pub others_of_none : (f : Format) (db : Database) → ShowsOther IsBuild builds_text db ⊎ ShowsOther IsPair pairs_text db → ShowsNone f db
-others_of_none f db (inl other) = inr (inl (other.0, other.1, λ h it same. other.2 (subst (AllByRecursion IsBuild) (sym same) (all_builds h it.rules it.texts))))
-others_of_none f db (inr other) = inr (inr (inl (other.0, other.1, λ h it same. other.2 (subst (AllByRecursion IsPair) (sym same) (all_pairs h it.rules it.texts)))))
+pub others_of_none : (f : Format) (db : Database) → ShowsOther IsNamedRow (listing_text table.Builds) db ⊎ ShowsOther IsNamedRow (listing_text table.Pairs) db → ShowsNone f db
+others_of_none f db (inl other) = inr (inl (other.0, other.1, λ h it same. other.2 (subst (AllByRecursion IsNamedRow) (sym same) (all_builds h it.rules it.texts))))
+others_of_none f db (inr other) = inr (inr (inl (other.0, other.1, λ h it same. other.2 (subst (AllByRecursion IsNamedRow) (sym same) (all_pairs h it.rules it.texts)))))
 
 -- ---- after another read
 answer_after : {S : Type 0} (g : Ghosts S) (a b : State) (f : Format) (fault : StoreFault) → b.now ≡ a.now → Survives a b (λ _. ⊥)
@@ -118,14 +119,14 @@ pub history_shown : (f : Format) (db mid : Database) (old : HistoryData) (r : Re
 history_shown f db mid old (Err e) same seen kept built = tt
 history_shown f db mid old (Ok it) same (meta, scopes, versions, shows, lists, only) kept (builds, pairs, pins, shown, these) =
     let seen : ShowsSeen db (meta_rows f it.text) (scope_rows 1 it.tables) (table_rows 1 it.tables) = record {
-      set = subst (Shows meta_text db) (lists.set ∙ ap (meta_rows f) (sym kept.1)) shows.set;
-      named = subst (Shows scopes_text db) (lists.named ∙ ap (scope_rows 1) (sym kept.0)) shows.named;
-      reported = subst (Shows versions_text db) (lists.reported ∙ ap (table_rows 1) (sym kept.0)) shows.reported;
+      set = subst (Shows (listing_text table.Meta) db) (lists.set ∙ ap (meta_rows f) (sym kept.1)) shows.set;
+      named = subst (Shows (listing_text table.Scopes) db) (lists.named ∙ ap (scope_rows 1) (sym kept.0)) shows.named;
+      reported = subst (Shows (listing_text table.Versions) db) (lists.reported ∙ ap (table_rows 1) (sym kept.0)) shows.reported;
     } in
     let here : ShowsBuilt db builds pairs pins = subst (λ (d : Database). ShowsBuilt d builds pairs pins) same shown in
     let built : ShowsBuilt db (build_rows 1 it.builds) (history_pairs it) (map pin_row it.pins) = record {
-      made = subst (Shows builds_text db) these.made here.made;
-      given = subst (Shows pairs_text db) these.given here.given;
-      held = subst (Shows pins_text db) these.held here.held;
+      made = subst (Shows (listing_text table.Builds) db) these.made here.made;
+      given = subst (Shows (listing_text table.Pairs) db) these.given here.given;
+      held = subst (Shows (listing_text table.Pins) db) these.held here.held;
     } in
     (seen, built)

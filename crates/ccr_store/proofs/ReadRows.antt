@@ -15,7 +15,7 @@ use Rattle.ccr_history.proofs.Links.{all-at}
 use Rattle.ccr_history.proofs.PinMaps.{with_pin-last}
 use Rattle.ccr_history.specs.declared.store_fault.StoreFault.{StoreFault}
 use Rattle.ccr_history.specs.declared.store_fault.StoreFault.TheVariants.{NoMemory}
-use Rattle.ccr_tables.specs.Pairs.{pair}
+use Rattle.ccr_tables.specs.NamedRows.{named_row}
 use Rattle.ccr_store.specs.Rows.{version_row, version_rows, used_row, moved_row, pin_row}
 use Rattle.ccr_store.specs.Texts.{IsSpelled, IsTextPin, OrNoMemory}
 use Rattle.ccr_store.proofs.FrontRows.{rows_length, row_there, next_item}
@@ -71,9 +71,9 @@ same_words s t e = ap words_of e
 pub same_number : (m n : ℕ) → Int (pos m) ≡ Int (pos n) → m ≡ n
 same_number m n e = ap number_of e
 
-pub used_is : (id : ℕ) (u : UsedData) (r : Row) (build : ℕ) (input : List ℕ) (scope place : ℕ) → r ≡ used_row id u → r ≡ pair build input scope place → record { input = input; scope = scope; place = place } ≡ u
+pub used_is : (id : ℕ) (u : UsedData) (r : Row) (build : ℕ) (input : List ℕ) (scope place : ℕ) → r ≡ used_row id u → r ≡ named_row build input scope place → record { input = input; scope = scope; place = place } ≡ u
 used_is id u r build input scope place is known =
-    let both : pair build input scope place ≡ used_row id u = sym known ∙ is in
+    let both : named_row build input scope place ≡ used_row id u = sym known ∙ is in
     let one : input ≡ u.input = same_words input u.input (ap (λ (s : Row). column s 1) both) in
     let two : scope ≡ u.scope = same_number scope u.scope (ap (λ (s : Row). column s 2) both) in
     let three : place ≡ u.place = same_number place u.place (ap (λ (s : Row). column s 3) both) in
@@ -84,9 +84,9 @@ used_read id us rows i r same within is =
     let it = row_there (λ k (xs : List UsedData). map (used_row id) xs) (λ k. used_row id) (λ k. refl) (λ k x xs. refl) 1 us rows i r same within is in
     (it.0, it.2, next_item us i it.0 it.1)
 
-pub moved_is : (id : ℕ) (p : ℕ × ℕ) (r : Row) (build : ℕ) (input : List ℕ) (scope place : ℕ) → r ≡ moved_row id p → r ≡ pair build input scope place → (scope, place) ≡ p
+pub moved_is : (id : ℕ) (p : ℕ × ℕ) (r : Row) (build : ℕ) (input : List ℕ) (scope place : ℕ) → r ≡ moved_row id p → r ≡ named_row build input scope place → (scope, place) ≡ p
 moved_is id p r build input scope place is known =
-    let both : pair build input scope place ≡ moved_row id p = sym known ∙ is in
+    let both : named_row build input scope place ≡ moved_row id p = sym known ∙ is in
     let two : scope ≡ p.0 = same_number scope p.0 (ap (λ (s : Row). column s 2) both) in
     let three : place ≡ p.1 = same_number place p.1 (ap (λ (s : Row). column s 3) both) in
     ap₂ (λ (m n : ℕ). (m, n)) two three

@@ -20,8 +20,7 @@ use Rattle.ccr_history.specs.History.{HistoryData, IsHistory}
 use Rattle.ccr_tables.specs.Listing.{columns_cmp, IsListed}
 use Rattle.ccr_store.specs.Listed.{AreSeen, AreBuilt, HasOther, listed_pairs, history_pairs, ListsSeen, ListsBuilt}
 use Rattle.ccr_store.specs.Rows.{scope_row, scope_rows, version_row, version_rows, table_rows, build_row, build_rows, used_row, moved_row, disabled_rows, pin_row, meta_rows, rows_in, rows_of}
-use Rattle.ccr_tables.specs.Builds.{IsBuild}
-use Rattle.ccr_tables.specs.Pairs.{IsPair}
+use Rattle.ccr_tables.specs.NamedRows.{IsNamedRow}
 use Rattle.ccr_store.specs.Texts.{HasTexts}
 use Rattle.ccr_store.specs.declared.format.Format.{Format}
 use Rattle.ccr_store.proofs.ReadBuilds.{disabled_are, listed_pairs_are, numbers_few, build_rows_are}
@@ -127,18 +126,18 @@ shown_built f h builds pairs pins rules built = record {
 }
 
 -- each row of a history's builds is a build, and each of its pairs a pair
-pub all_builds : (h : HistoryData) → IsHistory h → HasTexts h → AllByRecursion IsBuild (build_rows 1 h.builds)
+pub all_builds : (h : HistoryData) → IsHistory h → HasTexts h → AllByRecursion IsNamedRow (build_rows 1 h.builds)
 all_builds h rules texts =
     let few : 1 + length h.builds ≤ 2 ^ 32 = omega (arith, rules.1.0) in
     build_rows_are 1 h.builds few (numbers_few h.builds rules.1.1 rules.1.0) texts.builds
 
-pub all_pairs : (h : HistoryData) → IsHistory h → HasTexts h → AllByRecursion IsPair (history_pairs h)
+pub all_pairs : (h : HistoryData) → IsHistory h → HasTexts h → AllByRecursion IsNamedRow (history_pairs h)
 all_pairs h rules texts =
     let few : 1 + length h.builds ≤ 2 ^ 32 = omega (arith, rules.1.0) in
-    all-append IsPair (disabled_rows h.disabled) (listed_pairs 1 h.builds) (disabled_are h.tables h.disabled rules.0 rules.3.1) (listed_pairs_are h.tables 1 h.builds few rules.0 rules.1.2 texts.builds)
+    all-append IsNamedRow (disabled_rows h.disabled) (listed_pairs 1 h.builds) (disabled_are h.tables h.disabled rules.0 rules.3.1) (listed_pairs_are h.tables 1 h.builds few rules.0 rules.1.2 texts.builds)
 
-pub no_other : (f : Format) (h : HistoryData) → IsHistory h → HasTexts h → HasOther IsBuild 1 (rows_in f h).builds ⊎ HasOther IsPair 4 (rows_in f h).pairs → ⊥
+pub no_other : (f : Format) (h : HistoryData) → IsHistory h → HasTexts h → HasOther IsNamedRow 1 (rows_in f h).builds ⊎ HasOther IsNamedRow 4 (rows_in f h).pairs → ⊥
 no_other f h rules texts (inl other) =
-    other.2 (subst (AllByRecursion IsBuild) (sym (shown 1 (build_rows 1 h.builds) other.0 (builds_key 1 h.builds) other.1)) (all_builds h rules texts))
+    other.2 (subst (AllByRecursion IsNamedRow) (sym (shown 1 (build_rows 1 h.builds) other.0 (builds_key 1 h.builds) other.1)) (all_builds h rules texts))
 no_other f h rules texts (inr other) =
-    other.2 (subst (AllByRecursion IsPair) (sym (shown_pairs h other.0 rules other.1)) (all_pairs h rules texts))
+    other.2 (subst (AllByRecursion IsNamedRow) (sym (shown_pairs h other.0 rules other.1)) (all_pairs h rules texts))

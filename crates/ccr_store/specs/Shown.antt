@@ -4,7 +4,8 @@ use Rattle.sqlite.specs.Effect.{Database}
 use Rattle.sqlite.specs.Order.{Row}
 use Rattle.sqlite.specs.State.{State, IsUnchanged}
 use Rattle.ccr_history.specs.History.{HistoryData, IsHistory}
-use Rattle.ccr_tables.specs.Read.{meta_text, scopes_text, versions_text, builds_text, pairs_text, pins_text}
+use Rattle.ccr_tables.specs.Tables.{listing_text}
+use Rattle.ccr_tables.specs.declared.table.Table.TheVariants as table
 use Rattle.ccr_tables.specs.Shown.{Shows}
 use Rattle.ccr_store.specs.Listed.{ListsSeen, ListsBuilt, history_pairs, without_builds}
 use Rattle.ccr_store.specs.Readable.{IsReadable}
@@ -16,15 +17,15 @@ use Rattle.ccr_store.specs.declared.format.Format.TheVariants.{One, Two}
 -- ---- the answers to the six reads
 -- SQLite answers these rows to the reads of what was set and seen
 pub record ShowsSeen (db : Database) (meta scopes versions : List Row) : Type 0 where
-  pub set : Shows meta_text db meta
-  pub named : Shows scopes_text db scopes
-  pub reported : Shows versions_text db versions
+  pub set : Shows (listing_text table.Meta) db meta
+  pub named : Shows (listing_text table.Scopes) db scopes
+  pub reported : Shows (listing_text table.Versions) db versions
 
 -- SQLite answers these rows to the reads of what was built and pinned
 pub record ShowsBuilt (db : Database) (builds pairs pins : List Row) : Type 0 where
-  pub made : Shows builds_text db builds
-  pub given : Shows pairs_text db pairs
-  pub held : Shows pins_text db pins
+  pub made : Shows (listing_text table.Builds) db builds
+  pub given : Shows (listing_text table.Pairs) db pairs
+  pub held : Shows (listing_text table.Pins) db pins
 
 -- SQLITE SHOWS THE HISTORY: it answers the rows of the history, those of each table in the order of its key
 abbrev pub ShowsHistory : Format → HistoryData → Database → Type 0
@@ -58,13 +59,13 @@ IsSeenOf f db history =
 -- no history has these builds
 abbrev pub NoneHasBuilds : Format → Database → Type 0
 NoneHasBuilds f db =
-    (builds : List Row) × Shows builds_text db builds
+    (builds : List Row) × Shows (listing_text table.Builds) db builds
     × ((h : HistoryData) → IsServable f h → ¬ (builds ≡ build_rows 1 h.builds))
 
 -- no history has these pairs
 abbrev pub NoneHasPairs : Format → Database → Type 0
 NoneHasPairs f db =
-    (pairs : List Row) × Shows pairs_text db pairs
+    (pairs : List Row) × Shows (listing_text table.Pairs) db pairs
     × ((h : HistoryData) → IsServable f h → ¬ (pairs ≡ history_pairs h))
 
 -- no history that has what was set and seen has what was built and pinned
@@ -85,11 +86,11 @@ BeginsWith f rows = (more : List Row) × (rows ≡ format_row f ∷ more)
 
 -- SQLITE SHOWS THE FORMAT: it answers rows of `meta` that begin with it
 abbrev pub ShowsFormat : Format → Database → Type 0
-ShowsFormat f db = (rows : List Row) × Shows meta_text db rows × BeginsWith f rows
+ShowsFormat f db = (rows : List Row) × Shows (listing_text table.Meta) db rows × BeginsWith f rows
 
 -- it answers rows that begin with no format's
 abbrev pub ShowsNoFormat : Database → Type 0
-ShowsNoFormat db = (rows : List Row) × Shows meta_text db rows × ((f : Format) → ¬ BeginsWith f rows)
+ShowsNoFormat db = (rows : List Row) × Shows (listing_text table.Meta) db rows × ((f : Format) → ¬ BeginsWith f rows)
 
 -- A DATABASE WITH TABLES IS TAKEN: it has the number of the second format, and nothing has changed; or it has that of the
 -- first, and SQLite showed a history in it before it was written over

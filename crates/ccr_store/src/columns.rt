@@ -5,8 +5,7 @@ ghost use Rattle.sqlite.specs.declared.types.Value.TheVariants.{Int, Text, Blob}
 ghost use Rattle.sqlite.specs.Order.{column};
 
 use ccr_history::StoreFault;
-use ccr_tables::Cause;
-use ccr_tables::pairs::Pair;
+use ccr_tables::{Cause, NamedRow};
 use sqlite::Row;
 use sqlite::types::{FromSql, ValueRef};
 
@@ -57,7 +56,7 @@ pub(crate) fn is_blob(row: &Row, at: usize, bytes: &[u8]) -> bool
 }
 
 /// Whether the pair is one of this build.
-pub(crate) fn is_of(pair: &Pair, build: u32) -> bool
+pub(crate) fn is_of(pair: &NamedRow, build: u32) -> bool
     ensures is { IsTrue result → column pair.now 0 ≡ Int (pos build) }
     ensures only { column pair.now 0 ≡ Int (pos build) → IsTrue result }
 {
@@ -66,7 +65,7 @@ pub(crate) fn is_of(pair: &Pair, build: u32) -> bool
 }
 
 /// Whether the pair has no input.
-pub(crate) fn has_no_input(pair: &Pair) -> bool
+pub(crate) fn has_no_input(pair: &NamedRow) -> bool
     ensures is { IsTrue result → column pair.now 1 ≡ Text [] }
     ensures only { column pair.now 1 ≡ Text [] → IsTrue result }
 {

@@ -9,10 +9,10 @@ ghost use Rattle.ccr_store.specs.Texts.{OrNoMemory};
 
 use crate::reading::pair_count;
 use ccr_history::{History, StoreFault};
-use ccr_tables::pairs::Pair;
+use ccr_tables::NamedRow;
 
 /// Disables the place of a row, if the tables have it.
-fn disable(history: &mut History, row: &Pair) -> Result<(), StoreFault>
+fn disable(history: &mut History, row: &NamedRow) -> Result<(), StoreFault>
     ensures read { (p : ℕ × ℕ) → IsTrue (has_place history.old.tables p.0 p.1) → row.now ≡ moved_row 0 p
         → OrNoMemory (λ _. history.new ≡ edited (disabled p.0 p.1) history.old) result }
     ensures kept { OnOk result (KeepsSeen history.old history.new) }
@@ -26,7 +26,7 @@ fn disable(history: &mut History, row: &Pair) -> Result<(), StoreFault>
     Ok(())
 }
 
-fn disable_all(history: &mut History, rows: &[Pair]) -> Result<(), StoreFault>
+fn disable_all(history: &mut History, rows: &[NamedRow]) -> Result<(), StoreFault>
     ensures read { (ps : List (ℕ × ℕ)) → AreDisabled history.old.tables ps → history.old.disabled ≡ []
         → rows.now ≡ disabled_rows ps → OrNoMemory (λ _. history.new ≡ record history.old { disabled = ps }) result }
     ensures kept { OnOk result (KeepsSeen history.old history.new) }
@@ -40,8 +40,8 @@ fn disable_all(history: &mut History, rows: &[Pair]) -> Result<(), StoreFault>
 /// Disables the places of the rows of build 0, and gives the rows behind them.
 pub(crate) fn add_disabled<'a>(
     history: &mut History,
-    rows: &'a [Pair],
-) -> Result<&'a [Pair], StoreFault>
+    rows: &'a [NamedRow],
+) -> Result<&'a [NamedRow], StoreFault>
     ensures read { (ps : List (ℕ × ℕ)) (bs : List BuildData) → AreDisabled history.old.tables ps
         → history.old.disabled ≡ [] → rows.now ≡ disabled_rows ps ++ listed_pairs 1 bs
         → OrNoMemory (λ more. (more.now ≡ listed_pairs 1 bs)

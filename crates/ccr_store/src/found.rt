@@ -3,19 +3,18 @@ ghost use Rattle.std.specs.Prelude.{◌≡◌, ◌≢◌, ◌⊎◌, false, IsTr
 ghost use Rattle.ccr_tables.specs.Cause.{cause_of};
 ghost use Rattle.sqlite.specs.State.{HasCleanDisk};
 ghost use Rattle.sqlite.specs.Held.{state};
-ghost use Rattle.ccr_tables.specs.Builds.{IsBuild};
+ghost use Rattle.ccr_tables.specs.NamedRows.{IsNamedRow};
 ghost use Rattle.ccr_tables.specs.Contents.{Holds};
 ghost use Rattle.ccr_tables.specs.Left.{OnlyReads};
-ghost use Rattle.ccr_tables.specs.Pairs.{IsPair};
-ghost use Rattle.ccr_tables.specs.Read.{FailedToRead, builds_text, pairs_text};
+ghost use Rattle.ccr_tables.specs.Read.{FailedToRead};
+ghost use Rattle.ccr_tables.specs.Tables.{listing_text};
+ghost use Rattle.ccr_tables.specs.declared.table.Table.TheVariants as table;
 ghost use Rattle.ccr_tables.specs.Shown.{ShowsOther};
 ghost use Rattle.ccr_tables.specs.Schema.{our_schema};
 ghost use Rattle.ccr_store.specs.Listed.{AreSeen, AreBuilt, HasOther};
 ghost use Rattle.ccr_store.specs.Shown.{ShowsSeen, ShowsBuilt};
 
-use ccr_tables::builds::Build;
-use ccr_tables::pairs::Pair;
-use ccr_tables::{Cause, builds, meta, pairs, pins, scopes, versions};
+use ccr_tables::{Cause, NamedRow, Table, select, select_named};
 use sqlite::{Alter, Connection, Error as SqlError, Row};
 use std::alloc::Global;
 
@@ -30,8 +29,8 @@ pub(crate) struct Seen {
 /// The rows of what was built and pinned, each table in the order of its key.
 #[derive(Drop)]
 pub(crate) struct Built {
-    pub(crate) builds: Vec<Build>,
-    pub(crate) pairs: Vec<Pair>,
+    pub(crate) builds: Vec<NamedRow>,
+    pub(crate) pairs: Vec<NamedRow>,
     pub(crate) pins: Vec<Row>,
 }
 
@@ -50,9 +49,9 @@ pub(crate) fn read_seen<S: Alter>(conn: &mut Connection<S>) -> Result<Seen, SqlE
     ensures open { HasCleanDisk (state S.Store conn.new) → IfOk result (λ _. IsTrue (state S.Store conn.old).is_open) }
     ensures mode { conn.old.in_transaction ≡ false → conn.new.in_transaction ≡ false }
 {
-    let meta = meta::select(conn)?;
-    let scopes = scopes::select(conn)?;
-    let versions = versions::select(conn)?;
+    let meta = select(conn, Table::Meta)?;
+    let scopes = select(conn, Table::Scopes)?;
+    let versions = select(conn, Table::Versions)?;
     Ok(Seen {
         meta,
         scopes,
@@ -70,11 +69,12 @@ pub(crate) fn read_built<S: Alter>(
         → AreBuilt these built.builds.items built.pairs.items built.pins.items)) }
     ensures none { HasCleanDisk (state S.Store conn.new) → IfOk result (λ found. IfNone found ((these : _)
         → Holds these (state S.Store conn.old).now
-        → HasOther IsBuild 1 these.builds ⊎ HasOther IsPair 4 these.pairs)) }
+        → HasOther IsNamedRow 1 these.builds ⊎ HasOther IsNamedRow 4 these.pairs)) }
     ensures shown { HasCleanDisk (state S.Store conn.new) → IfOk result (λ found. IfSome found (λ built.
         ShowsBuilt (state S.Store conn.old).now built.builds.items built.pairs.items built.pins.items)) }
     ensures other { HasCleanDisk (state S.Store conn.new) → IfOk result (λ found. IfNone found
-        (ShowsOther IsBuild builds_text (state S.Store conn.old).now ⊎ ShowsOther IsPair pairs_text (state S.Store conn.old).now)) }
+        (ShowsOther IsNamedRow (listing_text table.Builds) (state S.Store conn.old).now
+        ⊎ ShowsOther IsNamedRow (listing_text table.Pairs) (state S.Store conn.old).now)) }
     ensures reads { OnlyReads (state S.Store conn.old) (state S.Store conn.new) result }
     ensures unrefused { HasCleanDisk (state S.Store conn.new) → (state S.Store conn.old).now.schema ≡ our_schema
         → IfErr result (λ e. cause_of e ≢ Cause.Refused) }
@@ -83,13 +83,13 @@ pub(crate) fn read_built<S: Alter>(
     ensures clean { HasCleanDisk (state S.Store conn.new) → HasCleanDisk (state S.Store conn.old) }
     ensures mode { conn.old.in_transaction ≡ false → conn.new.in_transaction ≡ false }
 {
-    let Some(builds) = builds::select(alloc, conn)? else {
+    let Some(builds) = select_named(alloc, conn, Table::Builds)? else {
         return Ok(None);
     };
-    let Some(pairs) = pairs::select(alloc, conn)? else {
+    let Some(pairs) = select_named(alloc, conn, Table::Pairs)? else {
         return Ok(None);
     };
-    let pins = pins::select(conn)?;
+    let pins = select(conn, Table::Pins)?;
     Ok(Some(Built {
         builds,
         pairs,

@@ -25,7 +25,7 @@ use crate::matching::{
 };
 use crate::reading::{check_text, read_builds, read_tables};
 use ccr_history::{History, StoreFault};
-use ccr_tables::{Cause, meta};
+use ccr_tables::{Cause, Table, select};
 use sqlite::{Alter, Connection, Error as SqlError};
 use std::alloc::{AllocError, Global};
 
@@ -66,7 +66,7 @@ pub(crate) fn read_format<S: Alter>(conn: &mut Connection<S>) -> Result<Format, 
     ensures open { HasCleanDisk (state S.Store conn.new) → OnOk result (IsTrue (state S.Store conn.old).is_open) }
     ensures mode { conn.old.in_transaction ≡ false → conn.new.in_transaction ≡ false }
 {
-    match meta::select(conn) {
+    match select(conn, Table::Meta) {
         Ok(rows) => match format_in(&rows) {
             Some(format) => Ok(format),
             None => Err(StoreFault::NotOurs),

@@ -12,8 +12,7 @@ use crate::columns::{is_blob, is_number, is_text};
 use crate::format::Format;
 use crate::writes::number_of;
 use ccr_history::{BuildRef, History, Pins, Scope, Version};
-use ccr_tables::builds::Build;
-use ccr_tables::pairs::Pair;
+use ccr_tables::NamedRow;
 use sqlite::Row;
 use std::alloc::{AllocError, Global};
 
@@ -166,7 +165,7 @@ pub(crate) fn are_versions(
 }
 
 // ---- what was built
-fn is_build(row: &Build, id: u32, build: &BuildRef<'_>) -> bool
+fn is_build(row: &NamedRow, id: u32, build: &BuildRef<'_>) -> bool
     ensures is { IsTrue result → row.now ≡ build_row id build.now }
     ensures only { row.now ≡ build_row id build.now → IsTrue result }
 {
@@ -178,7 +177,7 @@ fn is_build(row: &Build, id: u32, build: &BuildRef<'_>) -> bool
 }
 
 /// Whether the rows are those of the builds.
-pub(crate) fn are_builds(rows: &[Build], history: &History) -> bool
+pub(crate) fn are_builds(rows: &[NamedRow], history: &History) -> bool
     ensures is { IsTrue result → rows.now ≡ build_rows 1 history.now.builds }
     ensures only { rows.now ≡ build_rows 1 history.now.builds → IsTrue result }
 {
@@ -198,7 +197,7 @@ pub(crate) fn are_builds(rows: &[Build], history: &History) -> bool
     true
 }
 
-fn is_pair(pair: &Pair, id: u32, input: &str, scope: u32, place: u32) -> bool
+fn is_pair(pair: &NamedRow, id: u32, input: &str, scope: u32, place: u32) -> bool
     ensures is { IsTrue result
         → pair.now ≡ Int (pos id) ∷ Text input.now ∷ Int (pos scope) ∷ Int (pos place) ∷ [] }
     ensures only { pair.now ≡ Int (pos id) ∷ Text input.now ∷ Int (pos scope) ∷ Int (pos place) ∷ [] → IsTrue result }
@@ -208,7 +207,7 @@ fn is_pair(pair: &Pair, id: u32, input: &str, scope: u32, place: u32) -> bool
 }
 
 /// Whether the rows are those of what a build moved.
-fn are_moved(rows: &[Pair], id: u32, moved: &[(u32, u32)]) -> bool
+fn are_moved(rows: &[NamedRow], id: u32, moved: &[(u32, u32)]) -> bool
     ensures is { IsTrue result → rows.now ≡ map (moved_row id) moved.now }
     ensures only { rows.now ≡ map (moved_row id) moved.now → IsTrue result }
 {
@@ -225,7 +224,7 @@ fn are_moved(rows: &[Pair], id: u32, moved: &[(u32, u32)]) -> bool
 }
 
 /// Whether the rows are those of what a build used.
-fn are_used(rows: &[Pair], id: u32, build: &BuildRef<'_>) -> bool
+fn are_used(rows: &[NamedRow], id: u32, build: &BuildRef<'_>) -> bool
     ensures is { IsTrue result → rows.now ≡ map (used_row id) build.now.used }
     ensures only { rows.now ≡ map (used_row id) build.now.used → IsTrue result }
 {
@@ -245,7 +244,7 @@ fn are_used(rows: &[Pair], id: u32, build: &BuildRef<'_>) -> bool
 
 /// What is left of the rows behind those of what a build moved and used, if they begin with these.
 #[tactic(auto, using(crate::proofs::ListedRows::parted))]
-fn after_build<'a>(rows: &'a [Pair], id: u32, build: &BuildRef<'_>) -> Option<&'a [Pair]>
+fn after_build<'a>(rows: &'a [NamedRow], id: u32, build: &BuildRef<'_>) -> Option<&'a [NamedRow]>
     ensures is { IfSome result (λ more. rows.now
         ≡ (map (moved_row id) build.now.moved ++ map (used_row id) build.now.used) ++ more.now) }
     ensures only { (more : List RowData)
@@ -271,7 +270,7 @@ fn after_build<'a>(rows: &'a [Pair], id: u32, build: &BuildRef<'_>) -> Option<&'
 }
 
 /// Whether the rows are those of what the builds moved and used.
-fn are_of_builds(rows: &[Pair], history: &History) -> bool
+fn are_of_builds(rows: &[NamedRow], history: &History) -> bool
     ensures is { IsTrue result → rows.now ≡ listed_pairs 1 history.now.builds }
     ensures only { rows.now ≡ listed_pairs 1 history.now.builds → IsTrue result }
 {
@@ -290,7 +289,7 @@ fn are_of_builds(rows: &[Pair], history: &History) -> bool
 
 /// Whether the rows are those of the disabled places, and of what the builds moved and used.
 #[tactic(auto, using(crate::proofs::ListedRows::parted))]
-pub(crate) fn are_pairs(rows: &[Pair], history: &History) -> bool
+pub(crate) fn are_pairs(rows: &[NamedRow], history: &History) -> bool
     ensures is { IsTrue result → rows.now ≡ history_pairs history.now }
     ensures only { rows.now ≡ history_pairs history.now → IsTrue result }
 {

@@ -27,8 +27,7 @@ use crate::disabled::add_disabled;
 use crate::found::{Built, Seen};
 use ccr_history::{History, HistoryFault, Pin, Scope, Status, StoreFault, Used, Version};
 use ccr_pipeline::{ReadFault, read};
-use ccr_tables::builds::Build;
-use ccr_tables::pairs::Pair;
+use ccr_tables::NamedRow;
 use serde_json::Value;
 use sqlite::Row;
 use std::alloc::Global;
@@ -74,7 +73,7 @@ fn id_count(rows: &[Row], id: u32) -> usize
 }
 
 /// How many of the first pairs are of this build.
-pub(crate) fn pair_count(pairs: &[Pair], build: u32) -> usize
+pub(crate) fn pair_count(pairs: &[NamedRow], build: u32) -> usize
     ensures within { result ≤ length pairs.now }
     ensures is { (here more : List RowData) → pairs.now ≡ here ++ more
         → AllByRecursion (λ r. column r 0 ≡ Int (pos build)) here
@@ -91,7 +90,7 @@ pub(crate) fn pair_count(pairs: &[Pair], build: u32) -> usize
 }
 
 /// How many of the first pairs have no input.
-fn moved_count(pairs: &[Pair]) -> usize
+fn moved_count(pairs: &[NamedRow]) -> usize
     ensures within { result ≤ length pairs.now }
     ensures is { (here more : List RowData) → pairs.now ≡ here ++ more
         → AllByRecursion (λ r. column r 1 ≡ Text []) here
@@ -197,7 +196,7 @@ fn add_tables(
 }
 
 // ---- what was built
-fn read_used(alloc: Global, pairs: &[Pair]) -> Result<Vec<Used>, StoreFault>
+fn read_used(alloc: Global, pairs: &[NamedRow]) -> Result<Vec<Used>, StoreFault>
     ensures { (id : ℕ) (us : List UsedData) → pairs.now ≡ map (used_row id) us
         → OrNoMemory (λ used. used.items ≡ us) result }
 {
@@ -213,7 +212,7 @@ fn read_used(alloc: Global, pairs: &[Pair]) -> Result<Vec<Used>, StoreFault>
     Ok(used)
 }
 
-fn read_moved(alloc: Global, pairs: &[Pair]) -> Result<Vec<(u32, u32)>, StoreFault>
+fn read_moved(alloc: Global, pairs: &[NamedRow]) -> Result<Vec<(u32, u32)>, StoreFault>
     ensures { (id : ℕ) (ps : List (ℕ × ℕ)) → pairs.now ≡ map (moved_row id) ps
         → OrNoMemory (λ moved. moved.items ≡ ps) result }
 {
@@ -266,10 +265,10 @@ fn end(
 fn end_build(
     alloc: Global,
     history: &mut History,
-    row: &Build,
+    row: &NamedRow,
     job: &str,
     number: u32,
-    pairs: &[Pair],
+    pairs: &[NamedRow],
 ) -> Result<(), StoreFault>
     ensures read { (id : ℕ) (b : BuildData) (before : List BuildData) → AreTables history.old.tables
         → IsBuild history.old.tables b → row.now ≡ build_row id b → pairs.now ≡ map (moved_row id) b.moved
@@ -310,7 +309,7 @@ fn begin_build(
     alloc: Global,
     history: &mut History,
     job: &str,
-    pairs: &[Pair],
+    pairs: &[NamedRow],
 ) -> Result<u32, StoreFault>
     ensures read { (id : ℕ) (b : BuildData) → AreTables history.old.tables → IsBuild history.old.tables b
         → IsTextBuild b → pairs.now ≡ map (used_row id) b.used → length history.old.builds < MOST_BUILDS
@@ -326,9 +325,9 @@ fn begin_build(
 fn add_build<'a>(
     alloc: Global,
     history: &mut History,
-    row: &Build,
-    rest: &'a [Pair],
-) -> Result<&'a [Pair], StoreFault>
+    row: &NamedRow,
+    rest: &'a [NamedRow],
+) -> Result<&'a [NamedRow], StoreFault>
     ensures read { (id : ℕ) (b : BuildData) (bs : List BuildData) → id < 2 ^ 32
         → IsBuild history.old.tables b → IsTextBuild b → row.now ≡ build_row id b
         → rest.now ≡ listed_pairs id (b ∷ bs) → b.number ≡ count_of b.job history.old.builds + 1
@@ -349,8 +348,8 @@ fn add_build<'a>(
 fn add_builds(
     alloc: Global,
     history: &mut History,
-    builds: &[Build],
-    pairs: &[Pair],
+    builds: &[NamedRow],
+    pairs: &[NamedRow],
 ) -> Result<(), StoreFault>
     ensures read { (bs : List BuildData) → AreBuilds history.old.tables bs
         → AllByRecursion IsTextBuild bs → history.old.builds ≡ [] → builds.now ≡ build_rows 1 bs

@@ -1,5 +1,5 @@
 -- Why a creation failed.
-use Rattle.std.proofs.Common.{◌≡◌, true, ℕ, List, Ok, Err, Result, IfOk, IfErr, OnOk, ◌≢◌, sym, subst, inr}
+use Rattle.std.proofs.Common.{◌≡◌, true, ℕ, List, [], Ok, Err, Result, IfOk, IfErr, OnOk, ◌≢◌, refl, sym, subst, inl, inr}
 use Rattle.std.specs.Prelude.{IsErrAnd}
 use Rattle.sqlite_trees.specs.declared.store.Store.{Ghosts}
 use Rattle.sqlite.specs.declared.error.Error.{Error}
@@ -15,11 +15,18 @@ use Rattle.ccr_tables.specs.declared.creation.Creation.{Creation}
 use Rattle.ccr_tables.specs.declared.creation.Creation.TheVariants.{Made}
 use Rattle.ccr_tables.specs.Created.{IsFirst, FailedAtFirst, WasRefused, IsUnmade}
 use Rattle.ccr_tables.specs.Schema.{no_schema}
+use Rattle.ccr_tables.specs.Tables.{creation_text}
+use Rattle.ccr_tables.specs.declared.table.Table.{Table}
 use Rattle.ccr_tables.proofs.InTurn.{survives_both, on_failed}
 
 pub first_failed : {S : Type 0} (g : Ghosts S) (old : State) (before after : Held S) (text : List ℕ) (params : Row) (e : Error) → IsFirst text params → Survives old (state g before) (λ _. ⊥)
     → ExecutesInside 0 text params (state g before) (state g after) (Err e) → FailedAtFirst g old e
 first_failed g old before after text params e is kept answered = record { text = text; params = params; first = is; before = before; after = after; kept = kept; answered = answered }
+
+-- a table wasn't made
+pub table_failed : {S : Type 0} (g : Ghosts S) (old : State) (before after : Held S) (t : Table) (e : Error) → Survives old (state g before) (λ _. ⊥)
+    → ExecutesInside 0 (creation_text t) [] (state g before) (state g after) (Err e) → FailedAtFirst g old e
+table_failed g old before after t e kept answered = first_failed g old before after (creation_text t) [] e (inl (t, refl, refl)) kept answered
 
 -- a statement failed, and its error is handed on
 pub failed_first : {S X : Type 0} (g : Ghosts S) (old : State) (before after : Held S) (text : List ℕ) (params : Row) (e : Error) (r : Result X Error) → IsFirst text params → Survives old (state g before) (λ _. ⊥)

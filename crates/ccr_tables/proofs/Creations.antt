@@ -14,9 +14,30 @@ use Rattle.sqlite.specs.Effect.{Database}
 use Rattle.sqlite.specs.State.{State, Writes, Executes, ExecutesIn, ExecutesInside}
 use Rattle.sqlite.proofs.Callers.{IsPlain, command_of, statement_of, runs_as}
 use Rattle.ccr_tables.specs.Schema.{no_schema, meta_schema, scopes_schema, versions_schema, builds_schema, pairs_schema, our_schema, meta, scopes, versions, builds, pairs, pins}
-use Rattle.ccr_tables.specs.Created.{meta_text, scopes_text, versions_text, builds_text, pairs_text, pins_text}
+use Rattle.ccr_tables.specs.Tables.{creation_text, schema_before, schema_with}
+use Rattle.ccr_tables.specs.declared.table.Table.{Table as OurTable}
+use Rattle.ccr_tables.specs.declared.table.Table.TheVariants.{Meta, Scopes, Versions, Builds, Pairs, Pins}
 use Rattle.ccr_tables.specs.Step.{IsBare, Creates}
 use Rattle.ccr_tables.proofs.Inserts.{went, same_value, unchanged_keeps, back_keeps}
+
+-- the statements that make the tables
+abbrev meta_text : List ℕ
+meta_text = creation_text Meta
+
+abbrev scopes_text : List ℕ
+scopes_text = creation_text Scopes
+
+abbrev versions_text : List ℕ
+versions_text = creation_text Versions
+
+abbrev builds_text : List ℕ
+builds_text = creation_text Builds
+
+abbrev pairs_text : List ℕ
+pairs_text = creation_text Pairs
+
+abbrev pins_text : List ℕ
+pins_text = creation_text Pins
 
 module _ (text : List ℕ) (schema : Schema) (table : Table) (is : command_of (understood schema text) ≡ CreateTable) (same : statement_of text (understood schema text) ≡ text)
     (plain : IsPlain (understood schema text)) (defines : table_defined_by text ≡ Ok table) (uncounted : lacks_sequence (created schema table) ≡ false) where
@@ -54,7 +75,7 @@ meta_plain : IsPlain (understood no_schema meta_text)
 unfolding understood everything
 meta_plain = (refl, refl)
 
-pub create_meta : (old new : State) (r : Result ℕ Error) → ExecutesInside 0 meta_text [] old new r → Creates no_schema meta_schema old new r
+create_meta : (old new : State) (r : Result ℕ Error) → ExecutesInside 0 meta_text [] old new r → Creates no_schema meta_schema old new r
 create_meta = bares meta_text no_schema meta meta_meaning.0 meta_meaning.1 meta_plain meta_meaning.2 meta_meaning.3 (λ old new bare empty keeps. (empty, tt))
 
 meta_taken : IfOk (understood our_schema meta_text) (λ _. ⊥)
@@ -75,7 +96,7 @@ scopes_plain : IsPlain (understood meta_schema scopes_text)
 unfolding understood everything
 scopes_plain = (refl, refl)
 
-pub create_scopes : (old new : State) (r : Result ℕ Error) → ExecutesInside 0 scopes_text [] old new r → Creates meta_schema scopes_schema old new r
+create_scopes : (old new : State) (r : Result ℕ Error) → ExecutesInside 0 scopes_text [] old new r → Creates meta_schema scopes_schema old new r
 create_scopes = bares scopes_text meta_schema scopes scopes_meaning.0 scopes_meaning.1 scopes_plain scopes_meaning.2 scopes_meaning.3 (λ old new bare empty keeps. (keeps.0 ∙ bare.1.0, (empty, tt)))
 
 versions_meaning : (command_of (understood scopes_schema versions_text) ≡ CreateTable) × (statement_of versions_text (understood scopes_schema versions_text) ≡ versions_text) × (table_defined_by versions_text ≡ Ok versions) × (lacks_sequence versions_schema ≡ false)
@@ -86,7 +107,7 @@ versions_plain : IsPlain (understood scopes_schema versions_text)
 unfolding understood everything
 versions_plain = (refl, refl)
 
-pub create_versions : (old new : State) (r : Result ℕ Error) → ExecutesInside 0 versions_text [] old new r → Creates scopes_schema versions_schema old new r
+create_versions : (old new : State) (r : Result ℕ Error) → ExecutesInside 0 versions_text [] old new r → Creates scopes_schema versions_schema old new r
 create_versions = bares versions_text scopes_schema versions versions_meaning.0 versions_meaning.1 versions_plain versions_meaning.2 versions_meaning.3 (λ old new bare empty keeps. (keeps.0 ∙ bare.1.0, (keeps.1.0 ∙ bare.1.1.0, (empty, tt))))
 
 builds_meaning : (command_of (understood versions_schema builds_text) ≡ CreateTable) × (statement_of builds_text (understood versions_schema builds_text) ≡ builds_text) × (table_defined_by builds_text ≡ Ok builds) × (lacks_sequence builds_schema ≡ false)
@@ -97,7 +118,7 @@ builds_plain : IsPlain (understood versions_schema builds_text)
 unfolding understood everything
 builds_plain = (refl, refl)
 
-pub create_builds : (old new : State) (r : Result ℕ Error) → ExecutesInside 0 builds_text [] old new r → Creates versions_schema builds_schema old new r
+create_builds : (old new : State) (r : Result ℕ Error) → ExecutesInside 0 builds_text [] old new r → Creates versions_schema builds_schema old new r
 create_builds = bares builds_text versions_schema builds builds_meaning.0 builds_meaning.1 builds_plain builds_meaning.2 builds_meaning.3 (λ old new bare empty keeps. (keeps.0 ∙ bare.1.0, (keeps.1.0 ∙ bare.1.1.0, (keeps.1.1.0 ∙ bare.1.1.1.0, (empty, tt)))))
 
 pairs_meaning : (command_of (understood builds_schema pairs_text) ≡ CreateTable) × (statement_of pairs_text (understood builds_schema pairs_text) ≡ pairs_text) × (table_defined_by pairs_text ≡ Ok pairs) × (lacks_sequence pairs_schema ≡ false)
@@ -108,7 +129,7 @@ pairs_plain : IsPlain (understood builds_schema pairs_text)
 unfolding understood everything
 pairs_plain = (refl, refl)
 
-pub create_pairs : (old new : State) (r : Result ℕ Error) → ExecutesInside 0 pairs_text [] old new r → Creates builds_schema pairs_schema old new r
+create_pairs : (old new : State) (r : Result ℕ Error) → ExecutesInside 0 pairs_text [] old new r → Creates builds_schema pairs_schema old new r
 create_pairs = bares pairs_text builds_schema pairs pairs_meaning.0 pairs_meaning.1 pairs_plain pairs_meaning.2 pairs_meaning.3 (λ old new bare empty keeps. (keeps.0 ∙ bare.1.0, (keeps.1.0 ∙ bare.1.1.0, (keeps.1.1.0 ∙ bare.1.1.1.0, (keeps.1.1.1.0 ∙ bare.1.1.1.1.0, (empty, tt))))))
 
 pins_meaning : (command_of (understood pairs_schema pins_text) ≡ CreateTable) × (statement_of pins_text (understood pairs_schema pins_text) ≡ pins_text) × (table_defined_by pins_text ≡ Ok pins) × (lacks_sequence our_schema ≡ false)
@@ -119,5 +140,13 @@ pins_plain : IsPlain (understood pairs_schema pins_text)
 unfolding understood everything
 pins_plain = (refl, refl)
 
-pub create_pins : (old new : State) (r : Result ℕ Error) → ExecutesInside 0 pins_text [] old new r → Creates pairs_schema our_schema old new r
+create_pins : (old new : State) (r : Result ℕ Error) → ExecutesInside 0 pins_text [] old new r → Creates pairs_schema our_schema old new r
 create_pins = bares pins_text pairs_schema pins pins_meaning.0 pins_meaning.1 pins_plain pins_meaning.2 pins_meaning.3 (λ old new bare empty keeps. (keeps.0 ∙ bare.1.0, (keeps.1.0 ∙ bare.1.1.0, (keeps.1.1.0 ∙ bare.1.1.1.0, (keeps.1.1.1.0 ∙ bare.1.1.1.1.0, (keeps.1.1.1.1.0 ∙ bare.1.1.1.1.1.0, (empty, tt)))))))
+
+pub creates_table : (t : OurTable) (old new : State) (r : Result ℕ Error) → ExecutesInside 0 (creation_text t) [] old new r → Creates (schema_before t) (schema_with t) old new r
+creates_table Meta = create_meta
+creates_table Scopes = create_scopes
+creates_table Versions = create_versions
+creates_table Builds = create_builds
+creates_table Pairs = create_pairs
+creates_table Pins = create_pins

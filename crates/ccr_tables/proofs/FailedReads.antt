@@ -7,7 +7,9 @@ use Rattle.sqlite.specs.State.{State, Survives, FailsToQuery}
 use Rattle.sqlite.specs.Held.{Held, state}
 use Rattle.ccr_tables.specs.Cause.{cause_of}
 use Rattle.ccr_tables.specs.declared.cause.Cause.TheVariants.{NoMemory}
-use Rattle.ccr_tables.specs.Read.{IsRead, FailedToRead}
+use Rattle.ccr_tables.specs.Read.{FailedToRead}
+use Rattle.ccr_tables.specs.Tables.{listing_text}
+use Rattle.ccr_tables.specs.declared.table.Table.{Table}
 use Rattle.ccr_tables.proofs.InTurn.{survives_both}
 
 pub survives_itself : (s : State) → Survives s s (λ _. ⊥)
@@ -21,12 +23,11 @@ survives_itself s = record {
 }
 
 -- the first read failed
-pub failed_read : {S X : Type 0} (g : Ghosts S) (old new : Held S) (text : List ℕ) (r : Result X Error) → IsRead text
-    → IfErr r (FailsToQuery text [] (state g old) (state g new)) → IfErr r (FailedToRead g (state g old))
-failed_read g old new text (Ok x) is fails = tt
-failed_read g old new text (Err e) is fails = record {
-  text = text;
-  read = is;
+pub failed_read : {S X : Type 0} (g : Ghosts S) (old new : Held S) (t : Table) (r : Result X Error)
+    → IfErr r (FailsToQuery (listing_text t) [] (state g old) (state g new)) → IfErr r (FailedToRead g (state g old))
+failed_read g old new t (Ok x) fails = tt
+failed_read g old new t (Err e) fails = record {
+  table = t;
   before = old;
   after = new;
   same = refl;
@@ -38,8 +39,7 @@ failed_read g old new text (Err e) is fails = record {
 pub failed_after : {S : Type 0} (g : Ghosts S) (a b : State) (e : Error) → b.now ≡ a.now → Survives a b (λ _. ⊥) → FailedToRead g b e
     → FailedToRead g a e
 failed_after g a b e same kept fails = record {
-  text = fails.text;
-  read = fails.read;
+  table = fails.table;
   before = fails.before;
   after = fails.after;
   same = fails.same ∙ same;

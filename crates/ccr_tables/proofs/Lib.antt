@@ -9,6 +9,7 @@ pub mod Unnumbered
 pub mod Adds
 pub mod Updates
 pub mod Changes
+pub mod Writes
 pub mod Creations
 pub mod InTurn
 pub mod Founding

@@ -25,6 +25,9 @@ use Rattle.sqlite.specs.Given.{HasGiven, HasBegun, Returns}
 use Rattle.sqlite.proofs.Callers.{unchanged_then}
 use Rattle.sqlite.proofs.StateLemmas.{survives_weaker}
 use Rattle.ccr_tables.specs.Left.{WritesNothing, OnlyReads}
+use Rattle.ccr_tables.specs.Tables.{listing_text}
+use Rattle.ccr_tables.specs.declared.table.Table.{Table}
+use Rattle.ccr_tables.specs.declared.table.Table.TheVariants.{Meta, Scopes, Versions, Builds, Pairs, Pins}
 use Rattle.ccr_tables.proofs.InTurn.{survives_both}
 use Rattle.ccr_tables.proofs.Texts as texts
 
@@ -76,43 +79,51 @@ meta_starts : StartsPlain (first texts.meta_text)
 unfolding first everything
 meta_starts = (tt, refl)
 
-pub meta_plain : (schema : Schema) → IsPlainIf (understood schema texts.meta_text)
+meta_plain : (schema : Schema) → IsPlainIf (understood schema texts.meta_text)
 meta_plain = plain_anywhere texts.meta_text meta_starts
 
 scopes_starts : StartsPlain (first texts.scopes_text)
 unfolding first everything
 scopes_starts = (tt, refl)
 
-pub scopes_plain : (schema : Schema) → IsPlainIf (understood schema texts.scopes_text)
+scopes_plain : (schema : Schema) → IsPlainIf (understood schema texts.scopes_text)
 scopes_plain = plain_anywhere texts.scopes_text scopes_starts
 
 versions_starts : StartsPlain (first texts.versions_text)
 unfolding first everything
 versions_starts = (tt, refl)
 
-pub versions_plain : (schema : Schema) → IsPlainIf (understood schema texts.versions_text)
+versions_plain : (schema : Schema) → IsPlainIf (understood schema texts.versions_text)
 versions_plain = plain_anywhere texts.versions_text versions_starts
 
 builds_starts : StartsPlain (first texts.builds_text)
 unfolding first everything
 builds_starts = (tt, refl)
 
-pub builds_plain : (schema : Schema) → IsPlainIf (understood schema texts.builds_text)
+builds_plain : (schema : Schema) → IsPlainIf (understood schema texts.builds_text)
 builds_plain = plain_anywhere texts.builds_text builds_starts
 
 pairs_starts : StartsPlain (first texts.pairs_text)
 unfolding first everything
 pairs_starts = (tt, refl)
 
-pub pairs_plain : (schema : Schema) → IsPlainIf (understood schema texts.pairs_text)
+pairs_plain : (schema : Schema) → IsPlainIf (understood schema texts.pairs_text)
 pairs_plain = plain_anywhere texts.pairs_text pairs_starts
 
 pins_starts : StartsPlain (first texts.pins_text)
 unfolding first everything
 pins_starts = (tt, refl)
 
-pub pins_plain : (schema : Schema) → IsPlainIf (understood schema texts.pins_text)
+pins_plain : (schema : Schema) → IsPlainIf (understood schema texts.pins_text)
 pins_plain = plain_anywhere texts.pins_text pins_starts
+
+pub plain_listing : (t : Table) (schema : Schema) → IsPlainIf (understood schema (listing_text t))
+plain_listing Meta = meta_plain
+plain_listing Scopes = scopes_plain
+plain_listing Versions = versions_plain
+plain_listing Builds = builds_plain
+plain_listing Pairs = pairs_plain
+plain_listing Pins = pins_plain
 
 -- ---- what it leaves
 pub shown_unchanged : (text : List ℕ) (old new : State) (rows : List Row) → IsPlainIf (understood old.now.schema text) → Shown text [] old new rows → IsUnchanged old new

@@ -20,6 +20,9 @@ use Rattle.sqlite.proofs.Callers.{IsPlain, command_of}
 use Rattle.ccr_tables.specs.Cause.{cause_of}
 use Rattle.ccr_tables.specs.declared.cause.Cause.TheVariants.{Refused}
 use Rattle.ccr_tables.specs.Schema.{our_schema}
+use Rattle.ccr_tables.specs.Tables.{listing_text}
+use Rattle.ccr_tables.specs.declared.table.Table.{Table}
+use Rattle.ccr_tables.specs.declared.table.Table.TheVariants.{Meta, Scopes, Versions, Builds, Pairs, Pins}
 use Rattle.ccr_tables.proofs.Texts.{query}
 use Rattle.ccr_tables.proofs.Texts as texts
 
@@ -86,7 +89,7 @@ meta_typed : accepts_program our_schema [] (query 0 [] (col 1 0 ∷ []) (col 1 0
 unfolding everything
 meta_typed = refl
 
-pub unrefused_meta : {X : Type 0} (old new : State) (r : Result X Error) → old.now.schema ≡ our_schema → IfErr r (FailsToQuery texts.meta_text [] old new) → IfErr r (λ e. cause_of e ≢ Refused)
+unrefused_meta : {X : Type 0} (old new : State) (r : Result X Error) → old.now.schema ≡ our_schema → IfErr r (FailsToQuery texts.meta_text [] old new) → IfErr r (λ e. cause_of e ≢ Refused)
 unrefused_meta = unrefused 0 (col 1 0 ∷ []) (col 1 0 ∷ col 1 2 ∷ []) texts.meta_text texts.meta_names texts.meta_command texts.meta_plain texts.meta_unlisted meta_whole meta_typed
 
 scopes_whole : IsWhole texts.scopes_text (understood our_schema texts.scopes_text)
@@ -97,7 +100,7 @@ scopes_typed : accepts_program our_schema [] (query 1 [] (col 1 0 ∷ []) (col 1
 unfolding everything
 scopes_typed = refl
 
-pub unrefused_scopes : {X : Type 0} (old new : State) (r : Result X Error) → old.now.schema ≡ our_schema → IfErr r (FailsToQuery texts.scopes_text [] old new) → IfErr r (λ e. cause_of e ≢ Refused)
+unrefused_scopes : {X : Type 0} (old new : State) (r : Result X Error) → old.now.schema ≡ our_schema → IfErr r (FailsToQuery texts.scopes_text [] old new) → IfErr r (λ e. cause_of e ≢ Refused)
 unrefused_scopes = unrefused 1 (col 1 0 ∷ []) (col 1 0 ∷ col 1 2 ∷ col 1 3 ∷ col 1 4 ∷ []) texts.scopes_text texts.scopes_names texts.scopes_command texts.scopes_plain texts.scopes_unlisted scopes_whole scopes_typed
 
 versions_whole : IsWhole texts.versions_text (understood our_schema texts.versions_text)
@@ -108,7 +111,7 @@ versions_typed : accepts_program our_schema [] (query 3 [] (col 1 1 ∷ col 1 2 
 unfolding everything
 versions_typed = refl
 
-pub unrefused_versions : {X : Type 0} (old new : State) (r : Result X Error) → old.now.schema ≡ our_schema → IfErr r (FailsToQuery texts.versions_text [] old new) → IfErr r (λ e. cause_of e ≢ Refused)
+unrefused_versions : {X : Type 0} (old new : State) (r : Result X Error) → old.now.schema ≡ our_schema → IfErr r (FailsToQuery texts.versions_text [] old new) → IfErr r (λ e. cause_of e ≢ Refused)
 unrefused_versions = unrefused 3 (col 1 1 ∷ col 1 2 ∷ []) (col 1 1 ∷ col 1 2 ∷ col 1 3 ∷ []) texts.versions_text texts.versions_names texts.versions_command texts.versions_plain texts.versions_unlisted versions_whole versions_typed
 
 builds_whole : IsWhole texts.builds_text (understood our_schema texts.builds_text)
@@ -119,7 +122,7 @@ builds_typed : accepts_program our_schema [] (query 6 [] (col 1 0 ∷ []) (col 1
 unfolding everything
 builds_typed = refl
 
-pub unrefused_builds : {X : Type 0} (old new : State) (r : Result X Error) → old.now.schema ≡ our_schema → IfErr r (FailsToQuery texts.builds_text [] old new) → IfErr r (λ e. cause_of e ≢ Refused)
+unrefused_builds : {X : Type 0} (old new : State) (r : Result X Error) → old.now.schema ≡ our_schema → IfErr r (FailsToQuery texts.builds_text [] old new) → IfErr r (λ e. cause_of e ≢ Refused)
 unrefused_builds = unrefused 6 (col 1 0 ∷ []) (col 1 0 ∷ col 1 2 ∷ col 1 3 ∷ col 1 4 ∷ []) texts.builds_text texts.builds_names texts.builds_command texts.builds_plain texts.builds_unlisted builds_whole builds_typed
 
 pairs_whole : IsWhole texts.pairs_text (understood our_schema texts.pairs_text)
@@ -130,7 +133,7 @@ pairs_typed : accepts_program our_schema [] (query 8 [] (col 1 1 ∷ col 1 2 ∷
 unfolding everything
 pairs_typed = refl
 
-pub unrefused_pairs : {X : Type 0} (old new : State) (r : Result X Error) → old.now.schema ≡ our_schema → IfErr r (FailsToQuery texts.pairs_text [] old new) → IfErr r (λ e. cause_of e ≢ Refused)
+unrefused_pairs : {X : Type 0} (old new : State) (r : Result X Error) → old.now.schema ≡ our_schema → IfErr r (FailsToQuery texts.pairs_text [] old new) → IfErr r (λ e. cause_of e ≢ Refused)
 unrefused_pairs = unrefused 8 (col 1 1 ∷ col 1 2 ∷ col 1 3 ∷ col 1 4 ∷ []) (col 1 1 ∷ col 1 2 ∷ col 1 3 ∷ col 1 4 ∷ []) texts.pairs_text texts.pairs_names texts.pairs_command texts.pairs_plain texts.pairs_unlisted pairs_whole pairs_typed
 
 pins_whole : IsWhole texts.pins_text (understood our_schema texts.pins_text)
@@ -141,5 +144,13 @@ pins_typed : accepts_program our_schema [] (query 10 [] (col 1 1 ∷ []) (col 1 
 unfolding everything
 pins_typed = refl
 
-pub unrefused_pins : {X : Type 0} (old new : State) (r : Result X Error) → old.now.schema ≡ our_schema → IfErr r (FailsToQuery texts.pins_text [] old new) → IfErr r (λ e. cause_of e ≢ Refused)
+unrefused_pins : {X : Type 0} (old new : State) (r : Result X Error) → old.now.schema ≡ our_schema → IfErr r (FailsToQuery texts.pins_text [] old new) → IfErr r (λ e. cause_of e ≢ Refused)
 unrefused_pins = unrefused 10 (col 1 1 ∷ []) (col 1 1 ∷ col 1 2 ∷ []) texts.pins_text texts.pins_names texts.pins_command texts.pins_plain texts.pins_unlisted pins_whole pins_typed
+
+pub unrefused_rows : {X : Type 0} (t : Table) (old new : State) (r : Result X Error) → old.now.schema ≡ our_schema → IfErr r (FailsToQuery (listing_text t) [] old new) → IfErr r (λ e. cause_of e ≢ Refused)
+unrefused_rows Meta = unrefused_meta
+unrefused_rows Scopes = unrefused_scopes
+unrefused_rows Versions = unrefused_versions
+unrefused_rows Builds = unrefused_builds
+unrefused_rows Pairs = unrefused_pairs
+unrefused_rows Pins = unrefused_pins

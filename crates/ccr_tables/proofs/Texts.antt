@@ -16,8 +16,28 @@ use Rattle.sqlite.specs.Source.TheVariants.{Values}
 use Rattle.sqlite.specs.Command.TheVariants.{Insert, InsertOr, Select, Update, Delete}
 use Rattle.sqlite.proofs.Callers.{IsPlain, command_of}
 use Rattle.ccr_tables.specs.Schema.{our_schema}
-pub use Rattle.ccr_tables.specs.Read.{meta_text, scopes_text, versions_text, builds_text, pairs_text, pins_text}
+use Rattle.ccr_tables.specs.Tables.{listing_text}
+use Rattle.ccr_tables.specs.declared.table.Table.TheVariants.{Meta, Scopes, Versions, Builds, Pairs, Pins}
 pub use Rattle.ccr_tables.specs.Answered.{put_meta_text, scope_text, version_text, build_text, set_status_text, pair_text, remove_pair_text, put_pin_text, remove_pin_text}
+
+-- the statements that read the tables
+abbrev pub meta_text : List ℕ
+meta_text = listing_text Meta
+
+abbrev pub scopes_text : List ℕ
+scopes_text = listing_text Scopes
+
+abbrev pub versions_text : List ℕ
+versions_text = listing_text Versions
+
+abbrev pub builds_text : List ℕ
+builds_text = listing_text Builds
+
+abbrev pub pairs_text : List ℕ
+pairs_text = listing_text Pairs
+
+abbrev pub pins_text : List ℕ
+pins_text = listing_text Pins
 
 -- SELECT project FROM the table in this tree WHERE tests ORDER BY keys
 abbrev pub query : ℕ → List Term → List Term → List Term → Query

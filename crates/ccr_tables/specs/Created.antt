@@ -1,5 +1,5 @@
 -- What SQLite answered to a creation that failed.
-use Rattle.std.specs.Prelude.{◌≡◌, ◌⊎◌, pos, ℕ, List, [], ◌∷◌, Err, codes}
+use Rattle.std.specs.Prelude.{◌≡◌, ◌⊎◌, pos, ℕ, List, [], ◌∷◌, Err}
 use Rattle.sqlite_trees.specs.declared.store.Store.{Ghosts}
 use Rattle.sqlite.specs.declared.error.Error.{Error}
 use Rattle.sqlite.specs.declared.types.Value.TheVariants.{Int, Blob}
@@ -12,36 +12,15 @@ use Rattle.ccr_tables.specs.Cause.{cause_of}
 use Rattle.ccr_tables.specs.declared.cause.Cause.TheVariants.{Refused}
 use Rattle.ccr_tables.specs.Contents.{Holds, new_contents}
 use Rattle.ccr_tables.specs.Schema.{no_schema}
+use Rattle.ccr_tables.specs.Tables.{creation_text}
+use Rattle.ccr_tables.specs.declared.table.Table.{Table}
 
 -- ---- the statements that make a new database
-abbrev pub meta_text : List ℕ
-meta_text = codes "CREATE TABLE meta(k INTEGER PRIMARY KEY, v BLOB NOT NULL)"
-
-abbrev pub scopes_text : List ℕ
-scopes_text = codes "CREATE TABLE scopes(id INTEGER PRIMARY KEY, resource TEXT NOT NULL,\n  kind TEXT NOT NULL, source TEXT NOT NULL, UNIQUE(resource, kind, source))"
-
-abbrev pub versions_text : List ℕ
-versions_text = codes "CREATE TABLE versions(scope INTEGER NOT NULL, place INTEGER NOT NULL,\n  body TEXT NOT NULL, PRIMARY KEY(scope, place), UNIQUE(scope, body))"
-
-abbrev pub builds_text : List ℕ
-builds_text = codes "CREATE TABLE builds(id INTEGER PRIMARY KEY, job TEXT NOT NULL,\n  number INTEGER NOT NULL, status INTEGER NOT NULL, UNIQUE(job, number))"
-
-abbrev pub pairs_text : List ℕ
-pairs_text = codes "CREATE TABLE pairs(build INTEGER NOT NULL, input TEXT NOT NULL,\n  scope INTEGER NOT NULL, place INTEGER NOT NULL,\n  PRIMARY KEY(build, input, scope, place))"
-
-abbrev pub pins_text : List ℕ
-pins_text = codes "CREATE TABLE pins(resource TEXT PRIMARY KEY, body TEXT NOT NULL)"
-
--- one of the six
-abbrev pub IsCreate : List ℕ → Type 0
-IsCreate text =
-    (text ≡ meta_text) ⊎ ((text ≡ scopes_text) ⊎ ((text ≡ versions_text) ⊎ ((text ≡ builds_text)
-    ⊎ ((text ≡ pairs_text) ⊎ (text ≡ pins_text)))))
-
--- one of the six, or the write of the format's row
+-- that of a table, or the write of the format's row
 abbrev pub IsFirst : List ℕ → Row → Type 0
 IsFirst text params =
-    (IsCreate text × (params ≡ [])) ⊎ ((text ≡ put_meta_text) × (params ≡ Int (pos 1) ∷ Blob (50 ∷ []) ∷ []))
+    ((table : Table) × (text ≡ creation_text table) × (params ≡ []))
+    ⊎ ((text ≡ put_meta_text) × (params ≡ Int (pos 1) ∷ Blob (50 ∷ []) ∷ []))
 
 -- ---- what was answered
 module _ {S : Type 0} (g : Ghosts S) (old : State) (e : Error) where

@@ -1,5 +1,6 @@
 pub mod Schema
 pub mod Contents
+pub mod Tables
 pub mod Written
 pub mod Step
 pub mod Left
@@ -10,5 +11,4 @@ pub mod Created
 pub mod Listing
 pub mod Cause
 pub mod Found
-pub mod Pairs
-pub mod Builds
+pub mod NamedRows

@@ -1,17 +1,18 @@
 //! A new database.
 
-ghost use Rattle.std.specs.Prelude.{◌≡◌, ◌≢◌, false, IsTrue, IfOk, IfErr, OnOk};
-ghost use Rattle.sqlite.specs.State.{HasCleanDisk, KeepsCommit, Survives};
+ghost use Rattle.std.specs.Prelude.{◌≡◌, ◌≢◌, [], false, IsTrue, IfOk, IfErr, OnOk};
+ghost use Rattle.sqlite.specs.State.{HasCleanDisk, KeepsCommit, Survives, ExecutesInside};
 ghost use Rattle.sqlite.specs.Held.{state};
 ghost use Rattle.ccr_tables.specs.Cause.{cause_of};
 ghost use Rattle.ccr_tables.specs.Contents.{Holds, Keeps, new_contents};
 ghost use Rattle.ccr_tables.specs.Created.{FailedAtFirst, IsUnmade, WasRefused};
 ghost use Rattle.ccr_tables.specs.Schema.{no_schema, meta_schema, our_schema};
 ghost use Rattle.ccr_tables.specs.Step.{Creates, Founds, IsBare};
+ghost use Rattle.ccr_tables.specs.Tables.{creation_text, schema_before, schema_with, schema_of_all, AreNext};
 
 use crate::cause::Cause;
-use crate::meta::FORMAT;
-use crate::{builds, meta, pairs, pins, scopes, versions};
+use crate::table::Table;
+use crate::write::{Write, write_one};
 use sqlite::{Alter, Connection, Error, Transaction};
 
 /// What `create` found.
@@ -25,21 +26,51 @@ pub enum Creation {
     Foreign,
 }
 
-fn create_tables<S: Alter>(tx: &mut Transaction<'_, S>) -> Result<(), Error>
+/// The tables behind the first, in the order in which they are made.
+const OTHERS: [Table; 5] = [
+    Table::Scopes,
+    Table::Versions,
+    Table::Builds,
+    Table::Pairs,
+    Table::Pins,
+];
+
+/// Makes a table.
+fn create_table<S: Alter>(tx: &mut Transaction<'_, S>, table: Table) -> Result<(), Error>
     ensures same_reference { tx.new.conn.ghost_name ≡ tx.old.conn.ghost_name }
     ensures step { let old = state S.Store tx.old.conn.now in
         let new = state S.Store tx.new.conn.now in
-        HasCleanDisk new → IsTrue old.in_transaction → Creates meta_schema our_schema old new result }
+        HasCleanDisk new → IsTrue old.in_transaction
+        → Creates (schema_before table) (schema_with table) old new result }
+    ensures taken { let old = state S.Store tx.old.conn.now in
+        HasCleanDisk (state S.Store tx.new.conn.now) → IsTrue old.in_transaction
+        → old.now.schema ≡ our_schema → table ≡ Table.Meta → IfOk result (λ _. ⊥) }
+    ensures answered { let old = state S.Store tx.old.conn.now in
+        let new = state S.Store tx.new.conn.now in
+        HasCleanDisk new → IsTrue old.in_transaction
+        → IfErr result (λ e. ExecutesInside 0 (creation_text table) [] old new (Err e)) }
+    ensures survives { Survives (state S.Store tx.old.conn.now) (state S.Store tx.new.conn.now) (λ _. ⊥) }
+{
+    tx.execute(table.creation(), &[])?;
+    Ok(())
+}
+
+/// Makes these tables, each the next behind those before it.
+fn create_tables<S: Alter>(tx: &mut Transaction<'_, S>, tables: &[Table]) -> Result<(), Error>
+    requires { AreNext meta_schema tables.now }
+    ensures same_reference { tx.new.conn.ghost_name ≡ tx.old.conn.ghost_name }
+    ensures step { let old = state S.Store tx.old.conn.now in
+        let new = state S.Store tx.new.conn.now in
+        HasCleanDisk new → IsTrue old.in_transaction
+        → Creates meta_schema (schema_of_all meta_schema tables.now) old new result }
     ensures answered { let old = state S.Store tx.old.conn.now in
         HasCleanDisk (state S.Store tx.new.conn.now) → IsTrue old.in_transaction
         → IfErr result (FailedAtFirst S.Store old) }
     ensures survives { Survives (state S.Store tx.old.conn.now) (state S.Store tx.new.conn.now) (λ _. ⊥) }
 {
-    scopes::create(tx)?;
-    versions::create(tx)?;
-    builds::create(tx)?;
-    pairs::create(tx)?;
-    pins::create(tx)?;
+    for table in tables {
+        create_table(tx, *table)?;
+    }
     Ok(())
 }
 
@@ -53,8 +84,8 @@ fn create_all<S: Alter>(tx: &mut Transaction<'_, S>) -> Result<(), Error>
         → IfErr result (FailedAtFirst S.Store old) }
     ensures survives { Survives (state S.Store tx.old.conn.now) (state S.Store tx.new.conn.now) (λ _. ⊥) }
 {
-    create_tables(tx)?;
-    meta::put(tx, 1, FORMAT)?;
+    create_tables(tx, &OTHERS)?;
+    write_one(tx, &Write::Format)?;
     Ok(())
 }
 
@@ -116,7 +147,7 @@ fn create_in<S: Alter>(tx: &mut Transaction<'_, S>) -> Result<Creation, Error>
         → IfOk result (λ it. it ≢ Creation.Made → WasRefused S.Store old) }
     ensures survives { Survives (state S.Store tx.old.conn.now) (state S.Store tx.new.conn.now) (λ _. ⊥) }
 {
-    match meta::create(tx) {
+    match create_table(tx, Table::Meta) {
         Ok(_) => create_rest(tx),
         Err(error) => if_refused(error, Creation::Found),
     }

@@ -4,7 +4,9 @@ use Rattle.sqlite.specs.State.{HasCleanDisk}
 use Rattle.sqlite.specs.Held.{state}
 use Rattle.ccr_tables.specs.Contents.{Holds}
 use Rattle.ccr_tables.proofs.Queries.{reads_then, reads_on, reads_failed, only_error}
-use Rattle.ccr_tables.specs.Read.{FailedToRead, scopes_text, versions_text}
+use Rattle.ccr_tables.specs.Read.{FailedToRead}
+use Rattle.ccr_tables.specs.Tables.{listing_text}
+use Rattle.ccr_tables.specs.declared.table.Table.TheVariants as table
 use Rattle.ccr_tables.specs.Shown.{Shows}
 use Rattle.ccr_tables.proofs.FailedReads.{failed_after}
 use Rattle.ccr_tables.proofs.InTurn.{survives_both}
@@ -80,6 +82,6 @@ returns-clause-shown g c clean =
     let same2 = (c.in_ok-scopes.ensures.reads.same clean2).0.now_is ∙ same1 in
     record {
       set = c.in_ok-meta.ensures.shown clean1;
-      named = subst (λ (d : Database). Shows scopes_text d c.in_ok-scopes.scopes.items) same1 (c.in_ok-scopes.ensures.shown clean2);
-      reported = subst (λ (d : Database). Shows versions_text d c.in_ok-versions.versions.items) same2 (c.in_ok-versions.ensures.shown clean);
+      named = subst (λ (d : Database). Shows (listing_text table.Scopes) d c.in_ok-scopes.scopes.items) same1 (c.in_ok-scopes.ensures.shown clean2);
+      reported = subst (λ (d : Database). Shows (listing_text table.Versions) d c.in_ok-versions.versions.items) same2 (c.in_ok-versions.ensures.shown clean);
     }
