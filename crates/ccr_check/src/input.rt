@@ -1,13 +1,12 @@
-//! What the checker's program judges: standard input, or two files joined.
+//! The bytes that the checker's program judges: those of one reader, or of two joined.
 
-ghost use Rattle.std.specs.Prelude.{◌≡◌, ◌≢◌, ◌<◌, ◌↔◌, ◌++◌, length, IfOk, OnOk, IfSome};
+ghost use Rattle.std.specs.Prelude.{◌≡◌, ◌≢◌, ◌<◌, ◌↔◌, ◌++◌, length, IfOk, IfErr, OnOk, IfSome};
 ghost use Rattle.std.specs.IoError.{error_kind};
-ghost use Rattle.ccr_check.specs.declared.input.InputFault.TheVariants.{NoMemory};
+ghost use Rattle.ccr_check.specs.declared.input.InputFault.TheVariants.{NoMemory, WrongWords};
 
 use std::alloc::{AllocError, Global};
+use std::io;
 use std::io::{ErrorKind, Read};
-use std::rt::{Env, Files};
-use std::{env, fs, io};
 use thiserror::Error;
 
 /// How often an input is read before it counts as one without an end.
@@ -50,6 +49,14 @@ fn fault_of(error: &io::Error) -> InputFault
     }
 }
 
+impl From<io::Error> for InputFault {
+    ghost from_gives = { λ _ fault. fault ≢ WrongWords };
+
+    fn from(error: io::Error) -> InputFault {
+        fault_of(&error)
+    }
+}
+
 /// So many bytes to read into.
 fn room(alloc: Global, size: usize) -> Result<Vec<u8>, AllocError>
     requires { 0 < size }
@@ -61,7 +68,8 @@ fn room(alloc: Global, size: usize) -> Result<Vec<u8>, AllocError>
 /// Adds all bytes that a reader has left. An interrupted read counts and is tried again.
 fn read_all<R: Read>(reader: &mut R, chunk: &mut [u8], out: &mut Vec<u8>) -> Result<(), InputFault>
     requires { 0 < length chunk.old }
-    ensures { OnOk result (IfSome (R.remaining reader.old) (λ bytes. out.new.items ≡ out.old.items ++ bytes)) }
+    ensures bytes { OnOk result (IfSome (R.remaining reader.old) (λ bytes. out.new.items ≡ out.old.items ++ bytes)) }
+    ensures words { IfErr result (λ fault. fault ≢ WrongWords) }
 {
     for _ in 0..MOST_READS {
         match reader.read(chunk) {
@@ -81,7 +89,8 @@ fn read_all<R: Read>(reader: &mut R, chunk: &mut [u8], out: &mut Vec<u8>) -> Res
 ///
 /// Unreadable: a read failed, or there was no end after 1,000,000,000 reads. NoMemory: memory was refused.
 pub fn read_whole<R: Read>(alloc: Global, reader: &mut R) -> Result<Vec<u8>, InputFault>
-    ensures { IfOk result (λ out. IfSome (R.remaining reader.old) (λ bytes. out.items ≡ bytes)) }
+    ensures bytes { IfOk result (λ out. IfSome (R.remaining reader.old) (λ bytes. out.items ≡ bytes)) }
+    ensures words { IfErr result (λ fault. fault ≢ WrongWords) }
 {
     let mut out = Vec::new(alloc);
     let mut chunk = room(alloc, CHUNK)?;
@@ -95,38 +104,13 @@ pub fn read_both<R: Read>(
     first: &mut R,
     second: &mut R,
 ) -> Result<Vec<u8>, InputFault>
-    ensures { IfOk result (λ out. IfSome (R.remaining first.old) (λ front. IfSome (R.remaining second.old)
+    ensures bytes { IfOk result (λ out. IfSome (R.remaining first.old) (λ front. IfSome (R.remaining second.old)
         (λ behind. out.items ≡ front ++ behind))) }
+    ensures words { IfErr result (λ fault. fault ≢ WrongWords) }
 {
     let mut out = Vec::new(alloc);
     let mut chunk = room(alloc, CHUNK)?;
     read_all(first, &mut chunk, &mut out)?;
     read_all(second, &mut chunk, &mut out)?;
     Ok(out)
-}
-
-/// The file of this name, opened.
-fn opened<R: Files>(rt: &R, path: &str) -> Result<R::File, InputFault> {
-    match fs::open(rt, path) {
-        Ok(file) => Ok(file),
-        Err(error) => Err(fault_of(&error)),
-    }
-}
-
-/// The bytes that the program's words name: those of the two files, or of standard input where there are no words.
-pub fn read_words<R: Env + Files + Input + AllocGlobal>(rt: &R) -> Result<Vec<u8>, InputFault> {
-    let mut words = match env::args(rt) {
-        Ok(words) => words,
-        Err(error) => return Err(fault_of(&error)),
-    };
-    let _program = words.next();
-    match (words.next(), words.next(), words.next()) {
-        (None, None, None) => read_whole(rt.alloc(), &mut rt.reader()),
-        (Some(problem), Some(proof), None) => {
-            let mut problem = opened(rt, problem.as_str())?;
-            let mut proof = opened(rt, proof.as_str())?;
-            read_both(rt.alloc(), &mut problem, &mut proof)
-        }
-        _ => Err(InputFault::WrongWords),
-    }
 }

@@ -10,8 +10,8 @@
 //! for an input's best place among the pairs of the builds that each possible place must have passed.
 //!
 //! [`judge`] does the same from bytes to bytes. It is given the text of a problem, followed by that of a proof or of a claim, and
-//! says in one line what is to be thought of it (`specs/Judged.antt`, `specs/Accepted.antt`). [`read_words`] reads what the program
-//! of the checker judges.
+//! says in one line what is to be thought of it (`specs/Judged.antt`, `specs/Accepted.antt`). [`read_whole`] and
+//! [`read_both`] read what the program of the checker judges.
 #![tactic(auto)]
 
 mod accept;
@@ -24,6 +24,6 @@ mod tree;
 
 pub use accept::check;
 pub use fault::CheckFault;
-pub use input::{InputFault, read_both, read_whole, read_words};
+pub use input::{InputFault, read_both, read_whole};
 pub use judging::judge;
 pub use law::accepted_is_right;

@@ -1,1 +1,3 @@
-pub mod Statuses
+pub mod Answers
+pub mod Sources
+pub mod Told

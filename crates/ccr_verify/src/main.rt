@@ -1,28 +1,25 @@
 //! `ccr_verify`: judges anybody's claims about problems.
 //!
 //! It reads a problem's text that is followed by a claim's or a proof's, from standard input or from two files, prints one line, and
-//! ends with that line's status. All that it decides is decided by [`judge`], whose contract names the definitions.
+//! ends with that line's status. All that it decides is decided by [`judge`](ccr_check::judge), whose contract names the definitions.
+//! `answer` has no runtime: it reads what it is given and writes to what it is given, as its contract says. What is trusted is one line: that `main`
+//! gives it what the program's words name, standard output and standard error.
 #![tactic(auto)]
 
+mod answer;
+mod source;
 mod tell;
 
-ghost use Rattle.std.specs.Prelude.{ℕ, List, IfOk, string_bytes};
-ghost use Rattle.ccr_check.specs.Judged.{IsJudged};
-
-use ccr_check::{InputFault, judge, read_words};
+use answer::answer;
+use source::source_of;
 use std::io;
 use std::process::ExitCode;
-use tell::tell;
-
-/// The line and the status for what the program's words name.
-fn judged(rt: &HostRuntime) -> Result<(String, u8), InputFault>
-    ensures { IfOk result (λ x. (bytes : List ℕ) × IsJudged bytes (string_bytes x.0, x.1)) }
-{
-    let bytes = read_words(rt)?;
-    let told = judge(rt.alloc(), &bytes)?;
-    Ok(told)
-}
 
 fn main(rt: HostRuntime) -> io::Result<ExitCode> {
-    tell(&rt, judged(&rt))
+    answer(
+        rt.alloc(),
+        source_of(&rt),
+        &mut io::writer(&rt),
+        &mut rt.stderr(),
+    )
 }

@@ -1,29 +1,45 @@
 //! What the program prints, and the status that it ends with.
 
-ghost use Rattle.std.specs.Prelude.{◌≡◌, IfOk};
+ghost use Rattle.std.specs.Prelude.{◌≡◌, IfOk, OnOk};
+ghost use Rattle.std.specs.Io.KnownBytes.{Appends};
 ghost use Rattle.std.specs.Process.{exit_status};
-ghost use Rattle.ccr_verify.specs.Statuses.{status_of};
+ghost use Rattle.ccr_verify.specs.Told.{explained, fault_words, printed, said, status_of};
 
 use ccr_check::InputFault;
 use std::io;
+use std::io::Write;
 use std::process::ExitCode;
 
-/// Prints the line that was judged on standard output, or why there is none on standard error, and gives the exit status: the
-/// line's own; 2 for another number of words; 4 where nothing could be read or memory was refused. The only errors are those of
-/// printing.
-pub fn tell<R: Print + Eprint>(
-    rt: &R,
+/// What is told of a fault.
+fn words_of(fault: InputFault) -> &'static str
+    ensures { result.now ≡ fault_words fault }
+{
+    match fault {
+        InputFault::WrongWords => "usage: ccr_verify [PROBLEM PROOF]",
+        InputFault::Unreadable => "cannot read",
+        InputFault::NoMemory => "out of memory",
+    }
+}
+
+/// Prints the line that was judged on `out`, or on `errors` why there is none, and gives the exit status: the line's own; 2 for
+/// another number of words; 4 where nothing could be read or memory was refused. The only errors are those of writing.
+pub(crate) fn tell<W: Write, E: Write>(
+    out: &mut W,
+    errors: &mut E,
     judged: Result<(String, u8), InputFault>,
 ) -> io::Result<ExitCode>
-    ensures { IfOk result (λ code. exit_status code ≡ status_of judged) }
+    ensures status { IfOk result (λ code. exit_status code ≡ status_of (said judged)) }
+    ensures printed { OnOk result (Appends (W.contents out.old) (W.contents out.new) (printed (said judged))) }
+    ensures explained { OnOk result (Appends (E.contents errors.old) (E.contents errors.new) (explained (said judged))) }
 {
     match judged {
         Ok((line, status)) => {
-            println!(rt; "{line}")?;
+            out.writeln(line)?;
+            out.flush()?;
             Ok(ExitCode::from(status))
         }
         Err(fault) => {
-            eprintln!(rt; "{fault}")?;
+            errors.writeln(words_of(fault))?;
             match fault {
                 InputFault::WrongWords => Ok(ExitCode::from(2)),
                 InputFault::Unreadable | InputFault::NoMemory => Ok(ExitCode::from(4)),

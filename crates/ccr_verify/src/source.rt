@@ -1,0 +1,55 @@
+//! What is judged: standard input, or two files.
+
+ghost use Rattle.std.specs.Prelude.{◌≡◌, ◌≢◌, IfOk, IfErr, IfSome};
+ghost use Rattle.ccr_check.specs.declared.input.InputFault.TheVariants.{WrongWords};
+ghost use Rattle.ccr_verify.specs.Sources.{bytes_of};
+
+use ccr_check::{InputFault, read_both, read_whole};
+use std::alloc::Global;
+use std::io::{Input, Read};
+use std::rt::{Env, Files};
+use std::{env, fs};
+
+/// What is read to be judged.
+#[derive(Drop)]
+pub enum Source<I: Read + Drop, F: Read + Drop> {
+    /// All that this reader has left.
+    Input(I),
+    /// All that the first file has left, and behind it all that the second has.
+    Files(F, F),
+}
+
+/// All bytes of a source.
+///
+/// Unreadable: a read failed, or there was no end after 1,000,000,000 reads. NoMemory: out of memory.
+pub(crate) fn read<I: Read + Drop, F: Read + Drop>(
+    alloc: Global,
+    source: &mut Source<I, F>,
+) -> Result<Vec<u8>, InputFault>
+    ensures bytes { IfOk result (λ bytes. IfSome (bytes_of I.remaining F.remaining source.old) (λ known. bytes.items ≡ known)) }
+    ensures words { IfErr result (λ fault. fault ≢ WrongWords) }
+{
+    match source {
+        Source::Input(input) => read_whole(alloc, input),
+        Source::Files(first, second) => read_both(alloc, first, second),
+    }
+}
+
+/// What the program's words name: standard input where there are none, or the two files of these names.
+///
+/// WrongWords: another number of words. Unreadable: a file that can't be opened. NoMemory: out of memory.
+pub(crate) fn source_of<R: Env + Files + Input + Alloc>(
+    rt: &R,
+) -> Result<Source<R::Reader, R::File>, InputFault> {
+    let mut words = env::args(rt)?;
+    let _program = words.next();
+    match (words.next(), words.next(), words.next()) {
+        (None, None, None) => Ok(Source::Input(rt.reader())),
+        (Some(problem), Some(proof), None) => {
+            let problem = fs::open(rt, problem.as_str())?;
+            let proof = fs::open(rt, proof.as_str())?;
+            Ok(Source::Files(problem, proof))
+        }
+        _ => Err(InputFault::WrongWords),
+    }
+}
