@@ -5,7 +5,7 @@ use Rattle.sqlite.specs.Files.{over_files}
 use Rattle.ccr_task.specs.Shelves.{folders_calls}
 use Rattle.ccr_run.specs.Asked.{asked_by}
 use Rattle.ccr_run.specs.Databases.{holds, leaves, tally, begins_with}
-use Rattle.ccr_run.specs.Unfound.{IsUnfound}
+use Rattle.ccr_look.specs.Unfound.{IsUnfound}
 use Rattle.ccr_run.specs.Orders.{Orders}
 use Rattle.ccr_run.proofs.Serving.{done}
 use Rattle.ccr_run.proofs.obey.Goals as goal
@@ -13,7 +13,7 @@ use Rattle.ccr_run.proofs.obey.Goals as goal
 pub returns-in-Ok-Command : goal.returns-in-Ok-Command
 returns-in-Ok-Command g c =
     done _ folders_calls (holds (image_at g.S.Start)) (leaves (image_at g.S.Start)) tally (begins_with (image_at g.S.Start)) (IsUnfound over_files (image_at g.S.Start))
-    (map string_bytes c.args.words.now) (asked_by c.run-outcome.new.opener) (c.args.out.now.shown ++ c.args.out.now.waiting)
+    _ (map string_bytes c.args.words.now) (asked_by c.run-outcome.new.opener) (c.args.out.now.shown ++ c.args.out.now.waiting)
     (c.run-outcome.new.out.shown ++ c.run-outcome.new.out.waiting) c.run-outcome.new.out.failed (exit_status c.tell.result)
     c.in-Ok-Command.order c.run-outcome.result
     (subst (λ o. Orders (map string_bytes c.args.words.now) o) c.in-Ok-Command.field-0-is c.in-Ok-Command.ensures.ordered)

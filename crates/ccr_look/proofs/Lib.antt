@@ -1,0 +1,4 @@
+pub mod Adopted
+pub mod Bytes
+pub mod Finding
+pub mod Unfound

@@ -1,0 +1,3 @@
+pub mod Holding
+pub mod Looks
+pub mod Unfound
