@@ -76,7 +76,12 @@ fn header_of(log: &[u8]) -> &[u8] {
 }
 
 /// Sees that a database is at the path that can be read: a file that isn't empty, without a journal that has to be rolled back.
-fn see_it_is_there(rt: &HostRuntime, path: &str, log: &str, journal: &str) -> Result<(), CopyFault> {
+fn see_it_is_there(
+    rt: &HostRuntime,
+    path: &str,
+    log: &str,
+    journal: &str,
+) -> Result<(), CopyFault> {
     let log_length = length_of(rt, log)?;
     match length_of(rt, path)? {
         Some(0) => return Err(CopyFault::Empty),
@@ -92,7 +97,11 @@ fn see_it_is_there(rt: &HostRuntime, path: &str, log: &str, journal: &str) -> Re
 
 /// Reads the log's header, the database's file, the log, and the header of the log that is there then. None where the headers differ: a
 /// checkpoint has ended meanwhile.
-fn read_once<'a>(rt: &HostRuntime, path: &'a str, log_path: &str) -> Result<Option<Copied<'a>>, CopyFault>
+fn read_once<'a>(
+    rt: &HostRuntime,
+    path: &'a str,
+    log_path: &str,
+) -> Result<Option<Copied<'a>>, CopyFault>
     ensures { IfOk result (λ copied. IfSome copied (λ c. c.path.now ≡ path.entry.now)) }
 {
     let before = bytes_of(rt, log_path, HEADER as u64)?;

@@ -29,7 +29,7 @@ fn loaded(alloc: Global, store: Store<FileStore<Memory>>) -> Result<History, Sto
     let mut store = store;
     match store.load(alloc) {
         Ok(history) => Ok(history),
-        Err(fault) => Err(fault),
+        Err(why) => Err(why),
     }
 }
 
@@ -37,7 +37,10 @@ fn loaded(alloc: Global, store: Store<FileStore<Memory>>) -> Result<History, Sto
 /// memory alone.
 ///
 /// The errors are those of [`Store::adopt`] and [`Store::load`].
-pub(crate) fn history_in(alloc: Global, conn: Connection<FileStore<Memory>>) -> Result<History, StoreFault>
+pub(crate) fn history_in(
+    alloc: Global,
+    conn: Connection<FileStore<Memory>>,
+) -> Result<History, StoreFault>
     requires { (file_state conn).in_transaction ≡ false }
     ensures readable { IfOk result (λ history. IfSome history.text IsReadable) }
     ensures found { IfOk result (λ history. (image : Image) → IsOpenedOver image conn

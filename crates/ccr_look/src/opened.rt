@@ -35,13 +35,19 @@ fn files_of(alloc: Global, copied: Copied<'_>) -> Result<Files<Memory>, StoreFau
     let log_file = file_of(alloc, &log)?;
     drop(log);
     let db_file = file_of(alloc, &db)?;
-    Ok(Files { log: log_file, db: db_file })
+    Ok(Files {
+        log: log_file,
+        db: db_file,
+    })
 }
 
 /// The database of the bytes that were read. What is written to it stays in memory.
 ///
 /// The fault is that of the open, or `NoMemory`.
-pub(crate) fn open(alloc: Global, copied: Copied<'_>) -> Result<Connection<FileStore<Memory>>, StoreFault>
+pub(crate) fn open(
+    alloc: Global,
+    copied: Copied<'_>,
+) -> Result<Connection<FileStore<Memory>>, StoreFault>
     ensures opened { IfOk result (λ conn. IsOpenedOver (image_of copied.entry) conn) }
     ensures idle { IfOk result (λ conn. (file_state conn).in_transaction ≡ false) }
     ensures shut { IfErr result (λ fault. (fault ≡ NoMemory) ⊎ IsShut fault) }

@@ -65,9 +65,7 @@ fn of_copy(fault: CopyFault) -> &'static str
         CopyFault::Journal => {
             "another program was writing the database and has not ended it: open it once with sqlite3, which takes that back"
         }
-        CopyFault::Restless => {
-            "it changed at each of 100 tries; look again"
-        }
+        CopyFault::Restless => { "it changed at each of 100 tries; look again" }
         CopyFault::Unread => {
             "may you read the file, the one beside it that ends in -wal, and their directory?"
         }

@@ -20,7 +20,7 @@ returns-in-Ok-clause-found c =
       shows = it.0;
       only = λ was held.
           let stored = adopted image c.args.conn c.in-Ok.store (λ clean. over.opened) (λ clean. over.found) c.in-Ok.ensures.made
-              c.in-Ok.ensures.found c.in-Ok.ensures.crash.clean refl was held in
+          c.in-Ok.ensures.found c.in-Ok.ensures.crash.clean refl was held in
           it.1 was stored.rules stored.rows;
     })
     c.loaded.ensures.loaded
