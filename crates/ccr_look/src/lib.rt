@@ -8,9 +8,11 @@
 mod copied;
 mod fault;
 mod found;
-mod look;
+mod law;
+mod looking;
 mod opened;
 
 pub use copied::{Copied, copy};
 pub use fault::CopyFault;
-pub use look::look;
+pub use law::a_look_finds_what_is_left;
+pub use looking::look;

@@ -3,7 +3,7 @@ ghost use Rattle.std.specs.Prelude.{◌≡◌, ◌≤◌, ◌++◌, not};
 ghost use Rattle.std.specs.Process.{exit_status};
 ghost use Rattle.ccr_core.specs.Cores.{core_data};
 ghost use Rattle.ccr_proof.specs.declared.proof.TheConstants.{MOST_NODES};
-ghost use Rattle.ccr_run.specs.Looked.{Looked, ShownOf};
+ghost use Rattle.ccr_run.specs.Looked.{Looked, ShownOf, shown_end};
 ghost use Rattle.ccr_run.specs.Statuses.{exit_status_of};
 ghost use Rattle.ccr_run.specs.declared.run.Outcome.{Outcome as OutcomeData};
 
@@ -23,8 +23,20 @@ use std::alloc::Global;
 use std::io::Write;
 use std::process::ExitCode;
 
+/// How it ended that something was shown.
+fn handed_on(end: Result<u8, ShowFault>) -> Result<u8, Failure>
+    ensures { result ≡ shown_end end }
+{
+    match end {
+        Ok(status) => Ok(status),
+        Err(ShowFault::Lacks(fault)) => Err(Failure::Refused(ServeFault::Core(fault))),
+        Err(ShowFault::BadPin) => Err(Failure::Refused(ServeFault::BadPin)),
+        Err(ShowFault::NoMemory) => Err(Failure::Refused(ServeFault::NoMemory)),
+    }
+}
+
 /// Shows of a core what is looked at, and hands all lines out.
-fn show<W: Write, E: Write>(
+fn show_of<W: Write, E: Write>(
     alloc: Global,
     core: &Core,
     order: &LookOrder<'_>,
@@ -35,12 +47,7 @@ fn show<W: Write, E: Write>(
 {
     let end = AsText.show(alloc, out, &order.what, core);
     out.hand_out();
-    match end {
-        Ok(status) => Ok(status),
-        Err(ShowFault::Lacks(fault)) => Err(Failure::Refused(ServeFault::Core(fault))),
-        Err(ShowFault::BadPin) => Err(Failure::Refused(ServeFault::BadPin)),
-        Err(ShowFault::NoMemory) => Err(Failure::Refused(ServeFault::NoMemory)),
-    }
+    handed_on(end)
 }
 
 /// Reads the database that is named, and shows what is looked at of the history in it.
@@ -59,7 +66,7 @@ fn see<W: Write, E: Write>(
         Err(fault) => return Err(Failure::Unread(fault)),
     };
     match look(rt.alloc(), copied, order.options.budget) {
-        Ok(core) => show(rt.alloc(), &core, order, out),
+        Ok(core) => show_of(rt.alloc(), &core, order, out),
         Err(fault) => Err(Failure::Unfound(fault)),
     }
 }

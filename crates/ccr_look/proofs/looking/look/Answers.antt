@@ -1,7 +1,7 @@
 use Rattle.std.proofs.Common.{inl, inr}
 use Rattle.std.proofs.lemmas.Result.{IfOk-weaker, IfErr-weaker}
 use Rattle.ccr_look.specs.Looks.{image_of}
-use Rattle.ccr_look.proofs.look.look.Goals as goal
+use Rattle.ccr_look.proofs.looking.look.Goals as goal
 
 pub returns-in-Ok-history_in-clause-sees : goal.returns-in-Ok-history_in-clause-sees
 returns-in-Ok-history_in-clause-sees c =
