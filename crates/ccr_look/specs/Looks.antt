@@ -30,6 +30,10 @@ pub record IsOpenedOver {D : Type 0} {g : disk.Ghosts D} (image : Image) (conn :
   pub opened : IsOpened conn
   pub found : FindsIn image (file_state conn)
 
+-- the database of the bytes isn't opened: SQLite answered so
+abbrev pub IsShut : StoreFault → Type 0
+IsShut fault = (error : Error) × IsTrue (is_open_error error) × (fault ≡ open_fault_of error)
+
 module _ {S : Type 0} (g : Ghosts S) where
   -- A HISTORY IS FOUND IN BYTES: a database was opened that shows what they hold, and taken, and SQLite shows the history's rows in
   -- it; a history that the bytes hold is this one
@@ -46,10 +50,6 @@ module _ {S : Type 0} (g : Ghosts S) where
     pub history : HistoryData
     pub found : IsFoundIn image history
     pub over : IsOver history budget core
-
-  -- the database of the bytes isn't opened: SQLite answered so
-  abbrev pub IsShut : StoreFault → Type 0
-  IsShut fault = (error : Error) × IsTrue (is_open_error error) × (fault ≡ open_fault_of error)
 
   -- WHY A LOOK SEES NOTHING: out of memory; or SQLite answered so to the open; or no history was found
   abbrev pub SeesNothing : Image → StoreFault → Type 0
