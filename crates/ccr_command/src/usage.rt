@@ -23,6 +23,8 @@ const MORE: &str = "\
 Exit statuses: 0 done, 1 refused, 2 usage, 3 over the budget, 4 disk or memory.
 What happens is printed on standard output, line by line; a refusal goes to standard error.
 `ccr_run validate-pipeline FILE [--strict]` reads a pipeline without a database, and says what each input has to have passed.
+A command that only shows takes --look. It shows what is stored now, also while another ccr_run has the database open, and changes
+nothing; a build that runs is shown as running. It reads FILE and, beside it, FILE-wal: without that, a copy of FILE is older.
 
 Example:
   ccr_run --db ci.db set-pipeline pipeline.json
@@ -106,10 +108,10 @@ fn with_job_commands<'a>(alloc: Global, line: Command<'a>) -> Result<Command<'a>
 fn with_standing_commands<'a>(alloc: Global, line: Command<'a>) -> Result<Command<'a>, AllocError>
     ensures { IfOk result (λ made. app_of made ≡ with_all (app_of line.entry) standing_commands) }
 {
-    let line = line.subcommand(get_pipeline(alloc))?;
+    let line = line.subcommand(get_pipeline(alloc)?)?;
     let line = line.subcommand(resources(alloc)?)?;
     let line = line.subcommand(jobs(alloc)?)?;
-    line.subcommand(graph(alloc))
+    line.subcommand(graph(alloc)?)
 }
 
 /// The same with the commands that show what builds took.

@@ -14,6 +14,7 @@ use Rattle.ccr_serve.specs.Commanding.{CameOf}
 use Rattle.ccr_core.specs.Commands.{command_data}
 use Rattle.ccr_serve.specs.Views.{view_of}
 use Rattle.ccr_run.specs.declared.failure.Failure.{Failure}
+use Rattle.ccr_run.specs.declared.order.LookOrder.{LookOrder}
 use Rattle.ccr_run.specs.declared.order.Order.{Order}
 use Rattle.ccr_run.specs.declared.run.Outcome.{Outcome}
 use Rattle.ccr_run.specs.Obeyed.{Obeyed}
@@ -95,9 +96,9 @@ unserved pairs calls holds leaves tally begins_with unfound order asked failure 
 -- what was ordered is done
 pub done : {R S T : Type 0} (pairs : R → List Pair) (calls : S → List CallData) (holds : T → HistoryData → Type 0)
     (leaves : T → List HistoryData → Type 0) (tally : T → Tally) (begins_with : T → HistoryData → Type 0) (unfound : StoreFault → Type 0)
-    (words : List Text) (asked : Option Text) (old new : Text) (failed : Bool) (status : ℕ) (order : Order) (outcome : Outcome)
+    (looked : LookOrder → Result ℕ Failure → Text → Text → Type 0) (words : List Text) (asked : Option Text) (old new : Text) (failed : Bool) (status : ℕ) (order : Order) (outcome : Outcome)
     → IsOrdered words order → Served pairs calls holds leaves tally begins_with unfound order asked outcome.end old new
     → outcome.is_printed ≡ not failed → status ≡ exit_status_of outcome
-    → Obeyed pairs calls holds leaves tally begins_with unfound words asked old new failed status
-done pairs calls holds leaves tally begins_with unfound words asked old new failed status order outcome ordered served printed is =
+    → Obeyed pairs calls holds leaves tally begins_with unfound looked words asked old new failed status
+done pairs calls holds leaves tally begins_with unfound looked words asked old new failed status order outcome ordered served printed is =
     inl (record { order = order; ordered = ordered; outcome = outcome; served = served; printed = printed; status_is = is })

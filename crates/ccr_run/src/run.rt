@@ -12,7 +12,7 @@ ghost use Rattle.ccr_core.specs.Commands.{command_data};
 ghost use Rattle.ccr_serve.specs.Views.{view_of, bare_view, IsReady};
 ghost use Rattle.ccr_run.specs.Asked.{asked_by};
 ghost use Rattle.ccr_run.specs.Databases.{begins_with};
-ghost use Rattle.ccr_run.specs.Unfound.{IsUnfound};
+ghost use Rattle.ccr_look.specs.Unfound.{IsUnfound};
 ghost use Rattle.ccr_run.specs.Served.{Did, Served, handed_on, places_in};
 
 use crate::database::Database;
