@@ -114,6 +114,7 @@ options =
     ∷ optional_rule (codes "types") (codes "/usr/local/lib/ccr/types")
     ∷ optional_rule (codes "work") (codes "/var/tmp/ccr")
     ∷ as_number (optional_rule (codes "budget") (codes "100000"))
+    ∷ option_rule (codes "launcher")
     ∷ []
 
 -- the program, to which a command has to be given

@@ -2,7 +2,7 @@
 //!
 //! [`command_line`] is the program's command line as `clap` reads it, with all help texts; which commands it has, with
 //! which arguments, options and defaults, stands in `specs/Usage.antt`. Of what `clap` answers, [`options_of`] gives the
-//! four options, [`abort_of`] the build that is to be aborted, [`command_of`] the command, and [`asks_look`] whether it is to be a look
+//! five options, [`abort_of`] the build that is to be aborted, [`command_of`] the command, and [`asks_look`] whether it is to be a look
 //! (`specs/Options.antt`, `specs/Aborts.antt`, `specs/Commands.antt`, `specs/Looking.antt`).
 //!
 //! A gate is what has to hold of a version before a job takes it. [`findings_of`] says of a pipeline that was read: the gate of

@@ -15,7 +15,7 @@ use Rattle.ccr_command.specs.Looking.{asks_look, look_by, look_in}
 use Rattle.ccr_command.specs.declared.options.Options.{Options}
 use Rattle.ccr_command.specs.declared.options.OptionFault.{OptionFault}
 use Rattle.ccr_command.specs.Numbers.{MOST, in_range, is_numeral, numeral_of, number_of}
-use Rattle.ccr_command.specs.Options.{OptionsData, given_or, from_the_top, options_data, options_in}
+use Rattle.ccr_command.specs.Options.{OptionsData, given_or, from_the_top, launcher_in, options_data, options_in}
 use Rattle.ccr_command.specs.Usage.{line}
 use Rattle.ccr_run.specs.declared.order.Misuse.{Misuse}
 use Rattle.ccr_run.specs.declared.order.Misuse.TheVariants.{Line, NoMemory}
@@ -91,7 +91,8 @@ budget_ranged found o h =
     let types = given _ (option_and_then from_the_top (first_value found (codes "types"))) _ o database.2 in
     let work = given _ (option_and_then from_the_top (first_value found (codes "work"))) _ o types.2 in
     let budget = given _ (option_and_then number_of (first_value found (codes "budget"))) _ o work.2 in
-    subst (λ (b : ℕ). In b) (ap (λ r. (ok_or r o).budget) budget.2)
+    let launcher = given _ (launcher_in (first_value found (codes "launcher"))) _ o budget.2 in
+    subst (λ (b : ℕ). In b) (ap (λ r. (ok_or r o).budget) launcher.2)
     (read_ranged (first_value found (codes "budget")) budget.0 budget.1)
 
 -- what is looked at, by the command and by whether a look was asked for
