@@ -6,7 +6,7 @@ use Rattle.ccr_lines.proofs.stop.first_unpassed.Goals as goal
 pub returns-then-is_unpassed : goal.returns-then-is_unpassed
 returns-then-is_unpassed c =
     let test = is_unpassed c.args.history.now c.args.pair in
-    ap Some c.as_str-2.ensures.value
+    ap Some c.as_str-then-is_unpassed.ensures.value
     ∙ found_here test string_bytes c.args.jobs.now c.loop-job.job-index c.job-item.result
     (find test (map string_bytes c.args.jobs.now)) c.loop-job-test.true (sym c.job-item.is) c.loop-job.invariant
     (ap test (sym c.as_str.ensures.value) ∙ (sym c.is_unpassed.ensures ∙ c.if-is_unpassed.true))
