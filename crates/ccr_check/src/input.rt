@@ -5,8 +5,8 @@ ghost use Rattle.std.specs.IoError.{error_kind};
 ghost use Rattle.ccr_check.specs.declared.input.InputFault.TheVariants.{NoMemory, WrongWords};
 
 use std::alloc::{AllocError, Global};
-use std::io;
 use std::io::{ErrorKind, Read};
+use std::{fmt, io};
 use thiserror::Error;
 
 /// How often an input is read before it counts as one without an end.
@@ -15,18 +15,30 @@ const MOST_READS: u32 = 1_000_000_000;
 /// How many bytes are asked for at a time.
 const CHUNK: usize = 65_536;
 
-/// Why there is nothing to judge.
+/// Why there is nothing to judge. Its words are those of `docs/FORMATS.md`.
 #[derive(Clone, Copy, Debug, PartialEq, Eq, Drop, Error)]
 pub enum InputFault {
     /// The program was given other than no words or two.
-    #[error("usage: ccr_verify [PROBLEM PROOF]")]
     WrongWords,
     /// A file that can't be opened, an error of reading, or no end after 1,000,000,000 reads.
-    #[error("cannot read")]
     Unreadable,
     /// Memory was refused.
-    #[error("out of memory")]
     NoMemory,
+}
+
+impl fmt::Display for InputFault {
+    ghost use Rattle.std.specs.Prelude.{Some};
+    ghost use Rattle.ccr_check.specs.Words.{input_fault_words};
+
+    ghost output = { λ fault. Some (input_fault_words fault) };
+
+    fn fmt<W: fmt::Write>(&self, f: &mut fmt::Formatter<W>) -> fmt::Result {
+        match self {
+            InputFault::WrongWords => f.write_str("usage: ccr_verify [PROBLEM PROOF]"),
+            InputFault::Unreadable => f.write_str("cannot read"),
+            InputFault::NoMemory => f.write_str("out of memory"),
+        }
+    }
 }
 
 impl From<AllocError> for InputFault {

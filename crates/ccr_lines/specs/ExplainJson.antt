@@ -1,8 +1,9 @@
 -- What is said of a job's next build, as JSON; and in one of the forms.
-use Rattle.std.specs.Prelude.{◌≡◌, ℕ, map, Option, IsSomeAnd, codes, decimal}
+use Rattle.std.specs.Prelude.{◌≡◌, ℕ, Bool, List, map, Option, IsSomeAnd, codes, decimal}
 use Rattle.std.specs.Option.{option_map_or}
 use Rattle.serde_json.specs.Data.{Data, null, boolean, number, unsigned, string, object, no_members, member}
 use Rattle.ccr_history.specs.Text.{Text}
+use Rattle.ccr_history.specs.TextMap.{TextMap}
 use Rattle.ccr_history.specs.History.{HistoryData}
 use Rattle.ccr_history.specs.declared.build.Status.{Status}
 use Rattle.ccr_pipeline.specs.Pipelines.{PipelineData}
@@ -31,15 +32,20 @@ refusal_json r =
 abbrev pub passed_json : PassedData → Data
 passed_json b = witness_json b.job b.build
 
+-- an input, with these values of the newer places that it doesn't take, and of the builds through which it passed
+abbrev pub taken_object : Text → List Data → List Data → ℕ → Text → Option TextMap → Data
+taken_object name newer passed place resource version =
+    object (member (codes "name") (string name)
+    (member (codes "newer") (list newer)
+    (member (codes "passed") (list passed)
+    (member (codes "place") (number (unsigned place))
+    (member (codes "resource") (string resource)
+    (member (codes "version") (fields_json version) no_members))))))
+
 -- what an input takes, and the newer places that it doesn't
 abbrev pub taken_json : TakenData → Data
 taken_json t =
-    object (member (codes "name") (string t.name)
-    (member (codes "newer") (list (map (λ r. refusal_json r) t.newer))
-    (member (codes "passed") (list (map (λ b. passed_json b) t.passed))
-    (member (codes "place") (number (unsigned t.place))
-    (member (codes "resource") (string t.resource)
-    (member (codes "version") (fields_json t.version) no_members))))))
+    taken_object t.name (map (λ r. refusal_json r) t.newer) (map (λ b. passed_json b) t.passed) t.place t.resource t.version
 
 -- a build of the job, and how it stands
 abbrev pub last_build_json : ℕ × Status → Data
@@ -55,15 +61,22 @@ last_json found = option_map_or (λ b. last_build_json b) found null
 abbrev pub words_json : Option Text → Data
 words_json found = option_map_or (λ words. string words) found null
 
+-- a job, with these values of what each input takes, of the build that has the same versions, of what the next build would be, and
+-- of why there is none
+abbrev pub explained_object : Bool → List Data → Text → Data → Data → Data → Data
+explained_object due inputs job last next why =
+    object (member (codes "has_new_inputs") (boolean due)
+    (member (codes "inputs") (list inputs)
+    (member (codes "job_name") (string job)
+    (member (codes "last") last
+    (member (codes "next") next
+    (member (codes "reason") why no_members))))))
+
 -- THE VALUE of what is said of a job
 abbrev pub explained_json : ExplainedData → Data
 explained_json e =
-    object (member (codes "has_new_inputs") (boolean (is_due e.outlook))
-    (member (codes "inputs") (list (map (λ t. taken_json t) e.inputs))
-    (member (codes "job_name") (string e.job)
-    (member (codes "last") (last_json e.last)
-    (member (codes "next") (string (outlook_words e.outlook))
-    (member (codes "reason") (words_json e.why) no_members))))))
+    explained_object (is_due e.outlook) (map (λ t. taken_json t) e.inputs) e.job (last_json e.last) (string (outlook_words e.outlook))
+    (words_json e.why)
 
 -- ---- in one of the forms
 -- what is said of a job, as it is shown

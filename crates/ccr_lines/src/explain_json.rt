@@ -1,8 +1,8 @@
 //! What is said of a job's next build, as JSON; and in one of the forms.
-ghost use Rattle.std.specs.Prelude.{◌≡◌, ◌++◌, map, flat_map, option_map, option_copied, string_bytes, IfOk, OnOk};
-ghost use Rattle.serde_json.specs.Data.{string};
+ghost use Rattle.std.specs.Prelude.{◌≡◌, ◌++◌, List, map, flat_map, option_map, option_copied, string_bytes, IfOk, OnOk};
+ghost use Rattle.serde_json.specs.Data.{Data, string};
 ghost use Rattle.serde_json.specs.Written.{compact_text};
-ghost use Rattle.ccr_lines.specs.ExplainJson.{refusal_json, passed_json, taken_json, last_build_json, last_json, words_json, explained_json, explained_shown, status_of};
+ghost use Rattle.ccr_lines.specs.ExplainJson.{refusal_json, passed_json, taken_object, taken_json, last_build_json, last_json, words_json, explained_object, explained_json, explained_shown, status_of};
 ghost use Rattle.ccr_lines.specs.Json.{list, json_line, after_comma, array_of};
 ghost use Rattle.ccr_lines.specs.Outlooks.{outlook_words};
 
@@ -15,7 +15,7 @@ use crate::outlook::Outlook;
 use crate::print::word_of;
 use crate::release_json::push_witness;
 use ccr_core::Form;
-use ccr_history::Status;
+use ccr_history::{Status, Version};
 use std::alloc::{AllocError, Global};
 
 // ---- one input
@@ -65,26 +65,29 @@ fn each_passed(alloc: Global, passed: &[Passed]) -> Result<Vec<u8>, AllocError>
     Ok(out)
 }
 
-/// Adds what an input takes, with the texts of the newer places that it doesn't and of the builds through which it passed, of
-/// which each stands behind a comma; all behind a comma.
+/// Adds an input of this name and resource, the place that it takes with its version, and the texts of the newer places that it
+/// doesn't take and of the builds through which it passed, of which each stands behind a comma; all behind a comma.
 fn push_taken_of<'a>(
     alloc: Global,
     out: &mut Vec<u8>,
-    taken: &'a Taken,
+    name: &'a str,
     newer: &'a [u8],
     passed: &'a [u8],
+    place: u32,
+    resource: &'a str,
+    version: Option<&'a Version>,
 ) -> Result<(), AllocError>
-    ensures { array_of newer.now ≡ compact_text (list (map (λ r. refusal_json r) taken.now.newer))
-        → array_of passed.now ≡ compact_text (list (map (λ b. passed_json b) taken.now.passed))
-        → OnOk result (out.new.items ≡ out.old.items ++ after_comma (taken_json taken.now)) }
+    ensures { (ns ps : List Data) → array_of newer.now ≡ compact_text (list ns)
+        → array_of passed.now ≡ compact_text (list ps) → OnOk result (out.new.items ≡ out.old.items
+        ++ after_comma (taken_object name.now ns ps place resource.now (option_copied version.entry))) }
 {
     let members = [
-        ("name", Field::Text(taken.name.as_str())),
+        ("name", Field::Text(name)),
         ("newer", Field::Items(newer)),
         ("passed", Field::Items(passed)),
-        ("place", Field::Number(taken.place as u64)),
-        ("resource", Field::Text(taken.resource.as_str())),
-        ("version", Field::Version(taken.version.as_ref())),
+        ("place", Field::Number(place as u64)),
+        ("resource", Field::Text(resource)),
+        ("version", Field::Version(version)),
     ];
     push_item(alloc, out, &members)
 }
@@ -93,9 +96,21 @@ fn push_taken_of<'a>(
 fn push_taken(alloc: Global, out: &mut Vec<u8>, taken: &Taken) -> Result<(), AllocError>
     ensures { OnOk result (out.new.items ≡ out.old.items ++ after_comma (taken_json taken.now)) }
 {
+    let name = taken.name.as_str();
+    let resource = taken.resource.as_str();
+    let version = taken.version.as_ref();
     let newer = each_newer(alloc, &taken.newer)?;
     let passed = each_passed(alloc, &taken.passed)?;
-    push_taken_of(alloc, out, taken, &newer, &passed)?;
+    push_taken_of(
+        alloc,
+        out,
+        name,
+        &newer,
+        &passed,
+        taken.place,
+        resource,
+        version,
+    )?;
     Ok(())
 }
 
@@ -146,27 +161,26 @@ fn words_text(alloc: Global, words: Option<&String>) -> Result<Vec<u8>, AllocErr
     }
 }
 
-/// Adds what is said of a job, with the texts of what each input takes, each behind a comma, of the build that has the same
-/// versions, of what the next build would be, and of why there is none.
+/// Adds what is said of a job of this name, with the texts of what each input takes, each behind a comma, of the build that has
+/// the same versions, of what the next build would be, and of why there is none.
 fn push_explained_of<'a>(
     alloc: Global,
     out: &mut Vec<u8>,
-    explained: &'a Explained,
+    due: bool,
     inputs: &'a [u8],
+    name: &'a str,
     last: &'a [u8],
     next: &'a [u8],
     why: &'a [u8],
 ) -> Result<(), AllocError>
-    ensures { array_of inputs.now ≡ compact_text (list (map (λ t. taken_json t) explained.now.inputs))
-        → last.now ≡ compact_text (last_json explained.now.last)
-        → next.now ≡ compact_text (string (outlook_words explained.now.outlook))
-        → why.now ≡ compact_text (words_json explained.now.why)
-        → OnOk result (out.new.items ≡ out.old.items ++ compact_text (explained_json explained.now)) }
+    ensures { (is : List Data) (l n w : Data) → array_of inputs.now ≡ compact_text (list is) → last.now ≡ compact_text l
+        → next.now ≡ compact_text n → why.now ≡ compact_text w → OnOk result (out.new.items ≡ out.old.items
+        ++ compact_text (explained_object due is name.now l n w)) }
 {
     let members = [
-        ("has_new_inputs", Field::Flag(is_due(explained.outlook))),
+        ("has_new_inputs", Field::Flag(due)),
         ("inputs", Field::Items(inputs)),
-        ("job_name", Field::Text(explained.job.as_str())),
+        ("job_name", Field::Text(name)),
         ("last", Field::Json(last)),
         ("next", Field::Json(next)),
         ("reason", Field::Json(why)),
@@ -178,12 +192,14 @@ fn push_explained_of<'a>(
 fn explained_line(alloc: Global, explained: &Explained) -> Result<Vec<u8>, AllocError>
     ensures { IfOk result (λ text. text.items ≡ json_line (explained_json explained.now)) }
 {
+    let due = is_due(explained.outlook);
     let inputs = each_taken(alloc, &explained.inputs)?;
+    let name = explained.job.as_str();
     let last = last_text(alloc, explained.last)?;
     let next = outlook_text(alloc, explained.outlook)?;
     let why = words_text(alloc, explained.why.as_ref())?;
     let mut text = Vec::new(alloc);
-    push_explained_of(alloc, &mut text, explained, &inputs, &last, &next, &why)?;
+    push_explained_of(alloc, &mut text, due, &inputs, name, &last, &next, &why)?;
     let line = on_a_line(text)?;
     Ok(line)
 }

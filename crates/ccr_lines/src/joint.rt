@@ -1,5 +1,5 @@
 //! That versions of several inputs haven't passed one job together.
-ghost use Rattle.std.specs.Prelude.{◌≡◌, ◌++◌, ◌&&◌, not, map, string_bytes, option_copied, IfOk, OnOk};
+ghost use Rattle.std.specs.Prelude.{◌≡◌, ◌++◌, ◌&&◌, not, codes, map, string_bytes, option_copied, IfOk, OnOk};
 ghost use Rattle.std.specs.List.{list_any};
 ghost use Rattle.ccr_explain.specs.Cut.{is_allowed_of, is_passed_of};
 ghost use Rattle.ccr_pipeline.specs.Inputs.{input_data};
@@ -280,6 +280,16 @@ fn others_in(alloc: Global, own: usize, demands: &[Demand]) -> Result<Vec<usize>
     Ok(others)
 }
 
+/// Adds that something hasn't passed a job together with what follows.
+fn push_not_passed(text: &mut String, job: &str) -> Result<(), AllocError>
+    ensures { OnOk result (string_bytes text.new
+        ≡ (string_bytes text.old ++ (codes "not passed " ++ job.now)) ++ codes " together with ") }
+{
+    push_name(text, "not passed ", job)?;
+    text.push_str(" together with ")?;
+    Ok(())
+}
+
 /// Adds that a place hasn't passed a job together with those of the others.
 fn push_together(
     alloc: Global,
@@ -294,10 +304,9 @@ fn push_together(
         ++ together_words own places.now (map input_data inputs.now) demands.now job.now) }
 {
     let others = others_in(alloc, own, demands)?;
-    text.push_str("not passed ")?;
-    text.push_str(job)?;
-    text.push_str(" together with ")?;
-    push_others(text, own, places, inputs, demands, &others)
+    push_not_passed(text, job)?;
+    push_others(text, own, places, inputs, demands, &others)?;
+    Ok(())
 }
 
 /// Adds why an input can't take a place.

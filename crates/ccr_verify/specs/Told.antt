@@ -1,13 +1,8 @@
 -- What the program tells, and the status that it ends with.
-use Rattle.std.specs.Prelude.{ℕ, List, [], ◌∷◌, ◌++◌, Result, Ok, Err, codes, String, string_bytes}
+use Rattle.std.specs.Prelude.{ℕ, List, [], ◌∷◌, ◌++◌, Result, Ok, Err, String, string_bytes}
+use Rattle.ccr_check.specs.Words.{input_fault_words}
 use Rattle.ccr_check.specs.declared.input.InputFault.{InputFault}
 use Rattle.ccr_check.specs.declared.input.InputFault.TheVariants.{WrongWords, Unreadable, NoMemory}
-
--- what is told of a fault
-abbrev pub fault_words : InputFault → List ℕ
-fault_words WrongWords = codes "usage: ccr_verify [PROBLEM PROOF]"
-fault_words Unreadable = codes "cannot read"
-fault_words NoMemory = codes "out of memory"
 
 -- what is said, as bytes: the line and the status, or why there is none
 abbrev pub said : {A : Type 0} → Result (String A × ℕ) InputFault → Result (List ℕ × ℕ) InputFault
@@ -22,7 +17,7 @@ printed (Err fault) = []
 -- on standard error: why there is no line, with its line end, and nothing where there is one
 abbrev pub explained : Result (List ℕ × ℕ) InputFault → List ℕ
 explained (Ok judged) = []
-explained (Err fault) = fault_words fault ++ 10 ∷ []
+explained (Err fault) = input_fault_words fault ++ 10 ∷ []
 
 -- the status is that of the line which was judged; 2 for another number of words, 4 where there was nothing to judge
 abbrev pub status_of : Result (List ℕ × ℕ) InputFault → ℕ

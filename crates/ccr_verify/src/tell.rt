@@ -3,23 +3,12 @@
 ghost use Rattle.std.specs.Prelude.{◌≡◌, IfOk, OnOk};
 ghost use Rattle.std.specs.Io.KnownBytes.{Appends};
 ghost use Rattle.std.specs.Process.{exit_status};
-ghost use Rattle.ccr_verify.specs.Told.{explained, fault_words, printed, said, status_of};
+ghost use Rattle.ccr_verify.specs.Told.{explained, printed, said, status_of};
 
 use ccr_check::InputFault;
 use std::io;
 use std::io::Write;
 use std::process::ExitCode;
-
-/// What is told of a fault.
-fn words_of(fault: InputFault) -> &'static str
-    ensures { result.now ≡ fault_words fault }
-{
-    match fault {
-        InputFault::WrongWords => "usage: ccr_verify [PROBLEM PROOF]",
-        InputFault::Unreadable => "cannot read",
-        InputFault::NoMemory => "out of memory",
-    }
-}
 
 /// Prints the line that was judged on `out`, or on `errors` why there is none, and gives the exit status: the line's own; 2 for
 /// another number of words; 4 where nothing could be read or memory was refused. The only errors are those of writing.
@@ -39,7 +28,7 @@ pub(crate) fn tell<W: Write, E: Write>(
             Ok(ExitCode::from(status))
         }
         Err(fault) => {
-            errors.writeln(words_of(fault))?;
+            errors.writeln(fault)?;
             match fault {
                 InputFault::WrongWords => Ok(ExitCode::from(2)),
                 InputFault::Unreadable | InputFault::NoMemory => Ok(ExitCode::from(4)),
