@@ -12,3 +12,16 @@ returns-in-Ok-history_in-clause-sees c =
       over = it;
     })
     c.over.ensures.over
+
+pub returns-in-Ok-history_in-clause-nothing : goal.returns-in-Ok-history_in-clause-nothing
+returns-in-Ok-history_in-clause-nothing c = IfErr-weaker c.over.result _ _ (λ fault it. inl it) c.over.ensures.only
+
+pub returns-in-Err-history_in-clause-nothing : goal.returns-in-Err-history_in-clause-nothing
+returns-in-Err-history_in-clause-nothing c =
+    inr (inr (c.in-Err-history_in.ensures.unfound (image_of c.args.copied) c.in-Ok.ensures.opened))
+
+pub returns-in-Err-clause-nothing : goal.returns-in-Err-clause-nothing
+returns-in-Err-clause-nothing c = elim c.in-Err.ensures.shut [
+  | inl memory ↦ inl memory
+  | inr shut ↦ inr (inl shut)
+]
