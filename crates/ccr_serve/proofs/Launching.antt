@@ -59,15 +59,17 @@ found_run IsSuch old new l end added such (Ok f) by = with_pair added where
   with_pair (inl more) = ((l, end), more, such, by)
   with_pair (inr (none, kept)) = absurd (subst (λ e. FindsBy e (found_data f)) none by)
 
+-- what is started of a launch that is this check's
+started_so : (places : PlacesData) (r : ResourceData) (told version : Option TextMap) (l p : LaunchData) → told ≡ version
+    → l ≡ check_launch places r told → p ≡ started_check places r l
+    → p ≡ started_check places r (check_launch places r version)
+started_so places r told version l p is_told is e =
+    e ∙ (ap (λ q. started_check places r q) is
+    ∙ ap (λ v. started_check places r (check_launch places r v)) is_told)
+
 module _ {E : Type 0} (places : PlacesData) (r : ResourceData) (told version : Option TextMap)
     (before after : List CallData) (old new : List Pair) (l : LaunchData) (is_told : told ≡ version)
     (is : l ≡ check_launch places r told) (did : Does (check_folders places) before (Ok tt) after) where
-  started_so : (p : LaunchData) → p ≡ started_check places r l
-      → p ≡ started_check places r (check_launch places r version)
-  started_so p e =
-      e ∙ (ap (λ q. started_check places r q) is
-      ∙ ap (λ v. started_check places r (check_launch places r v)) is_told)
-
   pub found_after : (result : Result Found E) → length (check_launch places r told).input ≤ MOST_REQUEST
       → IfOk result (λ f. (pair : Pair) × Adds old (Some pair) new × (pair.0 ≡ started_check places r l)
       × FindsBy pair.1 (found_data f))
@@ -80,7 +82,7 @@ module _ {E : Type 0} (places : PlacesData) (r : ResourceData) (told version : O
     (
       subst (λ v. length (check_launch places r v).input ≤ MOST_REQUEST) is_told short,
       did,
-      started_so by.0.0 by.2,
+      started_so places r told version l by.0.0 is_told is by.2,
       by.3,
     ),
   )
@@ -93,7 +95,7 @@ module _ {E : Type 0} (places : PlacesData) (r : ResourceData) (told version : O
     with_lost : (lost : Option Pair) → Adds old lost new → IfSome lost (λ p. p.0 ≡ started_check places r l)
         → (lost : Option Pair) × Adds old lost new × BeginsFind places r version before after lost
     with_lost None adds starts = (None, adds, (Ok tt, did))
-    with_lost (Some pair) adds starts = (Some pair, adds, (did, started_so pair.0 starts))
+    with_lost (Some pair) adds starts = (Some pair, adds, (did, started_so places r told version l pair.0 is_told is starts))
 
 -- ---- asks
 -- what was started of an ask's launch was run, and the step comes to this

@@ -1,5 +1,5 @@
 -- What the builds of a core want, and which answers to it are refused.
-use Rattle.std.proofs.Common.{◌≡◌, ℕ, ◌+◌, ◌==◌, ◌&&◌, List, [], ◌∷◌, Bool, true, false, cond, slice_get, is_some, IsSome, Option, Some, None, option_and_then, option_map, option_copied, Bor, unwrap_or, bytes_eq, refl, sym, ◌∙◌, ap, subst}
+use Rattle.std.proofs.Common.{◌≡◌, ℕ, suc, ◌+◌, ◌==◌, ◌&&◌, List, [], ◌∷◌, Bool, true, false, cond, slice_get, is_some, IsSome, Option, Some, None, option_and_then, option_map, option_copied, Bor, unwrap_or, bytes_eq, refl, sym, ◌∙◌, ap, subst, arith}
 use Rattle.std.proofs.lemmas.Bool.{false≢true}
 use Rattle.ccr_history.specs.Text.{Text}
 use Rattle.ccr_pipeline.specs.Pipelines.{PipelineData}
@@ -77,7 +77,9 @@ at_first true r rs x b k rest stands waits e more =
     let same : x ≡ b = one_value (Some x) x b refl e in
     let (step, is) = waits_there r x stands waits in
     (step, is, subst (λ y. WaitsAt y step) same (r, stands, is))
-at_first false r rs x b k rest stands waits e more = more e
+at_first false r rs x b k rest stands waits e more =
+    let next : suc k ≡ 1 + k = omega arith in
+    subst (λ n. At (r ∷ rs) n b) next (more e)
 
 at_name : (job : Text) (number : ℕ) (ns : List (Text × ℕ)) (rs : List RunData) (bs : List RunningData) (b : RunningData)
     → AreRuns ns rs bs → running_at job number bs ≡ Some b → At rs (name_index job number ns) b
@@ -103,8 +105,7 @@ waits_at c s job number b step is there named =
 pub step_there : (c : CoreData) (job : Text) (number : ℕ) → IsCore c → Runs c job number
     → IsSome (step_in c job number)
 step_there c job number core runs =
-    let t = firm c core in
-    by (running_at job number t.state.running) refl (runs t.state t.stands) where
+    by (running_at job number (firm c core).state.running) refl (runs (firm c core).state (firm c core).stands) where
       by : (o : Option RunningData) → running_at job number (firm c core).state.running ≡ o → IsSome o
           → IsSome (step_in c job number)
       by (Some b) there some =

@@ -10,7 +10,7 @@ ghost use Rattle.ccr_task.specs.Launching.{can_launch, starts_program};
 ghost use Rattle.ccr_task.specs.Calls.{making, removing, Does};
 ghost use Rattle.ccr_task.specs.Places.{places_data, abort_folder, build_folder, in_build};
 ghost use Rattle.ccr_task.specs.Starting.{started_ask};
-ghost use Rattle.ccr_serve.specs.Asked.{ask_folders, Settles, AnswersByFile, AnswersByRun, AnswersByLaunch, Answers, BeginsByFile, BeginsByLaunch, BeginsAnswer};
+ghost use Rattle.ccr_serve.specs.Asked.{ask_folders, unless_asked, LooksAgain, Settles, AnswersByFile, AnswersByRun, AnswersByLaunch, Answers, BeginsByFile, BeginsByLaunch, BeginsAnswer};
 ghost use Rattle.ccr_serve.specs.Pairs.{Adds};
 
 use crate::aborting::take_abort;
@@ -96,9 +96,45 @@ fn make_folders<S: Shelf>(
     }
 }
 
-/// What a step comes to whose program answered so. A success stands. After any other answer, where there is a launcher, it is
-/// looked whether the build's abort is asked by then, and the step is aborted where it is. `AllocError` where nothing was
-/// looked for.
+/// What a program answered, or that its step was aborted, where that is asked.
+fn unless_asked(asked: bool, said: Said) -> Said
+    ensures { said_data result ≡ unless_asked asked (said_data said) }
+{
+    if asked {
+        Said::bad(Answered::Aborted, StepFault::Aborted)
+    } else {
+        said
+    }
+}
+
+/// What a step comes to whose program answered so, where there is a launcher. A success stands. After any other answer it
+/// is looked whether the build's abort is asked by then, and the step is aborted where it is. `AllocError` where nothing
+/// was looked for.
+fn look_again<S: Shelf>(
+    alloc: Global,
+    shelf: &mut S,
+    places: &Places,
+    job: &str,
+    number: u32,
+    said: Said,
+) -> Result<Said, AllocError>
+    ensures ok { IfOk result (λ a. LooksAgain (said_data said).fault
+        (abort_folder (places_data places.now) job.now number) (said_data said)
+        (S.calls shelf.old) (S.calls shelf.new) (said_data a)) }
+    ensures err { OnErr result (S.calls shelf.new ≡ S.calls shelf.old) }
+{
+    match &said.fault {
+        Some(_) => {}
+        None => return Ok(said),
+    }
+    match take_abort(alloc, shelf, places, job, number) {
+        Ok(asked) => Ok(unless_asked(asked, said)),
+        Err(error) => Err(error),
+    }
+}
+
+/// What a step comes to whose program answered so: where there is a launcher, by a second look; else it is that answer.
+/// `AllocError` where nothing was looked for.
 fn settle<S: Shelf>(
     alloc: Global,
     shelf: &mut S,
@@ -112,13 +148,9 @@ fn settle<S: Shelf>(
         (S.calls shelf.old) (S.calls shelf.new) (said_data a)) }
     ensures err { OnErr result (S.calls shelf.new ≡ S.calls shelf.old) }
 {
-    if places.launcher.is_none() || said.fault.is_none() {
-        return Ok(said);
-    }
-    match take_abort(alloc, shelf, places, job, number) {
-        Ok(true) => Ok(Said::bad(Answered::Aborted, StepFault::Aborted)),
-        Ok(false) => Ok(said),
-        Err(error) => Err(error),
+    match &places.launcher {
+        Some(_) => look_again(alloc, shelf, places, job, number, said),
+        None => Ok(said),
     }
 }
 

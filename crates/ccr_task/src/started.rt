@@ -1,5 +1,5 @@
 //! What is started of a launch: its program, or a launcher in the program's place.
-ghost use Rattle.std.specs.Prelude.{◌≡◌, ◌∷◌, ◌++◌, [], IfOk, codes, decimal, string_bytes};
+ghost use Rattle.std.specs.Prelude.{◌≡◌, ◌∷◌, ◌++◌, Some, IfOk, string_bytes};
 ghost use Rattle.ccr_pipeline.specs.JobData.{resource_data};
 ghost use Rattle.ccr_pipeline.specs.Tree.{tree_of};
 ghost use Rattle.ccr_process.specs.Launches.{launch_data, texts_of, variable_of, variables_of};

@@ -1,7 +1,8 @@
-use Rattle.std.proofs.Common.{◌∙◌, ap, option_map, subst, sym, unwrap_or}
+use Rattle.std.proofs.Common.{◌∙◌, Bor, ap, option_map, subst, sym, unwrap_or}
 use Rattle.std.specs.Option.{IfSome, option_copied}
 use Rattle.ccr_pipeline.specs.Pipelines.{pipeline_data}
 use Rattle.ccr_pipeline.specs.Tree.{tree_of}
+use Rattle.ccr_pipeline.specs.declared.step.Step.{Step}
 use Rattle.ccr_steps.specs.Asks.{ask_data}
 use Rattle.ccr_task.specs.Faulty.{said_data}
 use Rattle.ccr_task.specs.Places.{places_data}
@@ -22,7 +23,7 @@ unwrap-pipeline-requires g c =
 pub unwrap-requires : goal.unwrap-requires
 unwrap-requires g c =
     let held = core_data c.args.core.now in
-    some_of (λ s. tree_of s.now) c.step_of.result (step_in held c.args.job.now c.args.number) c.step_of.ensures
+    some_of (λ (s : Bor Step). tree_of s.now) c.step_of.result (step_in held c.args.job.now c.args.number) c.step_of.ensures
     (step_there held c.args.job.now c.args.number c.rules.ensures c.requires)
 
 pub answer_to-requires : goal.answer_to-requires
@@ -40,7 +41,7 @@ returns-in-Ok-clause-ok g c =
       ask = c.unwrap-turn.result.1;
       wants = subst (λ w. Wants held c.args.job.now c.args.number w) c.unwrap-turn.ensures c.wants.ensures.asked;
       step = tree_of c.unwrap.result.now;
-      at = sym c.step_of.ensures ∙ ap (λ o. option_map (λ s. tree_of s.now) o) c.unwrap.ensures;
+      at = sym c.step_of.ensures ∙ ap (λ o. option_map (λ (s : Bor Step). tree_of s.now) o) c.unwrap.ensures;
       pair = o.0;
       adds = o.1;
       answers = subst
@@ -60,7 +61,7 @@ returns-in-Err-clause-err g c =
       ask = c.unwrap-turn.result.1;
       wants = subst (λ w. Wants held c.args.job.now c.args.number w) c.unwrap-turn.ensures c.wants.ensures.asked;
       step = tree_of c.unwrap.result.now;
-      at = sym c.step_of.ensures ∙ ap (λ o. option_map (λ s. tree_of s.now) o) c.unwrap.ensures;
+      at = sym c.step_of.ensures ∙ ap (λ o. option_map (λ (s : Bor Step). tree_of s.now) o) c.unwrap.ensures;
       lost = o.0;
       adds = o.1;
       begins = subst
