@@ -31,6 +31,7 @@ not_started() {
 # run COMMAND ..: runs what starts the task, with $starting on standard input, and leaves its status in $status. `ends`, which the launcher has, ends the
 # task; it is called for a signal, for an abort, and at $limit.
 limit=${limit:-7200}
+after() { :; } # what is to be done before it ends by a signal
 run() {
     stop=
     trap 'stop=yes' INT TERM HUP
@@ -45,7 +46,7 @@ run() {
             ends
             wait $task
             status=124
-            case $why in "no end"*) ;; *) trap - TERM; kill -TERM $$ ;; esac
+            case $why in "no end"*) ;; *) after; trap - TERM; kill -TERM $$ ;; esac
             return
         fi
         sleep 0.5
