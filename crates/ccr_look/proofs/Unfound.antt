@@ -26,8 +26,8 @@ unfound_later g image conn taken (Err fault) found was it = record { conn = conn
 
 -- the same of a database that was opened over bytes, whichever they are
 pub unfound_in : {X D : Type 0} {g : disk.Ghosts D} (conn taken : Held (FileStore D g)) (r : Result X StoreFault)
-    → WasTaken (file_state conn) (file_state taken) → IfErr r (IsUnread over_files (file_state taken))
-    → IfErr r (λ fault. (image : Image) → IsOpenedOver image conn → IsUnfound over_files image fault)
+    → WasTaken (file_state conn) (file_state taken) → IfErr r (IsUnread (over_files {D = D} {g = g}) (file_state taken))
+    → IfErr r (λ fault. (image : Image) → IsOpenedOver image conn → IsUnfound (over_files {D = D} {g = g}) image fault)
 unfound_in conn taken (Ok x) was it = tt
 unfound_in conn taken (Err fault) was it =
     λ image over. record { conn = conn; found = λ clean. over.found; cause = inr (taken, was, it) }
