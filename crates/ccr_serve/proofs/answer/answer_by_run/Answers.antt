@@ -24,3 +24,11 @@ returns-clause-err g c =
     (g.R.Runner.pairs c.args.runner.now) (g.R.Runner.pairs c.run-end.new.self)
     (launch_data c.in_ok-begun.begun) (end_data c.run-end.result) c.run-end.ensures c.in_ok-begun.ensures
     c.settle.result
+
+pub returns-in_err-said-clause-err : goal.returns-in_err-said-clause-err
+returns-in_err-said-clause-err g c =
+    lost_after (λ (l : LaunchData). l ≡ started_ask (places_data c.args.places.now) c.args.job.now c.args.number
+    c.args.name.now (ask_data c.args.ask.now) (launch_data c.args.launch))
+    (g.R.Runner.pairs c.args.runner.now) (g.R.Runner.pairs c.run-end.new.self)
+    (launch_data c.in_ok-begun.begun) (end_data c.run-end.result) c.run-end.ensures c.in_ok-begun.ensures
+    c.from_residual-in_err-said.result
