@@ -3,8 +3,8 @@ use Rattle.std.proofs.lemmas.Result.{IfOk-weaker}
 use Rattle.sqlite_wal.specs.Files.{image_at}
 use Rattle.ccr_store.specs.Rows.{rows_of}
 use Rattle.sqlite.specs.Files.{over_files}
-use Rattle.ccr_run.proofs.Kept.{adopted}
-use Rattle.ccr_run.proofs.Unfound.{unfound_first, unfound_later}
+use Rattle.ccr_look.proofs.Adopted.{adopted}
+use Rattle.ccr_look.proofs.Unfound.{unfound_first, unfound_later}
 use Rattle.ccr_run.proofs.database.Database+FileStore+FileFrom+S.load.Goals as goal
 
 pub returns-in-Ok-clause-holds : goal.returns-in-Ok-clause-holds
@@ -34,9 +34,9 @@ returns-in-Ok-clause-begins g c =
 
 pub returns-in-Ok-clause-unfound : goal.returns-in-Ok-clause-unfound
 returns-in-Ok-clause-unfound g c =
-    unfound_later over_files (image_at g.S.Start) c.args.conn c.in-Ok.store.conn c.with_history.result c.requires.found
+    unfound_later over_files (image_at g.S.Start) c.args.conn c.in-Ok.store.conn c.with_history.result c.requires.opened c.requires.found
     (record { made = λ clean blank. (c.in-Ok.ensures.made clean blank).0.rows; taken = λ clean other. c.in-Ok.ensures.taken clean other })
     c.with_history.ensures.unread
 
 pub returns-in-Err-clause-unfound : goal.returns-in-Err-clause-unfound
-returns-in-Err-clause-unfound g c = unfound_first over_files (image_at g.S.Start) c.args.conn _ c.requires.found c.in-Err.ensures.answered
+returns-in-Err-clause-unfound g c = unfound_first over_files (image_at g.S.Start) c.args.conn _ c.requires.opened c.requires.found c.in-Err.ensures.answered

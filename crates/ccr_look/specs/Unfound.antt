@@ -4,12 +4,16 @@ use Rattle.sqlite_trees.specs.declared.store.Store.{Ghosts}
 use Rattle.sqlite_wal.specs.Recovery.{Image}
 use Rattle.sqlite.specs.Held.{Held, state}
 use Rattle.sqlite.specs.Start.{FindsIn}
-use Rattle.sqlite.specs.State.{State, HasCleanDisk}
+use Rattle.sqlite.specs.State.{State, HasCleanDisk, IsLive, Opens}
 use Rattle.ccr_history.specs.declared.store_fault.StoreFault.{StoreFault}
 use Rattle.ccr_tables.specs.Contents.{Holds, new_contents}
 use Rattle.ccr_tables.specs.Schema.{no_schema}
 use Rattle.ccr_store.specs.Causes.{IsLetGo, IsUnread}
 use Rattle.ccr_store.specs.Shown.{IsTaken}
+
+-- a database was just opened, and nothing is written to it yet
+abbrev pub IsAtRest : State → Type 0
+IsAtRest s = Opens s × IsLive s
 
 -- a database was taken: one without tables has those of a new one since; of another SQLite shows the second format, and it
 -- is as it was, or the first, with a history
@@ -21,6 +25,7 @@ pub record WasTaken (old new : State) : Type 0 where
 -- history is loaded
 pub record IsUnfound {S : Type 0} (g : Ghosts S) (image : Image) (fault : StoreFault) : Type 0 where
   pub conn : Held S
+  pub opened : HasCleanDisk (state g conn) → IsAtRest (state g conn)
   pub found : HasCleanDisk (state g conn) → FindsIn image (state g conn)
   pub cause : IsLetGo g (state g conn) fault
       ⊎ ((taken : Held S) × WasTaken (state g conn) (state g taken) × IsUnread g (state g taken) fault)

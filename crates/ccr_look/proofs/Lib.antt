@@ -1,0 +1,6 @@
+pub mod Adopted
+pub mod Bytes
+pub mod Finding
+pub mod Left
+pub mod Shut
+pub mod Unfound

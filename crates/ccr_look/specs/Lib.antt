@@ -1,0 +1,5 @@
+pub mod Holding
+pub mod Left
+pub mod Looks
+pub mod Reads
+pub mod Unfound
