@@ -31,7 +31,13 @@ fn files_of(alloc: Global, copied: Copied<'_>) -> Result<Files<Memory>, StoreFau
     ensures usable { IfOk result (λ files. IsTrue (memory_is_usable files.log) × IsTrue (memory_is_usable files.db)) }
     ensures only { IfErr result (λ fault. fault ≡ NoMemory) }
 {
-    let Copied { path: _, before: _, db, log, after: _ } = copied;
+    let Copied {
+        path: _,
+        before: _,
+        db,
+        log,
+        after: _,
+    } = copied;
     let log_file = file_of(alloc, &log.bytes)?;
     drop(log);
     let db_file = file_of(alloc, &db.bytes)?;
