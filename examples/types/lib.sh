@@ -1,6 +1,6 @@
 # shellcheck shell=sh
 # What the resource types of this directory share. A program begins with
-#     . "$(dirname "$0")/../lib.sh"
+#     . "${0%"${0##*/}"}../lib.sh"
 # and then
 #   - it has a time limit: CCR_LIMIT, 15m where it isn't set. After it the program and all that it started are ended, and the status is 124;
 #   - what it prints goes to standard error, and so to the log; the reply is what it writes to descriptor 3, as `answer` does;
