@@ -5,3 +5,4 @@ pub mod Usage
 pub mod Near
 pub mod Findings
 pub mod Aborts
+pub mod Looking

@@ -41,6 +41,10 @@ as_number a = record a { parser = Some (Signed (pos 1) (pos MOST)) }
 abbrev pub as_place : Rule → Rule
 as_place a = record a { parser = Some (Signed (pos 1) (pos MOST_PLACE)) }
 
+-- the flag that asks for a look
+abbrev pub look_rule : Rule
+look_rule = flag_rule (codes "look")
+
 -- ---- commands
 -- a command with these arguments
 abbrev pub command_shape : Text → List Rule → Shape
@@ -55,7 +59,8 @@ abbrev pub resource_commands : List Shape
 resource_commands =
     command_shape (codes "set-pipeline") (value_rule (codes "FILE") ∷ [])
     ∷ command_shape (codes "check-resource") (value_rule (codes "NAME") ∷ [])
-    ∷ command_shape (codes "resource-versions") (value_rule (codes "NAME") ∷ flag_rule (codes "json") ∷ [])
+    ∷ command_shape (codes "resource-versions")
+    (value_rule (codes "NAME") ∷ flag_rule (codes "json") ∷ look_rule ∷ [])
     ∷ command_shape (codes "pin-resource") (value_rule (codes "NAME") ∷ value_rule (codes "JSON") ∷ [])
     ∷ command_shape (codes "unpin-resource") (value_rule (codes "NAME") ∷ [])
     ∷ command_shape (codes "disable-resource-version")
@@ -67,38 +72,38 @@ resource_commands =
 -- the commands for jobs and builds
 abbrev pub job_commands : List Shape
 job_commands =
-    command_shape (codes "resolve") (value_rule (codes "JOB") ∷ [])
-    ∷ command_shape (codes "problem") (value_rule (codes "JOB") ∷ [])
+    command_shape (codes "resolve") (value_rule (codes "JOB") ∷ look_rule ∷ [])
+    ∷ command_shape (codes "problem") (value_rule (codes "JOB") ∷ look_rule ∷ [])
     ∷ command_shape (codes "trigger-job") (value_rule (codes "JOB") ∷ [])
     ∷ command_shape (codes "abort-build") (value_rule (codes "JOB") ∷ as_number (value_rule (codes "N")) ∷ [])
     ∷ command_shape (codes "builds")
-    (option_rule (codes "job") ∷ as_number (option_rule (codes "count")) ∷ flag_rule (codes "json") ∷ [])
+    (option_rule (codes "job") ∷ as_number (option_rule (codes "count")) ∷ flag_rule (codes "json") ∷ look_rule ∷ [])
     ∷ command_shape (codes "run") (as_number (required_rule (codes "rounds")) ∷ [])
     ∷ []
 
 -- the commands that show the pipeline, and how its resources and jobs stand
 abbrev pub standing_commands : List Shape
 standing_commands =
-    command_shape (codes "get-pipeline") []
-    ∷ command_shape (codes "resources") (flag_rule (codes "json") ∷ [])
-    ∷ command_shape (codes "jobs") (flag_rule (codes "json") ∷ [])
-    ∷ command_shape (codes "graph") []
+    command_shape (codes "get-pipeline") (look_rule ∷ [])
+    ∷ command_shape (codes "resources") (flag_rule (codes "json") ∷ look_rule ∷ [])
+    ∷ command_shape (codes "jobs") (flag_rule (codes "json") ∷ look_rule ∷ [])
+    ∷ command_shape (codes "graph") (look_rule ∷ [])
     ∷ []
 
 -- the commands that show what builds took
 abbrev pub release_commands : List Shape
 release_commands =
     command_shape (codes "build")
-    (value_rule (codes "JOB") ∷ as_number (value_rule (codes "N")) ∷ flag_rule (codes "json") ∷ [])
+    (value_rule (codes "JOB") ∷ as_number (value_rule (codes "N")) ∷ flag_rule (codes "json") ∷ look_rule ∷ [])
     ∷ command_shape (codes "trace")
-    (value_rule (codes "NAME") ∷ value_rule (codes "JSON") ∷ flag_rule (codes "json") ∷ [])
+    (value_rule (codes "NAME") ∷ value_rule (codes "JSON") ∷ flag_rule (codes "json") ∷ look_rule ∷ [])
     ∷ []
 
 -- the commands that show what a job's next build would take: so that it can be checked, and why
 abbrev pub choice_commands : List Shape
 choice_commands =
-    command_shape (codes "certify") (value_rule (codes "JOB") ∷ as_number (extra_rule (codes "N")) ∷ [])
-    ∷ command_shape (codes "explain") (value_rule (codes "JOB") ∷ flag_rule (codes "json") ∷ [])
+    command_shape (codes "certify") (value_rule (codes "JOB") ∷ as_number (extra_rule (codes "N")) ∷ look_rule ∷ [])
+    ∷ command_shape (codes "explain") (value_rule (codes "JOB") ∷ flag_rule (codes "json") ∷ look_rule ∷ [])
     ∷ []
 
 -- ---- the line
@@ -109,6 +114,7 @@ options =
     ∷ optional_rule (codes "types") (codes "/usr/local/lib/ccr/types")
     ∷ optional_rule (codes "work") (codes "/var/tmp/ccr")
     ∷ as_number (optional_rule (codes "budget") (codes "100000"))
+    ∷ option_rule (codes "launcher")
     ∷ []
 
 -- the program, to which a command has to be given

@@ -1,7 +1,7 @@
 //! The arguments of a command line.
 ghost use Rattle.std.specs.Prelude.{◌≡◌, false};
 ghost use Rattle.clap.specs.Words.{rule_of};
-ghost use Rattle.ccr_command.specs.Usage.{value_rule, extra_rule, option_rule, required_rule, optional_rule, flag_rule, as_number, as_place};
+ghost use Rattle.ccr_command.specs.Usage.{value_rule, extra_rule, option_rule, required_rule, optional_rule, flag_rule, look_rule, as_number, as_place};
 
 use clap::{Arg, ArgAction, value_parser};
 use std::alloc::Global;
@@ -61,6 +61,18 @@ pub(crate) fn flag<'a>(alloc: Global, id: &'a str, help: &'a str) -> Arg<'a>
         .long(id)
         .action(ArgAction::SetTrue)
         .help(help)
+}
+
+/// The flag that asks for a look.
+pub(crate) fn look<'a>(alloc: Global) -> Arg<'a>
+    ensures rule { rule_of result ≡ look_rule }
+    ensures local { result.global ≡ false }
+{
+    flag(
+        alloc,
+        "look",
+        "Shows what is stored now: takes no lock, waits for nobody and changes nothing",
+    )
 }
 
 /// The same argument, of which the value is a number from 1 to 1,000,000.

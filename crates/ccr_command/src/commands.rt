@@ -1,8 +1,8 @@
 //! The commands, with their help.
 ghost use Rattle.std.specs.Prelude.{◌≡◌, ◌∷◌, [], false, IfOk, codes};
-ghost use Rattle.ccr_command.specs.Usage.{IsCommand, value_rule, required_rule, as_number};
+ghost use Rattle.ccr_command.specs.Usage.{IsCommand, value_rule, required_rule, look_rule, as_number};
 
-use crate::argument::{as_number, required, value};
+use crate::argument::{as_number, look, required, value};
 use clap::Command;
 use std::alloc::{AllocError, Global};
 
@@ -107,7 +107,7 @@ Example:
 
 /// Shows the choice for a job with its proof.
 pub(crate) fn resolve<'a>(alloc: Global) -> Result<Command<'a>, AllocError>
-    ensures { IfOk result (IsCommand (codes "resolve") (value_rule (codes "JOB") ∷ [])) }
+    ensures { IfOk result (IsCommand (codes "resolve") (value_rule (codes "JOB") ∷ look_rule ∷ [])) }
 {
     let job = value(alloc, "JOB", "The job's name");
     command(
@@ -126,12 +126,13 @@ Example:
   ccr_run --db ci.db resolve unit >unit.proof
   ccr_verify unit.problem unit.proof",
     )
-    .arg(job)
+    .arg(job)?
+    .arg(look(alloc))
 }
 
 /// Shows the problem of a job.
 pub(crate) fn problem<'a>(alloc: Global) -> Result<Command<'a>, AllocError>
-    ensures { IfOk result (IsCommand (codes "problem") (value_rule (codes "JOB") ∷ [])) }
+    ensures { IfOk result (IsCommand (codes "problem") (value_rule (codes "JOB") ∷ look_rule ∷ [])) }
 {
     let job = value(alloc, "JOB", "The job's name");
     command(
@@ -146,7 +147,8 @@ Exit statuses: 0 shown; 1 refused, because there is no pipeline or no such job; 
 Example:
   ccr_run --db ci.db problem unit >unit.problem",
     )
-    .arg(job)
+    .arg(job)?
+    .arg(look(alloc))
 }
 
 /// Triggers a job.

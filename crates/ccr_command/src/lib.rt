@@ -2,8 +2,8 @@
 //!
 //! [`command_line`] is the program's command line as `clap` reads it, with all help texts; which commands it has, with
 //! which arguments, options and defaults, stands in `specs/Usage.antt`. Of what `clap` answers, [`options_of`] gives the
-//! four options, [`abort_of`] the build that is to be aborted, and [`command_of`] the command (`specs/Options.antt`,
-//! `specs/Aborts.antt`, `specs/Commands.antt`).
+//! five options, [`abort_of`] the build that is to be aborted, [`command_of`] the command, and [`asks_look`] whether it is to be a look
+//! (`specs/Options.antt`, `specs/Aborts.antt`, `specs/Commands.antt`, `specs/Looking.antt`).
 //!
 //! A gate is what has to hold of a version before a job takes it. [`findings_of`] says of a pipeline that was read: the gate of
 //! each input of each job; each key without effect, and whether it is a key of Concourse, a misspelled key, a key of
@@ -23,6 +23,7 @@ mod finding;
 mod gate;
 mod keys;
 mod known;
+mod looking;
 mod near;
 mod never;
 mod number;
@@ -35,6 +36,7 @@ mod versions;
 pub use abort::{AbortRequest, abort_of};
 pub use command::command_of;
 pub use finding::{Finding, Findings, Kind, findings_of, is_faultless};
+pub use looking::asks_look;
 pub use near::{is_like, is_near};
 pub use options::{OptionFault, Options, options_of};
 pub use usage::command_line;

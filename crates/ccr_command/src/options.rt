@@ -1,7 +1,8 @@
 //! The options of a command line.
-ghost use Rattle.std.specs.Prelude.{◌≡◌, Ok, Err, MatchResult, option_map, option_and_then};
+ghost use Rattle.std.specs.Prelude.{◌≡◌, Ok, Err, Some, None, MatchResult, option_map, option_and_then, codes};
 ghost use Rattle.clap.specs.Words.{first_value, found_of};
-ghost use Rattle.ccr_command.specs.Options.{options_data, is_from_the_top, from_the_top, options_in};
+ghost use Rattle.ccr_command.specs.declared.options.OptionFault.TheVariants.{Launcher};
+ghost use Rattle.ccr_command.specs.Options.{options_data, is_from_the_top, from_the_top, launcher_in, options_in};
 
 use crate::number::number_of;
 use clap::ArgMatches;
@@ -18,6 +19,8 @@ pub struct Options<'a> {
     pub work: &'a str,
     /// How many nodes a proof may have, from 1 to 1,000,000.
     pub budget: u32,
+    /// The program that starts all others, if one is named. It begins with a slash.
+    pub launcher: Option<&'a str>,
 }
 
 /// Which option is absent, or out of its range.
@@ -35,6 +38,9 @@ pub enum OptionFault {
     /// The budget isn't from 1 to 1,000,000.
     #[error("--budget has to be from 1 to 1000000")]
     Budget,
+    /// The launcher doesn't begin with a slash.
+    #[error("--launcher has to begin with /")]
+    Launcher,
 }
 
 /// Whether a path begins with a slash.
@@ -64,10 +70,29 @@ fn folder_of<'a>(matches: &ArgMatches<'a>, id: &str) -> Option<&'a str>
     }
 }
 
-/// The four options of the matches.
+/// The launcher of the matches, if one is named. The error is that it doesn't begin with a slash.
+fn launcher_of<'a>(matches: &ArgMatches<'a>) -> Result<Option<&'a str>, OptionFault>
+    ensures { MatchResult result
+        (λ launcher. launcher_in (first_value (found_of matches.now) (codes "launcher"))
+        ≡ Some (option_map (λ l. l.now) launcher))
+        (λ fault. (launcher_in (first_value (found_of matches.now) (codes "launcher")) ≡ None) × (fault ≡ Launcher)) }
+{
+    match matches.get_str("launcher") {
+        Some(launcher) => {
+            if is_from_the_top(launcher) {
+                Ok(Some(launcher))
+            } else {
+                Err(OptionFault::Launcher)
+            }
+        }
+        None => Ok(None),
+    }
+}
+
+/// The five options of the matches.
 ///
-/// The error is that of the first option, in the order of [`OptionFault`], that is absent or out of its range: a folder
-/// begins with a slash, a budget is from 1 to 1,000,000.
+/// The error is that of the first option, in the order of [`OptionFault`], that is absent or out of its range: a folder and
+/// a launcher begin with a slash, a budget is from 1 to 1,000,000.
 pub fn options_of<'a>(matches: &ArgMatches<'a>) -> Result<Options<'a>, OptionFault>
     ensures { MatchResult result (λ options. options_in (found_of matches.now) ≡ Ok (options_data options))
         (λ fault. options_in (found_of matches.now) ≡ Err fault) }
@@ -79,10 +104,12 @@ pub fn options_of<'a>(matches: &ArgMatches<'a>) -> Result<Options<'a>, OptionFau
         return Err(OptionFault::Budget);
     };
     let budget = number_of(budget).ok_or(OptionFault::Budget)?;
+    let launcher = launcher_of(matches)?;
     Ok(Options {
         database,
         types,
         work,
         budget,
+        launcher,
     })
 }

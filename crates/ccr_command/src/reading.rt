@@ -1,9 +1,9 @@
 //! The commands that only read, with their help.
 ghost use Rattle.std.specs.Prelude.{◌≡◌, ◌∷◌, [], false, IfOk, codes};
 ghost use Rattle.clap.specs.Words.{rule_of};
-ghost use Rattle.ccr_command.specs.Usage.{IsCommand, value_rule, extra_rule, option_rule, flag_rule, as_number};
+ghost use Rattle.ccr_command.specs.Usage.{IsCommand, value_rule, extra_rule, option_rule, flag_rule, look_rule, as_number};
 
-use crate::argument::{as_number, extra, flag, option, value};
+use crate::argument::{as_number, extra, flag, look, option, value};
 use crate::commands::command;
 use clap::{Arg, Command};
 use std::alloc::{AllocError, Global};
@@ -19,7 +19,7 @@ fn json<'a>(alloc: Global) -> Arg<'a>
 /// Shows the versions of a resource.
 pub(crate) fn resource_versions<'a>(alloc: Global) -> Result<Command<'a>, AllocError>
     ensures { IfOk result (IsCommand (codes "resource-versions")
-        (value_rule (codes "NAME") ∷ flag_rule (codes "json") ∷ [])) }
+        (value_rule (codes "NAME") ∷ flag_rule (codes "json") ∷ look_rule ∷ [])) }
 {
     let name = value(alloc, "NAME", "The resource's name");
     command(
@@ -39,13 +39,14 @@ Examples:
   ccr_run --db ci.db resource-versions repo --json",
     )
     .arg(name)?
-    .arg(json(alloc))
+    .arg(json(alloc))?
+    .arg(look(alloc))
 }
 
 /// Shows builds.
 pub(crate) fn builds<'a>(alloc: Global) -> Result<Command<'a>, AllocError>
     ensures { IfOk result (IsCommand (codes "builds")
-        (option_rule (codes "job") ∷ as_number (option_rule (codes "count")) ∷ flag_rule (codes "json") ∷ [])) }
+        (option_rule (codes "job") ∷ as_number (option_rule (codes "count")) ∷ flag_rule (codes "json") ∷ look_rule ∷ [])) }
 {
     let job = option(alloc, "job", "JOB", "Only the builds of this job");
     let count = option(
@@ -72,12 +73,13 @@ Examples:
     )
     .arg(job)?
     .arg(as_number(count))?
-    .arg(json(alloc))
+    .arg(json(alloc))?
+    .arg(look(alloc))
 }
 
 /// Shows the pipeline as it was set.
-pub(crate) fn get_pipeline<'a>(alloc: Global) -> Command<'a>
-    ensures { IsCommand (codes "get-pipeline") [] result }
+pub(crate) fn get_pipeline<'a>(alloc: Global) -> Result<Command<'a>, AllocError>
+    ensures { IfOk result (IsCommand (codes "get-pipeline") (look_rule ∷ [])) }
 {
     command(
         alloc,
@@ -91,11 +93,12 @@ Exit statuses: 0 shown; 1 refused, because there is no pipeline; 2 usage; 4 disk
 Example:
   ccr_run --db ci.db get-pipeline >pipeline.json",
     )
+    .arg(look(alloc))
 }
 
 /// Shows the resources of the pipeline.
 pub(crate) fn resources<'a>(alloc: Global) -> Result<Command<'a>, AllocError>
-    ensures { IfOk result (IsCommand (codes "resources") (flag_rule (codes "json") ∷ [])) }
+    ensures { IfOk result (IsCommand (codes "resources") (flag_rule (codes "json") ∷ look_rule ∷ [])) }
 {
     command(
         alloc,
@@ -113,12 +116,13 @@ Exit statuses: 0 shown; 1 refused, because there is no pipeline; 2 usage; 4 disk
 Example:
   ccr_run --db ci.db resources",
     )
-    .arg(json(alloc))
+    .arg(json(alloc))?
+    .arg(look(alloc))
 }
 
 /// Shows the jobs of the pipeline.
 pub(crate) fn jobs<'a>(alloc: Global) -> Result<Command<'a>, AllocError>
-    ensures { IfOk result (IsCommand (codes "jobs") (flag_rule (codes "json") ∷ [])) }
+    ensures { IfOk result (IsCommand (codes "jobs") (flag_rule (codes "json") ∷ look_rule ∷ [])) }
 {
     command(
         alloc,
@@ -140,12 +144,13 @@ Examples:
   ccr_run --db ci.db jobs
   ccr_run --db ci.db jobs --json",
     )
-    .arg(json(alloc))
+    .arg(json(alloc))?
+    .arg(look(alloc))
 }
 
 /// Shows the pipeline as a flowchart.
-pub(crate) fn graph<'a>(alloc: Global) -> Command<'a>
-    ensures { IsCommand (codes "graph") [] result }
+pub(crate) fn graph<'a>(alloc: Global) -> Result<Command<'a>, AllocError>
+    ensures { IfOk result (IsCommand (codes "graph") (look_rule ∷ [])) }
 {
     command(
         alloc,
@@ -161,13 +166,14 @@ Exit statuses: 0 shown; 1 refused, because there is no pipeline; 2 usage; 4 disk
 Example:
   ccr_run --db ci.db graph >pipeline.mmd",
     )
+    .arg(look(alloc))
 }
 
 /// Shows a build.
 pub(crate) fn build<'a>(alloc: Global) -> Result<Command<'a>, AllocError>
     ensures { IfOk result
         (IsCommand (codes "build")
-        (value_rule (codes "JOB") ∷ as_number (value_rule (codes "N")) ∷ flag_rule (codes "json") ∷ [])) }
+        (value_rule (codes "JOB") ∷ as_number (value_rule (codes "N")) ∷ flag_rule (codes "json") ∷ look_rule ∷ [])) }
 {
     let job = value(alloc, "JOB", "The job's name");
     let number = value(alloc, "N", "The build's number, from 1 to 1000000");
@@ -190,14 +196,15 @@ Example:
     )
     .arg(job)?
     .arg(as_number(number))?
-    .arg(json(alloc))
+    .arg(json(alloc))?
+    .arg(look(alloc))
 }
 
 /// Shows where a version went.
 pub(crate) fn trace<'a>(alloc: Global) -> Result<Command<'a>, AllocError>
     ensures { IfOk result
         (IsCommand (codes "trace")
-        (value_rule (codes "NAME") ∷ value_rule (codes "JSON") ∷ flag_rule (codes "json") ∷ [])) }
+        (value_rule (codes "NAME") ∷ value_rule (codes "JSON") ∷ flag_rule (codes "json") ∷ look_rule ∷ [])) }
 {
     let name = value(alloc, "NAME", "The resource's name");
     let pin = value(alloc, "JSON", "A JSON object whose fields are all strings");
@@ -220,13 +227,14 @@ Example:
     )
     .arg(name)?
     .arg(pin)?
-    .arg(json(alloc))
+    .arg(json(alloc))?
+    .arg(look(alloc))
 }
 
 /// Shows the choice for a job in one text, or what a build of it took, for the checker.
 pub(crate) fn certify<'a>(alloc: Global) -> Result<Command<'a>, AllocError>
     ensures { IfOk result
-        (IsCommand (codes "certify") (value_rule (codes "JOB") ∷ as_number (extra_rule (codes "N")) ∷ [])) }
+        (IsCommand (codes "certify") (value_rule (codes "JOB") ∷ as_number (extra_rule (codes "N")) ∷ look_rule ∷ [])) }
 {
     let job = value(alloc, "JOB", "The job's name");
     let number = extra(
@@ -258,13 +266,14 @@ Examples:
   ccr_run --db ci.db certify deploy 42 | ccr_verify",
     )
     .arg(job)?
-    .arg(as_number(number))
+    .arg(as_number(number))?
+    .arg(look(alloc))
 }
 
 /// Shows what the next build of a job would take, and why.
 pub(crate) fn explain<'a>(alloc: Global) -> Result<Command<'a>, AllocError>
     ensures { IfOk result
-        (IsCommand (codes "explain") (value_rule (codes "JOB") ∷ flag_rule (codes "json") ∷ [])) }
+        (IsCommand (codes "explain") (value_rule (codes "JOB") ∷ flag_rule (codes "json") ∷ look_rule ∷ [])) }
 {
     let job = value(alloc, "JOB", "The job's name");
     command(
@@ -299,5 +308,6 @@ Example:
   ccr_run --db ci.db explain deploy",
     )
     .arg(job)?
-    .arg(json(alloc))
+    .arg(json(alloc))?
+    .arg(look(alloc))
 }

@@ -3,7 +3,7 @@ ghost use Rattle.std.specs.Prelude.{◌≡◌, IfOk};
 ghost use Rattle.clap.specs.Words.{app_of};
 ghost use Rattle.ccr_command.specs.Usage.{program, options_line, with_all, resource_commands, job_commands, standing_commands, release_commands, choice_commands, line};
 
-use crate::argument::{as_number, optional, required};
+use crate::argument::{as_number, option, optional, required};
 use crate::commands::{
     abort_build, check_resource, pin_resource, problem, resolve, run, set_pipeline, trigger_job,
     unpin_resource,
@@ -23,6 +23,8 @@ const MORE: &str = "\
 Exit statuses: 0 done, 1 refused, 2 usage, 3 over the budget, 4 disk or memory.
 What happens is printed on standard output, line by line; a refusal goes to standard error.
 `ccr_run validate-pipeline FILE [--strict]` reads a pipeline without a database, and says what each input has to have passed.
+A command that only shows takes --look. It shows what is stored now, also while another ccr_run has the database open, and changes
+nothing; a build that runs is shown as running. It reads FILE and, beside it, FILE-wal: without that, a copy of FILE is older.
 
 Example:
   ccr_run --db ci.db set-pipeline pipeline.json
@@ -70,11 +72,18 @@ fn with_options<'a>(alloc: Global) -> Result<Command<'a>, AllocError>
         "100000",
         "The most nodes that the proof of a choice may have, from 1 to 1000000",
     );
+    let launcher = option(
+        alloc,
+        "launcher",
+        "PROGRAM",
+        "A program that starts all others, each with words that say which it is; begins with /",
+    );
     program(alloc)
         .arg(database)?
         .arg(types)?
         .arg(work)?
-        .arg(as_number(budget))
+        .arg(as_number(budget))?
+        .arg(launcher)
 }
 
 /// The same with the commands for the pipeline and its resources.
@@ -106,10 +115,10 @@ fn with_job_commands<'a>(alloc: Global, line: Command<'a>) -> Result<Command<'a>
 fn with_standing_commands<'a>(alloc: Global, line: Command<'a>) -> Result<Command<'a>, AllocError>
     ensures { IfOk result (λ made. app_of made ≡ with_all (app_of line.entry) standing_commands) }
 {
-    let line = line.subcommand(get_pipeline(alloc))?;
+    let line = line.subcommand(get_pipeline(alloc)?)?;
     let line = line.subcommand(resources(alloc)?)?;
     let line = line.subcommand(jobs(alloc)?)?;
-    line.subcommand(graph(alloc))
+    line.subcommand(graph(alloc)?)
 }
 
 /// The same with the commands that show what builds took.
@@ -128,8 +137,8 @@ fn with_choice_commands<'a>(alloc: Global, line: Command<'a>) -> Result<Command<
     line.subcommand(explain(alloc)?)
 }
 
-/// The program's command line: `ccr_run --db FILE [--types DIR] [--work DIR] [--budget N] COMMAND`, with the help of the
-/// program and of each of its twenty-one commands.
+/// The program's command line: `ccr_run --db FILE [--types DIR] [--work DIR] [--budget N] [--launcher PROGRAM] COMMAND`,
+/// with the help of the program and of each of its twenty-one commands.
 ///
 /// The only error is out of memory.
 pub fn command_line<'a>(alloc: Global) -> Result<Command<'a>, AllocError>

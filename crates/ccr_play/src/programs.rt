@@ -11,7 +11,7 @@ mod whole;
 
 use anyhow::{Result, anyhow};
 use ccr_history::{Object, Version};
-use ccr_rows::{Player, split, version_of};
+use ccr_rows::{Player, places, places_by_launcher, split, version_of};
 use serde_json::Value;
 use std::alloc::{AllocError, Global};
 
@@ -27,7 +27,8 @@ fn answered(alloc: Global, kind: &str, given: &str) -> Result<String> {
         "reply-line" => replies::read_line(alloc, given),
         "reply-cut" => replies::cut(alloc, given.as_bytes()),
         "reply-spoilt" => replies::spoilt(alloc, given.as_bytes()),
-        "launch" => launches::launched(alloc, given),
+        "launch" => launches::launched(alloc, &places(alloc)?, given),
+        "launcher" => launches::launched(alloc, &places_by_launcher(alloc)?, given),
         "in-build" => launches::in_build(alloc, given),
         "end" => launches::ended(alloc, given),
         "task-file" => launches::task_file(alloc, given),

@@ -11,7 +11,15 @@ pub fn places(alloc: Global) -> Result<Places, AllocError> {
     Ok(Places {
         types: String::from_str(alloc, "/t")?,
         work: String::from_str(alloc, "/w")?,
+        launcher: None,
     })
+}
+
+/// The same, with the launcher `/l`.
+pub fn places_by_launcher(alloc: Global) -> Result<Places, AllocError> {
+    let mut places = places(alloc)?;
+    places.launcher = Some(String::from_str(alloc, "/l")?);
+    Ok(places)
 }
 
 /// A status and an output, with a blank or a colon between.

@@ -255,7 +255,12 @@ fn an_abort_is_asked_by_a_folder_beside_the_build(rt: HostRuntime) -> Result<(),
     let work = own_path(&rt, "asked")?;
     let asked = format!(in alloc; "{work}/j/abort-1")?;
     let types = String::from_str(alloc, "/t")?;
-    abort_is_asked(&rt, alloc, &Places { types, work }, asked.as_str())
+    let places = Places {
+        types,
+        work,
+        launcher: None,
+    };
+    abort_is_asked(&rt, alloc, &places, asked.as_str())
 }
 
 #[test]

@@ -124,6 +124,7 @@ fn world_in<'a, R: Processes + Drop>(
         places: Places {
             types: String::from_str(alloc, top)?,
             work: String::from_str(alloc, top)?,
+            launcher: None,
         },
         pipeline: pipeline(alloc, 65_600)?,
         machine: Machine::new(rt, alloc),

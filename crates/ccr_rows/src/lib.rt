@@ -61,7 +61,7 @@ mod words;
 pub use accepted::resolved;
 pub use answer::answered_of;
 pub use ask::ask_value;
-pub use ends::{end_of, ends_of, fault_of, places, sights_of};
+pub use ends::{end_of, ends_of, fault_of, places, places_by_launcher, sights_of};
 pub use fault::LineFault;
 pub use files::{Kind, check};
 pub use history_text::text_of;

@@ -1,6 +1,5 @@
 pub mod Asking
-pub mod Finding
 pub mod Kept
+pub mod Looking
 pub mod Ordering
 pub mod Serving
-pub mod Unfound

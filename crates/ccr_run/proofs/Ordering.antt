@@ -1,19 +1,27 @@
 -- What words order, and its budget.
-use Rattle.std.proofs.Common.{◌≡◌, ◌≢◌, ◌⊎◌, inl, inr, ◌∙◌, ◌≤◌, ◌&&◌, ℕ, List, Bool, true, false, Option, Some, None, Result, Ok, Err, ap, sym, refl, subst, if◌then◌else◌, nat_le, option_map, option_and_then, codes}
+use Rattle.std.proofs.Common.{◌≡◌, ◌≢◌, ◌⊎◌, inl, inr, ◌∙◌, ◌≤◌, ◌&&◌, ℕ, List, Bool, true, false, Option, Some, None, Result, Ok, Err, ap, ap₂, sym, refl, subst, if◌then◌else◌, nat_le, option_map, option_and_then, codes}
 use Rattle.std.proofs.lemmas.Bool.{and_parts, leb-true}
 use Rattle.std.specs.Str.Parse.{digits_value, without_leading_plus}
 use Rattle.clap.specs.declared.parser.matches.Found.{Found}
 use Rattle.clap.specs.declared.error.Error.{Error as LineError}
 use Rattle.clap.specs.declared.error.kind.ErrorKind.TheVariants.{OutOfMemory}
 use Rattle.clap.specs.Values.{kind_of}
-use Rattle.clap.specs.Words.{App, Text, first_value, takes}
+use Rattle.clap.specs.declared.parser.matches.ArgMatches.{ArgMatches}
+use Rattle.clap.specs.Words.{App, HasMatchesOf, Text, first_value, found_of, takes}
+use Rattle.ccr_core.specs.Commands.{command_data}
+use Rattle.ccr_core.specs.declared.command.Command.{Command as CommandValue}
+use Rattle.ccr_command.specs.Commands.{command_in}
+use Rattle.ccr_command.specs.Looking.{asks_look, look_by, look_in}
+use Rattle.ccr_command.specs.declared.options.Options.{Options}
 use Rattle.ccr_command.specs.declared.options.OptionFault.{OptionFault}
 use Rattle.ccr_command.specs.Numbers.{MOST, in_range, is_numeral, numeral_of, number_of}
-use Rattle.ccr_command.specs.Options.{OptionsData, given_or, from_the_top, options_in}
+use Rattle.ccr_command.specs.Options.{OptionsData, given_or, from_the_top, launcher_in, options_data, options_in}
 use Rattle.ccr_command.specs.Usage.{line}
 use Rattle.ccr_run.specs.declared.order.Misuse.{Misuse}
 use Rattle.ccr_run.specs.declared.order.Misuse.TheVariants.{Line, NoMemory}
-use Rattle.ccr_run.specs.Orders.{IsMisused}
+use Rattle.ccr_run.specs.declared.order.Ordered.{Ordered}
+use Rattle.ccr_run.specs.declared.order.Ordered.TheVariants as ordered
+use Rattle.ccr_run.specs.Orders.{Becomes, IsMisused, Orders, budget_of}
 
 -- what was named
 pub some_named : {A B : Type 0} (f : A → B) (field : Option A) (a : A) (named : Option B)
@@ -83,5 +91,33 @@ budget_ranged found o h =
     let types = given _ (option_and_then from_the_top (first_value found (codes "types"))) _ o database.2 in
     let work = given _ (option_and_then from_the_top (first_value found (codes "work"))) _ o types.2 in
     let budget = given _ (option_and_then number_of (first_value found (codes "budget"))) _ o work.2 in
-    subst (λ (b : ℕ). In b) (ap (λ r. (ok_or r o).budget) budget.2)
+    let launcher = given _ (launcher_in (first_value found (codes "launcher"))) _ o budget.2 in
+    subst (λ (b : ℕ). In b) (ap (λ r. (ok_or r o).budget) launcher.2)
     (read_ranged (first_value found (codes "budget")) budget.0 budget.1)
+
+-- what is looked at, by the command and by whether a look was asked for
+same_look : (m : ArgMatches) (command : CommandValue) (asks : Bool) → command_in m ≡ Some (command_data command) → asks ≡ asks_look m
+    → look_in m ≡ look_by asks (Some (command_data command))
+same_look m command asks named is = ap₂ look_by (sym is) named
+
+-- what a command becomes is what the words order
+pub becomes_ordered : (words : List Text) (options : Options) (command : CommandValue) (m : ArgMatches) (asks : Bool) (r : Ordered)
+    → HasMatchesOf line words m → options_in (found_of m) ≡ Ok (options_data options) → command_in m ≡ Some (command_data command)
+    → asks ≡ asks_look m → Becomes options command asks r → Orders words r
+becomes_ordered words options command m asks (ordered.Command order) matches given named is it = (
+  m,
+  matches,
+  given ∙ ap (λ (o : Options). Ok (options_data o)) (sym it.0),
+  named ∙ ap (λ (c : CommandValue). Some (command_data c)) (sym it.1),
+  same_look m command asks named is ∙ it.2,
+)
+becomes_ordered words options command m asks (ordered.Look order) matches given named is it =
+    (m, matches, given ∙ ap (λ (o : Options). Ok (options_data o)) (sym it.0), same_look m command asks named is ∙ it.1)
+becomes_ordered words options command m asks (ordered.Abort order) matches given named is it = absurd it
+
+-- and has the same budget
+pub becomes_budget : (options : Options) (command : CommandValue) (asks : Bool) (r : Ordered) → Becomes options command asks r
+    → budget_of r ≡ options.budget
+becomes_budget options command asks (ordered.Command order) it = ap (λ (o : Options). o.budget) it.0
+becomes_budget options command asks (ordered.Look order) it = ap (λ (o : Options). o.budget) it.0
+becomes_budget options command asks (ordered.Abort order) it = absurd it

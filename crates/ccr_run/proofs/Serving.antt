@@ -1,5 +1,5 @@
 -- What came of an order, from what its parts say.
-use Rattle.std.proofs.Common.{◌≡◌, refl, ◌∙◌, inl, inr, ℕ, List, [], Bool, not, Option, Some, Result, Err, ap, subst, string_bytes}
+use Rattle.std.proofs.Common.{◌≡◌, refl, ◌∙◌, inl, inr, ℕ, List, [], Bool, not, Option, Some, option_map, Result, Err, ap, subst, string_bytes}
 use Rattle.ccr_history.specs.Text.{Text}
 use Rattle.ccr_history.specs.History.{HistoryData}
 use Rattle.ccr_process.specs.Runs.{Pair}
@@ -14,6 +14,7 @@ use Rattle.ccr_serve.specs.Commanding.{CameOf}
 use Rattle.ccr_core.specs.Commands.{command_data}
 use Rattle.ccr_serve.specs.Views.{view_of}
 use Rattle.ccr_run.specs.declared.failure.Failure.{Failure}
+use Rattle.ccr_run.specs.declared.order.LookOrder.{LookOrder}
 use Rattle.ccr_run.specs.declared.order.Order.{Order}
 use Rattle.ccr_run.specs.declared.run.Outcome.{Outcome}
 use Rattle.ccr_run.specs.Obeyed.{Obeyed}
@@ -21,15 +22,18 @@ use Rattle.ccr_run.specs.Orders.{IsOrdered}
 use Rattle.ccr_run.specs.Served.{Did, Served, HasAsked, KeepsFromServing, Begins, handed_on, places_in}
 use Rattle.ccr_run.specs.Statuses.{exit_status_of}
 
-abbrev folders : Text → Text → PlacesData
-folders types work = record { types = types; work = work }
+abbrev folders : Text → Text → Option Text → PlacesData
+folders types work launcher = record { types = types; work = work; launcher = launcher }
 
--- the folders that were made are those of the options
+-- the folders that were made are those of the options, and so is the launcher
 pub same_places : (order : Order) (p : Places) → string_bytes p.types ≡ order.options.types.now
-    → string_bytes p.work ≡ order.options.work.now → places_data p ≡ places_in order
-same_places order p types work =
-    ap (λ (t : Text). folders t (string_bytes p.work)) types
-    ∙ ap (λ (w : Text). folders order.options.types.now w) work
+    → string_bytes p.work ≡ order.options.work.now
+    → option_map string_bytes p.launcher ≡ option_map (λ l. l.now) order.options.launcher
+    → places_data p ≡ places_in order
+same_places order p types work launcher =
+    ap (λ (t : Text). folders t (string_bytes p.work) (option_map string_bytes p.launcher)) types
+    ∙ (ap (λ (w : Text). folders order.options.types.now w (option_map string_bytes p.launcher)) work
+    ∙ ap (λ (l : Option Text). folders order.options.types.now order.options.work.now l) launcher)
 
 -- a server did the command, whose folders are those of the options
 pub did : {R S T : Type 0} (pairs : R → List Pair) (calls : S → List CallData) (holds : T → HistoryData → Type 0)
@@ -95,9 +99,9 @@ unserved pairs calls holds leaves tally begins_with unfound order asked failure 
 -- what was ordered is done
 pub done : {R S T : Type 0} (pairs : R → List Pair) (calls : S → List CallData) (holds : T → HistoryData → Type 0)
     (leaves : T → List HistoryData → Type 0) (tally : T → Tally) (begins_with : T → HistoryData → Type 0) (unfound : StoreFault → Type 0)
-    (words : List Text) (asked : Option Text) (old new : Text) (failed : Bool) (status : ℕ) (order : Order) (outcome : Outcome)
+    (looked : LookOrder → Result ℕ Failure → Text → Text → Type 0) (words : List Text) (asked : Option Text) (old new : Text) (failed : Bool) (status : ℕ) (order : Order) (outcome : Outcome)
     → IsOrdered words order → Served pairs calls holds leaves tally begins_with unfound order asked outcome.end old new
     → outcome.is_printed ≡ not failed → status ≡ exit_status_of outcome
-    → Obeyed pairs calls holds leaves tally begins_with unfound words asked old new failed status
-done pairs calls holds leaves tally begins_with unfound words asked old new failed status order outcome ordered served printed is =
+    → Obeyed pairs calls holds leaves tally begins_with unfound looked words asked old new failed status
+done pairs calls holds leaves tally begins_with unfound looked words asked old new failed status order outcome ordered served printed is =
     inl (record { order = order; ordered = ordered; outcome = outcome; served = served; printed = printed; status_is = is })

@@ -1,5 +1,5 @@
 -- What comes of it that a build is asked to be aborted.
-use Rattle.std.specs.Prelude.{◌≡◌, ℕ, List, [], ◌∷◌, Bool, true, false, Result, Ok, Err, codes}
+use Rattle.std.specs.Prelude.{◌≡◌, ℕ, List, [], ◌∷◌, Bool, true, false, option_map, Result, Ok, Err, codes}
 use Rattle.ccr_history.specs.Text.{Text}
 use Rattle.ccr_pipeline.specs.Kinds.{is_name}
 use Rattle.ccr_task.specs.Calls.{CallData, making, Does}
@@ -19,9 +19,13 @@ refusal_of NoJob = refused (codes "no such job")
 refusal_of NotWritten = broken (codes "file: cannot write")
 refusal_of NoMemory = broken (codes "out of memory")
 
--- the server's folders are those of the options
+-- the server's folders are those of the options, and so is its launcher
 abbrev pub places_in : AbortOrder → PlacesData
-places_in order = record { types = order.options.types.now; work = order.options.work.now }
+places_in order = record {
+  types = order.options.types.now;
+  work = order.options.work.now;
+  launcher = option_map (λ l. l.now) order.options.launcher;
+}
 
 -- the folder that asks for the abort was made, which was answered so
 abbrev pub IsWritten : AbortOrder → List CallData → Result Unit ShelfFault → List CallData → Type 0

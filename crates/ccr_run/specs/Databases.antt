@@ -9,7 +9,7 @@ use Rattle.ccr_history.specs.History.{HistoryData}
 use Rattle.ccr_history.specs.declared.tally.Tally.{Tally}
 use Rattle.ccr_store.specs.Crash.{Leaves}
 use Rattle.ccr_store.specs.StoreData.{IsKept}
-use Rattle.ccr_run.specs.Opening.{HoldsHistory, AreOurs}
+use Rattle.ccr_look.specs.Holding.{HoldsHistory, AreOurs}
 use Rattle.ccr_run.specs.declared.database.Database.{Database}
 
 module _ {D : Type 0} {g : Ghosts D} where

@@ -1,13 +1,16 @@
 -- What to do about how a command ended, where that helps.
 use Rattle.std.specs.Prelude.{ℕ, Option, Some, None, Result, Ok, Err, codes, nat_eq, if◌then◌else◌}
 use Rattle.ccr_history.specs.Text.{Text}
+use Rattle.ccr_history.specs.declared.store_fault.StoreFault.{StoreFault}
 use Rattle.ccr_history.specs.declared.store_fault.StoreFault.TheVariants as store
 use Rattle.ccr_pipeline.specs.declared.fault.ReadFault.TheVariants.{NotJson}
 use Rattle.ccr_core.specs.declared.fault.CoreFault.TheVariants.{NoPipeline, NoJob, NoResource, NoVersion}
 use Rattle.ccr_serve.specs.declared.fault.ServeFault.{ServeFault}
 use Rattle.ccr_serve.specs.declared.fault.ServeFault.TheVariants.{Core, Store, Read, File, BadPin, NoMemory, TurnsUsedUp}
 use Rattle.ccr_run.specs.declared.failure.Failure.{Failure}
-use Rattle.ccr_run.specs.declared.failure.Failure.TheVariants.{Locked, Refused}
+use Rattle.ccr_look.specs.declared.fault.CopyFault.{CopyFault}
+use Rattle.ccr_look.specs.declared.fault.CopyFault.TheVariants as copy
+use Rattle.ccr_run.specs.declared.failure.Failure.TheVariants.{Locked, Refused, Unread, Unfound}
 
 -- about a name that the pipeline hasn't
 abbrev pub named_wrong : Text
@@ -16,6 +19,10 @@ named_wrong = codes "names are those of the pipeline that was set last"
 -- about a database that can't be opened, read or written
 abbrev pub disk_failed : Text
 disk_failed = codes "is the disk full or read-only? may you write the file and its directory? what was printed is kept"
+
+-- about a file that is no database of this program
+abbrev pub not_ours : Text
+not_ours = codes "the file isn't a database of ccr_run in format 1 or 2; name another one, or use a newer ccr_run"
 
 -- about being out of memory, the server or its database
 abbrev pub out_of_memory : Text
@@ -30,13 +37,31 @@ of_server (Core NoVersion) = Some (codes "resource-versions NAME shows which pla
 of_server (Read (NotJson path)) = Some (codes "YAML isn't read; fly get-pipeline --json prints a pipeline as JSON")
 of_server (Read fault) = Some (codes "docs/FORMATS.md describes the format of a pipeline")
 of_server BadPin = Some (codes "a pin is a JSON object of texts, as {\"ref\":\"61cbef\"}")
-of_server (Store store.NotOurs) = Some (codes "the file isn't a database of ccr_run in format 1 or 2; name another one, or use a newer ccr_run")
+of_server (Store store.NotOurs) = Some not_ours
 of_server (Store store.Disk) = Some disk_failed
 of_server (Store store.NoMemory) = Some out_of_memory
 of_server File = Some (codes "is the file there, and may you read it?")
 of_server NoMemory = Some out_of_memory
 of_server TurnsUsedUp = Some (codes "the next command ends the builds that still run as errored")
 of_server fault = None
+
+-- about there being no database to look at
+abbrev pub of_copy : CopyFault → Text
+of_copy copy.NoFile = codes "a look makes no database: is --db right? a command without --look makes one"
+of_copy copy.OnlyLog = codes "what was written last is in the file beside it that ends in -wal: bring back the file that belongs to it, or a copy"
+of_copy copy.Empty = codes "a command without --look makes a database of it; if a copy is being put there, look again when it is whole"
+of_copy copy.NotAFile = codes "--db names a file; what is beside it and ends in -wal or -journal is a file too"
+of_copy copy.Journal = codes "another program was writing the database and has not ended it: open it once with sqlite3, which takes that back"
+of_copy copy.Restless = codes "it changed at each of 100 tries; look again"
+of_copy copy.Unread = codes "may you read the file, the one beside it that ends in -wal, and their directory?"
+of_copy copy.NoMemory = out_of_memory
+
+-- about a look that finds no history
+abbrev pub of_bytes : StoreFault → Option Text
+of_bytes store.Disk = Some (codes "what was read is damaged, or a part of it is missing: the file beside it that ends in -wal belongs to it")
+of_bytes store.NotOurs = Some not_ours
+of_bytes store.NoMemory = Some out_of_memory
+of_bytes fault = None
 
 -- about a status of a command: 3 is over the budget
 abbrev pub of_status : ℕ → Option Text
@@ -47,3 +72,5 @@ abbrev pub hint_of : Result ℕ Failure → Option Text
 hint_of (Ok status) = of_status status
 hint_of (Err Locked) = Some (codes "another program has the database open; try again when it has ended (examples/operating/ccr waits for it)")
 hint_of (Err (Refused fault)) = of_server fault
+hint_of (Err (Unread fault)) = Some (of_copy fault)
+hint_of (Err (Unfound fault)) = of_bytes fault

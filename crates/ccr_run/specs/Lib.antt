@@ -3,10 +3,10 @@ pub mod Aborting
 pub mod Databases
 pub mod Explained
 pub mod Hints
+pub mod Looked
 pub mod Obeyed
 pub mod Opening
 pub mod Orders
 pub mod Refusals
 pub mod Served
-pub mod Unfound
 pub mod Statuses

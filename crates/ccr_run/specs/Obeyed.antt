@@ -1,16 +1,18 @@
 -- The status that words come to.
-use Rattle.std.specs.Prelude.{◌≡◌, ◌⊎◌, ℕ, List, Bool, not, Option, None}
+use Rattle.std.specs.Prelude.{◌≡◌, ◌⊎◌, ℕ, List, Bool, not, Option, None, Result}
 use Rattle.ccr_history.specs.Text.{Text}
 use Rattle.ccr_history.specs.History.{HistoryData}
 use Rattle.ccr_process.specs.Runs.{Pair}
 use Rattle.ccr_history.specs.declared.store_fault.StoreFault.{StoreFault}
 use Rattle.ccr_history.specs.declared.tally.Tally.{Tally}
 use Rattle.ccr_task.specs.Calls.{CallData}
+use Rattle.ccr_run.specs.declared.failure.Failure.{Failure}
+use Rattle.ccr_run.specs.declared.order.LookOrder.{LookOrder}
 use Rattle.ccr_run.specs.declared.order.Misuse.{Misuse}
 use Rattle.ccr_run.specs.declared.order.Order.{Order}
 use Rattle.ccr_run.specs.declared.run.Outcome.{Outcome}
 use Rattle.ccr_run.specs.Aborting.{AbortAsked}
-use Rattle.ccr_run.specs.Orders.{IsOrdered, IsMisused}
+use Rattle.ccr_run.specs.Orders.{IsOrdered, IsLookOrdered, IsMisused}
 use Rattle.ccr_run.specs.Served.{Served}
 use Rattle.ccr_run.specs.Statuses.{exit_status_of, misuse_status}
 
@@ -45,11 +47,23 @@ pub record IsAbort (words : List Text) (asked : Option Text) (old new : Text) (s
   pub unasked : asked ≡ None
   pub unprinted : new ≡ old
 
--- THE STATUS THAT WORDS COME TO, with the database that was opened and the lines that were printed: that of the command or
--- the abort that they order, or of why they order nothing
+-- the words order a look: no database is opened, and what came of it has this status; the outcome says whether a write failed
+pub record IsLooked (looked : LookOrder → Result ℕ Failure → Text → Text → Type 0) (words : List Text) (asked : Option Text)
+    (old new : Text) (failed : Bool) (status : ℕ) : Type 0 where
+  pub order : LookOrder
+  pub ordered : IsLookOrdered words order
+  pub outcome : Outcome
+  pub looked : looked order outcome.end old new
+  pub unasked : asked ≡ None
+  pub printed : outcome.is_printed ≡ not failed
+  pub status_is : status ≡ exit_status_of outcome
+
+-- THE STATUS THAT WORDS COME TO, with the database that was opened and the lines that were printed: that of the command, the
+-- look or the abort that they order, or of why they order nothing
 abbrev pub Obeyed : {R S T : Type 0} → (R → List Pair) → (S → List CallData) → (T → HistoryData → Type 0)
-    → (T → List HistoryData → Type 0) → (T → Tally) → (T → HistoryData → Type 0) → (StoreFault → Type 0) → List Text → Option Text → Text
-    → Text → Bool → ℕ → Type 0
-Obeyed pairs calls holds leaves tally begins_with unfound words asked old new failed status =
+    → (T → List HistoryData → Type 0) → (T → Tally) → (T → HistoryData → Type 0) → (StoreFault → Type 0)
+    → (LookOrder → Result ℕ Failure → Text → Text → Type 0) → List Text → Option Text → Text → Text → Bool → ℕ → Type 0
+Obeyed pairs calls holds leaves tally begins_with unfound looked words asked old new failed status =
     IsDone pairs calls holds leaves tally begins_with unfound words asked old new failed status
-    ⊎ (IsAbort words asked old new status ⊎ IsMisuse words asked old new status)
+    ⊎ (IsAbort words asked old new status
+    ⊎ (IsLooked looked words asked old new failed status ⊎ IsMisuse words asked old new status))

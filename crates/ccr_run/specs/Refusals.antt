@@ -10,7 +10,9 @@ use Rattle.ccr_core.specs.declared.fault.CoreFault.TheVariants as core_fault
 use Rattle.ccr_serve.specs.declared.fault.ServeFault.{ServeFault}
 use Rattle.ccr_serve.specs.declared.fault.ServeFault.TheVariants.{Core, Store, Read, File, BadPin, NoMemory, Closed, TurnsUsedUp}
 use Rattle.ccr_run.specs.declared.failure.Failure.{Failure}
-use Rattle.ccr_run.specs.declared.failure.Failure.TheVariants.{Locked, Refused}
+use Rattle.ccr_look.specs.declared.fault.CopyFault.{CopyFault}
+use Rattle.ccr_look.specs.declared.fault.CopyFault.TheVariants as copy
+use Rattle.ccr_run.specs.declared.failure.Failure.TheVariants.{Locked, Refused, Unread, Unfound}
 use Rattle.ccr_run.specs.declared.refusal.Refusal.{Refusal}
 
 -- the words of a refusal, a path in the pipeline's text, and the status
@@ -95,7 +97,20 @@ of_server NoMemory = broken (codes "out of memory")
 of_server Closed = broken (codes "closed")
 of_server TurnsUsedUp = refused (codes "turns used up")
 
+-- there is no database to look at
+abbrev pub of_copy : CopyFault → RefusalData
+of_copy copy.NoFile = broken (codes "database: no such file")
+of_copy copy.OnlyLog = broken (codes "database: only its log is there")
+of_copy copy.Empty = broken (codes "database: empty file")
+of_copy copy.NotAFile = broken (codes "database: not a file")
+of_copy copy.Journal = broken (codes "database: a journal is beside it")
+of_copy copy.Restless = broken (codes "database: changes all the time")
+of_copy copy.Unread = broken (codes "database: cannot read")
+of_copy copy.NoMemory = broken (codes "out of memory")
+
 -- HOW A FAILURE READS; a database that another program has open is a fault of the disk
 abbrev pub refusal_of : Failure → RefusalData
 refusal_of Locked = of_store store.Disk
 refusal_of (Refused fault) = of_server fault
+refusal_of (Unread fault) = of_copy fault
+refusal_of (Unfound fault) = of_store fault

@@ -1,5 +1,5 @@
 -- What came of an order.
-use Rattle.std.specs.Prelude.{◌≡◌, ◌⊎◌, ℕ, List, [], Option, Some, None, Result, Ok, Err, IsTrue}
+use Rattle.std.specs.Prelude.{◌≡◌, ◌⊎◌, ℕ, List, [], Option, Some, None, option_map, Result, Ok, Err, IsTrue}
 use Rattle.sqlite.specs.declared.error.Error.{Error}
 use Rattle.sqlite.specs.Opening.{is_open_error}
 use Rattle.ccr_history.specs.Text.{Text}
@@ -22,9 +22,13 @@ use Rattle.ccr_run.specs.declared.failure.Failure.TheVariants.{Refused}
 use Rattle.ccr_run.specs.declared.order.Order.{Order}
 use Rattle.ccr_run.specs.Opening.{failure_of}
 
--- the server's folders are those of the options
+-- the server's folders are those of the options, and so is its launcher
 abbrev pub places_in : Order → PlacesData
-places_in order = record { types = order.options.types.now; work = order.options.work.now }
+places_in order = record {
+  types = order.options.types.now;
+  work = order.options.work.now;
+  launcher = option_map (λ l. l.now) order.options.launcher;
+}
 
 -- ---- why no server is made
 -- SQLite answered so to the open

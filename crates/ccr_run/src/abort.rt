@@ -45,7 +45,8 @@ fn ask<S: Shelf>(alloc: Global, shelf: &mut S, order: &AbortOrder<'_>) -> Result
     if !is_name(build.job) {
         return Err(AbortFault::NoJob);
     }
-    let Ok(places) = places_of(alloc, order.options.types, order.options.work) else {
+    let options = order.options;
+    let Ok(places) = places_of(alloc, options.types, options.work, options.launcher) else {
         return Err(AbortFault::NoMemory);
     };
     match ask_abort(alloc, shelf, &places, build.job, build.number) {

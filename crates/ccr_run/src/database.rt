@@ -13,7 +13,7 @@ ghost use Rattle.ccr_store.specs.Crash.{Leaves};
 ghost use Rattle.ccr_store.specs.Rows.{rows_of};
 ghost use Rattle.ccr_store.specs.StoreData.{IsKept};
 ghost use Rattle.ccr_run.specs.Databases.{holds, leaves, begins_with};
-ghost use Rattle.ccr_run.specs.Unfound.{IsUnfound};
+ghost use Rattle.ccr_look.specs.Unfound.{IsUnfound};
 
 use ccr_history::{Edit, History, Storage};
 use ccr_store::{Store, StoreFault};

@@ -1,8 +1,9 @@
 //! Why a command has no status.
 ghost use Rattle.std.specs.Prelude.{◌≡◌};
-ghost use Rattle.ccr_run.specs.declared.failure.Failure.TheVariants.{Refused};
+ghost use Rattle.ccr_run.specs.declared.failure.Failure.TheVariants.{Refused, Unread};
 ghost use Rattle.ccr_serve.specs.declared.fault.ServeFault.TheVariants.{Store};
 
+use ccr_look::CopyFault;
 use ccr_serve::ServeFault;
 use ccr_store::StoreFault;
 
@@ -13,6 +14,10 @@ pub enum Failure {
     Locked,
     /// The database isn't opened, or the server ends the command early.
     Refused(ServeFault),
+    /// There is no database to look at, or it can't be read.
+    Unread(CopyFault),
+    /// A look finds no history in what was read.
+    Unfound(StoreFault),
 }
 
 impl From<ServeFault> for Failure {
@@ -28,5 +33,13 @@ impl From<StoreFault> for Failure {
 
     fn from(fault: StoreFault) -> Failure {
         Failure::Refused(ServeFault::Store(fault))
+    }
+}
+
+impl From<CopyFault> for Failure {
+    ghost from_gives = { λ fault failure. failure ≡ Unread fault };
+
+    fn from(fault: CopyFault) -> Failure {
+        Failure::Unread(fault)
     }
 }

@@ -4,6 +4,7 @@ ghost use Rattle.ccr_run.specs.Hints as spec;
 
 use crate::failure::Failure;
 use ccr_core::CoreFault;
+use ccr_look::CopyFault;
 use ccr_pipeline::ReadFault;
 use ccr_serve::ServeFault;
 use ccr_store::StoreFault;
@@ -44,6 +45,50 @@ fn of_server(fault: &ServeFault) -> Option<&'static str>
     }
 }
 
+/// What to do where there is no database to look at.
+fn of_copy(fault: CopyFault) -> &'static str
+    ensures { result.now ≡ spec.of_copy fault }
+{
+    match fault {
+        CopyFault::NoFile => {
+            "a look makes no database: is --db right? a command without --look makes one"
+        }
+        CopyFault::OnlyLog => {
+            "what was written last is in the file beside it that ends in -wal: bring back the file that belongs to it, or a copy"
+        }
+        CopyFault::Empty => {
+            "a command without --look makes a database of it; if a copy is being put there, look again when it is whole"
+        }
+        CopyFault::NotAFile => {
+            "--db names a file; what is beside it and ends in -wal or -journal is a file too"
+        }
+        CopyFault::Journal => {
+            "another program was writing the database and has not ended it: open it once with sqlite3, which takes that back"
+        }
+        CopyFault::Restless => { "it changed at each of 100 tries; look again" }
+        CopyFault::Unread => {
+            "may you read the file, the one beside it that ends in -wal, and their directory?"
+        }
+        CopyFault::NoMemory => "what was printed is kept; try again with more memory",
+    }
+}
+
+/// What to do where a look finds no history, where that helps.
+fn of_bytes(fault: StoreFault) -> Option<&'static str>
+    ensures { option_map (λ hint. hint.now) result ≡ spec.of_bytes fault }
+{
+    match fault {
+        StoreFault::Disk => Some(
+            "what was read is damaged, or a part of it is missing: the file beside it that ends in -wal belongs to it",
+        ),
+        StoreFault::NotOurs => Some(
+            "the file isn't a database of ccr_run in format 1 or 2; name another one, or use a newer ccr_run",
+        ),
+        StoreFault::NoMemory => Some("what was printed is kept; try again with more memory"),
+        _ => None,
+    }
+}
+
 /// What to do about a status of a command, where that helps.
 fn of_status(status: u8) -> Option<&'static str>
     ensures { option_map (λ hint. hint.now) result ≡ spec.of_status status }
@@ -65,5 +110,7 @@ pub fn hint_of(end: &Result<u8, Failure>) -> Option<&'static str>
             "another program has the database open; try again when it has ended (examples/operating/ccr waits for it)",
         ),
         Err(Failure::Refused(fault)) => of_server(fault),
+        Err(Failure::Unread(fault)) => Some(of_copy(*fault)),
+        Err(Failure::Unfound(fault)) => of_bytes(*fault),
     }
 }

@@ -3,7 +3,7 @@
 //! It reads its words, opens the database, has a server do the command, and ends with the status of that. Lines go to
 //! standard output as they come; a refusal, with a hint below it, to standard error. What a command does is said by the
 //! contract of [`Server::command`](ccr_serve::Server::command). That a build be aborted is asked beside the server, and
-//! opens no database.
+//! opens no database. A look opens none either: it reads the files, and shows what is stored in them.
 #![tactic(auto)]
 
 mod abort;
@@ -11,6 +11,7 @@ mod database;
 mod failure;
 mod found;
 mod hint;
+mod look;
 mod naming;
 mod opener;
 mod order;
@@ -24,7 +25,8 @@ ghost use Rattle.std.specs.Process.{exit_status};
 ghost use Rattle.sqlite_wal.specs.Files.{image_at};
 ghost use Rattle.ccr_run.specs.Asked.{asked_by};
 ghost use Rattle.ccr_run.specs.Databases.{begins_with};
-ghost use Rattle.ccr_run.specs.Unfound.{IsUnfound};
+ghost use Rattle.ccr_look.specs.Unfound.{IsUnfound};
+ghost use Rattle.ccr_run.specs.Looked.{Looked};
 ghost use Rattle.ccr_run.specs.Obeyed.{Obeyed};
 
 use abort::abort_build;
@@ -34,11 +36,13 @@ use ccr_process::{Machine, Runner};
 use ccr_task::{Folders, Shelf};
 use database::Database;
 use found::{is_validation, tell_gates, validate};
+use look::look_at;
 use naming::Naming;
 use opener::Opener;
 use order::{Misuse, Ordered, ordered_by};
 use run::run;
 use sqlite::{FileFrom, FileStore, Start, Unknown};
+use sqlite_disk::Memory;
 use sqlite_trees::store::Store as Trees;
 use std::io::{ErrorKind, Write};
 use std::process::ExitCode;
@@ -76,12 +80,13 @@ fn obey<'a, S: Start, W: Write, E: Write>(
         ⟦<Database<FileStore<FileFrom<S>>> as Storage>⟧.holds
         ⟦<Database<FileStore<FileFrom<S>>> as Storage>⟧.leaves
         ⟦<Database<FileStore<FileFrom<S>>> as Storage>⟧.tally (begins_with (image_at S.Start))
-        (IsUnfound ⟦<FileStore<FileFrom<S>> as Trees>⟧ (image_at S.Start))
+        (IsUnfound ⟦<FileStore<FileFrom<S>> as Trees>⟧ (image_at S.Start)) (Looked ⟦<FileStore<Memory> as Trees>⟧)
         (map string_bytes words.now) (asked_by opener.new)
         (out.old.shown ++ out.old.waiting) (out.new.shown ++ out.new.waiting) out.new.failed (exit_status result) }
 {
     match ordered_by(rt.alloc(), words) {
         Ok(Ordered::Abort(order)) => abort_build(rt, &order),
+        Ok(Ordered::Look(order)) => look_at(rt, order, out),
         Ok(Ordered::Command(order)) => {
             let outcome = run(rt, &order, opener, out);
             tell_gates(rt, &order.command, &outcome.end);

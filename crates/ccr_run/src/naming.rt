@@ -1,9 +1,10 @@
-//! Programs of checks that don't start are named.
+//! Programs of checks that don't start are named, and so is a launcher of them.
 
 use ccr_process::{Ended, Launch, Runner};
 
-/// Runs launches by another runner, and names the program of a check that didn't start on standard error: the line on
-/// standard output says only that one didn't. The server itself names a step's program that didn't start.
+/// Runs launches by another runner, and names the program of a check that didn't start on standard error, or the launcher
+/// that was to start it: the line on standard output says only that one didn't. The server itself names a step's program
+/// that didn't start.
 #[derive(Drop)]
 pub struct Naming<'a, R: Runner> {
     runner: R,
@@ -21,9 +22,14 @@ impl<'a, R: Runner> Naming<'a, R> {
     }
 }
 
-/// Whether a launch is a check: of all launches whose output is kept it alone has no argument.
+/// Whether what is started is a check: of all whose output is kept, its program alone has no argument, and a launcher of it
+/// has the first word `check`. The first argument of a get and of a put begins with a slash.
 fn is_check(launch: &Launch) -> bool {
-    launch.keep && launch.args.is_empty()
+    let is_named = match launch.args.first() {
+        Some(word) => word.as_str() == "check",
+        None => true,
+    };
+    launch.keep && is_named
 }
 
 impl<'a, R: Runner> Runner for Naming<'a, R> {

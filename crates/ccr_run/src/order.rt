@@ -3,13 +3,14 @@ ghost use Rattle.std.specs.Prelude.{◌≡◌, ◌≢◌, ◌⊎◌, ◌≤◌, 
 ghost use Rattle.clap.specs.Values.{kind_of};
 ghost use Rattle.clap.specs.declared.error.kind.ErrorKind.TheVariants.{OutOfMemory};
 ghost use Rattle.ccr_proof.specs.declared.proof.TheConstants.{MOST_NODES};
-ghost use Rattle.ccr_run.specs.Orders.{budget_of, IsMisused, Orders};
+ghost use Rattle.ccr_core.specs.declared.command.Command.TheVariants.{Show};
+ghost use Rattle.ccr_run.specs.Orders.{budget_of, Becomes, IsMisused, Orders};
 ghost use Rattle.ccr_run.specs.declared.order.Misuse.TheVariants.{Line, NoMemory};
 
 use ccr_command::{
-    AbortRequest, OptionFault, Options, abort_of, command_line, command_of, options_of,
+    AbortRequest, OptionFault, Options, abort_of, asks_look, command_line, command_of, options_of,
 };
-use ccr_core::Command;
+use ccr_core::{Command, Shown};
 use clap::Error as LineError;
 use clap::error::ErrorKind;
 use std::alloc::{AllocError, AllocFailed, Global};
@@ -32,11 +33,35 @@ pub struct AbortOrder<'a> {
     pub build: AbortRequest<'a>,
 }
 
+/// What is to be looked at, with the options that the program was given.
+#[derive(Drop)]
+pub struct LookOrder<'a> {
+    /// The options.
+    pub options: Options<'a>,
+    /// What is shown.
+    pub what: Shown,
+}
+
+impl<'a> LookOrder<'a> {
+    /// The command that would show it.
+    pub fn into_order(self) -> Order<'a>
+        ensures options { result.options ≡ self.entry.options }
+        ensures command { result.command ≡ Show self.entry.what }
+    {
+        Order {
+            options: self.options,
+            command: Command::Show(self.what),
+        }
+    }
+}
+
 /// What words order.
 #[derive(Drop)]
 pub enum Ordered<'a> {
     /// A command, which a server does over the database.
     Command(Order<'a>),
+    /// A look at the database. It is read, and not opened.
+    Look(LookOrder<'a>),
     /// That a build be asked to be aborted. No database is opened.
     Abort(AbortOrder<'a>),
 }
@@ -84,6 +109,19 @@ fn misuse_of(error: LineError) -> Misuse
     }
 }
 
+/// What a command becomes: a look, where one is asked for and the command shows something.
+fn ordered_of<'a>(options: Options<'a>, command: Command, asks_look: bool) -> Ordered<'a>
+    ensures { Becomes options.entry command asks_look result }
+{
+    if !asks_look {
+        return Ordered::Command(Order { options, command });
+    }
+    match command {
+        Command::Show(what) => Ordered::Look(LookOrder { options, what }),
+        command => Ordered::Command(Order { options, command }),
+    }
+}
+
 /// What the words order, of which the first is the program's name.
 pub fn ordered_by<'a>(alloc: Global, words: &'a [String]) -> Result<Ordered<'a>, Misuse>
     ensures ordered { IfOk result (Orders (map string_bytes words.now)) }
@@ -104,7 +142,7 @@ pub fn ordered_by<'a>(alloc: Global, words: &'a [String]) -> Result<Ordered<'a>,
         return Ok(Ordered::Abort(AbortOrder { options, build }));
     }
     match command_of(alloc, &matches)? {
-        Some(command) => Ok(Ordered::Command(Order { options, command })),
+        Some(command) => Ok(ordered_of(options, command, asks_look(&matches))),
         None => Err(Misuse::NoCommand),
     }
 }

@@ -5,6 +5,7 @@ ghost use Rattle.ccr_run.specs.Refusals as spec;
 
 use crate::failure::Failure;
 use ccr_core::CoreFault;
+use ccr_look::CopyFault;
 use ccr_pipeline::ReadFault;
 use ccr_serve::ServeFault;
 use ccr_store::StoreFault;
@@ -141,6 +142,22 @@ fn of_server(fault: &ServeFault) -> Refusal<'_>
     }
 }
 
+/// How it reads that there is no database to look at.
+fn of_copy<'a>(fault: CopyFault) -> Refusal<'a>
+    ensures { refusal_data result ≡ spec.of_copy fault }
+{
+    match fault {
+        CopyFault::NoFile => broken("database: no such file"),
+        CopyFault::OnlyLog => broken("database: only its log is there"),
+        CopyFault::Empty => broken("database: empty file"),
+        CopyFault::NotAFile => broken("database: not a file"),
+        CopyFault::Journal => broken("database: a journal is beside it"),
+        CopyFault::Restless => broken("database: changes all the time"),
+        CopyFault::Unread => broken("database: cannot read"),
+        CopyFault::NoMemory => broken("out of memory"),
+    }
+}
+
 /// How a failure reads. That another program has the database open is a fault of the disk.
 pub fn refusal_of(failure: &Failure) -> Refusal<'_>
     ensures { refusal_data result ≡ spec.refusal_of failure.now }
@@ -148,5 +165,7 @@ pub fn refusal_of(failure: &Failure) -> Refusal<'_>
     match failure {
         Failure::Locked => of_store(StoreFault::Disk),
         Failure::Refused(fault) => of_server(fault),
+        Failure::Unread(fault) => of_copy(*fault),
+        Failure::Unfound(fault) => of_store(*fault),
     }
 }

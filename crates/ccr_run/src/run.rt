@@ -1,5 +1,5 @@
 //! A command is done.
-ghost use Rattle.std.specs.Prelude.{◌≡◌, ◌≤◌, ◌++◌, ℕ, [], ◌∷◌, Some, None, Result, false, not, IsSome, IfOk, IfSome, string_bytes};
+ghost use Rattle.std.specs.Prelude.{◌≡◌, ◌≤◌, ◌++◌, ℕ, [], ◌∷◌, Some, None, Result, false, not, IsSome, IfOk, IfSome, option_map, string_bytes};
 ghost use Rattle.sqlite_wal.specs.Files.{image_at};
 ghost use Rattle.sqlite.specs.Files.{file_state, IsOpened};
 ghost use Rattle.sqlite.specs.Start.{FindsIn};
@@ -12,7 +12,7 @@ ghost use Rattle.ccr_core.specs.Commands.{command_data};
 ghost use Rattle.ccr_serve.specs.Views.{view_of, bare_view, IsReady};
 ghost use Rattle.ccr_run.specs.Asked.{asked_by};
 ghost use Rattle.ccr_run.specs.Databases.{begins_with};
-ghost use Rattle.ccr_run.specs.Unfound.{IsUnfound};
+ghost use Rattle.ccr_look.specs.Unfound.{IsUnfound};
 ghost use Rattle.ccr_run.specs.Served.{Did, Served, handed_on, places_in};
 
 use crate::database::Database;
@@ -40,14 +40,32 @@ pub struct Outcome {
     pub is_printed: bool,
 }
 
-/// The server's two folders.
-pub fn places_of(alloc: Global, types: &str, work: &str) -> Result<Places, AllocError>
+/// A copy of a path, if there is one.
+fn copy_path(alloc: Global, path: Option<&str>) -> Result<Option<String>, AllocError>
+    ensures { IfOk result (λ copied. option_map string_bytes copied ≡ option_map (λ p. p.now) path) }
+{
+    match path {
+        Some(path) => Ok(Some(String::from_str(alloc, path)?)),
+        None => Ok(None),
+    }
+}
+
+/// The server's two folders, and its launcher, if there is one.
+pub fn places_of(
+    alloc: Global,
+    types: &str,
+    work: &str,
+    launcher: Option<&str>,
+) -> Result<Places, AllocError>
     ensures types { IfOk result (λ places. string_bytes places.types ≡ types.now) }
     ensures work { IfOk result (λ places. string_bytes places.work ≡ work.now) }
+    ensures launcher { IfOk result (λ places. option_map string_bytes places.launcher
+        ≡ option_map (λ p. p.now) launcher) }
 {
     Ok(Places {
         types: String::from_str(alloc, types)?,
         work: String::from_str(alloc, work)?,
+        launcher: copy_path(alloc, launcher)?,
     })
 }
 
@@ -170,7 +188,8 @@ fn serve<'a, S: Start, W: Write, E: Write>(
         order.now (asked_by opener.new) result (out.old.shown ++ out.old.waiting) (out.new.shown ++ out.new.waiting) }
     ensures printed { out.old.waiting ≡ [] → out.new.failed ≡ false → out.new.waiting ≡ [] }
 {
-    let Ok(places) = places_of(rt.alloc(), order.options.types, order.options.work) else {
+    let options = order.options;
+    let Ok(places) = places_of(rt.alloc(), options.types, options.work, options.launcher) else {
         return Err(Failure::Refused(ServeFault::NoMemory));
     };
     match opener.open(order.options.database) {

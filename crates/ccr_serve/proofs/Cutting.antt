@@ -5,7 +5,8 @@ use Rattle.ccr_process.specs.Runs.{Pair}
 use Rattle.ccr_steps.specs.Asks.{ask_data}
 use Rattle.ccr_task.specs.Calls.{CallData}
 use Rattle.ccr_task.specs.Faulty.{SaidData}
-use Rattle.ccr_task.specs.Places.{PlacesData, build_folder, abort_folder}
+use Rattle.ccr_task.specs.Places.{PlacesData, abort_folder}
+use Rattle.ccr_task.specs.Starting.{step_name}
 use Rattle.ccr_core.specs.Holding.{IsAsked, Stands}
 use Rattle.ccr_core.specs.State.{State, no_pipeline, resources_of}
 use Rattle.ccr_core.proofs.RunningLists.{at_id}
@@ -18,6 +19,7 @@ use Rattle.ccr_serve.specs.Serving.{BeginsOn, BeginsTurn, BeginsBuild, Serves}
 use Rattle.ccr_serve.specs.Views.{View, world_of, resources_held, IsReady, Unmade, Calls}
 use Rattle.ccr_serve.specs.declared.fault.ServeFault.{ServeFault}
 use Rattle.ccr_serve.proofs.Begun.{answer_begun}
+use Rattle.ccr_serve.proofs.Wants.{waits_at}
 use Rattle.ccr_serve.proofs.Steps.{after, printed, begun_at, MayBegin, item_begun, cut_by_memory, none_added, calls_unmade}
 
 -- what holds under one name holds under another that is the same
@@ -32,9 +34,11 @@ want_begun places v job number turn x p looked f w = record {
   turn = turn;
   ask = w.ask;
   wants = w.wants;
+  step = w.step;
+  at = w.at;
   lost = w.pair;
   adds = w.adds;
-  begins = answer_begun places (resources_held v.core) (build_folder places job number) (ask_data w.ask) looked f w.pair x
+  begins = answer_begun places (resources_held v.core) job number (step_name w.step) (ask_data w.ask) looked f w.pair x
       w.answers;
 }
 
@@ -81,10 +85,12 @@ module _ (places : PlacesData) (v : View) (job : Text) (number rank : ℕ) (look
         record {
           ask = ask_data w.ask;
           wanted = asked.1;
+          at = w.step;
+          waits_at = waits_at v.core s job number d.build w.step is d.there w.at;
           begins = named s is
-              (λ j i. BeginsAnswer places (resources_of s) (build_folder places j i) (ask_data w.ask) looked f w.lost)
+              (λ j i. BeginsAnswer places (resources_of s) j i (step_name w.step) (ask_data w.ask) looked f w.lost)
               (subst
-              (λ rs. BeginsAnswer places rs (build_folder places job number) (ask_data w.ask) looked f w.lost)
+              (λ rs. BeginsAnswer places rs job number (step_name w.step) (ask_data w.ask) looked f w.lost)
               (ap (λ o. (unwrap_or o no_pipeline).resources) is.1) w.begins);
         })
 

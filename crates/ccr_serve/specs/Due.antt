@@ -3,16 +3,18 @@ use Rattle.std.specs.Prelude.{◌≡◌, ◌⊎◌, ℕ, List, [], find, nat_lt,
 use Rattle.std.specs.Option.{option_or}
 use Rattle.ccr_history.specs.Text.{Text}
 use Rattle.ccr_history.specs.History.{HistoryData}
+use Rattle.ccr_pipeline.specs.Tree.{Tree}
 use Rattle.ccr_process.specs.Runs.{Pair}
 use Rattle.ccr_steps.specs.Asks.{ask_data, AnswerData, errored}
 use Rattle.ccr_steps.specs.declared.ask.Ask.{Ask}
 use Rattle.ccr_task.specs.Faulty.{SaidData}
-use Rattle.ccr_task.specs.Places.{PlacesData, build_folder}
+use Rattle.ccr_task.specs.Places.{PlacesData}
+use Rattle.ccr_task.specs.Starting.{step_name}
 use Rattle.ccr_task.specs.Calls.{CallData}
 use Rattle.ccr_core.specs.declared.fault.CoreFault.TheVariants.{TableFull}
 use Rattle.ccr_core.specs.declared.reply.Reply.{Reply}
 use Rattle.ccr_core.specs.Events.{answer}
-use Rattle.ccr_core.specs.Holding.{CoreData, Stands, Wants}
+use Rattle.ccr_core.specs.Holding.{CoreData, Stands, Wants, step_in}
 use Rattle.ccr_core.specs.Kept.{IsEvent}
 use Rattle.ccr_core.specs.State.{RunningData, State, running_at}
 use Rattle.ccr_core.specs.Steps.{Step}
@@ -42,15 +44,17 @@ IsDue c last None = c.names ≡ []
 IsDue c last (Some d) = (s : State) → Stands c s → IsTurnOf s last (string_bytes d.job) d.number d.rank
 
 -- ---- what came of it
--- what the job's build of this number wants at this turn was answered so, with the runner's pairs and the shelf's calls
--- before and after
+-- what the job's build of this number wants at this turn, at the step at which it waits, was answered so, with the runner's
+-- pairs and the shelf's calls before and after
 pub record AnswersWant (places : PlacesData) (c : CoreData) (job : Text) (number turn : ℕ) (x : SaidData)
     (old new : List Pair) (before after : List CallData) : Type 0 where
   pub ask : Ask
   pub wants : Wants c job number (Some (turn, ask))
+  pub step : Tree
+  pub at : step_in c job number ≡ Some step
   pub pair : Option Pair
   pub adds : Adds old pair new
-  pub answers : Answers places (resources_held c) (build_folder places job number) (ask_data ask) before after pair x
+  pub answers : Answers places (resources_held c) job number (step_name step) (ask_data ask) before after pair x
 
 -- the answer to what the job's build of this number wants was begun, with the runner's pairs and the shelf's calls before
 -- and after
@@ -59,9 +63,11 @@ pub record BeginsWant (places : PlacesData) (c : CoreData) (job : Text) (number 
   pub turn : ℕ
   pub ask : Ask
   pub wants : Wants c job number (Some (turn, ask))
+  pub step : Tree
+  pub at : step_in c job number ≡ Some step
   pub lost : Option Pair
   pub adds : Adds old lost new
-  pub begins : BeginsAnswer places (resources_held c) (build_folder places job number) (ask_data ask) before after lost
+  pub begins : BeginsAnswer places (resources_held c) job number (step_name step) (ask_data ask) before after lost
 
 -- from a state an answer was given to the job's build of this number, or errored in its place, where there is no room
 -- for it; what was given keeps what every event keeps

@@ -14,6 +14,7 @@ use Rattle.ccr_process.specs.Runs.{Pair}
 use Rattle.ccr_task.specs.Calls.{CallData, FolderCall, making, Does}
 use Rattle.ccr_task.specs.Launching.{check_launch}
 use Rattle.ccr_task.specs.Places.{PlacesData}
+use Rattle.ccr_task.specs.Starting.{started_check}
 use Rattle.ccr_task.specs.declared.fault.ShelfFault.TheVariants.{Failed}
 use Rattle.ccr_lines.specs.declared.cause.Cause.{Cause}
 use Rattle.ccr_lines.specs.declared.cause.Cause.TheVariants.{RequestTooLong, FolderFault, NotStarted, Killed, InputFault, ReadFault, OutputTooLong, Status, NotJson, WrongKind, VersionNotText}
@@ -69,14 +70,14 @@ newest r h = slice_get (versions_of (scope_of r) h.tables) (length (versions_of 
 abbrev pub check_folders : PlacesData → List FolderCall
 check_folders places = making places.work ∷ []
 
--- what a check of a resource finds that is told a version, with the shelf's calls before and after: by the end of its one
--- launch, before which the folder of all builds was made; or without a launch, where its request is too long, or else that
+-- what a check of a resource finds that is told a version, with the shelf's calls before and after: by the end of what is
+-- started of its one launch, before which the folder of all builds was made; or without a launch, where its request is too long, or else that
 -- folder couldn't be made
 abbrev pub Finds : PlacesData → ResourceData → Option TextMap → List CallData → List CallData → Option Pair → FoundData
     → Type 0
 Finds places r version before after (Some pair) f =
     (length (check_launch places r version).input ≤ MOST_REQUEST) × Does (check_folders places) before (Ok tt) after
-    × (pair.0 ≡ check_launch places r version) × FindsBy pair.1 f
+    × (pair.0 ≡ started_check places r (check_launch places r version)) × FindsBy pair.1 f
 Finds places r version before after None (nothing RequestTooLong) =
     (MOST_REQUEST < length (check_launch places r version).input) × (after ≡ before)
 Finds places r version before after None (nothing FolderFault) =
@@ -84,7 +85,7 @@ Finds places r version before after None (nothing FolderFault) =
     × Does (check_folders places) before (Err Failed) after
 Finds places r version before after None f = ⊥
 
--- what is begun of a check of a resource that is told a version: of its one launch
+-- what is begun of a check of a resource that is told a version: of what is started of its one launch
 abbrev pub BeginsFind : PlacesData → ResourceData → Option TextMap → List CallData → List CallData → Option Pair → Type 0
 BeginsFind places r version before after lost =
-    BeginsLaunch (check_folders places) (λ l. l ≡ check_launch places r version) before after lost
+    BeginsLaunch (check_folders places) (λ l. l ≡ started_check places r (check_launch places r version)) before after lost

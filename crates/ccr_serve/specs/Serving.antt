@@ -2,13 +2,16 @@
 use Rattle.std.specs.Prelude.{◌≡◌, ◌≢◌, ◌⊎◌, ℕ, List, Bool, true, false, Option, Some, None, Ok, Err}
 use Rattle.ccr_history.specs.Text.{Text}
 use Rattle.ccr_pipeline.specs.JobData.{ResourceData}
+use Rattle.ccr_pipeline.specs.Tree.{Tree}
 use Rattle.ccr_steps.specs.Asks.{AskData, AnswerData, errored}
 use Rattle.ccr_steps.specs.Progress.{IsNext}
-use Rattle.ccr_steps.specs.Runs.{HasTurn}
+use Rattle.ccr_steps.specs.Moments.{step_at}
+use Rattle.ccr_steps.specs.Runs.{RunData, HasTurn, StandsFor}
 use Rattle.ccr_process.specs.Runs.{Pair}
 use Rattle.ccr_task.specs.Calls.{CallData}
 use Rattle.ccr_task.specs.Faulty.{SaidData}
-use Rattle.ccr_task.specs.Places.{PlacesData, build_folder, abort_folder}
+use Rattle.ccr_task.specs.Places.{PlacesData, abort_folder}
+use Rattle.ccr_task.specs.Starting.{step_name}
 use Rattle.ccr_problem.specs.ProblemOf.{resource_of}
 use Rattle.ccr_core.specs.declared.fault.CoreFault.TheVariants.{TableFull, NoMemory}
 use Rattle.ccr_core.specs.declared.reply.Reply.{Reply}
@@ -81,16 +84,22 @@ abbrev pub IsGiven : State → RunningData → ℕ → AnswerData → AnswerData
 IsGiven s b t x given =
     (given ≡ x) ⊎ (Step s (answer b.job b.number t x) (Err TableFull) s × (given ≡ errored))
 
--- the one ask of a build is answered: from a state, with the shelf's calls before and after; the answer keeps what every event
--- keeps
+-- a build waits at this step of its plan, as the machine that stands for it does
+abbrev pub WaitsAt : RunningData → Tree → Type 0
+WaitsAt b step = (r : RunData) × StandsFor r b.plan b.inputs b.exchanges × (step_at r.at r.plan ≡ Some step)
+
+-- the one ask of a build is answered, at the step at which it waits: from a state, with the shelf's calls before and after; the
+-- answer keeps what every event keeps
 pub record AnswersBuild (places : PlacesData) (b : RunningData) (old : State) (before : List CallData) (did : Done)
     (reply : Reply) (after : List CallData) (new : State) : Type 0 where
   pub turn : ℕ
   pub ask : AskData
   pub has_turn : HasTurn b.exchanges turn
   pub wanted : IsNext b.inputs b.plan b.exchanges ask
+  pub at : Tree
+  pub waits_at : WaitsAt b at
   pub x : SaidData
-  pub answers : Answers places (resources_of old) (build_folder places b.job b.number) ask before after did.pair x
+  pub answers : Answers places (resources_of old) b.job b.number (step_name at) ask before after did.pair x
   pub given : AnswerData
   pub is_given : IsGiven old b turn x.answer given
   pub step : Step old (answer b.job b.number turn given) (Ok reply) new
@@ -124,12 +133,15 @@ pub record ServesBuild (places : PlacesData) (b : RunningData) (old : World) (di
   pub last : new.last ≡ rank_in old.core.history b
   pub lost : new.lost ≡ old.lost
 
--- the answer to the one ask of a build was begun, in a state, with the shelf's calls before and after
+-- the answer to the one ask of a build was begun, at the step at which it waits, in a state, with the shelf's calls before and
+-- after
 pub record BeginsAsk (places : PlacesData) (b : RunningData) (s : State) (before after : List CallData)
     (lost : Option Pair) : Type 0 where
   pub ask : AskData
   pub wanted : IsNext b.inputs b.plan b.exchanges ask
-  pub begins : BeginsAnswer places (resources_of s) (build_folder places b.job b.number) ask before after lost
+  pub at : Tree
+  pub waits_at : WaitsAt b at
+  pub begins : BeginsAnswer places (resources_of s) b.job b.number (step_name at) ask before after lost
 
 -- nothing was begun of an abort; else the answer to the one ask of a build was begun
 abbrev pub BeginsOn : Bool → PlacesData → RunningData → State → List CallData → List CallData → Option Pair → Type 0

@@ -1,20 +1,26 @@
 //! How what a build asks is answered, and what was wrong where that is no success.
-ghost use Rattle.std.specs.Prelude.{◌≡◌, [], ◌∷◌, map, string_bytes, IfOk, OnErr, Option};
+ghost use Rattle.std.specs.Prelude.{◌≡◌, [], ◌∷◌, map, string_bytes, IfOk, OnErr, Option, Some};
+ghost use Rattle.std.specs.Option.{IfSome};
 ghost use Rattle.ccr_pipeline.specs.Pipelines.{pipeline_data};
+ghost use Rattle.ccr_process.specs.Launches.{launch_data};
 ghost use Rattle.ccr_process.specs.Runs.{Pair};
 ghost use Rattle.ccr_steps.specs.Asks.{ask_data};
 ghost use Rattle.ccr_task.specs.Faulty.{said_data};
 ghost use Rattle.ccr_task.specs.Launching.{can_launch, starts_program};
 ghost use Rattle.ccr_task.specs.Calls.{making, removing, Does};
-ghost use Rattle.ccr_task.specs.Places.{places_data, build_folder, in_build};
-ghost use Rattle.ccr_serve.specs.Asked.{ask_folders, AnswersByFile, AnswersByLaunch, Answers, BeginsByFile, BeginsByLaunch, BeginsAnswer};
+ghost use Rattle.ccr_task.specs.Places.{places_data, abort_folder, build_folder, in_build};
+ghost use Rattle.ccr_task.specs.Starting.{started_ask};
+ghost use Rattle.ccr_serve.specs.Asked.{ask_folders, unless_asked, LooksAgain, Settles, AnswersByFile, AnswersByRun, AnswersByLaunch, Answers, BeginsByFile, BeginsByLaunch, BeginsAnswer};
 ghost use Rattle.ccr_serve.specs.Pairs.{Adds};
 
+use crate::aborting::take_abort;
 use ccr_pipeline::Pipeline;
 use ccr_process::{Launch, Runner};
 use ccr_protocol::RequestFault;
 use ccr_steps::{Answered, Ask};
-use ccr_task::{Places, Said, Shelf, ShelfFault, StepFault, answered_of, config_of, launch_of};
+use ccr_task::{
+    Places, Said, Shelf, ShelfFault, StepFault, answered_of, config_of, launch_of, started_ask,
+};
 use std::alloc::{AllocError, Global};
 
 /// Makes the folder of an artifact anew.
@@ -90,7 +96,91 @@ fn make_folders<S: Shelf>(
     }
 }
 
-/// Runs an ask's program, once its folders are made.
+/// What a program answered, or that its step was aborted, where that is asked.
+fn unless_asked(asked: bool, said: Said) -> Said
+    ensures { said_data result ≡ unless_asked asked (said_data said) }
+{
+    if asked {
+        Said::bad(Answered::Aborted, StepFault::Aborted)
+    } else {
+        said
+    }
+}
+
+/// What a step comes to whose program answered so, where there is a launcher. A success stands. After any other answer it
+/// is looked whether the build's abort is asked by then, and the step is aborted where it is. `AllocError` where nothing
+/// was looked for.
+fn look_again<S: Shelf>(
+    alloc: Global,
+    shelf: &mut S,
+    places: &Places,
+    job: &str,
+    number: u32,
+    said: Said,
+) -> Result<Said, AllocError>
+    ensures ok { IfOk result (λ a. LooksAgain (said_data said).fault
+        (abort_folder (places_data places.now) job.now number) (said_data said)
+        (S.calls shelf.old) (S.calls shelf.new) (said_data a)) }
+    ensures err { OnErr result (S.calls shelf.new ≡ S.calls shelf.old) }
+{
+    match &said.fault {
+        Some(_) => {}
+        None => return Ok(said),
+    }
+    match take_abort(alloc, shelf, places, job, number) {
+        Ok(asked) => Ok(unless_asked(asked, said)),
+        Err(error) => Err(error),
+    }
+}
+
+/// What a step comes to whose program answered so: where there is a launcher, by a second look; else it is that answer.
+/// `AllocError` where nothing was looked for.
+fn settle<S: Shelf>(
+    alloc: Global,
+    shelf: &mut S,
+    places: &Places,
+    job: &str,
+    number: u32,
+    said: Said,
+) -> Result<Said, AllocError>
+    ensures ok { IfOk result (λ a. Settles (places_data places.now).launcher
+        (abort_folder (places_data places.now) job.now number) (said_data said)
+        (S.calls shelf.old) (S.calls shelf.new) (said_data a)) }
+    ensures err { OnErr result (S.calls shelf.new ≡ S.calls shelf.old) }
+{
+    match &places.launcher {
+        Some(_) => look_again(alloc, shelf, places, job, number, said),
+        None => Ok(said),
+    }
+}
+
+/// Starts what is started of an ask's launch, whose folders are made, and says what the step comes to.
+fn answer_by_run<R: Runner, S: Shelf>(
+    alloc: Global,
+    runner: &mut R,
+    shelf: &mut S,
+    places: &Places,
+    job: &str,
+    number: u32,
+    name: &str,
+    ask: &Ask<'_>,
+    launch: Launch,
+) -> Result<Said, AllocError>
+    ensures ok { IfOk result (λ a. (pair : Pair) × Adds (R.pairs runner.old) (Some pair) (R.pairs runner.new)
+        × AnswersByRun (places_data places.now) job.now number name.now (ask_data ask.now) (launch_data launch)
+        (S.calls shelf.old) (S.calls shelf.new) pair (said_data a)) }
+    ensures err { OnErr result ((lost : Option Pair) × Adds (R.pairs runner.old) lost (R.pairs runner.new)
+        × IfSome lost (λ pair. pair.0
+        ≡ started_ask (places_data places.now) job.now number name.now (ask_data ask.now) (launch_data launch))) }
+    ensures same { OnErr result (S.calls shelf.new ≡ S.calls shelf.old) }
+{
+    let begun = started_ask(alloc, places, job, number, name, ask, launch)?;
+    let end = runner.run(&begun);
+    let said = answered_of(alloc, ask, begun.program, end)?;
+    settle(alloc, shelf, places, job, number, said)
+}
+
+/// Answers an ask by its launch, once its folders are made.
 fn answer_by_launch<R: Runner, S: Shelf>(
     alloc: Global,
     runner: &mut R,
@@ -98,14 +188,15 @@ fn answer_by_launch<R: Runner, S: Shelf>(
     places: &Places,
     job: &str,
     number: u32,
+    name: &str,
     ask: &Ask<'_>,
     launch: Result<Launch, RequestFault>,
 ) -> Result<Said, AllocError>
     ensures ok { IfOk result (λ a. (pair : Option Pair) × Adds (R.pairs runner.old) pair (R.pairs runner.new)
-        × AnswersByLaunch (build_folder (places_data places.now) job.now number) (ask_data ask.now) launch
+        × AnswersByLaunch (places_data places.now) job.now number name.now (ask_data ask.now) launch
         (S.calls shelf.old) (S.calls shelf.new) pair (said_data a)) }
     ensures err { OnErr result ((lost : Option Pair) × Adds (R.pairs runner.old) lost (R.pairs runner.new)
-        × BeginsByLaunch (build_folder (places_data places.now) job.now number) (ask_data ask.now) launch
+        × BeginsByLaunch (places_data places.now) job.now number name.now (ask_data ask.now) launch
         (S.calls shelf.old) (S.calls shelf.new) lost) }
 {
     let launch = match launch {
@@ -122,8 +213,7 @@ fn answer_by_launch<R: Runner, S: Shelf>(
         }
         Err(ShelfFault::TooLong | ShelfFault::NoMemory) => return Err(AllocError),
     }
-    let end = runner.run(&launch);
-    answered_of(alloc, ask, launch.program, end)
+    answer_by_run(alloc, runner, shelf, places, job, number, name, ask, launch)
 }
 
 /// Reads a task's file, which is taken from the build's folder.
@@ -146,11 +236,12 @@ fn answer_by_file<S: Shelf>(
     config_of(alloc, shelf.read_file(path.as_str()))
 }
 
-/// Answers what a job's build of this number asks: its one program is run once its folders are made, or its task's file
-/// is read.
+/// Answers what a job's build of this number asks at a step of this name: its one program is run once its folders are made,
+/// by the launcher if there is one, or its task's file is read.
 ///
-/// Errored where the request is too long, or a folder can't be made or removed; then no program is started. The only
-/// error is out of memory; the program may have run then, and answers nothing.
+/// Errored where the request is too long, or a folder can't be made or removed; then no program is started. Aborted where
+/// there is a launcher, the program didn't succeed, and the build's abort is asked by then. The only error is out of
+/// memory; the program may have run then, and answers nothing.
 pub(crate) fn answer_to<R: Runner, S: Shelf>(
     alloc: Global,
     runner: &mut R,
@@ -159,22 +250,23 @@ pub(crate) fn answer_to<R: Runner, S: Shelf>(
     pipeline: &Pipeline,
     job: &str,
     number: u32,
+    name: &str,
     ask: &Ask<'_>,
 ) -> Result<Said, AllocError>
     requires { can_launch (pipeline_data pipeline.now).resources (ask_data ask.now)
         ≡ starts_program (ask_data ask.now) }
     ensures ok { IfOk result (λ a. (pair : Option Pair) × Adds (R.pairs runner.old) pair (R.pairs runner.new)
         × Answers (places_data places.now) (pipeline_data pipeline.now).resources
-        (build_folder (places_data places.now) job.now number) (ask_data ask.now)
+        job.now number name.now (ask_data ask.now)
         (S.calls shelf.old) (S.calls shelf.new) pair (said_data a)) }
     ensures err { OnErr result ((lost : Option Pair) × Adds (R.pairs runner.old) lost (R.pairs runner.new)
         × BeginsAnswer (places_data places.now) (pipeline_data pipeline.now).resources
-        (build_folder (places_data places.now) job.now number) (ask_data ask.now)
+        job.now number name.now (ask_data ask.now)
         (S.calls shelf.old) (S.calls shelf.new) lost) }
 {
     if let Ask::ReadConfig { file } = ask {
         return answer_by_file(alloc, shelf, places, job, number, file);
     }
     let launch = launch_of(alloc, places, pipeline, job, number, ask);
-    answer_by_launch(alloc, runner, shelf, places, job, number, ask, launch)
+    answer_by_launch(alloc, runner, shelf, places, job, number, name, ask, launch)
 }

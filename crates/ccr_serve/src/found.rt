@@ -1,19 +1,21 @@
 //! What a check finds.
-ghost use Rattle.std.specs.Prelude.{◌≡◌, ◌==◌, IfOk, OnErr, Option};
-ghost use Rattle.std.specs.Option.{option_copied};
+ghost use Rattle.std.specs.Prelude.{◌≡◌, ◌==◌, IfOk, OnErr, Option, Some};
+ghost use Rattle.std.specs.Option.{IfSome, option_copied};
 ghost use Rattle.ccr_pipeline.specs.JobData.{resource_data};
 ghost use Rattle.ccr_process.specs.Ends.{end_data};
+ghost use Rattle.ccr_process.specs.Launches.{launch_data};
 ghost use Rattle.ccr_process.specs.Runs.{Pair};
 ghost use Rattle.ccr_task.specs.Places.{places_data};
+ghost use Rattle.ccr_task.specs.Starting.{started_check};
 ghost use Rattle.ccr_serve.specs.Found.{found_data, newest, FindsOutput, FindsExit, FindsBy, Finds, BeginsFind};
 ghost use Rattle.ccr_serve.specs.Pairs.{Adds};
 
 use ccr_history::{History, Version};
 use ccr_lines::Cause;
 use ccr_pipeline::Resource;
-use ccr_process::{Ended, Runner};
+use ccr_process::{Ended, Launch, Runner};
 use ccr_protocol::{ReplyFault, RequestFault, read_check};
-use ccr_task::{Places, Shelf, ShelfFault, check_launch};
+use ccr_task::{Places, Shelf, ShelfFault, check_launch, started_check};
 use std::alloc::{AllocError, Global};
 
 /// What a check of a resource finds.
@@ -73,8 +75,27 @@ fn newest_of<'h>(history: &'h History, resource: &Resource) -> Option<&'h Versio
     history.versions(resource.scope()).last()
 }
 
-/// Checks a resource, which is told its newest version: the folder of all builds is made, the one program is run, and
-/// its output is read.
+/// Starts what is started of a check's launch, for which the folder of all builds is made, and says what its end finds.
+fn find_by_run<R: Runner>(
+    alloc: Global,
+    runner: &mut R,
+    places: &Places,
+    resource: &Resource,
+    launch: Launch,
+) -> Result<Found, AllocError>
+    ensures ok { IfOk result (λ f. (pair : Pair) × Adds (R.pairs runner.old) (Some pair) (R.pairs runner.new)
+        × (pair.0 ≡ started_check (places_data places.now) (resource_data resource.now) (launch_data launch))
+        × FindsBy pair.1 (found_data f)) }
+    ensures err { OnErr result ((lost : Option Pair) × Adds (R.pairs runner.old) lost (R.pairs runner.new)
+        × IfSome lost (λ pair. pair.0
+        ≡ started_check (places_data places.now) (resource_data resource.now) (launch_data launch))) }
+{
+    let begun = started_check(alloc, places, resource, launch)?;
+    found_by(alloc, runner.run(&begun))
+}
+
+/// Checks a resource, which is told its newest version: the folder of all builds is made, the one program is run, by the
+/// launcher if there is one, and its output is read.
 ///
 /// The only error is out of memory; the program may have run then, and finds nothing.
 pub(crate) fn find<R: Runner, S: Shelf>(
@@ -103,5 +124,5 @@ pub(crate) fn find<R: Runner, S: Shelf>(
         Err(ShelfFault::Failed) => return Ok(Found::Nothing(Cause::FolderFault)),
         Err(ShelfFault::TooLong | ShelfFault::NoMemory) => return Err(AllocError),
     }
-    found_by(alloc, runner.run(&launch))
+    find_by_run(alloc, runner, places, resource, launch)
 }

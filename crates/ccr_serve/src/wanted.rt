@@ -10,11 +10,11 @@ ghost use Rattle.ccr_serve.specs.Due.{AnswersWant, BeginsWant};
 use crate::answer::answer_to;
 use ccr_core::Core;
 use ccr_process::Runner;
-use ccr_task::{Places, Said, Shelf};
+use ccr_task::{Places, Said, Shelf, step_name};
 use std::alloc::{AllocError, Global};
 
-/// Answers what a job's build of this number wants, which runs. Gives the turn of the answer with it, and what
-/// was wrong where the answer is no success.
+/// Answers what a job's build of this number wants, which runs, at the step at which it waits. Gives the turn of the answer
+/// with it, and what was wrong where the answer is no success.
 ///
 /// The only error is out of memory; the program may have run then, and answers nothing.
 pub(crate) fn answer_wanted<R: Runner, S: Shelf>(
@@ -35,7 +35,10 @@ pub(crate) fn answer_wanted<R: Runner, S: Shelf>(
     core.rules();
     let (turn, ask) = core.wants(job, number).unwrap();
     let pipeline = core.pipeline().unwrap();
-    match answer_to(alloc, runner, shelf, places, pipeline, job, number, &ask) {
+    let name = step_name(core.step_of(job, number).unwrap());
+    match answer_to(
+        alloc, runner, shelf, places, pipeline, job, number, name, &ask,
+    ) {
         Ok(said) => Ok((turn, said)),
         Err(error) => Err(error),
     }

@@ -1,16 +1,21 @@
 -- Where programs lie and builds work.
-use Rattle.std.specs.Prelude.{ℕ, ◌∷◌, ◌++◌, string_bytes, decimal, codes}
+use Rattle.std.specs.Prelude.{ℕ, ◌∷◌, ◌++◌, Option, option_map, string_bytes, decimal, codes}
 use Rattle.ccr_pipeline.specs.Tree.{Text}
 use Rattle.ccr_task.specs.declared.places.Places.{Places}
 
--- the folders of the resource types' programs and of the builds
+-- the folders of the resource types' programs and of the builds, and the launcher, if there is one
 pub record PlacesData : Type 0 where
   pub types : Text
   pub work : Text
+  pub launcher : Option Text
 
--- the folders as their paths
+-- the folders and the launcher as their paths
 abbrev pub places_data : Places → PlacesData
-places_data p = record { types = string_bytes p.types; work = string_bytes p.work }
+places_data p = record {
+  types = string_bytes p.types;
+  work = string_bytes p.work;
+  launcher = option_map string_bytes p.launcher;
+}
 
 -- what lies in a folder under a name: the folder, a slash, the name
 abbrev pub below : Text → Text → Text

@@ -1,7 +1,8 @@
 //! An ask becomes a launch, an end becomes an answer; and the folders of builds.
 //!
-//! [`check_launch`] and [`launch_of`] say what is started for a resource's check and for an ask of a build, in the two
-//! [`Places`] that the server is given. [`answered_of`] says what the end of an ask's program answers, [`config_of`]
+//! [`check_launch`] and [`launch_of`] say what is launched for a resource's check and for an ask of a build, in the two
+//! folders of the [`Places`] that the server is given. Where these name a launcher, that is started in the place of each
+//! program, with words that say which program it is: [`started_check`] and [`started_ask`]. [`answered_of`] says what the end of an ask's program answers, [`config_of`]
 //! what a task's file does. Contracts see asks, launches, ends and answers as data without where it lies in memory, and
 //! each of these calls as the one launch or answer that its data make. An answer that is no success has a [`StepFault`] beside it, and
 //! [`note_of`] is the line that is told of that.
@@ -27,6 +28,7 @@ mod places;
 mod said;
 mod script;
 mod shelf;
+mod started;
 
 pub use abort::ask_abort;
 pub use answer::{answered_of, config_of};
@@ -39,3 +41,4 @@ pub use places::Places;
 pub use said::{Said, StepFault};
 pub use script::{ShelfAnswer, ShelfScript};
 pub use shelf::Shelf;
+pub use started::{Purpose, started_ask, started_check, started_of, step_name};

@@ -4,13 +4,15 @@ ghost use Rattle.ccr_task.specs.Places.{places_data, below, program_path, build_
 
 use std::alloc::{AllocError, Global};
 
-/// The two folders that the server is given.
+/// The two folders that the server is given, and the launcher, if it is given one.
 #[derive(Drop)]
 pub struct Places {
     /// Holds a folder for each resource type, and in it the type's programs `check`, `in` and `out`.
     pub types: String,
     /// Holds a folder for each job, and in it one for each of its builds.
     pub work: String,
+    /// The program that starts all others, if there is one.
+    pub launcher: Option<String>,
 }
 
 impl Places {

@@ -7,7 +7,10 @@ use ccr_pipeline::{Pipeline, TaskConfig, Variable, read, read_task};
 use ccr_process::Launch;
 use ccr_rows::{end_of, fault_of, places};
 use ccr_steps::{Answered, Ask};
-use ccr_task::{Said, answered_of, can_launch, check_launch, config_of, launch_of};
+use ccr_task::{
+    Places, Said, answered_of, can_launch, check_launch, config_of, launch_of, started_ask,
+    started_check,
+};
 use std::alloc::{AllocError, Global};
 
 /// A pipeline of the resource `a` without a source, and of `b` with such a source.
@@ -62,19 +65,33 @@ fn told(alloc: Global, launch: &Launch) -> Result<String> {
     Ok(format!(in alloc; "{line} in {folder}, {kept}, given {input}")?)
 }
 
-/// What build 3 of job j launches for an ask.
-fn launched_by(alloc: Global, pipeline: &Pipeline, ask: &Ask<'_>) -> Result<String> {
+/// What build 3 of job j starts for an ask, at the step `a step`.
+fn launched_by(
+    alloc: Global,
+    places: &Places,
+    pipeline: &Pipeline,
+    ask: &Ask<'_>,
+) -> Result<String> {
     if !can_launch(pipeline, ask) {
         return Ok(String::from_str(alloc, "nothing")?);
     }
-    match launch_of(alloc, &places(alloc)?, pipeline, "j", 3, ask) {
-        Ok(launch) => told(alloc, &launch),
+    match launch_of(alloc, places, pipeline, "j", 3, ask) {
+        Ok(launch) => {
+            let begun = started_ask(alloc, places, "j", 3, "a step", ask, launch)?;
+            told(alloc, &begun)
+        }
         Err(fault) => Ok(fault.to_string(alloc)?),
     }
 }
 
-/// What a check of the resource of this name launches.
-fn checked(alloc: Global, pipeline: &Pipeline, name: &str, parts: &str) -> Result<String> {
+/// What a check of the resource of this name starts.
+fn checked(
+    alloc: Global,
+    places: &Places,
+    pipeline: &Pipeline,
+    name: &str,
+    parts: &str,
+) -> Result<String> {
     let version = version(alloc, part(parts, 1))?;
     let Some(resource) = pipeline
         .resources()
@@ -83,8 +100,11 @@ fn checked(alloc: Global, pipeline: &Pipeline, name: &str, parts: &str) -> Resul
     else {
         return Err(anyhow!("no resource"));
     };
-    match check_launch(alloc, &places(alloc)?, resource, version.as_ref()) {
-        Ok(launch) => told(alloc, &launch),
+    match check_launch(alloc, places, resource, version.as_ref()) {
+        Ok(launch) => {
+            let begun = started_check(alloc, places, resource, launch)?;
+            told(alloc, &begun)
+        }
         Err(fault) => Ok(fault.to_string(alloc)?),
     }
 }
@@ -102,45 +122,68 @@ fn variables(alloc: Global, words: &str) -> Result<Vec<Variable>, AllocError> {
     Ok(variables)
 }
 
-/// What a task with these variables launches.
-fn task_launched(alloc: Global, words: &str, text: &str) -> Result<String> {
+/// What a task with these variables starts.
+fn task_launched(alloc: Global, places: &Places, words: &str, text: &str) -> Result<String> {
     let config = read_task(alloc, text.as_bytes())?;
     let env = variables(alloc, words)?;
     let pipeline = pipeline(alloc, "-")?;
-    launched_by(alloc, &pipeline, &run(&config, &env))
+    launched_by(alloc, places, &pipeline, &run(&config, &env))
 }
 
-/// What a fetch launches.
-fn fetch_launched(alloc: Global, pipeline: &Pipeline, name: &str, parts: &str) -> Result<String> {
+/// What a fetch starts.
+fn fetch_launched(
+    alloc: Global,
+    places: &Places,
+    pipeline: &Pipeline,
+    name: &str,
+    parts: &str,
+) -> Result<String> {
     let version = some_version(alloc, part(parts, 1))?;
     let params = object(alloc, part(parts, 2))?;
-    launched_by(alloc, pipeline, &fetch(name, &version, params.as_ref()))
+    launched_by(
+        alloc,
+        places,
+        pipeline,
+        &fetch(name, &version, params.as_ref()),
+    )
 }
 
-/// What a push launches.
-fn push_launched(alloc: Global, pipeline: &Pipeline, name: &str, parts: &str) -> Result<String> {
+/// What a push starts.
+fn push_launched(
+    alloc: Global,
+    places: &Places,
+    pipeline: &Pipeline,
+    name: &str,
+    parts: &str,
+) -> Result<String> {
     let params = object(alloc, part(parts, 2))?;
-    launched_by(alloc, pipeline, &push(name, params.as_ref()))
+    launched_by(alloc, places, pipeline, &push(name, params.as_ref()))
 }
 
-fn launched_in(alloc: Global, what: &str, name: &str, parts: &str) -> Result<String> {
+fn launched_in(
+    alloc: Global,
+    places: &Places,
+    what: &str,
+    name: &str,
+    parts: &str,
+) -> Result<String> {
     let pipeline = pipeline(alloc, part(parts, 0))?;
     match what {
-        "check" => checked(alloc, &pipeline, name, parts),
-        "fetch" => fetch_launched(alloc, &pipeline, name, parts),
-        "push" => push_launched(alloc, &pipeline, name, parts),
-        _ => launched_by(alloc, &pipeline, &Ask::ReadConfig { file: name }),
+        "check" => checked(alloc, places, &pipeline, name, parts),
+        "fetch" => fetch_launched(alloc, places, &pipeline, name, parts),
+        "push" => push_launched(alloc, places, &pipeline, name, parts),
+        _ => launched_by(alloc, places, &pipeline, &Ask::ReadConfig { file: name }),
     }
 }
 
-/// What is launched: `check NAME | SOURCE | VERSION`, `fetch` and `push` of the same form with `| PARAMS`,
+/// What is started in these places: `check NAME | SOURCE | VERSION`, `fetch` and `push` of the same form with `| PARAMS`,
 /// `task VARIABLES | CONFIG`, `file PATH`. The artifact of a fetch or a push is `code`.
-pub(super) fn launched(alloc: Global, given: &str) -> Result<String> {
+pub(super) fn launched(alloc: Global, places: &Places, given: &str) -> Result<String> {
     let (what, rest) = given.split_once(" ").unwrap_or((given, "-"));
     let (name, parts) = rest.split_once(" | ").unwrap_or((rest, "-"));
     match what {
-        "task" => task_launched(alloc, name, parts),
-        _ => launched_in(alloc, what, name, parts),
+        "task" => task_launched(alloc, places, name, parts),
+        _ => launched_in(alloc, places, what, name, parts),
     }
 }
 

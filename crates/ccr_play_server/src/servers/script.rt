@@ -1,4 +1,5 @@
-//! Scripts: how programs end, what folders and files answer, how many commits are taken, and how the next one fails.
+//! Scripts: how programs end, what folders and files answer, how many commits are taken, how the next one fails, and whether
+//! there is a launcher.
 
 use anyhow::Result;
 use ccr_history::{History, StoreFault};
@@ -18,6 +19,7 @@ pub(super) struct Script {
     pub(super) fault: StoreFault,
     pub(super) history: History,
     pub(super) has_notes: bool,
+    pub(super) has_launcher: bool,
 }
 
 /// The fault that a word names; that of a disk where it names none.
@@ -42,6 +44,7 @@ impl Script {
             fault: StoreFault::Disk,
             history: History::new(alloc),
             has_notes: false,
+            has_launcher: false,
         }
     }
 

@@ -11,15 +11,24 @@ use ccr_core::Command;
 use ccr_history::Tally;
 use ccr_lines::{AsText, Printed};
 use ccr_process::Scripted;
-use ccr_rows::places;
+use ccr_rows::{places, places_by_launcher};
 use ccr_serve::{ServeFault, Server, Unopened};
-use ccr_task::ShelfScript;
-use std::alloc::Global;
+use ccr_task::{Places, ShelfScript};
+use std::alloc::{AllocError, Global};
 use std::io::Write;
 use std::marker::Model;
 
 /// The node budget.
 const BUDGET: u32 = 100_000;
+
+/// The places of a server, with a launcher or without.
+fn places_of(alloc: Global, has_launcher: bool) -> Result<Places, AllocError> {
+    if has_launcher {
+        places_by_launcher(alloc)
+    } else {
+        places(alloc)
+    }
+}
 
 /// A server over a script. It goes on, or has closed.
 #[derive(Drop)]
@@ -53,7 +62,7 @@ impl<W: Write + Drop> Serving<W> {
         if script.history.text().is_some() {
             return Err(ServeFault::Closed);
         }
-        let Ok(places) = places(alloc) else {
+        let Ok(places) = places_of(alloc, script.has_launcher) else {
             return Err(ServeFault::NoMemory);
         };
         let runner = Told {

@@ -1,10 +1,11 @@
-use Rattle.std.proofs.Common.{map, string_bytes, subst}
+use Rattle.std.proofs.Common.{◌≤◌, map, string_bytes, subst, sym}
 use Rattle.clap.specs.Words.{HasMatchesOf, found_of}
 use Rattle.ccr_core.specs.Commands.{command_data}
 use Rattle.ccr_command.specs.Aborts.{abort_data, abort_in}
 use Rattle.ccr_command.specs.Commands.{command_in}
 use Rattle.ccr_command.specs.Options.{options_data}
-use Rattle.ccr_run.proofs.Ordering.{some_named, none_named, misused_line, budget_ranged}
+use Rattle.ccr_command.specs.Numbers.{MOST}
+use Rattle.ccr_run.proofs.Ordering.{some_named, none_named, misused_line, becomes_budget, becomes_ordered, budget_ranged}
 use Rattle.ccr_run.proofs.order.ordered_by.Goals as goal
 
 pub returns-in-Some-clause-ordered : goal.returns-in-Some-clause-ordered
@@ -32,14 +33,17 @@ returns-in-Some-2-clause-ordered c =
     let command =
     some_named command_data c.in_ok-command.field-0 c.in-Some-2.command (command_in c.in-Ok.matches)
     c.in_ok-command.ensures c.in-Some-2.is in
-    (c.in-Ok.matches, matches, c.in-Ok-options_of.ensures, command)
+    becomes_ordered (map string_bytes c.args.words.now) c.in-Ok-options_of.options c.in-Some-2.command c.in-Ok.matches c.asks_look.result
+    c.ordered_of.result matches c.in-Ok-options_of.ensures command c.asks_look.ensures c.ordered_of.ensures
 
 pub returns-in-Some-2-clause-least : goal.returns-in-Some-2-clause-least
 returns-in-Some-2-clause-least c =
+    subst (λ n. 1 ≤ n) (sym (becomes_budget c.in-Ok-options_of.options c.in-Some-2.command c.asks_look.result c.ordered_of.result c.ordered_of.ensures))
     (budget_ranged (found_of c.in-Ok.matches) (options_data c.in-Ok-options_of.options) c.in-Ok-options_of.ensures).0
 
 pub returns-in-Some-2-clause-most : goal.returns-in-Some-2-clause-most
 returns-in-Some-2-clause-most c =
+    subst (λ n. n ≤ MOST) (sym (becomes_budget c.in-Ok-options_of.options c.in-Some-2.command c.asks_look.result c.ordered_of.result c.ordered_of.ensures))
     (budget_ranged (found_of c.in-Ok.matches) (options_data c.in-Ok-options_of.options) c.in-Ok-options_of.ensures).1
 
 pub returns-in-Err-clause-misused : goal.returns-in-Err-clause-misused

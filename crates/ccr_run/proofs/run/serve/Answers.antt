@@ -4,7 +4,7 @@ use Rattle.sqlite.specs.Files.{over_files}
 use Rattle.ccr_task.specs.Shelves.{folders_calls}
 use Rattle.ccr_run.specs.Asked.{asked_by}
 use Rattle.ccr_run.specs.Databases.{holds, leaves, tally, begins_with}
-use Rattle.ccr_run.specs.Unfound.{IsUnfound}
+use Rattle.ccr_look.specs.Unfound.{IsUnfound}
 use Rattle.ccr_run.proofs.Asking.{served_as}
 use Rattle.ccr_run.proofs.Serving.{same_places, unserved}
 use Rattle.ccr_run.specs.declared.failure.Failure.TheVariants.{Refused}
@@ -12,7 +12,7 @@ use Rattle.ccr_serve.specs.declared.fault.ServeFault.TheVariants.{NoMemory}
 use Rattle.ccr_run.proofs.run.serve.Goals as goal
 
 pub serve_database-requires-clause-places : goal.serve_database-requires-clause-places
-serve_database-requires-clause-places g c = same_places c.args.order.now c.in-Ok.places c.in-Ok.ensures.types c.in-Ok.ensures.work
+serve_database-requires-clause-places g c = same_places c.args.order.now c.in-Ok.places c.in-Ok.ensures.types c.in-Ok.ensures.work c.in-Ok.ensures.launcher
 
 pub returns-in-Ok-open-clause-served : goal.returns-in-Ok-open-clause-served
 returns-in-Ok-open-clause-served g c =

@@ -3,7 +3,7 @@ use Rattle.sqlite_wal.specs.Files.{image_at}
 use Rattle.sqlite.specs.Files.{over_files}
 use Rattle.ccr_task.specs.Shelves.{folders_calls}
 use Rattle.ccr_run.specs.Databases.{holds, leaves, tally, begins_with}
-use Rattle.ccr_run.specs.Unfound.{IsUnfound}
+use Rattle.ccr_look.specs.Unfound.{IsUnfound}
 use Rattle.ccr_run.proofs.Serving.{unserved}
 use Rattle.ccr_run.proofs.run.serve_database.Goals as goal
 

@@ -4,7 +4,7 @@ use Rattle.sqlite.specs.Files.{over_files}
 use Rattle.ccr_task.specs.Places.{places_data}
 use Rattle.ccr_task.specs.Shelves.{folders_calls}
 use Rattle.ccr_run.specs.Databases.{holds, leaves, tally, begins_with}
-use Rattle.ccr_run.specs.Unfound.{IsUnfound}
+use Rattle.ccr_look.specs.Unfound.{IsUnfound}
 use Rattle.ccr_run.proofs.Serving.{served_on, unserved}
 use Rattle.ccr_run.specs.declared.failure.Failure.TheVariants.{Refused}
 use Rattle.ccr_run.proofs.run.serve_history.Goals as goal

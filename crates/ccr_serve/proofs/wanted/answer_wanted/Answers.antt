@@ -1,14 +1,17 @@
-use Rattle.std.proofs.Common.{◌∙◌, ap, option_map, subst, sym, unwrap_or}
+use Rattle.std.proofs.Common.{◌∙◌, Bor, ap, option_map, subst, sym, unwrap_or}
 use Rattle.std.specs.Option.{IfSome, option_copied}
 use Rattle.ccr_pipeline.specs.Pipelines.{pipeline_data}
+use Rattle.ccr_pipeline.specs.Tree.{tree_of}
+use Rattle.ccr_pipeline.specs.declared.step.Step.{Step}
 use Rattle.ccr_steps.specs.Asks.{ask_data}
 use Rattle.ccr_task.specs.Faulty.{said_data}
-use Rattle.ccr_task.specs.Places.{places_data, build_folder}
+use Rattle.ccr_task.specs.Places.{places_data}
+use Rattle.ccr_task.specs.Starting.{step_name}
 use Rattle.ccr_core.specs.Cores.{core_data}
-use Rattle.ccr_core.specs.Holding.{NamesResource, Wants}
+use Rattle.ccr_core.specs.Holding.{NamesResource, Wants, step_in}
 use Rattle.ccr_core.specs.State.{no_pipeline}
 use Rattle.ccr_serve.specs.Asked.{Answers, BeginsAnswer}
-use Rattle.ccr_serve.proofs.Wants.{some_mapped, has_pipeline, launches}
+use Rattle.ccr_serve.proofs.Wants.{some_mapped, some_of, has_pipeline, launches, step_there}
 use Rattle.ccr_serve.proofs.wanted.answer_wanted.Goals as goal
 
 pub unwrap-pipeline-requires : goal.unwrap-pipeline-requires
@@ -16,6 +19,12 @@ unwrap-pipeline-requires g c =
     let held = core_data c.args.core.now in
     some_mapped pipeline_data c.pipeline.result held.pipeline c.pipeline.ensures
     (has_pipeline held c.args.job.now c.args.number c.rules.ensures c.requires)
+
+pub unwrap-requires : goal.unwrap-requires
+unwrap-requires g c =
+    let held = core_data c.args.core.now in
+    some_of (λ (s : Bor Step). tree_of s.now) c.step_of.result (step_in held c.args.job.now c.args.number) c.step_of.ensures
+    (step_there held c.args.job.now c.args.number c.rules.ensures c.requires)
 
 pub answer_to-requires : goal.answer_to-requires
 answer_to-requires g c =
@@ -31,13 +40,16 @@ returns-in-Ok-clause-ok g c =
     record {
       ask = c.unwrap-turn.result.1;
       wants = subst (λ w. Wants held c.args.job.now c.args.number w) c.unwrap-turn.ensures c.wants.ensures.asked;
+      step = tree_of c.unwrap.result.now;
+      at = sym c.step_of.ensures ∙ ap (λ o. option_map (λ (s : Bor Step). tree_of s.now) o) c.unwrap.ensures;
       pair = o.0;
       adds = o.1;
       answers = subst
           (λ p. Answers (places_data c.args.places.now) (unwrap_or p no_pipeline).resources
-          (build_folder (places_data c.args.places.now) c.args.job.now c.args.number) (ask_data c.unwrap-turn.result.1)
+          c.args.job.now c.args.number (step_name (tree_of c.unwrap.result.now)) (ask_data c.unwrap-turn.result.1)
           (g.S.Shelf.calls c.args.shelf.now) (g.S.Shelf.calls c.answer_to.new.shelf) o.0 (said_data c.in-Ok.said))
-          (ap (λ q. option_map pipeline_data (option_copied q)) (sym c.unwrap-pipeline.ensures) ∙ c.pipeline.ensures) o.2;
+          (ap (λ q. option_map pipeline_data (option_copied q)) (sym c.unwrap-pipeline.ensures) ∙ c.pipeline.ensures)
+          (rw c.step_name-name.ensures at o.2);
     }
 
 pub returns-in-Err-clause-err : goal.returns-in-Err-clause-err
@@ -48,11 +60,14 @@ returns-in-Err-clause-err g c =
       turn = c.unwrap-turn.result.0;
       ask = c.unwrap-turn.result.1;
       wants = subst (λ w. Wants held c.args.job.now c.args.number w) c.unwrap-turn.ensures c.wants.ensures.asked;
+      step = tree_of c.unwrap.result.now;
+      at = sym c.step_of.ensures ∙ ap (λ o. option_map (λ (s : Bor Step). tree_of s.now) o) c.unwrap.ensures;
       lost = o.0;
       adds = o.1;
       begins = subst
           (λ p. BeginsAnswer (places_data c.args.places.now) (unwrap_or p no_pipeline).resources
-          (build_folder (places_data c.args.places.now) c.args.job.now c.args.number) (ask_data c.unwrap-turn.result.1)
+          c.args.job.now c.args.number (step_name (tree_of c.unwrap.result.now)) (ask_data c.unwrap-turn.result.1)
           (g.S.Shelf.calls c.args.shelf.now) (g.S.Shelf.calls c.answer_to.new.shelf) o.0)
-          (ap (λ q. option_map pipeline_data (option_copied q)) (sym c.unwrap-pipeline.ensures) ∙ c.pipeline.ensures) o.2;
+          (ap (λ q. option_map pipeline_data (option_copied q)) (sym c.unwrap-pipeline.ensures) ∙ c.pipeline.ensures)
+          (rw c.step_name-name.ensures at o.2);
     }

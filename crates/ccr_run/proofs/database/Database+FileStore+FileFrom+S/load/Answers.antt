@@ -3,8 +3,8 @@ use Rattle.std.proofs.lemmas.Result.{IfOk-weaker}
 use Rattle.sqlite_wal.specs.Files.{image_at}
 use Rattle.ccr_store.specs.Rows.{rows_of}
 use Rattle.sqlite.specs.Files.{over_files}
-use Rattle.ccr_run.proofs.Kept.{adopted}
-use Rattle.ccr_run.proofs.Unfound.{unfound_first, unfound_later}
+use Rattle.ccr_look.proofs.Adopted.{adopted}
+use Rattle.ccr_look.proofs.Unfound.{unfound_first, unfound_later}
 use Rattle.ccr_run.proofs.database.Database+FileStore+FileFrom+S.load.Goals as goal
 
 pub returns-in-Ok-clause-holds : goal.returns-in-Ok-clause-holds

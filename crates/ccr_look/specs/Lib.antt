@@ -1,0 +1,4 @@
+pub mod Holding
+pub mod Left
+pub mod Looks
+pub mod Unfound

@@ -1,0 +1,18 @@
+//! A look at a database that another program may have open: no lock, no waiting, nothing written.
+//!
+//! [`copy`] reads the database and its log, in an order in which the two belong together; [`look`] opens what was read in memory, and
+//! gives a core over the history that is found there, as it is: a build that runs is shown as running. What bytes hold, and what a look
+//! finds in them, stands in `specs/`.
+#![tactic(auto)]
+
+mod copied;
+mod fault;
+mod found;
+mod law;
+mod looking;
+mod opened;
+
+pub use copied::{Copied, copy};
+pub use fault::CopyFault;
+pub use law::a_look_finds_what_is_left;
+pub use looking::look;

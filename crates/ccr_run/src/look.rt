@@ -1,0 +1,92 @@
+//! A look is taken: the database is read, and not opened.
+ghost use Rattle.std.specs.Prelude.{◌≡◌, ◌≤◌, ◌++◌, not};
+ghost use Rattle.std.specs.Process.{exit_status};
+ghost use Rattle.ccr_core.specs.Cores.{core_data};
+ghost use Rattle.ccr_proof.specs.declared.proof.TheConstants.{MOST_NODES};
+ghost use Rattle.ccr_run.specs.Looked.{Looked, ShownOf, shown_end};
+ghost use Rattle.ccr_run.specs.Statuses.{exit_status_of};
+ghost use Rattle.ccr_run.specs.declared.run.Outcome.{Outcome as OutcomeData};
+
+use crate::failure::Failure;
+use crate::order::LookOrder;
+use crate::run::Outcome;
+use crate::tell::tell;
+use crate::telling::Telling;
+use ccr_core::Core;
+use ccr_lines::{AsText, Lines, Printed, Show, ShowFault};
+use ccr_look::{copy, look};
+use ccr_serve::ServeFault;
+use sqlite::FileStore;
+use sqlite_disk::Memory;
+use sqlite_trees::store::Store as Trees;
+use std::alloc::Global;
+use std::io::Write;
+use std::process::ExitCode;
+
+/// How it ended that something was shown.
+fn handed_on(end: Result<u8, ShowFault>) -> Result<u8, Failure>
+    ensures { result ≡ shown_end end }
+{
+    match end {
+        Ok(status) => Ok(status),
+        Err(ShowFault::Lacks(fault)) => Err(Failure::Refused(ServeFault::Core(fault))),
+        Err(ShowFault::BadPin) => Err(Failure::Refused(ServeFault::BadPin)),
+        Err(ShowFault::NoMemory) => Err(Failure::Refused(ServeFault::NoMemory)),
+    }
+}
+
+/// Shows of a core what is looked at, and hands all lines out.
+fn show_of<W: Write, E: Write>(
+    alloc: Global,
+    core: &Core,
+    order: &LookOrder<'_>,
+    out: &mut Printed<W, E>,
+) -> Result<u8, Failure>
+    ensures { ShownOf order.now (core_data core.now) result
+        (out.old.shown ++ out.old.waiting) (out.new.shown ++ out.new.waiting) }
+{
+    let end = AsText.show(alloc, out, &order.what, core);
+    out.hand_out();
+    handed_on(end)
+}
+
+/// Reads the database that is named, and shows what is looked at of the history in it.
+fn see<W: Write, E: Write>(
+    rt: &HostRuntime,
+    order: &LookOrder<'_>,
+    out: &mut Printed<W, E>,
+) -> Result<u8, Failure>
+    requires least { 1 ≤ order.now.options.budget }
+    requires most { order.now.options.budget ≤ MOST_NODES }
+    ensures { Looked ⟦<FileStore<Memory> as Trees>⟧ order.now result
+        (out.old.shown ++ out.old.waiting) (out.new.shown ++ out.new.waiting) }
+{
+    let copied = match copy(rt, order.options.database) {
+        Ok(copied) => copied,
+        Err(fault) => return Err(Failure::Unread(fault)),
+    };
+    match look(rt.alloc(), copied, order.options.budget) {
+        Ok(core) => show_of(rt.alloc(), &core, order, out),
+        Err(fault) => Err(Failure::Unfound(fault)),
+    }
+}
+
+/// Looks at what is ordered, and tells what came of it: the exit status. No lock is taken, and nothing is written but the lines.
+pub fn look_at<W: Write, E: Write>(
+    rt: &HostRuntime,
+    order: LookOrder<'_>,
+    out: &mut Printed<W, E>,
+) -> ExitCode
+    requires least { 1 ≤ order.options.budget }
+    requires most { order.options.budget ≤ MOST_NODES }
+    ensures { (outcome : OutcomeData) × Looked ⟦<FileStore<Memory> as Trees>⟧ order.entry outcome.end
+        (out.old.shown ++ out.old.waiting) (out.new.shown ++ out.new.waiting)
+        × (outcome.is_printed ≡ not out.new.failed) × (exit_status result ≡ exit_status_of outcome) }
+{
+    let outcome = Outcome {
+        end: see(rt, &order, out),
+        is_printed: !out.has_failed(),
+    };
+    let mut telling = Telling::new(rt);
+    tell(&mut telling, &order.into_order(), &outcome)
+}
