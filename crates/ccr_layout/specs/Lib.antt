@@ -1,0 +1,12 @@
+pub mod Nodes
+pub mod Spans
+pub mod Reaches
+pub mod Places
+pub mod Standing
+pub mod Bands
+pub mod Ends
+pub mod Drawing
+pub mod Pictures
+pub mod Layers
+pub mod Turns
+pub mod Passed

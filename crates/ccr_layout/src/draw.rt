@@ -1,9 +1,17 @@
 //! From where everything stands to what is drawn.
 
+ghost use Rattle.std.specs.Prelude.{◌≡◌, ◌+◌, ◌-◌, ◌↔◌, ◌<◌, ◌≤◌, ℕ, length, All, Contains, IfOk, OnOk, IsTrue, slice_index, slice_index_or};
+ghost use Rattle.ccr_layout.specs.Spans.{span_in};
+ghost use Rattle.ccr_layout.specs.Standing.{tops_in, IsStanding};
+ghost use Rattle.ccr_layout.specs.Drawing.{right_end, box_of, bend_of, end_of, path_of, slot_of, HasSlots, IsPathOf};
+
+use crate::across::band_at;
+use crate::at::at;
 use crate::band::Band;
-use crate::graph::{Edge, Node};
+use crate::graph::{Edge, Node, ends_at_tab, port_below};
 use crate::picture::{NodeBox, Path, Point, Slot, Tab};
-use crate::span::Span;
+use crate::span::{Span, height_in, passes, span_at};
+use crate::sweep::tops_at;
 use std::alloc::{AllocError, Global};
 
 /// How far apart two lanes are, in pixels.
@@ -12,103 +20,116 @@ const LANE: u32 = 14;
 /// How high a tab is, in pixels.
 const TAB: u32 = 18;
 
-/// Where everything stands.
-#[derive(Clone, Copy, Drop)]
-pub(crate) struct Plan<'a> {
-    pub(crate) nodes: &'a [Node],
-    pub(crate) spans: &'a [Span],
-    pub(crate) bands: &'a [Band],
-    /// For each column the top of each node.
-    pub(crate) tops: &'a [Vec<u32>],
+/// The top of a node's box or slot in a column.
+fn top_at(tops: &[Vec<u32>], node: usize, column: usize) -> u32
+    ensures { result ≡ slice_index (tops_in tops.now column) node }
+{
+    at(tops_at(tops, column), node)
 }
 
-impl<'a> Plan<'a> {
-    fn top(self, node: usize, column: usize) -> u32 {
-        self.tops[column][node]
+/// The right end of a node's box or slot in a column.
+fn right_end(spans: &[Span], bands: &[Band], tops: &[Vec<u32>], node: usize, column: usize) -> Point
+    requires { IsStanding spans.now tops.now }
+    ensures { result ≡ right_end spans.now bands.now tops.now node column }
+{
+    let height = height_in(span_at(spans, node), column);
+    Point {
+        x: band_at(bands, column).right,
+        y: top_at(tops, node, column) + height / 2,
     }
+}
 
-    /// The right end of a node's box or slot in a column.
-    fn right_end(self, node: usize, column: usize) -> Point {
-        Point {
-            x: self.bands[column].right(),
-            y: self.top(node, column) + self.spans[node].height_in(column) / 2,
-        }
+/// The box of a node.
+fn box_of(spans: &[Span], bands: &[Band], tops: &[Vec<u32>], node: usize) -> NodeBox
+    ensures { result ≡ box_of spans.now bands.now tops.now node }
+{
+    let span = span_at(spans, node);
+    let band = band_at(bands, span.column);
+    NodeBox {
+        column: span.column,
+        left: band.inner,
+        top: top_at(tops, node, span.column),
+        width: band.right.saturating_sub(band.inner),
+        height: span.height,
     }
+}
 
-    fn node_box(self, node: usize) -> NodeBox {
-        let column = self.spans[node].column;
-        let band = self.bands[column];
-        NodeBox {
-            column,
-            left: band.inner(),
-            top: self.top(node, column),
-            width: band.boxes,
-            height: self.spans[node].height,
-        }
+/// Where an edge comes to its target's column.
+fn bend_of(spans: &[Span], bands: &[Band], tops: &[Vec<u32>], edge: Edge) -> Point
+    requires { IsStanding spans.now tops.now }
+    ensures { result ≡ bend_of spans.now bands.now tops.now edge }
+{
+    let span = span_at(spans, edge.target);
+    Point {
+        x: band_at(bands, span.column).left,
+        y: top_at(tops, edge.target, span.column) + span.first_port + port_below(edge.port),
     }
+}
 
-    /// Where an edge comes to its target's column.
-    fn bend(self, edge: Edge) -> Point {
-        let column = self.spans[edge.target].column;
-        Point {
-            x: self.bands[column].left,
-            y: self.top(edge.target, column) + self.nodes[edge.target].offset(edge.port),
-        }
+/// Where an edge ends: at its tab, or at the box where it has none.
+fn end_of(nodes: &[Node], spans: &[Span], bands: &[Band], edge: Edge) -> u32
+    ensures { result ≡ end_of nodes.now spans.now bands.now edge }
+{
+    let band = band_at(bands, span_at(spans, edge.target).column);
+    if ends_at_tab(nodes, edge) {
+        band.left
+    } else {
+        band.inner
     }
+}
 
-    /// Where an edge ends: at its tab, or at the box where it has none.
-    fn end(self, edge: Edge) -> u32 {
-        let band = self.bands[self.spans[edge.target].column];
-        if self.nodes[edge.target].has_tab(edge.port) {
-            band.left
-        } else {
-            band.inner()
-        }
-    }
-
-    /// The way of an edge, with the lane of its target.
-    fn path(self, edge: Edge, lane: u32) -> Path {
-        let source = self.spans[edge.source].column;
-        let target = self.spans[edge.target].column;
-        if source < target {
-            Path::Forward {
-                from: self.right_end(edge.source, target - 1),
-                bend: self.bend(edge),
-                end: self.end(edge),
-            }
-        } else {
-            Path::Back {
-                from: self.right_end(edge.source, source),
-                lane,
-                bend: self.bend(edge),
-                end: self.end(edge),
-            }
+/// The way of an edge, from where it begins, with the lane of its target.
+fn path_of(from: Point, bend: Point, end: u32, lane: u32, is_forward: bool) -> Path
+    ensures { result ≡ path_of from bend end lane is_forward }
+{
+    if is_forward {
+        Path::Forward { from, bend, end }
+    } else {
+        Path::Back {
+            from,
+            lane,
+            bend,
+            end,
         }
     }
 }
 
 /// The boxes of the nodes.
-pub(crate) fn boxes_of(alloc: Global, plan: Plan) -> Result<Vec<NodeBox>, AllocError> {
+pub(crate) fn boxes_of(
+    alloc: Global,
+    spans: &[Span],
+    bands: &[Band],
+    tops: &[Vec<u32>],
+) -> Result<Vec<NodeBox>, AllocError>
+    ensures long { IfOk result (λ boxes. length boxes.items ≡ length spans.now) }
+    ensures each { IfOk result (λ boxes. (k : ℕ) (d : NodeBox) → k < length spans.now
+        → slice_index_or boxes.items k d ≡ box_of spans.now bands.now tops.now k) }
+{
     let mut boxes = Vec::new(alloc);
-    for node in 0..plan.nodes.len() {
-        boxes.push(plan.node_box(node))?;
+    for node in 0..spans.len() {
+        boxes.push(box_of(spans, bands, tops, node))?;
     }
     Ok(boxes)
 }
 
-/// Adds the tabs of a node.
-fn push_tabs(tabs: &mut Vec<Tab>, plan: Plan, node: usize) -> Result<(), AllocError> {
-    let band = plan.bands[plan.spans[node].column];
-    let shape = &plan.nodes[node];
-    let top = plan.top(node, plan.spans[node].column);
+/// Adds the tabs of a node, whose box is this one.
+fn push_tabs(
+    tabs: &mut Vec<Tab>,
+    node: usize,
+    shape: &Node,
+    frame: NodeBox,
+    band: Band,
+) -> Result<(), AllocError> {
+    let first = frame.top.saturating_add(shape.first_port());
     for port in 0..shape.tabs.len() {
         if shape.has_tab(port) {
+            let middle = first.saturating_add(port_below(port));
             tabs.push(Tab {
                 node,
                 port,
                 left: band.left,
-                top: (top + shape.offset(port)).saturating_sub(TAB / 2),
-                width: band.tabs,
+                top: middle.saturating_sub(TAB / 2),
+                width: band.inner.saturating_sub(band.left),
                 height: TAB,
             })?;
         }
@@ -117,36 +138,72 @@ fn push_tabs(tabs: &mut Vec<Tab>, plan: Plan, node: usize) -> Result<(), AllocEr
 }
 
 /// The tabs of the nodes.
-pub(crate) fn tabs_of(alloc: Global, plan: Plan) -> Result<Vec<Tab>, AllocError> {
+pub(crate) fn tabs_of(
+    alloc: Global,
+    nodes: &[Node],
+    spans: &[Span],
+    bands: &[Band],
+    tops: &[Vec<u32>],
+) -> Result<Vec<Tab>, AllocError> {
     let mut tabs = Vec::new(alloc);
-    for node in 0..plan.nodes.len() {
-        push_tabs(&mut tabs, plan, node)?;
+    for node in 0..nodes.len() {
+        let frame = box_of(spans, bands, tops, node);
+        let band = band_at(bands, frame.column);
+        push_tabs(&mut tabs, node, &nodes[node], frame, band)?;
     }
     Ok(tabs)
 }
 
+/// The slot of a node in a column, with the piece that leads to it.
+fn slot_of(spans: &[Span], bands: &[Band], tops: &[Vec<u32>], node: usize, column: usize) -> Slot
+    requires { IsStanding spans.now tops.now }
+    ensures { result ≡ slot_of spans.now bands.now tops.now node column }
+{
+    let band = band_at(bands, column);
+    Slot {
+        node,
+        column,
+        from: right_end(spans, bands, tops, node, column.saturating_sub(1)),
+        left: band.left,
+        right: band.right,
+        top: top_at(tops, node, column),
+    }
+}
+
 /// Adds the slots of a node.
-fn push_slots(slots: &mut Vec<Slot>, plan: Plan, node: usize) -> Result<(), AllocError> {
-    let span = plan.spans[node];
-    for column in span.column + 1..span.reach {
-        let band = plan.bands[column];
-        slots.push(Slot {
-            node,
-            column,
-            from: plan.right_end(node, column - 1),
-            left: band.left,
-            right: band.right(),
-            top: plan.top(node, column),
-        })?;
+fn push_slots(
+    slots: &mut Vec<Slot>,
+    spans: &[Span],
+    bands: &[Band],
+    tops: &[Vec<u32>],
+    node: usize,
+) -> Result<(), AllocError>
+    requires standing { IsStanding spans.now tops.now }
+    requires earlier { HasSlots spans.now bands.now tops.now node 0 slots.old.items }
+    ensures { OnOk result (HasSlots spans.now bands.now tops.now (node + 1) 0 slots.new.items) }
+{
+    let span = span_at(spans, node);
+    for column in 0..span.reach {
+        if passes(span, column) {
+            slots.push(slot_of(spans, bands, tops, node, column))?;
+        }
     }
     Ok(())
 }
 
 /// The slots of the nodes.
-pub(crate) fn slots_of(alloc: Global, plan: Plan) -> Result<Vec<Slot>, AllocError> {
+pub(crate) fn slots_of(
+    alloc: Global,
+    spans: &[Span],
+    bands: &[Band],
+    tops: &[Vec<u32>],
+) -> Result<Vec<Slot>, AllocError>
+    requires { IsStanding spans.now tops.now }
+    ensures { IfOk result (λ slots. HasSlots spans.now bands.now tops.now (length spans.now) 0 slots.items) }
+{
     let mut slots = Vec::new(alloc);
-    for node in 0..plan.nodes.len() {
-        push_slots(&mut slots, plan, node)?;
+    for node in 0..spans.len() {
+        push_slots(&mut slots, spans, bands, tops, node)?;
     }
     Ok(slots)
 }
@@ -154,20 +211,27 @@ pub(crate) fn slots_of(alloc: Global, plan: Plan) -> Result<Vec<Slot>, AllocErro
 /// Where the lowest box or slot ends.
 pub(crate) fn bottom_of(boxes: &[NodeBox], slots: &[Slot]) -> u32 {
     let mut bottom = 0;
-    for node in boxes {
-        bottom = bottom.max(node.top + node.height);
+    for frame in boxes {
+        bottom = frame.top.saturating_add(frame.height).max(bottom);
     }
     for slot in slots {
-        bottom = bottom.max(slot.top);
+        bottom = slot.top.max(bottom);
     }
     bottom
+}
+
+/// Whether an edge leads to a later column.
+fn is_forward(spans: &[Span], edge: Edge) -> bool
+    ensures { IsTrue result ↔ ((span_in spans.now edge.source).column < (span_in spans.now edge.target).column) }
+{
+    span_at(spans, edge.source).column < span_at(spans, edge.target).column
 }
 
 /// For each node whether an edge leads back to it.
 fn backward(alloc: Global, edges: &[Edge], spans: &[Span]) -> Result<Vec<bool>, AllocError> {
     let mut backward = vec![in alloc; false; spans.len()]?;
     for edge in edges {
-        if spans[edge.target].column <= spans[edge.source].column {
+        if !is_forward(spans, *edge) && edge.target < backward.len() {
             backward[edge.target] = true;
         }
     }
@@ -182,28 +246,57 @@ pub(crate) fn lanes_of(
     bottom: u32,
 ) -> Result<(Vec<u32>, u32), AllocError> {
     let mut lanes = Vec::new(alloc);
-    let mut next = bottom + 16;
+    let mut next = bottom.saturating_add(16);
     let mut end = bottom;
     for has_lane in &backward(alloc, edges, spans)? {
         lanes.push(next)?;
         if *has_lane {
-            next += LANE;
+            next = next.saturating_add(LANE);
             end = next;
         }
     }
     Ok((lanes, end))
 }
 
+/// Where an edge begins: at the right end of its source in the last column before its target, or of its box if it leads back.
+fn start_of(spans: &[Span], bands: &[Band], tops: &[Vec<u32>], edge: Edge) -> Point
+    requires { IsStanding spans.now tops.now }
+    ensures forward { let target = (span_in spans.now edge.target).column in
+        (span_in spans.now edge.source).column < target
+        → result ≡ right_end spans.now bands.now tops.now edge.source (target - 1) }
+    ensures back { let source = (span_in spans.now edge.source).column in
+        (span_in spans.now edge.target).column ≤ source
+        → result ≡ right_end spans.now bands.now tops.now edge.source source }
+{
+    let source = span_at(spans, edge.source).column;
+    let target = span_at(spans, edge.target).column;
+    let column = if source < target { target - 1 } else { source };
+    right_end(spans, bands, tops, edge.source, column)
+}
+
 /// The ways of the edges.
 pub(crate) fn paths_of(
     alloc: Global,
-    plan: Plan,
+    nodes: &[Node],
     edges: &[Edge],
+    spans: &[Span],
+    bands: &[Band],
+    tops: &[Vec<u32>],
     lanes: &[u32],
-) -> Result<Vec<Path>, AllocError> {
+) -> Result<Vec<Path>, AllocError>
+    requires { IsStanding spans.now tops.now }
+    ensures long { IfOk result (λ paths. length paths.items ≡ length edges.now) }
+    ensures each { IfOk result (λ paths. (k : ℕ) (d : Path) (e : Edge) → k < length edges.now
+        → IsPathOf nodes.now spans.now bands.now tops.now (slice_index_or edges.now k e) (slice_index_or paths.items k d)) }
+{
     let mut paths = Vec::new(alloc);
     for edge in edges {
-        paths.push(plan.path(*edge, lanes[edge.target]))?;
+        let from = start_of(spans, bands, tops, *edge);
+        let bend = bend_of(spans, bands, tops, *edge);
+        let end = end_of(nodes, spans, bands, *edge);
+        let lane = at(lanes, edge.target);
+        let is_forward = is_forward(spans, *edge);
+        paths.push(path_of(from, bend, end, lane, is_forward))?;
     }
     Ok(paths)
 }

@@ -1,5 +1,10 @@
 //! What is drawn: boxes, and the lines between them.
 
+ghost use Rattle.std.specs.Prelude.{◌≡◌, ◌+◌, ◌*◌, ◌/◌, ◌<◌, ◌≤◌, ◌↔◌, length, min, IsTrue, slice_index_or, is_some};
+ghost use Rattle.ccr_layout.specs.Ends.{tab_in};
+ghost use Rattle.ccr_layout.specs.Nodes.{IsJob};
+ghost use Rattle.ccr_layout.specs.Passed.{kind_in};
+
 /// What a node stands for.
 #[derive(Clone, Copy, Drop)]
 pub enum Kind {
@@ -11,9 +16,9 @@ pub enum Kind {
 #[derive(Drop)]
 pub struct Node {
     pub kind: Kind,
-    /// In pixels, at most 1000.
+    /// In pixels; no box is drawn wider than 1000.
     pub width: u32,
-    /// For each port from the top the width of its tab in pixels, at most 1000, or none. A resource has no ports.
+    /// For each port from the top the width of its tab in pixels, or none. A resource has no ports, and a job at most 32.
     pub tabs: Vec<Option<u32>>,
 }
 
@@ -28,11 +33,27 @@ pub struct Edge {
     pub trigger: bool,
 }
 
+/// The most nodes of a graph: 200 resources and 200 jobs.
+pub const MOST_NODES: usize = 400;
+
+/// The most ports of a job.
+pub const MOST_PORTS: usize = 32;
+
+/// The last column in which a node can stand.
+pub(crate) const MOST_COLUMN: usize = MOST_NODES + 2;
+
+/// How wide a box or a tab is drawn at most, in pixels.
+pub const MOST_WIDTH: u32 = 1000;
+
 /// How far apart two ports of a box are, in pixels.
 const PORT: u32 = 22;
 
 impl Node {
-    pub(crate) fn is_job(&self) -> bool {
+    ghost use Rattle.ccr_layout.specs.Nodes.{port_count, height_of, first_port_of};
+
+    pub(crate) fn is_job(&self) -> bool
+        ensures { IsTrue result ↔ IsJob self.now.kind }
+    {
         match self.kind {
             Kind::Job => true,
             Kind::Resource => false,
@@ -40,44 +61,82 @@ impl Node {
     }
 
     /// How many ports it has.
-    fn ports(&self) -> u32 {
-        self.tabs.len() as u32
+    fn ports(&self) -> u32
+        ensures value { result ≡ port_count self.now.tabs.items }
+        ensures few { result ≤ 32 }
+    {
+        self.tabs.len().min(MOST_PORTS) as u32
     }
 
     /// How high its box is, in pixels.
-    pub(crate) fn height(&self) -> u32 {
+    pub(crate) fn height(&self) -> u32
+        ensures value { result ≡ height_of self.now.kind self.now.tabs.items }
+        ensures high { 40 ≤ result }
+        ensures low { result ≤ 710 }
+    {
         match self.kind {
             Kind::Resource => 40,
             Kind::Job => (PORT * self.ports() + 6).max(46),
         }
     }
 
-    /// How far below the top of its box a line to this port ends, in pixels.
-    pub(crate) fn offset(&self, port: usize) -> u32 {
+    /// How far below the top of its box a line to its first port ends, in pixels.
+    pub(crate) fn first_port(&self) -> u32
+        ensures value { result ≡ first_port_of self.now.kind self.now.tabs.items }
+        ensures low { result ≤ 40 }
+    {
         match self.kind {
-            Kind::Resource => self.height() / 2,
+            Kind::Resource => 20,
             Kind::Job => {
-                (self.height() - PORT * self.ports()) / 2 + PORT * (port as u32) + PORT / 2
+                let ports = PORT * self.ports();
+                ((ports + 6).max(46) - ports) / 2 + PORT / 2
             }
         }
     }
 
     /// The width of the widest tab, 0 where there is none.
-    pub(crate) fn widest_tab(&self) -> u32 {
+    pub(crate) fn widest_tab(&self) -> u32
+        ensures { result ≤ 1000 }
+    {
         let mut widest = 0;
         for tab in &self.tabs {
-            if let Some(width) = tab {
-                widest = widest.max(*width);
-            }
+            widest = tab.unwrap_or(0).min(MOST_WIDTH).max(widest);
         }
         widest
     }
 
     /// Whether this port has a tab.
-    pub(crate) fn has_tab(&self, port: usize) -> bool {
-        match self.tabs.get(port) {
-            Some(Some(_)) => true,
-            _ => false,
-        }
+    pub(crate) fn has_tab(&self, port: usize) -> bool
+        ensures { result ≡ is_some (slice_index_or self.now.tabs.items port None) }
+    {
+        self.tabs.get(port).copied().unwrap_or(None).is_some()
+    }
+}
+
+/// Whether this node is a job.
+pub(crate) fn is_job(nodes: &[Node], node: usize) -> bool
+    ensures { IsTrue result ↔ IsJob (kind_in nodes.now node) }
+{
+    match nodes.get(node) {
+        Some(node) => node.is_job(),
+        None => false,
+    }
+}
+
+/// How far below its first port a port is, in pixels.
+pub(crate) fn port_below(port: usize) -> u32
+    ensures value { result ≡ 22 * min port 32 }
+    ensures low { result ≤ 704 }
+{
+    PORT * (port.min(MOST_PORTS) as u32)
+}
+
+/// Whether an edge ends at a tab.
+pub(crate) fn ends_at_tab(nodes: &[Node], edge: Edge) -> bool
+    ensures { result ≡ is_some (tab_in nodes.now edge.target edge.port) }
+{
+    match nodes.get(edge.target) {
+        Some(node) => node.has_tab(edge.port),
+        None => false,
     }
 }

@@ -1,32 +1,77 @@
 //! Layers: a job's is the longest chain of jobs before it.
 
+ghost use Rattle.std.specs.Prelude.{◌≡◌, ◌+◌, ◌<◌, ◌≤◌, ℕ, true, false, length, All, Contains, IfOk, IfSome, IfNone, slice_index, slice_index_or, slice_set};
+ghost use Rattle.ccr_layout.specs.Layers.{named_in, AreLayers};
+ghost use Rattle.ccr_layout.specs.Turns.{IsNext};
+
+use crate::at::{column_at, set_column_at};
 use std::alloc::{AllocError, Global};
 
-/// Whether all of these are done.
-fn are_done(jobs: &[usize], done: &[bool]) -> bool {
-    for job in jobs {
-        if !done[*job] {
-            return false;
-        }
+/// Whether a node is done.
+fn is_done(done: &[bool], node: usize) -> bool
+    ensures { result ≡ slice_index_or done.now node true }
+{
+    done.get(node).copied().unwrap_or(true)
+}
+
+/// Notes that a node is done.
+fn set_done(done: &mut [bool], node: usize)
+    ensures { done.new ≡ slice_set done.old node true }
+{
+    if node < done.len() {
+        done[node] = true;
     }
-    true
 }
 
 /// The first of these that isn't done.
-fn first_left(jobs: &[usize], done: &[bool]) -> Option<usize> {
+fn first_left(jobs: &[usize], done: &[bool]) -> Option<usize>
+    ensures some { IfSome result (λ s. Contains jobs.now s) }
+    ensures left { IfSome result (λ s. slice_index_or done.now s true ≡ false) }
+    ensures none { IfNone result ((s : ℕ) → Contains jobs.now s → slice_index_or done.now s true ≡ true) }
+{
     for job in jobs {
-        if !done[*job] {
+        if !is_done(done, *job) {
             return Some(*job);
         }
     }
     None
 }
 
+/// The nodes that this one names.
+fn named_by(named: &[Vec<usize>], node: usize) -> &[usize]
+    ensures { result.now ≡ named_in named.now node }
+{
+    match named.get(node) {
+        Some(jobs) => jobs.as_slice(),
+        None => &[],
+    }
+}
+
 /// The first node that isn't done and names only nodes that are.
-fn first_ready(named: &[Vec<usize>], done: &[bool]) -> Option<usize> {
-    for job in 0..named.len() {
-        if !done[job] && are_done(&named[job], done) {
-            return Some(job);
+fn first_ready(named: &[Vec<usize>], done: &[bool]) -> Option<usize>
+    ensures some { IfSome result (λ t. t < length named.now) }
+    ensures left { IfSome result (λ t. slice_index_or done.now t true ≡ false) }
+    ensures ready { IfSome result (λ t. (s : ℕ) → Contains (named_in named.now t) s
+        → slice_index_or done.now s true ≡ true) }
+    ensures none { IfNone result ((t : ℕ) → t < length named.now → slice_index_or done.now t true ≡ false
+        → (s : ℕ) × (Contains (named_in named.now t) s × (slice_index_or done.now s true ≡ false))) }
+{
+    for node in 0..named.len() {
+        if !is_done(done, node) && first_left(named_by(named, node), done).is_none() {
+            return Some(node);
+        }
+    }
+    None
+}
+
+/// The first node that isn't done.
+fn first_waiting(done: &[bool]) -> Option<usize>
+    ensures some { IfSome result (λ t. slice_index_or done.now t true ≡ false) }
+    ensures none { IfNone result ((t : ℕ) → slice_index_or done.now t true ≡ true) }
+{
+    for node in 0..done.len() {
+        if !done[node] {
+            return Some(node);
         }
     }
     None
@@ -35,38 +80,60 @@ fn first_ready(named: &[Vec<usize>], done: &[bool]) -> Option<usize> {
 /// A node that isn't done, on a cycle if all that are left wait for one another.
 ///
 /// So many steps back as there are nodes end on a cycle, wherever they begin.
-fn on_cycle(named: &[Vec<usize>], done: &[bool]) -> Option<usize> {
-    let mut job = done.iter().position(|is_done| !*is_done)?;
-    for _ in 0..named.len() {
-        if let Some(before) = first_left(&named[job], done) {
-            job = before;
+fn on_cycle(named: &[Vec<usize>], done: &[bool]) -> Option<usize>
+    ensures some { IfSome result (λ t. slice_index_or done.now t true ≡ false) }
+    ensures none { IfNone result ((t : ℕ) → slice_index_or done.now t true ≡ true) }
+{
+    let mut node = first_waiting(done)?;
+    for step in 0..named.len() {
+        if let Some(before) = first_left(named_by(named, node), done) {
+            node = before;
         }
     }
-    Some(job)
+    Some(node)
 }
 
 /// One more than the greatest layer of those of these that are done, or 0.
-fn layer_above(jobs: &[usize], layers: &[usize], done: &[bool]) -> usize {
+fn layer_above(jobs: &[usize], layers: &[usize], done: &[bool]) -> usize
+    requires { All (λ l. l ≤ 400) layers.now }
+    ensures low { (most : ℕ) → All (λ l. l ≤ most) layers.now → result ≤ most + 1 }
+    ensures above { (s : ℕ) → Contains jobs.now s → slice_index_or done.now s true ≡ true
+        → slice_index layers.now s + 1 ≤ result }
+{
     let mut above = 0;
     for job in jobs {
-        if done[*job] {
-            above = above.max(layers[*job] + 1);
+        if is_done(done, *job) {
+            above = (column_at(layers, *job) + 1).max(above);
         }
     }
     above
 }
 
+/// A node that isn't done and can be next: one that names none that is left, and else one on a cycle.
+fn next_node(named: &[Vec<usize>], done: &[bool]) -> Option<usize>
+    requires { length done.now ≡ length named.now }
+    ensures { IsNext named.now done.now result }
+{
+    match first_ready(named, done) {
+        Some(node) => Some(node),
+        None => on_cycle(named, done),
+    }
+}
+
 /// The layer of each node, from the nodes that each one names.
 ///
 /// A node that lies on a cycle, where nothing else can come next, doesn't wait for the nodes that it names.
-pub(crate) fn layers_of(alloc: Global, named: &[Vec<usize>]) -> Result<Vec<usize>, AllocError> {
+pub(crate) fn layers_of(alloc: Global, named: &[Vec<usize>]) -> Result<Vec<usize>, AllocError>
+    requires { length named.now ≤ 400 }
+    ensures { IfOk result (λ layers. AreLayers named.now layers.items) }
+{
     let mut layers = vec![in alloc; 0; named.len()]?;
     let mut done = vec![in alloc; false; named.len()]?;
-    for _ in 0..named.len() {
-        let next = first_ready(named, &done).or(on_cycle(named, &done));
-        if let Some(job) = next {
-            layers[job] = layer_above(&named[job], &layers, &done);
-            done[job] = true;
+    for turn in 0..named.len() {
+        if let Some(node) = next_node(named, &done) {
+            let above = layer_above(named_by(named, node), &layers, &done);
+            set_column_at(&mut layers, node, above);
+            set_done(&mut done, node);
         }
     }
     Ok(layers)

@@ -1,33 +1,34 @@
 //! The whole.
 
-use crate::band::bands_of;
-use crate::draw::{Plan, bottom_of, boxes_of, lanes_of, paths_of, slots_of, tabs_of};
-use crate::graph::{Edge, Node};
+ghost use Rattle.std.specs.Prelude.{◌≤◌, length, IfOk};
+ghost use Rattle.ccr_layout.specs.Pictures.{IsPicture};
+
+use crate::across::bands_of;
+use crate::draw::{bottom_of, boxes_of, lanes_of, paths_of, slots_of, tabs_of};
+use crate::graph::{Edge, MOST_NODES, Node};
 use crate::line::lines_of;
 use crate::picture::Picture;
 use crate::span::{column_count, spans_of};
-use crate::sweep::stand_of;
+use crate::sweep::tops_of;
 use std::alloc::{AllocError, Global};
 
 /// The picture of a graph.
-pub fn picture_of(alloc: Global, nodes: &[Node], edges: &[Edge]) -> Result<Picture, AllocError> {
+pub fn picture_of(alloc: Global, nodes: &[Node], edges: &[Edge]) -> Result<Picture, AllocError>
+    requires { length nodes.now ≤ MOST_NODES }
+    ensures { IfOk result (λ p. IsPicture nodes.now edges.now p.boxes.items p.slots.items p.paths.items) }
+{
     let spans = spans_of(alloc, nodes, edges)?;
-    let lines = lines_of(alloc, nodes, edges, &spans, column_count(&spans))?;
-    let stand = stand_of(alloc, &spans, &lines)?;
+    let columns = column_count(&spans);
+    let lines = lines_of(alloc, edges, &spans, columns)?;
+    let tops = tops_of(alloc, &spans, &lines)?;
     let bands = bands_of(alloc, nodes, &spans, &lines)?;
-    let plan = Plan {
-        nodes,
-        spans: &spans,
-        bands: &bands,
-        tops: &stand.tops,
-    };
-    let boxes = boxes_of(alloc, plan)?;
-    let slots = slots_of(alloc, plan)?;
-    let tabs = tabs_of(alloc, plan)?;
+    let boxes = boxes_of(alloc, &spans, &bands, &tops)?;
+    let slots = slots_of(alloc, &spans, &bands, &tops)?;
+    let tabs = tabs_of(alloc, nodes, &spans, &bands, &tops)?;
     let (lanes, height) = lanes_of(alloc, edges, &spans, bottom_of(&boxes, &slots))?;
-    let paths = paths_of(alloc, plan, edges, &lanes)?;
+    let paths = paths_of(alloc, nodes, edges, &spans, &bands, &tops, &lanes)?;
     let width = match bands.last() {
-        Some(band) => band.right() + 40,
+        Some(band) => band.right.saturating_add(40),
         None => 80,
     };
     Ok(Picture {

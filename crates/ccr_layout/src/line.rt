@@ -1,7 +1,9 @@
 //! Lines from one column to the next.
 
-use crate::graph::{Edge, Node};
-use crate::span::Span;
+ghost use Rattle.std.specs.Prelude.{◌≡◌, ◌≤◌, length, IfOk};
+
+use crate::graph::{Edge, port_below};
+use crate::span::{Span, passes, span_at};
 use std::alloc::{AllocError, Global};
 
 /// A line from a node's box or slot in one column to a node's box or slot in the next. Its end is a slot where both are one node.
@@ -14,21 +16,19 @@ pub(crate) struct Line {
     pub(crate) trigger: bool,
 }
 
-impl Line {
-    /// Whether it ends at a box.
-    pub(crate) fn ends(self) -> bool {
-        self.from != self.to
-    }
+/// Whether a line ends at a box.
+pub(crate) fn ends(line: Line) -> bool {
+    line.from != line.to
 }
 
 /// The pieces of long lines that end in the slots of this column.
 fn pieces(alloc: Global, spans: &[Span], column: usize) -> Result<Vec<Line>, AllocError> {
     let mut lines = Vec::new(alloc);
-    for k in 0..spans.len() {
-        if spans[k].passes(column) {
+    for node in 0..spans.len() {
+        if passes(spans[node], column) {
             lines.push(Line {
-                from: k,
-                to: k,
+                from: node,
+                to: node,
                 offset: 0,
                 trigger: true,
             })?;
@@ -37,28 +37,56 @@ fn pieces(alloc: Global, spans: &[Span], column: usize) -> Result<Vec<Line>, All
     Ok(lines)
 }
 
-/// For each column the lines that end there.
-pub(crate) fn lines_of(
-    alloc: Global,
-    nodes: &[Node],
-    edges: &[Edge],
-    spans: &[Span],
-    columns: usize,
-) -> Result<Vec<Vec<Line>>, AllocError> {
+/// The pieces of long lines, for each column.
+fn all_pieces(alloc: Global, spans: &[Span], columns: usize) -> Result<Vec<Vec<Line>>, AllocError>
+    ensures { IfOk result (λ lines. length lines.items ≡ columns) }
+{
     let mut lines = Vec::new(alloc);
     for column in 0..columns {
         lines.push(pieces(alloc, spans, column)?)?;
     }
+    Ok(lines)
+}
+
+/// Adds a line that ends in this column.
+fn push_line(lines: &mut Vec<Vec<Line>>, column: usize, line: Line) -> Result<(), AllocError>
+    ensures { length lines.new.items ≡ length lines.old.items }
+{
+    if column < lines.len() {
+        lines[column].push(line)?;
+    }
+    Ok(())
+}
+
+/// For each column the lines that end there.
+pub(crate) fn lines_of(
+    alloc: Global,
+    edges: &[Edge],
+    spans: &[Span],
+    columns: usize,
+) -> Result<Vec<Vec<Line>>, AllocError>
+    ensures { IfOk result (λ lines. length lines.items ≡ columns) }
+{
+    let mut lines = all_pieces(alloc, spans, columns)?;
     for edge in edges {
-        let column = spans[edge.target].column;
-        if spans[edge.source].column < column {
-            lines[column].push(Line {
+        let target = span_at(spans, edge.target);
+        if span_at(spans, edge.source).column < target.column {
+            let line = Line {
                 from: edge.source,
                 to: edge.target,
-                offset: nodes[edge.target].offset(edge.port),
+                offset: target.first_port.saturating_add(port_below(edge.port)),
                 trigger: edge.trigger,
-            })?;
+            };
+            push_line(&mut lines, target.column, line)?;
         }
     }
     Ok(lines)
+}
+
+/// The lines that end in this column, none where there is no such column.
+pub(crate) fn ending(lines: &[Vec<Line>], column: usize) -> &[Line] {
+    match lines.get(column) {
+        Some(lines) => lines.as_slice(),
+        None => &[],
+    }
 }

@@ -1,7 +1,6 @@
 //! The mean of heights.
 
-/// How many heights a mean takes at most. No picture has so many lines.
-const MOST: u64 = 1_000_000_000;
+use std::alloc::{AllocError, Global};
 
 /// The mean of heights that are added one by one.
 #[derive(Clone, Copy, Drop)]
@@ -13,19 +12,10 @@ pub(crate) struct Mean {
 impl Mean {
     pub(crate) const EMPTY: Mean = Mean { sum: 0, count: 0 };
 
-    pub(crate) fn add(&mut self, height: u32) {
-        if self.count < MOST {
-            self.sum += height as u64;
-            self.count += 1;
-        }
-    }
-
     /// Adds all that another one has.
-    pub(crate) fn join(&mut self, other: Mean) {
-        if self.count + other.count <= MOST {
-            self.sum += other.sum;
-            self.count += other.count;
-        }
+    fn join(&mut self, other: Mean) {
+        self.sum = self.sum.saturating_add(other.sum);
+        self.count = self.count.saturating_add(other.count);
     }
 
     /// The mean, rounded down, or none where nothing was added.
@@ -33,7 +23,48 @@ impl Mean {
         if self.count == 0 {
             None
         } else {
-            Some((self.sum / self.count) as u32)
+            Some((self.sum / self.count).min(u32::MAX as u64) as u32)
         }
     }
+}
+
+/// The mean of one height.
+fn mean_of(height: u32) -> Mean {
+    Mean {
+        sum: height as u64,
+        count: 1,
+    }
+}
+
+/// What was added for a node.
+pub(crate) fn mean_at(means: &[Mean], node: usize) -> Mean {
+    means.get(node).copied().unwrap_or(Mean::EMPTY)
+}
+
+/// Adds another mean for a node.
+pub(crate) fn join_at(means: &mut [Mean], node: usize, other: Mean) {
+    if node < means.len() {
+        means[node].join(other);
+    }
+}
+
+/// Adds a height for a node.
+pub(crate) fn add_at(means: &mut [Mean], node: usize, height: u32) {
+    join_at(means, node, mean_of(height));
+}
+
+/// Forgets what was added for a node.
+pub(crate) fn clear_at(means: &mut [Mean], node: usize) {
+    if node < means.len() {
+        means[node] = Mean::EMPTY;
+    }
+}
+
+/// The mean of each node.
+pub(crate) fn means_of(alloc: Global, means: &[Mean]) -> Result<Vec<Option<u32>>, AllocError> {
+    let mut heights = Vec::new(alloc);
+    for mean in means {
+        heights.push(mean.get())?;
+    }
+    Ok(heights)
 }

@@ -1,6 +1,13 @@
 //! From a node's column to the last column to which a line of it leads.
 
-use crate::graph::{Edge, Node};
+ghost use Rattle.std.specs.Prelude.{◌≡◌, ◌≢◌, ◌++◌, ◌∷◌, [], ◌+◌, ◌<◌, ◌≤◌, ◌↔◌, ℕ, length, map, All, Contains, IfOk, OnOk, IsTrue, slice_index, slice_set, max};
+ghost use Rattle.ccr_layout.specs.Layers.{named_in};
+ghost use Rattle.ccr_layout.specs.Passed.{AreNamed, LeadOn};
+ghost use Rattle.ccr_layout.specs.Reaches.{AreReaches};
+ghost use Rattle.ccr_layout.specs.Spans.{Passes, IsIn, height_in, span_in, AreSpans};
+
+use crate::at::column_at;
+use crate::graph::{Edge, MOST_COLUMN, Node, is_job};
 use crate::layer::layers_of;
 use std::alloc::{AllocError, Global};
 
@@ -13,52 +20,105 @@ pub(crate) struct Span {
     pub(crate) reach: usize,
     /// The height of the box, in pixels.
     pub(crate) height: u32,
+    /// How far below its top the first port is, in pixels.
+    pub(crate) first_port: u32,
 }
 
 impl Span {
-    /// Whether the node's lines pass through this column, in a slot.
-    pub(crate) fn passes(self, column: usize) -> bool {
-        self.column < column && column < self.reach
-    }
+    const NONE: Span = Span {
+        column: 0,
+        reach: 0,
+        height: 0,
+        first_port: 0,
+    };
+}
 
-    /// Whether the node has its box or a slot in this column.
-    pub(crate) fn is_in(self, column: usize) -> bool {
-        self.column == column || self.passes(column)
-    }
+/// Whether a node's lines pass through this column, in a slot.
+pub(crate) fn passes(span: Span, column: usize) -> bool
+    ensures { IsTrue result ↔ Passes span column }
+{
+    span.column < column && column < span.reach
+}
 
-    /// How high it is in this column, in pixels: 0 where it has no box.
-    pub(crate) fn height_in(self, column: usize) -> u32 {
-        if self.column == column {
-            self.height
-        } else {
-            0
-        }
+/// Whether a node has its box or a slot in this column.
+pub(crate) fn is_in(span: Span, column: usize) -> bool
+    ensures { IsTrue result ↔ IsIn span column }
+{
+    span.column == column || passes(span, column)
+}
+
+/// How high a node is in this column, in pixels: 0 where it has no box.
+pub(crate) fn height_in(span: Span, column: usize) -> u32
+    ensures { result ≡ height_in span column }
+{
+    if span.column == column {
+        span.height
+    } else {
+        0
     }
 }
 
-/// For each node the jobs that it names in `passed`: the sources of edges between jobs.
-///
-/// The edges of a job stand together, so each is named once.
-fn named_jobs(
-    alloc: Global,
-    nodes: &[Node],
-    edges: &[Edge],
-) -> Result<Vec<Vec<usize>>, AllocError> {
-    let mut named = Vec::new(alloc);
-    for _ in 0..nodes.len() {
-        named.push(Vec::new(alloc))?;
+/// The span of a node.
+pub(crate) fn span_at(spans: &[Span], node: usize) -> Span
+    ensures { result ≡ span_in spans.now node }
+{
+    spans.get(node).copied().unwrap_or(Span::NONE)
+}
+
+/// A list for each node.
+fn lists(alloc: Global, nodes: usize) -> Result<Vec<Vec<usize>>, AllocError>
+    ensures long { IfOk result (λ lists. length lists.items ≡ nodes) }
+    ensures empty { IfOk result (λ lists. (t : ℕ) → named_in lists.items t ≡ []) }
+{
+    let mut lists = Vec::new(alloc);
+    for node in 0..nodes {
+        lists.push(Vec::new(alloc))?;
     }
-    let mut latest = vec![in alloc; None; nodes.len()]?;
+    Ok(lists)
+}
+
+/// Notes that one node names another.
+fn push_named(named: &mut Vec<Vec<usize>>, edge: Edge) -> Result<(), AllocError>
+    ensures long { length named.new.items ≡ length named.old.items }
+    ensures pushed { OnOk result (edge.target < length named.old.items → named_in named.new.items edge.target
+        ≡ named_in named.old.items edge.target ++ edge.source ∷ []) }
+    ensures others { (t : ℕ) → t ≢ edge.target → named_in named.new.items t ≡ named_in named.old.items t }
+    ensures past { length named.old.items ≤ edge.target → named_in named.new.items edge.target
+        ≡ named_in named.old.items edge.target }
+{
+    if edge.target < named.len() {
+        named[edge.target].push(edge.source)?;
+    }
+    Ok(())
+}
+
+/// For each node the jobs that it names in `passed`: the sources of edges between jobs.
+fn named_jobs(alloc: Global, nodes: &[Node], edges: &[Edge]) -> Result<Vec<Vec<usize>>, AllocError>
+    ensures { IfOk result (λ named. AreNamed nodes.now edges.now (length edges.now) named.items) }
+{
+    let mut named = lists(alloc, nodes.len())?;
     for edge in edges {
-        if nodes[edge.source].is_job()
-            && nodes[edge.target].is_job()
-            && latest[edge.source] != Some(edge.target)
-        {
-            named[edge.target].push(edge.source)?;
-            latest[edge.source] = Some(edge.target);
+        if is_job(nodes, edge.source) && is_job(nodes, edge.target) {
+            push_named(&mut named, *edge)?;
         }
     }
     Ok(named)
+}
+
+/// The least of the numbers that are noted for a node.
+fn note_least(least: &mut [Option<usize>], node: usize, number: usize) {
+    if node < least.len() {
+        least[node] = Some(least[node].unwrap_or(number).min(number));
+    }
+}
+
+/// The greatest of the numbers that are noted for a node.
+fn note_greatest(greatest: &mut [usize], node: usize, number: usize)
+    ensures { greatest.new ≡ slice_set greatest.old node (max (slice_index greatest.old node) number) }
+{
+    if node < greatest.len() {
+        greatest[node] = greatest[node].max(number);
+    }
 }
 
 /// For each resource the column left of the first job that gets it, if a job gets it.
@@ -70,12 +130,8 @@ fn gotten(
 ) -> Result<Vec<Option<usize>>, AllocError> {
     let mut columns = vec![in alloc; None; nodes.len()]?;
     for edge in edges {
-        if nodes[edge.target].is_job() {
-            let column = layers[edge.target];
-            columns[edge.source] = match columns[edge.source] {
-                Some(least) => Some(column.min(least)),
-                None => Some(column),
-            };
+        if is_job(nodes, edge.target) {
+            note_least(&mut columns, edge.source, column_at(layers, edge.target));
         }
     }
     Ok(columns)
@@ -90,36 +146,45 @@ fn put(
 ) -> Result<Vec<usize>, AllocError> {
     let mut columns = vec![in alloc; 0; nodes.len()]?;
     for edge in edges {
-        if !nodes[edge.target].is_job() {
-            columns[edge.target] = columns[edge.target].max(layers[edge.source] + 2);
+        if !is_job(nodes, edge.target) {
+            let column = column_at(layers, edge.source).saturating_add(2);
+            note_greatest(&mut columns, edge.target, column);
         }
     }
     Ok(columns)
 }
 
 /// The column of each node.
-fn columns_of(alloc: Global, nodes: &[Node], edges: &[Edge]) -> Result<Vec<usize>, AllocError> {
+fn columns_of(alloc: Global, nodes: &[Node], edges: &[Edge]) -> Result<Vec<usize>, AllocError>
+    requires { length nodes.now ≤ 400 }
+    ensures long { IfOk result (λ columns. length columns.items ≡ length nodes.now) }
+    ensures low { IfOk result (λ columns. All (λ c. c ≤ 402) columns.items) }
+    ensures later { IfOk result (λ columns. LeadOn nodes.now edges.now (slice_index columns.items)) }
+{
     let named = named_jobs(alloc, nodes, edges)?;
     let layers = layers_of(alloc, &named)?;
     let gotten = gotten(alloc, nodes, edges, &layers)?;
     let put = put(alloc, nodes, edges, &layers)?;
     let mut columns = Vec::new(alloc);
-    for k in 0..nodes.len() {
-        let column = if nodes[k].is_job() {
-            layers[k] + 1
+    for node in 0..nodes.len() {
+        let column = if nodes[node].is_job() {
+            column_at(&layers, node).saturating_add(1)
         } else {
-            gotten[k].unwrap_or(put[k])
+            let last = column_at(&put, node);
+            gotten.get(node).copied().flatten().unwrap_or(last)
         };
-        columns.push(column)?;
+        columns.push(column.min(MOST_COLUMN))?;
     }
     Ok(columns)
 }
 
 /// For each node the last column to which an edge leads from it, 0 where none does.
-fn reaches(alloc: Global, edges: &[Edge], columns: &[usize]) -> Result<Vec<usize>, AllocError> {
+fn reaches(alloc: Global, edges: &[Edge], columns: &[usize]) -> Result<Vec<usize>, AllocError>
+    ensures { IfOk result (λ reaches. AreReaches columns.now edges.now (length edges.now) reaches.items) }
+{
     let mut reaches = vec![in alloc; 0; columns.len()]?;
     for edge in edges {
-        reaches[edge.source] = reaches[edge.source].max(columns[edge.target]);
+        note_greatest(&mut reaches, edge.source, column_at(columns, edge.target));
     }
     Ok(reaches)
 }
@@ -129,25 +194,33 @@ pub(crate) fn spans_of(
     alloc: Global,
     nodes: &[Node],
     edges: &[Edge],
-) -> Result<Vec<Span>, AllocError> {
+) -> Result<Vec<Span>, AllocError>
+    requires { length nodes.now ≤ 400 }
+    ensures { IfOk result (λ spans. AreSpans nodes.now edges.now spans.items) }
+{
     let columns = columns_of(alloc, nodes, edges)?;
     let reaches = reaches(alloc, edges, &columns)?;
     let mut spans = Vec::new(alloc);
-    for k in 0..nodes.len() {
+    for node in 0..nodes.len() {
         spans.push(Span {
-            column: columns[k],
-            reach: reaches[k],
-            height: nodes[k].height(),
+            column: columns[node],
+            reach: column_at(&reaches, node),
+            height: nodes[node].height(),
+            first_port: nodes[node].first_port(),
         })?;
     }
     Ok(spans)
 }
 
 /// How many columns there are.
-pub(crate) fn column_count(spans: &[Span]) -> usize {
+pub(crate) fn column_count(spans: &[Span]) -> usize
+    requires { All (λ s. s.column ≤ 402) spans.now }
+    ensures past { All (λ s. s.column < result) spans.now }
+    ensures low { result ≤ 403 }
+{
     let mut count = 0;
     for span in spans {
-        count = count.max(span.column + 1);
+        count = (span.column + 1).max(count);
     }
     count
 }
@@ -157,12 +230,13 @@ pub(crate) fn heights_in(
     alloc: Global,
     spans: &[Span],
     column: usize,
-) -> Result<Vec<u32>, AllocError> {
-    let mut heights = Vec::new(alloc);
-    for span in spans {
-        heights.push(span.height_in(column))?;
-    }
-    Ok(heights)
+) -> Result<Vec<u32>, AllocError>
+    ensures { IfOk result (λ heights. heights.items ≡ map (λ s. height_in s column) spans.now) }
+{
+    spans
+        .iter()
+        .map(|span| height_in(*span, column))
+        .collect(alloc)
 }
 
 /// The nodes that have a box or a slot in this column.
@@ -170,12 +244,32 @@ pub(crate) fn members(
     alloc: Global,
     spans: &[Span],
     column: usize,
-) -> Result<Vec<usize>, AllocError> {
+) -> Result<Vec<usize>, AllocError>
+    ensures all { IfOk result (λ order. (k : ℕ) → k < length spans.now → IsIn (span_in spans.now k) column
+        → Contains order.items k) }
+    ensures few { IfOk result (λ order. length order.items ≤ length spans.now) }
+{
     let mut members = Vec::new(alloc);
-    for k in 0..spans.len() {
-        if spans[k].is_in(column) {
-            members.push(k)?;
+    for node in 0..spans.len() {
+        if is_in(spans[node], column) {
+            members.push(node)?;
         }
     }
     Ok(members)
+}
+
+/// The nodes that have a box or a slot in this column, by their keys.
+pub(crate) fn order_by(
+    alloc: Global,
+    spans: &[Span],
+    column: usize,
+    keys: &[u32],
+) -> Result<Vec<usize>, AllocError>
+    ensures all { IfOk result (λ order. (k : ℕ) → k < length spans.now → IsIn (span_in spans.now k) column
+        → Contains order.items k) }
+    ensures few { IfOk result (λ order. length order.items ≤ length spans.now) }
+{
+    let mut order = members(alloc, spans, column)?;
+    order.sort_by_key(|node| (keys.get(*node).copied(), *node))?;
+    Ok(order)
 }

@@ -1,37 +1,32 @@
 //! Columns from left to right, and back, and again.
 
-use crate::line::Line;
+ghost use Rattle.std.specs.Prelude.{◌≡◌, ◌≤◌, ◌<◌, ℕ, length, All, IfOk};
+ghost use Rattle.ccr_layout.specs.Places.{IsColumn};
+ghost use Rattle.ccr_layout.specs.Standing.{tops_in, AreColumns};
+
+use crate::at::at;
+use crate::line::{Line, ending};
 use crate::place::{place, pulled};
-use crate::span::{Span, heights_in, members};
-use crate::wish::{in_picture, near, near_first, wishes_left, wishes_right};
+use crate::span::{Span, heights_in, members, order_by};
+use crate::wish::{in_picture, near, near_first, wish_at, wishes_left, wishes_right};
 use std::alloc::{AllocError, Global};
 
-/// The nodes of each column from top to bottom, and for each column the top of each node.
-#[derive(Drop)]
-pub(crate) struct Stand {
-    pub(crate) orders: Vec<Vec<usize>>,
-    pub(crate) tops: Vec<Vec<u32>>,
-}
-
 /// For each node the middle of its box or slot in a column.
-pub(crate) fn middles(
-    alloc: Global,
-    tops: &[u32],
-    heights: &[u32],
-) -> Result<Vec<u32>, AllocError> {
+fn middles(alloc: Global, tops: &[u32], heights: &[u32]) -> Result<Vec<u32>, AllocError> {
     let mut middles = Vec::new(alloc);
-    for k in 0..tops.len() {
-        middles.push(tops[k].saturating_add(heights[k] / 2))?;
+    for node in 0..heights.len() {
+        middles.push(at(tops, node).saturating_add(heights[node] / 2))?;
     }
     Ok(middles)
 }
 
-/// The lines that end in this column, none where there is no such column.
-fn ending<'a>(lines: &'a [Vec<Line>], column: usize) -> &'a [Line] {
-    if column < lines.len() {
-        &lines[column]
-    } else {
-        &[]
+/// The tops of a column, none where there is no such column.
+pub(crate) fn tops_at(tops: &[Vec<u32>], column: usize) -> &[u32]
+    ensures { result.now ≡ tops_in tops.now column }
+{
+    match tops.get(column) {
+        Some(tops) => tops.as_slice(),
+        None => &[],
     }
 }
 
@@ -40,14 +35,16 @@ fn wishing(
     alloc: Global,
     members: &[usize],
     wishes: &[Option<u32>],
-) -> Result<Vec<usize>, AllocError> {
+) -> Result<Vec<usize>, AllocError>
+    ensures { IfOk result (λ order. length order.items ≤ length members.now) }
+{
     let mut wishing = Vec::new(alloc);
     for node in members {
-        if wishes[*node].is_some() {
+        if wish_at(wishes, *node).is_some() {
             wishing.push(*node)?;
         }
     }
-    wishing.sort_by_key(|node| (wishes.get(*node).copied(), *node))?;
+    wishing.sort_by_key(|node| (wishes.get(*node).copied().flatten(), *node))?;
     Ok(wishing)
 }
 
@@ -63,24 +60,23 @@ fn keys_of(
     near: &[Option<u32>],
 ) -> Result<Vec<u32>, AllocError> {
     let mut keys = Vec::new(alloc);
-    for k in 0..wishes.len() {
-        let key = if wishes[k].is_some() {
-            tops[k]
-        } else {
-            near[k].unwrap_or(LAST)
+    for node in 0..wishes.len() {
+        let key = match wishes[node] {
+            Some(_) => at(tops, node),
+            None => wish_at(near, node).unwrap_or(LAST),
         };
         keys.push(key)?;
     }
     Ok(keys)
 }
 
-/// The wishes as heights, 0 where there is none.
-fn heights_wished(alloc: Global, wishes: &[Option<u32>]) -> Result<Vec<u32>, AllocError> {
-    let mut heights = Vec::new(alloc);
+/// The wishes as numbers, this one where there is none.
+fn numbers(alloc: Global, wishes: &[Option<u32>], none: u32) -> Result<Vec<u32>, AllocError> {
+    let mut numbers = Vec::new(alloc);
     for wish in wishes {
-        heights.push(wish.unwrap_or(0))?;
+        numbers.push(wish.unwrap_or(none))?;
     }
-    Ok(heights)
+    Ok(numbers)
 }
 
 /// Wishes, and where a node has none, that its middle is what it is near to.
@@ -91,29 +87,43 @@ fn with_near(
     heights: &[u32],
 ) -> Result<Vec<u32>, AllocError> {
     let mut all = Vec::new(alloc);
-    for k in 0..wishes.len() {
-        let middle = near[k].unwrap_or(0).saturating_sub(heights[k] / 2);
-        all.push(wishes[k].unwrap_or(middle))?;
+    for node in 0..heights.len() {
+        let middle = wish_at(near, node).unwrap_or(0);
+        let top = middle.saturating_sub(heights[node] / 2);
+        all.push(wish_at(wishes, node).unwrap_or(top))?;
     }
     Ok(all)
 }
 
-/// The order of the first column, and the tops of its nodes. No line ends there.
-fn first_column(
+/// The tops of the nodes of a column in the order of their keys.
+fn stood(
     alloc: Global,
     spans: &[Span],
-    leaving: &[Line],
-) -> Result<(Vec<usize>, Vec<u32>), AllocError> {
-    let heights = heights_in(alloc, spans, 0)?;
-    let near = near_first(alloc, leaving, spans.len())?;
-    let mut order = members(alloc, spans, 0)?;
-    order.sort_by_key(|node| (near.get(*node).copied().flatten().unwrap_or(LAST), *node))?;
-    let wishes = vec![in alloc; 0; spans.len()]?;
-    let tops = place(alloc, &order, &heights, &wishes)?;
-    Ok((order, tops))
+    column: usize,
+    keys: &[u32],
+    wishes: &[u32],
+) -> Result<Vec<u32>, AllocError>
+    requires few { length spans.now ≤ 400 }
+    requires low { All (λ s. s.height ≤ 710) spans.now }
+    ensures { IfOk result (λ tops. IsColumn spans.now column tops.items) }
+{
+    let order = order_by(alloc, spans, column, keys)?;
+    let heights = heights_in(alloc, spans, column)?;
+    place(alloc, &order, &heights, wishes)
 }
 
-/// The order of a later column, and the tops of its nodes: first of those that have a wish, and then the others among them.
+/// The tops of the nodes of the first column. No line ends there.
+fn first_column(alloc: Global, spans: &[Span], leaving: &[Line]) -> Result<Vec<u32>, AllocError>
+    requires few { length spans.now ≤ 400 }
+    requires low { All (λ s. s.height ≤ 710) spans.now }
+{
+    let near = near_first(alloc, leaving, spans.len())?;
+    let keys = numbers(alloc, &near, LAST)?;
+    stood(alloc, spans, 0, &keys, &[])
+}
+
+/// The tops of the nodes of a later column: first of those that have a wish, and then the others among them. `before` are the middles
+/// in the column before.
 fn next_column(
     alloc: Global,
     spans: &[Span],
@@ -121,108 +131,154 @@ fn next_column(
     arriving: &[Line],
     leaving: &[Line],
     before: &[u32],
-) -> Result<(Vec<usize>, Vec<u32>), AllocError> {
+) -> Result<Vec<u32>, AllocError>
+    requires few { length spans.now ≤ 400 }
+    requires low { All (λ s. s.height ≤ 710) spans.now }
+{
     let heights = heights_in(alloc, spans, column)?;
-    let mut order = members(alloc, spans, column)?;
     let wishes = wishes_left(alloc, arriving, before)?;
     let inside = in_picture(alloc, &wishes)?;
-    let wishing = wishing(alloc, &order, &wishes)?;
-    let tops = place(alloc, &wishing, &heights, &heights_wished(alloc, &inside)?)?;
-    let middles = middles(alloc, &tops, &heights)?;
-    let near = near(alloc, &wishes, leaving, &middles)?;
+    let first = wishing(alloc, &members(alloc, spans, column)?, &wishes)?;
+    let tops = place(alloc, &first, &heights, &numbers(alloc, &inside, 0)?)?;
+    let near = near(alloc, &wishes, leaving, &middles(alloc, &tops, &heights)?)?;
     let keys = keys_of(alloc, &wishes, &tops, &near)?;
-    order.sort_by_key(|node| (keys.get(*node).copied(), *node))?;
-    let tops = place(
+    stood(
         alloc,
-        &order,
-        &heights,
+        spans,
+        column,
+        &keys,
         &with_near(alloc, &inside, &near, &heights)?,
-    )?;
-    Ok((order, tops))
+    )
 }
 
-/// The order of each column, and where its nodes stand by what is left of them.
-fn arranged(alloc: Global, spans: &[Span], lines: &[Vec<Line>]) -> Result<Stand, AllocError> {
-    let mut orders = Vec::new(alloc);
+/// Where the nodes of each column stand by what is left of them.
+fn arranged(alloc: Global, spans: &[Span], lines: &[Vec<Line>]) -> Result<Vec<Vec<u32>>, AllocError>
+    requires few { length spans.now ≤ 400 }
+    requires low { All (λ s. s.height ≤ 710) spans.now }
+{
     let mut tops = Vec::new(alloc);
     let mut before = Vec::new(alloc);
     for column in 0..lines.len() {
         let leaving = ending(lines, column + 1);
-        let (order, placed) = if column == 0 {
+        let placed = if column == 0 {
             first_column(alloc, spans, leaving)?
         } else {
             next_column(alloc, spans, column, &lines[column], leaving, &before)?
         };
         before = middles(alloc, &placed, &heights_in(alloc, spans, column)?)?;
-        orders.push(order)?;
         tops.push(placed)?;
     }
-    Ok(Stand { orders, tops })
+    Ok(tops)
 }
 
-/// Where the nodes of a column stand once those without lines from the left are moved down by their lines to the right.
-fn pulled_back(
+/// Where the nodes of a column stand once they are moved down to where they wish to be, but not past each other.
+fn moved(
+    alloc: Global,
+    spans: &[Span],
+    column: usize,
+    tops: &[u32],
+    wishes: &[Option<u32>],
+) -> Result<Vec<u32>, AllocError>
+    requires few { length spans.now ≤ 400 }
+    requires low { All (λ s. s.height ≤ 710) spans.now }
+    ensures { IfOk result (λ tops. IsColumn spans.now column tops.items) }
+{
+    let order = order_by(alloc, spans, column, tops)?;
+    let heights = heights_in(alloc, spans, column)?;
+    let tops = pulled(alloc, &order, &heights, tops, wishes)?;
+    place(alloc, &order, &heights, &tops)
+}
+
+/// Where the nodes of a column stand once those without lines from the left are moved by their lines to the right. `next` are the tops
+/// in the next column.
+fn moved_back(
     alloc: Global,
     spans: &[Span],
     lines: &[Vec<Line>],
-    stand: &Stand,
     column: usize,
-) -> Result<Vec<u32>, AllocError> {
+    tops: &[u32],
+    next: &[u32],
+) -> Result<Vec<u32>, AllocError>
+    requires few { length spans.now ≤ 400 }
+    requires low { All (λ s. s.height ≤ 710) spans.now }
+{
     let heights = heights_in(alloc, spans, column)?;
-    let none = vec![in alloc; 0; spans.len()]?;
-    let next = if column + 1 < stand.tops.len() {
-        &stand.tops[column + 1]
-    } else {
-        &none
-    };
-    let wishes = wishes_right(
-        alloc,
-        &lines[column],
-        ending(lines, column + 1),
-        next,
-        &heights,
-    )?;
-    let order = &stand.orders[column];
-    let tops = pulled(alloc, order, &heights, &stand.tops[column], &wishes)?;
-    place(alloc, order, &heights, &tops)
+    let leaving = ending(lines, column + 1);
+    let wishes = wishes_right(alloc, ending(lines, column), leaving, next, &heights)?;
+    moved(alloc, spans, column, tops, &wishes)
 }
 
-/// Where the nodes of a column stand once they are moved down by their lines from the left.
-fn pulled_on(
+/// Where the nodes of a column stand once they are moved by their lines from the left. `before` are the tops in the column before.
+fn moved_on(
     alloc: Global,
     spans: &[Span],
     lines: &[Vec<Line>],
-    stand: &Stand,
     column: usize,
-) -> Result<Vec<u32>, AllocError> {
-    let heights = heights_in(alloc, spans, column)?;
-    let before = if column == 0 {
-        vec![in alloc; 0; spans.len()]?
-    } else {
-        let heights = heights_in(alloc, spans, column - 1)?;
-        middles(alloc, &stand.tops[column - 1], &heights)?
-    };
-    let wishes = in_picture(alloc, &wishes_left(alloc, &lines[column], &before)?)?;
-    let order = &stand.orders[column];
-    let tops = pulled(alloc, order, &heights, &stand.tops[column], &wishes)?;
-    place(alloc, order, &heights, &tops)
+    tops: &[u32],
+    before: &[u32],
+) -> Result<Vec<u32>, AllocError>
+    requires few { length spans.now ≤ 400 }
+    requires low { All (λ s. s.height ≤ 710) spans.now }
+    ensures { IfOk result (λ tops. IsColumn spans.now column tops.items) }
+{
+    let heights = heights_in(alloc, spans, column.saturating_sub(1))?;
+    let middles = middles(alloc, before, &heights)?;
+    let wishes = wishes_left(alloc, ending(lines, column), &middles)?;
+    moved(alloc, spans, column, tops, &in_picture(alloc, &wishes)?)
+}
+
+/// The columns from right to left, moved by their lines to the right.
+fn swept_back(
+    alloc: Global,
+    spans: &[Span],
+    lines: &[Vec<Line>],
+    mut tops: Vec<Vec<u32>>,
+) -> Result<Vec<Vec<u32>>, AllocError>
+    requires few { length spans.now ≤ 400 }
+    requires low { All (λ s. s.height ≤ 710) spans.now }
+{
+    for column in (0..tops.len()).rev() {
+        let next = tops_at(&tops, column + 1);
+        let placed = moved_back(alloc, spans, lines, column, tops_at(&tops, column), next)?;
+        if column < tops.len() {
+            tops[column] = placed;
+        }
+    }
+    Ok(tops)
+}
+
+/// The columns from left to right, moved by their lines from the left.
+fn swept_on(
+    alloc: Global,
+    spans: &[Span],
+    lines: &[Vec<Line>],
+    tops: &[Vec<u32>],
+) -> Result<Vec<Vec<u32>>, AllocError>
+    requires few { length spans.now ≤ 400 }
+    requires low { All (λ s. s.height ≤ 710) spans.now }
+    ensures { IfOk result (λ swept. AreColumns spans.now (length lines.now) swept.items) }
+{
+    let mut swept = Vec::new(alloc);
+    for column in 0..lines.len() {
+        let before = tops_at(&swept, column.saturating_sub(1));
+        let placed = moved_on(alloc, spans, lines, column, tops_at(tops, column), before)?;
+        swept.push(placed)?;
+    }
+    Ok(swept)
 }
 
 /// Where each node stands in each of its columns: from left to right by the lines from the left, back by those to the right, and again
 /// from left to right.
-pub(crate) fn stand_of(
+pub(crate) fn tops_of(
     alloc: Global,
     spans: &[Span],
     lines: &[Vec<Line>],
-) -> Result<Stand, AllocError> {
-    let mut stand = arranged(alloc, spans, lines)?;
-    for column in (0..lines.len()).rev() {
-        let tops = pulled_back(alloc, spans, lines, &stand, column)?;
-        stand.tops[column] = tops;
-    }
-    for column in 0..lines.len() {
-        let tops = pulled_on(alloc, spans, lines, &stand, column)?;
-        stand.tops[column] = tops;
-    }
-    Ok(stand)
+) -> Result<Vec<Vec<u32>>, AllocError>
+    requires few { length spans.now ≤ 400 }
+    requires low { All (λ s. s.height ≤ 710) spans.now }
+    ensures { IfOk result (λ tops. AreColumns spans.now (length lines.now) tops.items) }
+{
+    let tops = arranged(alloc, spans, lines)?;
+    let tops = swept_back(alloc, spans, lines, tops)?;
+    swept_on(alloc, spans, lines, &tops)
 }

@@ -1,19 +1,17 @@
 //! Where nodes wish to be, so that their lines are level.
 
-use crate::line::Line;
-use crate::mean::Mean;
+use crate::at::at;
+use crate::graph::MOST_NODES;
+use crate::line::{Line, ends};
+use crate::mean::{Mean, add_at, clear_at, join_at, mean_at, means_of};
 use std::alloc::{AllocError, Global};
 
 /// Heights are counted from so far above the picture, in pixels, since a wish may lie above it.
 const ABOVE: u32 = 1024;
 
-/// For each node the mean of its heights.
-fn means(alloc: Global, heights: &[Mean]) -> Result<Vec<Option<u32>>, AllocError> {
-    let mut means = Vec::new(alloc);
-    for mean in heights {
-        means.push(mean.get())?;
-    }
-    Ok(means)
+/// The wish of a node.
+pub(crate) fn wish_at(wishes: &[Option<u32>], node: usize) -> Option<u32> {
+    wishes.get(node).copied().flatten()
 }
 
 /// For each node the top at which its lines from the left are level, or those of them that trigger, if any does, counted from above
@@ -26,17 +24,20 @@ pub(crate) fn wishes_left(
     let mut all = vec![in alloc; Mean::EMPTY; middles.len()]?;
     let mut triggers = vec![in alloc; Mean::EMPTY; middles.len()]?;
     for line in lines {
-        let height = middles[line.from]
-            .saturating_add(ABOVE)
-            .saturating_sub(line.offset);
-        all[line.to].add(height);
+        let middle = at(middles, line.from);
+        let height = middle.saturating_add(ABOVE).saturating_sub(line.offset);
+        add_at(&mut all, line.to, height);
         if line.trigger {
-            triggers[line.to].add(height);
+            add_at(&mut triggers, line.to, height);
         }
     }
     let mut wishes = Vec::new(alloc);
-    for k in 0..middles.len() {
-        wishes.push(triggers[k].get().or(all[k].get()))?;
+    for node in 0..middles.len() {
+        let wish = match mean_at(&triggers, node).get() {
+            Some(height) => Some(height),
+            None => mean_at(&all, node).get(),
+        };
+        wishes.push(wish)?;
     }
     Ok(wishes)
 }
@@ -62,16 +63,19 @@ pub(crate) fn wishes_right(
     tops: &[u32],
     heights: &[u32],
 ) -> Result<Vec<Option<u32>>, AllocError> {
-    let mut ends = vec![in alloc; Mean::EMPTY; tops.len()]?;
+    let mut levels = vec![in alloc; Mean::EMPTY; heights.len()]?;
     for line in leaving {
-        ends[line.from].add(tops[line.to].saturating_add(line.offset));
+        let level = at(tops, line.to).saturating_add(line.offset);
+        add_at(&mut levels, line.from, level);
     }
     for line in arriving {
-        ends[line.to] = Mean::EMPTY;
+        clear_at(&mut levels, line.to);
     }
     let mut wishes = Vec::new(alloc);
-    for k in 0..tops.len() {
-        wishes.push(ends[k].get().map(|end| end.saturating_sub(heights[k] / 2)))?;
+    for node in 0..heights.len() {
+        let half = heights[node] / 2;
+        let wish = mean_at(&levels, node).get();
+        wishes.push(wish.map(|level| level.saturating_sub(half)))?;
     }
     Ok(wishes)
 }
@@ -86,17 +90,17 @@ pub(crate) fn near(
 ) -> Result<Vec<Option<u32>>, AllocError> {
     let mut heard = vec![in alloc; Mean::EMPTY; middles.len()]?;
     for line in leaving {
-        if line.ends() && wishes[line.from].is_some() {
-            heard[line.to].add(middles[line.from]);
+        if ends(*line) && wish_at(wishes, line.from).is_some() {
+            add_at(&mut heard, line.to, at(middles, line.from));
         }
     }
     let mut near = vec![in alloc; Mean::EMPTY; middles.len()]?;
     for line in leaving {
-        if line.ends() && wishes[line.from].is_none() {
-            near[line.from].join(heard[line.to]);
+        if ends(*line) && wish_at(wishes, line.from).is_none() {
+            join_at(&mut near, line.from, mean_at(&heard, line.to));
         }
     }
-    means(alloc, &near)
+    means_of(alloc, &near)
 }
 
 /// For nodes of the first column the mean of the jobs in the next to which they lead, with steps of 64.
@@ -107,9 +111,9 @@ pub(crate) fn near_first(
 ) -> Result<Vec<Option<u32>>, AllocError> {
     let mut near = vec![in alloc; Mean::EMPTY; nodes]?;
     for line in leaving {
-        if line.ends() {
-            near[line.from].add(64 * (line.to as u32));
+        if ends(*line) {
+            add_at(&mut near, line.from, 64 * (line.to.min(MOST_NODES) as u32));
         }
     }
-    means(alloc, &near)
+    means_of(alloc, &near)
 }

@@ -1,0 +1,5 @@
+use Rattle.ccr_layout.proofs.BandLaws.{AreBandsTo}
+use Rattle.ccr_layout.proofs.across.bands_of.Given as goal
+
+abbrev pub invariant-loop-column : goal.invariant-loop-column
+invariant-loop-column l = AreBandsTo l.column l.end l.bands.items
