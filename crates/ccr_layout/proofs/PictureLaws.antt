@@ -279,10 +279,4 @@ picture_all nodes edges spans bands tops columns boxes slots paths are_spans pas
   boxes_are = boxes_are nodes edges spans bands tops columns boxes slots are_spans past are_columns are_bands many each has (standing_all nodes edges spans tops columns are_spans are_columns);
   slots_are = slots_are nodes edges spans bands tops columns boxes slots are_spans past are_columns are_bands many each has;
   paths_are = paths_are nodes edges spans bands tops columns boxes slots are_spans past are_columns are_bands many each has paths once is;
-  later = λ rank ranks k d within passed ws wt. omega (
-    arith,
-    are_spans.later rank ranks k d within passed ws wt,
-    ap (λ b. b.column) (each (slice_index_or edges k d).source _ (omega (arith, ws, are_spans.long))),
-    ap (λ b. b.column) (each (slice_index_or edges k d).target _ (omega (arith, wt, are_spans.long))),
-  );
 }

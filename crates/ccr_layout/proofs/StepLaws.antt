@@ -1,10 +1,10 @@
 -- One more step of the loops that make spans, columns, boxes, slots and paths.
-use Rattle.std.proofs.Common.{◌≡◌, ◌≢◌, ℕ, zero, suc, ◌+◌, ◌*◌, ◌<◌, ◌≤◌, ◌⊎◌, ◌↔◌, Bool, true, false, List, [], ◌∷◌, ◌++◌, length, map, max, get_or, set, slice_index, slice_index_or, inl, inr, refl, sym, ap, ◌∙◌, subst, arith, length-set, length-map, ◌-◌, IsTrue}
+use Rattle.std.proofs.Common.{◌≡◌, ◌≢◌, ℕ, zero, suc, ◌+◌, ◌*◌, ◌<◌, ◌≤◌, ◌⊎◌, ◌↔◌, Bool, true, false, List, [], ◌∷◌, ◌++◌, length, map, max, get_or, set, slice_index, slice_index_or, inl, inr, refl, sym, ap, ◌∙◌, subst, arith, length-set, length-map, ◌-◌, nat_eq, IsTrue}
 use Rattle.std.specs.Prelude.{All, Contains}
 use Rattle.std.specs.declared.vec.Vec.{Vec}
-use Rattle.std.proofs.lemmas.Bool.{cases_lt, cases_eq, false≢true}
+use Rattle.std.proofs.lemmas.Bool.{cases_lt, cases_eq, cases_Bool, cond-true, cond-false, false≢true}
 use Rattle.std.proofs.lemmas.List.{get_or-set_same, get_or-set_other, get_or_append_left, get_or_push, get_or_default, length_push, map_push, set_past}
-use Rattle.std.proofs.lemmas.List.Elements.{All-set, All-push, All-weaker, Contains-append_left, Contains-push}
+use Rattle.std.proofs.lemmas.List.Elements.{All-set, All-push, All-weaker, All-same, All-map, Contains-append_left, Contains-push}
 use Rattle.ccr_layout.specs.declared.graph.Node.{Node}
 use Rattle.ccr_layout.specs.declared.graph.Edge.{Edge}
 use Rattle.ccr_layout.specs.declared.span.Span.{Span}
@@ -12,10 +12,9 @@ use Rattle.ccr_layout.specs.declared.band.Band.{Band}
 use Rattle.ccr_layout.specs.declared.picture.Point.{Point}
 use Rattle.ccr_layout.specs.declared.picture.Slot.{Slot}
 use Rattle.ccr_layout.specs.declared.picture.Path.{Path}
-use Rattle.ccr_layout.specs.Spans.{Passes, IsIn, span_in, IsSpanOf, AreSpans}
-use Rattle.ccr_layout.specs.Passed.{LeadOn}
+use Rattle.ccr_layout.specs.Spans.{Passes, IsIn, height_in, span_in, IsSpanOf, AreSpans}
 use Rattle.ccr_layout.specs.Reaches.{AreReaches}
-use Rattle.ccr_layout.specs.Places.{IsColumn}
+use Rattle.ccr_layout.specs.Places.{ArePlaced, IsColumn}
 use Rattle.ccr_layout.specs.Standing.{tops_in, AreColumns}
 use Rattle.ccr_layout.specs.Drawing.{right_end, bend_of, end_of, slot_of, path_of, HasSlots, IsPathOf}
 use Rattle.ccr_layout.proofs.PlaceLaws.{low_at}
@@ -123,6 +122,14 @@ module _ {A : Type 0} (spans : List Span) (bands : List Band) (tops : List (Vec 
     ];
   }
 
+  -- no line passes the column of its own box, or one before it
+  pub slots_first : (to : ℕ) → to ≤ (span_in spans node).column + 1 → HasSlots spans bands tops node to slots
+  slots_first to low = record {
+    each = has.each;
+    before = has.before;
+    here = λ c less p. absurd (omega (arith, less, low, p.0));
+  }
+
   pub slots_same : (Passes (span_in spans node) column → ⊥) → HasSlots spans bands tops node (column + 1) slots
   slots_same none = record {
     each = has.each;
@@ -168,18 +175,77 @@ pub spans_all : (nodes : List Node) (edges : List Edge) (spans : List Span) (col
     → ((k : ℕ) → k < length nodes → (d : Node) → IsSpanOf (slice_index_or nodes k d) (span_in spans k))
     → All (λ s. s.column ≤ 402) spans → All (λ s. s.height ≤ 710) spans → All (λ s. s.first_port ≤ 40) spans
     → ((k : ℕ) → k < length nodes → (span_in spans k).column ≡ slice_index columns k) → ((k : ℕ) → k < length nodes → (span_in spans k).reach ≡ slice_index reaches k)
-    → AreReaches columns edges (length edges) reaches → LeadOn nodes edges (slice_index columns) → AreSpans nodes edges spans
-spans_all nodes edges spans columns reaches long columns_long each left low ports col rch are on = record {
+    → AreReaches columns edges (length edges) reaches → AreSpans nodes edges spans
+spans_all nodes edges spans columns reaches long columns_long each left low ports col rch are = record {
   long = long;
   each = λ k d within. each k within d;
   left = left;
   low = low;
   ports = ports;
   reached = λ k e within ws wt. omega (arith, are.each k e within (omega (arith, ws, columns_long)), col (slice_index_or edges k e).target wt, rch (slice_index_or edges k e).source ws);
-  later = λ rank ranks k d within passed ws wt. omega (arith, on rank ranks k d within passed ws wt, col (slice_index_or edges k d).source ws, col (slice_index_or edges k d).target wt);
   bound = λ n all k within. omega (arith, rch k (omega (arith, within, long)), low_at n reaches k (are.bound n (columns_low n all)));
 }
   where
     columns_low : (n : ℕ) → All (λ s. s.column < n) spans → All (λ c. c < n) columns
     columns_low n all k d within =
         omega (arith, get_or_default columns k d 0 within, col k (omega (arith, within, columns_long)), all k _ (omega (arith, within, long, columns_long)))
+
+pub record AreSpansTo (nodes : List Node) (columns reaches : List ℕ) (n : ℕ) (spans : List Span) : Type 0 where
+  pub long : length spans ≡ n
+  pub each : (k : ℕ) → k < n → (d : Node) → IsSpanOf (slice_index_or nodes k d) (span_in spans k)
+  pub left : All (λ s. s.column ≤ 402) spans
+  pub low : All (λ s. s.height ≤ 710) spans
+  pub ports : All (λ s. s.first_port ≤ 40) spans
+  pub col : (k : ℕ) → k < n → (span_in spans k).column ≡ slice_index columns k
+  pub rch : (k : ℕ) → k < n → (span_in spans k).reach ≡ slice_index reaches k
+
+pub spans_more : (nodes : List Node) (columns reaches : List ℕ) (n : ℕ) (spans spans' : List Span) (x : Node) (s : Span) → AreSpansTo nodes columns reaches n spans → n < length nodes → x ≡ get_or nodes n x → IsSpanOf x s
+    → s.column ≡ slice_index columns n → s.reach ≡ slice_index reaches n → All (λ c. c ≤ 402) columns → s.height ≤ 710 → s.first_port ≤ 40 → spans' ≡ spans ++ s ∷ [] → AreSpansTo nodes columns reaches (n + 1) spans'
+spans_more nodes columns reaches n spans spans' x s is within read span column reach columns_low low port grown =
+    let P : List Span → Type 0 = λ xs. AreSpansTo nodes columns reaches (n + 1) xs in
+    subst P (sym grown) (record {
+      long = length_push spans s ∙ ap (λ m. m + 1) is.long;
+      each = push_more (λ k y. (d : Node) → IsSpanOf (slice_index_or nodes k d) y) spans s _ n is.long is.each
+          (λ d. let Q : Node → Type 0 = λ y. IsSpanOf y s in subst Q (read ∙ get_or_default nodes n x d within) span);
+      left = All-push (λ y. y.column ≤ 402) spans s is.left (omega (arith, column, low_at 402 columns n columns_low));
+      low = All-push (λ y. y.height ≤ 710) spans s is.low low;
+      ports = All-push (λ y. y.first_port ≤ 40) spans s is.ports port;
+      col = push_more (λ k y. y.column ≡ slice_index columns k) spans s _ n is.long is.col column;
+      rch = push_more (λ k y. y.reach ≡ slice_index reaches k) spans s _ n is.long is.rch reach;
+    })
+
+-- ---- paths, one more
+pub paths_more : (P : Edge → Path → Type 0) (edges : List Edge) (paths paths' : List Path) (p : Path) (i : ℕ) (x : Edge) → length paths ≡ i
+    → ((k : ℕ) (d : Path) (e : Edge) → k < i → P (get_or edges k e) (get_or paths k d)) → i < length edges → x ≡ get_or edges i x → P x p → paths' ≡ paths ++ p ∷ []
+    → (k : ℕ) (d : Path) (e : Edge) → k < i + 1 → P (get_or edges k e) (get_or paths' k d)
+paths_more P edges paths paths' p i x long each within read new grown k d e less =
+    let Q = λ (ys : List Path). P (get_or edges k e) (get_or ys k d) in
+    subst Q (sym grown) (push_more (λ k y. P (get_or edges k e) y) paths p d i long (λ k low. each k d e low)
+    (let R = λ (y : Edge). P y p in subst R (read ∙ get_or_default edges i x e within) new) k less)
+
+-- ---- columns that are placed
+height_low : (n : ℕ) (s : Span) (c : ℕ) → s.height ≤ n → height_in s c ≤ n
+height_low n s c low =
+    elim (cases_Bool (nat_eq s.column c)) [
+      | inl is ↦ omega (arith, cond-true s.height 0 is, low)
+      | inr not ↦ omega (arith, cond-false s.height 0 not)
+    ]
+
+pub heights_low : (n : ℕ) (spans : List Span) (c : ℕ) (heights : List ℕ) → heights ≡ map (λ s. height_in s c) spans → All (λ s. s.height ≤ n) spans → All (λ h. h ≤ n) heights
+heights_low n spans c heights is low =
+    All-same (λ h. h ≤ n) heights (map (λ s. height_in s c) spans) is
+    (All-map (λ h. h ≤ n) (λ s. height_in s c) spans (All-weaker (λ s. s.height ≤ n) (λ s. height_in s c ≤ n) (λ s h. height_low n s c h) spans low))
+
+pub column_placed : (spans : List Span) (c : ℕ) (order inside tops : List ℕ) → ArePlaced order (map (λ s. height_in s c) spans) tops → order ≡ inside
+    → ((k : ℕ) → k < length spans → IsIn (span_in spans k) c → Contains inside k) → IsColumn spans c tops
+column_placed spans c order inside tops is same has = record {
+  long = is.long ∙ length-map spans (λ s. height_in s c);
+  low = is.low;
+  apart = λ a b la lb ha hb differ. is.apart a b (omega (arith, la, long)) (omega (arith, lb, long)) (in_order a (has a la ha)) (in_order b (has b lb hb)) differ;
+}
+  where
+    long : length tops ≡ length spans
+    long = is.long ∙ length-map spans (λ s. height_in s c)
+
+    in_order : (k : ℕ) → Contains inside k → Contains order k
+    in_order k h = let P : List ℕ → Type 0 = λ xs. Contains xs k in subst P (sym same) h

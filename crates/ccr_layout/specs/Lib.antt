@@ -1,4 +1,5 @@
 pub mod Nodes
+pub mod Layers
 pub mod Spans
 pub mod Reaches
 pub mod Places
@@ -7,6 +8,3 @@ pub mod Bands
 pub mod Ends
 pub mod Drawing
 pub mod Pictures
-pub mod Layers
-pub mod Turns
-pub mod Passed

@@ -9,7 +9,6 @@ use Rattle.ccr_layout.specs.declared.picture.Path.{Path}
 use Rattle.ccr_layout.specs.declared.picture.Path.TheVariants.{Forward, Back}
 use Rattle.ccr_layout.specs.Nodes.{height_of, first_port_of}
 use Rattle.ccr_layout.specs.Ends.{tab_in}
-use Rattle.ccr_layout.specs.Passed.{LeadOn}
 
 -- The box of a node, by its position.
 abbrev pub box_in : List NodeBox → ℕ → NodeBox
@@ -81,4 +80,3 @@ pub record IsPicture (nodes : List Node) (edges : List Edge) (boxes : List NodeB
   pub boxes_are : AreBoxes nodes boxes
   pub slots_are : AreSlots boxes slots
   pub paths_are : ArePaths nodes edges boxes slots paths
-  pub later : LeadOn nodes edges (λ k. (box_in boxes k).column)

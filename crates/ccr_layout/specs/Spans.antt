@@ -4,7 +4,6 @@ use Rattle.ccr_layout.specs.declared.graph.Node.{Node}
 use Rattle.ccr_layout.specs.declared.graph.Edge.{Edge}
 use Rattle.ccr_layout.specs.declared.span.Span.{Span}
 use Rattle.ccr_layout.specs.Nodes.{height_of, first_port_of}
-use Rattle.ccr_layout.specs.Passed.{LeadOn}
 
 -- The lines of a node pass through this column: it lies between the column of its box and the last to which a line leads.
 abbrev pub Passes : Span → ℕ → Type 0
@@ -27,7 +26,7 @@ pub record IsSpanOf (n : Node) (s : Span) : Type 0 where
   pub high : s.height ≡ height_of n.kind n.tabs.items
   pub port : s.first_port ≡ first_port_of n.kind n.tabs.items
 
--- A span for each node, which reaches the columns of its edges' targets, and no further than the last column. Edges from job to job lead on. There are at most 403 columns,
+-- A span for each node, which reaches the columns of its edges' targets, and no further than the last column. There are at most 403 columns,
 -- no box is higher than 710, and no first port lower than 40.
 pub record AreSpans (nodes : List Node) (edges : List Edge) (spans : List Span) : Type 0 where
   pub long : length spans ≡ length nodes
@@ -39,4 +38,3 @@ pub record AreSpans (nodes : List Node) (edges : List Edge) (spans : List Span) 
       → (slice_index_or edges k e).target < length nodes
       → (span_in spans (slice_index_or edges k e).target).column ≤ (span_in spans (slice_index_or edges k e).source).reach
   pub bound : (n : ℕ) → All (λ s. s.column < n) spans → (k : ℕ) → k < length spans → (span_in spans k).reach ≤ n
-  pub later : LeadOn nodes edges (λ k. (span_in spans k).column)

@@ -17,8 +17,8 @@ pub(crate) fn column_at(columns: &[usize], position: usize) -> usize
 }
 
 /// Sets the number at a position, if there is one.
-pub(crate) fn set_at(numbers: &mut [u32], position: usize, number: u32)
-    ensures { numbers.new ≡ slice_set numbers.old position number }
+pub(crate) fn set_at(numbers: &mut Vec<u32>, position: usize, number: u32)
+    ensures { numbers.new.items ≡ slice_set numbers.old.items position number }
 {
     if position < numbers.len() {
         numbers[position] = number;
@@ -26,8 +26,8 @@ pub(crate) fn set_at(numbers: &mut [u32], position: usize, number: u32)
 }
 
 /// Sets the column at a position, if there is one.
-pub(crate) fn set_column_at(columns: &mut [usize], position: usize, column: usize)
-    ensures { columns.new ≡ slice_set columns.old position column }
+pub(crate) fn set_column_at(columns: &mut Vec<usize>, position: usize, column: usize)
+    ensures { columns.new.items ≡ slice_set columns.old.items position column }
 {
     if position < columns.len() {
         columns[position] = column;

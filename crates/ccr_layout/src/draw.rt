@@ -10,7 +10,7 @@ use crate::at::at;
 use crate::band::Band;
 use crate::graph::{Edge, Node, ends_at_tab, port_below};
 use crate::picture::{NodeBox, Path, Point, Slot, Tab};
-use crate::span::{Span, height_in, passes, span_at};
+use crate::span::{Span, height_in, span_at};
 use crate::sweep::tops_at;
 use std::alloc::{AllocError, Global};
 
@@ -179,14 +179,13 @@ fn push_slots(
     node: usize,
 ) -> Result<(), AllocError>
     requires standing { IsStanding spans.now tops.now }
+    requires within { node < length spans.now }
     requires earlier { HasSlots spans.now bands.now tops.now node 0 slots.old.items }
     ensures { OnOk result (HasSlots spans.now bands.now tops.now (node + 1) 0 slots.new.items) }
 {
     let span = span_at(spans, node);
-    for column in 0..span.reach {
-        if passes(span, column) {
-            slots.push(slot_of(spans, bands, tops, node, column))?;
-        }
+    for before in span.column..span.reach.saturating_sub(1) {
+        slots.push(slot_of(spans, bands, tops, node, before + 1))?;
     }
     Ok(())
 }

@@ -2,8 +2,6 @@
 
 ghost use Rattle.std.specs.Prelude.{◌≡◌, ◌+◌, ◌*◌, ◌/◌, ◌<◌, ◌≤◌, ◌↔◌, length, min, IsTrue, slice_index_or, is_some};
 ghost use Rattle.ccr_layout.specs.Ends.{tab_in};
-ghost use Rattle.ccr_layout.specs.Nodes.{IsJob};
-ghost use Rattle.ccr_layout.specs.Passed.{kind_in};
 
 /// What a node stands for.
 #[derive(Clone, Copy, Drop)]
@@ -49,7 +47,7 @@ pub const MOST_WIDTH: u32 = 1000;
 const PORT: u32 = 22;
 
 impl Node {
-    ghost use Rattle.ccr_layout.specs.Nodes.{port_count, height_of, first_port_of};
+    ghost use Rattle.ccr_layout.specs.Nodes.{IsJob, port_count, height_of, first_port_of};
 
     pub(crate) fn is_job(&self) -> bool
         ensures { IsTrue result ↔ IsJob self.now.kind }
@@ -114,9 +112,7 @@ impl Node {
 }
 
 /// Whether this node is a job.
-pub(crate) fn is_job(nodes: &[Node], node: usize) -> bool
-    ensures { IsTrue result ↔ IsJob (kind_in nodes.now node) }
-{
+pub(crate) fn is_job(nodes: &[Node], node: usize) -> bool {
     match nodes.get(node) {
         Some(node) => node.is_job(),
         None => false,

@@ -1,10 +1,10 @@
 //! Layers: a job's is the longest chain of jobs before it.
 
-ghost use Rattle.std.specs.Prelude.{◌≡◌, ◌+◌, ◌<◌, ◌≤◌, ℕ, true, false, length, All, Contains, IfOk, IfSome, IfNone, slice_index, slice_index_or, slice_set};
-ghost use Rattle.ccr_layout.specs.Layers.{named_in, AreLayers};
-ghost use Rattle.ccr_layout.specs.Turns.{IsNext};
+ghost use Rattle.std.specs.Prelude.{◌≡◌, ◌≤◌, length, All, IfOk, slice_index_or, slice_set, true};
+ghost use Rattle.ccr_layout.specs.Layers.{named_in};
 
 use crate::at::{column_at, set_column_at};
+use crate::graph::MOST_NODES;
 use std::alloc::{AllocError, Global};
 
 /// Whether a node is done.
@@ -15,8 +15,8 @@ fn is_done(done: &[bool], node: usize) -> bool
 }
 
 /// Notes that a node is done.
-fn set_done(done: &mut [bool], node: usize)
-    ensures { done.new ≡ slice_set done.old node true }
+fn set_done(done: &mut Vec<bool>, node: usize)
+    ensures { done.new.items ≡ slice_set done.old.items node true }
 {
     if node < done.len() {
         done[node] = true;
@@ -24,11 +24,7 @@ fn set_done(done: &mut [bool], node: usize)
 }
 
 /// The first of these that isn't done.
-fn first_left(jobs: &[usize], done: &[bool]) -> Option<usize>
-    ensures some { IfSome result (λ s. Contains jobs.now s) }
-    ensures left { IfSome result (λ s. slice_index_or done.now s true ≡ false) }
-    ensures none { IfNone result ((s : ℕ) → Contains jobs.now s → slice_index_or done.now s true ≡ true) }
-{
+fn first_left(jobs: &[usize], done: &[bool]) -> Option<usize> {
     for job in jobs {
         if !is_done(done, *job) {
             return Some(*job);
@@ -48,29 +44,9 @@ fn named_by(named: &[Vec<usize>], node: usize) -> &[usize]
 }
 
 /// The first node that isn't done and names only nodes that are.
-fn first_ready(named: &[Vec<usize>], done: &[bool]) -> Option<usize>
-    ensures some { IfSome result (λ t. t < length named.now) }
-    ensures left { IfSome result (λ t. slice_index_or done.now t true ≡ false) }
-    ensures ready { IfSome result (λ t. (s : ℕ) → Contains (named_in named.now t) s
-        → slice_index_or done.now s true ≡ true) }
-    ensures none { IfNone result ((t : ℕ) → t < length named.now → slice_index_or done.now t true ≡ false
-        → (s : ℕ) × (Contains (named_in named.now t) s × (slice_index_or done.now s true ≡ false))) }
-{
+fn first_ready(named: &[Vec<usize>], done: &[bool]) -> Option<usize> {
     for node in 0..named.len() {
         if !is_done(done, node) && first_left(named_by(named, node), done).is_none() {
-            return Some(node);
-        }
-    }
-    None
-}
-
-/// The first node that isn't done.
-fn first_waiting(done: &[bool]) -> Option<usize>
-    ensures some { IfSome result (λ t. slice_index_or done.now t true ≡ false) }
-    ensures none { IfNone result ((t : ℕ) → slice_index_or done.now t true ≡ true) }
-{
-    for node in 0..done.len() {
-        if !done[node] {
             return Some(node);
         }
     }
@@ -80,12 +56,9 @@ fn first_waiting(done: &[bool]) -> Option<usize>
 /// A node that isn't done, on a cycle if all that are left wait for one another.
 ///
 /// So many steps back as there are nodes end on a cycle, wherever they begin.
-fn on_cycle(named: &[Vec<usize>], done: &[bool]) -> Option<usize>
-    ensures some { IfSome result (λ t. slice_index_or done.now t true ≡ false) }
-    ensures none { IfNone result ((t : ℕ) → slice_index_or done.now t true ≡ true) }
-{
-    let mut node = first_waiting(done)?;
-    for step in 0..named.len() {
+fn on_cycle(named: &[Vec<usize>], done: &[bool]) -> Option<usize> {
+    let mut node = done.iter().position(|is_done| !*is_done)?;
+    for _ in 0..named.len() {
         if let Some(before) = first_left(named_by(named, node), done) {
             node = before;
         }
@@ -93,44 +66,33 @@ fn on_cycle(named: &[Vec<usize>], done: &[bool]) -> Option<usize>
     Some(node)
 }
 
-/// One more than the greatest layer of those of these that are done, or 0.
+/// One more than the greatest layer of those of these that are done, or 0. No chain is longer than there are nodes.
 fn layer_above(jobs: &[usize], layers: &[usize], done: &[bool]) -> usize
-    requires { All (λ l. l ≤ 400) layers.now }
-    ensures low { (most : ℕ) → All (λ l. l ≤ most) layers.now → result ≤ most + 1 }
-    ensures above { (s : ℕ) → Contains jobs.now s → slice_index_or done.now s true ≡ true
-        → slice_index layers.now s + 1 ≤ result }
+    ensures { result ≤ 400 }
 {
     let mut above = 0;
     for job in jobs {
         if is_done(done, *job) {
-            above = (column_at(layers, *job) + 1).max(above);
+            above = column_at(layers, *job).saturating_add(1).max(above);
         }
     }
-    above
-}
-
-/// A node that isn't done and can be next: one that names none that is left, and else one on a cycle.
-fn next_node(named: &[Vec<usize>], done: &[bool]) -> Option<usize>
-    requires { length done.now ≡ length named.now }
-    ensures { IsNext named.now done.now result }
-{
-    match first_ready(named, done) {
-        Some(node) => Some(node),
-        None => on_cycle(named, done),
-    }
+    above.min(MOST_NODES)
 }
 
 /// The layer of each node, from the nodes that each one names.
 ///
 /// A node that lies on a cycle, where nothing else can come next, doesn't wait for the nodes that it names.
 pub(crate) fn layers_of(alloc: Global, named: &[Vec<usize>]) -> Result<Vec<usize>, AllocError>
-    requires { length named.now ≤ 400 }
-    ensures { IfOk result (λ layers. AreLayers named.now layers.items) }
+    ensures { IfOk result (λ layers. All (λ l. l ≤ 400) layers.items) }
 {
     let mut layers = vec![in alloc; 0; named.len()]?;
     let mut done = vec![in alloc; false; named.len()]?;
-    for turn in 0..named.len() {
-        if let Some(node) = next_node(named, &done) {
+    for _ in 0..named.len() {
+        let next = match first_ready(named, &done) {
+            Some(node) => Some(node),
+            None => on_cycle(named, &done),
+        };
+        if let Some(node) = next {
             let above = layer_above(named_by(named, node), &layers, &done);
             set_column_at(&mut layers, node, above);
             set_done(&mut done, node);

@@ -18,15 +18,19 @@ pub fn picture_of(alloc: Global, nodes: &[Node], edges: &[Edge]) -> Result<Pictu
     ensures { IfOk result (λ p. IsPicture nodes.now edges.now p.boxes.items p.slots.items p.paths.items) }
 {
     let spans = spans_of(alloc, nodes, edges)?;
-    let columns = column_count(&spans);
-    let lines = lines_of(alloc, edges, &spans, columns)?;
-    let tops = tops_of(alloc, &spans, &lines)?;
-    let bands = bands_of(alloc, nodes, &spans, &lines)?;
-    let boxes = boxes_of(alloc, &spans, &bands, &tops)?;
-    let slots = slots_of(alloc, &spans, &bands, &tops)?;
-    let tabs = tabs_of(alloc, nodes, &spans, &bands, &tops)?;
-    let (lanes, height) = lanes_of(alloc, edges, &spans, bottom_of(&boxes, &slots))?;
-    let paths = paths_of(alloc, nodes, edges, &spans, &bands, &tops, &lanes)?;
+    let spans = spans.as_slice();
+    let columns = column_count(spans);
+    let lines = lines_of(alloc, edges, spans, columns)?;
+    let lines = lines.as_slice();
+    let tops = tops_of(alloc, spans, lines)?;
+    let tops = tops.as_slice();
+    let bands = bands_of(alloc, nodes, spans, lines)?;
+    let bands = bands.as_slice();
+    let boxes = boxes_of(alloc, spans, bands, tops)?;
+    let slots = slots_of(alloc, spans, bands, tops)?;
+    let tabs = tabs_of(alloc, nodes, spans, bands, tops)?;
+    let (lanes, height) = lanes_of(alloc, edges, spans, bottom_of(&boxes, &slots))?;
+    let paths = paths_of(alloc, nodes, edges, spans, bands, tops, &lanes)?;
     let width = match bands.last() {
         Some(band) => band.right.saturating_add(40),
         None => 80,

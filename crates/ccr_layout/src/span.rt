@@ -1,10 +1,8 @@
 //! From a node's column to the last column to which a line of it leads.
 
 ghost use Rattle.std.specs.Prelude.{◌≡◌, ◌≢◌, ◌++◌, ◌∷◌, [], ◌+◌, ◌<◌, ◌≤◌, ◌↔◌, ℕ, length, map, All, Contains, IfOk, OnOk, IsTrue, slice_index, slice_set, max};
-ghost use Rattle.ccr_layout.specs.Layers.{named_in};
-ghost use Rattle.ccr_layout.specs.Passed.{AreNamed, LeadOn};
 ghost use Rattle.ccr_layout.specs.Reaches.{AreReaches};
-ghost use Rattle.ccr_layout.specs.Spans.{Passes, IsIn, height_in, span_in, AreSpans};
+ghost use Rattle.ccr_layout.specs.Spans.{Passes, IsIn, height_in, span_in, IsSpanOf, AreSpans};
 
 use crate::at::column_at;
 use crate::graph::{Edge, MOST_COLUMN, Node, is_job};
@@ -66,26 +64,16 @@ pub(crate) fn span_at(spans: &[Span], node: usize) -> Span
 }
 
 /// A list for each node.
-fn lists(alloc: Global, nodes: usize) -> Result<Vec<Vec<usize>>, AllocError>
-    ensures long { IfOk result (λ lists. length lists.items ≡ nodes) }
-    ensures empty { IfOk result (λ lists. (t : ℕ) → named_in lists.items t ≡ []) }
-{
+fn lists(alloc: Global, nodes: usize) -> Result<Vec<Vec<usize>>, AllocError> {
     let mut lists = Vec::new(alloc);
-    for node in 0..nodes {
+    for _ in 0..nodes {
         lists.push(Vec::new(alloc))?;
     }
     Ok(lists)
 }
 
 /// Notes that one node names another.
-fn push_named(named: &mut Vec<Vec<usize>>, edge: Edge) -> Result<(), AllocError>
-    ensures long { length named.new.items ≡ length named.old.items }
-    ensures pushed { OnOk result (edge.target < length named.old.items → named_in named.new.items edge.target
-        ≡ named_in named.old.items edge.target ++ edge.source ∷ []) }
-    ensures others { (t : ℕ) → t ≢ edge.target → named_in named.new.items t ≡ named_in named.old.items t }
-    ensures past { length named.old.items ≤ edge.target → named_in named.new.items edge.target
-        ≡ named_in named.old.items edge.target }
-{
+fn push_named(named: &mut Vec<Vec<usize>>, edge: Edge) -> Result<(), AllocError> {
     if edge.target < named.len() {
         named[edge.target].push(edge.source)?;
     }
@@ -93,9 +81,11 @@ fn push_named(named: &mut Vec<Vec<usize>>, edge: Edge) -> Result<(), AllocError>
 }
 
 /// For each node the jobs that it names in `passed`: the sources of edges between jobs.
-fn named_jobs(alloc: Global, nodes: &[Node], edges: &[Edge]) -> Result<Vec<Vec<usize>>, AllocError>
-    ensures { IfOk result (λ named. AreNamed nodes.now edges.now (length edges.now) named.items) }
-{
+fn named_jobs(
+    alloc: Global,
+    nodes: &[Node],
+    edges: &[Edge],
+) -> Result<Vec<Vec<usize>>, AllocError> {
     let mut named = lists(alloc, nodes.len())?;
     for edge in edges {
         if is_job(nodes, edge.source) && is_job(nodes, edge.target) {
@@ -113,8 +103,8 @@ fn note_least(least: &mut [Option<usize>], node: usize, number: usize) {
 }
 
 /// The greatest of the numbers that are noted for a node.
-fn note_greatest(greatest: &mut [usize], node: usize, number: usize)
-    ensures { greatest.new ≡ slice_set greatest.old node (max (slice_index greatest.old node) number) }
+fn note_greatest(greatest: &mut Vec<usize>, node: usize, number: usize)
+    ensures { greatest.new.items ≡ slice_set greatest.old.items node (max (slice_index greatest.old.items node) number) }
 {
     if node < greatest.len() {
         greatest[node] = greatest[node].max(number);
@@ -156,10 +146,8 @@ fn put(
 
 /// The column of each node.
 fn columns_of(alloc: Global, nodes: &[Node], edges: &[Edge]) -> Result<Vec<usize>, AllocError>
-    requires { length nodes.now ≤ 400 }
     ensures long { IfOk result (λ columns. length columns.items ≡ length nodes.now) }
     ensures low { IfOk result (λ columns. All (λ c. c ≤ 402) columns.items) }
-    ensures later { IfOk result (λ columns. LeadOn nodes.now edges.now (slice_index columns.items)) }
 {
     let named = named_jobs(alloc, nodes, edges)?;
     let layers = layers_of(alloc, &named)?;
@@ -189,40 +177,68 @@ fn reaches(alloc: Global, edges: &[Edge], columns: &[usize]) -> Result<Vec<usize
     Ok(reaches)
 }
 
+/// The span of a node, from its column to the last that its lines reach.
+fn span_of(node: &Node, column: usize, reach: usize) -> Span
+    ensures span { IsSpanOf node.now result }
+    ensures column { result.column ≡ column }
+    ensures reach { result.reach ≡ reach }
+    ensures low { result.height ≤ 710 }
+    ensures port { result.first_port ≤ 40 }
+{
+    Span {
+        column,
+        reach,
+        height: node.height(),
+        first_port: node.first_port(),
+    }
+}
+
 /// The span of each node.
 pub(crate) fn spans_of(
     alloc: Global,
     nodes: &[Node],
     edges: &[Edge],
 ) -> Result<Vec<Span>, AllocError>
-    requires { length nodes.now ≤ 400 }
     ensures { IfOk result (λ spans. AreSpans nodes.now edges.now spans.items) }
 {
     let columns = columns_of(alloc, nodes, edges)?;
-    let reaches = reaches(alloc, edges, &columns)?;
+    let columns = columns.as_slice();
+    let reaches = reaches(alloc, edges, columns)?;
+    let reaches = reaches.as_slice();
     let mut spans = Vec::new(alloc);
     for node in 0..nodes.len() {
-        spans.push(Span {
-            column: columns[node],
-            reach: column_at(&reaches, node),
-            height: nodes[node].height(),
-            first_port: nodes[node].first_port(),
-        })?;
+        let column = column_at(columns, node);
+        let reach = column_at(reaches, node);
+        let span = span_of(&nodes[node], column, reach);
+        spans.push(span)?;
     }
     Ok(spans)
+}
+
+/// The last column of a box.
+fn last_column(spans: &[Span]) -> usize
+    requires { All (λ s. s.column ≤ 402) spans.now }
+    ensures past { (k : ℕ) → k < length spans.now → (span_in spans.now k).column ≤ result }
+    ensures low { result ≤ 402 }
+{
+    let mut last = 0;
+    for node in 0..spans.len() {
+        last = spans[node].column.max(last);
+    }
+    last
 }
 
 /// How many columns there are.
 pub(crate) fn column_count(spans: &[Span]) -> usize
     requires { All (λ s. s.column ≤ 402) spans.now }
-    ensures past { All (λ s. s.column < result) spans.now }
+    ensures past { (k : ℕ) → k < length spans.now → (span_in spans.now k).column < result }
     ensures low { result ≤ 403 }
 {
-    let mut count = 0;
-    for span in spans {
-        count = (span.column + 1).max(count);
+    if spans.is_empty() {
+        0
+    } else {
+        last_column(spans) + 1
     }
-    count
 }
 
 /// For each node how high it is in this column, in pixels.

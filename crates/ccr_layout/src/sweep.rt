@@ -1,7 +1,8 @@
 //! Columns from left to right, and back, and again.
 
-ghost use Rattle.std.specs.Prelude.{◌≡◌, ◌≤◌, ◌<◌, ℕ, length, All, IfOk};
-ghost use Rattle.ccr_layout.specs.Places.{IsColumn};
+ghost use Rattle.std.specs.Prelude.{◌≡◌, ◌≤◌, ◌<◌, ℕ, length, map, All, IfOk};
+ghost use Rattle.ccr_layout.specs.Spans.{height_in};
+ghost use Rattle.ccr_layout.specs.Places.{ArePlaced, IsColumn};
 ghost use Rattle.ccr_layout.specs.Standing.{tops_in, AreColumns};
 
 use crate::at::at;
@@ -95,6 +96,24 @@ fn with_near(
     Ok(all)
 }
 
+/// The tops of nodes of a column, in this order, each where it wishes to be, or below the one before.
+fn placed_in(
+    alloc: Global,
+    spans: &[Span],
+    column: usize,
+    order: &[usize],
+    wishes: &[u32],
+) -> Result<Vec<u32>, AllocError>
+    requires few { length order.now ≤ 400 }
+    requires low { All (λ s. s.height ≤ 710) spans.now }
+    ensures { IfOk result (λ tops. ArePlaced order.now (map (λ s. height_in s column) spans.now) tops.items) }
+{
+    let heights = heights_in(alloc, spans, column)?;
+    let heights = heights.as_slice();
+    let placed = place(alloc, order, heights, wishes)?;
+    Ok(placed)
+}
+
 /// The tops of the nodes of a column in the order of their keys.
 fn stood(
     alloc: Global,
@@ -108,8 +127,9 @@ fn stood(
     ensures { IfOk result (λ tops. IsColumn spans.now column tops.items) }
 {
     let order = order_by(alloc, spans, column, keys)?;
-    let heights = heights_in(alloc, spans, column)?;
-    place(alloc, &order, &heights, wishes)
+    let order = order.as_slice();
+    let placed = placed_in(alloc, spans, column, order, wishes)?;
+    Ok(placed)
 }
 
 /// The tops of the nodes of the first column. No line ends there.
@@ -139,7 +159,7 @@ fn next_column(
     let wishes = wishes_left(alloc, arriving, before)?;
     let inside = in_picture(alloc, &wishes)?;
     let first = wishing(alloc, &members(alloc, spans, column)?, &wishes)?;
-    let tops = place(alloc, &first, &heights, &numbers(alloc, &inside, 0)?)?;
+    let tops = placed_in(alloc, spans, column, &first, &numbers(alloc, &inside, 0)?)?;
     let near = near(alloc, &wishes, leaving, &middles(alloc, &tops, &heights)?)?;
     let keys = keys_of(alloc, &wishes, &tops, &near)?;
     stood(
@@ -184,9 +204,11 @@ fn moved(
     ensures { IfOk result (λ tops. IsColumn spans.now column tops.items) }
 {
     let order = order_by(alloc, spans, column, tops)?;
+    let order = order.as_slice();
     let heights = heights_in(alloc, spans, column)?;
-    let tops = pulled(alloc, &order, &heights, tops, wishes)?;
-    place(alloc, &order, &heights, &tops)
+    let tops = pulled(alloc, order, &heights, tops, wishes)?;
+    let placed = placed_in(alloc, spans, column, order, &tops)?;
+    Ok(placed)
 }
 
 /// Where the nodes of a column stand once those without lines from the left are moved by their lines to the right. `next` are the tops

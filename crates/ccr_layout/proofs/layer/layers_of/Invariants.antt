@@ -1,5 +1,6 @@
-use Rattle.ccr_layout.proofs.LayerLaws.{AreLayered}
+use Rattle.std.proofs.Common.{◌≤◌}
+use Rattle.std.specs.Prelude.{All}
 use Rattle.ccr_layout.proofs.layer.layers_of.Given as goal
 
-abbrev pub invariant-loop-turn : goal.invariant-loop-turn
-invariant-loop-turn l = AreLayered l.named l.done.items l.layers.items l.turn
+abbrev pub invariant-loop : goal.invariant-loop
+invariant-loop l = All (λ x. x ≤ 400) l.layers.items
