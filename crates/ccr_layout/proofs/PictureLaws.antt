@@ -1,9 +1,9 @@
 -- What is drawn is a picture of the graph.
-use Rattle.std.proofs.Common.{◌≡◌, ◌≢◌, ℕ, zero, suc, ◌+◌, ◌-◌, ◌*◌, ◌/◌, ◌<◌, ◌≤◌, ◌⊎◌, List, [], length, length-map, map, min, get_or, slice_index, slice_index_or, cond, eqb, inl, inr, refl, sym, ap, ◌∙◌, subst, arith}
+use Rattle.std.proofs.Common.{◌≡◌, ◌≢◌, ℕ, zero, suc, ◌+◌, ◌-◌, ◌*◌, ◌/◌, ◌<◌, ◌≤◌, ◌⊎◌, List, [], length, map, min, get_or, slice_index, slice_index_or, cond, eqb, inl, inr, refl, sym, ap, ◌∙◌, subst, arith}
 use Rattle.std.specs.Prelude.{All, Contains, is_some}
 use Rattle.std.specs.declared.vec.Vec.{Vec}
 use Rattle.std.proofs.lemmas.Bool.{cases_lt, cases_eq, cond-true, cond-false, eq-eqb, ne_eqb}
-use Rattle.std.proofs.lemmas.List.{get_or-map, get_or_default, get_or_past}
+use Rattle.std.proofs.lemmas.List.{get_or-map, get_or_default, get_or_past, length-map}
 use Rattle.std.proofs.lemmas.List.Elements.{All-contains, All-nil}
 use Rattle.ccr_layout.specs.declared.graph.Node.{Node}
 use Rattle.ccr_layout.specs.declared.graph.Edge.{Edge}
@@ -23,12 +23,15 @@ use Rattle.ccr_layout.specs.Ends.{tab_in}
 use Rattle.ccr_layout.specs.Drawing.{right_end, box_of, bend_of, end_of, slot_of, HasSlots, IsPathOf}
 use Rattle.ccr_layout.specs.Pictures.{box_in, IsAbove, AreBoxes, Leaves, AreSlots, Arrives, IsPath, ArePaths, IsPicture}
 
+abbrev no_span : Span
+no_span = record { column = 0; reach = 0; height = 0; first_port = 0 }
+
 -- ---- heights
 height_here : (s : Span) → height_in s s.column ≡ s.height
-height_here s = cond-true s.height 0 (eq-eqb s.column s.column refl)
+height_here s = cond-true (eqb s.column s.column) s.height 0 (eq-eqb s.column s.column refl)
 
 height_passing : (s : Span) (c : ℕ) → Passes s c → height_in s c ≡ 0
-height_passing s c p = cond-false s.height 0 (ne_eqb s.column c (λ e. omega (arith, e, p.0)))
+height_passing s c p = cond-false (eqb s.column c) s.height 0 (ne_eqb s.column c (λ e. omega (arith, e, p.0)))
 
 -- ---- columns
 -- a column ends left of each later one
@@ -42,7 +45,7 @@ beside_far columns bands are (suc n) c within =
     let g = are.beside (c + 1 + n) (omega (arith, within)) in
     let P : ℕ → Type 0 = λ k. (band_in bands c).right + 46 ≤ (band_in bands k).left in
     let e : c + 1 + n + 1 ≡ c + 1 + suc n = omega arith in
-    subst P e (omega (arith, h, g))
+    subst P e (omega (arith, h, g, are.tabs (c + 1 + n) (omega (arith, within)), are.boxes (c + 1 + n) (omega (arith, within))))
 
 module _ {A : Type 0} (nodes : List Node) (edges : List Edge) (spans : List Span) (bands : List Band) (tops : List (Vec ℕ A)) (columns : ℕ) (boxes : List NodeBox) (slots : List Slot)
     (are_spans : AreSpans nodes edges spans) (past : All (λ s. s.column < columns) spans) (are_columns : AreColumns spans columns tops) (are_bands : AreBands columns bands)
@@ -55,10 +58,10 @@ module _ {A : Type 0} (nodes : List Node) (edges : List Edge) (spans : List Span
   column_is k within = ap (λ b. b.column) (box_is k within)
 
   column_low : (k : ℕ) → k < length boxes → (span_in spans k).column < columns
-  column_low k within = past k _ (omega (arith, within, many))
+  column_low k within = past k no_span (omega (arith, within, many))
 
   height_at : (c k : ℕ) → k < length spans → slice_index (map (λ s. height_in s c) spans) k ≡ height_in (span_in spans k) c
-  height_at c k within = get_or-map (λ s. height_in s c) spans k _ 0 within
+  height_at c k within = get_or-map (λ s. height_in s c) spans k no_span 0 within
 
   -- two nodes in one column
   apart_in : (c i j : ℕ) → c < columns → i < length spans → j < length spans → IsIn (span_in spans i) c → IsIn (span_in spans j) c → i ≢ j
@@ -96,7 +99,7 @@ module _ {A : Type 0} (nodes : List Node) (edges : List Edge) (spans : List Span
       let li = ap (λ b. b.left) (box_is i wi) in
       let wid = ap (λ b. b.width) (box_is i wi) in
       let lj = ap (λ b. b.left) (box_is j wj) in
-      omega (arith, far', li, wid, lj, are_bands.boxes ci (column_low i wi))
+      omega (arith, far', li, wid, lj, are_bands.boxes ci (column_low i wi), are_bands.tabs cj (column_low j wj))
 
   across_boxes : (k : ℕ) → k < length boxes → (box_in boxes k).left + (box_in boxes k).width ≤ 900000
   across_boxes k within =
@@ -110,7 +113,7 @@ module _ {A : Type 0} (nodes : List Node) (edges : List Edge) (spans : List Span
       let t = ap (λ b. b.top) (box_is k within) in
       let h = ap (λ b. b.height) (box_is k within) in
       let low = standing.low c k 0 (omega (arith, within, many, (are_columns.each c (column_low k within)).long)) in
-      let high = standing.high k _ (omega (arith, within, many)) in
+      let high = standing.high k no_span (omega (arith, within, many)) in
       omega (arith, t, h, low, high)
 
   pub boxes_are : IsStanding spans tops → AreBoxes nodes boxes

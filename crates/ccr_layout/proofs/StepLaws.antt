@@ -1,9 +1,9 @@
 -- One more step of the loops that make spans, columns, boxes, slots and paths.
-use Rattle.std.proofs.Common.{◌≡◌, ◌≢◌, ℕ, zero, suc, ◌+◌, ◌*◌, ◌<◌, ◌≤◌, ◌⊎◌, ◌↔◌, Bool, true, false, List, [], ◌∷◌, ◌++◌, length, map, max, get_or, set, slice_index, slice_index_or, inl, inr, refl, sym, ap, ◌∙◌, subst, arith, length-set, length-map, ◌-◌, nat_eq, IsTrue}
+use Rattle.std.proofs.Common.{◌≡◌, ◌≢◌, ℕ, zero, suc, ◌+◌, ◌*◌, ◌<◌, ◌≤◌, ◌⊎◌, ◌↔◌, Bool, true, false, List, [], ◌∷◌, ◌++◌, length, map, max, get_or, set, slice_index, slice_index_or, inl, inr, refl, sym, ap, ◌∙◌, subst, arith, length-set, ◌-◌, nat_eq, IsTrue}
 use Rattle.std.specs.Prelude.{All, Contains}
 use Rattle.std.specs.declared.vec.Vec.{Vec}
 use Rattle.std.proofs.lemmas.Bool.{cases_lt, cases_eq, cases_Bool, cond-true, cond-false, false≢true}
-use Rattle.std.proofs.lemmas.List.{get_or-set_same, get_or-set_other, get_or_append_left, get_or_push, get_or_default, length_push, map_push, set_past}
+use Rattle.std.proofs.lemmas.List.{get_or-set_same, get_or-set_other, get_or_append_left, get_or_push, get_or_default, length_push, length-map, map_push, set_past}
 use Rattle.std.proofs.lemmas.List.Elements.{All-set, All-push, All-weaker, All-same, All-map, Contains-append_left, Contains-push}
 use Rattle.ccr_layout.specs.declared.graph.Node.{Node}
 use Rattle.ccr_layout.specs.declared.graph.Edge.{Edge}
@@ -19,14 +19,17 @@ use Rattle.ccr_layout.specs.Standing.{tops_in, AreColumns}
 use Rattle.ccr_layout.specs.Drawing.{right_end, bend_of, end_of, slot_of, path_of, HasSlots, IsPathOf}
 use Rattle.ccr_layout.proofs.PlaceLaws.{low_at}
 
+abbrev no_span : Span
+no_span = record { column = 0; reach = 0; height = 0; first_port = 0 }
+
 -- what holds of each element, by its position
 pub push_more : {X : Type 0} (P : ℕ → X → Type 0) (xs : List X) (x d : X) (n : ℕ) → length xs ≡ n → ((k : ℕ) → k < n → P k (get_or xs k d)) → P n x → (k : ℕ) → k < n + 1 → P k (get_or (xs ++ x ∷ []) k d)
-push_more P xs x d n long each new k less =
+push_more {X} P xs x d n long each new k less =
     elim (cases_lt k n) [
-      | inl inside ↦ (let Q = λ y. P k y in subst Q (sym (get_or_append_left xs (x ∷ []) d k (omega (arith, inside, long)))) (each k inside))
+      | inl inside ↦ (let Q : X → Type 0 = λ y. P k y in subst Q (sym (get_or_append_left xs (x ∷ []) d k (omega (arith, inside, long)))) (each k inside))
       | inr past ↦ (let e : n ≡ k = omega (arith, past, less) in
-          let Q = λ y. P k y in
-          let R = λ m. P m x in
+          let Q : X → Type 0 = λ y. P k y in
+          let R : ℕ → Type 0 = λ m. P m x in
           subst Q (sym (get_or_push xs x d k (long ∙ e))) (subst R e new))
     ]
 
@@ -188,7 +191,7 @@ spans_all nodes edges spans columns reaches long columns_long each left low port
   where
     columns_low : (n : ℕ) → All (λ s. s.column < n) spans → All (λ c. c < n) columns
     columns_low n all k d within =
-        omega (arith, get_or_default columns k d 0 within, col k (omega (arith, within, columns_long)), all k _ (omega (arith, within, long, columns_long)))
+        omega (arith, get_or_default columns k d 0 within, col k (omega (arith, within, columns_long)), all k no_span (omega (arith, within, long, columns_long)))
 
 pub record AreSpansTo (nodes : List Node) (columns reaches : List ℕ) (n : ℕ) (spans : List Span) : Type 0 where
   pub long : length spans ≡ n
@@ -205,13 +208,13 @@ spans_more nodes columns reaches n spans spans' x s is within read span column r
     let P : List Span → Type 0 = λ xs. AreSpansTo nodes columns reaches (n + 1) xs in
     subst P (sym grown) (record {
       long = length_push spans s ∙ ap (λ m. m + 1) is.long;
-      each = push_more (λ k y. (d : Node) → IsSpanOf (slice_index_or nodes k d) y) spans s _ n is.long is.each
+      each = push_more (λ k y. (d : Node) → IsSpanOf (slice_index_or nodes k d) y) spans s no_span n is.long is.each
           (λ d. let Q : Node → Type 0 = λ y. IsSpanOf y s in subst Q (read ∙ get_or_default nodes n x d within) span);
       left = All-push (λ y. y.column ≤ 402) spans s is.left (omega (arith, column, low_at 402 columns n columns_low));
       low = All-push (λ y. y.height ≤ 710) spans s is.low low;
       ports = All-push (λ y. y.first_port ≤ 40) spans s is.ports port;
-      col = push_more (λ k y. y.column ≡ slice_index columns k) spans s _ n is.long is.col column;
-      rch = push_more (λ k y. y.reach ≡ slice_index reaches k) spans s _ n is.long is.rch reach;
+      col = push_more (λ k y. y.column ≡ slice_index columns k) spans s no_span n is.long is.col column;
+      rch = push_more (λ k y. y.reach ≡ slice_index reaches k) spans s no_span n is.long is.rch reach;
     })
 
 -- ---- paths, one more
@@ -227,8 +230,8 @@ paths_more P edges paths paths' p i x long each within read new grown k d e less
 height_low : (n : ℕ) (s : Span) (c : ℕ) → s.height ≤ n → height_in s c ≤ n
 height_low n s c low =
     elim (cases_Bool (nat_eq s.column c)) [
-      | inl is ↦ omega (arith, cond-true s.height 0 is, low)
-      | inr not ↦ omega (arith, cond-false s.height 0 not)
+      | inl is ↦ omega (arith, cond-true (nat_eq s.column c) s.height 0 is, low)
+      | inr not ↦ omega (arith, cond-false (nat_eq s.column c) s.height 0 not)
     ]
 
 pub heights_low : (n : ℕ) (spans : List Span) (c : ℕ) (heights : List ℕ) → heights ≡ map (λ s. height_in s c) spans → All (λ s. s.height ≤ n) spans → All (λ h. h ≤ n) heights

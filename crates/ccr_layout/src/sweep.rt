@@ -225,7 +225,7 @@ fn moved_back(
     requires low { All (λ s. s.height ≤ 710) spans.now }
 {
     let heights = heights_in(alloc, spans, column)?;
-    let leaving = ending(lines, column + 1);
+    let leaving = ending(lines, column.saturating_add(1));
     let wishes = wishes_right(alloc, ending(lines, column), leaving, next, &heights)?;
     moved(alloc, spans, column, tops, &wishes)
 }

@@ -3,8 +3,8 @@ use Rattle.ccr_layout.specs.Places.{ArePlaced}
 use Rattle.ccr_layout.proofs.StepLaws.{heights_low}
 use Rattle.ccr_layout.proofs.sweep.placed_in.Goals as goal
 
-pub place-placed-requires-clause-low : goal.place-placed-requires-clause-low
-place-placed-requires-clause-low c =
+pub place-requires-clause-low : goal.place-requires-clause-low
+place-requires-clause-low c =
     heights_low 710 c.args.spans.now c.args.column c.as_slice-heights.result.now (c.as_slice-heights.ensures.value ∙ c.in_ok-heights.ensures) c.requires.low
 
 pub returns : goal.returns
