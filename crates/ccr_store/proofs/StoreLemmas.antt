@@ -4,7 +4,7 @@ use Rattle.std.specs.Prelude.{IfSome, IsErrAnd}
 use Rattle.sqlite_trees.specs.declared.store.Store.{Ghosts}
 use Rattle.sqlite.specs.Tree.{Trees}
 use Rattle.sqlite.specs.Effect.{Database}
-use Rattle.sqlite.specs.State.{State, HasCleanDisk, IsUnchanged, Survives}
+use Rattle.sqlite.specs.State.{State, HasCleanDisk, IsLive, IsUnchanged, Survives}
 use Rattle.sqlite.specs.Held.{state}
 use Rattle.sqlite.proofs.StateLemmas.{survives_weaker}
 use Rattle.ccr_history.specs.History.{HistoryData, IsHistory}
@@ -22,7 +22,7 @@ use Rattle.ccr_store.specs.Writes.{change_writes}
 use Rattle.ccr_store.specs.Reordered.{HasSameRows}
 use Rattle.ccr_history.specs.declared.store_fault.StoreFault.{StoreFault}
 use Rattle.ccr_history.specs.declared.store_fault.StoreFault.TheVariants.{NoMemory, NotOurs}
-use Rattle.ccr_store.specs.Crash.{HoldOneOf, Leaves, IsChangedIn}
+use Rattle.ccr_store.specs.Crash.{HoldOneOf, ListOurs, Leaves, IsChangedIn}
 use Rattle.ccr_store.specs.Left.{IsAsItWas}
 use Rattle.ccr_store.specs.Readable.{IsReadable}
 use Rattle.ccr_store.specs.Rows.{Fits, rows_in, rows_of}
@@ -32,6 +32,7 @@ use Rattle.ccr_store.specs.StoreData.{StoreData, IsStored, IsKept}
 use Rattle.ccr_store.specs.Texts.{HasTexts, OrNoMemory, OrFault}
 use Rattle.ccr_store.specs.Listed.{AreSeen, AreBuilt, ListsSeen, ListsBuilt, KeepsSeen, without_builds}
 use Rattle.ccr_store.proofs.ListedRows.{loaded}
+use Rattle.ccr_store.proofs.Ours.{left_ours}
 use Rattle.sqlite.specs.Order.{Row}
 use Rattle.ccr_history.specs.Text.{Text}
 use Rattle.ccr_store.specs.WriteData.{WriteData, write_data, all_made}
@@ -202,14 +203,15 @@ kept_still g s t h kept was refused clean up =
 -- ---- what a crash leaves
 -- a commit leaves what could be left before, or the changed history
 pub leaves_changed : {S : Type 0} (g : Ghosts S) (t u : StoreData S) (es : List Edit) (h : HistoryData) (hs : List HistoryData) → change_writes es ≢ [] → IsKept g t h → Accepts h es → Leaves g t hs
-    → Survives (state g t.conn) (state g u.conn) (IsChangedIn es (state g t.conn)) → Leaves g u (changed (change_data es) h ∷ hs)
-leaves_changed g t u es h hs some kept accepts before it clean trees may = by (it.crash clean trees may)
+    → Survives (state g t.conn) (state g u.conn) (IsChangedIn es (state g t.conn))
+    → (HasCleanDisk (state g u.conn) → IsTrue (state g u.conn).is_open → (trees : Trees) → (state g u.conn).may_leave trees → ListOurs trees) → Leaves g u (changed (change_data es) h ∷ hs)
+leaves_changed g t u es h hs some kept accepts before it listed clean trees may = (by (it.crash clean trees may), λ up. listed clean up trees may)
   where
     early : HasCleanDisk (state g t.conn)
     early = omega (arith, it.clean)
 
     by : (state g t.conn).may_leave trees ⊎ IsChangedIn es (state g t.conn) trees → HoldOneOf (changed (change_data es) h ∷ hs) trees
-    by (inl old) = inr (before early trees old)
+    by (inl old) = inr (before early trees old).0
     by (inr new) =
         let held = kept early (new.opened some) in
         inl (new.made h (record { rules = held.1; rows = held.2 }) accepts)
@@ -219,11 +221,26 @@ pub leaves_made : {S : Type 0} (g : Ghosts S) (t u : StoreData S) (es : List Edi
     → (HasCleanDisk (state g u.conn) → IsTrue (state g u.conn).is_open → HasCleanDisk (state g t.conn) × IsTrue (state g t.conn).is_open)
     → (IsStored h (state g t.conn).now → HasCleanDisk (state g u.conn) → IsStored (changed (change_data es) h) (state g u.conn).now × ((state g u.conn).committed ≡ (state g u.conn).now))
     → (HasCleanDisk (state g u.conn) → IsTrue (state g u.conn).is_open)
-    → (IsTrue (state g u.conn).is_open → (trees : Trees) → (state g u.conn).may_leave trees → trees ≡ (state g u.conn).committed.trees) → Leaves g u (changed (change_data es) h ∷ [])
-leaves_made g t u es h kept accepts was done opened durable clean trees may =
+    → (IsTrue (state g u.conn).is_open → (trees : Trees) → (state g u.conn).may_leave trees → trees ≡ (state g u.conn).committed.trees) → IsLive (state g u.conn) → Leaves g u (changed (change_data es) h ∷ [])
+leaves_made g t u es h kept accepts was done opened durable live clean trees may =
     let up = opened clean in
     let before = was clean up in
     let it = kept before.0 before.1 in
     let after = done (record { rules = it.1; rows = it.2 }) clean in
     let these = rows_of (changed (change_data es) h) in
-    inl (subst (Keeps these) (sym (durable up trees may ∙ ap (λ (d : Database). d.trees) after.1)) after.0.rows.rows)
+    let same = durable up trees may in (
+      inl (subst (Keeps these) (sym (same ∙ ap (λ (d : Database). d.trees) after.1)) after.0.rows.rows),
+      λ _. left_ours (state g u.conn) live up (ap (λ (d : Database). d.schema) after.1 ∙ after.0.rows.schema) trees same,
+    )
+
+-- a store that is open still, and has committed nothing, leaves the six tables as before
+pub listed_still : {S : Type 0} (g : Ghosts S) (t u : StoreData S) (hs : List HistoryData) → Leaves g t hs
+    → (IsTrue (state g t.conn).is_open → (state g t.conn).may_leave (state g t.conn).committed.trees)
+    → (HasCleanDisk (state g u.conn) → IsTrue (state g u.conn).is_open → HasCleanDisk (state g t.conn) × IsTrue (state g t.conn).is_open)
+    → (HasCleanDisk (state g u.conn) → IsTrue (state g u.conn).is_open → (state g u.conn).committed ≡ (state g t.conn).committed)
+    → (IsTrue (state g u.conn).is_open → (trees : Trees) → (state g u.conn).may_leave trees → trees ≡ (state g u.conn).committed.trees)
+    → HasCleanDisk (state g u.conn) → IsTrue (state g u.conn).is_open → (trees : Trees) → (state g u.conn).may_leave trees → ListOurs trees
+listed_still g t u hs before stays was back durable clean up trees may =
+    let early = was clean up in
+    subst ListOurs (sym (durable up trees may ∙ ap (λ (d : Database). d.trees) (back clean up)))
+    ((before early.0 (state g t.conn).committed.trees (stays early.1)).1 early.1)

@@ -1,14 +1,17 @@
 -- What a crash leaves.
-use Rattle.std.specs.Prelude.{◌≢◌, ◌⊎◌, List, [], ◌∷◌, IsTrue}
+use Rattle.std.specs.Prelude.{◌≡◌, ◌≢◌, ◌⊎◌, List, [], ◌∷◌, IsTrue}
+use Rattle.sqlite.specs.Schema.{Schema}
 use Rattle.sqlite.specs.Tree.{Trees}
 use Rattle.sqlite.specs.State.{State, HasCleanDisk}
 use Rattle.sqlite.specs.Held.{state}
 use Rattle.sqlite_trees.specs.declared.store.Store.{Ghosts}
+use Rattle.sqlite_catalog.specs.Listing.{IsSound}
 use Rattle.ccr_history.specs.History.{HistoryData}
 use Rattle.ccr_history.specs.Edits.{change_data, Accepts}
 use Rattle.ccr_history.specs.Changes.{changed}
 use Rattle.ccr_history.specs.declared.change.Edit.{Edit}
 use Rattle.ccr_tables.specs.Contents.{Keeps}
+use Rattle.ccr_tables.specs.Schema.{our_schema}
 use Rattle.ccr_store.specs.Rows.{rows_of}
 use Rattle.ccr_store.specs.StoreData.{StoreData, IsStored}
 use Rattle.ccr_store.specs.Writes.{change_writes}
@@ -18,12 +21,16 @@ abbrev pub HoldOneOf : List HistoryData → Trees → Type 0
 HoldOneOf [] trees = ⊥
 HoldOneOf (h ∷ hs) trees = Keeps (rows_of h) trees ⊎ HoldOneOf hs trees
 
+-- the list of objects of these trees tells exactly the six tables: each schema that is sound for them is ours
+abbrev pub ListOurs : Trees → Type 0
+ListOurs trees = (schema : Schema) → IsSound schema trees → schema ≡ our_schema
+
 -- A CRASH LEAVES ONE OF THESE HISTORIES: while the disk returns what was written, whatever an open after a crash at
--- this moment may find has the rows of one of them
+-- this moment may find has the rows of one of them; and if the store is open, it lists the six tables
 abbrev pub Leaves : {S : Type 0} → Ghosts S → StoreData S → List HistoryData → Type 0
 Leaves g store hs =
     let db = state g store.conn in
-    HasCleanDisk db → (trees : Trees) → db.may_leave trees → HoldOneOf hs trees
+    HasCleanDisk db → (trees : Trees) → db.may_leave trees → HoldOneOf hs trees × (IsTrue db.is_open → ListOurs trees)
 
 -- What a crash during a commit can leave that it couldn't leave before: the changed history, where the tables held one
 -- that takes the edits; and if these write anything, of an open connection alone.

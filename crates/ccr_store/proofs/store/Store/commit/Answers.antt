@@ -1,9 +1,10 @@
 use Rattle.std.proofs.Common.{◌∙◌, ap, sym, subst, refl, not, inr}
 use Rattle.sqlite.specs.Held.{state}
 use Rattle.ccr_store.proofs.EditWrites.{all_have_places}
-use Rattle.ccr_store.proofs.StoreLemmas.{stored_now, crash_now, on_err, on_ok_none, was_itself, undone_kept, out_of_memory, no_memory_no_answer, leaves_changed, leaves_made}
+use Rattle.ccr_store.proofs.StoreLemmas.{stored_now, crash_now, on_err, on_ok_none, was_itself, undone_kept, out_of_memory, no_memory_no_answer, leaves_changed, leaves_made, listed_still}
 use Rattle.ccr_tables.specs.Answered.{IsAnswered}
 use Rattle.ccr_tables.proofs.Queries.{only_error}
+use Rattle.ccr_store.specs.Crash.{Leaves}
 use Rattle.ccr_store.specs.StoreData.{StoreData, IsKept}
 use Rattle.ccr_store.proofs.store.Store.commit.Goals as goal
 
@@ -39,19 +40,8 @@ returns-clause-refused g c clean =
     (λ up. (c.commit.ensures.was_open clean up).1) (λ up. c.in-Err.ensures.refused clean up)
 
 pub returns-in_err-writes-clause-leaves : goal.returns-in_err-writes-clause-leaves
-returns-in_err-writes-clause-leaves g c hs h before kept accepts some clean trees may = inr (before clean trees may)
-
-pub returns-in-Ok-clause-leaves : goal.returns-in-Ok-clause-leaves
-returns-in-Ok-clause-leaves g c hs h before kept accepts some =
-    leaves_changed g.S.Store c.args.self.now (record { conn = c.commit.new.conn; tally = c.self.inside.tally }) c.args.change.now h hs some kept accepts before
-    (crash_now g.S.Store (record { conn = c.self.inside.conn; tally = c.self.inside.tally }) c.args.self.now (state g.S.Store c.commit.new.conn) c.args.change.now c.deref.result.now
-    c.self.view_is (rw c.deref.ensures.value c.in_ok-writes.ensures.written) c.commit.ensures.crash)
-
-pub returns-clause-leaves : goal.returns-clause-leaves
-returns-clause-leaves g c hs h before kept accepts some =
-    leaves_changed g.S.Store c.args.self.now (record { conn = c.commit.new.conn; tally = c.self.inside.tally }) c.args.change.now h hs some kept accepts before
-    (crash_now g.S.Store (record { conn = c.self.inside.conn; tally = c.self.inside.tally }) c.args.self.now (state g.S.Store c.commit.new.conn) c.args.change.now c.deref.result.now
-    c.self.view_is (rw c.deref.ensures.value c.in_ok-writes.ensures.written) c.commit.ensures.crash)
+returns-in_err-writes-clause-leaves g c hs h before kept accepts some clean trees may =
+    let it = before clean trees may in (inr it.0, it.1)
 
 pub returns-in_err-writes-clause-acknowledged : goal.returns-in_err-writes-clause-acknowledged
 returns-in_err-writes-clause-acknowledged g c h kept accepts = on_ok_none _ c.from_residual.result (only_error c.from_residual.result _ c.from_residual.ensures.1)
@@ -67,7 +57,24 @@ returns-in-Ok-clause-acknowledged g c h kept accepts =
           (rw c.deref.ensures.value c.in_ok-writes.ensures.written) done.0 it accepts,
       done.1,
     ))
-    c.in-Ok.ensures.open c.commit.ensures.durable
+    c.in-Ok.ensures.open c.commit.ensures.durable c.schema.ensures.live
+
+pub returns-in-Ok-clause-leaves : goal.returns-in-Ok-clause-leaves
+returns-in-Ok-clause-leaves g c hs h before kept accepts some =
+    leaves_changed g.S.Store c.args.self.now (record { conn = c.commit.new.conn; tally = c.self.inside.tally }) c.args.change.now h hs some kept accepts before
+    (crash_now g.S.Store (record { conn = c.self.inside.conn; tally = c.self.inside.tally }) c.args.self.now (state g.S.Store c.commit.new.conn) c.args.change.now c.deref.result.now
+    c.self.view_is (rw c.deref.ensures.value c.in_ok-writes.ensures.written) c.commit.ensures.crash)
+    (λ clean up trees may. (returns-in-Ok-clause-acknowledged g c h kept accepts clean trees may).1 up)
+
+pub returns-clause-leaves : goal.returns-clause-leaves
+returns-clause-leaves g c hs h before kept accepts some =
+    let was : StoreData _ = record { conn = c.self.inside.conn; tally = c.self.inside.tally } in
+    let end : StoreData _ = record { conn = c.commit.new.conn; tally = c.self.inside.tally } in
+    leaves_changed g.S.Store c.args.self.now end c.args.change.now h hs some kept accepts before
+    (crash_now g.S.Store was c.args.self.now (state g.S.Store c.commit.new.conn) c.args.change.now c.deref.result.now
+    c.self.view_is (rw c.deref.ensures.value c.in_ok-writes.ensures.written) c.commit.ensures.crash)
+    (listed_still g.S.Store was end hs (subst (λ (k : StoreData _). Leaves g.S.Store k hs) (sym c.self.view_is) before)
+    (g.met.S.Store.stays c.self.inside.conn.store) c.commit.ensures.was_open (λ clean up. (c.in-Err.ensures.refused clean up).1) c.commit.ensures.durable)
 
 pub returns-in_err-writes-clause-answered : goal.returns-in_err-writes-clause-answered
 returns-in_err-writes-clause-answered g c clean = no_memory_no_answer c.from_residual.result _ (out_of_memory c.from_residual.result c.in_err-writes.field-0.0 c.from_residual.ensures.1 c.in_err-writes.ensures.only)
