@@ -1,7 +1,8 @@
 -- What bytes hold that a store's files leave.
-use Rattle.std.proofs.Common.{◌≡◌, ◌≤◌, ◌∙◌, List, [], ◌∷◌, IsTrue, sym, ap, subst, inl, inr, refl, length, arith, Bool, true, false}
+use Rattle.std.proofs.Common.{◌≡◌, ◌≤◌, ◌∙◌, List, [], ◌∷◌, map, Option, Some, None, IsTrue, sym, ap, subst, inl, inr, refl, length, arith, Bool, true, false}
 use Rattle.std.proofs.Math.Logic.{∥∥₁_elim, ∥∥₁_map}
 use Rattle.std.specs.List.{AllByRecursion}
+use Rattle.std.proofs.lemmas.List.Sorted.{length_permutation}
 use Rattle.sqlite_trees.specs.declared.store.Store as trees_store
 use Rattle.sqlite_disk.specs.declared.Disk.{Ghosts}
 use Rattle.sqlite_wal.specs.Files.{outcomes}
@@ -17,14 +18,17 @@ use Rattle.sqlite_store.specs.FileStore.{files, reading, recovers, schema_in, st
 use Rattle.sqlite_store.specs.Listing.{IsOurs}
 use Rattle.sqlite_store.specs.declared.store.FileStore.{FileStore}
 use Rattle.sqlite.specs.Files.{file_state, over_files, HoldsDatabase}
+use Rattle.sqlite.specs.Order.{Row}
 use Rattle.sqlite.specs.Schema.{Schema}
 use Rattle.sqlite.specs.Tree.{Trees}
+use Rattle.sqlite.proofs.FileLemmas.{is_something}
+use Rattle.ccr_history.specs.Text.{Text}
 use Rattle.ccr_history.specs.History.{HistoryData, IsHistory}
-use Rattle.ccr_tables.specs.Contents.{Keeps}
+use Rattle.ccr_tables.specs.Contents.{Keeps, meta_row}
 use Rattle.ccr_store.specs.Crash.{HoldOneOf}
-use Rattle.ccr_store.specs.Rows.{rows_of}
+use Rattle.ccr_store.specs.Rows.{meta_rows, rows_of}
 use Rattle.ccr_store.specs.declared.format.Format.TheVariants.{Two}
-use Rattle.ccr_look.specs.Holding.{AreOurs, HoldsHistory}
+use Rattle.ccr_look.specs.Holding.{AreOurs, HoldNothing, HoldsHistory}
 use Rattle.ccr_look.specs.Left.{AreLeftBy, IsOneOf, IsSoundStore}
 use Rattle.ccr_look.specs.Looks.{IsFoundIn}
 
@@ -67,12 +71,30 @@ holds_what_is_left it clean sound image left = ∥∥₁_elim it.safe squash₁ 
       ),
     ) in r)))
 
+-- a history has a row in `meta`, the number of its format
+some_meta : (t : Option Text) → 1 ≤ length (meta_rows Two t)
+some_meta None = omega arith
+some_meta (Some t) = omega arith
+
+-- so trees without rows aren't a history's
+no_rows : (h : HistoryData) (db : Trees) → Keeps (rows_of h) db → db 0 ≡ [] → ⊥
+no_rows h db rows none =
+    let same = length_permutation (meta_rows Two h.text) (map meta_row (db 0)) rows.meta in
+    omega (arith, some_meta h.text, same, ap (λ (rows : List Row). length (map meta_row rows)) none)
+
 module _ {S : Type 0} (g : trees_store.Ghosts S) (image : Image) (found : HistoryData) (it : IsFoundIn g image found) (ours : AreOurs image)
     (db : Trees) (held : HoldsDatabase image db) where
+  -- files in which nothing was made have no history's rows
+  nothing_kept : HoldNothing image → (h : HistoryData) → Keeps (rows_of h) db → ⊥
+  nothing_kept (inl blank) h rows = is_something image db held blank
+  nothing_kept (inr (trees, kept, empty)) h rows =
+      let same : trees ≡ db = sym (it.finds.holds trees kept) ∙ it.finds.holds db held in
+      no_rows h db rows (ap (λ (t : Trees). t 0) (sym same) ∙ empty.0 0 (omega arith))
+
   -- a history whose rows the database has is the one that is found
   same_history : (h : HistoryData) → IsHistory h → Keeps (rows_of h) db → found ≡ h
   same_history h rules rows = elim ours.1 [
-    | inl nothing ↦ (let some = held.2.found.found.present in let none = ap length nothing.0 in absurd (omega (arith, some, none)))
+    | inl nothing ↦ absurd (nothing_kept nothing.0 h rows)
     | inr tables ↦ (
         let same : tables.trees ≡ db = sym (it.finds.holds tables.trees tables.found) ∙ it.finds.holds db held in
         sym (it.only h (inr (record {

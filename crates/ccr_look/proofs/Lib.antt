@@ -1,5 +1,9 @@
+pub mod Blank
 pub mod Adopted
 pub mod Bytes
 pub mod Finding
 pub mod Left
 pub mod Unfound
+pub mod Taken
+pub mod Runs
+pub mod First

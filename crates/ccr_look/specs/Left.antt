@@ -1,7 +1,7 @@
 -- What a reader may find beside a program that has the database open.
 use Rattle.std.specs.Prelude.{◌≡◌, ◌⊎◌, List, [], ◌∷◌, IsTrue}
 use Rattle.sqlite_disk.specs.declared.Disk.{Ghosts}
-use Rattle.sqlite_wal.specs.Files.{outcomes}
+use Rattle.sqlite_wal.specs.Files.{seen_image, outcomes}
 use Rattle.sqlite_wal.specs.Recovery.{Image}
 use Rattle.sqlite_pool.specs.Stored.{RecoversAs}
 use Rattle.sqlite_store.specs.FileStore.{files, recovers, state, view}
@@ -15,6 +15,10 @@ module _ {D : Type 0} {g : Ghosts D} (it : FileStore D g) where
   abbrev pub AreLeftBy : Image → Type 0
   AreLeftBy image =
       (left : Image) × outcomes g (files it).0 (files it).1 left × RecoversAs (state it).page_size left image
+
+  -- WHAT THE FILES ARE as a run ends at this moment: what reads of them return
+  abbrev pub files_now : Image
+  files_now = seen_image g (files it).0 (files it).1
 
   -- what SQLite keeps true of the store of each connection: whatever a crash leaves of it is a database
   pub record IsSoundStore : Type 0 where

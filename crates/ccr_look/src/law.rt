@@ -1,15 +1,22 @@
 //! What a look finds beside a running server.
-ghost use Rattle.std.specs.Prelude.{List};
+ghost use Rattle.std.specs.Prelude.{List, IsTrue};
 ghost use Rattle.std.specs.List.{AllByRecursion};
-ghost use Rattle.sqlite.specs.Files.{file_state, over_files};
+ghost use Rattle.sqlite_disk.specs.declared.Files.{Files};
+ghost use Rattle.sqlite_store.specs.Unopened.{state_of};
+ghost use Rattle.sqlite_store.specs.declared.store.open.Unopened.{Unopened};
+ghost use Rattle.sqlite.specs.declared.file.Leftover.TheVariants as leftover;
+ghost use Rattle.sqlite.specs.Files.{file_state, image_of, over_files, IsNothing, LeavesFiles};
+ghost use Rattle.sqlite.specs.Start.{FindsIn};
 ghost use Rattle.sqlite.specs.State.{HasCleanDisk};
+ghost use Rattle.sqlite_wal.specs.Files.{outcomes};
 ghost use Rattle.sqlite_wal.specs.Recovery.{Image};
 ghost use Rattle.ccr_history.specs.History.{HistoryData, IsHistory};
 ghost use Rattle.ccr_history.specs.declared.tally.Tally.{Tally as TallyData};
 ghost use Rattle.ccr_store.specs.Crash.{Leaves};
-ghost use Rattle.ccr_look.specs.Holding.{AreOurs};
-ghost use Rattle.ccr_look.specs.Left.{AreLeftBy, IsOneOf, IsSoundStore};
+ghost use Rattle.ccr_look.specs.Holding.{AreOurs, HoldNothing, HoldsHistory};
+ghost use Rattle.ccr_look.specs.Left.{AreLeftBy, IsOneOf, IsSoundStore, files_now};
 ghost use Rattle.ccr_look.specs.Looks.{IsFoundIn};
+ghost use Rattle.ccr_look.specs.Runs.{Run, AreRuns, LeadOn};
 
 use sqlite::{Connection, FileStore};
 use sqlite_disk::{Disk, Memory};
@@ -26,4 +33,50 @@ pub fn a_look_finds_what_is_left<D: Disk>(conn: &Connection<FileStore<D>>)
         → (image : Image) → AreLeftBy conn.now.store image → AreOurs image
         → (found : HistoryData) → IsFoundIn ⟦<FileStore<Memory> as Trees>⟧ image found
         → ∥ IsOneOf hs found ∥₁ }
+{}
+
+/// What a run leaves of its files, killed or ended at a moment when its database is open, is what the next open takes: they hold one of the
+/// histories that its storage leaves.
+///
+/// The connection is the server's, over any disk that has returned what was written. It is a law over the definitions alone; nothing runs.
+pub fn what_is_left_is_taken<D: Disk>(conn: &Connection<FileStore<D>>)
+    // The bytes that a kill leaves, and those that stand for them.
+    ensures killed { (tally : TallyData) (hs : List HistoryData) → AllByRecursion IsHistory hs
+        → Leaves over_files (record { conn = conn.now; tally = tally }) hs
+        → HasCleanDisk (file_state conn.now) → IsTrue (file_state conn.now).is_open → IsSoundStore conn.now.store
+        → (image : Image) → AreLeftBy conn.now.store image
+        → ∥ ((h : HistoryData) × IsOneOf hs h × HoldsHistory image h) ∥₁ }
+
+    // The bytes as an end leaves them.
+    ensures ended { (tally : TallyData) (hs : List HistoryData) → AllByRecursion IsHistory hs
+        → Leaves over_files (record { conn = conn.now; tally = tally }) hs
+        → HasCleanDisk (file_state conn.now) → IsTrue (file_state conn.now).is_open → IsSoundStore conn.now.store
+        → ∥ ((h : HistoryData) × IsOneOf hs h × HoldsHistory (files_now conn.now.store) h) ∥₁ }
+{}
+
+/// What a kill of the very first run leaves, before it has made the tables, is again files in which nothing was made. So the next run takes
+/// them, with the empty history.
+///
+/// It is a law over the definitions alone; nothing runs.
+pub fn a_first_run_leaves_nothing<D: Disk>(conn: &Connection<FileStore<D>>)
+    // While the files are being opened, of which a crash left what they held before.
+    ensures opening { (files : Files D) (now : Unopened D D.Disk) → IsNothing (image_of D.Disk files)
+        → ((image : Image) → outcomes D.Disk files.log files.db image → IsNothing image)
+        → LeavesFiles files (leftover.Unopened now)
+        → (image : Image) → (state_of now).may_leave image → ∥ HoldNothing image ∥₁ }
+
+    // Once they are open, until something is committed.
+    ensures opened { (was : Image) → HoldNothing was → FindsIn was (file_state conn.now)
+        → HasCleanDisk (file_state conn.now) → IsTrue (file_state conn.now).is_open → IsSoundStore conn.now.store
+        → (image : Image) → AreLeftBy conn.now.store image → ∥ HoldNothing image ∥₁ }
+{}
+
+/// However often a database is opened, and whether each run ends or is killed: their events and restarts are one list, and what the files
+/// hold in the end is the history to which it leads. So nothing that was stored is lost.
+///
+/// It is a law over the definitions alone; nothing runs.
+pub fn runs_are_one_list()
+    ensures { (image : Image) (h : HistoryData) → HoldsHistory image h
+        → (runs : List Run) (end : Image) → AreRuns image runs end
+        → ∥ ((after : HistoryData) × LeadOn h runs after × HoldsHistory end after) ∥₁ }
 {}

@@ -14,5 +14,7 @@ mod opened;
 
 pub use copied::{Copied, copy};
 pub use fault::CopyFault;
-pub use law::a_look_finds_what_is_left;
+pub use law::{
+    a_first_run_leaves_nothing, a_look_finds_what_is_left, runs_are_one_list, what_is_left_is_taken,
+};
 pub use looking::look;
