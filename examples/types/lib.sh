@@ -4,7 +4,8 @@
 # and then
 #   - it has a time limit: CCR_LIMIT, 15m where it isn't set. After it the program and all that it started are ended, and the status is 124;
 #   - what it prints goes to standard error, and so to the log; the reply is what it writes to descriptor 3, as `answer` does;
-#   - $program is check, in or out, $type the type's name, and $tmp a directory that is removed at the end;
+#   - $program is check, in or out, $type the type's name, and $tmp a directory that is removed at the end. A program that seldom needs it sets
+#     tmp_later=yes first, and calls make_tmp, outside of a subshell, before it uses $tmp;
 #   - $home is the server's directory: CCR_HOME, or what /etc/ccr.conf says that it is, or /var/lib/ccr, if the program was started in there.
 #     Otherwise it is empty, nothing is kept in it, and caches are in ~/.cache/ccr;
 #   - `request` reads the request into variables source_KEY, params_KEY and version_KEY, and refuses keys that the file `keys` beside the
@@ -38,16 +39,18 @@ fi
 unset CCR_LIMITED
 
 exec 3>&1 1>&2
-tmp=$(mktemp -d)
-trap 'rm -rf "$tmp"' EXIT
+tmp=''
+trap '[ -z "$tmp" ] || rm -rf "$tmp"' EXIT
 trap 'exit 143' HUP INT TERM
+make_tmp() { [ -n "$tmp" ] || tmp=$(mktemp -d); }
+[ -n "${tmp_later:-}" ] || make_tmp
 
 home=${CCR_HOME:-}
 if [ -z "$home" ]; then
     # shellcheck disable=SC1090
     [ ! -r "${CCR_CONF:-/etc/ccr.conf}" ] || . "${CCR_CONF:-/etc/ccr.conf}"
     servers=${CCR_HOME:-/var/lib/ccr}
-    case $began_in/ in "$servers"/* | "$(cd "$servers" 2> "$tmp/reason" && pwd -P || echo "$servers")"/*) home=$servers ;; esac
+    case $began_in/ in "$servers"/* | "$(cd "$servers" 2> /dev/null && pwd -P || echo "$servers")"/*) home=$servers ;; esac
 fi
 caches=$home/cache
 [ -n "$home" ] || caches=${XDG_CACHE_HOME:-${HOME:-}/.cache}/ccr

@@ -6,7 +6,7 @@ use Rattle.clap.specs.Words.{Row, Text, first_of, subcommand_rows_of}
 use Rattle.ccr_core.specs.declared.form.Form.{Form}
 use Rattle.ccr_core.specs.declared.form.Form.TheVariants.{Lines, Json}
 use Rattle.ccr_core.specs.Commands.{CommandData, set_pipeline, check_resource, pin_resource, unpin_resource, disable_version, enable_version, trigger_job, run, shows}
-use Rattle.ccr_core.specs.Commands.{versions, problem, proof, certificate, explanation, builds, build, trace, build_certificate, pipeline, resources, jobs, graph}
+use Rattle.ccr_core.specs.Commands.{versions, problem, proof, certificate, explanation, builds, build, trace, build_certificate, pipeline, resources, jobs, red, live, graph}
 use Rattle.ccr_command.specs.Numbers.{number_of, place_of}
 
 -- a pin of a resource, where both its arguments have a value
@@ -56,6 +56,10 @@ certify_named None number = None
 abbrev pub explain_named : Form → Option Text → Option CommandData
 explain_named form job = option_map (λ name. shows (explanation form name)) job
 
+-- a job of which it is shown what is live, where its name has a value
+abbrev pub live_named : Form → Option Text → Option CommandData
+live_named form job = option_map (λ name. shows (live form name)) job
+
 -- a version whose builds are shown, where both its arguments have a value
 abbrev pub trace_named : Form → Option Text → Option Text → Option CommandData
 trace_named form (Some resource) (Some pin) = Some (shows (trace form resource pin))
@@ -87,11 +91,13 @@ command_named word values =
     then explain_named (form_in values) (first_of (codes "JOB") values)
     else if bytes_eq word (codes "build")
     then build_named (form_in values) (first_of (codes "JOB") values) (first_of (codes "N") values)
+    else if bytes_eq word (codes "live") then live_named (form_in values) (first_of (codes "JOB") values)
     else if bytes_eq word (codes "trace")
     then trace_named (form_in values) (first_of (codes "NAME") values) (first_of (codes "JSON") values)
     else if bytes_eq word (codes "get-pipeline") then Some (shows pipeline)
     else if bytes_eq word (codes "resources") then Some (shows (resources (form_in values)))
     else if bytes_eq word (codes "jobs") then Some (shows (jobs (form_in values)))
+    else if bytes_eq word (codes "red") then Some (shows (red (form_in values)))
     else if bytes_eq word (codes "graph") then Some (shows graph)
     else None
 

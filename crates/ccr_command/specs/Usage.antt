@@ -87,6 +87,7 @@ standing_commands =
     command_shape (codes "get-pipeline") (look_rule ∷ [])
     ∷ command_shape (codes "resources") (flag_rule (codes "json") ∷ look_rule ∷ [])
     ∷ command_shape (codes "jobs") (flag_rule (codes "json") ∷ look_rule ∷ [])
+    ∷ command_shape (codes "red") (flag_rule (codes "json") ∷ look_rule ∷ [])
     ∷ command_shape (codes "graph") (look_rule ∷ [])
     ∷ []
 
@@ -95,6 +96,7 @@ abbrev pub release_commands : List Shape
 release_commands =
     command_shape (codes "build")
     (value_rule (codes "JOB") ∷ as_number (value_rule (codes "N")) ∷ flag_rule (codes "json") ∷ look_rule ∷ [])
+    ∷ command_shape (codes "live") (value_rule (codes "JOB") ∷ flag_rule (codes "json") ∷ look_rule ∷ [])
     ∷ command_shape (codes "trace")
     (value_rule (codes "NAME") ∷ value_rule (codes "JSON") ∷ flag_rule (codes "json") ∷ look_rule ∷ [])
     ∷ []

@@ -2,7 +2,7 @@
 ghost use Rattle.std.specs.Prelude.{◌≡◌, Some, IfOk, codes, option_map, string_bytes};
 ghost use Rattle.clap.specs.Words.{first_of, found_of, rows_of};
 ghost use Rattle.ccr_core.specs.Commands.{command_data, disable_version, enable_version};
-ghost use Rattle.ccr_command.specs.Commands.{pin_named, place_named, run_named, form_in, versions_named, builds_named, build_named, explain_named, trace_named, command_named, command_in};
+ghost use Rattle.ccr_command.specs.Commands.{pin_named, place_named, run_named, form_in, versions_named, builds_named, build_named, explain_named, live_named, trace_named, command_named, command_in};
 
 use crate::abort::text_of;
 use crate::certify::certify_of;
@@ -155,6 +155,18 @@ fn build_of(alloc: Global, values: &ArgMatches<'_>) -> Result<Option<Command>, A
     }
 }
 
+/// The job of these values, of which it is to be shown what is live; None where it is absent.
+fn live_of(alloc: Global, values: &ArgMatches<'_>) -> Result<Option<Command>, AllocError>
+    ensures { IfOk result (λ command. option_map command_data command
+        ≡ live_named (form_in (rows_of (found_of values.now))) (first_of (codes "JOB") (rows_of (found_of values.now)))) }
+{
+    let form = form_of(values);
+    match value_of(alloc, values, "JOB")? {
+        Some(job) => Ok(Some(Command::Show(Shown::Live(job, form)))),
+        None => Ok(None),
+    }
+}
+
 /// The version of these values, whose builds are to be shown; None where one is absent.
 fn trace_of(alloc: Global, values: &ArgMatches<'_>) -> Result<Option<Command>, AllocError>
     ensures { IfOk result (λ command. option_map command_data command
@@ -237,10 +249,12 @@ fn named(alloc: Global, word: &str, values: &ArgMatches<'_>) -> Result<Option<Co
         "certify" => certify_of(alloc, values),
         "explain" => explain_of(alloc, values),
         "build" => build_of(alloc, values),
+        "live" => live_of(alloc, values),
         "trace" => trace_of(alloc, values),
         "get-pipeline" => Ok(Some(Command::Show(Shown::Pipeline))),
         "resources" => Ok(Some(Command::Show(Shown::Resources(form_of(values))))),
         "jobs" => Ok(Some(Command::Show(Shown::Jobs(form_of(values))))),
+        "red" => Ok(Some(Command::Show(Shown::Red(form_of(values))))),
         "graph" => Ok(Some(Command::Show(Shown::Graph))),
         _ => Ok(None),
     }

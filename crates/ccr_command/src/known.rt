@@ -108,6 +108,10 @@ pub(crate) type Idle = (&'static str, &'static str);
 
 const LIMIT: &str = "wrap the program in one that has a time limit";
 
+/// A step's time limit is the launcher's to keep.
+const STEP_LIMIT: &str =
+    "only a launcher (--launcher) ends it then; without one, wrap the program in one that has a time limit";
+
 /// The keys of an object that Concourse knows and that have no effect here.
 pub(crate) fn idle_keys(object: Object) -> &'static [Idle] {
     match object {
@@ -139,15 +143,19 @@ pub(crate) fn idle_keys(object: Object) -> &'static [Idle] {
             ("disable_manual_trigger", ""),
             ("interruptible", ""),
         ],
-        Object::Get => &[("timeout", LIMIT), ("tags", ""), ("container_limits", "")],
+        Object::Get => &[
+            ("timeout", STEP_LIMIT),
+            ("tags", ""),
+            ("container_limits", ""),
+        ],
         Object::Put => &[
             ("inputs", ""),
-            ("timeout", LIMIT),
+            ("timeout", STEP_LIMIT),
             ("tags", ""),
             ("container_limits", ""),
         ],
         Object::Task => &[
-            ("timeout", LIMIT),
+            ("timeout", STEP_LIMIT),
             ("image", ""),
             ("privileged", ""),
             ("vars", "put values in before set-pipeline"),
@@ -155,7 +163,7 @@ pub(crate) fn idle_keys(object: Object) -> &'static [Idle] {
             ("hermetic", ""),
             ("tags", ""),
         ],
-        Object::Holder => &[("timeout", LIMIT), ("tags", "")],
+        Object::Holder => &[("timeout", "put it at each step in it"), ("tags", "")],
         Object::Parallel => &[("limit", "")],
         Object::Config => &[
             ("image_resource", ""),

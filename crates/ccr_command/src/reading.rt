@@ -148,6 +148,30 @@ Examples:
     .arg(look(alloc))
 }
 
+/// Shows which jobs are red.
+pub(crate) fn red<'a>(alloc: Global) -> Result<Command<'a>, AllocError>
+    ensures { IfOk result (IsCommand (codes "red") (flag_rule (codes "json") ∷ look_rule ∷ [])) }
+{
+    command(
+        alloc,
+        "red",
+        "Shows the jobs whose newest build that has ended didn't succeed",
+        "\
+Prints `JOB N STATUS` for each such job, in the order of the pipeline, with that build; nothing if there is none. A build that
+runs doesn't count: the job is as the build before left it. The status tells a script, a timer or a prompt.
+
+With --json: one line, an array with an object for each of these builds: `job_name`, `name` (the build's number) and `status`.
+
+Exit statuses: 0 no job is red; 1 some job is, or refused, because there is no pipeline; 2 usage; 4 disk or memory.
+
+Examples:
+  ccr_run --db ci.db red --look
+  ccr_run --db ci.db red --json",
+    )
+    .arg(json(alloc))?
+    .arg(look(alloc))
+}
+
 /// Shows the pipeline as a flowchart.
 pub(crate) fn graph<'a>(alloc: Global) -> Result<Command<'a>, AllocError>
     ensures { IfOk result (IsCommand (codes "graph") (look_rule ∷ [])) }
@@ -196,6 +220,36 @@ Example:
     )
     .arg(job)?
     .arg(as_number(number))?
+    .arg(json(alloc))?
+    .arg(look(alloc))
+}
+
+/// Shows what is live.
+pub(crate) fn live<'a>(alloc: Global) -> Result<Command<'a>, AllocError>
+    ensures { IfOk result
+        (IsCommand (codes "live") (value_rule (codes "JOB") ∷ flag_rule (codes "json") ∷ look_rule ∷ [])) }
+{
+    let job = value(alloc, "JOB", "The job's name");
+    command(
+        alloc,
+        "live",
+        "Shows the newest build of a job that succeeded, with what it took",
+        "\
+Prints `JOB N`, and behind it `, INPUT KEY` for each version that the build took, names ascending. Of a job that deploys, that
+is what is live. `no build of JOB has succeeded` if there is none. A job that the pipeline no longer has is still shown, if it
+has builds.
+
+With --json: one line, an object with `job_name`, `name` (the build's number) and `inputs`, each with its `name`, `resource`,
+`place` and `version`; `null` if there is none.
+
+Exit statuses: 0 shown; 1 no build has succeeded, or refused, because the pipeline has no such job and the job has no builds;
+2 usage; 4 disk or memory.
+
+Examples:
+  ccr_run --db ci.db live deploy
+  ccr_run --db ci.db live deploy --look --json",
+    )
+    .arg(job)?
     .arg(json(alloc))?
     .arg(look(alloc))
 }

@@ -9,7 +9,8 @@ use crate::commands::{
     unpin_resource,
 };
 use crate::reading::{
-    build, builds, certify, explain, get_pipeline, graph, jobs, resource_versions, resources, trace,
+    build, builds, certify, explain, get_pipeline, graph, jobs, live, red, resource_versions,
+    resources, trace,
 };
 use crate::versions::{disable_resource_version, enable_resource_version};
 use clap::Command;
@@ -118,6 +119,7 @@ fn with_standing_commands<'a>(alloc: Global, line: Command<'a>) -> Result<Comman
     let line = line.subcommand(get_pipeline(alloc)?)?;
     let line = line.subcommand(resources(alloc)?)?;
     let line = line.subcommand(jobs(alloc)?)?;
+    let line = line.subcommand(red(alloc)?)?;
     line.subcommand(graph(alloc)?)
 }
 
@@ -126,6 +128,7 @@ fn with_release_commands<'a>(alloc: Global, line: Command<'a>) -> Result<Command
     ensures { IfOk result (λ made. app_of made ≡ with_all (app_of line.entry) release_commands) }
 {
     let line = line.subcommand(build(alloc)?)?;
+    let line = line.subcommand(live(alloc)?)?;
     line.subcommand(trace(alloc)?)
 }
 
@@ -138,7 +141,7 @@ fn with_choice_commands<'a>(alloc: Global, line: Command<'a>) -> Result<Command<
 }
 
 /// The program's command line: `ccr_run --db FILE [--types DIR] [--work DIR] [--budget N] [--launcher PROGRAM] COMMAND`,
-/// with the help of the program and of each of its twenty-one commands.
+/// with the help of the program and of each of its twenty-three commands.
 ///
 /// The only error is out of memory.
 pub fn command_line<'a>(alloc: Global) -> Result<Command<'a>, AllocError>

@@ -20,6 +20,8 @@ pub data ShownData : Type 0 where
   pipeline : ShownData
   resources : (form : Form) → ShownData
   jobs : (form : Form) → ShownData
+  red : (form : Form) → ShownData
+  live : (form : Form) (job : Text) → ShownData
   graph : ShownData
   build : (form : Form) (job : Text) (number : ℕ) → ShownData
   trace : (form : Form) (resource pin : Text) → ShownData
@@ -48,6 +50,8 @@ shown_data (value.Explanation job form) = explanation form (string_bytes job)
 shown_data value.Pipeline = pipeline
 shown_data (value.Resources form) = resources form
 shown_data (value.Jobs form) = jobs form
+shown_data (value.Red form) = red form
+shown_data (value.Live job form) = live form (string_bytes job)
 shown_data value.Graph = graph
 shown_data (value.Build job number form) = build form (string_bytes job) number
 shown_data (value.Trace resource pin form) = trace form (string_bytes resource) (string_bytes pin)

@@ -23,6 +23,10 @@ pub enum Shown {
     Resources(Form),
     /// The jobs of the pipeline, with their newest builds, and what their next builds would be.
     Jobs(Form),
+    /// The jobs of the pipeline whose newest build that has ended didn't succeed, each with that build.
+    Red(Form),
+    /// The newest build that succeeded of the job of this name, with what it took.
+    Live(String, Form),
     /// The pipeline as a Mermaid flowchart, with the newest builds of its jobs.
     Graph,
     /// The job's build of this number: what it took and moved, and through which builds that went together before.

@@ -6,8 +6,9 @@ use Rattle.std.specs.declared.alloc.AllocError.{AllocError}
 use Rattle.ccr_history.specs.Text.{Text}
 use Rattle.ccr_history.specs.Builds.{BuildData, build_of}
 use Rattle.ccr_history.specs.History.{HistoryData}
-use Rattle.ccr_pipeline.specs.JobData.{resource_data, JobData}
+use Rattle.ccr_pipeline.specs.JobData.{resource_data, JobData, job_data}
 use Rattle.ccr_pipeline.specs.Pipelines.{PipelineData}
+use Rattle.ccr_pipeline.specs.declared.resource.Job.{Job}
 use Rattle.ccr_pipeline.specs.declared.resource.Resource.{Resource}
 use Rattle.ccr_core.specs.Holding.{CoreData}
 use Rattle.ccr_core.specs.State.{no_pipeline}
@@ -15,7 +16,11 @@ use Rattle.ccr_lines.specs.Outlooks.{HasOutlook}
 use Rattle.ccr_lines.specs.Releases.{TogetherData, all_together}
 use Rattle.ccr_lines.specs.ReleaseJson.{release_shown}
 use Rattle.ccr_lines.specs.ResourcesJson.{resources_shown}
-use Rattle.ccr_core.specs.Commands.{build, resources}
+use Rattle.ccr_core.specs.Commands.{build, resources, red, live}
+use Rattle.ccr_lines.specs.Listed.{builds_shown}
+use Rattle.ccr_lines.specs.Live.{live_of, live_status, live_text}
+use Rattle.ccr_lines.specs.Needs.{IsMet, a_known_job}
+use Rattle.ccr_lines.specs.Red.{red_builds, red_status}
 use Rattle.ccr_lines.specs.Shown.{IsMade}
 use Rattle.ccr_core.specs.declared.form.Form.{Form}
 use Rattle.ccr_lines.specs.declared.outlook.Outlook.{Outlook}
@@ -69,3 +74,31 @@ resources_made f c p h rs lines set held same told = (
         ∙ ap (λ o. resources_shown f c.history (unwrap_or o no_pipeline).resources) (sym set))),
   ),
 )
+
+-- ---- red jobs
+pub red_made : (f : Form) (c : CoreData) (p : PipelineData) (h : HistoryData) (js : List Job) (bs : List BuildData) (n : ℕ)
+    (lines : Text) → c.pipeline ≡ Some p → h ≡ c.history → map job_data js ≡ p.jobs
+    → bs ≡ red_builds h (map job_data js) → n ≡ red_status bs → lines ≡ builds_shown f bs → IsMade (red f) c n lines
+red_made f c p h js bs n lines set held jobs found counted told =
+    let same : bs ≡ red_builds c.history (unwrap_or c.pipeline no_pipeline).jobs =
+    found
+    ∙ (ap (λ x. red_builds x (map job_data js)) held
+    ∙ (ap (λ xs. red_builds c.history xs) jobs
+    ∙ ap (λ o. red_builds c.history (unwrap_or o no_pipeline).jobs) (sym set)))
+    in (
+      subst (λ o. IsSome o) (sym set) refl,
+      (counted ∙ ap (λ xs. red_status xs) same, told ∙ ap (λ xs. builds_shown f xs) same),
+    )
+
+-- ---- what is live
+pub live_made : (f : Form) (c : CoreData) (job : Text) (h : HistoryData) (found : Option BuildData) (n : ℕ) (lines : Text)
+    → IsMet (a_known_job job) c.pipeline c.history → h ≡ c.history → found ≡ live_of job h → n ≡ live_status found
+    → lines ≡ live_text f h.tables job found → IsMade (live f job) c n lines
+live_made f c job h found n lines known held is counted told =
+    let same : found ≡ live_of job c.history = is ∙ ap (λ x. live_of job x) held in (
+      known,
+      (
+        counted ∙ ap (λ o. live_status o) same,
+        told ∙ (ap (λ o. live_text f h.tables job o) same ∙ ap (λ x. live_text f x.tables job (live_of job c.history)) held),
+      ),
+    )

@@ -11,6 +11,7 @@ pub mod Graphs
 pub mod JobsJson
 pub mod Json
 pub mod Lines
+pub mod Live
 pub mod Listed
 pub mod Needs
 pub mod Newest
@@ -20,6 +21,7 @@ pub mod Outlooks
 pub mod PastProblems
 pub mod Printed
 pub mod Reasons
+pub mod Red
 pub mod ReleaseJson
 pub mod Releases
 pub mod ResourcesJson

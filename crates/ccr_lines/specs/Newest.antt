@@ -3,7 +3,7 @@ use Rattle.std.specs.Prelude.{◌≡◌, ℕ, zero, suc, List, [], ◌∷◌, le
 use Rattle.std.specs.List.{list_any, list_all}
 use Rattle.std.specs.Option.{option_map_or, option_or}
 use Rattle.ccr_history.specs.Text.{Text}
-use Rattle.ccr_history.specs.Builds.{BuildData, build_of, count_of, passed_pairs, is_running}
+use Rattle.ccr_history.specs.Builds.{BuildData, build_of, count_of, passed_pairs, is_running, is_succeeded}
 use Rattle.ccr_history.specs.History.{HistoryData}
 use Rattle.ccr_history.specs.declared.build.Status.{Status}
 use Rattle.ccr_pipeline.specs.Inputs.{InputData, input_data}
@@ -11,7 +11,7 @@ use Rattle.ccr_pipeline.specs.Pipelines.{PipelineData, pipeline_data}
 use Rattle.ccr_lines.specs.BuildCertificates.{place_for, has_input}
 use Rattle.ccr_lines.specs.Releases.{is_pair}
 use Rattle.ccr_lines.specs.declared.newest.Sought.{Sought}
-use Rattle.ccr_lines.specs.declared.newest.Sought.TheVariants.{Met, Passed, Stands, Took}
+use Rattle.ccr_lines.specs.declared.newest.Sought.TheVariants.{Met, Passed, Stands, Succeeded, Took}
 
 -- ---- tests
 -- the build took this place of this scope for one of its inputs, or moved it
@@ -43,6 +43,7 @@ abbrev pub is_sought : HistoryData → Sought → BuildData → Bool
 is_sought h (Met pair) b = has_met pair b
 is_sought h (Passed pair) b = passed_with pair b
 is_sought h (Stands runs) b = stands runs b
+is_sought h Succeeded b = is_succeeded b.status
 is_sought h (Took pipeline inputs places) b =
     took_places (pipeline_data pipeline.now) h (map input_data inputs.now) places.now b
 
@@ -51,6 +52,7 @@ abbrev pub IsSearch : Sought → Type 0
 IsSearch (Met pair) = ⊤
 IsSearch (Passed pair) = ⊤
 IsSearch (Stands runs) = ⊤
+IsSearch Succeeded = ⊤
 IsSearch (Took pipeline inputs places) = length places.now ≡ length inputs.now
 
 -- ---- the newest

@@ -17,7 +17,7 @@ use Rattle.ccr_resolve.specs.Answer.{IsAnswer}
 use Rattle.ccr_core.specs.Holding.{CoreData}
 use Rattle.ccr_core.specs.State.{no_pipeline}
 use Rattle.ccr_core.specs.declared.form.Form.{Form}
-use Rattle.ccr_core.specs.Commands.{ShownData, builds, versions, problem, proof, certificate, explanation, pipeline, resources, jobs, graph, build, trace, build_certificate}
+use Rattle.ccr_core.specs.Commands.{ShownData, builds, versions, problem, proof, certificate, explanation, pipeline, resources, jobs, red, live, graph, build, trace, build_certificate}
 use Rattle.ccr_lines.specs.declared.shown.ShowFault.{ShowFault}
 use Rattle.ccr_lines.specs.declared.shown.ShowFault.TheVariants as why
 use Rattle.ccr_lines.specs.ExplainJson.{IsExplanationShown}
@@ -25,6 +25,8 @@ use Rattle.ccr_lines.specs.Listed.{builds_of, builds_shown, versions_listed, ver
 use Rattle.ccr_lines.specs.Needs.{Need, no_need, a_pipeline, a_resource, a_job, a_known_job, a_pin, a_build, pin_in, IsMet, Lacks, LacksPin}
 use Rattle.ccr_lines.specs.ResourcesJson.{resources_shown}
 use Rattle.ccr_lines.specs.JobsJson.{AreJobs}
+use Rattle.ccr_lines.specs.Live.{IsLiveShown}
+use Rattle.ccr_lines.specs.Red.{IsRedShown}
 use Rattle.ccr_lines.specs.Releases.{AreMadeBefore, all_together}
 use Rattle.ccr_lines.specs.ReleaseJson.{release_shown}
 use Rattle.ccr_lines.specs.Traces.{trace_of}
@@ -44,6 +46,8 @@ needs (explanation form job) = a_job job
 needs pipeline = a_pipeline
 needs (resources form) = a_pipeline
 needs (jobs form) = a_pipeline
+needs (red form) = a_pipeline
+needs (live form job) = a_known_job job
 needs graph = a_pipeline
 needs (build form job number) = a_build job number
 needs (trace form resource pin) = a_pin resource pin
@@ -91,6 +95,8 @@ IsShown (explanation form job) p h budget status lines = IsExplanationShown form
 IsShown pipeline p h budget status lines = (status ≡ 0) × (lines ≡ p.text)
 IsShown (resources form) p h budget status lines = (status ≡ 0) × (lines ≡ resources_shown form h p.resources)
 IsShown (jobs form) p h budget status lines = (status ≡ 0) × AreJobs form p h budget lines
+IsShown (red form) p h budget status lines = IsRedShown form p h status lines
+IsShown (live form job) p h budget status lines = IsLiveShown form h job status lines
 IsShown graph p h budget status lines = (status ≡ 0) × (lines ≡ graph_lines p h)
 IsShown (build form job number) p h budget status lines = (status ≡ 0) × IsReleaseShown form p h job number lines
 IsShown (trace form resource pin) p h budget status lines = (status ≡ 0) × IsTraceShown form h resource pin lines

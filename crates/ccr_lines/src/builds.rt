@@ -153,7 +153,11 @@ fn builds_json(alloc: Global, builds: &[BuildRef<'_>]) -> Result<Vec<u8>, AllocE
 // ---- in either form
 
 /// These builds, in one of the forms.
-fn builds_shown(alloc: Global, form: Form, builds: &[BuildRef<'_>]) -> Result<Vec<u8>, AllocError>
+pub(crate) fn builds_shown(
+    alloc: Global,
+    form: Form,
+    builds: &[BuildRef<'_>],
+) -> Result<Vec<u8>, AllocError>
     ensures { IfOk result (λ text. text.items ≡ builds_shown form builds.now) }
 {
     match form {

@@ -2,7 +2,7 @@
 ghost use Rattle.std.specs.Prelude.{◌≡◌, ◌==◌, false, length, map};
 ghost use Rattle.std.specs.List.{list_any};
 ghost use Rattle.std.specs.Option.{option_map_or};
-ghost use Rattle.ccr_history.specs.Builds.{build_of, is_running};
+ghost use Rattle.ccr_history.specs.Builds.{build_of, is_running, is_succeeded};
 ghost use Rattle.ccr_pipeline.specs.Inputs.{input_data};
 ghost use Rattle.ccr_pipeline.specs.Pipelines.{pipeline_data};
 ghost use Rattle.ccr_lines.specs.BuildCertificates.{place_for};
@@ -23,6 +23,8 @@ pub(crate) enum Sought<'a> {
     Passed((u32, u32)),
     /// It runs, or it has ended.
     Stands(bool),
+    /// It succeeded.
+    Succeeded,
     /// It took these places for these inputs, one each, and none for any other.
     Took(&'a Pipeline, &'a [Input], &'a [u32]),
 }
@@ -101,6 +103,16 @@ fn is_running(status: Status) -> bool
     }
 }
 
+/// Whether a build of this status succeeded.
+pub(crate) fn is_succeeded(status: Status) -> bool
+    ensures { result ≡ is_succeeded status }
+{
+    match status {
+        Status::Succeeded => true,
+        Status::Running | Status::Failed | Status::Errored | Status::Aborted => false,
+    }
+}
+
 /// Whether a build runs, if it is to run; whether it has ended, if it isn't.
 fn stands(runs: bool, build: &BuildRef<'_>) -> bool
     ensures { result ≡ stands runs build.now }
@@ -121,6 +133,7 @@ fn is_sought(history: &History, sought: Sought<'_>, build: &BuildRef<'_>) -> boo
         Sought::Met(pair) => has_met(pair, build),
         Sought::Passed(pair) => has_pair(passed_pairs(build), pair),
         Sought::Stands(runs) => stands(runs, build),
+        Sought::Succeeded => is_succeeded(build.status()),
         Sought::Took(pipeline, inputs, places) => {
             took_each(pipeline, history, build, inputs, places) && took_no_other(build, inputs)
         }

@@ -38,7 +38,11 @@ fn push_took<'a>(
 }
 
 /// What a build took, each behind a comma.
-fn each_taken(alloc: Global, history: &History, build: &BuildRef<'_>) -> Result<Vec<u8>, AllocError>
+pub(crate) fn each_taken(
+    alloc: Global,
+    history: &History,
+    build: &BuildRef<'_>,
+) -> Result<Vec<u8>, AllocError>
     ensures { IfOk result (λ out. out.items
         ≡ flat_map (λ u. after_comma (took_json history.now.tables u)) build.now.used) }
 {

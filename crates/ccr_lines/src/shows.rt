@@ -13,7 +13,9 @@ use crate::explain::explained_made;
 use crate::graph::graph_made;
 use crate::held::pipeline_held;
 use crate::lines::Lines;
+use crate::live::live_made;
 use crate::problem::{problem_made, proof_made};
+use crate::red::red_made;
 use crate::release::release_made;
 use crate::show::Show;
 use crate::shown::ShowFault;
@@ -64,6 +66,8 @@ fn made(alloc: Global, what: &Shown, core: &Core) -> Result<(u8, Vec<u8>), ShowF
         Shown::Pipeline => pipeline_made(alloc, core),
         Shown::Resources(form) => resources_made(alloc, core, *form),
         Shown::Jobs(form) => jobs_made(alloc, core, *form),
+        Shown::Red(form) => red_made(alloc, core, *form),
+        Shown::Live(job, form) => live_made(alloc, core, *form, job.as_str()),
         Shown::Graph => graph_made(alloc, core),
         Shown::Build(job, number, form) => {
             release_made(alloc, core, *form, job.as_str(), *number)

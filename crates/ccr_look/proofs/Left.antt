@@ -1,7 +1,6 @@
 -- What bytes hold that a store's files leave.
-use Rattle.std.proofs.Common.{◌≡◌, List, [], ◌∷◌, IsTrue, sym, subst, inl, inr, refl, arith, Bool, true, false}
+use Rattle.std.proofs.Common.{◌≡◌, List, IsTrue, subst, refl, arith, Bool, true, false}
 use Rattle.std.proofs.Math.Logic.{∥∥₁_elim, ∥∥₁_map}
-use Rattle.std.specs.List.{AllByRecursion}
 use Rattle.sqlite_trees.specs.declared.store.Store as trees_store
 use Rattle.sqlite_disk.specs.declared.Disk.{Ghosts}
 use Rattle.sqlite_wal.specs.Files.{outcomes}
@@ -17,14 +16,11 @@ use Rattle.sqlite_store.specs.declared.store.FileStore.{FileStore}
 use Rattle.sqlite.specs.Files.{HoldsDatabase}
 use Rattle.sqlite.specs.Held.{Held}
 use Rattle.sqlite.specs.Tree.{Trees}
-use Rattle.ccr_history.specs.History.{HistoryData, IsHistory}
-use Rattle.ccr_tables.specs.Contents.{Keeps}
-use Rattle.ccr_store.specs.Crash.{HoldOneOf}
-use Rattle.ccr_store.specs.Rows.{rows_of}
-use Rattle.ccr_store.specs.declared.format.Format.TheVariants.{Two}
+use Rattle.ccr_history.specs.History.{HistoryData}
 use Rattle.ccr_look.specs.Holding.{HoldsHistory}
-use Rattle.ccr_look.specs.Left.{AreLeftBy, IsOneOf, IsSoundStore, IsWhatIsLeft, ListOurTables}
+use Rattle.ccr_look.specs.Left.{AreLeftBy, IsOneOf, IsSoundStore, IsWhatIsLeft}
 use Rattle.ccr_look.specs.Looks.{IsFoundIn}
+use Rattle.ccr_look.proofs.Taken.{holds_one}
 
 -- a disk that is in no doubt is clean
 pub clean_of : (b : Bool) → doubt b ≡ 0 → IsTrue b
@@ -65,27 +61,16 @@ holds_what_is_left it clean sound image left = ∥∥₁_elim it.safe squash₁ 
       ),
     ) in r)))
 
-module _ {D : Type 0} {d : Ghosts D} (g : trees_store.Ghosts (FileStore D d)) (image : Image) (found : HistoryData)
-    (it : IsFoundIn g image found) (listed : ListOurTables image) (db : Trees) (held : HoldsDatabase image db) where
-  -- a history whose rows the database has is held by the bytes
-  holds_history : (h : HistoryData) → IsHistory h → Keeps (rows_of h) db → HoldsHistory image h
-  holds_history h rules rows =
-      inr (record { format = Two; trees = db; found = held; listed = listed db held; rules = rules; fits = tt; rows = rows })
-
-  -- so the one that is found is one of those of whose rows the database has some
-  pub one_of : (hs : List HistoryData) → AllByRecursion IsHistory hs → HoldOneOf hs db → IsOneOf hs found × HoldsHistory image found
-  one_of [] rules holds = absurd holds
-  one_of (h ∷ hs) rules (inl keeps) =
-      let holds = holds_history h rules.0 keeps in
-      let same = it.only h holds in
-      (inl (sym same), subst (λ (x : HistoryData). HoldsHistory image x) same holds)
-  one_of (h ∷ hs) rules (inr more) =
-      let rest = one_of hs rules.1 more in
-      (inr rest.0, rest.1)
+-- where the bytes hold one of some histories, it is the one that is found
+pub one_found : {D : Type 0} {d : Ghosts D} (g : trees_store.Ghosts (FileStore D d)) (image : Image) (found : HistoryData) → IsFoundIn g image found → (hs : List HistoryData)
+    → (h : HistoryData) × IsOneOf hs h × HoldsHistory image h → IsOneOf hs found × HoldsHistory image found
+one_found g image found it hs held =
+    let same = it.only held.0 held.2 in
+    (subst (IsOneOf hs) same held.1, subst (HoldsHistory image) same held.2)
 
 -- what a look finds is what a server leaves
 pub what_is_left : {D C : Type 0} {d : Ghosts D} {e : Ghosts C} (g : trees_store.Ghosts (FileStore D d)) (conn : Held (FileStore C e)) (image : Image)
     (found : HistoryData) → IsFoundIn g image found → IsWhatIsLeft conn image found
-what_is_left g conn image found it tally hs rules leaves clean sound left listed =
+what_is_left g conn image found it tally hs rules leaves clean sound left =
     ∥∥₁_map (holds_what_is_left conn.store (clean_of _ clean) sound image left)
-    (λ held. one_of g image found it listed held.0 held.2 hs rules (leaves clean held.0 held.1))
+    (λ held. let listed = leaves clean held.0 held.1 in one_found g image found it hs (holds_one hs rules image held.0 held.2 listed.1 listed.0))

@@ -1,6 +1,11 @@
+pub mod Blank
 pub mod Adopted
 pub mod Bytes
 pub mod Finding
 pub mod Left
 pub mod Shut
 pub mod Unfound
+pub mod Taken
+pub mod Runs
+pub mod First
+pub mod Begun

@@ -1,13 +1,10 @@
 -- What the database's files hold.
-use Rattle.std.specs.Prelude.{◌≡◌, ◌⊎◌, []}
+use Rattle.std.specs.Prelude.{◌≡◌, ◌⊎◌}
 use Rattle.sqlite_wal.specs.Recovery.{Image}
-use Rattle.sqlite_catalog.specs.Listing.{IsSound}
-use Rattle.sqlite.specs.Schema.{Schema}
 use Rattle.sqlite.specs.Tree.{Trees}
-use Rattle.sqlite.specs.Files.{HoldsDatabase}
+use Rattle.sqlite.specs.Files.{HoldsDatabase, IsEmpty, IsNothing}
 use Rattle.ccr_history.specs.History.{HistoryData, IsHistory, no_history}
-use Rattle.ccr_tables.specs.Contents.{Keeps}
-use Rattle.ccr_tables.specs.Schema.{our_schema}
+use Rattle.ccr_tables.specs.Contents.{Keeps, ListOurs}
 use Rattle.ccr_store.specs.Rows.{Fits, rows_in}
 use Rattle.ccr_store.specs.declared.format.Format.{Format}
 
@@ -17,15 +14,19 @@ pub record HasTables (image : Image) (h : HistoryData) : Type 0 where
   pub format : Format
   pub trees : Trees
   pub found : HoldsDatabase image trees
-  pub listed : (schema : Schema) → IsSound schema trees → schema ≡ our_schema
+  pub listed : ListOurs trees
   pub rules : IsHistory h
   pub fits : Fits format h
   pub rows : Keeps (rows_in format h) trees
 
--- THE FILES HOLD A HISTORY: the empty one where the database's file is empty, or wasn't there, and else the one whose
--- rows the six tables have
+-- nothing was made in the files: the database's file is empty, or wasn't there, or is what an open left of a first page; or
+-- they hold a database without anything
+abbrev pub HoldNothing : Image → Type 0
+HoldNothing image = IsNothing image ⊎ ((trees : Trees) × HoldsDatabase image trees × IsEmpty trees)
+
+-- THE FILES HOLD A HISTORY: the empty one where nothing was made in them, and else the one whose rows the six tables have
 abbrev pub HoldsHistory : Image → HistoryData → Type 0
-HoldsHistory image h = ((image.db ≡ []) × (h ≡ no_history)) ⊎ HasTables image h
+HoldsHistory image h = (HoldNothing image × (h ≡ no_history)) ⊎ HasTables image h
 
 -- the files hold the history of a server
 abbrev pub AreOurs : Image → Type 0

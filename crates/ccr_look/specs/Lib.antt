@@ -3,3 +3,5 @@ pub mod Left
 pub mod Looks
 pub mod Reads
 pub mod Unfound
+pub mod Runs
+pub mod Scratch

@@ -12,19 +12,19 @@ ghost use Rattle.ccr_store.specs.declared.format.Format.TheVariants.{Two};
 ghost use Rattle.ccr_look.specs.Looks.{IsOpenedOver, IsFoundIn};
 ghost use Rattle.ccr_look.specs.Unfound.{IsUnfound};
 
+use crate::scratch::Scratch;
 use ccr_history::History;
 use ccr_store::{Store, StoreFault};
 use sqlite::{Connection, FileStore};
-use sqlite_disk::Memory;
 use sqlite_trees::store::Store as Trees;
 use std::alloc::Global;
 
 /// The history that a store holds, which is let go of.
-fn loaded(alloc: Global, store: Store<FileStore<Memory>>) -> Result<History, StoreFault>
+fn loaded(alloc: Global, store: Store<FileStore<Scratch>>) -> Result<History, StoreFault>
     ensures readable { IfOk result (λ history. IfSome history.text IsReadable) }
     ensures loaded { IfOk result (λ history. ShowsHistory Two history (file_state store.conn).now
         × ((h : HistoryData) → IsHistory h → Holds (rows_of h) (file_state store.conn).now → h ≡ history)) }
-    ensures unread { IfErr result (IsUnread ⟦<FileStore<Memory> as Trees>⟧ (file_state store.conn)) }
+    ensures unread { IfErr result (IsUnread ⟦<FileStore<Scratch> as Trees>⟧ (file_state store.conn)) }
 {
     let mut store = store;
     match store.load(alloc) {
@@ -39,14 +39,14 @@ fn loaded(alloc: Global, store: Store<FileStore<Memory>>) -> Result<History, Sto
 /// The errors are those of [`Store::adopt`] and [`Store::load`].
 pub(crate) fn history_in(
     alloc: Global,
-    conn: Connection<FileStore<Memory>>,
+    conn: Connection<FileStore<Scratch>>,
 ) -> Result<History, StoreFault>
     requires { (file_state conn).in_transaction ≡ false }
     ensures readable { IfOk result (λ history. IfSome history.text IsReadable) }
     ensures found { IfOk result (λ history. (image : Image) → IsOpenedOver image conn
-        → IsFoundIn ⟦<FileStore<Memory> as Trees>⟧ image history) }
+        → IsFoundIn ⟦<FileStore<Scratch> as Trees>⟧ image history) }
     ensures unfound { IfErr result (λ fault. (image : Image) → IsOpenedOver image conn
-        → IsUnfound ⟦<FileStore<Memory> as Trees>⟧ image fault) }
+        → IsUnfound ⟦<FileStore<Scratch> as Trees>⟧ image fault) }
 {
     match Store::adopt(alloc, conn) {
         Ok(store) => loaded(alloc, store),

@@ -12,9 +12,14 @@ mod law;
 mod looking;
 mod opened;
 mod reads;
+mod scratch;
 
 pub use copied::{Copied, copy};
 pub use fault::CopyFault;
-pub use law::a_look_finds_what_is_left;
+pub use law::{
+    a_first_run_leaves_nothing, a_look_finds_what_is_left, runs_are_one_list,
+    what_is_begun_is_taken, what_is_left_is_taken,
+};
 pub use looking::look;
 pub use reads::FileBytes;
+pub use scratch::Scratch;

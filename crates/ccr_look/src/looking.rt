@@ -9,11 +9,11 @@ ghost use Rattle.ccr_look.specs.Looks.{image_of, Sees, SeesNothing};
 use crate::copied::Copied;
 use crate::found::history_in;
 use crate::opened::open;
+use crate::scratch::Scratch;
 use ccr_core::Core;
 use ccr_history::History;
 use ccr_store::StoreFault;
 use sqlite::FileStore;
-use sqlite_disk::Memory;
 use sqlite_trees::store::Store as Trees;
 use std::alloc::Global;
 
@@ -34,13 +34,13 @@ fn over(alloc: Global, history: History, budget: u32) -> Result<Core, StoreFault
 /// A core over the history in bytes that were read, as it is: a build that runs in it still does. Its searches take at most `budget` nodes, from
 /// 1 to 1,000,000.
 ///
-/// The faults are those of an open and a load of the database: `NotOurs` where the bytes are no database of `ccr_run`, `Disk` where they
-/// are damaged, `NoMemory`.
+/// The faults are those of an open and a load of the database: `Disk` where the bytes are no database or a damaged one, `NotOurs` where it
+/// holds no history, `NoMemory`.
 pub fn look(alloc: Global, copied: Copied<'_>, budget: u32) -> Result<Core, StoreFault>
     requires least { 1 ≤ budget }
     requires most { budget ≤ MOST_NODES }
-    ensures sees { IfOk result (λ core. Sees ⟦<FileStore<Memory> as Trees>⟧ (image_of copied.entry) budget (core_data core)) }
-    ensures nothing { IfErr result (SeesNothing ⟦<FileStore<Memory> as Trees>⟧ (image_of copied.entry)) }
+    ensures sees { IfOk result (λ core. Sees ⟦<FileStore<Scratch> as Trees>⟧ (image_of copied.entry) budget (core_data core)) }
+    ensures nothing { IfErr result (SeesNothing ⟦<FileStore<Scratch> as Trees>⟧ (image_of copied.entry)) }
 {
     let conn = match open(alloc, copied) {
         Ok(conn) => conn,

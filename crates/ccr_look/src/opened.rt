@@ -1,35 +1,23 @@
 //! A database over bytes that were read, in memory.
-ghost use Rattle.std.specs.Prelude.{◌≡◌, ◌⊎◌, false, IsTrue, IfOk, IfErr};
+ghost use Rattle.std.specs.Prelude.{◌≡◌, false, IfOk, IfErr};
 ghost use Rattle.sqlite.specs.Files.{file_state};
-ghost use Rattle.sqlite_disk.specs.Memory.{memory_bytes, memory_is_usable};
-ghost use Rattle.ccr_history.specs.declared.store_fault.StoreFault.TheVariants.{NoMemory};
 ghost use Rattle.ccr_look.specs.Looks.{image_of, IsOpenedOver, IsShut};
+ghost use Rattle.ccr_look.specs.Scratch.{scratch_bytes};
 
 use crate::copied::Copied;
+use crate::scratch::Scratch;
 use ccr_store::{StoreFault, open_fault_of};
 use sqlite::{Connection, FileStore, Files, Options};
-use sqlite_disk::{Disk, Memory};
+use sqlite_disk::Disk;
 use std::alloc::Global;
 
-/// A file in memory that holds these bytes.
-fn file_of(alloc: Global, bytes: &[u8]) -> Result<Memory, StoreFault>
-    ensures holds { IfOk result (λ file. memory_bytes file ≡ bytes.now) }
-    ensures usable { IfOk result (λ file. IsTrue (memory_is_usable file)) }
-    ensures only { IfErr result (λ fault. fault ≡ NoMemory) }
-{
-    let mut file = Memory::new(alloc);
-    match file.write_at(0, bytes) {
-        Ok(()) => Ok(file),
-        Err(_) => Err(StoreFault::NoMemory),
-    }
-}
+/// How many pages are kept beside the bytes, each of 4,096 bytes as a rule.
+const CACHE_PAGES: usize = 256;
 
-/// The two files in memory. What was read is let go of, so that it isn't kept twice.
-fn files_of(alloc: Global, copied: Copied<'_>) -> Result<Files<Memory>, StoreFault>
-    ensures log { IfOk result (λ files. memory_bytes files.log ≡ copied.entry.log.bytes.items) }
-    ensures db { IfOk result (λ files. memory_bytes files.db ≡ copied.entry.db.bytes.items) }
-    ensures usable { IfOk result (λ files. IsTrue (memory_is_usable files.log) × IsTrue (memory_is_usable files.db)) }
-    ensures only { IfErr result (λ fault. fault ≡ NoMemory) }
+/// The two files, which are what was read, and no copy of it.
+fn files_of(copied: Copied<'_>) -> Files<Scratch>
+    ensures log { scratch_bytes result.log ≡ copied.entry.log.bytes.items }
+    ensures db { scratch_bytes result.db ≡ copied.entry.db.bytes.items }
 {
     let Copied {
         path: _,
@@ -38,30 +26,33 @@ fn files_of(alloc: Global, copied: Copied<'_>) -> Result<Files<Memory>, StoreFau
         log,
         after: _,
     } = copied;
-    let log_file = file_of(alloc, &log.bytes)?;
-    drop(log);
-    let db_file = file_of(alloc, &db.bytes)?;
-    Ok(Files {
-        log: log_file,
-        db: db_file,
-    })
+    Files {
+        log: Scratch::new(log.bytes),
+        db: Scratch::new(db.bytes),
+    }
+}
+
+/// How a database in memory is opened: a page that isn't kept is near.
+fn options() -> Options {
+    // Nothing of the seed gets to a disk.
+    let mut options = Options::new(1);
+    options.cache_pages = CACHE_PAGES;
+    options
 }
 
 /// The database of the bytes that were read. What is written to it stays in memory.
 ///
-/// The fault is that of the open, or `NoMemory`.
+/// The fault is that of the open.
 pub(crate) fn open(
     alloc: Global,
     copied: Copied<'_>,
-) -> Result<Connection<FileStore<Memory>>, StoreFault>
+) -> Result<Connection<FileStore<Scratch>>, StoreFault>
     ensures opened { IfOk result (λ conn. IsOpenedOver (image_of copied.entry) conn) }
     ensures idle { IfOk result (λ conn. (file_state conn).in_transaction ≡ false) }
-    ensures shut { IfErr result (λ fault. (fault ≡ NoMemory)
-        ⊎ IsShut ⟦<Memory as Disk>⟧ (image_of copied.entry) fault) }
+    ensures shut { IfErr result (IsShut ⟦<Scratch as Disk>⟧ (image_of copied.entry)) }
 {
-    let files = files_of(alloc, copied)?;
-    // Nothing of the seed gets to a disk.
-    match Connection::open_files(alloc, files, Options::new(1)) {
+    let files = files_of(copied);
+    match Connection::open_files(alloc, files, options()) {
         Ok(conn) => Ok(conn),
         Err((error, _)) => Err(open_fault_of(&error)),
     }

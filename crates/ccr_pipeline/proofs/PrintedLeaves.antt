@@ -88,10 +88,10 @@ object_again (Some (object ms)) = members_again ms (members_have_float ms) refl
 -- they are read as the same
 
 get_shown : (a : Around) (g : GetData) → IsObject g.params → get_from (get_value a g) ≡ g
-get_shown a g params = rw (texts_again g.passed, params, version_again g.wanted) refl
+get_shown a g params = rw (texts_again g.passed, params, version_again g.wanted, optional_again g.timeout) refl
 
 put_shown : (a : Around) (p : PutData) → IsObject p.params → IsObject p.get_params → put_from (put_value a p) ≡ p
-put_shown a p params get_params = rw (params, get_params) refl
+put_shown a p params get_params = rw (params, get_params, optional_again p.timeout) refl
 
 run_shown : (r : RunData) → run_of (run_value r) ≡ r
 run_shown r = rw (texts_again r.args, optional_again r.dir) refl
@@ -99,9 +99,9 @@ run_shown r = rw (texts_again r.args, optional_again r.dir) refl
 config_shown : (c : ConfigData) → config_from (config_value c) ≡ c
 config_shown c = rw (run_shown c.run, inputs_again c.inputs, outputs_again c.outputs, variables_again c.params) refl
 
-task_shown : (a : Around) (name : Text) (params : List (Text × Text)) (s : SourceData) → task_from (task_value a (record { name = name; source = s; params = params })) ≡ record { name = name; source = s; params = params }
-task_shown a name params (config c) = rw (config_shown c, variables_again params) refl
-task_shown a name params (file path) = rw (variables_again params) refl
+task_shown : (a : Around) (name : Text) (params : List (Text × Text)) (limit : Option Text) (s : SourceData) → task_from (task_value a (record { name = name; source = s; params = params; timeout = limit })) ≡ record { name = name; source = s; params = params; timeout = limit }
+task_shown a name params limit (config c) = rw (config_shown c, variables_again params, optional_again limit) refl
+task_shown a name params limit (file path) = rw (variables_again params, optional_again limit) refl
 
 pub get_again : (a : Around) (d : Data) → get_from (get_value a (get_from d)) ≡ get_from d
 get_again a d = get_shown a (get_from d) (object_again (at_key (codes "params") d))
@@ -110,7 +110,7 @@ pub put_again : (a : Around) (d : Data) → put_from (put_value a (put_from d)) 
 put_again a d = put_shown a (put_from d) (object_again (at_key (codes "params") d)) (object_again (at_key (codes "get_params") d))
 
 pub task_again : (a : Around) (d : Data) → task_from (task_value a (task_from d)) ≡ task_from d
-task_again a d = task_shown a _ _ (source_from d)
+task_again a d = task_shown a _ _ _ (source_from d)
 
 pub resource_again : (d : Data) → resource_from (resource_value (resource_from d)) ≡ resource_from d
 resource_again d =
@@ -285,14 +285,14 @@ task_source names p d true c is there e = task_config names p d e
 task_source names p d false true is there e = no_config _ (at_key (codes "config") d) is
 task_source names p d false false is there e = task_config names p d e
 
-task_keys : (a : Around) (names : List Text) (q : Path) (name : Text) (params : List (Text × Text)) (s : SourceData) → IsQuiet s → own_keys names q (task_value a (record { name = name; source = s; params = params })) ≡ []
-task_keys a names q name params (config c) quiet =
-    let whole : Data = task_value a (record { name = name; source = config c; params = params }) in
+task_keys : (a : Around) (names : List Text) (q : Path) (name : Text) (params : List (Text × Text)) (limit : Option Text) (s : SourceData) → IsQuiet s → own_keys names q (task_value a (record { name = name; source = s; params = params; timeout = limit })) ≡ []
+task_keys a names q name params limit (config c) quiet =
+    let whole : Data = task_value a (record { name = name; source = config c; params = params; timeout = limit }) in
     both_nil _ _ (text_row 2 (path_below q (codes "task")) whole name)
     (both_nil _ _ (quiet (path_below q (codes "config")) whole)
     (both_nil _ [] (variables_row 2 (path_below q (codes "params")) whole params) refl))
-task_keys a names q name params (file path) quiet =
-    let whole : Data = task_value a (record { name = name; source = file path; params = params }) in
+task_keys a names q name params limit (file path) quiet =
+    let whole : Data = task_value a (record { name = name; source = file path; params = params; timeout = limit }) in
     both_nil _ _ (text_row 2 (path_below q (codes "task")) whole name)
     (both_nil _ _ (text_row 2 (path_below q (codes "file")) whole path)
     (both_nil _ [] (variables_row 2 (path_below q (codes "params")) whole params) refl))
@@ -327,7 +327,7 @@ put_quiet a names p q d e lacks is =
 
 pub task_quiet : (a : Around) (names : List Text) (p q : Path) (d : Data) → own_keys names p d ≡ [] → is_some (at_key (codes "get") d) ≡ false → is_some (at_key (codes "put") d) ≡ false → is_some (at_key (codes "task") d) ≡ true → own_keys names q (task_value a (task_from d)) ≡ []
 task_quiet a names p q d e lacks none is =
-    task_keys a names q _ _ (source_from d) (task_source names p d _ _ refl refl (rw (lacks, none, is) at e))
+    task_keys a names q _ _ _ (source_from d) (task_source names p d _ _ refl refl (rw (lacks, none, is) at e))
 
 pub resource_quiet : (names : List Text) (p q : Path) (d : Data) → resource_faults names p d ≡ [] → resource_faults names q (resource_value (resource_from d)) ≡ []
 unfolding object_faults

@@ -150,27 +150,27 @@ hooks_at rec d e h OnError = h.on_error ∙ hook_there rec (at_key (codes "on_er
 hooks_at rec d e h OnAbort = h.on_abort ∙ hook_there rec (at_key (codes "on_abort") d)
 hooks_at rec d e h Ensure = h.ensure ∙ hook_there rec (at_key (codes "ensure") d)
 
-task_has : (a : Around) (n : Text) (s : SourceData) (ps : List (Text × Text)) → HasHooks a (task_value a (record { name = n; source = s; params = ps }))
-task_has a n (config c) ps = record { on_success = refl; on_failure = refl; on_error = refl; on_abort = refl; ensure = refl }
-task_has a n (file p) ps = record { on_success = refl; on_failure = refl; on_error = refl; on_abort = refl; ensure = refl }
+task_has : (a : Around) (n : Text) (s : SourceData) (ps : List (Text × Text)) (limit : Option Text) → HasHooks a (task_value a (record { name = n; source = s; params = ps; timeout = limit }))
+task_has a n (config c) ps limit = record { on_success = refl; on_failure = refl; on_error = refl; on_abort = refl; ensure = refl }
+task_has a n (file p) ps limit = record { on_success = refl; on_failure = refl; on_error = refl; on_abort = refl; ensure = refl }
 
 step_has : (a : Around) (t : Tree) → IsAction t → HasHooks a (printed a t)
 step_has a (attempts n t) is = absurd is
 step_has a (hook w t h) is = absurd is
-step_has a (task t) is = task_has a t.name t.source t.params
+step_has a (task t) is = task_has a t.name t.source t.params t.timeout
 step_has a t is = record { on_success = refl; on_failure = refl; on_error = refl; on_abort = refl; ensure = refl }
 
 pub at_hook : (rec : Data → Tree) (d : Data) (t : Tree) → IsAction t → (w : When) → at_key (hook_key w) (printed (around_of rec d) t) ≡ hook_from rec (hook_key w) d
 at_hook rec d t is w = hooks_at rec d (printed (around_of rec d) t) (step_has (around_of rec d) t is) w
 
-task_count : (a : Around) (n : Text) (s : SourceData) (ps : List (Text × Text)) → at_key (codes "attempts") (task_value a (record { name = n; source = s; params = ps })) ≡ unless_null (or_null (option_map (λ m. number (unsigned m)) a.attempts))
-task_count a n (config c) ps = refl
-task_count a n (file p) ps = refl
+task_count : (a : Around) (n : Text) (s : SourceData) (ps : List (Text × Text)) (limit : Option Text) → at_key (codes "attempts") (task_value a (record { name = n; source = s; params = ps; timeout = limit })) ≡ unless_null (or_null (option_map (λ m. number (unsigned m)) a.attempts))
+task_count a n (config c) ps limit = refl
+task_count a n (file p) ps limit = refl
 
 pub at_attempts : (a : Around) (t : Tree) → IsAction t → at_key (codes "attempts") (printed a t) ≡ option_map (λ n. number (unsigned n)) a.attempts
 at_attempts a (attempts n t) is = absurd is
 at_attempts a (hook w t h) is = absurd is
-at_attempts a (task t) is = task_count a t.name t.source t.params ∙ count_there a.attempts
+at_attempts a (task t) is = task_count a t.name t.source t.params t.timeout ∙ count_there a.attempts
 at_attempts a t is = count_there a.attempts
 
 -- a job
@@ -228,10 +228,10 @@ module _ (rec : Data → Tree) (again : (d : Data) → rec (printed alone (rec d
       ∙ ap (with_hook rec OnError d) (hook_same OnAbort e d _ (h OnAbort) ∙ ap (with_hook rec OnAbort d) (hook_same OnFailure e d _ (h OnFailure)
       ∙ ap (with_hook rec OnFailure d) (hook_same OnSuccess e d t (h OnSuccess)))))
 
-  task_read : (a : Around) (n : Text) (s : SourceData) (ps : List (Text × Text)) → action rec (task_value a (record { name = n; source = s; params = ps })) ≡ task (task_from (task_value a (record { name = n; source = s; params = ps })))
+  task_read : (a : Around) (n : Text) (s : SourceData) (ps : List (Text × Text)) (limit : Option Text) → action rec (task_value a (record { name = n; source = s; params = ps; timeout = limit })) ≡ task (task_from (task_value a (record { name = n; source = s; params = ps; timeout = limit })))
   unfolding action
-  task_read a n (config c) ps = refl
-  task_read a n (file p) ps = refl
+  task_read a n (config c) ps limit = refl
+  task_read a n (file p) ps limit = refl
 
   holds_again : (a : Around) → Holds (λ t. action rec (printed a t) ≡ t) Again
   unfolding action holder
@@ -246,7 +246,7 @@ module _ (rec : Data → Tree) (again : (d : Data) → rec (printed alone (rec d
   leaves_again a d = record {
     getting = λ x. ap get (get_again a d);
     putting = λ x y. ap put (put_again a d);
-    doing = λ x y z. task_read a _ _ _ ∙ ap task (task_again a d);
+    doing = λ x y z. task_read a _ _ _ _ ∙ ap task (task_again a d);
   }
 
   action_again : (a : Around) (d : Data) → action rec (printed a (action rec d)) ≡ action rec d

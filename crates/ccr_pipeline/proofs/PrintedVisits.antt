@@ -80,16 +80,16 @@ record Sound (q : Path) (e : Data) : Type 0 where
   kind : kind_faults q e ≡ []
   rest : parallel_rest q e ≡ []
 
-task_sound : (a : Around) (q : Path) (name : Text) (s : SourceData) (params : List (Text × Text)) → Sound q (task_value a (record { name = name; source = s; params = params }))
+task_sound : (a : Around) (q : Path) (name : Text) (s : SourceData) (params : List (Text × Text)) (limit : Option Text) → Sound q (task_value a (record { name = name; source = s; params = params; timeout = limit }))
 unfolding kind_faults
-task_sound a q name (config c) params = record { is_object = refl; undone = refl; kind = refl; rest = refl }
-task_sound a q name (file path) params = record { is_object = refl; undone = refl; kind = refl; rest = refl }
+task_sound a q name (config c) params limit = record { is_object = refl; undone = refl; kind = refl; rest = refl }
+task_sound a q name (file path) params limit = record { is_object = refl; undone = refl; kind = refl; rest = refl }
 
 sound : (a : Around) (q : Path) (t : Tree) → IsAction t → Sound q (printed a t)
 unfolding kind_faults value_faults broken
 sound a q (get g) is = record { is_object = refl; undone = refl; kind = refl; rest = refl }
 sound a q (put p) is = record { is_object = refl; undone = refl; kind = refl; rest = refl }
-sound a q (task t) is = task_sound a q t.name t.source t.params
+sound a q (task t) is = task_sound a q t.name t.source t.params t.timeout
 sound a q (in_order ts) is = record { is_object = refl; undone = refl; kind = refl; rest = refl }
 sound a q (in_parallel ts fast) is = record { is_object = refl; undone = refl; kind = refl; rest = refl }
 sound a q (tried t) is = record { is_object = refl; undone = refl; kind = rw (not_null alone t) refl; rest = refl }
@@ -113,14 +113,14 @@ unfolding value_faults broken
 step_quiet p whole None = refl
 step_quiet p whole (Some d) = refl
 
-task_nameless : (a : Around) (name : Text) (s : SourceData) (params : List (Text × Text)) → names_at (codes "get") (task_value a (record { name = name; source = s; params = params })) ≡ []
-task_nameless a name (config c) params = refl
-task_nameless a name (file path) params = refl
+task_nameless : (a : Around) (name : Text) (s : SourceData) (params : List (Text × Text)) (limit : Option Text) → names_at (codes "get") (task_value a (record { name = name; source = s; params = params; timeout = limit })) ≡ []
+task_nameless a name (config c) params limit = refl
+task_nameless a name (file path) params limit = refl
 
-task_known : (resources jobs : List Text) (a : Around) (q : Path) (name : Text) (s : SourceData) (params : List (Text × Text)) → unknown_names resources jobs q (task_value a (record { name = name; source = s; params = params })) ≡ []
+task_known : (resources jobs : List Text) (a : Around) (q : Path) (name : Text) (s : SourceData) (params : List (Text × Text)) (limit : Option Text) → unknown_names resources jobs q (task_value a (record { name = name; source = s; params = params; timeout = limit })) ≡ []
 unfolding unknown_resource unknown_passed
-task_known resources jobs a q name (config c) params = refl
-task_known resources jobs a q name (file path) params = refl
+task_known resources jobs a q name (config c) params limit = refl
+task_known resources jobs a q name (file path) params limit = refl
 
 module _ (resources jobs names : List Text) (q : Path) (d : Data) (a : Around) (rec : Data → Tree) where
   module _ (lacks : is_some (at_key (codes "get") d) ≡ false) where
@@ -160,8 +160,8 @@ module _ (resources jobs names : List Text) (q : Path) (d : Data) (a : Around) (
       of_kind (λ s. Opens resources jobs names q d (printed a s)) (is_some (at_key (codes "task") d)) _ _
       (λ t. record {
         own = task_quiet a names p q d e g u t;
-        known = task_known resources jobs a q (task_from d).name (task_from d).source (task_from d).params;
-        same = task_nameless a (task_from d).name (task_from d).source (task_from d).params ∙ nameless (at_key (codes "get") d) g;
+        known = task_known resources jobs a q (task_from d).name (task_from d).source (task_from d).params (task_from d).timeout;
+        same = task_nameless a (task_from d).name (task_from d).source (task_from d).params (task_from d).timeout ∙ nameless (at_key (codes "get") d) g;
       }) (λ t. holder_opens g)))
 
 opening_follows : (m t u : ℕ) (p q : Path) (d : Data) → Leads (spot_of Opening q (suc m) t (printed (around_of (step_tree m) d) (action (step_tree m) d)) ∷ []) (spot_of Opening p (suc m) u d ∷ [])
@@ -282,10 +282,10 @@ module _ (m : ℕ) (down : (t : ℕ) (p q : Path) (d : Data) → Leads (steps_fr
       unfolding own_steps steps_in step_at
       put_own u = refl
 
-      task_own : (name : Text) (s : SourceData) (params : List (Text × Text)) → own_steps (steps_from m) t q (task_value a (record { name = name; source = s; params = params })) ≡ []
+      task_own : (name : Text) (s : SourceData) (params : List (Text × Text)) (limit : Option Text) → own_steps (steps_from m) t q (task_value a (record { name = name; source = s; params = params; timeout = limit })) ≡ []
       unfolding own_steps steps_in step_at
-      task_own name (config c) params = refl
-      task_own name (file path) params = refl
+      task_own name (config c) params limit = refl
+      task_own name (file path) params limit = refl
 
       one_held : (x y z : Option Data) → held x y z < 2 → Leads (own_steps (steps_from m) t q (printed a (holder_of (step_tree m) x y z))) (spots_in x y z)
       unfolding own_steps steps_in step_at
@@ -303,7 +303,7 @@ module _ (m : ℕ) (down : (t : ℕ) (p q : Path) (d : Data) → Leads (steps_fr
       by_kind : (g u k : Bool) (x y z : Option Data) (got : GetData) (sent : PutData) (done : TaskData) → having g u k (held x y z) < 2 → Leads (own_steps (steps_from m) t q (printed a (if g then get got else (if u then put sent else (if k then task done else holder_of (step_tree m) x y z))))) (spots_in x y z)
       by_kind true u k x y z got sent done few = rw (get_own got) (none_held x y z (omega (arith, few)))
       by_kind false true k x y z got sent done few = rw (put_own sent) (none_held x y z (omega (arith, few)))
-      by_kind false false true x y z got sent done few = rw (task_own done.name done.source done.params) (none_held x y z (omega (arith, few)))
+      by_kind false false true x y z got sent done few = rw (task_own done.name done.source done.params done.timeout) (none_held x y z (omega (arith, few)))
       by_kind false false false x y z got sent done few = one_held x y z (omega (arith, few))
 
       own_follows : (d : Data) → having (is_some (at_key (codes "get") d)) (is_some (at_key (codes "put") d)) (is_some (at_key (codes "task") d)) (held (at_key (codes "do") d) (at_key (codes "in_parallel") d) (at_key (codes "try") d)) < 2 → Leads (own_steps (steps_from m) t q (printed a (action (step_tree m) d))) (own_steps (steps_from m) t p d)

@@ -64,26 +64,26 @@ task_by d true f a b =
     let source : source_from (used (kind.Object schema.Task) d) ≡ source_from d =
     rw (at_used schema.Task (codes "config") (kind.Object schema.Config) refl d)
     (source_of _ _ (at_key (codes "config") d) (λ e. let both : true ≡ false = cc (a, e) in absurd (cc (both)))) in
-    rw (at_same schema.Task (codes "task") d refl, source, at_same schema.Task (codes "params") d refl) refl
+    rw (at_same schema.Task (codes "task") d refl, source, at_same schema.Task (codes "params") d refl, at_same schema.Task (codes "timeout") d refl) refl
 task_by d false true a b =
-    rw (at_same schema.FileTask (codes "task") d refl, at_unused schema.FileTask (codes "config") refl d, none_of (at_key (codes "config") d) a, at_same schema.FileTask (codes "file") d refl, at_same schema.FileTask (codes "params") d refl)
+    rw (at_same schema.FileTask (codes "task") d refl, at_unused schema.FileTask (codes "config") refl d, none_of (at_key (codes "config") d) a, at_same schema.FileTask (codes "file") d refl, at_same schema.FileTask (codes "params") d refl, at_same schema.FileTask (codes "timeout") d refl)
     refl
 task_by d false false a b =
     let source : source_from (used (kind.Object schema.Task) d) ≡ source_from d =
     rw (at_used schema.Task (codes "config") (kind.Object schema.Config) refl d, at_unused schema.Task (codes "file") refl d, none_of (at_key (codes "file") d) b)
     (source_of _ _ (at_key (codes "config") d) (λ e. refl)) in
-    rw (at_same schema.Task (codes "task") d refl, source, at_same schema.Task (codes "params") d refl) refl
+    rw (at_same schema.Task (codes "task") d refl, source, at_same schema.Task (codes "params") d refl, at_same schema.Task (codes "timeout") d refl) refl
 
 get_from_same : (d : Data) → is_some (at_key (codes "get") d) ≡ true → get_from (used kind.Step d) ≡ get_from d
 unfolding kind_at
 get_from_same d g =
-    rw (step_object d, g, at_same schema.Get (codes "get") d refl, at_same schema.Get (codes "resource") d refl, at_same schema.Get (codes "passed") d refl, at_same schema.Get (codes "trigger") d refl, at_same schema.Get (codes "params") d refl, at_same schema.Get (codes "version") d refl)
+    rw (step_object d, g, at_same schema.Get (codes "get") d refl, at_same schema.Get (codes "resource") d refl, at_same schema.Get (codes "passed") d refl, at_same schema.Get (codes "trigger") d refl, at_same schema.Get (codes "params") d refl, at_same schema.Get (codes "version") d refl, at_same schema.Get (codes "timeout") d refl)
     refl
 
 put_from_same : (d : Data) → is_some (at_key (codes "get") d) ≡ false → is_some (at_key (codes "put") d) ≡ true → put_from (used kind.Step d) ≡ put_from d
 unfolding kind_at
 put_from_same d g p =
-    rw (step_object d, g, p, at_same schema.Put (codes "put") d refl, at_same schema.Put (codes "resource") d refl, at_same schema.Put (codes "params") d refl, at_same schema.Put (codes "get_params") d refl, at_same schema.Put (codes "no_get") d refl)
+    rw (step_object d, g, p, at_same schema.Put (codes "put") d refl, at_same schema.Put (codes "resource") d refl, at_same schema.Put (codes "params") d refl, at_same schema.Put (codes "get_params") d refl, at_same schema.Put (codes "no_get") d refl, at_same schema.Put (codes "timeout") d refl)
     refl
 
 task_from_same : (d : Data) → is_some (at_key (codes "get") d) ≡ false → is_some (at_key (codes "put") d) ≡ false → is_some (at_key (codes "task") d) ≡ true → task_from (used kind.Step d) ≡ task_from d

@@ -1,8 +1,10 @@
--- Of an object without its unused keys, no key of its own and none of the objects that it holds is unused.
-use Rattle.std.proofs.Common.{◌≡◌, ℕ, zero, suc, ◌+◌, List, [], ◌∷◌, ◌++◌, ◌&&◌, ◌||◌, Bool, true, false, Option, Some, None, refl, sym, ap, ◌∙◌, option_and_then, option_map, is_some, if◌then◌else◌, Ordering, Less, Equal, Greater, nat_cmp}
+-- Of an object without its unused keys, no key of its own but its timeout and none of the objects that it holds is unused.
+use Rattle.std.proofs.Common.{◌≡◌, ℕ, zero, suc, ◌+◌, List, [], ◌∷◌, ◌++◌, ◌&&◌, ◌||◌, Bool, true, false, Option, Some, None, refl, sym, subst, ap, ◌∙◌, option_and_then, option_map, is_some, codes, if◌then◌else◌, Ordering, Less, Equal, Greater, nat_cmp}
 use Rattle.std.proofs.lemmas.Cmp.{nat_list_cmp_total, tied_itself}
+use Rattle.std.proofs.lemmas.List.{append-nil}
 use Rattle.std.proofs.lemmas.List.Folds.{list_any-append}
 use Rattle.std.proofs.lemmas.Map.Lookups.{exact_bytes}
+use Rattle.std.proofs.lemmas.Slice.Eq.{bytes_eq-Decides}
 use Rattle.std.specs.Cmp.Lexicographic.{slice_cmp}
 use Rattle.std.specs.Option.{IfSome}
 use Rattle.std.specs.Ordering.{match_ordering}
@@ -16,6 +18,7 @@ use Rattle.ccr_pipeline.specs.declared.schema.Schema.TheVariants as schema
 use Rattle.ccr_pipeline.specs.Faults.{Path}
 use Rattle.ccr_pipeline.specs.Keys.{at_key, or_else, unless_null, path_below, path_at}
 use Rattle.ccr_pipeline.specs.Schema.{Row, opening, closing, has_row, has_key}
+use Rattle.ccr_pipeline.specs.Timeouts.{starts, timeout_below}
 use Rattle.ccr_pipeline.specs.Unused.{unused_members, unused_own, unused_items, unused_value, unused_rows, unused_object}
 use Rattle.ccr_pipeline.specs.Used.{kept, kind_in, kind_at, used, used_members, used_items}
 use Rattle.ccr_pipeline.proofs.Ascending.{Above, Ascends, AllAscend, AscendMembers, at_ascends}
@@ -50,9 +53,13 @@ is_none (r ∷ rs) = false
 abbrev IsNull : Data → Type 0
 IsNull d = is_some (as_null d) ≡ true
 
--- at each key that stays though objects of the schema can't have it, nothing stands but null
+-- the key is another than that of the timeout
+abbrev pub IsOther : List ℕ → Type 0
+IsOther k = bytes_eq (codes "timeout") k ≡ false
+
+-- at each key but the timeout's that stays though objects of the schema can't have it, nothing stands but null
 abbrev Lacks : Schema → Members → Type 0
-Lacks s ms = (k : List ℕ) → has_row (kept s) k ≡ true → has_key s k ≡ false → IfSome (get_member k ms) IsNull
+Lacks s ms = (k : List ℕ) → IsOther k → has_row (kept s) k ≡ true → has_key s k ≡ false → IfSome (get_member k ms) IsNull
 
 not_below : (k : List ℕ) (ms : Members) → Above k ms → get_member k ms ≡ None
 not_below k no_members h = refl
@@ -74,28 +81,115 @@ null_at (Some d) e = null_case (is_some (as_null d)) d e
 first : (k : List ℕ) (d : Data) (ms : Members) → IfSome (get_member k (member k d ms)) IsNull → IsNull d
 first k d ms h = rw (tied_itself nat_list_cmp_total k) at h
 
-own_case : (s : Schema) (p : Path) (k : List ℕ) (null has : Bool) (rest : List Path) → (has ≡ false → null ≡ true) → rest ≡ [] → (if null || has then [] else path_below p k ∷ []) ++ rest ≡ []
-own_case s p k true has rest h e = e
-own_case s p k false true rest h e = e
-own_case s p k false false rest h e = absurd (cc (h refl))
+own_case : (s : Schema) (p : Path) (k : List ℕ) (null has : Bool) (rest told : List Path) → (has ≡ false → null ≡ true) → rest ≡ told → (if null || has then [] else path_below p k ∷ []) ++ rest ≡ told
+own_case s p k true has rest told h e = e
+own_case s p k false true rest told h e = e
+own_case s p k false false rest told h e = absurd (cc (h refl))
+
+-- the timeout stays in objects that start programs, and they can't have it
+record IsTimed (s : Schema) : Type 0 where
+  stays : kind_at s (codes "timeout") ≡ Some kind.Any
+  lacks : has_key s (codes "timeout") ≡ false
+
+is_timed : (s : Schema) → starts s ≡ true → IsTimed s
+unfolding kind_at
+is_timed schema.Pipeline e = absurd (cc (e))
+is_timed schema.Resource e = absurd (cc (e))
+is_timed schema.Job e = absurd (cc (e))
+is_timed schema.Undone e = absurd (cc (e))
+is_timed schema.Get e = record { stays = refl; lacks = refl }
+is_timed schema.Put e = record { stays = refl; lacks = refl }
+is_timed schema.Task e = record { stays = refl; lacks = refl }
+is_timed schema.FileTask e = record { stays = refl; lacks = refl }
+is_timed schema.Holder e = absurd (cc (e))
+is_timed schema.Parallel e = absurd (cc (e))
+is_timed schema.Config e = absurd (cc (e))
+is_timed schema.Run e = absurd (cc (e))
+is_timed schema.Input e = absurd (cc (e))
+is_timed schema.Output e = absurd (cc (e))
+
+-- it doesn't in others
+untimed : (s : Schema) → starts s ≡ false → kind_at s (codes "timeout") ≡ None
+unfolding kind_at
+untimed schema.Pipeline e = refl
+untimed schema.Resource e = refl
+untimed schema.Job e = refl
+untimed schema.Undone e = refl
+untimed schema.Get e = absurd (cc (e))
+untimed schema.Put e = absurd (cc (e))
+untimed schema.Task e = absurd (cc (e))
+untimed schema.FileTask e = absurd (cc (e))
+untimed schema.Holder e = refl
+untimed schema.Parallel e = refl
+untimed schema.Config e = refl
+untimed schema.Run e = refl
+untimed schema.Input e = refl
+untimed schema.Output e = refl
+
+-- the path of what stands at the timeout, where it is told
+abbrev told : Bool → Path → Option Data → List Path
+told b p o = if b then or_else (option_and_then unless_null o) [] (λ found. path_below p (codes "timeout") ∷ []) else []
+
+none_told : (b : Bool) (p : Path) → told b p None ≡ []
+none_told true p = refl
+none_told false p = refl
+
+told_case : (null : Bool) (d : Data) (q : Path) → (if null || false then [] else q ∷ []) ++ [] ≡ or_else (if null then None else Some d) [] (λ found. q ∷ [])
+told_case true d q = refl
+told_case false d q = refl
+
+other_case : (k : List ℕ) (b : Bool) → bytes_eq (codes "timeout") k ≡ b → (slice_cmp nat_cmp (codes "timeout") k ≡ Equal → ⊥) → b ≡ false
+other_case k true e apart =
+    absurd (apart (subst (λ l. slice_cmp nat_cmp (codes "timeout") l ≡ Equal) ((bytes_eq-Decides (codes "timeout") k).0 e) refl))
+other_case k false e apart = refl
+
+is_other : (k : List ℕ) → (slice_cmp nat_cmp (codes "timeout") k ≡ Equal → ⊥) → IsOther k
+is_other k apart = other_case k (bytes_eq (codes "timeout") k) refl apart
+
+-- nothing stands at the keys but the timeout's that stay though objects of the schema can't have them
+abbrev pub OthersLack : Schema → Data → Type 0
+OthersLack s d = (k : List ℕ) → IsOther k → has_row (kept s) k ≡ true → has_key s k ≡ false → at_key k d ≡ None
 
 module _ (s : Schema) (p : Path) where
-  by_member : (k : List ℕ) (d : Data) (ms : Members) (q : Option Kind) → kind_at s k ≡ q → (is_some q ≡ true → has_key s k ≡ false → IsNull d) → unused_members s p (used_members s ms) ≡ [] → unused_members s p (or_else q (used_members s ms) (λ j. member k (used j d) (used_members s ms))) ≡ []
-  by_member k d ms None is h e = e
-  by_member k d ms (Some j) is h e =
-      own_case s p k (is_some (as_null (used j d))) (has_key s k) _ (λ no. (used_like j d).is_null ∙ h refl no) e
+  -- the unused keys of an object with one more member
+  abbrev With : List ℕ → Data → Members → List Path
+  With k d ms = unused_members s p (or_else (kind_at s k) (used_members s ms) (λ j. member k (used j d) (used_members s ms)))
 
-  members_none : (ms : Members) → AscendMembers ms → Lacks s ms → unused_members s p (used_members s ms) ≡ []
-  members_none no_members a h = refl
-  members_none (member k d ms) a h =
-      by_member k d ms (kind_at s k) refl
-      (λ there no. first k d ms (h k (last_of (has_row (opening s) k) (has_row (closing s) k) (has_row (kept s) k) no (sym (in_schema s k) ∙ there)) no))
-      (members_none ms a.2 (λ l stays no. later l k d ms (slice_cmp nat_cmp l k) refl a.0 (h l stays no)))
+  by_member : (k : List ℕ) (d : Data) (ms : Members) (q : Option Kind) → kind_at s k ≡ q → (is_some q ≡ true → has_key s k ≡ false → IsNull d) → (rest : List Path) → unused_members s p (used_members s ms) ≡ rest → unused_members s p (or_else q (used_members s ms) (λ j. member k (used j d) (used_members s ms))) ≡ rest
+  by_member k d ms None is h rest e = e
+  by_member k d ms (Some j) is h rest e =
+      own_case s p k (is_some (as_null (used j d))) (has_key s k) _ rest (λ no. (used_like j d).is_null ∙ h refl no) e
 
-  -- no key of an object of the schema is unused, where nothing stands at the keys that stay though it can't have them
-  own_none : (d : Data) → Ascends d → ((k : List ℕ) → has_row (kept s) k ≡ true → has_key s k ≡ false → at_key k d ≡ None) → unused_own s p (used (kind.Object s) d) ≡ []
-  own_none (object ms) a h = members_none ms a (λ k stays no. null_at (get_member k ms) (h k stays no))
-  own_none _ a h = refl
+  -- one member is the timeout, and none behind it
+  at_start : (b : Bool) → starts s ≡ b → (d : Data) (ms : Members) → unused_members s p (used_members s ms) ≡ [] → With (codes "timeout") d ms ≡ told b p (Some d)
+  at_start true is d ms e =
+      let timed = is_timed s is in
+      rw (timed.stays, timed.lacks, e) (told_case (is_some (as_null d)) d (path_below p (codes "timeout")))
+  at_start false is d ms e = rw (untimed s is) e
+
+  at_timeout : (k : List ℕ) → codes "timeout" ≡ k → (d : Data) (ms : Members) → Above k ms → unused_members s p (used_members s ms) ≡ told (starts s) p (get_member (codes "timeout") ms) → With k d ms ≡ told (starts s) p (Some d)
+  at_timeout k is d ms a e =
+      let behind : get_member (codes "timeout") ms ≡ None = not_below (codes "timeout") ms (subst (λ l. Above l ms) (sym is) a) in
+      let none : unused_members s p (used_members s ms) ≡ [] = e ∙ (ap (told (starts s) p) behind ∙ none_told (starts s) p) in
+      subst (λ l. With l d ms ≡ told (starts s) p (Some d)) is (at_start (starts s) refl d ms none)
+
+  by_order : (k : List ℕ) (d : Data) (ms : Members) → Above k ms → (IsOther k → is_some (kind_at s k) ≡ true → has_key s k ≡ false → IsNull d) → unused_members s p (used_members s ms) ≡ told (starts s) p (get_member (codes "timeout") ms) → (o : Ordering) → slice_cmp nat_cmp (codes "timeout") k ≡ o → With k d ms ≡ told (starts s) p (match_ordering o (get_member (codes "timeout") ms) (Some d) (get_member (codes "timeout") ms))
+  by_order k d ms a h e Less is = by_member k d ms (kind_at s k) refl (h (is_other k (λ same. absurd (cc (is, same))))) _ e
+  by_order k d ms a h e Equal is = at_timeout k (exact_bytes (codes "timeout") k is) d ms a e
+  by_order k d ms a h e Greater is = by_member k d ms (kind_at s k) refl (h (is_other k (λ same. absurd (cc (is, same))))) _ e
+
+  members_told : (ms : Members) → AscendMembers ms → Lacks s ms → unused_members s p (used_members s ms) ≡ told (starts s) p (get_member (codes "timeout") ms)
+  members_told no_members a h = sym (none_told (starts s) p)
+  members_told (member k d ms) a h =
+      by_order k d ms a.0
+      (λ other there no. first k d ms (h k other (last_of (has_row (opening s) k) (has_row (closing s) k) (has_row (kept s) k) no (sym (in_schema s k) ∙ there)) no))
+      (members_told ms a.2 (λ l other stays no. later l k d ms (slice_cmp nat_cmp l k) refl a.0 (h l other stays no)))
+      (slice_cmp nat_cmp (codes "timeout") k) refl
+
+  -- no key of an object of the schema but the timeout is unused then
+  own_told : (d : Data) → Ascends d → OthersLack s d → unused_own s p (used (kind.Object s) d) ≡ timeout_below s p d
+  own_told (object ms) a h = members_told ms a (λ k other stays no. null_at (get_member k ms) (h k other stays no))
+  own_told _ a h = sym (none_told (starts s) p)
 
 -- no keys stay that objects of the schema can't have, where a value of the kind holds such
 abbrev is_unkept : Kind → Bool
@@ -123,9 +217,22 @@ unkept_opening schema.Run = refl
 unkept_opening schema.Input = refl
 unkept_opening schema.Output = refl
 
-none_stays : (s : Schema) (d : Data) (rs : List Row) → is_none rs ≡ true → (k : List ℕ) → has_row rs k ≡ true → has_key s k ≡ false → at_key k d ≡ None
-none_stays s d [] e k there lacks = absurd (cc (there))
-none_stays s d (r ∷ rs) e k there lacks = absurd (cc (e))
+none_stays : (s : Schema) (d : Data) (rs : List Row) → is_none rs ≡ true → (k : List ℕ) → IsOther k → has_row rs k ≡ true → has_key s k ≡ false → at_key k d ≡ None
+none_stays s d [] e k other there lacks = absurd (cc (there))
+none_stays s d (r ∷ rs) e k other there lacks = absurd (cc (e))
+
+starts_none : (s : Schema) → is_none (kept s) ≡ true → starts s ≡ false
+starts_none schema.Get e = absurd (cc (e))
+starts_none schema.Put e = absurd (cc (e))
+starts_none schema.Task e = absurd (cc (e))
+starts_none schema.FileTask e = absurd (cc (e))
+starts_none _ e = refl
+
+-- where no keys stay that an object can't have, none of its own is unused
+own_none : (s : Schema) → is_none (kept s) ≡ true → (p : Path) (d : Data) → Ascends d → unused_own s p (used (kind.Object s) d) ≡ []
+own_none s e p d a =
+    own_told s p d a (none_stays s d (kept s) e)
+    ∙ ap (λ b. if b then or_else (at_key (codes "timeout") d) [] (λ found. path_below p (codes "timeout") ∷ []) else []) (starts_none s e)
 
 -- none is unused in objects of a schema whose keys are all its own, so many levels down
 abbrev Below : ℕ → Type 0
@@ -164,13 +271,12 @@ below_none : (n : ℕ) → Below n
 unfolding unused_object
 below_none zero s e p d a = refl
 below_none (suc n) s e p d a =
-    both_nil _ _ (own_none s p d a (none_stays s d (kept s) e))
+    both_nil _ _ (own_none s e p d a)
     (rows_none n (below_none n) s (opening s) (fits_opening s) (unkept_opening s) p d a)
 
--- none is unused in an object of a step's schema, its own keys aside, and in what it holds
-pub object_none : (n : ℕ) (s : Schema) (p : Path) (d : Data) → Ascends d → ((k : List ℕ) → has_row (kept s) k ≡ true → has_key s k ≡ false → at_key k d ≡ None) → unused_object n s p (used (kind.Object s) d) ≡ []
+-- none but its timeout is unused in an object whose other keys are its own, and in what it holds
+pub object_told : (n : ℕ) (s : Schema) (p : Path) (d : Data) → Ascends d → OthersLack s d → unused_object (suc n) s p (used (kind.Object s) d) ≡ timeout_below s p d
 unfolding unused_object
-object_none zero s p d a own = refl
-object_none (suc n) s p d a own =
-    both_nil _ _ (own_none s p d a own)
-    (rows_none n (below_none n) s (opening s) (fits_opening s) (unkept_opening s) p d a)
+object_told n s p d a own =
+    rw (own_told s p d a own, rows_none n (below_none n) s (opening s) (fits_opening s) (unkept_opening s) p d a)
+    (append-nil (timeout_below s p d))

@@ -20,6 +20,7 @@ pub mod Links
 pub mod JobRules
 pub mod Unknown
 pub mod Unused
+pub mod Timeouts
 pub mod Used
 pub mod Notes
 pub mod Reading

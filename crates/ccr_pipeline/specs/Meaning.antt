@@ -98,6 +98,7 @@ task_from d = record {
   name = text_or [] (codes "task") d;
   source = source_from d;
   params = variables_from (codes "params") d;
+  timeout = text_at (codes "timeout") d;
 }
 
 -- a text is every or latest, an object a pin
@@ -119,6 +120,7 @@ get_from d = record {
   trigger = truth_from (codes "trigger") d;
   params = object_at (codes "params") d;
   wanted = wanted_from d;
+  timeout = text_at (codes "timeout") d;
 }
 
 -- a put, whose resource is its name, where it says no other
@@ -129,4 +131,5 @@ put_from d = record {
   params = object_at (codes "params") d;
   get_params = object_at (codes "get_params") d;
   no_get = truth_from (codes "no_get") d;
+  timeout = text_at (codes "timeout") d;
 }

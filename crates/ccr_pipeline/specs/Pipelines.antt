@@ -94,7 +94,8 @@ pub record IsPipelineOf (text : List ℕ) (d : Data) (p : PipelineData) : Type 0
   pub resources : p.resources ≡ resources_from d
   pub jobs : p.jobs ≡ jobs_from d
   pub unused : IsSortedOnce (unused_in d) p.unused
-  -- any value that differs from its own in keys without effect alone has the same faults, and is read as the same
+  -- any value that differs from its own in keys without effect alone, and in no timeout of a get, a put or a task, has
+  -- the same faults, and is read as the same
   pub effectless : (e : Data) → used_pipeline e ≡ used_pipeline d → SaysTheSame e d
   -- the inputs of each job are the gets of its text, in the order in which they are read
   pub inputs : map (λ j. inputs j.plan) p.jobs ≡ inputs_read 0 (list_at (codes "jobs") d)

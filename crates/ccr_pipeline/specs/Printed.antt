@@ -75,18 +75,23 @@ hook_fields a =
 abbrev pub around_fields : Around → List Field
 around_fields a = (codes "attempts", or_null (option_map (λ n. number (unsigned n)) a.attempts)) ∷ hook_fields a
 
+-- the timeout of a step that starts programs
+abbrev pub timeout_field : Option Text → Field
+timeout_field o = (codes "timeout", or_null (option_map string o))
+
 -- a get
 abbrev pub get_value : Around → GetData → Data
 get_value a g = made (
     (codes "get", string g.name) ∷ (codes "resource", string g.resource) ∷ (codes "passed", text_list g.passed)
     ∷ (codes "trigger", boolean g.trigger) ∷ (codes "params", or_null g.params)
-    ∷ (codes "version", wanted_value g.wanted) ∷ around_fields a)
+    ∷ (codes "version", wanted_value g.wanted) ∷ timeout_field g.timeout ∷ around_fields a)
 
 -- a put
 abbrev pub put_value : Around → PutData → Data
 put_value a p = made (
     (codes "put", string p.name) ∷ (codes "resource", string p.resource) ∷ (codes "params", or_null p.params)
-    ∷ (codes "get_params", or_null p.get_params) ∷ (codes "no_get", boolean p.no_get) ∷ around_fields a)
+    ∷ (codes "get_params", or_null p.get_params) ∷ (codes "no_get", boolean p.no_get) ∷ timeout_field p.timeout
+    ∷ around_fields a)
 
 -- the program of a task
 abbrev pub run_value : RunData → Data
@@ -122,7 +127,8 @@ source_field (file path) = (codes "file", string path)
 -- a task
 abbrev pub task_value : Around → TaskData → Data
 task_value a t = made (
-    (codes "task", string t.name) ∷ source_field t.source ∷ (codes "params", text_object t.params) ∷ around_fields a)
+    (codes "task", string t.name) ∷ source_field t.source ∷ (codes "params", text_object t.params)
+    ∷ timeout_field t.timeout ∷ around_fields a)
 
 -- a step, with what stands around it
 abbrev mutual

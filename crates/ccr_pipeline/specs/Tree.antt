@@ -44,6 +44,7 @@ pub record GetData : Type 0 where
   pub trigger : Bool
   pub params : Option Data
   pub wanted : WantedData
+  pub timeout : Option Text
 
 -- what a get holds, without where it lies in memory
 abbrev pub get_data : Get → GetData
@@ -54,6 +55,7 @@ get_data g = record {
   trigger = g.trigger;
   params = option_map object_data g.params;
   wanted = wanted_data g.wanted;
+  timeout = option_map string_bytes g.timeout;
 }
 
 -- what a put holds
@@ -63,6 +65,7 @@ pub record PutData : Type 0 where
   pub params : Option Data
   pub get_params : Option Data
   pub no_get : Bool
+  pub timeout : Option Text
 
 -- what a put holds, without where it lies in memory
 abbrev pub put_data : Put → PutData
@@ -72,6 +75,7 @@ put_data p = record {
   params = option_map object_data p.params;
   get_params = option_map object_data p.get_params;
   no_get = p.no_get;
+  timeout = option_map string_bytes p.timeout;
 }
 
 -- the program of a task: its path, its arguments and its folder
@@ -127,6 +131,7 @@ pub record TaskData : Type 0 where
   pub name : Text
   pub source : SourceData
   pub params : List (Text × Text)
+  pub timeout : Option Text
 
 -- what a task step holds, without where it lies in memory
 abbrev pub task_data : Task → TaskData
@@ -134,6 +139,7 @@ task_data t = record {
   name = string_bytes t.name;
   source = source_data t.source;
   params = map variable_data t.params.items;
+  timeout = option_map string_bytes t.timeout;
 }
 
 -- a step in its modifiers

@@ -1,4 +1,4 @@
--- A pipeline without its keys that have no effect.
+-- A pipeline without its keys that have no effect, but for the timeouts of its gets, puts and tasks.
 use Rattle.std.specs.Prelude.{List, [], ◌∷◌, ◌++◌, ℕ, map, Option, Some, None, codes, if◌then◌else◌}
 use Rattle.std.specs.Str.{bytes_eq}
 use Rattle.serde_json.specs.Data.{Data, array, object, Items, no_items, item, Members, no_members, member}
@@ -16,12 +16,16 @@ kept_of_steps =
     map (λ k. (May, kind.Any, k)) (codes "get" ∷ codes "put" ∷ codes "task" ∷ [])
     ++ (opening schema.Holder ++ opening schema.Undone)
 
--- the keys that stay in objects of a schema, though these can't have them
+-- those, and the timeout, which a launcher is told
+abbrev pub kept_of_starting : List Row
+kept_of_starting = (May, kind.Any, codes "timeout") ∷ kept_of_steps
+
+-- the keys that stay in objects of a schema, though these can't have them; steps that start programs keep their timeout
 abbrev pub kept : Schema → List Row
-kept schema.Get = kept_of_steps
-kept schema.Put = kept_of_steps
-kept schema.Task = kept_of_steps
-kept schema.FileTask = kept_of_steps
+kept schema.Get = kept_of_starting
+kept schema.Put = kept_of_starting
+kept schema.Task = kept_of_starting
+kept schema.FileTask = kept_of_starting
 kept schema.Holder = kept_of_steps
 kept _ = []
 
@@ -56,6 +60,6 @@ abbrev mutual
   used_items k no_items = no_items
   used_items k (item d ds) = item (used k d) (used_items k ds)
 
--- a pipeline without its unused keys
+-- a pipeline without its unused keys, but for the timeouts of its gets, puts and tasks
 abbrev pub used_pipeline : Data → Data
 used_pipeline d = used (kind.Object schema.Pipeline) d

@@ -211,6 +211,7 @@ pub(crate) fn task(alloc: Global, step: &Value) -> Result<Task, AllocError>
         name: text(alloc, step, "task")?,
         source: source(alloc, step)?,
         params: variables(alloc, step, "params")?,
+        timeout: optional_text(alloc, step, "timeout")?,
     })
 }
 
@@ -252,6 +253,7 @@ pub(crate) fn get(alloc: Global, step: &Value) -> Result<Get, AllocError>
         trigger: truth(step, "trigger"),
         params: object(step, "params")?,
         wanted: wanted(alloc, step)?,
+        timeout: optional_text(alloc, step, "timeout")?,
     })
 }
 
@@ -266,5 +268,6 @@ pub(crate) fn put(alloc: Global, step: &Value) -> Result<Put, AllocError>
         params: object(step, "params")?,
         get_params: object(step, "get_params")?,
         no_get: truth(step, "no_get"),
+        timeout: optional_text(alloc, step, "timeout")?,
     })
 }

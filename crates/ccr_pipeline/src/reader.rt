@@ -10,6 +10,7 @@ ghost use Rattle.ccr_pipeline.specs.Meaning.{config_from};
 ghost use Rattle.ccr_pipeline.specs.Pipelines.{pipeline_data, IsPipelineOf};
 ghost use Rattle.ccr_pipeline.specs.Reading.{pipeline_faults, IsTextOf, IsNoValue, Refuses, IsReading};
 ghost use Rattle.ccr_pipeline.specs.Reordered.{IsReordering};
+ghost use Rattle.ccr_pipeline.specs.Timeouts.{timeouts_in};
 ghost use Rattle.ccr_pipeline.specs.Tree.{config_data};
 ghost use Rattle.ccr_pipeline.specs.Unused.{unused_in};
 ghost use Rattle.ccr_pipeline.specs.Used.{used_pipeline};
@@ -72,8 +73,9 @@ pub fn read(alloc: Global, text: &[u8]) -> Result<Pipeline, ReadFault>
     ensures ok { IfOk result
         (λ p. IsReading pipeline_faults text.now (λ d. IsPipelineOf text.now d (pipeline_data p))) }
 
-    // Without the keys that have no effect, none would be listed.
-    ensures none_left { IfOk result (λ p. (d : Data) → IsTextOf text.now d → unused_in (used_pipeline d) ≡ []) }
+    // Without the keys that have no effect, no key would be listed but the timeouts, which a launcher is told.
+    ensures timeouts_left { IfOk result
+        (λ p. (d : Data) → IsTextOf text.now d → unused_in (used_pipeline d) ≡ timeouts_in d) }
 
     // The text is too long or no JSON value, or the fault is the first one that is present in its value.
     ensures err { IfErr result

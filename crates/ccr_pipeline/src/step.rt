@@ -31,6 +31,8 @@ pub struct Get {
     pub params: Option<Object>,
     /// Which versions it wants.
     pub wanted: Wanted,
+    /// What a launcher is told of how long it may take, as the text says it.
+    pub timeout: Option<String>,
 }
 
 /// A put step (Concourse: put step).
@@ -46,6 +48,8 @@ pub struct Put {
     pub get_params: Option<Object>,
     /// Whether what was pushed isn't fetched.
     pub no_get: bool,
+    /// What a launcher is told of how long each of its programs may take, as the text says it.
+    pub timeout: Option<String>,
 }
 
 /// When a hook runs: after its step ended so.

@@ -60,4 +60,6 @@ pub struct Task {
     pub source: TaskSource,
     /// What replaces the config's variables of equal names, names ascending by bytes.
     pub params: Vec<Variable>,
+    /// What a launcher is told of how long it may take, as the text says it.
+    pub timeout: Option<String>,
 }

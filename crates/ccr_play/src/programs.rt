@@ -29,6 +29,7 @@ fn answered(alloc: Global, kind: &str, given: &str) -> Result<String> {
         "reply-spoilt" => replies::spoilt(alloc, given.as_bytes()),
         "launch" => launches::launched(alloc, &places(alloc)?, given),
         "launcher" => launches::launched(alloc, &places_by_launcher(alloc)?, given),
+        "timed" => launches::timed(alloc, &places_by_launcher(alloc)?, given),
         "in-build" => launches::in_build(alloc, given),
         "end" => launches::ended(alloc, given),
         "task-file" => launches::task_file(alloc, given),

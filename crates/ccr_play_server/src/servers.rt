@@ -99,6 +99,8 @@ fn formed_of(alloc: Global, kind: &str, words: &str) -> Result<Option<Command>, 
         "jobs" => Shown::Jobs(form),
         "explain" => Shown::Explanation(name, form),
         "build" => Shown::Build(name, number_of(other), form),
+        "red" => Shown::Red(form),
+        "live" => Shown::Live(name, form),
         "trace" => Shown::Trace(name, String::from_str(alloc, other)?, form),
         _ => return Ok(None),
     };

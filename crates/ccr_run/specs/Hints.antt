@@ -18,7 +18,7 @@ named_wrong = codes "names are those of the pipeline that was set last"
 
 -- about a database that can't be opened, read or written
 abbrev pub disk_failed : Text
-disk_failed = codes "is the disk full or read-only? may you write the file and its directory? what was printed is kept"
+disk_failed = codes "is the file a database? is the disk full or read-only? may you write the file and its directory? what was printed is kept"
 
 -- about a file that is no database of this program
 abbrev pub not_ours : Text

@@ -32,7 +32,7 @@ fn of_server(fault: &ServeFault) -> Option<&'static str>
             "the file isn't a database of ccr_run in format 1 or 2; name another one, or use a newer ccr_run",
         ),
         ServeFault::Store(StoreFault::Disk) => Some(
-            "is the disk full or read-only? may you write the file and its directory? what was printed is kept",
+            "is the file a database? is the disk full or read-only? may you write the file and its directory? what was printed is kept",
         ),
         ServeFault::File => Some("is the file there, and may you read it?"),
         ServeFault::NoMemory | ServeFault::Store(StoreFault::NoMemory) => Some(

@@ -14,10 +14,9 @@ use crate::tell::tell;
 use crate::telling::Telling;
 use ccr_core::Core;
 use ccr_lines::{AsText, Lines, Printed, Show, ShowFault};
-use ccr_look::{copy, look};
+use ccr_look::{Scratch, copy, look};
 use ccr_serve::ServeFault;
 use sqlite::FileStore;
-use sqlite_disk::Memory;
 use sqlite_trees::store::Store as Trees;
 use std::alloc::Global;
 use std::io::Write;
@@ -58,7 +57,7 @@ fn see<W: Write, E: Write>(
 ) -> Result<u8, Failure>
     requires least { 1 ≤ order.now.options.budget }
     requires most { order.now.options.budget ≤ MOST_NODES }
-    ensures { Looked ⟦<FileStore<Memory> as Trees>⟧ order.now result
+    ensures { Looked ⟦<FileStore<Scratch> as Trees>⟧ order.now result
         (out.old.shown ++ out.old.waiting) (out.new.shown ++ out.new.waiting) }
 {
     let copied = match copy(rt, order.options.database) {
@@ -79,7 +78,7 @@ pub fn look_at<W: Write, E: Write>(
 ) -> ExitCode
     requires least { 1 ≤ order.options.budget }
     requires most { order.options.budget ≤ MOST_NODES }
-    ensures { (outcome : OutcomeData) × Looked ⟦<FileStore<Memory> as Trees>⟧ order.entry outcome.end
+    ensures { (outcome : OutcomeData) × Looked ⟦<FileStore<Scratch> as Trees>⟧ order.entry outcome.end
         (out.old.shown ++ out.old.waiting) (out.new.shown ++ out.new.waiting)
         × (outcome.is_printed ≡ not out.new.failed) × (exit_status result ≡ exit_status_of outcome) }
 {

@@ -32,6 +32,7 @@ ghost use Rattle.ccr_run.specs.Obeyed.{Obeyed};
 use abort::abort_build;
 use ccr_history::Storage;
 use ccr_lines::Printed;
+use ccr_look::Scratch;
 use ccr_process::{Machine, Runner};
 use ccr_task::{Folders, Shelf};
 use database::Database;
@@ -42,7 +43,6 @@ use opener::Opener;
 use order::{Misuse, Ordered, ordered_by};
 use run::run;
 use sqlite::{FileFrom, FileStore, Start, Unknown};
-use sqlite_disk::Memory;
 use sqlite_trees::store::Store as Trees;
 use std::io::{ErrorKind, Write};
 use std::process::ExitCode;
@@ -81,7 +81,7 @@ fn obey<'a, S: Start, W: Write, E: Write>(
         ⟦<Database<FileStore<FileFrom<S>>> as Storage>⟧.leaves
         ⟦<Database<FileStore<FileFrom<S>>> as Storage>⟧.tally (begins_with (image_at S.Start))
         (IsUnfound ⟦<FileStore<FileFrom<S>> as Trees>⟧ (image_at S.Start))
-        (LookedBeside ⟦<FileStore<Memory> as Trees>⟧ ⟦<FileStore<FileFrom<S>> as Trees>⟧)
+        (LookedBeside ⟦<FileStore<Scratch> as Trees>⟧ ⟦<FileStore<FileFrom<S>> as Trees>⟧)
         (map string_bytes words.now) (asked_by opener.new)
         (out.old.shown ++ out.old.waiting) (out.new.shown ++ out.new.waiting) out.new.failed (exit_status result) }
 {

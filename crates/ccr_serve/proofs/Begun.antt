@@ -11,6 +11,7 @@ use Rattle.ccr_steps.specs.Asks.{AskData, fetch, push, read_config, run_task}
 use Rattle.ccr_task.specs.Calls.{CallData, file_data}
 use Rattle.ccr_task.specs.Faulty.{SaidData}
 use Rattle.ccr_task.specs.Places.{PlacesData, abort_folder}
+use Rattle.ccr_task.specs.Starting.{StepLabelData}
 use Rattle.ccr_task.specs.declared.fault.ShelfFault.TheVariants.{Failed}
 use Rattle.ccr_task.specs.declared.said.StepFault.{StepFault}
 use Rattle.ccr_serve.specs.Aborts.{Looks}
@@ -26,39 +27,39 @@ looked_so (Some launcher) pair folder y x before after h = by y.fault h where
   by None h = inl h.0
   by (Some f) h = inr (h.0, h.1)
 
-launch_begun : (places : PlacesData) (job : Text) (number : ℕ) (name : Text) (ask : AskData)
+launch_begun : (places : PlacesData) (job : Text) (number : ℕ) (label : StepLabelData) (ask : AskData)
     (launch : Result Launch RequestFault) (before after : List CallData) (pair : Option Pair) (x : SaidData)
-    → AnswersByLaunch places job number name ask launch before after pair x
-    → BeginsByLaunch places job number name ask launch before after pair
-launch_begun places job number name ask (Ok launch) before after (Some pair) x h = (
+    → AnswersByLaunch places job number label ask launch before after pair x
+    → BeginsByLaunch places job number label ask launch before after pair
+launch_begun places job number label ask (Ok launch) before after (Some pair) x h = (
   h.0,
   (h.1, h.2.is_run ∙ h.2.starts),
   looked_so places.launcher pair (abort_folder places job number) h.2.said x h.0 after h.2.settles,
 )
-launch_begun places job number name ask (Ok launch) before after None x h = (after, (Err Failed, h.0), refl)
-launch_begun places job number name ask (Err TooLong) before after pair x h = (h.0, h.1)
-launch_begun places job number name ask (Err NoMemory) before after pair x h = absurd h
+launch_begun places job number label ask (Ok launch) before after None x h = (after, (Err Failed, h.0), refl)
+launch_begun places job number label ask (Err TooLong) before after pair x h = (h.0, h.1)
+launch_begun places job number label ask (Err NoMemory) before after pair x h = absurd h
 
-program_begun : (places : PlacesData) (rs : List ResourceData) (job : Text) (number : ℕ) (name : Text) (ask : AskData)
+program_begun : (places : PlacesData) (rs : List ResourceData) (job : Text) (number : ℕ) (label : StepLabelData) (ask : AskData)
     (before after : List CallData) (pair : Option Pair) (x : SaidData)
-    → AnswersByProgram places rs job number name ask before after pair x
-    → BeginsByProgram places rs job number name ask before after pair
-program_begun places rs job number name ask before after pair x h =
-    (h.0, (h.1.0, h.1.1, launch_begun places job number name ask h.1.0 before after pair x h.1.2))
+    → AnswersByProgram places rs job number label ask before after pair x
+    → BeginsByProgram places rs job number label ask before after pair
+program_begun places rs job number label ask before after pair x h =
+    (h.0, (h.1.0, h.1.1, launch_begun places job number label ask h.1.0 before after pair x h.1.2))
 
 -- an ask that was answered was begun to be answered
-pub answer_begun : (places : PlacesData) (rs : List ResourceData) (job : Text) (number : ℕ) (name : Text) (ask : AskData)
+pub answer_begun : (places : PlacesData) (rs : List ResourceData) (job : Text) (number : ℕ) (label : StepLabelData) (ask : AskData)
     (before after : List CallData) (pair : Option Pair) (x : SaidData)
-    → Answers places rs job number name ask before after pair x
-    → BeginsAnswer places rs job number name ask before after pair
-answer_begun places rs job number name (read_config file) before after pair x h =
+    → Answers places rs job number label ask before after pair x
+    → BeginsAnswer places rs job number label ask before after pair
+answer_begun places rs job number label (read_config file) before after pair x h =
     (h.0, inr (file_data h.1.0, h.1.1))
-answer_begun places rs job number name (fetch artifact resource version params) before after pair x h =
-    program_begun places rs job number name (fetch artifact resource version params) before after pair x h
-answer_begun places rs job number name (push artifact resource params) before after pair x h =
-    program_begun places rs job number name (push artifact resource params) before after pair x h
-answer_begun places rs job number name (run_task config env) before after pair x h =
-    program_begun places rs job number name (run_task config env) before after pair x h
+answer_begun places rs job number label (fetch artifact resource version params) before after pair x h =
+    program_begun places rs job number label (fetch artifact resource version params) before after pair x h
+answer_begun places rs job number label (push artifact resource params) before after pair x h =
+    program_begun places rs job number label (push artifact resource params) before after pair x h
+answer_begun places rs job number label (run_task config env) before after pair x h =
+    program_begun places rs job number label (run_task config env) before after pair x h
 
 -- a check that found versions was begun
 pub found_begun : (places : PlacesData) (r : ResourceData) (version : Option TextMap) (before after : List CallData)

@@ -6,7 +6,7 @@ use Rattle.ccr_steps.specs.Asks.{ask_data}
 use Rattle.ccr_task.specs.Calls.{CallData}
 use Rattle.ccr_task.specs.Faulty.{SaidData}
 use Rattle.ccr_task.specs.Places.{PlacesData, abort_folder}
-use Rattle.ccr_task.specs.Starting.{step_name}
+use Rattle.ccr_task.specs.Starting.{step_label}
 use Rattle.ccr_core.specs.Holding.{IsAsked, Stands}
 use Rattle.ccr_core.specs.State.{State, no_pipeline, resources_of}
 use Rattle.ccr_core.proofs.RunningLists.{at_id}
@@ -38,7 +38,7 @@ want_begun places v job number turn x p looked f w = record {
   at = w.at;
   lost = w.pair;
   adds = w.adds;
-  begins = answer_begun places (resources_held v.core) job number (step_name w.step) (ask_data w.ask) looked f w.pair x
+  begins = answer_begun places (resources_held v.core) job number (step_label w.step) (ask_data w.ask) looked f w.pair x
       w.answers;
 }
 
@@ -88,9 +88,9 @@ module _ (places : PlacesData) (v : View) (job : Text) (number rank : ℕ) (look
           at = w.step;
           waits_at = waits_at v.core s job number d.build w.step is d.there w.at;
           begins = named s is
-              (λ j i. BeginsAnswer places (resources_of s) j i (step_name w.step) (ask_data w.ask) looked f w.lost)
+              (λ j i. BeginsAnswer places (resources_of s) j i (step_label w.step) (ask_data w.ask) looked f w.lost)
               (subst
-              (λ rs. BeginsAnswer places rs job number (step_name w.step) (ask_data w.ask) looked f w.lost)
+              (λ rs. BeginsAnswer places rs job number (step_label w.step) (ask_data w.ask) looked f w.lost)
               (ap (λ o. (unwrap_or o no_pipeline).resources) is.1) w.begins);
         })
 

@@ -18,7 +18,7 @@ use Rattle.ccr_task.specs.Faulty.{SaidData, said_data}
 use Rattle.ccr_task.specs.declared.said.Said.{Said}
 use Rattle.ccr_task.specs.Launching.{can_launch, check_launch, starts_program, LaunchesAsk}
 use Rattle.ccr_task.specs.Places.{PlacesData, abort_folder, build_folder}
-use Rattle.ccr_task.specs.Starting.{started_ask, started_check}
+use Rattle.ccr_task.specs.Starting.{StepLabelData, started_ask, started_check}
 use Rattle.ccr_task.specs.Calls.{CallData, FolderCall, Does}
 use Rattle.ccr_task.specs.declared.fault.ShelfFault.{ShelfFault}
 use Rattle.ccr_serve.specs.Asked.{ask_folders, Settles, AnswersByRun, AnswersByLaunch, Answers, MayLook, BeginsByLaunch, BeginsAnswer}
@@ -99,18 +99,18 @@ module _ {E : Type 0} (places : PlacesData) (r : ResourceData) (told version : O
 
 -- ---- asks
 -- what was started of an ask's launch was run, and the step comes to this
-module _ (places : PlacesData) (job : Text) (number : ℕ) (name : Text) (ask : AskData) (l : LaunchData) (begun : Launch)
+module _ (places : PlacesData) (job : Text) (number : ℕ) (label : StepLabelData) (ask : AskData) (l : LaunchData) (begun : Launch)
     (before after : List CallData) (old new : List Pair) (end : EndData) (said : SaidData)
-    (starts : launch_data begun ≡ started_ask places job number name ask l)
+    (starts : launch_data begun ≡ started_ask places job number label ask l)
     (added : AddsPair old (launch_data begun) end new) (by : AnswersEnd begun.program ask end said) where
   pub run_answered : {E : Type 0} (result : Result Said E)
       → IfOk result (λ a. Settles places.launcher (abort_folder places job number) said before after (said_data a))
       → IfOk result (λ a. (pair : Pair) × Adds old (Some pair) new
-      × AnswersByRun places job number name ask l before after pair (said_data a))
+      × AnswersByRun places job number label ask l before after pair (said_data a))
   run_answered (Err e) settles = tt
   run_answered (Ok a) settles = with_pair added where
     with_pair : AddsPair old (launch_data begun) end new → (pair : Pair) × Adds old (Some pair) new
-        × AnswersByRun places job number name ask l before after pair (said_data a)
+        × AnswersByRun places job number label ask l before after pair (said_data a)
     with_pair (inl more) = (
       (launch_data begun, end),
       more,
@@ -125,23 +125,23 @@ module _ (places : PlacesData) (job : Text) (number : ℕ) (name : Text) (ask : 
     )
     with_pair (inr (none, kept)) = absurd (subst (λ e. AnswersEnd begun.program ask e said) none by)
 
-module _ {E : Type 0} (places : PlacesData) (job : Text) (number : ℕ) (name : Text) (ask : AskData) (launch : Launch)
+module _ {E : Type 0} (places : PlacesData) (job : Text) (number : ℕ) (label : StepLabelData) (ask : AskData) (launch : Launch)
     (before made after : List CallData) (old new : List Pair)
     (did : Does (ask_folders (build_folder places job number) ask) before (Ok tt) made) where
   pub answered_after : (result : Result Said E)
       → IfOk result (λ a. (pair : Pair) × Adds old (Some pair) new
-      × AnswersByRun places job number name ask (launch_data launch) made after pair (said_data a))
+      × AnswersByRun places job number label ask (launch_data launch) made after pair (said_data a))
       → IfOk result (λ a. (pair : Option Pair) × Adds old pair new
-      × AnswersByLaunch places job number name ask (Ok launch) before after pair (said_data a))
+      × AnswersByLaunch places job number label ask (Ok launch) before after pair (said_data a))
   answered_after (Err e) by = tt
   answered_after (Ok a) by = (Some by.0, by.1, (made, did, by.2))
 
   pub answered_lost : (result : Result Said E)
       → OnErr result ((lost : Option Pair) × Adds old lost new
-      × IfSome lost (λ p. p.0 ≡ started_ask places job number name ask (launch_data launch)))
+      × IfSome lost (λ p. p.0 ≡ started_ask places job number label ask (launch_data launch)))
       → OnErr result (after ≡ made)
       → OnErr result ((lost : Option Pair) × Adds old lost new
-      × BeginsByLaunch places job number name ask (Ok launch) before after lost)
+      × BeginsByLaunch places job number label ask (Ok launch) before after lost)
   answered_lost (Ok a) by same = tt
   answered_lost (Err e) by same = with_lost by.0 by.1 by.2 where
     unlooked : (pair : Pair) (launcher : Option Text)
@@ -150,39 +150,39 @@ module _ {E : Type 0} (places : PlacesData) (job : Text) (number : ℕ) (name : 
     unlooked pair (Some l) = inl same
 
     with_lost : (lost : Option Pair) → Adds old lost new
-        → IfSome lost (λ p. p.0 ≡ started_ask places job number name ask (launch_data launch))
+        → IfSome lost (λ p. p.0 ≡ started_ask places job number label ask (launch_data launch))
         → (lost : Option Pair) × Adds old lost new
-        × BeginsByLaunch places job number name ask (Ok launch) before after lost
+        × BeginsByLaunch places job number label ask (Ok launch) before after lost
     with_lost None adds starts = (None, adds, (made, (Ok tt, did), same))
     with_lost (Some pair) adds starts = (Some pair, adds, (made, (did, starts), unlooked pair places.launcher))
 
 -- a folder that an ask's program finds couldn't be made, and none was run
-pub none_begun : (places : PlacesData) (job : Text) (number : ℕ) (name : Text) (ask : AskData) (launch : Launch)
+pub none_begun : (places : PlacesData) (job : Text) (number : ℕ) (label : StepLabelData) (ask : AskData) (launch : Launch)
     (before after : List CallData) (old : List Pair) (answer : Result Unit ShelfFault)
     → Does (ask_folders (build_folder places job number) ask) before answer after
     → (lost : Option Pair) × Adds old lost old
-    × BeginsByLaunch places job number name ask (Ok launch) before after lost
-none_begun places job number name ask launch before after old answer did =
+    × BeginsByLaunch places job number label ask (Ok launch) before after lost
+none_begun places job number label ask launch before after old answer did =
     (None, sym (append-nil old), (after, (answer, did), refl))
 
 -- what isn't an ask for a file is answered by its launch, or the answer is begun by it
-module _ {E : Type 0} (places : PlacesData) (rs : List ResourceData) (job : Text) (number : ℕ) (name : Text) (ask : Ask)
+module _ {E : Type 0} (places : PlacesData) (rs : List ResourceData) (job : Text) (number : ℕ) (label : StepLabelData) (ask : Ask)
     (launch : Result Launch RequestFault) (before after : List CallData) (old new : List Pair)
     (other : (file : _) → ask ≢ ReadConfig file) (can : can_launch rs (ask_data ask) ≡ starts_program (ask_data ask))
     (is : LaunchesAsk places rs (build_folder places job number) (ask_data ask) launch) where
   pub by_program : (result : Result Said E)
       → IfOk result (λ a. (pair : Option Pair) × Adds old pair new
-      × AnswersByLaunch places job number name (ask_data ask) launch before after pair (said_data a))
+      × AnswersByLaunch places job number label (ask_data ask) launch before after pair (said_data a))
       → IfOk result (λ a. (pair : Option Pair) × Adds old pair new
-      × Answers places rs job number name (ask_data ask) before after pair (said_data a))
+      × Answers places rs job number label (ask_data ask) before after pair (said_data a))
   by_program (Err e) by = tt
   by_program (Ok a) by = one ask other can is by where
     one : (q : Ask) → ((file : _) → q ≢ ReadConfig file) → can_launch rs (ask_data q) ≡ starts_program (ask_data q)
         → LaunchesAsk places rs (build_folder places job number) (ask_data q) launch
         → (pair : Option Pair) × Adds old pair new
-        × AnswersByLaunch places job number name (ask_data q) launch before after pair (said_data a)
+        × AnswersByLaunch places job number label (ask_data q) launch before after pair (said_data a)
         → (pair : Option Pair) × Adds old pair new
-        × Answers places rs job number name (ask_data q) before after pair (said_data a)
+        × Answers places rs job number label (ask_data q) before after pair (said_data a)
     one (Fetch artifact resource version params) other can is by = (by.0, by.1, (can, (launch, is, by.2)))
     one (Push artifact resource params) other can is by = (by.0, by.1, (can, (launch, is, by.2)))
     one (RunTask config env) other can is by = (by.0, by.1, (can, (launch, is, by.2)))
@@ -190,15 +190,15 @@ module _ {E : Type 0} (places : PlacesData) (rs : List ResourceData) (job : Text
 
   pub begun_by_program : (result : Result Said E)
       → OnErr result ((lost : Option Pair) × Adds old lost new
-      × BeginsByLaunch places job number name (ask_data ask) launch before after lost)
+      × BeginsByLaunch places job number label (ask_data ask) launch before after lost)
       → OnErr result ((lost : Option Pair) × Adds old lost new
-      × BeginsAnswer places rs job number name (ask_data ask) before after lost)
+      × BeginsAnswer places rs job number label (ask_data ask) before after lost)
   begun_by_program (Ok a) by = tt
   begun_by_program (Err e) by = one ask other can is by where
     one : (q : Ask) → ((file : _) → q ≢ ReadConfig file) → can_launch rs (ask_data q) ≡ starts_program (ask_data q)
         → LaunchesAsk places rs (build_folder places job number) (ask_data q) launch
-        → (lost : Option Pair) × Adds old lost new × BeginsByLaunch places job number name (ask_data q) launch before after lost
-        → (lost : Option Pair) × Adds old lost new × BeginsAnswer places rs job number name (ask_data q) before after lost
+        → (lost : Option Pair) × Adds old lost new × BeginsByLaunch places job number label (ask_data q) launch before after lost
+        → (lost : Option Pair) × Adds old lost new × BeginsAnswer places rs job number label (ask_data q) before after lost
     one (Fetch artifact resource version params) other can is by = (by.0, by.1, (can, (launch, is, by.2)))
     one (Push artifact resource params) other can is by = (by.0, by.1, (can, (launch, is, by.2)))
     one (RunTask config env) other can is by = (by.0, by.1, (can, (launch, is, by.2)))

@@ -7,7 +7,7 @@ use Rattle.ccr_steps.specs.Asks.{ask_data, AnswerData, errored}
 use Rattle.ccr_task.specs.Calls.{CallData}
 use Rattle.ccr_task.specs.Faulty.{SaidData}
 use Rattle.ccr_task.specs.Places.{PlacesData, abort_folder}
-use Rattle.ccr_task.specs.Starting.{step_name}
+use Rattle.ccr_task.specs.Starting.{step_label}
 use Rattle.ccr_core.specs.declared.fault.CoreFault.TheVariants.{TableFull}
 use Rattle.ccr_core.specs.declared.reply.Reply.{Reply}
 use Rattle.ccr_core.specs.Events.{answer, abort}
@@ -111,9 +111,9 @@ module _ (places : PlacesData) (v : View) (looked : List CallData) (job : Text) 
         waits_at = waits_at v.core s job number due.build wanted.step is due.there wanted.at;
         x = x;
         answers = named
-            (λ j i. Answers places (resources_of s) j i (step_name wanted.step) (ask_data wanted.ask) looked f wanted.pair x)
+            (λ j i. Answers places (resources_of s) j i (step_label wanted.step) (ask_data wanted.ask) looked f wanted.pair x)
             (subst
-            (λ rs. Answers places rs job number (step_name wanted.step) (ask_data wanted.ask) looked f wanted.pair x)
+            (λ rs. Answers places rs job number (step_label wanted.step) (ask_data wanted.ask) looked f wanted.pair x)
             (ap (λ o. (unwrap_or o no_pipeline).resources) is.1) wanted.answers);
         given = g.given;
         is_given = named (λ j i. (g.given ≡ x.answer) ⊎ (Step s (answer j i turn x.answer) (Err TableFull) s × (g.given ≡ errored)))

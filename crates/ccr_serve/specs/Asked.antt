@@ -18,7 +18,7 @@ use Rattle.ccr_task.specs.Calls.{CallData, read, file_data, FolderCall, making, 
 use Rattle.ccr_task.specs.Faulty.{SaidData, bad}
 use Rattle.ccr_task.specs.Launching.{can_launch, LaunchesAsk}
 use Rattle.ccr_task.specs.Places.{PlacesData, below, build_folder, abort_folder}
-use Rattle.ccr_task.specs.Starting.{started_ask}
+use Rattle.ccr_task.specs.Starting.{StepLabelData, started_ask}
 use Rattle.ccr_serve.specs.Aborts.{AbortIsAsked, Looks}
 use Rattle.ccr_serve.specs.Pairs.{BeginsLaunch}
 
@@ -56,45 +56,45 @@ abbrev pub AnswersByFile : Text → List CallData → List CallData → SaidData
 AnswersByFile path before after x =
     (file : Result (Vec ℕ Global) ShelfFault) × (after ≡ before ++ read path (file_data file) ∷ []) × AnswersFile file x
 
--- how the launch of an ask is answered, of a job's build of this number at a step of this name, whose folders were made: what
+-- how the launch of an ask is answered, of a job's build of this number at a step with this label, whose folders were made: what
 -- is started of it was started, what its end answers is that of the program that was started, and the step comes to this
-pub record AnswersByRun (places : PlacesData) (job : Text) (number : ℕ) (name : Text) (ask : AskData) (l : LaunchData)
+pub record AnswersByRun (places : PlacesData) (job : Text) (number : ℕ) (label : StepLabelData) (ask : AskData) (l : LaunchData)
     (before after : List CallData) (pair : Pair) (x : SaidData) : Type 0 where
   pub begun : Launch
-  pub starts : launch_data begun ≡ started_ask places job number name ask l
+  pub starts : launch_data begun ≡ started_ask places job number label ask l
   pub is_run : pair.0 ≡ launch_data begun
   pub said : SaidData
   pub by_end : AnswersEnd begun.program ask pair.1 said
   pub settles : Settles places.launcher (abort_folder places job number) said before after x
 
--- how an ask with this launch is answered, of a job's build of this number at a step of this name: by its launch, before which
+-- how an ask with this launch is answered, of a job's build of this number at a step with this label: by its launch, before which
 -- its folders were made; or errored without it, where the request is too long, or else a folder couldn't be made or removed
-abbrev pub AnswersByLaunch : PlacesData → Text → ℕ → Text → AskData → Result Launch RequestFault → List CallData
+abbrev pub AnswersByLaunch : PlacesData → Text → ℕ → StepLabelData → AskData → Result Launch RequestFault → List CallData
     → List CallData → Option Pair → SaidData → Type 0
-AnswersByLaunch places job number name ask (Ok launch) before after (Some pair) x =
+AnswersByLaunch places job number label ask (Ok launch) before after (Some pair) x =
     (made : List CallData) × Does (ask_folders (build_folder places job number) ask) before (Ok tt) made
-    × AnswersByRun places job number name ask (launch_data launch) made after pair x
-AnswersByLaunch places job number name ask (Ok launch) before after None x =
+    × AnswersByRun places job number label ask (launch_data launch) made after pair x
+AnswersByLaunch places job number label ask (Ok launch) before after None x =
     Does (ask_folders (build_folder places job number) ask) before (Err Failed) after × (x ≡ bad errored FolderFault)
-AnswersByLaunch places job number name ask (Err TooLong) before after pair x =
+AnswersByLaunch places job number label ask (Err TooLong) before after pair x =
     (pair ≡ None) × (after ≡ before) × (x ≡ bad errored RequestTooLong)
-AnswersByLaunch places job number name ask (Err NoMemory) before after pair x = ⊥
+AnswersByLaunch places job number label ask (Err NoMemory) before after pair x = ⊥
 
--- how an ask of a job's build of this number at a step of this name is answered that starts a program: by the launch that it is
-abbrev pub AnswersByProgram : PlacesData → List ResourceData → Text → ℕ → Text → AskData → List CallData → List CallData
+-- how an ask of a job's build of this number at a step with this label is answered that starts a program: by the launch that it is
+abbrev pub AnswersByProgram : PlacesData → List ResourceData → Text → ℕ → StepLabelData → AskData → List CallData → List CallData
     → Option Pair → SaidData → Type 0
-AnswersByProgram places rs job number name ask before after pair x =
+AnswersByProgram places rs job number label ask before after pair x =
     (can_launch rs ask ≡ true)
     × ((launch : Result Launch RequestFault) × LaunchesAsk places rs (build_folder places job number) ask launch
-    × AnswersByLaunch places job number name ask launch before after pair x)
+    × AnswersByLaunch places job number label ask launch before after pair x)
 
--- HOW AN ASK IS ANSWERED of a job's build of this number at a step of this name, with the shelf's calls before and after: by a
+-- HOW AN ASK IS ANSWERED of a job's build of this number at a step with this label, with the shelf's calls before and after: by a
 -- program, or by a file in the build's folder without a launch
-abbrev pub Answers : PlacesData → List ResourceData → Text → ℕ → Text → AskData → List CallData → List CallData
+abbrev pub Answers : PlacesData → List ResourceData → Text → ℕ → StepLabelData → AskData → List CallData → List CallData
     → Option Pair → SaidData → Type 0
-Answers places rs job number name (read_config file) before after pair x =
+Answers places rs job number label (read_config file) before after pair x =
     (pair ≡ None) × AnswersByFile (below (build_folder places job number) file) before after x
-Answers places rs job number name ask before after pair x = AnswersByProgram places rs job number name ask before after pair x
+Answers places rs job number label ask before after pair x = AnswersByProgram places rs job number label ask before after pair x
 
 -- ---- answers that are cut short
 -- a task's file isn't read yet, or was read
@@ -111,27 +111,27 @@ MayLook (Some pair) (Some launcher) folder before after = Looks folder before af
 
 -- what is begun of the answer to an ask with this launch: of what is started of the launch, and of a second look behind it;
 -- nothing where there is none
-abbrev pub BeginsByLaunch : PlacesData → Text → ℕ → Text → AskData → Result Launch RequestFault → List CallData
+abbrev pub BeginsByLaunch : PlacesData → Text → ℕ → StepLabelData → AskData → Result Launch RequestFault → List CallData
     → List CallData → Option Pair → Type 0
-BeginsByLaunch places job number name ask (Ok launch) before after lost =
+BeginsByLaunch places job number label ask (Ok launch) before after lost =
     (mid : List CallData)
     × BeginsLaunch (ask_folders (build_folder places job number) ask)
-    (λ l. l ≡ started_ask places job number name ask (launch_data launch)) before mid lost
+    (λ l. l ≡ started_ask places job number label ask (launch_data launch)) before mid lost
     × MayLook lost places.launcher (abort_folder places job number) mid after
-BeginsByLaunch places job number name ask (Err fault) before after lost = (lost ≡ None) × (after ≡ before)
+BeginsByLaunch places job number label ask (Err fault) before after lost = (lost ≡ None) × (after ≡ before)
 
 -- what is begun of the answer to an ask that starts a program: of the launch that it is
-abbrev pub BeginsByProgram : PlacesData → List ResourceData → Text → ℕ → Text → AskData → List CallData → List CallData
+abbrev pub BeginsByProgram : PlacesData → List ResourceData → Text → ℕ → StepLabelData → AskData → List CallData → List CallData
     → Option Pair → Type 0
-BeginsByProgram places rs job number name ask before after lost =
+BeginsByProgram places rs job number label ask before after lost =
     (can_launch rs ask ≡ true)
     × ((launch : Result Launch RequestFault) × LaunchesAsk places rs (build_folder places job number) ask launch
-    × BeginsByLaunch places job number name ask launch before after lost)
+    × BeginsByLaunch places job number label ask launch before after lost)
 
--- WHAT IS BEGUN OF THE ANSWER to an ask of a job's build of this number at a step of this name that is cut short
-abbrev pub BeginsAnswer : PlacesData → List ResourceData → Text → ℕ → Text → AskData → List CallData → List CallData
+-- WHAT IS BEGUN OF THE ANSWER to an ask of a job's build of this number at a step with this label that is cut short
+abbrev pub BeginsAnswer : PlacesData → List ResourceData → Text → ℕ → StepLabelData → AskData → List CallData → List CallData
     → Option Pair → Type 0
-BeginsAnswer places rs job number name (read_config file) before after lost =
+BeginsAnswer places rs job number label (read_config file) before after lost =
     (lost ≡ None) × BeginsByFile (below (build_folder places job number) file) before after
-BeginsAnswer places rs job number name ask before after lost =
-    BeginsByProgram places rs job number name ask before after lost
+BeginsAnswer places rs job number label ask before after lost =
+    BeginsByProgram places rs job number label ask before after lost

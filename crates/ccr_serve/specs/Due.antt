@@ -9,7 +9,7 @@ use Rattle.ccr_steps.specs.Asks.{ask_data, AnswerData, errored}
 use Rattle.ccr_steps.specs.declared.ask.Ask.{Ask}
 use Rattle.ccr_task.specs.Faulty.{SaidData}
 use Rattle.ccr_task.specs.Places.{PlacesData}
-use Rattle.ccr_task.specs.Starting.{step_name}
+use Rattle.ccr_task.specs.Starting.{step_label}
 use Rattle.ccr_task.specs.Calls.{CallData}
 use Rattle.ccr_core.specs.declared.fault.CoreFault.TheVariants.{TableFull}
 use Rattle.ccr_core.specs.declared.reply.Reply.{Reply}
@@ -54,7 +54,7 @@ pub record AnswersWant (places : PlacesData) (c : CoreData) (job : Text) (number
   pub at : step_in c job number ≡ Some step
   pub pair : Option Pair
   pub adds : Adds old pair new
-  pub answers : Answers places (resources_held c) job number (step_name step) (ask_data ask) before after pair x
+  pub answers : Answers places (resources_held c) job number (step_label step) (ask_data ask) before after pair x
 
 -- the answer to what the job's build of this number wants was begun, with the runner's pairs and the shelf's calls before
 -- and after
@@ -67,7 +67,7 @@ pub record BeginsWant (places : PlacesData) (c : CoreData) (job : Text) (number 
   pub at : step_in c job number ≡ Some step
   pub lost : Option Pair
   pub adds : Adds old lost new
-  pub begins : BeginsAnswer places (resources_held c) job number (step_name step) (ask_data ask) before after lost
+  pub begins : BeginsAnswer places (resources_held c) job number (step_label step) (ask_data ask) before after lost
 
 -- from a state an answer was given to the job's build of this number, or errored in its place, where there is no room
 -- for it; what was given keeps what every event keeps

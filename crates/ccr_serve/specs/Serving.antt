@@ -11,7 +11,7 @@ use Rattle.ccr_process.specs.Runs.{Pair}
 use Rattle.ccr_task.specs.Calls.{CallData}
 use Rattle.ccr_task.specs.Faulty.{SaidData}
 use Rattle.ccr_task.specs.Places.{PlacesData, abort_folder}
-use Rattle.ccr_task.specs.Starting.{step_name}
+use Rattle.ccr_task.specs.Starting.{step_label}
 use Rattle.ccr_problem.specs.ProblemOf.{resource_of}
 use Rattle.ccr_core.specs.declared.fault.CoreFault.TheVariants.{TableFull, NoMemory}
 use Rattle.ccr_core.specs.declared.reply.Reply.{Reply}
@@ -99,7 +99,7 @@ pub record AnswersBuild (places : PlacesData) (b : RunningData) (old : State) (b
   pub at : Tree
   pub waits_at : WaitsAt b at
   pub x : SaidData
-  pub answers : Answers places (resources_of old) b.job b.number (step_name at) ask before after did.pair x
+  pub answers : Answers places (resources_of old) b.job b.number (step_label at) ask before after did.pair x
   pub given : AnswerData
   pub is_given : IsGiven old b turn x.answer given
   pub step : Step old (answer b.job b.number turn given) (Ok reply) new
@@ -141,7 +141,7 @@ pub record BeginsAsk (places : PlacesData) (b : RunningData) (s : State) (before
   pub wanted : IsNext b.inputs b.plan b.exchanges ask
   pub at : Tree
   pub waits_at : WaitsAt b at
-  pub begins : BeginsAnswer places (resources_of s) b.job b.number (step_name at) ask before after lost
+  pub begins : BeginsAnswer places (resources_of s) b.job b.number (step_label at) ask before after lost
 
 -- nothing was begun of an abort; else the answer to the one ask of a build was begun
 abbrev pub BeginsOn : Bool → PlacesData → RunningData → State → List CallData → List CallData → Option Pair → Type 0

@@ -9,7 +9,7 @@ ghost use Rattle.ccr_task.specs.Faulty.{said_data};
 ghost use Rattle.ccr_task.specs.Launching.{can_launch, starts_program};
 ghost use Rattle.ccr_task.specs.Calls.{making, removing, Does};
 ghost use Rattle.ccr_task.specs.Places.{places_data, abort_folder, build_folder, in_build};
-ghost use Rattle.ccr_task.specs.Starting.{started_ask};
+ghost use Rattle.ccr_task.specs.Starting.{step_label_data, started_ask};
 ghost use Rattle.ccr_serve.specs.Asked.{ask_folders, unless_asked, LooksAgain, Settles, AnswersByFile, AnswersByRun, AnswersByLaunch, Answers, BeginsByFile, BeginsByLaunch, BeginsAnswer};
 ghost use Rattle.ccr_serve.specs.Pairs.{Adds};
 
@@ -19,7 +19,8 @@ use ccr_process::{Launch, Runner};
 use ccr_protocol::RequestFault;
 use ccr_steps::{Answered, Ask};
 use ccr_task::{
-    Places, Said, Shelf, ShelfFault, StepFault, answered_of, config_of, launch_of, started_ask,
+    Places, Said, Shelf, ShelfFault, StepFault, StepLabel, answered_of, config_of, launch_of,
+    started_ask,
 };
 use std::alloc::{AllocError, Global};
 
@@ -162,19 +163,20 @@ fn answer_by_run<R: Runner, S: Shelf>(
     places: &Places,
     job: &str,
     number: u32,
-    name: &str,
+    label: StepLabel<'_>,
     ask: &Ask<'_>,
     launch: Launch,
 ) -> Result<Said, AllocError>
     ensures ok { IfOk result (λ a. (pair : Pair) × Adds (R.pairs runner.old) (Some pair) (R.pairs runner.new)
-        × AnswersByRun (places_data places.now) job.now number name.now (ask_data ask.now) (launch_data launch)
-        (S.calls shelf.old) (S.calls shelf.new) pair (said_data a)) }
+        × AnswersByRun (places_data places.now) job.now number (step_label_data label.entry) (ask_data ask.now)
+        (launch_data launch) (S.calls shelf.old) (S.calls shelf.new) pair (said_data a)) }
     ensures err { OnErr result ((lost : Option Pair) × Adds (R.pairs runner.old) lost (R.pairs runner.new)
         × IfSome lost (λ pair. pair.0
-        ≡ started_ask (places_data places.now) job.now number name.now (ask_data ask.now) (launch_data launch))) }
+        ≡ started_ask (places_data places.now) job.now number (step_label_data label.entry) (ask_data ask.now)
+        (launch_data launch))) }
     ensures same { OnErr result (S.calls shelf.new ≡ S.calls shelf.old) }
 {
-    let begun = started_ask(alloc, places, job, number, name, ask, launch)?;
+    let begun = started_ask(alloc, places, job, number, label, ask, launch)?;
     let end = runner.run(&begun);
     let said = answered_of(alloc, ask, begun.program, end)?;
     settle(alloc, shelf, places, job, number, said)
@@ -188,15 +190,15 @@ fn answer_by_launch<R: Runner, S: Shelf>(
     places: &Places,
     job: &str,
     number: u32,
-    name: &str,
+    label: StepLabel<'_>,
     ask: &Ask<'_>,
     launch: Result<Launch, RequestFault>,
 ) -> Result<Said, AllocError>
     ensures ok { IfOk result (λ a. (pair : Option Pair) × Adds (R.pairs runner.old) pair (R.pairs runner.new)
-        × AnswersByLaunch (places_data places.now) job.now number name.now (ask_data ask.now) launch
+        × AnswersByLaunch (places_data places.now) job.now number (step_label_data label.entry) (ask_data ask.now) launch
         (S.calls shelf.old) (S.calls shelf.new) pair (said_data a)) }
     ensures err { OnErr result ((lost : Option Pair) × Adds (R.pairs runner.old) lost (R.pairs runner.new)
-        × BeginsByLaunch (places_data places.now) job.now number name.now (ask_data ask.now) launch
+        × BeginsByLaunch (places_data places.now) job.now number (step_label_data label.entry) (ask_data ask.now) launch
         (S.calls shelf.old) (S.calls shelf.new) lost) }
 {
     let launch = match launch {
@@ -213,7 +215,9 @@ fn answer_by_launch<R: Runner, S: Shelf>(
         }
         Err(ShelfFault::TooLong | ShelfFault::NoMemory) => return Err(AllocError),
     }
-    answer_by_run(alloc, runner, shelf, places, job, number, name, ask, launch)
+    answer_by_run(
+        alloc, runner, shelf, places, job, number, label, ask, launch,
+    )
 }
 
 /// Reads a task's file, which is taken from the build's folder.
@@ -236,7 +240,7 @@ fn answer_by_file<S: Shelf>(
     config_of(alloc, shelf.read_file(path.as_str()))
 }
 
-/// Answers what a job's build of this number asks at a step of this name: its one program is run once its folders are made,
+/// Answers what a job's build of this number asks at a step with this label: its one program is run once its folders are made,
 /// by the launcher if there is one, or its task's file is read.
 ///
 /// Errored where the request is too long, or a folder can't be made or removed; then no program is started. Aborted where
@@ -250,23 +254,25 @@ pub(crate) fn answer_to<R: Runner, S: Shelf>(
     pipeline: &Pipeline,
     job: &str,
     number: u32,
-    name: &str,
+    label: StepLabel<'_>,
     ask: &Ask<'_>,
 ) -> Result<Said, AllocError>
     requires { can_launch (pipeline_data pipeline.now).resources (ask_data ask.now)
         ≡ starts_program (ask_data ask.now) }
     ensures ok { IfOk result (λ a. (pair : Option Pair) × Adds (R.pairs runner.old) pair (R.pairs runner.new)
         × Answers (places_data places.now) (pipeline_data pipeline.now).resources
-        job.now number name.now (ask_data ask.now)
+        job.now number (step_label_data label.entry) (ask_data ask.now)
         (S.calls shelf.old) (S.calls shelf.new) pair (said_data a)) }
     ensures err { OnErr result ((lost : Option Pair) × Adds (R.pairs runner.old) lost (R.pairs runner.new)
         × BeginsAnswer (places_data places.now) (pipeline_data pipeline.now).resources
-        job.now number name.now (ask_data ask.now)
+        job.now number (step_label_data label.entry) (ask_data ask.now)
         (S.calls shelf.old) (S.calls shelf.new) lost) }
 {
     if let Ask::ReadConfig { file } = ask {
         return answer_by_file(alloc, shelf, places, job, number, file);
     }
     let launch = launch_of(alloc, places, pipeline, job, number, ask);
-    answer_by_launch(alloc, runner, shelf, places, job, number, name, ask, launch)
+    answer_by_launch(
+        alloc, runner, shelf, places, job, number, label, ask, launch,
+    )
 }

@@ -10,7 +10,7 @@ ghost use Rattle.ccr_serve.specs.Due.{AnswersWant, BeginsWant};
 use crate::answer::answer_to;
 use ccr_core::Core;
 use ccr_process::Runner;
-use ccr_task::{Places, Said, Shelf, step_name};
+use ccr_task::{Places, Said, Shelf, step_label};
 use std::alloc::{AllocError, Global};
 
 /// Answers what a job's build of this number wants, which runs, at the step at which it waits. Gives the turn of the answer
@@ -35,9 +35,9 @@ pub(crate) fn answer_wanted<R: Runner, S: Shelf>(
     core.rules();
     let (turn, ask) = core.wants(job, number).unwrap();
     let pipeline = core.pipeline().unwrap();
-    let name = step_name(core.step_of(job, number).unwrap());
+    let label = step_label(core.step_of(job, number).unwrap());
     match answer_to(
-        alloc, runner, shelf, places, pipeline, job, number, name, &ask,
+        alloc, runner, shelf, places, pipeline, job, number, label, &ask,
     ) {
         Ok(said) => Ok((turn, said)),
         Err(error) => Err(error),

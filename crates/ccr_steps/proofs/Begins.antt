@@ -17,8 +17,8 @@ use Rattle.ccr_steps.specs.Frames.{first, more_tries, waiting, Waits, Came, Came
 use Rattle.ccr_steps.proofs.Joining.{then_then, then_ended, tries_then, worst_then, worst_last}
 use Rattle.ccr_steps.proofs.Under.{came_under, ended_under, under_try, under_tries, under_step, under_hook, under_at, under_all, came_fast}
 
-abbrev task_with : Text → ConfigData → List (Text × Text) → TaskData
-task_with name k env = record { name = name; source = config k; params = env }
+abbrev task_with : Text → ConfigData → List (Text × Text) → Option Text → TaskData
+task_with name k env limit = record { name = name; source = config k; params = env; timeout = limit }
 
 came_leaf : (T : Tree) (g : GainsData) (old : List Frame) → ((c : Chosen) → Waits c T [] first) → ((c : Chosen) → play c T g ≡ waiting c T [] first g) → Came (λ c. play c T g) T g old old None
 came_leaf T g old w e = ([], sym (append-nil old), λ c. (w c, e c))
@@ -30,18 +30,18 @@ pub came_put : (p : PutData) (g : GainsData) (old : List Frame) → Came (λ c. 
 came_put p g old = came_leaf (put p) g old (λ c. (put p, refl, refl)) (λ c. sym (then_ended (play c (put p) g)))
 
 -- by the source, and whether the inputs are there
-came_source : (name : Text) (k : ConfigData) (env : List (Text × Text)) (g : GainsData) (old : List Frame) (b : Bool) → has_inputs k.inputs g ≡ b → Came (λ c. play c (task (task_with name k env)) g) (task (task_with name k env)) g old old (ends_if b)
-came_source name k env g old false e = (refl, λ c. ap (λ b. runs_if b k env g) e)
-came_source name k env g old true e =
-    came_leaf (task (task_with name k env)) g old (λ c. (task (task_with name k env), refl, refl))
+came_source : (name : Text) (k : ConfigData) (env : List (Text × Text)) (limit : Option Text) (g : GainsData) (old : List Frame) (b : Bool) → has_inputs k.inputs g ≡ b → Came (λ c. play c (task (task_with name k env limit)) g) (task (task_with name k env limit)) g old old (ends_if b)
+came_source name k env limit g old false e = (refl, λ c. ap (λ b. runs_if b k env g) e)
+came_source name k env limit g old true e =
+    came_leaf (task (task_with name k env limit)) g old (λ c. (task (task_with name k env limit), refl, refl))
     (λ c. ap (λ b. runs_if b k env g) e ∙ sym (then_ended (asks (run_task k env) (λ x. after_run k.outputs x g))))
 
-came_by : (name : Text) (s : SourceData) (env : List (Text × Text)) (g : GainsData) (old : List Frame) → Came (λ c. play c (task (record { name = name; source = s; params = env })) g) (task (record { name = name; source = s; params = env })) g old old (begins_by s g)
-came_by name (config k) env g old = came_source name k env g old (has_inputs k.inputs g) refl
-came_by name (file path) env g old = came_leaf (task (record { name = name; source = file path; params = env })) g old (λ c. (task (record { name = name; source = file path; params = env }), refl, refl)) (λ c. sym (then_ended (play c (task (record { name = name; source = file path; params = env })) g)))
+came_by : (name : Text) (s : SourceData) (env : List (Text × Text)) (limit : Option Text) (g : GainsData) (old : List Frame) → Came (λ c. play c (task (record { name = name; source = s; params = env; timeout = limit })) g) (task (record { name = name; source = s; params = env; timeout = limit })) g old old (begins_by s g)
+came_by name (config k) env limit g old = came_source name k env limit g old (has_inputs k.inputs g) refl
+came_by name (file path) env limit g old = came_leaf (task (record { name = name; source = file path; params = env; timeout = limit })) g old (λ c. (task (record { name = name; source = file path; params = env; timeout = limit }), refl, refl)) (λ c. sym (then_ended (play c (task (record { name = name; source = file path; params = env; timeout = limit })) g)))
 
 pub came_task : (t : TaskData) (g : GainsData) (old : List Frame) → Came (λ c. play c (task t) g) (task t) g old old (begins_task t g)
-came_task t g old = came_by t.name t.source t.params g old
+came_task t g old = came_by t.name t.source t.params t.timeout g old
 
 -- an outcome under a try
 tried_end : (o : Outcome) (g : GainsData) → after_try o g ≡ ended (tried_outcome o) g

@@ -22,3 +22,4 @@ pub mod EnabledRows
 pub mod ReadDisabled
 pub mod RaisedRows
 pub mod Taking
+pub mod Ours

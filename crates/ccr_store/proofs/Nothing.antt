@@ -28,10 +28,9 @@ module _ {S : Type 0} (g : Ghosts S) (store : StoreData S) (es : List Edit) (h :
       (it.0, history_kept (change_data es) h it.1 accepts.0, record { schema = it.2.schema; rows = same_rows h es _ it.1 accepts none it.2.rows })
 
   pub left_by_nothing : IsHistory h → Leaves g store (h ∷ []) → Leaves g store (changed (change_data es) h ∷ [])
-  left_by_nothing rules before clean trees may = elim (before clean trees may) [
-    | inl keeps ↦ inl (same_rows h es trees rules accepts none keeps)
-    | inr nothing ↦ absurd nothing
-  ]
+  left_by_nothing rules before clean trees may =
+      let it = before clean trees may in
+      (elim it.0 [ inl keeps ↦ inl (same_rows h es trees rules accepts none keeps) | inr nothing ↦ absurd nothing ], it.1)
 
 -- what a commit leaves: after Ok the changed history, after a fault it or the one before
 pub left_either : {A E S : Type 0} (g : Ghosts S) (store : StoreData S) (before after : HistoryData) (r : Result A E) → OnOk r (Leaves g store (after ∷ []))

@@ -5,15 +5,16 @@ use Rattle.std.proofs.lemmas.List.Sorted.{IsPermutation-refl}
 use Rattle.sqlite.specs.declared.types.Value.TheVariants.{Int, Blob}
 use Rattle.sqlite.specs.Effect.{Database}
 use Rattle.sqlite.specs.Order.{Row, column, value_cmp}
+use Rattle.sqlite.specs.Tree.{Trees}
 use Rattle.sqlite_value.proofs.OrderLemmas.{value_cmp-Int}
 use Rattle.sqlite_keyed.proofs.ListLemmas.{IsPermutation-same}
 use Rattle.ccr_history.specs.History.{HistoryData, IsHistory}
 use Rattle.ccr_history.specs.Text.{Text}
-use Rattle.ccr_tables.specs.Contents.{Holds}
+use Rattle.ccr_tables.specs.Contents.{Holds, Keeps}
 use Rattle.ccr_tables.specs.Written.{without}
 use Rattle.ccr_tables.proofs.Edits.{all_permuted}
 use Rattle.ccr_store.specs.Reordered.{HasSameRows}
-use Rattle.ccr_store.specs.Rows.{format_row, text_row, meta_rows, HasFormat, rows_in, raised, in_second}
+use Rattle.ccr_store.specs.Rows.{format_row, text_row, meta_rows, HasFormat, rows_in, rows_of, raised, in_second}
 use Rattle.ccr_store.specs.StoreData.{IsStored}
 use Rattle.ccr_store.specs.declared.format.Format.{Format}
 use Rattle.ccr_store.specs.declared.format.Format.TheVariants.{One, Two}
@@ -61,19 +62,19 @@ abbrev behind : Option Text → List Row
 behind None = []
 behind (Some t) = text_row t ∷ []
 
-text_alone : (t : Option Text) → without (Int (pos 1)) (meta_rows One t) ≡ behind t
-text_alone None = ap (λ b. cond (not b) (format_row One ∷ []) []) one_is_one
-text_alone (Some t) =
-    ap (λ b. cond (not b) (format_row One ∷ without (Int (pos 1)) (text_row t ∷ [])) (without (Int (pos 1)) (text_row t ∷ []))) one_is_one
+text_alone : (f : Format) (t : Option Text) → without (Int (pos 1)) (meta_rows f t) ≡ behind t
+text_alone f None = ap (λ b. cond (not b) (format_row f ∷ []) []) one_is_one
+text_alone f (Some t) =
+    ap (λ b. cond (not b) (format_row f ∷ without (Int (pos 1)) (text_row t ∷ [])) (without (Int (pos 1)) (text_row t ∷ []))) one_is_one
     ∙ ap (λ b. cond (not b) (text_row t ∷ []) []) two_is_no_one
 
 second_meta : (t : Option Text) → meta_rows Two t ≡ format_row Two ∷ behind t
 second_meta None = refl
 second_meta (Some t) = refl
 
-pub raised_rows : (h : HistoryData) → HasSameRows (rows_in Two h) (raised (rows_in One h))
-raised_rows h = record {
-  meta = IsPermutation-same _ _ (second_meta h.text ∙ ap (λ (rows : List Row). format_row Two ∷ rows) (sym (text_alone h.text)));
+pub raised_rows : (f : Format) (h : HistoryData) → HasSameRows (rows_in Two h) (raised (rows_in f h))
+raised_rows f h = record {
+  meta = IsPermutation-same _ _ (second_meta h.text ∙ ap (λ (rows : List Row). format_row Two ∷ rows) (sym (text_alone f h.text)));
   scopes = IsPermutation-refl _;
   versions = IsPermutation-refl _;
   builds = IsPermutation-refl _;
@@ -81,10 +82,14 @@ raised_rows h = record {
   pins = IsPermutation-refl _;
 }
 
+-- trees with rows that were raised have the history's in the second format
+pub kept_raised : (f : Format) (h : HistoryData) (trees : Trees) → Keeps (raised (rows_in f h)) trees → Keeps (rows_of h) trees
+kept_raised f h trees keeps = keeps_same (rows_in Two h) (raised (rows_in f h)) trees (raised_rows f h) keeps
+
 -- a history whose rows were found in some format, and are in the second now, is stored
 pub stored_in : (f : Format) (h : HistoryData) (db : Database) → IsHistory h → (k : Format) × HasFormat k (rows_in f h) × Holds (in_second k (rows_in f h)) db → IsStored h db
 stored_in f h db rules it = by f (subst (λ (k : Format). Holds (in_second k (rows_in f h)) db) (one_format it.0 f h it.1) it.2)
   where
     by : (k : Format) → Holds (in_second k (rows_in k h)) db → IsStored h db
     by Two holds = record { rules = rules; rows = holds }
-    by One holds = record { rules = rules; rows = record { schema = holds.schema; rows = keeps_same (rows_in Two h) (raised (rows_in One h)) db.trees (raised_rows h) holds.rows } }
+    by One holds = record { rules = rules; rows = record { schema = holds.schema; rows = kept_raised One h db.trees holds.rows } }

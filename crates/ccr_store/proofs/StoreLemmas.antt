@@ -4,7 +4,7 @@ use Rattle.std.specs.Prelude.{IfSome, IsErrAnd}
 use Rattle.sqlite_trees.specs.declared.store.Store.{Ghosts}
 use Rattle.sqlite.specs.Tree.{Trees}
 use Rattle.sqlite.specs.Effect.{Database}
-use Rattle.sqlite.specs.State.{State, HasCleanDisk, IsUnchanged, Survives}
+use Rattle.sqlite.specs.State.{State, HasCleanDisk, IsLive, IsUnchanged, Survives}
 use Rattle.sqlite.specs.Held.{state}
 use Rattle.sqlite.proofs.StateLemmas.{survives_weaker}
 use Rattle.ccr_history.specs.History.{HistoryData, IsHistory}
@@ -12,7 +12,7 @@ use Rattle.ccr_history.specs.Changes.{changed}
 use Rattle.ccr_history.specs.Edits.{change_data, Accepts}
 use Rattle.ccr_history.specs.declared.change.Edit.{Edit}
 use Rattle.ccr_history.proofs.ChangeLaws.{all_kept as history_kept}
-use Rattle.ccr_tables.specs.Contents.{Contents, Holds, Keeps}
+use Rattle.ccr_tables.specs.Contents.{Contents, Holds, Keeps, ListOurs}
 use Rattle.ccr_tables.specs.Schema.{our_schema}
 use Rattle.ccr_tables.specs.Left.{WritesNothing, OnlyReads}
 use Rattle.ccr_tables.specs.Step.{Turns, IsLeft, IsLeftBy}
@@ -32,6 +32,7 @@ use Rattle.ccr_store.specs.StoreData.{StoreData, IsStored, IsKept}
 use Rattle.ccr_store.specs.Texts.{HasTexts, OrNoMemory, OrFault}
 use Rattle.ccr_store.specs.Listed.{AreSeen, AreBuilt, ListsSeen, ListsBuilt, KeepsSeen, without_builds}
 use Rattle.ccr_store.proofs.ListedRows.{loaded}
+use Rattle.ccr_store.proofs.Ours.{left_ours}
 use Rattle.sqlite.specs.Order.{Row}
 use Rattle.ccr_history.specs.Text.{Text}
 use Rattle.ccr_store.specs.WriteData.{WriteData, write_data, all_made}
@@ -65,6 +66,7 @@ crash_now g s t new es ws same are one =
     (survives_weaker (state g s.conn) new _ _ (λ clean trees left. record {
       opened = λ some. left.opened (λ none. some (sym are ∙ ap (map write_data) none));
       made = λ h it accepts. left_keeps h es ws (state g s.conn).now trees it accepts are left.made;
+      listed = λ some h it. left.listed (λ none. some (sym are ∙ ap (map write_data) none)) (rows_of h) it.rows;
     }) one)
 
 -- the history that was loaded is stored
@@ -208,22 +210,26 @@ leaves_changed g t u es h hs some kept accepts before it clean trees may = by (i
     early : HasCleanDisk (state g t.conn)
     early = omega (arith, it.clean)
 
-    by : (state g t.conn).may_leave trees ⊎ IsChangedIn es (state g t.conn) trees → HoldOneOf (changed (change_data es) h ∷ hs) trees
-    by (inl old) = inr (before early trees old)
+    by : (state g t.conn).may_leave trees ⊎ IsChangedIn es (state g t.conn) trees → HoldOneOf (changed (change_data es) h ∷ hs) trees × ListOurs trees
+    by (inl old) = let left = before early trees old in (inr left.0, left.1)
     by (inr new) =
         let held = kept early (new.opened some) in
-        inl (new.made h (record { rules = held.1; rows = held.2 }) accepts)
+        let stored : IsStored h (state g t.conn).now = record { rules = held.1; rows = held.2 } in
+        (inl (new.made h stored accepts), new.listed some h stored)
 
 -- a commit that was made leaves the changed history alone
 pub leaves_made : {S : Type 0} (g : Ghosts S) (t u : StoreData S) (es : List Edit) (h : HistoryData) → IsKept g t h → Accepts h es
     → (HasCleanDisk (state g u.conn) → IsTrue (state g u.conn).is_open → HasCleanDisk (state g t.conn) × IsTrue (state g t.conn).is_open)
     → (IsStored h (state g t.conn).now → HasCleanDisk (state g u.conn) → IsStored (changed (change_data es) h) (state g u.conn).now × ((state g u.conn).committed ≡ (state g u.conn).now))
     → (HasCleanDisk (state g u.conn) → IsTrue (state g u.conn).is_open)
-    → (IsTrue (state g u.conn).is_open → (trees : Trees) → (state g u.conn).may_leave trees → trees ≡ (state g u.conn).committed.trees) → Leaves g u (changed (change_data es) h ∷ [])
-leaves_made g t u es h kept accepts was done opened durable clean trees may =
+    → (IsTrue (state g u.conn).is_open → (trees : Trees) → (state g u.conn).may_leave trees → trees ≡ (state g u.conn).committed.trees) → IsLive (state g u.conn) → Leaves g u (changed (change_data es) h ∷ [])
+leaves_made g t u es h kept accepts was done opened durable live clean trees may =
     let up = opened clean in
     let before = was clean up in
     let it = kept before.0 before.1 in
     let after = done (record { rules = it.1; rows = it.2 }) clean in
     let these = rows_of (changed (change_data es) h) in
-    inl (subst (Keeps these) (sym (durable up trees may ∙ ap (λ (d : Database). d.trees) after.1)) after.0.rows.rows)
+    let same = durable up trees may in (
+      inl (subst (Keeps these) (sym (same ∙ ap (λ (d : Database). d.trees) after.1)) after.0.rows.rows),
+      left_ours (state g u.conn) live up (ap (λ (d : Database). d.schema) after.1 ∙ after.0.rows.schema) trees same,
+    )

@@ -13,13 +13,13 @@ use Rattle.ccr_tables.specs.Answered.{IsAnswered}
 use Rattle.ccr_tables.specs.Cause.{cause_of}
 use Rattle.ccr_tables.specs.declared.cause.Cause.{Cause}
 use Rattle.ccr_tables.specs.declared.cause.Cause.TheVariants as cause
-use Rattle.ccr_tables.specs.Contents.{Contents, Holds, Keeps, new_contents}
+use Rattle.ccr_tables.specs.Contents.{Contents, Holds, Keeps, ListOurs}
 use Rattle.ccr_tables.specs.Schema.{no_schema}
 use Rattle.ccr_tables.specs.Step.{Turns, IsLeftBy}
 use Rattle.ccr_tables.specs.Written.{all_written}
 use Rattle.ccr_tables.specs.declared.write.Write.TheVariants as write
 use Rattle.ccr_tables.proofs.InTurn.{survives_both}
-use Rattle.ccr_store.specs.Causes.{IsBegun, IsUnraised}
+use Rattle.ccr_store.specs.Causes.{IsBegun, IsRaised, IsUnraised}
 use Rattle.ccr_store.specs.Faults.{fault_of}
 use Rattle.ccr_store.specs.Left.{IsAsItWas}
 use Rattle.ccr_store.specs.Rows.{raised}
@@ -33,26 +33,25 @@ pub nothing_begun : (a b : State) → Survives a b (λ _. ⊥) → Survives a b 
 nothing_begun a b it = survives_weaker a b (λ _. ⊥) (IsBegun a) (λ _ db none. absurd none) it
 
 -- the number of the format is written behind a read
-pub raise_begun : (a b c : State) → (HasCleanDisk a → ShowsFormat One a.now) → (HasCleanDisk b → b.now ≡ a.now) → Survives a b (λ _. ⊥) → Survives b c (IsLeftBy (write.Format ∷ []) b) → Survives a c (IsBegun a)
+pub raise_begun : (a b c : State) → (HasCleanDisk a → ShowsFormat One a.now) → (HasCleanDisk b → b.now ≡ a.now) → Survives a b (λ _. ⊥) → Survives b c (IsLeftBy (write.Format ∷ []) b) → Survives a c (IsRaised a)
 raise_begun a b c shows same one two =
-    survives_then a b c (λ _. ⊥) (IsLeftBy (write.Format ∷ []) b) (IsBegun a) (λ _ db none. absurd none)
+    survives_then a b c (λ _. ⊥) (IsLeftBy (write.Format ∷ []) b) (IsRaised a) (λ _ db none. absurd none)
     (λ clean db left.
     let clean_b : HasCleanDisk b = omega (arith, two.clean) in
     let clean_a : HasCleanDisk a = omega (arith, one.clean, clean_b) in
-    inr (shows clean_a, λ these has. left.made these (subst (Holds these) (sym (same clean_b)) has)))
+    (shows clean_a, λ these has. let here = subst (Holds these) (sym (same clean_b)) has in (left.made these here, left.listed (λ none. absurd (let some = none in cc)) these here)))
     one two
 
-abbrev Begun : Trees → Database → Type 0
-Begun trees db =
-    ((db.schema ≡ no_schema) × Keeps new_contents trees) ⊎ (ShowsFormat One db × ((these : Contents) → Holds these db → Keeps (raised these) trees))
+abbrev Raised : Trees → Database → Type 0
+Raised trees db = ShowsFormat One db × ((these : Contents) → Holds these db → Keeps (raised these) trees × ListOurs trees)
 
--- what is begun behind a read is begun before it
-pub begun_behind : (a b c : State) → (HasCleanDisk b → b.now ≡ a.now) → Survives a b (λ _. ⊥) → Survives b c (IsBegun b) → Survives a c (IsBegun a)
-begun_behind a b c same one two =
-    survives_then a b c (λ _. ⊥) (IsBegun b) (IsBegun a) (λ _ db none. absurd none)
-    (λ clean db begun.
+-- what is written over behind a read is begun before it, where there are tables
+pub begun_behind : (a b c : State) → a.now.schema ≢ no_schema → (HasCleanDisk b → b.now ≡ a.now) → Survives a b (λ _. ⊥) → Survives b c (IsRaised b) → Survives a c (IsBegun a)
+begun_behind a b c other same one two =
+    survives_then a b c (λ _. ⊥) (IsRaised b) (IsBegun a) (λ _ db none. absurd none)
+    (λ clean db over.
     let clean_b : HasCleanDisk b = omega (arith, two.clean) in
-    subst (Begun db) (same clean_b) begun) one two
+    inr (other, subst (Raised db) (same clean_b) over)) one two
 
 -- ---- why it fails
 -- the write failed behind a read

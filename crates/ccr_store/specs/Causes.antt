@@ -10,7 +10,7 @@ use Rattle.ccr_history.specs.declared.store_fault.StoreFault.TheVariants.{NoMemo
 use Rattle.ccr_tables.specs.Answered.{IsAnswered}
 use Rattle.ccr_tables.specs.Cause.{cause_of}
 use Rattle.sqlite.specs.Tree.{Trees}
-use Rattle.ccr_tables.specs.Contents.{Contents, Holds, Keeps, new_contents}
+use Rattle.ccr_tables.specs.Contents.{Contents, Holds, Keeps, ListOurs, new_contents}
 use Rattle.ccr_tables.specs.Created.{IsUnmade, WasRefused}
 use Rattle.ccr_tables.specs.Read.{FailedToRead}
 use Rattle.ccr_tables.specs.Schema.{no_schema}
@@ -48,12 +48,17 @@ pub record HasReadAnswer {S : Type 0} (g : Ghosts S) (old : State) (fault : Stor
   pub fault_is : fault ≡ read_fault_of (cause_of error)
   pub failed : FailedToRead g old error
 
+-- what a crash leaves of a database in the first format that is written over: the same rows in the second
+abbrev pub IsRaised : State → Trees → Type 0
+IsRaised old trees =
+    ShowsFormat One old.now × ((these : Contents) → Holds these old.now → Keeps (raised these) trees × ListOurs trees)
+
 -- WHAT A CRASH LEAVES of a database that is being taken, beside what it left before: the tables of a new one; or, of one in
 -- the first format, the same rows in the second
 abbrev pub IsBegun : State → Trees → Type 0
 IsBegun old trees =
     ((old.now.schema ≡ no_schema) × Keeps new_contents trees)
-    ⊎ (ShowsFormat One old.now × ((these : Contents) → Holds these old.now → Keeps (raised these) trees))
+    ⊎ ((old.now.schema ≢ no_schema) × IsRaised old trees)
 
 module _ {S : Type 0} (g : Ghosts S) (old : State) where
   -- WHY A LOAD FAILS: memory was wanted; or SQLite shows no history; or it answered so to a read

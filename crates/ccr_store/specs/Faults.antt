@@ -1,8 +1,7 @@
 -- Which fault a failure of `sqlite` is.
 use Rattle.sqlite.specs.declared.error.Error.{Error}
 use Rattle.sqlite.specs.declared.error.Error.TheVariants.{SqliteFailure}
-use Rattle.sqlite.specs.declared.error.ErrorCode.TheVariants.{NotADatabase}
-use Rattle.ccr_tables.specs.Cause.{cause_of}
+use Rattle.sqlite.specs.declared.error.ErrorCode.TheVariants.{OutOfMemory}
 use Rattle.ccr_tables.specs.declared.cause.Cause.{Cause}
 use Rattle.ccr_tables.specs.declared.cause.Cause.TheVariants as cause
 use Rattle.ccr_history.specs.declared.store_fault.StoreFault.{StoreFault}
@@ -22,7 +21,7 @@ read_fault_of cause.NoMemory = NoMemory
 read_fault_of cause.Disk = Disk
 read_fault_of cause.Interrupted = Interrupted
 
--- of an open, a file that is no database isn't ours
+-- an open fails for want of memory, or else it is the disk's: also where the file is no database, or is too big
 abbrev pub open_fault_of : Error → StoreFault
-open_fault_of (SqliteFailure NotADatabase) = NotOurs
-open_fault_of e = fault_of (cause_of e)
+open_fault_of (SqliteFailure OutOfMemory) = NoMemory
+open_fault_of e = Disk

@@ -3,7 +3,9 @@ use Rattle.std.specs.Prelude.{◌≡◌, ◌⊎◌, List, ◌∷◌, IfSome, map
 use Rattle.sqlite.specs.Effect.{Database}
 use Rattle.sqlite.specs.Order.{Row}
 use Rattle.sqlite.specs.State.{State, IsUnchanged}
-use Rattle.ccr_history.specs.History.{HistoryData, IsHistory}
+use Rattle.ccr_history.specs.History.{HistoryData, IsHistory, no_history}
+use Rattle.ccr_tables.specs.Contents.{Holds, new_contents}
+use Rattle.ccr_tables.specs.Schema.{no_schema}
 use Rattle.ccr_tables.specs.Tables.{listing_text}
 use Rattle.ccr_tables.specs.declared.table.Table.TheVariants as table
 use Rattle.ccr_tables.specs.Shown.{Shows}
@@ -98,3 +100,19 @@ abbrev pub IsTaken : State → State → Type 0
 IsTaken old new =
     (ShowsFormat Two old.now × IsUnchanged old new)
     ⊎ (ShowsFormat One old.now × (h : HistoryData) × IsHistory h × Fits One h × ShowsHistory One h old.now)
+
+-- ---- of our hand
+-- WHAT IS TAKEN, a database as it was and as it is then: nothing was made in it, and it has the six tables of a new one; or
+-- it showed the number of the second format, and is as it was; or it showed that of the first, and a history in it
+abbrev pub IsTakenAs : Database → Database → Type 0
+IsTakenAs was now =
+    ((was.schema ≡ no_schema) × Holds new_contents now)
+    ⊎ ((ShowsFormat Two was × (now ≡ was))
+    ⊎ (ShowsFormat One was × (h : HistoryData) × IsHistory h × Fits One h × ShowsHistory One h was))
+
+-- A HISTORY IS OF OUR HAND in a database as it was before anything was written: nothing was made in it, and it is the empty
+-- one; or SQLite showed it in the second format; or one that meets the rules in the first
+abbrev pub IsOfOurs : Database → HistoryData → Type 0
+IsOfOurs was h =
+    ((was.schema ≡ no_schema) × (h ≡ no_history))
+    ⊎ (ShowsHistory Two h was ⊎ ((k : HistoryData) × IsHistory k × Fits One k × ShowsHistory One k was))

@@ -7,13 +7,13 @@ use ccr_history::StoreFault;
 use ccr_tables::Cause;
 use sqlite::{Error as SqlError, ErrorCode};
 
-/// The fault of an open that failed so: `NotOurs` where the file is no database.
+/// The fault of an open that failed so: `NoMemory` if out of memory, and else `Disk`, also where the file is no database.
 pub fn open_fault_of(error: &SqlError) -> StoreFault
     ensures { result ≡ spec.open_fault_of error.now }
 {
     match error {
-        SqlError::SqliteFailure(ErrorCode::NotADatabase) => StoreFault::NotOurs,
-        _ => fault_of(error),
+        SqlError::SqliteFailure(ErrorCode::OutOfMemory) => StoreFault::NoMemory,
+        _ => StoreFault::Disk,
     }
 }
 

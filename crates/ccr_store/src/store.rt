@@ -1,5 +1,6 @@
 //! The history in a database.
 ghost use Rattle.std.specs.Prelude.{◌≡◌, ◌≢◌, ◌↔◌, List, [], ◌∷◌, false, IsTrue, IfOk, IfErr, IfSome, OnOk, OnErr};
+ghost use Rattle.sqlite.specs.Effect.{Database};
 ghost use Rattle.sqlite.specs.State.{HasCleanDisk, IsUnchanged, Survives};
 ghost use Rattle.sqlite.specs.Held.{state};
 ghost use Rattle.sqlite.specs.Steps.{over_memory};
@@ -9,13 +10,13 @@ ghost use Rattle.ccr_history.specs.Changes.{changed};
 ghost use Rattle.ccr_tables.specs.Contents.{Contents, Holds, new_contents};
 ghost use Rattle.ccr_tables.specs.Schema.{no_schema};
 ghost use Rattle.ccr_history.specs.declared.store_fault.StoreFault.TheVariants.{NoMemory, NotOurs};
-ghost use Rattle.ccr_store.specs.Causes.{HasAnswer, IsUnloaded, IsUnbegun, IsUnraised, IsUntaken, IsBegun, IsLetGo};
+ghost use Rattle.ccr_store.specs.Causes.{HasAnswer, IsUnloaded, IsUnbegun, IsUnraised, IsUntaken, IsBegun, IsRaised, IsLetGo};
 ghost use Rattle.ccr_store.specs.Crash.{IsChangedIn, Leaves};
 ghost use Rattle.ccr_store.specs.Left.{IsAsItWas};
 ghost use Rattle.ccr_store.specs.Readable.{IsReadable};
 ghost use Rattle.ccr_store.specs.Reordered.{HasSameRows};
 ghost use Rattle.ccr_store.specs.Rows.{HasFormat, Fits, rows_in, rows_of, raised, in_second};
-ghost use Rattle.ccr_store.specs.Shown.{ShowsFormat, ShowsHistory, IsTaken};
+ghost use Rattle.ccr_store.specs.Shown.{ShowsFormat, ShowsHistory, IsTaken, IsTakenAs, IsOfOurs};
 ghost use Rattle.ccr_store.specs.declared.format.Format.{Format as FormatData};
 ghost use Rattle.ccr_store.specs.StoreData.{IsStored, IsKept};
 ghost use Rattle.ccr_store.specs.Texts.{HasTexts};
@@ -86,7 +87,7 @@ fn raise<S: Alter>(alloc: Global, conn: &mut Connection<S>) -> Result<(), StoreF
         let new = state S.Store conn.new in
         HasCleanDisk new → OnErr result (IsAsItWas old new) }
     ensures not_ours { result ≡ Err NotOurs → Survives (state S.Store conn.old) (state S.Store conn.new) (λ _. ⊥) }
-    ensures crash { Survives (state S.Store conn.old) (state S.Store conn.new) (IsBegun (state S.Store conn.old)) }
+    ensures crash { Survives (state S.Store conn.old) (state S.Store conn.new) (IsRaised (state S.Store conn.old)) }
     ensures mode { (state S.Store conn.new).in_transaction ≡ false }
 {
     // Outside a transaction an open database is as it was committed.
@@ -97,6 +98,7 @@ fn raise<S: Alter>(alloc: Global, conn: &mut Connection<S>) -> Result<(), StoreF
         Err(error) => Err(fault_of(&error)),
     }
 }
+
 /// Makes the six tables in a database without tables. In another one nothing is written where it has the number of this
 /// format. One of the first format is loaded, and then written over to this one. [`Store::adopt`] begins with this call,
 /// which leaves the connection to its caller also where it is refused.
@@ -114,6 +116,9 @@ pub fn prepare<S: Alter>(alloc: Global, conn: &mut Connection<S>) -> Result<(), 
     ensures taken { let old = state S.Store conn.old in
         let new = state S.Store conn.new in
         HasCleanDisk new → old.now.schema ≢ no_schema → OnOk result (IsTaken old new) }
+    ensures ours { let old = state S.Store conn.old in
+        let new = state S.Store conn.new in
+        HasCleanDisk new → OnOk result (IsTakenAs old.now new.now) }
     ensures answered { HasCleanDisk (state S.Store conn.new)
         → IfErr result (IsUntaken S.Store (state S.Store conn.old)) }
     ensures left { let old = state S.Store conn.old in
@@ -182,6 +187,8 @@ impl<S: Alter + Drop> Store<S> {
         ensures taken { IfOk result (λ store. let old = state S.Store conn in
             let new = state S.Store store.conn in
             HasCleanDisk new → old.now.schema ≢ no_schema → IsTaken old new) }
+        ensures ours { IfOk result (λ store. HasCleanDisk (state S.Store store.conn)
+            → IsTakenAs (state S.Store conn).now (state S.Store store.conn).now) }
         ensures answered { IfErr result (IsLetGo S.Store (state S.Store conn)) }
         ensures crash { IfOk result (λ store. let old = state S.Store conn in
             Survives old (state S.Store store.conn) (IsBegun old)) }
@@ -255,7 +262,11 @@ impl<S: Alter> Store<S> {
         self.conn.is_autocommit();
         let writes = writes_of(alloc, change)?;
         match commit(&mut self.conn, &writes) {
-            Ok(()) => Ok(()),
+            Ok(()) => {
+                // What is committed obeys the schema.
+                self.conn.schema();
+                Ok(())
+            }
             Err(error) => Err(fault_of(&error)),
         }
     }
@@ -278,6 +289,8 @@ impl<S: Alter> Store<S> {
             → ¬ Holds (rows_of h) (state S.Store self.old.conn).now) }
         ensures shown { HasCleanDisk (state S.Store self.new.conn)
             → IfOk result (λ history. ShowsHistory Format.Two history (state S.Store self.old.conn).now) }
+        ensures ours { HasCleanDisk (state S.Store self.new.conn) → IfOk result (λ history. (was : Database)
+            → IsTakenAs was (state S.Store self.old.conn).now → IsOfOurs was history) }
         ensures answered { HasCleanDisk (state S.Store self.new.conn)
             → IfErr result (IsUnloaded S.Store (state S.Store self.old.conn) Format.Two) }
         ensures kept { IfOk result (λ history. (these : Contents) → Holds these (state S.Store self.old.conn).now
@@ -298,6 +311,8 @@ impl<S: Alter> Store<S> {
         // Outside a transaction an open database is as it was committed.
         self.conn.is_autocommit();
         let history = loading::load(alloc, &mut self.conn, Format::Two)?;
+        // What is committed obeys the schema.
+        self.conn.schema();
         Ok(history)
     }
 }

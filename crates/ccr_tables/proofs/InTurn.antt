@@ -5,14 +5,16 @@ use Rattle.std.proofs.lemmas.List.{take_more, take-append-drop}
 use Rattle.sqlite.specs.declared.error.Error.{Error}
 use Rattle.sqlite.specs.State.{State, HasCleanDisk, Survives, KeepsCommit, Shows, KeepsCounts}
 use Rattle.sqlite_trees.specs.declared.store.Store.{Ghosts}
+use Rattle.sqlite.specs.Effect.{IsDatabase}
 use Rattle.sqlite.specs.Held.{Held, state}
 use Rattle.sqlite.specs.Steps.{FailsToCommit}
 use Rattle.sqlite.proofs.Callers.{survives_begin}
 use Rattle.sqlite.proofs.StateLemmas.{survives_then}
 use Rattle.ccr_tables.specs.Answered.{FailedAtWrite, IsAnswered}
 use Rattle.ccr_tables.specs.declared.write.Write.{Write}
-use Rattle.ccr_tables.specs.Contents.{Contents, Keeps}
+use Rattle.ccr_tables.specs.Contents.{Contents, Holds, Keeps}
 use Rattle.ccr_tables.specs.Step.{Turns, IsLeftBy}
+use Rattle.ccr_tables.proofs.Ours.{left_listed}
 use Rattle.ccr_tables.specs.Written.{written, all_written}
 
 written_last : (ws : List Write) (w : Write) (these : Contents) → all_written (ws ++ w ∷ []) these ≡ written w (all_written ws these)
@@ -31,11 +33,15 @@ survives_both a b c one two = survives_then a b c _ _ (λ _. ⊥) (λ _ db none.
 
 -- a commit leaves what could be left before, or what the whole transaction makes
 pub left_committed : (old mid new : State) (ws : List Write) → Survives old mid (λ _. ⊥) → (HasCleanDisk mid → Turns (all_written ws) old.now mid.now) → (HasCleanDisk mid → ws ≢ [] → IsTrue old.is_open)
-    → Survives mid new (λ db. db ≡ mid.now.trees) → Survives old new (IsLeftBy ws old)
-left_committed old mid new ws one turned opened two =
+    → (HasCleanDisk mid → ws ≢ [] → (these : Contents) → Holds these old.now → IsDatabase mid.now) → Survives mid new (λ db. db ≡ mid.now.trees) → Survives old new (IsLeftBy ws old)
+left_committed old mid new ws one turned opened sound two =
     survives_then old mid new (λ _. ⊥) (λ db. db ≡ mid.now.trees) (IsLeftBy ws old) (λ _ db none. absurd none)
     (λ clean db is. let early : HasCleanDisk mid = omega (arith, two.clean) in
-    record { opened = opened early; made = λ these has. subst (Keeps (all_written ws these)) (sym is) (turned early these has).rows }) one two
+    record {
+      opened = opened early;
+      made = λ these has. subst (Keeps (all_written ws these)) (sym is) (turned early these has).rows;
+      listed = λ some these has. left_listed mid.now (sound early some these has) (turned early these has).schema db is;
+    }) one two
 
 -- what was turned and then committed is turned and committed
 pub committed_turns : (old mid new : State) (change : Contents → Contents) (r : Result (Unit {0}) Error) → (HasCleanDisk mid → Turns change old.now mid.now) → Survives mid new (λ db. db ≡ mid.now.trees)

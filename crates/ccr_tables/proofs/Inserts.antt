@@ -20,7 +20,7 @@ use Rattle.sqlite.specs.Does.{Tally, Does}
 use Rattle.sqlite.specs.Rows.{Written, stamped}
 use Rattle.sqlite.specs.declared.error.Error.{Error}
 use Rattle.sqlite.specs.Listing.{understood}
-use Rattle.sqlite.specs.Effect.{Database, value_rows}
+use Rattle.sqlite.specs.Effect.{Database, IsDatabase, value_rows}
 use Rattle.sqlite.specs.State.{State, mode_of, Executes, ExecutesInside, KeepsCommit, IsUnchanged, IsRolledBack}
 use Rattle.sqlite.proofs.Callers.{IsPlain, command_of, statement_of, runs_as, one_step}
 use Rattle.ccr_tables.specs.Schema.{our_schema}
@@ -112,14 +112,15 @@ module _ (text : List ℕ) (at : ℕ) (table : Table) (terms : List Term) (width
 
 -- what a statement inside a transaction leaves, by what it does alone
 pub alters : (text : List ℕ) (params : Row) (change : Contents → Contents) (old new : State) (r : Result ℕ Error)
-    → ((count : ℕ) → (these : Contents) → Holds these old.now → Executes text params old new (Ok count) → Holds (change these) new.now) → ExecutesInside 0 text params old new r → Alters old new change r
+    → ((count : ℕ) → (these : Contents) → Holds these old.now → Executes text params old new (Ok count) → Holds (change these) new.now × IsDatabase new.now) → ExecutesInside 0 text params old new r → Alters old new change r
 alters text params change old new (Ok count) does h = record {
   kept = record { was_open = λ _. h.1.was_open; committed = λ _. h.1.committed_is };
-  made = (h.1.mode, λ these holds. does count these holds h.0);
+  made = (h.1.mode, λ these holds. (does count these holds h.0).0);
   opened = h.1.was_open;
+  sound = λ these holds. (does count these holds h.0).1;
 }
-alters text params change old new (Err e) does (inl h) = record { kept = elim h.1 [ inl same ↦ unchanged_keeps old new same | inr back ↦ back_keeps old new back ]; made = tt; opened = tt }
-alters text params change old new (Err e) does (inr h) = record { kept = unchanged_keeps old new h.2; made = tt; opened = tt }
+alters text params change old new (Err e) does (inl h) = record { kept = elim h.1 [ inl same ↦ unchanged_keeps old new same | inr back ↦ back_keeps old new back ]; made = tt; opened = tt; sound = tt }
+alters text params change old new (Err e) does (inr h) = record { kept = unchanged_keeps old new h.2; made = tt; opened = tt; sound = tt }
 
 -- an error of a statement is what SQLite answered
 pub answered : (text : List ℕ) (params : Row) (old new : State) (r : Result ℕ Error) → ExecutesInside 0 text params old new r → IfErr r (λ e. ExecutesInside 0 text params old new (Err e))

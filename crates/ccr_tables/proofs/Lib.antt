@@ -10,6 +10,8 @@ pub mod Adds
 pub mod Updates
 pub mod Changes
 pub mod Writes
+pub mod Sound
+pub mod Ours
 pub mod Creations
 pub mod InTurn
 pub mod Founding

@@ -8,4 +8,4 @@ use Rattle.ccr_tables.specs.Step.{Alters}
 pub without_number : {old new : State} {change : Contents → Contents} {r : Result ℕ Error} {n : ℕ} → r ≡ Ok n → Alters old new change r → Alters {X = Unit {0}} old new change (Ok (tt {0}))
 without_number {old} {new} {change} e a =
     let it = subst (Alters old new change) e a in
-    record { kept = it.kept; made = it.made; opened = it.opened }
+    record { kept = it.kept; made = it.made; opened = it.opened; sound = it.sound }

@@ -7,6 +7,8 @@ use Rattle.sqlite.specs.Tree.{Trees}
 use Rattle.sqlite.specs.Effect.{Database}
 use Rattle.sqlite_trees.specs.declared.store.Shape.TheVariants.{Table}
 use Rattle.sqlite_trees.specs.View.{IsShaped}
+use Rattle.sqlite_catalog.specs.Listing.{IsSound}
+use Rattle.sqlite.specs.Schema.{Schema}
 use Rattle.ccr_tables.specs.Schema.{our_schema}
 
 -- The rows of each table, each as the table's SELECT shows it, in any order.
@@ -66,6 +68,10 @@ pub record Keeps (these : Contents) (trees : Trees) : Type 0 where
 pub record Holds (these : Contents) (db : Database) : Type 0 where
   pub schema : db.schema ≡ our_schema
   pub rows : Keeps these db.trees
+
+-- the list of objects of these trees tells exactly the six tables: each schema that is sound for them is ours
+abbrev pub ListOurs : Trees → Type 0
+ListOurs trees = (schema : Schema) → IsSound schema trees → schema ≡ our_schema
 
 -- no rows at all
 abbrev pub no_contents : Contents

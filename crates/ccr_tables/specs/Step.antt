@@ -4,9 +4,9 @@ use Rattle.std.specs.List.{AllByRecursion}
 use Rattle.sqlite.specs.Schema.{Schema}
 use Rattle.sqlite.specs.declared.error.Error.{Error}
 use Rattle.sqlite.specs.Tree.{Trees}
-use Rattle.sqlite.specs.Effect.{Database}
+use Rattle.sqlite.specs.Effect.{Database, IsDatabase}
 use Rattle.sqlite.specs.State.{State, KeepsCommit}
-use Rattle.ccr_tables.specs.Contents.{Contents, Keeps, Holds, new_contents}
+use Rattle.ccr_tables.specs.Contents.{Contents, Keeps, Holds, ListOurs, new_contents}
 use Rattle.ccr_tables.specs.Written.{all_written}
 use Rattle.ccr_tables.specs.declared.write.Write.{Write}
 
@@ -15,11 +15,12 @@ abbrev pub Turns : (Contents → Contents) → Database → Database → Type 0
 Turns change old new = (these : Contents) → Holds these old → Holds (change these) new
 
 -- a statement inside a transaction: nothing is committed; where it is made, the connection was open, and the
--- transaction goes on and sees the change
+-- transaction goes on and sees the change, in a database whose list of objects is sound
 pub record Alters {X : Type 0} (old new : State) (change : Contents → Contents) (result : Result X Error) : Type 0 where
   pub kept : KeepsCommit old new
   pub made : OnOk result ((new.in_transaction ≡ true) × Turns change old.now new.now)
   pub opened : OnOk result (IsTrue old.is_open)
+  pub sound : OnOk result ((these : Contents) → Holds these old.now → IsDatabase new.now)
 
 -- writes inside a transaction, one after the other: nothing is committed; where they are made, the transaction goes on
 -- and sees them
@@ -45,7 +46,9 @@ pub record Founds {X : Type 0} (before : Schema) (old new : State) (result : Res
 abbrev pub IsLeft : (Contents → Contents) → Database → Trees → Type 0
 IsLeft change old trees = (these : Contents) → Holds these old → Keeps (change these) trees
 
--- what a crash can leave of these writes: all of them, of an open connection, if there are any
+-- what a crash can leave of these writes: all of them; and if there are any, of an open connection, and in trees that list
+-- the six tables
 pub record IsLeftBy (writes : List Write) (old : State) (trees : Trees) : Type 0 where
   pub opened : writes ≢ [] → IsTrue old.is_open
   pub made : IsLeft (all_written writes) old.now trees
+  pub listed : writes ≢ [] → (these : Contents) → Holds these old.now → ListOurs trees

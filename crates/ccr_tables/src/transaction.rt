@@ -3,7 +3,9 @@
 ghost use Rattle.std.specs.Prelude.{◌≡◌, ◌≢◌, [], false, IsTrue, IfErr, OnOk, OnErr};
 ghost use Rattle.sqlite.specs.State.{HasCleanDisk, Survives};
 ghost use Rattle.sqlite.specs.Held.{state};
+ghost use Rattle.sqlite.specs.Effect.{IsDatabase};
 ghost use Rattle.ccr_tables.specs.Answered.{FailedAtWrite, IsAnswered};
+ghost use Rattle.ccr_tables.specs.Contents.{Contents, Holds};
 ghost use Rattle.ccr_tables.specs.Step.{AltersAll, Turns, IsLeftBy};
 ghost use Rattle.ccr_tables.specs.Written.{all_written};
 
@@ -18,6 +20,10 @@ fn write_all<S: Alter>(tx: &mut Transaction<'_, S>, writes: &[Write]) -> Result<
     ensures opened { let old = state S.Store tx.old.conn.now in
         HasCleanDisk (state S.Store tx.new.conn.now) → IsTrue old.in_transaction
         → OnOk result (writes.now ≢ [] → IsTrue old.is_open) }
+    ensures sound { let old = state S.Store tx.old.conn.now in
+        let new = state S.Store tx.new.conn.now in
+        HasCleanDisk new → IsTrue old.in_transaction
+        → OnOk result (writes.now ≢ [] → (these : Contents) → Holds these old.now → IsDatabase new.now) }
     ensures answered { let old = state S.Store tx.old.conn.now in
         HasCleanDisk (state S.Store tx.new.conn.now) → IsTrue old.in_transaction
         → IfErr result (FailedAtWrite S.Store writes.now old) }

@@ -2,10 +2,11 @@
 //!
 //! [`check_launch`] and [`launch_of`] say what is launched for a resource's check and for an ask of a build, in the two
 //! folders of the [`Places`] that the server is given. Where these name a launcher, that is started in the place of each
-//! program, with words that say which program it is: [`started_check`] and [`started_ask`]. [`answered_of`] says what the
-//! end of an ask's program answers, [`config_of`] what a task's file does. Contracts see asks, launches, ends and answers as
-//! data without where it lies in memory, and each of these calls as the one launch or answer that its data make. An answer
-//! that is no success has a [`StepFault`] beside it, and [`note_of`] is the line that is told of that.
+//! program, with words that say which program it is, and its step's timeout: [`started_check`] and [`started_ask`].
+//! [`answered_of`] says what the end of an ask's program answers, [`config_of`] what a task's file does. Contracts see asks,
+//! launches, ends and answers as data without where it lies in memory, and each of these calls as the one launch or answer
+//! that its data make. An answer that is no success has a [`StepFault`] beside it, and [`note_of`] is the line that is told
+//! of that.
 //!
 //! A [`Shelf`] makes a folder, reads a file, removes a folder and says whether one is there. Its contract says which calls it
 //! had, with their paths and their answers, in order: a list that takes no byte. Its counts of failures and of folders that
@@ -41,4 +42,4 @@ pub use places::Places;
 pub use said::{Said, StepFault};
 pub use script::{ShelfAnswer, ShelfScript};
 pub use shelf::Shelf;
-pub use started::{Purpose, started_ask, started_check, started_of, step_name};
+pub use started::{Purpose, StepLabel, started_ask, started_check, started_of, step_label};

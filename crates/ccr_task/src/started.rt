@@ -1,17 +1,27 @@
 //! What is started of a launch: its program, or a launcher in the program's place.
-ghost use Rattle.std.specs.Prelude.{◌≡◌, ◌∷◌, ◌++◌, Some, IfOk, string_bytes};
+ghost use Rattle.std.specs.Prelude.{◌≡◌, ◌∷◌, ◌++◌, Some, IfOk, OnOk, option_copied, option_map, string_bytes};
 ghost use Rattle.ccr_pipeline.specs.JobData.{resource_data};
 ghost use Rattle.ccr_pipeline.specs.Tree.{tree_of};
 ghost use Rattle.ccr_process.specs.Launches.{launch_data, texts_of, variable_of, variables_of};
 ghost use Rattle.ccr_steps.specs.Asks.{ask_data};
 ghost use Rattle.ccr_task.specs.Places.{places_data};
-ghost use Rattle.ccr_task.specs.Starting.{purpose_data, ask_kind, step_name, launcher_words, launcher_variable, launcher_env, started, started_check, started_ask};
+ghost use Rattle.ccr_task.specs.Starting.{step_label_data, step_label, purpose_data, ask_kind, timeout_words, launcher_words};
+ghost use Rattle.ccr_task.specs.Starting.{launcher_variable, launcher_env, started, started_check, started_ask};
 
 use crate::places::Places;
 use ccr_pipeline::{Resource, Step};
 use ccr_process::Launch;
 use ccr_steps::Ask;
 use std::alloc::{AllocError, Global};
+
+/// What a launcher is told of a step.
+#[derive(Clone, Copy, Drop)]
+pub struct StepLabel<'a> {
+    /// What the pipeline calls it; nothing for a step that holds others.
+    pub name: &'a str,
+    /// Its timeout as the pipeline has it.
+    pub timeout: Option<&'a str>,
+}
 
 /// Which program it is that a launcher is to start.
 #[derive(Clone, Copy, Drop)]
@@ -26,17 +36,41 @@ pub struct Purpose<'a> {
     pub name: &'a str,
     /// The build's directory; for a check that of all builds.
     pub directory: &'a str,
+    /// The step's timeout as the pipeline has it; a check has none.
+    pub timeout: Option<&'a str>,
 }
 
-/// What the pipeline calls a step; nothing for a step that holds others.
-pub fn step_name(step: &Step) -> &str
-    ensures { result.now ≡ step_name (tree_of step.now) }
+/// What is at an optional text.
+fn borrowed(text: &Option<String>) -> Option<&str>
+    ensures { option_copied result ≡ option_map string_bytes text.now }
+{
+    match text {
+        Some(text) => Some(text.as_str()),
+        None => None,
+    }
+}
+
+/// What a launcher is told of a step; nothing of a step that holds others.
+pub fn step_label(step: &Step) -> StepLabel<'_>
+    ensures { step_label_data result ≡ step_label (tree_of step.now) }
 {
     match step {
-        Step::Get(get) => get.name.as_str(),
-        Step::Put(put) => put.name.as_str(),
-        Step::Task(task) => task.name.as_str(),
-        _ => "",
+        Step::Get(get) => StepLabel {
+            name: get.name.as_str(),
+            timeout: borrowed(&get.timeout),
+        },
+        Step::Put(put) => StepLabel {
+            name: put.name.as_str(),
+            timeout: borrowed(&put.timeout),
+        },
+        Step::Task(task) => StepLabel {
+            name: task.name.as_str(),
+            timeout: borrowed(&task.timeout),
+        },
+        _ => StepLabel {
+            name: "",
+            timeout: None,
+        },
     }
 }
 
@@ -52,6 +86,21 @@ fn ask_kind(ask: &Ask<'_>) -> &'static str
     }
 }
 
+/// Adds the word of a timeout, where there is one.
+fn push_timeout(
+    alloc: Global,
+    words: &mut Vec<String>,
+    timeout: Option<&str>,
+) -> Result<(), AllocError>
+    ensures { OnOk result
+        (texts_of words.new.items ≡ texts_of words.old.items ++ timeout_words (option_copied timeout.entry)) }
+{
+    if let Some(timeout) = timeout {
+        words.push(format!(in alloc; "timeout={timeout}")?)?;
+    }
+    Ok(())
+}
+
 /// The words that a launcher is given before the program and its own.
 fn launcher_words(alloc: Global, purpose: &Purpose<'_>) -> Result<Vec<String>, AllocError>
     ensures { IfOk result (λ v. texts_of v.items ≡ launcher_words (purpose_data purpose.now)) }
@@ -63,6 +112,7 @@ fn launcher_words(alloc: Global, purpose: &Purpose<'_>) -> Result<Vec<String>, A
     words.push(format!(in alloc; "{number}")?)?;
     words.push(String::from_str(alloc, purpose.name)?)?;
     words.push(String::from_str(alloc, purpose.directory)?)?;
+    push_timeout(alloc, &mut words, purpose.timeout)?;
     words.push(String::from_str(alloc, "--")?)?;
     Ok(words)
 }
@@ -160,10 +210,10 @@ pub fn started_of(
 }
 
 /// What is started of a check's launch. The only error is out of memory.
-pub fn started_check(
+pub fn started_check<'a>(
     alloc: Global,
-    places: &Places,
-    resource: &Resource,
+    places: &'a Places,
+    resource: &'a Resource,
     launch: Launch,
 ) -> Result<Launch, AllocError>
     ensures { IfOk result (λ l. launch_data l
@@ -175,31 +225,33 @@ pub fn started_check(
         number: 0,
         name: resource.name.as_str(),
         directory: places.work.as_str(),
+        timeout: None,
     };
     started_of(alloc, places, &purpose, launch)
 }
 
-/// What is started of the launch of an ask of a job's build of this number, at a step of this name. The only error is out of
-/// memory.
+/// What is started of the launch of an ask of a job's build of this number, at a step with this label. The only error is
+/// out of memory.
 pub fn started_ask(
     alloc: Global,
     places: &Places,
     job: &str,
     number: u32,
-    name: &str,
+    label: StepLabel<'_>,
     ask: &Ask<'_>,
     launch: Launch,
 ) -> Result<Launch, AllocError>
-    ensures { IfOk result (λ l. launch_data l
-        ≡ started_ask (places_data places.now) job.now number name.now (ask_data ask.now) (launch_data launch)) }
+    ensures { IfOk result (λ l. launch_data l ≡ started_ask (places_data places.now) job.now number
+        (step_label_data label.entry) (ask_data ask.now) (launch_data launch)) }
 {
     let directory = places.build_folder(alloc, job, number)?;
     let purpose = Purpose {
         kind: ask_kind(ask),
         job,
         number,
-        name,
+        name: label.name,
         directory: directory.as_str(),
+        timeout: label.timeout,
     };
     started_of(alloc, places, &purpose, launch)
 }

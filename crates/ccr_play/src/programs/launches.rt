@@ -8,10 +8,17 @@ use ccr_process::Launch;
 use ccr_rows::{end_of, fault_of, places};
 use ccr_steps::{Answered, Ask};
 use ccr_task::{
-    Places, Said, answered_of, can_launch, check_launch, config_of, launch_of, started_ask,
-    started_check,
+    Places, Said, StepLabel, answered_of, can_launch, check_launch, config_of, launch_of,
+    started_ask, started_check,
 };
 use std::alloc::{AllocError, Global};
+
+/// Where programs are started, and the timeout of the step that starts them.
+#[derive(Clone, Copy, Drop)]
+struct Site<'a> {
+    places: &'a Places,
+    timeout: Option<&'a str>,
+}
 
 /// A pipeline of the resource `a` without a source, and of `b` with such a source.
 fn pipeline(alloc: Global, part: &str) -> Result<Pipeline> {
@@ -68,16 +75,20 @@ fn told(alloc: Global, launch: &Launch) -> Result<String> {
 /// What build 3 of job j starts for an ask, at the step `a step`.
 fn launched_by(
     alloc: Global,
-    places: &Places,
+    site: &Site<'_>,
     pipeline: &Pipeline,
     ask: &Ask<'_>,
 ) -> Result<String> {
     if !can_launch(pipeline, ask) {
         return Ok(String::from_str(alloc, "nothing")?);
     }
-    match launch_of(alloc, places, pipeline, "j", 3, ask) {
+    let label = StepLabel {
+        name: "a step",
+        timeout: site.timeout,
+    };
+    match launch_of(alloc, site.places, pipeline, "j", 3, ask) {
         Ok(launch) => {
-            let begun = started_ask(alloc, places, "j", 3, "a step", ask, launch)?;
+            let begun = started_ask(alloc, site.places, "j", 3, label, ask, launch)?;
             told(alloc, &begun)
         }
         Err(fault) => Ok(fault.to_string(alloc)?),
@@ -87,7 +98,7 @@ fn launched_by(
 /// What a check of the resource of this name starts.
 fn checked(
     alloc: Global,
-    places: &Places,
+    site: &Site<'_>,
     pipeline: &Pipeline,
     name: &str,
     parts: &str,
@@ -100,9 +111,9 @@ fn checked(
     else {
         return Err(anyhow!("no resource"));
     };
-    match check_launch(alloc, places, resource, version.as_ref()) {
+    match check_launch(alloc, site.places, resource, version.as_ref()) {
         Ok(launch) => {
-            let begun = started_check(alloc, places, resource, launch)?;
+            let begun = started_check(alloc, site.places, resource, launch)?;
             told(alloc, &begun)
         }
         Err(fault) => Ok(fault.to_string(alloc)?),
@@ -123,17 +134,17 @@ fn variables(alloc: Global, words: &str) -> Result<Vec<Variable>, AllocError> {
 }
 
 /// What a task with these variables starts.
-fn task_launched(alloc: Global, places: &Places, words: &str, text: &str) -> Result<String> {
+fn task_launched(alloc: Global, site: &Site<'_>, words: &str, text: &str) -> Result<String> {
     let config = read_task(alloc, text.as_bytes())?;
     let env = variables(alloc, words)?;
     let pipeline = pipeline(alloc, "-")?;
-    launched_by(alloc, places, &pipeline, &run(&config, &env))
+    launched_by(alloc, site, &pipeline, &run(&config, &env))
 }
 
 /// What a fetch starts.
 fn fetch_launched(
     alloc: Global,
-    places: &Places,
+    site: &Site<'_>,
     pipeline: &Pipeline,
     name: &str,
     parts: &str,
@@ -142,7 +153,7 @@ fn fetch_launched(
     let params = object(alloc, part(parts, 2))?;
     launched_by(
         alloc,
-        places,
+        site,
         pipeline,
         &fetch(name, &version, params.as_ref()),
     )
@@ -151,40 +162,53 @@ fn fetch_launched(
 /// What a push starts.
 fn push_launched(
     alloc: Global,
-    places: &Places,
+    site: &Site<'_>,
     pipeline: &Pipeline,
     name: &str,
     parts: &str,
 ) -> Result<String> {
     let params = object(alloc, part(parts, 2))?;
-    launched_by(alloc, places, pipeline, &push(name, params.as_ref()))
+    launched_by(alloc, site, pipeline, &push(name, params.as_ref()))
 }
 
 fn launched_in(
     alloc: Global,
-    places: &Places,
+    site: &Site<'_>,
     what: &str,
     name: &str,
     parts: &str,
 ) -> Result<String> {
     let pipeline = pipeline(alloc, part(parts, 0))?;
     match what {
-        "check" => checked(alloc, places, &pipeline, name, parts),
-        "fetch" => fetch_launched(alloc, places, &pipeline, name, parts),
-        "push" => push_launched(alloc, places, &pipeline, name, parts),
-        _ => launched_by(alloc, places, &pipeline, &Ask::ReadConfig { file: name }),
+        "check" => checked(alloc, site, &pipeline, name, parts),
+        "fetch" => fetch_launched(alloc, site, &pipeline, name, parts),
+        "push" => push_launched(alloc, site, &pipeline, name, parts),
+        _ => launched_by(alloc, site, &pipeline, &Ask::ReadConfig { file: name }),
     }
 }
 
-/// What is started in these places: `check NAME | SOURCE | VERSION`, `fetch` and `push` of the same form with `| PARAMS`,
+/// What is started here: `check NAME | SOURCE | VERSION`, `fetch` and `push` of the same form with `| PARAMS`,
 /// `task VARIABLES | CONFIG`, `file PATH`. The artifact of a fetch or a push is `code`.
-pub(super) fn launched(alloc: Global, places: &Places, given: &str) -> Result<String> {
+fn launched_at(alloc: Global, site: &Site<'_>, given: &str) -> Result<String> {
     let (what, rest) = given.split_once(" ").unwrap_or((given, "-"));
     let (name, parts) = rest.split_once(" | ").unwrap_or((rest, "-"));
     match what {
-        "task" => task_launched(alloc, places, name, parts),
-        _ => launched_in(alloc, places, what, name, parts),
+        "task" => task_launched(alloc, site, name, parts),
+        _ => launched_in(alloc, site, what, name, parts),
     }
+}
+
+/// What is started in these places, at a step without a timeout.
+pub(super) fn launched(alloc: Global, places: &Places, given: &str) -> Result<String> {
+    let timeout = None;
+    launched_at(alloc, &Site { places, timeout }, given)
+}
+
+/// The same at a step with the timeout that comes first.
+pub(super) fn timed(alloc: Global, places: &Places, given: &str) -> Result<String> {
+    let (timeout, given) = given.split_once(" ").unwrap_or((given, "-"));
+    let timeout = Some(timeout);
+    launched_at(alloc, &Site { places, timeout }, given)
 }
 
 /// Where something lies in a build's folder: `JOB NUMBER NAME`.

@@ -9,4 +9,5 @@ returns c =
     let one = with_command _ _ _ (app_of c.args.line) _ c.in_ok-line.ensures refl c.in_ok-get_pipeline.ensures in
     let two = with_command _ _ _ _ _ c.in_ok-line-2.ensures one c.in_ok-resources.ensures in
     let three = with_command _ _ _ _ _ c.in_ok-line-3.ensures two c.in_ok-jobs.ensures in
-    IfOk-weaker c.subcommand-4.result _ _ (λ made h. with_command _ _ _ _ _ h three c.in_ok-graph.ensures) c.subcommand-4.ensures
+    let four = with_command _ _ _ _ _ c.in_ok-line-4.ensures three c.in_ok-red.ensures in
+    IfOk-weaker c.subcommand-5.result _ _ (λ made h. with_command _ _ _ _ _ h four c.in_ok-graph.ensures) c.subcommand-5.ensures

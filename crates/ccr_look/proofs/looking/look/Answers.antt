@@ -21,7 +21,4 @@ returns-in-Err-history_in-clause-nothing c =
     inr (inr (c.in-Err-history_in.ensures.unfound (image_of c.args.copied) c.in-Ok.ensures.opened))
 
 pub returns-in-Err-clause-nothing : goal.returns-in-Err-clause-nothing
-returns-in-Err-clause-nothing c = elim c.in-Err.ensures.shut [
-  | inl memory ↦ inl memory
-  | inr shut ↦ inr (inl shut)
-]
+returns-in-Err-clause-nothing c = inr (inl c.in-Err.ensures.shut)

@@ -1,4 +1,4 @@
-use Rattle.std.proofs.Common.{refl, subst, inr}
+use Rattle.std.proofs.Common.{refl, subst}
 use Rattle.sqlite.specs.Files.{file_state}
 use Rattle.sqlite.specs.Start.{FindsIn}
 use Rattle.sqlite_pool.specs.Pool.{state}
@@ -12,20 +12,19 @@ pub returns-in-Ok-clause-opened : goal.returns-in-Ok-clause-opened
 unfolding doubt state
 returns-in-Ok-clause-opened c =
     let finds = c.in-Ok.ensures.found refl in
-    let image = same_image _ _ _ _ c.in_ok-files.ensures.log c.in_ok-files.ensures.db in
+    let image = same_image _ _ _ _ c.files_of-files.ensures.log c.files_of-files.ensures.db in
     record {
       opened = c.in-Ok.ensures.opened refl;
       found = subst (λ i. FindsIn i (file_state c.in-Ok.conn)) image (record { holds = finds.holds; reads = finds.reads });
     }
 
 pub returns-clause-shut : goal.returns-clause-shut
-returns-clause-shut c =
-    inr (record {
-      error = c.in-Err.error;
-      named = c.in-Err.ensures.named;
-      fault_is = c.open_fault_of.ensures;
-      files = c.in_ok-files.files;
-      held = same_image _ _ _ _ c.in_ok-files.ensures.log c.in_ok-files.ensures.db;
-      left = c.in-Err.field-0-1;
-      why = c.in-Err.ensures.cause (clean_left c.in-Err.field-0-1);
-    })
+returns-clause-shut c = record {
+  error = c.in-Err.error;
+  named = c.in-Err.ensures.named;
+  fault_is = c.open_fault_of.ensures;
+  files = c.files_of-files.result;
+  held = same_image _ _ _ _ c.files_of-files.ensures.log c.files_of-files.ensures.db;
+  left = c.in-Err.field-0-1;
+  why = c.in-Err.ensures.cause (clean_left c.in-Err.field-0-1);
+}

@@ -6,7 +6,7 @@ use Rattle.ccr_pipeline.specs.declared.step.Step.{Step}
 use Rattle.ccr_steps.specs.Asks.{ask_data}
 use Rattle.ccr_task.specs.Faulty.{said_data}
 use Rattle.ccr_task.specs.Places.{places_data}
-use Rattle.ccr_task.specs.Starting.{step_name}
+use Rattle.ccr_task.specs.Starting.{step_label}
 use Rattle.ccr_core.specs.Cores.{core_data}
 use Rattle.ccr_core.specs.Holding.{NamesResource, Wants, step_in}
 use Rattle.ccr_core.specs.State.{no_pipeline}
@@ -46,10 +46,10 @@ returns-in-Ok-clause-ok g c =
       adds = o.1;
       answers = subst
           (λ p. Answers (places_data c.args.places.now) (unwrap_or p no_pipeline).resources
-          c.args.job.now c.args.number (step_name (tree_of c.unwrap.result.now)) (ask_data c.unwrap-turn.result.1)
+          c.args.job.now c.args.number (step_label (tree_of c.unwrap.result.now)) (ask_data c.unwrap-turn.result.1)
           (g.S.Shelf.calls c.args.shelf.now) (g.S.Shelf.calls c.answer_to.new.shelf) o.0 (said_data c.in-Ok.said))
           (ap (λ q. option_map pipeline_data (option_copied q)) (sym c.unwrap-pipeline.ensures) ∙ c.pipeline.ensures)
-          (rw c.step_name-name.ensures at o.2);
+          (rw c.step_label-label.ensures at o.2);
     }
 
 pub returns-in-Err-clause-err : goal.returns-in-Err-clause-err
@@ -66,8 +66,8 @@ returns-in-Err-clause-err g c =
       adds = o.1;
       begins = subst
           (λ p. BeginsAnswer (places_data c.args.places.now) (unwrap_or p no_pipeline).resources
-          c.args.job.now c.args.number (step_name (tree_of c.unwrap.result.now)) (ask_data c.unwrap-turn.result.1)
+          c.args.job.now c.args.number (step_label (tree_of c.unwrap.result.now)) (ask_data c.unwrap-turn.result.1)
           (g.S.Shelf.calls c.args.shelf.now) (g.S.Shelf.calls c.answer_to.new.shelf) o.0)
           (ap (λ q. option_map pipeline_data (option_copied q)) (sym c.unwrap-pipeline.ensures) ∙ c.pipeline.ensures)
-          (rw c.step_name-name.ensures at o.2);
+          (rw c.step_label-label.ensures at o.2);
     }

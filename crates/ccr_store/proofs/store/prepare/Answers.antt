@@ -40,4 +40,5 @@ returns-in-Ok-One-clause-answered g c clean =
 pub returns-in-Ok-One-clause-crash : goal.returns-in-Ok-One-clause-crash
 returns-in-Ok-One-clause-crash g c =
     begun_behind (state g.S.Store c.args.conn.now) (state g.S.Store c.read_format.new.conn) (state g.S.Store c.raise.new.conn)
+    (λ blank. let yes = c.is_blank.ensures.1 (c.schema.ensures.value ∙ blank) in let no = c.if-is_blank.false in absurd cc)
     (λ clean. (c.in-Ok-One.ensures.reads.same clean).0.now_is) c.in-Ok-One.ensures.reads.crash c.raise.ensures.crash

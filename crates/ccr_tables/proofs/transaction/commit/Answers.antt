@@ -1,9 +1,11 @@
 use Rattle.std.proofs.Common.{rules, true, ◌≡◌, ◌≢◌, OnOk, [], sym, subst, IsTrue, refl, inl, arith}
 use Rattle.sqlite.specs.State.{HasCleanDisk, Survives}
+use Rattle.sqlite.specs.Effect.{IsDatabase}
 use Rattle.sqlite.specs.Held.{state}
 use Rattle.sqlite.proofs.Callers.{survives_begin}
 use Rattle.sqlite.proofs.StateLemmas.{survives_weaker}
 use Rattle.ccr_tables.specs.Answered.{FailedAtWrite, IsAnswered}
+use Rattle.ccr_tables.specs.Contents.{Contents, Holds}
 use Rattle.ccr_tables.specs.Step.{Turns, IsLeftBy}
 use Rattle.ccr_tables.specs.Written.{all_written}
 use Rattle.ccr_tables.proofs.InTurn.{left_committed, committed_turns, failed_at_write, failed_at_end, on_failed}
@@ -22,9 +24,11 @@ returns-clause-crash g c =
     subst (λ h. HasCleanDisk mid → Turns (all_written ws) (state g.S.Store h).now mid.now) is (λ clean. (c.in_ok-write_all.ensures.step clean inside).made.1) in
     let opened : HasCleanDisk mid → ws ≢ [] → IsTrue (state g.S.Store begun).is_open =
     subst (λ h. HasCleanDisk mid → ws ≢ [] → IsTrue (state g.S.Store h).is_open) is (λ clean. c.in_ok-write_all.ensures.opened clean inside) in
+    let sound : HasCleanDisk mid → ws ≢ [] → (these : Contents) → Holds these (state g.S.Store begun).now → IsDatabase mid.now =
+    subst (λ h. HasCleanDisk mid → ws ≢ [] → (these : Contents) → Holds these (state g.S.Store h).now → IsDatabase mid.now) is (λ clean. c.in_ok-write_all.ensures.sound clean inside) in
     let left : Survives (state g.S.Store begun) _ (IsLeftBy ws (state g.S.Store begun)) =
-    left_committed (state g.S.Store begun) mid _ ws one turned opened c.commit.ensures.survives in
-    let weaker = survives_weaker (state g.S.Store begun) _ _ (IsLeftBy ws (state g.S.Store old)) (λ _ trees by. record { opened = by.opened; made = by.made }) left in
+    left_committed (state g.S.Store begun) mid _ ws one turned opened sound c.commit.ensures.survives in
+    let weaker = survives_weaker (state g.S.Store begun) _ _ (IsLeftBy ws (state g.S.Store old)) (λ _ trees by. record { opened = by.opened; made = by.made; listed = by.listed }) left in
     let it = survives_begin g.S.Store old _ _ weaker in
     search (rules, it)
 

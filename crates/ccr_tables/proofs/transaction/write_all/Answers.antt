@@ -1,4 +1,5 @@
 use Rattle.std.proofs.Common.{◌∙◌, sym, subst, arith}
+use Rattle.std.proofs.lemmas.List.{take_all}
 use Rattle.sqlite.specs.State.{HasCleanDisk}
 use Rattle.sqlite.specs.Held.{state}
 use Rattle.ccr_tables.specs.Contents.{Contents, Holds}
@@ -30,11 +31,20 @@ loop-write-preserved g c =
                   (step.made.1 (all_written (take c.loop-write.write-index c.args.writes.now) these) (before.made.1 these has)),
             );
           };
+      sound = λ clean inside some these has.
+          let early : HasCleanDisk mid = omega (arith, c.write_one.ensures.survives.clean) in
+          let before = so_far.steps early inside in
+          (c.in_ok-write_one.ensures.step clean before.made.0).sound (all_written (take c.loop-write.write-index c.args.writes.now) these) (before.made.1 these has);
       opened = λ clean inside some.
           let early : HasCleanDisk mid = omega (arith, c.write_one.ensures.survives.clean) in
           let before = so_far.steps early inside in
           before.kept.was_open (c.in_ok-write_one.ensures.step clean before.made.0).opened;
     }
+
+pub returns-clause-sound : goal.returns-clause-sound
+returns-clause-sound g c clean inside some these has =
+    let all = take_all c.loop-write.write-index c.args.writes.now (omega (arith, c.loop-write-test.false)) in
+    c.loop-write.invariant.sound clean inside (λ none. some (sym all ∙ none)) these has
 
 pub returns-in_err-write_one-clause-answered : goal.returns-in_err-write_one-clause-answered
 returns-in_err-write_one-clause-answered g c clean inside =

@@ -39,19 +39,8 @@ returns-clause-refused g c clean =
     (λ up. (c.commit.ensures.was_open clean up).1) (λ up. c.in-Err.ensures.refused clean up)
 
 pub returns-in_err-writes-clause-leaves : goal.returns-in_err-writes-clause-leaves
-returns-in_err-writes-clause-leaves g c hs h before kept accepts some clean trees may = inr (before clean trees may)
-
-pub returns-in-Ok-clause-leaves : goal.returns-in-Ok-clause-leaves
-returns-in-Ok-clause-leaves g c hs h before kept accepts some =
-    leaves_changed g.S.Store c.args.self.now (record { conn = c.commit.new.conn; tally = c.self.inside.tally }) c.args.change.now h hs some kept accepts before
-    (crash_now g.S.Store (record { conn = c.self.inside.conn; tally = c.self.inside.tally }) c.args.self.now (state g.S.Store c.commit.new.conn) c.args.change.now c.deref.result.now
-    c.self.view_is (rw c.deref.ensures.value c.in_ok-writes.ensures.written) c.commit.ensures.crash)
-
-pub returns-clause-leaves : goal.returns-clause-leaves
-returns-clause-leaves g c hs h before kept accepts some =
-    leaves_changed g.S.Store c.args.self.now (record { conn = c.commit.new.conn; tally = c.self.inside.tally }) c.args.change.now h hs some kept accepts before
-    (crash_now g.S.Store (record { conn = c.self.inside.conn; tally = c.self.inside.tally }) c.args.self.now (state g.S.Store c.commit.new.conn) c.args.change.now c.deref.result.now
-    c.self.view_is (rw c.deref.ensures.value c.in_ok-writes.ensures.written) c.commit.ensures.crash)
+returns-in_err-writes-clause-leaves g c hs h before kept accepts some clean trees may =
+    let it = before clean trees may in (inr it.0, it.1)
 
 pub returns-in_err-writes-clause-acknowledged : goal.returns-in_err-writes-clause-acknowledged
 returns-in_err-writes-clause-acknowledged g c h kept accepts = on_ok_none _ c.from_residual.result (only_error c.from_residual.result _ c.from_residual.ensures.1)
@@ -67,7 +56,19 @@ returns-in-Ok-clause-acknowledged g c h kept accepts =
           (rw c.deref.ensures.value c.in_ok-writes.ensures.written) done.0 it accepts,
       done.1,
     ))
-    c.in-Ok.ensures.open c.commit.ensures.durable
+    c.in-Ok.ensures.open c.commit.ensures.durable c.schema.ensures.live
+
+pub returns-in-Ok-clause-leaves : goal.returns-in-Ok-clause-leaves
+returns-in-Ok-clause-leaves g c hs h before kept accepts some =
+    leaves_changed g.S.Store c.args.self.now (record { conn = c.commit.new.conn; tally = c.self.inside.tally }) c.args.change.now h hs some kept accepts before
+    (crash_now g.S.Store (record { conn = c.self.inside.conn; tally = c.self.inside.tally }) c.args.self.now (state g.S.Store c.commit.new.conn) c.args.change.now c.deref.result.now
+    c.self.view_is (rw c.deref.ensures.value c.in_ok-writes.ensures.written) c.commit.ensures.crash)
+
+pub returns-clause-leaves : goal.returns-clause-leaves
+returns-clause-leaves g c hs h before kept accepts some =
+    leaves_changed g.S.Store c.args.self.now (record { conn = c.commit.new.conn; tally = c.self.inside.tally }) c.args.change.now h hs some kept accepts before
+    (crash_now g.S.Store (record { conn = c.self.inside.conn; tally = c.self.inside.tally }) c.args.self.now (state g.S.Store c.commit.new.conn) c.args.change.now c.deref.result.now
+    c.self.view_is (rw c.deref.ensures.value c.in_ok-writes.ensures.written) c.commit.ensures.crash)
 
 pub returns-in_err-writes-clause-answered : goal.returns-in_err-writes-clause-answered
 returns-in_err-writes-clause-answered g c clean = no_memory_no_answer c.from_residual.result _ (out_of_memory c.from_residual.result c.in_err-writes.field-0.0 c.from_residual.ensures.1 c.in_err-writes.ensures.only)

@@ -5,6 +5,7 @@ use Rattle.ccr_tables.specs.Contents.{Keeps}
 use Rattle.ccr_store.proofs.StoreLemmas.{stored_loaded, reads_store, as_it_was, as_it_was_kept, not_ours_loaded}
 use Rattle.ccr_store.specs.Rows.{rows_of}
 use Rattle.ccr_store.proofs.OneHistory.{one_history}
+use Rattle.ccr_store.proofs.Ours.{left_ours, of_ours}
 use Rattle.ccr_store.specs.Causes.{IsUnloaded}
 use Rattle.ccr_store.specs.Shown.{ShowsHistory}
 use Rattle.ccr_store.specs.declared.format.Format.TheVariants.{Two}
@@ -68,7 +69,10 @@ returns-clause-leaves g c these holds clean trees may =
     let settled = c.is_autocommit.ensures.settled (c.is_autocommit.ensures.value ∙ ap not c.self.invariant) in
     let was = as_it_was (state g.S.Store c.self.inside.conn) (state g.S.Store c.load.new.conn) settled (c.in_ok-history.ensures.reads.left clean) in
     let now_is = was.now up ∙ settled (was.was_open up) ∙ sym (was.committed up) in
-    inl (subst (Keeps (rows_of c.in_ok-history.history)) (ap (λ (d : Database). d.trees) now_is ∙ sym (g.met.S.Store.settled c.load.new.conn.store trees up may)) both.1.rows.rows)
+    let same = g.met.S.Store.settled c.load.new.conn.store trees up may in (
+      inl (subst (Keeps (rows_of c.in_ok-history.history)) (ap (λ (d : Database). d.trees) now_is ∙ sym same) both.1.rows.rows),
+      left_ours (state g.S.Store c.load.new.conn) c.schema.ensures.live up (sym (ap (λ (d : Database). d.schema) now_is) ∙ both.1.rows.schema) trees same,
+    )
 
 pub returns-in_err-history-clause-answered : goal.returns-in_err-history-clause-answered
 returns-in_err-history-clause-answered g c clean =
@@ -80,3 +84,9 @@ returns-in_err-history-clause-answered g c clean =
 pub returns-clause-shown : goal.returns-clause-shown
 returns-clause-shown g c clean =
     subst (λ (k : StoreData _). ShowsHistory Two c.in_ok-history.history (state g.S.Store k.conn).now) c.self.view_is (c.in_ok-history.ensures.shown clean)
+
+pub returns-clause-ours : goal.returns-clause-ours
+returns-clause-ours g c clean = λ was taken.
+    let old : Database = (state g.S.Store c.args.self.now.conn).now in
+    let only = returns-clause-only g c clean in
+    of_ours was old c.in_ok-history.history only (returns-clause-shown g c clean) taken
