@@ -9,17 +9,21 @@
 //! system to start is the launch, by contract; what lies past the start, no contract can say, and tests show it.
 #![tactic(auto)]
 
+mod noted;
 mod command;
 mod ended;
 mod launch;
 mod machine;
+mod pipe;
 mod pipes;
 mod runner;
 mod scripted;
+mod starter;
 
 pub use ended::Ended;
 pub use launch::Launch;
 pub use machine::Machine;
+pub use pipe::{Input, Output};
 pub use pipes::{GiveFault, TakeFault, give_input, take_output};
 pub use runner::Runner;
 pub use scripted::Scripted;
