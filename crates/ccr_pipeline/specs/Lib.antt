@@ -24,6 +24,8 @@ pub mod Timeouts
 pub mod Used
 pub mod Notes
 pub mod Reading
+pub mod Present
+pub mod Hunts
 pub mod Reordered
 pub mod Printed
 pub mod Pipelines
