@@ -72,11 +72,54 @@ advise() {
     fi
 }
 
-# near: what `git ls-remote` says of the branch, of a repository on this machine, from one program in place of four. It fails where it can't be told so.
+# near: what `git ls-remote` says of the branch, of a repository on this machine, from no program or from one in place of four. It fails where it can't
+# be told so.
 near() {
     case $branch:$uri in ?*:/*) ;; *) return 1 ;; esac
     [ -e "$uri/.git" ] || [ -e "$uri/HEAD" ] || return 1
+    ! by_file || return 0
     refs=$(GIT_CEILING_DIRECTORIES=${uri%/*} git -C "$uri" for-each-ref --format='%(objectname)%09%(refname)' "refs/heads/$branch" 2> /dev/null 3>&-)
+}
+
+# by_file: the same from the branch's own file, which git puts there whole, or from the first lines of the file of packed branches, if there is none. It
+# fails where git would look elsewhere, or may refuse: where the repository isn't this user's, or isn't of the plain kind (another format, another store
+# of names, a working tree of another repository), where git wouldn't take the branch's name, and where anything but a commit's name is in the file.
+by_file() {
+    case $branch in *[!A-Za-z0-9/_.-]* | .* | */.* | *//* | /* | */ | *. | *.lock | *.lock/*) return 1 ;; esac
+    its_place=$uri
+    [ ! -e "$uri/.git" ] || its_place=$uri/.git
+    its_file=$its_place/refs/heads/$branch
+    if [ ! -O "$uri" ] || [ ! -O "$its_place" ] || [ -L "$uri/.git" ] || [ ! -d "$its_place/objects" ] || [ ! -d "$its_place/refs/heads" ] || [ -e "$its_place/commondir" ]; then return 1; fi
+    { { read -r its_section && read -r its_format; } < "$its_place/config" && read -r its_head < "$its_place/HEAD"; } 2> /dev/null || return 1
+    [ "$its_section $its_format" = "[core] repositoryformatversion = 0" ] || return 1
+    case $its_head in 'ref: refs/heads/.invalid') return 1 ;; 'ref: refs/'* | ????????????????????????????????????????) ;; *) return 1 ;; esac
+    if [ -f "$its_file" ] && [ ! -L "$its_file" ]; then
+        { read -r its_object < "$its_file"; } 2> /dev/null || return 1
+    elif [ ! -e "$its_file" ] && [ ! -L "$its_file" ] && [ -f "$its_place/packed-refs" ]; then
+        its_lines=0 its_object=''
+        while [ $its_lines -lt 20 ] && read -r its_line its_name; do
+            its_lines=$((its_lines + 1))
+            [ "$its_name" != "refs/heads/$branch" ] || { its_object=$its_line; break; }
+        done 2> /dev/null < "$its_place/packed-refs" || return 1
+    else
+        return 1
+    fi
+    case $its_object in *[!0-9a-f]* | 0000000000000000000000000000000000000000) return 1 ;; ????????????????????????????????????????) ;; *) return 1 ;; esac
+    refs="$its_object	refs/heads/$branch"
+}
+
+# near_head: what `git ls-remote --symref` says of HEAD, where that is a branch which by_file can read.
+near_head() {
+    case $uri in /*) ;; *) return 1 ;; esac
+    its_place=$uri refs=''
+    [ ! -e "$uri/.git" ] || its_place=$uri/.git
+    { read -r its_head < "$its_place/HEAD"; } 2> /dev/null || return 1
+    case $its_head in 'ref: refs/heads/'?*) ;; *) return 1 ;; esac
+    branch=${its_head#ref: refs/heads/}
+    ! by_file || refs="ref: refs/heads/$branch	HEAD
+$its_object	HEAD"
+    branch=''
+    [ -n "$refs" ]
 }
 
 # The branch's tip upstream: sets $tip and $head, the branch's full name, or leaves $tip empty where there is none. Without a branch it is the one that
@@ -89,7 +132,7 @@ look() {
             make_tmp
             refs=$(told git ls-remote -- "$uri" "$head" "$@") || exit
         fi
-    else
+    elif [ $# -gt 0 ] || ! near_head; then
         make_tmp
         refs=$(told git ls-remote --symref -- "$uri" HEAD "$@") || exit
     fi

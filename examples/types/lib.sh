@@ -5,11 +5,12 @@
 #   - it has a time limit: CCR_LIMIT, 15m where it isn't set. After it the program and all that it started are ended, and the status is 124;
 #   - what it prints goes to standard error, and so to the log; the reply is what it writes to descriptor 3, as `answer` does;
 #   - $program is check, in or out, $type the type's name, and $tmp a directory that is removed at the end. A program that seldom needs it sets
-#     tmp_later=yes first, and calls make_tmp, outside of a subshell, before it uses $tmp;
+#     tmp_later=yes first, and calls make_tmp, outside of a subshell, before it uses $tmp, $home or $caches;
 #   - $home is the server's directory: CCR_HOME, or what /etc/ccr.conf says that it is, or /var/lib/ccr, if the program was started in there.
 #     Otherwise it is empty, nothing is kept in it, and caches are in ~/.cache/ccr;
 #   - `request` reads the request into variables source_KEY, params_KEY and version_KEY, and refuses keys that the file `keys` beside the
-#     program doesn't have.
+#     program doesn't have. `request VARIABLE ..` starts no program where the request has no more than these texts, of which the first one is
+#     needed; the others that the program uses have to be set before, to nothing.
 set -eu
 program=${0##*/}
 case $0 in
@@ -42,22 +43,66 @@ exec 3>&1 1>&2
 tmp=''
 trap '[ -z "$tmp" ] || rm -rf "$tmp"' EXIT
 trap 'exit 143' HUP INT TERM
-make_tmp() { [ -n "$tmp" ] || tmp=$(mktemp -d); }
+# $home and $caches are known where $tmp is: what needs none of them is spared the time.
+make_tmp() {
+    [ -z "$tmp" ] || return 0
+    tmp=$(mktemp -d)
+    home=${CCR_HOME:-}
+    if [ -z "$home" ]; then
+        # shellcheck disable=SC1090
+        [ ! -r "${CCR_CONF:-/etc/ccr.conf}" ] || . "${CCR_CONF:-/etc/ccr.conf}"
+        servers=${CCR_HOME:-/var/lib/ccr}
+        case $began_in/ in "$servers"/* | "$(cd "$servers" 2> /dev/null && pwd -P || echo "$servers")"/*) home=$servers ;; esac
+    fi
+    caches=$home/cache
+    [ -n "$home" ] || caches=${XDG_CACHE_HOME:-${HOME:-}/.cache}/ccr
+}
 [ -n "${tmp_later:-}" ] || make_tmp
 
-home=${CCR_HOME:-}
-if [ -z "$home" ]; then
-    # shellcheck disable=SC1090
-    [ ! -r "${CCR_CONF:-/etc/ccr.conf}" ] || . "${CCR_CONF:-/etc/ccr.conf}"
-    servers=${CCR_HOME:-/var/lib/ccr}
-    case $began_in/ in "$servers"/* | "$(cd "$servers" 2> /dev/null && pwd -P || echo "$servers")"/*) home=$servers ;; esac
-fi
-caches=$home/cache
-[ -n "$home" ] || caches=${XDG_CACHE_HOME:-${HOME:-}/.cache}/ccr
-
 request() {
-    variables=$(LC_ALL=C awk -v type="$type" -v program="$program" -v table="$here/keys" -f "$types/json.awk" -f "$types/request.awk") || exit 1
+    its_request=''
+    if [ $# -eq 0 ]; then
+        variables=$(read_request) || exit 1
+    elif IFS= read -r its_request; then
+        variables=$({ printf '%s\n' "$its_request"; cat; } | read_request) || exit 1
+    elif short_request "$@"; then
+        return
+    else
+        variables=$(read_request << END
+$its_request
+END
+        ) || exit 1
+    fi
     eval "$variables"
+}
+read_request() { LC_ALL=C awk -v type="$type" -v program="$program" -v table="$here/keys" -f "$types/json.awk" -f "$types/request.awk"; }
+
+# short_request VARIABLE ..: reads $its_request without a program, as the server writes it: compact, source before version, with texts of these variables
+# alone. It fails where there is more in it, or anything that JSON may write in another way.
+short_request() {
+    case $its_request in
+        *\\* | *[!\ -~]*) return 1 ;;
+        '{"source":{"'*) ;;
+        *) return 1 ;;
+    esac
+    its_member=source its_rest=${its_request#'{"source":{'}
+    while :; do
+        case $its_rest in '"'*'":"'*) ;; *) return 1 ;; esac
+        its_rest=${its_rest#?}
+        its_key=${its_rest%%\"*}
+        its_rest=${its_rest#"$its_key"\"}
+        case $its_rest in ':"'*) its_rest=${its_rest#??} ;; *) return 1 ;; esac
+        its_value=${its_rest%%\"*}
+        its_rest=${its_rest#"$its_value"}
+        [ -n "$its_value" ] || return 1
+        case " $* " in *" ${its_member}_$its_key "*) eval "${its_member}_$its_key=\$its_value" ;; *) return 1 ;; esac
+        case $its_member$its_rest in
+            'source","'* | 'version","'*) its_rest=${its_rest#??} ;;
+            'source"},"version":{"'*) its_member=version its_rest=${its_rest#'"},"version":{'} ;;
+            'source"}}' | 'version"}}') eval "[ -n \"\$$1\" ]"; return ;;
+            *) return 1 ;;
+        esac
+    done
 }
 
 # cache_of TEXT: makes $cache the directory that is kept for what the text names, and locks it until the end of the program. Whoever removes

@@ -17,4 +17,5 @@ mod Taking
 mod Together
 mod Witnessing
 mod Printing
+mod Walks
 mod Telling

@@ -16,7 +16,7 @@ ghost use Rattle.ccr_history.specs.History.{HistoryData, IsHistory};
 ghost use Rattle.ccr_history.specs.declared.tally.Tally.{Tally as TallyData};
 ghost use Rattle.ccr_store.specs.Causes.{IsBegun};
 ghost use Rattle.ccr_store.specs.Crash.{Leaves};
-ghost use Rattle.ccr_look.specs.Holding.{HasTables, HoldNothing, HoldsHistory};
+ghost use Rattle.ccr_look.specs.Holding.{HoldNothing, HoldsHistory};
 ghost use Rattle.ccr_look.specs.Left.{AreLeftBy, IsOneOf, IsSoundStore, IsWhatIsLeft, files_now};
 ghost use Rattle.ccr_look.specs.Looks.{IsFoundIn};
 ghost use Rattle.ccr_look.specs.Runs.{Run, AreRuns, LeadOn};
@@ -54,13 +54,13 @@ pub fn what_is_left_is_taken<D: Disk>(conn: &Connection<FileStore<D>>)
         → ∥ ((h : HistoryData) × IsOneOf hs h × HoldsHistory (files_now conn.now.store) h) ∥₁ }
 {}
 
-/// What a kill leaves while a database with tables is being taken is what the next open takes, with the same history: also while rows of
-/// the first format become those of the second.
+/// What a kill leaves while a database is being taken is what the next open takes, with the same history: also while the six tables of a new
+/// one are made, and while rows of the first format become those of the second.
 ///
 /// The connection is one that [`Store::adopt`](ccr_store::Store::adopt) has begun to take, over any disk that has returned what was written;
 /// `before` is the same as it was opened. It is a law over the definitions alone; nothing runs.
 pub fn what_is_begun_is_taken<D: Disk>(conn: &Connection<FileStore<D>>)
-    ensures { (was : Image) (h : HistoryData) → HasTables was h
+    ensures { (was : Image) (h : HistoryData) → HoldsHistory was h
         → (before : Held (FileStoreData D D.Disk)) → IsOpened before → FindsIn was (file_state before)
         → Survives (file_state before) (file_state conn.now) (IsBegun (file_state before))
         → HasCleanDisk (file_state conn.now) → IsSoundStore conn.now.store

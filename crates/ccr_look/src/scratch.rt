@@ -6,7 +6,7 @@ ghost use Rattle.std.specs.Prelude.{◌≡◌, length, false, true, refl, is_ok,
 ghost use Rattle.sqlite_disk.specs.Disk.{Holds, Torn, Cut, CountsFault};
 ghost use Rattle.sqlite_disk.specs.Refusal.{finds_no_room};
 
-use sqlite_disk::{Disk, Tally, digest_of};
+use sqlite_disk::{Disk, Tally};
 use std::alloc::AllocError;
 use std::io;
 
@@ -14,9 +14,8 @@ use std::io;
 #[derive(Drop)]
 pub struct Scratch {
     bytes: Vec<u8>,
-    // How many calls have failed, and how many of them met other bytes than they were to.
+    // How many calls have failed.
     faults: u64,
-    caught: u64,
 }
 
 impl Scratch {
@@ -26,11 +25,7 @@ impl Scratch {
     pub(crate) fn new(bytes: Vec<u8>) -> Scratch
         ensures { scratch_bytes result ≡ bytes.items }
     {
-        Scratch {
-            bytes,
-            faults: 0,
-            caught: 0,
-        }
+        Scratch { bytes, faults: 0 }
     }
 }
 
@@ -45,7 +40,7 @@ impl Disk for Scratch {
 
     ghost is_clean = { λ _. true };
 
-    ghost tally_of = { λ file. record { caught = file.caught; refused = 0 } };
+    ghost tally_of = { λ _. record { caught = 0; refused = 0 } };
 
     ghost key_of = { λ _. 0 };
 
@@ -66,7 +61,7 @@ impl Disk for Scratch {
 
     fn tally(&self) -> Tally {
         Tally {
-            caught: self.caught,
+            caught: 0,
             refused: 0,
         }
     }
@@ -87,14 +82,9 @@ impl Disk for Scratch {
         Ok(())
     }
 
-    fn read_checked(&mut self, key: u64, want: u64, at: usize, buf: &mut [u8]) -> io::Result<()> {
-        self.read_at(at, buf)?;
-        if digest_of(key, buf) != want {
-            self.faults = self.faults.saturating_add(1);
-            self.caught = self.caught.saturating_add(1);
-            return Err(io::ErrorKind::InvalidData.into());
-        }
-        Ok(())
+    // Memory returns what was written to it, so nothing has to be compared.
+    fn read_checked(&mut self, _key: u64, _want: u64, at: usize, buf: &mut [u8]) -> io::Result<()> {
+        self.read_at(at, buf)
     }
 
     fn write_at(&mut self, at: usize, bytes: &[u8]) -> io::Result<()> {

@@ -30,6 +30,7 @@ pub mod Linked
 pub mod LinksKept
 pub mod Whole
 pub mod Sorting
+pub mod Timed
 pub mod UsedKeys
 pub mod UsedValues
 pub mod UsedSteps

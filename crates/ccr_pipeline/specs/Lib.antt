@@ -22,6 +22,7 @@ pub mod Unknown
 pub mod Unused
 pub mod Timeouts
 pub mod Used
+pub mod Untimed
 pub mod Notes
 pub mod Reading
 pub mod Reordered

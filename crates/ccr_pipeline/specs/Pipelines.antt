@@ -12,7 +12,8 @@ use Rattle.ccr_pipeline.specs.Plans.{plan_from, inputs_read}
 use Rattle.ccr_pipeline.specs.Printed.{pipeline_value}
 use Rattle.ccr_pipeline.specs.Reading.{pipeline_faults}
 use Rattle.ccr_pipeline.specs.Tree.{Text}
-use Rattle.ccr_pipeline.specs.Used.{used_pipeline}
+use Rattle.ccr_pipeline.specs.Untimed.{untimed_job}
+use Rattle.ccr_pipeline.specs.Used.{used_pipeline, bare_pipeline}
 use Rattle.ccr_pipeline.specs.Unused.{unused_in, IsSortedOnce}
 
 -- a resource
@@ -66,6 +67,12 @@ pub record SaysTheSame (e d : Data) : Type 0 where
   pub resources : resources_from e ≡ resources_from d
   pub jobs : jobs_from e ≡ jobs_from d
 
+-- two values have the same faults, and are read as the same resources and as the same jobs but for their timeouts
+pub record SaysTheSameUntimed (e d : Data) : Type 0 where
+  pub faults : pipeline_faults e ≡ pipeline_faults d
+  pub resources : resources_from e ≡ resources_from d
+  pub jobs : map untimed_job (jobs_from e) ≡ map untimed_job (jobs_from d)
+
 -- these resources and jobs, printed as a JSON value, are read as the same: no fault is present in it
 pub record AreReadAgain (rs : List ResourceData) (js : List JobData) : Type 0 where
   pub faults : pipeline_faults (pipeline_value rs js) ≡ []
@@ -97,6 +104,9 @@ pub record IsPipelineOf (text : List ℕ) (d : Data) (p : PipelineData) : Type 0
   -- any value that differs from its own in keys without effect alone, and in no timeout of a get, a put or a task, has
   -- the same faults, and is read as the same
   pub effectless : (e : Data) → used_pipeline e ≡ used_pipeline d → SaysTheSame e d
+  -- a timeout changes nothing of what is read but itself: any value that differs from its own in keys without effect
+  -- and in timeouts of gets, puts and tasks has the same faults, and is read as the same but for these timeouts
+  pub untimed : (e : Data) → bare_pipeline e ≡ bare_pipeline d → SaysTheSameUntimed e d
   -- the inputs of each job are the gets of its text, in the order in which they are read
   pub inputs : map (λ j. inputs j.plan) p.jobs ≡ inputs_read 0 (list_at (codes "jobs") d)
   -- printed as a JSON value, they are read as the same

@@ -13,7 +13,7 @@ ghost use Rattle.ccr_pipeline.specs.Reordered.{IsReordering};
 ghost use Rattle.ccr_pipeline.specs.Timeouts.{timeouts_in};
 ghost use Rattle.ccr_pipeline.specs.Tree.{config_data};
 ghost use Rattle.ccr_pipeline.specs.Unused.{unused_in};
-ghost use Rattle.ccr_pipeline.specs.Used.{used_pipeline};
+ghost use Rattle.ccr_pipeline.specs.Used.{used_pipeline, bare_pipeline};
 
 use crate::build;
 use crate::cursor::Cursor;
@@ -76,6 +76,9 @@ pub fn read(alloc: Global, text: &[u8]) -> Result<Pipeline, ReadFault>
     // Without the keys that have no effect, no key would be listed but the timeouts, which a launcher is told.
     ensures timeouts_left { IfOk result
         (λ p. (d : Data) → IsTextOf text.now d → unused_in (used_pipeline d) ≡ timeouts_in d) }
+
+    // Without these timeouts too, none would be listed.
+    ensures none_left { IfOk result (λ p. (d : Data) → IsTextOf text.now d → unused_in (bare_pipeline d) ≡ []) }
 
     // The text is too long or no JSON value, or the fault is the first one that is present in its value.
     ensures err { IfErr result

@@ -1,3 +1,4 @@
 pub mod Copies
 pub mod Setting
 pub mod Calls
+pub mod Walks

@@ -1,11 +1,12 @@
 -- The pairs that a runner keeps, and what a call adds to them.
-use Rattle.std.specs.Prelude.{◌≡◌, ◌⊎◌, List, [], ◌∷◌, ◌++◌, map, drop}
+use Rattle.std.specs.Prelude.{◌≡◌, ◌⊎◌, List, [], ◌∷◌, ◌++◌, map, drop, Bool, if◌then◌else◌}
 use Rattle.ccr_process.specs.Launches.{LaunchData, launch_data}
 use Rattle.ccr_process.specs.Ends.{EndData, end_data, not_started, no_memory}
 use Rattle.ccr_process.specs.declared.launch.Launch.{Launch}
 use Rattle.ccr_process.specs.declared.ended.Ended.{Ended}
 use Rattle.ccr_process.specs.declared.scripted.Scripted.{Scripted}
 use Rattle.ccr_process.specs.declared.machine.Machine.{Machine}
+use Rattle.ccr_process.specs.declared.starter.Starter.{Starter}
 
 -- a launch, and how it ended
 abbrev pub Pair : Type 0
@@ -37,6 +38,22 @@ script_pairs s = pairs_of s.done.items
 -- the ends that a script has left
 abbrev pub ends_left : Scripted → List EndData
 ends_left s = map end_data s.ends.items
+
+-- the launches of which the system was told
+abbrev pub starter_launches : {R P I O E : Type 0} → Starter R P I O E → List LaunchData
+starter_launches s = map (λ launch. launch_data launch.value) s.launches.items
+
+-- the launches of which a machine has told the system
+abbrev pub machine_launches : {R P I O E : Type 0} → Machine R P I O E → List LaunchData
+machine_launches m = starter_launches m.starter
+
+-- A MACHINE RUNS a launch, which can be told to the system or not: there is one more pair, that of the launch and its end, and
+-- the system was told of it once, or not at all where it can't be; or, out of memory, there is none, and the system was
+-- told nothing
+abbrev pub RunsOnce : Bool → List Pair → List LaunchData → LaunchData → EndData → List Pair → List LaunchData → Type 0
+RunsOnce can old told launch end new now =
+    ((new ≡ old ++ (launch, end) ∷ []) × (now ≡ (if can then told ++ launch ∷ [] else told)))
+    ⊎ ((end ≡ no_memory) × (new ≡ old) × (now ≡ told))
 
 -- the pairs that a machine has added
 abbrev pub machine_pairs : {R P I O E : Type 0} → Machine R P I O E → List Pair

@@ -13,13 +13,17 @@ mod command;
 mod ended;
 mod launch;
 mod machine;
+mod noted;
+mod pipe;
 mod pipes;
 mod runner;
 mod scripted;
+mod starter;
 
 pub use ended::Ended;
 pub use launch::Launch;
 pub use machine::Machine;
+pub use pipe::{Input, Output};
 pub use pipes::{GiveFault, TakeFault, give_input, take_output};
 pub use runner::Runner;
 pub use scripted::Scripted;

@@ -2,13 +2,14 @@
 ghost use Rattle.std.specs.Prelude.{◌≡◌, ◌≢◌, ◌≤◌, ◌<◌, ◌+◌, ◌++◌, [], true, length, IfOk, IfErr, IfSome, OnOk};
 ghost use Rattle.std.specs.Prelude.{vec_len, if◌then◌else◌};
 ghost use Rattle.std.specs.Io.KnownBytes.{IsAtEnd};
-ghost use Rattle.std.specs.IoError.{error_kind};
 ghost use Rattle.ccr_process.specs.Ends.{IsOutput};
-ghost use Rattle.ccr_process.specs.Pipes.{IsTroubleOf, GivesInput, TakesOutput};
+ghost use Rattle.ccr_process.specs.Pipes.{GivesInput, TakesOutput};
+ghost use Rattle.ccr_process.specs.Piping.{reads, writes};
 
+use crate::noted::Trouble;
+use crate::pipe::{Input, Output};
 use std::alloc::Global;
-use std::io;
-use std::io::{ErrorKind, Read, Write};
+use std::io::{Read, Write};
 use thiserror::Error;
 
 /// The greatest number of bytes of an output that is kept.
@@ -39,49 +40,26 @@ pub enum TakeFault {
     NoMemory,
 }
 
-/// Why a call on a pipe moved nothing.
-#[derive(Clone, Copy)]
-pub(crate) enum Trouble {
-    /// A signal came first. The call is tried again.
-    Interrupted,
-    /// Nobody holds the other end.
-    Closed,
-    /// Anything else.
-    Failed,
-}
-
-/// The trouble that an error of the system is.
-fn trouble_of(error: &io::Error) -> Trouble
-    ensures { IsTroubleOf (error_kind error.now) result }
-{
-    match error.kind() {
-        ErrorKind::Interrupted => Trouble::Interrupted,
-        ErrorKind::BrokenPipe => Trouble::Closed,
-        _ => Trouble::Failed,
-    }
-}
-
 /// Writes a program's whole input.
 ///
 /// An interrupted write is tried again. It is no fault if the reader closed its end: what is left of the input is
 /// dropped. `InputFault` if a write fails otherwise or takes no byte, and after 1,000,000,000 writes, interrupted ones
-/// included.
-pub fn give_input<W: Write>(writer: &mut W, input: &[u8]) -> Result<(), GiveFault>
-    ensures { GivesInput (W.contents writer.old) input.now result (W.contents writer.new) }
+/// included. The pipe has no other call.
+pub fn give_input<W: Write>(pipe: &mut Input<W>, input: &[u8]) -> Result<(), GiveFault>
+    ensures { GivesInput (writes pipe.old) (W.contents pipe.old.writer) input.now result
+        (writes pipe.new) (W.contents pipe.new.writer) }
 {
     let mut rest = input;
     for _ in 0..MOST_CALLS {
         if rest.is_empty() {
             return Ok(());
         }
-        match writer.write(rest) {
+        match pipe.write(rest) {
             Ok(0) => return Err(GiveFault::InputFault),
             Ok(count) => rest = &rest[count..],
-            Err(error) => match trouble_of(&error) {
-                Trouble::Interrupted => {}
-                Trouble::Closed => return Ok(()),
-                Trouble::Failed => return Err(GiveFault::InputFault),
-            },
+            Err(Trouble::Interrupted) => {}
+            Err(Trouble::Closed) => return Ok(()),
+            Err(Trouble::Failed) => return Err(GiveFault::InputFault),
         }
     }
     Err(GiveFault::InputFault)
@@ -112,25 +90,29 @@ fn add_kept(output: &mut Vec<u8>, bytes: &[u8], keep: bool) -> Result<(), TakeFa
 /// Reads a program's output to its end. Gives all of it if `keep` is true, and else nothing.
 ///
 /// An interrupted read is tried again. `ReadFault` if a read fails otherwise; `TooLong` once more than 1,048,576 bytes
-/// were read of an output to keep, and after 1,000,000,000 reads, interrupted ones included; `NoMemory`.
-pub fn take_output<R: Read>(alloc: Global, reader: &mut R, keep: bool) -> Result<Vec<u8>, TakeFault>
-    ensures calls { TakesOutput (R.remaining reader.old) keep result (R.remaining reader.new) }
-    ensures end { OnOk result (IsAtEnd (R.remaining reader.new)) }
+/// were read of an output to keep, and after 1,000,000,000 reads, interrupted ones included; `NoMemory`. The pipe has no
+/// other call.
+pub fn take_output<R: Read>(
+    alloc: Global,
+    pipe: &mut Output<R>,
+    keep: bool,
+) -> Result<Vec<u8>, TakeFault>
+    ensures calls { TakesOutput (reads pipe.old) (R.remaining pipe.old.reader) keep result
+        (reads pipe.new) (R.remaining pipe.new.reader) }
+    ensures end { OnOk result (IsAtEnd (R.remaining pipe.new.reader)) }
     ensures whole { IfOk result (λ output. keep ≡ true
-        → IfSome (R.remaining reader.old) (λ all. output.items ≡ all)) }
+        → IfSome (R.remaining pipe.old.reader) (λ all. output.items ≡ all)) }
     ensures short { IfOk result (λ output. IsOutput keep output.items) }
 {
     let mut output = Vec::new(alloc);
     let mut buffer = [0u8; 8192];
     for _ in 0..MOST_CALLS {
-        match reader.read(&mut buffer) {
+        match pipe.read(&mut buffer) {
             Ok(0) => return Ok(output),
             Ok(count) => add_kept(&mut output, &buffer[..count], keep)?,
-            Err(error) => match trouble_of(&error) {
-                Trouble::Interrupted => {}
-                Trouble::Closed => return Err(TakeFault::ReadFault),
-                Trouble::Failed => return Err(TakeFault::ReadFault),
-            },
+            Err(Trouble::Interrupted) => {}
+            Err(Trouble::Closed) => return Err(TakeFault::ReadFault),
+            Err(Trouble::Failed) => return Err(TakeFault::ReadFault),
         }
     }
     Err(TakeFault::TooLong)

@@ -1,6 +1,6 @@
 //! Writers and readers over memory that fail at a call, move one byte a call, are interrupted or never end.
 
-use ccr_process::{GiveFault, TakeFault, give_input, take_output};
+use ccr_process::{GiveFault, Input, Output, TakeFault, give_input, take_output};
 use std::alloc::Global;
 use std::collections::VecDeque;
 use std::io;
@@ -92,11 +92,12 @@ fn a_writer_that_fails_at_any_call_has_the_bytes_before_it(rt: HostRuntime) -> R
             (Some(ErrorKind::BrokenPipe), Ok(()), true),
             (Some(ErrorKind::Interrupted), Ok(()), false),
         ] {
-            let mut writer = Pipe::new(rt.alloc(), b"", 1, Trouble { call, kind })?;
+            let writer = Pipe::new(rt.alloc(), b"", 1, Trouble { call, kind })?;
+            let mut pipe = Input::new(writer);
             let given = if call == 11 { Ok(()) } else { given };
-            assert_eq!(rt; give_input(&mut writer, TEXT), given, "call {call}");
+            assert_eq!(rt; give_input(&mut pipe, TEXT), given, "call {call}");
             let count = if stops { call as usize - 1 } else { 10 };
-            let held = writer.held(rt.alloc())?;
+            let held = pipe.into_writer().held(rt.alloc())?;
             assert_eq!(rt; Some(held.as_slice()), TEXT.get(..count), "call {call}");
         }
     }
@@ -115,8 +116,8 @@ fn a_reader_that_fails_at_any_call_gives_its_fault_and_no_cut_bytes(
             (ErrorKind::Interrupted, false),
         ] {
             let kind = Some(kind);
-            let mut reader = Pipe::new(alloc, TEXT, 1, Trouble { call, kind })?;
-            let taken = take_output(alloc, &mut reader, true);
+            let mut pipe = Output::new(Pipe::new(alloc, TEXT, 1, Trouble { call, kind })?);
+            let taken = take_output(alloc, &mut pipe, true);
             if fails && call < 12 {
                 assert_eq!(rt; taken.err(), Some(TakeFault::ReadFault), "call {call}");
             } else {
@@ -140,8 +141,8 @@ fn an_output_has_at_most_1048576_bytes_where_it_is_kept(rt: HostRuntime) -> Resu
         (1_048_577, false, Ok(0)),
     ] {
         let bytes = vec![in alloc; b'A'; count]?;
-        let mut reader = Pipe::new(alloc, &bytes, 5000, never)?;
-        let taken = take_output(alloc, &mut reader, keep);
+        let mut pipe = Output::new(Pipe::new(alloc, &bytes, 5000, never)?);
+        let taken = take_output(alloc, &mut pipe, keep);
         assert_eq!(rt; taken.map(|output| output.len()), told, "{count}");
     }
     Ok(())
@@ -149,7 +150,8 @@ fn an_output_has_at_most_1048576_bytes_where_it_is_kept(rt: HostRuntime) -> Resu
 
 #[test]
 fn an_output_without_an_end_is_too_long(rt: HostRuntime) -> Result<(), Fail> {
-    let taken = take_output(rt.alloc(), &mut io::repeat(b'A'), true);
+    let mut pipe = Output::new(io::repeat(b'A'));
+    let taken = take_output(rt.alloc(), &mut pipe, true);
     assert_eq!(rt; taken.err(), Some(TakeFault::TooLong));
     Ok(())
 }

@@ -1,11 +1,9 @@
 -- What came of a look, from what its parts say.
-use Rattle.std.proofs.Common.{◌≡◌, inl, inr, refl, sym, subst, ℕ, Bool, not, List, Option, None, Result, Err}
+use Rattle.std.proofs.Common.{◌≡◌, inl, inr, refl, sym, subst, ℕ, Result, Err}
 use Rattle.sqlite_disk.specs.declared.Disk as disk
 use Rattle.sqlite_store.specs.declared.store.FileStore.{FileStore}
 use Rattle.sqlite_trees.specs.declared.store.Store.{Ghosts}
-use Rattle.ccr_history.specs.History.{HistoryData}
 use Rattle.ccr_history.specs.Text.{Text}
-use Rattle.ccr_history.specs.declared.tally.Tally.{Tally}
 use Rattle.ccr_history.specs.declared.store_fault.StoreFault.{StoreFault}
 use Rattle.ccr_core.specs.Holding.{CoreData}
 use Rattle.ccr_core.specs.Commands.{shown_data}
@@ -18,13 +16,7 @@ use Rattle.ccr_look.specs.declared.fault.CopyFault.{CopyFault}
 use Rattle.ccr_run.specs.declared.failure.Failure.{Failure}
 use Rattle.ccr_run.specs.declared.failure.Failure.TheVariants.{Unread, Unfound}
 use Rattle.ccr_run.specs.declared.order.LookOrder.{LookOrder}
-use Rattle.ccr_run.specs.declared.run.Outcome.{Outcome}
-use Rattle.ccr_process.specs.Runs.{Pair}
-use Rattle.ccr_task.specs.Calls.{CallData}
 use Rattle.ccr_run.specs.Looked.{IsCopied, Looked, LookedBeside, ShownOf, shown_end}
-use Rattle.ccr_run.specs.Obeyed.{Obeyed}
-use Rattle.ccr_run.specs.Orders.{IsLookOrdered}
-use Rattle.ccr_run.specs.Statuses.{exit_status_of}
 
 -- something was shown of a core, and then nothing more
 pub shown_of : (order : LookOrder) (core : CoreData) (answer : Result ℕ ShowFault) (end : Result ℕ Failure) (old mid new : Text)
@@ -52,21 +44,3 @@ pub looked_beside : {D C : Type 0} {d : disk.Ghosts D} {c : disk.Ghosts C} (g : 
 looked_beside g beside order end old new (inl did) =
     inl (record { did = did; left = λ server. what_is_left g server (image_of did.copied) did.sees.history did.sees.found })
 looked_beside g beside order end old new (inr nothing) = inr nothing
-
--- what came of a look that was ordered
-pub looked : {R S T : Type 0} (pairs : R → List Pair) (calls : S → List CallData) (holds : T → HistoryData → Type 0)
-    (leaves : T → List HistoryData → Type 0) (tally : T → Tally) (begins_with : T → HistoryData → Type 0) (unfound : StoreFault → Type 0)
-    (came : LookOrder → Result ℕ Failure → Text → Text → Type 0) (words : List Text) (asked : Option Text) (old new : Text) (failed : Bool)
-    (status : ℕ) (order : LookOrder) → IsLookOrdered words order → asked ≡ None
-    → (outcome : Outcome) × came order outcome.end old new × (outcome.is_printed ≡ not failed) × (status ≡ exit_status_of outcome)
-    → Obeyed pairs calls holds leaves tally begins_with unfound came words asked old new failed status
-looked pairs calls holds leaves tally begins_with unfound came words asked old new failed status order ordered unasked it =
-    inr (inr (inl (record {
-      order = order;
-      ordered = ordered;
-      outcome = it.0;
-      looked = it.1;
-      unasked = unasked;
-      printed = it.2;
-      status_is = it.3;
-    })))

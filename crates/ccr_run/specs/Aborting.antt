@@ -1,5 +1,5 @@
 -- What comes of it that a build is asked to be aborted.
-use Rattle.std.specs.Prelude.{◌≡◌, ℕ, List, [], ◌∷◌, Bool, true, false, option_map, Result, Ok, Err, codes}
+use Rattle.std.specs.Prelude.{◌≡◌, ℕ, List, [], ◌∷◌, ◌++◌, Bool, true, false, not, Option, Some, None, option_map, Result, Ok, Err, codes, decimal}
 use Rattle.ccr_history.specs.Text.{Text}
 use Rattle.ccr_pipeline.specs.Kinds.{is_name}
 use Rattle.ccr_task.specs.Calls.{CallData, making, Does}
@@ -9,9 +9,8 @@ use Rattle.ccr_task.specs.declared.fault.ShelfFault.TheVariants as shelf_fault
 use Rattle.ccr_run.specs.declared.abort.AbortFault.{AbortFault}
 use Rattle.ccr_run.specs.declared.abort.AbortFault.TheVariants.{NoJob, NotWritten, NoMemory}
 use Rattle.ccr_run.specs.declared.order.AbortOrder.{AbortOrder}
-use Rattle.ccr_run.specs.Orders.{IsAbortOrdered}
+use Rattle.ccr_run.specs.Explained.{ToldData, nothing_told}
 use Rattle.ccr_run.specs.Refusals.{RefusalData, refused, broken}
-use Rattle.ccr_run.specs.Statuses.{printed_status}
 
 -- how it reads that a build isn't asked to be aborted
 abbrev pub refusal_of : AbortFault → RefusalData
@@ -42,20 +41,26 @@ Asks order before (Err NotWritten) after =
 Asks order before (Err NoMemory) after =
     (is_name order.build.job.now ≡ true) × IsWritten order before (Err shelf_fault.NoMemory) after
 
+-- the line that says that a build is asked to be aborted
+abbrev pub asked_line : AbortOrder → Text
+asked_line order =
+    codes "abort asked: " ++ (order.build.job.now ++ (codes " " ++ (decimal order.build.number ++ 10 ∷ [])))
+
+-- what is printed of what it comes to: the line, where the build is asked to be aborted
+abbrev pub IsPrinted : AbortOrder → Result Unit AbortFault → Text → Text → Type 0
+IsPrinted order (Ok done) old new = new ≡ old ++ asked_line order
+IsPrinted order (Err fault) old new = new ≡ old
+
 -- the status of what it comes to: 0, or that of the refusal
 abbrev pub abort_status : Result Unit AbortFault → ℕ
 abort_status (Ok done) = 0
 abort_status (Err fault) = (refusal_of fault).status
 
--- the status with which that is told: 4 where its line didn't go out
-abbrev pub IsTold : Result Unit AbortFault → ℕ → Type 0
-IsTold end status = (is_printed : Bool) × (status ≡ printed_status is_printed (abort_status end))
+-- the refusal of what it comes to, if it is one
+abbrev pub refusal_in : Result Unit AbortFault → Option RefusalData
+refusal_in (Ok done) = None
+refusal_in (Err fault) = Some (refusal_of fault)
 
--- a shelf that was called for nothing before was asked, and what it came to is told with this status
-abbrev pub IsAsked : AbortOrder → ℕ → Type 0
-IsAsked order status =
-    (end : Result Unit AbortFault) × (after : List CallData) × Asks order [] end after × IsTold end status
-
--- WHAT COMES OF WORDS that ask for a build to be aborted
-abbrev pub AbortAsked : List Text → ℕ → Type 0
-AbortAsked words status = (order : AbortOrder) × IsAbortOrdered words order × IsAsked order status
+-- WHAT IS TOLD on standard error of what it comes to: the refusal, and that the line didn't go out
+abbrev pub told_of : Result Unit AbortFault → Bool → ToldData
+told_of end is_printed = record nothing_told { refusal = refusal_in end; is_unprinted = not is_printed }

@@ -1,35 +1,57 @@
--- What a command tells on standard error as it ends.
-use Rattle.std.specs.Prelude.{ℕ, Bool, true, false, not, ◌==◌, ◌&&◌, Option, None, Some, option_map, Result, Ok, Err, if◌then◌else◌}
+-- What the program tells on standard error as it ends.
+use Rattle.std.specs.Prelude.{◌≡◌, ℕ, List, [], ◌∷◌, Bool, true, false, not, ◌==◌, ◌&&◌, Option, None, Some, option_map, Result, Ok, Err, string_bytes, if◌then◌else◌}
 use Rattle.ccr_history.specs.Text.{Text}
+use Rattle.ccr_command.specs.declared.finding.Finding.{Finding}
+use Rattle.ccr_command.specs.declared.finding.Kind.{Kind}
+use Rattle.ccr_command.specs.declared.finding.Kind.TheVariants.{Unused}
 use Rattle.ccr_core.specs.declared.command.Command.{Command}
-use Rattle.ccr_core.specs.declared.command.Command.TheVariants.{Show}
+use Rattle.ccr_core.specs.declared.command.Command.TheVariants.{SetPipeline, Show}
 use Rattle.ccr_core.specs.declared.shown.Shown.{Shown}
 use Rattle.ccr_core.specs.declared.shown.Shown.TheVariants.{Proof, Certificate}
+use Rattle.ccr_serve.specs.declared.fault.ServeFault.{ServeFault}
 use Rattle.ccr_run.specs.declared.failure.Failure.{Failure}
 use Rattle.ccr_run.specs.declared.order.Order.{Order}
 use Rattle.ccr_run.specs.declared.run.Outcome.{Outcome}
 use Rattle.ccr_run.specs.declared.telling.Telling.{Telling}
-use Rattle.ccr_run.specs.Hints.{hint_of}
-use Rattle.ccr_run.specs.Refusals.{RefusalData, refusal_data, refusal_of}
+use Rattle.ccr_run.specs.declared.telling.ToldRefusal.{ToldRefusal}
+use Rattle.ccr_run.specs.Found.{Finds}
+use Rattle.ccr_run.specs.Hints.{HintData, hint_data, hint_of}
+use Rattle.ccr_run.specs.Refusals.{RefusalData, refusal_of}
 
 -- ---- what is told
--- the budget that a search would go over, a refusal, what to do about it, and that not all lines went out
+-- the lines of what was found in a pipeline that was set, the budget that a search would go over, a refusal, what to do about
+-- it, and that not all lines went out
 pub record ToldData : Type 0 where
+  pub gates : Option (List Text)
   pub budget : Option ℕ
   pub refusal : Option RefusalData
-  pub hint : Option Text
+  pub hint : Option HintData
   pub is_unprinted : Bool
 
 -- nothing of it
 abbrev pub nothing_told : ToldData
-nothing_told = record { budget = None; refusal = None; hint = None; is_unprinted = false }
+nothing_told = record { gates = None; budget = None; refusal = None; hint = None; is_unprinted = false }
+
+-- the lines of these findings, but of keys of Concourse without effect
+abbrev pub told_lines : List Finding → List Text
+told_lines [] = []
+told_lines (f ∷ fs) = with_line f.kind (string_bytes f.line) (told_lines fs) where
+  with_line : Kind → Text → List Text → List Text
+  with_line Unused line lines = lines
+  with_line kind line lines = line ∷ lines
+
+-- a refusal that was told
+abbrev pub refusal_told : ToldRefusal → RefusalData
+refusal_told t =
+    record { words = t.words.now; path = option_map (λ path. string_bytes path.value) t.path; status = t.status }
 
 -- what a value of the program's type has told
 abbrev pub told_data : {R : Type 0} → Telling R → ToldData
 told_data t = record {
+  gates = option_map (λ found. told_lines found.value.items) t.gates;
   budget = t.budget;
-  refusal = option_map refusal_data t.refusal;
-  hint = option_map (λ hint. hint.now) t.hint;
+  refusal = option_map refusal_told t.refusal;
+  hint = option_map hint_data t.hint;
   is_unprinted = t.is_unprinted;
 }
 
@@ -63,8 +85,28 @@ refusal_in (Err failure) = Some (refusal_of failure)
 -- lines went out
 abbrev pub explained : Order → Outcome → ToldData
 explained order outcome = record {
+  gates = None;
   budget = budget_over order outcome.end;
   refusal = refusal_in outcome.end;
-  hint = hint_of outcome.end;
+  hint = hint_of order.options.database.now outcome.end;
   is_unprinted = not outcome.is_printed;
 }
+
+-- ---- beside a pipeline that was set
+-- the command has set a pipeline
+abbrev pub has_set : Command → Result ℕ Failure → Bool
+has_set (SetPipeline file) (Ok status) = status == 0
+has_set command end = false
+
+-- what is found in this text of a pipeline is told, if one was set; nothing is, where there is no text, or out of memory
+abbrev pub AreGates : Bool → Option Text → Option (List Text) → Type 0
+AreGates true (Some text) (Some lines) = (findings : List Finding) × Finds text (Ok findings) × (lines ≡ told_lines findings)
+AreGates true (Some text) None = (fault : ServeFault) × Finds text (Err fault)
+AreGates sets text told = told ≡ None
+
+-- WHAT A COMMAND TELLS with this outcome, and with the text of the pipeline since: what is found in a pipeline that it has set, and
+-- what it tells of its end
+abbrev pub IsToldOf : Order → Outcome → Option Text → ToldData → Type 0
+IsToldOf order outcome text told =
+    (gates : Option (List Text)) × AreGates (has_set order.command outcome.end) text gates
+    × (told ≡ record (explained order outcome) { gates = gates })

@@ -1,5 +1,8 @@
 -- What to do about how a command ended, where that helps.
-use Rattle.std.specs.Prelude.{ℕ, Option, Some, None, Result, Ok, Err, codes, nat_eq, if◌then◌else◌}
+use Rattle.std.specs.Prelude.{ℕ, Option, Some, None, option_map, Result, Ok, Err, codes, nat_eq, if◌then◌else◌}
+use Rattle.sqlite.specs.declared.error.Error.{Error}
+use Rattle.sqlite.specs.declared.error.Error.TheVariants.{SqliteFailure}
+use Rattle.sqlite.specs.declared.error.ErrorCode.TheVariants as sql
 use Rattle.ccr_history.specs.Text.{Text}
 use Rattle.ccr_history.specs.declared.store_fault.StoreFault.{StoreFault}
 use Rattle.ccr_history.specs.declared.store_fault.StoreFault.TheVariants as store
@@ -10,7 +13,25 @@ use Rattle.ccr_serve.specs.declared.fault.ServeFault.TheVariants.{Core, Store, R
 use Rattle.ccr_run.specs.declared.failure.Failure.{Failure}
 use Rattle.ccr_look.specs.declared.fault.CopyFault.{CopyFault}
 use Rattle.ccr_look.specs.declared.fault.CopyFault.TheVariants as copy
-use Rattle.ccr_run.specs.declared.failure.Failure.TheVariants.{Locked, Refused, Unread, Unfound}
+use Rattle.ccr_run.specs.declared.failure.Failure.TheVariants.{Locked, Unopened, Refused, Unread, Unfound}
+use Rattle.ccr_run.specs.declared.hint.Hint.{Hint}
+
+-- what to do, with the path of the database that it is about, if it is about one
+pub record HintData : Type 0 where
+  pub path : Option Text
+  pub words : Text
+
+-- what a value of the program's type stands for
+abbrev pub hint_data : Hint → HintData
+hint_data h = record { path = option_map (λ path. path.now) h.path; words = h.words.now }
+
+-- what to do, whichever database it is
+abbrev pub bare : Text → HintData
+bare words = record { path = None; words = words }
+
+-- what to do about the database at a path
+abbrev pub about : Text → Text → HintData
+about path words = record { path = Some path; words = words }
 
 -- about a name that the pipeline hasn't
 abbrev pub named_wrong : Text
@@ -18,7 +39,7 @@ named_wrong = codes "names are those of the pipeline that was set last"
 
 -- about a database that can't be opened, read or written
 abbrev pub disk_failed : Text
-disk_failed = codes "is the file a database? is the disk full or read-only? may you write the file and its directory? what was printed is kept"
+disk_failed = codes "is the disk full or read-only? may you write the file and its directory? what was printed is kept"
 
 -- about a file that is no database of this program
 abbrev pub not_ours : Text
@@ -67,10 +88,23 @@ of_bytes fault = None
 abbrev pub of_status : ℕ → Option Text
 of_status status = if nat_eq status 3 then Some (codes "--budget N allows more, up to 1000000") else None
 
--- ABOUT HOW A COMMAND ENDED
-abbrev pub hint_of : Result ℕ Failure → Option Text
-hint_of (Ok status) = of_status status
-hint_of (Err Locked) = Some (codes "another program has the database open; try again when it has ended (examples/operating/ccr waits for it)")
-hint_of (Err (Refused fault)) = of_server fault
-hint_of (Err (Unread fault)) = Some (of_copy fault)
-hint_of (Err (Unfound fault)) = of_bytes fault
+-- about the database at a path that can't be opened, by what SQLite answered
+abbrev pub of_open : Text → Error → HintData
+of_open path (SqliteFailure sql.OutOfMemory) = bare out_of_memory
+of_open path (SqliteFailure sql.NotADatabase) = about path (codes "the file is no database; name another one")
+of_open path (SqliteFailure sql.DatabaseCorrupt) = about path (codes "the database is damaged; bring back a copy of it")
+of_open path (SqliteFailure sql.DiskFull) = about path (codes "the disk is full; make room")
+of_open path (SqliteFailure sql.TooBig) = about path (codes "the file is too large for a database")
+of_open path (SqliteFailure sql.CannotOpen) =
+    about path (codes "it can't be opened; is it a file, and may you read and write it and its directory?")
+of_open path error = about path (codes "it can't be read or written; is the disk in order?")
+
+-- ABOUT HOW A COMMAND ENDED over the database at a path
+abbrev pub hint_of : Text → Result ℕ Failure → Option HintData
+hint_of path (Ok status) = option_map bare (of_status status)
+hint_of path (Err Locked) =
+    Some (bare (codes "another program has the database open; try again when it has ended (examples/operating/ccr waits for it)"))
+hint_of path (Err (Unopened error)) = Some (of_open path error)
+hint_of path (Err (Refused fault)) = option_map bare (of_server fault)
+hint_of path (Err (Unread fault)) = Some (bare (of_copy fault))
+hint_of path (Err (Unfound fault)) = option_map bare (of_bytes fault)

@@ -2,7 +2,9 @@ pub mod Asked
 pub mod Aborting
 pub mod Databases
 pub mod Explained
+pub mod Found
 pub mod Hints
+pub mod Left
 pub mod Looked
 pub mod Obeyed
 pub mod Opening

@@ -1,69 +1,114 @@
--- The status that words come to.
-use Rattle.std.specs.Prelude.{◌≡◌, ◌⊎◌, ℕ, List, Bool, not, Option, None, Result}
+-- What words come to.
+use Rattle.std.specs.Prelude.{◌≡◌, ◌⊎◌, ℕ, List, Bool, true, not, Option, Some, None, Result, Ok, Err}
 use Rattle.ccr_history.specs.Text.{Text}
-use Rattle.ccr_history.specs.History.{HistoryData}
-use Rattle.ccr_process.specs.Runs.{Pair}
-use Rattle.ccr_history.specs.declared.store_fault.StoreFault.{StoreFault}
-use Rattle.ccr_history.specs.declared.tally.Tally.{Tally}
-use Rattle.ccr_task.specs.Calls.{CallData}
+use Rattle.ccr_history.specs.declared.storage.Storage as storage
+use Rattle.ccr_process.specs.declared.runner.Runner as runner
+use Rattle.ccr_task.specs.declared.shelf.Shelf as shelf
+use Rattle.ccr_serve.specs.declared.fault.ServeFault.{ServeFault}
+use Rattle.ccr_core.specs.declared.command.Command.TheVariants.{Show}
+use Rattle.ccr_run.specs.declared.abort.AbortFault.{AbortFault}
 use Rattle.ccr_run.specs.declared.failure.Failure.{Failure}
+use Rattle.ccr_run.specs.declared.left.Left.{Left}
+use Rattle.ccr_run.specs.declared.left.Left.TheVariants.{Unopened}
+use Rattle.ccr_run.specs.declared.left.Tools.{Tools}
+use Rattle.ccr_run.specs.declared.order.AbortOrder.{AbortOrder}
 use Rattle.ccr_run.specs.declared.order.LookOrder.{LookOrder}
 use Rattle.ccr_run.specs.declared.order.Misuse.{Misuse}
 use Rattle.ccr_run.specs.declared.order.Order.{Order}
 use Rattle.ccr_run.specs.declared.run.Outcome.{Outcome}
-use Rattle.ccr_run.specs.Aborting.{AbortAsked}
-use Rattle.ccr_run.specs.Orders.{IsOrdered, IsLookOrdered, IsMisused}
-use Rattle.ccr_run.specs.Served.{Served}
-use Rattle.ccr_run.specs.Statuses.{exit_status_of, misuse_status}
-
--- the words order something, and what came of it has this status; the outcome says whether a write failed
-pub record IsDone {R S T : Type 0} (pairs : R → List Pair) (calls : S → List CallData)
-    (holds : T → HistoryData → Type 0) (leaves : T → List HistoryData → Type 0) (tally : T → Tally)
-    (begins_with : T → HistoryData → Type 0) (unfound : StoreFault → Type 0) (words : List Text) (asked : Option Text) (old new : Text) (failed : Bool)
-    (status : ℕ) : Type 0 where
-  pub order : Order
-  pub ordered : IsOrdered words order
-  pub outcome : Outcome
-  pub served : Served pairs calls holds leaves tally begins_with unfound order asked outcome.end old new
-  pub printed : outcome.is_printed ≡ not failed
-  pub status_is : status ≡ exit_status_of outcome
+use Rattle.ccr_run.specs.Aborting.{Asks, IsPrinted, abort_status, told_of}
+use Rattle.ccr_run.specs.Explained.{ToldData, IsToldOf, explained, nothing_told}
+use Rattle.ccr_run.specs.Found.{ValidationData, Validates, is_validation, refusal_in, validated_status, validation_in}
+use Rattle.ccr_run.specs.Left.{text_left}
+use Rattle.ccr_run.specs.Orders.{IsOrdered, IsLookOrdered, IsAbortOrdered, IsMisused}
+use Rattle.ccr_run.specs.Served.{Coming, Served}
+use Rattle.ccr_run.specs.Statuses.{exit_status_of, printed_status, misuse_status}
 
 -- a misuse has its status, or 4 where it can't be told
 abbrev pub IsTold : Misuse → ℕ → Type 0
 IsTold misuse status = (status ≡ misuse_status misuse) ⊎ (status ≡ 4)
 
--- the words order nothing: no database is opened and no line printed, and the status says why
-pub record IsMisuse (words : List Text) (asked : Option Text) (old new : Text) (status : ℕ) : Type 0 where
-  pub misuse : Misuse
-  pub misused : IsMisused words misuse
-  pub unasked : asked ≡ None
-  pub unprinted : new ≡ old
-  pub told : IsTold misuse status
+-- the program ends with this status: that of what was done, or of a misuse
+abbrev pub IsEnd : Result ℕ Misuse → ℕ → Type 0
+IsEnd (Ok done) status = status ≡ done
+IsEnd (Err misuse) status = IsTold misuse status
 
--- the words ask for a build to be aborted: no database is opened and no line of a command printed, and what comes of it has
--- this status
-pub record IsAbort (words : List Text) (asked : Option Text) (old new : Text) (status : ℕ) : Type 0 where
-  pub abort : AbortAsked words status
-  pub unasked : asked ≡ None
-  pub unprinted : new ≡ old
+-- what words come to: the path of the database that was opened, if one was, what was printed before and after, whether a write
+-- failed, what is told on standard error, and the status, or why the words order nothing
+pub record Ending : Type 0 where
+  pub asked : Option Text
+  pub old : Text
+  pub new : Text
+  pub failed : Bool
+  pub told : ToldData
+  pub status : Result ℕ Misuse
 
--- the words order a look: no database is opened, and what came of it has this status; the outcome says whether a write failed
-pub record IsLooked (looks : LookOrder → Result ℕ Failure → Text → Text → Type 0) (words : List Text) (asked : Option Text)
-    (old new : Text) (failed : Bool) (status : ℕ) : Type 0 where
-  pub order : LookOrder
-  pub ordered : IsLookOrdered words order
-  pub outcome : Outcome
-  pub looked : looks order outcome.end old new
-  pub unasked : asked ≡ None
-  pub printed : outcome.is_printed ≡ not failed
-  pub status_is : status ≡ exit_status_of outcome
+module _ {R F T C : Type 0} (r : runner.Ghosts R) (s : shelf.Ghosts F) (t : storage.Ghosts T) (coming : Coming T C)
+    (looks : LookOrder → Result ℕ Failure → Text → Text → Type 0) (words : List Text) (given : Tools R F) where
+  -- the words order a command, and this came of it
+  pub record IsDone (ending : Ending) (kept : Left R F T C) : Type 0 where
+    pub order : Order
+    pub ordered : IsOrdered words order
+    pub outcome : Outcome
+    pub served : Served r s t coming order ending.asked given outcome.end kept ending.old ending.new
+    pub printed : outcome.is_printed ≡ not ending.failed
+    pub told : IsToldOf order outcome (text_left kept) ending.told
+    pub status_is : ending.status ≡ Ok (exit_status_of outcome)
 
--- THE STATUS THAT WORDS COME TO, with the database that was opened and the lines that were printed: that of the command, the
--- look or the abort that they order, or of why they order nothing
-abbrev pub Obeyed : {R S T : Type 0} → (R → List Pair) → (S → List CallData) → (T → HistoryData → Type 0)
-    → (T → List HistoryData → Type 0) → (T → Tally) → (T → HistoryData → Type 0) → (StoreFault → Type 0)
-    → (LookOrder → Result ℕ Failure → Text → Text → Type 0) → List Text → Option Text → Text → Text → Bool → ℕ → Type 0
-Obeyed pairs calls holds leaves tally begins_with unfound looked words asked old new failed status =
-    IsDone pairs calls holds leaves tally begins_with unfound words asked old new failed status
-    ⊎ (IsAbort words asked old new status
-    ⊎ (IsLooked looked words asked old new failed status ⊎ IsMisuse words asked old new status))
+  -- the words ask for a build to be aborted: the shelf had the one call that asks for it, no program was started, and no database
+  -- opened
+  pub record IsAbort (ending : Ending) (kept : Left R F T C) : Type 0 where
+    pub order : AbortOrder
+    pub ordered : IsAbortOrdered words order
+    pub end : Result Unit AbortFault
+    pub tools : Tools R F
+    pub left : kept ≡ Unopened tools
+    pub idle : tools.runner ≡ given.runner
+    pub asks : Asks order (s.calls given.shelf) end (s.calls tools.shelf)
+    pub unasked : ending.asked ≡ None
+    pub printed : IsPrinted order end ending.old ending.new
+    pub told : ending.told ≡ told_of end (not ending.failed)
+    pub status_is : ending.status ≡ Ok (printed_status (not ending.failed) (abort_status end))
+
+  -- the words order a look: no program was started, the shelf wasn't called, and no database was opened
+  pub record IsLooked (ending : Ending) (kept : Left R F T C) : Type 0 where
+    pub order : LookOrder
+    pub ordered : IsLookOrdered words order
+    pub outcome : Outcome
+    pub looked : looks order outcome.end ending.old ending.new
+    pub left : kept ≡ Unopened given
+    pub unasked : ending.asked ≡ None
+    pub printed : outcome.is_printed ≡ not ending.failed
+    pub told : ending.told ≡ explained (record { options = order.options; command = Show order.what }) outcome
+    pub status_is : ending.status ≡ Ok (exit_status_of outcome)
+
+  -- the words order a pipeline's file to be validated: it was read, which was the one call of the shelf; no program was started, and
+  -- no database opened
+  pub record IsValidated (ending : Ending) (kept : Left R F T C) : Type 0 where
+    pub validation : ValidationData
+    pub named : is_validation words ≡ true
+    pub ordered : validation_in words ≡ Some validation
+    pub end : Result Bool ServeFault
+    pub tools : Tools R F
+    pub left : kept ≡ Unopened tools
+    pub idle : tools.runner ≡ given.runner
+    pub validates : Validates validation end (s.calls given.shelf) (s.calls tools.shelf) ending.old ending.new
+    pub unasked : ending.asked ≡ None
+    pub told : ending.told ≡ record nothing_told { refusal = refusal_in end }
+    pub status_is : ending.status ≡ Ok (validated_status end (not ending.failed))
+
+  -- the words order nothing: nothing was done
+  pub record IsMisuse (ending : Ending) (kept : Left R F T C) : Type 0 where
+    pub misuse : Misuse
+    pub misused : IsMisused words misuse
+    pub left : kept ≡ Unopened given
+    pub unasked : ending.asked ≡ None
+    pub unprinted : ending.new ≡ ending.old
+    pub told : ending.told ≡ nothing_told
+    pub status_is : ending.status ≡ Err misuse
+
+  -- WHAT WORDS COME TO, with what was given and with what is left: the command, the look, the abort or the validation that they
+  -- order, or why they order nothing
+  abbrev pub Obeyed : Ending → Left R F T C → Type 0
+  Obeyed ending kept =
+      IsDone ending kept ⊎ (IsAbort ending kept ⊎ (IsLooked ending kept ⊎ (IsValidated ending kept ⊎ IsMisuse ending kept)))

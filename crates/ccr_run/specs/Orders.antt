@@ -10,8 +10,9 @@ use Rattle.ccr_command.specs.Looking.{look_by, look_in}
 use Rattle.ccr_command.specs.Options.{options_data, options_in}
 use Rattle.ccr_command.specs.declared.options.Options.{Options}
 use Rattle.ccr_command.specs.Usage.{line}
+use Rattle.ccr_run.specs.Found.{is_validation, validation_in}
 use Rattle.ccr_run.specs.declared.order.Misuse.{Misuse}
-use Rattle.ccr_run.specs.declared.order.Misuse.TheVariants.{NotText, Line, Option, NoCommand, NoMemory}
+use Rattle.ccr_run.specs.declared.order.Misuse.TheVariants.{NotText, Line, Option, NoCommand, Validation, NoMemory}
 use Rattle.ccr_run.specs.declared.order.AbortOrder.{AbortOrder}
 use Rattle.ccr_run.specs.declared.order.LookOrder.{LookOrder}
 use Rattle.ccr_run.specs.declared.order.Order.{Order}
@@ -61,7 +62,7 @@ budget_of (Look order) = order.options.budget
 budget_of (Abort order) = order.options.budget
 
 -- WHY WORDS ORDER NOTHING: the command line doesn't take them, or their matches lack an option, or name neither a command
--- nor a build to be aborted; or memory was refused
+-- nor a build to be aborted; or they are those of `validate-pipeline` and don't name one file; or it was out of memory
 abbrev pub IsMisused : List Text → Misuse → Type 0
 IsMisused words NotText = ⊥
 IsMisused words (Line error) = takes line words ≢ true
@@ -69,4 +70,5 @@ IsMisused words (Option fault) =
     (m : ArgMatches) × HasMatchesOf line words m × (options_in (found_of m) ≡ Err fault)
 IsMisused words NoCommand =
     (m : ArgMatches) × HasMatchesOf line words m × (command_in m ≡ None) × (abort_in m ≡ None)
+IsMisused words Validation = (is_validation words ≡ true) × (validation_in words ≡ None)
 IsMisused words NoMemory = ⊤

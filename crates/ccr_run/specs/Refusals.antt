@@ -9,10 +9,11 @@ use Rattle.ccr_core.specs.declared.fault.CoreFault.{CoreFault}
 use Rattle.ccr_core.specs.declared.fault.CoreFault.TheVariants as core_fault
 use Rattle.ccr_serve.specs.declared.fault.ServeFault.{ServeFault}
 use Rattle.ccr_serve.specs.declared.fault.ServeFault.TheVariants.{Core, Store, Read, File, BadPin, NoMemory, Closed, TurnsUsedUp}
+use Rattle.ccr_store.specs.Faults.{open_fault_of}
 use Rattle.ccr_run.specs.declared.failure.Failure.{Failure}
 use Rattle.ccr_look.specs.declared.fault.CopyFault.{CopyFault}
 use Rattle.ccr_look.specs.declared.fault.CopyFault.TheVariants as copy
-use Rattle.ccr_run.specs.declared.failure.Failure.TheVariants.{Locked, Refused, Unread, Unfound}
+use Rattle.ccr_run.specs.declared.failure.Failure.TheVariants.{Locked, Unopened, Refused, Unread, Unfound}
 use Rattle.ccr_run.specs.declared.refusal.Refusal.{Refusal}
 
 -- the words of a refusal, a path in the pipeline's text, and the status
@@ -23,7 +24,7 @@ pub record RefusalData : Type 0 where
 
 -- what a value of the program's type stands for
 abbrev pub refusal_data : Refusal → RefusalData
-refusal_data r = record { words = r.words.now; path = option_map (λ path. path.now) r.path; status = r.status }
+refusal_data r = record { words = r.words.now; path = option_map (λ path. string_bytes path.now) r.path; status = r.status }
 
 -- the words, and the path behind them where there is one
 abbrev pub text_at : Text → Option Text → Text
@@ -111,6 +112,7 @@ of_copy copy.NoMemory = broken (codes "out of memory")
 -- HOW A FAILURE READS; a database that another program has open is a fault of the disk
 abbrev pub refusal_of : Failure → RefusalData
 refusal_of Locked = of_store store.Disk
+refusal_of (Unopened error) = of_store (open_fault_of error)
 refusal_of (Refused fault) = of_server fault
 refusal_of (Unread fault) = of_copy fault
 refusal_of (Unfound fault) = of_store fault

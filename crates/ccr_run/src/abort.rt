@@ -1,25 +1,27 @@
 //! A build is asked to be aborted. No database is opened: another `ccr_run` may have it open, and runs the build.
-ghost use Rattle.std.specs.Prelude.{◌≡◌};
-ghost use Rattle.std.specs.Process.{exit_status};
-ghost use Rattle.ccr_run.specs.Aborting.{abort_status, Asks, IsAsked, IsTold};
+ghost use Rattle.std.specs.Prelude.{◌≡◌, ◌≤◌, ◌++◌, None, true, length, string_bytes, IfOk, OnOk, OnErr};
+ghost use Rattle.ccr_pipeline.specs.Kinds.{is_name};
+ghost use Rattle.ccr_run.specs.Aborting.{abort_status, asked_line, Asks};
 ghost use Rattle.ccr_run.specs.Aborting as spec;
+ghost use Rattle.ccr_run.specs.Explained.{nothing_told, told_data};
 ghost use Rattle.ccr_run.specs.Refusals.{refusal_data};
+ghost use Rattle.ccr_run.specs.Statuses.{printed_status};
 
 use crate::order::AbortOrder;
 use crate::refusal::{Refusal, broken, refused};
 use crate::run::places_of;
+use crate::telling::Telling;
+use ccr_lines::Lines;
 use ccr_pipeline::is_name;
-use ccr_task::{Folders, Shelf, ShelfFault, ask_abort};
-use std::alloc::Global;
-use std::io;
-use std::process::ExitCode;
+use ccr_task::{Shelf, ShelfFault, ask_abort};
+use std::alloc::{AllocError, Global};
 
 /// Why a build isn't asked to be aborted.
 #[derive(Clone, Copy, PartialEq, Eq)]
 pub enum AbortFault {
     /// No job can have the name.
     NoJob,
-    /// The folder that asks for it can't be made.
+    /// The directory that asks for it can't be made.
     NotWritten,
     /// Out of memory.
     NoMemory,
@@ -36,15 +38,21 @@ fn refusal_of<'a>(fault: AbortFault) -> Refusal<'a>
     }
 }
 
-/// Asks for the build that is ordered to be aborted, by a folder of the shelf. Which jobs there are stands in the database;
-/// here the name is one that a job may have.
-fn ask<S: Shelf>(alloc: Global, shelf: &mut S, order: &AbortOrder<'_>) -> Result<(), AbortFault>
-    ensures { Asks order.now (S.calls shelf.old) result (S.calls shelf.new) }
+/// The line that says that the build is asked to be aborted.
+fn asked_line(alloc: Global, order: &AbortOrder<'_>) -> Result<String, AllocError>
+    ensures { IfOk result (λ line. string_bytes line ≡ asked_line order.now) }
+{
+    let job = order.build.job;
+    let number = order.build.number;
+    format!(in alloc; "abort asked: {job} {number}\n")
+}
+
+/// Asks for the build that is ordered to be aborted, by a directory of the shelf.
+fn ask<F: Shelf>(alloc: Global, shelf: &mut F, order: &AbortOrder<'_>) -> Result<(), AbortFault>
+    requires { is_name order.now.build.job.now ≡ true }
+    ensures { Asks order.now (F.calls shelf.old) result (F.calls shelf.new) }
 {
     let build = order.build;
-    if !is_name(build.job) {
-        return Err(AbortFault::NoJob);
-    }
     let options = order.options;
     let Ok(places) = places_of(alloc, options.types, options.work, options.launcher) else {
         return Err(AbortFault::NoMemory);
@@ -53,6 +61,49 @@ fn ask<S: Shelf>(alloc: Global, shelf: &mut S, order: &AbortOrder<'_>) -> Result
         Ok(()) => Ok(()),
         Err(ShelfFault::Failed) => Err(AbortFault::NotWritten),
         Err(ShelfFault::TooLong | ShelfFault::NoMemory) => Err(AbortFault::NoMemory),
+    }
+}
+
+/// The line that says that the build is asked to be aborted, once there is room for it.
+fn line_with_room<O: Lines>(
+    alloc: Global,
+    order: &AbortOrder<'_>,
+    out: &mut O,
+) -> Result<String, AllocError>
+    ensures line { IfOk result (λ line. string_bytes line ≡ asked_line order.now) }
+    ensures room { IfOk result (λ line. length (string_bytes line) ≤ O.room out.new) }
+    ensures same { O.written out.new ≡ O.written out.old }
+{
+    let line = asked_line(alloc, order)?;
+    out.make_room(line.len())?;
+    Ok(line)
+}
+
+/// Asks for the build that is ordered to be aborted, by a directory of the shelf, and prints that it is asked. Which jobs there are
+/// stands in the database; here the name is one that a job may have.
+pub fn abort_build<F: Shelf, O: Lines>(
+    alloc: Global,
+    shelf: &mut F,
+    order: &AbortOrder<'_>,
+    out: &mut O,
+) -> Result<(), AbortFault>
+    ensures asks { Asks order.now (F.calls shelf.old) result (F.calls shelf.new) }
+    ensures asked { OnOk result (O.written out.new ≡ O.written out.old ++ asked_line order.now) }
+    ensures refused { OnErr result (O.written out.new ≡ O.written out.old) }
+{
+    if !is_name(order.build.job) {
+        return Err(AbortFault::NoJob);
+    }
+    let Ok(line) = line_with_room(alloc, order, out) else {
+        return Err(AbortFault::NoMemory);
+    };
+    match ask(alloc, shelf, order) {
+        Ok(()) => {
+            out.add(line.as_str().as_bytes());
+            out.hand_out();
+            Ok(())
+        }
+        Err(fault) => Err(fault),
     }
 }
 
@@ -66,46 +117,32 @@ fn status_of(end: &Result<(), AbortFault>) -> u8
     }
 }
 
-/// Prints that the build is asked to be aborted, or on standard error why it isn't.
-fn print_end<R: Print + Eprint>(
-    rt: &R,
-    order: &AbortOrder<'_>,
-    end: &Result<(), AbortFault>,
-) -> io::Result<()> {
+/// Tells why a build isn't asked to be aborted.
+fn tell_refusal<R: Eprint>(telling: &mut Telling<'_, '_, R>, end: &Result<(), AbortFault>)
+    requires { (told_data telling.old).refusal ≡ None }
+    ensures { told_data telling.new ≡ record (told_data telling.old) { refusal = spec.refusal_in end.now } }
+{
     match end {
-        Ok(()) => {
-            let job = order.build.job;
-            let number = order.build.number;
-            println!(rt; "abort asked: {job} {number}")
-        }
-        Err(fault) => {
-            let refusal = refusal_of(*fault);
-            let _ = eprintln!(rt; "{refusal}");
-            Ok(())
-        }
+        Ok(()) => {}
+        Err(fault) => telling.refusal(refusal_of(*fault)),
     }
 }
 
-/// Tells what came of an order to ask, and gives the exit status: 4 where the line didn't go out.
-fn tell<R: Print + Eprint>(rt: &R, order: &AbortOrder<'_>, end: &Result<(), AbortFault>) -> ExitCode
-    ensures { IsTold end.now (exit_status result) }
+/// Tells what came of an order to ask, and gives the status: 0 where it is asked, 1 where no job can have the name, and 4 where
+/// the directory can't be made, memory runs out, or the line doesn't go out.
+pub fn tell_abort<R: Eprint>(
+    telling: &mut Telling<'_, '_, R>,
+    end: &Result<(), AbortFault>,
+    is_printed: bool,
+) -> u8
+    requires { told_data telling.old ≡ nothing_told }
+    ensures status { result ≡ printed_status is_printed (abort_status end.now) }
+    ensures told { told_data telling.new ≡ spec.told_of end.now is_printed }
 {
-    match print_end(rt, order, end) {
-        Ok(()) => ExitCode::from(status_of(end)),
-        Err(_) => {
-            let _ = eprintln!(rt; "refused: standard output: cannot write");
-            ExitCode::from(4)
-        }
+    tell_refusal(telling, end);
+    if is_printed {
+        return status_of(end);
     }
-}
-
-/// Asks for the build that is ordered to be aborted, by a folder of the machine, and tells what came of it. The exit status
-/// is 0 where it is asked, 1 where no job can have the name, and 4 where the folder can't be made, memory is refused, or the
-/// line doesn't go out.
-pub fn abort_build(rt: &HostRuntime, order: &AbortOrder<'_>) -> ExitCode
-    ensures { IsAsked order.now (exit_status result) }
-{
-    let mut folders = Folders::new(rt, rt.alloc());
-    let end = ask(rt.alloc(), &mut folders, order);
-    tell(rt, order, &end)
+    telling.unprinted();
+    4
 }

@@ -6,13 +6,16 @@ ghost use Rattle.ccr_serve.specs.declared.fault.ServeFault.TheVariants.{Store};
 use ccr_look::CopyFault;
 use ccr_serve::ServeFault;
 use ccr_store::StoreFault;
+use sqlite::Error;
 
 /// Why a command has no status.
 #[derive(Drop)]
 pub enum Failure {
     /// Another program has the database open.
     Locked,
-    /// The database isn't opened, or the server ends the command early.
+    /// The database can't be opened: what SQLite answered.
+    Unopened(Error),
+    /// No server is made, or it ends the command early.
     Refused(ServeFault),
     /// There is no database to look at, or it can't be read.
     Unread(CopyFault),

@@ -1,22 +1,41 @@
 //! What is found in a pipeline's file: told beside `set-pipeline`, and by `validate-pipeline`, which opens no database.
+ghost use Rattle.std.specs.Prelude.{◌≡◌, ◌++◌, None, Some, Ok, Err, map, option_map, option_copied, slice_get, string_bytes, IfOk, IfErr, OnOk, OnErr};
+ghost use Rattle.ccr_run.specs.Explained.{told_data, has_set, AreGates};
+ghost use Rattle.ccr_run.specs.Found.{Finds, FindsIn, Validates, findings_text, is_option, validation_data};
+ghost use Rattle.ccr_run.specs.Found as spec;
 
 use crate::failure::Failure;
 use crate::refusal::refusal_of;
-use ccr_command::{Findings, Kind, findings_of, is_faultless};
+use crate::telling::Telling;
+use ccr_command::{Finding, Findings, findings_of, is_faultless};
 use ccr_core::Command;
+use ccr_lines::Lines;
 use ccr_pipeline::{ReadFault, read};
 use ccr_serve::ServeFault;
-use ccr_task::{Folders, Shelf, ShelfFault};
+use ccr_task::{Shelf, ShelfFault};
 use serde_json::Value;
-use std::alloc::Global;
-use std::io;
-use std::process::ExitCode;
+use std::alloc::{AllocError, Global};
 
 /// The word of the command that opens no database.
-const VALIDATE: &str = "validate-pipeline";
+pub const VALIDATE: &str = "validate-pipeline";
+
+/// The option that has a validation be strict.
+const STRICT: &str = "--strict";
+
+/// A pipeline's file that is to be validated.
+#[derive(Clone, Copy, PartialEq, Eq)]
+pub struct Validation<'a> {
+    /// The file's path.
+    pub path: &'a str,
+    /// Whether anything but a gate is a reason to refuse the pipeline.
+    pub is_strict: bool,
+}
 
 /// What a text's pipeline has. `Read` where it is refused.
-fn findings_of_text(alloc: Global, text: &[u8]) -> Result<Findings, ServeFault> {
+fn findings_of_text(alloc: Global, text: &[u8]) -> Result<Findings, ServeFault>
+    ensures ok { IfOk result (λ findings. Finds text.now (Ok findings.items)) }
+    ensures err { IfErr result (λ fault. Finds text.now (Err fault)) }
+{
     let pipeline = match read(alloc, text) {
         Ok(pipeline) => pipeline,
         Err(ReadFault::NoMemory) => return Err(ServeFault::NoMemory),
@@ -32,7 +51,11 @@ fn findings_of_text(alloc: Global, text: &[u8]) -> Result<Findings, ServeFault> 
 }
 
 /// What the pipeline in the file at this path has. `File` where that can't be read.
-fn findings_in<S: Shelf>(alloc: Global, shelf: &mut S, path: &str) -> Result<Findings, ServeFault> {
+fn findings_in<F: Shelf>(alloc: Global, shelf: &mut F, path: &str) -> Result<Findings, ServeFault>
+    ensures ok { IfOk result (λ findings.
+        FindsIn path.now (Ok findings.items) (F.calls shelf.old) (F.calls shelf.new)) }
+    ensures err { IfErr result (λ fault. FindsIn path.now (Err fault) (F.calls shelf.old) (F.calls shelf.new)) }
+{
     match shelf.read_file(path) {
         Ok(text) => findings_of_text(alloc, &text),
         Err(ShelfFault::NoMemory) => Err(ServeFault::NoMemory),
@@ -41,85 +64,187 @@ fn findings_in<S: Shelf>(alloc: Global, shelf: &mut S, path: &str) -> Result<Fin
     }
 }
 
-/// Says on standard error what was found in a pipeline, but for keys of Concourse that have no effect: `set-pipeline` lists those.
-fn tell_findings<R: Eprint>(rt: &R, findings: &Findings) -> io::Result<()> {
-    for finding in findings {
-        if finding.kind != Kind::Unused {
-            let line = finding.line.as_str();
-            eprintln!(rt; "{line}")?;
-        }
+/// Whether a command has set a pipeline.
+fn has_set(command: &Command, end: &Result<u8, Failure>) -> bool
+    ensures { result ≡ has_set command.now end.now }
+{
+    match command {
+        Command::SetPipeline(_) => match end {
+            Ok(status) => *status == 0,
+            Err(_) => false,
+        },
+        _ => false,
     }
-    Ok(())
 }
 
-/// Says on standard error what a pipeline has, where the command has set one.
-pub fn tell_gates(rt: &HostRuntime, command: &Command, end: &Result<u8, Failure>) {
-    let (Command::SetPipeline(path), Ok(0)) = (command, end) else {
+/// Says on standard error what is found in this text of a pipeline, where the command has set one.
+pub fn tell_gates<R: Eprint>(
+    alloc: Global,
+    telling: &mut Telling<'_, '_, R>,
+    command: &Command,
+    end: &Result<u8, Failure>,
+    text: Option<&[u8]>,
+)
+    requires { (told_data telling.old).gates ≡ None }
+    ensures gates { AreGates (has_set command.now end.now) (option_copied text.entry) (told_data telling.new).gates }
+    ensures rest { told_data telling.new ≡ record (told_data telling.old) { gates = (told_data telling.new).gates } }
+{
+    if !has_set(command, end) {
+        return;
+    }
+    let Some(text) = text else {
         return;
     };
-    let mut folders = Folders::new(rt, rt.alloc());
-    if let Ok(findings) = findings_in(rt.alloc(), &mut folders, path.as_str()) {
-        let _ = tell_findings(rt, &findings);
+    if let Ok(findings) = findings_of_text(alloc, text) {
+        telling.gates(&findings);
+    }
+}
+
+// ---- validations
+
+/// The word at a place, if there is one.
+fn word_at(words: &[String], at: usize) -> Option<&str>
+    ensures { option_map (λ word. word.now) result ≡ slice_get (map string_bytes words.now) at }
+{
+    match words.get(at) {
+        Some(word) => Some(word.as_str()),
+        None => None,
     }
 }
 
 /// Whether the words are those of `validate-pipeline`.
-pub fn is_validation(words: &[String]) -> bool {
-    match words.get(1) {
-        Some(word) => word.as_str() == VALIDATE,
+pub fn is_validation(words: &[String]) -> bool
+    ensures { result ≡ spec.is_validation (map string_bytes words.now) }
+{
+    match word_at(words, 1) {
+        Some(word) => word == VALIDATE,
         None => false,
     }
 }
 
-/// The file that `validate-pipeline` names, and whether it is to be strict.
-fn validation_of(words: &[String]) -> Option<(&str, bool)> {
-    match (words.get(2), words.get(3), words.get(4)) {
-        (Some(file), None, None) if !file.as_str().starts_with("-") => Some((file.as_str(), false)),
-        (Some(file), Some(flag), None) if flag.as_str() == "--strict" => Some((
-            file.as_str(),
-            true,
-        )),
-        (Some(flag), Some(file), None) if flag.as_str() == "--strict" => Some((
-            file.as_str(),
-            true,
-        )),
-        _ => None,
+/// Whether a word is an option.
+fn is_option(word: &str) -> bool
+    ensures { result ≡ is_option word.now }
+{
+    match word.as_bytes().first() {
+        Some(first) => *first == b'-',
+        None => false,
     }
 }
 
-/// Prints what was found.
-fn print_findings<R: Print>(rt: &R, findings: &Findings) -> io::Result<()> {
-    for finding in findings {
-        let line = finding.line.as_str();
-        println!(rt; "{line}")?;
+/// What two words behind the command's order, or one.
+fn validation_with<'a>(first: &'a str, second: Option<&'a str>) -> Option<Validation<'a>>
+    ensures { option_map validation_data result ≡ spec.validation_with first.now (option_map (λ word. word.now) second.entry) }
+{
+    match second {
+        None if is_option(first) => None,
+        None => Some(Validation {
+            path: first,
+            is_strict: false,
+        }),
+        Some(second) if second == STRICT => Some(Validation {
+            path: first,
+            is_strict: true,
+        }),
+        Some(second) if first == STRICT => Some(Validation {
+            path: second,
+            is_strict: true,
+        }),
+        Some(_) => None,
     }
+}
+
+/// The file that `validate-pipeline` names, and whether it is to be strict. None where the words behind the command are others.
+pub fn validation_of(words: &[String]) -> Option<Validation<'_>>
+    ensures { option_map validation_data result ≡ spec.validation_in (map string_bytes words.now) }
+{
+    let Some(first) = word_at(words, 2) else {
+        return None;
+    };
+    if word_at(words, 4).is_some() {
+        return None;
+    }
+    validation_with(first, word_at(words, 3))
+}
+
+/// The lines of what was found.
+fn text_of(alloc: Global, findings: &[Finding]) -> Result<String, AllocError>
+    ensures { IfOk result (λ text. string_bytes text ≡ findings_text findings.now) }
+{
+    let mut text = String::new(alloc);
+    for finding in findings {
+        text.push_str(finding.line.as_str())?;
+        text.push_str("\n")?;
+    }
+    Ok(text)
+}
+
+/// Writes these bytes, and hands them out.
+pub fn print<O: Lines>(out: &mut O, bytes: &[u8]) -> Result<(), AllocError>
+    ensures shown { OnOk result (O.written out.new ≡ O.written out.old ++ bytes.now) }
+    ensures refused { OnErr result (O.written out.new ≡ O.written out.old) }
+{
+    out.make_room(bytes.len())?;
+    out.add(bytes);
+    out.hand_out();
     Ok(())
 }
 
-/// Says why nothing was found, and gives the status.
-fn tell_fault<R: Eprint>(rt: &R, fault: ServeFault) -> u8 {
-    let failure = Failure::Refused(fault);
-    let refusal = refusal_of(&failure);
-    let _ = eprintln!(rt; "{refusal}");
-    refusal.status
+/// Prints the lines of what was found. The only error is out of memory.
+fn print_findings<O: Lines>(
+    alloc: Global,
+    out: &mut O,
+    findings: &[Finding],
+) -> Result<(), AllocError>
+    ensures shown { OnOk result (O.written out.new ≡ O.written out.old ++ findings_text findings.now) }
+    ensures refused { OnErr result (O.written out.new ≡ O.written out.old) }
+{
+    let text = text_of(alloc, findings)?;
+    print(out, text.as_str().as_bytes())
 }
 
-/// Says on standard output what is found in a pipeline's file. The status is 0, 1 where it is refused or something in it doesn't do
-/// what it seems to say (with `--strict`: where anything but gates is found), 2 for other words, and 4 where the file can't be
-/// read or the lines can't be printed.
-pub fn validate(rt: &HostRuntime, words: &[String]) -> ExitCode {
-    let Some((path, is_strict)) = validation_of(words) else {
-        let _ = eprintln!(rt; "usage: ccr_run {VALIDATE} FILE [--strict]");
-        return ExitCode::from(2);
-    };
-    let mut folders = Folders::new(rt, rt.alloc());
-    let findings = match findings_in(rt.alloc(), &mut folders, path) {
+/// Prints what is found in a pipeline's file. Whether nothing of it is a reason to refuse the pipeline: nothing in it doesn't do what it
+/// seems to say, and where the validation is strict, nothing but gates is found.
+///
+/// `Read` where the text is refused, `File` where the file can't be read, and `NoMemory`.
+pub fn validate<F: Shelf, O: Lines>(
+    alloc: Global,
+    shelf: &mut F,
+    validation: &Validation<'_>,
+    out: &mut O,
+) -> Result<bool, ServeFault>
+    ensures { Validates (validation_data validation.now) result (F.calls shelf.old) (F.calls shelf.new)
+        (O.written out.old) (O.written out.new) }
+{
+    let findings = match findings_in(alloc, shelf, validation.path) {
         Ok(findings) => findings,
-        Err(fault) => return ExitCode::from(tell_fault(rt, fault)),
+        Err(fault) => return Err(fault),
     };
-    match print_findings(rt, &findings) {
-        Ok(()) if is_faultless(&findings, is_strict) => ExitCode::from(0),
-        Ok(()) => ExitCode::from(1),
-        Err(_) => ExitCode::from(4),
+    match print_findings(alloc, out, &findings) {
+        Ok(()) => Ok(is_faultless(&findings, validation.is_strict)),
+        Err(_) => Err(ServeFault::NoMemory),
+    }
+}
+
+/// Tells why a pipeline's file was refused, and gives the status: 0, 1 where something is a reason to refuse the pipeline, and 4
+/// where not all lines went out; or that of the refusal.
+pub fn tell_validation<R: Eprint>(
+    telling: &mut Telling<'_, '_, R>,
+    end: Result<bool, ServeFault>,
+    is_printed: bool,
+) -> u8
+    requires { (told_data telling.old).refusal ≡ None }
+    ensures status { result ≡ spec.validated_status end is_printed }
+    ensures told { told_data telling.new ≡ record (told_data telling.old) { refusal = spec.refusal_in end } }
+{
+    match end {
+        Ok(is_good) if is_printed => if is_good { 0 } else { 1 },
+        Ok(_) => 4,
+        Err(fault) => {
+            let failure = Failure::Refused(fault);
+            let refusal = refusal_of(&failure);
+            telling.refusal(refusal);
+            refusal.status
+        }
     }
 }

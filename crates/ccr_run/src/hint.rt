@@ -1,5 +1,6 @@
 //! What to do about a refusal.
 ghost use Rattle.std.specs.Prelude.{◌≡◌, option_map};
+ghost use Rattle.ccr_run.specs.Hints.{hint_data};
 ghost use Rattle.ccr_run.specs.Hints as spec;
 
 use crate::failure::Failure;
@@ -8,6 +9,16 @@ use ccr_look::CopyFault;
 use ccr_pipeline::ReadFault;
 use ccr_serve::ServeFault;
 use ccr_store::StoreFault;
+use sqlite::{Error, ErrorCode};
+
+/// What to do, with the path of the database that it is about, if it is about one.
+#[derive(Clone, Copy, PartialEq, Eq)]
+pub struct Hint<'a> {
+    /// The database's path.
+    pub path: Option<&'a str>,
+    /// What to do.
+    pub words: &'static str,
+}
 
 /// What to do about a fault of the server, where that helps.
 fn of_server(fault: &ServeFault) -> Option<&'static str>
@@ -32,7 +43,7 @@ fn of_server(fault: &ServeFault) -> Option<&'static str>
             "the file isn't a database of ccr_run in format 1 or 2; name another one, or use a newer ccr_run",
         ),
         ServeFault::Store(StoreFault::Disk) => Some(
-            "is the file a database? is the disk full or read-only? may you write the file and its directory? what was printed is kept",
+            "is the disk full or read-only? may you write the file and its directory? what was printed is kept",
         ),
         ServeFault::File => Some("is the file there, and may you read it?"),
         ServeFault::NoMemory | ServeFault::Store(StoreFault::NoMemory) => Some(
@@ -100,17 +111,74 @@ fn of_status(status: u8) -> Option<&'static str>
     }
 }
 
-/// What to do about how a command ended, where that helps.
-pub fn hint_of(end: &Result<u8, Failure>) -> Option<&'static str>
-    ensures { option_map (λ hint. hint.now) result ≡ spec.hint_of end.now }
+/// What to do, whichever database it is.
+fn bare<'a>(words: &'static str) -> Hint<'a>
+    ensures { hint_data result ≡ spec.bare words.now }
+{
+    Hint { path: None, words }
+}
+
+/// What to do about the database at a path.
+fn about<'a>(path: &'a str, words: &'static str) -> Hint<'a>
+    ensures { hint_data result ≡ spec.about path.now words.now }
+{
+    Hint {
+        path: Some(path),
+        words,
+    }
+}
+
+/// What to do about the database at a path that can't be opened.
+fn of_open<'a>(path: &'a str, error: &Error) -> Hint<'a>
+    ensures { hint_data result ≡ spec.of_open path.now error.now }
+{
+    match error {
+        Error::SqliteFailure(ErrorCode::OutOfMemory) => bare(
+            "what was printed is kept; try again with more memory",
+        ),
+        Error::SqliteFailure(ErrorCode::NotADatabase) => about(
+            path,
+            "the file is no database; name another one",
+        ),
+        Error::SqliteFailure(ErrorCode::DatabaseCorrupt) => about(
+            path,
+            "the database is damaged; bring back a copy of it",
+        ),
+        Error::SqliteFailure(ErrorCode::DiskFull) => about(path, "the disk is full; make room"),
+        Error::SqliteFailure(ErrorCode::TooBig) => about(
+            path,
+            "the file is too large for a database",
+        ),
+        Error::SqliteFailure(ErrorCode::CannotOpen) => about(
+            path,
+            "it can't be opened; is it a file, and may you read and write it and its directory?",
+        ),
+        _ => about(path, "it can't be read or written; is the disk in order?"),
+    }
+}
+
+/// What to do, whichever database it is, where that helps.
+fn each<'a>(words: Option<&'static str>) -> Option<Hint<'a>>
+    ensures { option_map hint_data result ≡ option_map spec.bare (option_map (λ words. words.now) words.entry) }
+{
+    match words {
+        Some(words) => Some(bare(words)),
+        None => None,
+    }
+}
+
+/// What to do about how a command ended over the database at a path, where that helps.
+pub fn hint_of<'a>(path: &'a str, end: &Result<u8, Failure>) -> Option<Hint<'a>>
+    ensures { option_map hint_data result ≡ spec.hint_of path.now end.now }
 {
     match end {
-        Ok(status) => of_status(*status),
-        Err(Failure::Locked) => Some(
+        Ok(status) => each(of_status(*status)),
+        Err(Failure::Locked) => Some(bare(
             "another program has the database open; try again when it has ended (examples/operating/ccr waits for it)",
-        ),
-        Err(Failure::Refused(fault)) => of_server(fault),
-        Err(Failure::Unread(fault)) => Some(of_copy(*fault)),
-        Err(Failure::Unfound(fault)) => of_bytes(*fault),
+        )),
+        Err(Failure::Unopened(error)) => Some(of_open(path, error)),
+        Err(Failure::Refused(fault)) => each(of_server(fault)),
+        Err(Failure::Unread(fault)) => Some(bare(of_copy(*fault))),
+        Err(Failure::Unfound(fault)) => each(of_bytes(*fault)),
     }
 }

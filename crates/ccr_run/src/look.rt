@@ -1,26 +1,26 @@
 //! A look is taken: the database is read, and not opened.
 ghost use Rattle.std.specs.Prelude.{◌≡◌, ◌≤◌, ◌++◌, not};
-ghost use Rattle.std.specs.Process.{exit_status};
 ghost use Rattle.ccr_core.specs.Cores.{core_data};
 ghost use Rattle.ccr_proof.specs.declared.proof.TheConstants.{MOST_NODES};
+ghost use Rattle.ccr_run.specs.Explained.{explained, nothing_told, told_data};
 ghost use Rattle.ccr_run.specs.Looked.{Looked, ShownOf, shown_end};
 ghost use Rattle.ccr_run.specs.Statuses.{exit_status_of};
 ghost use Rattle.ccr_run.specs.declared.run.Outcome.{Outcome as OutcomeData};
 
 use crate::failure::Failure;
+use crate::opener::FileOpener;
 use crate::order::LookOrder;
 use crate::run::Outcome;
 use crate::tell::tell;
 use crate::telling::Telling;
-use ccr_core::Core;
+use ccr_core::{Command, Core};
 use ccr_lines::{AsText, Lines, Printed, Show, ShowFault};
-use ccr_look::{Scratch, copy, look};
+use ccr_look::{Scratch, look};
 use ccr_serve::ServeFault;
-use sqlite::FileStore;
+use sqlite::{FileStore, Start};
 use sqlite_trees::store::Store as Trees;
 use std::alloc::Global;
 use std::io::Write;
-use std::process::ExitCode;
 
 /// How it ended that something was shown.
 fn handed_on(end: Result<u8, ShowFault>) -> Result<u8, Failure>
@@ -50,9 +50,10 @@ fn show_of<W: Write, E: Write>(
 }
 
 /// Reads the database that is named, and shows what is looked at of the history in it.
-fn see<W: Write, E: Write>(
-    rt: &HostRuntime,
-    order: &LookOrder<'_>,
+fn see<'a, S: Start, W: Write, E: Write>(
+    alloc: Global,
+    order: &LookOrder<'a>,
+    opener: &FileOpener<'a, S>,
     out: &mut Printed<W, E>,
 ) -> Result<u8, Failure>
     requires least { 1 ≤ order.now.options.budget }
@@ -60,32 +61,37 @@ fn see<W: Write, E: Write>(
     ensures { Looked ⟦<FileStore<Scratch> as Trees>⟧ order.now result
         (out.old.shown ++ out.old.waiting) (out.new.shown ++ out.new.waiting) }
 {
-    let copied = match copy(rt, order.options.database) {
+    let copied = match opener.read(order.options.database) {
         Ok(copied) => copied,
         Err(fault) => return Err(Failure::Unread(fault)),
     };
-    match look(rt.alloc(), copied, order.options.budget) {
-        Ok(core) => show_of(rt.alloc(), &core, order, out),
+    match look(alloc, copied, order.options.budget) {
+        Ok(core) => show_of(alloc, &core, order, out),
         Err(fault) => Err(Failure::Unfound(fault)),
     }
 }
 
-/// Looks at what is ordered, and tells what came of it: the exit status. No lock is taken, and nothing is written but the lines.
-pub fn look_at<W: Write, E: Write>(
-    rt: &HostRuntime,
-    order: LookOrder<'_>,
+/// Looks at what is ordered, and tells what came of it: the status. No lock is taken, and nothing is written but the lines.
+pub fn look_at<'a, S: Start, W: Write, E: Write, P: Eprint>(
+    alloc: Global,
+    order: LookOrder<'a>,
+    opener: &FileOpener<'a, S>,
     out: &mut Printed<W, E>,
-) -> ExitCode
+    telling: &mut Telling<'_, 'a, P>,
+) -> u8
     requires least { 1 ≤ order.options.budget }
     requires most { order.options.budget ≤ MOST_NODES }
+    requires untold { told_data telling.old ≡ nothing_told }
     ensures { (outcome : OutcomeData) × Looked ⟦<FileStore<Scratch> as Trees>⟧ order.entry outcome.end
         (out.old.shown ++ out.old.waiting) (out.new.shown ++ out.new.waiting)
-        × (outcome.is_printed ≡ not out.new.failed) × (exit_status result ≡ exit_status_of outcome) }
+        × (outcome.is_printed ≡ not out.new.failed)
+        × (told_data telling.new
+        ≡ explained (record { options = order.entry.options; command = Command.Show order.entry.what }) outcome)
+        × (result ≡ exit_status_of outcome) }
 {
     let outcome = Outcome {
-        end: see(rt, &order, out),
+        end: see(alloc, &order, opener, out),
         is_printed: !out.has_failed(),
     };
-    let mut telling = Telling::new(rt);
-    tell(&mut telling, &order.into_order(), &outcome)
+    tell(telling, &order.into_order(), &outcome)
 }

@@ -4,6 +4,9 @@
 //! standard output as they come; a refusal, with a hint below it, to standard error. What a command does is said by the
 //! contract of [`Server::command`](ccr_serve::Server::command). That a build be aborted is asked beside the server, and
 //! opens no database. A look opens none either: it reads the files, and shows what is stored in them.
+//!
+//! `answer` alone has the runtime. It makes what starts programs, holds directories, opens the database and prints, and gives
+//! these to [`obey`](obey::obey), whose contract says what they were used for.
 #![tactic(auto)]
 
 mod abort;
@@ -11,8 +14,10 @@ mod database;
 mod failure;
 mod found;
 mod hint;
+mod left;
 mod look;
 mod naming;
+mod obey;
 mod opener;
 mod order;
 mod refusal;
@@ -20,34 +25,24 @@ mod run;
 mod tell;
 mod telling;
 
-ghost use Rattle.std.specs.Prelude.{◌≡◌, ◌++◌, None, IsSome, map, string_bytes};
+ghost use Rattle.std.specs.Prelude.{Result, IfErr, map, string_bytes, ℕ};
 ghost use Rattle.std.specs.Process.{exit_status};
-ghost use Rattle.sqlite_wal.specs.Files.{image_at};
-ghost use Rattle.ccr_run.specs.Asked.{asked_by};
-ghost use Rattle.ccr_run.specs.Databases.{begins_with};
-ghost use Rattle.ccr_look.specs.Unfound.{IsUnfound};
-ghost use Rattle.ccr_run.specs.Looked.{LookedBeside};
-ghost use Rattle.ccr_run.specs.Obeyed.{Obeyed};
+ghost use Rattle.ccr_run.specs.Obeyed.{IsEnd};
+ghost use Rattle.ccr_run.specs.Orders.{IsMisused};
+ghost use Rattle.ccr_run.specs.declared.order.Misuse.{Misuse as MisuseData};
 
-use abort::abort_build;
-use ccr_history::Storage;
 use ccr_lines::Printed;
-use ccr_look::Scratch;
-use ccr_process::{Machine, Runner};
-use ccr_task::{Folders, Shelf};
-use database::Database;
-use found::{is_validation, tell_gates, validate};
-use look::look_at;
+use ccr_task::Folders;
+use left::Tools;
 use naming::Naming;
+use obey::{Done, obey};
 use opener::Opener;
-use order::{Misuse, Ordered, ordered_by};
-use run::run;
-use sqlite::{FileFrom, FileStore, Start, Unknown};
-use sqlite_trees::store::Store as Trees;
-use std::io::{ErrorKind, Write};
+use order::Misuse;
+use sqlite::Unknown;
+use std::io::ErrorKind;
 use std::process::ExitCode;
 use std::{env, io};
-use tell::{tell, tell_misuse};
+use tell::tell_misuse;
 use telling::Telling;
 
 /// The fault of words that can't be read: one of them is no text, or memory was refused.
@@ -67,47 +62,31 @@ fn words(rt: &HostRuntime) -> Result<Vec<String>, Misuse> {
     }
 }
 
-/// Does what the words order, and tells what came of it: the exit status.
-fn obey<'a, S: Start, W: Write, E: Write>(
-    rt: &'a HostRuntime,
-    words: &'a [String],
-    opener: &mut Opener<'a, S>,
-    out: &mut Printed<W, E>,
-) -> ExitCode
-    requires unopened { IsSome opener.old.start }
-    requires unasked { opener.old.asked ≡ None }
-    ensures { Obeyed ⟦<Naming<'a, Machine<&'a HostRuntime>> as Runner>⟧.pairs ⟦<Folders<&'a HostRuntime> as Shelf>⟧.calls
-        ⟦<Database<FileStore<FileFrom<S>>> as Storage>⟧.holds
-        ⟦<Database<FileStore<FileFrom<S>>> as Storage>⟧.leaves
-        ⟦<Database<FileStore<FileFrom<S>>> as Storage>⟧.tally (begins_with (image_at S.Start))
-        (IsUnfound ⟦<FileStore<FileFrom<S>> as Trees>⟧ (image_at S.Start))
-        (LookedBeside ⟦<FileStore<Scratch> as Trees>⟧ ⟦<FileStore<FileFrom<S>> as Trees>⟧)
-        (map string_bytes words.now) (asked_by opener.new)
-        (out.old.shown ++ out.old.waiting) (out.new.shown ++ out.new.waiting) out.new.failed (exit_status result) }
+/// Does what the words order with the machine and with the files as they are, of which nothing is known.
+fn answer<'a>(rt: &'a HostRuntime, words: &'a [String]) -> ExitCode
+    ensures { (end : Result ℕ MisuseData) × IsEnd end (exit_status result)
+        × IfErr end (IsMisused (map string_bytes words.now)) }
 {
-    match ordered_by(rt.alloc(), words) {
-        Ok(Ordered::Abort(order)) => abort_build(rt, &order),
-        Ok(Ordered::Look(order)) => look_at(rt, order, out),
-        Ok(Ordered::Command(order)) => {
-            let outcome = run(rt, &order, opener, out);
-            tell_gates(rt, &order.command, &outcome.end);
-            let mut telling = Telling::new(rt);
-            tell(&mut telling, &order, &outcome)
-        }
+    let alloc = rt.alloc();
+    let tools = Tools {
+        runner: Naming::new(rt, alloc),
+        shelf: Folders::new(rt, alloc),
+    };
+    let mut opener = Opener::new(rt, Unknown);
+    let mut out = Printed::new(alloc, io::writer(rt), rt.stderr());
+    let mut telling = Telling::new(rt);
+    let Done {
+        status,
+        left: _left,
+    } = obey(alloc, words, tools, &mut opener, &mut out, &mut telling);
+    match status {
+        Ok(status) => ExitCode::from(status),
         Err(misuse) => tell_misuse(rt, &misuse),
     }
 }
 
-/// Does what the words order with the files as they are, of which nothing is known.
-fn answer(rt: &HostRuntime, words: &[String]) -> ExitCode {
-    let mut opener = Opener::new(rt, Unknown);
-    let mut out = Printed::new(rt.alloc(), io::writer(rt), rt.stderr());
-    obey(rt, words, &mut opener, &mut out)
-}
-
 fn main(rt: HostRuntime) -> ExitCode {
     match words(&rt) {
-        Ok(words) if is_validation(&words) => validate(&rt, &words),
         Ok(words) => answer(&rt, &words),
         Err(misuse) => tell_misuse(&rt, &misuse),
     }

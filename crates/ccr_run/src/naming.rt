@@ -1,24 +1,29 @@
 //! Programs of checks that don't start are named, and so is a launcher of them.
 
-use ccr_process::{Ended, Launch, Runner};
+use ccr_process::{Ended, Launch, Machine, Runner};
+use std::alloc::Global;
 
-/// Runs launches by another runner, and names the program of a check that didn't start on standard error, or the launcher
+/// Runs launches by the machine, and names the program of a check that didn't start on standard error, or the launcher
 /// that was to start it: the line on standard output says only that one didn't. The server itself names a step's program
 /// that didn't start.
 #[derive(Drop)]
-pub struct Naming<'a, R: Runner> {
-    runner: R,
+pub struct Naming<'a> {
+    runner: Machine<&'a HostRuntime>,
     rt: &'a HostRuntime,
 }
 
-impl<'a, R: Runner> Naming<'a, R> {
-    ghost use Rattle.std.specs.Prelude.{◌≡◌};
+impl<'a> Naming<'a> {
+    ghost use Rattle.std.specs.Prelude.{◌≡◌, []};
+    ghost use Rattle.ccr_process.specs.Runs.{machine_pairs};
 
-    /// Runs launches by this runner.
-    pub fn new(rt: &'a HostRuntime, runner: R) -> Naming<'a, R>
-        ensures { R.pairs result.runner ≡ R.pairs runner }
+    /// Runs launches by the machine, which has run none.
+    pub fn new(rt: &'a HostRuntime, alloc: Global) -> Naming<'a>
+        ensures { machine_pairs result.runner ≡ [] }
     {
-        Naming { runner, rt }
+        Naming {
+            runner: Machine::new(rt, alloc),
+            rt,
+        }
     }
 }
 
@@ -32,8 +37,10 @@ fn is_check(launch: &Launch) -> bool {
     launch.keep && is_named
 }
 
-impl<'a, R: Runner> Runner for Naming<'a, R> {
-    ghost pairs = { λ naming. R.pairs naming.runner };
+impl<'a> Runner for Naming<'a> {
+    ghost use Rattle.ccr_process.specs.Runs.{machine_pairs};
+
+    ghost pairs = { λ naming. machine_pairs naming.runner };
 
     fn run(&mut self, launch: &Launch) -> Ended {
         let end = self.runner.run(launch);

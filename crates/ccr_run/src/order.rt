@@ -77,6 +77,8 @@ pub enum Misuse {
     Option(OptionFault),
     /// No command is named, or a value of it is out of its range.
     NoCommand,
+    /// They are those of `validate-pipeline`, and don't name one file.
+    Validation,
     /// Out of memory.
     NoMemory,
 }

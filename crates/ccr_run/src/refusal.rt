@@ -1,5 +1,5 @@
 //! How a refusal reads.
-ghost use Rattle.std.specs.Prelude.{◌≡◌, option_map, string_bytes};
+ghost use Rattle.std.specs.Prelude.{◌≡◌, string_bytes};
 ghost use Rattle.ccr_run.specs.Refusals.{refusal_data};
 ghost use Rattle.ccr_run.specs.Refusals as spec;
 
@@ -8,7 +8,7 @@ use ccr_core::CoreFault;
 use ccr_look::CopyFault;
 use ccr_pipeline::ReadFault;
 use ccr_serve::ServeFault;
-use ccr_store::StoreFault;
+use ccr_store::{StoreFault, open_fault_of};
 use std::fmt;
 
 /// The words of a refusal, with the path of what is refused where there is one, and the status that the program ends
@@ -18,7 +18,7 @@ pub struct Refusal<'a> {
     /// The words.
     pub words: &'static str,
     /// The path in the pipeline's text.
-    pub path: Option<&'a str>,
+    pub path: Option<&'a String>,
     /// The status.
     pub status: u8,
 }
@@ -32,7 +32,10 @@ impl fmt::Display for Refusal<'_> {
     fn fmt<W: fmt::Write>(&self, f: &mut fmt::Formatter<W>) -> fmt::Result {
         let words = self.words;
         match self.path {
-            Some(path) => write!(f, "refused: {words} at {path}"),
+            Some(path) => {
+                let path = path.as_str();
+                write!(f, "refused: {words} at {path}")
+            }
             None => write!(f, "refused: {words}"),
         }
     }
@@ -66,7 +69,7 @@ fn at<'a>(words: &'static str, path: &'a String) -> Refusal<'a>
 {
     Refusal {
         words,
-        path: Some(path.as_str()),
+        path: Some(path),
         status: 1,
     }
 }
@@ -164,6 +167,7 @@ pub fn refusal_of(failure: &Failure) -> Refusal<'_>
 {
     match failure {
         Failure::Locked => of_store(StoreFault::Disk),
+        Failure::Unopened(error) => of_store(open_fault_of(error)),
         Failure::Refused(fault) => of_server(fault),
         Failure::Unread(fault) => of_copy(*fault),
         Failure::Unfound(fault) => of_store(*fault),

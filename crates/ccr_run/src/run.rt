@@ -1,5 +1,6 @@
 //! A command is done.
 ghost use Rattle.std.specs.Prelude.{◌≡◌, ◌≤◌, ◌++◌, ℕ, [], ◌∷◌, Some, None, Result, false, not, IsSome, IfOk, IfSome, option_map, string_bytes};
+ghost use Rattle.sqlite_std_file.specs.File.{IsFresh};
 ghost use Rattle.sqlite_wal.specs.Files.{image_at};
 ghost use Rattle.sqlite.specs.Files.{file_state, IsOpened};
 ghost use Rattle.sqlite.specs.Start.{FindsIn};
@@ -9,25 +10,23 @@ ghost use Rattle.ccr_proof.specs.declared.proof.TheConstants.{MOST_NODES};
 ghost use Rattle.ccr_task.specs.Places.{places_data};
 ghost use Rattle.ccr_serve.specs.Commanding.{CameOf};
 ghost use Rattle.ccr_core.specs.Commands.{command_data};
-ghost use Rattle.ccr_serve.specs.Views.{view_of, bare_view, IsReady};
+ghost use Rattle.ccr_serve.specs.Views.{view_of, bare_view, IsKept, IsReady};
 ghost use Rattle.ccr_run.specs.Asked.{asked_by};
-ghost use Rattle.ccr_run.specs.Databases.{begins_with};
-ghost use Rattle.ccr_look.specs.Unfound.{IsUnfound};
+ghost use Rattle.ccr_run.specs.Databases.{from_conn, from_files, from_history, BeginsWith};
 ghost use Rattle.ccr_run.specs.Served.{Did, Served, handed_on, places_in};
 
-use crate::database::Database;
+use crate::database::{Database, FileDatabase, Unloaded};
 use crate::failure::Failure;
-use crate::naming::Naming;
-use crate::opener::Opener;
+use crate::left::{Left, Tools};
+use crate::opener::{FileConnection, FileOpener};
 use crate::order::Order;
 use ccr_core::Command;
 use ccr_history::{History, Storage};
 use ccr_lines::{AsText, Lines, Printed};
-use ccr_process::{Machine, Runner};
+use ccr_process::Runner;
 use ccr_serve::{ServeFault, Server, Unopened};
-use ccr_task::{Folders, Places, Shelf};
-use sqlite::{Connection, FileFrom, FileStore, Start};
-use sqlite_trees::store::Store as Trees;
+use ccr_task::{Places, Shelf};
+use sqlite::Start;
 use std::alloc::{AllocError, Global};
 use std::io::Write;
 
@@ -38,6 +37,18 @@ pub struct Outcome {
     pub end: Result<u8, Failure>,
     /// Whether all lines went out.
     pub is_printed: bool,
+}
+
+/// What is left of a run over the database's files.
+pub type FilesLeft<R, F, S> = Left<R, F, FileDatabase<S>, FileConnection<S>>;
+
+/// What came of an order, and what is left.
+#[derive(Drop)]
+pub struct Ran<R, F, T, C> {
+    /// What came of the order.
+    pub outcome: Outcome,
+    /// What is left of what was given.
+    pub left: Left<R, F, T, C>,
 }
 
 /// A copy of a path, if there is one.
@@ -70,16 +81,17 @@ pub fn places_of(
 }
 
 /// Has a server do a command, and hands all its lines out.
-fn command<R: Runner, S: Shelf, T: Storage, W: Write, E: Write>(
-    server: &mut Server<R, S, T>,
+fn command<R: Runner, F: Shelf, T: Storage, W: Write, E: Write>(
+    server: &mut Server<R, F, T>,
     command: &Command,
     out: &mut Printed<W, E>,
 ) -> Result<u8, Failure>
-    requires ready { IsReady (bare_view R.Runner S.Shelf T.Storage server.old) }
-    ensures came { let view = view_of R.pairs S.calls T.holds T.leaves T.tally in
+    requires ready { IsReady (bare_view R.Runner F.Shelf T.Storage server.old) }
+    ensures came { let view = view_of R.pairs F.calls T.holds T.leaves T.tally in
         (answer : Result ℕ ServeFault) × (result ≡ handed_on answer)
         × CameOf (places_data server.old.places) (command_data command.now) answer
         (view server.old (out.old.shown ++ out.old.waiting)) (view server.new (out.new.shown ++ out.new.waiting)) }
+    ensures stands { IsKept (bare_view R.Runner F.Shelf T.Storage server.new) }
     ensures printed { out.new.failed ≡ false → out.new.waiting ≡ [] }
 {
     let end = server.command(&AsText, command, out);
@@ -87,141 +99,148 @@ fn command<R: Runner, S: Shelf, T: Storage, W: Write, E: Write>(
     Ok(end?)
 }
 
-/// Has a server do the command.
-fn serve_by<R: Runner + Drop, S: Shelf + Drop, T: Storage + Drop, W: Write, E: Write>(
-    server: Server<R, S, T>,
+/// Has a server do the command, and hands it back.
+fn serve_by<R: Runner, F: Shelf, T: Storage, W: Write, E: Write>(
+    server: Server<R, F, T>,
     order: &Order<'_>,
     out: &mut Printed<W, E>,
-) -> Result<u8, Failure>
-    requires ready { IsReady (bare_view R.Runner S.Shelf T.Storage server) }
+) -> (Result<u8, Failure>, Server<R, F, T>)
+    requires ready { IsReady (bare_view R.Runner F.Shelf T.Storage server) }
     requires places { places_data server.places ≡ places_in order.now }
-    ensures did { Did R.pairs S.calls T.holds T.leaves T.tally order.now server result
+    ensures did { Did R.Runner F.Shelf T.Storage order.now server result.0 result.1
         (out.old.shown ++ out.old.waiting) (out.new.shown ++ out.new.waiting) }
     ensures printed { out.new.failed ≡ false → out.new.waiting ≡ [] }
 {
     let mut server = server;
-    command(&mut server, &order.command, out)
+    let end = command(&mut server, &order.command, out);
+    (end, server)
 }
 
 /// Has a server over a database with its history do the command.
-fn serve_history<'a, S: Start, W: Write, E: Write>(
-    rt: &'a HostRuntime,
+fn serve_history<R: Runner + Drop, F: Shelf + Drop, S: Start, W: Write, E: Write>(
+    alloc: Global,
     order: &Order<'_>,
-    database: Database<FileStore<FileFrom<S>>>,
+    tools: Tools<R, F>,
+    database: FileDatabase<S>,
     history: History,
     places: Places,
     out: &mut Printed<W, E>,
-) -> Result<u8, Failure>
+) -> (Result<u8, Failure>, FilesLeft<R, F, S>)
     requires least { 1 ≤ order.now.options.budget }
     requires most { order.now.options.budget ≤ MOST_NODES }
-    requires holds { ⟦<Database<FileStore<FileFrom<S>>> as Storage>⟧.holds database history }
-    requires leaves { ⟦<Database<FileStore<FileFrom<S>>> as Storage>⟧.leaves database (history ∷ []) }
-    requires found { begins_with (image_at S.Start) database history }
+    requires holds { ⟦<FileDatabase<S> as Storage>⟧.holds database history }
+    requires leaves { ⟦<FileDatabase<S> as Storage>⟧.leaves database (history ∷ []) }
+    requires found { BeginsWith (image_at S.Start) database history }
     requires readable { IfSome history.text IsReadable }
     requires places { places_data places ≡ places_in order.now }
-    ensures served { Served ⟦<Naming<'a, Machine<&'a HostRuntime>> as Runner>⟧.pairs ⟦<Folders<&'a HostRuntime> as Shelf>⟧.calls
-        ⟦<Database<FileStore<FileFrom<S>>> as Storage>⟧.holds
-        ⟦<Database<FileStore<FileFrom<S>>> as Storage>⟧.leaves
-        ⟦<Database<FileStore<FileFrom<S>>> as Storage>⟧.tally (begins_with (image_at S.Start))
-        (IsUnfound ⟦<FileStore<FileFrom<S>> as Trees>⟧ (image_at S.Start))
-        order.now (Some order.now.options.database.now) result
+    ensures served { Served R.Runner F.Shelf ⟦<FileDatabase<S> as Storage>⟧ (from_history (image_at S.Start)) order.now
+        (Some order.now.options.database.now) tools result.0 result.1
         (out.old.shown ++ out.old.waiting) (out.new.shown ++ out.new.waiting) }
     ensures printed { out.old.waiting ≡ [] → out.new.failed ≡ false → out.new.waiting ≡ [] }
 {
-    let alloc = rt.alloc();
-    let runner = Naming::new(rt, Machine::new(rt, alloc));
-    let folders = Folders::new(rt, alloc);
+    let Tools { runner, shelf } = tools;
     let budget = order.options.budget;
-    match Server::open(
-        alloc, runner, folders, database, history, places, budget, out,
-    ) {
-        Ok(server) => serve_by(server, order, out),
-        Err(Unopened { fault, storage: _ }) => Err(Failure::Refused(fault)),
+    match Server::open(alloc, runner, shelf, database, history, places, budget, out) {
+        Ok(server) => {
+            let (end, server) = serve_by(server, order, out);
+            (end, Left::Served(server))
+        }
+        Err(
+            Unopened {
+                fault,
+                runner,
+                shelf,
+                storage,
+            },
+        ) => (
+            Err(Failure::Refused(fault)),
+            Left::Unbegun(Tools { runner, shelf }, storage),
+        ),
     }
 }
 
 /// Has a server over a database that was opened do the command.
-fn serve_database<'a, S: Start, W: Write, E: Write>(
-    rt: &'a HostRuntime,
+fn serve_database<R: Runner + Drop, F: Shelf + Drop, S: Start, W: Write, E: Write>(
+    alloc: Global,
     order: &Order<'_>,
-    conn: Connection<FileStore<FileFrom<S>>>,
+    tools: Tools<R, F>,
+    conn: FileConnection<S>,
     places: Places,
     out: &mut Printed<W, E>,
-) -> Result<u8, Failure>
+) -> (Result<u8, Failure>, FilesLeft<R, F, S>)
     requires least { 1 ≤ order.now.options.budget }
     requires most { order.now.options.budget ≤ MOST_NODES }
     requires idle { (file_state conn).in_transaction ≡ false }
     requires opened { HasCleanDisk (file_state conn) → IsOpened conn }
     requires found { HasCleanDisk (file_state conn) → FindsIn (image_at S.Start) (file_state conn) }
     requires places { places_data places ≡ places_in order.now }
-    ensures served { Served ⟦<Naming<'a, Machine<&'a HostRuntime>> as Runner>⟧.pairs ⟦<Folders<&'a HostRuntime> as Shelf>⟧.calls
-        ⟦<Database<FileStore<FileFrom<S>>> as Storage>⟧.holds
-        ⟦<Database<FileStore<FileFrom<S>>> as Storage>⟧.leaves
-        ⟦<Database<FileStore<FileFrom<S>>> as Storage>⟧.tally (begins_with (image_at S.Start))
-        (IsUnfound ⟦<FileStore<FileFrom<S>> as Trees>⟧ (image_at S.Start))
-        order.now (Some order.now.options.database.now) result
+    ensures served { Served R.Runner F.Shelf ⟦<FileDatabase<S> as Storage>⟧ (from_conn (image_at S.Start) conn) order.now
+        (Some order.now.options.database.now) tools result.0 result.1
         (out.old.shown ++ out.old.waiting) (out.new.shown ++ out.new.waiting) }
     ensures printed { out.old.waiting ≡ [] → out.new.failed ≡ false → out.new.waiting ≡ [] }
 {
-    match Database::load(rt.alloc(), conn) {
-        Ok((database, history)) => serve_history(rt, order, database, history, places, out),
-        Err(fault) => Err(Failure::from(fault)),
+    match Database::load(alloc, conn) {
+        Ok((database, history)) => serve_history(
+            alloc, order, tools, database, history, places, out,
+        ),
+        Err(Unloaded { fault, conn }) => (Err(Failure::from(fault)), Left::Unfound(tools, conn)),
     }
 }
 
 /// Opens the database, and has a server over it do the command.
-fn serve<'a, S: Start, W: Write, E: Write>(
-    rt: &'a HostRuntime,
+fn serve<'a, R: Runner + Drop, F: Shelf + Drop, S: Start, W: Write, E: Write>(
+    alloc: Global,
     order: &Order<'a>,
-    opener: &mut Opener<'a, S>,
+    tools: Tools<R, F>,
+    opener: &mut FileOpener<'a, S>,
     out: &mut Printed<W, E>,
-) -> Result<u8, Failure>
+) -> (Result<u8, Failure>, FilesLeft<R, F, S>)
     requires least { 1 ≤ order.now.options.budget }
     requires most { order.now.options.budget ≤ MOST_NODES }
     requires unopened { IsSome opener.old.start }
     requires unasked { opener.old.asked ≡ None }
-    ensures served { Served ⟦<Naming<'a, Machine<&'a HostRuntime>> as Runner>⟧.pairs ⟦<Folders<&'a HostRuntime> as Shelf>⟧.calls
-        ⟦<Database<FileStore<FileFrom<S>>> as Storage>⟧.holds
-        ⟦<Database<FileStore<FileFrom<S>>> as Storage>⟧.leaves
-        ⟦<Database<FileStore<FileFrom<S>>> as Storage>⟧.tally (begins_with (image_at S.Start))
-        (IsUnfound ⟦<FileStore<FileFrom<S>> as Trees>⟧ (image_at S.Start))
-        order.now (asked_by opener.new) result (out.old.shown ++ out.old.waiting) (out.new.shown ++ out.new.waiting) }
+    ensures served { Served R.Runner F.Shelf ⟦<FileDatabase<S> as Storage>⟧
+        (from_files (image_at S.Start) (λ is_log file. IsFresh is_log file) opener.new.answer) order.now (asked_by opener.new) tools
+        result.0 result.1 (out.old.shown ++ out.old.waiting) (out.new.shown ++ out.new.waiting) }
     ensures printed { out.old.waiting ≡ [] → out.new.failed ≡ false → out.new.waiting ≡ [] }
 {
     let options = order.options;
-    let Ok(places) = places_of(rt.alloc(), options.types, options.work, options.launcher) else {
-        return Err(Failure::Refused(ServeFault::NoMemory));
+    let Ok(places) = places_of(alloc, options.types, options.work, options.launcher) else {
+        return (
+            Err(Failure::Refused(ServeFault::NoMemory)),
+            Left::Unopened(tools),
+        );
     };
     match opener.open(order.options.database) {
-        Ok(conn) => serve_database(rt, order, conn, places, out),
-        Err(failure) => Err(failure),
+        Ok(conn) => serve_database(alloc, order, tools, conn, places, out),
+        Err(failure) => (Err(failure), Left::Unopened(tools)),
     }
 }
 
 /// Does what is ordered. The lines go out as they come.
-pub fn run<'a, S: Start, W: Write, E: Write>(
-    rt: &'a HostRuntime,
+pub fn run<'a, R: Runner + Drop, F: Shelf + Drop, S: Start, W: Write, E: Write>(
+    alloc: Global,
     order: &Order<'a>,
-    opener: &mut Opener<'a, S>,
+    tools: Tools<R, F>,
+    opener: &mut FileOpener<'a, S>,
     out: &mut Printed<W, E>,
-) -> Outcome
+) -> Ran<R, F, FileDatabase<S>, FileConnection<S>>
     requires least { 1 ≤ order.now.options.budget }
     requires most { order.now.options.budget ≤ MOST_NODES }
     requires unopened { IsSome opener.old.start }
     requires unasked { opener.old.asked ≡ None }
-    ensures served { Served ⟦<Naming<'a, Machine<&'a HostRuntime>> as Runner>⟧.pairs ⟦<Folders<&'a HostRuntime> as Shelf>⟧.calls
-        ⟦<Database<FileStore<FileFrom<S>>> as Storage>⟧.holds
-        ⟦<Database<FileStore<FileFrom<S>>> as Storage>⟧.leaves
-        ⟦<Database<FileStore<FileFrom<S>>> as Storage>⟧.tally (begins_with (image_at S.Start))
-        (IsUnfound ⟦<FileStore<FileFrom<S>> as Trees>⟧ (image_at S.Start))
-        order.now (asked_by opener.new) result.end
-        (out.old.shown ++ out.old.waiting) (out.new.shown ++ out.new.waiting) }
-    ensures printed { result.is_printed ≡ not out.new.failed }
+    ensures served { Served R.Runner F.Shelf ⟦<FileDatabase<S> as Storage>⟧
+        (from_files (image_at S.Start) (λ is_log file. IsFresh is_log file) opener.new.answer) order.now (asked_by opener.new) tools
+        result.outcome.end result.left (out.old.shown ++ out.old.waiting) (out.new.shown ++ out.new.waiting) }
+    ensures printed { result.outcome.is_printed ≡ not out.new.failed }
     ensures whole { out.old.waiting ≡ [] → out.new.failed ≡ false → out.new.waiting ≡ [] }
 {
-    let end = serve(rt, order, opener, out);
-    Outcome {
-        end,
-        is_printed: !out.has_failed(),
+    let (end, left) = serve(alloc, order, tools, opener, out);
+    Ran {
+        outcome: Outcome {
+            end,
+            is_printed: !out.has_failed(),
+        },
+        left,
     }
 }

@@ -7,6 +7,7 @@ ghost use Rattle.ccr_run.specs.Obeyed.{IsTold};
 ghost use Rattle.ccr_run.specs.Statuses as spec;
 
 use crate::failure::Failure;
+use crate::found::VALIDATE;
 use crate::hint::hint_of;
 use crate::order::{Misuse, Order};
 use crate::refusal::refusal_of;
@@ -52,8 +53,8 @@ fn tell_budget<R: Eprint>(
     order: &Order<'_>,
     end: &Result<u8, Failure>,
 )
-    requires { told_data telling.old ≡ nothing_told }
-    ensures { told_data telling.new ≡ record nothing_told { budget = budget_over order.now end.now } }
+    requires { (told_data telling.old).budget ≡ None }
+    ensures { told_data telling.new ≡ record (told_data telling.old) { budget = budget_over order.now end.now } }
 {
     if is_over_budget(&order.command, end) {
         telling.over_budget(order.options.budget);
@@ -61,7 +62,7 @@ fn tell_budget<R: Eprint>(
 }
 
 /// Tells why a command is refused.
-fn tell_refusal<'e, R: Eprint>(telling: &mut Telling<'_, 'e, R>, end: &'e Result<u8, Failure>)
+fn tell_refusal<R: Eprint>(telling: &mut Telling<'_, '_, R>, end: &Result<u8, Failure>)
     requires { (told_data telling.old).refusal ≡ None }
     ensures { told_data telling.new ≡ record (told_data telling.old) { refusal = refusal_in end.now } }
 {
@@ -71,36 +72,41 @@ fn tell_refusal<'e, R: Eprint>(telling: &mut Telling<'_, 'e, R>, end: &'e Result
     }
 }
 
-/// Tells what to do about how a command ended, where that helps.
-fn tell_hint<R: Eprint>(telling: &mut Telling<'_, '_, R>, end: &Result<u8, Failure>)
+/// Tells what to do about how a command ended over the database at a path, where that helps.
+fn tell_hint<'e, R: Eprint>(
+    telling: &mut Telling<'_, 'e, R>,
+    path: &'e str,
+    end: &Result<u8, Failure>,
+)
     requires { (told_data telling.old).hint ≡ None }
-    ensures { told_data telling.new ≡ record (told_data telling.old) { hint = hint_of end.now } }
+    ensures { told_data telling.new ≡ record (told_data telling.old) { hint = hint_of path.now end.now } }
 {
-    match hint_of(end) {
+    match hint_of(path, end) {
         Some(hint) => telling.hint(hint),
         None => {}
     }
 }
 
-/// Tells what came of an order, and gives the exit status: the command's own, or that of its refusal; 4 where not all
-/// lines went out. An error of standard error changes nothing.
+/// Tells what came of an order, and gives the status: the command's own, or that of its refusal; 4 where not all lines went
+/// out. An error of standard error changes nothing. What is found in a pipeline that was set may be told before.
 pub fn tell<'e, R: Eprint>(
     telling: &mut Telling<'_, 'e, R>,
-    order: &Order<'_>,
-    outcome: &'e Outcome,
-) -> ExitCode
-    requires { told_data telling.old ≡ nothing_told }
-    ensures status { exit_status result ≡ spec.exit_status_of outcome.now }
-    ensures told { told_data telling.new ≡ explained order.now outcome.now }
+    order: &Order<'e>,
+    outcome: &Outcome,
+) -> u8
+    requires { told_data telling.old ≡ record nothing_told { gates = (told_data telling.old).gates } }
+    ensures status { result ≡ spec.exit_status_of outcome.now }
+    ensures told { told_data telling.new
+        ≡ record (explained order.now outcome.now) { gates = (told_data telling.old).gates } }
 {
     tell_budget(telling, order, &outcome.end);
     tell_refusal(telling, &outcome.end);
-    tell_hint(telling, &outcome.end);
+    tell_hint(telling, order.options.database, &outcome.end);
     if outcome.is_printed {
-        return ExitCode::from(status_of(&outcome.end));
+        return status_of(&outcome.end);
     }
     telling.unprinted();
-    ExitCode::from(4)
+    4
 }
 
 /// Prints what `clap` answers: help to standard output, and a misuse to standard error.
@@ -114,6 +120,7 @@ fn print_misuse<R: Print + Eprint>(rt: &R, misuse: &Misuse) -> io::Result<()> {
         Misuse::NoCommand => eprintln!(rt;
             "error: no command\n\nFor more information, try '--help'."
         ),
+        Misuse::Validation => eprintln!(rt; "usage: ccr_run {VALIDATE} FILE [--strict]"),
         Misuse::NoMemory => eprintln!(rt; "refused: out of memory"),
     }
 }

@@ -45,9 +45,9 @@ gave_again job again number turn x r v w n same full made = record {
 }
 
 -- the core refused the answer, and errored wasn't given
-kept_away_again : (e : EventData) (g : CoreFault) (f : ServeFault) (v w n : View) → Made e (Err g) v w → Unmade f w n
-    → Unmade f v n
-kept_away_again e g f v w n full un = record {
+kept_away_again : (e d : EventData) (g : CoreFault) (f : ServeFault) (v w n : View) → Made e (Err g) v w → Unmade d f w n
+    → Unmade d f v n
+kept_away_again e d g f v w n full un = record {
   back = back f un.back;
   holds = subst (λ c. n.holds c.history) full.refused un.holds;
   crash = λ s is. un.crash s (subst (λ c. Stands c s) (sym full.refused) is);
@@ -75,8 +75,14 @@ module _ (job again : Text) (number turn : ℕ) (x : AnswerData) (v w n : View) 
     given (Ok r) h = gave_again job again number turn x r v w n same full h
     given (Err f) h = tt
 
-  pub unmade_again : IfErr answered (λ f. Unmade f w n) → IfErr answered (λ f. Unmade f v n)
-  unmade_again un = kept answered un where
-    kept : (a : Result Reply ServeFault) → IfErr a (λ f. Unmade f w n) → IfErr a (λ f. Unmade f v n)
+  pub unmade_again : again ≡ job → IfErr answered (λ f. Unmade (answer again number turn errored) f w n)
+      → IfErr answered (λ f. (given : AnswerData) × Unmade (answer job number turn given) f v n)
+  unmade_again same un = kept answered un where
+    kept : (a : Result Reply ServeFault) → IfErr a (λ f. Unmade (answer again number turn errored) f w n)
+        → IfErr a (λ f. (given : AnswerData) × Unmade (answer job number turn given) f v n)
     kept (Ok r) h = tt
-    kept (Err f) h = kept_away_again (answer job number turn x) TableFull f v w n full h
+    kept (Err f) h = (
+      errored,
+      subst (λ j. Unmade (answer j number turn errored) f v n) same
+          (kept_away_again (answer job number turn x) (answer again number turn errored) TableFull f v w n full h),
+    )

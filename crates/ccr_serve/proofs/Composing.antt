@@ -3,7 +3,7 @@ use Rattle.std.proofs.Common.{◌≡◌, ◌++◌, ℕ, List, [], ◌∷◌, Boo
 use Rattle.ccr_process.specs.Runs.{Pair}
 use Rattle.ccr_core.specs.State.{State}
 use Rattle.ccr_task.specs.Calls.{CallData}
-use Rattle.ccr_serve.specs.Items.{World, Item, Done, Serve, Each, Part, Items, Then, pairs_of, lines_of_all}
+use Rattle.ccr_serve.specs.Items.{Loss, no_loss, World, Item, Done, Serve, Each, Part, Items, Then, pairs_of, lines_of_all}
 use Rattle.ccr_serve.specs.Taken.{taken_in}
 use Rattle.ccr_serve.specs.Views.{View, world_of, IsReady, HasAsked, StandsAt, Called, Calls}
 use Rattle.ccr_serve.proofs.Commits.{taken_in-append, rose_none, asked_none, asked_then}
@@ -30,14 +30,14 @@ each-append S (i ∷ is) js old mid new [] es a b = absurd a
 each-append S (i ∷ is) js old mid new (d ∷ ds) es (w, one, rest) b =
     (w, one, each-append S is js w mid new ds es rest b)
 
-abbrev world_at : State → ℕ → List CallData → Option Pair → World
+abbrev world_at : State → ℕ → List CallData → Loss → World
 world_at s last calls lost = record { core = s; last = last; calls = calls; lost = lost }
 
 -- a server that stands for a world's state is there
-pub at_world : (v : View) (w : World) → v.last ≡ w.last → v.calls ≡ w.calls → w.lost ≡ None → world_of v w.core ≡ w
+pub at_world : (v : View) (w : World) → v.last ≡ w.last → v.calls ≡ w.calls → w.lost ≡ no_loss → world_of v w.core ≡ w
 at_world v w last calls lost =
-    ap (λ n. world_at w.core n v.calls None) last
-    ∙ (ap (λ cs. world_at w.core w.last cs None) calls ∙ ap (λ o. world_at w.core w.last w.calls o) (sym lost))
+    ap (λ n. world_at w.core n v.calls no_loss) last
+    ∙ (ap (λ cs. world_at w.core w.last cs no_loss) calls ∙ ap (λ o. world_at w.core w.last w.calls o) (sym lost))
 
 module _ (A B : Part) (v0 v1 v2 : View) (s : State) (whole : Bool) where
   pub called_then : (a : Called A v0 s true v1) → Called B v1 a.now.core whole v2 → Called (Then A B) v0 s whole v2
@@ -83,15 +83,15 @@ module _ (A B : Part) (v0 v1 v2 : View) (s : State) (whole : Bool) where
     first : v1.pairs ≡ v0.pairs ++ pairs_of a.dones
     first = a.pairs
         ∙ ap (λ ps. v0.pairs ++ ps)
-        (ap (λ o. pairs_of a.dones ++ option_to_list o) a.few ∙ append-nil (pairs_of a.dones))
+        (ap (λ (o : Loss). pairs_of a.dones ++ option_to_list o.pair) a.few ∙ append-nil (pairs_of a.dones))
 
-    pairs : v2.pairs ≡ v0.pairs ++ (pairs_of (a.dones ++ b.dones) ++ option_to_list b.now.lost)
+    pairs : v2.pairs ≡ v0.pairs ++ (pairs_of (a.dones ++ b.dones) ++ option_to_list b.now.lost.pair)
     pairs = b.pairs
-        ∙ (ap (λ ps. ps ++ (pairs_of b.dones ++ option_to_list b.now.lost)) first
-        ∙ (append_assoc v0.pairs (pairs_of a.dones) (pairs_of b.dones ++ option_to_list b.now.lost)
+        ∙ (ap (λ ps. ps ++ (pairs_of b.dones ++ option_to_list b.now.lost.pair)) first
+        ∙ (append_assoc v0.pairs (pairs_of a.dones) (pairs_of b.dones ++ option_to_list b.now.lost.pair)
         ∙ ap (λ ps. v0.pairs ++ ps)
-        (sym (append_assoc (pairs_of a.dones) (pairs_of b.dones) (option_to_list b.now.lost))
-        ∙ ap (λ ps. ps ++ option_to_list b.now.lost) (sym (pairs_of-append a.dones b.dones)))))
+        (sym (append_assoc (pairs_of a.dones) (pairs_of b.dones) (option_to_list b.now.lost.pair))
+        ∙ ap (λ ps. ps ++ option_to_list b.now.lost.pair) (sym (pairs_of-append a.dones b.dones)))))
 
 -- one call after another is a call of both
 pub calls_then : {A B : Part} {v0 v1 v2 : View} {whole : Bool} → Calls A v0 true v1 → Calls B v1 whole v2
@@ -148,7 +148,7 @@ calls_none S {v} ready = record {
     commits = rose_none v.tally.commits;
     lines = sym (append-nil v.lines);
     holds = subst v.holds h.0 ready.holds;
-    crash = leaves_ready v s ready h;
+    crash = leaves_ready _ v s ready h;
     stands = (ready.is_open, h, refl);
   };
 }
@@ -166,7 +166,7 @@ calls_back S is {v} ready = record {
     commits = asked_none v.tally.commits;
     lines = sym (append-nil v.lines);
     holds = subst v.holds h.0 ready.holds;
-    crash = leaves_ready v s ready h;
+    crash = leaves_ready _ v s ready h;
     stands = subst (λ c. StandsAt false c (world_of v s) v) (sym ready.is_open) (h, refl);
   };
 }

@@ -1,5 +1,5 @@
 -- Calls for folders that a shelf does in order, and what a build leaves.
-use Rattle.std.proofs.Common.{◌≡◌, ◌≢◌, ◌<◌, ◌+◌, ◌++◌, ℕ, suc, List, [], ◌∷◌, length, drop, get_or, map, Bool, true, is_ok, String, string_bytes, Result, Ok, Err, IfOk, OnErr, refl, sym, ◌∙◌, ap, subst, append_assoc, drop-cons, arith, inl, inr}
+use Rattle.std.proofs.Common.{◌≡◌, ◌≢◌, ◌<◌, ◌+◌, ◌++◌, ℕ, suc, List, [], ◌∷◌, length, drop, get_or, map, Bool, true, is_ok, Option, Some, IfSome, String, string_bytes, Result, Ok, Err, refl, sym, ◌∙◌, ap, subst, append_assoc, drop-cons, arith, inl, inr}
 use Rattle.std.specs.declared.alloc.Global.{Global}
 use Rattle.ccr_history.specs.Text.{Text}
 use Rattle.ccr_steps.specs.Asks.{ask_data}
@@ -12,7 +12,8 @@ use Rattle.ccr_task.specs.Places.{PlacesData, build_folder, abort_folder}
 use Rattle.ccr_task.specs.declared.fault.ShelfFault.{ShelfFault}
 use Rattle.ccr_task.specs.declared.fault.ShelfFault.TheVariants.{Failed, TooLong, NoMemory}
 use Rattle.ccr_serve.specs.Asked.{ask_folders}
-use Rattle.ccr_serve.specs.Aborts.{is_asked, AbortIsAsked, Clears}
+use Rattle.ccr_serve.specs.Aborts.{is_asked, AbortIsAsked, AreLeftovers, Clears, Forgets}
+use Rattle.ccr_serve.specs.declared.leftovers.Leftovers.{Leftovers}
 
 -- the folder was made at a path that is another's equal
 pub made_at : (before after : List CallData) (r : Result Unit ShelfFault) (p q : Text)
@@ -138,11 +139,36 @@ asked_so folder r before mid after first second = (Ok true, r, calls, told r) wh
   told (Ok done) = refl
   told (Err f) = refl
 
--- what a build that ended leaves was removed, and it was looked for what asks for its abort, unless memory was refused
-pub cleared : {E : Type 0} (places : PlacesData) (job : Text) (number : ℕ) (o : Outcome)
-    (before mid after : List CallData) (removed : Result Unit ShelfFault) (asked : Result Bool E)
-    → Does (removing (build_folder places job number) ∷ []) before removed mid
-    → IfOk asked (λ a. AbortIsAsked (abort_folder places job number) a mid after)
-    → OnErr asked (after ≡ mid) → Clears places job number (Ends o) before after
-cleared places job number o before mid after removed (Ok a) did looked same = (removed, mid, did, inr (a, looked))
-cleared places job number o before mid after removed (Err e) did looked same = (removed, mid, did, inl same)
+-- what asks for an abort was looked for under the path that was made for it
+pub took_so : (places : PlacesData) (job : Text) (number : ℕ) (left : Leftovers) (request : Text) (asked is : Bool)
+    (before after : List CallData) → AreLeftovers places job number left → request ≡ string_bytes left.request → asked ≡ is
+    → AbortIsAsked request asked before after → AbortIsAsked (abort_folder places job number) is before after
+took_so places job number left request asked is before after are named same took =
+    subst (λ b. AbortIsAsked (abort_folder places job number) b before after) same
+    (subst (λ p. AbortIsAsked p asked before after) (named ∙ are.request) took)
+
+-- what a build that ended leaves was removed, and then it was looked for what asks for its abort
+pub cleared : (places : PlacesData) (job : Text) (number : ℕ) (o : Outcome) (left : Leftovers) (build request : Text)
+    (before mid after : List CallData) (removed : Result Unit ShelfFault) (asked : Bool) → AreLeftovers places job number left
+    → build ≡ string_bytes left.build → request ≡ string_bytes left.request → mid ≡ before ++ remove build removed ∷ []
+    → AbortIsAsked request asked mid after → Clears places job number (Ends o) before after
+cleared places job number o left build request before mid after removed asked are b r called took =
+    let first : mid ≡ before ++ remove (build_folder places job number) removed ∷ [] =
+    called ∙ ap (λ p. before ++ remove p removed ∷ []) (b ∙ are.build) in (
+      removed,
+      (
+        asked,
+        subst (λ m. AbortIsAsked (abort_folder places job number) asked m after) first
+            (took_so places job number left request asked asked mid after are r refl took),
+      ),
+    )
+
+-- what asks to abort a build that has ended at once was looked for
+pub forgotten : (places : PlacesData) (job : Text) (number : Option ℕ) (n : ℕ) (request : Text) (asked : Bool)
+    (before after : List CallData) → number ≡ Some n → IfSome number (λ m. request ≡ abort_folder places job m)
+    → AbortIsAsked request asked before after → Forgets places job number before after
+forgotten places job number n request asked before after is known took =
+    let named : request ≡ abort_folder places job n =
+    subst (λ o. IfSome o (λ m. request ≡ abort_folder places job m)) is known in
+    subst (λ o. Forgets places job o before after) (sym is)
+    (asked, subst (λ p. AbortIsAsked p asked before after) named took)

@@ -13,7 +13,7 @@ use Rattle.ccr_core.specs.Kept.{IsEvent}
 use Rattle.ccr_core.specs.State.{RunningData, State}
 use Rattle.ccr_core.specs.Steps.{Step}
 use Rattle.ccr_lines.specs.Lines.{lines_of}
-use Rattle.ccr_serve.specs.Commanding.{IsFit, HasJob, IsFirstReply, IsCheckStatus, trigger_status, Such, called, SetsPipeline, Pins, Consists, Commanded, Unended}
+use Rattle.ccr_serve.specs.Commanding.{IsFit, HasJob, IsFirstReply, IsCheckStatus, trigger_status, Such, called, MaySet, SetsPipeline, Pins, Consists, Commanded, Unended}
 use Rattle.ccr_serve.specs.Found.{FoundData, found, nothing}
 use Rattle.ccr_serve.specs.Items.{World, Item, check, schedule, turn, tell, show, Done, Each, IsCut, Part, Items, Then}
 use Rattle.ccr_serve.specs.Runs.{checks_and_schedules, TurnOfEach, Round, Rounds, ToTheEnd, UsedUp, Run, TriggerAndRun}
@@ -83,9 +83,9 @@ turn_begun places (Some x) old new b = b.core
 
 begun_same : (places : PlacesData) (i : Item) (old new : World) → BeginsItem places i old new → new.core ≡ old.core
 begun_same places (check resource) old new b = b.core
-begun_same places (schedule job) old new b = absurd b
+begun_same places (schedule job) old new b = ap (λ (w : World). w.core) b
 begun_same places turn old new b = turn_begun places (next_build old) old new b
-begun_same places (tell e) old new b = absurd b
+begun_same places (tell e) old new b = ap (λ (w : World). w.core) b
 begun_same places (show what status) old new b = absurd b
 
 cut_same : (places : PlacesData) (is : List Item) (old new : World) → IsCut (Serves places) is old new
@@ -165,7 +165,12 @@ triggered_led places job P leads =
 sets_led : (places : PlacesData) (path : Text) → PartLeads (SetsPipeline places path)
 sets_led places path old ds true new (bytes, p, are, each) =
     each_led places (tell (event.set_pipeline p) ∷ []) (called (shelf.read path (Ok bytes)) old) ds new each
-sets_led places path old ds false new (file, each) = each_led places [] (called (shelf.read path file) old) ds new each
+sets_led places path old ds false new (file, mid, each, may) =
+    led_same ds old.core mid.core new.core (each_led places [] (called (shelf.read path file) old) ds mid each) (same may)
+  where
+    same : MaySet file mid new → new.core ≡ mid.core
+    same (inl is) = ap (λ (w : World). w.core) is
+    same (inr (bytes, p, got, are, is)) = ap (λ (w : World). w.core) is
 
 pins_led : (places : PlacesData) (resource text : Text) → PartLeads (Pins places resource text)
 pins_led places resource text old ds true new (p, is, each) =

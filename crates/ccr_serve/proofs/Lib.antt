@@ -3,6 +3,7 @@ mod Commits
 mod Crash
 mod Leading
 mod Making
+mod Forgetting
 mod Openings
 mod Launching
 mod GoingRound

@@ -22,7 +22,7 @@ use Rattle.ccr_serve.specs.declared.fault.ServeFault.TheVariants as fault
 use Rattle.ccr_serve.proofs.Commits.{rose_none, asked_these}
 use Rattle.ccr_serve.proofs.Composing.{calls_back}
 use Rattle.ccr_serve.proofs.Crash.{leaves_ready}
-use Rattle.ccr_serve.proofs.Steps.{after, printed, MayStop, items_stop, cut_at_once, unmade_at_once, stops_item}
+use Rattle.ccr_serve.proofs.Steps.{after, printed, MayTell, items_stop, cut_at_once, unmade_at_once, stops_item}
 
 -- ---- nothing was done
 -- a server that has done nothing refuses
@@ -103,7 +103,7 @@ module _ {e : EventData} {f : CoreFault} {k : List CallData} {n : View} {l : Tex
       commits = asked_these v.tally.commits 0 n.tally.commits made.commits;
       lines = lines ∙ sym (append-nil v.lines);
       holds = subst n.holds (stands_still s h).0 made.ready.holds;
-      crash = leaves_ready n s made.ready (stands_still s h);
+      crash = leaves_ready _ n s made.ready (stands_still s h);
       stands = subst (λ b. StandsAt false b (world_of (with_calls n.calls v) s) (printed n l)) (sym made.ready.is_open)
           (stands_still s h, made.rest.last);
     };
@@ -134,10 +134,11 @@ came_stopped places c fault.Closed w stops cut = absurd (false≢true stops.0)
 came_stopped places c fault.TurnsUsedUp w stops cut = absurd stops
 
 -- the one event of a command isn't made
-pub came_unmade : {f : ServeFault} {n : View} {l : Text} (places : PlacesData) (c : CommandData) (v : View)
-    → MayStop (Commanded places c 0) → l ≡ v.lines → Unmade f (printed v []) n → CameOf places c (Err f) v (printed n l)
-came_unmade {f} {n} {l} places c v may lines un =
-    came_stopped places c f n (stops_item f (printed v []) n un) (unmade_at_once may lines un)
+pub came_unmade : {d e : EventData} {f : ServeFault} {n : View} {l : Text} (places : PlacesData) (c : CommandData) (v : View)
+    → d ≡ e → MayTell (Commanded places c 0) e → l ≡ v.lines → Unmade d f (printed v []) n
+    → CameOf places c (Err f) v (printed n l)
+came_unmade {d} {e} {f} {n} {l} places c v same may lines un =
+    came_stopped places c f n (stops_item f (printed v []) n un) (unmade_at_once same may lines un)
 
 -- a command stands as the items do that ended it early
 pub ends_so : (f : ServeFault) (v : View) → StopsItem false f v → Ends {A = ℕ} (Err f) v

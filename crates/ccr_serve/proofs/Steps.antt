@@ -3,6 +3,7 @@ use Rattle.std.proofs.Common.{◌≡◌, ◌++◌, ◌⊎◌, ◌&&◌, List, []
 use Rattle.std.proofs.lemmas.Bool.{false≢true}
 use Rattle.std.specs.Option.{option_map_or}
 use Rattle.ccr_history.specs.Text.{Text}
+use Rattle.ccr_history.specs.History.{HistoryData}
 use Rattle.ccr_history.specs.TextMap.{TextMap}
 use Rattle.ccr_pipeline.specs.JobData.{ResourceData}
 use Rattle.ccr_problem.specs.ProblemOf.{resource_of}
@@ -17,10 +18,11 @@ use Rattle.ccr_core.specs.Steps.{Step}
 use Rattle.ccr_lines.specs.Lines.{lines_of, refused_line, cause_words}
 use Rattle.ccr_lines.specs.declared.cause.Cause.{Cause}
 use Rattle.ccr_task.specs.Calls.{CallData}
+use Rattle.ccr_serve.specs.Aborts.{ended_at_once, Forgets, ForgetsAfter}
 use Rattle.ccr_serve.specs.Crash.{LeavesAt}
 use Rattle.ccr_serve.specs.Found.{found, newest, Finds, BeginsFind}
 use Rattle.ccr_serve.specs.Found as what_is
-use Rattle.ccr_serve.specs.Items.{World, Item, Done, Serve, Part, Items, Noting}
+use Rattle.ccr_serve.specs.Items.{Loss, no_loss, World, unmade, Item, Done, Serve, Part, Items, Noting}
 use Rattle.ccr_serve.specs.Items as item
 use Rattle.ccr_serve.specs.Pairs.{Adds}
 use Rattle.ccr_serve.specs.Serving.{Tells, BeginsItem, Serves}
@@ -30,7 +32,8 @@ use Rattle.ccr_serve.specs.Views.{View, world_of, resources_held, IsReady, HasAs
 use Rattle.ccr_serve.specs.declared.fault.ServeFault.{ServeFault}
 use Rattle.ccr_serve.specs.declared.fault.ServeFault.TheVariants as fault
 use Rattle.ccr_serve.proofs.Commits.{add_none, rose_none, asked_none}
-use Rattle.ccr_serve.proofs.Crash.{leaves_ready}
+use Rattle.ccr_serve.proofs.Begun.{found_begun}
+use Rattle.ccr_serve.proofs.Crash.{leaves_ready, leaves_as}
 
 -- ---- views
 -- a view after launches: the shelf's calls, the pairs and what is printed may be others
@@ -79,27 +82,27 @@ calls_did {P} {old} {new} ready each = record {
         one.commits;
     lines = one.lines ∙ ap (λ ls. old.lines ++ ls) (sym (append-nil one.did.lines));
     holds = subst new.holds one.stands.0 ready.holds;
-    crash = leaves_ready new one.state ready one.stands;
+    crash = leaves_ready _ new one.state ready one.stands;
     stands = (ready.is_open, one.stands, refl);
   };
 }
 
 -- where a server stands that has done nothing, and has begun this
-abbrev pub begun_at : View → State → List CallData → Option Pair → World
+abbrev pub begun_at : View → State → List CallData → Loss → World
 begun_at v s calls lost = record { core = s; last = v.last; calls = calls; lost = lost }
 
 -- a part of which nothing was done, and this was begun
-abbrev pub MayBegin : Part → View → List CallData → Option Pair → Type 0
+abbrev pub MayBegin : Part → View → List CallData → Loss → Type 0
 MayBegin P v calls lost = (s : State) → Stands v.core s → P (world_of v s) [] false (begun_at v s calls lost)
 
 -- a part of which nothing may be done, and nothing begun
 abbrev pub MayStop : Part → Type 0
 MayStop P = (w : World) → P w [] false w
 
-pub calls_stop : (P : Part) (old new : View) (lost : Option Pair) → MayBegin P old new.calls lost
-    → Adds old.pairs lost new.pairs → HasAsked false old.tally.commits 0 new.tally.commits
+pub calls_stop : (P : Part) (old new : View) (lost : Loss) → MayBegin P old new.calls lost
+    → Adds old.pairs lost.pair new.pairs → HasAsked false old.tally.commits 0 new.tally.commits
     → new.lines ≡ old.lines → new.holds old.core.history
-    → ((s : State) → Stands old.core s → LeavesAt new.closed new.leaves s)
+    → ((s : State) → Stands old.core s → LeavesAt new.closed (λ e. lost.event ≡ Some e) new.leaves s)
     → ((s : State) → Stands old.core s → StandsAt false new.closed (begun_at old s new.calls lost) new)
     → Calls P old false new
 calls_stop P old new lost begins pairs commits lines holds crash stands = record {
@@ -126,23 +129,23 @@ pub noting_stop : (S : Serve) (is : List Item) (Note : List Done → Type 0) →
 noting_stop S is Note w = ([], is, refl, w, refl, inl refl)
 
 -- this was begun of one item, whatever is noted once it is whole
-pub item_begun : (places : PlacesData) (i : Item) (v : View) (calls : List CallData) (lost : Option Pair)
+pub item_begun : (places : PlacesData) (i : Item) (v : View) (calls : List CallData) (lost : Loss)
     → ((s : State) → Stands v.core s → BeginsItem places i (world_of v s) (begun_at v s calls lost))
     → MayBegin (Items (Serves places) (i ∷ [])) v calls lost
 item_begun places i v calls lost begins s is = ([], i ∷ [], refl, world_of v s, refl, inr (begins s is))
 
 -- ---- stopped where memory ran out, or by a failure of the storage
-pub stands_back : (closed : Bool) (v new : View) (s : State) (calls : List CallData) (lost : Option Pair)
+pub stands_back : (closed : Bool) (v new : View) (s : State) (calls : List CallData) (lost : Loss)
     → Stands new.core s → new.last ≡ v.last → StandsAt false closed (begun_at v s calls lost) new
 stands_back true v new s calls lost is last = tt
 stands_back false v new s calls lost is last = (is, last)
 
 -- memory was wanted before the event
-pub cut_by_memory : {P : Part} (v : View) {f : List CallData} {p : List Pair} {l : Text} (lost : Option Pair)
-    → MayBegin P v f lost → IsReady v → Adds v.pairs lost p → l ≡ v.lines → Calls P v false (after v f p l)
+pub cut_by_memory : {P : Part} (v : View) {f : List CallData} {p : List Pair} {l : Text} (lost : Loss)
+    → MayBegin P v f lost → IsReady v → Adds v.pairs lost.pair p → l ≡ v.lines → Calls P v false (after v f p l)
 cut_by_memory {P} v {f} {p} {l} lost begins ready adds lines =
     calls_stop P v (after v f p l) lost begins adds (asked_none v.tally.commits) lines ready.holds
-    (λ s is. leaves_ready v s ready is) (λ s is. stands_back v.closed v (after v f p l) s f lost is refl)
+    (λ s is. leaves_ready _ v s ready is) (λ s is. stands_back v.closed v (after v f p l) s f lost is refl)
 
 pub none_added : (p : List Pair) → Adds p None p
 none_added p = sym (append-nil p)
@@ -150,7 +153,7 @@ none_added p = sym (append-nil p)
 -- memory was wanted before anything
 pub cut_at_once : {P : Part} (v : View) {l : Text} → MayStop P → IsReady v → l ≡ v.lines → Calls P v false (printed v l)
 cut_at_once v may ready lines =
-    cut_by_memory v None (λ s is. may (world_of v s)) ready (none_added v.pairs) lines
+    cut_by_memory v no_loss (λ s is. may (world_of v s)) ready (none_added v.pairs) lines
 
 -- memory was wanted, and the shelf was called for nothing
 pub cut_unchanged : {P : Part} (v : View) {f : List CallData} {l : Text} → MayStop P → IsReady v → f ≡ v.calls
@@ -159,7 +162,7 @@ cut_unchanged {P} v {f} {l} may ready same lines =
     subst (λ k. Calls P v false (after v k v.pairs l)) (sym same) (cut_at_once v may ready lines)
 
 -- an event that wasn't made: the core is as it was, or the server has closed
-unmade_back : (f : ServeFault) (old new : View) → Unmade f old new
+unmade_back : {d : EventData} (f : ServeFault) (old new : View) → Unmade d f old new
     → ((new.core ≡ old.core) × IsReady new) ⊎ (new.closed ≡ true)
 unmade_back (fault.Core e) old new un = absurd un.back
 unmade_back (fault.Store e) old new un = inr un.back.0
@@ -175,24 +178,38 @@ stands_closed true now new is = tt
 stands_closed false now new is = absurd (false≢true is)
 
 pub calls_unmade : {P : Part} {v : View} {f : List CallData} {p : List Pair} {l : Text} {n : View} {stop : ServeFault}
-    (lost : Option Pair) → MayBegin P v f lost → Adds v.pairs lost p → l ≡ v.lines
-    → Unmade stop (after v f p []) n → Calls P v false (printed n l)
-calls_unmade {P} {v} {f} {p} {l} {n} {stop} lost begins adds lines un =
+    {e : EventData} (lost : Loss) → lost.event ≡ Some e → MayBegin P v f lost → Adds v.pairs lost.pair p → l ≡ v.lines
+    → Unmade e stop (after v f p []) n → Calls P v false (printed n l)
+calls_unmade {P} {v} {f} {p} {l} {n} {stop} {e} lost its begins adds lines un =
     calls_stop P v (printed n l) lost (subst (λ k. MayBegin P v k lost) (sym un.rest.calls) begins)
-    (un.rest.pairs ∙ adds) un.commits lines un.holds un.crash
+    (un.rest.pairs ∙ adds) un.commits lines un.holds
+    (λ s is. leaves_as n.closed n.leaves s (λ x same. its ∙ ap (λ y. Some y) (sym same)) (un.crash s is))
     (λ s is. elim (unmade_back stop (after v f p []) n un)
     as (λ _. StandsAt false n.closed (begun_at v s n.calls lost) (printed n l)) [
       | inl back ↦ stands_back n.closed v (printed n l) s n.calls lost (subst (λ c. Stands c s) (sym back.0) is) un.rest.last
       | inr closed ↦ stands_closed n.closed (begun_at v s n.calls lost) (printed n l) closed
     ])
 
--- nothing was begun but the event, which wasn't made
-pub unmade_at_once : {P : Part} {v : View} {l : Text} {n : View} {stop : ServeFault} → MayStop P → l ≡ v.lines
-    → Unmade stop (printed v []) n → Calls P v false (printed n l)
-unmade_at_once {P} {v} may lines un =
-    calls_unmade None (λ s is. may (world_of v s)) (none_added v.pairs) lines un
+-- a part of which nothing may be done or begun but this event, which isn't made
+abbrev pub MayTell : Part → EventData → Type 0
+MayTell P e = (w : World) → P w [] false (unmade e w)
 
-pub stops_item : (f : ServeFault) (old new : View) → Unmade f old new → StopsItem false f new
+-- nothing was begun but the event, which wasn't made
+pub unmade_at_once : {P : Part} {d e : EventData} {v : View} {l : Text} {n : View} {stop : ServeFault} → d ≡ e
+    → MayTell P e → l ≡ v.lines → Unmade d stop (printed v []) n → Calls P v false (printed n l)
+unmade_at_once {P} {d} {e} {v} {l} {n} {stop} same may lines un =
+    calls_unmade (record { pair = None; event = Some e }) refl (λ s is. may (world_of v s)) (none_added v.pairs) lines
+    (subst (λ x. Unmade x stop (printed v []) n) same un)
+
+-- of one item its event wasn't made
+pub schedule_unmade : (places : PlacesData) (job : Text)
+    → MayTell (Items (Serves places) (item.schedule job ∷ [])) (event.schedule job)
+schedule_unmade places job w = ([], item.schedule job ∷ [], refl, w, refl, inr refl)
+
+pub tell_unmade : (places : PlacesData) (e : EventData) → MayTell (Items (Serves places) (item.tell e ∷ [])) e
+tell_unmade places e w = ([], item.tell e ∷ [], refl, w, refl, inr refl)
+
+pub stops_item : {d : EventData} (f : ServeFault) (old new : View) → Unmade d f old new → StopsItem false f new
 stops_item (fault.Core e) old new un = absurd un.back
 stops_item (fault.Store e) old new un = un.back
 stops_item (fault.Read e) old new un = absurd un.back
@@ -203,18 +220,19 @@ stops_item fault.Closed old new un = absurd un.back
 stops_item fault.TurnsUsedUp old new un = absurd un.back
 
 -- ---- events that were made
--- the event leads to a state that the core stands for, with its lines
-pub made_did : (P : Part) (e : EventData) (r : Replied) (v n : View) (m : Text) (s : State)
-    → Made e r (printed v []) n
+-- the event leads to a state that the core stands for, with its lines, and the shelf was called so after it
+pub made_did : (places : PlacesData) (P : Part) (e : EventData) (r : Replied) (v n : View) (f : List CallData) (m : Text)
+    (s : State) → Made e r (printed v []) n
     → ((s a : State) → Step s e r a → Stands n.core a → m ≡ v.lines ++ lines_of e r a.history)
-    → ((w u : World) (d : Done) → Tells e w d u → d.event ≡ Some (e, r) → P w (d ∷ []) true u)
-    → Stands v.core s → Did P v s (printed n m)
-made_did P e r v n m s made lines can is = let t = made.takes s is in
+    → ForgetsAfter places e r n.core.history v.calls f
+    → ((w u : World) (d : Done) → Tells places e w d u → d.event ≡ Some (e, r) → P w (d ∷ []) true u)
+    → Stands v.core s → Did P v s (after n f n.pairs m)
+made_did places P e r v n f m s made lines forgets can is = let t = made.takes s is in
     let d : Done = record { pair = None; event = Some (e, r); lines = lines_of e r t.0.history } in record {
       did = d;
       state = t.0;
       stands = t.2;
-      does = can (world_of v s) (world_of (printed n m) t.0) d (record {
+      does = can (world_of v s) (world_of (after n f n.pairs m) t.0) d (record {
         makes = record {
           reply = r;
           step = t.1;
@@ -225,7 +243,7 @@ made_did P e r v n m s made lines can is = let t = made.takes s is in
         };
         pair = refl;
         last = made.rest.last;
-        calls = made.rest.calls;
+        calls = subst (λ h. ForgetsAfter places e r h v.calls f) t.2.0 forgets;
         lost = refl;
       }) refl;
       pairs = made.rest.pairs ∙ sym (append-nil v.pairs);
@@ -233,12 +251,24 @@ made_did P e r v n m s made lines can is = let t = made.takes s is in
       lines = lines s t.0 t.1 t.2;
     }
 
-pub calls_made : {P : Part} {e : EventData} {r : Replied} {v n : View} {m : Text} → Made e r (printed v []) n
+pub calls_made_then : {P : Part} {e : EventData} {r : Replied} {v n : View} {f : List CallData} {m : Text}
+    (places : PlacesData) → Made e r (printed v []) n
     → ((s a : State) → Step s e r a → Stands n.core a → m ≡ v.lines ++ lines_of e r a.history)
-    → ((w u : World) (d : Done) → Tells e w d u → d.event ≡ Some (e, r) → P w (d ∷ []) true u)
+    → ForgetsAfter places e r n.core.history v.calls f
+    → ((w u : World) (d : Done) → Tells places e w d u → d.event ≡ Some (e, r) → P w (d ∷ []) true u)
+    → Calls P v true (after n f n.pairs m)
+calls_made_then {P} {e} {r} {v} {n} {f} {m} places made lines forgets can =
+    calls_did made.ready (λ s is. made_did places P e r v n f m s made lines forgets can is)
+
+-- an event behind which the shelf isn't called
+pub calls_made : {P : Part} {e : EventData} {r : Replied} {v n : View} {m : Text} (places : PlacesData)
+    → Made e r (printed v []) n
+    → ((s a : State) → Step s e r a → Stands n.core a → m ≡ v.lines ++ lines_of e r a.history)
+    → ((h : HistoryData) → n.calls ≡ v.calls → ForgetsAfter places e r h v.calls n.calls)
+    → ((w u : World) (d : Done) → Tells places e w d u → d.event ≡ Some (e, r) → P w (d ∷ []) true u)
     → Calls P v true (printed n m)
-calls_made {P} {e} {r} {v} {n} {m} made lines can =
-    calls_did made.ready (λ s is. made_did P e r v n m s made lines can is)
+calls_made {P} {e} {r} {v} {n} {m} places made lines forgets can =
+    calls_made_then places made lines (forgets n.core.history made.rest.calls) can
 
 -- the lines of an event, with the history of a state that the core stands for
 pub lines_at : (e : EventData) (r : Replied) (c : CoreData) (a : State) (old mid new : Text) → Stands c a → mid ≡ old
@@ -345,24 +375,46 @@ check_found_nothing {one} {v} {f} {p} {l} {m} places name pair cause ready there
 pub check_begun : (places : PlacesData) (name : Text) (one : ResourceData) (v : View) (f : List CallData)
     (lost : Option Pair) → resource_of name (resources_held v.core) ≡ Some one
     → BeginsFind places one (newest one v.core.history) v.calls f lost
-    → MayBegin (Items (Serves places) (item.check name ∷ [])) v f lost
+    → MayBegin (Items (Serves places) (item.check name ∷ [])) v f (record { pair = lost; event = None })
 check_begun places name one v f lost there begins =
-    item_begun places (item.check name) v f lost (λ s is. record {
+    item_begun places (item.check name) v f (record { pair = lost; event = None }) (λ s is. record {
       one = one;
       named = ap (λ rs. resource_of name rs) (sym (resources_at v.core s is)) ∙ there;
       begins = subst (λ h. BeginsFind places one (newest one h) v.calls f lost) is.0 begins;
+      may = tt;
+      core = refl;
+      last = refl;
+    })
+
+-- the event of what a check found wasn't made
+pub check_unmade : (places : PlacesData) (name named : Text) (one : ResourceData) (v : View) (f : List CallData)
+    (lost : Option Pair) (vs : List TextMap) → named ≡ name → resource_of name (resources_held v.core) ≡ Some one
+    → Finds places one (newest one v.core.history) v.calls f lost (found vs)
+    → MayBegin (Items (Serves places) (item.check name ∷ [])) v f
+    (record { pair = lost; event = Some (checked named vs) })
+check_unmade places name named one v f lost vs copied there finds =
+    item_begun places (item.check name) v f (record { pair = lost; event = Some (checked named vs) }) (λ s is.
+    let so : Finds places one (newest one s.history) v.calls f lost (found vs) =
+    subst (λ h. Finds places one (newest one h) v.calls f lost (found vs)) is.0 finds in
+    record {
+      one = one;
+      named = ap (λ rs. resource_of name rs) (sym (resources_at v.core s is)) ∙ there;
+      begins = found_begun places one (newest one s.history) v.calls f lost vs so;
+      may = (vs, so, ap (λ t. checked t vs) copied);
       core = refl;
       last = refl;
     })
 
 -- ---- schedules
 -- the schedule of a job was an event
-pub schedule_made : {job named : Text} {r : Replied} {v n : View} {l m : Text} (places : PlacesData)
+pub schedule_made : {job named : Text} {r : Replied} {v n : View} {f : List CallData} {l m : Text} (places : PlacesData)
     → named ≡ job → l ≡ v.lines → Made (event.schedule named) r (printed v []) n
     → m ≡ l ++ lines_of (event.schedule job) r n.core.history
-    → Calls (Items (Serves places) (item.schedule job ∷ [])) v true (printed n m)
-schedule_made {job} {named} {r} {v} {n} {l} {m} places copied lines made_named told =
-    calls_made
+    → Forgets places job (ended_at_once job r n.core.history) v.calls f
+    → Calls (Items (Serves places) (item.schedule job ∷ [])) v true (after n f n.pairs m)
+schedule_made {job} {named} {r} {v} {n} {f} {l} {m} places copied lines made_named told forgets =
+    calls_made_then places
     (subst (λ t. Made (event.schedule t) r (printed v []) n) copied made_named)
     (λ s a step is. lines_at (event.schedule job) r n.core a v.lines l m is lines told)
+    forgets
     (λ w u d tells made. (u, tells, refl))

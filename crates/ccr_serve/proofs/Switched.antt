@@ -21,12 +21,16 @@ use Rattle.ccr_serve.specs.Serving.{Tells}
 use Rattle.ccr_serve.specs.Views.{View, Made}
 use Rattle.ccr_serve.specs.declared.fault.ServeFault.TheVariants as fault
 use Rattle.ccr_serve.proofs.Refusing.{some_if, refused_by_core}
-use Rattle.ccr_serve.proofs.Steps.{printed, MayStop, calls_made}
+use Rattle.ccr_serve.proofs.Steps.{printed, MayStop, MayTell, tell_unmade, calls_made}
 use Rattle.ccr_serve.proofs.Told.{taken, made_so, told_lines}
 
 -- ---- versions that are disabled
 pub disable_stop : (places : PlacesData) (name : Text) (place : ℕ) → MayStop (Commanded places (disable_version name place) 0)
 disable_stop places name place w = ([], _, refl, w, refl, inl refl)
+
+pub disable_unmade : (places : PlacesData) (name : Text) (place : ℕ)
+    → MayTell (Commanded places (disable_version name place) 0) (event.disable name place)
+disable_unmade places name place w = tell_unmade places (event.disable name place) w
 
 disable_lines : (name : Text) (place : ℕ) (r : Reply) (s a : State) → Step s (event.disable name place) (Ok r) a
     → place_line (codes "disabled ") name place ≡ lines_of (event.disable name place) (Ok r) a.history
@@ -34,7 +38,7 @@ disable_lines name place Disabled s a step = refl
 disable_lines name place r s a step = absurd step.1
 
 disable_told : (places : PlacesData) (name : Text) (place : ℕ) (r : Reply) (w u : World) (d : Done)
-    → Tells (event.disable name place) w d u → d.event ≡ Some (event.disable name place, Ok r)
+    → Tells places (event.disable name place) w d u → d.event ≡ Some (event.disable name place, Ok r)
     → Commanded places (disable_version name place) 0 w (d ∷ []) true u
 disable_told places name place r w u d tells made = (
   ((u, (tells, (r, made)), refl), refl),
@@ -47,9 +51,9 @@ pub disable_made : {name named : Text} {place : ℕ} {replied : Replied} {r : Re
     → m ≡ l ++ place_line (codes "disabled ") name place
     → CameOf places (disable_version name place) (Ok 0) v (printed n m)
 disable_made {name} {named} {place} {replied} {r} places v copied took lines made told =
-    calls_made (made_so v (ap (λ t. event.disable t place) copied) took made)
+    calls_made places (made_so v (ap (λ t. event.disable t place) copied) took made)
     (λ s a step h. told_lines (event.disable name place) (Ok r) a (place_line (codes "disabled ") name place) lines told
-    (disable_lines name place r s a step)) (disable_told places name place r)
+    (disable_lines name place r s a step)) (λ h same. same) (disable_told places name place r)
 
 disable_refused_so : (name : Text) (place : ℕ) (f : CoreFault) (s : State) (before after : List CallData) → after ≡ before
     → IsFirstFault s (event.disable name place) f → IsRefused (disable_version name place) (fault.Core f) s before after
@@ -70,13 +74,17 @@ disable_refused {name} {named} {place} {replied} {f} {n} places v copied is line
 pub enable_stop : (places : PlacesData) (name : Text) (place : ℕ) → MayStop (Commanded places (enable_version name place) 0)
 enable_stop places name place w = ([], _, refl, w, refl, inl refl)
 
+pub enable_unmade : (places : PlacesData) (name : Text) (place : ℕ)
+    → MayTell (Commanded places (enable_version name place) 0) (event.enable name place)
+enable_unmade places name place w = tell_unmade places (event.enable name place) w
+
 enable_lines : (name : Text) (place : ℕ) (r : Reply) (s a : State) → Step s (event.enable name place) (Ok r) a
     → place_line (codes "enabled ") name place ≡ lines_of (event.enable name place) (Ok r) a.history
 enable_lines name place Enabled s a step = refl
 enable_lines name place r s a step = absurd step.1
 
 enable_told : (places : PlacesData) (name : Text) (place : ℕ) (r : Reply) (w u : World) (d : Done)
-    → Tells (event.enable name place) w d u → d.event ≡ Some (event.enable name place, Ok r)
+    → Tells places (event.enable name place) w d u → d.event ≡ Some (event.enable name place, Ok r)
     → Commanded places (enable_version name place) 0 w (d ∷ []) true u
 enable_told places name place r w u d tells made = (
   ((u, (tells, (r, made)), refl), refl),
@@ -89,9 +97,9 @@ pub enable_made : {name named : Text} {place : ℕ} {replied : Replied} {r : Rep
     → m ≡ l ++ place_line (codes "enabled ") name place
     → CameOf places (enable_version name place) (Ok 0) v (printed n m)
 enable_made {name} {named} {place} {replied} {r} places v copied took lines made told =
-    calls_made (made_so v (ap (λ t. event.enable t place) copied) took made)
+    calls_made places (made_so v (ap (λ t. event.enable t place) copied) took made)
     (λ s a step h. told_lines (event.enable name place) (Ok r) a (place_line (codes "enabled ") name place) lines told
-    (enable_lines name place r s a step)) (enable_told places name place r)
+    (enable_lines name place r s a step)) (λ h same. same) (enable_told places name place r)
 
 enable_refused_so : (name : Text) (place : ℕ) (f : CoreFault) (s : State) (before after : List CallData) → after ≡ before
     → IsFirstFault s (event.enable name place) f → IsRefused (enable_version name place) (fault.Core f) s before after

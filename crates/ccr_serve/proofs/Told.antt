@@ -1,5 +1,5 @@
 -- Commands of one event: pins, and pipelines.
-use Rattle.std.proofs.Common.{◌≡◌, ◌++◌, ℕ, List, [], ◌∷◌, Bool, true, Option, Result, None, Some, IsSome, unwrap_or, codes, Ok, Err, refl, sym, ◌∙◌, ap, subst, arith, inl}
+use Rattle.std.proofs.Common.{◌≡◌, ◌++◌, ℕ, List, [], ◌∷◌, Bool, true, Option, Result, None, Some, IsSome, unwrap_or, codes, Ok, Err, refl, sym, ◌∙◌, ap, subst, arith, inl, inr}
 use Rattle.std.specs.Option.{option_map_or}
 use Rattle.ccr_history.specs.Text.{Text}
 use Rattle.ccr_history.specs.TextMap.{TextMap}
@@ -25,23 +25,23 @@ use Rattle.ccr_task.specs.declared.fault.ShelfFault.{ShelfFault}
 use Rattle.ccr_lines.specs.Needs.{pin_in}
 use Rattle.ccr_serve.specs.Commanding.{HasResource, called, Commanded, ArePipeline, IsRead, IsRefused, CameOf}
 use Rattle.ccr_core.specs.Commands.{set_pipeline, pin_resource, unpin_resource}
-use Rattle.ccr_serve.specs.Items.{World, tell, Done, Part, Items}
+use Rattle.ccr_serve.specs.Items.{no_loss, World, tell, Done, Part, Items}
 use Rattle.ccr_serve.specs.Reads.{KeepsFromReading}
 use Rattle.ccr_serve.specs.Serving.{Tells, Serves}
 use Rattle.ccr_serve.specs.Views.{View, with_calls, resources_held, IsReady, Calls, Made}
 use Rattle.ccr_serve.specs.declared.fault.ServeFault.{ServeFault}
 use Rattle.ccr_serve.specs.declared.fault.ServeFault.TheVariants as fault
 use Rattle.ccr_serve.proofs.Refusing.{some_if, refused_at_once, refused_after, refused_by_core}
-use Rattle.ccr_serve.proofs.Steps.{after, printed, begun_at, MayBegin, MayStop, cut_by_memory, none_added, calls_made, resources_at}
+use Rattle.ccr_serve.proofs.Steps.{after, printed, begun_at, MayBegin, MayStop, MayTell, tell_unmade, cut_by_memory, none_added, calls_made, resources_at}
 
 -- ---- an event that the core took
 same_reply : (e : EventData) (o : Option (EventData × Replied)) (q r : Replied) → o ≡ Some (e, q) → o ≡ Some (e, r)
     → q ≡ r
 same_reply e o q r is also = ap (λ p. option_map_or (λ made. made.1) p q) (sym is ∙ also)
 
-pub taken : (e : EventData) (r : Replied) (w u : World) (d : Done) → Tells e w d u → d.event ≡ Some (e, r)
+pub taken : {places : PlacesData} (e : EventData) (r : Replied) (w u : World) (d : Done) → Tells places e w d u → d.event ≡ Some (e, r)
     → Step w.core e r u.core
-taken e r w u d tells made =
+taken {places} e r w u d tells made =
     subst (λ q. Step w.core e q u.core) (same_reply e d.event tells.makes.reply r tells.makes.event made)
     tells.makes.step
 
@@ -67,6 +67,14 @@ has_resource c s name r is there =
 pub pin_stop : (places : PlacesData) (name text : Text) → MayStop (Commanded places (pin_resource name text) 0)
 pin_stop places name text w = inl refl
 
+pub pin_unmade : (places : PlacesData) (name text : Text) (p : TextMap) → pin_in text ≡ Some p
+    → MayTell (Commanded places (pin_resource name text) 0) (event.pin name p)
+pin_unmade places name text p is w = inr (p, is, tell_unmade places (event.pin name p) w)
+
+-- a pin of the resource by another name for it
+pub pin_named : (a b : Text) (p : TextMap) → a ≡ b → event.pin a p ≡ event.pin b p
+pin_named a b p same = ap (λ t. event.pin t p) same
+
 -- the text spells no pin
 pub bad_pin : {r : ResourceData} (places : PlacesData) (name text : Text) (v : View) → IsReady v
     → resource_of name (resources_held v.core) ≡ Some r → None ≡ pin_in text
@@ -80,7 +88,7 @@ pin_lines name p Pinned s a step = refl
 pin_lines name p r s a step = absurd step.1
 
 pin_told : (places : PlacesData) (name text : Text) (p : TextMap) (r : Reply) → pin_in text ≡ Some p
-    → (w u : World) (d : Done) → Tells (event.pin name p) w d u → d.event ≡ Some (event.pin name p, Ok r)
+    → (w u : World) (d : Done) → Tells places (event.pin name p) w d u → d.event ≡ Some (event.pin name p, Ok r)
     → Commanded places (pin_resource name text) 0 w (d ∷ []) true u
 pin_told places name text p r is w u d tells made = (
   ((p, is, (u, (tells, (r, made)), refl)), refl),
@@ -96,9 +104,9 @@ pub pin_made : {name named : Text} {p : TextMap} {replied : Replied} {r : Reply}
     → Made (event.pin named p) replied (printed v []) n → m ≡ l ++ line (codes "pinned " ∷ name ∷ [])
     → CameOf places (pin_resource name text) (Ok 0) v (printed n m)
 pin_made {name} {named} {p} {replied} {r} places text v copied is took lines made told =
-    calls_made (made_so v (ap (λ t. event.pin t p) copied) took made)
+    calls_made places (made_so v (ap (λ t. event.pin t p) copied) took made)
     (λ s a step h. told_lines (event.pin name p) (Ok r) a (line (codes "pinned " ∷ name ∷ [])) lines told
-    (pin_lines name p r s a step)) (pin_told places name text p r (sym is))
+    (pin_lines name p r s a step)) (λ h same. same) (pin_told places name text p r (sym is))
 
 pin_refused_so : (name text : Text) (p : TextMap) (f : CoreFault) (s : State) (before after : List CallData)
     → after ≡ before → IsFirstFault s (event.pin name p) f
@@ -120,13 +128,16 @@ pin_refused {name} {named} {p} {replied} {f} {n} places text v copied is lines m
 pub unpin_stop : (places : PlacesData) (name : Text) → MayStop (Commanded places (unpin_resource name) 0)
 unpin_stop places name w = ([], _, refl, w, refl, inl refl)
 
+pub unpin_unmade : (places : PlacesData) (name : Text) → MayTell (Commanded places (unpin_resource name) 0) (event.unpin name)
+unpin_unmade places name w = tell_unmade places (event.unpin name) w
+
 unpin_lines : (name : Text) (r : Reply) (s a : State) → Step s (event.unpin name) (Ok r) a
     → line (codes "unpinned " ∷ name ∷ []) ≡ lines_of (event.unpin name) (Ok r) a.history
 unpin_lines name Unpinned s a step = refl
 unpin_lines name r s a step = absurd step.1
 
 unpin_told : (places : PlacesData) (name : Text) (r : Reply) (w u : World) (d : Done)
-    → Tells (event.unpin name) w d u → d.event ≡ Some (event.unpin name, Ok r)
+    → Tells places (event.unpin name) w d u → d.event ≡ Some (event.unpin name, Ok r)
     → Commanded places (unpin_resource name) 0 w (d ∷ []) true u
 unpin_told places name r w u d tells made = (
   ((u, (tells, (r, made)), refl), refl),
@@ -139,9 +150,9 @@ pub unpin_made : {name named : Text} {replied : Replied} {r : Reply} {n : View} 
     → m ≡ l ++ line (codes "unpinned " ∷ name ∷ [])
     → CameOf places (unpin_resource name) (Ok 0) v (printed n m)
 unpin_made {name} {named} {replied} {r} places v copied took lines made told =
-    calls_made (made_so v (ap (λ t. event.unpin t) copied) took made)
+    calls_made places (made_so v (ap (λ t. event.unpin t) copied) took made)
     (λ s a step h. told_lines (event.unpin name) (Ok r) a (line (codes "unpinned " ∷ name ∷ [])) lines told
-    (unpin_lines name r s a step)) (unpin_told places name r)
+    (unpin_lines name r s a step)) (λ h same. same) (unpin_told places name r)
 
 unpin_refused_so : (name : Text) (f : CoreFault) (s : State) (before after : List CallData) → after ≡ before
     → IsFirstFault s (event.unpin name) f → IsRefused (unpin_resource name) (fault.Core f) s before after
@@ -161,8 +172,20 @@ unpin_refused {name} {named} {replied} {f} {n} places v copied is lines made =
 -- the file was read, and nothing else was done
 pub set_begun : (places : PlacesData) (path : Text) (v : View) (k : List CallData)
     (file : Result (List ℕ) ShelfFault) → IsRead path file v.calls k
-    → MayBegin (Commanded places (set_pipeline path) 0) v k None
-set_begun places path v k file is s h = (file, ap (λ cs. begun_at v s cs None) is)
+    → MayBegin (Commanded places (set_pipeline path) 0) v k no_loss
+set_begun places path v k file is s h =
+    (file, begun_at v s k no_loss, ap (λ cs. begun_at v s cs no_loss) is, inl refl)
+
+-- the event of the pipeline in the file that was read wasn't made
+pub set_unmade : (places : PlacesData) (path : Text) (v : View) (k : List CallData) (bytes : List ℕ) (p : PipelineData)
+    → IsRead path (Ok bytes) v.calls k → ArePipeline bytes p
+    → MayBegin (Commanded places (set_pipeline path) 0) v k (record { pair = None; event = Some (event.set_pipeline p) })
+set_unmade places path v k bytes p is are s h = (
+  Ok bytes,
+  begun_at v s k no_loss,
+  ap (λ cs. begun_at v s cs no_loss) is,
+  inr (bytes, p, refl, are, refl),
+)
 
 -- the file gives no pipeline
 pub not_read : (places : PlacesData) (path : Text) (f : ServeFault) (v : View) (k : List CallData) → IsReady v
@@ -173,7 +196,7 @@ not_read places path (fault.Read g) v k ready keeps =
 not_read places path fault.File v k ready keeps =
     refused_after ready refl (λ s is. keeps)
 not_read places path fault.NoMemory v k ready keeps =
-    cut_by_memory v None (set_begun places path v k keeps.0 keeps.1) ready (none_added v.pairs) refl
+    cut_by_memory v no_loss (set_begun places path v k keeps.0 keeps.1) ready (none_added v.pairs) refl
 not_read places path f v k ready keeps = absurd keeps
 
 -- a call of the shelf, and then a part, is a part
@@ -185,8 +208,8 @@ called_before {P} {v} {new} {k} {whole} call Q is so calls = record {
   from = λ s h. let c = calls.from s h in record {
     dones = c.dones;
     now = c.now;
-    does = so (record { core = s; last = v.last; calls = v.calls; lost = None }) c.dones c.now
-        (subst (λ cs. Q (record { core = s; last = v.last; calls = cs; lost = None }) c.dones whole c.now) is c.does);
+    does = so (record { core = s; last = v.last; calls = v.calls; lost = no_loss }) c.dones c.now
+        (subst (λ cs. Q (record { core = s; last = v.last; calls = cs; lost = no_loss }) c.dones whole c.now) is c.does);
     pairs = c.pairs;
     few = c.few;
     calls = c.calls;
@@ -215,7 +238,7 @@ abbrev Telling : PlacesData → PipelineData → Part
 Telling places p = Items (Serves places) (tell (event.set_pipeline p) ∷ [])
 
 set_told : (places : PlacesData) (p : PipelineData) (r : Reply) (w u : World) (d : Done)
-    → Tells (event.set_pipeline p) w d u → d.event ≡ Some (event.set_pipeline p, Ok r)
+    → Tells places (event.set_pipeline p) w d u → d.event ≡ Some (event.set_pipeline p, Ok r)
     → Telling places p w (d ∷ []) true u
 set_told places p r w u d tells made = (u, (tells, (r, made)), refl)
 
@@ -228,9 +251,9 @@ pub set_made : {p : PipelineData} {replied : Replied} {r : Reply} {n : View} {k 
 set_made {p} {replied} {r} {n} {k} places path v was is lines made told =
     called_before (shelf.read path (Ok was.0)) (Telling places p) was.1
     (λ old ds now d. (((was.0, p, was.2, d), refl), tt))
-    (calls_made {v = with_calls k v} (subst (λ q. Made (event.set_pipeline p) q (after v k v.pairs []) n) is made)
+    (calls_made {v = with_calls k v} places (subst (λ q. Made (event.set_pipeline p) q (after v k v.pairs []) n) is made)
     (λ s a step h. told_lines (event.set_pipeline p) (Ok r) a (pipeline_lines (unwrap_or n.core.pipeline no_pipeline))
-    lines told (set_lines p r s a n.core step h)) (set_told places p r))
+    lines told (set_lines p r s a n.core step h)) (λ h same. same) (set_told places p r))
 
 set_refused_so : (path : Text) (p : PipelineData) (f : CoreFault) (s : State) (before after : List CallData)
     → (bytes : List ℕ) × IsRead path (Ok bytes) before after × ArePipeline bytes p

@@ -13,6 +13,7 @@ use Rattle.ccr_history.specs.Text.{Text}
 use Rattle.ccr_lines.specs.Lines.{lines_of}
 use Rattle.ccr_task.specs.Places.{PlacesData}
 use Rattle.ccr_task.specs.Calls.{CallData}
+use Rattle.ccr_serve.specs.Aborts.{ended_at_once, Forgets}
 use Rattle.ccr_serve.specs.Commanding.{HasJob, Triggered, IsRefused, Commanded, CameOf}
 use Rattle.ccr_core.specs.Commands.{trigger_job}
 use Rattle.ccr_serve.specs.Items.{World, Done, tell}
@@ -21,11 +22,15 @@ use Rattle.ccr_serve.specs.Views.{View, Calls, Made}
 use Rattle.ccr_serve.specs.declared.fault.ServeFault.TheVariants as fault
 use Rattle.ccr_serve.proofs.Refusing.{some_if, refused_by_core}
 use Rattle.ccr_serve.proofs.Told.{made_so}
-use Rattle.ccr_serve.proofs.Steps.{printed, MayStop, calls_made, lines_at}
+use Rattle.ccr_serve.proofs.Steps.{after, printed, MayStop, MayTell, tell_unmade, calls_made_then, lines_at}
 
 -- nothing may be done of a command that triggers a job
 pub trigger_stop : (places : PlacesData) (job : Text) → MayStop (Commanded places (trigger_job job) 0)
 trigger_stop places job w = inl ([], tell (event.trigger job) ∷ [], refl, w, refl, inl refl)
+
+pub trigger_unmade : (places : PlacesData) (job : Text)
+    → MayTell (Commanded places (trigger_job job) 0) (event.trigger job)
+trigger_unmade places job w = inl (tell_unmade places (event.trigger job) w)
 
 -- ---- the core's reply
 has_job : (job : Text) (s after : State) (r : Reply) → Step s (event.trigger job) (Ok r) after → HasJob s job
@@ -37,7 +42,7 @@ same_reply e o q r is also =
     let pairs : ◌≡◌ {A = EventData × Replied} (e, q) (e, r) = cc (sym is ∙ also) in ap (λ p. p.1) pairs
 
 trigger_told : (places : PlacesData) (job : Text) (r : Reply) (w u : World) (d : Done)
-    → Tells (event.trigger job) w d u → d.event ≡ Some (event.trigger job, Ok r)
+    → Tells places (event.trigger job) w d u → d.event ≡ Some (event.trigger job, Ok r)
     → Triggered places job r w (d ∷ []) true u
 trigger_told places job r w u d tells made = (
   (u, (tells, (r, made)), refl),
@@ -50,14 +55,16 @@ trigger_told places job r w u d tells made = (
 )
 
 -- the trigger of a job was an event
-pub trigger_made : {job named : Text} {replied : Replied} {r : Reply} {v n : View} {l m : Text} (places : PlacesData)
-    → named ≡ job → replied ≡ Ok r → l ≡ v.lines → Made (event.trigger named) replied (printed v []) n
+pub trigger_made : {job named : Text} {replied : Replied} {r : Reply} {v n : View} {f : List CallData} {l m : Text}
+    (places : PlacesData) → named ≡ job → replied ≡ Ok r → l ≡ v.lines
+    → Made (event.trigger named) replied (printed v []) n
     → m ≡ l ++ lines_of (event.trigger job) (Ok r) n.core.history
-    → Calls (Triggered places job r) v true (printed n m)
-trigger_made {job} {named} {replied} {r} {v} {n} {l} {m} places copied is lines made told =
-    calls_made (made_so v (ap (λ t. event.trigger t) copied) is made)
+    → Forgets places job (ended_at_once job (Ok r) n.core.history) v.calls f
+    → Calls (Triggered places job r) v true (after n f n.pairs m)
+trigger_made {job} {named} {replied} {r} {v} {n} {f} {l} {m} places copied is lines made told forgets =
+    calls_made_then places (made_so v (ap (λ t. event.trigger t) copied) is made)
     (λ s a step stands. lines_at (event.trigger job) (Ok r) n.core a v.lines l m stands lines told)
-    (trigger_told places job r)
+    forgets (trigger_told places job r)
 
 -- ---- the core's refusal
 refused_so : (job : Text) (f : CoreFault) (s : State) (before after : List CallData) → after ≡ before

@@ -30,7 +30,7 @@ use Rattle.ccr_serve.specs.declared.fault.ServeFault.{ServeFault}
 use Rattle.ccr_serve.specs.declared.fault.ServeFault.TheVariants.{Core, Store, Read, File, BadPin, NoMemory, TurnsUsedUp}
 use Rattle.ccr_core.specs.Commands.{CommandData, set_pipeline, check_resource, pin_resource, unpin_resource, disable_version, enable_version, trigger_job, run, shows}
 use Rattle.ccr_lines.specs.CommandNeeds.{need_of}
-use Rattle.ccr_serve.specs.Items.{World, check, tell, show, Done, Each, Part, Items, Then}
+use Rattle.ccr_serve.specs.Items.{World, unmade, check, tell, show, Done, Each, Part, Items, Then}
 use Rattle.ccr_serve.specs.Runs.{Rounds, UsedUp, Run, TriggerAndRun}
 use Rattle.ccr_serve.specs.Serving.{Serves}
 use Rattle.ccr_history.specs.Counts.{RoseBy}
@@ -101,13 +101,21 @@ called call w = record { core = w.core; last = w.last; calls = w.calls ++ call �
 abbrev pub ArePipeline : List ℕ → PipelineData → Type 0
 ArePipeline bytes p = IsReading pipeline_faults bytes (λ d. IsPipelineOf bytes d p)
 
+-- nothing was begun of the event of a pipeline in a file that was read so; or the event of the pipeline that its bytes are wasn't made
+abbrev pub MaySet : Result (List ℕ) ShelfFault → World → World → Type 0
+MaySet file old new =
+    (new ≡ old)
+    ⊎ ((bytes : List ℕ) × (p : PipelineData) × (file ≡ Ok bytes) × ArePipeline bytes p
+    × (new ≡ unmade (event.set_pipeline p) old))
+
 -- a pipeline is set that the bytes of the file at this path are, as they were read; cut short, the file was read
 abbrev pub SetsPipeline : PlacesData → Text → Part
 SetsPipeline places path old ds true new =
     (bytes : List ℕ) × (p : PipelineData) × ArePipeline bytes p
     × Each (Serves places) (tell (event.set_pipeline p) ∷ []) (called (shelf.read path (Ok bytes)) old) ds new
 SetsPipeline places path old ds false new =
-    (file : Result (List ℕ) ShelfFault) × Each (Serves places) [] (called (shelf.read path file) old) ds new
+    (file : Result (List ℕ) ShelfFault) × (mid : World)
+    × Each (Serves places) [] (called (shelf.read path file) old) ds mid × MaySet file mid new
 
 -- a resource is pinned to the pin that a text spells
 abbrev pub Pins : PlacesData → Text → Text → Part

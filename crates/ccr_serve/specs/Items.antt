@@ -1,5 +1,5 @@
 -- What a call of the server is made of: items, one after another.
-use Rattle.std.specs.Prelude.{◌≡◌, ◌⊎◌, ℕ, List, [], ◌∷◌, ◌++◌, Bool, true, false, Option, None, flat_map, option_to_list}
+use Rattle.std.specs.Prelude.{◌≡◌, ◌⊎◌, ℕ, List, [], ◌∷◌, ◌++◌, Bool, true, false, Option, None, Some, flat_map, option_to_list}
 use Rattle.ccr_history.specs.Text.{Text}
 use Rattle.ccr_process.specs.Runs.{Pair}
 use Rattle.ccr_task.specs.Calls.{CallData}
@@ -8,14 +8,32 @@ use Rattle.ccr_core.specs.Replies.{Replied}
 use Rattle.ccr_core.specs.State.{State}
 use Rattle.ccr_core.specs.Commands.{ShownData}
 
+-- what an item came to that was cut short: the pair of a program that answered nothing, if one ran, and the event that
+-- wasn't made, if it got so far
+pub record Loss : Type 0 where
+  pub pair : Option Pair
+  pub event : Option EventData
+
+-- no item was cut short, or one before it did anything
+abbrev pub no_loss : Loss
+no_loss = record { pair = None; event = None }
+
 -- where a server stands: the core's state, the rank of the build served last, which counts from 1 in order of making,
--- or 0 where none was served, the calls of its shelf, and the pair of a program that answered nothing, if an item was cut
--- short after it ran
+-- or 0 where none was served, the calls of its shelf, and what an item came to that was cut short
 pub record World : Type 0 where
   pub core : State
   pub last : ℕ
   pub calls : List CallData
-  pub lost : Option Pair
+  pub lost : Loss
+
+-- where a server stands whose event wasn't made, before which nothing else was begun
+abbrev pub unmade : EventData → World → World
+unmade e w = record {
+  core = w.core;
+  last = w.last;
+  calls = w.calls;
+  lost = record { pair = None; event = Some e };
+}
 
 -- a check of a resource, a schedule of a job, a turn of the build whose turn it is, the event of a command, or what a
 -- command shows with which status

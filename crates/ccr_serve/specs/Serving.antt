@@ -1,9 +1,10 @@
 -- What a server does of each item.
-use Rattle.std.specs.Prelude.{◌≡◌, ◌≢◌, ◌⊎◌, ℕ, List, Bool, true, false, Option, Some, None, Ok, Err}
+use Rattle.std.specs.Prelude.{◌≡◌, ◌≢◌, ◌⊎◌, ℕ, List, Bool, true, false, Option, Some, None, Ok, Err, ⊤}
 use Rattle.ccr_history.specs.Text.{Text}
 use Rattle.ccr_pipeline.specs.JobData.{ResourceData}
 use Rattle.ccr_pipeline.specs.Tree.{Tree}
-use Rattle.ccr_steps.specs.Asks.{AskData, AnswerData, errored}
+use Rattle.ccr_history.specs.TextMap.{TextMap}
+use Rattle.ccr_steps.specs.Asks.{AskData, AnswerData, Exchange, errored}
 use Rattle.ccr_steps.specs.Progress.{IsNext}
 use Rattle.ccr_steps.specs.Moments.{step_at}
 use Rattle.ccr_steps.specs.Runs.{RunData, HasTurn, StandsFor}
@@ -21,13 +22,13 @@ use Rattle.ccr_core.specs.Kept.{IsEvent}
 use Rattle.ccr_core.specs.Replies.{Replied}
 use Rattle.ccr_core.specs.State.{RunningData, State, pipeline_of, resources_of}
 use Rattle.ccr_core.specs.Steps.{Step}
-use Rattle.ccr_serve.specs.Aborts.{AbortIsAsked, Clears}
+use Rattle.ccr_serve.specs.Aborts.{AbortIsAsked, Clears, ForgetsAfter}
 use Rattle.ccr_serve.specs.Asked.{Answers, BeginsAnswer}
 use Rattle.ccr_serve.specs.Found.{FoundData, found, newest, Finds, BeginsFind}
 use Rattle.ccr_serve.specs.Found as what_is
 use Rattle.ccr_core.specs.Commands.{ShownData}
 use Rattle.ccr_lines.specs.Shown.{IsShown}
-use Rattle.ccr_serve.specs.Items.{World, Item, check, schedule, turn, tell, show, Done, nothing, Serve, Part, Items}
+use Rattle.ccr_serve.specs.Items.{Loss, World, unmade, Item, check, schedule, turn, tell, show, Done, nothing, Serve, Part, Items}
 use Rattle.ccr_lines.specs.Lines.{lines_of, refused_line, cause_words}
 use Rattle.ccr_serve.specs.Turns.{rank_in, next_after}
 
@@ -41,12 +42,13 @@ pub record Makes (e : EventData) (old : State) (did : Done) (new : State) : Type
   pub event : did.event ≡ Some (e, reply)
   pub lines : did.lines ≡ lines_of e reply new.history
 
--- an event is made; no program is started, and the shelf isn't called
-pub record Tells (e : EventData) (old : World) (did : Done) (new : World) : Type 0 where
+-- an event is made; no program is started, and the shelf is called for what asks to abort a build that has ended in the event
+-- that made it, and for nothing else
+pub record Tells (places : PlacesData) (e : EventData) (old : World) (did : Done) (new : World) : Type 0 where
   pub makes : Makes e old.core did new.core
   pub pair : did.pair ≡ None
   pub last : new.last ≡ old.last
-  pub calls : new.calls ≡ old.calls
+  pub calls : ForgetsAfter places e makes.reply new.core.history old.calls new.calls
   pub lost : new.lost ≡ old.lost
 
 -- the core took the event; a command whose event it refuses is refused itself
@@ -70,11 +72,20 @@ pub record Checks (places : PlacesData) (resource : Text) (old : World) (did : D
   pub last : new.last ≡ old.last
   pub lost : new.lost ≡ old.lost
 
+-- the event that a check didn't make is of the versions that it found; it may not have got so far
+abbrev pub MayCheck : PlacesData → Text → ResourceData → World → World → Option EventData → Type 0
+MayCheck places resource one old new None = ⊤
+MayCheck places resource one old new (Some e) =
+    (versions : List TextMap)
+    × Finds places one (newest one old.core.history) old.calls new.calls new.lost.pair (found versions)
+    × (e ≡ checked resource versions)
+
 -- a check of a resource was begun: its event isn't made
 pub record BeginsCheck (places : PlacesData) (resource : Text) (old new : World) : Type 0 where
   pub one : ResourceData
   pub named : resource_of resource (resources_of old.core) ≡ Some one
-  pub begins : BeginsFind places one (newest one old.core.history) old.calls new.calls new.lost
+  pub begins : BeginsFind places one (newest one old.core.history) old.calls new.calls new.lost.pair
+  pub may : MayCheck places resource one old new new.lost.event
   pub core : new.core ≡ old.core
   pub last : new.last ≡ old.last
 
@@ -133,19 +144,28 @@ pub record ServesBuild (places : PlacesData) (b : RunningData) (old : World) (di
   pub last : new.last ≡ rank_in old.core.history b
   pub lost : new.lost ≡ old.lost
 
+-- the event that wasn't made of a turn is an answer to the job's build of this number with these exchanges, at its turn; it may not
+-- have got so far
+abbrev pub MayAnswer : Text → ℕ → List Exchange → Option EventData → Type 0
+MayAnswer job number exchanges None = ⊤
+MayAnswer job number exchanges (Some e) =
+    (turn : ℕ) × (given : AnswerData) × HasTurn exchanges turn × (e ≡ answer job number turn given)
+
 -- the answer to the one ask of a build was begun, at the step at which it waits, in a state, with the shelf's calls before and
 -- after
 pub record BeginsAsk (places : PlacesData) (b : RunningData) (s : State) (before after : List CallData)
-    (lost : Option Pair) : Type 0 where
+    (lost : Loss) : Type 0 where
   pub ask : AskData
   pub wanted : IsNext b.inputs b.plan b.exchanges ask
   pub at : Tree
   pub waits_at : WaitsAt b at
-  pub begins : BeginsAnswer places (resources_of s) b.job b.number (step_label at) ask before after lost
+  pub begins : BeginsAnswer places (resources_of s) b.job b.number (step_label at) ask before after lost.pair
+  pub may : MayAnswer b.job b.number b.exchanges lost.event
 
--- nothing was begun of an abort; else the answer to the one ask of a build was begun
-abbrev pub BeginsOn : Bool → PlacesData → RunningData → State → List CallData → List CallData → Option Pair → Type 0
-BeginsOn true places b s before after lost = (after ≡ before) × (lost ≡ None)
+-- of an abort its event wasn't made, and nothing else was begun; else the answer to the one ask of a build was begun
+abbrev pub BeginsOn : Bool → PlacesData → RunningData → State → List CallData → List CallData → Loss → Type 0
+BeginsOn true places b s before after lost =
+    (after ≡ before) × (lost ≡ record { pair = None; event = Some (abort b.job b.number) })
 BeginsOn false places b s before after lost = BeginsAsk places b s before after lost
 
 -- a turn of a build was begun: it was looked whether it is asked that it be aborted, it went on by that, and its event isn't
@@ -184,18 +204,18 @@ pub record Shows (what : ShownData) (status : ℕ) (old : World) (did : Done) (n
 -- what a server does of an item
 abbrev pub DoesItem : PlacesData → Item → World → Done → World → Type 0
 DoesItem places (check resource) old did new = Checks places resource old did new
-DoesItem places (schedule job) old did new = Tells (event.schedule job) old did new
+DoesItem places (schedule job) old did new = Tells places (event.schedule job) old did new
 DoesItem places turn old did new = TakesTurn places (next_build old) old did new
-DoesItem places (tell e) old did new = Tells e old did new × IsTaken e did
+DoesItem places (tell e) old did new = Tells places e old did new × IsTaken e did
 DoesItem places (show what status) old did new = Shows what status old did new
 
--- what a server may have begun of an item that is cut short, beside nothing: only a check and a turn call the shelf and run
--- a program
+-- what a server may have begun of an item that is cut short, beside nothing: its event wasn't made; only a check and a turn call
+-- the shelf before that, and run a program
 abbrev pub BeginsItem : PlacesData → Item → World → World → Type 0
 BeginsItem places (check resource) old new = BeginsCheck places resource old new
-BeginsItem places (schedule job) old new = ⊥
+BeginsItem places (schedule job) old new = new ≡ unmade (event.schedule job) old
 BeginsItem places turn old new = BeginsTurn places (next_build old) old new
-BeginsItem places (tell e) old new = ⊥
+BeginsItem places (tell e) old new = new ≡ unmade e old
 BeginsItem places (show what status) old new = ⊥
 
 -- WHAT A SERVER DOES of an item, and what it may have begun of one that is cut short

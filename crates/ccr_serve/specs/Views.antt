@@ -24,7 +24,7 @@ use Rattle.ccr_serve.specs.declared.fault.ServeFault.{ServeFault}
 use Rattle.ccr_serve.specs.declared.fault.ServeFault.TheVariants.{Store, NoMemory, Closed}
 use Rattle.ccr_serve.specs.declared.server.Server.{Server}
 use Rattle.ccr_serve.specs.Crash.{LeavesAt}
-use Rattle.ccr_serve.specs.Items.{World, Done, Part, pairs_of, lines_of_all}
+use Rattle.ccr_serve.specs.Items.{Loss, no_loss, World, Done, Part, pairs_of, lines_of_all}
 use Rattle.ccr_serve.specs.Taken.{taken_in, commits_for}
 
 -- what a server holds: its core, the rank of the build served last, the calls of its shelf, what its runner ran,
@@ -92,7 +92,7 @@ jobs_held c = (unwrap_or c.pipeline no_pipeline).jobs
 
 -- where a server stands whose core stands for this state
 abbrev pub world_of : View → State → World
-world_of v s = record { core = s; last = v.last; calls = v.calls; lost = None }
+world_of v s = record { core = s; last = v.last; calls = v.calls; lost = no_loss }
 
 -- a server is open, no commit of its storage has failed, the storage holds this history, and a crash leaves that one
 pub record IsCurrent (h : HistoryData) (closed : Bool) (tally : Tally) (IsHeld : HistoryData → Type 0)
@@ -107,9 +107,10 @@ abbrev pub IsReady : View → Type 0
 IsReady v = IsCurrent v.core.history v.closed v.tally v.holds v.leaves
 
 -- ---- calls
--- the pair that answers for no item: none in a whole call; else there may be one, that of the item that was cut short
-abbrev pub MayBeLost : Bool → Option Pair → Type 0
-MayBeLost true lost = lost ≡ None
+-- the pair that answers for no item, and the event that wasn't made: none in a whole call; else there may be one, that of the
+-- item that was cut short
+abbrev pub MayBeLost : Bool → Loss → Type 0
+MayBeLost true lost = lost ≡ no_loss
 MayBeLost false lost = ⊤
 
 -- how many commits were asked for, from one tally to another, beside so many: none in a whole call, else at most one
@@ -127,18 +128,19 @@ StandsAt false false now new = Stands new.core now.core × (new.last ≡ now.las
 -- left over, but for that of the item that was cut short; its shelf had the calls of its items, in order, and what was
 -- begun of them by that item, and no other; the storage was asked for a commit of each event that the core took, and for
 -- no other, but for at most one where it was cut short; the lines of its items are printed; the storage holds the history
--- after them; and a crash leaves that one, or, once the server has closed, that of one event more
+-- after them; and a crash leaves that one, or, once the server has closed, that of one event more, which is that of the item that
+-- was cut short
 pub record Called (part : Part) (old : View) (s : State) (whole : Bool) (new : View) : Type 0 where
   pub dones : List Done
   pub now : World
   pub does : part (world_of old s) dones whole now
-  pub pairs : new.pairs ≡ old.pairs ++ (pairs_of dones ++ option_to_list now.lost)
+  pub pairs : new.pairs ≡ old.pairs ++ (pairs_of dones ++ option_to_list now.lost.pair)
   pub few : MayBeLost whole now.lost
   pub calls : new.calls ≡ now.calls
   pub commits : HasAsked whole old.tally.commits (taken_in dones) new.tally.commits
   pub lines : new.lines ≡ old.lines ++ lines_of_all dones
   pub holds : new.holds now.core.history
-  pub crash : LeavesAt new.closed new.leaves now.core
+  pub crash : LeavesAt new.closed (λ e. now.lost.event ≡ Some e) new.leaves now.core
   pub stands : StandsAt whole new.closed now new
 
 -- WHAT A CALL DID, from each state that the core stood for
@@ -214,11 +216,11 @@ IsBack NoMemory old new = (new.core ≡ old.core) × IsReady new
 IsBack (Store f) old new = IsFailed f new
 IsBack f old new = ⊥
 
--- no event was made, for this fault, and at most one commit was asked for; the storage holds what it held, and a crash
--- leaves that, or, once the server has closed, the history with the event that was being stored
-pub record Unmade (f : ServeFault) (old new : View) : Type 0 where
+-- an event wasn't made, for this fault, and at most one commit was asked for; the storage holds what it held, and a crash
+-- leaves that, or, once the server has closed, the history with this event
+pub record Unmade (e : EventData) (f : ServeFault) (old new : View) : Type 0 where
   pub back : IsBack f old new
   pub holds : new.holds old.core.history
-  pub crash : (s : State) → Stands old.core s → LeavesAt new.closed new.leaves s
+  pub crash : (s : State) → Stands old.core s → LeavesAt new.closed (λ x. x ≡ e) new.leaves s
   pub commits : HasAsked false old.tally.commits 0 new.tally.commits
   pub rest : IsElse old new

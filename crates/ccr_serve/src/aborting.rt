@@ -5,7 +5,7 @@ ghost use Rattle.ccr_core.specs.Cores.{core_data};
 ghost use Rattle.ccr_core.specs.Events.{abort};
 ghost use Rattle.ccr_core.specs.Holding.{Stands};
 ghost use Rattle.ccr_core.specs.State.{State, running_at};
-ghost use Rattle.ccr_serve.specs.Aborts.{AbortIsAsked};
+ghost use Rattle.ccr_serve.specs.Aborts.{AbortIsAsked, AreLeftovers};
 ghost use Rattle.ccr_serve.specs.Due.{IsDue};
 ghost use Rattle.ccr_serve.specs.Noted.{IsStepHead, NotesOf};
 ghost use Rattle.ccr_serve.specs.Views.{IsReady, Made, Unmade, bare_view, CommitsBuild};
@@ -14,6 +14,7 @@ ghost use Rattle.ccr_serve.specs.Served.{ServingLooked, AfterItems};
 use crate::due::Due;
 use crate::ended::{clear_away, print_ended};
 use crate::fault::ServeFault;
+use crate::leftovers::Leftovers;
 use crate::notes::{tell_fault, waiting_head};
 use crate::server::Server;
 use ccr_core::{Event, Reply};
@@ -23,8 +24,20 @@ use ccr_process::Runner;
 use ccr_task::{Places, Shelf, StepFault};
 use std::alloc::{AllocError, Global};
 
-/// Whether it is asked that a job's build of this number be aborted: a folder that asks for it is there, and is removed, so that it
-/// asks once. Where one of the two can't be done, it is as if it weren't asked. `AllocError` where nothing was looked for.
+/// Whether it is asked that a build be aborted: the directory at this path, which asks for it, is there, and is removed, so
+/// that it asks once. Where one of the two can't be done, it is as if it weren't asked.
+pub(crate) fn take_request<S: Shelf>(shelf: &mut S, request: &str) -> bool
+    ensures { AbortIsAsked request.now result (S.calls shelf.old) (S.calls shelf.new) }
+{
+    match shelf.has_folder(request) {
+        Ok(true) => shelf.remove_folder(request).is_ok(),
+        Ok(false) => false,
+        Err(_) => false,
+    }
+}
+
+/// Whether it is asked that a job's build of this number be aborted, as `take_request` says. `AllocError` where nothing was
+/// looked for.
 pub(crate) fn take_abort<S: Shelf>(
     alloc: Global,
     shelf: &mut S,
@@ -36,12 +49,8 @@ pub(crate) fn take_abort<S: Shelf>(
         (S.calls shelf.old) (S.calls shelf.new)) }
     ensures err { OnErr result (S.calls shelf.new ≡ S.calls shelf.old) }
 {
-    let folder = places.abort_folder(alloc, job, number)?;
-    match shelf.has_folder(folder.as_str()) {
-        Ok(true) => Ok(shelf.remove_folder(folder.as_str()).is_ok()),
-        Ok(false) => Ok(false),
-        Err(_) => Ok(false),
-    }
+    let request = places.abort_folder(alloc, job, number)?;
+    Ok(take_request(shelf, request.as_str()))
 }
 
 impl<R: Runner, S: Shelf, T: Storage> Server<R, S, T> {
@@ -53,7 +62,7 @@ impl<R: Runner, S: Shelf, T: Storage> Server<R, S, T> {
         ensures made { let view = bare_view R.Runner S.Shelf T.Storage in
             IfOk result (λ reply. Made (abort (string_bytes job) number) (Ok reply) (view self.old) (view self.new)) }
         ensures unmade { let view = bare_view R.Runner S.Shelf T.Storage in
-            IfErr result (λ fault. Unmade fault (view self.old) (view self.new)) }
+            IfErr result (λ fault. Unmade (abort (string_bytes job) number) fault (view self.old) (view self.new)) }
     {
         self.core.rules();
         match self.make(Event::Abort(job, number)) {
@@ -68,11 +77,13 @@ impl<R: Runner, S: Shelf, T: Storage> Server<R, S, T> {
         &mut self,
         due: Due,
         name: String,
+        left: &Leftovers,
         out: &mut O,
     ) -> Result<(), ServeFault>
         requires ready { IsReady (bare_view R.Runner S.Shelf T.Storage self.old) }
         requires due { IsDue (core_data self.old.core) self.old.last (Some due) }
         requires name { string_bytes name ≡ string_bytes due.job }
+        requires left { AreLeftovers (places_data self.old.places) (string_bytes due.job) due.number left.now }
         requires room { length (string_bytes due.job) + 64 ≤ O.room out.old }
         ensures served { ServingLooked R.Runner S.Shelf T.Storage O.Lines true (string_bytes due.job) due.number result
             self.old self.new out.old out.new }
@@ -90,14 +101,7 @@ impl<R: Runner, S: Shelf, T: Storage> Server<R, S, T> {
                 self.last = due.rank;
                 tell_fault(self.alloc, out, &head, &Some(StepFault::Aborted));
                 print_ended(out, job, due.number, reply);
-                clear_away(
-                    self.alloc,
-                    &mut self.shelf,
-                    &self.places,
-                    job,
-                    due.number,
-                    reply,
-                );
+                clear_away(&mut self.shelf, left, reply);
                 Ok(())
             }
             Err(fault) => Err(fault),

@@ -1,11 +1,12 @@
 //! The items of a round that make events: checks and schedules.
 ghost use Rattle.std.specs.Prelude.{◌≡◌, ◌+◌, ◌*◌, ◌^◌, ◌≤◌, ◌++◌, [], ◌∷◌, List, length, string_bytes, is_ok, IfOk, OnOk, OnErr, IfSome, IfNone, IsSome, IsSomeAnd, Some, Option, false};
+ghost use Rattle.ccr_history.specs.Builds.{count_of};
 ghost use Rattle.ccr_history.specs.TextMap.{TextMap};
 ghost use Rattle.ccr_history.specs.History.{HistoryData};
 ghost use Rattle.ccr_pipeline.specs.JobData.{ResourceData};
 ghost use Rattle.ccr_problem.specs.ProblemOf.{resource_of};
 ghost use Rattle.ccr_process.specs.Runs.{Pair};
-ghost use Rattle.ccr_task.specs.Places.{places_data};
+ghost use Rattle.ccr_task.specs.Places.{places_data, abort_folder};
 ghost use Rattle.ccr_core.specs.Cores.{core_data};
 ghost use Rattle.ccr_core.specs.Events as event;
 ghost use Rattle.ccr_lines.specs.Lines.{lines_of};
@@ -18,6 +19,7 @@ ghost use Rattle.ccr_serve.specs.Taken.{all_taken};
 ghost use Rattle.ccr_serve.specs.Views.{resources_held, IsReady, bare_view};
 ghost use Rattle.ccr_serve.specs.Served.{Serving, AfterItems};
 
+use crate::ended::{ended_at_once, forget};
 use crate::fault::ServeFault;
 use crate::found::{Found, find};
 use crate::server::Server;
@@ -47,6 +49,29 @@ pub(crate) fn begin<O: Lines>(
     };
     out.make_room(bytes)?;
     String::from_str(alloc, name)
+}
+
+/// Makes room for the lines of a job, copies its name for the event that may make a build of it, and makes the path of what
+/// asks to abort that build.
+pub(crate) fn begin_job<O: Lines>(
+    alloc: Global,
+    places: &Places,
+    history: &History,
+    job: &str,
+    out: &mut O,
+) -> Result<(String, String), AllocError>
+    ensures copied { IfOk result (λ begun. string_bytes begun.0 ≡ job.now) }
+    ensures request { IfOk result (λ begun. string_bytes begun.1
+        ≡ abort_folder (places_data places.now) job.now (count_of job.now history.now.builds + 1)) }
+    ensures room { OnOk result (2 * length job.now + 64 ≤ O.room out.new) }
+    ensures same { O.written out.new ≡ O.written out.old }
+    ensures notes { O.notes out.new ≡ O.notes out.old }
+    ensures waiting { O.waiting out.new ≡ O.waiting out.old }
+{
+    let copy = begin(alloc, job, job_room(job), out)?;
+    history.rules();
+    let request = places.abort_folder(alloc, job, history.count_of(job) + 1)?;
+    Ok((copy, request))
 }
 
 /// For how many bytes the line of a name needs room; None where no number tells it.
@@ -193,7 +218,8 @@ impl<R: Runner, S: Shelf, T: Storage> Server<R, S, T> {
     }
 
     /// Gives a job its chance of a build: one is made if there is something new for it. Its lines are printed once that
-    /// is stored; a job that the core refuses to schedule is no error.
+    /// is stored; a job that the core refuses to schedule is no error. Where the build has ended at once, what asks for its
+    /// abort is removed then.
     ///
     /// - `NoMemory` if out of memory; then nothing has changed.
     /// - `Store` where the storage failed; then the server has closed.
@@ -203,12 +229,23 @@ impl<R: Runner, S: Shelf, T: Storage> Server<R, S, T> {
             self.old self.new out.old out.new }
         ensures after { AfterItems R.Runner S.Shelf T.Storage O.Lines false result self.old self.new out.old out.new }
     {
-        let Ok(copy) = begin(self.alloc, name, job_room(name), out) else {
+        let Ok((copy, request)) = begin_job(
+            self.alloc,
+            &self.places,
+            self.core.history(),
+            name,
+            out,
+        ) else {
             return Err(ServeFault::NoMemory);
         };
+        // What a core keeps says that it stands for a state, in which the build's number is known.
+        self.core.rules();
         match self.make(Event::Schedule(copy)) {
             Ok(replied) => {
-                print_scheduled(out, name, replied, self.core.history());
+                let history = self.core.history();
+                let ended = ended_at_once(history, name, &replied);
+                print_scheduled(out, name, replied, history);
+                forget(&mut self.shelf, request.as_str(), ended);
                 Ok(())
             }
             Err(fault) => Err(fault),

@@ -21,6 +21,7 @@ mod fault;
 mod found;
 mod items;
 mod law;
+mod leftovers;
 mod make;
 mod names;
 mod notes;

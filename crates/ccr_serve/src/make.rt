@@ -20,7 +20,7 @@ impl<R: Runner, S: Shelf, T: Storage> Server<R, S, T> {
         ensures made { let view = bare_view R.Runner S.Shelf T.Storage in
             IfOk result (λ r. Made (event_data event) r (view self.old) (view self.new)) }
         ensures unmade { let view = bare_view R.Runner S.Shelf T.Storage in
-            IfErr result (λ fault. Unmade fault (view self.old) (view self.new)) }
+            IfErr result (λ fault. Unmade (event_data event) fault (view self.old) (view self.new)) }
     {
         self.core.history().rules();
         match self.core.step(self.alloc, event) {

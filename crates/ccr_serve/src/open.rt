@@ -1,6 +1,7 @@
 //! How a server begins.
 ghost use Rattle.std.specs.Prelude.{◌≡◌, ◌≤◌, [], ◌∷◌, false, IfOk, IfErr, OnOk, OnErr};
 ghost use Rattle.std.specs.Option.{IfSome};
+ghost use Rattle.ccr_history.specs.Counts.{RoseBy};
 ghost use Rattle.ccr_proof.specs.declared.proof.TheConstants.{MOST_NODES};
 ghost use Rattle.ccr_core.specs.Cores.{core_data};
 ghost use Rattle.ccr_core.specs.Resumed.{resumed, IsReadable, IsResumed};
@@ -18,11 +19,15 @@ use ccr_process::Runner;
 use ccr_task::{Places, Shelf};
 use std::alloc::Global;
 
-/// Why a server isn't opened, with its storage.
+/// Why a server isn't opened, with what it was to stand over.
 #[derive(Drop)]
-pub struct Unopened<T> {
+pub struct Unopened<R, S, T> {
     /// `NoMemory` if out of memory, or `Store` where the storage failed; nothing else.
     pub fault: ServeFault,
+    /// The runner that the server was to have.
+    pub runner: R,
+    /// The shelf that the server was to have.
+    pub shelf: S,
     /// The storage that the server was to have.
     pub storage: T,
 }
@@ -32,7 +37,7 @@ impl<R: Runner + Drop, S: Shelf + Drop, T: Storage + Drop> Server<R, S, T> {
     /// nothing moved, and this is stored, and then told beside the lines; no folder is touched and no program started.
     ///
     /// The caller gives a history whose text `ccr_pipeline::read` accepts, and a budget from 1 to 1,000,000.
-    /// An [`Unopened`] hands the storage back, which holds what it held.
+    /// An [`Unopened`] hands the runner and the shelf back as they were, and the storage, which holds what it held.
     pub fn open<O: Lines>(
         alloc: Global,
         runner: R,
@@ -42,7 +47,7 @@ impl<R: Runner + Drop, S: Shelf + Drop, T: Storage + Drop> Server<R, S, T> {
         places: Places,
         budget: u32,
         out: &mut O,
-    ) -> Result<Server<R, S, T>, Unopened<T>>
+    ) -> Result<Server<R, S, T>, Unopened<R, S, T>>
         requires holds { T.holds storage history }
         requires leaves { T.leaves storage (history ∷ []) }
         requires readable { IfSome history.text IsReadable }
@@ -54,12 +59,16 @@ impl<R: Runner + Drop, S: Shelf + Drop, T: Storage + Drop> Server<R, S, T> {
         ensures pairs { IfOk result (λ server. R.pairs server.runner ≡ R.pairs runner) }
         ensures calls { IfOk result (λ server. S.calls server.shelf ≡ S.calls shelf) }
         ensures places { IfOk result (λ server. server.places ≡ places) }
+        ensures counted { IfOk result (λ server.
+            RoseBy (T.tally storage).commits 1 (T.tally server.storage).commits) }
         ensures same { O.written out.new ≡ O.written out.old }
         ensures waiting { O.waiting out.new ≡ O.waiting out.old }
         ensures cut { OnOk result (NotesCut (resumed history) (O.notes out.old) (O.notes out.new)) }
         ensures quiet { OnErr result (out.new ≡ out.old) }
         ensures only { IfErr result (λ it.
             KeepsFromOpening T.holds T.leaves T.tally history storage it.storage it.fault) }
+        ensures runner { IfErr result (λ it. it.runner ≡ runner) }
+        ensures shelf { IfErr result (λ it. it.shelf ≡ shelf) }
     {
         history.rules();
         let (core, change) = match Core::resume(alloc, history, budget) {
@@ -67,6 +76,8 @@ impl<R: Runner + Drop, S: Shelf + Drop, T: Storage + Drop> Server<R, S, T> {
             Err(_) => {
                 return Err(Unopened {
                     fault: ServeFault::NoMemory,
+                    runner,
+                    shelf,
                     storage,
                 })
             }
@@ -87,6 +98,8 @@ impl<R: Runner + Drop, S: Shelf + Drop, T: Storage + Drop> Server<R, S, T> {
             }
             Err(fault) => Err(Unopened {
                 fault: ServeFault::Store(fault),
+                runner,
+                shelf,
                 storage,
             }),
         }

@@ -5,8 +5,9 @@ ghost use Rattle.ccr_core.specs.Commands.{run, trigger_job};
 ghost use Rattle.ccr_serve.specs.Views.{IsReady, bare_view};
 ghost use Rattle.ccr_serve.specs.Served.{Serving, Came, AfterCommand};
 
+use crate::ended::{ended_at_once, forget};
 use crate::fault::ServeFault;
-use crate::items::{begin, job_room};
+use crate::items::begin_job;
 use crate::server::Server;
 use ccr_core::{CoreFault, Event, Reply};
 use ccr_history::{BuildRef, History, Status, Storage};
@@ -50,7 +51,8 @@ fn status_of_reply(job: &str, reply: Reply, history: &History) -> u8
 }
 
 impl<R: Runner, S: Shelf, T: Storage> Server<R, S, T> {
-    /// Triggers the job of this name: the core's reply. Its lines are printed once that is stored.
+    /// Triggers the job of this name: the core's reply. Its lines are printed once that is stored;
+    /// where the build has ended at once, what asks for its abort is removed then.
     ///
     /// - `Core` where the core refuses it, and `NoMemory` if out of memory; then nothing has changed.
     /// - `Store` where the storage failed; then the server has closed.
@@ -62,14 +64,20 @@ impl<R: Runner, S: Shelf, T: Storage> Server<R, S, T> {
             self.old self.new out.old out.new) }
         ensures after { AfterCommand R.Runner S.Shelf T.Storage O.Lines result self.old self.new out.old out.new }
     {
-        let Ok(copy) = begin(self.alloc, job, job_room(job), out) else {
+        let Ok((copy, request)) = begin_job(self.alloc, &self.places, self.core.history(), job, out)
+        else {
             return Err(ServeFault::NoMemory);
         };
+        // What a core keeps says that it stands for a state, in which the build's number is known.
+        self.core.rules();
         match self.make(Event::Trigger(copy)) {
             Ok(replied) => match replied {
                 Ok(reply) => {
-                    print_job(out, job, reply, self.core.history());
+                    let history = self.core.history();
+                    let ended = ended_at_once(history, job, &Ok(reply));
+                    print_job(out, job, reply, history);
                     out.hand_out();
+                    forget(&mut self.shelf, request.as_str(), ended);
                     Ok(reply)
                 }
                 Err(fault) => Err(ServeFault::Core(fault)),

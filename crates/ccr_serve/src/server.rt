@@ -1,4 +1,7 @@
 //! The server.
+ghost use Rattle.std.specs.Prelude.{◌≡◌};
+ghost use Rattle.std.specs.Option.{option_copied};
+ghost use Rattle.ccr_core.specs.Cores.{core_data};
 
 use ccr_core::Core;
 use ccr_task::Places;
@@ -18,4 +21,13 @@ pub struct Server<R, S, T> {
     // The rank in order of making, from 1, of the build that was served last; 0 where none was.
     pub(crate) last: u64,
     pub(crate) closed: bool,
+}
+
+impl<R, S, T> Server<R, S, T> {
+    /// The text of the pipeline that was set last, if one was.
+    pub fn text(&self) -> Option<&[u8]>
+        ensures { option_copied result ≡ (core_data self.now.core).history.text }
+    {
+        self.core.history().text()
+    }
 }

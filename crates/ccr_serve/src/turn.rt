@@ -1,12 +1,13 @@
 //! Turns: the one ask of a build is answered, or aborted.
 ghost use Rattle.std.specs.Prelude.{◌≡◌, ◌+◌, ◌≤◌, List, [], ◌∷◌, length, string_bytes, true, false, Ok, Err, IfOk, IfErr, OnOk, OnErr, Some};
-ghost use Rattle.ccr_steps.specs.Asks.{answer_data, errored};
+ghost use Rattle.ccr_steps.specs.Asks.{AnswerData, answer_data, errored};
 ghost use Rattle.ccr_steps.specs.declared.ask.Ask.{Ask};
 ghost use Rattle.ccr_task.specs.Calls.{CallData};
 ghost use Rattle.ccr_task.specs.Places.{places_data};
 ghost use Rattle.ccr_core.specs.Cores.{core_data};
 ghost use Rattle.ccr_core.specs.Events.{answer};
 ghost use Rattle.ccr_core.specs.Holding.{Wants};
+ghost use Rattle.ccr_serve.specs.Aborts.{AreLeftovers};
 ghost use Rattle.ccr_serve.specs.Due.{IsDue, Gives};
 ghost use Rattle.ccr_serve.specs.Noted.{IsFaultOf, NotesAnswer, NotesBuild, NotesTurn};
 ghost use Rattle.ccr_serve.specs.Items as item;
@@ -14,11 +15,12 @@ ghost use Rattle.ccr_serve.specs.Serving.{ItemsOf};
 ghost use Rattle.ccr_serve.specs.Views.{is_running, CommitsOnce, IsReady, Made, Unmade, bare_view, CommitsBuild};
 ghost use Rattle.ccr_serve.specs.Served.{Serving, ServingLooked, AfterItems};
 
-use crate::aborting::take_abort;
+use crate::aborting::take_request;
 use crate::due::{Due, due_build};
 use crate::ended::{clear_away, print_ended};
 use crate::fault::ServeFault;
 use crate::items::{begin, line_room};
+use crate::leftovers::{Leftovers, leftovers_of};
 use crate::notes::{asking_head, tell_fault};
 use crate::server::Server;
 use crate::wanted::answer_wanted;
@@ -57,7 +59,8 @@ impl<R: Runner, S: Shelf, T: Storage> Server<R, S, T> {
             IfOk result (λ reply. Made (answer (string_bytes job) number turn errored) (Ok reply)
             (view self.old) (view self.new)) }
         ensures unmade { let view = bare_view R.Runner S.Shelf T.Storage in
-            IfErr result (λ fault. Unmade fault (view self.old) (view self.new)) }
+            IfErr result (λ fault. Unmade (answer (string_bytes job) number turn errored) fault
+            (view self.old) (view self.new)) }
     {
         self.core.rules();
         match self.make(Event::Answer(job, number, turn, Answered::Errored)) {
@@ -87,7 +90,8 @@ impl<R: Runner, S: Shelf, T: Storage> Server<R, S, T> {
             IfOk result (λ reply. Gives (string_bytes names.0) number turn (answer_data answered) reply
             (view self.old) (view self.new)) }
         ensures unmade { let view = bare_view R.Runner S.Shelf T.Storage in
-            IfErr result (λ stop. Unmade stop (view self.old) (view self.new)) }
+            IfErr result (λ stop. (given : AnswerData) × Unmade (answer (string_bytes names.0) number turn given) stop
+            (view self.old) (view self.new)) }
     {
         self.core.rules();
         let (named, again) = names;
@@ -107,12 +111,14 @@ impl<R: Runner, S: Shelf, T: Storage> Server<R, S, T> {
         &mut self,
         due: Due,
         names: (String, String),
+        left: &Leftovers,
         out: &mut O,
     ) -> Result<(), ServeFault>
         requires ready { IsReady (bare_view R.Runner S.Shelf T.Storage self.old) }
         requires due { IsDue (core_data self.old.core) self.old.last (Some due) }
         requires one { string_bytes names.0 ≡ string_bytes due.job }
         requires other { string_bytes names.1 ≡ string_bytes due.job }
+        requires left { AreLeftovers (places_data self.old.places) (string_bytes due.job) due.number left.now }
         requires room { length (string_bytes due.job) + 64 ≤ O.room out.old }
         ensures served { ServingLooked R.Runner S.Shelf T.Storage O.Lines false (string_bytes due.job) due.number result
             self.old self.new out.old out.new }
@@ -147,14 +153,7 @@ impl<R: Runner, S: Shelf, T: Storage> Server<R, S, T> {
                 self.last = due.rank;
                 tell_fault(self.alloc, out, &head, &fault);
                 print_ended(out, job, due.number, reply);
-                clear_away(
-                    self.alloc,
-                    &mut self.shelf,
-                    &self.places,
-                    job,
-                    due.number,
-                    reply,
-                );
+                clear_away(&mut self.shelf, left, reply);
                 Ok(())
             }
             Err(fault) => Err(fault),
@@ -179,19 +178,19 @@ impl<R: Runner, S: Shelf, T: Storage> Server<R, S, T> {
         let Ok(names) = begin_turn(self.alloc, job, out) else {
             return Err(ServeFault::NoMemory);
         };
-        let Ok(asked) = take_abort(self.alloc, &mut self.shelf, &self.places, job, due.number)
-        else {
+        let Ok(left) = leftovers_of(self.alloc, &self.places, job, due.number) else {
             return Err(ServeFault::NoMemory);
         };
+        let asked = take_request(&mut self.shelf, left.request.as_str());
         if asked {
-            self.abort_due(due, names.0, out)
+            self.abort_due(due, names.0, &left, out)
         } else {
-            self.answer_due(due, names, out)
+            self.answer_due(due, names, &left, out)
         }
     }
 
     /// Serves the build whose turn it is; false where no build runs. What it asks is answered, or aborted where that is asked
-    /// by a folder that is there. Where the build ends, its line is printed once that is stored, and its folder is removed,
+    /// by a folder that is there. Where the build ends, its line is printed once that is stored, and its directory is removed,
     /// and one that asks for its abort.
     ///
     /// An answer for which the core has no room is given again as errored.

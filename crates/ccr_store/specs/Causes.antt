@@ -57,7 +57,7 @@ IsRaised old trees =
 -- the first format, the same rows in the second
 abbrev pub IsBegun : State → Trees → Type 0
 IsBegun old trees =
-    ((old.now.schema ≡ no_schema) × Keeps new_contents trees)
+    ((old.now.schema ≡ no_schema) × Keeps new_contents trees × ListOurs trees)
     ⊎ ((old.now.schema ≢ no_schema) × IsRaised old trees)
 
 module _ {S : Type 0} (g : Ghosts S) (old : State) where

@@ -1,14 +1,16 @@
 -- Why a creation failed.
-use Rattle.std.proofs.Common.{◌≡◌, true, ℕ, List, [], Ok, Err, Result, IfOk, IfErr, OnOk, ◌≢◌, refl, sym, subst, inl, inr}
+use Rattle.std.proofs.Common.{◌≡◌, true, ℕ, List, [], Ok, Err, Result, IfOk, IfErr, OnOk, ◌≢◌, refl, sym, subst, inl, inr, arith}
 use Rattle.std.specs.Prelude.{IsErrAnd}
 use Rattle.sqlite_trees.specs.declared.store.Store.{Ghosts}
 use Rattle.sqlite.specs.declared.error.Error.{Error}
 use Rattle.sqlite.specs.Order.{Row}
-use Rattle.sqlite.specs.State.{State, Survives, ExecutesInside}
+use Rattle.sqlite.specs.State.{State, HasCleanDisk, Survives, ExecutesInside}
 use Rattle.sqlite.specs.Steps.{FailsToCommit}
 use Rattle.sqlite.specs.Held.{Held, state}
+use Rattle.sqlite.specs.Effect.{IsDatabase}
 use Rattle.sqlite.proofs.Callers.{survives_begin}
-use Rattle.ccr_tables.specs.Contents.{Holds, new_contents}
+use Rattle.sqlite.proofs.StateLemmas.{survives_then}
+use Rattle.ccr_tables.specs.Contents.{Holds, Keeps, ListOurs, new_contents}
 use Rattle.ccr_tables.specs.Cause.{cause_of}
 use Rattle.ccr_tables.specs.declared.cause.Cause.TheVariants.{Refused}
 use Rattle.ccr_tables.specs.declared.creation.Creation.{Creation}
@@ -18,6 +20,7 @@ use Rattle.ccr_tables.specs.Schema.{no_schema}
 use Rattle.ccr_tables.specs.Tables.{creation_text}
 use Rattle.ccr_tables.specs.declared.table.Table.{Table}
 use Rattle.ccr_tables.proofs.InTurn.{survives_both, on_failed}
+use Rattle.ccr_tables.proofs.Ours.{left_listed}
 
 pub first_failed : {S : Type 0} (g : Ghosts S) (old : State) (before after : Held S) (text : List ℕ) (params : Row) (e : Error) → IsFirst text params → Survives old (state g before) (λ _. ⊥)
     → ExecutesInside 0 text params (state g before) (state g after) (Err e) → FailedAtFirst g old e
@@ -80,3 +83,18 @@ pub failed_last : {S X : Type 0} (g : Ghosts S) (old mid new : Held S) (r : Resu
 failed_last g old mid new r s e was on made kept fails =
     on_failed s e (IsUnmade g (state g old)) on
     (inr (record { before = mid; after = new; made = made; kept = survives_begin g old (state g mid) (λ _. ⊥) kept; answered = subst (λ q. IfErr q (FailsToCommit (state g mid) (state g new))) was fails }))
+
+-- ---- what a crash leaves of a creation
+-- the commit of a transaction that made the six tables leaves what could be left before, or the tables, of which its list of
+-- objects tells
+pub founded_left : {S : Type 0} (g : Ghosts S) (old mid new : Held S) → Survives (state g (record old { in_transaction = true })) (state g mid) (λ _. ⊥)
+    → (HasCleanDisk (state g mid) → (state g old).now.schema ≡ no_schema → IsDatabase (state g mid).now × Holds new_contents (state g mid).now)
+    → Survives (state g mid) (state g new) (λ db. db ≡ (state g mid).now.trees)
+    → Survives (state g old) (state g new) (λ trees. (state g old).now.schema ≡ no_schema → Keeps new_contents trees × ListOurs trees)
+founded_left g old mid new one made two =
+    survives_then (state g old) (state g mid) (state g new) (λ _. ⊥) (λ db. db ≡ (state g mid).now.trees) _ (λ _ db none. absurd none)
+    (λ clean db is bare.
+    let early : HasCleanDisk (state g mid) = omega (arith, two.clean) in
+    let it = made early bare in
+    (subst (Keeps new_contents) (sym is) it.1.rows, left_listed (state g mid).now it.0 it.1.schema db is))
+    (survives_begin g old (state g mid) (λ _. ⊥) one) two

@@ -81,8 +81,12 @@ bare_holds db bare = record {
 
 pub founds_then : {X Y : Type 0} (a : Schema) (s t u : State) (x : X) (r : Result Y Error) → Creates a our_schema s t (Ok x) → Alters t u (with_meta 1 (50 ∷ [])) r → Founds a s u r
 founds_then a s t u x (Ok y) first next =
-    record { kept = keeps_then s t u first.kept next.kept; made = (next.made.0, λ bare. next.made.1 no_contents (bare_holds t.now (first.made.1 bare))) }
-founds_then a s t u x (Err e) first next = record { kept = keeps_then s t u first.kept next.kept; made = tt }
+    record {
+      kept = keeps_then s t u first.kept next.kept;
+      made = (next.made.0, λ bare. next.made.1 no_contents (bare_holds t.now (first.made.1 bare)));
+      sound = λ bare. next.sound no_contents (bare_holds t.now (first.made.1 bare));
+    }
+founds_then a s t u x (Err e) first next = record { kept = keeps_then s t u first.kept next.kept; made = tt; sound = tt }
 
 -- a step that failed is a failure of the whole
 pub creates_fails : {X Y : Type 0} (a b c : Schema) (s t : State) (e f : Error) (r : Result Y Error) → r ≡ Err f → Creates {X = X} a b s t (Err e) → Creates {X = Y} a c s t r
@@ -93,14 +97,18 @@ pub creates_made : (a b : Schema) (s t : State) (n : ℕ) (r : Result ℕ Error)
 creates_made a b s t n r is it = let made = subst (Creates a b s t) is it in record { kept = made.kept; made = made.made }
 
 pub founds_fails : {X Y : Type 0} (a b : Schema) (s t : State) (e f : Error) (r : Result Y Error) → r ≡ Err f → Creates {X = X} a b s t (Err e) → Founds {X = Y} a s t r
-founds_fails {X} {Y} a b s t e f r is it = subst (Founds {X = Y} a s t) (sym is) (record { kept = it.kept; made = tt })
+founds_fails {X} {Y} a b s t e f r is it = subst (Founds {X = Y} a s t) (sym is) (record { kept = it.kept; made = tt; sound = tt })
 
 pub founds_stops : {X Y : Type 0} (a : Schema) (s t : State) (e f : Error) (r : Result Y Error) → r ≡ Err f → Founds {X = X} a s t (Err e) → Founds {X = Y} a s t r
-founds_stops {X} {Y} a s t e f r is it = subst (Founds {X = Y} a s t) (sym is) (record { kept = it.kept; made = tt })
+founds_stops {X} {Y} a s t e f r is it = subst (Founds {X = Y} a s t) (sym is) (record { kept = it.kept; made = tt; sound = tt })
 
 pub founds_all : {X Y : Type 0} (a b : Schema) (s t u : State) (x : X) (r : Result Y Error) → Creates a b s t (Ok x) → Founds b t u r → Founds a s u r
-founds_all a b s t u x (Ok y) first next = record { kept = keeps_then s t u first.kept next.kept; made = (next.made.0, λ bare. next.made.1 (first.made.1 bare)) }
-founds_all a b s t u x (Err e) first next = record { kept = keeps_then s t u first.kept next.kept; made = tt }
+founds_all a b s t u x (Ok y) first next = record {
+  kept = keeps_then s t u first.kept next.kept;
+  made = (next.made.0, λ bare. next.made.1 (first.made.1 bare));
+  sound = λ bare. next.sound (first.made.1 bare);
+}
+founds_all a b s t u x (Err e) first next = record { kept = keeps_then s t u first.kept next.kept; made = tt; sound = tt }
 
 -- an answer that is never `Made` isn't
 pub not_made : (r : Result Creation Error) → IfOk r (λ it. it ≢ Made) → r ≡ Ok Made → ⊥

@@ -37,10 +37,12 @@ pub record Creates {X : Type 0} (before after : Schema) (old new : State) (resul
   pub kept : KeepsCommit old new
   pub made : OnOk result ((new.in_transaction ≡ true) × (IsBare before old.now → IsBare after new.now))
 
--- statements inside a transaction that make the tables from this schema on, and write the row of the format
+-- statements inside a transaction that make the tables from this schema on, and write the row of the format: what they make is a
+-- database whose list of objects is sound
 pub record Founds {X : Type 0} (before : Schema) (old new : State) (result : Result X Error) : Type 0 where
   pub kept : KeepsCommit old new
   pub made : OnOk result ((new.in_transaction ≡ true) × (IsBare before old.now → Holds new_contents new.now))
+  pub sound : OnOk result (IsBare before old.now → IsDatabase new.now)
 
 -- the trees hold what the change makes of the contents that the database held
 abbrev pub IsLeft : (Contents → Contents) → Database → Trees → Type 0

@@ -2,9 +2,10 @@
 
 ghost use Rattle.std.specs.Prelude.{◌≡◌, ◌≢◌, [], false, IsTrue, IfOk, IfErr, OnOk};
 ghost use Rattle.sqlite.specs.State.{HasCleanDisk, KeepsCommit, Survives, ExecutesInside};
+ghost use Rattle.sqlite.specs.Effect.{IsDatabase};
 ghost use Rattle.sqlite.specs.Held.{state};
 ghost use Rattle.ccr_tables.specs.Cause.{cause_of};
-ghost use Rattle.ccr_tables.specs.Contents.{Holds, Keeps, new_contents};
+ghost use Rattle.ccr_tables.specs.Contents.{Holds, Keeps, ListOurs, new_contents};
 ghost use Rattle.ccr_tables.specs.Created.{FailedAtFirst, IsUnmade, WasRefused};
 ghost use Rattle.ccr_tables.specs.Schema.{no_schema, meta_schema, our_schema};
 ghost use Rattle.ccr_tables.specs.Step.{Creates, Founds, IsBare};
@@ -113,6 +114,10 @@ fn create_rest<S: Alter>(tx: &mut Transaction<'_, S>) -> Result<Creation, Error>
         let new = state S.Store tx.new.conn.now in
         HasCleanDisk new → IsTrue old.in_transaction → result ≡ Ok Creation.Made
         → IsTrue new.in_transaction × (IsBare meta_schema old.now → Holds new_contents new.now) }
+    ensures sound { let old = state S.Store tx.old.conn.now in
+        let new = state S.Store tx.new.conn.now in
+        HasCleanDisk new → IsTrue old.in_transaction → result ≡ Ok Creation.Made
+        → IsBare meta_schema old.now → IsDatabase new.now }
     ensures answered { let old = state S.Store tx.old.conn.now in
         HasCleanDisk (state S.Store tx.new.conn.now) → IsTrue old.in_transaction
         → IfErr result (FailedAtFirst S.Store old) }
@@ -136,6 +141,10 @@ fn create_in<S: Alter>(tx: &mut Transaction<'_, S>) -> Result<Creation, Error>
         let new = state S.Store tx.new.conn.now in
         HasCleanDisk new → IsTrue old.in_transaction → result ≡ Ok Creation.Made
         → IsTrue new.in_transaction × (old.now.schema ≡ no_schema → Holds new_contents new.now) }
+    ensures sound { let old = state S.Store tx.old.conn.now in
+        let new = state S.Store tx.new.conn.now in
+        HasCleanDisk new → IsTrue old.in_transaction → result ≡ Ok Creation.Made
+        → old.now.schema ≡ no_schema → IsDatabase new.now }
     ensures taken { let old = state S.Store tx.old.conn.now in
         HasCleanDisk (state S.Store tx.new.conn.now) → IsTrue old.in_transaction
         → old.now.schema ≡ our_schema → result ≢ Ok Creation.Made }
@@ -175,7 +184,8 @@ pub fn create<S: Alter>(conn: &mut Connection<S>) -> Result<Creation, Error>
     ensures refusal { HasCleanDisk (state S.Store conn.new)
         → IfOk result (λ it. it ≢ Creation.Made → WasRefused S.Store (state S.Store conn.old)) }
     ensures crash { let old = state S.Store conn.old in
-        Survives old (state S.Store conn.new) (λ trees. old.now.schema ≡ no_schema → Keeps new_contents trees) }
+        Survives old (state S.Store conn.new)
+        (λ trees. old.now.schema ≡ no_schema → Keeps new_contents trees × ListOurs trees) }
     ensures refused { IfOk result (λ it. it ≢ Creation.Made
         → Survives (state S.Store conn.old) (state S.Store conn.new) (λ _. ⊥)) }
     ensures mode { (state S.Store conn.new).in_transaction ≡ false }

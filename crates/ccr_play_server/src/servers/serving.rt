@@ -79,7 +79,14 @@ impl<W: Write + Drop> Serving<W> {
         let history = script.history;
         match Server::open(alloc, runner, shelf, storage, history, places, BUDGET, out) {
             Ok(server) => Ok(Serving { server }),
-            Err(Unopened { fault, storage: _ }) => Err(fault),
+            Err(
+                Unopened {
+                    fault,
+                    runner: _,
+                    shelf: _,
+                    storage: _,
+                },
+            ) => Err(fault),
         }
     }
 

@@ -11,7 +11,7 @@ use Rattle.ccr_pipeline.proofs.Faulted.{checks_fault}
 use Rattle.ccr_pipeline.proofs.LinksKept.{few_resources, few_jobs, distinct_resources, distinct_jobs, are_linked}
 use Rattle.ccr_pipeline.proofs.Ordered.{jobs_ordered}
 use Rattle.ccr_pipeline.proofs.Printing.{read_again}
-use Rattle.ccr_pipeline.proofs.Used.{says_the_same}
+use Rattle.ccr_pipeline.proofs.Used.{says_the_same, says_the_same_untimed}
 use Rattle.ccr_pipeline.proofs.Whole.{in_jobs, in_names, noted_unused, unfaulted}
 use Rattle.ccr_pipeline.proofs.reader.read_value.Goals as goal
 
@@ -46,6 +46,7 @@ returns-clause-read c =
       jobs = jobs;
       unused = rw unused c.in_ok-unused.ensures.sorted;
       effectless = λ e is. says_the_same e d is;
+      untimed = λ e is. says_the_same_untimed e d is;
       inputs = rw jobs (jobs_ordered [] 0 (list_at (codes "jobs") d) none);
       printed = rw (c.in_ok-notes.ensures.read, jobs) (read_again d whole);
     }

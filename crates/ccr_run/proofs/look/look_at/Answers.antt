@@ -1,6 +1,18 @@
-use Rattle.std.proofs.Common.{ap, not}
+use Rattle.std.proofs.Common.{ap, ap₂, not, ◌∙◌}
+use Rattle.ccr_run.specs.Explained.{explained}
+use Rattle.ccr_run.proofs.Told.{end_alone, nothing_but_gates}
 use Rattle.ccr_run.proofs.look.look_at.Goals as goal
 
+pub tell-requires : goal.tell-requires
+tell-requires g c = nothing_but_gates _ c.requires.untold
+
 pub returns : goal.returns
-returns g c =
-    (record { end = c.see.result; is_printed = not c.has_failed.result }, c.see.ensures, ap not c.has_failed.ensures.failed, c.tell.ensures.status)
+returns g c = (
+  record { end = c.see.result; is_printed = not c.has_failed.result },
+  c.see.ensures,
+  ap not c.has_failed.ensures.failed,
+  end_alone c.into_order.result (record { end = c.see.result; is_printed = not c.has_failed.result }) _ _ c.requires.untold c.tell.ensures.told
+      ∙ ap₂ (λ options command. explained (record { options = options; command = command }) (record { end = c.see.result; is_printed = not c.has_failed.result }))
+      c.into_order.ensures.options c.into_order.ensures.command,
+  c.tell.ensures.status,
+)

@@ -1,14 +1,20 @@
-use Rattle.std.proofs.Common.{◌++◌, Some, inl, inr, refl}
+use Rattle.std.proofs.Common.{◌++◌, Some, refl}
 use Rattle.sqlite_wal.specs.Files.{image_at}
-use Rattle.sqlite.specs.Files.{over_files}
-use Rattle.ccr_task.specs.Shelves.{folders_calls}
-use Rattle.ccr_run.specs.Databases.{holds, leaves, tally, begins_with}
-use Rattle.ccr_look.specs.Unfound.{IsUnfound}
-use Rattle.ccr_run.proofs.Serving.{unserved}
+use Rattle.ccr_run.specs.Databases.{from_conn, from_history}
+use Rattle.ccr_run.proofs.Serving.{served_for, unserved}
 use Rattle.ccr_run.proofs.run.serve_database.Goals as goal
 
+pub returns-in-Ok-clause-served : goal.returns-in-Ok-clause-served
+returns-in-Ok-clause-served g c =
+    served_for g.R.Runner g.F.Shelf _ (from_history (image_at g.S.Start)) (from_conn (image_at g.S.Start) c.args.conn)
+    (λ database history begun. begun) (λ failure never. absurd never) (λ fault conn never. absurd never)
+    c.args.order.now (Some c.args.order.now.options.database.now) c.args.tools c.serve_history.result.0 c.serve_history.result.1
+    (c.args.out.now.shown ++ c.args.out.now.waiting) (c.serve_history.new.out.shown ++ c.serve_history.new.out.waiting)
+    c.serve_history.ensures.served
+
 pub returns-in-Err-clause-served : goal.returns-in-Err-clause-served
-returns-in-Err-clause-served g c =
-    unserved _ folders_calls (holds (image_at g.S.Start)) (leaves (image_at g.S.Start)) tally (begins_with (image_at g.S.Start)) (IsUnfound over_files (image_at g.S.Start)) c.args.order.now
-    (Some c.args.order.now.options.database.now) c.from.result (c.args.out.now.shown ++ c.args.out.now.waiting) (inl refl)
-    (inr (inr (inl (c.in-Err.fault, c.in-Err.ensures.unfound, c.from.ensures))))
+returns-in-Err-clause-served g c = (
+  refl,
+  unserved _ c.args.tools c.args.tools c.from.result (c.args.out.now.shown ++ c.args.out.now.waiting)
+      (c.args.out.now.shown ++ c.args.out.now.waiting) (c.in-Err.field-0.fault, c.in-Err.ensures.unfound, c.from.ensures) refl refl,
+)

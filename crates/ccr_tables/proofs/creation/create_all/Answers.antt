@@ -44,7 +44,7 @@ returns-clause-step g c clean inside =
     let clean1 : HasCleanDisk s1 = omega (arith, c.write_one.ensures.survives.clean) in
     let t1 = c.in_ok-create_tables.ensures.step clean1 inside in
     let t2 = founds_then meta_schema s0 s1 s2 _ _ t1 (c.in_ok-write_one.ensures.step clean t1.made.0) in
-    record { kept = t2.kept; made = t2.made }
+    record { kept = t2.kept; made = t2.made; sound = t2.sound }
 
 pub returns-clause-survives : goal.returns-clause-survives
 returns-clause-survives g c =

@@ -72,3 +72,13 @@ returns-in-Err-clause-refusal g c clean inside =
     let s0 = state g.S.Store c.args.tx.now.conn.now in
     let failed = table_failed g.S.Store s0 c.args.tx.now.conn.now c.create_table.new.tx.conn.now Meta _ (survives_itself s0) (c.in-Err.ensures.answered clean inside) in
     refusal_on g.S.Store s0 _ c.if_refused.result c.if_refused.ensures.refused failed
+
+pub returns-in-Ok-clause-sound : goal.returns-in-Ok-clause-sound
+returns-in-Ok-clause-sound g c clean inside is has =
+    let s1 = state g.S.Store c.create_table.new.tx.conn.now in
+    let clean1 : HasCleanDisk s1 = omega (arith, c.create_rest.ensures.survives.clean) in
+    let first = c.in-Ok.ensures.step clean1 inside in
+    c.create_rest.ensures.sound clean first.made.0 is (first.made.1 (has, tt))
+
+pub returns-in-Err-clause-sound : goal.returns-in-Err-clause-sound
+returns-in-Err-clause-sound g c clean inside is = absurd (not_made _ c.if_refused.ensures.ok is)

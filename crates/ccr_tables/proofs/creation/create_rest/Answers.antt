@@ -22,3 +22,9 @@ returns-in-Err-clause-answered g c clean inside =
 pub returns-in-Err-clause-refusal : goal.returns-in-Err-clause-refusal
 returns-in-Err-clause-refusal g c clean inside =
     refusal_on g.S.Store (state g.S.Store c.args.tx.now.conn.now) _ c.if_refused.result c.if_refused.ensures.refused (c.in-Err.ensures.answered clean inside)
+
+pub returns-in-Ok-clause-sound : goal.returns-in-Ok-clause-sound
+returns-in-Ok-clause-sound g c clean inside is bare = (c.in-Ok.ensures.step clean inside).sound bare
+
+pub returns-in-Err-clause-sound : goal.returns-in-Err-clause-sound
+returns-in-Err-clause-sound g c clean inside is = absurd (not_made _ c.if_refused.ensures.ok is)

@@ -1,16 +1,24 @@
 use Rattle.std.proofs.Common.{◌++◌, ◌∙◌, ap, sym}
-use Rattle.ccr_lines.proofs.Printing.{shown_all, whole_more}
+use Rattle.ccr_lines.proofs.Printing.{shown_all, told_still, whole_shown}
 use Rattle.ccr_lines.proofs.printed.PrintedLines.hand_out.Goals as goal
 
-pub invariant_of-self-2 : goal.invariant_of-self-2
-invariant_of-self-2 g c =
-    whole_more (g.W.Write.contents c.self.inside.start.value) (g.W.Write.contents c.self.inside.writer)
-    (g.W.Write.contents c.print-self-inside.new.writer) c.self.inside.failed c.print-self-inside.result
-    c.self.inside.shown.items c.push.new.self.items c.of.result c.deref.result.now c.self.invariant
-    c.print-self-inside.ensures c.in-Ok.ensures.items (ap (λ v. v.items) c.of.ensures ∙ sym c.deref.ensures.value)
+pub invariant_of-self : goal.invariant_of-self
+invariant_of-self g c =
+    whole_shown (g.W.Write.contents c.self.inside.out.start.value) (g.W.Write.contents c.go_on.new.self.start.value)
+    (g.W.Write.contents c.self.inside.out.writer) (g.W.Write.contents c.go_on.new.self.writer)
+    (g.E.Write.contents c.self.inside.errors.start.value) (g.E.Write.contents c.self.inside.errors.writer)
+    c.self.inside.out.failed c.go_on.new.self.failed c.self.inside.errors.failed
+    c.self.inside.log.list c.and-self-inside.result.list c.deref.result.now c.deref-2.result.now c.and-self-inside.ensures
+    (ap (λ s. g.W.Write.contents s.value) c.go_on.ensures.start) (c.deref-2.ensures.value ∙ sym c.deref.ensures.value)
+    c.self.invariant c.go_on.ensures.given
 
 pub returns-clause-same : goal.returns-clause-same
 returns-clause-same g c =
-    shown_all c.self.inside.shown.items c.push.new.self.items c.of.result c.clear.new.self.items
-    c.self.inside.lines.items c.in-Ok.ensures.items (ap (λ v. v.items) c.of.ensures) c.clear.ensures.items
+    shown_all c.self.inside.log.list c.and-self-inside.result.list c.deref.result.now c.clear.new.self.items
+    c.self.inside.lines.items c.and-self-inside.ensures c.deref.ensures.value c.clear.ensures.items
     ∙ ap (λ p. p.shown ++ p.waiting) c.self.view_is
+
+pub returns-clause-notes : goal.returns-clause-notes
+returns-clause-notes g c =
+    told_still c.self.inside.log.list c.and-self-inside.result.list c.deref.result.now c.and-self-inside.ensures
+    ∙ ap (λ p. p.notes) c.self.view_is

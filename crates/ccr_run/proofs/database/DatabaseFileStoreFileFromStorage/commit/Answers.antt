@@ -10,14 +10,14 @@ use Rattle.ccr_run.proofs.database.DatabaseFileStoreFileFromStorage.commit.Goals
 pub returns-clause-done : goal.returns-clause-done
 returns-clause-done g c h kept accepts =
     on_ok_under (AreOurs (image_at g.S.Start))
-    (IsKept over_files c.commit.new.self (changed (change_data c.args.change.now) h)) c.commit.result
-    (λ ours. c.commit.ensures.done h (kept ours) accepts)
+    (IsKept over_files c.commit-answer.new.self (changed (change_data c.args.change.now) h)) c.commit-answer.result
+    (λ ours. c.commit-answer.ensures.done h (kept ours) accepts)
 
 pub returns-clause-refused : goal.returns-clause-refused
 returns-clause-refused g c h kept =
-    on_err_under (AreOurs (image_at g.S.Start)) (IsKept over_files c.commit.new.self h) c.commit.result
-    (λ ours. c.commit.ensures.refused h (kept ours))
+    on_err_under (AreOurs (image_at g.S.Start)) (IsKept over_files c.commit-answer.new.self h) c.commit-answer.result
+    (λ ours. c.commit-answer.ensures.refused h (kept ours))
 
 pub returns-clause-crash : goal.returns-clause-crash
 returns-clause-crash g c h rules kept before accepts ours =
-    c.commit.ensures.crash h rules (kept ours) (before ours) accepts
+    c.commit-answer.ensures.crash h rules (kept ours) (before ours) accepts

@@ -5,6 +5,7 @@ use Rattle.ccr_core.specs.Cores.{core_data}
 use Rattle.ccr_core.specs.Events.{abort}
 use Rattle.ccr_core.specs.State.{running_at}
 use Rattle.ccr_lines.specs.Lines.{lines_of}
+use Rattle.ccr_serve.specs.Aborts.{Clears}
 use Rattle.ccr_serve.specs.Noted.{IsStepHead}
 use Rattle.ccr_serve.specs.Views.{full_view, bare_view, with_calls}
 use Rattle.ccr_serve.proofs.Cutting.{abort_unmade}
@@ -21,7 +22,7 @@ pub returns-clause-served : goal.returns-clause-served
 returns-clause-served g c before asked =
     let v = with_calls before (full_view g.R.Runner g.S.Shelf g.T.Storage g.O.Lines c.args.self.now c.args.out.now) in
     abort_unmade (places_data c.args.self.now.places) v (string_bytes c.args.due.job) c.args.due.number c.args.due.rank
-    (g.S.Shelf.calls c.args.self.now.shelf) c.requires.due asked refl c.in-Err.ensures.unmade
+    (g.S.Shelf.calls c.args.self.now.shelf) c.requires.due asked refl (rw c.requires.name at c.in-Err.ensures.unmade)
 
 pub returns-in-Ok-clause-served : goal.returns-in-Ok-clause-served
 returns-in-Ok-clause-served g c before asked =
@@ -33,7 +34,10 @@ returns-in-Ok-clause-served g c before asked =
     abort_served (places_data c.args.self.now.places) v looked (string_bytes c.args.due.job) c.args.due.number
     c.args.due.rank c.in-Ok.reply (bare c.abort.new.self) (g.S.Shelf.calls c.clear_away.new.shelf)
     (g.O.Lines.written c.print_ended.new.out) asked (rw c.requires.name at c.in-Ok.ensures.made)
-    (rw (c.in-Ok.ensures.made.rest.places, name, c.in-Ok.ensures.made.rest.calls) at c.clear_away.ensures) c.requires.due (λ h. subst (λ j. g.O.Lines.written c.print_ended.new.out
+    (subst (λ k. Clears (places_data c.args.self.now.places) (string_bytes c.args.due.job) c.args.due.number c.in-Ok.reply k
+    (g.S.Shelf.calls c.clear_away.new.shelf)) c.in-Ok.ensures.made.rest.calls
+    (c.clear_away.ensures (places_data c.args.self.now.places) (string_bytes c.args.due.job) c.args.due.number
+    c.requires.left)) c.requires.due (λ h. subst (λ j. g.O.Lines.written c.print_ended.new.out
     ≡ g.O.Lines.written c.args.out.now ++ lines_of (abort j c.args.due.number) (Ok c.in-Ok.reply) h) name
     (subst (λ w. g.O.Lines.written c.print_ended.new.out
     ≡ w ++ lines_of (abort c.as_str-job.result.now c.args.due.number) (Ok c.in-Ok.reply) h)

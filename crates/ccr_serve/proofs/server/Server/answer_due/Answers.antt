@@ -4,6 +4,7 @@ use Rattle.ccr_task.specs.Places.{places_data}
 use Rattle.ccr_core.specs.Cores.{core_data}
 use Rattle.ccr_core.specs.Events.{answer}
 use Rattle.ccr_lines.specs.Lines.{lines_of}
+use Rattle.ccr_serve.specs.Aborts.{Clears}
 use Rattle.ccr_serve.specs.Noted.{IsHead}
 use Rattle.ccr_serve.specs.Views.{full_view, bare_view, with_calls}
 use Rattle.ccr_serve.proofs.Cutting.{turn_unanswered, turn_unmade}
@@ -27,7 +28,7 @@ returns-clause-served g c before asked =
     let looked = g.S.Shelf.calls c.args.self.now.shelf in
     turn_unmade (places_data c.args.self.now.places) v (string_bytes c.args.due.job) c.args.due.number c.args.due.rank
     looked c.requires.due asked (g.R.Runner.pairs c.answer_wanted.new.runner) (g.S.Shelf.calls c.answer_wanted.new.shelf)
-    (rw c.as_str-job.ensures.value at c.in-Ok.ensures.ok) refl c.in-Err.ensures.unmade
+    (rw c.as_str-job.ensures.value at c.in-Ok.ensures.ok) refl (rw c.requires.one at c.in-Err.ensures.unmade)
 
 pub returns-in-Ok-give-clause-served : goal.returns-in-Ok-give-clause-served
 returns-in-Ok-give-clause-served g c before asked =
@@ -42,7 +43,9 @@ returns-in-Ok-give-clause-served g c before asked =
     (g.S.Shelf.calls c.answer_wanted.new.shelf) (g.R.Runner.pairs c.answer_wanted.new.runner)
     (bare c.give.new.self) (g.S.Shelf.calls c.clear_away.new.shelf) (g.O.Lines.written c.print_ended.new.out) asked
     (rw name at c.in-Ok.ensures.ok) (rw c.requires.one at c.in-Ok-give.ensures.gives)
-    (rw (c.in-Ok-give.ensures.gives.rest.places, name, c.in-Ok-give.ensures.gives.rest.calls) at c.clear_away.ensures) c.requires.due (λ t y h. subst (λ j. g.O.Lines.written c.print_ended.new.out
+    (subst (λ k. Clears (places_data c.args.self.now.places) job c.args.due.number c.in-Ok-give.reply k
+    (g.S.Shelf.calls c.clear_away.new.shelf)) c.in-Ok-give.ensures.gives.rest.calls
+    (c.clear_away.ensures (places_data c.args.self.now.places) job c.args.due.number c.requires.left)) c.requires.due (λ t y h. subst (λ j. g.O.Lines.written c.print_ended.new.out
     ≡ g.O.Lines.written c.args.out.now ++ lines_of (answer j c.args.due.number t y) (Ok c.in-Ok-give.reply) h) name
     (subst (λ w. g.O.Lines.written c.print_ended.new.out
     ≡ w ++ lines_of (answer c.as_str-job.result.now c.args.due.number t y) (Ok c.in-Ok-give.reply) h)

@@ -1,9 +1,8 @@
-use Rattle.std.proofs.Common.{◌≡◌, ◌∙◌}
+use Rattle.std.proofs.Common.{◌≡◌, ◌∙◌, Some, None, refl, string_bytes}
 use Rattle.ccr_task.specs.Places.{places_data}
-use Rattle.ccr_serve.specs.Found.{newest}
+use Rattle.ccr_core.specs.Events.{checked}
 use Rattle.ccr_serve.specs.Views.{full_view}
-use Rattle.ccr_serve.proofs.Begun.{found_begun}
-use Rattle.ccr_serve.proofs.Steps.{cut_at_once, cut_by_memory, noting_stop, calls_unmade, check_begun, check_made, check_found_nothing}
+use Rattle.ccr_serve.proofs.Steps.{cut_at_once, cut_by_memory, noting_stop, calls_unmade, check_begun, check_unmade, check_made, check_found_nothing}
 use Rattle.ccr_serve.proofs.server.Server.check.Goals as goal
 
 pub returns-in_default-clause-served : goal.returns-in_default-clause-served
@@ -14,7 +13,7 @@ pub returns-in_default-find_named-clause-served : goal.returns-in_default-find_n
 returns-in_default-find_named-clause-served g c =
     let v = full_view g.R.Runner g.S.Shelf g.T.Storage g.O.Lines c.args.self.now c.args.out.now in
     let o = c.in_default-find_named.ensures.err in
-    cut_by_memory v o.1
+    cut_by_memory v (record { pair = o.1; event = None })
     (check_begun (places_data c.args.self.now.places) c.args.name.now o.0 v (g.S.Shelf.calls c.find_named.new.shelf) o.1
     o.2 o.4) c.requires.ready o.3 c.begin.ensures.same
 
@@ -29,11 +28,10 @@ pub returns-in-Err-clause-served : goal.returns-in-Err-clause-served
 returns-in-Err-clause-served g c =
     let v = full_view g.R.Runner g.S.Shelf g.T.Storage g.O.Lines c.args.self.now c.args.out.now in
     let o = c.in-Ok-find_named.ensures.ok in
-    calls_unmade o.1
-    (check_begun (places_data c.args.self.now.places) c.args.name.now o.0 v (g.S.Shelf.calls c.find_named.new.shelf) o.1
-    o.2 (found_begun (places_data c.args.self.now.places) o.0 (newest o.0 c.args.self.now.core.history)
-    (g.S.Shelf.calls c.args.self.now.shelf) (g.S.Shelf.calls c.find_named.new.shelf) o.1 c.in-Versions.versions.items
-    (rw c.in-Versions.is at o.4))) o.3 c.begin.ensures.same c.in-Err.ensures.unmade
+    calls_unmade (record { pair = o.1; event = Some (checked (string_bytes c.in-Ok.copy) c.in-Versions.versions.items) }) refl
+    (check_unmade (places_data c.args.self.now.places) c.args.name.now (string_bytes c.in-Ok.copy) o.0 v
+    (g.S.Shelf.calls c.find_named.new.shelf) o.1 c.in-Versions.versions.items c.in-Ok.ensures.copied o.2
+    (rw c.in-Versions.is at o.4)) o.3 c.begin.ensures.same c.in-Err.ensures.unmade
 
 pub returns-in-Nothing-clause-served : goal.returns-in-Nothing-clause-served
 returns-in-Nothing-clause-served g c =

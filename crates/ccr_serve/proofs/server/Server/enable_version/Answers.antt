@@ -1,7 +1,8 @@
-use Rattle.std.proofs.Common.{◌∙◌}
+use Rattle.std.proofs.Common.{◌∙◌, ap}
+use Rattle.ccr_core.specs.Events as event
 use Rattle.ccr_serve.proofs.Refusing.{came_unmade}
 use Rattle.ccr_serve.proofs.Steps.{cut_at_once}
-use Rattle.ccr_serve.proofs.Switched.{enable_stop, enable_made, enable_refused}
+use Rattle.ccr_serve.proofs.Switched.{enable_stop, enable_unmade, enable_made, enable_refused}
 use Rattle.ccr_serve.proofs.server.Server.enable_version.Goals as goal
 
 pub returns-in_default-clause-came : goal.returns-in_default-clause-came
@@ -19,4 +20,4 @@ returns-in-Ok-Err-clause-came g c =
 
 pub returns-in-Err-clause-came : goal.returns-in-Err-clause-came
 returns-in-Err-clause-came g c =
-    came_unmade _ _ _ (enable_stop _ _ _) c.begin.ensures.same c.in-Err.ensures.unmade
+    came_unmade _ _ _ (ap (λ t. event.enable t c.args.place) c.in-Ok.ensures.copied) (enable_unmade _ _ _) c.begin.ensures.same c.in-Err.ensures.unmade

@@ -29,7 +29,7 @@ returns-in-Ok-Err-TableFull-clause-unmade g c =
     c.give_errored.result
     (subst (λ (r : Replied). Made (answer (string_bytes c.args.names.0) c.args.number c.args.turn (answer_data c.args.answered)) r
     (view c.args.self.now) (view c.make.new.self)) full_is c.in-Ok-Err-TableFull.ensures.made)
-    c.give_errored.ensures.unmade
+    c.requires.same c.give_errored.ensures.unmade
 
 pub returns-in-Ok-Ok-clause-fault : goal.returns-in-Ok-Ok-clause-fault
 returns-in-Ok-Ok-clause-fault g c =

@@ -65,7 +65,7 @@ returns-in-Err-NoMemory-clause-unmade g c =
         },
       );
       holds = ready.holds;
-      crash = λ s is. leaves_ready old s ready is;
+      crash = λ s is. leaves_ready _ old s ready is;
       commits = asked_none _;
       rest = record { last = refl; calls = refl; pairs = refl; places = refl; lines = refl };
     }

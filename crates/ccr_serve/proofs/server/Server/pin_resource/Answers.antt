@@ -1,7 +1,8 @@
 use Rattle.std.proofs.Common.{◌∙◌, sym, refl}
+use Rattle.ccr_core.specs.Events as event
 use Rattle.ccr_serve.proofs.Refusing.{lacks, came_unmade}
 use Rattle.ccr_serve.proofs.Steps.{cut_at_once}
-use Rattle.ccr_serve.proofs.Told.{pin_stop, bad_pin, pin_made, pin_refused}
+use Rattle.ccr_serve.proofs.Told.{pin_stop, pin_unmade, pin_named, bad_pin, pin_made, pin_refused}
 use Rattle.ccr_serve.proofs.server.Server.pin_resource.Goals as goal
 
 pub returns-in-Err-clause-came : goal.returns-in-Err-clause-came
@@ -33,4 +34,5 @@ returns-in-Ok-Err-clause-came g c =
 
 pub returns-in-Err-make-clause-came : goal.returns-in-Err-make-clause-came
 returns-in-Err-make-clause-came g c =
-    came_unmade _ _ _ (pin_stop _ _ _) c.begin.ensures.same c.in-Err-make.ensures.unmade
+    came_unmade _ _ _ (pin_named _ _ _ c.in-Ok-begin.ensures.copied)
+    (pin_unmade _ _ _ _ (sym (sym c.in-Ok-Some.field-0-is ∙ c.in-Ok-Some.ensures))) c.begin.ensures.same c.in-Err-make.ensures.unmade

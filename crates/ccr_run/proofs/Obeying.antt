@@ -1,0 +1,119 @@
+-- What words come to, from what its parts say.
+use Rattle.std.proofs.Common.{◌≡◌, inl, inr, refl, ap, ℕ, List, Bool, true, not, Option, Some, None, Result, Ok, Err}
+use Rattle.ccr_history.specs.Text.{Text}
+use Rattle.ccr_history.specs.declared.storage.Storage as storage
+use Rattle.ccr_process.specs.declared.runner.Runner as runner
+use Rattle.ccr_task.specs.declared.shelf.Shelf as shelf
+use Rattle.ccr_core.specs.declared.command.Command.TheVariants.{Show}
+use Rattle.ccr_serve.specs.declared.fault.ServeFault.{ServeFault}
+use Rattle.ccr_run.specs.declared.abort.AbortFault.{AbortFault}
+use Rattle.ccr_run.specs.declared.failure.Failure.{Failure}
+use Rattle.ccr_run.specs.declared.left.Left.{Left}
+use Rattle.ccr_run.specs.declared.left.Left.TheVariants.{Unopened}
+use Rattle.ccr_run.specs.declared.left.Tools.{Tools}
+use Rattle.ccr_run.specs.declared.order.AbortOrder.{AbortOrder}
+use Rattle.ccr_run.specs.declared.order.LookOrder.{LookOrder}
+use Rattle.ccr_run.specs.declared.order.Misuse.{Misuse}
+use Rattle.ccr_run.specs.declared.order.Order.{Order}
+use Rattle.ccr_run.specs.declared.run.Outcome.{Outcome}
+use Rattle.ccr_run.specs.Aborting.{Asks, IsPrinted, abort_status, told_of}
+use Rattle.ccr_run.specs.Explained.{ToldData, IsToldOf, explained, nothing_told}
+use Rattle.ccr_run.specs.Found.{ValidationData, Validates, is_validation, refusal_in, validated_status, validation_in}
+use Rattle.ccr_run.specs.Left.{text_left}
+use Rattle.ccr_run.specs.Obeyed.{Ending, Obeyed}
+use Rattle.ccr_run.specs.Orders.{IsOrdered, IsLookOrdered, IsAbortOrdered, IsMisused}
+use Rattle.ccr_run.specs.Served.{Coming, Served}
+use Rattle.ccr_run.specs.Statuses.{exit_status_of, printed_status}
+
+-- how words end that come to a status
+abbrev ending : Option Text → Text → Text → Bool → ToldData → Result ℕ Misuse → Ending
+ending asked old new failed told status =
+    record { asked = asked; old = old; new = new; failed = failed; told = told; status = status }
+
+module _ {R F T C : Type 0} (r : runner.Ghosts R) (s : shelf.Ghosts F) (t : storage.Ghosts T) (coming : Coming T C)
+    (looks : LookOrder → Result ℕ Failure → Text → Text → Type 0) (words : List Text) (given : Tools R F) (asked : Option Text)
+    (old new : Text) (failed : Bool) (told : ToldData) where
+  -- a command was done
+  pub done : (order : Order) (kept : Left R F T C) (status : ℕ) → IsOrdered words order
+      → (outcome : Outcome) × Served r s t coming order asked given outcome.end kept old new × (outcome.is_printed ≡ not failed)
+      × IsToldOf order outcome (text_left kept) told × (status ≡ exit_status_of outcome)
+      → Obeyed r s t coming looks words given (ending asked old new failed told (Ok status)) kept
+  done order kept status ordered it = inl (record {
+    order = order;
+    ordered = ordered;
+    outcome = it.0;
+    served = it.1;
+    printed = it.2;
+    told = it.3;
+    status_is = ap Ok it.4;
+  })
+
+  -- a build was asked to be aborted
+  pub aborted : (order : AbortOrder) (tools : Tools R F) (status : ℕ) → IsAbortOrdered words order → asked ≡ None
+      → (end : Result Unit AbortFault) × Asks order (s.calls given.shelf) end (s.calls tools.shelf) × IsPrinted order end old new
+      × (told ≡ told_of end (not failed)) × (status ≡ printed_status (not failed) (abort_status end)) → tools.runner ≡ given.runner
+      → Obeyed r s t coming looks words given (ending asked old new failed told (Ok status)) (Unopened tools)
+  aborted order tools status ordered unasked it idle = inr (inl (record {
+    order = order;
+    ordered = ordered;
+    end = it.0;
+    tools = tools;
+    left = refl;
+    idle = idle;
+    asks = it.1;
+    unasked = unasked;
+    printed = it.2;
+    told = it.3;
+    status_is = ap Ok it.4;
+  }))
+
+  -- something was looked at
+  pub looked : (order : LookOrder) (status : ℕ) → IsLookOrdered words order → asked ≡ None → (outcome : Outcome)
+      → looks order outcome.end old new → outcome.is_printed ≡ not failed
+      → told ≡ explained (record { options = order.options; command = Show order.what }) outcome → status ≡ exit_status_of outcome
+      → Obeyed r s t coming looks words given (ending asked old new failed told (Ok status)) (Unopened given)
+  looked order status ordered unasked outcome shown printed explains is = inr (inr (inl (record {
+    order = order;
+    ordered = ordered;
+    outcome = outcome;
+    looked = shown;
+    left = refl;
+    unasked = unasked;
+    printed = printed;
+    told = explains;
+    status_is = ap Ok is;
+  })))
+
+  -- a pipeline's file was validated
+  pub validated : (validation : ValidationData) (tools : Tools R F) (status : ℕ) → is_validation words ≡ true
+      → validation_in words ≡ Some validation → asked ≡ None
+      → (end : Result Bool ServeFault) × Validates validation end (s.calls given.shelf) (s.calls tools.shelf) old new
+      × (told ≡ record nothing_told { refusal = refusal_in end }) × (status ≡ validated_status end (not failed))
+      → tools.runner ≡ given.runner
+      → Obeyed r s t coming looks words given (ending asked old new failed told (Ok status)) (Unopened tools)
+  validated validation tools status named ordered unasked it idle = inr (inr (inr (inl (record {
+    validation = validation;
+    named = named;
+    ordered = ordered;
+    end = it.0;
+    tools = tools;
+    left = refl;
+    idle = idle;
+    validates = it.1;
+    unasked = unasked;
+    told = it.2;
+    status_is = ap Ok it.3;
+  }))))
+
+  -- nothing was done
+  pub misused : (misuse : Misuse) → IsMisused words misuse → asked ≡ None → new ≡ old → told ≡ nothing_told
+      → Obeyed r s t coming looks words given (ending asked old new failed told (Err misuse)) (Unopened given)
+  misused misuse why unasked quiet untold = inr (inr (inr (inr (record {
+    misuse = misuse;
+    misused = why;
+    left = refl;
+    unasked = unasked;
+    unprinted = quiet;
+    told = untold;
+    status_is = refl;
+  }))))
