@@ -1,5 +1,5 @@
 //! A build is asked to be aborted. No database is opened: another `ccr_run` may have it open, and runs the build.
-ghost use Rattle.std.specs.Prelude.{◌≡◌, ◌≤◌, ◌++◌, None, true, length, string_bytes, IfOk, OnOk, OnErr};
+ghost use Rattle.std.specs.Prelude.{◌≡◌, ◌≤◌, ◌++◌, [], None, true, length, string_bytes, IfOk, OnOk, OnErr};
 ghost use Rattle.ccr_pipeline.specs.Kinds.{is_name};
 ghost use Rattle.ccr_run.specs.Aborting.{abort_status, asked_line, Asks};
 ghost use Rattle.ccr_run.specs.Aborting as spec;
@@ -73,6 +73,7 @@ fn line_with_room<O: Lines>(
     ensures line { IfOk result (λ line. string_bytes line ≡ asked_line order.now) }
     ensures room { IfOk result (λ line. length (string_bytes line) ≤ O.room out.new) }
     ensures same { O.written out.new ≡ O.written out.old }
+    ensures waiting { O.waiting out.new ≡ O.waiting out.old }
 {
     let line = asked_line(alloc, order)?;
     out.make_room(line.len())?;
@@ -90,6 +91,7 @@ pub fn abort_build<F: Shelf, O: Lines>(
     ensures asks { Asks order.now (F.calls shelf.old) result (F.calls shelf.new) }
     ensures asked { OnOk result (O.written out.new ≡ O.written out.old ++ asked_line order.now) }
     ensures refused { OnErr result (O.written out.new ≡ O.written out.old) }
+    ensures whole { O.waiting out.old ≡ [] → O.waiting out.new ≡ [] }
 {
     if !is_name(order.build.job) {
         return Err(AbortFault::NoJob);

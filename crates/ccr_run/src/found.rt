@@ -1,5 +1,5 @@
 //! What is found in a pipeline's file: told beside `set-pipeline`, and by `validate-pipeline`, which opens no database.
-ghost use Rattle.std.specs.Prelude.{◌≡◌, ◌++◌, None, Some, Ok, Err, map, option_map, option_copied, slice_get, string_bytes, IfOk, IfErr, OnOk, OnErr};
+ghost use Rattle.std.specs.Prelude.{◌≡◌, ◌++◌, [], None, Some, Ok, Err, map, option_map, option_copied, slice_get, string_bytes, IfOk, IfErr, OnOk, OnErr};
 ghost use Rattle.ccr_run.specs.Explained.{told_data, has_set, AreGates};
 ghost use Rattle.ccr_run.specs.Found.{Finds, FindsIn, Validates, findings_text, is_option, validation_data};
 ghost use Rattle.ccr_run.specs.Found as spec;
@@ -183,6 +183,7 @@ fn text_of(alloc: Global, findings: &[Finding]) -> Result<String, AllocError>
 pub fn print<O: Lines>(out: &mut O, bytes: &[u8]) -> Result<(), AllocError>
     ensures shown { OnOk result (O.written out.new ≡ O.written out.old ++ bytes.now) }
     ensures refused { OnErr result (O.written out.new ≡ O.written out.old) }
+    ensures whole { O.waiting out.old ≡ [] → O.waiting out.new ≡ [] }
 {
     out.make_room(bytes.len())?;
     out.add(bytes);
@@ -198,6 +199,7 @@ fn print_findings<O: Lines>(
 ) -> Result<(), AllocError>
     ensures shown { OnOk result (O.written out.new ≡ O.written out.old ++ findings_text findings.now) }
     ensures refused { OnErr result (O.written out.new ≡ O.written out.old) }
+    ensures whole { O.waiting out.old ≡ [] → O.waiting out.new ≡ [] }
 {
     let text = text_of(alloc, findings)?;
     print(out, text.as_str().as_bytes())
@@ -213,8 +215,9 @@ pub fn validate<F: Shelf, O: Lines>(
     validation: &Validation<'_>,
     out: &mut O,
 ) -> Result<bool, ServeFault>
-    ensures { Validates (validation_data validation.now) result (F.calls shelf.old) (F.calls shelf.new)
+    ensures validates { Validates (validation_data validation.now) result (F.calls shelf.old) (F.calls shelf.new)
         (O.written out.old) (O.written out.new) }
+    ensures whole { O.waiting out.old ≡ [] → O.waiting out.new ≡ [] }
 {
     let findings = match findings_in(alloc, shelf, validation.path) {
         Ok(findings) => findings,

@@ -1,5 +1,5 @@
 //! A look is taken: the database is read, and not opened.
-ghost use Rattle.std.specs.Prelude.{◌≡◌, ◌≤◌, ◌++◌, not};
+ghost use Rattle.std.specs.Prelude.{◌≡◌, ◌≤◌, ◌++◌, [], not};
 ghost use Rattle.ccr_core.specs.Cores.{core_data};
 ghost use Rattle.ccr_proof.specs.declared.proof.TheConstants.{MOST_NODES};
 ghost use Rattle.ccr_run.specs.Explained.{explained, nothing_told, told_data};
@@ -41,8 +41,9 @@ fn show_of<W: Write, E: Write>(
     order: &LookOrder<'_>,
     out: &mut Printed<W, E>,
 ) -> Result<u8, Failure>
-    ensures { ShownOf order.now (core_data core.now) result
+    ensures shown { ShownOf order.now (core_data core.now) result
         (out.old.shown ++ out.old.waiting) (out.new.shown ++ out.new.waiting) }
+    ensures whole { out.new.waiting ≡ [] }
 {
     let end = AsText.show(alloc, out, &order.what, core);
     out.hand_out();
@@ -58,8 +59,9 @@ fn see<'a, S: Start, W: Write, E: Write>(
 ) -> Result<u8, Failure>
     requires least { 1 ≤ order.now.options.budget }
     requires most { order.now.options.budget ≤ MOST_NODES }
-    ensures { Looked ⟦<FileStore<Scratch> as Trees>⟧ order.now result
+    ensures looked { Looked ⟦<FileStore<Scratch> as Trees>⟧ order.now result
         (out.old.shown ++ out.old.waiting) (out.new.shown ++ out.new.waiting) }
+    ensures whole { out.old.waiting ≡ [] → out.new.waiting ≡ [] }
 {
     let copied = match opener.read(order.options.database) {
         Ok(copied) => copied,
@@ -82,12 +84,13 @@ pub fn look_at<'a, S: Start, W: Write, E: Write, P: Eprint>(
     requires least { 1 ≤ order.options.budget }
     requires most { order.options.budget ≤ MOST_NODES }
     requires untold { told_data telling.old ≡ nothing_told }
-    ensures { (outcome : OutcomeData) × Looked ⟦<FileStore<Scratch> as Trees>⟧ order.entry outcome.end
+    ensures looked { (outcome : OutcomeData) × Looked ⟦<FileStore<Scratch> as Trees>⟧ order.entry outcome.end
         (out.old.shown ++ out.old.waiting) (out.new.shown ++ out.new.waiting)
         × (outcome.is_printed ≡ not out.new.failed)
         × (told_data telling.new
         ≡ explained (record { options = order.entry.options; command = Command.Show order.entry.what }) outcome)
         × (result ≡ exit_status_of outcome) }
+    ensures whole { out.old.waiting ≡ [] → out.new.waiting ≡ [] }
 {
     let outcome = Outcome {
         end: see(alloc, &order, opener, out),

@@ -1,5 +1,5 @@
 //! What the program's words come to.
-ghost use Rattle.std.specs.Prelude.{◌≡◌, ◌≤◌, ◌++◌, Bool, None, Result, not, IsSome, IfErr, map, string_bytes};
+ghost use Rattle.std.specs.Prelude.{◌≡◌, ◌≤◌, ◌++◌, [], Bool, None, Result, false, not, IsSome, IfErr, map, string_bytes};
 ghost use Rattle.sqlite_std_file.specs.File.{IsFresh};
 ghost use Rattle.sqlite_wal.specs.Files.{image_at};
 ghost use Rattle.ccr_proof.specs.declared.proof.TheConstants.{MOST_NODES};
@@ -63,12 +63,13 @@ fn do_command<'a, R: Runner + Drop, F: Shelf + Drop, S: Start, W: Write, E: Writ
     requires unopened { IsSome opener.old.start }
     requires unasked { opener.old.asked ≡ None }
     requires untold { told_data telling.old ≡ nothing_told }
-    ensures { (outcome : OutcomeData) × Served R.Runner F.Shelf ⟦<FileDatabase<S> as Storage>⟧
+    ensures did { (outcome : OutcomeData) × Served R.Runner F.Shelf ⟦<FileDatabase<S> as Storage>⟧
         (from_files (image_at S.Start) (λ is_log file. IsFresh is_log file) opener.new.answer) order.now (asked_by opener.new) tools
         outcome.end result.1 (out.old.shown ++ out.old.waiting) (out.new.shown ++ out.new.waiting)
         × (outcome.is_printed ≡ not out.new.failed)
         × IsToldOf order.now outcome (text_left result.1) (told_data telling.new)
         × (result.0 ≡ exit_status_of outcome) }
+    ensures whole { out.old.waiting ≡ [] → out.new.failed ≡ false → out.new.waiting ≡ [] }
 {
     let ran = run(alloc, order, tools, opener, out);
     tell_gates(
@@ -95,6 +96,7 @@ fn do_abort<R, F: Shelf, W: Write, E: Write, P: Eprint>(
         × IsPrinted order.now end (out.old.shown ++ out.old.waiting) (out.new.shown ++ out.new.waiting)
         × (told_data telling.new ≡ told_of end (not out.new.failed))
         × (result.0 ≡ printed_status (not out.new.failed) (abort_status end)) }
+    ensures whole { out.old.waiting ≡ [] → out.new.waiting ≡ [] }
     ensures idle { result.1.runner ≡ tools.runner }
 {
     let Tools { runner, mut shelf } = tools;
@@ -118,6 +120,7 @@ fn do_validation<R, F: Shelf, W: Write, E: Write, P: Eprint>(
         (out.old.shown ++ out.old.waiting) (out.new.shown ++ out.new.waiting)
         × (told_data telling.new ≡ record nothing_told { refusal = refusal_in end })
         × (result.0 ≡ validated_status end (not out.new.failed)) }
+    ensures whole { out.old.waiting ≡ [] → out.new.waiting ≡ [] }
     ensures idle { result.1.runner ≡ tools.runner }
 {
     let Tools { runner, mut shelf } = tools;
@@ -151,6 +154,7 @@ pub fn obey<'a, R: Runner + Drop, F: Shelf + Drop, S: Start, W: Write, E: Write,
           told = told_data telling.new;
           status = result.status;
         }) result.left }
+    ensures whole { out.old.waiting ≡ [] → out.new.failed ≡ false → out.new.waiting ≡ [] }
     ensures misused { IfErr result.status (IsMisused (map string_bytes words.now)) }
 {
     if is_validation(words) {

@@ -6,10 +6,10 @@ use Rattle.ccr_run.proofs.look.look_at.Goals as goal
 pub tell-requires : goal.tell-requires
 tell-requires g c = nothing_but_gates _ c.requires.untold
 
-pub returns : goal.returns
-returns g c = (
+pub returns-clause-looked : goal.returns-clause-looked
+returns-clause-looked g c = (
   record { end = c.see.result; is_printed = not c.has_failed.result },
-  c.see.ensures,
+  c.see.ensures.looked,
   ap not c.has_failed.ensures.failed,
   end_alone c.into_order.result (record { end = c.see.result; is_printed = not c.has_failed.result }) _ _ c.requires.untold c.tell.ensures.told
       ∙ ap₂ (λ options command. explained (record { options = options; command = command }) (record { end = c.see.result; is_printed = not c.has_failed.result }))

@@ -9,8 +9,8 @@ tell_gates-requires g c = ap (λ (t : ToldData). t.gates) c.requires.untold
 pub tell-status-requires : goal.tell-status-requires
 tell-status-requires g c = gates_alone _ _ c.requires.untold c.tell_gates.ensures.rest
 
-pub returns : goal.returns
-returns g c = (
+pub returns-clause-did : goal.returns-clause-did
+returns-clause-did g c = (
   c.run-ran.result.outcome,
   c.run-ran.ensures.served,
   c.run-ran.ensures.printed,

@@ -13,7 +13,7 @@ returns-in-Ok-Command-clause-obeyed g c =
     (c.args.out.now.shown ++ c.args.out.now.waiting) (c.do_command-status.new.out.shown ++ c.do_command-status.new.out.waiting)
     c.do_command-status.new.out.failed (told_data c.do_command-status.new.telling) c.in-Ok-Command.order c.do_command-status.result.1 c.do_command-status.result.0
     (subst (λ o. Orders (map string_bytes c.args.words.now) o) c.in-Ok-Command.field-0-is c.in-Ok-Command.ensures.ordered)
-    c.do_command-status.ensures
+    c.do_command-status.ensures.did
 
 pub returns-in-Ok-Abort-clause-obeyed : goal.returns-in-Ok-Abort-clause-obeyed
 returns-in-Ok-Abort-clause-obeyed g c =
@@ -26,7 +26,7 @@ returns-in-Ok-Abort-clause-obeyed g c =
 
 pub returns-in-Ok-Look-clause-obeyed : goal.returns-in-Ok-Look-clause-obeyed
 returns-in-Ok-Look-clause-obeyed g c =
-    let it = c.look_at-status.ensures in
+    let it = c.look_at-status.ensures.looked in
     looked g.R.Runner g.F.Shelf _ _ _ (map string_bytes c.args.words.now) c.args.tools _
     (c.args.out.now.shown ++ c.args.out.now.waiting) (c.look_at-status.new.out.shown ++ c.look_at-status.new.out.waiting)
     c.look_at-status.new.out.failed (told_data c.look_at-status.new.telling) c.in-Ok-Look.order c.look_at-status.result
