@@ -20,13 +20,13 @@ edits:
 	@scripts/edits $(NAMES)
 
 soak:
-	@scripts/soak
+	@scripts/soak/all
 
 bench:
-	@scripts/bench
+	@scripts/bench/all
 
 release:
-	@scripts/release
+	@scripts/release/make
 
 check-release:
-	@scripts/check-release
+	@scripts/release/check

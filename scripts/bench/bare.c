@@ -1,5 +1,5 @@
 // What is left of a server when it decides nothing: the programs of a chain of builds are started with pipes and waited for, directories are
-// made and removed, and as much is committed by the C library's SQLite. `scripts/bench` runs it beside the server.
+// made and removed, and as much is committed by the C library's SQLite. `scripts/bench/all` runs it beside the server.
 //
 // usage: bare TYPES DIRECTORY ROUNDS BUILDS     (TYPES has the programs check and in; BUILDS is of one round)
 //

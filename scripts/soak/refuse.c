@@ -1,4 +1,4 @@
-/* Refuses one allocation of a program, the one of a given number: scripts/refusals preloads this.
+/* Refuses one allocation of a program, the one of a given number: scripts/soak/refusals preloads this.
  *
  * REFUSE_IN names the program, so that the programs which it starts are left alone. REFUSE_AT is the number of the allocation, from 1.
  * REFUSE_FD is a file descriptor that gets a byte when it is refused. */
