@@ -16,10 +16,6 @@ then_adds {o} {p} {q} {ps} {qs} a b = record {
   same = b.same ∙ ap (λ t. t ++ written qs) a.same ∙ append_assoc o (written ps) (written qs) ∙ ap (λ t. o ++ t) (sym (flat_map-append piece_text ps qs));
 }
 
--- a piece more
-pub adds_piece : {o p q : Text} {ps : List PieceData} {a : PieceData} → Adds o p ps → q ≡ p ++ piece_text a → Adds o q (ps ++ a ∷ [])
-adds_piece {o} {p} {q} {ps} {a} before e = then_adds before (record { same = e ∙ ap (λ t. p ++ t) (sym (append-nil (piece_text a))) })
-
 -- ---- things one after another
 -- one more of them
 pub each_more : {X : Type 0} (f : ℕ → X → List PieceData) (n : ℕ) (xs : List X) (i : ℕ) (x : X) → i < length xs → x ≡ get_or xs i x

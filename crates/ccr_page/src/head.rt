@@ -52,7 +52,13 @@ fn stands_still(job: &Job) -> bool
 pub(crate) fn still_count(jobs: &[Job]) -> usize
     ensures { result ≡ still_count jobs.now }
 {
-    jobs.iter().filter(|job| stands_still(job)).count()
+    let mut count = 0;
+    for job in jobs {
+        if stands_still(job) {
+            count += 1;
+        }
+    }
+    count
 }
 
 // ---- the tab's words and dot

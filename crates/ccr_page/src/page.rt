@@ -53,15 +53,28 @@ fn push_main(
     }
 }
 
+/// Adds a page with this picture.
+fn push_page(
+    alloc: Global,
+    out: &mut Vec<u8>,
+    page: &Page,
+    picture: &Picture,
+) -> Result<(), AllocError>
+    ensures { OnOk result (Adds out.old.items out.new.items (page_pieces page.now picture.now)) }
+{
+    push_head(out, page)?;
+    push_header(out, page)?;
+    push_main(alloc, out, page, picture)?;
+    push(out, &[Markup(END)])?;
+    Ok(())
+}
+
 /// The bytes of a page with this picture.
 fn page_with(alloc: Global, page: &Page, picture: &Picture) -> Result<Vec<u8>, AllocError>
     ensures { IfOk result (λ out. Adds [] out.items (page_pieces page.now picture.now)) }
 {
     let mut out = Vec::new(alloc);
-    push_head(&mut out, page)?;
-    push_header(&mut out, page)?;
-    push_main(alloc, &mut out, page, picture)?;
-    push(&mut out, &[Markup(END)])?;
+    push_page(alloc, &mut out, page, picture)?;
     Ok(out)
 }
 

@@ -2,6 +2,7 @@
 
 ghost use Rattle.std.specs.Prelude.{◌≡◌, OnOk, length, flat_map};
 ghost use Rattle.ccr_layout.specs.Pictures.{box_in};
+ghost use Rattle.ccr_layout.specs.declared.picture.Path.TheVariants.{Forward, Back};
 ghost use Rattle.ccr_page.specs.Pieces.{Adds};
 ghost use Rattle.ccr_page.specs.Each.{at_each};
 ghost use Rattle.ccr_page.specs.Strokes.{stroke_rank, is_stroke, forward_stroke, path_stroke, goes_through, is_held_in, triggers_in, some_held, some_triggers, slot_stroke, arrow_in, bow, curve, stub, way_down, way_along, way_up, detour, path_open, path_pieces, slot_pieces, path_in, edge_if, edge_at, slot_if, stroke_pieces, forward_lines, back_lines, red_lines, lines_pieces};
@@ -304,30 +305,52 @@ fn push_path_open(out: &mut Vec<u8>, from: Point) -> Result<(), AllocError>
     )
 }
 
+/// Adds the path of an edge that goes forward.
+fn push_forward_path(
+    out: &mut Vec<u8>,
+    from: Point,
+    bend: Point,
+    end: u32,
+) -> Result<(), AllocError>
+    ensures { OnOk result (Adds out.old.items out.new.items (path_pieces (Forward from bend end))) }
+{
+    push_path_open(out, from)?;
+    push_curve(out, from, bend)?;
+    push_stub(out, bend.x, end)?;
+    push(out, &[Markup("\"/>")])?;
+    Ok(())
+}
+
+/// Adds the path of an edge that goes back.
+fn push_back_path(
+    out: &mut Vec<u8>,
+    from: Point,
+    lane: u32,
+    bend: Point,
+    end: u32,
+) -> Result<(), AllocError>
+    ensures { OnOk result (Adds out.old.items out.new.items (path_pieces (Back from lane bend end))) }
+{
+    push_path_open(out, from)?;
+    push_detour(out, from, lane, bend)?;
+    push_stub(out, bend.x, end)?;
+    push(out, &[Markup("\"/>")])?;
+    Ok(())
+}
+
 /// Adds the path of an edge.
 fn push_path(out: &mut Vec<u8>, path: Path) -> Result<(), AllocError>
     ensures { OnOk result (Adds out.old.items out.new.items (path_pieces path)) }
 {
     match path {
-        Path::Forward { from, bend, end } => {
-            push_path_open(out, from)?;
-            push_curve(out, from, bend)?;
-            push_stub(out, bend.x, end)?;
-            push(out, &[Markup("\"/>")])?;
-        }
+        Path::Forward { from, bend, end } => push_forward_path(out, from, bend, end),
         Path::Back {
             from,
             lane,
             bend,
             end,
-        } => {
-            push_path_open(out, from)?;
-            push_detour(out, from, lane, bend)?;
-            push_stub(out, bend.x, end)?;
-            push(out, &[Markup("\"/>")])?;
-        }
+        } => push_back_path(out, from, lane, bend, end),
     }
-    Ok(())
 }
 
 /// Adds the path of a slot.
