@@ -1,5 +1,6 @@
 -- What a test or a list made of two says of each.
 use Rattle.std.proofs.Common.{◌≡◌, List, [], ◌++◌, Bool, true, false, ◌&&◌, ◌||◌, Option, Some, None, is_some, refl}
+use Rattle.std.proofs.lemmas.List.{append-nil}
 
 pub and_first : (a b : Bool) → (a && b) ≡ true → a ≡ true
 and_first true b e = refl
@@ -23,3 +24,6 @@ none_of (Some a) e = absurd (cc (e))
 
 pub both_nil : {A : Type 0} (xs ys : List A) → xs ≡ [] → ys ≡ [] → xs ++ ys ≡ []
 both_nil xs ys e f = rw (e, f) refl
+
+pub and_none : {A : Type 0} (xs : List A) → xs ++ [] ≡ xs
+and_none xs = append-nil xs

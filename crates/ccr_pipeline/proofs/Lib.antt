@@ -5,6 +5,8 @@ pub mod NameLemmas
 pub mod StepLemmas
 pub mod NoteLemmas
 pub mod Visits
+pub mod Hunts
+pub mod SameNames
 pub mod TableNames
 pub mod ObjectLemmas
 pub mod Rows

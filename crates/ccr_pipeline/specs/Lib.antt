@@ -25,6 +25,8 @@ pub mod Used
 pub mod Untimed
 pub mod Notes
 pub mod Reading
+pub mod Present
+pub mod Hunts
 pub mod Reordered
 pub mod Printed
 pub mod Pipelines

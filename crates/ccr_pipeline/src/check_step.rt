@@ -33,7 +33,7 @@ fn count(value: &Value, keys: &[&str]) -> usize
 }
 
 /// How many of the six keys a step has that say its kind.
-fn kinds(step: &Value) -> usize
+pub(crate) fn kinds(step: &Value) -> usize
     ensures { result ≡ kinds (view step.now) }
 {
     count(step, &["get", "put", "task", "do", "in_parallel", "try"])

@@ -13,6 +13,8 @@
 //! `on_failure`, `on_success`, the attempts and the step in this order, and no JSON. [`inputs_of`] gives the gets of a
 //! job in the order of its plan, which is another.
 //!
+//! [`faults_of`] tells all faults of a text, in this order.
+//!
 //! Refusals are the variants of [`ReadFault`], each with a path but `NoMemory`, which comes only where memory
 //! runs out. `docs/FORMATS.md` has the keys, the rules and what to do about each refusal.
 #![tactic(auto)]
@@ -22,6 +24,12 @@ mod build_step;
 mod check_step;
 mod cursor;
 mod fault;
+mod find_all;
+mod find_job;
+mod find_kind;
+mod find_object;
+mod find_step;
+mod find_walk;
 mod input;
 mod key;
 mod kind;
@@ -32,11 +40,13 @@ mod object;
 mod parts;
 mod pipeline;
 mod place;
+mod present;
 mod read_job;
 mod reader;
 mod resource;
 mod schema;
 mod scope;
+mod seen;
 mod step;
 mod task;
 mod unknown;
@@ -44,9 +54,11 @@ mod unused;
 mod walk;
 
 pub use fault::ReadFault;
+pub use find_all::faults_of;
 pub use input::{Input, inputs_of};
+pub use key::{at_key, items_in, list_at};
 pub use kind::is_name;
-pub use names::Names;
+pub use names::{Names, text_at};
 pub use pipeline::Pipeline;
 pub use reader::{read, read_task};
 pub use resource::{Job, Resource};

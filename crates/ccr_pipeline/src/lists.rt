@@ -35,7 +35,7 @@ use std::collections::BTreeMap;
 pub(crate) const MOST_MEMBERS: usize = 200;
 
 /// Whether there are no more than a pipeline may have.
-fn are_few(list: &Vec<Value>) -> bool
+pub(crate) fn are_few(list: &Vec<Value>) -> bool
     ensures { result ≡ nat_le (items_len (items_view list.now.items)) MOST_MEMBERS }
 {
     list.len() <= MOST_MEMBERS

@@ -33,7 +33,7 @@ use std::alloc::Global;
 const MOST_BYTES: usize = 1_048_576;
 
 /// The JSON value of a text that isn't too long.
-fn value_of(alloc: Global, text: &[u8], path: &str) -> Checked<Value>
+pub(crate) fn value_of(alloc: Global, text: &[u8], path: &str) -> Checked<Value>
     ensures ok { IfOk result (λ value. IsTextOf text.now (view value)) }
     ensures err { IfErr result (λ fault. IsNoValue path.now text.now (fault_of fault)) }
 {

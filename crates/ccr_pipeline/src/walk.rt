@@ -41,7 +41,7 @@ fn counted(step: &Value) -> u64
 
 impl Reach {
     /// The reach of the steps in a step.
-    fn below(self, step: &Value) -> Reach
+    pub(crate) fn below(self, step: &Value) -> Reach
         ensures left { result.left ≡ self.left - 1 }
         ensures tries { result.tries ≡ tries_below self.tries (view step.now) }
     {

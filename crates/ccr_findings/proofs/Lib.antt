@@ -1,0 +1,3 @@
+mod NearLaws
+pub mod Lists
+pub mod TextLemmas
