@@ -1,3 +1,2 @@
 mod NearLaws
 pub mod Lists
-pub mod TextLemmas

@@ -3,4 +3,11 @@ pub mod Findings
 pub mod Absent
 pub mod Cycles
 pub mod Timeouts
+pub mod Stands
+pub mod Breaks
 pub mod Told
+pub mod Gates
+pub mod Vars
+pub mod Known
+pub mod Objects
+pub mod All

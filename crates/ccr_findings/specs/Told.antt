@@ -1,33 +1,29 @@
 -- Which of the faults of a pipeline's text are told, and how their lines read.
-use Rattle.std.specs.Prelude.{◌≡◌, nat_eq, ℕ, zero, suc, ◌+◌, List, [], ◌∷◌, ◌++◌, length, map, Bool, true, false, ◌&&◌, ◌||◌, ◌==◌, Option, Some, None, is_some, codes, if◌then◌else◌}
-use Rattle.std.specs.List.{starts_with, slice_get}
+use Rattle.std.specs.Prelude.{◌≡◌, ◌⊎◌, ℕ, ◌<◌, ◌≤◌, List, [], ◌∷◌, ◌++◌, length, map, Bool, true, false, Option, Some, None, option_and_then, option_map, codes, IsUtf8, if◌then◌else◌}
 use Rattle.std.specs.Option.{option_or}
-use Rattle.std.specs.Str.{bytes_eq}
-use Rattle.serde_json.specs.Data.{Data, array, object, Items, no_items, item, Members, no_members, member}
-use Rattle.serde_json.specs.Find.{as_str}
+use Rattle.serde_json.specs.Data.{Data, null, boolean, number, string, array, object}
+use Rattle.serde_json.specs.Find.{as_str, is_float}
+use Rattle.serde_json.specs.Read.{read as json}
+use Rattle.serde_json.specs.Written.{compact_text}
 use Rattle.ccr_pipeline.specs.declared.fault.Rule.{Rule}
 use Rattle.ccr_pipeline.specs.declared.fault.Rule.TheVariants as rule
-use Rattle.ccr_pipeline.specs.Faults.{Path, Faults}
+use Rattle.ccr_pipeline.specs.declared.reader.TheConstants.{MOST_BYTES}
+use Rattle.ccr_pipeline.specs.declared.schema.Kind.{Kind}
+use Rattle.ccr_pipeline.specs.declared.schema.Kind.TheVariants as kind
+use Rattle.ccr_pipeline.specs.Faults.{Path}
 use Rattle.ccr_pipeline.specs.JobRules.{list_names}
-use Rattle.ccr_pipeline.specs.Keys.{or_else, path_below, path_at}
-use Rattle.ccr_pipeline.specs.Present.{AreFaults}
+use Rattle.ccr_pipeline.specs.Keys.{or_else}
 use Rattle.ccr_pipeline.specs.Reading.{IsTextOf, pipeline_faults}
 use Rattle.ccr_pipeline.specs.Tree.{Text}
-use Rattle.ccr_findings.specs.declared.keys.TheConstants.{DEPTH}
-use Rattle.ccr_findings.specs.Near.{is_near, letters, is_like}
+use Rattle.ccr_findings.specs.declared.told.More.{More}
+use Rattle.ccr_findings.specs.declared.told.More.TheVariants.{Nothing, Wanted, Stands, Both}
+use Rattle.ccr_findings.specs.Breaks.{break_lines}
+use Rattle.ccr_findings.specs.Near.{nearest}
+use Rattle.ccr_findings.specs.Stands.{is_within, StandData, stand_on}
 
 -- what a refusal says: the rule that is broken, and where; nothing of memory
 abbrev pub Told : Type 0
 Told = Option (Rule × Path)
-
--- what comes behind a path in that of another place: nothing, or a key or a position in it
-abbrev pub goes_on : Option ℕ → Bool
-goes_on None = true
-goes_on (Some c) = c == 46 || c == 91
-
--- the second path is the first one, or that of a place in it
-abbrev pub is_within : Path → Path → Bool
-is_within p q = starts_with nat_eq q p && goes_on (slice_get q (length p))
 
 -- where a fault is
 abbrev pub path_in : Told → Path
@@ -50,37 +46,10 @@ abbrev pub told_after : Told → List Told → List Told
 told_after f [] = []
 told_after f (g ∷ gs) = if follows f g then told_after f gs else g ∷ told_after g gs
 
--- the text in the first member of a list in which it is, each by rec from its path, from position i on
-abbrev pub text_in_items : (Path → Data → Option Text) → Path → ℕ → Items → Option Text
-text_in_items rec p i no_items = None
-text_in_items rec p i (item d ds) = option_or (rec (path_at p i) d) (text_in_items rec p (i + 1) ds)
-
--- that in the first member of an object in which it is
-abbrev pub text_in_members : (Path → Data → Option Text) → Path → Members → Option Text
-text_in_members rec p no_members = None
-text_in_members rec p (member k d ms) = option_or (rec (path_below p k) d) (text_in_members rec p ms)
-
--- that in what a value holds
-abbrev pub text_below : (Path → Data → Option Text) → Path → Data → Option Text
-text_below rec p (array ds) = text_in_items rec p 0 ds
-text_below rec p (object ms) = text_in_members rec p ms
-text_below rec p d = None
-
--- the text at the path q, so many levels down from the value at the path p
-unfoldable pub text_on : ℕ → Path → Path → Data → Option Text
-text_on zero q p d = None
-text_on (suc n) q p d =
-    if bytes_eq p q then as_str d else (if is_within p q then text_below (text_on n q) p d else None)
-
--- the first of the names that is so
-abbrev pub first_name : (Text → Bool) → List Text → Option Text
-first_name is [] = None
-first_name is (name ∷ names) = if is name then Some name else first_name is names
-
--- the nearest of the names: the first within one edit, or else the first that looks like it
-abbrev pub nearest : List Text → Text → Option Text
-nearest names name =
-    option_or (first_name (λ k. is_near 1 (letters name) (letters k)) names) (first_name (is_like name) names)
+-- all faults, but those that only follow from the last one told
+abbrev pub told_of : List Told → List Told
+told_of [] = []
+told_of (f ∷ fs) = f ∷ told_after f fs
 
 -- the words of a rule that is broken
 abbrev pub words_of : Rule → Text
@@ -100,9 +69,77 @@ words_of rule.Number = codes "too many"
 words_of rule.Supported = codes "unsupported"
 words_of rule.Whole = codes "number not whole"
 
--- the text at a path of the whole value, or none
-abbrev pub name_on : Data → Path → Text
-name_on d p = or_else (text_below (text_on DEPTH p) [] d) [] (λ name. name)
+-- the words of a fault
+abbrev pub words_at : Told → Text
+words_at None = codes "out of memory"
+words_at (Some f) = words_of f.0
+
+-- what the line of a fault tells beside its path: nothing, what is wanted there, what stands there, or both
+abbrev pub more_by : Rule → More
+more_by rule.Length = Nothing
+more_by rule.Json = Nothing
+more_by rule.Presence = Wanted
+more_by rule.Kind = Both
+more_by rule.Name = Stands
+more_by rule.Once = Stands
+more_by rule.OneStep = Nothing
+more_by rule.OnlyOneStep = Nothing
+more_by rule.KnownResource = Stands
+more_by rule.KnownJob = Stands
+more_by rule.Attempts = Stands
+more_by rule.Depth = Nothing
+more_by rule.Number = Nothing
+more_by rule.Supported = Stands
+more_by rule.Whole = Nothing
+
+abbrev pub more_at : Told → More
+more_at None = Nothing
+more_at (Some f) = more_by f.0
+
+-- what is wanted, in words
+abbrev pub wanted_words : Kind → Text
+wanted_words kind.Text = codes "a text"
+wanted_words kind.Name = codes "a name"
+wanted_words kind.OwnName = codes "a text"
+wanted_words kind.Texts = codes "a list of texts"
+wanted_words kind.Truth = codes "true or false"
+wanted_words kind.Whole = codes "a whole number from 0 on"
+wanted_words kind.Params = codes "an object"
+wanted_words kind.Fields = codes "an object of texts"
+wanted_words kind.Nothing = codes "an object"
+wanted_words kind.Wanted = codes "\"latest\", \"every\" or an object of texts"
+wanted_words (kind.Object s) = codes "an object"
+wanted_words (kind.Objects s) = codes "a list of objects"
+wanted_words kind.Steps = codes "a list of steps"
+wanted_words kind.Parallel = codes "a list of steps or an object"
+wanted_words kind.Step = codes "an object"
+wanted_words kind.Attempts = codes "a whole number from 1 to 100"
+wanted_words kind.Any = codes "any value"
+wanted_words kind.Undone = codes "no value"
+
+-- a value as a line shows it: a word, a number or a text as JSON writes it, and of the others what they are
+abbrev pub shown : Data → Text
+shown null = codes "null"
+shown (boolean b) = if b then codes "true" else codes "false"
+shown (number n) = if is_float n then codes "a number that isn't whole" else compact_text (number n)
+shown (string s) = compact_text (string s)
+shown (array ds) = codes "a list"
+shown (object ms) = codes "an object"
+
+-- what stands at a place
+abbrev pub shown_at : StandData → Text
+shown_at s = or_else s.value (codes "nothing") shown
+
+-- what a line tells beside a path, of the place
+abbrev pub more_words : More → StandData → Text
+more_words Nothing s = []
+more_words Wanted s = codes ": " ++ wanted_words s.kind
+more_words Stands s = codes ": " ++ shown_at s
+more_words Both s = codes ": " ++ (shown_at s ++ (codes ", not " ++ wanted_words s.kind))
+
+-- the text at a place, or none
+abbrev pub name_at : Option StandData → Text
+name_at o = or_else (option_and_then as_str (option_and_then (λ s. s.value) o)) [] (λ name. name)
 
 -- a name that is meant, if there is one that is near
 abbrev pub meant : Option Text → Text
@@ -110,14 +147,10 @@ meant None = []
 meant (Some name) = codes ": " ++ (name ++ codes "?")
 
 -- the line of a name that isn't there, with the nearest of those that are
-abbrev pub named_line : List ℕ → Text → List Text → Path → Text
+abbrev pub named_line : Text → Text → List Text → Path → Text
 named_line word name names p =
-    codes "unknown " ++ (word ++ (codes " \"" ++ (name ++ (codes "\" at " ++ (p ++ meant (nearest names name))))))
-
--- the words of a fault
-abbrev pub words_at : Told → Text
-words_at None = codes "out of memory"
-words_at (Some f) = words_of f.0
+    codes "unknown " ++ (word ++ (codes " " ++ (compact_text (string name) ++ (codes " at "
+    ++ (p ++ meant (nearest names name))))))
 
 -- what a name is of that isn't there, and the key of the list in which it isn't, if a fault tells of one
 abbrev pub unknown_in : Told → Option (Text × Text)
@@ -126,26 +159,29 @@ unknown_in (Some (rule.KnownResource, p)) = Some (codes "resource", codes "resou
 unknown_in (Some (rule.KnownJob, p)) = Some (codes "job", codes "jobs")
 unknown_in (Some (r, p)) = None
 
--- the line of a fault, which may tell of a name
-abbrev pub line_by : Data → Told → Option (Text × Text) → Text
-line_by d f None = words_at f ++ (codes " at " ++ path_in f)
-line_by d f (Some u) = named_line u.0 (name_on d (path_in f)) (list_names u.1 d) (path_in f)
+-- the line of a fault that tells of no name, at this place
+abbrev pub plain_line : Told → Option StandData → Text
+plain_line f o = words_at f ++ (codes " at " ++ (path_in f ++ or_else o [] (more_words (more_at f))))
 
--- the line of a fault in this value
+-- the line of a fault at this place, which may tell of a name
+abbrev pub line_by : Data → Told → Option (Text × Text) → Option StandData → Text
+line_by d f None o = plain_line f o
+line_by d f (Some u) o = named_line u.0 (name_at o) (list_names u.1 d) (path_in f)
+
+-- THE LINE OF A FAULT IN THIS VALUE
 abbrev pub fault_line : Data → Told → Text
-fault_line d f = line_by d f (unknown_in f)
+fault_line d f = line_by d f (unknown_in f) (stand_on d (path_in f))
 
--- the lines that stand below the refusal, which tells the first fault: that fault's own if a name isn't there, which the
--- refusal doesn't say, and those of the faults after it
-abbrev pub further_lines : Data → List Told → List Text
-further_lines d [] = []
-further_lines d (f ∷ fs) =
-    (if is_some (unknown_in f) then fault_line d f ∷ [] else []) ++ map (fault_line d) (told_after f fs)
+-- THE LINES OF ALL FAULTS IN A VALUE, in the order in which they count
+abbrev pub value_lines : Data → List Told → List Text
+value_lines d fs = map (fault_line d) (told_of fs)
 
--- THE LINES BELOW A REFUSAL: THOSE OF ALL THAT IS WRONG WITH THE BYTES, but for what only follows from what was told
-pub record AreFurther (bytes : List ℕ) (lines : List Text) : Type 0 where
-  pub value : Data
-  pub faults : Faults
-  pub all : AreFaults (codes "pipeline") pipeline_faults bytes faults
-  pub read : (d : Data) → IsTextOf bytes d → d ≡ value
-  pub told : lines ≡ further_lines value (map (λ f. Some f) faults)
+-- THE LINES OF ALL THAT IS WRONG WITH THE BYTES OF A PIPELINE: they are too many; or they are no JSON value, and the lines
+-- show where they stop being one; or each fault that is present in their value has its line, but for what only follows from
+-- what was told. There are none of a pipeline without a fault
+abbrev pub AreLines : List ℕ → List Text → Type 0
+AreLines bytes lines =
+    ((MOST_BYTES < length bytes) × (lines ≡ codes "too long at pipeline" ∷ []))
+    ⊎ (((length bytes ≤ MOST_BYTES) × (IsUtf8 bytes → json bytes ≡ None)
+    × ((at : ℕ) × (at ≤ length bytes) × (lines ≡ break_lines bytes at)))
+    ⊎ ((d : Data) × IsTextOf bytes d × (lines ≡ value_lines d (map (λ f. Some f) (pipeline_faults d)))))

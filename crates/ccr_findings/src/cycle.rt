@@ -1,11 +1,11 @@
 //! Jobs that wait for each other.
-ghost use Rattle.std.specs.Prelude.{◌≡◌, ◌∷◌, ◌++◌, codes, map, string_bytes, IfOk, OnOk};
+ghost use Rattle.std.specs.Prelude.{◌≡◌, ◌∷◌, ◌++◌, codes, map, option_map, string_bytes, IfOk, OnOk};
 ghost use Rattle.std.specs.List.{flat_map};
 ghost use Rattle.ccr_pipeline.specs.Inputs.{input_data, named_jobs};
 ghost use Rattle.ccr_pipeline.specs.JobData.{job_data};
 ghost use Rattle.ccr_pipeline.specs.Names.{with_names};
 ghost use Rattle.ccr_findings.specs.Cycles as spec;
-ghost use Rattle.ccr_findings.specs.Cycles.{AddsCycle};
+ghost use Rattle.ccr_findings.specs.Cycles.{IsCycleLine, TellsCycle, AddsCycle};
 ghost use Rattle.ccr_findings.specs.Findings.{findings_data};
 
 use crate::finding::{Finding, Findings, Kind};
@@ -78,7 +78,9 @@ fn wait_in_turn(
 }
 
 /// Whether all jobs that a job waits for are free.
-fn is_free(alloc: Global, free: &Names, jobs: &[Job], job: &Job) -> Result<bool, AllocError> {
+fn is_free(alloc: Global, free: &Names, jobs: &[Job], job: &Job) -> Result<bool, AllocError>
+    ensures { IfOk result (λ holds. holds ≡ spec.is_free (map job_data jobs.now) free.now (job_data job.now)) }
+{
     let waits = waits_of(alloc, job)?;
     for other in jobs {
         if waits.contains(other.name.as_str()) && !free.contains(other.name.as_str()) {
@@ -88,27 +90,43 @@ fn is_free(alloc: Global, free: &Names, jobs: &[Job], job: &Job) -> Result<bool,
     Ok(true)
 }
 
-/// Adds the jobs that wait for free ones alone, and answers whether there are more now.
-fn add_free(alloc: Global, free: &mut Names, jobs: &[Job]) -> Result<bool, AllocError> {
-    let mut has_more = false;
+/// Adds the jobs that wait for free ones alone.
+fn add_free(alloc: Global, free: &mut Names, jobs: &[Job]) -> Result<(), AllocError>
+    ensures { OnOk result
+        (free.new ≡ spec.with_free (map job_data jobs.now) free.old (map job_data jobs.now)) }
+{
     for job in jobs {
-        if !free.contains(job.name.as_str()) && is_free(alloc, free, jobs, job)? {
+        if is_free(alloc, free, jobs, job)? {
             free.add(alloc, job.name.as_str())?;
-            has_more = true;
         }
     }
-    Ok(has_more)
+    Ok(())
 }
 
 /// The jobs that wait for nobody, or in the end for such jobs alone.
-fn free_jobs(alloc: Global, jobs: &[Job]) -> Result<Names, AllocError> {
+fn free_jobs(alloc: Global, jobs: &[Job]) -> Result<Names, AllocError>
+    ensures { IfOk result (λ free. free ≡ spec.free_in (map job_data jobs.now)) }
+{
     let mut free = Names::new(alloc);
-    for _ in 0..jobs.len() {
-        if !add_free(alloc, &mut free, jobs)? {
-            return Ok(free);
-        }
+    for round in jobs {
+        add_free(alloc, &mut free, jobs)?;
     }
     Ok(free)
+}
+
+/// The jobs that aren't free.
+#[tactic(auto, using(std::proofs::Common::append_assoc, crate::proofs::Lists::and_none))]
+fn stuck_jobs(alloc: Global, free: &Names, jobs: &[Job]) -> Result<Vec<String>, AllocError>
+    ensures { IfOk result
+        (λ v. map string_bytes v.items ≡ spec.stuck_by free.now (map job_data jobs.now)) }
+{
+    let mut stuck = Vec::new(alloc);
+    for job in jobs {
+        if !free.contains(job.name.as_str()) {
+            stuck.push(String::from_str(alloc, job.name.as_str())?)?;
+        }
+    }
+    Ok(stuck)
 }
 
 /// The first job that isn't free and that a job waits for, if there is one.
@@ -153,9 +171,8 @@ fn from_name(
 }
 
 /// Jobs that seem to wait for each other: from a job that isn't free on, always the next one, until one comes again.
-fn guess(alloc: Global, jobs: &[Job]) -> Result<Option<Vec<String>>, AllocError> {
-    let free = free_jobs(alloc, jobs)?;
-    let Some(mut job) = first_job(&free, jobs) else {
+fn guess(alloc: Global, free: &Names, jobs: &[Job]) -> Result<Option<Vec<String>>, AllocError> {
+    let Some(mut job) = first_job(free, jobs) else {
         return Ok(None);
     };
     let mut names = Vec::new(alloc);
@@ -164,7 +181,7 @@ fn guess(alloc: Global, jobs: &[Job]) -> Result<Option<Vec<String>>, AllocError>
             return Ok(Some(found));
         }
         names.push(String::from_str(alloc, job.name.as_str())?)?;
-        match next_job(alloc, &free, jobs, job)? {
+        match next_job(alloc, free, jobs, job)? {
             Some(next) => job = next,
             None => return Ok(None),
         }
@@ -197,24 +214,63 @@ fn cycle_line(alloc: Global, first: &str, others: &[String]) -> Result<String, A
     Ok(line)
 }
 
-/// Adds the finding of jobs that wait for each other, if there are such: a guess is told only if it is right.
+/// The line of jobs none of which can be built first.
+#[tactic(auto, using(std::proofs::Common::append_assoc))]
+fn stuck_line(alloc: Global, first: &str, others: &[String]) -> Result<String, AllocError>
+    ensures { IfOk result (λ line. string_bytes line ≡ spec.stuck_line (first.now ∷ map string_bytes others.now)) }
+{
+    let mut line = String::from_str(alloc, "cycle ")?;
+    line.push_str(first)?;
+    add_others(&mut line, others)?;
+    line.push_str(": each waits for one of them by passed")?;
+    Ok(line)
+}
+
+/// The line of a guess, if it is right.
+fn guessed_line(alloc: Global, free: &Names, jobs: &[Job]) -> Result<Option<String>, AllocError>
+    ensures { IfOk result (λ o. IsCycleLine (map job_data jobs.now) (option_map string_bytes o)) }
+{
+    let Some(names) = guess(alloc, free, jobs)? else {
+        return Ok(None);
+    };
+    let Some((first, others)) = names.split_first() else {
+        return Ok(None);
+    };
+    if !wait_in_turn(alloc, jobs, first.as_str(), &names)? {
+        return Ok(None);
+    }
+    Ok(Some(cycle_line(alloc, first.as_str(), others)?))
+}
+
+/// The line that tells of jobs none of which can be built first: a guess of a cycle among them if it is right, or else all.
+fn line_of(
+    alloc: Global,
+    free: &Names,
+    jobs: &[Job],
+    first: &str,
+    others: &[String],
+) -> Result<String, AllocError>
+    ensures { IfOk result (λ line. TellsCycle (map job_data jobs.now)
+        (first.now ∷ map string_bytes others.now) (string_bytes line)) }
+{
+    match guessed_line(alloc, free, jobs)? {
+        Some(line) => Ok(line),
+        None => stuck_line(alloc, first, others),
+    }
+}
+
+/// Adds the finding of jobs none of which can be built first, exactly if there are such.
 pub(crate) fn find_cycle(alloc: Global, out: &mut Findings, jobs: &[Job]) -> Result<(), AllocError>
     ensures { OnOk result (AddsCycle (map job_data jobs.now)
         (findings_data out.old.items) (findings_data out.new.items)) }
 {
-    let Some(names) = guess(alloc, jobs)? else {
+    let free = free_jobs(alloc, jobs)?;
+    let stuck = stuck_jobs(alloc, &free, jobs)?;
+    let Some((first, others)) = stuck.split_first() else {
         return Ok(());
     };
-    let Some((first, others)) = names.split_first() else {
-        return Ok(());
-    };
-    if !wait_in_turn(alloc, jobs, first.as_str(), &names)? {
-        return Ok(());
-    }
-    let line = cycle_line(alloc, first.as_str(), others)?;
-    out.push(Finding {
-        kind: Kind::Cycle,
-        line,
-    })?;
+    let line = line_of(alloc, &free, jobs, first.as_str(), others)?;
+    let kind = Kind::Cycle;
+    out.push(Finding { kind, line })?;
     Ok(())
 }

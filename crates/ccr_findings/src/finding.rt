@@ -1,15 +1,15 @@
 //! What is found in a pipeline.
-ghost use Rattle.std.specs.Prelude.{◌≡◌, ◌++◌, List, IfOk};
+ghost use Rattle.std.specs.Prelude.{◌≡◌, IfOk};
+ghost use Rattle.serde_json.specs.View.{view};
 ghost use Rattle.ccr_pipeline.specs.Pipelines.{pipeline_data};
-ghost use Rattle.ccr_findings.specs.Absent.{absent_in_jobs};
+ghost use Rattle.ccr_findings.specs.All.{found_in_pipeline, found_in_value, AreFindings};
 ghost use Rattle.ccr_findings.specs.Cycles.{AddsCycle};
-ghost use Rattle.ccr_findings.specs.Findings.{FindingData, findings_data, kinds, is_wrong, is_reason, is_faultless};
+ghost use Rattle.ccr_findings.specs.Findings.{findings_data, kinds, is_wrong, is_reason, is_faultless};
 
 use crate::absent::find_absent;
 use crate::cycle::find_cycle;
 use crate::gate::find_gates;
-use crate::keys::find_keys;
-use crate::never::find_never;
+use crate::objects::{Aim, find_on};
 use crate::vars::find_vars;
 use ccr_pipeline::Pipeline;
 use serde_json::Value;
@@ -77,40 +77,47 @@ impl Kind {
 
 /// What is found in a pipeline, whose text is this value: its gates, then its keys without effect, what never passes, the
 /// variables, the inputs of tasks that no step before them gives, and jobs that wait for each other.
+#[tactic(auto, using(std::proofs::Common::append_assoc))]
 pub fn findings_of(
     alloc: Global,
     pipeline: &Pipeline,
     value: &Value,
 ) -> Result<Findings, AllocError>
-    // Behind the others are those of all inputs that no step before their task gives, and then at most one of jobs that
-    // wait for each other.
-    ensures { IfOk result (λ v. (others : List FindingData)
-        × AddsCycle (pipeline_data pipeline.now).jobs
-        (others ++ absent_in_jobs (pipeline_data pipeline.now).jobs) (findings_data v.items)) }
+    // Behind all that the definitions name is at most one of jobs that wait for each other.
+    ensures { IfOk result (λ v. AddsCycle (pipeline_data pipeline.now).jobs
+        (found_in_pipeline (pipeline_data pipeline.now).jobs (view value.now)) (findings_data v.items)) }
 {
     let mut out = Vec::new(alloc);
-    find_gates(alloc, &mut out, pipeline)?;
-    find_keys(alloc, &mut out, value)?;
-    find_never(alloc, &mut out, pipeline, value)?;
+    let jobs = pipeline.jobs();
+    find_gates(alloc, &mut out, jobs)?;
+    find_on(alloc, &mut out, Aim::Keys, value)?;
+    find_on(alloc, &mut out, Aim::Gates(jobs), value)?;
     find_vars(alloc, &mut out, value)?;
-    find_absent(alloc, &mut out, pipeline.jobs())?;
-    find_cycle(alloc, &mut out, pipeline.jobs())?;
+    find_absent(alloc, &mut out, jobs)?;
+    find_cycle(alloc, &mut out, jobs)?;
+    Ok(out)
+}
+
+/// What is found in a value that is no pipeline.
+fn findings_in_value(alloc: Global, value: &Value) -> Result<Findings, AllocError>
+    ensures { IfOk result (λ v. findings_data v.items ≡ found_in_value (view value.now)) }
+{
+    let mut out = Vec::new(alloc);
+    find_on(alloc, &mut out, Aim::Keys, value)?;
+    find_vars(alloc, &mut out, value)?;
     Ok(out)
 }
 
 /// What is found in a text that is no pipeline: its keys without effect, and the variables. There is nothing where it is
 /// no JSON value.
-pub fn findings_in_text(alloc: Global, text: &[u8]) -> Result<Findings, AllocError> {
-    let mut out = Vec::new(alloc);
+pub fn findings_in_text(alloc: Global, text: &[u8]) -> Result<Findings, AllocError>
+    ensures { IfOk result (λ v. AreFindings text.now (findings_data v.items)) }
+{
     match Value::from_slice(alloc, text) {
-        Ok(value) => {
-            find_keys(alloc, &mut out, &value)?;
-            find_vars(alloc, &mut out, &value)?;
-        }
-        Err(error) if error.is_memory() => return Err(AllocError),
-        Err(_) => {}
+        Ok(value) => findings_in_value(alloc, &value),
+        Err(error) if error.is_memory() => Err(AllocError),
+        Err(_) => Ok(Vec::new(alloc)),
     }
-    Ok(out)
 }
 
 /// Whether nothing that was found is a reason to refuse the pipeline.

@@ -10,6 +10,7 @@
 #![tactic(auto)]
 
 mod absent;
+mod broken;
 mod cycle;
 mod finding;
 mod gate;
@@ -18,9 +19,12 @@ mod known;
 mod meant;
 mod near;
 mod never;
+mod objects;
+mod path;
+mod stand;
 mod told;
 mod vars;
 
 pub use finding::{Finding, Findings, Kind, findings_in_text, findings_of, is_faultless};
 pub use near::{is_like, is_near};
-pub use told::further_lines;
+pub use told::fault_lines;

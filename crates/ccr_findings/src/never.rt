@@ -1,17 +1,24 @@
 //! Jobs in `passed` that never get or put the resource, and a `passed` without jobs.
+ghost use Rattle.std.specs.Prelude.{◌≡◌, ◌++◌, map, option_map, OnOk};
+ghost use Rattle.serde_json.specs.View.{view, items_view};
+ghost use Rattle.ccr_pipeline.specs.JobData.{job_data};
+ghost use Rattle.ccr_pipeline.specs.Tree.{tree_of, trees_of};
+ghost use Rattle.ccr_findings.specs.Findings.{findings_data};
+ghost use Rattle.ccr_findings.specs.Objects as spec;
+ghost use Rattle.ccr_findings.specs.Objects.{never_at, never_in, empty_at, passed_findings, own_passed};
 
-use crate::finding::{Findings, Kind};
-use crate::keys::{DEPTH, add, path_at, path_below};
-use ccr_pipeline::{Job, Pipeline, Step};
+use crate::finding::{Finding, Findings, Kind};
+use crate::path::{path_at, path_below};
+use crate::objects::Found;
+use ccr_pipeline::{Job, Step, text_at};
 use serde_json::Value;
-use std::alloc::{AllocError, Global};
-
-/// What a search answers: memory may be refused.
-type Found = Result<(), AllocError>;
+use std::alloc::Global;
 
 /// Whether one of the steps gets or puts the resource.
 #[cycle(moves)]
-fn one_moves(steps: &Vec<Step>, resource: &str) -> bool {
+fn moves_in(steps: &Vec<Step>, resource: &str) -> bool
+    ensures { result ≡ spec.moves_in resource.now (trees_of (map tree_of steps.now.items)) }
+{
     for step in steps {
         if moves(step, resource) {
             return true;
@@ -22,133 +29,151 @@ fn one_moves(steps: &Vec<Step>, resource: &str) -> bool {
 
 /// Whether a step, or one in it, gets or puts the resource.
 #[cycle(moves)]
-fn moves(step: &Step, resource: &str) -> bool {
+fn moves(step: &Step, resource: &str) -> bool
+    ensures { result ≡ spec.moves resource.now (tree_of step.now) }
+{
     match step {
         Step::Get(get) => get.resource.as_str() == resource,
         Step::Put(put) => put.resource.as_str() == resource,
         Step::Task(_) => false,
-        Step::Do(steps) => one_moves(steps, resource),
-        Step::InParallel(steps, _) => one_moves(steps, resource),
+        Step::Do(steps) => moves_in(steps, resource),
+        Step::InParallel(steps, _) => moves_in(steps, resource),
         Step::Try(tried) => moves(tried, resource),
         Step::Attempts(_, tried) => moves(tried, resource),
         Step::Hook(_, inner, hook) => moves(inner, resource) || moves(hook, resource),
     }
 }
 
-/// The job of a name.
-fn job_of<'p>(pipeline: &'p Pipeline, name: &str) -> Option<&'p Job> {
-    for job in pipeline.jobs() {
+/// Whether the job of this name never gets or puts the resource.
+fn is_never(jobs: &[Job], name: &str, resource: &str) -> bool
+    ensures { result ≡ spec.is_never (map job_data jobs.now) name.now resource.now }
+{
+    for job in jobs {
         if job.name.as_str() == name {
-            return Some(job);
+            return !moves(&job.plan, resource);
         }
     }
-    None
+    false
 }
 
-/// Whether no version of the resource can pass the job.
-fn is_never(pipeline: &Pipeline, name: &str, resource: &str) -> bool {
-    match job_of(pipeline, name) {
-        Some(job) => !moves(&job.plan, resource),
-        None => false,
-    }
-}
-
-/// The resource of a get: `resource`, or its own name.
-fn resource_of(get: &Value) -> Option<&str> {
-    match get.get("resource").and_then(|found| found.as_str()) {
-        Some(name) => Some(name),
-        None => get.get("get").and_then(|found| found.as_str()),
-    }
-}
-
-/// The members of a list that stands at a key; `null` has none.
-fn list_of(found: Option<&Value>) -> Option<&[Value]> {
-    let found = found?;
-    if found.is_null() {
-        return Some(&[]);
-    }
-    match found.as_array() {
-        Some(list) => Some(list),
-        None => None,
-    }
-}
-
-/// Says which jobs of a get never get or put its resource, and that no job is named.
-fn find_passed(
+/// Adds the finding of a job in `passed` that never gets or puts the resource.
+#[tactic(auto, using(crate::proofs::Lists::and_none))]
+fn find_never(
     alloc: Global,
     out: &mut Findings,
-    pipeline: &Pipeline,
+    jobs: &[Job],
+    resource: &str,
+    path: &str,
+    name: &str,
+) -> Found
+    ensures { OnOk result (findings_data out.new.items ≡ findings_data out.old.items
+        ++ never_at (map job_data jobs.now) resource.now path.now name.now) }
+{
+    if !is_never(jobs, name, resource) {
+        return Ok(());
+    }
+    let line = format!(in alloc; "never {path}: {name} neither gets nor puts {resource}")?;
+    let kind = Kind::Never;
+    out.push(Finding { kind, line })?;
+    Ok(())
+}
+
+/// Adds those of a `passed`.
+#[tactic(auto, using(std::proofs::Common::append_assoc, crate::proofs::Lists::and_none))]
+fn find_in_passed(
+    alloc: Global,
+    out: &mut Findings,
+    jobs: &[Job],
+    resource: &str,
+    path: &str,
+    list: &[Value],
+) -> Found
+    ensures { OnOk result (findings_data out.new.items ≡ findings_data out.old.items
+        ++ never_in (map job_data jobs.now) resource.now path.now 0 (items_view list.now)) }
+{
+    for (i, member) in list.iter().enumerate() {
+        if let Some(name) = member.as_str() {
+            let below = path_at(alloc, path, i)?;
+            find_never(alloc, out, jobs, resource, below.as_str(), name)?;
+        }
+    }
+    Ok(())
+}
+
+/// Adds the finding of a `passed` that names no job.
+#[tactic(auto, using(crate::proofs::Lists::and_none))]
+fn find_empty(alloc: Global, out: &mut Findings, path: &str, list: &[Value]) -> Found
+    ensures { OnOk result (findings_data out.new.items
+        ≡ findings_data out.old.items ++ empty_at path.now (items_view list.now)) }
+{
+    if !list.is_empty() {
+        return Ok(());
+    }
+    let line = format!(in alloc; "empty {path}: no gate")?;
+    let kind = Kind::Empty;
+    out.push(Finding { kind, line })?;
+    Ok(())
+}
+
+/// The resource of a get: the one that it says, or that of its name.
+fn resource_of(get: &Value) -> Option<&str>
+    ensures { option_map (λ name. name.now) result ≡ spec.resource_of (view get.now) }
+{
+    match text_at(get, "resource") {
+        Some(name) => Some(name),
+        None => text_at(get, "get"),
+    }
+}
+
+/// The jobs that stand at a `passed`: `null` names none.
+fn passed_list(found: &Value) -> Option<&[Value]>
+    ensures { option_map (λ list. items_view list.now) result ≡ spec.passed_list (view found.now) }
+{
+    match found {
+        Value::Null => Some(&[]),
+        Value::Array(list) => Some(list),
+        Value::Bool(_) | Value::Number(_) | Value::String(_) | Value::Object(_) => None,
+    }
+}
+
+/// Adds the findings of a `passed` that says these jobs.
+#[tactic(auto, using(std::proofs::Common::append_assoc))]
+fn find_list(
+    alloc: Global,
+    out: &mut Findings,
+    jobs: &[Job],
+    resource: &str,
+    path: &str,
+    list: &[Value],
+) -> Found
+    ensures { OnOk result (findings_data out.new.items ≡ findings_data out.old.items
+        ++ passed_findings (map job_data jobs.now) resource.now path.now (items_view list.now)) }
+{
+    find_empty(alloc, out, path, list)?;
+    find_in_passed(alloc, out, jobs, resource, path, list)
+}
+
+/// Adds those of a get: which jobs in its `passed` never get or put its resource, and that no job is named.
+#[tactic(auto, using(crate::proofs::Lists::and_none))]
+pub(crate) fn find_passed(
+    alloc: Global,
+    out: &mut Findings,
+    jobs: &[Job],
     get: &Value,
     path: &str,
-) -> Found {
+) -> Found
+    ensures { OnOk result (findings_data out.new.items ≡ findings_data out.old.items
+        ++ own_passed (map job_data jobs.now) path.now (view get.now)) }
+{
     let Some(resource) = resource_of(get) else {
         return Ok(());
     };
-    let Some(list) = list_of(get.get("passed")) else {
+    let Some(passed) = get.get("passed") else {
         return Ok(());
     };
-    if list.is_empty() {
-        let passed = path_below(alloc, path, "passed")?;
-        let passed = passed.as_str();
-        add(
-            out,
-            Kind::Empty,
-            format!(in alloc; "empty {passed}: no gate")?,
-        )?;
-    }
-    for (i, member) in list.iter().enumerate() {
-        if let Some(name) = member.as_str() {
-            if is_never(pipeline, name, resource) {
-                let passed = path_below(alloc, path, "passed")?;
-                let below = path_at(alloc, passed.as_str(), i)?;
-                let below = below.as_str();
-                let line = format!(in alloc;
-                    "never {below}: {name} neither gets nor puts {resource}"
-                )?;
-                add(out, Kind::Never, line)?;
-            }
-        }
-    }
-    Ok(())
-}
-
-/// The same in a value of the jobs, and in those that it holds.
-fn find_in(
-    alloc: Global,
-    out: &mut Findings,
-    left: u32,
-    pipeline: &Pipeline,
-    value: &Value,
-    path: &str,
-) -> Found {
-    if left == 0 {
+    let Some(list) = passed_list(passed) else {
         return Ok(());
-    }
-    if let Some(list) = value.as_array() {
-        for (i, member) in list.iter().enumerate() {
-            let below = path_at(alloc, path, i)?;
-            find_in(alloc, out, left - 1, pipeline, member, below.as_str())?;
-        }
-    }
-    if let Some(members) = value.as_object() {
-        find_passed(alloc, out, pipeline, value, path)?;
-        for (key, member) in members.iter() {
-            let below = path_below(alloc, path, key.as_str())?;
-            find_in(alloc, out, left - 1, pipeline, member, below.as_str())?;
-        }
-    }
-    Ok(())
-}
-
-/// Says which jobs in `passed` can never pass the resource.
-pub(crate) fn find_never(
-    alloc: Global,
-    out: &mut Findings,
-    pipeline: &Pipeline,
-    value: &Value,
-) -> Found {
-    match value.get("jobs") {
-        Some(jobs) => find_in(alloc, out, DEPTH, pipeline, jobs, "jobs"),
-        None => Ok(()),
-    }
+    };
+    let below = path_below(alloc, path, "passed")?;
+    find_list(alloc, out, jobs, resource, below.as_str(), list)
 }

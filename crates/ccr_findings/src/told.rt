@@ -1,17 +1,32 @@
-//! The lines of the faults of a pipeline's text that stand below its refusal.
-ghost use Rattle.std.specs.Prelude.{◌≡◌, ◌++◌, map, option_map, string_bytes, IfOk, OnOk};
-ghost use Rattle.serde_json.specs.View.{view, items_view, members_view};
+//! The lines of all faults of a pipeline's text.
+ghost use Rattle.std.specs.Prelude.{◌≡◌, ◌∷◌, ◌++◌, [], map, option_map, codes, string_bytes, IfOk, OnOk};
+ghost use Rattle.serde_json.specs.Data.{string};
+ghost use Rattle.serde_json.specs.View.{view, items_view};
+ghost use Rattle.serde_json.specs.Written.{compact_text};
 ghost use Rattle.ccr_pipeline.specs.Faults.{fault_of};
 ghost use Rattle.ccr_pipeline.specs.JobRules.{names_in};
+ghost use Rattle.ccr_findings.specs.Stands.{stand_data};
 ghost use Rattle.ccr_findings.specs.Told as spec;
-ghost use Rattle.ccr_findings.specs.Told.{AreFurther};
+ghost use Rattle.ccr_findings.specs.Told.{AreLines};
 
-use crate::keys::{DEPTH, path_at, path_below};
+use crate::broken::{break_lines, offset_of};
 use crate::meant::nearest;
-use ccr_pipeline::{ReadFault, faults_of, list_at};
+use crate::stand::{Stand, is_within, stand_on};
+use ccr_pipeline::schema::Kind;
+use ccr_pipeline::{MOST_BYTES, ReadFault, faults_in, list_at};
 use serde_json::Value;
 use std::alloc::{AllocError, Global};
-use std::collections::BTreeMap;
+
+/// What the line of a fault tells beside its path.
+#[derive(Clone, Copy)]
+pub(crate) enum More {
+    Nothing,
+    /// What is wanted there.
+    Wanted,
+    /// What stands there.
+    Stands,
+    Both,
+}
 
 /// Where a fault is.
 fn path_of(fault: &ReadFault) -> &str
@@ -61,20 +76,6 @@ fn kind_path(fault: &ReadFault) -> Option<&str>
     }
 }
 
-/// Whether the second path is the first one, or that of a place in it.
-fn is_within(path: &str, place: &str) -> bool
-    ensures { result ≡ spec.is_within path.now place.now }
-{
-    let (path, place) = (path.as_bytes(), place.as_bytes());
-    if !place.starts_with(path) {
-        return false;
-    }
-    match place.get(path.len()) {
-        Some(next) => *next == b'.' || *next == b'[',
-        None => true,
-    }
-}
-
 /// Whether a fault only follows from the other one.
 fn follows(told: &ReadFault, fault: &ReadFault) -> bool
     ensures { result ≡ spec.follows (fault_of told.now) (fault_of fault.now) }
@@ -82,119 +83,6 @@ fn follows(told: &ReadFault, fault: &ReadFault) -> bool
     match kind_path(told) {
         Some(path) => is_within(path, path_of(fault)),
         None => false,
-    }
-}
-
-/// The text at a path in the members of a list at another one.
-#[cycle(texts)]
-fn text_in_items<'v>(
-    alloc: Global,
-    left: u32,
-    path: &str,
-    here: &str,
-    list: &'v [Value],
-) -> Result<Option<&'v str>, AllocError>
-    ensures { IfOk result (λ o. option_map (λ text. text.now) o
-        ≡ spec.text_in_items (spec.text_on left path.now) here.now 0 (items_view list.now)) }
-{
-    for (i, member) in list.iter().enumerate() {
-        let below = path_at(alloc, here, i)?;
-        if let Some(text) = text_on(alloc, left, path, below.as_str(), member)? {
-            return Ok(Some(text));
-        }
-    }
-    Ok(None)
-}
-
-/// The text at a path in the members of an object at another one.
-#[cycle(texts)]
-fn text_in_members<'v>(
-    alloc: Global,
-    left: u32,
-    path: &str,
-    here: &str,
-    members: &'v BTreeMap<String, Value>,
-) -> Result<Option<&'v str>, AllocError>
-    ensures { IfOk result (λ o. option_map (λ text. text.now) o
-        ≡ spec.text_in_members (spec.text_on left path.now) here.now (members_view members.now.entries)) }
-{
-    for (key, member) in members.iter() {
-        let below = path_below(alloc, here, key.as_str())?;
-        if let Some(text) = text_on(alloc, left, path, below.as_str(), member)? {
-            return Ok(Some(text));
-        }
-    }
-    Ok(None)
-}
-
-/// The text at a path in what the value at another one holds.
-#[cycle(texts)]
-fn text_below<'v>(
-    alloc: Global,
-    left: u32,
-    path: &str,
-    here: &str,
-    value: &'v Value,
-) -> Result<Option<&'v str>, AllocError>
-    ensures { IfOk result (λ o. option_map (λ text. text.now) o
-        ≡ spec.text_below (spec.text_on left path.now) here.now (view value.now)) }
-{
-    match value {
-        Value::Array(list) => text_in_items(alloc, left, path, here, list),
-        Value::Object(members) => text_in_members(alloc, left, path, here, members),
-        _ => Ok(None),
-    }
-}
-
-/// The text at a path, so many levels down from the value at another one.
-#[cycle(texts)]
-#[tactic(auto, using(crate::proofs::TextLemmas::text_on_below), unfolding(crate::specs::Told::text_on))]
-fn text_on<'v>(
-    alloc: Global,
-    left: u32,
-    path: &str,
-    here: &str,
-    value: &'v Value,
-) -> Result<Option<&'v str>, AllocError>
-    ensures { IfOk result (λ o. option_map (λ text. text.now) o
-        ≡ spec.text_on left path.now here.now (view value.now)) }
-{
-    if left == 0 {
-        return Ok(None);
-    }
-    if here == path {
-        return Ok(value.as_str());
-    }
-    if !is_within(here, path) {
-        return Ok(None);
-    }
-    text_below(alloc, left - 1, path, here, value)
-}
-
-/// The text at a path of the whole value, or none.
-fn name_on<'v>(alloc: Global, value: &'v Value, path: &str) -> Result<&'v str, AllocError>
-    ensures { IfOk result (λ name. name.now ≡ spec.name_on (view value.now) path.now) }
-{
-    match text_below(alloc, DEPTH, path, "", value)? {
-        Some(name) => Ok(name),
-        None => Ok(""),
-    }
-}
-
-/// The line of a name at a path that isn't there, with the nearest of those of a list.
-fn named_line(
-    alloc: Global,
-    word: &str,
-    name: &str,
-    list: &[Value],
-    path: &str,
-) -> Result<String, AllocError>
-    ensures { IfOk result (λ line. string_bytes line
-        ≡ spec.named_line word.now name.now (names_in (items_view list.now)) path.now) }
-{
-    match nearest(alloc, list, name)? {
-        Some(known) => format!(in alloc; "unknown {word} \"{name}\" at {path}: {known}?"),
-        None => format!(in alloc; "unknown {word} \"{name}\" at {path}"),
     }
 }
 
@@ -246,20 +134,172 @@ fn unknown_in(fault: &ReadFault) -> Option<(&'static str, &'static str)>
     }
 }
 
+/// What the line of a fault tells beside its path.
+fn more_of(fault: &ReadFault) -> More
+    ensures { result ≡ spec.more_at (fault_of fault.now) }
+{
+    match fault {
+        ReadFault::Missing(_) => More::Wanted,
+        ReadFault::WrongKind(_) => More::Both,
+        ReadFault::BadName(_)
+        | ReadFault::Repeated(_)
+        | ReadFault::UnknownResource(_)
+        | ReadFault::UnknownJob(_)
+        | ReadFault::BadAttempts(_)
+        | ReadFault::Unsupported(_) => More::Stands,
+        ReadFault::TooLong(_)
+        | ReadFault::NotJson(_)
+        | ReadFault::NoStep(_)
+        | ReadFault::TwoSteps(_)
+        | ReadFault::TooDeep(_)
+        | ReadFault::TooMany(_)
+        | ReadFault::NumberNotWhole(_)
+        | ReadFault::NoMemory => More::Nothing,
+    }
+}
+
+/// What is wanted, in words.
+fn wanted_words(kind: Kind) -> &'static str
+    ensures { result.now ≡ spec.wanted_words kind }
+{
+    match kind {
+        Kind::Text | Kind::OwnName => "a text",
+        Kind::Name => "a name",
+        Kind::Texts => "a list of texts",
+        Kind::Truth => "true or false",
+        Kind::Whole => "a whole number from 0 on",
+        Kind::Fields => "an object of texts",
+        Kind::Wanted => "\"latest\", \"every\" or an object of texts",
+        Kind::Params | Kind::Nothing | Kind::Object(_) | Kind::Step => "an object",
+        Kind::Objects(_) => "a list of objects",
+        Kind::Steps => "a list of steps",
+        Kind::Parallel => "a list of steps or an object",
+        Kind::Attempts => "a whole number from 1 to 100",
+        Kind::Any => "any value",
+        Kind::Undone => "no value",
+    }
+}
+
+/// A value as a line shows it.
+fn shown(alloc: Global, value: &Value) -> Result<String, AllocError>
+    ensures { IfOk result (λ text. string_bytes text ≡ spec.shown (view value.now)) }
+{
+    match value {
+        Value::Null => String::from_str(alloc, "null"),
+        Value::Bool(truth) => String::from_str(alloc, if *truth { "true" } else { "false" }),
+        Value::Number(number) if number.is_f64() => {
+            String::from_str(alloc, "a number that isn't whole")
+        }
+        Value::Number(_) | Value::String(_) => value.to_string(alloc),
+        Value::Array(_) => String::from_str(alloc, "a list"),
+        Value::Object(_) => String::from_str(alloc, "an object"),
+    }
+}
+
+/// What stands at a place.
+fn shown_at(alloc: Global, stand: &Stand) -> Result<String, AllocError>
+    ensures { IfOk result (λ text. string_bytes text ≡ spec.shown_at (stand_data stand.now)) }
+{
+    match stand.value {
+        Some(value) => shown(alloc, value),
+        None => String::from_str(alloc, "nothing"),
+    }
+}
+
+/// What a line tells beside a path, of the place.
+fn more_words(alloc: Global, more: More, stand: &Stand) -> Result<String, AllocError>
+    ensures { IfOk result (λ text. string_bytes text ≡ spec.more_words more (stand_data stand.now)) }
+{
+    let wanted = wanted_words(stand.kind);
+    match more {
+        More::Nothing => Ok(String::new(alloc)),
+        More::Wanted => format!(in alloc; ": {wanted}"),
+        More::Stands => {
+            let shown = shown_at(alloc, stand)?;
+            let shown = shown.as_str();
+            format!(in alloc; ": {shown}")
+        }
+        More::Both => {
+            let shown = shown_at(alloc, stand)?;
+            let shown = shown.as_str();
+            format!(in alloc; ": {shown}, not {wanted}")
+        }
+    }
+}
+
+/// The text at a place, or none.
+fn name_at<'v>(stand: Option<Stand<'v>>) -> &'v str
+    ensures { result.now ≡ spec.name_at (option_map stand_data stand) }
+{
+    let Some(stand) = stand else {
+        return "";
+    };
+    let Some(value) = stand.value else {
+        return "";
+    };
+    match value.as_str() {
+        Some(name) => name,
+        None => "",
+    }
+}
+
+/// A text as JSON writes it.
+fn quoted(alloc: Global, text: &str) -> Result<String, AllocError>
+    ensures { IfOk result (λ q. string_bytes q ≡ compact_text (string text.now)) }
+{
+    Value::String(String::from_str(alloc, text)?).to_string(alloc)
+}
+
+/// The line of a name at a path that isn't there, with the nearest of those of a list.
+fn named_line(
+    alloc: Global,
+    word: &str,
+    name: &str,
+    list: &[Value],
+    path: &str,
+) -> Result<String, AllocError>
+    ensures { IfOk result (λ line. string_bytes line
+        ≡ spec.named_line word.now name.now (names_in (items_view list.now)) path.now) }
+{
+    let quoted = quoted(alloc, name)?;
+    let quoted = quoted.as_str();
+    match nearest(alloc, list, name)? {
+        Some(known) => format!(in alloc; "unknown {word} {quoted} at {path}: {known}?"),
+        None => format!(in alloc; "unknown {word} {quoted} at {path}"),
+    }
+}
+
+/// The line of a fault that tells of no name, with what is told of its place.
+fn plain_line(
+    alloc: Global,
+    fault: &ReadFault,
+    stand: Option<Stand>,
+) -> Result<String, AllocError>
+    ensures { IfOk result (λ line. string_bytes line ≡ spec.plain_line (fault_of fault.now) (option_map stand_data stand)) }
+{
+    let path = path_of(fault);
+    let words = words_of(fault);
+    match stand {
+        Some(stand) => {
+            let more = more_words(alloc, more_of(fault), &stand)?;
+            let more = more.as_str();
+            format!(in alloc; "{words} at {path}{more}")
+        }
+        None => format!(in alloc; "{words} at {path}"),
+    }
+}
+
 /// The line of a fault in a value.
 fn fault_line(alloc: Global, value: &Value, fault: &ReadFault) -> Result<String, AllocError>
     ensures { IfOk result (λ line. string_bytes line ≡ spec.fault_line (view value.now) (fault_of fault.now)) }
 {
     let path = path_of(fault);
+    let stand = stand_on(alloc, value, path)?;
     match unknown_in(fault) {
         Some((word, key)) => {
-            let name = name_on(alloc, value, path)?;
-            named_line(alloc, word, name, list_at(value, key), path)
+            named_line(alloc, word, name_at(stand), list_at(value, key), path)
         }
-        None => {
-            let words = words_of(fault);
-            format!(in alloc; "{words} at {path}")
-        }
+        None => plain_line(alloc, fault, stand),
     }
 }
 
@@ -284,33 +324,44 @@ fn add_after(
     Ok(())
 }
 
-/// The lines of faults in a value that stand below the refusal.
+/// The lines of faults in a value.
 fn lines_of(alloc: Global, value: &Value, faults: &[ReadFault]) -> Result<Vec<String>, AllocError>
     ensures { IfOk result
-        (λ v. map string_bytes v.items ≡ spec.further_lines (view value.now) (map fault_of faults.now)) }
+        (λ v. map string_bytes v.items ≡ spec.value_lines (view value.now) (map fault_of faults.now)) }
 {
     let mut lines = Vec::new(alloc);
     let Some((first, rest)) = faults.split_first() else {
         return Ok(lines);
     };
-    if unknown_in(first).is_some() {
-        lines.push(fault_line(alloc, value, first)?)?;
-    }
+    lines.push(fault_line(alloc, value, first)?)?;
     add_after(&mut lines, value, first, rest)?;
     Ok(lines)
 }
 
-/// The lines that stand below the refusal of a pipeline's text: those of all that is wrong with it, but for what only
-/// follows from what was told. The refusal tells the first fault; it has a line here only if a name isn't there, since
-/// the refusal doesn't say which.
-pub fn further_lines(alloc: Global, text: &[u8]) -> Result<Vec<String>, AllocError>
-    ensures { IfOk result (λ v. AreFurther text.now (map string_bytes v.items)) }
+/// The one line of a text that is too long.
+fn too_long(alloc: Global) -> Result<Vec<String>, AllocError>
+    ensures { IfOk result (λ v. map string_bytes v.items ≡ codes "too long at pipeline" ∷ []) }
 {
-    let faults = faults_of(alloc, text)?;
-    let value = match Value::from_slice(alloc, text) {
-        Ok(value) => value,
-        Err(error) if error.is_memory() => return Err(AllocError),
-        Err(_) => Value::Null,
-    };
-    lines_of(alloc, &value, &faults)
+    let mut lines = Vec::new(alloc);
+    lines.push(String::from_str(alloc, "too long at pipeline")?)?;
+    Ok(lines)
+}
+
+/// The lines of all that is wrong with a pipeline's text, in the order in which it counts, but for what only follows from
+/// what was told. The first is that of the fault that [`ccr_pipeline::read`] tells. There are none of a text that can be read.
+///
+/// The line of a fault says where it is, what stands there, what is wanted there, and the nearest name that is there, as far as
+/// it tells of them. Of a text that is no JSON value three lines say where it stops being one: line and column, the line
+/// itself, and a mark below.
+pub fn fault_lines(alloc: Global, text: &[u8]) -> Result<Vec<String>, AllocError>
+    ensures { IfOk result (λ v. AreLines text.now (map string_bytes v.items)) }
+{
+    if text.len() > MOST_BYTES {
+        return too_long(alloc);
+    }
+    match Value::from_slice(alloc, text) {
+        Ok(value) => lines_of(alloc, &value, &faults_in(alloc, &value)?),
+        Err(error) if error.is_memory() => Err(AllocError),
+        Err(error) => break_lines(alloc, text, offset_of(text, &error)),
+    }
 }

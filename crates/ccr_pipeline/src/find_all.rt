@@ -89,7 +89,7 @@ fn find_before(alloc: Global, out: &mut Present, pipeline: &Value) -> Added
 
 /// The faults that are present in the value of a pipeline's text.
 #[tactic(auto, using(std::proofs::Common::append_assoc), unfolding(crate::specs::Reading::pipeline_faults))]
-fn faults_in(alloc: Global, pipeline: &Value) -> Result<Present, AllocError>
+fn present_in(alloc: Global, pipeline: &Value) -> Result<Present, AllocError>
     ensures { IfOk result (λ present. present ≡ pipeline_faults (view pipeline.now)) }
 {
     let mut present = Present::new(alloc);
@@ -112,6 +112,13 @@ fn faults_in(alloc: Global, pipeline: &Value) -> Result<Present, AllocError>
     Ok(present)
 }
 
+/// All that is wrong with the value of a pipeline's text, in the order in which it counts.
+pub fn faults_in(alloc: Global, pipeline: &Value) -> Result<Vec<ReadFault>, AllocError>
+    ensures { IfOk result (λ v. map fault_of v.items ≡ map Some (pipeline_faults (view pipeline.now))) }
+{
+    present_in(alloc, pipeline)?.into_faults(alloc)
+}
+
 /// All that is wrong with the text of a pipeline, in the order in which it counts; the first is the one that
 /// [`crate::read`] tells. There is none exactly where a pipeline can be read.
 pub fn faults_of(alloc: Global, text: &[u8]) -> Result<Vec<ReadFault>, AllocError>
@@ -120,7 +127,7 @@ pub fn faults_of(alloc: Global, text: &[u8]) -> Result<Vec<ReadFault>, AllocErro
         × AreFaults (codes "pipeline") pipeline_faults text.now fs) }
 {
     match value_of(alloc, text, "pipeline") {
-        Ok(value) => faults_in(alloc, &value)?.into_faults(alloc),
+        Ok(value) => faults_in(alloc, &value),
         Err(ReadFault::NoMemory) => Err(AllocError),
         Err(fault) => {
             let mut faults = Vec::new(alloc);

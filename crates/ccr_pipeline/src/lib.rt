@@ -13,7 +13,8 @@
 //! `on_failure`, `on_success`, the attempts and the step in this order, and no JSON. [`inputs_of`] gives the gets of a
 //! job in the order of its plan, which is another.
 //!
-//! [`faults_of`] tells all faults of a text, in this order.
+//! [`faults_of`] tells all faults of a text, in this order, and [`faults_in`] those of its value. [`schema`] has the
+//! tables of keys.
 //!
 //! Refusals are the variants of [`ReadFault`], each with a path but `NoMemory`, which comes only where memory
 //! runs out. `docs/FORMATS.md` has the keys, the rules and what to do about each refusal.
@@ -44,7 +45,7 @@ mod present;
 mod read_job;
 mod reader;
 mod resource;
-mod schema;
+pub mod schema;
 mod scope;
 mod seen;
 mod step;
@@ -54,13 +55,13 @@ mod unused;
 mod walk;
 
 pub use fault::ReadFault;
-pub use find_all::faults_of;
+pub use find_all::{faults_in, faults_of};
 pub use input::{Input, inputs_of};
 pub use key::{at_key, items_in, list_at};
 pub use kind::is_name;
 pub use names::{Names, text_at};
 pub use pipeline::Pipeline;
-pub use reader::{read, read_task};
+pub use reader::{MOST_BYTES, read, read_task};
 pub use resource::{Job, Resource};
 pub use step::{Get, Put, Step, Wanted, When};
 pub use task::{Run, Task, TaskConfig, TaskInput, TaskSource, Variable};

@@ -30,7 +30,7 @@ use serde_json::Value;
 use std::alloc::Global;
 
 /// How many bytes a pipeline or a task file may have.
-const MOST_BYTES: usize = 1_048_576;
+pub const MOST_BYTES: usize = 1_048_576;
 
 /// The JSON value of a text that isn't too long.
 pub(crate) fn value_of(alloc: Global, text: &[u8], path: &str) -> Checked<Value>
