@@ -1,2 +1,3 @@
 mod NearLaws
 pub mod Lists
+pub mod Stuck

@@ -158,10 +158,14 @@ abbrev pub is_get : Schema → Bool
 is_get schema.Get = true
 is_get s = false
 
--- what is found in an object itself
+-- what is found in an object of the schema itself
+abbrev pub found_by : AimData → Schema → Path → Data → List FindingData
+found_by for_keys s p d = own_keys s p d
+found_by (for_gates js) s p d = if is_get s then own_passed js p d else []
+
+-- what is found in an object itself, by its keys
 abbrev pub own_findings : AimData → Keys → Path → Data → List FindingData
-own_findings for_keys (keys.Of s) p d = own_keys s p d
-own_findings (for_gates js) (keys.Of s) p d = if is_get s then own_passed js p d else []
+own_findings x (keys.Of s) p d = found_by x s p d
 own_findings x keys.Fields p d = []
 own_findings x keys.Unknown p d = []
 

@@ -1,6 +1,5 @@
 -- Which of the faults of a pipeline's text are told, and how their lines read.
-use Rattle.std.specs.Prelude.{◌≡◌, ◌⊎◌, ℕ, ◌<◌, ◌≤◌, List, [], ◌∷◌, ◌++◌, length, map, Bool, true, false, Option, Some, None, option_and_then, option_map, codes, IsUtf8, if◌then◌else◌}
-use Rattle.std.specs.Option.{option_or}
+use Rattle.std.specs.Prelude.{◌≡◌, ◌⊎◌, ℕ, ◌<◌, ◌≤◌, List, [], ◌∷◌, ◌++◌, length, map, Bool, false, Option, Some, None, option_and_then, codes, IsUtf8, if◌then◌else◌}
 use Rattle.serde_json.specs.Data.{Data, null, boolean, number, string, array, object}
 use Rattle.serde_json.specs.Find.{as_str, is_float}
 use Rattle.serde_json.specs.Read.{read as json}
@@ -117,10 +116,14 @@ wanted_words kind.Attempts = codes "a whole number from 1 to 100"
 wanted_words kind.Any = codes "any value"
 wanted_words kind.Undone = codes "no value"
 
+-- a truth as JSON writes it
+abbrev pub truth_word : Bool → Text
+truth_word b = if b then codes "true" else codes "false"
+
 -- a value as a line shows it: a word, a number or a text as JSON writes it, and of the others what they are
 abbrev pub shown : Data → Text
 shown null = codes "null"
-shown (boolean b) = if b then codes "true" else codes "false"
+shown (boolean b) = truth_word b
 shown (number n) = if is_float n then codes "a number that isn't whole" else compact_text (number n)
 shown (string s) = compact_text (string s)
 shown (array ds) = codes "a list"

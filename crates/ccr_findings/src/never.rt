@@ -106,13 +106,15 @@ fn find_empty(alloc: Global, out: &mut Findings, path: &str, list: &[Value]) -> 
     ensures { OnOk result (findings_data out.new.items
         ≡ findings_data out.old.items ++ empty_at path.now (items_view list.now)) }
 {
-    if !list.is_empty() {
-        return Ok(());
+    match list.split_first() {
+        Some(_) => Ok(()),
+        None => {
+            let line = format!(in alloc; "empty {path}: no gate")?;
+            let kind = Kind::Empty;
+            out.push(Finding { kind, line })?;
+            Ok(())
+        }
     }
-    let line = format!(in alloc; "empty {path}: no gate")?;
-    let kind = Kind::Empty;
-    out.push(Finding { kind, line })?;
-    Ok(())
 }
 
 /// The resource of a get: the one that it says, or that of its name.

@@ -40,12 +40,37 @@ fn is_get(schema: Schema) -> bool
     }
 }
 
+/// Adds what is found in an object of the schema itself.
+#[tactic(auto, using(crate::proofs::Lists::and_none))]
+fn find_by(
+    alloc: Global,
+    out: &mut Findings,
+    aim: Aim<'_>,
+    schema: Schema,
+    value: &Value,
+    path: &str,
+) -> Found
+    ensures { OnOk result (findings_data out.new.items
+        ≡ findings_data out.old.items ++ spec.found_by (aim_data aim) schema path.now (view value.now)) }
+{
+    match aim {
+        Aim::Keys => find_keys(alloc, out, schema, value, path),
+        Aim::Gates(jobs) => {
+            if is_get(schema) {
+                find_passed(alloc, out, jobs, value, path)
+            } else {
+                Ok(())
+            }
+        }
+    }
+}
+
 /// Adds what is found in an object itself.
 #[tactic(auto, using(crate::proofs::Lists::and_none))]
 fn find_own(
     alloc: Global,
     out: &mut Findings,
-    aim: Aim,
+    aim: Aim<'_>,
     keys: Keys,
     value: &Value,
     path: &str,
@@ -53,13 +78,9 @@ fn find_own(
     ensures { OnOk result (findings_data out.new.items
         ≡ findings_data out.old.items ++ own_findings (aim_data aim) keys path.now (view value.now)) }
 {
-    let Keys::Of(schema) = keys else {
-        return Ok(());
-    };
-    match aim {
-        Aim::Keys => find_keys(alloc, out, schema, value, path),
-        Aim::Gates(jobs) if is_get(schema) => find_passed(alloc, out, jobs, value, path),
-        Aim::Gates(_) => Ok(()),
+    match keys {
+        Keys::Of(schema) => find_by(alloc, out, aim, schema, value, path),
+        Keys::Fields | Keys::Unknown => Ok(()),
     }
 }
 
@@ -69,7 +90,7 @@ fn find_own(
 fn find_in_items(
     alloc: Global,
     out: &mut Findings,
-    aim: Aim,
+    aim: Aim<'_>,
     kind: Kind,
     list: &Vec<Value>,
     path: &str,
@@ -90,7 +111,7 @@ fn find_in_items(
 fn find_in_members(
     alloc: Global,
     out: &mut Findings,
-    aim: Aim,
+    aim: Aim<'_>,
     keys: Keys,
     members: &BTreeMap<String, Value>,
     path: &str,
@@ -113,7 +134,7 @@ fn find_in_members(
 fn find_in(
     alloc: Global,
     out: &mut Findings,
-    aim: Aim,
+    aim: Aim<'_>,
     kind: Kind,
     value: &Value,
     path: &str,
@@ -136,7 +157,7 @@ fn find_in(
 }
 
 /// Adds what is found in a pipeline's value.
-pub(crate) fn find_on(alloc: Global, out: &mut Findings, aim: Aim, value: &Value) -> Found
+pub(crate) fn find_on(alloc: Global, out: &mut Findings, aim: Aim<'_>, value: &Value) -> Found
     ensures { OnOk result (findings_data out.new.items
         ≡ findings_data out.old.items ++ found_on (aim_data aim) (view value.now)) }
 {

@@ -132,14 +132,33 @@ fn absent_in(
     ensures { IfOk result (λ o. o ≡ spec.absent_in path.now here.now (row_list rows.now)) }
 {
     for (_, kind, key) in rows {
-        if path_below(alloc, here, *key)?.as_str() == path {
+        let below = path_below(alloc, here, key)?;
+        if below.as_str() == path {
             return Ok(Some(*kind));
         }
     }
     Ok(None)
 }
 
-/// The place at a path at which the object at another one has a key that isn't there.
+/// What is wanted at a path at which the object at another one has a key that isn't there.
+fn absent_kind(
+    alloc: Global,
+    path: &str,
+    here: &str,
+    keys: Keys,
+) -> Result<Option<Kind>, AllocError>
+    ensures { IfOk result (λ o. o ≡ spec.absent_kind path.now here.now keys) }
+{
+    match keys {
+        Keys::Of(schema) => match absent_in(alloc, path, here, opening(schema))? {
+            Some(kind) => Ok(Some(kind)),
+            None => absent_in(alloc, path, here, closing(schema)),
+        },
+        Keys::Fields | Keys::Unknown => Ok(None),
+    }
+}
+
+/// The same as a place.
 fn absent_stand<'v>(
     alloc: Global,
     path: &str,
@@ -148,15 +167,11 @@ fn absent_stand<'v>(
 ) -> Result<Option<Stand<'v>>, AllocError>
     ensures { IfOk result (λ o. option_map stand_data o ≡ spec.absent_stand path.now here.now keys) }
 {
-    let Keys::Of(schema) = keys else {
-        return Ok(None);
-    };
-    let kind = match absent_in(alloc, path, here, opening(schema))? {
-        Some(kind) => Some(kind),
-        None => absent_in(alloc, path, here, closing(schema))?,
-    };
-    match kind {
-        Some(kind) => Ok(Some(Stand { kind, value: None })),
+    match absent_kind(alloc, path, here, keys)? {
+        Some(kind) => {
+            let value = None;
+            Ok(Some(Stand { kind, value }))
+        }
         None => Ok(None),
     }
 }

@@ -180,24 +180,35 @@ fn wanted_words(kind: Kind) -> &'static str
     }
 }
 
+/// A truth as JSON writes it.
+fn truth_word(truth: bool) -> &'static str
+    ensures { result.now ≡ spec.truth_word truth }
+{
+    if truth { "true" } else { "false" }
+}
+
 /// A value as a line shows it.
 fn shown(alloc: Global, value: &Value) -> Result<String, AllocError>
     ensures { IfOk result (λ text. string_bytes text ≡ spec.shown (view value.now)) }
 {
     match value {
         Value::Null => String::from_str(alloc, "null"),
-        Value::Bool(truth) => String::from_str(alloc, if *truth { "true" } else { "false" }),
-        Value::Number(number) if number.is_f64() => {
-            String::from_str(alloc, "a number that isn't whole")
+        Value::Bool(truth) => String::from_str(alloc, truth_word(*truth)),
+        Value::Number(number) => {
+            if number.is_f64() {
+                String::from_str(alloc, "a number that isn't whole")
+            } else {
+                value.to_string(alloc)
+            }
         }
-        Value::Number(_) | Value::String(_) => value.to_string(alloc),
+        Value::String(_) => value.to_string(alloc),
         Value::Array(_) => String::from_str(alloc, "a list"),
         Value::Object(_) => String::from_str(alloc, "an object"),
     }
 }
 
 /// What stands at a place.
-fn shown_at(alloc: Global, stand: &Stand) -> Result<String, AllocError>
+fn shown_at(alloc: Global, stand: &Stand<'_>) -> Result<String, AllocError>
     ensures { IfOk result (λ text. string_bytes text ≡ spec.shown_at (stand_data stand.now)) }
 {
     match stand.value {
@@ -207,7 +218,7 @@ fn shown_at(alloc: Global, stand: &Stand) -> Result<String, AllocError>
 }
 
 /// What a line tells beside a path, of the place.
-fn more_words(alloc: Global, more: More, stand: &Stand) -> Result<String, AllocError>
+fn more_words(alloc: Global, more: More, stand: &Stand<'_>) -> Result<String, AllocError>
     ensures { IfOk result (λ text. string_bytes text ≡ spec.more_words more (stand_data stand.now)) }
 {
     let wanted = wanted_words(stand.kind);
@@ -273,7 +284,7 @@ fn named_line(
 fn plain_line(
     alloc: Global,
     fault: &ReadFault,
-    stand: Option<Stand>,
+    stand: Option<Stand<'_>>,
 ) -> Result<String, AllocError>
     ensures { IfOk result (λ line. string_bytes line ≡ spec.plain_line (fault_of fault.now) (option_map stand_data stand)) }
 {
