@@ -10,4 +10,4 @@ find_inside-returns-in_default t c =
 pub find_value-returns : goal.find_value-returns
 find_value-returns t c =
     let some : 0 < c.args.left = omega arith in
-    rw (value_inside _ _ _ _ _ some, c.find_inside.ensures, c.in_ok-find_broken.ensures, append_assoc) refl
+    rw (value_inside _ _ _ _ _ some) (rw (c.in_ok-find_broken.ensures, append_assoc) at c.find_inside.ensures)
