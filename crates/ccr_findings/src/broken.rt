@@ -127,11 +127,7 @@ fn position(alloc: Global, before: &[u8]) -> Result<String, AllocError>
 }
 
 /// The text around a position, and the line with the mark below it.
-fn marked(
-    alloc: Global,
-    before: &[u8],
-    after: &[u8],
-) -> Result<(String, String), AllocError>
+fn marked(alloc: Global, before: &[u8], after: &[u8]) -> Result<(String, String), AllocError>
     ensures { IfOk result (λ lines. (string_bytes lines.0 ≡ spec.shown_line before.now after.now)
         × (string_bytes lines.1 ≡ spec.mark_line before.now)) }
 {

@@ -7,8 +7,8 @@ ghost use Rattle.ccr_findings.specs.Objects.{key_findings, params_findings, para
 
 use crate::finding::{Finding, Findings, Kind};
 use crate::known::{is_passed_over, meant_key, name_of, owner_of, remedy_of};
-use crate::path::path_below;
 use crate::objects::Found;
+use crate::path::path_below;
 use ccr_pipeline::schema::Schema;
 use serde_json::Value;
 use std::alloc::{AllocError, Global};
@@ -44,12 +44,7 @@ fn stray_key(alloc: Global, path: &str, key: &str) -> Result<Finding, AllocError
 }
 
 /// The finding of a key that Concourse doesn't know in the object.
-fn strange_key(
-    alloc: Global,
-    schema: Schema,
-    path: &str,
-    key: &str,
-) -> Result<Finding, AllocError>
+fn strange_key(alloc: Global, schema: Schema, path: &str, key: &str) -> Result<Finding, AllocError>
     ensures { IfOk result (λ f. finding f.kind (string_bytes f.line) ≡ spec.strange_key schema path.now key.now) }
 {
     match meant_key(alloc, schema, key)? {

@@ -61,8 +61,10 @@ pub(crate) fn name_of(schema: Schema) -> &'static str
 type Idle = (&'static str, &'static str);
 
 const LIMIT: &str = "wrap the program in one that has a time limit";
+
 const STEP_LIMIT: &str =
     "only a launcher (--launcher) ends it then; without one, wrap the program in one that has a time limit";
+
 const VALUES: &str = "put values in before set-pipeline";
 
 const PIPELINE: &[Idle] = &[

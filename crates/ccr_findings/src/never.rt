@@ -8,8 +8,8 @@ ghost use Rattle.ccr_findings.specs.Objects as spec;
 ghost use Rattle.ccr_findings.specs.Objects.{never_at, never_in, empty_at, passed_findings, own_passed};
 
 use crate::finding::{Finding, Findings, Kind};
-use crate::path::{path_at, path_below};
 use crate::objects::Found;
+use crate::path::{path_at, path_below};
 use ccr_pipeline::{Job, Step, text_at};
 use serde_json::Value;
 use std::alloc::Global;

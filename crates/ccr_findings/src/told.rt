@@ -307,9 +307,7 @@ fn fault_line(alloc: Global, value: &Value, fault: &ReadFault) -> Result<String,
     let path = path_of(fault);
     let stand = stand_on(alloc, value, path)?;
     match unknown_in(fault) {
-        Some((word, key)) => {
-            named_line(alloc, word, name_at(stand), list_at(value, key), path)
-        }
+        Some((word, key)) => { named_line(alloc, word, name_at(stand), list_at(value, key), path) }
         None => plain_line(alloc, fault, stand),
     }
 }
