@@ -22,14 +22,11 @@
 //!
 //! Other calls: `ccr_play pipeline` and `ccr_play task` read a whole text. `ccr_play resolve BUDGET` reads a problem and prints
 //! the proof of its best choice, or that none satisfies, of at most BUDGET nodes; `ccr_play choose BUDGET` prints the line of
-//! the same claim alone. `ccr_play type PROGRAMS FOLDER` reads `{"source":..,"params":..}` and tries a resource type: it starts
-//! PROGRAMS/check, PROGRAMS/in for the last version and PROGRAMS/out in FOLDER, with FOLDER/in as the artifact's folder, and
-//! prints each version. `ccr_play commits DATABASE COUNT` makes so many builds more in a
-//! database, three commits each, and prints how long the commits took. `ccr_play bench CALL [COUNT]` measures a call (`bench.rt`). Statuses: 0 done, 1 refused or answered otherwise, 2 usage, 3 over budget, 4 out of memory
-//! or unreadable.
+//! the same claim alone, and `ccr_play plain` that of the plain resolver, with how many nodes its tree has. `ccr_play commits
+//! DATABASE COUNT` makes so many builds more in a database, three commits each, and prints how long the commits took. Statuses:
+//! 0 done, 1 refused or answered otherwise, 2 usage, 3 over budget, 4 out of memory or unreadable.
 #![tactic(auto)]
 
-mod bench;
 mod builds;
 mod calls;
 mod grow;
@@ -42,18 +39,16 @@ mod problems;
 mod programs;
 mod steps;
 mod stores;
-mod trial;
 mod versions;
 
-use bench::answer_bench;
 use calls::{answer_choose, answer_pipeline, answer_resolve, answer_task};
 use ccr_rows::{Answer, Telling, arguments, check, input, play_input, played, tell};
 use kind::LineKind;
 use order::{Call, call_of};
+use plain::answer_plain;
 use std::io;
 use std::process::ExitCode;
 use stores::{Stores, commits_told};
-use trial::answer_type;
 
 /// What is told of lines of stores on standard input, whose histories are kept in files of this name too.
 fn keep(rt: &HostRuntime, path: &str) -> io::Result<Answer> {
@@ -82,8 +77,7 @@ fn answer_of(rt: &HostRuntime, call: Call<'_>) -> io::Result<Answer> {
         Call::Task => Ok(answer_task(alloc, input(rt)?.as_bytes())?),
         Call::Resolve(budget) => Ok(answer_resolve(alloc, input(rt)?.as_bytes(), budget.nodes)?),
         Call::Choose(budget) => Ok(answer_choose(alloc, input(rt)?.as_bytes(), budget.nodes)?),
-        Call::Type(trial) => Ok(answer_type(rt, alloc, input(rt)?.as_bytes(), &trial)?),
-        Call::Bench(bench) => answer_bench(rt, bench),
+        Call::Plain => answer_plain(alloc, input(rt)?.as_bytes()),
         Call::Kept(path) => keep(rt, path),
         Call::Commits(path, count) => commits(rt, path, count),
     }
@@ -103,7 +97,7 @@ fn main(rt: HostRuntime) -> io::Result<ExitCode> {
         Ok(Some(answer)) => tell(&rt, &answer),
         Ok(None) => {
             eprintln!(rt;
-                "usage: ccr_play KIND [--timed]|check FILE..|pipeline|task|resolve BUDGET|choose BUDGET|type PROGRAMS FOLDER|stores DATABASE|commits DATABASE COUNT|bench CALL [COUNT]"
+                "usage: ccr_play KIND [--timed]|check FILE..|pipeline|task|resolve BUDGET|choose BUDGET|plain|stores DATABASE|commits DATABASE COUNT"
             )?;
             Ok(ExitCode::from(2))
         }

@@ -1,9 +1,7 @@
 //! What the program's words ask for.
 ghost use Rattle.std.specs.Prelude.{◌≤◌};
 
-use crate::bench::Bench;
 use crate::kind::LineKind;
-use crate::trial::Trial;
 use ccr_rows::{Kind, Telling};
 
 /// A node budget, from 1 to 1,000,000.
@@ -23,8 +21,7 @@ pub(crate) enum Call<'a> {
     Task,
     Resolve(Budget),
     Choose(Budget),
-    Type(Trial<'a>),
-    Bench(Bench),
+    Plain,
     /// Lines of stores, whose histories are kept in files of this name too.
     Kept(&'a str),
     Commits(&'a str, u32),
@@ -54,22 +51,16 @@ fn call_of_two<'a>(first: &'a str, second: &'a str) -> Option<Call<'a>> {
 pub(crate) fn call_of(words: &[String]) -> Option<Call<'_>> {
     match words {
         [first, names @ ..] if first.as_str() == "check" => Some(Call::Check(names)),
-        [first, words @ ..] if first.as_str() == "bench" => Some(Call::Bench(Bench::of_words(
-            words,
-        )?)),
         [first] => match first.as_str() {
             "pipeline" => Some(Call::Pipeline),
             "task" => Some(Call::Task),
+            "plain" => Some(Call::Plain),
             kind => Some(Call::Lines(LineKind::of_name(kind)?, Telling::Answers)),
         },
         [first, second] => call_of_two(first.as_str(), second.as_str()),
         [first, path, count] if first.as_str() == "commits" => {
             Some(Call::Commits(path.as_str(), count.as_str().parse::<u32>().ok()?))
         }
-        [first, programs, folder] if first.as_str() == "type" => Some(Call::Type(Trial {
-            programs: programs.as_str(),
-            folder: folder.as_str(),
-        })),
         _ => None,
     }
 }

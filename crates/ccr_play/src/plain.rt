@@ -3,8 +3,9 @@
 use crate::problems::push_numbers;
 use anyhow::Result;
 use ccr_choice::{Choice, Problem, read_problem};
-use ccr_rows::{PlainAnswer, plain};
+use ccr_rows::{Answer, PlainAnswer, plain};
 use std::alloc::{AllocError, Global};
+use std::io;
 
 /// The most nodes of a tree.
 const BUDGET: u32 = 1_000_000;
@@ -34,7 +35,18 @@ pub(crate) fn plain_told(alloc: Global, problem: &Problem) -> Result<String, All
 }
 
 /// What is told of the problem that a text is.
-pub(crate) fn plain_text_told(alloc: Global, text: &[u8]) -> Result<String> {
+fn text_told(alloc: Global, text: &[u8]) -> Result<String> {
     let problem = read_problem(alloc, text)?;
     Ok(plain_told(alloc, &problem)?)
+}
+
+/// What is printed of the problem that a text is; with status 1 the line of why it is refused.
+pub(crate) fn answer_plain(alloc: Global, text: &[u8]) -> io::Result<Answer> {
+    match text_told(alloc, text) {
+        Ok(lines) => Ok(Answer { lines, status: 0 }),
+        Err(error) => Ok(Answer {
+            lines: format!(in alloc; "refused: {error}\n")?,
+            status: 1,
+        }),
+    }
 }

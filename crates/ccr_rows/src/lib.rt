@@ -34,16 +34,12 @@ mod grown;
 mod history_text;
 #[cfg(test)]
 mod hostile;
-#[cfg(test)]
-mod index;
 pub mod json;
 #[cfg(test)]
 mod limits;
 #[cfg(test)]
 mod pipes;
 mod play;
-#[cfg(test)]
-mod problems;
 mod program;
 #[cfg(test)]
 mod readers;
