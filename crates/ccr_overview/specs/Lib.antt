@@ -1,0 +1,13 @@
+pub mod Abouts
+pub mod Arrows
+pub mod Holds
+pub mod Linked
+pub mod Overviews
+pub mod PageBuilds
+pub mod PageData
+pub mod PageResources
+pub mod PageRows
+pub mod Scenes
+pub mod Sentences
+pub mod Shorts
+pub mod Stopping
