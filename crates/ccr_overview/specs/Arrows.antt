@@ -11,7 +11,8 @@ use Rattle.ccr_pipeline.specs.Tree.{Tree, gathered}
 use Rattle.ccr_lines.specs.ExplainedData.{TakenData}
 use Rattle.ccr_lines.specs.Graphs.{own_put}
 use Rattle.ccr_page.specs.declared.data.Arrow.{Arrow}
-use Rattle.ccr_overview.specs.Scenes.{ToldData, SceneData, each_from}
+use Rattle.ccr_overview.specs.Each.{each_from}
+use Rattle.ccr_overview.specs.Scenes.{ToldData, SceneData}
 use Rattle.ccr_overview.specs.Stopping.{stopper}
 
 -- ---- what a job takes
@@ -27,28 +28,28 @@ taken_arrow resources k i x n r =
 abbrev pub stopper_at : SceneData → ToldData → ℕ → Option Text
 stopper_at s t i = option_and_then (stopper s) (slice_get t.explained.inputs i)
 
--- that job has this name
-abbrev pub is_held_by : SceneData → ToldData → ℕ → Text → Bool
-is_held_by s t i name = option_map_or (bytes_eq name) (stopper_at s t i) false
+-- there is a name, and it is this one
+abbrev pub is_named : Option Text → Text → Bool
+is_named found name = option_map_or (bytes_eq name) found false
 
--- from the job at position n, if it has this name, which the input's version has to have passed, to port i of the job at position k
-abbrev pub passed_arrow : SceneData → ℕ → ToldData → ℕ → InputData → Text → ℕ → JobData → List Arrow
-passed_arrow s k t i x name n j =
+-- from the job at position n, if it has this name, which the input's version has to have passed, to port i of the job at
+-- position k, where the resources are so many; whether the version stopped there
+abbrev pub passed_arrow : ℕ → ℕ → ℕ → InputData → Text → Bool → ℕ → JobData → List Arrow
+passed_arrow resources k i x name is_held n j =
     if bytes_eq name j.name
-    then record {
-      source = length s.pipeline.resources + n;
-      target = length s.pipeline.resources + k;
-      port = i;
-      trigger = x.trigger;
-      is_held = is_held_by s t i name;
-    } ∷ []
+    then record { source = resources + n; target = resources + k; port = i; trigger = x.trigger; is_held = is_held } ∷ []
     else []
+
+-- from the jobs of these names, of which the version stopped at this one
+abbrev pub passed_arrows : ℕ → ℕ → ℕ → InputData → Option Text → List JobData → List Text → List Arrow
+passed_arrows resources k i x found jobs names =
+    flat_map (λ passed. each_from (passed_arrow resources k i x passed (is_named found passed)) 0 jobs) names
 
 -- to port i of the job at position k: from the jobs that the input's version has to have passed, or else from the resource
 abbrev pub port_arrows : SceneData → ℕ → ToldData → ℕ → InputData → List Text → List Arrow
 port_arrows s k t i x [] = each_from (taken_arrow (length s.pipeline.resources) k i x) 0 s.pipeline.resources
 port_arrows s k t i x (name ∷ names) =
-    flat_map (λ passed. each_from (passed_arrow s k t i x passed) 0 s.pipeline.jobs) (name ∷ names)
+    passed_arrows (length s.pipeline.resources) k i x (stopper_at s t i) s.pipeline.jobs (name ∷ names)
 
 -- to the job at position k, for each of its inputs
 abbrev pub arrows_to : SceneData → ℕ → ToldData → List Arrow

@@ -1,5 +1,6 @@
 pub mod Abouts
 pub mod Arrows
+pub mod Each
 pub mod Holds
 pub mod Linked
 pub mod Overviews

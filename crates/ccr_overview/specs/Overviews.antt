@@ -14,7 +14,8 @@ use Rattle.ccr_overview.specs.PageBuilds.{newest_status, newest_number, listed, 
 use Rattle.ccr_overview.specs.PageData.{PortData, PageJobData, PageData}
 use Rattle.ccr_overview.specs.PageResources.{resource_shown}
 use Rattle.ccr_overview.specs.PageRows.{columns, rows_at}
-use Rattle.ccr_overview.specs.Scenes.{ToldData, SceneData, row_count, AreTold, each_from}
+use Rattle.ccr_overview.specs.Each.{each_from}
+use Rattle.ccr_overview.specs.Scenes.{ToldData, SceneData, row_count, AreTold}
 use Rattle.ccr_overview.specs.Sentences.{why_of}
 
 -- ---- what is asked

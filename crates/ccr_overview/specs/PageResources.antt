@@ -11,7 +11,7 @@ use Rattle.ccr_problem.specs.ProblemOf.{scope_of}
 use Rattle.ccr_lines.specs.Listed.{ListedData, versions_listed}
 use Rattle.ccr_overview.specs.Linked.{joined, separated}
 use Rattle.ccr_overview.specs.PageData.{WordData, plain, version, PageResourceData}
-use Rattle.ccr_overview.specs.Scenes.{each_from}
+use Rattle.ccr_overview.specs.Each.{each_from}
 use Rattle.ccr_overview.specs.Shorts.{short, version_of}
 
 -- ---- what holds it

@@ -12,7 +12,8 @@ use Rattle.ccr_pipeline.specs.Names.{has_name, with_names}
 use Rattle.ccr_lines.specs.Releases.{TogetherData, resource_at, is_pair, all_together}
 use Rattle.ccr_overview.specs.PageBuilds.{status_of, listed, builds_at}
 use Rattle.ccr_overview.specs.PageData.{WordData, plain, text, name, CellData, RowData}
-use Rattle.ccr_overview.specs.Scenes.{SceneData, each_from}
+use Rattle.ccr_overview.specs.Each.{each_from}
+use Rattle.ccr_overview.specs.Scenes.{SceneData}
 use Rattle.ccr_overview.specs.Shorts.{short_there}
 use Rattle.ccr_overview.specs.Linked.{job_word, build_word, separated, joined}
 
@@ -42,15 +43,22 @@ abbrev pub cell_of : HistoryData → UsedData → CellData
 cell_of h u = record { place = u.place; short = short_there h u.scope u.place }
 
 -- what a build took for the input of a name, if it took something
+abbrev pub used_for : BuildData → Text → Option UsedData
+used_for b input = find (λ u. bytes_eq input u.input) b.used
+
+-- the same in a cell
 abbrev pub cell : HistoryData → BuildData → Text → Option CellData
-cell h b input = option_map (cell_of h) (find (λ u. bytes_eq input u.input) b.used)
+cell h b input = option_map (cell_of h) (used_for b input)
 
 -- ---- what went together, and what was put
 -- the build of a job through which what a build took had gone together; or that there is none
+abbrev pub witness_words : SceneData → Text → Option ℕ → List WordData
+witness_words s named (Some n) = build_word s named n ∷ []
+witness_words s named None = plain (codes "no build of ") ∷ job_word s named ∷ []
+
+-- the same behind the others
 abbrev pub together_words : SceneData → ℕ → TogetherData → List WordData
-together_words s k t =
-    separated (codes ", ") k
-    ++ option_map_or (λ n. build_word s t.job n ∷ []) t.number (plain (codes "no build of ") ∷ job_word s t.job ∷ [])
+together_words s k t = separated (codes ", ") k ++ witness_words s t.job t.number
 
 -- the same of all jobs
 abbrev pub all_together_words : SceneData → List TogetherData → List WordData
@@ -65,10 +73,13 @@ abbrev pub put_pairs : BuildData → List (ℕ × ℕ)
 put_pairs b = filter (λ q. not (has_taken b q)) b.moved
 
 -- a version that was put: its resource, its place, and it in a few letters
+abbrev pub moved_words : HistoryData → ℕ × ℕ → List WordData
+moved_words h q =
+    name (resource_at h.tables q.0) 30 ∷ plain (codes " " ++ (decimal q.1 ++ codes " ")) ∷ text (short_there h q.0 q.1) 18 ∷ []
+
+-- the same behind the others
 abbrev pub pair_words : HistoryData → ℕ → ℕ × ℕ → List WordData
-pair_words h k q =
-    separated (codes ", ") k
-    ++ (name (resource_at h.tables q.0) 30 ∷ plain (codes " " ++ (decimal q.1 ++ codes " ")) ∷ text (short_there h q.0 q.1) 18 ∷ [])
+pair_words h k q = separated (codes ", ") k ++ moved_words h q
 
 -- what was put, if something was
 abbrev pub put_words : HistoryData → List (ℕ × ℕ) → List WordData

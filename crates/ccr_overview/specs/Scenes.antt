@@ -1,5 +1,5 @@
 -- What a page is made of: a pipeline with a history, and what is explained of each job.
-use Rattle.std.specs.Prelude.{◌≡◌, ℕ, ◌+◌, ◌-◌, ◌*◌, ◌/◌, List, [], ◌∷◌, ◌++◌, length, map, min, max, Bool, Option}
+use Rattle.std.specs.Prelude.{◌≡◌, ◌≤◌, ℕ, ◌+◌, ◌-◌, ◌*◌, ◌/◌, List, [], ◌∷◌, ◌++◌, length, map, min, max, Bool, Option}
 use Rattle.ccr_history.specs.Text.{Text}
 use Rattle.ccr_history.specs.History.{HistoryData}
 use Rattle.ccr_pipeline.specs.JobData.{JobData, job_data}
@@ -35,9 +35,15 @@ scene_data s = record {
   told = map told_data s.told.now;
 }
 
+-- it has few resources and jobs, and each of its jobs is told of
+pub record IsSmall (s : SceneData) : Type 0 where
+  pub resources : length s.pipeline.resources ≤ 200
+  pub jobs : length s.pipeline.jobs ≤ 200
+  pub told : length s.told ≤ 200
+
 -- how many builds of each job have a row, where there are so many jobs
 abbrev pub row_count : ℕ → ℕ
-row_count jobs = max 2 (min 20 (150 / max 1 jobs))
+row_count jobs = max (min (150 / max jobs 1) 20) 2
 
 -- a job with what `explain` says of it, in a pipeline with a history, with a search of at most so many nodes
 abbrev pub IsTold : PipelineData → HistoryData → ℕ → ℕ → JobData → List ToldData → Type 0
@@ -47,9 +53,3 @@ IsTold p h budget k j own =
 -- EACH JOB ONCE, in the pipeline's order, with what `explain` says of it
 abbrev pub AreTold : PipelineData → HistoryData → ℕ → List ToldData → Type 0
 AreTold p h budget all = AreEach (IsTold p h budget) 0 p.jobs all
-
--- ---- one after another
--- what is made of each thing, which have positions from k on
-abbrev pub each_from : {X Y : Type 0} → (ℕ → X → List Y) → ℕ → List X → List Y
-each_from f k [] = []
-each_from f k (x ∷ xs) = f k x ++ each_from f (k + 1) xs

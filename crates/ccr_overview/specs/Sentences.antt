@@ -1,5 +1,5 @@
 -- Why a job stands still, in a sentence: a table over what `explain` says, and how the newest build stands.
-use Rattle.std.specs.Prelude.{ℕ, ◌-◌, List, [], ◌∷◌, ◌++◌, length, map, flat_map, filter, take, find, Bool, true, false, not, ◌&&◌, ◌==◌, nat_lt, Option, Some, None, option_and_then, if◌then◌else◌, codes, decimal}
+use Rattle.std.specs.Prelude.{ℕ, ◌-◌, List, [], ◌∷◌, ◌++◌, length, map, flat_map, filter, take, find, slice_get, Bool, true, false, not, ◌&&◌, ◌||◌, ◌==◌, nat_lt, Option, Some, None, option_and_then, if◌then◌else◌, codes, decimal}
 use Rattle.std.specs.Option.{option_map_or}
 use Rattle.std.specs.Str.{bytes_eq}
 use Rattle.ccr_history.specs.Text.{Text}
@@ -18,9 +18,11 @@ use Rattle.ccr_page.specs.declared.data.Urgency.{Urgency}
 use Rattle.ccr_page.specs.declared.data.Urgency.TheVariants as urgency
 use Rattle.ccr_page.specs.Statuses.{is_as_urgent}
 use Rattle.ccr_overview.specs.PageData.{WordData, plain, text, name, row, WhyData}
-use Rattle.ccr_overview.specs.Scenes.{SceneData, ToldData, each_from}
+use Rattle.ccr_overview.specs.Each.{each_from}
+use Rattle.ccr_overview.specs.PageRows.{used_for}
+use Rattle.ccr_overview.specs.Scenes.{SceneData, ToldData}
 use Rattle.ccr_overview.specs.Shorts.{version_there}
-use Rattle.ccr_overview.specs.Holds.{HoldData, version_word, resource_words, holds, worst, told_holds}
+use Rattle.ccr_overview.specs.Holds.{HoldData, version_word, resource_words, hold_words, holds, worst, told_holds}
 
 -- ---- the next build
 -- the newest build of the job at a position
@@ -31,35 +33,47 @@ build_row k b = row k b.number (codes "build " ++ decimal b.number)
 abbrev pub running_why : ℕ → BuildData → WhyData
 running_why k b = record { urgency = urgency.Going; words = plain (codes "is running ") ∷ build_row k b ∷ [] }
 
--- that a build is due: of a job with one input, with what it takes
+-- the only thing of a list, if it has only one
+abbrev pub only : {X : Type 0} → List X → Option X
+only xs = if length xs == 1 then slice_get xs 0 else None
+
+-- that a build is due, with what its only input takes, if it has only one
+abbrev pub due_of : Option TakenData → List WordData
+due_of (Some t) = plain (codes "is due: the next round builds ") ∷ version_word t.version t.place ∷ []
+due_of None = plain (codes "is due in the next round") ∷ []
+
+-- that a build is due
 abbrev pub due_words : List TakenData → List WordData
-due_words (t ∷ []) = plain (codes "is due: the next round builds ") ∷ version_word t.version t.place ∷ []
-due_words ts = plain (codes "is due in the next round") ∷ []
+due_words ts = due_of (only ts)
 
 -- that there is no choice of versions, and why
 abbrev pub none_words : Option Text → List WordData
 none_words None = plain (codes "can’t be built") ∷ []
 none_words (Some words) = plain (codes "can’t be built: ") ∷ text words 400 ∷ []
 
--- ---- what holds it
--- the words before what holds the inputs: before the first, and before each other
-abbrev pub holds_start : Bool → ℕ → List WordData
-holds_start by_itself k =
-    if by_itself
-    then (if k == 0 then plain (codes "stays at ") ∷ [] else plain (codes "; at ") ∷ [])
-    else (if k == 0 then plain (codes "would take ") ∷ [] else plain (codes "; ") ∷ [])
+-- that the search went over the budget
+abbrev pub budget_words : Outlook → List WordData
+budget_words o = plain (codes "isn’t decided: " ++ outlook_words o) ∷ []
 
--- what holds an input
-abbrev pub told_hold : Bool → ℕ → HoldData → List WordData
-told_hold by_itself k h = holds_start by_itself k ++ h.words
+-- ---- what holds it
+-- the words before what holds an input: the first, and each other
+abbrev pub start_words : Bool → ℕ → Text
+start_words by_itself k =
+    if by_itself then (if k == 0 then codes "stays at " else codes "; at ")
+    else (if k == 0 then codes "would take " else codes "; ")
+
+-- what holds an input, behind the others
+abbrev pub told_hold : SceneData → Bool → Bool → ℕ → HoldData → List WordData
+told_hold s several by_itself k h = plain (start_words by_itself k) ∷ hold_words s several h
 
 -- that there are more, if there are
 abbrev pub more_words : ℕ → List WordData
 more_words more = if more == 0 then [] else plain (codes "; and " ++ (decimal more ++ codes " more")) ∷ []
 
 -- what holds the inputs: the first three
-abbrev pub holds_words : Bool → List HoldData → List WordData
-holds_words by_itself hs = each_from (told_hold by_itself) 0 (take 3 hs) ++ more_words (length hs - 3)
+abbrev pub holds_words : SceneData → Bool → Bool → List HoldData → List WordData
+holds_words s several by_itself hs =
+    each_from (told_hold s several by_itself) 0 (take 3 hs) ++ more_words (length hs - 3)
 
 -- ---- a build that wasn't good
 -- it failed, errored or was aborted
@@ -70,69 +84,72 @@ is_bad Failed = true
 is_bad Errored = true
 is_bad Aborted = true
 
--- the input that makes builds by itself, if there is only one
-abbrev pub only_one : List InputData → Option InputData
-only_one (i ∷ []) = Some i
-only_one _ = None
-
--- what a build took for it
+-- what a build took for the input that makes builds by itself, if only one of these does
 abbrev pub took_on : BuildData → List InputData → Option UsedData
-took_on b is = option_and_then (λ i. find (λ u. bytes_eq i.name u.input) b.used) (only_one (filter (λ i. i.trigger) is))
+took_on b is = option_and_then (λ i. used_for b i.name) (only (filter (λ i. i.trigger) is))
 
 -- the version on which a build wasn't good, with the input's name if the build had several inputs
-abbrev pub on_words : HistoryData → Bool → UsedData → List WordData
-on_words h several u =
-    (plain (codes " on ") ∷ []) ++ resource_words several u.input ++ (version_word (version_there h u.scope u.place) u.place ∷ [])
+abbrev pub on_words : HistoryData → Bool → Option UsedData → List WordData
+on_words h several None = []
+on_words h several (Some u) =
+    plain (codes " on ") ∷ (resource_words several u.input ++ (version_word (version_there h u.scope u.place) u.place ∷ []))
 
--- the build, how it stands, and on which version
+-- the build, and how it stands
+abbrev pub stopped_words : ℕ → BuildData → List WordData
+stopped_words k b = plain (codes "stopped: ") ∷ build_row k b ∷ plain (codes " " ++ status_word b.status) ∷ []
+
+-- the same, and on which version
 abbrev pub bad_words : HistoryData → ℕ → JobData → BuildData → List WordData
-bad_words h k j b =
-    (plain (codes "stopped: ") ∷ build_row k b ∷ plain (codes " " ++ status_word b.status) ∷ [])
-    ++ option_map_or (on_words h (nat_lt 1 (length b.used))) (took_on b (inputs j.plan)) []
+bad_words h k j b = stopped_words k b ++ on_words h (nat_lt 1 (length b.used)) (took_on b (inputs j.plan))
 
 -- that nothing else holds the job
-abbrev pub alone_words : Bool → List WordData
-alone_words true = plain (codes ", and nothing newer has come") ∷ []
-alone_words false = plain (codes ", and only a command makes the next") ∷ []
+abbrev pub alone_words : Bool → Text
+alone_words true = codes ", and nothing newer has come"
+alone_words false = codes ", and only a command makes the next"
 
 -- what else holds it, but for pins and the like
-abbrev pub beside_words : Bool → List HoldData → List WordData
-beside_words by_itself hs =
-    if length hs == 0 || is_as_urgent urgency.Held (worst hs) then alone_words by_itself
-    else plain (codes "; ") ∷ holds_words by_itself (told_holds hs)
+abbrev pub beside_words : SceneData → Bool → Bool → List HoldData → List WordData
+beside_words s several by_itself hs =
+    if length hs == 0 || is_as_urgent urgency.Held (worst hs) then plain (alone_words by_itself) ∷ []
+    else plain (codes "; ") ∷ holds_words s several by_itself (told_holds hs)
 
 -- that its newest build wasn't good
-abbrev pub bad_why : HistoryData → ℕ → JobData → BuildData → Bool → List HoldData → WhyData
-bad_why h k j b by_itself hs =
-    record { urgency = urgency.Stopped; words = bad_words h k j b ++ beside_words by_itself hs }
+abbrev pub bad_why : SceneData → ℕ → ToldData → Bool → BuildData → List HoldData → WhyData
+bad_why s k t by_itself b hs = record {
+  urgency = urgency.Stopped;
+  words = bad_words s.history k t.job b ++ beside_words s (nat_lt 1 (length t.explained.inputs)) by_itself hs;
+}
 
 -- what holds it, if something does
-abbrev pub held_why : Bool → List HoldData → Option WhyData
-held_why by_itself [] = None
-held_why by_itself (x ∷ xs) =
-    Some (record { urgency = worst (x ∷ xs); words = holds_words by_itself (told_holds (x ∷ xs)) })
+abbrev pub held_why : SceneData → Bool → Bool → List HoldData → Option WhyData
+held_why s several by_itself hs =
+    if length hs == 0 then None
+    else Some (record { urgency = worst hs; words = holds_words s several by_itself (told_holds hs) })
 
 -- why it has no newer build, where its newest one has ended so
-abbrev pub ended_why : SceneData → ℕ → ToldData → Bool → BuildData → Option WhyData
-ended_why s k t by_itself b =
-    if is_bad b.status then Some (bad_why s.history k t.job b by_itself (holds s t.explained.inputs))
-    else held_why by_itself (holds s t.explained.inputs)
+abbrev pub ended_why : SceneData → ℕ → ToldData → Bool → BuildData → List HoldData → Option WhyData
+ended_why s k t by_itself b hs =
+    if is_bad b.status then Some (bad_why s k t by_itself b hs)
+    else held_why s (nat_lt 1 (length t.explained.inputs)) by_itself hs
 
--- the same of a job that may have no build: nothing is said of one that only a command builds
-abbrev pub standing_why : SceneData → ℕ → ToldData → Bool → Option BuildData → Option WhyData
-standing_why s k t by_itself (Some b) = ended_why s k t by_itself b
-standing_why s k t true None = held_why true (holds s t.explained.inputs)
-standing_why s k t false None = None
+-- the same of a job that has no build: nothing is said of one that only a command builds
+abbrev pub unbuilt_why : SceneData → ToldData → Bool → List HoldData → Option WhyData
+unbuilt_why s t by_itself hs = if by_itself then held_why s (nat_lt 1 (length t.explained.inputs)) by_itself hs else None
+
+-- the same of any job
+abbrev pub standing_why : SceneData → ℕ → ToldData → Bool → Option BuildData → List HoldData → Option WhyData
+standing_why s k t by_itself (Some b) hs = ended_why s k t by_itself b hs
+standing_why s k t by_itself None hs = unbuilt_why s t by_itself hs
 
 -- ---- the table
 -- why a job has no newer build, by what its next build would be
 abbrev pub outlook_why : SceneData → ℕ → ToldData → Option BuildData → Outlook → Option WhyData
 outlook_why s k t newest Due = Some (record { urgency = urgency.Going; words = due_words t.explained.inputs })
-outlook_why s k t newest NothingNew = standing_why s k t true newest
-outlook_why s k t newest ByCommandOnly = standing_why s k t false newest
+outlook_why s k t newest NothingNew = standing_why s k t true newest (holds s t.explained.inputs)
+outlook_why s k t newest ByCommandOnly = standing_why s k t false newest (holds s t.explained.inputs)
 outlook_why s k t newest NoneSatisfies = Some (record { urgency = urgency.Stopped; words = none_words t.explained.why })
 outlook_why s k t newest (OverBudget n) =
-    Some (record { urgency = urgency.Stopped; words = plain (codes "isn’t decided: " ++ outlook_words (OverBudget n)) ∷ [] })
+    Some (record { urgency = urgency.Stopped; words = budget_words (OverBudget n) })
 
 -- the same, unless its newest build runs
 abbrev pub status_why : SceneData → ℕ → ToldData → BuildData → Status → Option WhyData

@@ -1,12 +1,15 @@
 -- Versions in a few letters.
-use Rattle.std.specs.Prelude.{ℕ, List, [], ◌∷◌, ◌++◌, length, take, drop, Bool, ◌&&◌, ◌||◌, nat_le, if◌then◌else◌, Option, codes}
+use Rattle.std.specs.Prelude.{ℕ, ◌+◌, List, [], ◌∷◌, ◌++◌, length, take, drop, flat_map, Bool, ◌&&◌, ◌==◌, ◌||◌, nat_le, if◌then◌else◌, Option, codes}
 use Rattle.std.specs.List.{list_all}
 use Rattle.std.specs.Option.{option_map_or}
 use Rattle.std.specs.Str.{bytes_eq}
+use Rattle.serde_json.specs.Data.{Data, Members, no_members, member}
+use Rattle.serde_json.specs.Find.{as_str}
 use Rattle.ccr_history.specs.Text.{Text}
 use Rattle.ccr_history.specs.TextMap.{TextMap, key_text}
 use Rattle.ccr_history.specs.Tables.{at_place, versions_at}
 use Rattle.ccr_history.specs.History.{HistoryData}
+use Rattle.ccr_overview.specs.Each.{each_from}
 use Rattle.ccr_overview.specs.PageData.{VersionData}
 
 -- a hexadecimal digit in lowercase
@@ -31,21 +34,34 @@ behind_name t =
 abbrev pub short_text : Text → Text
 short_text t = if is_hash (behind_name t) then take 7 (behind_name t) else t
 
--- a field of a version
-abbrev pub short_field : Text × Text → Text
-short_field field = field.0 ++ (codes " " ++ short_text field.1)
-
--- the fields behind the first
-abbrev pub short_fields : TextMap → Text
-short_fields [] = []
-short_fields (field ∷ fields) = codes ", " ++ (short_field field ++ short_fields fields)
+-- a field of a version, behind the others
+abbrev pub short_field : ℕ → Text × Text → Text
+short_field k field = (if k == 0 then [] else codes ", ") ++ (field.0 ++ (codes " " ++ short_text field.1))
 
 -- A VERSION IN A FEW LETTERS: its only text; or each field with its text
 abbrev pub short : TextMap → Text
-short [] = []
-short (field ∷ []) = short_text field.1
-short (field ∷ other ∷ fields) = short_field field ++ short_fields (other ∷ fields)
+short fields = if length fields == 1 then flat_map (λ f. short_text f.1) fields else each_from short_field 0 fields
 
+-- ---- as JSON has them
+-- the text of a member, in a few letters; nothing where it is no text
+abbrev pub only_text : Data → Text
+only_text d = option_map_or short_text (as_str d) []
+
+-- the texts of all members
+abbrev pub only_texts : Members → Text
+only_texts no_members = []
+only_texts (member key d ms) = only_text d ++ only_texts ms
+
+-- a member with its text, behind the others
+abbrev pub field_text : ℕ → Text → Data → Text
+field_text k key d = (if k == 0 then [] else codes ", ") ++ (key ++ (codes " " ++ only_text d))
+
+-- all members, the first of which has position k
+abbrev pub field_texts : ℕ → Members → Text
+field_texts k no_members = []
+field_texts k (member key d ms) = field_text k key d ++ field_texts (k + 1) ms
+
+-- ---- versions
 -- the same, and in full
 abbrev pub version_of : TextMap → VersionData
 version_of v = record { key = key_text v; short = short v }

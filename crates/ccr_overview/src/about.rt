@@ -1,10 +1,12 @@
 //! What is said of a job beside its name.
-ghost use Rattle.std.specs.Prelude.{◌≡◌, ◌++◌, ◌∷◌, [], map, string_bytes, option_copied, IfOk, OnOk};
-ghost use Rattle.ccr_pipeline.specs.Inputs.{input_data};
+ghost use Rattle.std.specs.Prelude.{◌≡◌, ◌++◌, ◌∷◌, [], map, string_bytes, IfOk, OnOk};
+ghost use Rattle.std.specs.Option.{option_copied};
+ghost use Rattle.ccr_pipeline.specs.Inputs.{input_data, inputs};
 ghost use Rattle.ccr_pipeline.specs.JobData.{resource_data, job_data};
-ghost use Rattle.ccr_overview.specs.Abouts.{newest_said, good_words, good_beside, after_words, trigger_words, input_words, takes_words, puts_of, puts_words, next_words, about_words};
+ghost use Rattle.ccr_overview.specs.Abouts.{newest_said, good_words, good_beside, passed_words, after_words, trigger_words, input_words, takes_words, put_at, puts_of, put_word, puts_words, next_words, about_words};
 ghost use Rattle.ccr_overview.specs.PageData.{plain, word_data};
-ghost use Rattle.ccr_overview.specs.Scenes.{told_data, scene_data, each_from};
+ghost use Rattle.ccr_overview.specs.Each.{each_from};
+ghost use Rattle.ccr_overview.specs.Scenes.{told_data, scene_data};
 
 use crate::linked::push_job;
 use crate::scene::{Scene, Told};
@@ -81,6 +83,37 @@ fn push_good_beside(
 
 // ---- inputs
 
+/// Adds a job that an input names, behind the others.
+fn push_passed(
+    alloc: Global,
+    out: &mut Vec<Word>,
+    scene: &Scene<'_>,
+    k: usize,
+    name: &str,
+) -> Result<(), AllocError>
+    ensures { OnOk result (map word_data out.new.items
+        ≡ map word_data out.old.items ++ passed_words (scene_data scene.now) k name.now) }
+{
+    push_separator(alloc, out, ", ", k)?;
+    push_job(alloc, out, scene, name)
+}
+
+/// Adds the jobs that an input names.
+fn push_each_passed(
+    alloc: Global,
+    out: &mut Vec<Word>,
+    scene: &Scene<'_>,
+    names: &[String],
+) -> Result<(), AllocError>
+    ensures { OnOk result (map word_data out.new.items ≡ map word_data out.old.items
+        ++ each_from (passed_words (scene_data scene.now)) 0 (map string_bytes names.now)) }
+{
+    for (k, name) in names.iter().enumerate() {
+        push_passed(alloc, out, scene, k, name.as_str())?;
+    }
+    Ok(())
+}
+
 /// Adds that an input's version has to have passed these jobs, if there are any.
 fn push_after(
     alloc: Global,
@@ -95,11 +128,7 @@ fn push_after(
         return Ok(());
     }
     push_plain(alloc, out, " after ")?;
-    for (k, name) in names.iter().enumerate() {
-        push_separator(alloc, out, ", ", k)?;
-        push_job(alloc, out, scene, name.as_str())?;
-    }
-    Ok(())
+    push_each_passed(alloc, out, scene, names)
 }
 
 /// Adds that a new version makes no build.
@@ -129,6 +158,22 @@ fn push_input(
     push_trigger(alloc, out, input.trigger)
 }
 
+/// Adds inputs.
+fn push_each_input(
+    alloc: Global,
+    out: &mut Vec<Word>,
+    scene: &Scene<'_>,
+    inputs: &[Input],
+) -> Result<(), AllocError>
+    ensures { OnOk result (map word_data out.new.items ≡ map word_data out.old.items
+        ++ each_from (input_words (scene_data scene.now)) 0 (map input_data inputs.now)) }
+{
+    for (k, input) in inputs.iter().enumerate() {
+        push_input(alloc, out, scene, k, input)?;
+    }
+    Ok(())
+}
+
 /// Adds what a job takes.
 fn push_takes(
     alloc: Global,
@@ -143,13 +188,26 @@ fn push_takes(
         return push_plain(alloc, out, "takes nothing");
     }
     push_plain(alloc, out, "takes ")?;
-    for (k, input) in inputs.iter().enumerate() {
-        push_input(alloc, out, scene, k, input)?;
-    }
-    Ok(())
+    push_each_input(alloc, out, scene, inputs)
 }
 
 // ---- outputs
+
+/// Adds the resource at a position, if a job puts it.
+fn push_put<'r>(
+    found: &mut Vec<(usize, &'r str)>,
+    job: &Job,
+    k: usize,
+    resource: &'r Resource,
+) -> Result<(), AllocError>
+    ensures { OnOk result (map (λ r. (r.0, r.1.now)) found.new.items ≡ map (λ r. (r.0, r.1.now)) found.old.items
+        ++ put_at (job_data job.now).plan k (resource_data resource.now)) }
+{
+    if puts(&job.plan, resource.name.as_str()) {
+        found.push((k, resource.name.as_str()))?;
+    }
+    Ok(())
+}
 
 /// The resources that a job puts, with their positions.
 fn puts_of<'r>(
@@ -162,24 +220,40 @@ fn puts_of<'r>(
 {
     let mut found = Vec::new(alloc);
     for (k, resource) in resources.iter().enumerate() {
-        if puts(&job.plan, resource.name.as_str()) {
-            found.push((k, resource.name.as_str()))?;
-        }
+        push_put(&mut found, job, k, resource)?;
     }
     Ok(found)
 }
 
-/// Adds a resource.
+/// Adds a resource, behind the others.
 fn push_resource(
     alloc: Global,
     out: &mut Vec<Word>,
+    k: usize,
     at: usize,
     name: &str,
 ) -> Result<(), AllocError>
-    ensures { OnOk result (map word_data out.new.items ≡ map word_data out.old.items ++ resource at name.now ∷ []) }
+    ensures { OnOk result (map word_data out.new.items ≡ map word_data out.old.items ++ put_word k (at, name.now)) }
 {
     let words = String::from_str(alloc, name)?;
+    push_separator(alloc, out, ", ", k)?;
     out.push(Word::Resource(at, words))?;
+    Ok(())
+}
+
+/// Adds resources.
+fn push_each_put(
+    alloc: Global,
+    out: &mut Vec<Word>,
+    puts: &[(usize, &str)],
+) -> Result<(), AllocError>
+    ensures { OnOk result (map word_data out.new.items ≡ map word_data out.old.items
+        ++ each_from put_word 0 (map (λ r. (r.0, r.1.now)) puts.now)) }
+{
+    for (k, put) in puts.iter().enumerate() {
+        let (at, name) = *put;
+        push_resource(alloc, out, k, at, name)?;
+    }
     Ok(())
 }
 
@@ -196,11 +270,7 @@ fn push_puts(
         return Ok(());
     }
     push_plain(alloc, out, ". Puts ")?;
-    for (k, (at, name)) in puts.iter().enumerate() {
-        push_separator(alloc, out, ", ", k)?;
-        push_resource(alloc, out, *at, name)?;
-    }
-    Ok(())
+    push_each_put(alloc, out, puts)
 }
 
 // ---- all

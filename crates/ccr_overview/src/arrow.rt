@@ -1,9 +1,10 @@
 //! The arrows of a page: the edges of the graph.
-ghost use Rattle.std.specs.Prelude.{◌≡◌, ◌++◌, ◌≤◌, ◌<◌, map, flat_map, length, string_bytes, option_map, IfOk, OnOk};
+ghost use Rattle.std.specs.Prelude.{◌≡◌, ◌++◌, ◌≤◌, map, length, string_bytes, option_map, IfOk, OnOk};
 ghost use Rattle.ccr_pipeline.specs.Inputs.{input_data};
 ghost use Rattle.ccr_pipeline.specs.JobData.{resource_data, job_data};
-ghost use Rattle.ccr_overview.specs.Arrows.{taken_arrow, stopper_at, is_held_by, passed_arrow, port_arrows, arrows_to, put_arrow, arrows_from, arrows};
-ghost use Rattle.ccr_overview.specs.Scenes.{told_data, scene_data, each_from};
+ghost use Rattle.ccr_overview.specs.Arrows.{taken_arrow, stopper_at, is_named, passed_arrow, passed_arrows, port_arrows, arrows_to, put_arrow, arrows_from, arrows};
+ghost use Rattle.ccr_overview.specs.Each.{each_from};
+ghost use Rattle.ccr_overview.specs.Scenes.{told_data, scene_data, IsSmall};
 
 use crate::scene::{Scene, Told};
 use crate::stopping::stopper;
@@ -30,7 +31,8 @@ fn push_taken(
     n: usize,
     resource: &Resource,
 ) -> Result<(), AllocError>
-    requires { count + end.job < 65536 }
+    requires count { count ≤ 200 }
+    requires target { end.job ≤ 200 }
     ensures { OnOk result (out.new.items ≡ out.old.items
         ++ taken_arrow count end.job end.port (input_data input.now) n (resource_data resource.now)) }
 {
@@ -54,13 +56,15 @@ fn push_each_taken(
     input: &Input,
     resources: &[Resource],
 ) -> Result<(), AllocError>
-    requires { length resources.now + end.job < 65536 }
+    requires count { length resources.now ≤ 200 }
+    requires target { end.job ≤ 200 }
     ensures { OnOk result (out.new.items ≡ out.old.items
         ++ each_from (taken_arrow (length resources.now) end.job end.port (input_data input.now)) 0
         (map resource_data resources.now)) }
 {
+    let count = resources.len();
     for (n, resource) in resources.iter().enumerate() {
-        push_taken(out, resources.len(), end, input, n, resource)?;
+        push_taken(out, count, end, input, n, resource)?;
     }
     Ok(())
 }
@@ -82,8 +86,8 @@ fn stopper_at(
 }
 
 /// Whether there is a name, and it is this one.
-fn is_name(name: &str, found: &Option<String>) -> bool
-    ensures { result ≡ option_map_or (bytes_eq name.now) (option_map string_bytes found.now) false }
+fn is_named(found: &Option<String>, name: &str) -> bool
+    ensures { result ≡ is_named (option_map string_bytes found.now) name.now }
 {
     match found {
         Some(other) => name == other.as_str(),
@@ -92,7 +96,7 @@ fn is_name(name: &str, found: &Option<String>) -> bool
 }
 
 /// Adds the arrow from a job at a position, if it has this name, which is that of a job that the input's version has to have
-/// passed, and at which the version stopped or not.
+/// passed; and whether the version stopped there.
 fn push_passed(
     out: &mut Vec<Arrow>,
     count: usize,
@@ -102,7 +106,13 @@ fn push_passed(
     is_held: bool,
     n: usize,
     job: &Job,
-) -> Result<(), AllocError> {
+) -> Result<(), AllocError>
+    requires count { count ≤ 200 }
+    requires target { end.job ≤ 200 }
+    requires source { n ≤ 200 }
+    ensures { OnOk result (out.new.items ≡ out.old.items
+        ++ passed_arrow count end.job end.port (input_data input.now) name.now is_held n (job_data job.now)) }
+{
     if name != job.name.as_str() {
         return Ok(());
     }
@@ -119,30 +129,46 @@ fn push_passed(
 /// Adds the arrow from the job of a name, which an input's version has to have passed.
 fn push_each_passed(
     out: &mut Vec<Arrow>,
-    scene: &Scene<'_>,
+    count: usize,
     end: End,
     input: &Input,
     name: &str,
     is_held: bool,
-) -> Result<(), AllocError> {
-    let count = scene.pipeline.resources().len();
-    for (n, job) in scene.pipeline.jobs().iter().enumerate() {
+    jobs: &[Job],
+) -> Result<(), AllocError>
+    requires count { count ≤ 200 }
+    requires target { end.job ≤ 200 }
+    requires source { length jobs.now ≤ 200 }
+    ensures { OnOk result (out.new.items ≡ out.old.items
+        ++ each_from (passed_arrow count end.job end.port (input_data input.now) name.now is_held) 0
+        (map job_data jobs.now)) }
+{
+    for (n, job) in jobs.iter().enumerate() {
         push_passed(out, count, end, input, name, is_held, n, job)?;
     }
     Ok(())
 }
 
-/// Adds the arrows from the jobs of these names, which an input's version has to have passed.
+/// Adds the arrows from the jobs of these names, which an input's version has to have passed, and of which it stopped at one.
 fn push_all_passed(
     out: &mut Vec<Arrow>,
-    scene: &Scene<'_>,
+    count: usize,
     end: End,
     input: &Input,
     found: &Option<String>,
-) -> Result<(), AllocError> {
-    for name in &input.passed {
-        let is_held = is_name(name.as_str(), found);
-        push_each_passed(out, scene, end, input, name.as_str(), is_held)?;
+    jobs: &[Job],
+    names: &[String],
+) -> Result<(), AllocError>
+    requires count { count ≤ 200 }
+    requires target { end.job ≤ 200 }
+    requires source { length jobs.now ≤ 200 }
+    ensures { OnOk result (out.new.items ≡ out.old.items
+        ++ passed_arrows count end.job end.port (input_data input.now) (option_map string_bytes found.now)
+        (map job_data jobs.now) (map string_bytes names.now)) }
+{
+    for name in names {
+        let is_held = is_named(found, name.as_str());
+        push_each_passed(out, count, end, input, name.as_str(), is_held, jobs)?;
     }
     Ok(())
 }
@@ -155,12 +181,47 @@ fn push_port(
     told: &Told<'_>,
     end: End,
     input: &Input,
-) -> Result<(), AllocError> {
+) -> Result<(), AllocError>
+    requires small { IsSmall (scene_data scene.now) }
+    requires target { end.job ≤ 200 }
+    ensures { let i = input_data input.now in OnOk result (out.new.items ≡ out.old.items
+        ++ port_arrows (scene_data scene.now) end.job (told_data told.now) end.port i i.passed) }
+{
     if input.passed.is_empty() {
         return push_each_taken(out, end, input, scene.pipeline.resources());
     }
+    let count = scene.pipeline.resources().len();
     let found = stopper_at(alloc, scene, told, end.port)?;
-    push_all_passed(out, scene, end, input, &found)?;
+    push_all_passed(
+        out,
+        count,
+        end,
+        input,
+        &found,
+        scene.pipeline.jobs(),
+        &input.passed,
+    )?;
+    Ok(())
+}
+
+/// Adds the arrows to the ports of the job at a position.
+fn push_ports(
+    alloc: Global,
+    out: &mut Vec<Arrow>,
+    scene: &Scene<'_>,
+    k: usize,
+    told: &Told<'_>,
+    inputs: &[Input],
+) -> Result<(), AllocError>
+    requires small { IsSmall (scene_data scene.now) }
+    requires target { k ≤ 200 }
+    ensures { let s = scene_data scene.now in let t = told_data told.now in
+        OnOk result (out.new.items ≡ out.old.items
+        ++ each_from (λ i x. port_arrows s k t i x x.passed) 0 (map input_data inputs.now)) }
+{
+    for (port, input) in inputs.iter().enumerate() {
+        push_port(alloc, out, scene, told, End { job: k, port }, input)?;
+    }
     Ok(())
 }
 
@@ -171,21 +232,30 @@ fn push_arrows_to(
     scene: &Scene<'_>,
     k: usize,
     told: &Told<'_>,
-) -> Result<(), AllocError> {
+) -> Result<(), AllocError>
+    requires small { IsSmall (scene_data scene.now) }
+    requires target { k ≤ 200 }
+    ensures { OnOk result (out.new.items ≡ out.old.items
+        ++ arrows_to (scene_data scene.now) k (told_data told.now)) }
+{
     let inputs = inputs_of(alloc, told.job)?;
-    for (port, input) in inputs.iter().enumerate() {
-        push_port(alloc, out, scene, told, End { job: k, port }, input)?;
-    }
+    push_ports(alloc, out, scene, k, told, &inputs)?;
     Ok(())
 }
 
-/// Adds the arrows to each of these jobs.
+/// Adds the arrows to each job.
 fn push_each_to(
     alloc: Global,
     out: &mut Vec<Arrow>,
     scene: &Scene<'_>,
-) -> Result<(), AllocError> {
-    for (k, told) in scene.told.iter().enumerate() {
+    all: &[Told<'_>],
+) -> Result<(), AllocError>
+    requires small { IsSmall (scene_data scene.now) }
+    requires targets { length all.now ≤ 200 }
+    ensures { let s = scene_data scene.now in OnOk result (out.new.items ≡ out.old.items
+        ++ each_from (arrows_to s) 0 (map told_data all.now)) }
+{
+    for (k, told) in all.iter().enumerate() {
         push_arrows_to(alloc, out, scene, k, told)?;
     }
     Ok(())
@@ -201,7 +271,12 @@ fn push_put(
     job: &Job,
     n: usize,
     resource: &Resource,
-) -> Result<(), AllocError> {
+) -> Result<(), AllocError>
+    requires count { count ≤ 200 }
+    requires source { k ≤ 200 }
+    ensures { OnOk result (out.new.items ≡ out.old.items
+        ++ put_arrow count k (job_data job.now).plan n (resource_data resource.now)) }
+{
     if !puts(&job.plan, resource.name.as_str()) {
         return Ok(());
     }
@@ -220,10 +295,16 @@ fn push_arrows_from(
     out: &mut Vec<Arrow>,
     resources: &[Resource],
     k: usize,
-    job: &Job,
-) -> Result<(), AllocError> {
+    told: &Told<'_>,
+) -> Result<(), AllocError>
+    requires resources { length resources.now ≤ 200 }
+    requires source { k ≤ 200 }
+    ensures { OnOk result (out.new.items ≡ out.old.items
+        ++ arrows_from (map resource_data resources.now) k (told_data told.now)) }
+{
+    let count = resources.len();
     for (n, resource) in resources.iter().enumerate() {
-        push_put(out, resources.len(), k, job, n, resource)?;
+        push_put(out, count, k, told.job, n, resource)?;
     }
     Ok(())
 }
@@ -232,10 +313,15 @@ fn push_arrows_from(
 fn push_each_from(
     out: &mut Vec<Arrow>,
     resources: &[Resource],
-    told: &[Told<'_>],
-) -> Result<(), AllocError> {
-    for (k, it) in told.iter().enumerate() {
-        push_arrows_from(out, resources, k, it.job)?;
+    all: &[Told<'_>],
+) -> Result<(), AllocError>
+    requires resources { length resources.now ≤ 200 }
+    requires sources { length all.now ≤ 200 }
+    ensures { OnOk result (out.new.items ≡ out.old.items
+        ++ each_from (arrows_from (map resource_data resources.now)) 0 (map told_data all.now)) }
+{
+    for (k, told) in all.iter().enumerate() {
+        push_arrows_from(out, resources, k, told)?;
     }
     Ok(())
 }
@@ -244,10 +330,11 @@ fn push_each_from(
 
 /// The arrows.
 pub(crate) fn arrows(alloc: Global, scene: &Scene<'_>) -> Result<Vec<Arrow>, AllocError>
+    requires { IsSmall (scene_data scene.now) }
     ensures { IfOk result (λ all. all.items ≡ arrows (scene_data scene.now)) }
 {
     let mut out = Vec::new(alloc);
-    push_each_to(alloc, &mut out, scene)?;
+    push_each_to(alloc, &mut out, scene, scene.told)?;
     push_each_from(&mut out, scene.pipeline.resources(), scene.told)?;
     Ok(out)
 }

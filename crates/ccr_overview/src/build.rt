@@ -1,6 +1,8 @@
 //! The builds that a page shows of a job, and how they stand.
-ghost use Rattle.std.specs.Prelude.{◌≡◌, ◌==◌, ◌++◌, ◌<◌, ◌≤◌, true, map, take, find, reverse, length, option_copied, IfOk, OnOk};
+ghost use Rattle.std.specs.Prelude.{◌≡◌, ◌==◌, ◌++◌, ◌<◌, ◌≤◌, true, map, take, find, reverse, slice_get, option_to_list, IfOk, OnOk};
 ghost use Rattle.std.specs.List.{list_any};
+ghost use Rattle.ccr_history.specs.Builds.{is_succeeded};
+ghost use Rattle.std.specs.Option.{option_copied};
 ghost use Rattle.ccr_overview.specs.PageBuilds.{status_of, newest_status, newest_number, newest_first, is_good_at, listed_of, listed, builds_at, has_row, bar_of, bars};
 
 use ccr_history::{BuildRef, History, Status as HistoryStatus};
@@ -142,6 +144,24 @@ pub(crate) fn listed(
     listed_of(alloc, history, most, &all)
 }
 
+/// Adds the build at a position, if there is one.
+fn push_at<'h>(
+    out: &mut Vec<BuildRef<'h>>,
+    history: &'h History,
+    position: u32,
+) -> Result<(), AllocError>
+    ensures { OnOk result (out.new.items
+        ≡ out.old.items ++ option_to_list (slice_get history.now.builds position)) }
+{
+    match history.build_at(position as usize) {
+        Some(build) => {
+            out.push(build)?;
+            Ok(())
+        }
+        None => Ok(()),
+    }
+}
+
 /// The builds at these positions.
 pub(crate) fn builds_at<'h>(
     alloc: Global,
@@ -152,10 +172,7 @@ pub(crate) fn builds_at<'h>(
 {
     let mut builds = Vec::new(alloc);
     for position in positions {
-        match history.build_at(*position as usize) {
-            Some(build) => builds.push(build)?,
-            None => {}
-        }
+        push_at(&mut builds, history, *position)?;
     }
     Ok(builds)
 }

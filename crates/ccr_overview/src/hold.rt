@@ -1,10 +1,13 @@
 //! What holds an input of a job at an older version than there is, in the words of `explain`.
-ghost use Rattle.std.specs.Prelude.{◌≡◌, ◌++◌, ◌∷◌, [], ◌&&◌, nat_lt, length, map, flat_map, filter, string_bytes, option_map, option_map_or, IfOk, OnOk};
+ghost use Rattle.std.specs.Prelude.{◌≡◌, ◌++◌, ◌∷◌, [], ◌&&◌, Option, length, map, filter, option_map, IfOk, OnOk};
 ghost use Rattle.std.specs.List.{list_any};
+ghost use Rattle.std.specs.Option.{option_copied};
+ghost use Rattle.ccr_history.specs.Builds.{is_running};
+ghost use Rattle.ccr_lines.specs.JobsJson.{is_due};
 ghost use Rattle.ccr_lines.specs.Stops.{stop_data};
-ghost use Rattle.ccr_page.specs.Statuses.{is_as_urgent};
-ghost use Rattle.ccr_overview.specs.Holds.{HoldData, stop_said_words, reason_said, is_held_words, is_due_job, stop_urgency, words_urgency, reason_urgency, resource_words, hold_words, hold_of, holds, has_urgency, worst, told_holds};
-ghost use Rattle.ccr_overview.specs.PageData.{word_data, plain, name};
+ghost use Rattle.ccr_page.specs.Statuses.{urgency_rank, is_as_urgent};
+ghost use Rattle.ccr_overview.specs.Holds.{stands_said, stop_words, reason_words, is_held_words, is_due_job, goes_on, reason_urgency, hold_data, hold_of, hold_in, holds, resource_words, versions_words, hold_words, has_urgency, worst, told_holds};
+ghost use Rattle.ccr_overview.specs.PageData.{word_data};
 ghost use Rattle.ccr_overview.specs.Scenes.{told_data, scene_data};
 
 use crate::linked::{push_build, push_job};
@@ -13,21 +16,28 @@ use crate::short::push_version;
 use crate::stopping::stop_said;
 use crate::word::{push_name, push_plain, push_text};
 use ccr_history::Status;
-use ccr_lines::{Outlook, Refusal, Stop, Taken, word_of};
+use ccr_lines::{Outlook, Refusal, Stop, Taken};
 use ccr_page::{Urgency, Word};
 use std::alloc::{AllocError, Global};
 
 /// What holds an input.
 #[derive(Drop)]
-pub(crate) struct Hold {
+pub(crate) struct Hold<'t> {
+    /// What it takes.
+    pub(crate) taken: &'t Taken,
+    /// A newer place that it doesn't take.
+    pub(crate) refusal: &'t Refusal,
+    /// Where that stopped, if `explain` says so.
+    pub(crate) stop: Option<Stop>,
     pub(crate) urgency: Urgency,
-    pub(crate) words: Vec<Word>,
 }
 
 // ---- the reason
 
 /// How a build stands that has a version, behind its number.
-fn stands_word(status: Status) -> &'static str {
+fn stands_said(status: Status) -> &'static str
+    ensures { result.now ≡ stands_said status }
+{
     match status {
         Status::Running => " runs",
         Status::Succeeded => " succeeded without it",
@@ -42,34 +52,38 @@ fn push_stop(
     alloc: Global,
     out: &mut Vec<Word>,
     scene: &Scene<'_>,
-    stop: &Stop,
+    job: &str,
+    build: Option<(u32, Status)>,
 ) -> Result<(), AllocError>
     ensures { OnOk result (map word_data out.new.items
-        ≡ map word_data out.old.items ++ stop_said_words (scene_data scene.now) (stop_data stop.now)) }
+        ≡ map word_data out.old.items ++ stop_words (scene_data scene.now) job.now build) }
 {
-    match &stop.build {
+    match build {
         Some((number, status)) => {
-            push_build(alloc, out, scene, stop.job.as_str(), *number)?;
-            push_plain(alloc, out, stands_word(*status))
+            push_build(alloc, out, scene, job, number)?;
+            push_plain(alloc, out, stands_said(status))
         }
         None => {
             push_plain(alloc, out, "not built by ")?;
-            push_job(alloc, out, scene, stop.job.as_str())
+            push_job(alloc, out, scene, job)
         }
     }
 }
 
-/// Adds why an input doesn't take a place, which stopped there if `explain` says so.
+/// Adds why an input doesn't take a place: where it stopped, or these words.
 fn push_reason(
     alloc: Global,
     out: &mut Vec<Word>,
     scene: &Scene<'_>,
-    refusal: &Refusal,
+    words: &str,
     found: Option<&Stop>,
-) -> Result<(), AllocError> {
+) -> Result<(), AllocError>
+    ensures { OnOk result (map word_data out.new.items ≡ map word_data out.old.items
+        ++ reason_words (scene_data scene.now) words.now (option_map stop_data (option_copied found.entry))) }
+{
     match found {
-        Some(stop) => push_stop(alloc, out, scene, stop),
-        None => push_text(alloc, out, refusal.words.as_str(), 200),
+        Some(stop) => push_stop(alloc, out, scene, stop.job.as_str(), stop.build),
+        None => push_text(alloc, out, words, 200),
     }
 }
 
@@ -121,26 +135,31 @@ fn is_running(status: Status) -> bool
     }
 }
 
-/// Whether a version that stopped goes on by itself.
-fn goes_on(scene: &Scene<'_>, stop: &Stop) -> bool {
-    match &stop.build {
-        Some((_, status)) => is_running(*status),
-        None => is_due_job(scene.told, stop.job.as_str()),
+/// Whether a version goes on by itself that stopped at a job, or in a build of it.
+fn goes_on(told: &[Told<'_>], job: &str, build: Option<(u32, Status)>) -> bool
+    ensures { result ≡ goes_on (map told_data told.now) job.now build }
+{
+    match build {
+        Some((_, status)) => is_running(status),
+        None => is_due_job(told, job),
     }
 }
 
-/// How urgent it is that an input doesn't take a place, which stopped there if `explain` says so.
-fn reason_urgency(scene: &Scene<'_>, refusal: &Refusal, found: Option<&Stop>) -> Urgency {
+/// How urgent it is that an input doesn't take a place, which stopped there, or else of which these are the words.
+fn reason_urgency(told: &[Told<'_>], words: &str, found: Option<&Stop>) -> Urgency
+    ensures { result
+        ≡ reason_urgency (map told_data told.now) words.now (option_map stop_data (option_copied found.entry)) }
+{
     match found {
         Some(stop) => {
-            if goes_on(scene, stop) {
+            if goes_on(told, stop.job.as_str(), stop.build) {
                 Urgency::Going
             } else {
                 Urgency::Stopped
             }
         }
         None => {
-            if is_held_words(refusal.words.as_str()) {
+            if is_held_words(words) {
                 Urgency::Held
             } else {
                 Urgency::Stopped
@@ -151,6 +170,62 @@ fn reason_urgency(scene: &Scene<'_>, refusal: &Refusal, found: Option<&Stop>) ->
 
 // ---- one input
 
+/// What holds an input that doesn't take a newer place.
+fn hold_of<'t>(
+    alloc: Global,
+    scene: &Scene<'_>,
+    taken: &'t Taken,
+    refusal: &'t Refusal,
+) -> Result<Hold<'t>, AllocError>
+    ensures { IfOk result (λ h. hold_data h ≡ hold_of (scene_data scene.now) taken.now refusal.now) }
+{
+    let stop = stop_said(alloc, scene, taken, refusal)?;
+    let urgency = reason_urgency(scene.told, refusal.words.as_str(), stop.as_ref());
+    Ok(Hold {
+        taken,
+        refusal,
+        stop,
+        urgency,
+    })
+}
+
+/// Adds what holds an input, if something does.
+fn push_hold<'t>(
+    alloc: Global,
+    out: &mut Vec<Hold<'t>>,
+    scene: &Scene<'_>,
+    taken: &'t Taken,
+) -> Result<(), AllocError>
+    ensures { OnOk result (map hold_data out.new.items
+        ≡ map hold_data out.old.items ++ hold_in (scene_data scene.now) taken.now (taken.now).newer) }
+{
+    match taken.newer.first() {
+        Some(refusal) => {
+            let hold = hold_of(alloc, scene, taken, refusal)?;
+            out.push(hold)?;
+            Ok(())
+        }
+        None => Ok(()),
+    }
+}
+
+/// What holds the inputs of a job.
+pub(crate) fn holds<'t>(
+    alloc: Global,
+    scene: &Scene<'_>,
+    inputs: &'t [Taken],
+) -> Result<Vec<Hold<'t>>, AllocError>
+    ensures { IfOk result (λ all. map hold_data all.items ≡ holds (scene_data scene.now) inputs.now) }
+{
+    let mut all = Vec::new(alloc);
+    for taken in inputs {
+        push_hold(alloc, &mut all, scene, taken)?;
+    }
+    Ok(all)
+}
+
+// ---- in words
+
 /// Adds the name of a resource or an input, where there are several.
 pub(crate) fn push_resource(
     alloc: Global,
@@ -158,7 +233,8 @@ pub(crate) fn push_resource(
     several: bool,
     name: &str,
 ) -> Result<(), AllocError>
-    ensures { OnOk result (map word_data out.new.items ≡ map word_data out.old.items ++ resource_words several name.now) }
+    ensures { OnOk result (map word_data out.new.items
+        ≡ map word_data out.old.items ++ resource_words several name.now) }
 {
     if !several {
         return Ok(());
@@ -167,77 +243,63 @@ pub(crate) fn push_resource(
     push_plain(alloc, out, " ")
 }
 
-/// Adds what an input takes, and the newest version that it doesn't take.
+/// Adds what an input takes, and a newer version that it doesn't take.
 fn push_versions(
     alloc: Global,
     out: &mut Vec<Word>,
     taken: &Taken,
     refusal: &Refusal,
-) -> Result<(), AllocError> {
+) -> Result<(), AllocError>
+    ensures { OnOk result (map word_data out.new.items
+        ≡ map word_data out.old.items ++ versions_words taken.now refusal.now) }
+{
     push_version(alloc, out, taken.version.as_ref(), taken.place)?;
     push_plain(alloc, out, ", not ")?;
     push_version(alloc, out, refusal.version.as_ref(), refusal.place)?;
     push_plain(alloc, out, ": ")
 }
 
-/// What holds an input at an older version than this one.
-fn hold_of(
+/// Adds what holds an input.
+pub(crate) fn push_hold_words(
     alloc: Global,
+    out: &mut Vec<Word>,
     scene: &Scene<'_>,
     several: bool,
-    taken: &Taken,
-    refusal: &Refusal,
-) -> Result<Hold, AllocError> {
-    let found = stop_said(alloc, scene, taken, refusal)?;
-    let mut words = Vec::new(alloc);
-    push_resource(alloc, &mut words, several, taken.resource.as_str())?;
-    push_versions(alloc, &mut words, taken, refusal)?;
-    push_reason(alloc, &mut words, scene, refusal, found.as_ref())?;
-    let urgency = reason_urgency(scene, refusal, found.as_ref());
-    Ok(Hold { urgency, words })
-}
-
-/// What holds the inputs of a job.
-pub(crate) fn holds(
-    alloc: Global,
-    scene: &Scene<'_>,
-    inputs: &[Taken],
-) -> Result<Vec<Hold>, AllocError> {
-    let several = inputs.len() > 1;
-    let mut holds = Vec::new(alloc);
-    for taken in inputs {
-        match taken.newer.first() {
-            Some(refusal) => holds.push(hold_of(alloc, scene, several, taken, refusal)?)?,
-            None => {}
-        }
-    }
-    Ok(holds)
+    hold: &Hold<'_>,
+) -> Result<(), AllocError>
+    ensures { OnOk result (map word_data out.new.items
+        ≡ map word_data out.old.items ++ hold_words (scene_data scene.now) several (hold_data hold.now)) }
+{
+    let words = hold.refusal.words.as_str();
+    push_resource(alloc, out, several, hold.taken.resource.as_str())?;
+    push_versions(alloc, out, hold.taken, hold.refusal)?;
+    push_reason(alloc, out, scene, words, hold.stop.as_ref())
 }
 
 // ---- together
+
+/// The rank of an urgency.
+fn rank(urgency: Urgency) -> u8
+    ensures { result ≡ urgency_rank urgency }
+{
+    match urgency {
+        Urgency::Stopped => 0,
+        Urgency::Held => 1,
+        Urgency::Going => 2,
+    }
+}
 
 /// Whether two are the same.
 pub(crate) fn is_as_urgent(one: Urgency, other: Urgency) -> bool
     ensures { result ≡ is_as_urgent one other }
 {
-    match one {
-        Urgency::Stopped => match other {
-            Urgency::Stopped => true,
-            Urgency::Held | Urgency::Going => false,
-        },
-        Urgency::Held => match other {
-            Urgency::Held => true,
-            Urgency::Stopped | Urgency::Going => false,
-        },
-        Urgency::Going => match other {
-            Urgency::Going => true,
-            Urgency::Stopped | Urgency::Held => false,
-        },
-    }
+    rank(one) == rank(other)
 }
 
 /// Whether one of these is so urgent.
-fn has_urgency(urgency: Urgency, holds: &[Hold]) -> bool {
+fn has_urgency(urgency: Urgency, holds: &[Hold<'_>]) -> bool
+    ensures { result ≡ has_urgency urgency (map hold_data holds.now) }
+{
     for hold in holds {
         if is_as_urgent(urgency, hold.urgency) {
             return true;
@@ -247,7 +309,9 @@ fn has_urgency(urgency: Urgency, holds: &[Hold]) -> bool {
 }
 
 /// The most urgent of these.
-pub(crate) fn worst(holds: &[Hold]) -> Urgency {
+pub(crate) fn worst(holds: &[Hold<'_>]) -> Urgency
+    ensures { result ≡ worst (map hold_data holds.now) }
+{
     if has_urgency(Urgency::Stopped, holds) {
         Urgency::Stopped
     } else if has_urgency(Urgency::Held, holds) {
@@ -257,19 +321,43 @@ pub(crate) fn worst(holds: &[Hold]) -> Urgency {
     }
 }
 
-/// The most urgent ones.
-pub(crate) fn told_holds(
+/// Adds what holds an input, if it is so urgent.
+fn push_urgent<'h, 't>(
+    out: &mut Vec<&'h Hold<'t>>,
+    urgency: Urgency,
+    hold: &'h Hold<'t>,
+) -> Result<(), AllocError>
+    ensures { OnOk result (map (λ h. hold_data h.now) out.new.items ≡ map (λ h. hold_data h.now) out.old.items
+        ++ (if is_as_urgent urgency (hold_data hold.now).urgency then hold_data hold.now ∷ [] else [])) }
+{
+    if is_as_urgent(urgency, hold.urgency) {
+        out.push(hold)?;
+    }
+    Ok(())
+}
+
+/// Those of these that are so urgent.
+fn urgent_ones<'h, 't>(
     alloc: Global,
     urgency: Urgency,
-    holds: Vec<Hold>,
-) -> Result<Vec<Hold>, AllocError> {
-    let mut rest = holds;
+    holds: &'h [Hold<'t>],
+) -> Result<Vec<&'h Hold<'t>>, AllocError>
+    ensures { IfOk result (λ told. map (λ h. hold_data h.now) told.items
+        ≡ filter (λ h. is_as_urgent urgency h.urgency) (map hold_data holds.now)) }
+{
     let mut told = Vec::new(alloc);
-    while !rest.is_empty() {
-        let hold = rest.remove(0);
-        if is_as_urgent(urgency, hold.urgency) {
-            told.push(hold)?;
-        }
+    for hold in holds {
+        push_urgent(&mut told, urgency, hold)?;
     }
     Ok(told)
+}
+
+/// The most urgent of these.
+pub(crate) fn told_holds<'h, 't>(
+    alloc: Global,
+    holds: &'h [Hold<'t>],
+) -> Result<Vec<&'h Hold<'t>>, AllocError>
+    ensures { IfOk result (λ told. map (λ h. hold_data h.now) told.items ≡ told_holds (map hold_data holds.now)) }
+{
+    urgent_ones(alloc, worst(holds), holds)
 }

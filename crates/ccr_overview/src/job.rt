@@ -3,7 +3,8 @@ ghost use Rattle.std.specs.Prelude.{◌≡◌, ◌++◌, map, length, string_byt
 ghost use Rattle.ccr_pipeline.specs.Inputs.{input_data};
 ghost use Rattle.ccr_overview.specs.Overviews.{port_of, job_with, job_shown};
 ghost use Rattle.ccr_overview.specs.PageData.{port_data, page_job_data};
-ghost use Rattle.ccr_overview.specs.Scenes.{told_data, scene_data, each_from};
+ghost use Rattle.ccr_overview.specs.Each.{each_from};
+ghost use Rattle.ccr_overview.specs.Scenes.{told_data, scene_data};
 
 use crate::about::about_words;
 use crate::build::{bars, builds_at, listed, newest_number, newest_status};

@@ -2,9 +2,9 @@
 ghost use Rattle.std.specs.Prelude.{◌≡◌, Some, map, length, IfOk};
 ghost use Rattle.ccr_pipeline.specs.Pipelines.{pipeline_data};
 ghost use Rattle.ccr_core.specs.Cores.{core_data};
-ghost use Rattle.ccr_overview.specs.Overviews.{options_data, page_with, page_without, scene_of, IsPageOf, IsOverview};
+ghost use Rattle.ccr_overview.specs.Overviews.{options_data, page_with, page_without, IsPageOf, IsOverview};
 ghost use Rattle.ccr_overview.specs.PageData.{page_data};
-ghost use Rattle.ccr_overview.specs.Scenes.{scene_data, told_data};
+ghost use Rattle.ccr_overview.specs.Scenes.{scene_data, IsSmall};
 
 use crate::arrow::arrows;
 use crate::job::jobs_shown;
@@ -35,6 +35,7 @@ fn page_without(alloc: Global, options: Options) -> Page
 
 /// The page of a pipeline with a history, and of what is said of its jobs.
 fn page_with(alloc: Global, options: Options, scene: &Scene<'_>) -> Result<Page, AllocError>
+    requires { IsSmall (scene_data scene.now) }
     ensures { IfOk result (λ page. page_data page ≡ page_with (options_data options) (scene_data scene.now)) }
 {
     let jobs = jobs_shown(alloc, scene)?;

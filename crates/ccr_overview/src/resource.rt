@@ -1,11 +1,13 @@
 //! The resources of a page.
-ghost use Rattle.std.specs.Prelude.{◌≡◌, ◌++◌, ◌∷◌, [], map, filter, length, string_bytes, option_map, option_copied, IfOk, OnOk};
+ghost use Rattle.std.specs.Prelude.{◌≡◌, ◌++◌, ◌∷◌, [], if◌then◌else◌, map, length, string_bytes, option_map, IfOk, OnOk};
+ghost use Rattle.std.specs.Option.{option_copied, option_or};
+ghost use Rattle.ccr_history.specs.Changes.{pin_of};
 ghost use Rattle.ccr_pipeline.specs.JobData.{resource_data};
 ghost use Rattle.ccr_problem.specs.ProblemOf.{scope_of};
 ghost use Rattle.ccr_lines.specs.Listed.{listed_data};
 ghost use Rattle.ccr_overview.specs.PageData.{word_data, version_data, page_resource_data};
 ghost use Rattle.ccr_overview.specs.PageResources.{pin_words, disabled_of, listed_words, further_words, disabled_words, held_words, last_of, resource_shown};
-ghost use Rattle.ccr_overview.specs.Scenes.{each_from};
+ghost use Rattle.ccr_overview.specs.Each.{each_from};
 ghost use Rattle.ccr_overview.specs.Shorts.{short, version_of};
 
 use crate::short::{pin_short, pin_version, version_of};
@@ -35,6 +37,21 @@ fn pin_words(alloc: Global, words: &str, pin: Option<&Pin>) -> Result<Vec<Word>,
 
 // ---- disabled versions
 
+/// Adds a version, if it is disabled.
+fn push_disabled<'h>(all: &mut Vec<Listed<'h>>, listed: &Listed<'h>) -> Result<(), AllocError>
+    ensures { OnOk result (map listed_data all.new.items ≡ map listed_data all.old.items
+        ++ (if (listed_data listed.now).is_disabled then listed_data listed.now ∷ [] else [])) }
+{
+    if listed.is_disabled {
+        all.push(Listed {
+            place: listed.place,
+            version: listed.version,
+            is_disabled: listed.is_disabled,
+        })?;
+    }
+    Ok(())
+}
+
 /// The versions that are disabled.
 fn disabled_of<'h>(
     alloc: Global,
@@ -44,13 +61,7 @@ fn disabled_of<'h>(
 {
     let mut all = Vec::new(alloc);
     for it in listed {
-        if it.is_disabled {
-            all.push(Listed {
-                place: it.place,
-                version: it.version,
-                is_disabled: true,
-            })?;
-        }
+        push_disabled(&mut all, it)?;
     }
     Ok(all)
 }
@@ -65,7 +76,7 @@ fn push_listed(
     ensures { OnOk result (map word_data out.new.items
         ≡ map word_data out.old.items ++ listed_words k (listed_data listed.now)) }
 {
-    let place = counted(alloc, "", listed.place, " ")?;
+    let place = counted(alloc, "", listed.place as usize, " ")?;
     let version = version_of(alloc, listed.version)?;
     push_separator(alloc, out, ", ", k)?;
     push_plain(alloc, out, place.as_str())?;
@@ -73,12 +84,29 @@ fn push_listed(
     Ok(())
 }
 
+/// Adds versions with their places.
+fn push_each_listed(
+    alloc: Global,
+    out: &mut Vec<Word>,
+    listed: &[Listed<'_>],
+) -> Result<(), AllocError>
+    ensures { OnOk result (map word_data out.new.items ≡ map word_data out.old.items
+        ++ each_from listed_words 0 (map listed_data listed.now)) }
+{
+    for (k, it) in listed.iter().enumerate() {
+        push_listed(alloc, out, k, it)?;
+    }
+    Ok(())
+}
+
 /// Adds that there are more, if there are.
-fn push_further(alloc: Global, out: &mut Vec<Word>, more: usize) -> Result<(), AllocError> {
+fn push_further(alloc: Global, out: &mut Vec<Word>, more: usize) -> Result<(), AllocError>
+    ensures { OnOk result (map word_data out.new.items ≡ map word_data out.old.items ++ further_words more) }
+{
     if more == 0 {
         return Ok(());
     }
-    let words = counted(alloc, " and ", more as u32, " more")?;
+    let words = counted(alloc, " and ", more, " more")?;
     push_plain(alloc, out, words.as_str())
 }
 
@@ -93,9 +121,7 @@ fn disabled_words(alloc: Global, listed: &[Listed<'_>]) -> Result<Vec<Word>, All
     let more = listed.len().saturating_sub(5);
     let (_, last) = listed.split_at(more);
     push_plain(alloc, &mut all, "disabled: ")?;
-    for (k, it) in last.iter().enumerate() {
-        push_listed(alloc, &mut all, k, it)?;
-    }
+    push_each_listed(alloc, &mut all, last)?;
     push_further(alloc, &mut all, more)?;
     Ok(all)
 }
@@ -124,7 +150,10 @@ fn pin_of(
     alloc: Global,
     history: &History,
     resource: &Resource,
-) -> Result<Option<String>, AllocError> {
+) -> Result<Option<String>, AllocError>
+    ensures { let r = resource_data resource.now in IfOk result (λ pin. option_map string_bytes pin
+        ≡ option_map short (option_or (pin_of r.name history.now.pins) r.version)) }
+{
     match history.pin(resource.name.as_str()) {
         Some(pin) => Ok(Some(pin_short(alloc, pin)?)),
         None => match resource.version.as_ref() {

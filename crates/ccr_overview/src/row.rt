@@ -1,15 +1,16 @@
 //! The rows of a page: what each build took and put, and through which builds that had gone together.
-ghost use Rattle.std.specs.Prelude.{◌≡◌, ◌++◌, ◌∷◌, [], ◌≤◌, ◌<◌, map, filter, flat_map, find, take, length, not, string_bytes, option_map, option_to_list, IfOk, OnOk};
+ghost use Rattle.std.specs.Prelude.{◌≡◌, ◌++◌, ◌∷◌, [], ◌≤◌, if◌then◌else◌, map, filter, flat_map, find, take, length, not, string_bytes, option_map, option_to_list, IfOk, OnOk};
 ghost use Rattle.std.specs.List.{list_any};
 ghost use Rattle.std.specs.Str.{bytes_eq};
 ghost use Rattle.ccr_history.specs.Builds.{UsedData};
 ghost use Rattle.ccr_pipeline.specs.Inputs.{input_data};
 ghost use Rattle.ccr_pipeline.specs.JobData.{job_data};
 ghost use Rattle.ccr_pipeline.specs.Names.{has_name, with_name, with_names};
-ghost use Rattle.ccr_lines.specs.Releases.{is_pair, together_data};
+ghost use Rattle.ccr_lines.specs.Releases.{resource_at, together_data};
 ghost use Rattle.ccr_overview.specs.PageData.{word_data, cell_data, row_data, plain, name};
-ghost use Rattle.ccr_overview.specs.PageRows.{taken_names, names_in, names_beyond, columns_of, columns, cell_of, cell, together_words, all_together_words, has_taken, put_pairs, pair_words, put_words, rest_words, row_of, row_at, rows_at};
-ghost use Rattle.ccr_overview.specs.Scenes.{scene_data, each_from};
+ghost use Rattle.ccr_overview.specs.PageRows.{taken_names, names_in, names_beyond, columns_of, columns, used_for, cell_of, cell, witness_words, together_words, all_together_words, has_taken, put_pairs, moved_words, pair_words, put_words, rest_words, row_of, row_at, rows_at};
+ghost use Rattle.ccr_overview.specs.Each.{each_from};
+ghost use Rattle.ccr_overview.specs.Scenes.{scene_data};
 
 use crate::build::status_of;
 use crate::linked::{push_build, push_job};
@@ -100,17 +101,34 @@ fn push_if(
     Ok(())
 }
 
-/// Adds those of these names that are among the others, or that aren't.
-fn push_names(
+/// Adds those of these names that are among the others.
+fn push_names_in(
     alloc: Global,
     out: &mut Vec<String>,
     others: &[String],
-    is_among: bool,
     names: &[String],
-) -> Result<(), AllocError> {
+) -> Result<(), AllocError>
+    ensures { OnOk result (map string_bytes out.new.items ≡ map string_bytes out.old.items
+        ++ names_in (map string_bytes others.now) (map string_bytes names.now)) }
+{
     for name in names {
-        let is = has_name(others, name.as_str()) == is_among;
-        push_if(alloc, out, is, name.as_str())?;
+        push_if(alloc, out, has_name(others, name.as_str()), name.as_str())?;
+    }
+    Ok(())
+}
+
+/// Adds those of these names that aren't among the others.
+fn push_names_beyond(
+    alloc: Global,
+    out: &mut Vec<String>,
+    others: &[String],
+    names: &[String],
+) -> Result<(), AllocError>
+    ensures { OnOk result (map string_bytes out.new.items ≡ map string_bytes out.old.items
+        ++ names_beyond (map string_bytes others.now) (map string_bytes names.now)) }
+{
+    for name in names {
+        push_if(alloc, out, !has_name(others, name.as_str()), name.as_str())?;
     }
     Ok(())
 }
@@ -125,8 +143,8 @@ fn columns_of(
         ≡ columns_of (map string_bytes plan.now) (map string_bytes taken.now)) }
 {
     let mut names = Vec::new(alloc);
-    push_names(alloc, &mut names, taken, true, plan)?;
-    push_names(alloc, &mut names, plan, false, taken)?;
+    push_names_in(alloc, &mut names, taken, plan)?;
+    push_names_beyond(alloc, &mut names, plan, taken)?;
     Ok(names)
 }
 
@@ -146,9 +164,9 @@ pub(crate) fn columns(
 
 // ---- cells
 
-/// The position of what a build took for the input of a name, if it took something.
+/// The scope and the place that a build took for the input of a name, if it took something.
 pub(crate) fn used_for(build: &BuildRef<'_>, input: &str) -> Option<(u32, u32)>
-    ensures { result ≡ option_map (λ u. (u.scope, u.place)) (find (λ u. bytes_eq input.now u.input) build.now.used) }
+    ensures { option_map (λ u. record { input = input.now; scope = u.0; place = u.1 }) result ≡ used_for build.now input.now }
 {
     for k in 0..build.used_count() {
         let (name, scope, place) = used_at(build, k);
@@ -202,19 +220,38 @@ fn push_witness(
     alloc: Global,
     out: &mut Vec<Word>,
     scene: &Scene<'_>,
-    together: &Together<'_>,
-) -> Result<(), AllocError> {
-    match together.number {
-        Some(number) => push_build(alloc, out, scene, together.job, number),
+    job: &str,
+    found: Option<u32>,
+) -> Result<(), AllocError>
+    ensures { OnOk result (map word_data out.new.items
+        ≡ map word_data out.old.items ++ witness_words (scene_data scene.now) job.now found) }
+{
+    match found {
+        Some(number) => push_build(alloc, out, scene, job, number),
         None => {
             push_plain(alloc, out, "no build of ")?;
-            push_job(alloc, out, scene, together.job)
+            push_job(alloc, out, scene, job)
         }
     }
 }
 
+/// The same behind the others.
+fn push_together(
+    alloc: Global,
+    out: &mut Vec<Word>,
+    scene: &Scene<'_>,
+    position: usize,
+    together: &Together<'_>,
+) -> Result<(), AllocError>
+    ensures { OnOk result (map word_data out.new.items ≡ map word_data out.old.items
+        ++ together_words (scene_data scene.now) position (together_data together.now)) }
+{
+    push_separator(alloc, out, ", ", position)?;
+    push_witness(alloc, out, scene, together.job, together.number)
+}
+
 /// The same of all jobs.
-fn together_words(
+fn all_together_words(
     alloc: Global,
     scene: &Scene<'_>,
     together: &[Together<'_>],
@@ -224,8 +261,7 @@ fn together_words(
 {
     let mut words = Vec::new(alloc);
     for (k, it) in together.iter().enumerate() {
-        push_separator(alloc, &mut words, ", ", k)?;
-        push_witness(alloc, &mut words, scene, it)?;
+        push_together(alloc, &mut words, scene, k, it)?;
     }
     Ok(words)
 }
@@ -245,15 +281,28 @@ fn has_taken(build: &BuildRef<'_>, pair: (u32, u32)) -> bool
     false
 }
 
+/// Adds a pair, unless a build took it.
+fn push_put(
+    out: &mut Vec<(u32, u32)>,
+    build: &BuildRef<'_>,
+    pair: (u32, u32),
+) -> Result<(), AllocError>
+    ensures { OnOk result (out.new.items
+        ≡ out.old.items ++ (if not (has_taken build.now pair) then pair ∷ [] else [])) }
+{
+    if !has_taken(build, pair) {
+        out.push(pair)?;
+    }
+    Ok(())
+}
+
 /// What a build moved and didn't take.
 fn put_pairs(alloc: Global, build: &BuildRef<'_>) -> Result<Vec<(u32, u32)>, AllocError>
     ensures { IfOk result (λ pairs. pairs.items ≡ put_pairs build.now) }
 {
     let mut pairs = Vec::new(alloc);
     for pair in build.moved() {
-        if !has_taken(build, *pair) {
-            pairs.push(*pair)?;
-        }
+        push_put(&mut pairs, build, *pair)?;
     }
     Ok(pairs)
 }
@@ -269,17 +318,50 @@ fn resource_at(history: &History, scope: u32) -> &str
 }
 
 /// Adds a version that was put: its resource, its place, and it in a few letters.
-fn push_pair(
+fn push_moved(
     alloc: Global,
     out: &mut Vec<Word>,
     history: &History,
     pair: (u32, u32),
-) -> Result<(), AllocError> {
-    let place = counted(alloc, " ", pair.1, " ")?;
+) -> Result<(), AllocError>
+    ensures { OnOk result (map word_data out.new.items ≡ map word_data out.old.items ++ moved_words history.now pair) }
+{
+    let place = counted(alloc, " ", pair.1 as usize, " ")?;
     let short = short_there(alloc, history, pair.0, pair.1)?;
     push_name(alloc, out, resource_at(history, pair.0), 30)?;
     push_plain(alloc, out, place.as_str())?;
     push_text(alloc, out, short.as_str(), 18)
+}
+
+/// The same behind the others.
+fn push_pair(
+    alloc: Global,
+    out: &mut Vec<Word>,
+    history: &History,
+    position: usize,
+    pair: (u32, u32),
+) -> Result<(), AllocError>
+    ensures { OnOk result (map word_data out.new.items
+        ≡ map word_data out.old.items ++ pair_words history.now position pair) }
+{
+    push_separator(alloc, out, ", ", position)?;
+    push_moved(alloc, out, history, pair)
+}
+
+/// Adds versions that were put.
+fn push_pairs(
+    alloc: Global,
+    out: &mut Vec<Word>,
+    history: &History,
+    pairs: &[(u32, u32)],
+) -> Result<(), AllocError>
+    ensures { OnOk result (map word_data out.new.items
+        ≡ map word_data out.old.items ++ each_from (pair_words history.now) 0 pairs.now) }
+{
+    for (k, pair) in pairs.iter().enumerate() {
+        push_pair(alloc, out, history, k, *pair)?;
+    }
+    Ok(())
 }
 
 /// What was put, if something was.
@@ -295,10 +377,7 @@ fn put_words(
         return Ok(words);
     }
     push_plain(alloc, &mut words, "put ")?;
-    for (k, pair) in pairs.iter().enumerate() {
-        push_separator(alloc, &mut words, ", ", k)?;
-        push_pair(alloc, &mut words, history, *pair)?;
-    }
+    push_pairs(alloc, &mut words, history, pairs)?;
     Ok(words)
 }
 
@@ -314,7 +393,7 @@ fn rest_words(
         ≡ rest_words s (take before s.history.builds) build.now) }
 {
     let found = all_together(alloc, Some(scene.pipeline), scene.history, build, before)?;
-    let together = together_words(alloc, scene, &found)?;
+    let together = all_together_words(alloc, scene, &found)?;
     let pairs = put_pairs(alloc, build)?;
     let put = put_words(alloc, scene.history, &pairs)?;
     join(alloc, together, put)
@@ -344,6 +423,25 @@ fn row_of(
     })
 }
 
+/// Adds the row of the build at a position.
+fn push_row(
+    alloc: Global,
+    out: &mut Vec<Row>,
+    scene: &Scene<'_>,
+    names: &[String],
+    position: usize,
+) -> Result<(), AllocError>
+    ensures { OnOk result (map row_data out.new.items ≡ map row_data out.old.items
+        ++ row_at (scene_data scene.now) (map string_bytes names.now) position) }
+{
+    let Some(build) = scene.history.build_at(position) else {
+        return Ok(());
+    };
+    let row = row_of(alloc, scene, names, position, &build)?;
+    out.push(row)?;
+    Ok(())
+}
+
 /// The rows of the builds at these positions.
 pub(crate) fn rows_at(
     alloc: Global,
@@ -356,13 +454,7 @@ pub(crate) fn rows_at(
 {
     let mut rows = Vec::new(alloc);
     for position in positions {
-        match scene.history.build_at(*position as usize) {
-            Some(build) => {
-                let row = row_of(alloc, scene, names, *position as usize, &build)?;
-                rows.push(row)?;
-            }
-            None => {}
-        }
+        push_row(alloc, &mut rows, scene, names, *position as usize)?;
     }
     Ok(rows)
 }

@@ -1,11 +1,16 @@
 //! Why a job stands still, in a sentence.
-ghost use Rattle.std.specs.Prelude.{◌≡◌, ◌++◌, ◌∷◌, [], ◌-◌, nat_lt, length, map, filter, find, string_bytes, option_map, option_copied, option_and_then, IfOk, OnOk};
-ghost use Rattle.ccr_pipeline.specs.Inputs.{input_data};
-ghost use Rattle.ccr_overview.specs.PageData.{word_data, why_data, plain, row};
-ghost use Rattle.ccr_overview.specs.Scenes.{told_data, scene_data, each_from};
-ghost use Rattle.ccr_overview.specs.Sentences.{why_of};
+ghost use Rattle.std.specs.Prelude.{◌≡◌, ◌≤◌, ◌++◌, ◌∷◌, [], ◌-◌, nat_lt, if◌then◌else◌, Option, length, map, take, filter, string_bytes, option_map, IfOk, OnOk};
+ghost use Rattle.std.specs.Option.{option_copied};
+ghost use Rattle.ccr_pipeline.specs.Inputs.{input_data, inputs};
+ghost use Rattle.ccr_pipeline.specs.JobData.{job_data};
+ghost use Rattle.ccr_overview.specs.Each.{each_from};
+ghost use Rattle.ccr_overview.specs.Holds.{hold_data, holds};
+ghost use Rattle.ccr_overview.specs.PageData.{word_data, why_data};
+ghost use Rattle.ccr_overview.specs.Scenes.{told_data, scene_data};
+ghost use Rattle.ccr_overview.specs.PageRows.{used_for};
+ghost use Rattle.ccr_overview.specs.Sentences.{build_row, running_why, only, due_of, due_words, none_words, budget_words, start_words, told_hold, more_words, holds_words, is_bad, took_on, on_words, stopped_words, bad_words, alone_words, beside_words, bad_why, held_why, ended_why, unbuilt_why, standing_why, outlook_why, why_of};
 
-use crate::hold::{Hold, holds, is_as_urgent, push_resource, told_holds, worst};
+use crate::hold::{Hold, holds, is_as_urgent, push_hold_words, push_resource, told_holds, worst};
 use crate::row::used_for;
 use crate::scene::{Scene, Told};
 use crate::short::push_version;
@@ -24,13 +29,17 @@ fn push_build(
     out: &mut Vec<Word>,
     at: usize,
     build: &BuildRef<'_>,
-) -> Result<(), AllocError> {
+) -> Result<(), AllocError>
+    ensures { OnOk result (map word_data out.new.items ≡ map word_data out.old.items ++ build_row at build.now ∷ []) }
+{
     let words = numbered(alloc, "build ", build.number())?;
     push_row(out, at, build.number(), words)
 }
 
 /// That the newest build of the job at a position runs.
-fn running_why(alloc: Global, at: usize, build: &BuildRef<'_>) -> Result<Why, AllocError> {
+fn running_why(alloc: Global, at: usize, build: &BuildRef<'_>) -> Result<Why, AllocError>
+    ensures { IfOk result (λ why. why_data why ≡ running_why at build.now) }
+{
     let mut words = Vec::new(alloc);
     push_plain(alloc, &mut words, "is running ")?;
     push_build(alloc, &mut words, at, build)?;
@@ -40,21 +49,36 @@ fn running_why(alloc: Global, at: usize, build: &BuildRef<'_>) -> Result<Why, Al
     })
 }
 
-/// That a build is due: of a job with one input, with what it takes.
-fn due_words(alloc: Global, inputs: &[Taken]) -> Result<Vec<Word>, AllocError> {
+/// What the only input takes, if there is only one.
+fn only_taken(inputs: &[Taken]) -> Option<&Taken>
+    ensures { option_copied result ≡ only inputs.now }
+{
+    if inputs.len() == 1 {
+        inputs.first()
+    } else {
+        None
+    }
+}
+
+/// That a build is due.
+fn due_words(alloc: Global, inputs: &[Taken]) -> Result<Vec<Word>, AllocError>
+    ensures { IfOk result (λ words. map word_data words.items ≡ due_words inputs.now) }
+{
     let mut words = Vec::new(alloc);
-    match inputs {
-        [taken] => {
+    match only_taken(inputs) {
+        Some(taken) => {
             push_plain(alloc, &mut words, "is due: the next round builds ")?;
             push_version(alloc, &mut words, taken.version.as_ref(), taken.place)?;
         }
-        _ => push_plain(alloc, &mut words, "is due in the next round")?,
+        None => push_plain(alloc, &mut words, "is due in the next round")?,
     }
     Ok(words)
 }
 
 /// That there is no choice of versions, and why.
-fn none_words(alloc: Global, why: Option<&String>) -> Result<Vec<Word>, AllocError> {
+fn none_words(alloc: Global, why: &Option<String>) -> Result<Vec<Word>, AllocError>
+    ensures { IfOk result (λ words. map word_data words.items ≡ none_words (option_map string_bytes why.now)) }
+{
     let mut words = Vec::new(alloc);
     match why {
         Some(why) => {
@@ -67,7 +91,9 @@ fn none_words(alloc: Global, why: Option<&String>) -> Result<Vec<Word>, AllocErr
 }
 
 /// That the search went over the budget.
-fn budget_words(alloc: Global, outlook: Outlook) -> Result<Vec<Word>, AllocError> {
+fn budget_words(alloc: Global, outlook: Outlook) -> Result<Vec<Word>, AllocError>
+    ensures { IfOk result (λ words. map word_data words.items ≡ budget_words outlook) }
+{
     let mut text = String::from_str(alloc, "isn’t decided: ")?;
     push_outlook(&mut text, outlook)?;
     let mut words = Vec::new(alloc);
@@ -78,7 +104,9 @@ fn budget_words(alloc: Global, outlook: Outlook) -> Result<Vec<Word>, AllocError
 // ---- what holds it
 
 /// The words before what holds an input.
-fn holds_start(by_itself: bool, position: usize) -> &'static str {
+fn start_words(by_itself: bool, position: usize) -> &'static str
+    ensures { result.now ≡ start_words by_itself position }
+{
     if by_itself {
         if position == 0 { "stays at " } else { "; at " }
     } else {
@@ -86,12 +114,49 @@ fn holds_start(by_itself: bool, position: usize) -> &'static str {
     }
 }
 
+/// Adds what holds an input, behind the others.
+fn push_told(
+    alloc: Global,
+    out: &mut Vec<Word>,
+    scene: &Scene<'_>,
+    several: bool,
+    by_itself: bool,
+    position: usize,
+    hold: &Hold<'_>,
+) -> Result<(), AllocError>
+    ensures { OnOk result (map word_data out.new.items ≡ map word_data out.old.items
+        ++ told_hold (scene_data scene.now) several by_itself position (hold_data hold.now)) }
+{
+    push_plain(alloc, out, start_words(by_itself, position))?;
+    push_hold_words(alloc, out, scene, several, hold)
+}
+
+/// Adds what holds these inputs.
+fn push_each(
+    alloc: Global,
+    out: &mut Vec<Word>,
+    scene: &Scene<'_>,
+    several: bool,
+    by_itself: bool,
+    holds: &[&Hold<'_>],
+) -> Result<(), AllocError>
+    ensures { OnOk result (map word_data out.new.items ≡ map word_data out.old.items
+        ++ each_from (told_hold (scene_data scene.now) several by_itself) 0 (map (λ h. hold_data h.now) holds.now)) }
+{
+    for (position, hold) in holds.iter().enumerate() {
+        push_told(alloc, out, scene, several, by_itself, position, hold)?;
+    }
+    Ok(())
+}
+
 /// Adds that there are more, if there are.
-fn push_more(alloc: Global, out: &mut Vec<Word>, more: usize) -> Result<(), AllocError> {
+fn push_more(alloc: Global, out: &mut Vec<Word>, more: usize) -> Result<(), AllocError>
+    ensures { OnOk result (map word_data out.new.items ≡ map word_data out.old.items ++ more_words more) }
+{
     if more == 0 {
         return Ok(());
     }
-    let words = counted(alloc, "; and ", more as u32, " more")?;
+    let words = counted(alloc, "; and ", more, " more")?;
     push_plain(alloc, out, words.as_str())
 }
 
@@ -99,44 +164,82 @@ fn push_more(alloc: Global, out: &mut Vec<Word>, more: usize) -> Result<(), Allo
 fn push_holds(
     alloc: Global,
     out: &mut Vec<Word>,
+    scene: &Scene<'_>,
+    several: bool,
     by_itself: bool,
-    holds: Vec<Hold>,
-) -> Result<(), AllocError> {
-    let count = holds.len();
-    let mut rest = holds;
-    let mut position = 0;
-    while !rest.is_empty() && position < 3 {
-        let hold = rest.remove(0);
-        let mut words = hold.words;
-        push_plain(alloc, out, holds_start(by_itself, position))?;
-        out.append(&mut words)?;
-        position += 1;
-    }
-    push_more(alloc, out, count.saturating_sub(3))
+    holds: &[&Hold<'_>],
+) -> Result<(), AllocError>
+    ensures { OnOk result (map word_data out.new.items ≡ map word_data out.old.items
+        ++ holds_words (scene_data scene.now) several by_itself (map (λ h. hold_data h.now) holds.now)) }
+{
+    let (first, _) = holds.split_at(holds.len().min(3));
+    push_each(alloc, out, scene, several, by_itself, first)?;
+    push_more(alloc, out, holds.len().saturating_sub(3))
 }
 
 // ---- a build that wasn't good
 
 /// Whether a build failed, errored or was aborted.
-fn is_bad(status: Status) -> bool {
+fn is_bad(status: Status) -> bool
+    ensures { result ≡ is_bad status }
+{
     match status {
         Status::Failed | Status::Errored | Status::Aborted => true,
         Status::Running | Status::Succeeded => false,
     }
 }
 
-/// The input that makes builds by itself, if there is only one.
-fn only_trigger(inputs: &[Input]) -> Option<&Input> {
-    let mut found = None;
-    for input in inputs {
-        if input.trigger {
-            if found.is_some() {
-                return None;
-            }
-            found = Some(input);
-        }
+/// Adds an input, if it makes builds by itself.
+fn push_trigger<'i>(all: &mut Vec<&'i Input>, input: &'i Input) -> Result<(), AllocError>
+    ensures { OnOk result (map (λ i. input_data i.now) all.new.items ≡ map (λ i. input_data i.now) all.old.items
+        ++ (if (input_data input.now).trigger then input_data input.now ∷ [] else [])) }
+{
+    if input.trigger {
+        all.push(input)?;
     }
-    found
+    Ok(())
+}
+
+/// The inputs that make builds by themselves.
+fn triggers<'i>(alloc: Global, inputs: &'i [Input]) -> Result<Vec<&'i Input>, AllocError>
+    ensures { IfOk result (λ all. map (λ i. input_data i.now) all.items
+        ≡ filter (λ i. i.trigger) (map input_data inputs.now)) }
+{
+    let mut all = Vec::new(alloc);
+    for input in inputs {
+        push_trigger(&mut all, input)?;
+    }
+    Ok(all)
+}
+
+/// The only one of these inputs, if there is only one.
+fn only_input<'i>(inputs: &[&'i Input]) -> Option<&'i Input>
+    ensures { option_map (λ i. input_data i.now) result ≡ only (map (λ i. input_data i.now) inputs.now) }
+{
+    if inputs.len() == 1 {
+        Some(inputs[0])
+    } else {
+        None
+    }
+}
+
+/// Adds the version that a build took for an input, if it took one.
+fn push_took(
+    alloc: Global,
+    out: &mut Vec<Word>,
+    history: &History,
+    build: &BuildRef<'_>,
+    name: &str,
+) -> Result<(), AllocError>
+    ensures { OnOk result (map word_data out.new.items ≡ map word_data out.old.items
+        ++ on_words history.now (nat_lt 1 (length build.now.used)) (used_for build.now name.now)) }
+{
+    let Some((scope, place)) = used_for(build, name) else {
+        return Ok(());
+    };
+    push_plain(alloc, out, " on ")?;
+    push_resource(alloc, out, build.used_count() > 1, name)?;
+    push_version(alloc, out, history.version_at(scope, place), place)
 }
 
 /// Adds the version on which a build wasn't good.
@@ -146,20 +249,33 @@ fn push_on(
     history: &History,
     job: &Job,
     build: &BuildRef<'_>,
-) -> Result<(), AllocError> {
+) -> Result<(), AllocError>
+    ensures { OnOk result (map word_data out.new.items ≡ map word_data out.old.items
+        ++ on_words history.now (nat_lt 1 (length build.now.used)) (took_on build.now (inputs (job_data job.now).plan))) }
+{
     let inputs = inputs_of(alloc, job)?;
-    let Some(input) = only_trigger(&inputs) else {
-        return Ok(());
-    };
-    let name = input.name.as_str();
-    match used_for(build, name) {
-        Some((scope, place)) => {
-            push_plain(alloc, out, " on ")?;
-            push_resource(alloc, out, build.used_count() > 1, name)?;
-            push_version(alloc, out, history.version_at(scope, place), place)
-        }
-        None => Ok(()),
+    let triggers = triggers(alloc, &inputs)?;
+    match only_input(&triggers) {
+        Some(input) => push_took(alloc, out, history, build, input.name.as_str())?,
+        None => {}
     }
+    Ok(())
+}
+
+/// Adds the newest build of the job at a position, and how it stands.
+fn push_stopped(
+    alloc: Global,
+    out: &mut Vec<Word>,
+    at: usize,
+    build: &BuildRef<'_>,
+) -> Result<(), AllocError>
+    ensures { OnOk result (map word_data out.new.items ≡ map word_data out.old.items ++ stopped_words at build.now) }
+{
+    let mut status = String::from_str(alloc, " ")?;
+    status.push_str(word_of(build.status()))?;
+    push_plain(alloc, out, "stopped: ")?;
+    push_build(alloc, out, at, build)?;
+    push_plain(alloc, out, status.as_str())
 }
 
 /// The newest build of the job at a position, how it stands, and on which version.
@@ -169,19 +285,19 @@ fn bad_words(
     at: usize,
     job: &Job,
     build: &BuildRef<'_>,
-) -> Result<Vec<Word>, AllocError> {
+) -> Result<Vec<Word>, AllocError>
+    ensures { IfOk result (λ words. map word_data words.items ≡ bad_words history.now at (job_data job.now) build.now) }
+{
     let mut words = Vec::new(alloc);
-    let mut status = String::from_str(alloc, " ")?;
-    status.push_str(word_of(build.status()))?;
-    push_plain(alloc, &mut words, "stopped: ")?;
-    push_build(alloc, &mut words, at, build)?;
-    push_plain(alloc, &mut words, status.as_str())?;
+    push_stopped(alloc, &mut words, at, build)?;
     push_on(alloc, &mut words, history, job, build)?;
     Ok(words)
 }
 
 /// That nothing else holds the job.
-fn alone_words(by_itself: bool) -> &'static str {
+fn alone_words(by_itself: bool) -> &'static str
+    ensures { result.now ≡ alone_words by_itself }
+{
     if by_itself {
         ", and nothing newer has come"
     } else {
@@ -193,27 +309,63 @@ fn alone_words(by_itself: bool) -> &'static str {
 fn push_beside(
     alloc: Global,
     out: &mut Vec<Word>,
+    scene: &Scene<'_>,
+    several: bool,
     by_itself: bool,
-    holds: Vec<Hold>,
-) -> Result<(), AllocError> {
-    let urgency = worst(&holds);
-    if holds.is_empty() || is_as_urgent(Urgency::Held, urgency) {
+    holds: &[Hold<'_>],
+) -> Result<(), AllocError>
+    ensures { OnOk result (map word_data out.new.items ≡ map word_data out.old.items
+        ++ beside_words (scene_data scene.now) several by_itself (map hold_data holds.now)) }
+{
+    if holds.is_empty() || is_as_urgent(Urgency::Held, worst(holds)) {
         return push_plain(alloc, out, alone_words(by_itself));
     }
-    let told = told_holds(alloc, urgency, holds)?;
+    let told = told_holds(alloc, holds)?;
     push_plain(alloc, out, "; ")?;
-    push_holds(alloc, out, by_itself, told)
+    push_holds(alloc, out, scene, several, by_itself, &told)?;
+    Ok(())
+}
+
+/// That a job's newest build wasn't good.
+fn bad_why(
+    alloc: Global,
+    scene: &Scene<'_>,
+    at: usize,
+    told: &Told<'_>,
+    by_itself: bool,
+    build: &BuildRef<'_>,
+    holds: &[Hold<'_>],
+) -> Result<Why, AllocError>
+    ensures { IfOk result (λ why. why_data why
+        ≡ bad_why (scene_data scene.now) at (told_data told.now) by_itself build.now (map hold_data holds.now)) }
+{
+    let several = told.explained.inputs.len() > 1;
+    let mut words = bad_words(alloc, scene.history, at, told.job, build)?;
+    push_beside(alloc, &mut words, scene, several, by_itself, holds)?;
+    Ok(Why {
+        urgency: Urgency::Stopped,
+        words,
+    })
 }
 
 /// What holds a job, if something does.
-fn held_why(alloc: Global, by_itself: bool, holds: Vec<Hold>) -> Result<Option<Why>, AllocError> {
+fn held_why(
+    alloc: Global,
+    scene: &Scene<'_>,
+    several: bool,
+    by_itself: bool,
+    holds: &[Hold<'_>],
+) -> Result<Option<Why>, AllocError>
+    ensures { IfOk result (λ why. option_map why_data why
+        ≡ held_why (scene_data scene.now) several by_itself (map hold_data holds.now)) }
+{
     if holds.is_empty() {
         return Ok(None);
     }
-    let urgency = worst(&holds);
-    let told = told_holds(alloc, urgency, holds)?;
+    let urgency = worst(holds);
+    let told = told_holds(alloc, holds)?;
     let mut words = Vec::new(alloc);
-    push_holds(alloc, &mut words, by_itself, told)?;
+    push_holds(alloc, &mut words, scene, several, by_itself, &told)?;
     Ok(Some(Why { urgency, words }))
 }
 
@@ -225,20 +377,38 @@ fn ended_why(
     told: &Told<'_>,
     by_itself: bool,
     build: &BuildRef<'_>,
-) -> Result<Option<Why>, AllocError> {
-    let holds = holds(alloc, scene, &told.explained.inputs)?;
-    if !is_bad(build.status()) {
-        return held_why(alloc, by_itself, holds);
+    holds: &[Hold<'_>],
+) -> Result<Option<Why>, AllocError>
+    ensures { IfOk result (λ why. option_map why_data why
+        ≡ ended_why (scene_data scene.now) at (told_data told.now) by_itself build.now (map hold_data holds.now)) }
+{
+    if is_bad(build.status()) {
+        let why = bad_why(alloc, scene, at, told, by_itself, build, holds)?;
+        return Ok(Some(why));
     }
-    let mut words = bad_words(alloc, scene.history, at, told.job, build)?;
-    push_beside(alloc, &mut words, by_itself, holds)?;
-    Ok(Some(Why {
-        urgency: Urgency::Stopped,
-        words,
-    }))
+    let several = told.explained.inputs.len() > 1;
+    held_why(alloc, scene, several, by_itself, holds)
 }
 
-/// The same of a job that may have no build: nothing is said of one that only a command builds.
+/// The same of a job that has no build: nothing is said of one that only a command builds.
+fn unbuilt_why(
+    alloc: Global,
+    scene: &Scene<'_>,
+    told: &Told<'_>,
+    by_itself: bool,
+    holds: &[Hold<'_>],
+) -> Result<Option<Why>, AllocError>
+    ensures { IfOk result (λ why. option_map why_data why
+        ≡ unbuilt_why (scene_data scene.now) (told_data told.now) by_itself (map hold_data holds.now)) }
+{
+    if !by_itself {
+        return Ok(None);
+    }
+    let several = told.explained.inputs.len() > 1;
+    held_why(alloc, scene, several, by_itself, holds)
+}
+
+/// The same of any job.
 fn standing_why(
     alloc: Global,
     scene: &Scene<'_>,
@@ -246,17 +416,15 @@ fn standing_why(
     told: &Told<'_>,
     by_itself: bool,
     newest: Option<&BuildRef<'_>>,
-) -> Result<Option<Why>, AllocError> {
+) -> Result<Option<Why>, AllocError>
+    ensures { let s = scene_data scene.now in let t = told_data told.now in
+        IfOk result (λ why. option_map why_data why
+        ≡ standing_why s at t by_itself (option_copied newest.entry) (holds s t.explained.inputs)) }
+{
+    let holds = holds(alloc, scene, &told.explained.inputs)?;
     match newest {
-        Some(build) => ended_why(alloc, scene, at, told, by_itself, build),
-        None => {
-            if by_itself {
-                let holds = holds(alloc, scene, &told.explained.inputs)?;
-                held_why(alloc, by_itself, holds)
-            } else {
-                Ok(None)
-            }
-        }
+        Some(build) => ended_why(alloc, scene, at, told, by_itself, build, &holds),
+        None => unbuilt_why(alloc, scene, told, by_itself, &holds),
     }
 }
 
@@ -269,22 +437,25 @@ fn outlook_why(
     at: usize,
     told: &Told<'_>,
     newest: Option<&BuildRef<'_>>,
-) -> Result<Option<Why>, AllocError> {
-    let explained = &told.explained;
-    match explained.outlook {
+    outlook: Outlook,
+) -> Result<Option<Why>, AllocError>
+    ensures { IfOk result (λ why. option_map why_data why
+        ≡ outlook_why (scene_data scene.now) at (told_data told.now) (option_copied newest.entry) outlook) }
+{
+    match outlook {
         Outlook::Due => Ok(Some(Why {
             urgency: Urgency::Going,
-            words: due_words(alloc, &explained.inputs)?,
+            words: due_words(alloc, &told.explained.inputs)?,
         })),
         Outlook::NothingNew => standing_why(alloc, scene, at, told, true, newest),
         Outlook::ByCommandOnly => standing_why(alloc, scene, at, told, false, newest),
         Outlook::NoneSatisfies => Ok(Some(Why {
             urgency: Urgency::Stopped,
-            words: none_words(alloc, explained.why.as_ref())?,
+            words: none_words(alloc, &told.explained.why)?,
         })),
         Outlook::OverBudget(_) => Ok(Some(Why {
             urgency: Urgency::Stopped,
-            words: budget_words(alloc, explained.outlook)?,
+            words: budget_words(alloc, outlook)?,
         })),
     }
 }
@@ -300,13 +471,14 @@ pub(crate) fn why_of(
     ensures { IfOk result (λ why. option_map why_data why
         ≡ why_of (scene_data scene.now) at (told_data told.now) (option_copied newest.entry)) }
 {
-    match newest {
-        Some(build) => match build.status() {
-            Status::Running => Ok(Some(running_why(alloc, at, build)?)),
-            Status::Succeeded | Status::Failed | Status::Errored | Status::Aborted => {
-                outlook_why(alloc, scene, at, told, newest)
-            }
-        },
-        None => outlook_why(alloc, scene, at, told, newest),
+    let outlook = told.explained.outlook;
+    let Some(build) = newest else {
+        return outlook_why(alloc, scene, at, told, newest, outlook);
+    };
+    match build.status() {
+        Status::Running => Ok(Some(running_why(alloc, at, build)?)),
+        Status::Succeeded | Status::Failed | Status::Errored | Status::Aborted => {
+            outlook_why(alloc, scene, at, told, newest, outlook)
+        }
     }
 }

@@ -95,48 +95,87 @@ fn push_short(text: &mut String, value: &str) -> Result<(), AllocError>
 
 // ---- fields
 
-/// Adds a field of a version, which is one of so many, at a position; of one that has no other field its text alone.
+/// Adds the text of a field.
+fn push_only(text: &mut String, value: &Value) -> Result<(), AllocError>
+    ensures { OnOk result (string_bytes text.new ≡ string_bytes text.old ++ only_text (view value.now)) }
+{
+    match value.as_str() {
+        Some(value) => push_short(text, value),
+        None => Ok(()),
+    }
+}
+
+/// The texts of the fields.
+fn only_short(alloc: Global, fields: &BTreeMap<String, Value>) -> Result<String, AllocError>
+    ensures { IfOk result (λ text. string_bytes text ≡ only_texts (members_view fields.now.entries)) }
+{
+    let mut text = String::new(alloc);
+    for (_, value) in fields.iter() {
+        push_only(&mut text, value)?;
+    }
+    Ok(text)
+}
+
+/// Adds a field behind so many others.
 fn push_field(
     text: &mut String,
     position: usize,
-    count: usize,
     key: &str,
     value: &Value,
-) -> Result<(), AllocError> {
-    let Some(value) = value.as_str() else {
-        return Ok(());
-    };
-    if count == 1 {
-        return push_short(text, value);
-    }
+) -> Result<(), AllocError>
+    ensures { OnOk result (string_bytes text.new
+        ≡ string_bytes text.old ++ field_text position key.now (view value.now)) }
+{
     if position > 0 {
         text.push_str(", ")?;
     }
     text.push_str(key)?;
     text.push_str(" ")?;
-    push_short(text, value)
+    push_only(text, value)
 }
 
-/// The fields of a version.
-fn fields_short(alloc: Global, fields: &BTreeMap<String, Value>) -> Result<String, AllocError> {
+/// The fields, each with its text.
+fn each_short(alloc: Global, fields: &BTreeMap<String, Value>) -> Result<String, AllocError>
+    ensures { IfOk result (λ text. string_bytes text ≡ field_texts 0 (members_view fields.now.entries)) }
+{
     let mut text = String::new(alloc);
     let mut position = 0;
     for (key, value) in fields.iter() {
-        push_field(&mut text, position, fields.len(), key.as_str(), value)?;
+        push_field(&mut text, position, key.as_str(), value)?;
         position += 1;
     }
     Ok(text)
 }
 
+/// The fields in a few letters.
+fn fields_short(alloc: Global, fields: &BTreeMap<String, Value>) -> Result<String, AllocError>
+    ensures { let ms = members_view fields.now.entries in
+        IfSome (texts_of ms) (λ all. IfOk result (λ text. string_bytes text ≡ short all)) }
+{
+    if fields.len() == 1 {
+        only_short(alloc, fields)
+    } else {
+        each_short(alloc, fields)
+    }
+}
+
+/// The fields of an object in a few letters.
+fn value_short(alloc: Global, value: &Value) -> Result<String, AllocError>
+    ensures { IfSome (text_map_of (view value.now)) (λ all. IfOk result (λ text. string_bytes text ≡ short all)) }
+{
+    match value.as_object() {
+        Some(fields) => fields_short(alloc, fields),
+        None => Ok(String::new(alloc)),
+    }
+}
+
 /// The version of a key in a few letters.
 fn key_short(alloc: Global, key: &str) -> Result<String, AllocError>
+    requires { IsKey key.now }
     ensures { IfOk result (λ text. string_bytes text ≡ short (fields_in key.now)) }
 {
     match Value::from_str(alloc, key) {
-        Ok(value) => match value.as_object() {
-            Some(fields) => fields_short(alloc, fields),
-            None => Ok(String::new(alloc)),
-        },
+        Ok(value) => value_short(alloc, &value),
         Err(error) if error.is_memory() => Err(AllocError),
         Err(_) => Ok(String::new(alloc)),
     }

@@ -26,12 +26,14 @@ pub(crate) fn numbered(alloc: Global, words: &str, number: u32) -> Result<String
 pub(crate) fn counted(
     alloc: Global,
     before: &str,
-    number: u32,
+    number: usize,
     after: &str,
 ) -> Result<String, AllocError>
     ensures { IfOk result (λ text. string_bytes text ≡ before.now ++ (decimal number ++ after.now)) }
 {
-    let mut text = numbered(alloc, before, number)?;
+    let mut buffer = Buffer::new();
+    let mut text = String::from_str(alloc, before)?;
+    text.push_str(buffer.format(number))?;
     text.push_str(after)?;
     Ok(text)
 }
@@ -40,7 +42,8 @@ pub(crate) fn counted(
 pub(crate) fn standing(alloc: Global, number: u32, status: Status) -> Result<String, AllocError>
     ensures { IfOk result (λ text. string_bytes text ≡ decimal number ++ (codes " " ++ status_word status)) }
 {
-    let mut text = counted(alloc, "", number, " ")?;
+    let mut text = numbered(alloc, "", number)?;
+    text.push_str(" ")?;
     text.push_str(word_of(status))?;
     Ok(text)
 }
