@@ -13,10 +13,11 @@ use Rattle.ccr_lines.specs.Lines.{status_word}
 use Rattle.ccr_lines.specs.Live.{live_of}
 use Rattle.ccr_lines.specs.Outlooks.{outlook_words}
 use Rattle.ccr_lines.specs.declared.outlook.Outlook.{Outlook}
+use Rattle.ccr_overview.specs.Sayings.{separated}
 use Rattle.ccr_overview.specs.PageData.{WordData, plain, name, resource, row}
 use Rattle.ccr_overview.specs.Each.{each_from}
 use Rattle.ccr_overview.specs.Scenes.{SceneData, ToldData}
-use Rattle.ccr_overview.specs.Linked.{job_word, separated}
+use Rattle.ccr_overview.specs.Linked.{job_word}
 
 -- ---- builds
 -- a number, and how its build stands

@@ -18,6 +18,7 @@ use Rattle.ccr_page.specs.declared.data.Urgency.TheVariants.{Stopped, Held, Goin
 use Rattle.ccr_overview.specs.declared.hold.Hold.{Hold}
 use Rattle.ccr_overview.specs.PageData.{WordData, plain, text, name, version}
 use Rattle.ccr_overview.specs.Linked.{job_word, build_word}
+use Rattle.ccr_overview.specs.Sayings.{version_word}
 use Rattle.ccr_overview.specs.Scenes.{ToldData, SceneData}
 use Rattle.ccr_overview.specs.Shorts.{version_of}
 use Rattle.ccr_overview.specs.Stopping.{stop_said}
@@ -95,11 +96,6 @@ abbrev pub holds : SceneData → List TakenData → List HoldData
 holds s ts = flat_map (λ t. hold_in s t t.newer) ts
 
 -- ---- in words
--- a version; its place where the table lacks it
-abbrev pub version_word : Option TextMap → ℕ → WordData
-version_word (Some v) place = version (version_of v)
-version_word None place = plain (decimal place)
-
 -- the resource's name, where the job has several inputs
 abbrev pub resource_words : Bool → Text → List WordData
 resource_words false named = []

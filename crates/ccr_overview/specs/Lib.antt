@@ -8,6 +8,8 @@ pub mod PageBuilds
 pub mod PageData
 pub mod PageResources
 pub mod PageRows
+pub mod SaidSame
+pub mod Sayings
 pub mod Scenes
 pub mod Sentences
 pub mod Shorts

@@ -30,14 +30,3 @@ build_at s named number k = if has_row s.history s.rows named number then build 
 -- a build of a job, which leads to its row if it has one
 abbrev pub build_word : SceneData → Text → ℕ → WordData
 build_word s named number = option_map_or (build_at s named number) (job_position named s.pipeline.jobs) (past named number)
-
--- ---- one after another
--- what stands before the thing at position k: nothing before the first
-abbrev pub separated : Text → ℕ → List WordData
-separated words k = if k == 0 then [] else plain words ∷ []
-
--- two parts of a sentence, of which either may be empty
-abbrev pub joined : List WordData → List WordData → List WordData
-joined [] second = second
-joined (w ∷ ws) [] = w ∷ ws
-joined (w ∷ ws) (v ∷ vs) = (w ∷ ws) ++ plain (59 ∷ 32 ∷ []) ∷ (v ∷ vs)

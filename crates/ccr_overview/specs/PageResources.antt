@@ -9,7 +9,7 @@ use Rattle.ccr_history.specs.History.{HistoryData}
 use Rattle.ccr_pipeline.specs.JobData.{ResourceData}
 use Rattle.ccr_problem.specs.ProblemOf.{scope_of}
 use Rattle.ccr_lines.specs.Listed.{ListedData, versions_listed}
-use Rattle.ccr_overview.specs.Linked.{joined, separated}
+use Rattle.ccr_overview.specs.Sayings.{joined, separated}
 use Rattle.ccr_overview.specs.PageData.{WordData, plain, version, PageResourceData}
 use Rattle.ccr_overview.specs.Each.{each_from}
 use Rattle.ccr_overview.specs.Shorts.{short, version_of}

@@ -10,12 +10,13 @@ use Rattle.ccr_pipeline.specs.Inputs.{InputData, inputs}
 use Rattle.ccr_pipeline.specs.JobData.{JobData}
 use Rattle.ccr_pipeline.specs.Names.{has_name, with_names}
 use Rattle.ccr_lines.specs.Releases.{TogetherData, resource_at, is_pair, all_together}
+use Rattle.ccr_overview.specs.Sayings.{joined, separated}
 use Rattle.ccr_overview.specs.PageBuilds.{status_of, listed, builds_at}
 use Rattle.ccr_overview.specs.PageData.{WordData, plain, text, name, CellData, RowData}
 use Rattle.ccr_overview.specs.Each.{each_from}
 use Rattle.ccr_overview.specs.Scenes.{SceneData}
 use Rattle.ccr_overview.specs.Shorts.{short_there}
-use Rattle.ccr_overview.specs.Linked.{job_word, build_word, separated, joined}
+use Rattle.ccr_overview.specs.Linked.{job_word, build_word}
 
 -- ---- columns
 -- the names of the inputs for which these builds took something, each once

@@ -17,12 +17,13 @@ use Rattle.ccr_lines.specs.declared.outlook.Outlook.TheVariants.{Due, NothingNew
 use Rattle.ccr_page.specs.declared.data.Urgency.{Urgency}
 use Rattle.ccr_page.specs.declared.data.Urgency.TheVariants as urgency
 use Rattle.ccr_page.specs.Statuses.{is_as_urgent}
+use Rattle.ccr_overview.specs.Sayings.{version_word}
 use Rattle.ccr_overview.specs.PageData.{WordData, plain, text, name, row, WhyData}
 use Rattle.ccr_overview.specs.Each.{each_from}
 use Rattle.ccr_overview.specs.PageRows.{used_for}
 use Rattle.ccr_overview.specs.Scenes.{SceneData, ToldData}
 use Rattle.ccr_overview.specs.Shorts.{version_there}
-use Rattle.ccr_overview.specs.Holds.{HoldData, version_word, resource_words, hold_words, holds, worst, told_holds}
+use Rattle.ccr_overview.specs.Holds.{HoldData, resource_words, hold_words, holds, worst, told_holds}
 
 -- ---- the next build
 -- the newest build of the job at a position

@@ -1,10 +1,9 @@
 -- Versions in a few letters.
-use Rattle.std.specs.Prelude.{ℕ, ◌+◌, List, [], ◌∷◌, ◌++◌, length, take, drop, flat_map, Bool, ◌&&◌, ◌==◌, ◌||◌, nat_le, if◌then◌else◌, Option, codes}
+use Rattle.std.specs.Prelude.{ℕ, List, [], ◌∷◌, ◌++◌, length, take, drop, flat_map, Bool, ◌&&◌, ◌==◌, ◌||◌, nat_le, if◌then◌else◌, Option, String, codes, string_bytes}
+use Rattle.std.specs.declared.alloc.Global.{Global}
 use Rattle.std.specs.List.{list_all}
 use Rattle.std.specs.Option.{option_map_or}
 use Rattle.std.specs.Str.{bytes_eq}
-use Rattle.serde_json.specs.Data.{Data, Members, no_members, member}
-use Rattle.serde_json.specs.Find.{as_str}
 use Rattle.ccr_history.specs.Text.{Text}
 use Rattle.ccr_history.specs.TextMap.{TextMap, key_text}
 use Rattle.ccr_history.specs.Tables.{at_place, versions_at}
@@ -34,6 +33,10 @@ behind_name t =
 abbrev pub short_text : Text → Text
 short_text t = if is_hash (behind_name t) then take 7 (behind_name t) else t
 
+-- what a field of the program's type stands for
+abbrev pub field_data : String Global × String Global → Text × Text
+field_data f = (string_bytes f.0, string_bytes f.1)
+
 -- a field of a version, behind the others
 abbrev pub short_field : ℕ → Text × Text → Text
 short_field k field = (if k == 0 then [] else codes ", ") ++ (field.0 ++ (codes " " ++ short_text field.1))
@@ -42,26 +45,6 @@ short_field k field = (if k == 0 then [] else codes ", ") ++ (field.0 ++ (codes 
 abbrev pub short : TextMap → Text
 short fields = if length fields == 1 then flat_map (λ f. short_text f.1) fields else each_from short_field 0 fields
 
--- ---- as JSON has them
--- the text of a member, in a few letters; nothing where it is no text
-abbrev pub only_text : Data → Text
-only_text d = option_map_or short_text (as_str d) []
-
--- the texts of all members
-abbrev pub only_texts : Members → Text
-only_texts no_members = []
-only_texts (member key d ms) = only_text d ++ only_texts ms
-
--- a member with its text, behind the others
-abbrev pub field_text : ℕ → Text → Data → Text
-field_text k key d = (if k == 0 then [] else codes ", ") ++ (key ++ (codes " " ++ only_text d))
-
--- all members, the first of which has position k
-abbrev pub field_texts : ℕ → Members → Text
-field_texts k no_members = []
-field_texts k (member key d ms) = field_text k key d ++ field_texts (k + 1) ms
-
--- ---- versions
 -- the same, and in full
 abbrev pub version_of : TextMap → VersionData
 version_of v = record { key = key_text v; short = short v }

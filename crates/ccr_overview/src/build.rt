@@ -1,12 +1,11 @@
 //! The builds that a page shows of a job, and how they stand.
-ghost use Rattle.std.specs.Prelude.{◌≡◌, ◌==◌, ◌++◌, ◌<◌, ◌≤◌, true, map, take, find, reverse, slice_get, option_to_list, IfOk, OnOk};
+ghost use Rattle.std.specs.Prelude.{◌≡◌, ◌==◌, ◌++◌, map, take, find, reverse, slice_get, option_to_list, IfOk, OnOk};
 ghost use Rattle.std.specs.List.{list_any};
 ghost use Rattle.ccr_history.specs.Builds.{is_succeeded};
 ghost use Rattle.std.specs.Option.{option_copied};
 ghost use Rattle.ccr_overview.specs.PageBuilds.{status_of, newest_status, newest_number, newest_first, is_good_at, listed_of, listed, builds_at, has_row, bar_of, bars};
 
 use ccr_history::{BuildRef, History, Status as HistoryStatus};
-use ccr_lines::{Sought, newest_of};
 use ccr_page::{Bar, Status};
 use std::alloc::{AllocError, Global};
 
@@ -117,7 +116,7 @@ fn listed_of(
     most: u32,
     all: &[u32],
 ) -> Result<Vec<u32>, AllocError>
-    ensures { IfOk result (λ listed. listed.items ≡ listed_of history.now most all.now) }
+    ensures { IfOk result (λ all. all.items ≡ listed_of history.now most all.now) }
 {
     let first = first_ones(all, most);
     let mut listed = Vec::from_slice(alloc, first)?;
@@ -138,7 +137,7 @@ pub(crate) fn listed(
     most: u32,
     job: &str,
 ) -> Result<Vec<u32>, AllocError>
-    ensures { IfOk result (λ listed. listed.items ≡ listed history.now most job.now) }
+    ensures { IfOk result (λ all. all.items ≡ listed history.now most job.now) }
 {
     let all = newest_first(alloc, history, job)?;
     listed_of(alloc, history, most, &all)
@@ -168,7 +167,7 @@ pub(crate) fn builds_at<'h>(
     history: &'h History,
     positions: &[u32],
 ) -> Result<Vec<BuildRef<'h>>, AllocError>
-    ensures { IfOk result (λ builds. builds.items ≡ builds_at history.now positions.now) }
+    ensures { IfOk result (λ all. all.items ≡ builds_at history.now positions.now) }
 {
     let mut builds = Vec::new(alloc);
     for position in positions {
@@ -223,7 +222,7 @@ fn bars_of(
     rows: &[BuildRef<'_>],
     builds: &[BuildRef<'_>],
 ) -> Result<Vec<Bar>, AllocError>
-    ensures { IfOk result (λ bars. bars.items ≡ map (bar_of rows.now) builds.now) }
+    ensures { IfOk result (λ all. all.items ≡ map (bar_of rows.now) builds.now) }
 {
     let mut bars = Vec::new(alloc);
     for build in builds {
@@ -239,7 +238,7 @@ pub(crate) fn bars(
     most: u32,
     job: &str,
 ) -> Result<Vec<Bar>, AllocError>
-    ensures { IfOk result (λ bars. bars.items ≡ bars history.now most job.now) }
+    ensures { IfOk result (λ all. all.items ≡ bars history.now most job.now) }
 {
     let all = newest_first(alloc, history, job)?;
     let listed = listed_of(alloc, history, most, &all)?;

@@ -7,7 +7,7 @@
 //!
 //! A sentence for each job that stands still says why, by what is explained of the job's next build
 //! (`specs/Sentences.antt`). Its words are those of `explain`; where these name a build or a job, they lead to it. A page
-//! asks for each explanation once.
+//! asks for each explanation once. [`reasons_are_explained`] says so of each reason, whatever the links.
 #![tactic(auto)]
 
 mod about;
@@ -15,9 +15,10 @@ mod arrow;
 mod build;
 mod hold;
 mod job;
+mod law;
 mod linked;
 mod options;
-mod overview;
+mod page;
 mod resource;
 mod row;
 mod scene;
@@ -28,5 +29,6 @@ mod stopping;
 mod tests;
 mod word;
 
+pub use law::reasons_are_explained;
 pub use options::Options;
-pub use overview::overview;
+pub use page::overview;

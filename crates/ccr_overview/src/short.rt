@@ -1,14 +1,17 @@
 //! Versions in a few letters.
-ghost use Rattle.std.specs.Prelude.{◌≡◌, ◌++◌, ◌∷◌, [], ◌&&◌, ◌||◌, nat_le, map, take, codes, string_bytes, option_map, option_copied, IfOk, OnOk};
+ghost use Rattle.std.specs.Prelude.{◌≡◌, ◌++◌, ◌∷◌, [], true, map, flat_map, drop, string_bytes, option_map, IfOk, OnOk};
 ghost use Rattle.std.specs.List.{list_all};
-ghost use Rattle.ccr_history.specs.TextMap.{fields_in};
-ghost use Rattle.ccr_overview.specs.PageData.{version, version_data, word_data, plain};
-ghost use Rattle.ccr_overview.specs.Holds.{version_word};
-ghost use Rattle.ccr_overview.specs.Shorts.{is_hex, is_hash, begins, behind_name, short_text, short, version_of, short_there};
+ghost use Rattle.std.specs.Option.{option_copied};
+ghost use Rattle.serde_json.specs.View.{view, members_view};
+ghost use Rattle.ccr_history.specs.TextMap.{fields_in, texts_of, text_map_of};
+ghost use Rattle.ccr_overview.specs.Each.{each_from};
+ghost use Rattle.ccr_overview.specs.PageData.{version_data, word_data};
+ghost use Rattle.ccr_overview.specs.Sayings.{version_word};
+ghost use Rattle.ccr_overview.specs.Shorts.{is_hex, is_hash, begins, behind_name, short_text, field_data, short_field, short, version_of, short_there};
 
+use crate::word::numbered;
 use ccr_history::{History, Pin, Version as HistoryVersion};
 use ccr_page::{Version, Word};
-use crate::word::numbered;
 use serde_json::Value;
 use std::alloc::{AllocError, Global};
 use std::collections::BTreeMap;
@@ -95,90 +98,107 @@ fn push_short(text: &mut String, value: &str) -> Result<(), AllocError>
 
 // ---- fields
 
-/// Adds the text of a field.
-fn push_only(text: &mut String, value: &Value) -> Result<(), AllocError>
-    ensures { OnOk result (string_bytes text.new ≡ string_bytes text.old ++ only_text (view value.now)) }
+/// The members of a JSON object; None where one isn't a text.
+fn members_of(
+    alloc: Global,
+    members: &BTreeMap<String, Value>,
+) -> Result<Option<Vec<(String, String)>>, AllocError>
+    ensures { IfOk result (λ found. option_map (λ all. map field_data all.items) found
+        ≡ texts_of (members_view members.now.entries)) }
 {
-    match value.as_str() {
-        Some(value) => push_short(text, value),
-        None => Ok(()),
+    let mut all = Vec::new(alloc);
+    for (key, member) in members.iter() {
+        let Some(text) = member.as_str() else {
+            return Ok(None);
+        };
+        let text = String::from_str(alloc, text)?;
+        let key = String::from_str(alloc, key.as_str())?;
+        all.push((key, text))?;
     }
+    Ok(Some(all))
 }
 
-/// The texts of the fields.
-fn only_short(alloc: Global, fields: &BTreeMap<String, Value>) -> Result<String, AllocError>
-    ensures { IfOk result (λ text. string_bytes text ≡ only_texts (members_view fields.now.entries)) }
-{
-    let mut text = String::new(alloc);
-    for (_, value) in fields.iter() {
-        push_only(&mut text, value)?;
-    }
-    Ok(text)
-}
-
-/// Adds a field behind so many others.
-fn push_field(
-    text: &mut String,
-    position: usize,
-    key: &str,
+/// The fields of a JSON object whose fields are all texts; None where a value is no such object.
+fn value_fields(
+    alloc: Global,
     value: &Value,
-) -> Result<(), AllocError>
-    ensures { OnOk result (string_bytes text.new
-        ≡ string_bytes text.old ++ field_text position key.now (view value.now)) }
-{
-    if position > 0 {
-        text.push_str(", ")?;
-    }
-    text.push_str(key)?;
-    text.push_str(" ")?;
-    push_only(text, value)
-}
-
-/// The fields, each with its text.
-fn each_short(alloc: Global, fields: &BTreeMap<String, Value>) -> Result<String, AllocError>
-    ensures { IfOk result (λ text. string_bytes text ≡ field_texts 0 (members_view fields.now.entries)) }
-{
-    let mut text = String::new(alloc);
-    let mut position = 0;
-    for (key, value) in fields.iter() {
-        push_field(&mut text, position, key.as_str(), value)?;
-        position += 1;
-    }
-    Ok(text)
-}
-
-/// The fields in a few letters.
-fn fields_short(alloc: Global, fields: &BTreeMap<String, Value>) -> Result<String, AllocError>
-    ensures { let ms = members_view fields.now.entries in
-        IfSome (texts_of ms) (λ all. IfOk result (λ text. string_bytes text ≡ short all)) }
-{
-    if fields.len() == 1 {
-        only_short(alloc, fields)
-    } else {
-        each_short(alloc, fields)
-    }
-}
-
-/// The fields of an object in a few letters.
-fn value_short(alloc: Global, value: &Value) -> Result<String, AllocError>
-    ensures { IfSome (text_map_of (view value.now)) (λ all. IfOk result (λ text. string_bytes text ≡ short all)) }
+) -> Result<Option<Vec<(String, String)>>, AllocError>
+    ensures { IfOk result (λ found. option_map (λ all. map field_data all.items) found
+        ≡ text_map_of (view value.now)) }
 {
     match value.as_object() {
-        Some(fields) => fields_short(alloc, fields),
-        None => Ok(String::new(alloc)),
+        Some(members) => members_of(alloc, members),
+        None => Ok(None),
     }
+}
+
+/// The fields that a key spells.
+fn fields_of(alloc: Global, key: &str) -> Result<Vec<(String, String)>, AllocError>
+    ensures { IfOk result (λ all. map field_data all.items ≡ fields_in key.now) }
+{
+    let value = match Value::from_str(alloc, key) {
+        Ok(value) => value,
+        Err(error) if error.is_memory() => return Err(AllocError),
+        Err(_) => return Ok(Vec::new(alloc)),
+    };
+    match value_fields(alloc, &value)? {
+        Some(fields) => Ok(fields),
+        None => Ok(Vec::new(alloc)),
+    }
+}
+
+/// Adds the texts of fields.
+fn push_only(text: &mut String, fields: &[(String, String)]) -> Result<(), AllocError>
+    ensures { OnOk result (string_bytes text.new ≡ string_bytes text.old
+        ++ flat_map (λ f. short_text f.1) (map field_data fields.now)) }
+{
+    for field in fields {
+        push_short(text, field.1.as_str())?;
+    }
+    Ok(())
+}
+
+/// Adds a field of a version, behind the others.
+fn push_field(text: &mut String, position: usize, key: &str, value: &str) -> Result<(), AllocError>
+    ensures { OnOk result (string_bytes text.new
+        ≡ string_bytes text.old ++ short_field position (key.now, value.now)) }
+{
+    text.push_str(if position == 0 { "" } else { ", " })?;
+    text.push_str(key)?;
+    text.push_str(" ")?;
+    push_short(text, value)
+}
+
+/// Adds fields, each with its text.
+fn push_fields(text: &mut String, fields: &[(String, String)]) -> Result<(), AllocError>
+    ensures { OnOk result (string_bytes text.new ≡ string_bytes text.old
+        ++ each_from short_field 0 (map field_data fields.now)) }
+{
+    for (position, field) in fields.iter().enumerate() {
+        push_field(text, position, field.0.as_str(), field.1.as_str())?;
+    }
+    Ok(())
+}
+
+/// Fields in a few letters.
+fn fields_short(alloc: Global, fields: &[(String, String)]) -> Result<String, AllocError>
+    ensures { IfOk result (λ t. string_bytes t ≡ short (map field_data fields.now)) }
+{
+    let mut text = String::new(alloc);
+    if fields.len() == 1 {
+        push_only(&mut text, fields)?;
+    } else {
+        push_fields(&mut text, fields)?;
+    }
+    Ok(text)
 }
 
 /// The version of a key in a few letters.
 fn key_short(alloc: Global, key: &str) -> Result<String, AllocError>
-    requires { IsKey key.now }
-    ensures { IfOk result (λ text. string_bytes text ≡ short (fields_in key.now)) }
+    ensures { IfOk result (λ t. string_bytes t ≡ short (fields_in key.now)) }
 {
-    match Value::from_str(alloc, key) {
-        Ok(value) => value_short(alloc, &value),
-        Err(error) if error.is_memory() => Err(AllocError),
-        Err(_) => Ok(String::new(alloc)),
-    }
+    let fields = fields_of(alloc, key)?;
+    fields_short(alloc, &fields)
 }
 
 // ---- versions
@@ -212,7 +232,7 @@ pub(crate) fn pin_version(alloc: Global, pin: &Pin) -> Result<Version, AllocErro
 
 /// A pin in a few letters.
 pub(crate) fn pin_short(alloc: Global, pin: &Pin) -> Result<String, AllocError>
-    ensures { IfOk result (λ text. string_bytes text ≡ short pin.now) }
+    ensures { IfOk result (λ t. string_bytes t ≡ short pin.now) }
 {
     let key = pin.text(alloc)?;
     key_short(alloc, key.as_str())
@@ -225,7 +245,7 @@ pub(crate) fn short_there(
     scope: u32,
     place: u32,
 ) -> Result<String, AllocError>
-    ensures { IfOk result (λ text. string_bytes text ≡ short_there history.now scope place) }
+    ensures { IfOk result (λ t. string_bytes t ≡ short_there history.now scope place) }
 {
     match history.version_at(scope, place) {
         Some(version) => {

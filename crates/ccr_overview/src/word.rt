@@ -1,7 +1,7 @@
 //! Words of sentences.
 ghost use Rattle.std.specs.Prelude.{◌≡◌, ◌++◌, ◌∷◌, [], map, codes, decimal, string_bytes, IfOk, OnOk};
 ghost use Rattle.ccr_lines.specs.Lines.{status_word};
-ghost use Rattle.ccr_overview.specs.Linked.{separated, joined};
+ghost use Rattle.ccr_overview.specs.Sayings.{joined, separated};
 ghost use Rattle.ccr_overview.specs.PageData.{plain, text, name, row, word_data};
 
 use ccr_history::Status;
@@ -14,7 +14,7 @@ use std::alloc::{AllocError, Global};
 
 /// A number behind words.
 pub(crate) fn numbered(alloc: Global, words: &str, number: u32) -> Result<String, AllocError>
-    ensures { IfOk result (λ text. string_bytes text ≡ words.now ++ decimal number) }
+    ensures { IfOk result (λ t. string_bytes t ≡ words.now ++ decimal number) }
 {
     let mut buffer = Buffer::new();
     let mut text = String::from_str(alloc, words)?;
@@ -29,7 +29,7 @@ pub(crate) fn counted(
     number: usize,
     after: &str,
 ) -> Result<String, AllocError>
-    ensures { IfOk result (λ text. string_bytes text ≡ before.now ++ (decimal number ++ after.now)) }
+    ensures { IfOk result (λ t. string_bytes t ≡ before.now ++ (decimal number ++ after.now)) }
 {
     let mut buffer = Buffer::new();
     let mut text = String::from_str(alloc, before)?;
@@ -40,7 +40,7 @@ pub(crate) fn counted(
 
 /// A number, and how its build stands.
 pub(crate) fn standing(alloc: Global, number: u32, status: Status) -> Result<String, AllocError>
-    ensures { IfOk result (λ text. string_bytes text ≡ decimal number ++ (codes " " ++ status_word status)) }
+    ensures { IfOk result (λ t. string_bytes t ≡ decimal number ++ (codes " " ++ status_word status)) }
 {
     let mut text = numbered(alloc, "", number)?;
     text.push_str(" ")?;
