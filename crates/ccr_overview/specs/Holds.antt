@@ -120,6 +120,10 @@ has_urgency u hs = list_any (λ h. is_as_urgent u h.urgency) hs
 abbrev pub worst : List HoldData → Urgency
 worst hs = if has_urgency Stopped hs then Stopped else (if has_urgency Held hs then Held else Going)
 
+-- those of these that are so urgent
+abbrev pub urgent_ones : Urgency → List HoldData → List HoldData
+urgent_ones u hs = filter (λ h. is_as_urgent u h.urgency) hs
+
 -- WHAT IS TOLD of these: the most urgent ones
 abbrev pub told_holds : List HoldData → List HoldData
-told_holds hs = filter (λ h. is_as_urgent (worst hs) h.urgency) hs
+told_holds hs = urgent_ones (worst hs) hs

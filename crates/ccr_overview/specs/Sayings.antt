@@ -1,5 +1,5 @@
 -- Words, and parts of sentences.
-use Rattle.std.specs.Prelude.{ℕ, List, [], ◌∷◌, ◌++◌, ◌==◌, Option, Some, None, if◌then◌else◌, decimal}
+use Rattle.std.specs.Prelude.{ℕ, List, [], ◌∷◌, ◌++◌, ◌==◌, Option, Some, None, if◌then◌else◌, codes, decimal}
 use Rattle.ccr_history.specs.Text.{Text}
 use Rattle.ccr_history.specs.TextMap.{TextMap}
 use Rattle.ccr_overview.specs.PageData.{WordData, plain, version}
@@ -19,4 +19,4 @@ separated words k = if k == 0 then [] else plain words ∷ []
 abbrev pub joined : List WordData → List WordData → List WordData
 joined [] second = second
 joined (w ∷ ws) [] = w ∷ ws
-joined (w ∷ ws) (v ∷ vs) = (w ∷ ws) ++ plain (59 ∷ 32 ∷ []) ∷ (v ∷ vs)
+joined (w ∷ ws) (v ∷ vs) = (w ∷ ws) ++ plain (codes "; ") ∷ (v ∷ vs)

@@ -1,5 +1,5 @@
 -- Why a job stands still, in a sentence: a table over what `explain` says, and how the newest build stands.
-use Rattle.std.specs.Prelude.{ℕ, ◌-◌, List, [], ◌∷◌, ◌++◌, length, map, flat_map, filter, take, find, slice_get, Bool, true, false, not, ◌&&◌, ◌||◌, ◌==◌, nat_lt, Option, Some, None, option_and_then, if◌then◌else◌, codes, decimal}
+use Rattle.std.specs.Prelude.{ℕ, ◌-◌, List, [], ◌∷◌, ◌++◌, length, map, flat_map, filter, find, slice_get, Bool, true, false, not, ◌&&◌, ◌||◌, ◌==◌, nat_lt, Option, Some, None, option_and_then, if◌then◌else◌, codes, decimal}
 use Rattle.std.specs.Option.{option_map_or}
 use Rattle.std.specs.Str.{bytes_eq}
 use Rattle.ccr_history.specs.Text.{Text}
@@ -63,9 +63,10 @@ start_words by_itself k =
     if by_itself then (if k == 0 then codes "stays at " else codes "; at ")
     else (if k == 0 then codes "would take " else codes "; ")
 
--- what holds an input, behind the others
+-- what holds an input, behind the others; nothing behind the first three
 abbrev pub told_hold : SceneData → Bool → Bool → ℕ → HoldData → List WordData
-told_hold s several by_itself k h = plain (start_words by_itself k) ∷ hold_words s several h
+told_hold s several by_itself k h =
+    if nat_lt k 3 then plain (start_words by_itself k) ∷ hold_words s several h else []
 
 -- that there are more, if there are
 abbrev pub more_words : ℕ → List WordData
@@ -74,7 +75,7 @@ more_words more = if more == 0 then [] else plain (codes "; and " ++ (decimal mo
 -- what holds the inputs: the first three
 abbrev pub holds_words : SceneData → Bool → Bool → List HoldData → List WordData
 holds_words s several by_itself hs =
-    each_from (told_hold s several by_itself) 0 (take 3 hs) ++ more_words (length hs - 3)
+    each_from (told_hold s several by_itself) 0 hs ++ more_words (length hs - 3)
 
 -- ---- a build that wasn't good
 -- it failed, errored or was aborted
@@ -109,45 +110,44 @@ alone_words true = codes ", and nothing newer has come"
 alone_words false = codes ", and only a command makes the next"
 
 -- what else holds it, but for pins and the like
-abbrev pub beside_words : SceneData → Bool → Bool → List HoldData → List WordData
-beside_words s several by_itself hs =
+abbrev pub beside_words : SceneData → Bool → List TakenData → List HoldData → List WordData
+beside_words s by_itself ts hs =
     if length hs == 0 || is_as_urgent urgency.Held (worst hs) then plain (alone_words by_itself) ∷ []
-    else plain (codes "; ") ∷ holds_words s several by_itself (told_holds hs)
+    else plain (codes "; ") ∷ holds_words s (nat_lt 1 (length ts)) by_itself (told_holds hs)
 
 -- that its newest build wasn't good
-abbrev pub bad_why : SceneData → ℕ → ToldData → Bool → BuildData → List HoldData → WhyData
-bad_why s k t by_itself b hs = record {
-  urgency = urgency.Stopped;
-  words = bad_words s.history k t.job b ++ beside_words s (nat_lt 1 (length t.explained.inputs)) by_itself hs;
-}
+abbrev pub bad_why : SceneData → ℕ → ToldData → Bool → BuildData → WhyData
+bad_why s k t by_itself b =
+    let ts : List TakenData = t.explained.inputs in
+    record { urgency = urgency.Stopped; words = bad_words s.history k t.job b ++ beside_words s by_itself ts (holds s ts) }
 
--- what holds it, if something does
-abbrev pub held_why : SceneData → Bool → Bool → List HoldData → Option WhyData
-held_why s several by_itself hs =
+-- what holds its inputs, if something does
+abbrev pub held_by : SceneData → Bool → List TakenData → List HoldData → Option WhyData
+held_by s by_itself ts hs =
     if length hs == 0 then None
-    else Some (record { urgency = worst hs; words = holds_words s several by_itself (told_holds hs) })
+    else Some (record { urgency = worst hs; words = holds_words s (nat_lt 1 (length ts)) by_itself (told_holds hs) })
+
+-- the same
+abbrev pub held_why : SceneData → Bool → List TakenData → Option WhyData
+held_why s by_itself ts = held_by s by_itself ts (holds s ts)
 
 -- why it has no newer build, where its newest one has ended so
-abbrev pub ended_why : SceneData → ℕ → ToldData → Bool → BuildData → List HoldData → Option WhyData
-ended_why s k t by_itself b hs =
-    if is_bad b.status then Some (bad_why s k t by_itself b hs)
-    else held_why s (nat_lt 1 (length t.explained.inputs)) by_itself hs
+abbrev pub ended_why : SceneData → ℕ → ToldData → Bool → BuildData → Option WhyData
+ended_why s k t by_itself b =
+    if is_bad b.status then Some (bad_why s k t by_itself b) else held_why s by_itself t.explained.inputs
 
--- the same of a job that has no build: nothing is said of one that only a command builds
-abbrev pub unbuilt_why : SceneData → ToldData → Bool → List HoldData → Option WhyData
-unbuilt_why s t by_itself hs = if by_itself then held_why s (nat_lt 1 (length t.explained.inputs)) by_itself hs else None
-
--- the same of any job
-abbrev pub standing_why : SceneData → ℕ → ToldData → Bool → Option BuildData → List HoldData → Option WhyData
-standing_why s k t by_itself (Some b) hs = ended_why s k t by_itself b hs
-standing_why s k t by_itself None hs = unbuilt_why s t by_itself hs
+-- the same of a job that may have no build: nothing is said of one that only a command builds
+abbrev pub standing_why : SceneData → ℕ → ToldData → Bool → Option BuildData → Option WhyData
+standing_why s k t by_itself (Some b) = ended_why s k t by_itself b
+standing_why s k t true None = held_why s true t.explained.inputs
+standing_why s k t false None = None
 
 -- ---- the table
 -- why a job has no newer build, by what its next build would be
 abbrev pub outlook_why : SceneData → ℕ → ToldData → Option BuildData → Outlook → Option WhyData
 outlook_why s k t newest Due = Some (record { urgency = urgency.Going; words = due_words t.explained.inputs })
-outlook_why s k t newest NothingNew = standing_why s k t true newest (holds s t.explained.inputs)
-outlook_why s k t newest ByCommandOnly = standing_why s k t false newest (holds s t.explained.inputs)
+outlook_why s k t newest NothingNew = standing_why s k t true newest
+outlook_why s k t newest ByCommandOnly = standing_why s k t false newest
 outlook_why s k t newest NoneSatisfies = Some (record { urgency = urgency.Stopped; words = none_words t.explained.why })
 outlook_why s k t newest (OverBudget n) =
     Some (record { urgency = urgency.Stopped; words = budget_words (OverBudget n) })

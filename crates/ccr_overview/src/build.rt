@@ -61,7 +61,7 @@ fn is_good(build: &BuildRef<'_>) -> bool
 
 /// The positions of a job's builds among all, the newest first.
 fn newest_first(alloc: Global, history: &History, job: &str) -> Result<Vec<u32>, AllocError>
-    ensures { IfOk result (λ all. all.items ≡ newest_first job.now history.now) }
+    ensures { IfOk result (λ found. found.items ≡ newest_first job.now history.now) }
 {
     let mut all = Vec::from_slice(alloc, history.builds_of(job))?;
     all.reverse();
@@ -116,7 +116,7 @@ fn listed_of(
     most: u32,
     all: &[u32],
 ) -> Result<Vec<u32>, AllocError>
-    ensures { IfOk result (λ all. all.items ≡ listed_of history.now most all.now) }
+    ensures { IfOk result (λ found. found.items ≡ listed_of history.now most all.now) }
 {
     let first = first_ones(all, most);
     let mut listed = Vec::from_slice(alloc, first)?;
@@ -137,7 +137,7 @@ pub(crate) fn listed(
     most: u32,
     job: &str,
 ) -> Result<Vec<u32>, AllocError>
-    ensures { IfOk result (λ all. all.items ≡ listed history.now most job.now) }
+    ensures { IfOk result (λ found. found.items ≡ listed history.now most job.now) }
 {
     let all = newest_first(alloc, history, job)?;
     listed_of(alloc, history, most, &all)
@@ -167,7 +167,7 @@ pub(crate) fn builds_at<'h>(
     history: &'h History,
     positions: &[u32],
 ) -> Result<Vec<BuildRef<'h>>, AllocError>
-    ensures { IfOk result (λ all. all.items ≡ builds_at history.now positions.now) }
+    ensures { IfOk result (λ found. found.items ≡ builds_at history.now positions.now) }
 {
     let mut builds = Vec::new(alloc);
     for position in positions {
@@ -222,7 +222,7 @@ fn bars_of(
     rows: &[BuildRef<'_>],
     builds: &[BuildRef<'_>],
 ) -> Result<Vec<Bar>, AllocError>
-    ensures { IfOk result (λ all. all.items ≡ map (bar_of rows.now) builds.now) }
+    ensures { IfOk result (λ found. found.items ≡ map (bar_of rows.now) builds.now) }
 {
     let mut bars = Vec::new(alloc);
     for build in builds {
@@ -238,7 +238,7 @@ pub(crate) fn bars(
     most: u32,
     job: &str,
 ) -> Result<Vec<Bar>, AllocError>
-    ensures { IfOk result (λ all. all.items ≡ bars history.now most job.now) }
+    ensures { IfOk result (λ found. found.items ≡ bars history.now most job.now) }
 {
     let all = newest_first(alloc, history, job)?;
     let listed = listed_of(alloc, history, most, &all)?;

@@ -1,12 +1,11 @@
 //! What holds an input of a job at an older version than there is, in the words of `explain`.
-ghost use Rattle.std.specs.Prelude.{◌≡◌, ◌++◌, ◌∷◌, [], ◌&&◌, Option, length, map, filter, option_map, IfOk, OnOk};
-ghost use Rattle.std.specs.List.{list_any};
+ghost use Rattle.std.specs.Prelude.{◌≡◌, ◌++◌, ◌∷◌, [], if◌then◌else◌, map, option_map, IfOk, OnOk};
 ghost use Rattle.std.specs.Option.{option_copied};
 ghost use Rattle.ccr_history.specs.Builds.{is_running};
 ghost use Rattle.ccr_lines.specs.JobsJson.{is_due};
 ghost use Rattle.ccr_lines.specs.Stops.{stop_data};
 ghost use Rattle.ccr_page.specs.Statuses.{urgency_rank, is_as_urgent};
-ghost use Rattle.ccr_overview.specs.Holds.{stands_said, stop_words, reason_words, is_held_words, is_due_job, goes_on, reason_urgency, hold_data, hold_of, hold_in, holds, resource_words, versions_words, hold_words, has_urgency, worst, told_holds};
+ghost use Rattle.ccr_overview.specs.Holds.{stands_said, stop_words, reason_words, is_held_words, is_due_job, goes_on, reason_urgency, hold_data, hold_of, hold_in, holds, resource_words, versions_words, hold_words, has_urgency, worst, urgent_ones};
 ghost use Rattle.ccr_overview.specs.PageData.{word_data};
 ghost use Rattle.ccr_overview.specs.Scenes.{told_data, scene_data};
 
@@ -270,10 +269,11 @@ pub(crate) fn push_hold_words(
     ensures { OnOk result (map word_data out.new.items
         ≡ map word_data out.old.items ++ hold_words (scene_data scene.now) several (hold_data hold.now)) }
 {
-    let words = hold.refusal.words.as_str();
-    push_resource(alloc, out, several, hold.taken.resource.as_str())?;
-    push_versions(alloc, out, hold.taken, hold.refusal)?;
-    push_reason(alloc, out, scene, words, hold.stop.as_ref())
+    let taken = hold.taken;
+    let refusal = hold.refusal;
+    push_resource(alloc, out, several, taken.resource.as_str())?;
+    push_versions(alloc, out, taken, refusal)?;
+    push_reason(alloc, out, scene, refusal.words.as_str(), hold.stop.as_ref())
 }
 
 // ---- together
@@ -321,14 +321,14 @@ pub(crate) fn worst(holds: &[Hold<'_>]) -> Urgency
     }
 }
 
-/// Adds what holds an input, if it is so urgent.
-fn push_urgent<'h, 't>(
-    out: &mut Vec<&'h Hold<'t>>,
+/// Adds what holds an input that doesn't take a newer place, if it is so urgent.
+fn push_if_urgent<'t>(
+    out: &mut Vec<Hold<'t>>,
     urgency: Urgency,
-    hold: &'h Hold<'t>,
+    hold: Hold<'t>,
 ) -> Result<(), AllocError>
-    ensures { OnOk result (map (λ h. hold_data h.now) out.new.items ≡ map (λ h. hold_data h.now) out.old.items
-        ++ (if is_as_urgent urgency (hold_data hold.now).urgency then hold_data hold.now ∷ [] else [])) }
+    ensures { OnOk result (map hold_data out.new.items
+        ≡ map hold_data out.old.items ++ (if is_as_urgent urgency (hold_data hold).urgency then hold_data hold ∷ [] else [])) }
 {
     if is_as_urgent(urgency, hold.urgency) {
         out.push(hold)?;
@@ -336,28 +336,38 @@ fn push_urgent<'h, 't>(
     Ok(())
 }
 
-/// Those of these that are so urgent.
-fn urgent_ones<'h, 't>(
+/// Adds what holds an input, if something does that is so urgent.
+fn push_urgent<'t>(
     alloc: Global,
+    out: &mut Vec<Hold<'t>>,
+    scene: &Scene<'_>,
     urgency: Urgency,
-    holds: &'h [Hold<'t>],
-) -> Result<Vec<&'h Hold<'t>>, AllocError>
-    ensures { IfOk result (λ told. map (λ h. hold_data h.now) told.items
-        ≡ filter (λ h. is_as_urgent urgency h.urgency) (map hold_data holds.now)) }
+    taken: &'t Taken,
+) -> Result<(), AllocError>
+    ensures { OnOk result (map hold_data out.new.items ≡ map hold_data out.old.items
+        ++ urgent_ones urgency (hold_in (scene_data scene.now) taken.now (taken.now).newer)) }
 {
-    let mut told = Vec::new(alloc);
-    for hold in holds {
-        push_urgent(&mut told, urgency, hold)?;
+    match taken.newer.first() {
+        Some(refusal) => {
+            let hold = hold_of(alloc, scene, taken, refusal)?;
+            push_if_urgent(out, urgency, hold)
+        }
+        None => Ok(()),
     }
-    Ok(told)
 }
 
-/// The most urgent of these.
-pub(crate) fn told_holds<'h, 't>(
+/// What holds the inputs of a job and is so urgent.
+pub(crate) fn urgent_holds<'t>(
     alloc: Global,
-    holds: &'h [Hold<'t>],
-) -> Result<Vec<&'h Hold<'t>>, AllocError>
-    ensures { IfOk result (λ told. map (λ h. hold_data h.now) told.items ≡ told_holds (map hold_data holds.now)) }
+    scene: &Scene<'_>,
+    urgency: Urgency,
+    inputs: &'t [Taken],
+) -> Result<Vec<Hold<'t>>, AllocError>
+    ensures { IfOk result (λ all. map hold_data all.items ≡ urgent_ones urgency (holds (scene_data scene.now) inputs.now)) }
 {
-    urgent_ones(alloc, worst(holds), holds)
+    let mut all = Vec::new(alloc);
+    for taken in inputs {
+        push_urgent(alloc, &mut all, scene, urgency, taken)?;
+    }
+    Ok(all)
 }

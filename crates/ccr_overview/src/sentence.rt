@@ -1,16 +1,18 @@
 //! Why a job stands still, in a sentence.
-ghost use Rattle.std.specs.Prelude.{◌≡◌, ◌≤◌, ◌++◌, ◌∷◌, [], ◌-◌, nat_lt, if◌then◌else◌, Option, length, map, take, filter, string_bytes, option_map, IfOk, OnOk};
+ghost use Rattle.std.specs.Prelude.{◌≡◌, ◌++◌, ◌∷◌, [], nat_lt, if◌then◌else◌, Option, length, map, filter, string_bytes, option_map, IfOk, OnOk};
 ghost use Rattle.std.specs.Option.{option_copied};
 ghost use Rattle.ccr_pipeline.specs.Inputs.{input_data, inputs};
 ghost use Rattle.ccr_pipeline.specs.JobData.{job_data};
 ghost use Rattle.ccr_overview.specs.Each.{each_from};
-ghost use Rattle.ccr_overview.specs.Holds.{hold_data, holds};
+ghost use Rattle.ccr_overview.specs.Holds.{hold_data, holds, urgent_ones};
 ghost use Rattle.ccr_overview.specs.PageData.{word_data, why_data};
 ghost use Rattle.ccr_overview.specs.Scenes.{told_data, scene_data};
 ghost use Rattle.ccr_overview.specs.PageRows.{used_for};
-ghost use Rattle.ccr_overview.specs.Sentences.{build_row, running_why, only, due_of, due_words, none_words, budget_words, start_words, told_hold, more_words, holds_words, is_bad, took_on, on_words, stopped_words, bad_words, alone_words, beside_words, bad_why, held_why, ended_why, unbuilt_why, standing_why, outlook_why, why_of};
+ghost use Rattle.ccr_overview.specs.Sentences.{build_row, running_why, only, due_of, due_words, none_words, budget_words, start_words, told_hold, more_words, holds_words, is_bad, took_on, on_words, stopped_words, bad_words, alone_words, beside_words, bad_why, held_why, ended_why, standing_why, outlook_why, why_of};
 
-use crate::hold::{Hold, holds, is_as_urgent, push_hold_words, push_resource, told_holds, worst};
+use crate::hold::{
+    Hold, holds, is_as_urgent, push_hold_words, push_resource, urgent_holds, worst,
+};
 use crate::row::used_for;
 use crate::scene::{Scene, Told};
 use crate::short::push_version;
@@ -114,7 +116,7 @@ fn start_words(by_itself: bool, position: usize) -> &'static str
     }
 }
 
-/// Adds what holds an input, behind the others.
+/// Adds what holds an input, behind the others; nothing behind the first three.
 fn push_told(
     alloc: Global,
     out: &mut Vec<Word>,
@@ -127,21 +129,24 @@ fn push_told(
     ensures { OnOk result (map word_data out.new.items ≡ map word_data out.old.items
         ++ told_hold (scene_data scene.now) several by_itself position (hold_data hold.now)) }
 {
+    if position >= 3 {
+        return Ok(());
+    }
     push_plain(alloc, out, start_words(by_itself, position))?;
     push_hold_words(alloc, out, scene, several, hold)
 }
 
-/// Adds what holds these inputs.
+/// Adds what holds these inputs: the first three.
 fn push_each(
     alloc: Global,
     out: &mut Vec<Word>,
     scene: &Scene<'_>,
     several: bool,
     by_itself: bool,
-    holds: &[&Hold<'_>],
+    holds: &[Hold<'_>],
 ) -> Result<(), AllocError>
     ensures { OnOk result (map word_data out.new.items ≡ map word_data out.old.items
-        ++ each_from (told_hold (scene_data scene.now) several by_itself) 0 (map (λ h. hold_data h.now) holds.now)) }
+        ++ each_from (told_hold (scene_data scene.now) several by_itself) 0 (map hold_data holds.now)) }
 {
     for (position, hold) in holds.iter().enumerate() {
         push_told(alloc, out, scene, several, by_itself, position, hold)?;
@@ -160,21 +165,38 @@ fn push_more(alloc: Global, out: &mut Vec<Word>, more: usize) -> Result<(), Allo
     push_plain(alloc, out, words.as_str())
 }
 
-/// Adds what holds the inputs of a job: the first three.
+/// Adds what holds the inputs of a job: the first three, and how many more there are.
 fn push_holds(
     alloc: Global,
     out: &mut Vec<Word>,
     scene: &Scene<'_>,
     several: bool,
     by_itself: bool,
-    holds: &[&Hold<'_>],
+    holds: &[Hold<'_>],
 ) -> Result<(), AllocError>
     ensures { OnOk result (map word_data out.new.items ≡ map word_data out.old.items
-        ++ holds_words (scene_data scene.now) several by_itself (map (λ h. hold_data h.now) holds.now)) }
+        ++ holds_words (scene_data scene.now) several by_itself (map hold_data holds.now)) }
 {
-    let (first, _) = holds.split_at(holds.len().min(3));
-    push_each(alloc, out, scene, several, by_itself, first)?;
+    push_each(alloc, out, scene, several, by_itself, holds)?;
     push_more(alloc, out, holds.len().saturating_sub(3))
+}
+
+/// Adds the most urgent of what holds the inputs of a job.
+fn push_urgent(
+    alloc: Global,
+    out: &mut Vec<Word>,
+    scene: &Scene<'_>,
+    by_itself: bool,
+    inputs: &[Taken],
+    urgency: Urgency,
+) -> Result<(), AllocError>
+    ensures { let s = scene_data scene.now in let ts = inputs.now in
+        OnOk result (map word_data out.new.items ≡ map word_data out.old.items
+        ++ holds_words s (nat_lt 1 (length ts)) by_itself (urgent_ones urgency (holds s ts))) }
+{
+    let told = urgent_holds(alloc, scene, urgency, inputs)?;
+    push_holds(alloc, out, scene, inputs.len() > 1, by_itself, &told)?;
+    Ok(())
 }
 
 // ---- a build that wasn't good
@@ -310,20 +332,20 @@ fn push_beside(
     alloc: Global,
     out: &mut Vec<Word>,
     scene: &Scene<'_>,
-    several: bool,
     by_itself: bool,
-    holds: &[Hold<'_>],
+    inputs: &[Taken],
 ) -> Result<(), AllocError>
-    ensures { OnOk result (map word_data out.new.items ≡ map word_data out.old.items
-        ++ beside_words (scene_data scene.now) several by_itself (map hold_data holds.now)) }
+    ensures { let s = scene_data scene.now in let ts = inputs.now in
+        OnOk result (map word_data out.new.items ≡ map word_data out.old.items
+        ++ beside_words s by_itself ts (holds s ts)) }
 {
-    if holds.is_empty() || is_as_urgent(Urgency::Held, worst(holds)) {
+    let all = holds(alloc, scene, inputs)?;
+    let urgency = worst(&all);
+    if all.is_empty() || is_as_urgent(Urgency::Held, urgency) {
         return push_plain(alloc, out, alone_words(by_itself));
     }
-    let told = told_holds(alloc, holds)?;
     push_plain(alloc, out, "; ")?;
-    push_holds(alloc, out, scene, several, by_itself, &told)?;
-    Ok(())
+    push_urgent(alloc, out, scene, by_itself, inputs, urgency)
 }
 
 /// That a job's newest build wasn't good.
@@ -334,39 +356,50 @@ fn bad_why(
     told: &Told<'_>,
     by_itself: bool,
     build: &BuildRef<'_>,
-    holds: &[Hold<'_>],
 ) -> Result<Why, AllocError>
     ensures { IfOk result (λ why. why_data why
-        ≡ bad_why (scene_data scene.now) at (told_data told.now) by_itself build.now (map hold_data holds.now)) }
+        ≡ bad_why (scene_data scene.now) at (told_data told.now) by_itself build.now) }
 {
-    let several = told.explained.inputs.len() > 1;
     let mut words = bad_words(alloc, scene.history, at, told.job, build)?;
-    push_beside(alloc, &mut words, scene, several, by_itself, holds)?;
+    push_beside(alloc, &mut words, scene, by_itself, &told.explained.inputs)?;
     Ok(Why {
         urgency: Urgency::Stopped,
         words,
     })
 }
 
-/// What holds a job, if something does.
+/// What holds the inputs of a job, the most urgent of which is so urgent.
+fn urgent_why(
+    alloc: Global,
+    scene: &Scene<'_>,
+    by_itself: bool,
+    inputs: &[Taken],
+    urgency: Urgency,
+) -> Result<Why, AllocError>
+    ensures { let s = scene_data scene.now in let ts = inputs.now in
+        IfOk result (λ why. why_data why ≡ record { urgency = urgency; words =
+        holds_words s (nat_lt 1 (length ts)) by_itself (urgent_ones urgency (holds s ts)) }) }
+{
+    let mut words = Vec::new(alloc);
+    push_urgent(alloc, &mut words, scene, by_itself, inputs, urgency)?;
+    Ok(Why { urgency, words })
+}
+
+/// What holds the inputs of a job, if something does.
 fn held_why(
     alloc: Global,
     scene: &Scene<'_>,
-    several: bool,
     by_itself: bool,
-    holds: &[Hold<'_>],
+    inputs: &[Taken],
 ) -> Result<Option<Why>, AllocError>
-    ensures { IfOk result (λ why. option_map why_data why
-        ≡ held_why (scene_data scene.now) several by_itself (map hold_data holds.now)) }
+    ensures { IfOk result (λ why. option_map why_data why ≡ held_why (scene_data scene.now) by_itself inputs.now) }
 {
-    if holds.is_empty() {
+    let all = holds(alloc, scene, inputs)?;
+    if all.is_empty() {
         return Ok(None);
     }
-    let urgency = worst(holds);
-    let told = told_holds(alloc, holds)?;
-    let mut words = Vec::new(alloc);
-    push_holds(alloc, &mut words, scene, several, by_itself, &told)?;
-    Ok(Some(Why { urgency, words }))
+    let why = urgent_why(alloc, scene, by_itself, inputs, worst(&all))?;
+    Ok(Some(why))
 }
 
 /// Why a job has no newer build, where its newest one has ended.
@@ -377,38 +410,18 @@ fn ended_why(
     told: &Told<'_>,
     by_itself: bool,
     build: &BuildRef<'_>,
-    holds: &[Hold<'_>],
 ) -> Result<Option<Why>, AllocError>
     ensures { IfOk result (λ why. option_map why_data why
-        ≡ ended_why (scene_data scene.now) at (told_data told.now) by_itself build.now (map hold_data holds.now)) }
+        ≡ ended_why (scene_data scene.now) at (told_data told.now) by_itself build.now) }
 {
     if is_bad(build.status()) {
-        let why = bad_why(alloc, scene, at, told, by_itself, build, holds)?;
+        let why = bad_why(alloc, scene, at, told, by_itself, build)?;
         return Ok(Some(why));
     }
-    let several = told.explained.inputs.len() > 1;
-    held_why(alloc, scene, several, by_itself, holds)
+    held_why(alloc, scene, by_itself, &told.explained.inputs)
 }
 
-/// The same of a job that has no build: nothing is said of one that only a command builds.
-fn unbuilt_why(
-    alloc: Global,
-    scene: &Scene<'_>,
-    told: &Told<'_>,
-    by_itself: bool,
-    holds: &[Hold<'_>],
-) -> Result<Option<Why>, AllocError>
-    ensures { IfOk result (λ why. option_map why_data why
-        ≡ unbuilt_why (scene_data scene.now) (told_data told.now) by_itself (map hold_data holds.now)) }
-{
-    if !by_itself {
-        return Ok(None);
-    }
-    let several = told.explained.inputs.len() > 1;
-    held_why(alloc, scene, several, by_itself, holds)
-}
-
-/// The same of any job.
+/// The same of a job that may have no build: nothing is said of one that only a command builds.
 fn standing_why(
     alloc: Global,
     scene: &Scene<'_>,
@@ -417,14 +430,16 @@ fn standing_why(
     by_itself: bool,
     newest: Option<&BuildRef<'_>>,
 ) -> Result<Option<Why>, AllocError>
-    ensures { let s = scene_data scene.now in let t = told_data told.now in
-        IfOk result (λ why. option_map why_data why
-        ≡ standing_why s at t by_itself (option_copied newest.entry) (holds s t.explained.inputs)) }
+    ensures { IfOk result (λ why. option_map why_data why
+        ≡ standing_why (scene_data scene.now) at (told_data told.now) by_itself (option_copied newest.entry)) }
 {
-    let holds = holds(alloc, scene, &told.explained.inputs)?;
-    match newest {
-        Some(build) => ended_why(alloc, scene, at, told, by_itself, build, &holds),
-        None => unbuilt_why(alloc, scene, told, by_itself, &holds),
+    if let Some(build) = newest {
+        return ended_why(alloc, scene, at, told, by_itself, build);
+    }
+    if by_itself {
+        held_why(alloc, scene, by_itself, &told.explained.inputs)
+    } else {
+        Ok(None)
     }
 }
 

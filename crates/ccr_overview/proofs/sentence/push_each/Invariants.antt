@@ -8,4 +8,4 @@ use Rattle.ccr_overview.proofs.sentence.push_each.Given as goal
 
 abbrev pub invariant-loop-position : goal.invariant-loop-position
 invariant-loop-position l =
-    map word_data l.out.items ++ each_from (told_hold (scene_data l.scene) l.several l.by_itself) l.position (map (λ h. hold_data h.now) (drop l.position l.holds)) ≡ map word_data l.fn.out.items ++ each_from (told_hold (scene_data l.scene) l.several l.by_itself) 0 (map (λ h. hold_data h.now) l.holds)
+    map word_data l.out.items ++ each_from (told_hold (scene_data l.scene) l.several l.by_itself) l.position (map hold_data (drop l.position l.holds)) ≡ map word_data l.fn.out.items ++ each_from (told_hold (scene_data l.scene) l.several l.by_itself) 0 (map hold_data l.holds)
