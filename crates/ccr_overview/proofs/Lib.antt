@@ -1,3 +1,4 @@
+pub mod Joining
 pub mod Paging
 pub mod Saying
 pub mod Telling

@@ -12,12 +12,12 @@ use Rattle.ccr_lines.specs.Stops as stops
 use Rattle.ccr_overview.specs.Holds.{stop_words, reason_words, stands_said}
 use Rattle.ccr_overview.specs.Linked.{job_position, job_word, build_at, build_word}
 use Rattle.ccr_overview.specs.PageBuilds.{has_row}
-use Rattle.ccr_overview.specs.PageData.{WordData, plain, name, job, build, past, word_text, said}
+use Rattle.ccr_overview.specs.PageData.{WordData, Plain, Named, ToJob, ToBuild, Past, word_text, said}
 use Rattle.ccr_overview.specs.Scenes.{SceneData}
 use Rattle.ccr_overview.specs.Stopping.{if_said, stop_before}
 
 -- a job is said by its name
-job_by : (named : Text) (o : Option ℕ) → word_text (option_map_or (λ k. job k named) o (name named 40)) ≡ named
+job_by : (named : Text) (o : Option ℕ) → word_text (option_map_or (λ k. ToJob k named) o (Named named 40)) ≡ named
 job_by named (Some k) = refl
 job_by named None = refl
 
@@ -25,12 +25,12 @@ job_said : (s : SceneData) (named : Text) → word_text (job_word s named) ≡ n
 job_said s named = job_by named (job_position named s.pipeline.jobs)
 
 -- a build is said by its job's name and its number
-build_if : (named : Text) (n k : ℕ) (b : Bool) → word_text (cond b (build k n named) (past named n)) ≡ named ++ (codes " " ++ decimal n)
+build_if : (named : Text) (n k : ℕ) (b : Bool) → word_text (cond b (ToBuild k n named) (Past named n)) ≡ named ++ (codes " " ++ decimal n)
 build_if named n k true = refl
 build_if named n k false = refl
 
 build_by : (s : SceneData) (named : Text) (n : ℕ) (o : Option ℕ)
-    → word_text (option_map_or (build_at s named n) o (past named n)) ≡ named ++ (codes " " ++ decimal n)
+    → word_text (option_map_or (build_at s named n) o (Past named n)) ≡ named ++ (codes " " ++ decimal n)
 build_by s named n (Some k) = build_if named n k (has_row s.history s.rows named n)
 build_by s named n None = refl
 

@@ -14,7 +14,7 @@ use Rattle.ccr_lines.specs.Live.{live_of}
 use Rattle.ccr_lines.specs.Outlooks.{outlook_words}
 use Rattle.ccr_lines.specs.declared.outlook.Outlook.{Outlook}
 use Rattle.ccr_overview.specs.Sayings.{separated}
-use Rattle.ccr_overview.specs.PageData.{WordData, plain, name, resource, row}
+use Rattle.ccr_overview.specs.PageData.{WordData, Plain, Named, ToResource, ToRow}
 use Rattle.ccr_overview.specs.Each.{each_from}
 use Rattle.ccr_overview.specs.Scenes.{SceneData, ToldData}
 use Rattle.ccr_overview.specs.Linked.{job_word}
@@ -31,8 +31,8 @@ newest_said (Some b) = build_standing b
 
 -- the newest build of the job at a position that succeeded; or that none did
 abbrev pub good_words : ℕ → Option BuildData → List WordData
-good_words k None = plain (codes ", none succeeded") ∷ []
-good_words k (Some b) = plain (codes ", ") ∷ row k b.number (build_standing b) ∷ []
+good_words k None = Plain (codes ", none succeeded") ∷ []
+good_words k (Some b) = Plain (codes ", ") ∷ ToRow k b.number (build_standing b) ∷ []
 
 -- the same, where the newest build is another one
 abbrev pub good_beside : HistoryData → Text → ℕ → Option BuildData → List WordData
@@ -47,22 +47,22 @@ passed_words s k named = separated (codes ", ") k ++ (job_word s named ∷ [])
 -- that an input's version has to have passed them, if there are any
 abbrev pub after_words : SceneData → List Text → List WordData
 after_words s [] = []
-after_words s (named ∷ names) = plain (codes " after ") ∷ each_from (passed_words s) 0 (named ∷ names)
+after_words s (named ∷ names) = Plain (codes " after ") ∷ each_from (passed_words s) 0 (named ∷ names)
 
 -- that a new version makes no build
 abbrev pub trigger_words : Bool → List WordData
 trigger_words true = []
-trigger_words false = plain (codes " (no trigger)") ∷ []
+trigger_words false = Plain (codes " (no trigger)") ∷ []
 
 -- an input
 abbrev pub input_words : SceneData → ℕ → InputData → List WordData
 input_words s k i =
-    separated (codes "; ") k ++ (name i.resource 40 ∷ []) ++ after_words s i.passed ++ trigger_words i.trigger
+    separated (codes "; ") k ++ (Named i.resource 40 ∷ []) ++ after_words s i.passed ++ trigger_words i.trigger
 
 -- what a job takes
 abbrev pub takes_words : SceneData → List InputData → List WordData
-takes_words s [] = plain (codes "takes nothing") ∷ []
-takes_words s (i ∷ is) = plain (codes "takes ") ∷ each_from (input_words s) 0 (i ∷ is)
+takes_words s [] = Plain (codes "takes nothing") ∷ []
+takes_words s (i ∷ is) = Plain (codes "takes ") ∷ each_from (input_words s) 0 (i ∷ is)
 
 -- the resource at a position, if the plan puts it
 abbrev pub put_at : Tree → ℕ → ResourceData → List (ℕ × Text)
@@ -74,20 +74,20 @@ puts_of plan rs = each_from (put_at plan) 0 rs
 
 -- a resource
 abbrev pub put_word : ℕ → ℕ × Text → List WordData
-put_word k r = separated (codes ", ") k ++ (resource r.0 r.1 ∷ [])
+put_word k r = separated (codes ", ") k ++ (ToResource r.0 r.1 ∷ [])
 
 -- what a job puts, if it puts something
 abbrev pub puts_words : List (ℕ × Text) → List WordData
 puts_words [] = []
-puts_words (r ∷ rs) = plain (codes ". Puts ") ∷ each_from put_word 0 (r ∷ rs)
+puts_words (r ∷ rs) = Plain (codes ". Puts ") ∷ each_from put_word 0 (r ∷ rs)
 
 -- ---- all
 -- what the next build would be
 abbrev pub next_words : Outlook → List WordData
-next_words o = plain (codes "; " ++ (outlook_words o ++ codes "; ")) ∷ []
+next_words o = Plain (codes "; " ++ (outlook_words o ++ codes "; ")) ∷ []
 
 -- WHAT IS SAID OF THE JOB at a position, whose newest build is this one
 abbrev pub about_words : SceneData → ℕ → ToldData → Option BuildData → List WordData
 about_words s k t newest =
-    (plain (newest_said newest) ∷ []) ++ good_beside s.history t.job.name k newest ++ next_words t.explained.outlook
+    (Plain (newest_said newest) ∷ []) ++ good_beside s.history t.job.name k newest ++ next_words t.explained.outlook
     ++ takes_words s (inputs t.job.plan) ++ puts_words (puts_of t.job.plan s.pipeline.resources)

@@ -16,7 +16,7 @@ use Rattle.ccr_page.specs.Statuses.{is_as_urgent}
 use Rattle.ccr_page.specs.declared.data.Urgency.{Urgency}
 use Rattle.ccr_page.specs.declared.data.Urgency.TheVariants.{Stopped, Held, Going}
 use Rattle.ccr_overview.specs.declared.hold.Hold.{Hold}
-use Rattle.ccr_overview.specs.PageData.{WordData, plain, text, name, version}
+use Rattle.ccr_overview.specs.PageData.{WordData, Plain, Cut, Named, Versioned}
 use Rattle.ccr_overview.specs.Linked.{job_word, build_word}
 use Rattle.ccr_overview.specs.Sayings.{version_word}
 use Rattle.ccr_overview.specs.Scenes.{ToldData, SceneData}
@@ -30,13 +30,13 @@ stands_said status = codes " " ++ (stands_word status ++ without_word status)
 
 -- where a version stopped: the build, which leads to its row; or the job, which leads to what is said of it
 abbrev pub stop_words : SceneData → Text → Option (ℕ × Status) → List WordData
-stop_words s named (Some b) = build_word s named b.0 ∷ plain (stands_said b.1) ∷ []
-stop_words s named None = plain (codes "not built by ") ∷ job_word s named ∷ []
+stop_words s named (Some b) = build_word s named b.0 ∷ Plain (stands_said b.1) ∷ []
+stop_words s named None = Plain (codes "not built by ") ∷ job_word s named ∷ []
 
 -- WHY AN INPUT DOESN'T TAKE A PLACE: what `explain` says; where that says where it stopped, with links
 abbrev pub reason_words : SceneData → Text → Option StopData → List WordData
 reason_words s words (Some stop) = stop_words s stop.job stop.build
-reason_words s words None = text words 200 ∷ []
+reason_words s words None = Cut words 200 ∷ []
 
 -- ---- how urgent it is
 -- the words say that a pin or the like leaves out a version
@@ -99,12 +99,12 @@ holds s ts = flat_map (λ t. hold_in s t t.newer) ts
 -- the resource's name, where the job has several inputs
 abbrev pub resource_words : Bool → Text → List WordData
 resource_words false named = []
-resource_words true named = name named 40 ∷ plain (codes " ") ∷ []
+resource_words true named = Named named 40 ∷ Plain (codes " ") ∷ []
 
 -- what an input takes, and a newer version that it doesn't take
 abbrev pub versions_words : TakenData → RefusalData → List WordData
 versions_words t r =
-    version_word t.version t.place ∷ plain (codes ", not ") ∷ version_word r.version r.place ∷ plain (codes ": ") ∷ []
+    version_word t.version t.place ∷ Plain (codes ", not ") ∷ version_word r.version r.place ∷ Plain (codes ": ") ∷ []
 
 -- what holds an input, in words
 abbrev pub hold_words : SceneData → Bool → HoldData → List WordData

@@ -5,7 +5,7 @@ use Rattle.std.specs.Str.{bytes_eq}
 use Rattle.ccr_history.specs.Text.{Text}
 use Rattle.ccr_pipeline.specs.JobData.{ResourceData, JobData}
 use Rattle.ccr_overview.specs.PageBuilds.{has_row}
-use Rattle.ccr_overview.specs.PageData.{WordData, plain, name, job, build, past}
+use Rattle.ccr_overview.specs.PageData.{WordData, Plain, Named, ToJob, ToBuild, Past}
 use Rattle.ccr_overview.specs.Scenes.{SceneData}
 
 -- ---- positions
@@ -21,12 +21,12 @@ job_position named js = job_from 0 named js
 -- ---- words
 -- a job, which leads to what is said of it, if the pipeline has it
 abbrev pub job_word : SceneData → Text → WordData
-job_word s named = option_map_or (λ k. job k named) (job_position named s.pipeline.jobs) (name named 40)
+job_word s named = option_map_or (λ k. ToJob k named) (job_position named s.pipeline.jobs) (Named named 40)
 
 -- a build of the job at this position, which leads to its row if it has one
 abbrev pub build_at : SceneData → Text → ℕ → ℕ → WordData
-build_at s named number k = if has_row s.history s.rows named number then build k number named else past named number
+build_at s named number k = if has_row s.history s.rows named number then ToBuild k number named else Past named number
 
 -- a build of a job, which leads to its row if it has one
 abbrev pub build_word : SceneData → Text → ℕ → WordData
-build_word s named number = option_map_or (build_at s named number) (job_position named s.pipeline.jobs) (past named number)
+build_word s named number = option_map_or (build_at s named number) (job_position named s.pipeline.jobs) (Past named number)

@@ -30,42 +30,42 @@ version_data v = record { key = string_bytes v.key; short = string_bytes v.short
 -- name; a build that has a row, by its job's position, its number and its job's name; one that has none, by its job's name and
 -- its number; a build that has a row, by its job's position, its number and these words; a version; a pin
 pub data WordData : Type 0 where
-  plain : (words : Text) → WordData
-  text : (words : Text) (most : ℕ) → WordData
-  name : (words : Text) (most : ℕ) → WordData
-  job : (at : ℕ) (words : Text) → WordData
-  resource : (at : ℕ) (words : Text) → WordData
-  build : (at number : ℕ) (words : Text) → WordData
-  past : (words : Text) (number : ℕ) → WordData
-  row : (at number : ℕ) (words : Text) → WordData
-  version : (v : VersionData) → WordData
-  pin : (words : Text) → WordData
+  Plain : (words : Text) → WordData
+  Cut : (words : Text) (most : ℕ) → WordData
+  Named : (words : Text) (most : ℕ) → WordData
+  ToJob : (position : ℕ) (words : Text) → WordData
+  ToResource : (position : ℕ) (words : Text) → WordData
+  ToBuild : (position number : ℕ) (words : Text) → WordData
+  Past : (words : Text) (number : ℕ) → WordData
+  ToRow : (position number : ℕ) (words : Text) → WordData
+  Versioned : (v : VersionData) → WordData
+  Pinned : (words : Text) → WordData
 
 -- what a value of the page's type stands for
 abbrev pub word_data : Word → WordData
-word_data (word.Plain t) = plain (string_bytes t)
-word_data (word.Text t most) = text (string_bytes t) most
-word_data (word.Name t most) = name (string_bytes t) most
-word_data (word.Job i t) = job i (string_bytes t)
-word_data (word.Resource i t) = resource i (string_bytes t)
-word_data (word.Build i n t) = build i n (string_bytes t)
-word_data (word.Past t n) = past (string_bytes t) n
-word_data (word.Row i n t) = row i n (string_bytes t)
-word_data (word.Version v) = version (version_data v)
-word_data (word.Pin t) = pin (string_bytes t)
+word_data (word.Plain t) = Plain (string_bytes t)
+word_data (word.Text t most) = Cut (string_bytes t) most
+word_data (word.Name t most) = Named (string_bytes t) most
+word_data (word.Job i t) = ToJob i (string_bytes t)
+word_data (word.Resource i t) = ToResource i (string_bytes t)
+word_data (word.Build i n t) = ToBuild i n (string_bytes t)
+word_data (word.Past t n) = Past (string_bytes t) n
+word_data (word.Row i n t) = ToRow i n (string_bytes t)
+word_data (word.Version v) = Versioned (version_data v)
+word_data (word.Pin t) = Pinned (string_bytes t)
 
 -- what a word says, without the links
 abbrev pub word_text : WordData → Text
-word_text (plain t) = t
-word_text (text t most) = t
-word_text (name t most) = t
-word_text (job i t) = t
-word_text (resource i t) = t
-word_text (build i n t) = t ++ (codes " " ++ decimal n)
-word_text (past t n) = t ++ (codes " " ++ decimal n)
-word_text (row i n t) = t
-word_text (version v) = v.short
-word_text (pin t) = t
+word_text (Plain t) = t
+word_text (Cut t most) = t
+word_text (Named t most) = t
+word_text (ToJob i t) = t
+word_text (ToResource i t) = t
+word_text (ToBuild i n t) = t ++ (codes " " ++ decimal n)
+word_text (Past t n) = t ++ (codes " " ++ decimal n)
+word_text (ToRow i n t) = t
+word_text (Versioned v) = v.short
+word_text (Pinned t) = t
 
 -- WHAT WORDS SAY, without the links
 abbrev pub said : List WordData → Text

@@ -10,7 +10,7 @@ use Rattle.ccr_pipeline.specs.JobData.{ResourceData}
 use Rattle.ccr_problem.specs.ProblemOf.{scope_of}
 use Rattle.ccr_lines.specs.Listed.{ListedData, versions_listed}
 use Rattle.ccr_overview.specs.Sayings.{joined, separated}
-use Rattle.ccr_overview.specs.PageData.{WordData, plain, version, PageResourceData}
+use Rattle.ccr_overview.specs.PageData.{WordData, Plain, Versioned, PageResourceData}
 use Rattle.ccr_overview.specs.Each.{each_from}
 use Rattle.ccr_overview.specs.Shorts.{short, version_of}
 
@@ -18,7 +18,7 @@ use Rattle.ccr_overview.specs.Shorts.{short, version_of}
 -- these words and the pin, where there is one
 abbrev pub pin_words : Text → Option TextMap → List WordData
 pin_words words None = []
-pin_words words (Some pin) = plain words ∷ version (version_of pin) ∷ []
+pin_words words (Some pin) = Plain words ∷ Versioned (version_of pin) ∷ []
 
 -- the versions that are disabled
 abbrev pub disabled_of : List ListedData → List ListedData
@@ -27,17 +27,17 @@ disabled_of ls = filter (λ l. l.is_disabled) ls
 -- a version with its place
 abbrev pub listed_words : ℕ → ListedData → List WordData
 listed_words k l =
-    separated (codes ", ") k ++ (plain (decimal l.place ++ codes " ") ∷ version (version_of l.version) ∷ [])
+    separated (codes ", ") k ++ (Plain (decimal l.place ++ codes " ") ∷ Versioned (version_of l.version) ∷ [])
 
 -- that there are more, if there are
 abbrev pub further_words : ℕ → List WordData
-further_words more = if more == 0 then [] else plain (codes " and " ++ (decimal more ++ codes " more")) ∷ []
+further_words more = if more == 0 then [] else Plain (codes " and " ++ (decimal more ++ codes " more")) ∷ []
 
 -- the newest five of these versions, and how many there are beside
 abbrev pub disabled_words : List ListedData → List WordData
 disabled_words [] = []
 disabled_words (l ∷ ls) =
-    plain (codes "disabled: ") ∷ each_from listed_words 0 (drop (length (l ∷ ls) - 5) (l ∷ ls)) ++ further_words (length (l ∷ ls) - 5)
+    Plain (codes "disabled: ") ∷ each_from listed_words 0 (drop (length (l ∷ ls) - 5) (l ∷ ls)) ++ further_words (length (l ∷ ls) - 5)
 
 -- WHAT HOLDS A RESOURCE: the pin of the pipeline, the one by command, and the versions that are disabled
 abbrev pub held_words : HistoryData → ResourceData → List WordData

@@ -12,7 +12,7 @@ use Rattle.ccr_pipeline.specs.Names.{has_name, with_names}
 use Rattle.ccr_lines.specs.Releases.{TogetherData, resource_at, is_pair, all_together}
 use Rattle.ccr_overview.specs.Sayings.{joined, separated}
 use Rattle.ccr_overview.specs.PageBuilds.{status_of, listed, builds_at}
-use Rattle.ccr_overview.specs.PageData.{WordData, plain, text, name, CellData, RowData}
+use Rattle.ccr_overview.specs.PageData.{WordData, Plain, Cut, Named, CellData, RowData}
 use Rattle.ccr_overview.specs.Each.{each_from}
 use Rattle.ccr_overview.specs.Scenes.{SceneData}
 use Rattle.ccr_overview.specs.Shorts.{short_there}
@@ -55,7 +55,7 @@ cell h b input = option_map (cell_of h) (used_for b input)
 -- the build of a job through which what a build took had gone together; or that there is none
 abbrev pub witness_words : SceneData → Text → Option ℕ → List WordData
 witness_words s named (Some n) = build_word s named n ∷ []
-witness_words s named None = plain (codes "no build of ") ∷ job_word s named ∷ []
+witness_words s named None = Plain (codes "no build of ") ∷ job_word s named ∷ []
 
 -- the same behind the others
 abbrev pub together_words : SceneData → ℕ → TogetherData → List WordData
@@ -76,7 +76,7 @@ put_pairs b = filter (λ q. not (has_taken b q)) b.moved
 -- a version that was put: its resource, its place, and it in a few letters
 abbrev pub moved_words : HistoryData → ℕ × ℕ → List WordData
 moved_words h q =
-    name (resource_at h.tables q.0) 30 ∷ plain (codes " " ++ (decimal q.1 ++ codes " ")) ∷ text (short_there h q.0 q.1) 18 ∷ []
+    Named (resource_at h.tables q.0) 30 ∷ Plain (codes " " ++ (decimal q.1 ++ codes " ")) ∷ Cut (short_there h q.0 q.1) 18 ∷ []
 
 -- the same behind the others
 abbrev pub pair_words : HistoryData → ℕ → ℕ × ℕ → List WordData
@@ -85,7 +85,7 @@ pair_words h k q = separated (codes ", ") k ++ moved_words h q
 -- what was put, if something was
 abbrev pub put_words : HistoryData → List (ℕ × ℕ) → List WordData
 put_words h [] = []
-put_words h (q ∷ qs) = plain (codes "put ") ∷ each_from (pair_words h) 0 (q ∷ qs)
+put_words h (q ∷ qs) = Plain (codes "put ") ∷ each_from (pair_words h) 0 (q ∷ qs)
 
 -- through which builds what a build took had gone together, where these were made before it; and what it put
 abbrev pub rest_words : SceneData → List BuildData → BuildData → List WordData

@@ -18,7 +18,7 @@ use Rattle.ccr_page.specs.declared.data.Urgency.{Urgency}
 use Rattle.ccr_page.specs.declared.data.Urgency.TheVariants as urgency
 use Rattle.ccr_page.specs.Statuses.{is_as_urgent}
 use Rattle.ccr_overview.specs.Sayings.{version_word}
-use Rattle.ccr_overview.specs.PageData.{WordData, plain, text, name, row, WhyData}
+use Rattle.ccr_overview.specs.PageData.{WordData, Plain, Cut, Named, ToRow, WhyData}
 use Rattle.ccr_overview.specs.Each.{each_from}
 use Rattle.ccr_overview.specs.PageRows.{used_for}
 use Rattle.ccr_overview.specs.Scenes.{SceneData, ToldData}
@@ -28,11 +28,11 @@ use Rattle.ccr_overview.specs.Holds.{HoldData, resource_words, hold_words, holds
 -- ---- the next build
 -- the newest build of the job at a position
 abbrev pub build_row : ℕ → BuildData → WordData
-build_row k b = row k b.number (codes "build " ++ decimal b.number)
+build_row k b = ToRow k b.number (codes "build " ++ decimal b.number)
 
 -- that it runs
 abbrev pub running_why : ℕ → BuildData → WhyData
-running_why k b = record { urgency = urgency.Going; words = plain (codes "is running ") ∷ build_row k b ∷ [] }
+running_why k b = record { urgency = urgency.Going; words = Plain (codes "is running ") ∷ build_row k b ∷ [] }
 
 -- the only thing of a list, if it has only one
 abbrev pub only : {X : Type 0} → List X → Option X
@@ -40,8 +40,8 @@ only xs = if length xs == 1 then slice_get xs 0 else None
 
 -- that a build is due, with what its only input takes, if it has only one
 abbrev pub due_of : Option TakenData → List WordData
-due_of (Some t) = plain (codes "is due: the next round builds ") ∷ version_word t.version t.place ∷ []
-due_of None = plain (codes "is due in the next round") ∷ []
+due_of (Some t) = Plain (codes "is due: the next round builds ") ∷ version_word t.version t.place ∷ []
+due_of None = Plain (codes "is due in the next round") ∷ []
 
 -- that a build is due
 abbrev pub due_words : List TakenData → List WordData
@@ -49,12 +49,12 @@ due_words ts = due_of (only ts)
 
 -- that there is no choice of versions, and why
 abbrev pub none_words : Option Text → List WordData
-none_words None = plain (codes "can’t be built") ∷ []
-none_words (Some words) = plain (codes "can’t be built: ") ∷ text words 400 ∷ []
+none_words None = Plain (codes "can't be built") ∷ []
+none_words (Some words) = Plain (codes "can't be built: ") ∷ Cut words 400 ∷ []
 
 -- that the search went over the budget
 abbrev pub budget_words : Outlook → List WordData
-budget_words o = plain (codes "isn’t decided: " ++ outlook_words o) ∷ []
+budget_words o = Plain (codes "isn't decided: " ++ outlook_words o) ∷ []
 
 -- ---- what holds it
 -- the words before what holds an input: the first, and each other
@@ -66,11 +66,11 @@ start_words by_itself k =
 -- what holds an input, behind the others; nothing behind the first three
 abbrev pub told_hold : SceneData → Bool → Bool → ℕ → HoldData → List WordData
 told_hold s several by_itself k h =
-    if nat_lt k 3 then plain (start_words by_itself k) ∷ hold_words s several h else []
+    if nat_lt k 3 then Plain (start_words by_itself k) ∷ hold_words s several h else []
 
 -- that there are more, if there are
 abbrev pub more_words : ℕ → List WordData
-more_words more = if more == 0 then [] else plain (codes "; and " ++ (decimal more ++ codes " more")) ∷ []
+more_words more = if more == 0 then [] else Plain (codes "; and " ++ (decimal more ++ codes " more")) ∷ []
 
 -- what holds the inputs: the first three
 abbrev pub holds_words : SceneData → Bool → Bool → List HoldData → List WordData
@@ -94,11 +94,11 @@ took_on b is = option_and_then (λ i. used_for b i.name) (only (filter (λ i. i.
 abbrev pub on_words : HistoryData → Bool → Option UsedData → List WordData
 on_words h several None = []
 on_words h several (Some u) =
-    plain (codes " on ") ∷ (resource_words several u.input ++ (version_word (version_there h u.scope u.place) u.place ∷ []))
+    Plain (codes " on ") ∷ (resource_words several u.input ++ (version_word (version_there h u.scope u.place) u.place ∷ []))
 
 -- the build, and how it stands
 abbrev pub stopped_words : ℕ → BuildData → List WordData
-stopped_words k b = plain (codes "stopped: ") ∷ build_row k b ∷ plain (codes " " ++ status_word b.status) ∷ []
+stopped_words k b = Plain (codes "stopped: ") ∷ build_row k b ∷ Plain (codes " " ++ status_word b.status) ∷ []
 
 -- the same, and on which version
 abbrev pub bad_words : HistoryData → ℕ → JobData → BuildData → List WordData
@@ -112,8 +112,8 @@ alone_words false = codes ", and only a command makes the next"
 -- what else holds it, but for pins and the like
 abbrev pub beside_words : SceneData → Bool → List TakenData → List HoldData → List WordData
 beside_words s by_itself ts hs =
-    if length hs == 0 || is_as_urgent urgency.Held (worst hs) then plain (alone_words by_itself) ∷ []
-    else plain (codes "; ") ∷ holds_words s (nat_lt 1 (length ts)) by_itself (told_holds hs)
+    if length hs == 0 || is_as_urgent urgency.Held (worst hs) then Plain (alone_words by_itself) ∷ []
+    else Plain (codes "; ") ∷ holds_words s (nat_lt 1 (length ts)) by_itself (told_holds hs)
 
 -- that its newest build wasn't good
 abbrev pub bad_why : SceneData → ℕ → ToldData → Bool → BuildData → WhyData

@@ -4,7 +4,7 @@ ghost use Rattle.std.specs.Option.{option_copied};
 ghost use Rattle.ccr_pipeline.specs.Inputs.{input_data, inputs};
 ghost use Rattle.ccr_pipeline.specs.JobData.{resource_data, job_data};
 ghost use Rattle.ccr_overview.specs.Abouts.{newest_said, good_words, good_beside, passed_words, after_words, trigger_words, input_words, takes_words, put_at, puts_of, put_word, puts_words, next_words, about_words};
-ghost use Rattle.ccr_overview.specs.PageData.{plain, word_data};
+ghost use Rattle.ccr_overview.specs.PageData.{Plain, word_data};
 ghost use Rattle.ccr_overview.specs.Each.{each_from};
 ghost use Rattle.ccr_overview.specs.Scenes.{told_data, scene_data};
 
@@ -26,7 +26,7 @@ fn push_newest(
     newest: Option<&BuildRef<'_>>,
 ) -> Result<(), AllocError>
     ensures { OnOk result (map word_data out.new.items
-        ≡ map word_data out.old.items ++ plain (newest_said (option_copied newest.entry)) ∷ []) }
+        ≡ map word_data out.old.items ++ Plain (newest_said (option_copied newest.entry)) ∷ []) }
 {
     match newest {
         Some(build) => {

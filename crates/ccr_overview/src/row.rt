@@ -7,7 +7,7 @@ ghost use Rattle.ccr_pipeline.specs.Inputs.{input_data};
 ghost use Rattle.ccr_pipeline.specs.JobData.{job_data};
 ghost use Rattle.ccr_pipeline.specs.Names.{has_name, with_name, with_names};
 ghost use Rattle.ccr_lines.specs.Releases.{resource_at, together_data};
-ghost use Rattle.ccr_overview.specs.PageData.{word_data, cell_data, row_data, plain, name};
+ghost use Rattle.ccr_overview.specs.PageData.{word_data, cell_data, row_data, Plain, Named};
 ghost use Rattle.ccr_overview.specs.PageRows.{taken_names, names_in, names_beyond, columns_of, columns, used_for, cell_of, cell, witness_words, together_words, all_together_words, has_taken, put_pairs, moved_words, pair_words, put_words, rest_words, row_of, row_at, rows_at};
 ghost use Rattle.ccr_overview.specs.Each.{each_from};
 ghost use Rattle.ccr_overview.specs.Scenes.{scene_data};

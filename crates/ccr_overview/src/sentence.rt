@@ -84,10 +84,10 @@ fn none_words(alloc: Global, why: &Option<String>) -> Result<Vec<Word>, AllocErr
     let mut words = Vec::new(alloc);
     match why {
         Some(why) => {
-            push_plain(alloc, &mut words, "can’t be built: ")?;
+            push_plain(alloc, &mut words, "can't be built: ")?;
             push_text(alloc, &mut words, why.as_str(), 400)?;
         }
-        None => push_plain(alloc, &mut words, "can’t be built")?,
+        None => push_plain(alloc, &mut words, "can't be built")?,
     }
     Ok(words)
 }
@@ -96,7 +96,7 @@ fn none_words(alloc: Global, why: &Option<String>) -> Result<Vec<Word>, AllocErr
 fn budget_words(alloc: Global, outlook: Outlook) -> Result<Vec<Word>, AllocError>
     ensures { IfOk result (λ words. map word_data words.items ≡ budget_words outlook) }
 {
-    let mut text = String::from_str(alloc, "isn’t decided: ")?;
+    let mut text = String::from_str(alloc, "isn't decided: ")?;
     push_outlook(&mut text, outlook)?;
     let mut words = Vec::new(alloc);
     push_plain(alloc, &mut words, text.as_str())?;

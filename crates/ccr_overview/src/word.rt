@@ -2,7 +2,7 @@
 ghost use Rattle.std.specs.Prelude.{◌≡◌, ◌++◌, ◌∷◌, [], map, codes, decimal, string_bytes, IfOk, OnOk};
 ghost use Rattle.ccr_lines.specs.Lines.{status_word};
 ghost use Rattle.ccr_overview.specs.Sayings.{joined, separated};
-ghost use Rattle.ccr_overview.specs.PageData.{plain, text, name, row, word_data};
+ghost use Rattle.ccr_overview.specs.PageData.{Plain, Cut, Named, ToRow, word_data};
 
 use ccr_history::Status;
 use ccr_lines::word_of;
@@ -56,7 +56,7 @@ pub(crate) fn push_plain(
     out: &mut Vec<Word>,
     words: &str,
 ) -> Result<(), AllocError>
-    ensures { OnOk result (map word_data out.new.items ≡ map word_data out.old.items ++ plain words.now ∷ []) }
+    ensures { OnOk result (map word_data out.new.items ≡ map word_data out.old.items ++ Plain words.now ∷ []) }
 {
     let words = String::from_str(alloc, words)?;
     out.push(Word::Plain(words))?;
@@ -70,7 +70,7 @@ pub(crate) fn push_text(
     words: &str,
     most: u32,
 ) -> Result<(), AllocError>
-    ensures { OnOk result (map word_data out.new.items ≡ map word_data out.old.items ++ text words.now most ∷ []) }
+    ensures { OnOk result (map word_data out.new.items ≡ map word_data out.old.items ++ Cut words.now most ∷ []) }
 {
     let words = String::from_str(alloc, words)?;
     out.push(Word::Text(words, most))?;
@@ -84,7 +84,7 @@ pub(crate) fn push_name(
     words: &str,
     most: u32,
 ) -> Result<(), AllocError>
-    ensures { OnOk result (map word_data out.new.items ≡ map word_data out.old.items ++ name words.now most ∷ []) }
+    ensures { OnOk result (map word_data out.new.items ≡ map word_data out.old.items ++ Named words.now most ∷ []) }
 {
     let words = String::from_str(alloc, words)?;
     out.push(Word::Name(words, most))?;
@@ -99,7 +99,7 @@ pub(crate) fn push_row(
     words: String,
 ) -> Result<(), AllocError>
     ensures { OnOk result (map word_data out.new.items
-        ≡ map word_data out.old.items ++ row at number (string_bytes words) ∷ []) }
+        ≡ map word_data out.old.items ++ ToRow at number (string_bytes words) ∷ []) }
 {
     out.push(Word::Row(at, number, words))?;
     Ok(())
@@ -121,6 +121,7 @@ pub(crate) fn push_separator(
 }
 
 /// Two parts of a sentence, of which either may be empty.
+#[tactic(auto, using(crate::proofs::Joining::joined_first, crate::proofs::Joining::joined_second, crate::proofs::Joining::joined_both))]
 pub(crate) fn join(
     alloc: Global,
     first: Vec<Word>,
