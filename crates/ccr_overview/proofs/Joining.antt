@@ -19,3 +19,6 @@ pub joined_both : (xs ys : List WordData) → 0 < length xs → 0 < length ys �
 joined_both [] ys first second = absurd (omega (arith, first))
 joined_both (x ∷ xs) [] first second = absurd (omega (arith, second))
 joined_both (x ∷ xs) (y ∷ ys) first second = refl
+
+-- all three
+pub ruleset joining = (joined_first, joined_second, joined_both)

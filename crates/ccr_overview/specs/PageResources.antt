@@ -37,7 +37,8 @@ further_words more = if more == 0 then [] else Plain (codes " and " ++ (decimal 
 abbrev pub disabled_words : List ListedData → List WordData
 disabled_words [] = []
 disabled_words (l ∷ ls) =
-    Plain (codes "disabled: ") ∷ each_from listed_words 0 (drop (length (l ∷ ls) - 5) (l ∷ ls)) ++ further_words (length (l ∷ ls) - 5)
+    Plain (codes "disabled: ")
+    ∷ (each_from listed_words 0 (drop (length (l ∷ ls) - 5) (l ∷ ls)) ++ further_words (length (l ∷ ls) - 5))
 
 -- WHAT HOLDS A RESOURCE: the pin of the pipeline, the one by command, and the versions that are disabled
 abbrev pub held_words : HistoryData → ResourceData → List WordData

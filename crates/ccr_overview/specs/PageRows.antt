@@ -31,10 +31,11 @@ names_in others names = filter (has_name others) names
 abbrev pub names_beyond : List Text → List Text → List Text
 names_beyond others names = filter (λ n. not (has_name others n)) names
 
--- THE COLUMNS of these builds: the names of inputs for which one of them took something; first those of the plan, in its order
+-- of a plan's inputs those for which something was taken, in its order; then the others for which something was
 abbrev pub columns_of : List Text → List Text → List Text
 columns_of plan taken = names_in taken plan ++ names_beyond plan taken
 
+-- THE COLUMNS of these builds of a job: the names of inputs for which one of them took something
 abbrev pub columns : JobData → List BuildData → List Text
 columns j bs = columns_of (map (λ i. i.name) (inputs j.plan)) (taken_names bs)
 

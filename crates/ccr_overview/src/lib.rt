@@ -25,8 +25,6 @@ mod scene;
 mod sentence;
 mod short;
 mod stopping;
-#[cfg(test)]
-mod tests;
 mod word;
 
 pub use law::reasons_are_explained;

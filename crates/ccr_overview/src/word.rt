@@ -121,7 +121,7 @@ pub(crate) fn push_separator(
 }
 
 /// Two parts of a sentence, of which either may be empty.
-#[tactic(auto, using(crate::proofs::Joining::joined_first, crate::proofs::Joining::joined_second, crate::proofs::Joining::joined_both))]
+#[tactic(auto, using(crate::proofs::Joining::joining))]
 pub(crate) fn join(
     alloc: Global,
     first: Vec<Word>,
