@@ -1,3 +1,4 @@
+pub mod Going
 pub mod Joining
 pub mod Paging
 pub mod Saying

@@ -10,7 +10,7 @@ use crate::arrow::arrows;
 use crate::job::jobs_shown;
 use crate::options::Options;
 use crate::resource::resources_shown;
-use crate::scene::{Scene, each_told, row_count};
+use crate::scene::{Scene, each_told, few_members, row_count};
 use ccr_core::Core;
 use ccr_page::Page;
 use ccr_pipeline::Pipeline;
@@ -65,6 +65,7 @@ fn page_of(
     ensures { let c = core_data core.now in IfOk result (λ page.
         IsPageOf (options_data options) (pipeline_data pipeline.now) c.history c.budget (page_data page)) }
 {
+    few_members(pipeline);
     let told = each_told(alloc, core, pipeline)?;
     let scene = Scene {
         pipeline,

@@ -6,7 +6,7 @@ ghost use Rattle.ccr_history.specs.Builds.{UsedData};
 ghost use Rattle.ccr_pipeline.specs.Inputs.{input_data};
 ghost use Rattle.ccr_pipeline.specs.JobData.{job_data};
 ghost use Rattle.ccr_pipeline.specs.Names.{has_name, with_name, with_names};
-ghost use Rattle.ccr_lines.specs.Releases.{resource_at, together_data};
+ghost use Rattle.ccr_lines.specs.Releases.{is_pair, resource_at, together_data};
 ghost use Rattle.ccr_overview.specs.PageData.{word_data, cell_data, row_data, Plain, Named};
 ghost use Rattle.ccr_overview.specs.PageRows.{taken_names, names_in, names_beyond, columns_of, columns, used_for, cell_of, cell, witness_words, together_words, all_together_words, has_taken, put_pairs, moved_words, pair_words, put_words, rest_words, row_of, row_at, rows_at};
 ghost use Rattle.ccr_overview.specs.Each.{each_from};
@@ -268,13 +268,20 @@ fn all_together_words(
 
 // ---- what was put
 
+/// Whether a pair is that of a scope and a place.
+fn is_pair(pair: (u32, u32), scope: u32, place: u32) -> bool
+    ensures { result ≡ is_pair pair (scope, place) }
+{
+    pair.0 == scope && pair.1 == place
+}
+
 /// Whether a build took a pair of scope and place.
 fn has_taken(build: &BuildRef<'_>, pair: (u32, u32)) -> bool
     ensures { result ≡ has_taken build.now pair }
 {
     for k in 0..build.used_count() {
         let (_, scope, place) = used_at(build, k);
-        if pair.0 == scope && pair.1 == place {
+        if is_pair(pair, scope, place) {
             return true;
         }
     }

@@ -1,5 +1,5 @@
 //! What a page is made of.
-ghost use Rattle.std.specs.Prelude.{◌≡◌, Some, Ok, length, IfOk};
+ghost use Rattle.std.specs.Prelude.{◌≡◌, ◌≤◌, Some, map, length, IfOk};
 ghost use Rattle.ccr_pipeline.specs.Pipelines.{pipeline_data};
 ghost use Rattle.ccr_core.specs.Cores.{core_data};
 ghost use Rattle.ccr_overview.specs.Scenes.{told_data, row_count, AreTold};
@@ -44,6 +44,13 @@ pub(crate) fn each_told<'p>(
         told.push(Told { job, explained })?;
     }
     Ok(told)
+}
+
+/// A pipeline has few resources and jobs. Nothing runs.
+pub(crate) fn few_members(_pipeline: &Pipeline)
+    ensures resources { length (pipeline_data _pipeline.now).resources ≤ 200 }
+    ensures jobs { length (pipeline_data _pipeline.now).jobs ≤ 200 }
+{
 }
 
 /// How many builds of each job have a row, where there are so many jobs.
