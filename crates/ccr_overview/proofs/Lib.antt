@@ -1,3 +1,4 @@
+pub mod Digits
 pub mod Going
 pub mod Joining
 pub mod Paging

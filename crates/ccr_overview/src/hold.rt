@@ -328,7 +328,7 @@ fn push_if_urgent<'t>(
     hold: Hold<'t>,
 ) -> Result<(), AllocError>
     ensures { OnOk result (map hold_data out.new.items
-        ≡ map hold_data out.old.items ++ (if is_as_urgent urgency (hold_data hold).urgency then hold_data hold ∷ [] else [])) }
+        ≡ map hold_data out.old.items ++ (if is_as_urgent urgency (hold_data hold.entry).urgency then hold_data hold.entry ∷ [] else [])) }
 {
     if is_as_urgent(urgency, hold.urgency) {
         out.push(hold)?;

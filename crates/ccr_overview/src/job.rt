@@ -1,5 +1,5 @@
 //! The jobs of a page.
-ghost use Rattle.std.specs.Prelude.{◌≡◌, ◌++◌, map, length, string_bytes, option_copied, IfOk, OnOk};
+ghost use Rattle.std.specs.Prelude.{◌≡◌, ◌∷◌, [], map, string_bytes, option_copied, IfOk};
 ghost use Rattle.ccr_pipeline.specs.Inputs.{input_data};
 ghost use Rattle.ccr_overview.specs.Overviews.{port_of, job_with, job_shown};
 ghost use Rattle.ccr_overview.specs.PageData.{port_data, page_job_data};

@@ -1,5 +1,5 @@
 //! Versions in a few letters.
-ghost use Rattle.std.specs.Prelude.{◌≡◌, ◌++◌, ◌∷◌, [], true, map, flat_map, drop, string_bytes, option_map, IfOk, OnOk};
+ghost use Rattle.std.specs.Prelude.{◌≡◌, ◌++◌, ◌∷◌, [], true, map, flat_map, take, drop, string_bytes, option_map, IfOk, OnOk};
 ghost use Rattle.std.specs.List.{list_all};
 ghost use Rattle.std.specs.Option.{option_copied};
 ghost use Rattle.serde_json.specs.View.{view, members_view};
@@ -73,13 +73,14 @@ fn behind_name(text: &[u8]) -> &[u8]
     }
 }
 
-/// Adds hexadecimal digits.
+/// Adds the first seven digits of a hash.
+#[tactic(auto, using(crate::proofs::Digits::digits))]
 fn push_digits(text: &mut String, digits: &[u8]) -> Result<(), AllocError>
-    requires { list_all is_hex digits.now ≡ true }
-    ensures { OnOk result (string_bytes text.new ≡ string_bytes text.old ++ digits.now) }
+    requires { is_hash digits.now ≡ true }
+    ensures { OnOk result (string_bytes text.new ≡ string_bytes text.old ++ take 7 digits.now) }
 {
-    for digit in digits {
-        text.push(*digit as char)?;
+    for k in 0..7 {
+        text.push(digits[k] as char)?;
     }
     Ok(())
 }
@@ -90,7 +91,7 @@ fn push_short(text: &mut String, value: &str) -> Result<(), AllocError>
 {
     let digits = behind_name(value.as_bytes());
     if is_hash(digits) {
-        push_digits(text, &digits[..7])
+        push_digits(text, digits)
     } else {
         text.push_str(value)
     }

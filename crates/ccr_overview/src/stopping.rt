@@ -1,5 +1,6 @@
 //! Where the newest version stopped that an input doesn't take, as `explain` says it.
-ghost use Rattle.std.specs.Prelude.{◌≡◌, find, map, option_map, string_bytes, IfOk};
+ghost use Rattle.std.specs.Prelude.{◌≡◌, not, find, option_map, option_copied, option_and_then, bytes_eq, string_bytes, IfOk};
+ghost use Rattle.ccr_history.specs.Builds.{is_running};
 ghost use Rattle.ccr_lines.specs.Stops.{is_unpassed, stop_data, stop_words};
 ghost use Rattle.ccr_overview.specs.Scenes.{scene_data};
 ghost use Rattle.ccr_overview.specs.Stopping.{pair_of, stop_before, if_said, stop_said, has_ended, job_if_ended, stopper_of, stopper};
