@@ -163,11 +163,7 @@ fn if_sought<'h>(
 }
 
 /// The newest build of a job that passes a test.
-pub fn newest_of<'h>(
-    history: &'h History,
-    sought: Sought<'_>,
-    job: &str,
-) -> Option<BuildRef<'h>>
+pub fn newest_of<'h>(history: &'h History, sought: Sought<'_>, job: &str) -> Option<BuildRef<'h>>
     requires { IsSearch sought }
     ensures { result ≡ newest_of (is_sought history.now sought.entry) job.now history.now }
 {

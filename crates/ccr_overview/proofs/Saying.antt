@@ -7,7 +7,7 @@ use Rattle.std.proofs.lemmas.Slice.Eq.{bytes_eq-Decides}
 use Rattle.ccr_history.specs.Text.{Text}
 use Rattle.ccr_history.specs.declared.build.Status.{Status}
 use Rattle.ccr_lines.specs.ExplainedData.{RefusalData, TakenData}
-use Rattle.ccr_lines.specs.Stops.{StopData, stands_word, without_word, stands_words} 
+use Rattle.ccr_lines.specs.Stops.{StopData, stands_word, without_word, stands_words}
 use Rattle.ccr_lines.specs.Stops as stops
 use Rattle.ccr_overview.specs.Holds.{stop_words, reason_words, stands_said}
 use Rattle.ccr_overview.specs.Linked.{job_position, job_word, build_at, build_word}

@@ -258,11 +258,7 @@ fn push_each_put(
 }
 
 /// Adds what a job puts, if it puts something.
-fn push_puts(
-    alloc: Global,
-    out: &mut Vec<Word>,
-    puts: &[(usize, &str)],
-) -> Result<(), AllocError>
+fn push_puts(alloc: Global, out: &mut Vec<Word>, puts: &[(usize, &str)]) -> Result<(), AllocError>
     ensures { OnOk result (map word_data out.new.items
         ≡ map word_data out.old.items ++ puts_words (map (λ r. (r.0, r.1.now)) puts.now)) }
 {

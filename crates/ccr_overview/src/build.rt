@@ -72,7 +72,9 @@ fn newest_first(alloc: Global, history: &History, job: &str) -> Result<Vec<u32>,
 fn first_ones(positions: &[u32], most: u32) -> &[u32]
     ensures { result.now ≡ take most positions.now }
 {
-    positions.get(..(most as usize).min(positions.len())).unwrap_or(positions)
+    positions
+        .get(..(most as usize).min(positions.len()))
+        .unwrap_or(positions)
 }
 
 /// Whether the build at a position succeeded.

@@ -273,7 +273,13 @@ pub(crate) fn push_hold_words(
     let refusal = hold.refusal;
     push_resource(alloc, out, several, taken.resource.as_str())?;
     push_versions(alloc, out, taken, refusal)?;
-    push_reason(alloc, out, scene, refusal.words.as_str(), hold.stop.as_ref())
+    push_reason(
+        alloc,
+        out,
+        scene,
+        refusal.words.as_str(),
+        hold.stop.as_ref(),
+    )
 }
 
 // ---- together

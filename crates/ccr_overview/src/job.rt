@@ -87,15 +87,7 @@ fn job_shown(
     let positions = listed(alloc, history, scene.row_count, job)?;
     let builds = builds_at(alloc, history, &positions)?;
     let columns = columns(alloc, told.job, &builds)?;
-    job_with(
-        alloc,
-        scene,
-        at,
-        told,
-        newest.as_ref(),
-        &positions,
-        columns,
-    )
+    job_with(alloc, scene, at, told, newest.as_ref(), &positions, columns)
 }
 
 /// The jobs, in their order.

@@ -5,5 +5,4 @@ ghost use Rattle.ccr_overview.specs.SaidSame.{AreExplained};
 /// add nothing to it. Nothing runs.
 pub fn reasons_are_explained()
     ensures { AreExplained }
-{
-}
+{}

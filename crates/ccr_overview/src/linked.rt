@@ -68,12 +68,7 @@ fn build_at(
 }
 
 /// A build of a job, which leads to its row if it has one.
-fn build_word(
-    alloc: Global,
-    scene: &Scene<'_>,
-    name: &str,
-    number: u32,
-) -> Result<Word, AllocError>
+fn build_word(alloc: Global, scene: &Scene<'_>, name: &str, number: u32) -> Result<Word, AllocError>
     ensures { IfOk result (λ w. word_data w ≡ build_word (scene_data scene.now) name.now number) }
 {
     match job_position(scene.pipeline.jobs(), name) {

@@ -53,10 +53,7 @@ fn push_disabled<'h>(all: &mut Vec<Listed<'h>>, listed: &Listed<'h>) -> Result<(
 }
 
 /// The versions that are disabled.
-fn disabled_of<'h>(
-    alloc: Global,
-    listed: &[Listed<'h>],
-) -> Result<Vec<Listed<'h>>, AllocError>
+fn disabled_of<'h>(alloc: Global, listed: &[Listed<'h>]) -> Result<Vec<Listed<'h>>, AllocError>
     ensures { IfOk result (λ all. map listed_data all.items ≡ disabled_of (map listed_data listed.now)) }
 {
     let mut all = Vec::new(alloc);
@@ -136,7 +133,11 @@ fn held_words(
 ) -> Result<Vec<Word>, AllocError>
     ensures { IfOk result (λ all. map word_data all.items ≡ held_words history.now (resource_data resource.now)) }
 {
-    let by_pipeline = pin_words(alloc, "pinned by the pipeline to ", resource.version.as_ref())?;
+    let by_pipeline = pin_words(
+        alloc,
+        "pinned by the pipeline to ",
+        resource.version.as_ref(),
+    )?;
     let by_command = pin_words(alloc, "pinned to ", history.pin(resource.name.as_str()))?;
     let pins = join(alloc, by_pipeline, by_command)?;
     let listed = versions_listed(alloc, history, resource.scope())?;

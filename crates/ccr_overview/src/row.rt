@@ -48,11 +48,7 @@ fn add_name(alloc: Global, names: &mut Vec<String>, name: &str) -> Result<(), Al
 }
 
 /// Adds the names of the inputs for which a build took something.
-fn add_taken(
-    alloc: Global,
-    names: &mut Vec<String>,
-    build: &BuildRef<'_>,
-) -> Result<(), AllocError>
+fn add_taken(alloc: Global, names: &mut Vec<String>, build: &BuildRef<'_>) -> Result<(), AllocError>
     ensures { OnOk result (map string_bytes names.new.items
         ≡ with_names (map string_bytes names.old.items) (map (λ u. u.input) build.now.used)) }
 {
@@ -86,12 +82,7 @@ fn input_names(alloc: Global, inputs: &[Input]) -> Result<Vec<String>, AllocErro
 }
 
 /// Adds a name, if it is to be.
-fn push_if(
-    alloc: Global,
-    out: &mut Vec<String>,
-    is: bool,
-    name: &str,
-) -> Result<(), AllocError>
+fn push_if(alloc: Global, out: &mut Vec<String>, is: bool, name: &str) -> Result<(), AllocError>
     ensures { OnOk result (map string_bytes out.new.items
         ≡ map string_bytes out.old.items ++ (if is then name.now ∷ [] else [])) }
 {
@@ -134,11 +125,7 @@ fn push_names_beyond(
 }
 
 /// The names of a plan's inputs for which something was taken, and the others for which something was.
-fn columns_of(
-    alloc: Global,
-    plan: &[String],
-    taken: &[String],
-) -> Result<Vec<String>, AllocError>
+fn columns_of(alloc: Global, plan: &[String], taken: &[String]) -> Result<Vec<String>, AllocError>
     ensures { IfOk result (λ names. map string_bytes names.items
         ≡ columns_of (map string_bytes plan.now) (map string_bytes taken.now)) }
 {

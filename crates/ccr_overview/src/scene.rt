@@ -50,8 +50,7 @@ pub(crate) fn each_told<'p>(
 pub(crate) fn few_members(_pipeline: &Pipeline)
     ensures resources { length (pipeline_data _pipeline.now).resources ≤ 200 }
     ensures jobs { length (pipeline_data _pipeline.now).jobs ≤ 200 }
-{
-}
+{}
 
 /// How many builds of each job have a row, where there are so many jobs.
 pub(crate) fn row_count(jobs: usize) -> u32

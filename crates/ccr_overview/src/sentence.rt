@@ -10,9 +10,7 @@ ghost use Rattle.ccr_overview.specs.Scenes.{told_data, scene_data};
 ghost use Rattle.ccr_overview.specs.PageRows.{used_for};
 ghost use Rattle.ccr_overview.specs.Sentences.{build_row, running_why, only, due_of, due_words, none_words, budget_words, start_words, told_hold, more_words, holds_words, is_bad, took_on, on_words, stopped_words, bad_words, alone_words, beside_words, bad_why, held_why, ended_why, standing_why, outlook_why, why_of};
 
-use crate::hold::{
-    Hold, holds, is_as_urgent, push_hold_words, push_resource, urgent_holds, worst,
-};
+use crate::hold::{Hold, holds, is_as_urgent, push_hold_words, push_resource, urgent_holds, worst};
 use crate::row::used_for;
 use crate::scene::{Scene, Told};
 use crate::short::push_version;
@@ -377,8 +375,11 @@ fn urgent_why(
     urgency: Urgency,
 ) -> Result<Why, AllocError>
     ensures { let s = scene_data scene.now in let ts = inputs.now in
-        IfOk result (λ why. why_data why ≡ record { urgency = urgency; words =
-        holds_words s (nat_lt 1 (length ts)) by_itself (urgent_ones urgency (holds s ts)) }) }
+        IfOk result (λ why. why_data why ≡ record {
+          urgency = urgency;
+          words =
+              holds_words s (nat_lt 1 (length ts)) by_itself (urgent_ones urgency (holds s ts));
+        }) }
 {
     let mut words = Vec::new(alloc);
     push_urgent(alloc, &mut words, scene, by_itself, inputs, urgency)?;

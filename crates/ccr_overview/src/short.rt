@@ -120,10 +120,7 @@ fn members_of(
 }
 
 /// The fields of a JSON object whose fields are all texts; None where a value is no such object.
-fn value_fields(
-    alloc: Global,
-    value: &Value,
-) -> Result<Option<Vec<(String, String)>>, AllocError>
+fn value_fields(alloc: Global, value: &Value) -> Result<Option<Vec<(String, String)>>, AllocError>
     ensures { IfOk result (λ found. option_map (λ all. map field_data all.items) found
         ≡ text_map_of (view value.now)) }
 {
@@ -213,10 +210,7 @@ fn key_version(alloc: Global, key: String) -> Result<Version, AllocError>
 }
 
 /// A version, in full and in a few letters.
-pub(crate) fn version_of(
-    alloc: Global,
-    version: &HistoryVersion,
-) -> Result<Version, AllocError>
+pub(crate) fn version_of(alloc: Global, version: &HistoryVersion) -> Result<Version, AllocError>
     ensures { IfOk result (λ v. version_data v ≡ version_of version.now) }
 {
     let key = version.key(alloc)?;

@@ -28,11 +28,7 @@ fn is_unpassed(history: &History, pair: (u32, u32), job: &str) -> bool
 }
 
 /// The first of these jobs of which no successful build moved a pair of scope and place.
-fn first_unpassed<'j>(
-    history: &History,
-    pair: (u32, u32),
-    jobs: &'j [Passed],
-) -> Option<&'j Passed>
+fn first_unpassed<'j>(history: &History, pair: (u32, u32), jobs: &'j [Passed]) -> Option<&'j Passed>
     ensures { option_copied result ≡ find (λ q. is_unpassed history.now pair q.job) jobs.now }
 {
     for job in jobs {

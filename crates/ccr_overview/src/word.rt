@@ -51,11 +51,7 @@ pub(crate) fn standing(alloc: Global, number: u32, status: Status) -> Result<Str
 // ---- words
 
 /// Adds words.
-pub(crate) fn push_plain(
-    alloc: Global,
-    out: &mut Vec<Word>,
-    words: &str,
-) -> Result<(), AllocError>
+pub(crate) fn push_plain(alloc: Global, out: &mut Vec<Word>, words: &str) -> Result<(), AllocError>
     ensures { OnOk result (map word_data out.new.items ≡ map word_data out.old.items ++ Plain words.now ∷ []) }
 {
     let words = String::from_str(alloc, words)?;
