@@ -1,5 +1,5 @@
 -- The page of a core.
-use Rattle.std.proofs.Common.{◌≡◌, ◌≤◌, ◌+◌, ℕ, suc, List, [], ◌∷◌, ◌++◌, length, Option, Some, None, Result, IfOk, refl, sym, ap, ◌∙◌, subst, arith, length-append}
+use Rattle.std.proofs.Common.{◌≡◌, ◌≤◌, ◌+◌, ℕ, suc, List, [], ◌∷◌, ◌++◌, length, Option, Some, None, Result, Ok, Err, IfOk, refl, sym, ap, ◌∙◌, subst, arith, length-append}
 use Rattle.ccr_history.specs.History.{HistoryData}
 use Rattle.ccr_pipeline.specs.JobData.{JobData}
 use Rattle.ccr_pipeline.specs.Pipelines.{PipelineData}
@@ -40,3 +40,10 @@ told_long p h budget ts are = each_long p h budget 0 p.jobs ts are
 pub page_in : {E : Type 0} (o : OptionsData) (set : Option PipelineData) (p : PipelineData) (h : HistoryData) (budget : ℕ) (r : Result PageData E)
     → set ≡ Some p → IfOk r (IsPageOf o p h budget) → IfOk r (IsPageIn o set h budget)
 page_in o set p h budget r is of = subst (λ s. IfOk r (IsPageIn o s h budget)) (sym is) of
+
+-- the same of a page that is made, if it is
+pub page_told : {E X : Type 0} (f : X → PageData) (r : Result X E) (o : OptionsData) (p : PipelineData) (h g : HistoryData)
+    (budget rows : ℕ) (told : List ToldData) → g ≡ h → rows ≡ row_count (length p.jobs) → AreTold p h budget told
+    → IfOk r (λ x. f x ≡ page_with o (scene_with p g rows told)) → IfOk r (λ x. IsPageOf o p h budget (f x))
+page_told f (Ok x) o p h g budget rows told same count are is = page_so o p h g budget rows told (f x) same count are is
+page_told f (Err e) o p h g budget rows told same count are is = tt

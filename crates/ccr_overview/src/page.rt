@@ -4,13 +4,13 @@ ghost use Rattle.ccr_pipeline.specs.Pipelines.{pipeline_data};
 ghost use Rattle.ccr_core.specs.Cores.{core_data};
 ghost use Rattle.ccr_overview.specs.Overviews.{options_data, page_with, page_without, IsPageOf, IsOverview};
 ghost use Rattle.ccr_overview.specs.PageData.{page_data};
-ghost use Rattle.ccr_overview.specs.Scenes.{scene_data, IsSmall};
+ghost use Rattle.ccr_overview.specs.Scenes.{told_data, scene_data, IsSmall, AreTold};
 
 use crate::arrow::arrows;
 use crate::job::jobs_shown;
 use crate::options::Options;
 use crate::resource::resources_shown;
-use crate::scene::{Scene, each_told, few_members, row_count};
+use crate::scene::{Scene, Told, each_told, few_members, row_count, rows_of};
 use ccr_core::Core;
 use ccr_page::Page;
 use ccr_pipeline::Pipeline;
@@ -54,6 +54,31 @@ fn page_with(alloc: Global, options: Options, scene: &Scene<'_>) -> Result<Page,
     })
 }
 
+/// The page of a core's pipeline, of whose jobs this is said.
+fn page_told(
+    alloc: Global,
+    core: &Core,
+    pipeline: &Pipeline,
+    options: Options,
+    told: &[Told<'_>],
+) -> Result<Page, AllocError>
+    requires { let c = core_data core.now in
+        AreTold (pipeline_data pipeline.now) c.history c.budget (map told_data told.now) }
+    ensures { let c = core_data core.now in IfOk result (λ page.
+        IsPageOf (options_data options) (pipeline_data pipeline.now) c.history c.budget (page_data page)) }
+{
+    few_members(pipeline);
+    let history = core.history();
+    let row_count = rows_of(pipeline);
+    let scene = Scene {
+        pipeline,
+        history,
+        row_count,
+        told,
+    };
+    page_with(alloc, options, &scene)
+}
+
 /// The page of a core's pipeline.
 fn page_of(
     alloc: Global,
@@ -65,15 +90,9 @@ fn page_of(
     ensures { let c = core_data core.now in IfOk result (λ page.
         IsPageOf (options_data options) (pipeline_data pipeline.now) c.history c.budget (page_data page)) }
 {
-    few_members(pipeline);
     let told = each_told(alloc, core, pipeline)?;
-    let scene = Scene {
-        pipeline,
-        history: core.history(),
-        row_count: row_count(pipeline.jobs().len()),
-        told: &told,
-    };
-    page_with(alloc, options, &scene)
+    let page = page_told(alloc, core, pipeline, options, &told)?;
+    Ok(page)
 }
 
 /// The page of what a core holds: each job of its pipeline with its newest build, its last ones, what they took, and why it

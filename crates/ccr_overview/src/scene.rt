@@ -60,3 +60,11 @@ pub(crate) fn row_count(jobs: usize) -> u32
     let rows = 150 / (jobs as u32).max(1);
     rows.min(20).max(2)
 }
+
+/// How many builds of each job of a pipeline have a row.
+pub(crate) fn rows_of(pipeline: &Pipeline) -> u32
+    ensures { result ≡ row_count (length (pipeline_data pipeline.now).jobs) }
+{
+    few_members(pipeline);
+    row_count(pipeline.jobs().len())
+}
