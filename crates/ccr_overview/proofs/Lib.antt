@@ -1,4 +1,5 @@
 pub mod Digits
+pub mod Fields
 pub mod Going
 pub mod Joining
 pub mod Paging

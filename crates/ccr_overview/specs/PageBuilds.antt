@@ -63,6 +63,10 @@ abbrev pub bar_of : List BuildData → BuildData → Bar
 bar_of rows b =
     record { number = b.number; status = status_of b.status; has_row = list_any (λ r. r.number == b.number) rows }
 
+-- the last 20 builds of these, which stand newest first, where so many of them have a row
+abbrev pub bars_of : HistoryData → ℕ → List ℕ → List Bar
+bars_of h n all = map (bar_of (builds_at h (listed_of h n all))) (builds_at h (take 20 all))
+
 -- THE BARS of a job: its last 20 builds, the newest first
 abbrev pub bars : HistoryData → ℕ → Text → List Bar
-bars h n job = map (bar_of (builds_at h (listed h n job))) (builds_at h (take 20 (newest_first job h)))
+bars h n job = bars_of h n (newest_first job h)

@@ -1,9 +1,11 @@
 -- Versions in a few letters.
-use Rattle.std.specs.Prelude.{ℕ, List, [], ◌∷◌, ◌++◌, length, take, drop, flat_map, Bool, ◌&&◌, ◌==◌, ◌||◌, nat_le, if◌then◌else◌, Option, String, codes, string_bytes}
+use Rattle.std.specs.Prelude.{ℕ, List, [], ◌∷◌, ◌++◌, length, take, drop, flat_map, Bool, ◌&&◌, ◌==◌, ◌||◌, nat_le, if◌then◌else◌, Option, Some, option_and_then, String, codes, string_bytes}
 use Rattle.std.specs.declared.alloc.Global.{Global}
 use Rattle.std.specs.List.{list_all}
 use Rattle.std.specs.Option.{option_map_or}
 use Rattle.std.specs.Str.{bytes_eq}
+use Rattle.serde_json.specs.Data.{Data, Members, no_members, member}
+use Rattle.serde_json.specs.Find.{as_str}
 use Rattle.ccr_history.specs.Text.{Text}
 use Rattle.ccr_history.specs.TextMap.{TextMap, key_text}
 use Rattle.ccr_history.specs.Tables.{at_place, versions_at}
@@ -36,6 +38,11 @@ short_text t = if is_hash (behind_name t) then take 7 (behind_name t) else t
 -- what a field of the program's type stands for
 abbrev pub field_data : String Global × String Global → Text × Text
 field_data f = (string_bytes f.0, string_bytes f.1)
+
+-- these fields, and then those of an object with these members, if each of them is a text
+abbrev pub texts_onto : TextMap → Members → Option TextMap
+texts_onto fields no_members = Some fields
+texts_onto fields (member k d ms) = option_and_then (λ text. texts_onto (fields ++ (k, text) ∷ []) ms) (as_str d)
 
 -- a field of a version, behind the others
 abbrev pub short_field : ℕ → Text × Text → Text

@@ -3,7 +3,7 @@ ghost use Rattle.std.specs.Prelude.{◌≡◌, ◌==◌, ◌++◌, map, take, fi
 ghost use Rattle.std.specs.List.{list_any};
 ghost use Rattle.ccr_history.specs.Builds.{is_succeeded};
 ghost use Rattle.std.specs.Option.{option_copied};
-ghost use Rattle.ccr_overview.specs.PageBuilds.{status_of, newest_status, newest_number, newest_first, is_good_at, listed_of, listed, builds_at, has_row, bar_of, bars};
+ghost use Rattle.ccr_overview.specs.PageBuilds.{status_of, newest_status, newest_number, newest_first, is_good_at, listed_of, listed, builds_at, has_row, bar_of, bars_of, bars};
 
 use ccr_history::{BuildRef, History, Status as HistoryStatus};
 use ccr_page::{Bar, Status};
@@ -219,7 +219,7 @@ fn bar_of(rows: &[BuildRef<'_>], build: &BuildRef<'_>) -> Bar
 }
 
 /// These builds as bars.
-fn bars_of(
+fn each_bar(
     alloc: Global,
     rows: &[BuildRef<'_>],
     builds: &[BuildRef<'_>],
@@ -233,6 +233,41 @@ fn bars_of(
     Ok(bars)
 }
 
+/// The last 20 of these builds, which stand newest first.
+fn last_builds<'h>(
+    alloc: Global,
+    history: &'h History,
+    all: &[u32],
+) -> Result<Vec<BuildRef<'h>>, AllocError>
+    ensures { IfOk result (λ found. found.items ≡ builds_at history.now (take 20 all.now)) }
+{
+    builds_at(alloc, history, first_ones(all, 20))
+}
+
+/// Those of these builds that have a row.
+fn listed_builds<'h>(
+    alloc: Global,
+    history: &'h History,
+    most: u32,
+    all: &[u32],
+) -> Result<Vec<BuildRef<'h>>, AllocError>
+    ensures { IfOk result (λ found. found.items ≡ builds_at history.now (listed_of history.now most all.now)) }
+{
+    let listed = listed_of(alloc, history, most, all)?;
+    let builds = builds_at(alloc, history, &listed)?;
+    Ok(builds)
+}
+
+/// The last 20 of these builds as bars.
+fn bars_of(alloc: Global, history: &History, most: u32, all: &[u32]) -> Result<Vec<Bar>, AllocError>
+    ensures { IfOk result (λ found. found.items ≡ bars_of history.now most all.now) }
+{
+    let rows = listed_builds(alloc, history, most, all)?;
+    let last = last_builds(alloc, history, all)?;
+    let found = each_bar(alloc, &rows, &last)?;
+    Ok(found)
+}
+
 /// The last 20 builds of a job, the newest first.
 pub(crate) fn bars(
     alloc: Global,
@@ -243,8 +278,6 @@ pub(crate) fn bars(
     ensures { IfOk result (λ found. found.items ≡ bars history.now most job.now) }
 {
     let all = newest_first(alloc, history, job)?;
-    let listed = listed_of(alloc, history, most, &all)?;
-    let rows = builds_at(alloc, history, &listed)?;
-    let last = builds_at(alloc, history, first_ones(&all, 20))?;
-    bars_of(alloc, &rows, &last)
+    let found = bars_of(alloc, history, most, &all)?;
+    Ok(found)
 }

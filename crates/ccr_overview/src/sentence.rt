@@ -1,11 +1,12 @@
 //! Why a job stands still, in a sentence.
-ghost use Rattle.std.specs.Prelude.{◌≡◌, ◌++◌, ◌∷◌, [], nat_lt, if◌then◌else◌, Option, length, map, filter, string_bytes, option_map, IfOk, OnOk};
+ghost use Rattle.std.specs.Prelude.{◌≡◌, ◌++◌, ◌∷◌, [], codes, nat_lt, if◌then◌else◌, Option, length, map, filter, string_bytes, option_map, IfOk, OnOk};
 ghost use Rattle.std.specs.Option.{option_copied};
 ghost use Rattle.ccr_pipeline.specs.Inputs.{input_data, inputs};
 ghost use Rattle.ccr_pipeline.specs.JobData.{job_data};
+ghost use Rattle.ccr_lines.specs.Lines.{status_word};
 ghost use Rattle.ccr_overview.specs.Each.{each_from};
 ghost use Rattle.ccr_overview.specs.Holds.{hold_data, holds, urgent_ones};
-ghost use Rattle.ccr_overview.specs.PageData.{word_data, why_data};
+ghost use Rattle.ccr_overview.specs.PageData.{Plain, word_data, why_data};
 ghost use Rattle.ccr_overview.specs.Scenes.{told_data, scene_data};
 ghost use Rattle.ccr_overview.specs.PageRows.{used_for};
 ghost use Rattle.ccr_overview.specs.Sentences.{build_row, running_why, only, due_of, due_words, none_words, budget_words, start_words, told_hold, more_words, holds_words, is_bad, took_on, on_words, stopped_words, bad_words, alone_words, beside_words, bad_why, held_why, ended_why, standing_why, outlook_why, why_of};
@@ -282,6 +283,16 @@ fn push_on(
     Ok(())
 }
 
+/// Adds how a build stands, behind its number.
+fn push_status(alloc: Global, out: &mut Vec<Word>, status: Status) -> Result<(), AllocError>
+    ensures { OnOk result (map word_data out.new.items
+        ≡ map word_data out.old.items ++ Plain (codes " " ++ status_word status) ∷ []) }
+{
+    let mut words = String::from_str(alloc, " ")?;
+    words.push_str(word_of(status))?;
+    push_plain(alloc, out, words.as_str())
+}
+
 /// Adds the newest build of the job at a position, and how it stands.
 fn push_stopped(
     alloc: Global,
@@ -291,11 +302,9 @@ fn push_stopped(
 ) -> Result<(), AllocError>
     ensures { OnOk result (map word_data out.new.items ≡ map word_data out.old.items ++ stopped_words at build.now) }
 {
-    let mut status = String::from_str(alloc, " ")?;
-    status.push_str(word_of(build.status()))?;
     push_plain(alloc, out, "stopped: ")?;
     push_build(alloc, out, at, build)?;
-    push_plain(alloc, out, status.as_str())
+    push_status(alloc, out, build.status())
 }
 
 /// The newest build of the job at a position, how it stands, and on which version.

@@ -7,7 +7,7 @@ ghost use Rattle.ccr_history.specs.TextMap.{fields_in, texts_of, text_map_of};
 ghost use Rattle.ccr_overview.specs.Each.{each_from};
 ghost use Rattle.ccr_overview.specs.PageData.{version_data, word_data};
 ghost use Rattle.ccr_overview.specs.Sayings.{version_word};
-ghost use Rattle.ccr_overview.specs.Shorts.{is_hex, is_hash, begins, behind_name, short_text, field_data, short_field, short, version_of, short_there};
+ghost use Rattle.ccr_overview.specs.Shorts.{is_hex, is_hash, begins, behind_name, short_text, field_data, texts_onto, short_field, short, version_of, short_there};
 
 use crate::word::numbered;
 use ccr_history::{History, Pin, Version as HistoryVersion};
@@ -105,7 +105,7 @@ fn members_of(
     members: &BTreeMap<String, Value>,
 ) -> Result<Option<Vec<(String, String)>>, AllocError>
     ensures { IfOk result (λ found. option_map (λ all. map field_data all.items) found
-        ≡ texts_of (members_view members.now.entries)) }
+        ≡ texts_onto [] (members_view members.now.entries)) }
 {
     let mut all = Vec::new(alloc);
     for (key, member) in members.iter() {
@@ -119,13 +119,26 @@ fn members_of(
     Ok(Some(all))
 }
 
+/// The same.
+#[tactic(auto, using(crate::proofs::Fields::onto_none))]
+fn object_fields(
+    alloc: Global,
+    members: &BTreeMap<String, Value>,
+) -> Result<Option<Vec<(String, String)>>, AllocError>
+    ensures { IfOk result (λ found. option_map (λ all. map field_data all.items) found
+        ≡ texts_of (members_view members.now.entries)) }
+{
+    let found = members_of(alloc, members)?;
+    Ok(found)
+}
+
 /// The fields of a JSON object whose fields are all texts; None where a value is no such object.
 fn value_fields(alloc: Global, value: &Value) -> Result<Option<Vec<(String, String)>>, AllocError>
     ensures { IfOk result (λ found. option_map (λ all. map field_data all.items) found
         ≡ text_map_of (view value.now)) }
 {
     match value.as_object() {
-        Some(members) => members_of(alloc, members),
+        Some(members) => object_fields(alloc, members),
         None => Ok(None),
     }
 }

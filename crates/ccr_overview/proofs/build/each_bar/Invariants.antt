@@ -1,6 +1,6 @@
 use Rattle.std.proofs.Common.{◌≡◌, map, take}
 use Rattle.ccr_overview.specs.PageBuilds.{bar_of}
-use Rattle.ccr_overview.proofs.build.bars_of.Given as goal
+use Rattle.ccr_overview.proofs.build.each_bar.Given as goal
 
 abbrev pub invariant-loop-build : goal.invariant-loop-build
 invariant-loop-build l =
