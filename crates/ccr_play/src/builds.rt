@@ -5,12 +5,11 @@
 //! or `config CONFIG`. The answer to a line is what the build asks then, as JSON, or how it ended and which versions it
 //! moved.
 
-use crate::steps::started;
+use crate::steps::{push_moved, started_of};
 use anyhow::{Result, anyhow};
 use ccr_pipeline::{Pipeline, read};
-use ccr_rows::{Player, answered_of, ask_value, outcome_name, split, versions_of};
+use ccr_rows::{Player, answered_of, ask_text, outcome_name, split};
 use ccr_steps::{BuildRun, FeedFault};
-use serde_json::Value;
 use std::alloc::{AllocError, Global};
 
 /// The pipeline that was set last, and the build that was started last.
@@ -26,19 +25,13 @@ fn push_end(alloc: Global, text: &mut String, run: &BuildRun) -> Result<(), Allo
         text.push_str("outcome ")?;
         text.push_str(outcome_name(outcome))?;
     }
-    for moved in run.moved() {
-        let resource = moved.resource.as_str();
-        let key = moved.version.key(alloc)?;
-        let key = key.as_str();
-        write!(text, "\nmoved {resource} {key}")?;
-    }
-    Ok(())
+    push_moved(alloc, text, "\nmoved", run)
 }
 
 /// What a build asks, or, where it has ended, its outcome and what it moved.
 fn state_of(alloc: Global, run: &BuildRun) -> Result<String, AllocError> {
     if let Some(ask) = run.wants() {
-        return Value::Object(ask_value(alloc, &ask)?).to_string(alloc);
+        return ask_text(alloc, &ask, None);
     }
     let mut text = String::new(alloc);
     push_end(alloc, &mut text, run)?;
@@ -57,10 +50,10 @@ fn fed(alloc: Global, run: &mut BuildRun, line: &str) -> Result<String> {
 
 /// A build of the job of this name.
 fn run_of(alloc: Global, pipeline: &Pipeline, name: &str, versions: &str) -> Result<BuildRun> {
-    let job = pipeline.jobs().iter().find(|job| job.name.as_str() == name);
-    let job = job.ok_or(anyhow!("no such job"))?;
-    let versions = versions_of(alloc, versions)?;
-    started(alloc, job, &versions)
+    match pipeline.jobs().iter().find(|job| job.name.as_str() == name) {
+        Some(job) => started_of(alloc, job, versions),
+        None => Err(anyhow!("no such job")),
+    }
 }
 
 impl Builds {

@@ -1,52 +1,52 @@
-//! What is printed for a whole text: a pipeline, a task file or a problem.
+//! What is printed for a whole text: a pipeline or a problem.
 ghost use Rattle.std.specs.Prelude.{◌≤◌};
 ghost use Rattle.ccr_proof.specs.Claim.{IsClaim};
 
 use crate::problems::proof_text;
 use ccr_choice::{Problem, ProblemFault, read_problem};
 use ccr_index::build_index;
-use ccr_pipeline::{ReadFault, read, read_task};
+use ccr_pipeline::{Pipeline, ReadFault, read};
 use ccr_proof::{Claim, write_claim};
 use ccr_resolve::{Chosen, choose};
 use ccr_rows::{Answer, OVER_BUDGET};
 use std::alloc::{AllocError, Global};
 
 /// A line that tells why a text is refused.
-fn refused(alloc: Global, what: &str, fault: &ReadFault) -> Result<Answer, AllocError> {
+fn refused(alloc: Global, fault: &ReadFault) -> Result<Answer, AllocError> {
     if let ReadFault::NoMemory = fault {
         return Err(AllocError);
     }
     Ok(Answer {
-        lines: format!(in alloc; "refused: {what}: {fault}\n")?,
+        lines: format!(in alloc; "refused: pipeline: {fault}\n")?,
         status: 1,
     })
 }
 
-/// How many resources and jobs a pipeline has, and its unused keys, or why it is refused.
-pub(crate) fn answer_pipeline(alloc: Global, text: &[u8]) -> Result<Answer, AllocError> {
-    let pipeline = match read(alloc, text) {
-        Ok(pipeline) => pipeline,
-        Err(fault) => return refused(alloc, "pipeline", &fault),
-    };
+/// Adds the unused keys of a pipeline, a line each.
+fn push_unused(lines: &mut String, pipeline: &Pipeline) -> Result<(), AllocError> {
+    for path in pipeline.unused() {
+        let path = path.as_str();
+        write!(lines, "unused {path}\n")?;
+    }
+    Ok(())
+}
+
+fn pipeline_told(alloc: Global, pipeline: &Pipeline) -> Result<String, AllocError> {
     let resources = pipeline.resources().len();
     let jobs = pipeline.jobs().len();
     let mut lines = format!(in alloc; "read: {resources} resources, {jobs} jobs\n")?;
-    for path in pipeline.unused() {
-        lines.push_str("unused ")?;
-        lines.push_str(path.as_str())?;
-        lines.push_str("\n")?;
-    }
-    Ok(Answer { lines, status: 0 })
+    push_unused(&mut lines, pipeline)?;
+    Ok(lines)
 }
 
-/// That a task file is read, or why it is refused.
-pub(crate) fn answer_task(alloc: Global, text: &[u8]) -> Result<Answer, AllocError> {
-    match read_task(alloc, text) {
-        Ok(_) => Ok(Answer {
-            lines: String::from_str(alloc, "read: task\n")?,
+/// How many resources and jobs a pipeline has, and its unused keys, or why it is refused.
+pub(crate) fn answer_pipeline(alloc: Global, text: &[u8]) -> Result<Answer, AllocError> {
+    match read(alloc, text) {
+        Ok(pipeline) => Ok(Answer {
+            lines: pipeline_told(alloc, &pipeline)?,
             status: 0,
         }),
-        Err(fault) => refused(alloc, "task", &fault),
+        Err(fault) => refused(alloc, &fault),
     }
 }
 

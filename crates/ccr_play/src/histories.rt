@@ -7,11 +7,9 @@
 //! and ends them as failed; `used JOB INPUT SCOPE.PLACE` asks whether a build of the job used this place.
 //! `pin RESOURCE JSON`, `unpin RESOURCE`, `disable RESOURCE PLACE`, `enable RESOURCE PLACE`. `problem JOB` prints the problem of a job, `resolve JOB BUDGET` its proof.
 //! `history` prints the history; `copy` goes on with a copy of it.
-//! `grow BUILDS JOBS PLACES`, `more JOB SCOPE PLACE COUNT` and `extend RESOURCE FIRST COUNT` make large histories, for benchmarks.
 
 ghost use Rattle.std.specs.Prelude.{◌≤◌};
 
-use crate::grow::{extend, grow, one_more};
 use crate::problems::proof_text;
 use anyhow::{Result, anyhow, bail};
 use ccr_choice::{Problem, write_problem};
@@ -54,6 +52,19 @@ fn sizes_told(alloc: Global, pipeline: &Pipeline) -> Result<String> {
 /// Room for the answer to a change. It is made before the change, so that no answer is refused memory after one.
 fn room(alloc: Global) -> Result<String, AllocError> {
     String::with_capacity(alloc, 32)
+}
+
+/// Reports versions: how many of them were new.
+fn appended(
+    alloc: Global,
+    history: &mut History,
+    scope: &Scope,
+    versions: &[Version],
+) -> Result<String> {
+    let mut text = room(alloc)?;
+    let new = history.append_versions(alloc, scope, versions)?;
+    write!(text, "{new} new")?;
+    Ok(text)
 }
 
 /// Makes a build of a job, and ends it as failed: its number.
@@ -110,7 +121,6 @@ impl Histories {
             "enable" => self.enabled(alloc, first, rest),
             "problem" => self.problem(alloc, first),
             "resolve" => self.resolved(alloc, first, rest),
-            "grow" | "more" | "extend" => self.grown(alloc, kind, first, rest),
             "copy" => self.copied(alloc),
             "history" => Ok(text_of(alloc, &self.history)?),
             _ => bail!("no line begins with {kind}"),
@@ -153,50 +163,18 @@ impl Histories {
 
     fn append(&mut self, alloc: Global, name: &str, versions: &[Version]) -> Result<String> {
         let scope = self.scope(name)?;
-        let mut text = room(alloc)?;
-        let new = self.history.append_versions(alloc, &scope, versions)?;
-        write!(text, "{new} new")?;
-        Ok(text)
+        appended(alloc, &mut self.history, &scope, versions)
     }
 
     fn tried(&mut self, alloc: Global, name: &str, text: &str) -> Result<String> {
-        let scope = self.scope(name)?;
         let versions = versions_of(alloc, text)?;
-        let new = taken_back(alloc, &mut self.history, scope, &versions)?;
-        Ok(format!(in alloc; "{new} taken back")?)
+        self.take_back(alloc, name, &versions)
     }
 
-    /// The lines for large histories: `grow BUILDS JOBS PLACES`, `more JOB SCOPE PLACE COUNT`, `extend RESOURCE FIRST COUNT`.
-    fn grown(&mut self, alloc: Global, kind: &str, first: &str, rest: &str) -> Result<String> {
-        let (second, rest) = rest.split_once(" ").ok_or(anyhow!("no second number"))?;
-        if kind == "extend" {
-            let scope = self.scope(first)?;
-            let new = extend(
-                alloc,
-                &mut self.history,
-                &scope,
-                number_of(second)?,
-                number_of(rest)?,
-            )?;
-            return Ok(format!(in alloc; "{new} new")?);
-        }
-        if kind == "grow" {
-            let (builds, jobs) = (number_of(first)?, number_of(second)?);
-            grow(alloc, &mut self.history, builds, jobs, number_of(rest)?)?;
-        } else {
-            let (place, count) = rest.split_once(" ").ok_or(anyhow!("no count"))?;
-            for _ in 0..number_of(count)? {
-                one_more(
-                    alloc,
-                    &mut self.history,
-                    first,
-                    number_of(second)?,
-                    number_of(place)?,
-                )?;
-            }
-        }
-        let builds = self.history.build_count();
-        Ok(format!(in alloc; "{builds} builds")?)
+    fn take_back(&mut self, alloc: Global, name: &str, versions: &[Version]) -> Result<String> {
+        let scope = self.scope(name)?;
+        let new = taken_back(alloc, &mut self.history, scope, versions)?;
+        Ok(format!(in alloc; "{new} taken back")?)
     }
 
     fn copied(&mut self, alloc: Global) -> Result<String> {
@@ -235,14 +213,18 @@ impl Histories {
         Ok(text)
     }
 
-    /// The builds are made in a copy, so that either all of them are there or none.
-    fn failed(&mut self, alloc: Global, job: &str, text: &str) -> Result<String> {
-        let count = number_of(text)?;
-        let mut text = room(alloc)?;
+    /// A copy of the history in which builds of a job are made and end as failed, and the number of the last.
+    fn copy_failed(&self, alloc: Global, job: &str, count: u32) -> Result<(History, u32)> {
         let mut history = self.history.copy(alloc)?;
         let last = fail(alloc, &mut history, job, count)?;
+        Ok((history, last))
+    }
+
+    /// The builds are made in a copy, so that either all of them are there or none.
+    fn failed(&mut self, alloc: Global, job: &str, text: &str) -> Result<String> {
+        let (history, last) = self.copy_failed(alloc, job, number_of(text)?)?;
+        let text = format!(in alloc; "{last}")?;
         self.history = history;
-        write!(text, "{last}")?;
         Ok(text)
     }
 

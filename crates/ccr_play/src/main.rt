@@ -20,35 +20,31 @@
 //! `ccr_play check KIND.cases ..` plays the lines of files, and compares what is told with the files: a line for each file. The
 //! gate runs this on the files of `data/`, whose answers were worked out by hand.
 //!
-//! Other calls: `ccr_play pipeline` and `ccr_play task` read a whole text. `ccr_play resolve BUDGET` reads a problem and prints
+//! Other calls: `ccr_play pipeline` reads a whole pipeline. `ccr_play resolve BUDGET` reads a problem and prints
 //! the proof of its best choice, or that none satisfies, of at most BUDGET nodes; `ccr_play choose BUDGET` prints the line of
-//! the same claim alone, and `ccr_play plain` that of the plain resolver, with how many nodes its tree has. `ccr_play commits
-//! DATABASE COUNT` makes so many builds more in a database, three commits each, and prints how long the commits took. Statuses:
-//! 0 done, 1 refused or answered otherwise, 2 usage, 3 over budget, 4 out of memory or unreadable.
+//! the same claim alone. Statuses: 0 done, 1 refused or answered otherwise, 2 usage, 3 over budget, 4 out of memory or unreadable.
 #![tactic(auto)]
 
 mod builds;
 mod calls;
-mod grow;
 mod histories;
 mod kind;
 mod order;
 mod pipelines;
-mod plain;
 mod problems;
 mod programs;
 mod steps;
 mod stores;
 mod versions;
 
-use calls::{answer_choose, answer_pipeline, answer_resolve, answer_task};
+use calls::{answer_choose, answer_pipeline, answer_resolve};
 use ccr_rows::{Answer, Telling, arguments, check, input, play_input, played, tell};
 use kind::LineKind;
-use order::{Call, call_of};
-use plain::answer_plain;
+use order::{Call, Whole, call_of};
+use std::alloc::{AllocError, Global};
 use std::io;
 use std::process::ExitCode;
-use stores::{Stores, commits_told};
+use stores::Stores;
 
 /// What is told of lines of stores on standard input, whose histories are kept in files of this name too.
 fn keep(rt: &HostRuntime, path: &str) -> io::Result<Answer> {
@@ -57,29 +53,27 @@ fn keep(rt: &HostRuntime, path: &str) -> io::Result<Answer> {
     Ok(Answer { lines, status: 0 })
 }
 
-/// Makes builds in a database, and tells how long their commits took, or why there is none.
-fn commits(rt: &HostRuntime, path: &str, count: u32) -> io::Result<Answer> {
-    match commits_told(rt, path, count) {
-        Ok(lines) => Ok(Answer { lines, status: 0 }),
-        Err(error) => Ok(Answer {
-            lines: format!(in rt.alloc(); "{error}\n")?,
-            status: 1,
-        }),
+/// What is made of a whole text.
+fn answer_text(alloc: Global, text: &[u8], whole: Whole) -> Result<Answer, AllocError> {
+    match whole {
+        Whole::Pipeline => answer_pipeline(alloc, text),
+        Whole::Resolve(budget) => answer_resolve(alloc, text, budget.nodes),
+        Whole::Choose(budget) => answer_choose(alloc, text, budget.nodes),
     }
 }
 
+/// What is made of standard input.
+fn answer_input(rt: &HostRuntime, whole: Whole) -> io::Result<Answer> {
+    let text = input(rt)?;
+    Ok(answer_text(rt.alloc(), text.as_bytes(), whole)?)
+}
+
 fn answer_of(rt: &HostRuntime, call: Call<'_>) -> io::Result<Answer> {
-    let alloc = rt.alloc();
     match call {
         Call::Check(names) => check::<LineKind>(rt, names),
         Call::Lines(kind, telling) => play_input(rt, kind, telling),
-        Call::Pipeline => Ok(answer_pipeline(alloc, input(rt)?.as_bytes())?),
-        Call::Task => Ok(answer_task(alloc, input(rt)?.as_bytes())?),
-        Call::Resolve(budget) => Ok(answer_resolve(alloc, input(rt)?.as_bytes(), budget.nodes)?),
-        Call::Choose(budget) => Ok(answer_choose(alloc, input(rt)?.as_bytes(), budget.nodes)?),
-        Call::Plain => answer_plain(alloc, input(rt)?.as_bytes()),
+        Call::Text(whole) => answer_input(rt, whole),
         Call::Kept(path) => keep(rt, path),
-        Call::Commits(path, count) => commits(rt, path, count),
     }
 }
 
@@ -97,7 +91,7 @@ fn main(rt: HostRuntime) -> io::Result<ExitCode> {
         Ok(Some(answer)) => tell(&rt, &answer),
         Ok(None) => {
             eprintln!(rt;
-                "usage: ccr_play KIND [--timed]|check FILE..|pipeline|task|resolve BUDGET|choose BUDGET|plain|stores DATABASE|commits DATABASE COUNT"
+                "usage: ccr_play KIND [--timed]|check FILE..|pipeline|resolve BUDGET|choose BUDGET|stores DATABASE"
             )?;
             Ok(ExitCode::from(2))
         }

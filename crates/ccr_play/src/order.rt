@@ -12,19 +12,22 @@ pub(crate) struct Budget {
     ghost most: { nodes ≤ 1000000 },
 }
 
+/// What is made of a whole text.
+#[derive(Clone, Copy)]
+pub(crate) enum Whole {
+    Pipeline,
+    Resolve(Budget),
+    Choose(Budget),
+}
+
 /// What the program does.
 #[derive(Clone, Copy)]
 pub(crate) enum Call<'a> {
     Check(&'a [String]),
     Lines(LineKind, Telling),
-    Pipeline,
-    Task,
-    Resolve(Budget),
-    Choose(Budget),
-    Plain,
+    Text(Whole),
     /// Lines of stores, whose histories are kept in files of this name too.
     Kept(&'a str),
-    Commits(&'a str, u32),
 }
 
 fn budget_of(word: &str) -> Option<Budget> {
@@ -39,8 +42,8 @@ fn budget_of(word: &str) -> Option<Budget> {
 /// The call of two words.
 fn call_of_two<'a>(first: &'a str, second: &'a str) -> Option<Call<'a>> {
     match (first, second) {
-        ("resolve", budget) => Some(Call::Resolve(budget_of(budget)?)),
-        ("choose", budget) => Some(Call::Choose(budget_of(budget)?)),
+        ("resolve", budget) => Some(Call::Text(Whole::Resolve(budget_of(budget)?))),
+        ("choose", budget) => Some(Call::Text(Whole::Choose(budget_of(budget)?))),
         ("stores", path) if path != "--timed" => Some(Call::Kept(path)),
         (kind, "--timed") => Some(Call::Lines(LineKind::of_name(kind)?, Telling::Times)),
         _ => None,
@@ -52,15 +55,10 @@ pub(crate) fn call_of(words: &[String]) -> Option<Call<'_>> {
     match words {
         [first, names @ ..] if first.as_str() == "check" => Some(Call::Check(names)),
         [first] => match first.as_str() {
-            "pipeline" => Some(Call::Pipeline),
-            "task" => Some(Call::Task),
-            "plain" => Some(Call::Plain),
+            "pipeline" => Some(Call::Text(Whole::Pipeline)),
             kind => Some(Call::Lines(LineKind::of_name(kind)?, Telling::Answers)),
         },
         [first, second] => call_of_two(first.as_str(), second.as_str()),
-        [first, path, count] if first.as_str() == "commits" => {
-            Some(Call::Commits(path.as_str(), count.as_str().parse::<u32>().ok()?))
-        }
         _ => None,
     }
 }

@@ -5,9 +5,7 @@
 //! it stands first. `pipeline-parts`, `pipeline-unused` and `pipeline-inputs` tell more of a pipeline, `task-variables` of a task file.
 //! `pipeline-bytes` has the bytes of a text in hexadecimal, and `pipeline-of COUNT WHAT` makes one with so many of something.
 
-use ccr_pipeline::{
-    Input, Job, Pipeline, ReadFault, TaskConfig, Wanted, inputs_of, read, read_task,
-};
+use ccr_pipeline::{Input, Pipeline, ReadFault, TaskConfig, Wanted, inputs_of, read, read_task};
 use ccr_rows::{Player, split};
 use std::alloc::{AllocError, Global};
 
@@ -31,9 +29,7 @@ fn answered(alloc: Global, example: &str, kind: &str, given: &str) -> Result<Str
     let text = if given == "example" { example } else { given };
     match kind {
         "example" | "pipeline" => told(alloc, read(alloc, text.as_bytes())),
-        "pipeline-parts" => parts(alloc, text),
-        "pipeline-unused" => unused(alloc, text),
-        "pipeline-inputs" => inputs(alloc, text),
+        "pipeline-parts" | "pipeline-unused" | "pipeline-inputs" => parts(alloc, kind, text),
         "pipeline-variant" => variant(alloc, example, given),
         "pipeline-bytes" => told(alloc, read(alloc, &bytes_of(alloc, given)?)),
         "pipeline-of" => generated(alloc, given),
@@ -61,8 +57,8 @@ fn told<T: Drop>(alloc: Global, read: Result<T, ReadFault>) -> Result<String, Al
     }
 }
 
-/// How many resources and jobs a pipeline has, and whether it has the text that it was read from.
-fn parts_told(alloc: Global, pipeline: &Pipeline, text: &str) -> Result<String, AllocError> {
+/// Adds how many resources and jobs a pipeline has, and whether it has the text that it was read from.
+fn push_parts(out: &mut String, pipeline: &Pipeline, text: &str) -> Result<(), AllocError> {
     let resources = pipeline.resources().len();
     let jobs = pipeline.jobs().len();
     let kept = if pipeline.text() == text.as_bytes() {
@@ -70,72 +66,70 @@ fn parts_told(alloc: Global, pipeline: &Pipeline, text: &str) -> Result<String, 
     } else {
         "another text"
     };
-    format!(in alloc; "{resources} resources, {jobs} jobs, {kept}")
+    write!(out, "{resources} resources, {jobs} jobs, {kept}")
 }
 
-fn parts(alloc: Global, text: &str) -> Result<String, AllocError> {
-    match read(alloc, text.as_bytes()) {
-        Ok(pipeline) => parts_told(alloc, &pipeline, text),
-        Err(fault) => fault.to_string(alloc),
-    }
-}
-
-/// The texts with a blank between.
-fn joined(alloc: Global, texts: &[String]) -> Result<String, AllocError> {
-    let mut all = String::new(alloc);
+/// Adds texts with a blank between.
+fn push_joined(out: &mut String, texts: &[String]) -> Result<(), AllocError> {
     for (i, text) in texts.iter().enumerate() {
-        if i > 0 {
-            all.push_str(" ")?;
-        }
-        all.push_str(text.as_str())?;
+        out.push_str(if i > 0 { " " } else { "" })?;
+        out.push_str(text.as_str())?;
     }
-    Ok(all)
+    Ok(())
 }
 
-/// The paths of the keys without effect.
-fn unused(alloc: Global, text: &str) -> Result<String, AllocError> {
-    match read(alloc, text.as_bytes()) {
-        Ok(pipeline) => joined(alloc, pipeline.unused()),
-        Err(fault) => fault.to_string(alloc),
-    }
-}
-
-/// An input in words: its name and resource, the jobs that it names, whether it makes builds, and what it wants.
-fn input_words(alloc: Global, input: &Input) -> Result<String, AllocError> {
+/// Adds an input in words: its name and resource, the jobs that it names, whether it makes builds, and what it wants.
+fn push_input(out: &mut String, input: &Input) -> Result<(), AllocError> {
     let (name, resource) = (input.name.as_str(), input.resource.as_str());
-    let passed = joined(alloc, &input.passed)?;
-    let passed = passed.as_str();
-    let trigger = if input.trigger { " trigger" } else { "" };
-    let wanted = match &input.wanted {
+    write!(out, "{name} of {resource} [")?;
+    push_joined(out, &input.passed)?;
+    out.push_str(if input.trigger { "] trigger " } else { "] " })?;
+    out.push_str(match &input.wanted {
         Wanted::Latest => "latest",
         Wanted::Every => "every",
         Wanted::Pinned(_) => "pinned",
-    };
-    format!(in alloc; "{name} of {resource} [{passed}]{trigger} {wanted}")
+    })
 }
 
-fn job_inputs(alloc: Global, job: &Job) -> Result<String, AllocError> {
-    let mut words = String::new(alloc);
-    for (i, input) in inputs_of(alloc, job)?.iter().enumerate() {
-        if i > 0 {
-            words.push_str(", ")?;
-        }
-        words.push_str(input_words(alloc, input)?.as_str())?;
+fn push_inputs(out: &mut String, inputs: &[Input]) -> Result<(), AllocError> {
+    for (i, input) in inputs.iter().enumerate() {
+        out.push_str(if i > 0 { ", " } else { "" })?;
+        push_input(out, input)?;
     }
-    Ok(words)
+    Ok(())
 }
 
-fn only_inputs(alloc: Global, pipeline: &Pipeline) -> Result<String, AllocError> {
+/// Adds the inputs of the only job.
+fn push_only(alloc: Global, out: &mut String, pipeline: &Pipeline) -> Result<(), AllocError> {
     match pipeline.jobs() {
-        [job] => job_inputs(alloc, job),
-        _ => String::from_str(alloc, "not one job"),
+        [job] => {
+            let inputs = inputs_of(alloc, job)?;
+            push_inputs(out, &inputs)
+        }
+        _ => out.push_str("not one job"),
     }
 }
 
-/// The inputs of the only job.
-fn inputs(alloc: Global, text: &str) -> Result<String, AllocError> {
+/// What a line of this kind asks of a pipeline: its parts, the paths of the keys without effect, or the inputs of the only job.
+fn part_told(
+    alloc: Global,
+    kind: &str,
+    pipeline: &Pipeline,
+    text: &str,
+) -> Result<String, AllocError> {
+    let mut out = String::new(alloc);
+    match kind {
+        "pipeline-parts" => push_parts(&mut out, pipeline, text)?,
+        "pipeline-unused" => push_joined(&mut out, pipeline.unused())?,
+        _ => push_only(alloc, &mut out, pipeline)?,
+    }
+    Ok(out)
+}
+
+/// What a line of this kind asks of the pipeline that a text is.
+fn parts(alloc: Global, kind: &str, text: &str) -> Result<String, AllocError> {
     match read(alloc, text.as_bytes()) {
-        Ok(pipeline) => only_inputs(alloc, &pipeline),
+        Ok(pipeline) => part_told(alloc, kind, &pipeline, text),
         Err(fault) => fault.to_string(alloc),
     }
 }
@@ -159,82 +153,101 @@ fn bytes_of(alloc: Global, given: &str) -> Result<Vec<u8>, AllocError> {
     Ok(bytes)
 }
 
-/// So many pieces of text with a comma between: what stands before a number, the number from 0 on, and what stands after it.
-fn listed(alloc: Global, before: &str, after: &str, count: u32) -> Result<String, AllocError> {
-    let mut text = String::new(alloc);
+/// Adds so many pieces of text with a comma between: what stands before a number, the number from 0 on, and what stands after it.
+fn push_listed(out: &mut String, before: &str, after: &str, count: u32) -> Result<(), AllocError> {
     for i in 0..count {
-        if i > 0 {
-            text.push_str(",")?;
-        }
-        text.push_str(format!(in alloc; "{before}{i}{after}")?.as_str())?;
+        let comma = if i > 0 { "," } else { "" };
+        write!(out, "{comma}{before}{i}{after}")?;
     }
-    Ok(text)
+    Ok(())
 }
 
-/// A piece of text so many times.
-fn repeated(alloc: Global, piece: &str, count: u32) -> Result<String, AllocError> {
-    let mut text = String::new(alloc);
+/// Adds a piece of text so many times.
+fn push_repeated(out: &mut String, piece: &str, count: u32) -> Result<(), AllocError> {
     for _ in 0..count {
-        text.push_str(piece)?;
+        out.push_str(piece)?;
     }
-    Ok(text)
+    Ok(())
+}
+
+/// Adds a text with so many pieces in one another.
+fn push_nested(
+    out: &mut String,
+    front: &str,
+    open: &str,
+    inner: &str,
+    close: &str,
+    count: u32,
+) -> Result<(), AllocError> {
+    out.push_str(front)?;
+    push_repeated(out, open, count)?;
+    out.push_str(inner)?;
+    push_repeated(out, close, count)
+}
+
+/// Adds what ends a job whose two gets name the same so many of the 33 jobs before it.
+fn push_named(out: &mut String, count: u32) -> Result<(), AllocError> {
+    out.push_str("{\"resources\":[{\"name\":\"a\",\"type\":\"t\"}],\"jobs\":[")?;
+    push_listed(out, "{\"plan\":[],\"name\":\"j", "\"}", 33)?;
+    out.push_str(",{\"name\":\"last\",\"plan\":[{\"get\":\"a\",\"passed\":[")?;
+    push_listed(out, "\"j", "\"", count)?;
+    out.push_str("]},{\"get\":\"b\",\"resource\":\"a\",\"passed\":[")?;
+    push_listed(out, "\"j", "\"", count)
+}
+
+/// Adds a text with so many of something but its end, and gives the end.
+fn push_text(out: &mut String, count: u32, what: &str) -> Result<&'static str, AllocError> {
+    match what {
+        "bytes" => {
+            push_repeated(out, " ", count)?;
+            Ok("")
+        }
+        "lists in one another" => {
+            push_nested(out, "{\"x\":", "[", "", "]", count)?;
+            Ok("}")
+        }
+        "levels of steps" => {
+            let above = count.saturating_sub(1);
+            let front = "{\"jobs\":[{\"name\":\"j\",\"plan\":[";
+            push_nested(out, front, "{\"try\":", "{\"do\":[]}", "}", above)?;
+            Ok("]}]}")
+        }
+        "resources" => {
+            out.push_str("{\"resources\":[")?;
+            push_listed(out, "{\"type\":\"t\",\"name\":\"r", "\"}", count)?;
+            Ok("]}")
+        }
+        "bytes in a name" => {
+            out.push_str("{\"resources\":[{\"name\":\"")?;
+            push_repeated(out, "n", count)?;
+            Ok("\",\"type\":\"t\"}]}")
+        }
+        "jobs" => {
+            out.push_str("{\"jobs\":[")?;
+            push_listed(out, "{\"plan\":[],\"name\":\"j", "\"}", count)?;
+            Ok("]}")
+        }
+        "inputs" => {
+            out.push_str(
+                "{\"resources\":[{\"name\":\"a\",\"type\":\"t\"}],\"jobs\":[{\"name\":\"j\",\"plan\":[",
+            )?;
+            push_listed(out, "{\"resource\":\"a\",\"get\":\"g", "\"}", count)?;
+            Ok("]}]}")
+        }
+        "named jobs" => {
+            push_named(out, count)?;
+            Ok("]}]}]}")
+        }
+        _ => Ok("nothing known"),
+    }
 }
 
 /// A text with so many of something.
 fn text_of(alloc: Global, count: u32, what: &str) -> Result<String, AllocError> {
-    match what {
-        "bytes" => repeated(alloc, " ", count),
-        "lists in one another" => {
-            let (open, close) = (repeated(alloc, "[", count)?, repeated(alloc, "]", count)?);
-            let (open, close) = (open.as_str(), close.as_str());
-            format!(in alloc; "{{\"x\":{open}{close}}}")
-        }
-        "levels of steps" => {
-            let above = count.saturating_sub(1);
-            let (open, close) = (
-                repeated(alloc, "{\"try\":", above)?,
-                repeated(alloc, "}", above)?,
-            );
-            let (open, close) = (open.as_str(), close.as_str());
-            format!(in alloc;
-                "{{\"jobs\":[{{\"name\":\"j\",\"plan\":[{open}{{\"do\":[]}}{close}]}}]}}"
-            )
-        }
-        "resources" => {
-            let members = listed(alloc, "{\"type\":\"t\",\"name\":\"r", "\"}", count)?;
-            let members = members.as_str();
-            format!(in alloc; "{{\"resources\":[{members}]}}")
-        }
-        "bytes in a name" => {
-            let name = repeated(alloc, "n", count)?;
-            let name = name.as_str();
-            format!(in alloc; "{{\"resources\":[{{\"name\":\"{name}\",\"type\":\"t\"}}]}}")
-        }
-        "jobs" => {
-            let members = listed(alloc, "{\"plan\":[],\"name\":\"j", "\"}", count)?;
-            let members = members.as_str();
-            format!(in alloc; "{{\"jobs\":[{members}]}}")
-        }
-        "inputs" => {
-            let gets = listed(alloc, "{\"resource\":\"a\",\"get\":\"g", "\"}", count)?;
-            let gets = gets.as_str();
-            format!(in alloc;
-                "{{\"resources\":[{{\"name\":\"a\",\"type\":\"t\"}}],\"jobs\":[{{\"name\":\"j\",\"plan\":[{gets}]}}]}}"
-            )
-        }
-        "named jobs" => named_jobs(alloc, count),
-        _ => String::from_str(alloc, "nothing known"),
-    }
-}
-
-/// A job whose two gets name the same so many of the 33 jobs before it.
-fn named_jobs(alloc: Global, count: u32) -> Result<String, AllocError> {
-    let jobs = listed(alloc, "{\"plan\":[],\"name\":\"j", "\"}", 33)?;
-    let named = listed(alloc, "\"j", "\"", count)?;
-    let (jobs, named) = (jobs.as_str(), named.as_str());
-    format!(in alloc;
-        "{{\"resources\":[{{\"name\":\"a\",\"type\":\"t\"}}],\"jobs\":[{jobs},{{\"name\":\"last\",\"plan\":[{{\"get\":\"a\",\"passed\":[{named}]}},{{\"get\":\"b\",\"resource\":\"a\",\"passed\":[{named}]}}]}}]}}"
-    )
+    let mut text = String::new(alloc);
+    let end = push_text(&mut text, count, what)?;
+    text.push_str(end)?;
+    Ok(text)
 }
 
 /// Reads a text with so many of something: `COUNT WHAT`.
@@ -244,15 +257,19 @@ fn generated(alloc: Global, given: &str) -> Result<String, AllocError> {
     told(alloc, read(alloc, text.as_bytes()))
 }
 
+/// Adds the variables of a task file.
+fn push_variables(out: &mut String, config: &TaskConfig) -> Result<(), AllocError> {
+    for (i, variable) in config.params.iter().enumerate() {
+        let comma = if i > 0 { ", " } else { "" };
+        let (name, value) = (variable.name.as_str(), variable.value.as_str());
+        write!(out, "{comma}{name}={value}")?;
+    }
+    Ok(())
+}
+
 fn variables_told(alloc: Global, config: &TaskConfig) -> Result<String, AllocError> {
     let mut words = String::new(alloc);
-    for (i, variable) in config.params.iter().enumerate() {
-        if i > 0 {
-            words.push_str(", ")?;
-        }
-        let (name, value) = (variable.name.as_str(), variable.value.as_str());
-        write!(words, "{name}={value}")?;
-    }
+    push_variables(&mut words, config)?;
     Ok(words)
 }
 

@@ -3,12 +3,11 @@
 //! A text is given in one line, with `\n` where a line of it ends. `problem TEXT`, `claim TEXT` and `proof TEXT` read one, and write it
 //! again. `judge TEXT` is what the checker says of a text, and its status. `example TEXT` reads a problem that lines behind it speak of:
 //! `judge-behind TEXT` is `judge` of the example with a text behind it, `satisfies PLACES / BUILDS` what is said of a choice,
-//! `check TEXT` of a proof, `resolve BUDGET` finds the best choice, and `plain` finds it by the plain resolver. `later PLACES / PLACES` compares two lists, and
+//! `check TEXT` of a proof, and `resolve BUDGET` finds the best choice. `later PLACES / PLACES` compares two lists, and
 //! `preferred PLACES / PLACES` compares them in the order of the example.
 ghost use Rattle.std.specs.Prelude.{◌≤◌};
 ghost use Rattle.ccr_proof.specs.Claim.{IsClaim};
 
-use crate::plain::plain_told;
 use anyhow::{Result, anyhow};
 use ccr_check::{CheckFault, check, judge};
 use ccr_choice::{Choice, Problem, later, preferred, read_problem, satisfies, write_problem};
@@ -222,7 +221,6 @@ fn asked(alloc: Global, example: &str, kind: &str, text: &str) -> Result<String>
         "check" => checked(alloc, &problem, text),
         "preferred" => weighed(alloc, &problem, text),
         "resolve" => resolved(alloc, &problem, text),
-        "plain" => Ok(plain_told(alloc, &problem)?),
         _ => Err(anyhow!("no such line")),
     }
 }

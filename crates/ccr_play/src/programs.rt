@@ -6,7 +6,6 @@
 mod launches;
 mod replies;
 mod requests;
-mod scripts;
 mod whole;
 
 use anyhow::{Result, anyhow};
@@ -34,8 +33,6 @@ fn answered(alloc: Global, kind: &str, given: &str) -> Result<String> {
         "end" => launches::ended(alloc, given),
         "task-file" => launches::task_file(alloc, given),
         "task-file-fault" => launches::task_file_fault(alloc, given),
-        "runner" => scripts::ran(alloc, given),
-        "shelf" => scripts::asked(alloc, given),
         "build" => whole::played(alloc, given),
         _ => Err(anyhow!("no such line")),
     }
@@ -53,23 +50,24 @@ fn part(given: &str, position: usize) -> &str {
     given.split(" | ").nth(position).unwrap_or("-")
 }
 
-/// A text of so many letters.
-fn letters(alloc: Global, count: usize) -> Result<String, AllocError> {
-    let mut text = String::new(alloc);
+/// Adds the text of an object with one text of so many letters.
+fn push_letters(text: &mut String, count: usize) -> Result<()> {
+    text.push_str("{\"x\":\"")?;
     for _ in 0..count {
         text.push_str("a")?;
     }
-    Ok(text)
+    text.push_str("\"}")?;
+    Ok(())
 }
 
 /// The text of a source: as it stands, or that of an object with one text of so many letters, by `letters:COUNT`.
 fn source_text(alloc: Global, part: &str) -> Result<String> {
-    let Some(count) = part.strip_prefix("letters:") else {
-        return Ok(String::from_str(alloc, part)?);
-    };
-    let letters = letters(alloc, count.parse::<usize>()?)?;
-    let letters = letters.as_str();
-    Ok(format!(in alloc; "{{\"x\":\"{letters}\"}}")?)
+    let mut text = String::new(alloc);
+    match part.strip_prefix("letters:") {
+        Some(count) => push_letters(&mut text, count.parse::<usize>()?)?,
+        None => text.push_str(part)?,
+    }
+    Ok(text)
 }
 
 /// The object that a part is, if it is there.

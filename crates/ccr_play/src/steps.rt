@@ -9,7 +9,7 @@
 
 use anyhow::{Result, anyhow, bail};
 use ccr_history::{Object, Version};
-use ccr_pipeline::{Job, Pipeline, inputs_of, read};
+use ccr_pipeline::{Job, Pipeline, Variable, inputs_of, read};
 use ccr_rows::{Player, answered_of, split, versions_of};
 use ccr_steps::{Answered, Ask, Before, BuildRun, FeedFault, start};
 use std::alloc::{AllocError, Global};
@@ -33,30 +33,47 @@ impl Player for Steps {
     }
 }
 
+/// The text of the pipeline of one job, of which these are the members but its name.
+fn text_of(alloc: Global, members: &str) -> Result<String, AllocError> {
+    let text = format!(in alloc; "{{{RESOURCES},\"jobs\":[{{\"name\":\"j\",{members}}}]}}")?;
+    let opened = text
+        .as_str()
+        .replace(alloc, "<", r#""task":"t","config":{"run":{"path":""#)?;
+    opened.as_str().replace(alloc, ">", r#""}}"#)
+}
+
 /// The pipeline of one job, of which these are the members but its name.
 pub(crate) fn pipeline_of(alloc: Global, members: &str) -> Result<Pipeline> {
-    let opened = members.replace(alloc, "<", r#""task":"t","config":{"run":{"path":""#)?;
-    let job = opened.as_str().replace(alloc, ">", r#""}}"#)?;
-    let job = job.as_str();
-    let text = format!(in alloc; "{{{RESOURCES},\"jobs\":[{{\"name\":\"j\",{job}}}]}}")?;
+    let text = text_of(alloc, members)?;
     Ok(read(alloc, text.as_bytes())?)
 }
 
 /// A build of a job.
-pub(crate) fn started(alloc: Global, job: &Job, versions: &[Version]) -> Result<BuildRun> {
-    let inputs = inputs_of(alloc, job)?;
-    if versions.len() != inputs.len() {
+fn started(alloc: Global, job: &Job, versions: &[Version]) -> Result<BuildRun> {
+    if versions.len() != inputs_of(alloc, job)?.len() {
         bail!("not one version for each input");
     }
     Ok(start(alloc, job, versions)?)
 }
 
+/// A build of a job, with versions as JSON.
+pub(crate) fn started_of(alloc: Global, job: &Job, versions: &str) -> Result<BuildRun> {
+    let versions = versions_of(alloc, versions)?;
+    started(alloc, job, &versions)
+}
+
+/// A build of the first job of a pipeline, with versions as JSON.
+pub(crate) fn started_in(alloc: Global, pipeline: &Pipeline, versions: &str) -> Result<BuildRun> {
+    match pipeline.jobs() {
+        [job, ..] => started_of(alloc, job, versions),
+        [] => Err(anyhow!("no job")),
+    }
+}
+
 /// A build of the case's job.
 fn build_of(alloc: Global, job: &str, versions: &str) -> Result<BuildRun> {
     let pipeline = pipeline_of(alloc, job)?;
-    let versions = versions_of(alloc, versions)?;
-    let job = pipeline.jobs().first().ok_or(anyhow!("no job"))?;
-    started(alloc, job, &versions)
+    started_in(alloc, &pipeline, versions)
 }
 
 fn push_params(alloc: Global, text: &mut String, params: Option<&Object>) -> Result<()> {
@@ -68,12 +85,29 @@ fn push_params(alloc: Global, text: &mut String, params: Option<&Object>) -> Res
     Ok(())
 }
 
-/// An artifact's name, and the resource that it is of where that has another.
+/// Adds an artifact's name, and the resource that it is of where that has another.
 fn push_name(text: &mut String, artifact: &str, resource: &str) -> Result<()> {
     text.push_str(artifact)?;
     if artifact != resource {
         text.push_str(" of ")?;
         text.push_str(resource)?;
+    }
+    Ok(())
+}
+
+fn push_key(alloc: Global, text: &mut String, version: &Version) -> Result<()> {
+    let key = version.key(alloc)?;
+    text.push_str(" ")?;
+    text.push_str(key.as_str())?;
+    Ok(())
+}
+
+fn push_task(text: &mut String, path: &str, env: &[Variable]) -> Result<()> {
+    write!(text, "task {path}")?;
+    for variable in env {
+        let name = variable.name.as_str();
+        let value = variable.value.as_str();
+        write!(text, " {name}={value}")?;
     }
     Ok(())
 }
@@ -88,9 +122,7 @@ fn push_ask(alloc: Global, text: &mut String, ask: &Ask<'_>) -> Result<()> {
         } => {
             text.push_str("fetch ")?;
             push_name(text, artifact, resource)?;
-            let key = version.key(alloc)?;
-            text.push_str(" ")?;
-            text.push_str(key.as_str())?;
+            push_key(alloc, text, version)?;
             push_params(alloc, text, *params)?;
         }
         Ask::Push {
@@ -102,21 +134,26 @@ fn push_ask(alloc: Global, text: &mut String, ask: &Ask<'_>) -> Result<()> {
             push_name(text, artifact, resource)?;
             push_params(alloc, text, *params)?;
         }
-        Ask::ReadConfig { file } => {
-            text.push_str("config ")?;
-            text.push_str(file)?;
-        }
-        Ask::RunTask { config, env } => {
-            text.push_str("task ")?;
-            text.push_str(config.run.path.as_str())?;
-            for variable in env.iter() {
-                let name = variable.name.as_str();
-                let value = variable.value.as_str();
-                write!(text, " {name}={value}")?;
-            }
-        }
+        Ask::ReadConfig { file } => write!(text, "config {file}")?,
+        Ask::RunTask { config, env } => push_task(text, config.run.path.as_str(), env)?,
     }
     text.push_str("; ")?;
+    Ok(())
+}
+
+/// Adds what a build moved, each behind this text.
+pub(crate) fn push_moved(
+    alloc: Global,
+    text: &mut String,
+    before: &str,
+    run: &BuildRun,
+) -> Result<(), AllocError> {
+    for moved in run.moved() {
+        let resource = moved.resource.as_str();
+        let key = moved.version.key(alloc)?;
+        let key = key.as_str();
+        write!(text, "{before} {resource} {key}")?;
+    }
     Ok(())
 }
 
@@ -129,12 +166,7 @@ fn push_state(alloc: Global, text: &mut String, run: &BuildRun) -> Result<()> {
         bail!("a build that neither asks nor has ended");
     };
     write!(text, "{outcome:?}")?;
-    for moved in run.moved() {
-        let key = moved.version.key(alloc)?;
-        let resource = moved.resource.as_str();
-        let key = key.as_str();
-        write!(text, ", moved {resource} {key}")?;
-    }
+    push_moved(alloc, text, ", moved", run)?;
     text.push_str("; ")?;
     Ok(())
 }
@@ -212,24 +244,52 @@ fn push_times(text: &mut String, times: u64, ask: &str) -> Result<()> {
     Ok(())
 }
 
-/// Gives each ask of a build the same answer, and adds how often each was asked in a row.
-fn push_repeated(alloc: Global, seen: &mut String, run: &mut BuildRun, word: &str) -> Result<()> {
-    let mut last = String::new(alloc);
+/// What the build asks now, if it asks.
+fn asked(alloc: Global, run: &BuildRun) -> Result<Option<String>> {
+    match run.wants() {
+        Some(ask) => {
+            let mut text = String::new(alloc);
+            push_ask(alloc, &mut text, &ask)?;
+            Ok(Some(text))
+        }
+        None => Ok(None),
+    }
+}
+
+/// Counts an ask. Where another one came before it, adds how often that came.
+fn count_ask(text: &mut String, last: &mut String, times: &mut u64, ask: String) -> Result<()> {
+    if ask.as_str() != last.as_str() {
+        push_times(text, *times, last.as_str())?;
+        *last = ask;
+        *times = 0;
+    }
+    *times = times.saturating_add(1);
+    Ok(())
+}
+
+/// Gives each ask of a build the same answer, and adds how often each was asked in a row but for the last.
+fn push_repeated(
+    alloc: Global,
+    seen: &mut String,
+    run: &mut BuildRun,
+    last: &mut String,
+    word: &str,
+) -> Result<u64> {
     let mut times = 0u64;
     for _ in 0..100_000u32 {
-        let Some(ask) = run.wants() else {
-            break;
-        };
-        let mut now = String::new(alloc);
-        push_ask(alloc, &mut now, &ask)?;
-        if now.as_str() != last.as_str() {
-            push_times(seen, times, last.as_str())?;
-            last = now;
-            times = 0;
+        match asked(alloc, run)? {
+            Some(ask) => count_ask(seen, last, &mut times, ask)?,
+            None => break,
         }
-        times = times.saturating_add(1);
         run.feed(answer_of(alloc, word)?)?;
     }
+    Ok(times)
+}
+
+/// Adds how often each ask came in a row, and how the build ended.
+fn push_repeats(alloc: Global, seen: &mut String, run: &mut BuildRun, word: &str) -> Result<()> {
+    let mut last = String::new(alloc);
+    let times = push_repeated(alloc, seen, run, &mut last, word)?;
     push_times(seen, times, last.as_str())?;
     push_state(alloc, seen, run)?;
     push_turn(seen, run)
@@ -237,7 +297,7 @@ fn push_repeated(alloc: Global, seen: &mut String, run: &mut BuildRun, word: &st
 
 fn repeats_of(alloc: Global, run: &mut BuildRun, word: &str) -> Result<String> {
     let mut seen = String::new(alloc);
-    push_repeated(alloc, &mut seen, run, word)?;
+    push_repeats(alloc, &mut seen, run, word)?;
     Ok(seen)
 }
 

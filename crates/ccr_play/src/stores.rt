@@ -14,7 +14,6 @@
 //! `foreign STATEMENTS` makes a database by these, `spoiled STATEMENTS` one with the six tables and then by these, and `text TEXT` a file
 //! of this text: it is answered how a store refuses it, and whether its bytes are as they were.
 
-mod commits;
 mod files;
 mod foreign;
 mod kept;
@@ -30,7 +29,7 @@ use foreign::{Content, refusal_told};
 use sqlite::{Connection, File, FileStore};
 use std::alloc::{AllocError, Global};
 use stops::{raises_told, stops_told};
-use stored::{held, keep, time_commits};
+use stored::{held, keep};
 
 /// The lines of the history that is made, and where it is kept besides in memory.
 #[derive(Drop)]
@@ -72,27 +71,29 @@ fn check_in_file(rt: &HostRuntime, path: &str, lines: &str, made: &str) -> Resul
     Ok(())
 }
 
+/// Keeps a history in the file of a number, where files are named.
+fn check_numbered(
+    rt: &HostRuntime,
+    path: Option<&str>,
+    number: usize,
+    lines: &str,
+    made: &str,
+) -> Result<()> {
+    match path {
+        Some(path) => {
+            let path = format!(in rt.alloc(); "{path}-{number}")?;
+            check_in_file(rt, path.as_str(), lines, made)
+        }
+        None => Ok(()),
+    }
+}
+
 /// Keeps a history in memory, and in a file where one is named: that it was loaded as it was made.
 fn told(rt: &HostRuntime, path: Option<&str>, number: usize, lines: &str) -> Result<String> {
     let made = keep_in_memory(rt.alloc(), lines)?;
-    if let Some(path) = path {
-        let path = format!(in rt.alloc(); "{path}-{number}")?;
-        check_in_file(rt, path.as_str(), lines, made.as_str())?;
-    }
+    check_numbered(rt, path, number, lines, made.as_str())?;
     let count = made.as_str().lines().count();
     Ok(format!(in rt.alloc(); "history {number} of {count} lines: loaded as it was made")?)
-}
-
-/// How many microseconds the commits of so many builds more take in the database of this file.
-fn micros_of(rt: &HostRuntime, path: &str, count: u32) -> Result<u128> {
-    let store = opened(rt, path)?;
-    time_commits(rt, store, count)
-}
-
-/// Makes so many builds more in the database of this file, three commits each: how long the commits took.
-pub(crate) fn commits_told(rt: &HostRuntime, path: &str, count: u32) -> Result<String> {
-    let micros = micros_of(rt, path, count)?;
-    Ok(format!(in rt.alloc(); "{count} builds, {micros} microseconds\n")?)
 }
 
 impl<'r> Stores<'r> {

@@ -28,15 +28,15 @@ fn answer(alloc: Global, given: &str) -> Result<Event, LineFault> {
     let (number, rest) = split(rest);
     let (turn, words) = split(rest);
     let (kind, given) = split(words);
+    let (number, turn) = (number_of(number)?, turn_of(turn)?);
     let answered = answered_of(alloc, kind, given)?;
-    let job = name_of(alloc, job)?;
-    Ok(Event::Answer(job, number_of(number)?, turn_of(turn)?, answered))
+    Ok(Event::Answer(name_of(alloc, job)?, number, turn, answered))
 }
 
 fn abort(alloc: Global, given: &str) -> Result<Event, LineFault> {
     let (job, number) = split(given);
-    let job = name_of(alloc, job)?;
-    Ok(Event::Abort(job, number_of(number)?))
+    let number = number_of(number)?;
+    Ok(Event::Abort(name_of(alloc, job)?, number))
 }
 
 fn pin(alloc: Global, given: &str) -> Result<Event, LineFault> {
@@ -48,7 +48,8 @@ fn pin(alloc: Global, given: &str) -> Result<Event, LineFault> {
 /// A resource and a place, as an event has them.
 fn place_of(alloc: Global, given: &str) -> Result<(String, u32), LineFault> {
     let (resource, place) = split(given);
-    Ok((name_of(alloc, resource)?, number_of(place)?))
+    let place = number_of(place)?;
+    Ok((name_of(alloc, resource)?, place))
 }
 
 fn disable(alloc: Global, given: &str) -> Result<Event, LineFault> {

@@ -7,17 +7,14 @@
 //! answers.
 //!
 //! `watched BUDGET` begins a core so, too, and after each event in it the index that it keeps for each job is compared with one
-//! that is built anew: where they don't answer alike, the event's answer has a second line. `lists SEED LISTS EVENTS PIPELINES`
-//! plays so many random lists of events, each in a watched core of its own, with the pipelines of a JSON list.
+//! that is built anew: where they don't answer alike, the event's answer has a second line.
 ghost use Rattle.std.specs.Prelude.{◌≤◌};
 ghost use Rattle.ccr_proof.specs.declared.proof.TheConstants.{MOST_NODES};
 
 mod index;
-mod lists;
 
 use crate::event::event_of;
 use crate::events::index::{first_other, index_text};
-use crate::events::lists::lists_text;
 use crate::reply::{MOST_BYTES, fault_name, push_reply};
 use crate::show::{builds_text, tables_text, wants_text};
 use ccr_core::{Core, CoreFault, Event};
@@ -118,7 +115,6 @@ impl Events {
         match kind {
             "core" => self.begin(alloc, given, false),
             "watched" => self.begin(alloc, given, true),
-            "lists" => lists_text(alloc, given),
             _ => self.told(alloc, line),
         }
     }

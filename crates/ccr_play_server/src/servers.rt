@@ -46,14 +46,17 @@ fn number_of(words: &str) -> u32 {
     words.parse::<u32>().unwrap_or(1)
 }
 
-/// The command that shows the certificate of a job's next build; or of its build of a number, where one follows the name.
-fn certify_of(alloc: Global, words: &str) -> Result<Command, AllocError> {
-    let (job, number) = split(words);
-    let job = String::from_str(alloc, job)?;
-    if number.is_empty() {
-        return Ok(Command::Show(Shown::Certificate(job)));
+/// The text of words.
+fn text_of(alloc: Global, words: &str) -> Result<String, AllocError> {
+    String::from_str(alloc, words)
+}
+
+/// The certificate of a job's next build; or of its build of a number, where one follows the name.
+fn certificate_of(alloc: Global, words: &str) -> Result<Shown, AllocError> {
+    match split(words) {
+        (job, "") => Ok(Shown::Certificate(text_of(alloc, job)?)),
+        (job, number) => Ok(Shown::BuildCertificate(text_of(alloc, job)?, number_of(number))),
     }
-    Ok(Command::Show(Shown::BuildCertificate(job, number_of(number))))
 }
 
 /// The form that words ask for, which begin with `--json` for JSON; and the words behind it.
@@ -82,59 +85,88 @@ fn builds_of(alloc: Global, form: Form, words: &str) -> Result<Shown, AllocError
     let (count, _) = option_of("--count", words);
     let count = count.map(|count| number_of(count));
     match job {
-        Some(job) => Ok(Shown::Builds(Some(String::from_str(alloc, job)?), count, form)),
+        Some(job) => Ok(Shown::Builds(Some(text_of(alloc, job)?), count, form)),
         None => Ok(Shown::Builds(None, count, form)),
     }
 }
 
-/// The command of a line that may ask for JSON, if it is one.
-fn formed_of(alloc: Global, kind: &str, words: &str) -> Result<Option<Command>, AllocError> {
+/// A version of a resource, whose builds are shown.
+fn trace_of(alloc: Global, form: Form, words: &str) -> Result<Shown, AllocError> {
+    let (name, json) = split(words);
+    let name = text_of(alloc, name)?;
+    Ok(Shown::Trace(name, text_of(alloc, json)?, form))
+}
+
+/// A build of a job.
+fn build_of(alloc: Global, form: Form, words: &str) -> Result<Shown, AllocError> {
+    let (job, number) = split(words);
+    Ok(Shown::Build(text_of(alloc, job)?, number_of(number), form))
+}
+
+/// What a line shows that may ask for JSON, if it shows something.
+fn formed_of(alloc: Global, kind: &str, words: &str) -> Result<Option<Shown>, AllocError> {
     let (form, words) = form_of(words);
-    let (name, other) = split(words);
-    let name = String::from_str(alloc, name)?;
-    let what = match kind {
+    Ok(Some(match kind {
         "builds" => builds_of(alloc, form, words)?,
-        "resource-versions" => Shown::Versions(name, form),
+        "resource-versions" => Shown::Versions(text_of(alloc, words)?, form),
         "resources" => Shown::Resources(form),
         "jobs" => Shown::Jobs(form),
-        "explain" => Shown::Explanation(name, form),
-        "build" => Shown::Build(name, number_of(other), form),
+        "explain" => Shown::Explanation(text_of(alloc, words)?, form),
+        "build" => build_of(alloc, form, words)?,
         "red" => Shown::Red(form),
-        "live" => Shown::Live(name, form),
-        "trace" => Shown::Trace(name, String::from_str(alloc, other)?, form),
+        "live" => Shown::Live(text_of(alloc, words)?, form),
+        "trace" => trace_of(alloc, form, words)?,
         _ => return Ok(None),
-    };
-    Ok(Some(Command::Show(what)))
+    }))
+}
+
+/// What a line shows, if it shows something.
+fn shown_of(alloc: Global, kind: &str, words: &str) -> Result<Option<Shown>, AllocError> {
+    match kind {
+        "resolve" => Ok(Some(Shown::Proof(text_of(alloc, words)?))),
+        "problem" => Ok(Some(Shown::Problem(text_of(alloc, words)?))),
+        "certify" => Ok(Some(certificate_of(alloc, words)?)),
+        "get-pipeline" => Ok(Some(Shown::Pipeline)),
+        "graph" => Ok(Some(Shown::Graph)),
+        _ => formed_of(alloc, kind, words),
+    }
+}
+
+/// The command that pins a resource.
+fn pin_of(alloc: Global, words: &str) -> Result<Command, AllocError> {
+    let (resource, pin) = split(words);
+    let resource = text_of(alloc, resource)?;
+    Ok(Command::PinResource(resource, text_of(alloc, pin)?))
+}
+
+/// A resource and a place of it.
+fn place_of(alloc: Global, words: &str) -> Result<(String, u32), AllocError> {
+    let (resource, place) = split(words);
+    Ok((text_of(alloc, resource)?, number_of(place)))
+}
+
+fn disable_of(alloc: Global, words: &str) -> Result<Command, AllocError> {
+    let (resource, place) = place_of(alloc, words)?;
+    Ok(Command::DisableResourceVersion(resource, place))
+}
+
+fn enable_of(alloc: Global, words: &str) -> Result<Command, AllocError> {
+    let (resource, place) = place_of(alloc, words)?;
+    Ok(Command::EnableResourceVersion(resource, place))
 }
 
 /// The command of a line, if it is one.
 fn command_of(alloc: Global, kind: &str, words: &str) -> Result<Option<Command>, AllocError> {
-    let name = String::from_str(alloc, words)?;
     Ok(Some(match kind {
-        "set-pipeline" => Command::SetPipeline(name),
-        "check-resource" => Command::CheckResource(name),
-        "pin-resource" => {
-            let (resource, pin) = split(words);
-            let resource = String::from_str(alloc, resource)?;
-            Command::PinResource(resource, String::from_str(alloc, pin)?)
-        }
-        "unpin-resource" => Command::UnpinResource(name),
-        "disable-resource-version" => {
-            let (resource, place) = split(words);
-            Command::DisableResourceVersion(String::from_str(alloc, resource)?, number_of(place))
-        }
-        "enable-resource-version" => {
-            let (resource, place) = split(words);
-            Command::EnableResourceVersion(String::from_str(alloc, resource)?, number_of(place))
-        }
-        "resolve" => Command::Show(Shown::Proof(name)),
-        "problem" => Command::Show(Shown::Problem(name)),
-        "certify" => certify_of(alloc, words)?,
-        "trigger-job" => Command::TriggerJob(name),
-        "get-pipeline" => Command::Show(Shown::Pipeline),
-        "graph" => Command::Show(Shown::Graph),
+        "set-pipeline" => Command::SetPipeline(text_of(alloc, words)?),
+        "check-resource" => Command::CheckResource(text_of(alloc, words)?),
+        "pin-resource" => pin_of(alloc, words)?,
+        "unpin-resource" => Command::UnpinResource(text_of(alloc, words)?),
+        "disable-resource-version" => disable_of(alloc, words)?,
+        "enable-resource-version" => enable_of(alloc, words)?,
+        "trigger-job" => Command::TriggerJob(text_of(alloc, words)?),
         "run" => Command::Run(number_of(words)),
-        _ => return formed_of(alloc, kind, words),
+        _ => return Ok(shown_of(alloc, kind, words)?.map(Command::Show)),
     }))
 }
 

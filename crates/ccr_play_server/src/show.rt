@@ -1,84 +1,102 @@
-//! What a core holds, as JSON.
+//! What a core holds, as JSON. The members of an object are in the order of their keys.
 
 use ccr_core::Core;
-use ccr_history::{BuildRef, History, Scope, Status, Version};
-use ccr_rows::json::{put, put_text, value_of, version_of};
-use ccr_rows::{ask_value, status_name};
-use serde_json::{Map, Value};
+use ccr_history::{BuildRef, History, Scope, Version};
+use ccr_rows::json::{push_comma, push_text};
+use ccr_rows::{ask_text, status_name};
 use std::alloc::{AllocError, Global};
 
-fn used_of(alloc: Global, build: &BuildRef<'_>) -> Result<Value, AllocError> {
-    let mut items = Vec::new(alloc);
+fn push_used(alloc: Global, out: &mut String, build: &BuildRef<'_>) -> Result<(), AllocError> {
     for k in 0..build.used_count() {
         if let Some((input, scope, place)) = build.used(k) {
-            let mut members = Map::new(alloc);
-            put_text(alloc, &mut members, "input", input)?;
-            put(alloc, &mut members, "scope", Value::from(scope))?;
-            put(alloc, &mut members, "place", Value::from(place))?;
-            items.push(Value::Object(members))?;
+            push_comma(out, k)?;
+            push_text(alloc, out, "{\"input\":", input)?;
+            write!(out, ",\"place\":{place},\"scope\":{scope}}}")?;
         }
     }
-    Ok(Value::Array(items))
+    Ok(())
 }
 
-fn moved_of(alloc: Global, build: &BuildRef<'_>) -> Result<Value, AllocError> {
-    let mut items = Vec::new(alloc);
-    for pair in build.moved() {
-        let mut members = Map::new(alloc);
-        put(alloc, &mut members, "scope", Value::from(pair.0))?;
-        put(alloc, &mut members, "place", Value::from(pair.1))?;
-        items.push(Value::Object(members))?;
+fn push_moved(out: &mut String, moved: &[(u32, u32)]) -> Result<(), AllocError> {
+    for (k, pair) in moved.iter().enumerate() {
+        let (scope, place) = *pair;
+        push_comma(out, k)?;
+        write!(out, "{{\"place\":{place},\"scope\":{scope}}}")?;
     }
-    Ok(Value::Array(items))
+    Ok(())
 }
 
-fn build_of(alloc: Global, build: &BuildRef<'_>) -> Result<Value, AllocError> {
-    let mut members = Map::new(alloc);
-    put_text(alloc, &mut members, "job", build.job())?;
-    put(alloc, &mut members, "number", Value::from(build.number()))?;
-    put_text(alloc, &mut members, "status", status_name(build.status()))?;
-    let used = used_of(alloc, build)?;
-    put(alloc, &mut members, "used", used)?;
-    let moved = moved_of(alloc, build)?;
-    put(alloc, &mut members, "moved", moved)?;
-    Ok(Value::Object(members))
+fn push_build(alloc: Global, out: &mut String, build: &BuildRef<'_>) -> Result<(), AllocError> {
+    push_text(alloc, out, "{\"job\":", build.job())?;
+    out.push_str(",\"moved\":[")?;
+    push_moved(out, build.moved())?;
+    let number = build.number();
+    let status = status_name(build.status());
+    write!(
+        out,
+        "],\"number\":{number},\"status\":\"{status}\",\"used\":["
+    )?;
+    push_used(alloc, out, build)?;
+    out.push_str("]}")
+}
+
+fn push_builds(alloc: Global, out: &mut String, history: &History) -> Result<(), AllocError> {
+    for position in 0..history.build_count() {
+        if let Some(build) = history.build_at(position) {
+            push_comma(out, position)?;
+            push_build(alloc, out, &build)?;
+        }
+    }
+    out.push_str("]")
 }
 
 /// The builds of a history, in order of making.
 pub(crate) fn builds_text(alloc: Global, history: &History) -> Result<String, AllocError> {
-    let mut items = Vec::new(alloc);
-    for position in 0..history.build_count() {
-        if let Some(build) = history.build_at(position) {
-            items.push(build_of(alloc, &build)?)?;
-        }
-    }
-    Value::Array(items).to_string(alloc)
+    let mut text = String::from_str(alloc, "[")?;
+    push_builds(alloc, &mut text, history)?;
+    Ok(text)
 }
 
-fn table_of(alloc: Global, scope: &Scope, versions: &[Version]) -> Result<Value, AllocError> {
-    let mut items = Vec::new(alloc);
-    for version in versions {
-        items.push(version_of(alloc, version)?)?;
+fn push_versions(alloc: Global, out: &mut String, versions: &[Version]) -> Result<(), AllocError> {
+    for (i, version) in versions.iter().enumerate() {
+        push_comma(out, i)?;
+        let key = version.key(alloc)?;
+        out.push_str(key.as_str())?;
     }
-    let mut members = Map::new(alloc);
-    put_text(alloc, &mut members, "resource", scope.resource.as_str())?;
-    put_text(alloc, &mut members, "type", scope.kind.as_str())?;
-    let source = value_of(alloc, scope.source.as_str())?;
-    put(alloc, &mut members, "source", source)?;
-    put(alloc, &mut members, "versions", Value::Array(items))?;
-    Ok(Value::Object(members))
+    Ok(())
+}
+
+fn push_table(
+    alloc: Global,
+    out: &mut String,
+    scope: &Scope,
+    versions: &[Version],
+) -> Result<(), AllocError> {
+    push_text(alloc, out, "{\"resource\":", scope.resource.as_str())?;
+    out.push_str(",\"source\":")?;
+    out.push_str(scope.source.as_str())?;
+    push_text(alloc, out, ",\"type\":", scope.kind.as_str())?;
+    out.push_str(",\"versions\":[")?;
+    push_versions(alloc, out, versions)?;
+    out.push_str("]}")
+}
+
+fn push_tables(alloc: Global, out: &mut String, history: &History) -> Result<(), AllocError> {
+    for before in 0..history.scope_count() {
+        let number = before.saturating_add(1);
+        if let Some(scope) = history.scope_at(number) {
+            push_comma(out, before as usize)?;
+            push_table(alloc, out, scope, history.versions_at(number))?;
+        }
+    }
+    out.push_str("]")
 }
 
 /// The tables of a history, in order of their scopes' numbers.
 pub(crate) fn tables_text(alloc: Global, history: &History) -> Result<String, AllocError> {
-    let mut items = Vec::new(alloc);
-    for before in 0..history.scope_count() {
-        let number = before.saturating_add(1);
-        if let Some(scope) = history.scope_at(number) {
-            items.push(table_of(alloc, scope, history.versions_at(number))?)?;
-        }
-    }
-    Value::Array(items).to_string(alloc)
+    let mut text = String::from_str(alloc, "[")?;
+    push_tables(alloc, &mut text, history)?;
+    Ok(text)
 }
 
 /// What a build asks and at which turn; `null` where it doesn't run.
@@ -88,10 +106,8 @@ pub(crate) fn wants_text(
     job: &str,
     number: u32,
 ) -> Result<String, AllocError> {
-    let Some((turn, ask)) = core.wants(job, number) else {
-        return Value::Null.to_string(alloc);
-    };
-    let mut members = ask_value(alloc, &ask)?;
-    put(alloc, &mut members, "turn", Value::from(turn))?;
-    Value::Object(members).to_string(alloc)
+    match core.wants(job, number) {
+        Some((turn, ask)) => ask_text(alloc, &ask, Some(turn)),
+        None => String::from_str(alloc, "null"),
+    }
 }

@@ -18,9 +18,6 @@ pub enum LineFault {
     /// The text isn't a version, or isn't a list of versions where there is to be one.
     #[error("not a version")]
     NotAVersion,
-    /// The text isn't a JSON list.
-    #[error("not a list")]
-    NotAList,
     /// The word isn't a pair of a scope and a place.
     #[error("not a pair")]
     NotAPair,

@@ -58,6 +58,13 @@ fn check_file<K: Kind>(rt: &HostRuntime, name: &str) -> io::Result<Answer> {
     Ok(compared(rt.alloc(), name, stored.as_str(), told.as_str())?)
 }
 
+/// Checks a file, and adds what is told of it.
+fn push_checked<K: Kind>(rt: &HostRuntime, all: &mut Answer, name: &str) -> io::Result<()> {
+    let found = check_file::<K>(rt, name)?;
+    all.status = all.status.max(found.status);
+    Ok(all.lines.push_str(found.lines.as_str())?)
+}
+
 /// Checks each of these files: a line for each, and status 1 where an answer isn't the stored one. An error where a file can't be
 /// read.
 pub fn check<K: Kind>(rt: &HostRuntime, names: &[String]) -> io::Result<Answer> {
@@ -66,9 +73,7 @@ pub fn check<K: Kind>(rt: &HostRuntime, names: &[String]) -> io::Result<Answer> 
         status: 0,
     };
     for name in names {
-        let found = check_file::<K>(rt, name.as_str())?;
-        all.lines.push_str(found.lines.as_str())?;
-        all.status = all.status.max(found.status);
+        push_checked::<K>(rt, &mut all, name.as_str())?;
     }
     Ok(all)
 }

@@ -1,67 +1,45 @@
-//! JSON values of objects, built member by member.
+//! JSON texts, built piece by piece.
 
-use ccr_history::{Object, Version};
-use serde_json::{Map, Value};
+use serde_json::Value;
 use std::alloc::{AllocError, Global};
 
-/// The members of an object.
-pub type Members = Map<String, Value>;
-
-/// A text as a value.
-pub fn text_of(alloc: Global, text: &str) -> Result<Value, AllocError> {
-    Ok(Value::String(String::from_str(alloc, text)?))
+/// A text as JSON.
+fn quoted(alloc: Global, text: &str) -> Result<String, AllocError> {
+    Value::String(String::from_str(alloc, text)?).to_string(alloc)
 }
 
-/// Texts as a list.
-pub fn texts_of(alloc: Global, texts: &[String]) -> Result<Value, AllocError> {
-    let mut items = Vec::new(alloc);
-    for text in texts {
-        items.push(text_of(alloc, text.as_str())?)?;
-    }
-    Ok(Value::Array(items))
+/// Adds a text as JSON.
+fn push_quoted(alloc: Global, out: &mut String, text: &str) -> Result<(), AllocError> {
+    let quoted = quoted(alloc, text)?;
+    out.push_str(quoted.as_str())
 }
 
-/// The value of a JSON text that is one.
-pub fn value_of(alloc: Global, text: &str) -> Result<Value, AllocError> {
-    Value::from_str(alloc, text).map_err(|_| AllocError)
-}
-
-/// A version as an object.
-pub fn version_of(alloc: Global, version: &Version) -> Result<Value, AllocError> {
-    let key = version.key(alloc)?;
-    value_of(alloc, key.as_str())
-}
-
-/// Puts a value at a key.
-pub fn put(
+/// Adds a piece of JSON, and a text behind it.
+pub fn push_text(
     alloc: Global,
-    members: &mut Members,
-    key: &str,
-    value: Value,
-) -> Result<(), AllocError> {
-    drop(members.insert(String::from_str(alloc, key)?, value)?);
-    Ok(())
-}
-
-/// Puts a text at a key.
-pub fn put_text(
-    alloc: Global,
-    members: &mut Members,
-    key: &str,
+    out: &mut String,
+    before: &str,
     text: &str,
 ) -> Result<(), AllocError> {
-    let text = text_of(alloc, text)?;
-    put(alloc, members, key, text)
+    out.push_str(before)?;
+    push_quoted(alloc, out, text)
 }
 
-/// Puts what a program is given at `params`, if there is such.
-pub fn put_params(
+/// Adds the comma that stands before each item of a list but the first.
+pub fn push_comma(out: &mut String, position: usize) -> Result<(), AllocError> {
+    out.push_str(if position == 0 { "" } else { "," })
+}
+
+/// Adds texts as a list.
+pub(crate) fn push_texts(
     alloc: Global,
-    members: &mut Members,
-    params: Option<&Object>,
+    out: &mut String,
+    texts: &[String],
 ) -> Result<(), AllocError> {
-    match params {
-        Some(params) => put(alloc, members, "params", params.as_value().clone()?),
-        None => Ok(()),
+    out.push_str("[")?;
+    for (i, text) in texts.iter().enumerate() {
+        push_comma(out, i)?;
+        push_quoted(alloc, out, text.as_str())?;
     }
+    out.push_str("]")
 }

@@ -50,16 +50,26 @@ pub fn version_of(alloc: Global, text: &str) -> Result<Version, LineFault> {
 }
 
 /// Adds an item to a list.
-pub fn add<T: Drop>(items: &mut Vec<T>, item: T) -> Result<(), AllocError> {
+fn add<T: Drop>(items: &mut Vec<T>, item: T) -> Result<(), AllocError> {
     items.push(item)?;
+    Ok(())
+}
+
+/// Adds the versions of a JSON list.
+fn push_versions(
+    alloc: Global,
+    versions: &mut Vec<Version>,
+    value: &Value,
+) -> Result<(), LineFault> {
+    for member in value.as_array().ok_or(LineFault::NotAVersion)? {
+        add(versions, version_in(alloc, member)?)?;
+    }
     Ok(())
 }
 
 fn versions_in(alloc: Global, value: &Value) -> Result<Vec<Version>, LineFault> {
     let mut versions = Vec::new(alloc);
-    for member in value.as_array().ok_or(LineFault::NotAVersion)? {
-        add(&mut versions, version_in(alloc, member)?)?;
-    }
+    push_versions(alloc, &mut versions, value)?;
     Ok(versions)
 }
 
@@ -77,27 +87,33 @@ pub fn version_numbered(alloc: Global, number: u64) -> Result<Version, LineFault
     version_of(alloc, text.as_str())
 }
 
+fn push_numbered(alloc: Global, versions: &mut Vec<Version>, count: u32) -> Result<(), LineFault> {
+    for before in 0..count {
+        add(versions, version_numbered(alloc, u64::from(before) + 1)?)?;
+    }
+    Ok(())
+}
+
 /// The versions `{"n":"1"}` to `{"n":"COUNT"}`.
 pub fn numbered(alloc: Global, count: u32) -> Result<Vec<Version>, LineFault> {
     let mut versions = Vec::new(alloc);
-    for before in 0..count {
-        add(
-            &mut versions,
-            version_numbered(alloc, u64::from(before) + 1)?,
-        )?;
-    }
+    push_numbered(alloc, &mut versions, count)?;
     Ok(versions)
+}
+
+fn pin_in(alloc: Global, value: &Value) -> Result<Pin, LineFault> {
+    match Pin::from_value(alloc, value) {
+        Ok(pin) => Ok(pin),
+        Err(HistoryFault::NoMemory) => Err(LineFault::NoMemory),
+        Err(_) => Err(LineFault::NotAPin),
+    }
 }
 
 /// The pin of a JSON text.
 pub fn pin_of(alloc: Global, text: &str) -> Result<Pin, LineFault> {
-    let Some(value) = value_of(alloc, text)? else {
-        return Err(LineFault::NotAPin);
-    };
-    match Pin::from_value(alloc, &value) {
-        Ok(pin) => Ok(pin),
-        Err(HistoryFault::NoMemory) => Err(LineFault::NoMemory),
-        Err(_) => Err(LineFault::NotAPin),
+    match value_of(alloc, text)? {
+        Some(value) => pin_in(alloc, &value),
+        None => Err(LineFault::NotAPin),
     }
 }
 
@@ -127,12 +143,17 @@ fn used_of(alloc: Global, word: &str) -> Result<Used, LineFault> {
     })
 }
 
+fn push_used(alloc: Global, used: &mut Vec<Used>, words: &str) -> Result<(), LineFault> {
+    for word in words.split_whitespace() {
+        add(used, used_of(alloc, word)?)?;
+    }
+    Ok(())
+}
+
 /// The used places of words with blanks between.
 pub fn used_places(alloc: Global, words: &str) -> Result<Vec<Used>, LineFault> {
     let mut used = Vec::new(alloc);
-    for word in words.split_whitespace() {
-        add(&mut used, used_of(alloc, word)?)?;
-    }
+    push_used(alloc, &mut used, words)?;
     Ok(used)
 }
 

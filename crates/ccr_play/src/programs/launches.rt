@@ -3,8 +3,8 @@
 use super::{object, part, some_version, source_text, version};
 use anyhow::{Result, anyhow};
 use ccr_history::{Object, Version};
-use ccr_pipeline::{Pipeline, TaskConfig, Variable, read, read_task};
-use ccr_process::Launch;
+use ccr_pipeline::{Pipeline, Resource, TaskConfig, Variable, read, read_task};
+use ccr_process::{Ended, Launch};
 use ccr_rows::{end_of, fault_of, places};
 use ccr_steps::{Answered, Ask};
 use ccr_task::{
@@ -53,23 +53,29 @@ fn run<'r>(config: &'r TaskConfig, env: &'r [Variable]) -> Ask<'r> {
     Ask::RunTask { config, env }
 }
 
-/// All that a launch holds, in one line.
-fn told(alloc: Global, launch: &Launch) -> Result<String> {
-    let mut line = String::new(alloc);
+/// Adds all that a launch holds, in one line.
+fn push_launch(line: &mut String, launch: &Launch) -> Result<()> {
     for (name, value) in &launch.env {
         let (name, value) = (name.as_str(), value.as_str());
-        line.push_str(format!(in alloc; "{name}={value} ")?.as_str())?;
+        write!(line, "{name}={value} ")?;
     }
     line.push_str(launch.program.as_str())?;
     for arg in &launch.args {
         let arg = arg.as_str();
-        line.push_str(format!(in alloc; " [{arg}]")?.as_str())?;
+        write!(line, " [{arg}]")?;
     }
     let folder = launch.folder.as_str();
     let kept = if launch.keep { "kept" } else { "dropped" };
-    let input = String::from_utf8(launch.input.clone()?)?;
-    let (line, input) = (line.as_str(), input.as_str());
-    Ok(format!(in alloc; "{line} in {folder}, {kept}, given {input}")?)
+    let input = str::from_utf8(launch.input.as_slice())?;
+    write!(line, " in {folder}, {kept}, given {input}")?;
+    Ok(())
+}
+
+/// All that a launch holds, in one line.
+fn told(alloc: Global, launch: &Launch) -> Result<String> {
+    let mut line = String::new(alloc);
+    push_launch(&mut line, launch)?;
+    Ok(line)
 }
 
 /// What build 3 of job j starts for an ask, at the step `a step`.
@@ -95,6 +101,22 @@ fn launched_by(
     }
 }
 
+/// What a check of a resource starts.
+fn check_begun(
+    alloc: Global,
+    site: &Site<'_>,
+    resource: &Resource,
+    version: Option<&Version>,
+) -> Result<String> {
+    match check_launch(alloc, site.places, resource, version) {
+        Ok(launch) => {
+            let begun = started_check(alloc, site.places, resource, launch)?;
+            told(alloc, &begun)
+        }
+        Err(fault) => Ok(fault.to_string(alloc)?),
+    }
+}
+
 /// What a check of the resource of this name starts.
 fn checked(
     alloc: Global,
@@ -104,41 +126,56 @@ fn checked(
     parts: &str,
 ) -> Result<String> {
     let version = version(alloc, part(parts, 1))?;
-    let Some(resource) = pipeline
-        .resources()
-        .iter()
-        .find(|r| r.name.as_str() == name)
-    else {
-        return Err(anyhow!("no resource"));
-    };
-    match check_launch(alloc, site.places, resource, version.as_ref()) {
-        Ok(launch) => {
-            let begun = started_check(alloc, site.places, resource, launch)?;
-            told(alloc, &begun)
-        }
-        Err(fault) => Ok(fault.to_string(alloc)?),
+    match pipeline.resource(name) {
+        Some(resource) => check_begun(alloc, site, resource, version.as_ref()),
+        None => Err(anyhow!("no resource")),
     }
 }
 
-/// The variables of words `NAME=VALUE`.
+/// The variable of a word `NAME=VALUE`.
+fn variable(alloc: Global, word: &str) -> Result<Variable, AllocError> {
+    let (name, value) = word.split_once("=").unwrap_or((word, ""));
+    Ok(Variable {
+        name: String::from_str(alloc, name)?,
+        value: String::from_str(alloc, value)?,
+    })
+}
+
+/// Adds the variables of words.
+fn push_variables(
+    alloc: Global,
+    variables: &mut Vec<Variable>,
+    words: &str,
+) -> Result<(), AllocError> {
+    for word in words.split_whitespace() {
+        variables.push(variable(alloc, word)?)?;
+    }
+    Ok(())
+}
+
+/// The variables of words.
 fn variables(alloc: Global, words: &str) -> Result<Vec<Variable>, AllocError> {
     let mut variables = Vec::new(alloc);
-    for word in words.split_whitespace() {
-        let (name, value) = word.split_once("=").unwrap_or((word, ""));
-        variables.push(Variable {
-            name: String::from_str(alloc, name)?,
-            value: String::from_str(alloc, value)?,
-        })?;
-    }
+    push_variables(alloc, &mut variables, words)?;
     Ok(variables)
+}
+
+/// What a task of a config with these variables starts.
+fn config_launched(
+    alloc: Global,
+    site: &Site<'_>,
+    words: &str,
+    config: &TaskConfig,
+) -> Result<String> {
+    let env = variables(alloc, words)?;
+    let pipeline = pipeline(alloc, "-")?;
+    launched_by(alloc, site, &pipeline, &run(config, &env))
 }
 
 /// What a task with these variables starts.
 fn task_launched(alloc: Global, site: &Site<'_>, words: &str, text: &str) -> Result<String> {
     let config = read_task(alloc, text.as_bytes())?;
-    let env = variables(alloc, words)?;
-    let pipeline = pipeline(alloc, "-")?;
-    launched_by(alloc, site, &pipeline, &run(&config, &env))
+    config_launched(alloc, site, words, &config)
 }
 
 /// What a fetch starts.
@@ -239,25 +276,43 @@ fn word(alloc: Global, said: Result<Said, AllocError>) -> Result<String, AllocEr
     }
 }
 
+/// Adds what an end of an ask answers, in a word.
+fn push_ended(alloc: Global, words: &mut String, ask: &Ask<'_>, end: &Ended) -> Result<()> {
+    let said = answered_of(alloc, ask, String::new(alloc), end.copy()?);
+    let word = word(alloc, said)?;
+    words.push_str(word.as_str())?;
+    Ok(())
+}
+
+fn push_fetched(alloc: Global, words: &mut String, end: &Ended) -> Result<()> {
+    let version = some_version(alloc, "{\"n\":\"2\"}")?;
+    push_ended(alloc, words, &fetch("a", &version, None), end)
+}
+
+fn push_done(alloc: Global, words: &mut String, end: &Ended) -> Result<()> {
+    let config = read_task(alloc, b"{\"run\":{\"path\":\"x\"}}")?;
+    push_ended(alloc, words, &run(&config, &[]), end)
+}
+
+/// Adds what an end of a fetch, of a push and of a task answers.
+fn push_ends(alloc: Global, words: &mut String, end: &Ended) -> Result<()> {
+    push_fetched(alloc, words, end)?;
+    words.push_str(" ")?;
+    push_ended(alloc, words, &push("a", None), end)?;
+    words.push_str(" ")?;
+    push_done(alloc, words, end)
+}
+
+fn words_of(alloc: Global, end: &Ended) -> Result<String> {
+    let mut words = String::new(alloc);
+    push_ends(alloc, &mut words, end)?;
+    Ok(words)
+}
+
 /// What an end of a fetch, of a push and of a task answers.
 pub(super) fn ended(alloc: Global, given: &str) -> Result<String> {
     let end = end_of(alloc, given)?;
-    let version = some_version(alloc, "{\"n\":\"2\"}")?;
-    let config = read_task(alloc, b"{\"run\":{\"path\":\"x\"}}")?;
-    let fetched = answered_of(
-        alloc,
-        &fetch("a", &version, None),
-        String::new(alloc),
-        end.copy()?,
-    );
-    let pushed = answered_of(alloc, &push("a", None), String::new(alloc), end.copy()?);
-    let env = Vec::new(alloc);
-    let done = answered_of(alloc, &run(&config, &env), String::new(alloc), end);
-    let fetched = word(alloc, fetched)?;
-    let pushed = word(alloc, pushed)?;
-    let done = word(alloc, done)?;
-    let (fetched, pushed, done) = (fetched.as_str(), pushed.as_str(), done.as_str());
-    Ok(format!(in alloc; "{fetched} {pushed} {done}")?)
+    words_of(alloc, &end)
 }
 
 /// What the bytes of a task's file answer.

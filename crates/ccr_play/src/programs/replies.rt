@@ -1,22 +1,32 @@
 //! Replies: `PROGRAM BYTES`.
 
 use anyhow::Result;
+use ccr_history::Version;
 use ccr_protocol::{ReplyFault, read_check, read_in, read_out};
 use std::alloc::Global;
 
-/// The keys of the versions that `check` wrote, a blank after each, or what refused its reply.
-fn checked(alloc: Global, reply: &[u8]) -> Result<String> {
-    let mut told = String::new(alloc);
-    match read_check(alloc, reply) {
-        Ok(versions) => {
-            for version in &versions {
-                told.push_str(version.key(alloc)?.as_str())?;
-                told.push_str(" ")?;
-            }
-        }
-        Err(fault) => told.push_str(fault.to_string(alloc)?.as_str())?,
+/// Adds keys, a blank after each.
+fn push_keys(alloc: Global, told: &mut String, versions: &[Version]) -> Result<()> {
+    for version in versions {
+        let key = version.key(alloc)?;
+        told.push_str(key.as_str())?;
+        told.push_str(" ")?;
     }
+    Ok(())
+}
+
+fn keys(alloc: Global, versions: &[Version]) -> Result<String> {
+    let mut told = String::new(alloc);
+    push_keys(alloc, &mut told, versions)?;
     Ok(told)
+}
+
+/// The keys of the versions that `check` wrote, or what refused its reply.
+fn checked(alloc: Global, reply: &[u8]) -> Result<String> {
+    match read_check(alloc, reply) {
+        Ok(versions) => keys(alloc, &versions),
+        Err(fault) => Ok(fault.to_string(alloc)?),
+    }
 }
 
 /// The program before the first blank, and the bytes behind it.
@@ -58,20 +68,32 @@ pub(super) fn cut(alloc: Global, reply: &[u8]) -> Result<String> {
     Ok(format!(in alloc; "not JSON at {refused} of {all} cuts")?)
 }
 
+/// A reply with the byte at a position changed.
+fn spoilt_at(alloc: Global, reply: &[u8], position: usize, byte: u8) -> Result<Vec<u8>> {
+    let mut spoilt = Vec::from_slice(alloc, reply)?;
+    if let Some(place) = spoilt.get_mut(position) {
+        *place = byte;
+    }
+    Ok(spoilt)
+}
+
+/// How often a spoilt reply is refused, 0 or 1: by `check`, and by `out` as no JSON.
+fn refusals(alloc: Global, spoilt: &[u8]) -> (u64, u64) {
+    let listed = u64::from(read_check(alloc, spoilt).is_err());
+    let not_json = u64::from(read_out(alloc, spoilt).err() == Some(ReplyFault::NotJson));
+    (listed, not_json)
+}
+
 /// How often a reply with one byte changed is refused: by `check` for any byte, by `out` as no JSON for the byte 255.
 pub(super) fn spoilt(alloc: Global, reply: &[u8]) -> Result<String> {
     let (mut all, mut listed, mut not_json) = (0u64, 0u64, 0u64);
     for (i, _) in reply.iter().enumerate() {
         for byte in [0u8, b'"', b'0', b'[', b'}', b'\\', b'n', 255] {
-            let mut spoilt = Vec::from_slice(alloc, &reply[..i])?;
-            spoilt.push(byte)?;
-            spoilt.extend_from_slice(&reply[i + 1..])?;
+            let (by_check, by_out) = refusals(alloc, &spoilt_at(alloc, reply, i, byte)?);
             all = all.saturating_add(1);
-            if read_check(alloc, &spoilt).is_err() {
-                listed = listed.saturating_add(1);
-            }
-            if byte == 255 && read_out(alloc, &spoilt).err() == Some(ReplyFault::NotJson) {
-                not_json = not_json.saturating_add(1);
+            listed = listed.saturating_add(by_check);
+            if byte == 255 {
+                not_json = not_json.saturating_add(by_out);
             }
         }
     }

@@ -135,17 +135,25 @@ fn tried(alloc: Global, files: Files<Memory>) -> Result<Looked> {
     }
 }
 
-/// How a database of this content is refused, and whether its files have the bytes that they had. An error where a history is found.
-pub(super) fn refusal_told(alloc: Global, content: Content<'_>) -> Result<String> {
-    let files = files_of(alloc, content)?;
-    let before = bytes_of(alloc, &files)?;
-    let Looked { fault, files } = tried(alloc, files)?;
-    let after = bytes_of(alloc, &files)?;
-    let fault = fault.ok_or(anyhow!("a history"))?;
-    let change = if before == after {
-        "unchanged"
-    } else {
-        "changed"
+/// How a database is refused, and whether its files have the bytes that they had. An error where a history is found.
+fn looked_told(alloc: Global, looked: &Looked, before: &(Vec<u8>, Vec<u8>)) -> Result<String> {
+    let Some(fault) = &looked.fault else {
+        return Err(anyhow!("a history"));
     };
+    let is_same = looked.files.log.bytes() == before.0.as_slice()
+        && looked.files.db.bytes() == before.1.as_slice();
+    let change = if is_same { "unchanged" } else { "changed" };
     Ok(format!(in alloc; "{fault}, {change}")?)
+}
+
+/// The same, of files.
+fn tried_told(alloc: Global, files: Files<Memory>) -> Result<String> {
+    let before = bytes_of(alloc, &files)?;
+    let looked = tried(alloc, files)?;
+    looked_told(alloc, &looked, &before)
+}
+
+/// The same, of a database of this content.
+pub(super) fn refusal_told(alloc: Global, content: Content<'_>) -> Result<String> {
+    tried_told(alloc, files_of(alloc, content)?)
 }

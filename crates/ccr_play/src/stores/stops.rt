@@ -5,7 +5,7 @@
 
 ghost use Rattle.std.specs.Prelude.{◌≡◌, false};
 
-use super::files::{Fused, empty_files, fused, left_by_crash, left_by_kill, options};
+use super::files::{empty_files, fused, left_by_crash, left_by_kill, options};
 use super::foreign::lowered;
 use super::kept::Kept;
 use super::runs::{Reached, Stage, run};
@@ -120,32 +120,54 @@ impl Trial<'_> {
         run(alloc, files, self.frames, self.lines)
     }
 
-    /// Checks what is found in files after a stop: as a program that is killed leaves them, and as a crash does.
-    fn check_left(&self, alloc: Global, stage: Stage, kept: usize, files: Fused) -> Result<()> {
-        let killed = found(alloc, left_by_kill(alloc, &files)?, self.frames)?;
-        check_found(self.texts, stage, kept, killed.as_str())?;
-        let crashed = found(alloc, left_by_crash(files), self.frames)?;
-        check_found(self.texts, stage, kept, crashed.as_str())
+    /// Checks what is found in files that were left after a stop.
+    fn check_files<D: Disk + Drop>(
+        &self,
+        alloc: Global,
+        stage: Stage,
+        kept: usize,
+        files: Files<D>,
+    ) -> Result<()> {
+        let text = found(alloc, files, self.frames)?;
+        check_found(self.texts, stage, kept, text.as_str())
+    }
+
+    /// Checks what is found after a stop in files as a program that is killed leaves them.
+    fn check_killed(&self, alloc: Global, reached: &Reached) -> Result<()> {
+        let files = left_by_kill(alloc, &reached.files)?;
+        self.check_files(alloc, reached.stage, reached.kept, files)
+    }
+
+    /// The same, and in files as a crash leaves them: at which stage it ended.
+    fn check_left(&self, alloc: Global, reached: Reached) -> Result<Stage> {
+        self.check_killed(alloc, &reached)?;
+        let Reached { stage, kept, files } = reached;
+        self.check_files(alloc, stage, kept, left_by_crash(files))?;
+        Ok(stage)
     }
 
     /// Runs it over files of which one fails after so many calls, and checks what is found: at which stage it ended.
     fn stage_at(&self, alloc: Global, failing: Failing, calls: u64) -> Result<Stage> {
-        let Reached { stage, kept, files } = self.run_with(alloc, failing, calls)?;
-        self.check_left(alloc, stage, kept, files)?;
-        Ok(stage)
+        self.check_left(alloc, self.run_with(alloc, failing, calls)?)
     }
 
-    /// Stops it at each call of a file in turn, until a run isn't stopped: the stage at which each stopped.
-    fn stops_of(&self, alloc: Global, failing: Failing) -> Result<Vec<Stage>> {
-        let mut stops = Vec::new(alloc);
+    /// Stops it at each call of a file in turn, until a run isn't stopped: adds the stage at which each stopped.
+    fn push_stops(&self, alloc: Global, stops: &mut Vec<Stage>, failing: Failing) -> Result<()> {
         for calls in 0..MOST_CALLS {
             let stage = self.stage_at(alloc, failing, calls)?;
             if stage == Stage::Done {
-                return Ok(stops);
+                return Ok(());
             }
             stops.push(stage)?;
         }
         Err(anyhow!("each run stops"))
+    }
+
+    /// The stages at which it stops.
+    fn stops_of(&self, alloc: Global, failing: Failing) -> Result<Vec<Stage>> {
+        let mut stops = Vec::new(alloc);
+        self.push_stops(alloc, &mut stops, failing)?;
+        Ok(stops)
     }
 
     /// Stops it at each call of a file in turn: the line that tells how often.
@@ -162,11 +184,13 @@ impl Trial<'_> {
         )?)
     }
 
-    /// The same of both files.
-    fn told(&self, alloc: Global, what: &str) -> Result<String> {
-        let mut told = self.told_of(alloc, what, Failing::Log)?;
-        told.push_str(self.told_of(alloc, what, Failing::Database)?.as_str())?;
-        Ok(told)
+    /// Adds the same of both files.
+    fn push_told(&self, alloc: Global, told: &mut String, what: &str) -> Result<()> {
+        for failing in [Failing::Log, Failing::Database] {
+            let line = self.told_of(alloc, what, failing)?;
+            told.push_str(line.as_str())?;
+        }
+        Ok(())
     }
 
     /// The files that a run leaves which isn't stopped.
@@ -182,18 +206,15 @@ impl Trial<'_> {
         left_by_kill(alloc, &files)
     }
 
-    /// The lines that tell how often it is stopped, and the files that it leaves if it isn't.
-    fn told_and_left(self, alloc: Global, what: &str) -> Result<(String, Files<Memory>)> {
-        let told = self.told(alloc, what)?;
-        Ok((told, self.files_left(alloc)?))
-    }
-
-    /// The lines that tell how often it is stopped, behind those that were told before.
-    fn told_behind(self, alloc: Global, before: String, what: &str) -> Result<String> {
-        let own = self.told(alloc, what)?;
-        let mut told = before;
-        told.push_str(own.as_str())?;
-        Ok(told)
+    /// Adds the lines that tell how often it is stopped, and gives the files that it leaves if it isn't.
+    fn push_and_leave(
+        &self,
+        alloc: Global,
+        told: &mut String,
+        what: &str,
+    ) -> Result<Files<Memory>> {
+        self.push_told(alloc, told, what)?;
+        self.files_left(alloc)
     }
 }
 
@@ -207,39 +228,74 @@ fn loading(files: Files<Memory>, frames: u32, texts: &[String]) -> Trial<'_> {
     }
 }
 
+/// Stops a store while it is made in empty files and keeps these lines, and then while all of it is loaded.
+fn push_stopped(
+    alloc: Global,
+    told: &mut String,
+    lines: &str,
+    frames: u32,
+    texts: &[String],
+) -> Result<()> {
+    let made = Trial {
+        files: empty_files(alloc),
+        frames,
+        lines,
+        texts,
+    };
+    let files = made.push_and_leave(alloc, told, "made")?;
+    let again = loading(files, frames, texts);
+    again.push_told(alloc, told, "loaded")
+}
+
+fn stopped(alloc: Global, lines: &str, frames: u32, texts: &[String]) -> Result<String> {
+    let mut told = String::new(alloc);
+    push_stopped(alloc, &mut told, lines, frames, texts)?;
+    Ok(told)
+}
+
 /// Stops a store at each call of each of its files: while it is made in empty files and keeps these lines, and while all of it is loaded. The
 /// lines that tell how often it was stopped; an error where a stop left another history than the one before the change that it cut short,
 /// or after it.
 pub(super) fn stops_told(alloc: Global, lines: &str, frames: u32) -> Result<String> {
     let texts = texts_of(alloc, lines)?;
-    let made = Trial {
-        files: empty_files(alloc),
-        frames,
-        lines,
-        texts: &texts,
-    };
-    let (told, files) = made.told_and_left(alloc, "made")?;
-    loading(files, frames, &texts).told_behind(alloc, told, "loaded")
+    stopped(alloc, lines, frames, &texts)
 }
 
 /// Files in which these lines were kept.
 fn files_with(alloc: Global, lines: &str, frames: u32) -> Result<Files<Memory>> {
-    let nothing = Vec::new(alloc);
     let kept = Trial {
         files: empty_files(alloc),
         frames,
         lines,
-        texts: &nothing,
+        texts: &[],
     };
     kept.files_left(alloc)
+}
+
+/// Stops a store while it takes a database of the first format, and then while it takes it as it was left.
+fn push_raised(
+    alloc: Global,
+    told: &mut String,
+    files: Files<Memory>,
+    frames: u32,
+    texts: &[String],
+) -> Result<()> {
+    let first = loading(files, frames, texts);
+    let left = first.push_and_leave(alloc, told, "first format")?;
+    let again = loading(left, frames, texts);
+    again.push_told(alloc, told, "written over")
+}
+
+fn raised(alloc: Global, lines: &str, frames: u32, texts: &[String]) -> Result<String> {
+    let mut told = String::new(alloc);
+    let kept = files_with(alloc, lines, frames)?;
+    push_raised(alloc, &mut told, lowered(alloc, kept)?, frames, texts)?;
+    Ok(told)
 }
 
 /// The same while a database of the first format is taken that holds the history of these lines: it is loaded and written over. And then
 /// while it is taken as it was left, which writes nothing.
 pub(super) fn raises_told(alloc: Global, lines: &str, frames: u32) -> Result<String> {
     let texts = texts_of(alloc, lines)?;
-    let kept = files_with(alloc, lines, frames)?;
-    let first = loading(lowered(alloc, kept)?, frames, &texts);
-    let (told, files) = first.told_and_left(alloc, "first format")?;
-    loading(files, frames, &texts).told_behind(alloc, told, "written over")
+    raised(alloc, lines, frames, &texts)
 }

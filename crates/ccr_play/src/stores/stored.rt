@@ -9,7 +9,6 @@ use ccr_rows::text_of;
 use ccr_store::Store;
 use sqlite::Alter;
 use std::alloc::Global;
-use std::time::Instant;
 
 /// All of a history as text: what it holds, and the text of its pipeline.
 pub(super) fn whole_text(alloc: Global, history: &History) -> Result<String> {
@@ -49,13 +48,6 @@ impl<S: Alter + Drop> Kept<Store<S>> {
         }
         Ok(made)
     }
-
-    /// Makes so many builds more, three commits each, and gives the microseconds that they took.
-    fn timed(&mut self, rt: &HostRuntime, count: u32) -> Result<u128> {
-        let start = Instant::now(rt)?;
-        self.grow(rt.alloc(), count)?;
-        Ok(start.elapsed(rt)?.as_micros())
-    }
 }
 
 /// The history that a store holds, as text.
@@ -69,14 +61,4 @@ pub(super) fn held<S: Alter + Drop>(alloc: Global, store: Store<S>) -> Result<St
 pub(super) fn keep<S: Alter + Drop>(alloc: Global, store: Store<S>, lines: &str) -> Result<String> {
     let mut kept = loaded(alloc, store)?;
     kept.played(alloc, lines)
-}
-
-/// Makes so many builds more in a store, three commits each, and gives the microseconds that they took.
-pub(super) fn time_commits<S: Alter + Drop>(
-    rt: &HostRuntime,
-    store: Store<S>,
-    count: u32,
-) -> Result<u128> {
-    let mut kept = loaded(rt.alloc(), store)?;
-    kept.timed(rt, count)
 }

@@ -96,8 +96,8 @@ pub(crate) fn first_other(alloc: Global, core: &Core) -> Result<Option<&str>, Al
     Ok(None)
 }
 
-fn index_told(alloc: Global, index: &Index) -> Result<String, AllocError> {
-    let mut text = String::from_str(alloc, "greatest")?;
+fn push_index(text: &mut String, index: &Index) -> Result<(), AllocError> {
+    text.push_str("greatest")?;
     for input in 0..index.input_count() {
         write!(text, " {}", index.greatest(input, &NOTHING_FIXED))?;
     }
@@ -105,6 +105,12 @@ fn index_told(alloc: Global, index: &Index) -> Result<String, AllocError> {
     for job in 0..index.job_count() {
         write!(text, " {}", index.viable(job, &NOTHING_FIXED))?;
     }
+    Ok(())
+}
+
+fn index_told(alloc: Global, index: &Index) -> Result<String, AllocError> {
+    let mut text = String::new(alloc);
+    push_index(&mut text, index)?;
     Ok(text)
 }
 

@@ -14,9 +14,8 @@ pub(super) struct Told<W: Write> {
     pub(super) script: Scripted,
 }
 
-/// The line of a launch: its program, its arguments, and what it is given.
-fn line_of(alloc: Global, launch: &Launch) -> Result<Vec<u8>, AllocError> {
-    let mut line = Vec::from_slice(alloc, b"  starts ")?;
+/// Adds what a launch starts: its program, its arguments, and what it is given.
+fn push_launch(line: &mut Vec<u8>, launch: &Launch) -> Result<(), AllocError> {
     line.extend_from_slice(launch.program.as_str().as_bytes())?;
     for arg in &launch.args {
         line.push(b' ')?;
@@ -27,6 +26,13 @@ fn line_of(alloc: Global, launch: &Launch) -> Result<Vec<u8>, AllocError> {
         line.extend_from_slice(&launch.input)?;
     }
     line.push(b'\n')?;
+    Ok(())
+}
+
+/// The line of a launch.
+fn line_of(alloc: Global, launch: &Launch) -> Result<Vec<u8>, AllocError> {
+    let mut line = Vec::from_slice(alloc, b"  starts ")?;
+    push_launch(&mut line, launch)?;
     Ok(line)
 }
 
