@@ -139,7 +139,7 @@ fn step_of(alloc: Global, step: &Value, left: u32) -> Built
 
 /// The plan that a job's tested text is: a `do`, in the job's hooks.
 #[tactic(auto, unfolding(crate::specs::Plans::plan_from))]
-pub(crate) fn plan(alloc: Global, job: &Value) -> Built
+pub fn plan(alloc: Global, job: &Value) -> Built
     ensures { IfOk result (λ s. tree_of s ≡ plan_from (view job.now)) }
 {
     let steps = steps_of(alloc, list_at(job, "plan"), LEVELS)?;

@@ -18,10 +18,10 @@ use serde_json::Value;
 use std::alloc::Global;
 
 /// How many attempts a step may have.
-pub(crate) const MOST_ATTEMPTS: u64 = 100;
+pub const MOST_ATTEMPTS: u64 = 100;
 
 /// The greatest product of the attempts from a job down to a step.
-pub(crate) const MOST_TRIES: u64 = 10_000;
+pub const MOST_TRIES: u64 = 10_000;
 
 /// How many of the keys stand in an object.
 fn count(value: &Value, keys: &[&str]) -> usize
@@ -33,7 +33,7 @@ fn count(value: &Value, keys: &[&str]) -> usize
 }
 
 /// How many of the six keys a step has that say its kind.
-fn kinds(step: &Value) -> usize
+pub fn kinds(step: &Value) -> usize
     ensures { result ≡ kinds (view step.now) }
 {
     count(step, &["get", "put", "task", "do", "in_parallel", "try"])

@@ -9,14 +9,16 @@ use serde_json::Value;
 
 /// A value of the text, and where it stands.
 #[derive(Clone, Copy)]
-pub(crate) struct Cursor<'a> {
-    pub(crate) value: &'a Value,
-    pub(crate) place: Place<'a>,
+pub struct Cursor<'a> {
+    /// The value.
+    pub value: &'a Value,
+    /// Where it stands.
+    pub place: Place<'a>,
 }
 
 impl<'a> Cursor<'a> {
     /// What stands at a key of the object here; `null` is as absent.
-    pub(crate) fn at(&'a self, key: &'a str) -> Option<Cursor<'a>>
+    pub fn at(&'a self, key: &'a str) -> Option<Cursor<'a>>
         ensures value { option_map data_of result ≡ at_key key.now (data_of self.now) }
         ensures place { IfSome result (λ found. path_to found ≡ path_below (path_to self.now) key.now) }
     {
@@ -26,7 +28,7 @@ impl<'a> Cursor<'a> {
     }
 
     /// A member of the list here, at its position.
-    pub(crate) fn member(&'a self, value: &'a Value, position: usize) -> Cursor<'a>
+    pub fn member(&'a self, value: &'a Value, position: usize) -> Cursor<'a>
         ensures value { data_of result ≡ view value.now }
         ensures place { path_to result ≡ path_at (path_to self.now) position }
     {

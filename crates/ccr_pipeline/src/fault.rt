@@ -61,31 +61,46 @@ pub enum ReadFault {
 }
 
 /// What was read of a text, or the first rule that it breaks.
-pub(crate) type Checked<T = ()> = Result<T, ReadFault>;
+pub type Checked<T = ()> = Result<T, ReadFault>;
 
 /// The rule that a fault breaks.
 #[derive(Clone, Copy)]
-pub(crate) enum Rule {
+pub enum Rule {
+    /// A text has no more bytes than it may.
     Length,
+    /// The bytes are a JSON value.
     Json,
+    /// A required key is there.
     Presence,
+    /// A value is of the kind of its key.
     Kind,
+    /// A name may be one.
     Name,
+    /// No earlier member has the same name.
     Once,
+    /// A step has a key that says its kind.
     OneStep,
+    /// A step has one such key alone.
     OnlyOneStep,
+    /// A resource has the name.
     KnownResource,
+    /// A job has the name.
     KnownJob,
+    /// Attempts are within their limits.
     Attempts,
+    /// A step lies no deeper than it may.
     Depth,
+    /// There are no more members, inputs or named jobs than there may be.
     Number,
+    /// This server does it.
     Supported,
+    /// A number is whole, and within 64 bits.
     Whole,
 }
 
 impl ReadFault {
     /// The fault of breaking a rule at a path.
-    pub(crate) fn of(rule: Rule, path: String) -> ReadFault
+    pub fn of(rule: Rule, path: String) -> ReadFault
         ensures { fault_of result ≡ Some (rule, string_bytes path) }
     {
         match rule {

@@ -110,7 +110,7 @@ fn push_step(alloc: Global, out: &mut Vec<Input>, step: &Step) -> Result<(), All
 }
 
 /// The inputs of a step, in the order of the plan.
-pub(crate) fn inputs_in(alloc: Global, step: &Step) -> Result<Vec<Input>, AllocError>
+pub fn inputs_in(alloc: Global, step: &Step) -> Result<Vec<Input>, AllocError>
     ensures { IfOk result (λ v. map input_data v.items ≡ inputs (tree_of step.now)) }
 {
     let mut out = Vec::new(alloc);

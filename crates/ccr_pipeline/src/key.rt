@@ -6,7 +6,7 @@ ghost use Rattle.ccr_pipeline.specs.Keys.{at_key, items_in, list_at};
 use serde_json::Value;
 
 /// What stands at a key of an object; `null` is as absent.
-pub(crate) fn at_key<'v>(value: &'v Value, key: &str) -> Option<&'v Value>
+pub fn at_key<'v>(value: &'v Value, key: &str) -> Option<&'v Value>
     ensures { option_map (λ found. view found.now) result ≡ at_key key.now (view value.now) }
 {
     match value.get(key) {
@@ -16,7 +16,7 @@ pub(crate) fn at_key<'v>(value: &'v Value, key: &str) -> Option<&'v Value>
 }
 
 /// The members of a list; there are none where no list is.
-pub(crate) fn items_in(value: &Value) -> &[Value]
+pub fn items_in(value: &Value) -> &[Value]
     ensures { items_view result.now ≡ items_in (view value.now) }
 {
     match value.as_array() {
@@ -26,7 +26,7 @@ pub(crate) fn items_in(value: &Value) -> &[Value]
 }
 
 /// The members of the list at a key.
-pub(crate) fn list_at<'v>(value: &'v Value, key: &str) -> &'v [Value]
+pub fn list_at<'v>(value: &'v Value, key: &str) -> &'v [Value]
     ensures { items_view result.now ≡ list_at key.now (view value.now) }
 {
     match at_key(value, key) {

@@ -52,7 +52,8 @@ fn check_texts(alloc: Global, list: &[Value], place: &Place) -> Checked
     Ok(())
 }
 
-fn is_empty(members: &BTreeMap<String, Value>) -> bool
+/// Whether an object has no members.
+pub fn is_empty(members: &BTreeMap<String, Value>) -> bool
     ensures { result ≡ is_empty (members_view members.now.entries) }
 {
     members.len() == 0

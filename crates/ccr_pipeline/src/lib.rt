@@ -13,6 +13,9 @@
 //! `on_failure`, `on_success`, the attempts and the step in this order, and no JSON. [`inputs_of`] gives the gets of a
 //! job in the order of its plan, which is another.
 //!
+//! The parts of the reader that a search for all faults of a text needs too are public, as the tables of keys in
+//! [`schema`].
+//!
 //! Refusals are the variants of [`ReadFault`], each with a path but `NoMemory`, which comes only where memory
 //! runs out. `docs/FORMATS.md` has the keys, the rules and what to do about each refusal.
 #![tactic(auto)]
@@ -35,7 +38,7 @@ mod place;
 mod read_job;
 mod reader;
 mod resource;
-mod schema;
+pub mod schema;
 mod scope;
 mod step;
 mod task;
@@ -43,12 +46,21 @@ mod unknown;
 mod unused;
 mod walk;
 
-pub use fault::ReadFault;
-pub use input::{Input, inputs_of};
-pub use kind::is_name;
-pub use names::Names;
+pub use build_step::plan;
+pub use check_step::{MOST_ATTEMPTS, MOST_TRIES, kinds};
+pub use cursor::Cursor;
+pub use fault::{Checked, ReadFault, Rule};
+pub use input::{Input, inputs_in, inputs_of};
+pub use key::{at_key, items_in, list_at};
+pub use kind::{is_empty, is_name};
+pub use lists::{MOST_MEMBERS, are_few};
+pub use names::{Names, text_at};
 pub use pipeline::Pipeline;
-pub use reader::{read, read_task};
+pub use place::{Place, path_of};
+pub use read_job::{MOST_INPUTS, add_named_jobs};
+pub use reader::{MOST_BYTES, read, read_task, value_of};
 pub use resource::{Job, Resource};
 pub use step::{Get, Put, Step, Wanted, When};
 pub use task::{Run, Task, TaskConfig, TaskInput, TaskSource, Variable};
+pub use unknown::name_key;
+pub use walk::{JOB_REACH, Reach};

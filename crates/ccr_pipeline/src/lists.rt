@@ -32,10 +32,10 @@ use std::alloc::{AllocError, Global};
 use std::collections::BTreeMap;
 
 /// How many resources, and how many jobs, a pipeline may have.
-pub(crate) const MOST_MEMBERS: usize = 200;
+pub const MOST_MEMBERS: usize = 200;
 
 /// Whether there are no more than a pipeline may have.
-fn are_few(list: &Vec<Value>) -> bool
+pub fn are_few(list: &Vec<Value>) -> bool
     ensures { result ≡ nat_le (items_len (items_view list.now.items)) MOST_MEMBERS }
 {
     list.len() <= MOST_MEMBERS

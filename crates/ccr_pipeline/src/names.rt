@@ -69,7 +69,7 @@ impl Names {
 }
 
 /// The text at a key.
-pub(crate) fn text_at<'v>(value: &'v Value, key: &str) -> Option<&'v str>
+pub fn text_at<'v>(value: &'v Value, key: &str) -> Option<&'v str>
     ensures { option_map (λ text. text.now) result ≡ text_at key.now (view value.now) }
 {
     at_key(value, key)?.as_str()

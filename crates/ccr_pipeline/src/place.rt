@@ -8,16 +8,19 @@ use std::alloc::{AllocError, Global};
 
 /// Where a value stands. Its path is written only where a fault or an unused key is told.
 #[derive(Clone, Copy)]
-pub(crate) enum Place<'a> {
+pub enum Place<'a> {
+    /// A path that needs no other.
     Top(&'a str),
+    /// A key of the object at a place.
     Key(&'a Place<'a>, &'a str),
+    /// A position of the list at a place.
     Member(&'a Place<'a>, usize),
 }
 
 impl<'a> Place<'a> {
     /// At a path that needs no other: a list of the pipeline, or a task file. The whole pipeline's is empty here.
     #[tactic(auto, unfolding(crate::specs::Keys::path_of))]
-    pub(crate) fn top(path: &'a str) -> Place<'a>
+    pub fn top(path: &'a str) -> Place<'a>
         ensures { path_of result ≡ path.now }
     {
         Place::Top(path)
@@ -25,7 +28,7 @@ impl<'a> Place<'a> {
 
     /// At a key of the object at this place.
     #[tactic(auto, unfolding(crate::specs::Keys::path_of))]
-    pub(crate) fn key(&'a self, key: &'a str) -> Place<'a>
+    pub fn key(&'a self, key: &'a str) -> Place<'a>
         ensures { path_of result ≡ path_below (path_of self.now) key.now }
     {
         Place::Key(self, key)
@@ -33,14 +36,14 @@ impl<'a> Place<'a> {
 
     /// At a position of the list at this place.
     #[tactic(auto, unfolding(crate::specs::Keys::path_of))]
-    pub(crate) fn member(&'a self, position: usize) -> Place<'a>
+    pub fn member(&'a self, position: usize) -> Place<'a>
         ensures { path_of result ≡ path_at (path_of self.now) position }
     {
         Place::Member(self, position)
     }
 
     /// Refuses where a test of the value at this place failed.
-    pub(crate) fn require(&self, alloc: Global, holds: bool, rule: Rule) -> Checked
+    pub fn require(&self, alloc: Global, holds: bool, rule: Rule) -> Checked
         ensures { Checks (unless holds rule (path_of self.now)) result }
     {
         if holds {
@@ -52,7 +55,7 @@ impl<'a> Place<'a> {
 
 /// The path of a place, in full.
 #[tactic(auto, unfolding(crate::specs::Keys::path_of))]
-pub(crate) fn path_of(alloc: Global, place: &Place) -> Result<String, AllocError>
+pub fn path_of(alloc: Global, place: &Place) -> Result<String, AllocError>
     ensures { IfOk result (λ p. string_bytes p ≡ path_of place.now) }
 {
     match place {

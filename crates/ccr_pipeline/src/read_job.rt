@@ -33,10 +33,10 @@ use std::alloc::{AllocError, Global};
 use std::rc::Rc;
 
 /// How many inputs, and how many named jobs, a plan may have.
-const MOST_INPUTS: usize = 32;
+pub const MOST_INPUTS: usize = 32;
 
 /// Adds the jobs that the inputs name in `passed`.
-fn add_named_jobs(alloc: Global, jobs: &mut Names, inputs: &[Input]) -> Result<(), AllocError>
+pub fn add_named_jobs(alloc: Global, jobs: &mut Names, inputs: &[Input]) -> Result<(), AllocError>
     ensures { OnOk result (jobs.new ≡ named_jobs jobs.old (map input_data inputs.now)) }
 {
     for input in inputs {

@@ -30,10 +30,10 @@ use serde_json::Value;
 use std::alloc::Global;
 
 /// How many bytes a pipeline or a task file may have.
-const MOST_BYTES: usize = 1_048_576;
+pub const MOST_BYTES: usize = 1_048_576;
 
 /// The JSON value of a text that isn't too long.
-fn value_of(alloc: Global, text: &[u8], path: &str) -> Checked<Value>
+pub fn value_of(alloc: Global, text: &[u8], path: &str) -> Checked<Value>
     ensures ok { IfOk result (λ value. IsTextOf text.now (view value)) }
     ensures err { IfErr result (λ fault. IsNoValue path.now text.now (fault_of fault)) }
 {

@@ -8,7 +8,7 @@ use serde_json::Value;
 
 /// Whether a key has to be there.
 #[derive(Clone, Copy)]
-pub(crate) enum Need {
+pub enum Need {
     /// It has to be there, with a text that no earlier object of the list has there.
     New,
     /// It has to be there.
@@ -19,13 +19,16 @@ pub(crate) enum Need {
 
 /// What stands at a key.
 #[derive(Clone, Copy)]
-pub(crate) enum Kind {
+pub enum Kind {
+    /// A text.
     Text,
     /// A text that a resource, type, job, step or artifact may have as its name.
     Name,
     /// The name of the object that has the key: all artifacts lie beside each other under their own names.
     OwnName,
+    /// A list of texts.
     Texts,
+    /// `true` or `false`.
     Truth,
     /// A whole number that isn't negative.
     Whole,
@@ -57,13 +60,18 @@ pub(crate) enum Kind {
 
 /// The objects whose keys are known.
 #[derive(Clone, Copy)]
-pub(crate) enum Schema {
+pub enum Schema {
+    /// The whole pipeline.
     Pipeline,
+    /// A resource.
     Resource,
+    /// A job.
     Job,
     /// What no step may have.
     Undone,
+    /// A `get` step.
     Get,
+    /// A `put` step.
     Put,
     /// A task with its config.
     Task,
@@ -73,17 +81,21 @@ pub(crate) enum Schema {
     Holder,
     /// The object of an `in_parallel`.
     Parallel,
+    /// What a task runs, takes and leaves.
     Config,
+    /// The program of a config.
     Run,
+    /// An input of a config.
     Input,
+    /// An output of a config.
     Output,
 }
 
 /// How many levels of objects a step or a task file has: a task, its config, and what its config holds.
-pub(crate) const NESTED: u32 = 3;
+pub const NESTED: u32 = 3;
 
 /// A key: whether it has to be there, what stands at it, and its text.
-pub(crate) type Row = (Need, Kind, &'static str);
+pub type Row = (Need, Kind, &'static str);
 
 const PIPELINE: &[Row] = &[
     (Need::May, Kind::Objects(Schema::Resource), "resources"),
@@ -200,7 +212,7 @@ const STEP_END: &[Row] = &[
 const PARALLEL_END: &[Row] = &[(Need::May, Kind::Truth, "fail_fast")];
 
 /// The keys of an object as far as they come before the steps that it holds.
-pub(crate) fn opening(schema: Schema) -> &'static [Row]
+pub fn opening(schema: Schema) -> &'static [Row]
     ensures { row_list result.now ≡ opening schema }
 {
     match schema {
@@ -222,7 +234,7 @@ pub(crate) fn opening(schema: Schema) -> &'static [Row]
 }
 
 /// The keys of an object that come after the steps that it holds.
-pub(crate) fn closing(schema: Schema) -> &'static [Row]
+pub fn closing(schema: Schema) -> &'static [Row]
     ensures { row_list result.now ≡ closing schema }
 {
     match schema {
@@ -253,7 +265,7 @@ pub(crate) fn has_key(schema: Schema, key: &str) -> bool
 }
 
 /// The keys that a step has by its kind.
-pub(crate) fn schema_of(step: &Value) -> Schema
+pub fn schema_of(step: &Value) -> Schema
     ensures { result ≡ schema_of (view step.now) }
 {
     if at_key(step, "get").is_some() {

@@ -19,7 +19,7 @@ use std::alloc::{AllocError, Global};
 type Unknown = Result<Option<(Rule, String)>, AllocError>;
 
 /// The key that names the resource of a get or put: `resource`, or the key of its own name.
-fn name_key(step: &Value) -> &'static str
+pub fn name_key(step: &Value) -> &'static str
     ensures { result.now ≡ name_key (view step.now) }
 {
     if at_key(step, "resource").is_some() {

@@ -18,13 +18,15 @@ pub(crate) const LEVELS: u32 = 30;
 
 /// How far the walk may go below a place: the levels of steps that are left, and the product of the attempts above.
 #[derive(Clone, Copy)]
-pub(crate) struct Reach {
-    pub(crate) left: u32,
-    pub(crate) tries: u64,
+pub struct Reach {
+    /// The levels of steps that are left.
+    pub left: u32,
+    /// The product of the attempts above.
+    pub tries: u64,
 }
 
 /// The reach of a job's plan and hooks.
-pub(crate) const JOB_REACH: Reach = Reach {
+pub const JOB_REACH: Reach = Reach {
     left: LEVELS,
     tries: 1,
 };
@@ -41,7 +43,7 @@ fn counted(step: &Value) -> u64
 
 impl Reach {
     /// The reach of the steps in a step.
-    fn below(self, step: &Value) -> Reach
+    pub fn below(self, step: &Value) -> Reach
         ensures left { result.left ≡ self.left - 1 }
         ensures tries { result.tries ≡ tries_below self.tries (view step.now) }
     {
