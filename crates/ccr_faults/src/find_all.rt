@@ -1,5 +1,5 @@
 //! All that is wrong with the text of a pipeline.
-ghost use Rattle.std.specs.Prelude.{◌≡◌, ◌++◌, [], Some, map, codes, IfOk, OnOk};
+ghost use Rattle.std.specs.Prelude.{◌≡◌, ◌++◌, ◌∷◌, [], Some, map, codes, IfOk, OnOk};
 ghost use Rattle.serde_json.specs.View.{view, items_view};
 ghost use Rattle.ccr_pipeline.specs.Keys.{data_of, here};
 ghost use Rattle.ccr_pipeline.specs.Faults.{Faults, fault_of};
@@ -113,8 +113,17 @@ pub fn faults_in(alloc: Global, pipeline: &Value) -> Result<Vec<ReadFault>, Allo
     present_in(alloc, pipeline)?.into_faults(alloc)
 }
 
+/// One fault.
+fn alone(alloc: Global, fault: ReadFault) -> Result<Vec<ReadFault>, AllocError>
+    ensures { IfOk result (λ v. map fault_of v.items ≡ fault_of fault ∷ []) }
+{
+    let mut faults = Vec::new(alloc);
+    faults.push(fault)?;
+    Ok(faults)
+}
+
 /// All that is wrong with the text of a pipeline, in the order in which it counts; the first is the one that
-/// [`crate::read`] tells. There is none exactly where a pipeline can be read.
+/// [`ccr_pipeline::read`] tells. There is none exactly where a pipeline can be read.
 pub fn faults_of(alloc: Global, text: &[u8]) -> Result<Vec<ReadFault>, AllocError>
     // The text is too long or no JSON value, which is one fault; or each fault that is present in its value.
     ensures { IfOk result (λ v. (fs : Faults) × (map fault_of v.items ≡ map Some fs)
@@ -123,10 +132,6 @@ pub fn faults_of(alloc: Global, text: &[u8]) -> Result<Vec<ReadFault>, AllocErro
     match value_of(alloc, text, "pipeline") {
         Ok(value) => faults_in(alloc, &value),
         Err(ReadFault::NoMemory) => Err(AllocError),
-        Err(fault) => {
-            let mut faults = Vec::new(alloc);
-            faults.push(fault)?;
-            Ok(faults)
-        }
+        Err(fault) => alone(alloc, fault),
     }
 }

@@ -14,7 +14,9 @@ use crate::find_walk::{Hunt, find_hooks, find_list};
 use crate::present::{Added, Present};
 use crate::seen::Seen;
 use ccr_pipeline::schema::{NESTED, Schema, closing};
-use ccr_pipeline::{Cursor, JOB_REACH, MOST_INPUTS, Names, Place, Rule, Step, add_named_jobs, inputs_in, plan};
+use ccr_pipeline::{
+    Cursor, JOB_REACH, MOST_INPUTS, Names, Place, Rule, Step, add_named_jobs, inputs_in, plan,
+};
 use serde_json::Value;
 use std::alloc::Global;
 

@@ -11,7 +11,9 @@ use crate::find_object::{find_own_keys, find_rows};
 use crate::present::{Added, Present};
 use crate::seen::Seen;
 use ccr_pipeline::schema::{NESTED, Schema, closing, opening, schema_of};
-use ccr_pipeline::{Cursor, MOST_ATTEMPTS, MOST_TRIES, Place, Rule, at_key, kinds, list_at, name_key, text_at};
+use ccr_pipeline::{
+    Cursor, MOST_ATTEMPTS, MOST_TRIES, Place, Rule, at_key, kinds, list_at, name_key, text_at,
+};
 use serde_json::Value;
 use std::alloc::Global;
 

@@ -14,7 +14,9 @@ mod find_kind;
 mod find_object;
 mod find_step;
 mod find_walk;
+mod law;
 mod present;
 mod seen;
 
 pub use find_all::{faults_in, faults_of};
+pub use law::faults_are_those_of_the_reader;
