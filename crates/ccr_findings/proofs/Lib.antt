@@ -1,0 +1,4 @@
+pub mod NearLaws
+pub mod Leads
+pub mod Somewhere
+pub mod Lists
