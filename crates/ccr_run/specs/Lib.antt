@@ -12,3 +12,4 @@ pub mod Orders
 pub mod Refusals
 pub mod Served
 pub mod Statuses
+pub mod Writers

@@ -11,6 +11,7 @@
 
 mod abort;
 mod database;
+mod errors;
 mod failure;
 mod found;
 mod hint;
@@ -74,7 +75,7 @@ fn answer<'a>(rt: &'a HostRuntime, words: &'a [String]) -> ExitCode
     };
     let mut opener = Opener::new(rt, Unknown);
     let mut out = Printed::new(alloc, io::writer(rt), rt.stderr());
-    let mut telling = Telling::new(rt);
+    let mut telling = Telling::new(rt.stderr());
     let Done {
         status,
         left: _left,
