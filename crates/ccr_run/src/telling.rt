@@ -6,7 +6,7 @@ ghost use Rattle.ccr_run.specs.Refusals.{refusal_data};
 
 use crate::hint::Hint;
 use crate::refusal::Refusal;
-use ccr_command::{Findings, Kind};
+use ccr_findings::{Findings, Kind};
 use std::io;
 use std::snapshot::Snapshot;
 
