@@ -2,7 +2,7 @@ use Rattle.std.proofs.Common.{[], ◌∷◌, refl, sym, arith}
 use Rattle.serde_json.specs.View.{view}
 use Rattle.ccr_history.proofs.Items.{left_of-cons, left_of-end}
 use Rattle.ccr_pipeline.specs.Places.{Closing, spot_of, steps_in, step_at, own_steps, hook_steps}
-use Rattle.ccr_faults.proofs.Hunts.{found_nothing, found_then, found_on, found_end, opening_found, closing_found}
+use Rattle.ccr_faults.proofs.Hunts.{found_nothing, found_last, found_on, found_end, opening_found, closing_found}
 use Rattle.ccr_pipeline.proofs.Visits.{steps_none, steps_below}
 use Rattle.ccr_faults.proofs.find_walk.+hunts.Goals as goal
 
@@ -30,14 +30,14 @@ find_parallel-returns-in-None t c = found_nothing _ _ (rw (sym c.in-None.ensures
 pub find_own-returns : goal.find_own-returns
 unfolding own_steps
 find_own-returns t c =
-    found_then _ _ _ _ _ c.in_ok-find_list.ensures (found_then _ _ _ _ _ c.in_ok-find_list-2.ensures
-    (found_then _ _ _ _ _ c.in_ok-find_parallel.ensures c.find_at.ensures))
+    found_last _ _ _ _ _ _ c.in_ok-find_list.ensures (found_last _ _ _ _ _ _ c.in_ok-find_list-2.ensures
+    (found_last _ _ _ _ _ _ c.in_ok-find_parallel.ensures c.find_at.ensures))
 
 pub find_hooks-returns : goal.find_hooks-returns
 unfolding hook_steps
 find_hooks-returns t c =
-    found_then _ _ _ _ _ c.in_ok-find_at.ensures (found_then _ _ _ _ _ c.in_ok-find_at-2.ensures
-    (found_then _ _ _ _ _ c.in_ok-find_at-3.ensures (found_then _ _ _ _ _ c.in_ok-find_at-4.ensures c.find_at-5.ensures)))
+    found_last _ _ _ _ _ _ c.in_ok-find_at.ensures (found_last _ _ _ _ _ _ c.in_ok-find_at-2.ensures
+    (found_last _ _ _ _ _ _ c.in_ok-find_at-3.ensures (found_last _ _ _ _ _ _ c.in_ok-find_at-4.ensures c.find_at-5.ensures)))
 
 pub find_steps-returns-then-reach-eq0 : goal.find_steps-returns-then-reach-eq0
 find_steps-returns-then-reach-eq0 t c =
@@ -47,6 +47,6 @@ find_steps-returns-then-reach-eq0 t c =
 pub find_steps-returns : goal.find_steps-returns
 find_steps-returns t c =
     rw (steps_below _ _ _ _ c.if-reach-eq0.false, sym c.below-below.ensures.left, sym c.below-below.ensures.tries)
-    (found_then _ _ _ _ _ (opening_found _ _ _ _ _ _ c.in_ok-find_opening.ensures.found c.in_ok-find_opening.ensures.added c.in_ok-find_unknown.ensures refl refl)
-    (found_then _ _ _ _ _ c.in_ok-find_own.ensures
-    (found_then _ _ _ (spot_of Closing _ c.args.reach.left _ _ ∷ []) _ (closing_found _ _ _ c.args.reach.left _ _ c.in_ok-find_closing.ensures refl refl refl refl) c.find_hooks.ensures)))
+    (found_last _ _ _ _ _ _ (opening_found _ _ _ _ _ _ c.in_ok-find_opening.ensures.found c.in_ok-find_opening.ensures.added c.in_ok-find_unknown.ensures refl refl)
+    (found_last _ _ _ _ _ _ c.in_ok-find_own.ensures
+    (found_last _ _ _ _ (spot_of Closing _ c.args.reach.left _ _ ∷ []) _ (closing_found _ _ _ c.args.reach.left _ _ c.in_ok-find_closing.ensures refl refl refl refl) c.find_hooks.ensures)))
