@@ -117,6 +117,10 @@ abbrev pub owner_in : List Schema → Text → Option Schema
 owner_in [] key = None
 owner_in (s ∷ ss) key = if has_effect s key then Some s else owner_in ss key
 
+-- an object in which the key has an effect
+unfoldable pub owner_of : Text → Option Schema
+owner_of key = owner_in owners key
+
 -- an object of the schema is a step
 abbrev pub is_step : Schema → Bool
 is_step schema.Get = true

@@ -20,7 +20,7 @@ use Rattle.ccr_findings.specs.declared.objects.Aim.TheVariants as aim
 use Rattle.ccr_findings.specs.declared.stand.Keys.{Keys}
 use Rattle.ccr_findings.specs.declared.stand.Keys.TheVariants as keys
 use Rattle.ccr_findings.specs.Findings.{FindingData, finding}
-use Rattle.ccr_findings.specs.Known.{name_of, remedy_of, meant_key, owners, owner_in, is_passed_over}
+use Rattle.ccr_findings.specs.Known.{name_of, remedy_of, meant_key, owner_of, is_passed_over}
 use Rattle.ccr_findings.specs.Stands.{keys_of, kind_at, kind_of_items}
 
 -- ---- keys without effect
@@ -31,7 +31,7 @@ unused_line p (c ∷ cs) = codes "unused " ++ (p ++ (codes ": " ++ c ∷ cs))
 
 -- the finding of a key that no key looks like: it belongs to another object, or isn't known
 abbrev pub stray_key : Path → Text → FindingData
-stray_key p key = or_else (owner_in owners key) (finding Unknown (codes "unknown " ++ p))
+stray_key p key = or_else (owner_of key) (finding Unknown (codes "unknown " ++ p))
     (λ s. finding Misplaced (codes "misplaced " ++ (p ++ (codes ": belongs to " ++ name_of s))))
 
 -- that of a key that Concourse doesn't know in the object
@@ -43,23 +43,31 @@ strange_key s p key = or_else (meant_key s key) (stray_key p key)
 abbrev pub key_finding : Schema → Path → Text → Data → FindingData
 key_finding s p key d = or_else (remedy_of s key d) (strange_key s p key) (λ remedy. finding Unused (unused_line p remedy))
 
--- the findings of an object's members at keys without effect, unless null stands there
+-- the finding of a key of the object at p, unless it has an effect or null stands there
+abbrev pub key_at : Schema → Path → Text → Data → List FindingData
+key_at s p k d = if is_some (as_null d) || is_passed_over s k then [] else key_finding s (path_below p k) k d ∷ []
+
+-- the findings of an object's members
 abbrev pub key_findings : Schema → Path → Members → List FindingData
 key_findings s p no_members = []
-key_findings s p (member k d ms) =
-    (if is_some (as_null d) || is_passed_over s k then [] else key_finding s (path_below p k) k d ∷ [])
-    ++ key_findings s p ms
+key_findings s p (member k d ms) = key_at s p k d ++ key_findings s p ms
 
 -- a key of a get stands among what a resource's program is given
 abbrev pub is_strayed : Text → Data → Bool
 is_strayed k d = not (is_some (as_null d)) && (bytes_eq k (codes "passed") || bytes_eq k (codes "trigger"))
 
+-- the finding of one
+abbrev pub strayed_key : Path → FindingData
+strayed_key p = finding Misplaced (codes "misplaced " ++ (p ++ codes ": belongs to get"))
+
+-- that of a key of the object at p
+abbrev pub strayed_at : Path → Text → Data → List FindingData
+strayed_at p k d = if is_strayed k d then strayed_key (path_below p k) ∷ [] else []
+
 -- the findings of such keys
 abbrev pub params_findings : Path → Members → List FindingData
 params_findings p no_members = []
-params_findings p (member k d ms) =
-    (if is_strayed k d then finding Misplaced (codes "misplaced " ++ (path_below p k ++ codes ": belongs to get")) ∷ []
-    else []) ++ params_findings p ms
+params_findings p (member k d ms) = strayed_at p k d ++ params_findings p ms
 
 -- those of the object at a key of a get or put
 abbrev pub params_at : Path → Text → Data → List FindingData

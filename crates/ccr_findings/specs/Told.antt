@@ -162,9 +162,13 @@ unknown_in (Some (rule.KnownResource, p)) = Some (codes "resource", codes "resou
 unknown_in (Some (rule.KnownJob, p)) = Some (codes "job", codes "jobs")
 unknown_in (Some (r, p)) = None
 
+-- what a line tells of a fault's place behind its path
+abbrev pub place_words : Told → Option StandData → Text
+place_words f o = or_else o [] (more_words (more_at f))
+
 -- the line of a fault that tells of no name, at this place
 abbrev pub plain_line : Told → Option StandData → Text
-plain_line f o = words_at f ++ (codes " at " ++ (path_in f ++ or_else o [] (more_words (more_at f))))
+plain_line f o = words_at f ++ (codes " at " ++ (path_in f ++ place_words f o))
 
 -- the line of a fault at this place, which may tell of a name
 abbrev pub line_by : Data → Told → Option (Text × Text) → Option StandData → Text

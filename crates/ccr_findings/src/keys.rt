@@ -78,6 +78,28 @@ fn key_finding(
     }
 }
 
+/// Adds the finding of a key of the object at a path, unless it has an effect or `null` stands there.
+#[tactic(auto, using(crate::proofs::Lists::and_none))]
+fn find_key(
+    alloc: Global,
+    out: &mut Findings,
+    schema: Schema,
+    path: &str,
+    key: &str,
+    value: &Value,
+) -> Found
+    ensures { OnOk result (findings_data out.new.items
+        ≡ findings_data out.old.items ++ spec.key_at schema path.now key.now (view value.now)) }
+{
+    if value.is_null() || is_passed_over(schema, key) {
+        return Ok(());
+    }
+    let below = path_below(alloc, path, key)?;
+    let found = key_finding(alloc, schema, below.as_str(), key, value)?;
+    out.push(found)?;
+    Ok(())
+}
+
 /// Adds the findings of an object's members at keys without effect.
 #[tactic(auto, using(std::proofs::Common::append_assoc, crate::proofs::Lists::and_none))]
 fn find_members(
@@ -91,11 +113,7 @@ fn find_members(
         ≡ findings_data out.old.items ++ key_findings schema path.now (members_view members.now.entries)) }
 {
     for (key, member) in members.iter() {
-        if !member.is_null() && !is_passed_over(schema, key.as_str()) {
-            let below = path_below(alloc, path, key.as_str())?;
-            let found = key_finding(alloc, schema, below.as_str(), key.as_str(), member)?;
-            out.push(found)?;
-        }
+        find_key(alloc, out, schema, path, key.as_str(), member)?;
     }
     Ok(())
 }
@@ -105,6 +123,36 @@ fn is_strayed(key: &str, value: &Value) -> bool
     ensures { result ≡ spec.is_strayed key.now (view value.now) }
 {
     !value.is_null() && (key == "passed" || key == "trigger")
+}
+
+/// The finding of such a key.
+fn strayed_key(alloc: Global, path: &str) -> Result<Finding, AllocError>
+    ensures { IfOk result (λ f. finding f.kind (string_bytes f.line) ≡ spec.strayed_key path.now) }
+{
+    let line = format!(in alloc; "misplaced {path}: belongs to get")?;
+    let kind = Kind::Misplaced;
+    Ok(Finding { kind, line })
+}
+
+/// Adds that of a key of the object at a path.
+#[tactic(auto, using(crate::proofs::Lists::and_none))]
+fn find_stray(
+    alloc: Global,
+    out: &mut Findings,
+    path: &str,
+    key: &str,
+    value: &Value,
+) -> Found
+    ensures { OnOk result (findings_data out.new.items
+        ≡ findings_data out.old.items ++ spec.strayed_at path.now key.now (view value.now)) }
+{
+    if !is_strayed(key, value) {
+        return Ok(());
+    }
+    let below = path_below(alloc, path, key)?;
+    let found = strayed_key(alloc, below.as_str())?;
+    out.push(found)?;
+    Ok(())
 }
 
 /// Adds the findings of such keys.
@@ -119,13 +167,7 @@ fn find_strayed(
         ≡ findings_data out.old.items ++ params_findings path.now (members_view members.now.entries)) }
 {
     for (key, member) in members.iter() {
-        if is_strayed(key.as_str(), member) {
-            let below = path_below(alloc, path, key.as_str())?;
-            let below = below.as_str();
-            let line = format!(in alloc; "misplaced {below}: belongs to get")?;
-            let kind = Kind::Misplaced;
-            out.push(Finding { kind, line })?;
-        }
+        find_stray(alloc, out, path, key.as_str(), member)?;
     }
     Ok(())
 }

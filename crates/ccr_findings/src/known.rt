@@ -230,8 +230,9 @@ fn owner_in(schemas: &[Schema], key: &str) -> Option<Schema>
 }
 
 /// An object in which the key has an effect.
+#[tactic(auto, unfolding(crate::specs::Known::owner_of))]
 pub(crate) fn owner_of(key: &str) -> Option<Schema>
-    ensures { result ≡ spec.owner_in spec.owners key.now }
+    ensures { result ≡ spec.owner_of key.now }
 {
     owner_in(owners(), key)
 }

@@ -281,24 +281,35 @@ fn named_line(
     }
 }
 
+/// What a line tells of a fault's place behind its path.
+fn place_words(
+    alloc: Global,
+    fault: &ReadFault,
+    stand: Option<Stand<'_>>,
+) -> Result<String, AllocError>
+    ensures { IfOk result (λ words. string_bytes words
+        ≡ spec.place_words (fault_of fault.now) (option_map stand_data stand.entry)) }
+{
+    match stand {
+        Some(stand) => more_words(alloc, more_of(fault), &stand),
+        None => Ok(String::new(alloc)),
+    }
+}
+
 /// The line of a fault that tells of no name, with what is told of its place.
 fn plain_line(
     alloc: Global,
     fault: &ReadFault,
     stand: Option<Stand<'_>>,
 ) -> Result<String, AllocError>
-    ensures { IfOk result (λ line. string_bytes line ≡ spec.plain_line (fault_of fault.now) (option_map stand_data stand.entry)) }
+    ensures { IfOk result (λ line. string_bytes line
+        ≡ spec.plain_line (fault_of fault.now) (option_map stand_data stand.entry)) }
 {
     let path = path_of(fault);
     let words = words_of(fault);
-    match stand {
-        Some(stand) => {
-            let more = more_words(alloc, more_of(fault), &stand)?;
-            let more = more.as_str();
-            format!(in alloc; "{words} at {path}{more}")
-        }
-        None => format!(in alloc; "{words} at {path}"),
-    }
+    let place = place_words(alloc, fault, stand)?;
+    let place = place.as_str();
+    format!(in alloc; "{words} at {path}{place}")
 }
 
 /// The line of a fault in a value.
