@@ -1,5 +1,5 @@
 //! A look is taken: the database is read, and not opened.
-ghost use Rattle.std.specs.Prelude.{◌≡◌, ◌≤◌, ◌++◌, [], not, OnOk, OnErr};
+ghost use Rattle.std.specs.Prelude.{◌≡◌, ◌≤◌, ◌++◌, [], not};
 ghost use Rattle.ccr_core.specs.Cores.{core_data};
 ghost use Rattle.ccr_proof.specs.declared.proof.TheConstants.{MOST_NODES};
 ghost use Rattle.ccr_run.specs.Explained.{explained, nothing_told, told_data};
@@ -8,6 +8,7 @@ ghost use Rattle.ccr_run.specs.Statuses.{exit_status_of};
 ghost use Rattle.ccr_run.specs.declared.run.Outcome.{Outcome as OutcomeData};
 
 use crate::failure::Failure;
+use crate::found::print;
 use crate::opener::FileOpener;
 use crate::opening::Opens;
 use crate::order::LookOrder;
@@ -15,12 +16,12 @@ use crate::run::Outcome;
 use crate::tell::tell;
 use crate::telling::Telling;
 use ccr_core::{Command, Core};
-use ccr_lines::{AsText, Lines, Printed, Show, ShowFault};
+use ccr_lines::{AsText, Printed, Show, ShowFault};
 use ccr_look::{Scratch, look};
 use ccr_serve::ServeFault;
 use sqlite::{FileStore, Start};
 use sqlite_trees::store::Store as Trees;
-use std::alloc::{AllocError, Global};
+use std::alloc::Global;
 use std::io::Write;
 
 /// How it ended that something was shown.
@@ -33,19 +34,6 @@ fn handed_on(end: Result<u8, ShowFault>) -> Result<u8, Failure>
         Err(ShowFault::BadPin) => Err(Failure::Refused(ServeFault::BadPin)),
         Err(ShowFault::NoMemory) => Err(Failure::Refused(ServeFault::NoMemory)),
     }
-}
-
-/// Prints these bytes, and hands all lines out.
-fn print<W: Write, E: Write>(out: &mut Printed<W, E>, bytes: &[u8]) -> Result<(), AllocError>
-    ensures shown { OnOk result (out.new.shown ++ out.new.waiting ≡ (out.old.shown ++ out.old.waiting) ++ bytes.now) }
-    ensures refused { OnErr result (out.new.shown ++ out.new.waiting ≡ out.old.shown ++ out.old.waiting) }
-    ensures whole { out.old.waiting ≡ [] → out.new.waiting ≡ [] }
-    ensures quiet { out.new.notes ≡ out.old.notes }
-{
-    out.make_room(bytes.len())?;
-    out.add(bytes);
-    out.hand_out();
-    Ok(())
 }
 
 /// Shows of a core what is looked at, and hands all lines out. Nothing is told beside them.
