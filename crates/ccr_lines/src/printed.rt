@@ -80,8 +80,9 @@ impl<W: Write, E: Write> Printed<W, E> {
     /// Whether a write of lines failed. If none did, the writer has got all that was handed out, in order, and nothing else.
     /// So has `errors` each line that was told, with its line feed, if no write of those failed.
     ///
-    /// Of a writer whose bytes nobody knows, such as standard output, its calls say as much: they gave it what was handed out, up to the
-    /// first one that answered an error; and there was such a one if and only if this says so.
+    /// Where nobody knows what a writer holds, as of standard output, the calls that it got say as much. The one was given what
+    /// was handed out, from the first byte on, and nothing behind a call that answered an error; there was such a call if and
+    /// only if this says so. `errors` was given each line that was told, whatever its calls answered.
     pub fn has_failed(&self) -> bool
         ensures failed { result ≡ self.now.failed }
         ensures whole { result ≡ false → Appends self.now.before self.now.holds self.now.shown }
