@@ -5,3 +5,4 @@ pub mod Obeying
 pub mod Ordering
 pub mod Serving
 pub mod Told
+pub mod Writing

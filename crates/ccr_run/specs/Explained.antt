@@ -1,6 +1,5 @@
 -- What the program tells on standard error as it ends.
-use Rattle.std.specs.Prelude.{◌≡◌, ℕ, List, [], ◌∷◌, ◌++◌, codes, decimal, Bool, true, false, not, ◌==◌, ◌&&◌, Option, None, Some, option_map, Result, Ok, Err, string_bytes, if◌then◌else◌}
-use Rattle.std.specs.declared.io.traits.Write as writer
+use Rattle.std.specs.Prelude.{◌≡◌, ℕ, List, [], ◌∷◌, ◌++◌, flat_map, codes, decimal, Bool, true, false, not, ◌==◌, ◌&&◌, Option, None, Some, option_map, Result, Ok, Err, string_bytes, if◌then◌else◌}
 use Rattle.ccr_history.specs.Text.{Text}
 use Rattle.ccr_command.specs.declared.finding.Finding.{Finding}
 use Rattle.ccr_command.specs.declared.finding.Kind.{Kind}
@@ -34,13 +33,14 @@ pub record ToldData : Type 0 where
 abbrev pub nothing_told : ToldData
 nothing_told = record { gates = None; budget = None; refusal = None; hint = None; is_unprinted = false }
 
+-- the line of a finding of this kind, but of a key of Concourse without effect
+abbrev pub told_line : Kind → Text → List Text
+told_line Unused line = []
+told_line kind line = line ∷ []
+
 -- the lines of these findings, but of keys of Concourse without effect
 abbrev pub told_lines : List Finding → List Text
-told_lines [] = []
-told_lines (f ∷ fs) = with_line f.kind (string_bytes f.line) (told_lines fs) where
-  with_line : Kind → Text → List Text → List Text
-  with_line Unused line lines = lines
-  with_line kind line lines = line ∷ lines
+told_lines findings = flat_map (λ f. told_line f.kind (string_bytes f.line)) findings
 
 -- a refusal that was told
 abbrev pub refusal_told : ToldRefusal → RefusalData
@@ -48,7 +48,7 @@ refusal_told t =
     record { words = t.words.now; path = option_map (λ path. string_bytes path.value) t.path; status = t.status }
 
 -- what a value of the program's type has told
-abbrev pub told_data : {E : Type 0} {w : writer.Ghosts E} → Telling E w → ToldData
+abbrev pub told_data : {E : Type 0} → Telling E → ToldData
 told_data t = record {
   gates = option_map (λ found. told_lines found.value.items) t.gates;
   budget = t.budget;

@@ -1,6 +1,6 @@
 //! What is told on standard error as the program ends.
-ghost use Rattle.std.specs.Prelude.{◌≡◌, [], ◌∷◌, Some, true, false};
-ghost use Rattle.ccr_run.specs.Explained.{told_data, refusal_told, nothing_told, told_lines, budget_line, unprinted_line};
+ghost use Rattle.std.specs.Prelude.{◌≡◌, [], ◌∷◌, Some, true, false, string_bytes};
+ghost use Rattle.ccr_run.specs.Explained.{told_data, refusal_told, nothing_told, told_line, told_lines, budget_line, unprinted_line};
 ghost use Rattle.ccr_run.specs.Hints.{hint_data, hint_text};
 ghost use Rattle.ccr_run.specs.Refusals.{refusal_data, refusal_text};
 ghost use Rattle.ccr_run.specs.Writers.{GetsLines};
@@ -8,7 +8,7 @@ ghost use Rattle.ccr_run.specs.Writers.{GetsLines};
 use crate::errors::Errors;
 use crate::hint::Hint;
 use crate::refusal::Refusal;
-use ccr_command::{Findings, Kind};
+use ccr_command::{Finding, Findings, Kind};
 use std::io::Write;
 use std::snapshot::Snapshot;
 
@@ -47,14 +47,22 @@ fn told(refusal: &Refusal<'_>) -> ToldRefusal
     }
 }
 
-/// Writes the findings, but for keys of Concourse that have no effect.
-fn say_gates<E: Write>(errors: &mut Errors<E>, findings: &Findings)
-    ensures { GetsLines (told_lines findings.now.items) errors.old errors.new }
+/// Writes a finding, but for a key of Concourse that has no effect.
+fn say_finding<E: Write>(errors: &mut Errors<E>, finding: &Finding)
+    ensures { GetsLines (told_line finding.now.kind (string_bytes finding.now.line)) errors.old errors.new }
+{
+    match finding.kind {
+        Kind::Unused => {}
+        _ => errors.say(finding.line.as_str()),
+    }
+}
+
+/// Writes findings, but for keys of Concourse that have no effect.
+fn say_findings<E: Write>(errors: &mut Errors<E>, findings: &[Finding])
+    ensures { GetsLines (told_lines findings.now) errors.old errors.new }
 {
     for finding in findings {
-        if finding.kind != Kind::Unused {
-            errors.say(finding.line.as_str());
-        }
+        say_finding(errors, finding);
     }
 }
 
@@ -81,7 +89,7 @@ impl<'e, E: Write> Telling<'e, E> {
         ensures wrote { GetsLines (told_lines findings.now.items) self.old.errors self.new.errors }
     {
         self.gates = Some(Snapshot::of(findings));
-        say_gates(&mut self.errors, findings);
+        say_findings(&mut self.errors, findings);
     }
 
     /// Tells that a search would go over this budget.
