@@ -75,7 +75,7 @@ fn answer<'a>(rt: &'a HostRuntime, words: &'a [String]) -> ExitCode
     };
     let mut opener = Opener::new(rt, Unknown);
     let mut out = Printed::new(alloc, io::writer(rt), rt.stderr());
-    let mut telling = Telling::new(rt.stderr());
+    let mut telling = Telling::new(alloc, rt.stderr());
     let Done {
         status,
         left: _left,
