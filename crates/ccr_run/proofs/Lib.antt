@@ -1,3 +1,4 @@
+pub mod Answering
 pub mod Bare
 pub mod Kept
 pub mod Looking
@@ -5,3 +6,4 @@ pub mod Obeying
 pub mod Ordering
 pub mod Serving
 pub mod Told
+pub mod Walks

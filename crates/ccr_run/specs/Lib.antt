@@ -1,11 +1,13 @@
-pub mod Asked
 pub mod Aborting
+pub mod Answered
+pub mod Asked
 pub mod Databases
 pub mod Explained
 pub mod Found
 pub mod Hints
 pub mod Left
 pub mod Looked
+pub mod Named
 pub mod Obeyed
 pub mod Opening
 pub mod Orders

@@ -74,14 +74,15 @@ fn line_with_room<O: Lines>(
     ensures room { IfOk result (λ line. length (string_bytes line) ≤ O.room out.new) }
     ensures same { O.written out.new ≡ O.written out.old }
     ensures waiting { O.waiting out.new ≡ O.waiting out.old }
+    ensures quiet { O.notes out.new ≡ O.notes out.old }
 {
     let line = asked_line(alloc, order)?;
     out.make_room(line.len())?;
     Ok(line)
 }
 
-/// Asks for the build that is ordered to be aborted, by a directory of the shelf, and prints that it is asked. Which jobs there are
-/// stands in the database; here the name is one that a job may have.
+/// Asks for the build that is ordered to be aborted, by a directory of the shelf, and prints that it is asked; nothing is told beside
+/// that. Which jobs there are stands in the database; here the name is one that a job may have.
 pub fn abort_build<F: Shelf, O: Lines>(
     alloc: Global,
     shelf: &mut F,
@@ -92,6 +93,7 @@ pub fn abort_build<F: Shelf, O: Lines>(
     ensures asked { OnOk result (O.written out.new ≡ O.written out.old ++ asked_line order.now) }
     ensures refused { OnErr result (O.written out.new ≡ O.written out.old) }
     ensures whole { O.waiting out.old ≡ [] → O.waiting out.new ≡ [] }
+    ensures quiet { O.notes out.new ≡ O.notes out.old }
 {
     if !is_name(order.build.job) {
         return Err(AbortFault::NoJob);

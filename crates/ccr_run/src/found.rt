@@ -184,6 +184,7 @@ pub fn print<O: Lines>(out: &mut O, bytes: &[u8]) -> Result<(), AllocError>
     ensures shown { OnOk result (O.written out.new ≡ O.written out.old ++ bytes.now) }
     ensures refused { OnErr result (O.written out.new ≡ O.written out.old) }
     ensures whole { O.waiting out.old ≡ [] → O.waiting out.new ≡ [] }
+    ensures quiet { O.notes out.new ≡ O.notes out.old }
 {
     out.make_room(bytes.len())?;
     out.add(bytes);
@@ -200,6 +201,7 @@ fn print_findings<O: Lines>(
     ensures shown { OnOk result (O.written out.new ≡ O.written out.old ++ findings_text findings.now) }
     ensures refused { OnErr result (O.written out.new ≡ O.written out.old) }
     ensures whole { O.waiting out.old ≡ [] → O.waiting out.new ≡ [] }
+    ensures quiet { O.notes out.new ≡ O.notes out.old }
 {
     let text = text_of(alloc, findings)?;
     print(out, text.as_str().as_bytes())
@@ -218,6 +220,7 @@ pub fn validate<F: Shelf, O: Lines>(
     ensures validates { Validates (validation_data validation.now) result (F.calls shelf.old) (F.calls shelf.new)
         (O.written out.old) (O.written out.new) }
     ensures whole { O.waiting out.old ≡ [] → O.waiting out.new ≡ [] }
+    ensures quiet { O.notes out.new ≡ O.notes out.old }
 {
     let findings = match findings_in(alloc, shelf, validation.path) {
         Ok(findings) => findings,

@@ -1,18 +1,16 @@
 //! What the program's words come to.
-ghost use Rattle.std.specs.Prelude.{◌≡◌, ◌≤◌, ◌++◌, [], Bool, None, Result, false, not, IsSome, IfErr, map, string_bytes};
+ghost use Rattle.std.specs.Prelude.{◌≡◌, ◌≤◌, ◌++◌, [], Bool, Result, false, not, IsSome, map, string_bytes};
 ghost use Rattle.sqlite_std_file.specs.File.{IsFresh};
 ghost use Rattle.sqlite_wal.specs.Files.{image_at};
 ghost use Rattle.ccr_proof.specs.declared.proof.TheConstants.{MOST_NODES};
 ghost use Rattle.ccr_serve.specs.declared.fault.ServeFault.{ServeFault as ServeFaultData};
 ghost use Rattle.ccr_run.specs.Aborting.{Asks, IsPrinted, abort_status, told_of};
-ghost use Rattle.ccr_run.specs.Asked.{asked_by};
 ghost use Rattle.ccr_run.specs.Databases.{from_files};
 ghost use Rattle.ccr_run.specs.Explained.{IsToldOf, nothing_told, told_data};
 ghost use Rattle.ccr_run.specs.Found.{Validates, refusal_in, validated_status, validation_data};
 ghost use Rattle.ccr_run.specs.Left.{text_left};
 ghost use Rattle.ccr_run.specs.Looked.{LookedBeside};
 ghost use Rattle.ccr_run.specs.Obeyed.{Obeyed};
-ghost use Rattle.ccr_run.specs.Orders.{IsMisused};
 ghost use Rattle.ccr_run.specs.Served.{Served};
 ghost use Rattle.ccr_run.specs.Statuses.{exit_status_of, printed_status};
 ghost use Rattle.ccr_run.specs.declared.abort.AbortFault.{AbortFault as AbortFaultData};
@@ -25,7 +23,8 @@ use crate::found::{
 };
 use crate::left::{Left, Tools};
 use crate::look::look_at;
-use crate::opener::{FileConnection, FileOpener};
+use crate::opener::FileOpener;
+use crate::opening::{FileConnection, Opens};
 use crate::order::{AbortOrder, Misuse, Order, Ordered, ordered_by};
 use crate::run::{FilesLeft, run};
 use crate::tell::tell;
@@ -50,22 +49,31 @@ pub struct Done<R, F, T, C> {
 }
 
 /// Does a command, and tells what came of it: the status, and what is left.
-fn do_command<'a, R: Runner + Drop, F: Shelf + Drop, S: Start, W: Write, E: Write, P: Eprint>(
+fn do_command<
+    'a,
+    R: Runner + Drop,
+    F: Shelf + Drop,
+    O: Opens,
+    S: Start,
+    W: Write,
+    E: Write,
+    P: Eprint,
+>(
     alloc: Global,
     order: &Order<'a>,
     tools: Tools<R, F>,
-    opener: &mut FileOpener<'a, S>,
+    opener: &mut FileOpener<O, S>,
     out: &mut Printed<W, E>,
     telling: &mut Telling<'_, 'a, P>,
 ) -> (u8, FilesLeft<R, F, S>)
     requires least { 1 ≤ order.now.options.budget }
     requires most { order.now.options.budget ≤ MOST_NODES }
     requires unopened { IsSome opener.old.start }
-    requires unasked { opener.old.asked ≡ None }
+    requires unasked { O.asked opener.old.files ≡ [] }
     requires untold { told_data telling.old ≡ nothing_told }
     ensures did { (outcome : OutcomeData) × Served R.Runner F.Shelf ⟦<FileDatabase<S> as Storage>⟧
-        (from_files (image_at S.Start) (λ is_log file. IsFresh is_log file) opener.new.answer) order.now (asked_by opener.new) tools
-        outcome.end result.1 (out.old.shown ++ out.old.waiting) (out.new.shown ++ out.new.waiting)
+        (from_files (image_at S.Start) (λ is_log file. IsFresh is_log file) opener.new.answer) order.now
+        (O.asked opener.new.files) tools outcome.end result.1 (out.old.shown ++ out.old.waiting) (out.new.shown ++ out.new.waiting)
         × (outcome.is_printed ≡ not out.new.failed)
         × IsToldOf order.now outcome (text_left result.1) (told_data telling.new)
         × (result.0 ≡ exit_status_of outcome) }
@@ -97,6 +105,7 @@ fn do_abort<R, F: Shelf, W: Write, E: Write, P: Eprint>(
         × (told_data telling.new ≡ told_of end (not out.new.failed))
         × (result.0 ≡ printed_status (not out.new.failed) (abort_status end)) }
     ensures whole { out.old.waiting ≡ [] → out.new.waiting ≡ [] }
+    ensures quiet { out.new.notes ≡ out.old.notes }
     ensures idle { result.1.runner ≡ tools.runner }
 {
     let Tools { runner, mut shelf } = tools;
@@ -121,6 +130,7 @@ fn do_validation<R, F: Shelf, W: Write, E: Write, P: Eprint>(
         × (told_data telling.new ≡ record nothing_told { refusal = refusal_in end })
         × (result.0 ≡ validated_status end (not out.new.failed)) }
     ensures whole { out.old.waiting ≡ [] → out.new.waiting ≡ [] }
+    ensures quiet { out.new.notes ≡ out.old.notes }
     ensures idle { result.1.runner ≡ tools.runner }
 {
     let Tools { runner, mut shelf } = tools;
@@ -131,31 +141,41 @@ fn do_validation<R, F: Shelf, W: Write, E: Write, P: Eprint>(
 }
 
 /// Does what the words order, and tells what came of it; or says why they order nothing. What it was given is handed back.
-pub fn obey<'a, R: Runner + Drop, F: Shelf + Drop, S: Start, W: Write, E: Write, P: Eprint>(
+pub fn obey<
+    'a,
+    R: Runner + Drop,
+    F: Shelf + Drop,
+    O: Opens,
+    S: Start,
+    W: Write,
+    E: Write,
+    P: Eprint,
+>(
     alloc: Global,
     words: &'a [String],
     tools: Tools<R, F>,
-    opener: &mut FileOpener<'a, S>,
+    opener: &mut FileOpener<O, S>,
     out: &mut Printed<W, E>,
     telling: &mut Telling<'_, 'a, P>,
 ) -> Done<R, F, FileDatabase<S>, FileConnection<S>>
     requires unopened { IsSome opener.old.start }
-    requires unasked { opener.old.asked ≡ None }
+    requires unasked { O.asked opener.old.files ≡ [] }
     requires untold { told_data telling.old ≡ nothing_told }
     ensures obeyed { Obeyed R.Runner F.Shelf ⟦<FileDatabase<S> as Storage>⟧
         (from_files (image_at S.Start) (λ is_log file. IsFresh is_log file) opener.new.answer)
         (LookedBeside ⟦<FileStore<Scratch> as Trees>⟧ ⟦<FileStore<FileFrom<S>> as Trees>⟧)
         (map string_bytes words.now) tools
         (record {
-          asked = asked_by opener.new;
+          asked = O.asked opener.new.files;
           old = out.old.shown ++ out.old.waiting;
           new = out.new.shown ++ out.new.waiting;
+          old_notes = out.old.notes;
+          new_notes = out.new.notes;
           failed = out.new.failed;
           told = told_data telling.new;
           status = result.status;
         }) result.left }
     ensures whole { out.old.waiting ≡ [] → out.new.failed ≡ false → out.new.waiting ≡ [] }
-    ensures misused { IfErr result.status (IsMisused (map string_bytes words.now)) }
 {
     if is_validation(words) {
         let Some(validation) = validation_of(words) else {
