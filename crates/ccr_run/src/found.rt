@@ -1,8 +1,9 @@
 //! What is found in a pipeline's file: told beside `set-pipeline`, and by `validate-pipeline`, which opens no database.
 ghost use Rattle.std.specs.Prelude.{◌≡◌, ◌++◌, [], None, Some, Ok, Err, map, option_map, option_copied, slice_get, string_bytes, IfOk, IfErr, OnOk, OnErr};
-ghost use Rattle.ccr_run.specs.Explained.{told_data, has_set, AreGates};
+ghost use Rattle.ccr_run.specs.Explained.{told_data, has_set, AreGates, gate_lines, refusal_lines};
 ghost use Rattle.ccr_run.specs.Found.{Finds, FindsIn, Validates, findings_text, is_option, validation_data};
 ghost use Rattle.ccr_run.specs.Found as spec;
+ghost use Rattle.ccr_run.specs.Writers.{GetsLines};
 
 use crate::failure::Failure;
 use crate::refusal::refusal_of;
@@ -15,6 +16,7 @@ use ccr_serve::ServeFault;
 use ccr_task::{Shelf, ShelfFault};
 use serde_json::Value;
 use std::alloc::{AllocError, Global};
+use std::io::Write;
 
 /// The word of the command that opens no database.
 pub const VALIDATE: &str = "validate-pipeline";
@@ -78,9 +80,9 @@ fn has_set(command: &Command, end: &Result<u8, Failure>) -> bool
 }
 
 /// Says on standard error what is found in this text of a pipeline, where the command has set one.
-pub fn tell_gates<R: Eprint>(
+pub fn tell_gates<E: Write>(
     alloc: Global,
-    telling: &mut Telling<'_, '_, R>,
+    telling: &mut Telling<'_, E>,
     command: &Command,
     end: &Result<u8, Failure>,
     text: Option<&[u8]>,
@@ -88,6 +90,7 @@ pub fn tell_gates<R: Eprint>(
     requires { (told_data telling.old).gates ≡ None }
     ensures gates { AreGates (has_set command.now end.now) (option_copied text.entry) (told_data telling.new).gates }
     ensures rest { told_data telling.new ≡ record (told_data telling.old) { gates = (told_data telling.new).gates } }
+    ensures wrote { GetsLines (gate_lines (told_data telling.new).gates) telling.old.errors telling.new.errors }
 {
     if !has_set(command, end) {
         return;
@@ -234,14 +237,15 @@ pub fn validate<F: Shelf, O: Lines>(
 
 /// Tells why a pipeline's file was refused, and gives the status: 0, 1 where something is a reason to refuse the pipeline, and 4
 /// where not all lines went out; or that of the refusal.
-pub fn tell_validation<R: Eprint>(
-    telling: &mut Telling<'_, '_, R>,
+pub fn tell_validation<E: Write>(
+    telling: &mut Telling<'_, E>,
     end: Result<bool, ServeFault>,
     is_printed: bool,
 ) -> u8
     requires { (told_data telling.old).refusal ≡ None }
     ensures status { result ≡ spec.validated_status end is_printed }
     ensures told { told_data telling.new ≡ record (told_data telling.old) { refusal = spec.refusal_in end } }
+    ensures wrote { GetsLines (refusal_lines (spec.refusal_in end)) telling.old.errors telling.new.errors }
 {
     match end {
         Ok(is_good) if is_printed => if is_good { 0 } else { 1 },
