@@ -1,14 +1,14 @@
 -- What the program tells on standard error as it ends.
 use Rattle.std.specs.Prelude.{◌≡◌, ℕ, List, [], ◌∷◌, ◌++◌, flat_map, codes, decimal, Bool, true, false, not, ◌==◌, ◌&&◌, Option, None, Some, option_map, Result, Ok, Err, string_bytes, if◌then◌else◌}
 use Rattle.ccr_history.specs.Text.{Text}
-use Rattle.ccr_command.specs.declared.finding.Finding.{Finding}
-use Rattle.ccr_command.specs.declared.finding.Kind.{Kind}
-use Rattle.ccr_command.specs.declared.finding.Kind.TheVariants.{Unused}
+use Rattle.ccr_findings.specs.declared.finding.Finding.{Finding}
+use Rattle.ccr_findings.specs.declared.finding.Kind.{Kind}
+use Rattle.ccr_findings.specs.declared.finding.Kind.TheVariants.{Unused}
 use Rattle.ccr_core.specs.declared.command.Command.{Command}
 use Rattle.ccr_core.specs.declared.command.Command.TheVariants.{SetPipeline, Show}
 use Rattle.ccr_core.specs.declared.shown.Shown.{Shown}
 use Rattle.ccr_core.specs.declared.shown.Shown.TheVariants.{Proof, Certificate}
-use Rattle.ccr_serve.specs.declared.fault.ServeFault.{ServeFault}
+use Rattle.ccr_pipeline.specs.declared.fault.ReadFault.{ReadFault}
 use Rattle.ccr_run.specs.declared.failure.Failure.{Failure}
 use Rattle.ccr_run.specs.declared.order.Order.{Order}
 use Rattle.ccr_run.specs.declared.run.Outcome.{Outcome}
@@ -150,7 +150,7 @@ has_set command end = false
 -- what is found in this text of a pipeline is told, if one was set; nothing is, where there is no text, or out of memory
 abbrev pub AreGates : Bool → Option Text → Option (List Text) → Type 0
 AreGates true (Some text) (Some lines) = (findings : List Finding) × Finds text (Ok findings) × (lines ≡ told_lines findings)
-AreGates true (Some text) None = (fault : ServeFault) × Finds text (Err fault)
+AreGates true (Some text) None = (fault : ReadFault) × Finds text (Err fault)
 AreGates sets text told = told ≡ None
 
 -- WHAT A COMMAND TELLS with this outcome, and with the text of the pipeline since: what is found in a pipeline that it has set, and

@@ -105,9 +105,7 @@ impl Opens for HostFiles<'_> {
         start: S,
     ) -> Result<FileConnection<S>, (Error, Option<FilesLeftOver<S>>)> {
         let answer = Connection::open_from(self.rt, path, false, start);
-        self.asked = self
-            .asked
-            .and(&Asked::Opened(path, error_of(&answer)));
+        self.asked = self.asked.and(&Asked::Opened(path, error_of(&answer)));
         answer
     }
 

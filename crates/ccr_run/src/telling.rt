@@ -8,7 +8,7 @@ ghost use Rattle.ccr_run.specs.Writers.{GetsLines};
 use crate::errors::Errors;
 use crate::hint::Hint;
 use crate::refusal::Refusal;
-use ccr_command::{Finding, Findings, Kind};
+use ccr_findings::{Finding, Findings, Kind};
 use std::io::Write;
 use std::snapshot::Snapshot;
 
