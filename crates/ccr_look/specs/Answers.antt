@@ -1,7 +1,5 @@
 -- What answers of files come to.
 use Rattle.std.specs.Prelude.{◌≡◌, ◌≢◌, ◌==◌, ℕ, List, [], ◌∷◌, ◌++◌, Bool, true, false, Option, None, Some, Result, Ok, Err, if◌then◌else◌}
-use Rattle.std.specs.Fs.{IsFile, file_type, metadata_len}
-use Rattle.std.specs.declared.fs.attrs.Metadata.{Metadata}
 use Rattle.std.specs.declared.io.ErrorKind.{ErrorKind}
 use Rattle.std.specs.declared.io.ErrorKind.TheVariants as kind
 use Rattle.ccr_look.specs.declared.calls.Trouble.{Trouble}
@@ -17,20 +15,6 @@ abbrev pub IsTroubleOf : ErrorKind → Trouble → Type 0
 IsTroubleOf k Interrupted = k ≡ kind.Interrupted
 IsTroubleOf k NoMemory = k ≡ kind.OutOfMemory
 IsTroubleOf k Other = (k ≢ kind.Interrupted) × (k ≢ kind.OutOfMemory)
-
--- what is found is what the system saw: a file, so long, or something else
-abbrev pub IsSeenAs : Metadata → Found → Type 0
-IsSeenAs seen (File size) = IsFile (file_type seen) × (size ≡ metadata_len seen)
-IsSeenAs seen NoFile = ¬ IsFile (file_type seen)
-IsSeenAs seen Nothing = ⊥
-IsSeenAs seen (Unseen trouble) = ⊥
-
--- what is found where the system answers by an error: nothing, or a trouble
-abbrev pub IsMissedAs : ErrorKind → Found → Type 0
-IsMissedAs k (File size) = ⊥
-IsMissedAs k NoFile = ⊥
-IsMissedAs k Nothing = k ≡ kind.NotFound
-IsMissedAs k (Unseen trouble) = (k ≢ kind.NotFound) × IsTroubleOf k trouble
 
 -- what an open says of a path: whether something is there
 abbrev pub is_there : {A : Type 0} → Result (Option A) Trouble → Result Bool Trouble

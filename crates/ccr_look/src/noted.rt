@@ -7,7 +7,8 @@ ghost use Rattle.std.specs.Io.{ReadsAtMost};
 ghost use Rattle.std.specs.Io.KnownBytes.{ReadConsumes};
 ghost use Rattle.std.specs.IoError.{error_kind};
 ghost use Rattle.ccr_look.specs.Calls.{looked, opened, read_of};
-ghost use Rattle.ccr_look.specs.Answers.{IsMissedAs, IsSeenAs, IsTroubleOf, is_there};
+ghost use Rattle.ccr_look.specs.Answers.{IsTroubleOf, is_there};
+ghost use Rattle.ccr_look.specs.Seen.{IsMissedAs, IsSeenAs};
 ghost use Rattle.ccr_look.specs.Noted.{noted};
 
 use crate::calls::{Call, Calls, Found, Trouble};
