@@ -193,6 +193,7 @@ fn print_findings<O: Lines>(
 }
 
 /// Adds these lines, each with its line end.
+#[tactic(auto, using(std::proofs::Common::append_assoc, crate::proofs::Refusing::and_none))]
 fn add_lines(text: &mut String, lines: &[String]) -> Result<(), AllocError>
     ensures { OnOk result (string_bytes text.new ≡ string_bytes text.old ++ lines_text (map string_bytes lines.now)) }
 {
@@ -203,6 +204,7 @@ fn add_lines(text: &mut String, lines: &[String]) -> Result<(), AllocError>
 }
 
 /// Adds the lines of what is wrong of these findings.
+#[tactic(auto, using(std::proofs::Common::append_assoc, crate::proofs::Refusing::and_none))]
 fn add_wrong(text: &mut String, findings: &[Finding]) -> Result<(), AllocError>
     ensures { OnOk result (string_bytes text.new ≡ string_bytes text.old ++ wrong_text (findings_data findings.now)) }
 {
