@@ -2,7 +2,7 @@
 ghost use Rattle.std.specs.Prelude.{◌≡◌, ◌++◌, [], None, Some, Ok, Err, map, option_map, option_copied, slice_get, string_bytes, IfOk, IfErr, OnOk, OnErr};
 ghost use Rattle.ccr_findings.specs.Findings.{findings_data};
 ghost use Rattle.ccr_run.specs.Explained.{told_data, has_set, AreGates, gate_lines, refusal_lines};
-ghost use Rattle.ccr_run.specs.Found.{Finds, IsRefusedText, PrintsRefused, Validates, ValidatesText, findings_text, is_option, lines_text, validation_data, wrong_text};
+ghost use Rattle.ccr_run.specs.Found.{Finds, IsRefusedText, PrintsRefused, Validates, ValidatesText, findings_text, is_option, line_text, lines_text, validation_data, wrong_text};
 ghost use Rattle.ccr_run.specs.Found as spec;
 ghost use Rattle.ccr_run.specs.Writers.{GetsLines};
 
@@ -147,14 +147,22 @@ pub fn validation_of(words: &[String]) -> Option<Validation<'_>>
     validation_with(first, word_at(words, 3))
 }
 
+/// Adds a line, with its end.
+fn add_line(text: &mut String, line: &str) -> Result<(), AllocError>
+    ensures { OnOk result (string_bytes text.new ≡ string_bytes text.old ++ line_text line.now) }
+{
+    text.push_str(line)?;
+    text.push_str("\n")?;
+    Ok(())
+}
+
 /// The lines of what was found.
 fn text_of(alloc: Global, findings: &[Finding]) -> Result<String, AllocError>
     ensures { IfOk result (λ text. string_bytes text ≡ findings_text findings.now) }
 {
     let mut text = String::new(alloc);
     for finding in findings {
-        text.push_str(finding.line.as_str())?;
-        text.push_str("\n")?;
+        add_line(&mut text, finding.line.as_str())?;
     }
     Ok(text)
 }
@@ -188,24 +196,24 @@ fn print_findings<O: Lines>(
 }
 
 /// Adds these lines, each with its line end.
+#[tactic(auto, using(std::proofs::Common::append_assoc, crate::proofs::Refusing::and_none))]
 fn add_lines(text: &mut String, lines: &[String]) -> Result<(), AllocError>
     ensures { OnOk result (string_bytes text.new ≡ string_bytes text.old ++ lines_text (map string_bytes lines.now)) }
 {
     for line in lines {
-        text.push_str(line.as_str())?;
-        text.push_str("\n")?;
+        add_line(text, line.as_str())?;
     }
     Ok(())
 }
 
 /// Adds the lines of what is wrong of these findings.
+#[tactic(auto, using(std::proofs::Common::append_assoc, crate::proofs::Refusing::and_none))]
 fn add_wrong(text: &mut String, findings: &[Finding]) -> Result<(), AllocError>
     ensures { OnOk result (string_bytes text.new ≡ string_bytes text.old ++ wrong_text (findings_data findings.now)) }
 {
     for finding in findings {
         if finding.kind.is_wrong() {
-            text.push_str(finding.line.as_str())?;
-            text.push_str("\n")?;
+            add_line(text, finding.line.as_str())?;
         }
     }
     Ok(())
