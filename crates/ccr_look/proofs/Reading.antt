@@ -1,17 +1,17 @@
 -- Reads of a file: those so far, and how they end.
-use Rattle.std.proofs.Common.{◌≡◌, ◌≢◌, ◌≤◌, ◌<◌, ◌+◌, ◌-◌, ◌∙◌, ℕ, zero, suc, take, List, [], ◌∷◌, ◌++◌, length, Option, None, Some, Result, Ok, Err, refl, sym, ap, inl, inr, arith, append-nil, append_assoc, length-append, IfSome}
+use Rattle.std.proofs.Common.{◌≡◌, ◌≢◌, ◌≤◌, ◌<◌, ◌+◌, ◌-◌, ◌∙◌, ℕ, zero, suc, take, List, [], ◌∷◌, ◌++◌, length, Option, None, Some, Result, Ok, Err, refl, sym, ap, subst, true, false, inl, inr, arith, append-nil, append_assoc, length-append, IfSome, MatchResult, Vec, Global}
 use Rattle.std.specs.List.{All}
 use Rattle.std.specs.Io.KnownBytes.{Consumes, Keeps, IsAtEnd}
 use Rattle.std.proofs.lemmas.List.Elements.{All-nil, All-push}
 use Rattle.std.proofs.lemmas.List.{take_all}
 use Rattle.ccr_look.specs.declared.calls.Trouble.{Trouble}
-use Rattle.ccr_look.specs.declared.calls.Trouble.TheVariants.{Interrupted}
+use Rattle.ccr_look.specs.declared.calls.Trouble.TheVariants.{Interrupted, NoMemory, Other}
 use Rattle.ccr_look.specs.declared.fault.CopyFault.{CopyFault}
 use Rattle.ccr_look.specs.declared.fault.CopyFault.TheVariants as why
 use Rattle.ccr_look.specs.declared.reads.TheConstants.{MOST_READS}
 use Rattle.ccr_look.specs.Calls.{CallData, looked, opened, gave}
 use Rattle.ccr_look.specs.Answers.{bytes_in, fault_of}
-use Rattle.ccr_look.specs.Parts.{Adds, GoesOn, GivesBytes, GivesNoBytes}
+use Rattle.ccr_look.specs.Parts.{Adds, GoesOn, GivesBytes, GivesNoBytes, IsRead, FailsToRead}
 
 bytes_in-append : (xs ys : List CallData) → bytes_in (xs ++ ys) ≡ bytes_in xs ++ bytes_in ys
 bytes_in-append [] ys = refl
@@ -76,16 +76,27 @@ reading-none {before} old path most bytes none = record {
   stays = refl;
 }
 
+length-take-most : (n : ℕ) (xs : List ℕ) → length (take n xs) ≤ n
+length-take-most zero xs = omega arith
+length-take-most (suc n) [] = omega arith
+length-take-most (suc n) (x ∷ xs) = omega (arith, length-take-most n xs)
+
 some_taken : (n : ℕ) (xs : List ℕ) → n ≢ 0 → n ≤ length xs → take n xs ≢ []
 some_taken zero xs some fits e = some refl
 some_taken (suc n) [] some fits e = absurd (omega arith)
 some_taken (suc n) (x ∷ xs) some fits e = cc
 
+hungry_other : NoMemory ≢ Interrupted
+hungry_other e = absurd cc
+
+failed_other : Other ≢ Interrupted
+failed_other e = absurd cc
+
 module _ {before now : List CallData} (old mid : Option (List ℕ)) (path at : List ℕ) (most : ℕ) (bytes : List ℕ) (turns : ℕ)
     (r : ReadsSoFar old mid before now path at most bytes turns) where
   -- a read that gave a byte or more
   pub reading-more : (next : List CallData) (new : Option (List ℕ)) (n : ℕ) (buf more longer : List ℕ) (then : List ℕ) → next ≡ now ++ gave at (Ok (take n buf)) ∷ [] → n ≢ 0
-      → n ≤ length buf → length longer ≤ most → Consumes mid new (take n buf) → more ≡ take n buf → longer ≡ bytes ++ more → then ≡ at
+      → n ≤ length buf → n ≤ most - length bytes → Consumes mid new (take n buf) → more ≡ take n buf → longer ≡ bytes ++ more → then ≡ at
       → ReadsSoFar old new before next path then most longer (turns + 1)
   reading-more next new n buf more longer then noted some fits short left same added stays =
       let c = gave path (Ok (take n buf)) in
@@ -97,7 +108,7 @@ module _ {before now : List CallData} (old mid : Option (List ℕ)) (path at : L
         went = All-push (GoesOn path) r.calls c r.went (refl, some_taken n buf some fits);
         count = length-last r.calls c ∙ ap (λ n. n + 1) r.count;
         given = grown ∙ ap (λ (l : List ℕ). l ++ take n buf) r.given ∙ sym (more_bytes r.calls path (take n buf));
-        few = short;
+        few = rw grown (omega (arith, length-append bytes (take n buf), r.few, short, length-take-most n buf));
         left = rw grown (left_more old mid new bytes (take n buf) r.left left);
         stays = stays ∙ r.stays;
       }
@@ -121,7 +132,7 @@ module _ {before now : List CallData} (old mid : Option (List ℕ)) (path at : L
 
   -- there are as many bytes as were asked for
   pub reading-full : most ≤ length bytes → Adds before now (GivesBytes path most bytes)
-  reading-full full = (r.calls, r.made, r.given, inl (r.went, omega (arith, r.few)))
+  reading-full full = (r.calls, r.made, (r.given, inl (r.went, omega (arith, r.few, full))))
 
   -- a read that gave none
   pub reading-end : (next : List CallData) (n : ℕ) (buf : List ℕ) → next ≡ now ++ gave at (Ok (take n buf)) ∷ [] → n ≡ 0
@@ -134,8 +145,10 @@ module _ {before now : List CallData} (old mid : Option (List ℕ)) (path at : L
       (
         r.calls ++ c ∷ [],
         made-last before r.calls now next c r.made noted',
-        r.given ∙ sym (append-nil (bytes_in r.calls)) ∙ sym (more_bytes r.calls path []),
-        inr (r.calls, refl, r.went),
+        (
+          r.given ∙ sym (append-nil (bytes_in r.calls)) ∙ sym (more_bytes r.calls path []),
+          inr (r.calls, refl, r.went),
+        ),
       )
 
   -- a read that met a trouble
@@ -145,6 +158,12 @@ module _ {before now : List CallData} (old mid : Option (List ℕ)) (path at : L
       let c = gave path (Err trouble) in
       let noted' : next ≡ now ++ c ∷ [] = noted ∙ ap (λ (p : List ℕ). now ++ gave p (Err trouble) ∷ []) r.stays in
       (r.calls ++ c ∷ [], made-last before r.calls now next c r.made noted', inl (trouble, (r.calls, refl, r.went), other, told))
+
+  pub reading-hungry : (next : List CallData) → next ≡ now ++ gave at (Err NoMemory) ∷ [] → Adds before next (GivesNoBytes path most why.NoMemory)
+  reading-hungry next noted = reading-trouble next NoMemory why.NoMemory noted hungry_other refl
+
+  pub reading-failed : (next : List CallData) → next ≡ now ++ gave at (Err Other) ∷ [] → Adds before next (GivesNoBytes path most why.Unread)
+  reading-failed next noted = reading-trouble next Other why.Unread noted failed_other refl
 
   -- a read that gave bytes for which there is no memory
   pub reading-no_memory : (next : List CallData) (n : ℕ) (buf : List ℕ) → next ≡ now ++ gave at (Ok (take n buf)) ∷ [] → n ≢ 0 → n ≤ length buf
@@ -179,10 +198,10 @@ whole-full (Some all) (Some rest) path at most bytes turns r full =
 pub whole-end : {before now : List CallData} (old mid new : Option (List ℕ)) (path at : List ℕ) (most : ℕ) (bytes : List ℕ) (turns n : ℕ) (buf : List ℕ)
     → ReadsSoFar old mid before now path at most bytes turns → n ≡ 0 → Consumes mid new (take n buf) × (n ≡ 0 → 0 < length buf → IsAtEnd new)
     → 0 < length buf → IfSome old (λ all. bytes ≡ take most all)
-whole-end old mid new path at most bytes turns n buf r none gave room =
-    let nothing : Consumes mid new [] = rw none at gave.0 in
+whole-end old mid new path at most bytes turns n buf r none took room =
+    let nothing : Consumes mid new [] = rw none at took.0 in
     let all : Consumes old new (bytes ++ []) = left_more old mid new bytes [] r.left nothing in
-    at_end old new all (gave.1 none room)
+    at_end old new all (took.1 none room)
   where
     at_end : (old new : Option (List ℕ)) → Consumes old new (bytes ++ []) → IsAtEnd new → IfSome old (λ all. bytes ≡ take most all)
     at_end None new all end = tt
@@ -190,3 +209,27 @@ whole-end old mid new path at most bytes turns n buf r none gave room =
     at_end (Some xs) (Some ys) all end =
         let is : xs ≡ bytes = all ∙ ap (λ (l : List ℕ). (bytes ++ []) ++ l) end ∙ append-nil (bytes ++ []) ∙ append-nil bytes in
         sym (ap (λ (l : List ℕ). take most l) is ∙ take_all most bytes r.few)
+
+-- ---- an open, and the reads behind it
+
+after_open : (a b c calls : List CallData) (o : CallData) → b ≡ a ++ o ∷ [] → c ≡ b ++ calls → c ≡ a ++ (o ∷ calls)
+after_open a b c calls o first second = second ∙ (ap (λ (l : List CallData). l ++ calls) first ∙ append_assoc a (o ∷ []) calls)
+
+pub opened_read : (a b c : List CallData) (path at : List ℕ) (most : ℕ) (result : Result (Vec ℕ Global) CopyFault) → b ≡ a ++ opened path (Ok true) ∷ []
+    → at ≡ path
+    → MatchResult result (λ bytes. Adds b c (GivesBytes at most bytes.items)) (λ fault. Adds b c (GivesNoBytes at most fault))
+    → MatchResult result (λ bytes. Adds a c (IsRead path most bytes.items)) (λ fault. Adds a c (FailsToRead path most fault))
+opened_read a b c path at most (Ok bytes) first same it =
+    let given : Adds b c (GivesBytes path most bytes.items) = subst (λ (p : List ℕ). Adds b c (GivesBytes p most bytes.items)) same it in
+    (opened path (Ok true) ∷ given.0, after_open a b c given.0 (opened path (Ok true)) first given.1, inr (given.0, refl, given.2))
+opened_read a b c path at most (Err fault) first same it =
+    let none : Adds b c (GivesNoBytes path most fault) = subst (λ (p : List ℕ). Adds b c (GivesNoBytes p most fault)) same it in
+    (opened path (Ok true) ∷ none.0, after_open a b c none.0 (opened path (Ok true)) first none.1, inr (none.0, refl, none.2))
+
+pub nothing_there : (a b : List CallData) (path : List ℕ) (most : ℕ) (bytes : List ℕ) → b ≡ a ++ opened path (Ok false) ∷ [] → bytes ≡ []
+    → Adds a b (IsRead path most bytes)
+nothing_there a b path most bytes first none = (opened path (Ok false) ∷ [], first, inl (refl, none))
+
+pub not_opened : (a b : List CallData) (path : List ℕ) (most : ℕ) (trouble : Trouble) (fault : CopyFault) → b ≡ a ++ opened path (Err trouble) ∷ []
+    → fault ≡ fault_of trouble → Adds a b (FailsToRead path most fault)
+not_opened a b path most trouble fault first told = (opened path (Err trouble) ∷ [], first, inl (trouble, refl, told))

@@ -1,26 +1,19 @@
 -- Tries to read a database: their parts, one after the other.
-use Rattle.std.proofs.Common.{◌≡◌, ◌<◌, ◌≤◌, ◌+◌, ◌∙◌, ℕ, zero, suc, List, [], ◌∷◌, ◌++◌, Option, None, Some, Result, Ok, Err, refl, sym, ap, subst, inl, inr, arith, append-nil, append_assoc}
+use Rattle.std.proofs.Common.{◌≡◌, ◌<◌, ◌≤◌, ◌+◌, ◌∙◌, ℕ, zero, suc, List, [], ◌∷◌, ◌++◌, Option, None, Some, Result, Ok, Err, refl, sym, ap, subst, inl, inr, arith, append-nil, append_assoc, string_bytes}
 use Rattle.ccr_look.specs.declared.copied.Copied.{Copied}
-use Rattle.ccr_look.specs.declared.copied.TheConstants.{MOST_TRIES}
+use Rattle.ccr_look.specs.declared.copied.Names.{Names}
+use Rattle.ccr_look.specs.declared.copied.TheConstants.{HEADER, ALL, MOST_TRIES}
 use Rattle.ccr_look.specs.declared.fault.CopyFault.{CopyFault}
 use Rattle.ccr_look.specs.declared.fault.CopyFault.TheVariants as why
 use Rattle.ccr_look.specs.Calls.{CallData}
 use Rattle.ccr_look.specs.Parts.{Adds, IsRead, FailsToRead}
-use Rattle.ccr_look.specs.Reads.{AreRead, AreVain, CameOf, Copies, Gives, IsCutAt, IsDone, IsNotThere, IsReadInOrder, IsThere, Place, parts_of, place_of}
+use Rattle.ccr_look.specs.Reads.{AreRead, AreVain, CameOf, Copies, Gives, IsCutAt, IsDone, IsNotThere, IsReadInOrder, IsThere, Place, parts_of, place_named, place_of}
 
 -- these calls and then those
 join : (P Q R : List CallData → Type 0) (a b c : List CallData) → ((x y : List CallData) → P x → Q y → R (x ++ y)) → Adds a b P → Adds b c Q
     → Adds a c R
 join P Q R a b c both one two =
     (one.0 ++ two.0, two.1 ∙ (ap (λ (l : List CallData). l ++ two.0) one.1 ∙ append_assoc a one.0 two.0), both one.0 two.0 one.2 two.2)
-
-pub two_calls : (a b c : List CallData) (x y : CallData) → b ≡ a ++ x ∷ [] → c ≡ b ++ y ∷ [] → c ≡ a ++ (x ∷ y ∷ [])
-two_calls a b c x y first second = second ∙ (ap (λ (l : List CallData). l ++ y ∷ []) first ∙ append_assoc a (x ∷ []) (y ∷ []))
-
-pub three_calls : (a b c d : List CallData) (x y z : CallData) → b ≡ a ++ x ∷ [] → c ≡ b ++ y ∷ [] → d ≡ c ++ z ∷ []
-    → d ≡ a ++ (x ∷ y ∷ z ∷ [])
-three_calls a b c d x y z first second third =
-    third ∙ (ap (λ (l : List CallData). l ++ z ∷ []) (two_calls a b c x y first second) ∙ append_assoc a (x ∷ y ∷ []) (z ∷ []))
 
 -- ---- the parts
 
@@ -40,6 +33,58 @@ pub cut_later : (a b c : List CallData) (part : List ℕ × ℕ) (parts : List (
     → Adds a b (IsRead part.0 part.1 bytes) → Adds b c (IsCutAt parts fault) → Adds a c (IsCutAt (part ∷ parts) fault)
 cut_later a b c part parts bytes fault =
     join (IsRead part.0 part.1 bytes) (IsCutAt parts fault) (IsCutAt (part ∷ parts) fault) a b c (λ x y one rest. inr (x, y, bytes, refl, one, rest))
+
+-- the path that was read is that of the names
+read_at : (a b : List CallData) (p q : List ℕ) (most : ℕ) (bytes : List ℕ) → p ≡ q → Adds a b (IsRead p most bytes) → Adds a b (IsRead q most bytes)
+read_at a b p q most bytes same = subst (λ (path : List ℕ). Adds a b (IsRead path most bytes)) same
+
+fails_at : (a b : List CallData) (p q : List ℕ) (most : ℕ) (fault : CopyFault) → p ≡ q → Adds a b (FailsToRead p most fault)
+    → Adds a b (FailsToRead q most fault)
+fails_at a b p q most fault same = subst (λ (path : List ℕ). Adds a b (FailsToRead path most fault)) same
+
+abbrev end_part : Names → List (List ℕ × ℕ)
+end_part n = (string_bytes n.log, HEADER) ∷ []
+
+abbrev log_parts : Names → List (List ℕ × ℕ)
+log_parts n = (string_bytes n.log, ALL) ∷ end_part n
+
+abbrev db_parts : Names → List (List ℕ × ℕ)
+db_parts n = (string_bytes n.db, ALL) ∷ log_parts n
+
+module _ (n : Names) (a b c d e : List CallData) (p q r s : List ℕ) (v w x y : List ℕ) (fault : CopyFault) where
+  pub cut_first : p ≡ string_bytes n.log → Adds a b (FailsToRead p HEADER fault) → Adds a b (IsCutAt (parts_of (place_named n)) fault)
+  cut_first same it = cut_here a b (string_bytes n.log, HEADER) (db_parts n) fault (fails_at a b p (string_bytes n.log) HEADER fault same it)
+
+  pub cut_second : p ≡ string_bytes n.log → q ≡ string_bytes n.db → Adds a b (IsRead p HEADER v) → Adds b c (FailsToRead q ALL fault)
+      → Adds a c (IsCutAt (parts_of (place_named n)) fault)
+  cut_second same₁ same₂ one it =
+      cut_later a b c (string_bytes n.log, HEADER) (db_parts n) v fault (read_at a b p (string_bytes n.log) HEADER v same₁ one)
+      (cut_here b c (string_bytes n.db, ALL) (log_parts n) fault (fails_at b c q (string_bytes n.db) ALL fault same₂ it))
+
+  pub cut_third : p ≡ string_bytes n.log → q ≡ string_bytes n.db → r ≡ string_bytes n.log → Adds a b (IsRead p HEADER v)
+      → Adds b c (IsRead q ALL w) → Adds c d (FailsToRead r ALL fault) → Adds a d (IsCutAt (parts_of (place_named n)) fault)
+  cut_third same₁ same₂ same₃ one two it =
+      cut_later a b d (string_bytes n.log, HEADER) (db_parts n) v fault (read_at a b p (string_bytes n.log) HEADER v same₁ one)
+      (cut_later b c d (string_bytes n.db, ALL) (log_parts n) w fault (read_at b c q (string_bytes n.db) ALL w same₂ two)
+      (cut_here c d (string_bytes n.log, ALL) (end_part n) fault (fails_at c d r (string_bytes n.log) ALL fault same₃ it)))
+
+  pub cut_fourth : p ≡ string_bytes n.log → q ≡ string_bytes n.db → r ≡ string_bytes n.log → s ≡ string_bytes n.log → Adds a b (IsRead p HEADER v)
+      → Adds b c (IsRead q ALL w) → Adds c d (IsRead r ALL x) → Adds d e (FailsToRead s HEADER fault)
+      → Adds a e (IsCutAt (parts_of (place_named n)) fault)
+  cut_fourth same₁ same₂ same₃ same₄ one two three it =
+      cut_later a b e (string_bytes n.log, HEADER) (db_parts n) v fault (read_at a b p (string_bytes n.log) HEADER v same₁ one)
+      (cut_later b c e (string_bytes n.db, ALL) (log_parts n) w fault (read_at b c q (string_bytes n.db) ALL w same₂ two)
+      (cut_later c d e (string_bytes n.log, ALL) (end_part n) x fault (read_at c d r (string_bytes n.log) ALL x same₃ three)
+      (cut_here d e (string_bytes n.log, HEADER) [] fault (fails_at d e s (string_bytes n.log) HEADER fault same₄ it))))
+
+  pub four_read : p ≡ string_bytes n.log → q ≡ string_bytes n.db → r ≡ string_bytes n.log → s ≡ string_bytes n.log → Adds a b (IsRead p HEADER v)
+      → Adds b c (IsRead q ALL w) → Adds c d (IsRead r ALL x) → Adds d e (IsRead s HEADER y)
+      → Adds a e (AreRead (parts_of (place_named n)) (v ∷ w ∷ x ∷ y ∷ []))
+  four_read same₁ same₂ same₃ same₄ one two three four =
+      one_read a b e (string_bytes n.log, HEADER) (db_parts n) v (w ∷ x ∷ y ∷ []) (read_at a b p (string_bytes n.log) HEADER v same₁ one)
+      (one_read b c e (string_bytes n.db, ALL) (log_parts n) w (x ∷ y ∷ []) (read_at b c q (string_bytes n.db) ALL w same₂ two)
+      (one_read c d e (string_bytes n.log, ALL) (end_part n) x (y ∷ []) (read_at c d r (string_bytes n.log) ALL x same₃ three)
+      (one_read d e e (string_bytes n.log, HEADER) [] y [] (read_at d e s (string_bytes n.log) HEADER y same₄ four) (none_read e))))
 
 -- ---- a try
 

@@ -3,6 +3,7 @@ pub mod Left
 pub mod Looks
 pub mod Calls
 pub mod Answers
+pub mod Seen
 pub mod Noted
 pub mod Parts
 pub mod Reads

@@ -60,7 +60,7 @@ abbrev pub IsCutAt : List (List ℕ × ℕ) → CopyFault → List CallData → 
 IsCutAt [] fault calls = ⊥
 IsCutAt (part ∷ parts) fault calls =
     FailsToRead part.0 part.1 fault calls
-    ⊎ ((first rest : List CallData) (bytes : List ℕ) × (calls ≡ first ++ rest) × IsRead part.0 part.1 bytes first × IsCutAt parts fault rest)
+    ⊎ ((first rest : List CallData) × (bytes : List ℕ) × (calls ≡ first ++ rest) × IsRead part.0 part.1 bytes first × IsCutAt parts fault rest)
 
 -- A TRY: the database is there, and then the four parts were read, and gave these bytes
 abbrev pub IsTry : Place → List ℕ → List ℕ → List ℕ → List ℕ → List CallData → Type 0
@@ -108,9 +108,9 @@ IsUnread fault calls = (calls ≡ []) × (fault ≡ why.NoMemory)
 -- nothing is read
 abbrev pub Copies : Place → Result Copied CopyFault → List CallData → Type 0
 Copies p (Ok copied) calls =
-    (n : ℕ) (vain last : List CallData) × (calls ≡ vain ++ last) × (n < MOST_TRIES) × AreVain p n vain × CameOf p (Ok (Some copied)) last
+    (n : ℕ) × (vain last : List CallData) × (calls ≡ vain ++ last) × (n < MOST_TRIES) × AreVain p n vain × CameOf p (Ok (Some copied)) last
 Copies p (Err fault) calls =
-    ((n : ℕ) (vain last : List CallData) × (calls ≡ vain ++ last) × (n < MOST_TRIES) × AreVain p n vain × CameOf p (Err fault) last)
+    ((n : ℕ) × (vain last : List CallData) × (calls ≡ vain ++ last) × (n < MOST_TRIES) × AreVain p n vain × CameOf p (Err fault) last)
     ⊎ ((AreVain p MOST_TRIES calls × (fault ≡ why.Restless)) ⊎ IsUnread fault calls)
 
 -- A DATABASE IS READ AS A LOOK READS: the last calls of its reader are those of a try, which gave these bytes

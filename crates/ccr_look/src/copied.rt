@@ -244,8 +244,10 @@ pub fn copy_with<'a, R: Files>(
 {
     let names = names_of(alloc, path)?;
     for _ in 0..MOST_TRIES {
-        if let Some(copied) = read_once(alloc, reader, path, &names)? {
-            return Ok(copied);
+        match read_once(alloc, reader, path, &names) {
+            Ok(Some(copied)) => return Ok(copied),
+            Ok(None) => {}
+            Err(fault) => return Err(fault),
         }
     }
     Err(CopyFault::Restless)

@@ -2,19 +2,20 @@
 //!
 //! Nothing else of this crate holds the system. That a call is the one that is noted no clause can see: each method makes one, of the
 //! path that it is given.
-ghost use Rattle.std.specs.Prelude.{◌≡◌, ◌++◌, ◌∷◌, [], IfOk, IfSome};
+ghost use Rattle.std.specs.Prelude.{◌≡◌, ◌++◌, ◌∷◌, [], IfOk, IfSome, MatchResult};
 ghost use Rattle.std.specs.Io.{ReadsAtMost};
 ghost use Rattle.std.specs.Io.KnownBytes.{ReadConsumes};
 ghost use Rattle.std.specs.IoError.{error_kind};
 ghost use Rattle.ccr_look.specs.Calls.{looked, opened, read_of};
 ghost use Rattle.ccr_look.specs.Answers.{IsTroubleOf, is_there};
+ghost use Rattle.ccr_look.specs.Seen.{IsMissedAs, IsSeenAs};
 ghost use Rattle.ccr_look.specs.Noted.{noted};
 
 use crate::calls::{Call, Calls, Found, Trouble};
-use std::fs;
 use std::fs::{File, Metadata};
 use std::io::{Error, ErrorKind, Read};
 use std::rt::Files;
+use std::{fs, io};
 
 /// Looks at files, opens and reads them by a runtime `R`, and notes each call with its answer for contracts.
 #[derive(Drop)]
@@ -42,7 +43,9 @@ fn trouble_of(error: &Error) -> Trouble
 }
 
 /// What the system's answer says of a path.
-fn found_of(answer: std::io::Result<Metadata>) -> Found {
+fn found_of(answer: io::Result<Metadata>) -> Found
+    ensures { MatchResult answer (λ seen. IsSeenAs seen result) (λ error. IsMissedAs (error_kind error) result) }
+{
     match answer {
         Ok(found) if found.is_file() => Found::File(found.len()),
         Ok(_) => Found::NoFile,

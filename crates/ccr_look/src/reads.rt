@@ -1,8 +1,9 @@
 //! The bytes of files, from the first on.
-ghost use Rattle.std.specs.Prelude.{◌≡◌, ◌≤◌, ◌-◌, min, IfOk, IfSome, MatchResult, length, take};
+ghost use Rattle.std.specs.Prelude.{◌≡◌, ◌≤◌, ◌<◌, ◌++◌, IfOk, IfErr, IfSome, OnOk, MatchResult, take};
 ghost use Rattle.ccr_look.specs.Answers.{fault_of};
 ghost use Rattle.ccr_look.specs.Noted.{noted};
-ghost use Rattle.ccr_look.specs.Parts.{Adds, FailsToRead, IsRead, GivesBytes, GivesNoBytes};
+ghost use Rattle.ccr_look.specs.Parts.{Adds, FailsToRead, GivesBytes, GivesNoBytes, IsRead};
+ghost use Rattle.ccr_look.specs.declared.reads.TheConstants.{CHUNK};
 
 use crate::calls::Trouble;
 use crate::fault::CopyFault;
@@ -29,9 +30,22 @@ pub(crate) fn fault_of(trouble: Trouble) -> CopyFault
 
 /// How many bytes are asked for next, where so many are still wanted.
 fn next_of(wanted: usize) -> usize
-    ensures { result ≡ min wanted CHUNK }
+    ensures most { result ≤ wanted }
+    ensures fits { result ≤ CHUNK }
+    ensures some { 0 < wanted → 0 < result }
 {
     wanted.min(CHUNK)
+}
+
+/// Adds bytes to others. The only fault is out of memory.
+fn add(bytes: &mut Vec<u8>, more: &[u8]) -> Result<(), CopyFault>
+    ensures added { OnOk result (bytes.new.items ≡ bytes.old.items ++ more.now) }
+    ensures only { IfErr result (λ fault. fault ≡ CopyFault.NoMemory) }
+{
+    match bytes.extend_from_slice(more) {
+        Ok(()) => Ok(()),
+        Err(_) => Err(CopyFault::NoMemory),
+    }
 }
 
 /// The first bytes of a file that was opened, so many at most. An interrupted read is tried again.
@@ -53,13 +67,10 @@ fn read_opened<R: Files>(
             return Ok(bytes);
         }
         let room = next_of(most - bytes.len());
-        match reader.read(from, &mut chunk[..room]) {
+        let part = &mut chunk[..room];
+        match reader.read(from, part) {
             Ok(0) => return Ok(bytes),
-            Ok(count) => {
-                if bytes.extend_from_slice(&chunk[..count]).is_err() {
-                    return Err(CopyFault::NoMemory);
-                }
-            }
+            Ok(count) => add(&mut bytes, &part[..count])?,
             Err(Trouble::Interrupted) => {}
             Err(Trouble::NoMemory) => return Err(CopyFault::NoMemory),
             Err(Trouble::Other) => return Err(CopyFault::Unread),
