@@ -2,7 +2,8 @@
 ghost use Rattle.std.specs.Prelude.{◌≡◌, ◌++◌, ◌∷◌, [], Some, map, codes, IfOk, OnOk};
 ghost use Rattle.serde_json.specs.View.{view, items_view};
 ghost use Rattle.ccr_pipeline.specs.Keys.{data_of, here};
-ghost use Rattle.ccr_pipeline.specs.Faults.{Faults, fault_of};
+ghost use Rattle.ccr_pipeline.specs.Faults.{Faults, Path, fault_of};
+ghost use Rattle.ccr_pipeline.specs.declared.fault.Rule.{Rule};
 ghost use Rattle.ccr_pipeline.specs.JobRules.{resource_faults, members, list_rule, names_in};
 ghost use Rattle.ccr_pipeline.specs.Names.{names_at};
 ghost use Rattle.ccr_faults.specs.Present.{AreFaults};
@@ -113,13 +114,18 @@ pub fn faults_in(alloc: Global, pipeline: &Value) -> Result<Vec<ReadFault>, Allo
     present_in(alloc, pipeline)?.into_faults(alloc)
 }
 
-/// One fault.
+/// A fault alone, unless memory ran out.
 fn alone(alloc: Global, fault: ReadFault) -> Result<Vec<ReadFault>, AllocError>
-    ensures { IfOk result (λ v. map fault_of v.items ≡ fault_of fault ∷ []) }
+    ensures { IfOk result (λ v. (f : Rule × Path) × (fault_of fault ≡ Some f) × (map fault_of v.items ≡ Some f ∷ [])) }
 {
-    let mut faults = Vec::new(alloc);
-    faults.push(fault)?;
-    Ok(faults)
+    match fault {
+        ReadFault::NoMemory => Err(AllocError),
+        told => {
+            let mut faults = Vec::new(alloc);
+            faults.push(told)?;
+            Ok(faults)
+        }
+    }
 }
 
 /// All that is wrong with the text of a pipeline, in the order in which it counts; the first is the one that
@@ -131,7 +137,6 @@ pub fn faults_of(alloc: Global, text: &[u8]) -> Result<Vec<ReadFault>, AllocErro
 {
     match value_of(alloc, text, "pipeline") {
         Ok(value) => faults_in(alloc, &value),
-        Err(ReadFault::NoMemory) => Err(AllocError),
         Err(fault) => alone(alloc, fault),
     }
 }

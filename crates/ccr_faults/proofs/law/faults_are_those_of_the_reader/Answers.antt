@@ -1,5 +1,3 @@
-use Rattle.std.proofs.Common.{codes}
-use Rattle.ccr_pipeline.specs.Reading.{pipeline_faults}
 use Rattle.ccr_faults.proofs.Reading.{refused_first, first_refused, read_none, none_read}
 use Rattle.ccr_faults.proofs.law.faults_are_those_of_the_reader.Goals as goal
 
