@@ -15,7 +15,7 @@ use Rattle.ccr_pipeline.specs.Names.{has_name}
 use Rattle.ccr_pipeline.specs.Tree.{Text}
 use Rattle.ccr_pipeline.specs.JobData.{JobData}
 use Rattle.ccr_findings.specs.declared.finding.Kind.TheVariants.{Cycle}
-use Rattle.ccr_findings.specs.Cycles.{WaitData, waits_in, waits_for, next_of, wait_in_turn, IsCycle, IsFree, cycle_line, TellsCycle, AddsCycle}
+use Rattle.ccr_findings.specs.Cycles.{WaitData, waits_in, waits_for, next_of, wait_in_turn, IsCycle, IsFree, cycle_line, TellsCycle, TellsOf, AddsCycle}
 use Rattle.ccr_findings.specs.Findings.{FindingData, finding}
 use Rattle.ccr_findings.specs.Waits.{is_named, waited, next_in, idle_from, idle_in, place_from, HaveSameCycles}
 
@@ -322,13 +322,6 @@ free_of_none vs h = λ names c. none names ((h names).0 c)
 pub tells_of : (vs ws : List WaitData) (line : Text) → HaveSameCycles vs ws → TellsCycle ws line → TellsCycle vs line
 tells_of vs ws line h t = (t.0, (h t.0).1 t.1, t.2)
 
-pub none_told : (js : List JobData) (ws : List WaitData) (old : List FindingData) → HaveSameCycles (waits_in js) ws → ws ≡ [] → AddsCycle js old old
-none_told js ws old h e = inr (free_of_none (waits_in js) (subst (HaveSameCycles (waits_in js)) e h), refl)
-
-pub one_told : (js : List JobData) (ws : List WaitData) (line : Text) (old new : List FindingData) → HaveSameCycles (waits_in js) ws → TellsCycle ws line
-    → new ≡ old ++ (finding Cycle line ∷ []) → AddsCycle js old new
-one_told js ws line old new h t e = inl (line, tells_of (waits_in js) ws line h t, e)
-
 pub first_named : (ws : List WaitData) (w : WaitData) (rest : List WaitData) → ws ≡ w ∷ rest → is_named ws w.name ≡ true
 first_named ws w rest e = subst (λ l. is_named l w.name ≡ true) (sym e) (or_left (bytes_eq w.name w.name) (is_named rest w.name) (nat_list_eq_equiv.refl w.name))
 
@@ -378,3 +371,33 @@ pub path_short : {A B : Type 0} (f : A → WaitData) (xs : List A) (g : B → Te
 path_short f xs g path name w h =
     let short : length (map g path) + 1 ≤ length (map f xs) = walk_short (map f xs) name (map g path) w h in
     omega (arith, map_long g path, map_long f xs)
+
+pub walk_first : {B : Type 0} (ws : List WaitData) (g : B → Text) (path : List B) (name : Text) → path ≡ [] → is_named ws name ≡ true → Walks ws name (map g path)
+walk_first ws g path name e h = subst (λ l. Walks ws name (map g l)) (sym e) (walk_begins ws name h)
+
+pub keeps_by : {A : Type 0} (f : A → WaitData) (us : List WaitData) (xs ys : List A) (i : ℕ) → ys ≡ remove xs i → HaveSameCycles us (map f xs)
+    → idle_in (map f xs) ≡ Some i → HaveSameCycles us (map f ys)
+keeps_by f us xs ys i e h k = subst (λ l. HaveSameCycles us (map f l)) (sym e) (keeps_cycles f us xs i h k)
+
+pub path_by : {B : Type 0} (ws : List WaitData) (g : B → Text) (path more : List B) (x : B) (name next : Text) → more ≡ path ++ (x ∷ []) → Walks ws name (map g path)
+    → place_from 0 name (map g path) ≡ None → next_in ws ws name ≡ Some next → g x ≡ name → Walks ws next (map g more)
+path_by ws g path more x name next f w h n e = subst (λ l. Walks ws next (map g l)) (sym f) (path_on ws g path x name next w h n e)
+
+pub path_smaller : {A B : Type 0} (f : A → WaitData) (xs : List A) (g : B → Text) (path more : List B) (x : B) (name : Text) → more ≡ path ++ (x ∷ [])
+    → Walks (map f xs) name (map g path) → place_from 0 name (map g path) ≡ None → length xs - length more < length xs - length path
+path_smaller f xs g path more x name e w h =
+    let short : length path + 1 ≤ length xs = path_short f xs g path name w h in
+    omega (arith, ap length e, length-append path (x ∷ []))
+
+pub tells_none : (us vs ws : List WaitData) → vs ≡ us → HaveSameCycles vs ws → ws ≡ [] → TellsOf us None
+tells_none us vs ws e h none = subst IsFree e (free_of_none vs (subst (HaveSameCycles vs) none h))
+
+pub tells_some : (us vs ws : List WaitData) (line : Text) → vs ≡ us → HaveSameCycles vs ws → TellsCycle ws line → TellsOf us (Some line)
+tells_some us vs ws line e h t = subst (λ l. TellsCycle l line) e (tells_of vs ws line h t)
+
+pub told_none : (js : List JobData) (old new : List FindingData) → TellsOf (waits_in js) None → new ≡ old → AddsCycle js old new
+told_none js old new t e = inr (t, e)
+
+pub told_some : (js : List JobData) (line : Text) (old new : List FindingData) → TellsOf (waits_in js) (Some line) → new ≡ old ++ (finding Cycle line ∷ [])
+    → AddsCycle js old new
+told_some js line old new t e = inl (line, t, e)
