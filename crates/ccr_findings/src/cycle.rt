@@ -134,7 +134,9 @@ fn line_from(alloc: Global, first: &str, others: &[String]) -> Result<String, Al
 {
     let others = others_words(alloc, others)?;
     let others = others.as_str();
-    format!(in alloc; "cycle {first}{others}: each waits for the next by passed, and the last for the first")
+    format!(in alloc;
+        "cycle {first}{others}: each waits for the next by passed, and the last for the first"
+    )
 }
 
 /// The line of jobs that wait for each other.

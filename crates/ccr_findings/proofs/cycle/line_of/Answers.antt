@@ -20,7 +20,7 @@ returns-in-Some c =
 pub unreachable-requires : goal.unreachable-requires
 unreachable-requires c =
     let none : next_in (map waiter_data c.args.waiters.now) (map waiter_data c.args.waiters.now) c.loop-from.name.now ≡ None =
-        sym c.next_of.ensures ∙ ap (λ (o : Option (Bor (List ℕ))). option_map (λ (n : Bor (List ℕ)). n.now) o) c.in-None.is in
+    sym c.next_of.ensures ∙ ap (λ (o : Option (Bor (List ℕ))). option_map (λ (n : Bor (List ℕ)). n.now) o) c.in-None.is in
     goes_on (map waiter_data c.args.waiters.now) 0 (map waiter_data c.args.waiters.now) c.loop-from.name.now c.requires.stuck c.loop-from.invariant.walks.known none
 
 pub loop-from-smaller : goal.loop-from-smaller
@@ -32,7 +32,7 @@ pub loop-from-preserved : goal.loop-from-preserved
 loop-from-preserved c =
     let apart : place_from 0 c.loop-from.name.now (map string_bytes c.loop-from.path.items) ≡ None = cc in
     let after : next_in (map waiter_data c.args.waiters.now) (map waiter_data c.args.waiters.now) c.loop-from.name.now ≡ Some c.in-Some-next_of.next.now =
-        sym c.next_of.ensures ∙ ap (λ (o : Option (Bor (List ℕ))). option_map (λ (n : Bor (List ℕ)). n.now) o) c.in-Some-next_of.is in
+    sym c.next_of.ensures ∙ ap (λ (o : Option (Bor (List ℕ))). option_map (λ (n : Bor (List ℕ)). n.now) o) c.in-Some-next_of.is in
     record {
       text = search rules;
       walks = path_by (map waiter_data c.args.waiters.now) string_bytes c.loop-from.path.items c.push.new.self.items c.in_ok-from_str.field-0 c.loop-from.name.now c.in-Some-next_of.next.now c.in_ok-push.ensures.items c.loop-from.invariant.walks apart after c.in_ok-from_str.ensures.ok;
