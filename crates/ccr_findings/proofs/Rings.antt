@@ -15,7 +15,7 @@ use Rattle.ccr_pipeline.specs.Names.{has_name}
 use Rattle.ccr_pipeline.specs.Tree.{Text}
 use Rattle.ccr_pipeline.specs.JobData.{JobData}
 use Rattle.ccr_findings.specs.declared.finding.Kind.TheVariants.{Cycle}
-use Rattle.ccr_findings.specs.Cycles.{WaitData, waits_in, waits_for, next_of, wait_in_turn, IsCycle, IsFree, cycle_line, TellsCycle, AddsCycle}
+use Rattle.ccr_findings.specs.Cycles.{WaitData, waits_in, waits_for, next_of, wait_in_turn, IsCycle, IsFree, cycle_line, TellsCycle, TellsOf, AddsCycle}
 use Rattle.ccr_findings.specs.Findings.{FindingData, finding}
 use Rattle.ccr_findings.specs.Waits.{is_named, waited, next_in, idle_from, idle_in, place_from, HaveSameCycles}
 
@@ -40,8 +40,9 @@ waits_named : (ws : List WaitData) (a b : Text) → waits_for ws a b ≡ true �
 waits_named [] a b h = cc
 waits_named (w ∷ ws) a b h =
     elim (or_cases (bytes_eq w.name a && has_name w.waits b) (waits_for ws a b) h) [
-      inl p ↦ or_left (bytes_eq w.name a) (is_named ws a) (both (bytes_eq w.name a) (has_name w.waits b) p).0
-    | inr q ↦ or_right (bytes_eq w.name a) (is_named ws a) (waits_named ws a b q) ]
+      | inl p ↦ or_left (bytes_eq w.name a) (is_named ws a) (both (bytes_eq w.name a) (has_name w.waits b) p).0
+      | inr q ↦ or_right (bytes_eq w.name a) (is_named ws a) (waits_named ws a b q)
+    ]
 
 -- the head of those that wait in turn has one
 head_named : (ws : List WaitData) (first name : Text) (names : List Text) → wait_in_turn ws first (name ∷ names) ≡ true → is_named ws name ≡ true
@@ -81,27 +82,31 @@ skips : (pre : List WaitData) (w : WaitData) (post : List WaitData) (a b : Text)
     → waits_for (pre ++ (w ∷ post)) a b ≡ true → waits_for (pre ++ post) a b ≡ true
 skips [] w post a b none h =
     elim (or_cases (bytes_eq w.name a && has_name w.waits b) (waits_for post a b) h) [
-      inl p ↦ (let e = (both (bytes_eq w.name a) (has_name w.waits b) p).1 in cc)
-    | inr q ↦ q ]
+      | inl p ↦ (let e = (both (bytes_eq w.name a) (has_name w.waits b) p).1 in cc)
+      | inr q ↦ q
+    ]
 skips (v ∷ pre) w post a b none h =
     elim (or_cases (bytes_eq v.name a && has_name v.waits b) (waits_for (pre ++ (w ∷ post)) a b) h) [
-      inl p ↦ or_left (bytes_eq v.name a && has_name v.waits b) (waits_for (pre ++ post) a b) p
-    | inr q ↦ or_right (bytes_eq v.name a && has_name v.waits b) (waits_for (pre ++ post) a b) (skips pre w post a b none q) ]
+      | inl p ↦ or_left (bytes_eq v.name a && has_name v.waits b) (waits_for (pre ++ post) a b) p
+      | inr q ↦ or_right (bytes_eq v.name a && has_name v.waits b) (waits_for (pre ++ post) a b) (skips pre w post a b none q)
+    ]
 
 adds : (pre : List WaitData) (w : WaitData) (post : List WaitData) (a b : Text) → waits_for (pre ++ post) a b ≡ true
     → waits_for (pre ++ (w ∷ post)) a b ≡ true
 adds [] w post a b h = or_right (bytes_eq w.name a && has_name w.waits b) (waits_for post a b) h
 adds (v ∷ pre) w post a b h =
     elim (or_cases (bytes_eq v.name a && has_name v.waits b) (waits_for (pre ++ post) a b) h) [
-      inl p ↦ or_left (bytes_eq v.name a && has_name v.waits b) (waits_for (pre ++ (w ∷ post)) a b) p
-    | inr q ↦ or_right (bytes_eq v.name a && has_name v.waits b) (waits_for (pre ++ (w ∷ post)) a b) (adds pre w post a b q) ]
+      | inl p ↦ or_left (bytes_eq v.name a && has_name v.waits b) (waits_for (pre ++ (w ∷ post)) a b) p
+      | inr q ↦ or_right (bytes_eq v.name a && has_name v.waits b) (waits_for (pre ++ (w ∷ post)) a b) (adds pre w post a b q)
+    ]
 
 without : (pre : List WaitData) (w : WaitData) (post : List WaitData) → waited (pre ++ (w ∷ post)) w.waits ≡ None
     → HaveSameCycles (pre ++ (w ∷ post)) (pre ++ post)
 without pre w post none = λ names. (
-    cycle_by (pre ++ (w ∷ post)) (pre ++ post) names
-    (λ a b. λ h k. skips pre w post a b (not_waited (pre ++ (w ∷ post)) w.waits b none k) h),
-    cycle_by (pre ++ post) (pre ++ (w ∷ post)) names (λ a b. λ h k. adds pre w post a b h))
+  cycle_by (pre ++ (w ∷ post)) (pre ++ post) names
+      (λ a b. λ h k. skips pre w post a b (not_waited (pre ++ (w ∷ post)) w.waits b none k) h),
+  cycle_by (pre ++ post) (pre ++ (w ∷ post)) names (λ a b. λ h k. adds pre w post a b h),
+)
 
 -- where such a job is
 pub record Idle (all ws : List WaitData) (i k : ℕ) : Type 0 where
@@ -174,6 +179,7 @@ next_is all (w ∷ ws) a b h = by (λ k. later (next_is all ws a b k)) (bytes_eq
   where
     later : (waits_for ws a b ≡ true) × (is_named all b ≡ true) → (waits_for (w ∷ ws) a b ≡ true) × (is_named all b ≡ true)
     later it = (or_right (bytes_eq w.name a && has_name w.waits b) (waits_for ws a b) it.0, it.1)
+
     by : (next_in all ws a ≡ Some b → (waits_for (w ∷ ws) a b ≡ true) × (is_named all b ≡ true)) → (t : Bool) → bytes_eq w.name a ≡ t → (o : Option Text) → waited all w.waits ≡ o
         → (if t then option_or o (next_in all ws a) else next_in all ws a) ≡ Some b → (waits_for (w ∷ ws) a b ≡ true) × (is_named all b ≡ true)
     by more true e None f k = more k
@@ -191,10 +197,12 @@ goes_on all i (w ∷ ws) a h k n = by (λ none q m. goes_on all (i + 1) ws a non
     off true None e = e
     off true (Some b) e = cc
     off false o e = e
+
     on : (o : Option Text) (b : Text) → o ≡ Some b → (t : Bool) → t ≡ true → (if t then option_or o (next_in all ws a) else next_in all ws a) ≡ None → ⊥
     on None b f t e k = cc
     on (Some c) b f true e k = cc
     on (Some c) b f false e k = cc
+
     by : (idle_from all (i + 1) ws ≡ None → is_named ws a ≡ true → next_in all ws a ≡ None → ⊥) → (o : Option Text) → waited all w.waits ≡ o
         → (if is_some o then idle_from all (i + 1) ws else Some i) ≡ None
         → (bytes_eq w.name a ≡ true) ⊎ (is_named ws a ≡ true) → ⊥
@@ -217,15 +225,17 @@ turn_named : (ws : List WaitData) (name : Text) (path : List Text) (q : Text) �
 turn_named ws name [] q h k = cc
 turn_named ws name (n ∷ ns) q h k =
     elim (or_cases (bytes_eq q n) (list_any (bytes_eq q) ns) k) [
-      inl p ↦ subst (λ m. is_named ws m ≡ true) (sym ((bytes_eq-Decides q n).0 p)) (head_named ws name n ns h)
-    | inr r ↦ turn_named ws name ns q (both (waits_for ws n (next_of name ns)) (wait_in_turn ws name ns) h).1 r ]
+      | inl p ↦ subst (λ m. is_named ws m ≡ true) (sym ((bytes_eq-Decides q n).0 p)) (head_named ws name n ns h)
+      | inr r ↦ turn_named ws name ns q (both (waits_for ws n (next_of name ns)) (wait_in_turn ws name ns) h).1 r
+    ]
 
 named_is : (ws : List WaitData) (q : Text) → is_named ws q ≡ true → list_any (bytes_eq q) (map (λ w. w.name) ws) ≡ true
 named_is [] q h = cc
 named_is (w ∷ ws) q h =
     elim (or_cases (bytes_eq w.name q) (is_named ws q) h) [
-      inl p ↦ or_left (bytes_eq q w.name) _ (nat_list_eq_equiv.symm q w.name ∙ p)
-    | inr r ↦ or_right (bytes_eq q w.name) _ (named_is ws q r) ]
+      | inl p ↦ or_left (bytes_eq q w.name) _ (nat_list_eq_equiv.symm q w.name ∙ p)
+      | inr r ↦ or_right (bytes_eq q w.name) _ (named_is ws q r)
+    ]
 
 -- what holds along a path to a name
 pub record Walks (ws : List WaitData) (name : Text) (path : List Text) : Type 0 where
@@ -258,8 +268,9 @@ any_end : (q name : Text) (path : List Text) → list_any (bytes_eq q) (path ++ 
 any_end q name [] h = elim (or_cases (bytes_eq q name) false h) [ inl p ↦ inr p | inr r ↦ cc ]
 any_end q name (n ∷ ns) h =
     elim (or_cases (bytes_eq q n) (list_any (bytes_eq q) (ns ++ (name ∷ []))) h) [
-      inl p ↦ inl (or_left (bytes_eq q n) _ p)
-    | inr r ↦ elim (any_end q name ns r) [ inl p ↦ inl (or_right (bytes_eq q n) _ p) | inr p ↦ inr p ] ]
+      | inl p ↦ inl (or_left (bytes_eq q n) _ p)
+      | inr r ↦ elim (any_end q name ns r) [ inl p ↦ inl (or_right (bytes_eq q n) _ p) | inr p ↦ inr p ]
+    ]
 
 as_many : (ws : List WaitData) → length (map (λ (w : WaitData). w.name) ws) ≡ length ws
 as_many [] = refl
@@ -269,10 +280,11 @@ pub walk_short : (ws : List WaitData) (name : Text) (path : List Text) → Walks
 walk_short ws name path w h =
     let all = map (λ (w : WaitData). w.name) ws in
     let fits : length (path ++ (name ∷ [])) ≤ length all =
-        length-le_from_is_member nat_list_eq_equiv (path ++ (name ∷ [])) all (walk_apart ws name path w h)
-        (λ q k. named_is ws q (elim (any_end q name path k) [
-          inl p ↦ turn_named ws name path q w.turn p
-        | inr p ↦ subst (λ m. is_named ws m ≡ true) (sym ((bytes_eq-Decides q name).0 p)) w.known ])) in
+    length-le_from_is_member nat_list_eq_equiv (path ++ (name ∷ [])) all (walk_apart ws name path w h)
+    (λ q k. named_is ws q (elim (any_end q name path k) [
+      | inl p ↦ turn_named ws name path q w.turn p
+      | inr p ↦ subst (λ m. is_named ws m ≡ true) (sym ((bytes_eq-Decides q name).0 p)) w.known
+    ])) in
     omega (arith, fits, length-append path (name ∷ []), as_many ws)
 
 -- ---- a name that comes again
@@ -321,13 +333,6 @@ free_of_none vs h = λ names c. none names ((h names).0 c)
 
 pub tells_of : (vs ws : List WaitData) (line : Text) → HaveSameCycles vs ws → TellsCycle ws line → TellsCycle vs line
 tells_of vs ws line h t = (t.0, (h t.0).1 t.1, t.2)
-
-pub none_told : (js : List JobData) (ws : List WaitData) (old : List FindingData) → HaveSameCycles (waits_in js) ws → ws ≡ [] → AddsCycle js old old
-none_told js ws old h e = inr (free_of_none (waits_in js) (subst (HaveSameCycles (waits_in js)) e h), refl)
-
-pub one_told : (js : List JobData) (ws : List WaitData) (line : Text) (old new : List FindingData) → HaveSameCycles (waits_in js) ws → TellsCycle ws line
-    → new ≡ old ++ (finding Cycle line ∷ []) → AddsCycle js old new
-one_told js ws line old new h t e = inl (line, tells_of (waits_in js) ws line h t, e)
 
 pub first_named : (ws : List WaitData) (w : WaitData) (rest : List WaitData) → ws ≡ w ∷ rest → is_named ws w.name ≡ true
 first_named ws w rest e = subst (λ l. is_named l w.name ≡ true) (sym e) (or_left (bytes_eq w.name w.name) (is_named rest w.name) (nat_list_eq_equiv.refl w.name))
@@ -378,3 +383,33 @@ pub path_short : {A B : Type 0} (f : A → WaitData) (xs : List A) (g : B → Te
 path_short f xs g path name w h =
     let short : length (map g path) + 1 ≤ length (map f xs) = walk_short (map f xs) name (map g path) w h in
     omega (arith, map_long g path, map_long f xs)
+
+pub walk_first : {B : Type 0} (ws : List WaitData) (g : B → Text) (path : List B) (name : Text) → path ≡ [] → is_named ws name ≡ true → Walks ws name (map g path)
+walk_first ws g path name e h = subst (λ l. Walks ws name (map g l)) (sym e) (walk_begins ws name h)
+
+pub keeps_by : {A : Type 0} (f : A → WaitData) (us : List WaitData) (xs ys : List A) (i : ℕ) → ys ≡ remove xs i → HaveSameCycles us (map f xs)
+    → idle_in (map f xs) ≡ Some i → HaveSameCycles us (map f ys)
+keeps_by f us xs ys i e h k = subst (λ l. HaveSameCycles us (map f l)) (sym e) (keeps_cycles f us xs i h k)
+
+pub path_by : {B : Type 0} (ws : List WaitData) (g : B → Text) (path more : List B) (x : B) (name next : Text) → more ≡ path ++ (x ∷ []) → Walks ws name (map g path)
+    → place_from 0 name (map g path) ≡ None → next_in ws ws name ≡ Some next → g x ≡ name → Walks ws next (map g more)
+path_by ws g path more x name next f w h n e = subst (λ l. Walks ws next (map g l)) (sym f) (path_on ws g path x name next w h n e)
+
+pub path_smaller : {A B : Type 0} (f : A → WaitData) (xs : List A) (g : B → Text) (path more : List B) (x : B) (name : Text) → more ≡ path ++ (x ∷ [])
+    → Walks (map f xs) name (map g path) → place_from 0 name (map g path) ≡ None → length xs - length more < length xs - length path
+path_smaller f xs g path more x name e w h =
+    let short : length path + 1 ≤ length xs = path_short f xs g path name w h in
+    omega (arith, ap length e, length-append path (x ∷ []))
+
+pub tells_none : (us vs ws : List WaitData) → vs ≡ us → HaveSameCycles vs ws → ws ≡ [] → TellsOf us None
+tells_none us vs ws e h none = subst IsFree e (free_of_none vs (subst (HaveSameCycles vs) none h))
+
+pub tells_some : (us vs ws : List WaitData) (line : Text) → vs ≡ us → HaveSameCycles vs ws → TellsCycle ws line → TellsOf us (Some line)
+tells_some us vs ws line e h t = subst (λ l. TellsCycle l line) e (tells_of vs ws line h t)
+
+pub told_none : (js : List JobData) (old new : List FindingData) → TellsOf (waits_in js) None → new ≡ old → AddsCycle js old new
+told_none js old new t e = inr (t, e)
+
+pub told_some : (js : List JobData) (line : Text) (old new : List FindingData) → TellsOf (waits_in js) (Some line) → new ≡ old ++ (finding Cycle line ∷ [])
+    → AddsCycle js old new
+told_some js line old new t e = inl (line, t, e)

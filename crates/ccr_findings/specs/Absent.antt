@@ -58,7 +58,7 @@ abbrev pub is_given : GivenData → Text × Bool → Bool
 is_given g i = i.1 || (g.whatever || has_name g.names i.0)
 
 -- the finding of a task's input that isn't optional and can't have been given
-abbrev pub absent_input : Text → Text → GivenData → Text × Bool → List FindingData
+unfoldable pub absent_input : Text → Text → GivenData → Text × Bool → List FindingData
 absent_input job name g i = if is_given g i then [] else finding Absent (absent_line job name i.0) ∷ []
 
 -- those of a task's inputs

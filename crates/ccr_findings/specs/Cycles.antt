@@ -65,6 +65,11 @@ TellsCycle ws line = (names : List Text) × IsCycle ws names × (line ≡ cycle_
 abbrev pub IsFree : List WaitData → Type 0
 IsFree ws = (names : List Text) → ¬ IsCycle ws names
 
+-- what is told of jobs: a line of some that wait for each other; or nothing, and none do
+abbrev pub TellsOf : List WaitData → Option Text → Type 0
+TellsOf ws None = IsFree ws
+TellsOf ws (Some line) = TellsCycle ws line
+
 -- WHAT IS TOLD OF THEM, by the findings before and after: a line of jobs that wait for each other; or none, and no jobs do
 abbrev pub AddsCycle : List JobData → List FindingData → List FindingData → Type 0
 AddsCycle js old new =

@@ -123,8 +123,11 @@ never_in js r p i no_items = []
 never_in js r p i (item d ds) = or_else (as_str d) [] (never_at js r (path_at p i)) ++ never_in js r p (i + 1) ds
 
 -- the finding of a passed that names no job
+abbrev pub empty_finding : Path → FindingData
+empty_finding p = finding Empty (codes "empty " ++ (p ++ codes ": no gate"))
+
 abbrev pub empty_at : Path → Items → List FindingData
-empty_at p no_items = finding Empty (codes "empty " ++ (p ++ codes ": no gate")) ∷ []
+empty_at p no_items = empty_finding p ∷ []
 empty_at p (item d ds) = []
 
 -- the jobs that stand there: null names none

@@ -108,7 +108,7 @@ fn absent_line(alloc: Global, job: &str, task: &str, input: &str) -> Result<Stri
 }
 
 /// Adds the finding of a task's input, if it isn't optional and can't have been given.
-#[tactic(auto, using(crate::proofs::Lists::and_none))]
+#[tactic(auto, using(crate::proofs::Lists::and_none), unfolding(crate::specs::Absent::absent_input))]
 fn find_input(
     alloc: Global,
     out: &mut Findings,

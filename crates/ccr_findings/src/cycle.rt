@@ -1,9 +1,9 @@
 //! Jobs that wait for each other.
-ghost use Rattle.std.specs.Prelude.{◌≡◌, ◌++◌, None, IsTrue, codes, map, option_map, string_bytes, IfOk, OnOk};
+ghost use Rattle.std.specs.Prelude.{◌≡◌, ◌<◌, ◌≤◌, [], ◌∷◌, ◌++◌, length, drop, None, IfSome, IsTrue, MatchOption, codes, map, option_map, string_bytes, IfOk, OnOk};
 ghost use Rattle.std.specs.List.{flat_map};
 ghost use Rattle.ccr_pipeline.specs.JobData.{job_data};
 ghost use Rattle.ccr_findings.specs.Cycles as spec;
-ghost use Rattle.ccr_findings.specs.Cycles.{AddsCycle, TellsCycle, waiter_data, wait_of, waits_in};
+ghost use Rattle.ccr_findings.specs.Cycles.{AddsCycle, TellsCycle, TellsOf, waiter_data, wait_of, waits_in};
 ghost use Rattle.ccr_findings.specs.Findings.{findings_data};
 ghost use Rattle.ccr_findings.specs.Waits as search;
 ghost use Rattle.ccr_findings.specs.Waits.{HaveSameCycles, idle_in, is_named};
@@ -71,7 +71,8 @@ fn next_of<'w>(waiters: &'w [Waiter], name: &str) -> Option<&'w str>
 
 /// Where the first of the jobs is that waits for none of them.
 fn idle_at(waiters: &[Waiter]) -> Option<usize>
-    ensures { result ≡ idle_in (map waiter_data waiters.now) }
+    ensures first { result ≡ idle_in (map waiter_data waiters.now) }
+    ensures within { IfSome result (λ i. i < length waiters.now) }
 {
     for (i, waiter) in waiters.iter().enumerate() {
         if waited(waiters, &waiter.waits).is_none() {
@@ -93,7 +94,8 @@ fn trim(waiters: &mut Vec<Waiter>)
 
 /// Where a name is among names.
 fn place_of(names: &[String], name: &str) -> Option<usize>
-    ensures { result ≡ search.place_from 0 name.now (map string_bytes names.now) }
+    ensures first { result ≡ search.place_from 0 name.now (map string_bytes names.now) }
+    ensures within { IfSome result (λ i. i < length names.now) }
 {
     for (i, known) in names.iter().enumerate() {
         if known.as_str() == name {
@@ -116,19 +118,44 @@ fn add_others(line: &mut String, others: &[String]) -> Result<(), AllocError>
     Ok(())
 }
 
+/// The names of further jobs, each behind a comma.
+fn others_words(alloc: Global, others: &[String]) -> Result<String, AllocError>
+    ensures { IfOk result (λ words. string_bytes words
+        ≡ flat_map (λ other. codes ", " ++ other) (map string_bytes others.now)) }
+{
+    let mut words = String::new(alloc);
+    add_others(&mut words, others)?;
+    Ok(words)
+}
+
+/// The line of jobs that wait for each other, of which this one is the first.
+fn line_from(alloc: Global, first: &str, others: &[String]) -> Result<String, AllocError>
+    ensures { IfOk result (λ line. string_bytes line ≡ spec.cycle_line (first.now ∷ map string_bytes others.now)) }
+{
+    let others = others_words(alloc, others)?;
+    let others = others.as_str();
+    format!(in alloc;
+        "cycle {first}{others}: each waits for the next by passed, and the last for the first"
+    )
+}
+
 /// The line of jobs that wait for each other.
-#[tactic(auto, using(std::proofs::Common::append_assoc))]
 fn cycle_line(alloc: Global, names: &[String]) -> Result<String, AllocError>
     ensures { IfOk result (λ line. string_bytes line ≡ spec.cycle_line (map string_bytes names.now)) }
 {
-    let Some((first, others)) = names.split_first() else {
-        return Ok(String::new(alloc));
-    };
-    let mut line = String::from_str(alloc, "cycle ")?;
-    line.push_str(first.as_str())?;
-    add_others(&mut line, others)?;
-    line.push_str(": each waits for the next by passed, and the last for the first")?;
-    Ok(line)
+    match names.split_first() {
+        Some((first, others)) => line_from(alloc, first.as_str(), others),
+        None => Ok(String::new(alloc)),
+    }
+}
+
+/// That of names from a position on.
+fn end_line(alloc: Global, names: &[String], from: usize) -> Result<String, AllocError>
+    requires { from ≤ length names.now }
+    ensures { IfOk result
+        (λ line. string_bytes line ≡ spec.cycle_line (map string_bytes (drop from names.now))) }
+{
+    cycle_line(alloc, &names[from..])
 }
 
 /// The line of jobs that wait for each other, among jobs each of which waits for one of them: from one of them on always
@@ -142,7 +169,8 @@ fn line_of(alloc: Global, waiters: &[Waiter], start: &str) -> Result<String, All
     let mut name = start;
     loop {
         if let Some(from) = place_of(&path, name) {
-            return cycle_line(alloc, &path[from..]);
+            let line = end_line(alloc, &path, from)?;
+            return Ok(line);
         }
         path.push(String::from_str(alloc, name)?)?;
         name = match next_of(waiters, name) {
@@ -152,18 +180,43 @@ fn line_of(alloc: Global, waiters: &[Waiter], start: &str) -> Result<String, All
     }
 }
 
+/// The name of the first of the jobs.
+#[tactic(auto, using(crate::proofs::Rings::first_named))]
+fn start_of(waiters: &[Waiter]) -> Option<&str>
+    ensures { MatchOption result (map waiter_data waiters.now ≡ [])
+        (λ name. IsTrue (is_named (map waiter_data waiters.now) name.now)) }
+{
+    match waiters.split_first() {
+        Some((first, _)) => Some(first.name.as_str()),
+        None => None,
+    }
+}
+
+/// The line of jobs that wait for each other, exactly if there are such.
+#[tactic(auto, using(crate::proofs::Rings::tells_none, crate::proofs::Rings::tells_some))]
+fn line_in(alloc: Global, jobs: &[Job]) -> Result<Option<String>, AllocError>
+    ensures { IfOk result (λ o. TellsOf (waits_in (map job_data jobs.now)) (option_map string_bytes o)) }
+{
+    let mut waiters = waiters_of(alloc, jobs)?;
+    trim(&mut waiters);
+    match start_of(&waiters) {
+        Some(start) => {
+            let line = line_of(alloc, &waiters, start)?;
+            Ok(Some(line))
+        }
+        None => Ok(None),
+    }
+}
+
 /// Adds the finding of jobs that wait for each other, exactly if there are such.
+#[tactic(auto, using(crate::proofs::Rings::told_none, crate::proofs::Rings::told_some))]
 pub(crate) fn find_cycle(alloc: Global, out: &mut Findings, jobs: &[Job]) -> Result<(), AllocError>
     ensures { OnOk result (AddsCycle (map job_data jobs.now)
         (findings_data out.old.items) (findings_data out.new.items)) }
 {
-    let mut waiters = waiters_of(alloc, jobs)?;
-    trim(&mut waiters);
-    let Some(first) = waiters.first() else {
-        return Ok(());
-    };
-    let line = line_of(alloc, &waiters, first.name.as_str())?;
-    let kind = Kind::Cycle;
-    out.push(Finding { kind, line })?;
+    if let Some(line) = line_in(alloc, jobs)? {
+        let kind = Kind::Cycle;
+        out.push(Finding { kind, line })?;
+    }
     Ok(())
 }

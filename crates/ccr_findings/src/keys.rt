@@ -136,13 +136,7 @@ fn strayed_key(alloc: Global, path: &str) -> Result<Finding, AllocError>
 
 /// Adds that of a key of the object at a path.
 #[tactic(auto, using(crate::proofs::Lists::and_none))]
-fn find_stray(
-    alloc: Global,
-    out: &mut Findings,
-    path: &str,
-    key: &str,
-    value: &Value,
-) -> Found
+fn find_stray(alloc: Global, out: &mut Findings, path: &str, key: &str, value: &Value) -> Found
     ensures { OnOk result (findings_data out.new.items
         ≡ findings_data out.old.items ++ spec.strayed_at path.now key.now (view value.now)) }
 {

@@ -1,5 +1,5 @@
 //! Jobs in `passed` that never get or put the resource, and a `passed` without jobs.
-ghost use Rattle.std.specs.Prelude.{◌≡◌, ◌++◌, map, option_map, OnOk};
+ghost use Rattle.std.specs.Prelude.{◌≡◌, ◌∷◌, ◌++◌, [], map, option_map, OnOk};
 ghost use Rattle.serde_json.specs.View.{view, items_view};
 ghost use Rattle.ccr_pipeline.specs.JobData.{job_data};
 ghost use Rattle.ccr_pipeline.specs.Tree.{tree_of, trees_of};
@@ -101,7 +101,18 @@ fn find_in_passed(
 }
 
 /// Adds the finding of a `passed` that names no job.
-#[tactic(auto, using(crate::proofs::Lists::and_none))]
+fn add_empty(alloc: Global, out: &mut Findings, path: &str) -> Found
+    ensures { OnOk result (findings_data out.new.items
+        ≡ findings_data out.old.items ++ spec.empty_finding path.now ∷ []) }
+{
+    let line = format!(in alloc; "empty {path}: no gate")?;
+    let kind = Kind::Empty;
+    out.push(Finding { kind, line })?;
+    Ok(())
+}
+
+/// Adds it, if the list is empty.
+#[tactic(auto, using(crate::proofs::Lists::and_none, crate::proofs::Strays::empty_on))]
 fn find_empty(alloc: Global, out: &mut Findings, path: &str, list: &[Value]) -> Found
     ensures { OnOk result (findings_data out.new.items
         ≡ findings_data out.old.items ++ empty_at path.now (items_view list.now)) }
@@ -109,9 +120,7 @@ fn find_empty(alloc: Global, out: &mut Findings, path: &str, list: &[Value]) -> 
     match list.split_first() {
         Some(_) => Ok(()),
         None => {
-            let line = format!(in alloc; "empty {path}: no gate")?;
-            let kind = Kind::Empty;
-            out.push(Finding { kind, line })?;
+            add_empty(alloc, out, path)?;
             Ok(())
         }
     }
