@@ -5,21 +5,23 @@
 //! finds in them, stands in `specs/`.
 #![tactic(auto)]
 
+mod calls;
 mod copied;
 mod fault;
 mod found;
 mod law;
 mod looking;
+mod noted;
 mod opened;
 mod reads;
 mod scratch;
 
-pub use copied::{Copied, copy};
+pub use copied::{Copied, copy, copy_with};
 pub use fault::CopyFault;
 pub use law::{
     a_first_run_leaves_nothing, a_look_finds_what_is_left, runs_are_one_list,
     what_is_begun_is_taken, what_is_left_is_taken,
 };
 pub use looking::look;
-pub use reads::FileBytes;
+pub use noted::Reader;
 pub use scratch::Scratch;

@@ -7,3 +7,4 @@ pub mod Ordering
 pub mod Serving
 pub mod Told
 pub mod Walks
+pub mod Writing

@@ -14,3 +14,4 @@ pub mod Orders
 pub mod Refusals
 pub mod Served
 pub mod Statuses
+pub mod Writers

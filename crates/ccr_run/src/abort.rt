@@ -3,18 +3,21 @@ ghost use Rattle.std.specs.Prelude.{◌≡◌, ◌≤◌, ◌++◌, [], None, tr
 ghost use Rattle.ccr_pipeline.specs.Kinds.{is_name};
 ghost use Rattle.ccr_run.specs.Aborting.{abort_status, asked_line, Asks};
 ghost use Rattle.ccr_run.specs.Aborting as spec;
-ghost use Rattle.ccr_run.specs.Explained.{nothing_told, told_data};
+ghost use Rattle.ccr_run.specs.Explained.{nothing_told, told_data, refusal_lines, TellsLines};
 ghost use Rattle.ccr_run.specs.Refusals.{refusal_data};
 ghost use Rattle.ccr_run.specs.Statuses.{printed_status};
+ghost use Rattle.ccr_run.specs.Writers.{GetsLines};
 
 use crate::order::AbortOrder;
 use crate::refusal::{Refusal, broken, refused};
 use crate::run::places_of;
+use crate::tell::tell_unprinted;
 use crate::telling::Telling;
 use ccr_lines::Lines;
 use ccr_pipeline::is_name;
 use ccr_task::{Shelf, ShelfFault, ask_abort};
 use std::alloc::{AllocError, Global};
+use std::io::Write;
 
 /// Why a build isn't asked to be aborted.
 #[derive(Clone, Copy, PartialEq, Eq)]
@@ -122,9 +125,10 @@ fn status_of(end: &Result<(), AbortFault>) -> u8
 }
 
 /// Tells why a build isn't asked to be aborted.
-fn tell_refusal<R: Eprint>(telling: &mut Telling<'_, '_, R>, end: &Result<(), AbortFault>)
+fn tell_refusal<E: Write>(telling: &mut Telling<'_, E>, end: &Result<(), AbortFault>)
     requires { (told_data telling.old).refusal ≡ None }
-    ensures { told_data telling.new ≡ record (told_data telling.old) { refusal = spec.refusal_in end.now } }
+    ensures told { told_data telling.new ≡ record (told_data telling.old) { refusal = spec.refusal_in end.now } }
+    ensures wrote { GetsLines (refusal_lines (spec.refusal_in end.now)) telling.old.errors telling.new.errors }
 {
     match end {
         Ok(()) => {}
@@ -134,19 +138,17 @@ fn tell_refusal<R: Eprint>(telling: &mut Telling<'_, '_, R>, end: &Result<(), Ab
 
 /// Tells what came of an order to ask, and gives the status: 0 where it is asked, 1 where no job can have the name, and 4 where
 /// the directory can't be made, memory runs out, or the line doesn't go out.
-pub fn tell_abort<R: Eprint>(
-    telling: &mut Telling<'_, '_, R>,
+pub fn tell_abort<E: Write>(
+    telling: &mut Telling<'_, E>,
     end: &Result<(), AbortFault>,
     is_printed: bool,
 ) -> u8
     requires { told_data telling.old ≡ nothing_told }
     ensures status { result ≡ printed_status is_printed (abort_status end.now) }
     ensures told { told_data telling.new ≡ spec.told_of end.now is_printed }
+    ensures wrote { TellsLines (spec.told_of end.now is_printed) telling.old.errors telling.new.errors }
 {
     tell_refusal(telling, end);
-    if is_printed {
-        return status_of(end);
-    }
-    telling.unprinted();
-    4
+    tell_unprinted(telling, is_printed);
+    if is_printed { status_of(end) } else { 4 }
 }

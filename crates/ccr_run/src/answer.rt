@@ -6,7 +6,7 @@ ghost use Rattle.sqlite_std_file.specs.File.{IsFresh};
 ghost use Rattle.sqlite_wal.specs.Files.{image_at};
 ghost use Rattle.ccr_run.specs.Answered.{EndsWith, IsAnswer};
 ghost use Rattle.ccr_run.specs.Databases.{from_files};
-ghost use Rattle.ccr_run.specs.Explained.{nothing_told, told_data};
+ghost use Rattle.ccr_run.specs.Explained.{TellsLines, nothing_told, told_data};
 ghost use Rattle.ccr_run.specs.Looked.{LookedBeside};
 
 use crate::database::FileDatabase;
@@ -63,6 +63,7 @@ pub fn answer<
     S: Start,
     W: Write,
     E: Write,
+    T: Write,
     P: Print + Eprint,
 >(
     alloc: Global,
@@ -70,7 +71,7 @@ pub fn answer<
     tools: Tools<R, F>,
     opener: &mut FileOpener<O, S>,
     out: &mut Printed<W, E>,
-    telling: &mut Telling<'_, 'a, P>,
+    telling: &mut Telling<'a, T>,
     console: &P,
 ) -> Answered<R, F, FileDatabase<S>, FileConnection<S>>
     requires unopened { IsSome opener.old.start }
@@ -93,6 +94,7 @@ pub fn answer<
         }) result.done.left
         (λ bytes. Appends out.new.before out.new.holds bytes)
         (exit_status result.code) }
+    ensures wrote { TellsLines (told_data telling.new) telling.old.errors telling.new.errors }
 {
     let done = obey(alloc, words, tools, opener, out, telling);
     let is_printed = !out.has_failed();

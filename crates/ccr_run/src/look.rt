@@ -2,7 +2,7 @@
 ghost use Rattle.std.specs.Prelude.{◌≡◌, ◌≤◌, ◌++◌, [], not};
 ghost use Rattle.ccr_core.specs.Cores.{core_data};
 ghost use Rattle.ccr_proof.specs.declared.proof.TheConstants.{MOST_NODES};
-ghost use Rattle.ccr_run.specs.Explained.{explained, nothing_told, told_data};
+ghost use Rattle.ccr_run.specs.Explained.{explained, nothing_told, told_data, TellsLines};
 ghost use Rattle.ccr_run.specs.Looked.{Looked, ShownOf, shown_end};
 ghost use Rattle.ccr_run.specs.Statuses.{exit_status_of};
 ghost use Rattle.ccr_run.specs.declared.run.Outcome.{Outcome as OutcomeData};
@@ -82,12 +82,12 @@ fn see<O: Opens, S: Start, W: Write, E: Write>(
 }
 
 /// Looks at what is ordered, and tells what came of it: the status. No lock is taken, and nothing is written but the lines.
-pub fn look_at<'a, O: Opens, S: Start, W: Write, E: Write, P: Eprint>(
+pub fn look_at<'a, O: Opens, S: Start, W: Write, E: Write, P: Write>(
     alloc: Global,
     order: LookOrder<'a>,
     opener: &mut FileOpener<O, S>,
     out: &mut Printed<W, E>,
-    telling: &mut Telling<'_, 'a, P>,
+    telling: &mut Telling<'a, P>,
 ) -> u8
     requires least { 1 ≤ order.options.budget }
     requires most { order.options.budget ≤ MOST_NODES }
@@ -102,6 +102,7 @@ pub fn look_at<'a, O: Opens, S: Start, W: Write, E: Write, P: Eprint>(
         × (result ≡ exit_status_of outcome) }
     ensures whole { out.old.waiting ≡ [] → out.new.waiting ≡ [] }
     ensures quiet { out.new.notes ≡ out.old.notes }
+    ensures wrote { TellsLines (told_data telling.new) telling.old.errors telling.new.errors }
 {
     let outcome = Outcome {
         end: see(alloc, &order, opener, out),

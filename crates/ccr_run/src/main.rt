@@ -13,6 +13,7 @@ mod abort;
 mod answer;
 mod asked;
 mod database;
+mod errors;
 mod failure;
 mod found;
 mod hint;
@@ -70,7 +71,7 @@ fn answer_here(rt: &HostRuntime, words: &[String]) -> ExitCode {
     };
     let mut opener = Opener::new(HostFiles::new(rt), Unknown);
     let mut out = Printed::new(alloc, io::writer(rt), rt.stderr());
-    let mut telling = Telling::new(rt);
+    let mut telling = Telling::new(rt.stderr());
     answer(alloc, words, tools, &mut opener, &mut out, &mut telling, rt).code
 }
 

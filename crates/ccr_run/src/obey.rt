@@ -6,7 +6,7 @@ ghost use Rattle.ccr_proof.specs.declared.proof.TheConstants.{MOST_NODES};
 ghost use Rattle.ccr_serve.specs.declared.fault.ServeFault.{ServeFault as ServeFaultData};
 ghost use Rattle.ccr_run.specs.Aborting.{Asks, IsPrinted, abort_status, told_of};
 ghost use Rattle.ccr_run.specs.Databases.{from_files};
-ghost use Rattle.ccr_run.specs.Explained.{IsToldOf, nothing_told, told_data};
+ghost use Rattle.ccr_run.specs.Explained.{IsToldOf, TellsLines, nothing_told, told_data};
 ghost use Rattle.ccr_run.specs.Found.{Validates, refusal_in, validated_status, validation_data};
 ghost use Rattle.ccr_run.specs.Left.{text_left};
 ghost use Rattle.ccr_run.specs.Looked.{LookedBeside};
@@ -57,14 +57,14 @@ fn do_command<
     S: Start,
     W: Write,
     E: Write,
-    P: Eprint,
+    P: Write,
 >(
     alloc: Global,
     order: &Order<'a>,
     tools: Tools<R, F>,
     opener: &mut FileOpener<O, S>,
     out: &mut Printed<W, E>,
-    telling: &mut Telling<'_, 'a, P>,
+    telling: &mut Telling<'a, P>,
 ) -> (u8, FilesLeft<R, F, S>)
     requires least { 1 ≤ order.now.options.budget }
     requires most { order.now.options.budget ≤ MOST_NODES }
@@ -78,6 +78,7 @@ fn do_command<
         × IsToldOf order.now outcome (text_left result.1) (told_data telling.new)
         × (result.0 ≡ exit_status_of outcome) }
     ensures whole { out.old.waiting ≡ [] → out.new.failed ≡ false → out.new.waiting ≡ [] }
+    ensures wrote { TellsLines (told_data telling.new) telling.old.errors telling.new.errors }
 {
     let ran = run(alloc, order, tools, opener, out);
     tell_gates(
@@ -92,12 +93,12 @@ fn do_command<
 }
 
 /// Asks for a build to be aborted, and tells what came of it: the status, and what was given.
-fn do_abort<R, F: Shelf, W: Write, E: Write, P: Eprint>(
+fn do_abort<R, F: Shelf, W: Write, E: Write, P: Write>(
     alloc: Global,
     order: &AbortOrder<'_>,
     tools: Tools<R, F>,
     out: &mut Printed<W, E>,
-    telling: &mut Telling<'_, '_, P>,
+    telling: &mut Telling<'_, P>,
 ) -> (u8, Tools<R, F>)
     requires { told_data telling.old ≡ nothing_told }
     ensures asks { (end : Result Unit AbortFaultData) × Asks order.now (F.calls tools.shelf) end (F.calls result.1.shelf)
@@ -106,6 +107,7 @@ fn do_abort<R, F: Shelf, W: Write, E: Write, P: Eprint>(
         × (result.0 ≡ printed_status (not out.new.failed) (abort_status end)) }
     ensures whole { out.old.waiting ≡ [] → out.new.waiting ≡ [] }
     ensures quiet { out.new.notes ≡ out.old.notes }
+    ensures wrote { TellsLines (told_data telling.new) telling.old.errors telling.new.errors }
     ensures idle { result.1.runner ≡ tools.runner }
 {
     let Tools { runner, mut shelf } = tools;
@@ -116,12 +118,12 @@ fn do_abort<R, F: Shelf, W: Write, E: Write, P: Eprint>(
 }
 
 /// Validates a pipeline's file, and tells what came of it: the status, and what was given.
-fn do_validation<R, F: Shelf, W: Write, E: Write, P: Eprint>(
+fn do_validation<R, F: Shelf, W: Write, E: Write, P: Write>(
     alloc: Global,
     validation: &Validation<'_>,
     tools: Tools<R, F>,
     out: &mut Printed<W, E>,
-    telling: &mut Telling<'_, '_, P>,
+    telling: &mut Telling<'_, P>,
 ) -> (u8, Tools<R, F>)
     requires { told_data telling.old ≡ nothing_told }
     ensures validates { (end : Result Bool ServeFaultData)
@@ -131,6 +133,7 @@ fn do_validation<R, F: Shelf, W: Write, E: Write, P: Eprint>(
         × (result.0 ≡ validated_status end (not out.new.failed)) }
     ensures whole { out.old.waiting ≡ [] → out.new.waiting ≡ [] }
     ensures quiet { out.new.notes ≡ out.old.notes }
+    ensures wrote { TellsLines (told_data telling.new) telling.old.errors telling.new.errors }
     ensures idle { result.1.runner ≡ tools.runner }
 {
     let Tools { runner, mut shelf } = tools;
@@ -149,14 +152,14 @@ pub fn obey<
     S: Start,
     W: Write,
     E: Write,
-    P: Eprint,
+    P: Write,
 >(
     alloc: Global,
     words: &'a [String],
     tools: Tools<R, F>,
     opener: &mut FileOpener<O, S>,
     out: &mut Printed<W, E>,
-    telling: &mut Telling<'_, 'a, P>,
+    telling: &mut Telling<'a, P>,
 ) -> Done<R, F, FileDatabase<S>, FileConnection<S>>
     requires unopened { IsSome opener.old.start }
     requires unasked { O.asked opener.old.files ≡ [] }
@@ -176,6 +179,7 @@ pub fn obey<
           status = result.status;
         }) result.left }
     ensures whole { out.old.waiting ≡ [] → out.new.failed ≡ false → out.new.waiting ≡ [] }
+    ensures wrote { TellsLines (told_data telling.new) telling.old.errors telling.new.errors }
 {
     if is_validation(words) {
         let Some(validation) = validation_of(words) else {

@@ -1,0 +1,5 @@
+pub mod NearLaws
+pub mod Leads
+pub mod Somewhere
+pub mod Rings
+pub mod Lists
