@@ -15,6 +15,8 @@ pub got_more : (first second : List Text) (a b c : WriterData) → GetsLines fir
     → GetsLines (first ++ second) a c
 got_more first second a b c p q n =
     let last = q n in
-    let then = p last.0 in
-    (then.0, subst (λ bytes. Appends a.got c.got bytes) (sym (flat_map-append (λ line. line ++ 10 ∷ []) first second))
-    (Appends-trans a.got b.got c.got _ _ then.1 last.1))
+    let then = p last.0 in (
+      then.0,
+      subst (λ bytes. Appends a.got c.got bytes) (sym (flat_map-append (λ line. line ++ 10 ∷ []) first second))
+          (Appends-trans a.got b.got c.got _ _ then.1 last.1),
+    )

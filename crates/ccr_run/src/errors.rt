@@ -26,11 +26,7 @@ impl<E: Write> Model for Errors<E> {
 
 /// Has a writer write a line, with its line end: by one call, so that nothing that another program writes stands within it;
 /// out of memory, piece by piece.
-fn write_line<E: Write, D: Display + Drop>(
-    alloc: Global,
-    writer: &mut E,
-    line: D,
-) -> io::Result<()>
+fn write_line<E: Write, D: Display + Drop>(alloc: Global, writer: &mut E, line: D) -> io::Result<()>
     ensures { OnOk result (IfSome (D.output line)
         (λ text. Appends (E.contents writer.old) (E.contents writer.new) (text ++ 10 ∷ []))) }
 {

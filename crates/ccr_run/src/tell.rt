@@ -51,11 +51,7 @@ fn is_over_budget(command: &Command, end: &Result<u8, Failure>) -> bool
 }
 
 /// Tells the budget of a command that is to show a proof, and goes over it.
-fn tell_budget<E: Write>(
-    telling: &mut Telling<'_, E>,
-    order: &Order<'_>,
-    end: &Result<u8, Failure>,
-)
+fn tell_budget<E: Write>(telling: &mut Telling<'_, E>, order: &Order<'_>, end: &Result<u8, Failure>)
     requires { (told_data telling.old).budget ≡ None }
     ensures told { told_data telling.new ≡ record (told_data telling.old) { budget = budget_over order.now end.now } }
     ensures wrote { GetsLines (budget_lines (budget_over order.now end.now)) telling.old.errors telling.new.errors }
@@ -78,11 +74,7 @@ fn tell_refusal<E: Write>(telling: &mut Telling<'_, E>, end: &Result<u8, Failure
 }
 
 /// Tells what to do about how a command ended over the database at a path, where that helps.
-fn tell_hint<'e, E: Write>(
-    telling: &mut Telling<'e, E>,
-    path: &'e str,
-    end: &Result<u8, Failure>,
-)
+fn tell_hint<'e, E: Write>(telling: &mut Telling<'e, E>, path: &'e str, end: &Result<u8, Failure>)
     requires { (told_data telling.old).hint ≡ None }
     ensures told { told_data telling.new ≡ record (told_data telling.old) { hint = hint_of path.now end.now } }
     ensures wrote { GetsLines (hint_lines (hint_of path.now end.now)) telling.old.errors telling.new.errors }
@@ -106,11 +98,7 @@ pub fn tell_unprinted<E: Write>(telling: &mut Telling<'_, E>, is_printed: bool)
 
 /// Tells what came of an order, and gives the status: the command's own, or that of its refusal; 4 where not all lines went
 /// out. An error of standard error changes nothing. What is found in a pipeline that was set may be told before.
-pub fn tell<'e, E: Write>(
-    telling: &mut Telling<'e, E>,
-    order: &Order<'e>,
-    outcome: &Outcome,
-) -> u8
+pub fn tell<'e, E: Write>(telling: &mut Telling<'e, E>, order: &Order<'e>, outcome: &Outcome) -> u8
     requires { told_data telling.old ≡ record nothing_told { gates = (told_data telling.old).gates } }
     ensures status { result ≡ spec.exit_status_of outcome.now }
     ensures told { told_data telling.new
