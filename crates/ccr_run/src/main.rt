@@ -71,7 +71,7 @@ fn answer_here(rt: &HostRuntime, words: &[String]) -> ExitCode {
     };
     let mut opener = Opener::new(HostFiles::new(rt), Unknown);
     let mut out = Printed::new(alloc, io::writer(rt), rt.stderr());
-    let mut telling = Telling::new(rt.stderr());
+    let mut telling = Telling::new(alloc, rt.stderr());
     answer(alloc, words, tools, &mut opener, &mut out, &mut telling, rt).code
 }
 

@@ -9,6 +9,7 @@ use crate::errors::Errors;
 use crate::hint::Hint;
 use crate::refusal::Refusal;
 use ccr_findings::{Finding, Findings, Kind};
+use std::alloc::Global;
 use std::io::Write;
 use std::snapshot::Snapshot;
 
@@ -68,12 +69,12 @@ fn say_findings<E: Write>(errors: &mut Errors<E>, findings: &[Finding])
 
 impl<'e, E: Write> Telling<'e, E> {
     /// Nothing is told yet; what is will go to this writer.
-    pub fn new(writer: E) -> Telling<'e, E>
+    pub fn new(alloc: Global, writer: E) -> Telling<'e, E>
         ensures told { told_data result ≡ nothing_told }
         ensures errors { result.errors ≡ record { got = E.contents writer; failed = false } }
     {
         Telling {
-            errors: Errors::new(writer),
+            errors: Errors::new(alloc, writer),
             gates: None,
             budget: None,
             refusal: None,
