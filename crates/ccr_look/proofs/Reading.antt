@@ -140,9 +140,8 @@ module _ {before now : List CallData} (old mid : Option (List ℕ)) (path at : L
   reading-end next n buf noted none =
       let c = gave path (Ok []) in
       let noted' : next ≡ now ++ c ∷ [] =
-          noted ∙ ap (λ (p : List ℕ). now ++ gave p (Ok (take n buf)) ∷ []) r.stays
-          ∙ ap (λ (n : ℕ). now ++ gave path (Ok (take n buf)) ∷ []) none in
-      (
+      noted ∙ ap (λ (p : List ℕ). now ++ gave p (Ok (take n buf)) ∷ []) r.stays
+      ∙ ap (λ (n : ℕ). now ++ gave path (Ok (take n buf)) ∷ []) none in (
         r.calls ++ c ∷ [],
         made-last before r.calls now next c r.made noted',
         (
@@ -170,8 +169,7 @@ module _ {before now : List CallData} (old mid : Option (List ℕ)) (path at : L
       → Adds before next (GivesNoBytes path most why.NoMemory)
   reading-no_memory next n buf noted some fits =
       let c = gave path (Ok (take n buf)) in
-      let noted' : next ≡ now ++ c ∷ [] = noted ∙ ap (λ (p : List ℕ). now ++ gave p (Ok (take n buf)) ∷ []) r.stays in
-      (
+      let noted' : next ≡ now ++ c ∷ [] = noted ∙ ap (λ (p : List ℕ). now ++ gave p (Ok (take n buf)) ∷ []) r.stays in (
         r.calls ++ c ∷ [],
         made-last before r.calls now next c r.made noted',
         inr (inl (All-push (GoesOn path) r.calls c r.went (refl, some_taken n buf some fits), refl)),

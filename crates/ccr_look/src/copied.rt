@@ -155,7 +155,7 @@ fn read_parts<R: Files>(
 ) -> Result<Parts, CopyFault>
     ensures { MatchResult result
         (λ parts. Adds (noted reader.old) (noted reader.new) (AreRead (parts_of (place_named names.now))
-            (parts.before.items ∷ parts.db.items ∷ parts.log.items ∷ parts.after.items ∷ [])))
+        (parts.before.items ∷ parts.db.items ∷ parts.log.items ∷ parts.after.items ∷ [])))
         (λ fault. Adds (noted reader.old) (noted reader.new) (IsCutAt (parts_of (place_named names.now)) fault)) }
 {
     let before = read(alloc, reader, names.log.as_str(), HEADER)?;

@@ -82,10 +82,7 @@ impl<'a, R: Files> Reader<'a, R> {
     }
 
     /// The file at a path, to be read; None where nothing is there.
-    pub(crate) fn open<'p>(
-        &mut self,
-        path: &'p str,
-    ) -> Result<Option<Opened<'p, R::File>>, Trouble>
+    pub(crate) fn open<'p>(&mut self, path: &'p str) -> Result<Option<Opened<'p, R::File>>, Trouble>
         ensures noted { noted self.new ≡ noted self.old ++ opened path.now (is_there result) ∷ [] }
         ensures path { IfOk result (λ file. IfSome file (λ f. f.path.now ≡ path.now)) }
     {

@@ -1,6 +1,7 @@
-use Rattle.std.proofs.Common.{◌≡◌, ◌∙◌, [], Ok, IfSome, Option, ap, sym, subst, rules}
+use Rattle.std.proofs.Common.{◌≡◌, ◌∙◌, [], Ok, Err, IfSome, Option, ap, sym, subst, rules}
 use Rattle.std.proofs.lemmas.Result.{err_from_is_err_and}
 use Rattle.ccr_look.specs.declared.copied.Copied.{Copied}
+use Rattle.ccr_look.specs.declared.fault.CopyFault.TheVariants.{Restless}
 use Rattle.ccr_look.specs.Noted.{noted}
 use Rattle.ccr_look.specs.Parts.{Adds}
 use Rattle.ccr_look.specs.Reads.{CameOf, place_named, place_of}
@@ -20,7 +21,7 @@ returns-in-Ok-Some-clause-came g c =
     let place = place_named c.in_ok-names.names in
     let last = subst (λ (o : Option Copied). Adds (noted c.loop.reader) (noted c.read_once.new.reader) (CameOf place (Ok o))) c.in-Ok-Some.field-0-is
     c.in-Ok-Some.ensures.came in
-    at_place place (place_of c.args.path.now) _ _ _ c.in_ok-names.ensures
+    at_place place (place_of c.args.path.now) _ _ (Ok c.in-Ok-Some.copied) c.in_ok-names.ensures
     (copied_at place _ _ _ c.loop.counter c.loop.invariant c.in-Ok-Some.copied c.loop-test.true last)
 
 pub returns-in-Ok-Some-clause-read : goal.returns-in-Ok-Some-clause-read
@@ -35,7 +36,7 @@ returns-in-Ok-Some-clause-read g c =
 
 pub returns-in-Err-clause-came : goal.returns-in-Err-clause-came
 returns-in-Err-clause-came g c =
-    at_place (place_named c.in_ok-names.names) (place_of c.args.path.now) _ _ _ c.in_ok-names.ensures
+    at_place (place_named c.in_ok-names.names) (place_of c.args.path.now) _ _ (Err c.in-Err.fault) c.in_ok-names.ensures
     (failed_at (place_named c.in_ok-names.names) _ _ _ c.loop.counter c.loop.invariant c.in-Err.fault c.loop-test.true c.in-Err.ensures.came)
 
 pub loop-preserved : goal.loop-preserved
@@ -47,5 +48,5 @@ loop-preserved g c =
 
 pub returns-clause-came : goal.returns-clause-came
 returns-clause-came g c =
-    at_place (place_named c.in_ok-names.names) (place_of c.args.path.now) _ _ _ c.in_ok-names.ensures
+    at_place (place_named c.in_ok-names.names) (place_of c.args.path.now) _ _ (Err Restless) c.in_ok-names.ensures
     (restless (place_named c.in_ok-names.names) _ _ [] c.loop.counter c.loop.invariant (search rules) (search rules))
