@@ -1,8 +1,8 @@
 -- Which tasks take what no step before them gives.
-use Rattle.std.specs.Prelude.{Bool, true, false, ◌||◌, ℕ, List, [], ◌∷◌, ◌++◌, nat_le, map, codes, if◌then◌else◌}
+use Rattle.std.specs.Prelude.{Bool, true, false, ◌||◌, List, [], ◌∷◌, ◌++◌, nat_le, codes, if◌then◌else◌}
 use Rattle.ccr_pipeline.specs.JobData.{JobData}
 use Rattle.ccr_pipeline.specs.Names.{has_name, with_name, with_names}
-use Rattle.ccr_pipeline.specs.Tree.{Text, SourceData, config, file, TaskData, Tree, Trees, get, put, task, in_order, in_parallel, tried, attempts, hook, no_trees, tree}
+use Rattle.ccr_pipeline.specs.Tree.{Text, SourceData, config, file, Tree, Trees, get, put, task, in_order, in_parallel, tried, attempts, hook, no_trees, tree}
 use Rattle.ccr_findings.specs.declared.absent.Artifacts.{Artifacts}
 use Rattle.ccr_findings.specs.declared.finding.Kind.TheVariants.{Absent}
 use Rattle.ccr_findings.specs.Findings.{FindingData, finding}

@@ -1,5 +1,5 @@
 -- Where a text stops being JSON, as it is shown: by line and column, and by the line itself with a mark.
-use Rattle.std.specs.Prelude.{ℕ, suc, ◌+◌, ◌-◌, max, min, List, [], ◌∷◌, ◌++◌, length, take, drop, ◌&&◌, ◌==◌, Bool, nat_le, nat_lt, codes, decimal, if◌then◌else◌}
+use Rattle.std.specs.Prelude.{ℕ, ◌+◌, ◌-◌, max, min, List, [], ◌∷◌, ◌++◌, length, take, drop, ◌&&◌, ◌==◌, Bool, nat_le, nat_lt, codes, decimal, if◌then◌else◌}
 use Rattle.std.specs.List.{flat_map}
 use Rattle.ccr_pipeline.specs.Tree.{Text}
 use Rattle.ccr_findings.specs.declared.broken.TheConstants.{BEFORE, AFTER}

@@ -1,4 +1,4 @@
-use Rattle.std.proofs.Common.{◌≡◌, ◌++◌, ◌∷◌, [], Some, None, map, rules, string_bytes, ℕ, List, Bor, sym, ap, ◌∙◌, option_map, drop, String, Global}
+use Rattle.std.proofs.Common.{◌≡◌, Some, None, map, rules, string_bytes, ℕ, List, Bor, sym, ap, ◌∙◌, option_map, drop, String, Global}
 use Rattle.std.specs.Prelude.{Option}
 use Rattle.ccr_findings.specs.Cycles.{waiter_data, cycle_line}
 use Rattle.ccr_findings.specs.Waits.{next_in, place_from}

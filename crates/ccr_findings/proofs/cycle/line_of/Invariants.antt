@@ -1,4 +1,4 @@
-use Rattle.std.proofs.Common.{◌≡◌, ◌-◌, length, map, string_bytes}
+use Rattle.std.proofs.Common.{◌-◌, length, map, string_bytes}
 use denote.Text.{Utf8}
 use denote.Shadow.{shadow}
 use Rattle.ccr_findings.specs.Cycles.{waiter_data}

@@ -1,5 +1,4 @@
-use Rattle.std.proofs.Common.{◌≡◌, Some, sym, ◌∙◌}
-use Rattle.ccr_findings.specs.Known.{owner_of}
+use Rattle.std.proofs.Common.{sym, ◌∙◌}
 use Rattle.ccr_findings.proofs.Strays.{stray_of}
 use Rattle.ccr_findings.proofs.keys.stray_key.Goals as goal
 

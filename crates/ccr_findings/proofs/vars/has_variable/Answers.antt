@@ -1,6 +1,5 @@
 use Rattle.std.specs.Prelude.{codes}
-use Rattle.std.specs.Bool.{one_answer, Decides}
-use Rattle.std.specs.Str.Iter.{HasSubslice}
+use Rattle.std.specs.Bool.{one_answer}
 use Rattle.std.proofs.lemmas.Str.Pattern.{contains_text}
 use Rattle.ccr_findings.specs.Vars.{has_variable}
 use Rattle.ccr_findings.proofs.Somewhere.{variable_Decides}
