@@ -1,5 +1,5 @@
 -- Tries to read a database: their parts, one after the other.
-use Rattle.std.proofs.Common.{◌≡◌, ◌<◌, ◌≤◌, ◌+◌, ◌∙◌, ℕ, zero, suc, List, [], ◌∷◌, ◌++◌, Option, None, Some, Result, Ok, Err, refl, sym, ap, subst, inl, inr, arith, append-nil, append_assoc, string_bytes}
+use Rattle.std.proofs.Common.{◌≡◌, ◌<◌, ◌≤◌, ◌+◌, ◌∙◌, ℕ, suc, List, [], ◌∷◌, ◌++◌, Option, None, Some, Result, Ok, Err, refl, sym, ap, subst, inl, inr, arith, append-nil, append_assoc, string_bytes}
 use Rattle.ccr_look.specs.declared.copied.Copied.{Copied}
 use Rattle.ccr_look.specs.declared.copied.Names.{Names}
 use Rattle.ccr_look.specs.declared.copied.TheConstants.{HEADER, ALL, MOST_TRIES}
@@ -7,7 +7,7 @@ use Rattle.ccr_look.specs.declared.fault.CopyFault.{CopyFault}
 use Rattle.ccr_look.specs.declared.fault.CopyFault.TheVariants as why
 use Rattle.ccr_look.specs.Calls.{CallData}
 use Rattle.ccr_look.specs.Parts.{Adds, IsRead, FailsToRead}
-use Rattle.ccr_look.specs.Reads.{AreRead, AreVain, CameOf, Copies, Gives, IsCutAt, IsDone, IsNotThere, IsReadInOrder, IsThere, Place, parts_of, place_named, place_of}
+use Rattle.ccr_look.specs.Reads.{AreRead, AreVain, CameOf, Copies, Gives, IsCutAt, IsNotThere, IsReadInOrder, IsThere, Place, parts_of, place_named, place_of}
 
 -- these calls and then those
 join : (P Q R : List CallData → Type 0) (a b c : List CallData) → ((x y : List CallData) → P x → Q y → R (x ++ y)) → Adds a b P → Adds b c Q

@@ -1,7 +1,7 @@
 -- How the bytes of a file are read.
-use Rattle.std.specs.Prelude.{◌≡◌, ◌≢◌, ◌⊎◌, ℕ, List, [], ◌∷◌, ◌++◌, length, All, Bool, true, false, Result, Ok, Err, ⊤}
+use Rattle.std.specs.Prelude.{◌≡◌, ◌≢◌, ◌⊎◌, ℕ, List, [], ◌∷◌, ◌++◌, length, All, true, false, Ok, Err}
 use Rattle.ccr_look.specs.declared.calls.Trouble.{Trouble}
-use Rattle.ccr_look.specs.declared.calls.Trouble.TheVariants.{Interrupted, NoMemory, Other}
+use Rattle.ccr_look.specs.declared.calls.Trouble.TheVariants.{Interrupted}
 use Rattle.ccr_look.specs.declared.fault.CopyFault.{CopyFault}
 use Rattle.ccr_look.specs.declared.fault.CopyFault.TheVariants as why
 use Rattle.ccr_look.specs.declared.reads.TheConstants.{MOST_READS}

@@ -112,7 +112,8 @@ impl<'a, R: Files> Reader<'a, R> {
         ensures noted { noted self.new ≡ noted self.old ++ read_of from.old.path.now buffer.new result ∷ [] }
         ensures path { from.new.path.now ≡ from.old.path.now }
         ensures bound { ReadsAtMost result buffer.new }
-        ensures bytes { ReadConsumes (R.File.Read.remaining from.old.file) (R.File.Read.remaining from.new.file) result buffer.new }
+        ensures bytes { ReadConsumes (R.File.Read.remaining from.old.file) (R.File.Read.remaining from.new.file)
+            result buffer.new }
     {
         let answer = match from.file.read(buffer) {
             Ok(count) => Ok(count),

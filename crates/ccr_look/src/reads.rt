@@ -58,7 +58,8 @@ fn read_opened<R: Files>(
     ensures given { MatchResult result
         (λ bytes. Adds (noted reader.old) (noted reader.new) (GivesBytes from.old.path.now most bytes.items))
         (λ fault. Adds (noted reader.old) (noted reader.new) (GivesNoBytes from.old.path.now most fault)) }
-    ensures whole { IfOk result (λ bytes. IfSome (R.File.Read.remaining from.old.file) (λ all. bytes.items ≡ take most all)) }
+    ensures whole { IfOk result (λ bytes. IfSome (R.File.Read.remaining from.old.file)
+        (λ all. bytes.items ≡ take most all)) }
 {
     let mut bytes = Vec::new(alloc);
     let mut chunk = [0u8; CHUNK];

@@ -1,4 +1,4 @@
-use Rattle.std.proofs.Common.{◌≡◌, ◌++◌, ◌∷◌, [], ◌∙◌, Ok, true, ap, IfSome, rules}
+use Rattle.std.proofs.Common.{◌++◌, ◌∷◌, [], ◌∙◌, Ok, ap, rules}
 use Rattle.ccr_look.specs.Calls.{opened}
 use Rattle.ccr_look.specs.Answers.{is_there}
 use Rattle.ccr_look.specs.Noted.{noted}
