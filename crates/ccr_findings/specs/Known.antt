@@ -40,9 +40,11 @@ name_of schema.Output = codes "an output"
 abbrev pub Idle : Type 0
 Idle = Text × Text
 
+-- what to do in the place of a time limit
 abbrev pub limit : Text
 limit = codes "wrap the program in one that has a time limit"
 
+-- what to do in the place of variables
 abbrev pub values : Text
 values = codes "put values in before set-pipeline"
 

@@ -126,6 +126,7 @@ never_in js r p i (item d ds) = or_else (as_str d) [] (never_at js r (path_at p 
 abbrev pub empty_finding : Path → FindingData
 empty_finding p = finding Empty (codes "empty " ++ (p ++ codes ": no gate"))
 
+-- it is found of a list without members
 abbrev pub empty_at : Path → Items → List FindingData
 empty_at p no_items = empty_finding p ∷ []
 empty_at p (item d ds) = []

@@ -91,6 +91,7 @@ more_by rule.Number = Nothing
 more_by rule.Supported = Stands
 more_by rule.Whole = Nothing
 
+-- what that of a fault tells
 abbrev pub more_at : Told → More
 more_at None = Nothing
 more_at (Some f) = more_by f.0
