@@ -15,7 +15,7 @@ pub returns-in-Ok-open-clause-served : goal.returns-in-Ok-open-clause-served
 returns-in-Ok-open-clause-served g c =
     let coming = from_files (image_at g.S.Start) (λ is_log file. IsFresh is_log file) c.open.new.self.answer in
     let named = opened c.args.order.now.options.database.now None ∷ [] in
-    served_as g.R.Runner g.F.Shelf _ coming c.args.order.now (g.O.asked c.open.new.self.files) named
+    served_as g.R.Runner g.F.Shelf _ coming c.args.order.now (g.O.Opens.asked c.open.new.self.files) named
     c.args.tools c.serve_database.result.0 c.serve_database.result.1 (c.args.out.now.shown ++ c.args.out.now.waiting)
     (c.serve_database.new.out.shown ++ c.serve_database.new.out.waiting)
     (asked_alone _ _ (opened c.args.order.now.options.database.now None) c.requires.unasked c.in-Ok-open.ensures.asked)
