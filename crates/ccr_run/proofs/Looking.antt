@@ -24,7 +24,7 @@ use Rattle.ccr_run.specs.Looked.{IsCopied, IsReadOf, Looked, LookedBeside, Shown
 -- what was shown where nothing was, is shown behind what was
 shown_behind : (order : LookOrder) (core : CoreData) (answer : Result ℕ ShowFault) (lines old new : Text)
     → Showing (shown_data order.what) core answer [] lines → new ≡ old ++ lines → Showing (shown_data order.what) core answer old new
-shown_behind order core (Ok status) lines old new it is = (it.0, it.1, it.2, is ∙ ap (λ (t : Text). old ++ t) it.3)
+shown_behind order core (Ok status) lines old new it is = (it.0, (it.1.0, it.1.1, is ∙ ap (λ (t : Text). old ++ t) it.1.2))
 shown_behind order core (Err fault) lines old new it is = (it.0, is ∙ (ap (λ (t : Text). old ++ t) it.1 ∙ append-nil old))
 
 -- something was shown of a core, behind what was printed before
@@ -41,7 +41,7 @@ shown_of order core answer end empty lines old new is none shown printed = (
 -- there was no memory for what was to be printed
 pub unshown_of : (order : LookOrder) (core : CoreData) (end : Result ℕ Failure) (old new : Text)
     → end ≡ shown_end (Err why.NoMemory) → new ≡ old → ShownOf order core end old new
-unshown_of order core end old new is same = (Err why.NoMemory, is, tt, same)
+unshown_of order core end old new is same = (Err why.NoMemory, is, (tt, same))
 
 module _ {D : Type 0} {d : disk.Ghosts D} (g : Ghosts (FileStore D d)) (order : LookOrder) where
   pub did_look : (asked : List AskedData) (copied : Copied) (core : CoreData) (end : Result ℕ Failure) (old new : Text)

@@ -8,7 +8,7 @@ returns-in-Ok-clause-shown g c =
     shown_of c.args.order.now (core_data c.args.core.now) c.show-end.result c.handed_on.result _ _ (c.args.out.now.shown ++ c.args.out.now.waiting)
     (c.print.new.out.shown ++ c.print.new.out.waiting) c.handed_on.ensures refl c.show-end.ensures.shows c.in-Ok.ensures.shown
 
-pub returns-in-Err-clause-shown : goal.returns-in-Err-clause-shown
-returns-in-Err-clause-shown g c =
+pub returns-clause-shown : goal.returns-clause-shown
+returns-clause-shown g c =
     unshown_of c.args.order.now (core_data c.args.core.now) c.handed_on.result (c.args.out.now.shown ++ c.args.out.now.waiting)
     (c.print.new.out.shown ++ c.print.new.out.waiting) c.handed_on.ensures c.in-Err.ensures.refused
