@@ -9,9 +9,7 @@ use crate::failure::Failure;
 use crate::refusal::refusal_of;
 use crate::telling::Telling;
 use ccr_core::Command;
-use ccr_findings::{
-    Finding, Findings, fault_lines, findings_in_text, findings_of, is_faultless,
-};
+use ccr_findings::{Finding, Findings, fault_lines, findings_in_text, findings_of, is_faultless};
 use ccr_lines::Lines;
 use ccr_pipeline::{ReadFault, read, value_of};
 use ccr_serve::ServeFault;
