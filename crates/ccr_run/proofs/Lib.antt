@@ -1,3 +1,4 @@
+pub mod Answering
 pub mod Bare
 pub mod Kept
 pub mod Looking
@@ -6,3 +7,5 @@ pub mod Ordering
 pub mod Refusing
 pub mod Serving
 pub mod Told
+pub mod Walks
+pub mod Writing

@@ -1,9 +1,10 @@
 //! What is found in a pipeline's file: told beside `set-pipeline`, and by `validate-pipeline`, which opens no database.
 ghost use Rattle.std.specs.Prelude.{◌≡◌, ◌++◌, [], None, Some, Ok, Err, map, option_map, option_copied, slice_get, string_bytes, IfOk, IfErr, OnOk, OnErr};
 ghost use Rattle.ccr_findings.specs.Findings.{findings_data};
-ghost use Rattle.ccr_run.specs.Explained.{told_data, has_set, AreGates};
+ghost use Rattle.ccr_run.specs.Explained.{told_data, has_set, AreGates, gate_lines, refusal_lines};
 ghost use Rattle.ccr_run.specs.Found.{Finds, IsRefusedText, PrintsRefused, Validates, ValidatesText, findings_text, is_option, line_text, lines_text, validation_data, wrong_text};
 ghost use Rattle.ccr_run.specs.Found as spec;
+ghost use Rattle.ccr_run.specs.Writers.{GetsLines};
 
 use crate::failure::Failure;
 use crate::refusal::refusal_of;
@@ -15,6 +16,7 @@ use ccr_pipeline::{ReadFault, read, value_of};
 use ccr_serve::ServeFault;
 use ccr_task::{Shelf, ShelfFault};
 use std::alloc::{AllocError, Global};
+use std::io::Write;
 
 /// The word of the command that opens no database.
 pub const VALIDATE: &str = "validate-pipeline";
@@ -55,9 +57,9 @@ fn has_set(command: &Command, end: &Result<u8, Failure>) -> bool
 }
 
 /// Says on standard error what is found in this text of a pipeline, where the command has set one.
-pub fn tell_gates<R: Eprint>(
+pub fn tell_gates<E: Write>(
     alloc: Global,
-    telling: &mut Telling<'_, '_, R>,
+    telling: &mut Telling<'_, E>,
     command: &Command,
     end: &Result<u8, Failure>,
     text: Option<&[u8]>,
@@ -65,6 +67,7 @@ pub fn tell_gates<R: Eprint>(
     requires { (told_data telling.old).gates ≡ None }
     ensures gates { AreGates (has_set command.now end.now) (option_copied text.entry) (told_data telling.new).gates }
     ensures rest { told_data telling.new ≡ record (told_data telling.old) { gates = (told_data telling.new).gates } }
+    ensures wrote { GetsLines (gate_lines (told_data telling.new).gates) telling.old.errors telling.new.errors }
 {
     if !has_set(command, end) {
         return;
@@ -169,6 +172,7 @@ pub fn print<O: Lines>(out: &mut O, bytes: &[u8]) -> Result<(), AllocError>
     ensures shown { OnOk result (O.written out.new ≡ O.written out.old ++ bytes.now) }
     ensures refused { OnErr result (O.written out.new ≡ O.written out.old) }
     ensures whole { O.waiting out.old ≡ [] → O.waiting out.new ≡ [] }
+    ensures quiet { O.notes out.new ≡ O.notes out.old }
 {
     out.make_room(bytes.len())?;
     out.add(bytes);
@@ -185,6 +189,7 @@ fn print_findings<O: Lines>(
     ensures shown { OnOk result (O.written out.new ≡ O.written out.old ++ findings_text findings.now) }
     ensures refused { OnErr result (O.written out.new ≡ O.written out.old) }
     ensures whole { O.waiting out.old ≡ [] → O.waiting out.new ≡ [] }
+    ensures quiet { O.notes out.new ≡ O.notes out.old }
 {
     let text = text_of(alloc, findings)?;
     print(out, text.as_str().as_bytes())
@@ -231,6 +236,7 @@ fn print_refused<O: Lines>(alloc: Global, out: &mut O, text: &[u8]) -> Result<()
     ensures shown { OnOk result (PrintsRefused text.now (O.written out.old) (O.written out.new)) }
     ensures refused { OnErr result (O.written out.new ≡ O.written out.old) }
     ensures whole { O.waiting out.old ≡ [] → O.waiting out.new ≡ [] }
+    ensures quiet { O.notes out.new ≡ O.notes out.old }
 {
     let lines = refused_text(alloc, text)?;
     print(out, lines.as_str().as_bytes())
@@ -245,6 +251,7 @@ fn validate_text<O: Lines>(
 ) -> Result<bool, ServeFault>
     ensures validates { ValidatesText is_strict text.now result (O.written out.old) (O.written out.new) }
     ensures whole { O.waiting out.old ≡ [] → O.waiting out.new ≡ [] }
+    ensures quiet { O.notes out.new ≡ O.notes out.old }
 {
     match findings_of_text(alloc, text) {
         Ok(findings) => match print_findings(alloc, out, &findings) {
@@ -272,6 +279,7 @@ pub fn validate<F: Shelf, O: Lines>(
     ensures validates { Validates (validation_data validation.now) result (F.calls shelf.old) (F.calls shelf.new)
         (O.written out.old) (O.written out.new) }
     ensures whole { O.waiting out.old ≡ [] → O.waiting out.new ≡ [] }
+    ensures quiet { O.notes out.new ≡ O.notes out.old }
 {
     match shelf.read_file(validation.path) {
         Ok(text) => validate_text(alloc, &text, validation.is_strict, out),
@@ -283,14 +291,15 @@ pub fn validate<F: Shelf, O: Lines>(
 
 /// Tells why a pipeline's file was refused, and gives the status: 0, 1 where something is a reason to refuse the pipeline, and 4
 /// where not all lines went out; or that of the refusal.
-pub fn tell_validation<R: Eprint>(
-    telling: &mut Telling<'_, '_, R>,
+pub fn tell_validation<E: Write>(
+    telling: &mut Telling<'_, E>,
     end: Result<bool, ServeFault>,
     is_printed: bool,
 ) -> u8
     requires { (told_data telling.old).refusal ≡ None }
     ensures status { result ≡ spec.validated_status end is_printed }
     ensures told { told_data telling.new ≡ record (told_data telling.old) { refusal = spec.refusal_in end } }
+    ensures wrote { GetsLines (refusal_lines (spec.refusal_in end)) telling.old.errors telling.new.errors }
 {
     match end {
         Ok(is_good) if is_printed => if is_good { 0 } else { 1 },
