@@ -1,14 +1,13 @@
 -- What is written in parts.
-use Rattle.std.proofs.Common.{◌≡◌, ◌++◌, [], List, ap, sym, subst, ◌∷◌}
-use Rattle.std.proofs.KnownBytes.{Appends-nil, Appends-trans}
+use Rattle.std.proofs.Common.{◌≡◌, ◌++◌, ◌∷◌, [], List, sym, subst}
+use Rattle.std.proofs.KnownBytes.{Appends-trans}
 use Rattle.std.proofs.lemmas.List.Concat.{flat_map-append}
 use Rattle.std.specs.Io.KnownBytes.{Appends}
 use Rattle.ccr_history.specs.Text.{Text}
+use Rattle.ccr_run.specs.declared.order.Order.{Order}
+use Rattle.ccr_run.specs.declared.run.Outcome.{Outcome}
+use Rattle.ccr_run.specs.Explained.{ToldData, TellsLines, end_lines, explained, gate_lines}
 use Rattle.ccr_run.specs.Writers.{WriterData, GetsLines}
-
--- nothing is written
-pub got_none : (w : WriterData) → GetsLines [] w w
-got_none w n = (n, Appends-nil w.got)
 
 -- lines are written, and then more
 pub got_more : (first second : List Text) (a b c : WriterData) → GetsLines first a b → GetsLines second b c
@@ -20,3 +19,10 @@ got_more first second a b c p q n =
       subst (λ bytes. Appends a.got c.got bytes) (sym (flat_map-append (λ line. line ++ 10 ∷ []) first second))
           (Appends-trans a.got b.got c.got _ _ then.1 last.1),
     )
+
+-- what was found is written, and then what is told of a command's end
+pub tells_both : (order : Order) (outcome : Outcome) (t u : ToldData) (a b c : WriterData) → GetsLines (gate_lines t.gates) a b
+    → TellsLines (explained order outcome) b c → u ≡ record (explained order outcome) { gates = t.gates } → TellsLines u a c
+tells_both order outcome t u a b c first last told =
+    subst (λ (v : ToldData). TellsLines v a c) (sym told)
+    (got_more (gate_lines t.gates) (end_lines (explained order outcome)) a b c first last)
