@@ -29,7 +29,7 @@ mod run;
 mod tell;
 mod telling;
 
-use answer::answer;
+use answer::{Answered, answer};
 use ccr_lines::Printed;
 use ccr_process::Machine;
 use ccr_task::Folders;
@@ -72,7 +72,16 @@ fn answer_here(rt: &HostRuntime, words: &[String]) -> ExitCode {
     let mut opener = Opener::new(HostFiles::new(rt), Unknown);
     let mut out = Printed::new(alloc, io::writer(rt), rt.stderr());
     let mut telling = Telling::new(alloc, rt.stderr());
-    answer(alloc, words, tools, &mut opener, &mut out, &mut telling, rt).code
+    let Answered { code, done: _done } = answer(
+        alloc,
+        words,
+        tools,
+        &mut opener,
+        &mut out,
+        &mut telling,
+        rt,
+    );
+    code
 }
 
 fn main(rt: HostRuntime) -> ExitCode {
