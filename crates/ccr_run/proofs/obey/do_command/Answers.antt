@@ -1,7 +1,7 @@
 use Rattle.std.proofs.Common.{ap}
 use Rattle.ccr_run.specs.Explained.{ToldData, told_data}
 use Rattle.ccr_run.proofs.Told.{gates_alone, told_of}
-use Rattle.ccr_run.proofs.Writing.{told_after_gates}
+use Rattle.ccr_run.proofs.Writing.{tells_both}
 use Rattle.ccr_run.proofs.obey.do_command.Goals as goal
 
 pub tell_gates-requires : goal.tell_gates-requires
@@ -21,6 +21,6 @@ returns-clause-did g c = (
 
 pub returns-clause-wrote : goal.returns-clause-wrote
 returns-clause-wrote g c =
-    told_after_gates c.args.order.now c.run-ran.result.outcome (told_data c.tell_gates.new.telling).gates (told_data c.tell-status.new.telling)
+    tells_both c.args.order.now c.run-ran.result.outcome (told_data c.tell_gates.new.telling) (told_data c.tell-status.new.telling)
     c.args.telling.now.errors c.tell_gates.new.telling.errors c.tell-status.new.telling.errors
     c.tell_gates.ensures.wrote c.tell-status.ensures.wrote c.tell-status.ensures.told
