@@ -10,5 +10,5 @@ returns-in-Ok-clause-shown g c =
 
 pub returns-clause-shown : goal.returns-clause-shown
 returns-clause-shown g c =
-    unshown_of c.args.order.now (core_data c.args.core.now) c.handed_on.result (c.args.out.now.shown ++ c.args.out.now.waiting)
-    (c.print.new.out.shown ++ c.print.new.out.waiting) c.handed_on.ensures c.in-Err.ensures.refused
+    unshown_of c.args.order.now (core_data c.args.core.now) c.handed_on-in-Err.result (c.args.out.now.shown ++ c.args.out.now.waiting)
+    (c.print.new.out.shown ++ c.print.new.out.waiting) c.handed_on-in-Err.ensures c.in-Err.ensures.refused
