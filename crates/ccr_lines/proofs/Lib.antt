@@ -1,3 +1,4 @@
+mod Calling
 mod Certified
 mod Certifying
 mod Claiming

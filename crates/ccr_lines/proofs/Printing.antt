@@ -2,6 +2,7 @@
 use Rattle.std.proofs.Common.{◌≡◌, List, [], ◌∷◌, ◌++◌, ℕ, Bool, true, false, Option, Some, None, refl, sym, ap, subst, ◌∙◌, append-nil, append_assoc, if◌then◌else◌}
 use Rattle.std.specs.Io.KnownBytes.{Appends, Keeps}
 use Rattle.ccr_history.specs.Text.{Text}
+use Rattle.ccr_lines.specs.Calls.{IsGiven, IsAnswered}
 use Rattle.ccr_lines.specs.Printed.{EntryData, shown, told, all_shown, all_told, told_lines, ChannelData, IsWhole, AreWhole, Got}
 
 -- ---- entries
@@ -28,7 +29,7 @@ shown_same (shown b ∷ es) line = ap (λ xs. b ++ xs) (shown_same es line)
 shown_same (told l ∷ es) line = shown_same es line
 
 -- the bytes of one line more
-lines_more : (ls : List Text) (line : Text) → told_lines (ls ++ line ∷ []) ≡ told_lines ls ++ (line ++ 10 ∷ [])
+pub lines_more : (ls : List Text) (line : Text) → told_lines (ls ++ line ∷ []) ≡ told_lines ls ++ (line ++ 10 ∷ [])
 lines_more [] line = append-nil (line ++ 10 ∷ [])
 lines_more (l ∷ ls) line =
     ap (λ xs. (l ++ 10 ∷ []) ++ xs) (lines_more ls line) ∙ sym (append_assoc (l ++ 10 ∷ []) (told_lines ls) (line ++ 10 ∷ []))
@@ -90,7 +91,7 @@ whole_shown before since mid after other holds failed now unsaid es more bytes g
 
 -- ---- what is told
 -- one line more was told
-noted_more : (es more : List EntryData) (line : Text) → more ≡ es ++ told line ∷ []
+pub noted_more : (es more : List EntryData) (line : Text) → more ≡ es ++ told line ∷ []
     → all_told more ≡ all_told es ++ line ∷ []
 noted_more es more line m = ap all_told m ∙ told_more es line
 
@@ -126,9 +127,11 @@ pushed false new old more e is = absurd (cc is)
 -- the writer of what is told got a line
 pub got_line : (line bytes : List ℕ) (held old new : ChannelData) → held ≡ old → new.before ≡ held.before
     → bytes ≡ line ++ 10 ∷ [] → (new.failed ≡ false → (held.failed ≡ false) × Appends held.holds new.holds bytes)
-    → Got (line ++ 10 ∷ []) old new
-got_line line bytes held old new same start b p =
+    → IsGiven bytes held.calls new.calls → IsAnswered new.failed new.calls → Got (line ++ 10 ∷ []) old new
+got_line line bytes held old new same start b p given answered =
     subst (λ o. Got (line ++ 10 ∷ []) o new) same (record {
       before = start;
       bytes_too = λ n. ((p n).0, subst (λ xs. Appends held.holds new.holds xs) b (p n).1);
+      calls = subst (λ xs. IsGiven xs held.calls new.calls) b given;
+      answered = answered;
     })

@@ -1,4 +1,5 @@
 pub mod BuildCertificates
+pub mod Calls
 pub mod Certificates
 pub mod ClashWords
 pub mod CommandNeeds

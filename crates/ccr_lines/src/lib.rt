@@ -12,6 +12,7 @@
 mod asked;
 mod build_certificate;
 mod builds;
+mod calls;
 mod cause;
 mod certificate;
 mod channel;

@@ -22,7 +22,7 @@ pub struct Printed<W: Write, E: Write> {
 
 impl<W: Write, E: Write> Model for Printed<W, E> {
     ghost use Rattle.std.specs.Prelude.{◌-◌, vec_len, vec_capacity};
-    ghost use Rattle.ccr_lines.specs.Printed.{PrintedData, all_shown, all_told, IsWhole, AreWhole};
+    ghost use Rattle.ccr_lines.specs.Printed.{PrintedData, all_shown, all_told, IsWhole, AreWhole, AreCalled};
 
     ghost Value = { PrintedData };
 
@@ -33,22 +33,26 @@ impl<W: Write, E: Write> Model for Printed<W, E> {
       notes = all_told p.log.list;
       failed = p.out.failed;
       before = W.contents p.out.start.value;
-      holds = W.contents p.out.writer;
+      holds = W.contents p.out.noted.writer;
+      calls = p.out.noted.calls.list;
       errors = record {
         failed = p.errors.failed;
         before = E.contents p.errors.start.value;
-        holds = E.contents p.errors.writer;
+        holds = E.contents p.errors.noted.writer;
+        calls = p.errors.noted.calls.list;
       };
     } };
 
     ghost invariant = { λ p. AreWhole p.log.list
-        (IsWhole p.out.failed (W.contents p.out.start.value) (W.contents p.out.writer))
-        (IsWhole p.errors.failed (E.contents p.errors.start.value) (E.contents p.errors.writer)) };
+        (IsWhole p.out.failed (W.contents p.out.start.value) (W.contents p.out.noted.writer))
+        (IsWhole p.errors.failed (E.contents p.errors.start.value) (E.contents p.errors.noted.writer))
+        × AreCalled p.log.list p.out.failed p.errors.failed p.out.noted.calls.list p.errors.noted.calls.list };
 }
 
 impl<W: Write, E: Write> Printed<W, E> {
     ghost use Rattle.std.specs.Prelude.{◌≡◌, ◌++◌, [], false};
     ghost use Rattle.std.specs.Io.KnownBytes.{Appends};
+    ghost use Rattle.ccr_lines.specs.Calls.{all_bytes, IsAnswered, HasBegun};
     ghost use Rattle.ccr_lines.specs.Printed.{told_lines};
 
     /// Nothing is written yet; lines will go to this writer, and what is told beside them to `errors`.
@@ -61,7 +65,9 @@ impl<W: Write, E: Write> Printed<W, E> {
           failed = false;
           before = E.contents errors;
           holds = E.contents errors;
+          calls = [];
         } }
+        ensures uncalled { result.calls ≡ [] }
     {
         Printed {
             out: Channel::new(writer),
@@ -73,11 +79,20 @@ impl<W: Write, E: Write> Printed<W, E> {
 
     /// Whether a write of lines failed. If none did, the writer has got all that was handed out, in order, and nothing else.
     /// So has `errors` each line that was told, with its line feed, if no write of those failed.
+    ///
+    /// Where nobody knows what a writer holds, as of standard output, the calls that it got say as much. The one was given what
+    /// was handed out, from the first byte on, and nothing behind a call that answered an error; there was such a call if and
+    /// only if this says so. `errors` was given each line that was told, whatever its calls answered.
     pub fn has_failed(&self) -> bool
         ensures failed { result ≡ self.now.failed }
         ensures whole { result ≡ false → Appends self.now.before self.now.holds self.now.shown }
         ensures told { self.now.errors.failed ≡ false
             → Appends self.now.errors.before self.now.errors.holds (told_lines self.now.notes) }
+        ensures answered { IsAnswered result self.now.calls }
+        ensures begun { HasBegun self.now.shown self.now.calls }
+        ensures given { result ≡ false → all_bytes self.now.calls ≡ self.now.shown }
+        ensures unsaid { IsAnswered self.now.errors.failed self.now.errors.calls
+            × (all_bytes self.now.errors.calls ≡ told_lines self.now.notes) }
     {
         self.out.has_failed()
     }
@@ -86,7 +101,7 @@ impl<W: Write, E: Write> Printed<W, E> {
 impl<W: Write, E: Write> Lines for Printed<W, E> {
     ghost use Rattle.std.specs.Prelude.{◌≡◌, ◌+◌, ◌≤◌, ◌++◌, [], false, length, OnOk, string_bytes};
     ghost use Rattle.ccr_lines.specs.Noted.{IsNoted};
-    ghost use Rattle.ccr_lines.specs.Printed.{IsSaid, SameOut};
+    ghost use Rattle.ccr_lines.specs.Printed.{IsSaid, SameOut, HandsOut};
 
     ghost written = { λ p. p.shown ++ p.waiting };
 
@@ -124,6 +139,7 @@ impl<W: Write, E: Write> Lines for Printed<W, E> {
         ensures shown { self.new.waiting ≡ [] }
         ensures before { self.new.before ≡ self.old.before }
         ensures errors { self.new.errors ≡ self.old.errors }
+        ensures handed { HandsOut self.old self.new }
     {
         if self.lines.is_empty() {
             return;

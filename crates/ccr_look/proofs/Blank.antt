@@ -1,5 +1,5 @@
 -- Files in which no database was made stand for none.
-use Rattle.std.proofs.Common.{◌≡◌, ◌+◌, ◌-◌, ◌*◌, ◌<◌, ◌≤◌, ◌∙◌, ℕ, zero, suc, List, [], ◌∷◌, ◌++◌, codes, length, take, slice_index, Option, Some, unwrap_or, inl, inr, refl, sym, ap, arith, get_or-take, true, false}
+use Rattle.std.proofs.Common.{◌≡◌, ◌-◌, ◌*◌, ◌<◌, ◌≤◌, ◌∙◌, ℕ, zero, suc, List, [], ◌∷◌, ◌++◌, codes, length, take, slice_index, Option, Some, unwrap_or, inl, inr, refl, sym, ap, arith, get_or-take, true, false}
 use Rattle.sqlite_wal.specs.Format.{part}
 use Rattle.sqlite_wal.specs.Recovery.{Image, Pages, pages_after}
 use Rattle.sqlite_wal.proofs.PartLemmas.{slice_index-part, part_within}

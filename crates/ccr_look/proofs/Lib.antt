@@ -9,3 +9,6 @@ pub mod Taken
 pub mod Runs
 pub mod First
 pub mod Begun
+pub mod Walks
+pub mod Reading
+pub mod Tries

@@ -1,6 +1,11 @@
 pub mod Holding
 pub mod Left
 pub mod Looks
+pub mod Calls
+pub mod Answers
+pub mod Seen
+pub mod Noted
+pub mod Parts
 pub mod Reads
 pub mod Unfound
 pub mod Runs

@@ -26,7 +26,7 @@ use Rattle.ccr_look.specs.Unfound.{IsAtRest, WasTaken, IsUnfound}
 
 -- the bytes that were read, as the two files
 abbrev pub image_of : Copied → Image
-image_of copied = record { log = copied.log.bytes.items; db = copied.db.bytes.items }
+image_of copied = record { log = copied.log.items; db = copied.db.items }
 
 -- THE DATABASE OF THE BYTES IS OPENED, as an open after a crash finds it that left them, without any supposition on a disk
 pub record IsOpenedOver {D : Type 0} {g : disk.Ghosts D} (image : Image) (conn : Held (FileStore D g)) : Type 0 where

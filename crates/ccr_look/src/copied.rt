@@ -3,38 +3,41 @@
 //! A database is two files. Between two checkpoints its own file doesn't change, and a committed frame of the log doesn't either: so what is
 //! read of the file, and then of the log, is together what a crash may leave, if no checkpoint has ended between. A checkpoint gives the log
 //! another header, whose salt always differs.
-ghost use Rattle.std.specs.Prelude.{◌≡◌, ◌≢◌, ◌++◌, [], true, false, IfOk, IfSome, string_bytes, take};
-ghost use Rattle.ccr_look.specs.Reads.{IsReadInOrder, log_of};
+ghost use Rattle.std.specs.Prelude.{◌≡◌, ◌++◌, [], ◌∷◌, codes, string_bytes, take, Decides, IfOk, IfSome, MatchResult};
+ghost use Rattle.ccr_look.specs.Answers.{log_fault, absence, file_fault, journal_fault};
+ghost use Rattle.ccr_look.specs.Noted.{noted};
+ghost use Rattle.ccr_look.specs.Parts.{Adds};
+ghost use Rattle.ccr_look.specs.Reads.{AreRead, BelongTogether, CameOf, Copies, Gives, IsCutAt, IsNotThere, IsReadInOrder, IsThere};
+ghost use Rattle.ccr_look.specs.Reads.{parts_of, place_named, place_of};
 ghost use Rattle.ccr_look.specs.declared.copied.TheConstants.{HEADER};
 
+use crate::calls::{Calls, Found};
 use crate::fault::CopyFault;
-use crate::reads::{FileBytes, Reader, fault_of};
+use crate::noted::Reader;
+use crate::reads::{fault_of, read};
 use std::alloc::{AllocError, Global};
-use std::fs;
-use std::io::ErrorKind;
+use std::rt::Files;
 
 /// How long the header of a log is.
-const HEADER: u64 = 32;
+const HEADER: usize = 32;
 
 /// As many bytes as there are.
-const ALL: u64 = u64::MAX;
+const ALL: usize = usize::MAX;
 
 /// How often the files are read before a look is given up.
 const MOST_TRIES: u32 = 100;
 
-/// What was read of a database. Only [`copy`] makes one.
+/// What was read of a database. Only [`copy`] and [`copy_with`] make one.
 #[derive(Drop)]
 pub struct Copied<'a> {
     /// Where it is.
     pub path: &'a str,
-    // The header of its log, before the others were read.
-    pub(crate) before: FileBytes,
+    // All calls of its reader until then.
+    pub(crate) calls: Calls,
     // The bytes of its own file.
-    pub(crate) db: FileBytes,
+    pub(crate) db: Vec<u8>,
     // The bytes of its log; none where it has no log.
-    pub(crate) log: FileBytes,
-    // The header of the log that was there at the end.
-    pub(crate) after: FileBytes,
+    pub(crate) log: Vec<u8>,
 }
 
 /// Where the files of a database are.
@@ -43,6 +46,17 @@ struct Names {
     db: String,
     log: String,
     journal: String,
+}
+
+/// What a try read.
+#[derive(Drop)]
+struct Parts {
+    // The header of the log, before the others were read.
+    before: Vec<u8>,
+    db: Vec<u8>,
+    log: Vec<u8>,
+    // The header of the log that was there at the end.
+    after: Vec<u8>,
 }
 
 /// The name of what lies beside a file, by how it ends.
@@ -56,8 +70,7 @@ fn beside(alloc: Global, path: &str, end: &str) -> Result<String, AllocError>
 
 /// Where the files of the database at a path are.
 fn names_of(alloc: Global, path: &str) -> Result<Names, AllocError>
-    ensures db { IfOk result (λ names. string_bytes names.db ≡ path.now) }
-    ensures log { IfOk result (λ names. string_bytes names.log ≡ log_of path.now) }
+    ensures { IfOk result (λ names. place_named names ≡ place_of path.now) }
 {
     Ok(Names {
         db: String::from_str(alloc, path)?,
@@ -66,80 +79,178 @@ fn names_of(alloc: Global, path: &str) -> Result<Names, AllocError>
     })
 }
 
-/// How long the file at a path is; None where nothing is there. To open what is no file, as a pipe, could make a look wait.
-fn length_of(rt: &HostRuntime, path: &str) -> Result<Option<u64>, CopyFault> {
-    match fs::metadata(rt, path) {
-        Ok(found) if found.is_file() => Ok(Some(found.len())),
-        Ok(_) => Err(CopyFault::NotAFile),
-        Err(error) if error.kind() == ErrorKind::NotFound => Ok(None),
-        Err(error) => Err(fault_of(&error)),
+/// Why a database isn't read whose log is so.
+fn log_fault(log: Found) -> Option<CopyFault>
+    ensures { result ≡ log_fault log }
+{
+    match log {
+        Found::File(_) | Found::Nothing => None,
+        Found::NoFile => Some(CopyFault::NotAFile),
+        Found::Unseen(trouble) => Some(fault_of(trouble)),
     }
 }
 
-/// Whether two headers are the same.
-fn is_same(one: &[u8], other: &[u8]) -> bool
-    ensures { result ≡ true → one.now ≡ other.now }
+/// Why a database isn't read whose own file isn't there, and whose log is so.
+fn absence(log: Found) -> CopyFault
+    ensures { result ≡ absence log }
 {
-    one == other
+    match log {
+        Found::File(_) => CopyFault::OnlyLog,
+        Found::NoFile | Found::Nothing | Found::Unseen(_) => CopyFault::NoFile,
+    }
+}
+
+/// Why a database isn't read whose own file is so, and whose log so.
+fn file_fault(log: Found, file: Found) -> Option<CopyFault>
+    ensures { result ≡ file_fault log file }
+{
+    match file {
+        Found::File(size) if size == 0 => Some(CopyFault::Empty),
+        Found::File(_) => None,
+        Found::NoFile => Some(CopyFault::NotAFile),
+        Found::Nothing => Some(absence(log)),
+        Found::Unseen(trouble) => Some(fault_of(trouble)),
+    }
+}
+
+/// Why a database isn't read whose journal is so: it has to be rolled back.
+fn journal_fault(journal: Found) -> Option<CopyFault>
+    ensures { result ≡ journal_fault journal }
+{
+    match journal {
+        Found::File(size) if size == 0 => None,
+        Found::File(_) => Some(CopyFault::Journal),
+        Found::NoFile => Some(CopyFault::NotAFile),
+        Found::Nothing => None,
+        Found::Unseen(trouble) => Some(fault_of(trouble)),
+    }
+}
+
+/// Sees that a database is there that can be read: a file that isn't empty, without a journal that has to be rolled back. To open what is no
+/// file, as a pipe, could make a look wait.
+fn see_it_is_there<R: Files>(reader: &mut Reader<'_, R>, names: &Names) -> Result<(), CopyFault>
+    ensures { MatchResult result (λ _. Adds (noted reader.old) (noted reader.new) (IsThere (place_named names.now)))
+        (λ fault. Adds (noted reader.old) (noted reader.new) (IsNotThere (place_named names.now) fault)) }
+{
+    let log = reader.look(names.log.as_str());
+    if let Some(fault) = log_fault(log) {
+        return Err(fault);
+    }
+    let file = reader.look(names.db.as_str());
+    if let Some(fault) = file_fault(log, file) {
+        return Err(fault);
+    }
+    let journal = reader.look(names.journal.as_str());
+    match journal_fault(journal) {
+        Some(fault) => Err(fault),
+        None => Ok(()),
+    }
+}
+
+/// Reads the log's header, the database's file, the log, and the header of the log that is there then.
+fn read_parts<R: Files>(
+    alloc: Global,
+    reader: &mut Reader<'_, R>,
+    names: &Names,
+) -> Result<Parts, CopyFault>
+    ensures { MatchResult result
+        (λ parts. Adds (noted reader.old) (noted reader.new) (AreRead (parts_of (place_named names.now))
+        (parts.before.items ∷ parts.db.items ∷ parts.log.items ∷ parts.after.items ∷ [])))
+        (λ fault. Adds (noted reader.old) (noted reader.new) (IsCutAt (parts_of (place_named names.now)) fault)) }
+{
+    let before = read(alloc, reader, names.log.as_str(), HEADER)?;
+    let db = read(alloc, reader, names.db.as_str(), ALL)?;
+    let log = read(alloc, reader, names.log.as_str(), ALL)?;
+    let after = read(alloc, reader, names.log.as_str(), HEADER)?;
+    Ok(Parts {
+        before,
+        db,
+        log,
+        after,
+    })
 }
 
 /// The header of a log, as it begins; all of it where it is shorter.
 fn header_of(log: &[u8]) -> &[u8]
     ensures { result.now ≡ take HEADER log.now }
 {
-    if log.len() <= HEADER as usize {
+    if log.len() <= HEADER {
         return log;
     }
-    &log[..HEADER as usize]
+    &log[..HEADER]
 }
 
-/// Sees that a database is at the path that can be read: a file that isn't empty, without a journal that has to be rolled back.
-fn see_it_is_there(rt: &HostRuntime, names: &Names) -> Result<(), CopyFault> {
-    let log_length = length_of(rt, names.log.as_str())?;
-    match length_of(rt, names.db.as_str())? {
-        Some(0) => return Err(CopyFault::Empty),
-        Some(_) => {}
-        None if log_length.is_some() => return Err(CopyFault::OnlyLog),
-        None => return Err(CopyFault::NoFile),
-    }
-    match length_of(rt, names.journal.as_str())? {
-        Some(0) | None => Ok(()),
-        Some(_) => Err(CopyFault::Journal),
-    }
-}
-
-/// Reads the log's header, the database's file, the log, and the header of the log that is there then. None where the headers differ: a
-/// checkpoint has ended meanwhile.
-fn read_once<'a>(
-    rt: &HostRuntime,
-    path: &'a str,
-    names: &Names,
-) -> Result<Option<Copied<'a>>, CopyFault>
-    requires db { string_bytes names.now.db ≡ path.now }
-    requires log { string_bytes names.now.log ≡ log_of path.now }
-    ensures path { IfOk result (λ copied. IfSome copied (λ c. c.path.now ≡ path.entry.now)) }
-    ensures read { IfOk result (λ copied. IfSome copied IsReadInOrder) }
+/// Whether what was read belongs together: no checkpoint has ended meanwhile.
+fn belong_together(before: &[u8], log: &[u8], after: &[u8]) -> bool
+    ensures { Decides result (BelongTogether before.now log.now after.now) }
 {
-    let mut reader = Reader::new(rt);
-    let before = reader.read(&names.log, HEADER)?;
-    let db = reader.read(&names.db, ALL)?;
-    let log = reader.read(&names.log, ALL)?;
-    let after = reader.read(&names.log, HEADER)?;
-    let is_one = is_same(&after.bytes, &before.bytes);
-    let begins = is_same(header_of(&log.bytes), &before.bytes);
-    if !is_one || !begins {
-        return Ok(None);
-    }
-    if db.bytes.is_empty() {
-        return Err(CopyFault::Empty);
-    }
-    Ok(Some(Copied {
-        path,
+    after == before && header_of(log) == before
+}
+
+/// What comes of the bytes that were read: None where they don't belong together.
+fn judged<'a>(path: &'a str, parts: Parts, calls: Calls) -> Result<Option<Copied<'a>>, CopyFault>
+    ensures gives { Gives parts.before.items parts.db.items parts.log.items parts.after.items result }
+    ensures path { IfOk result (λ copied. IfSome copied (λ c. c.path.now ≡ path.entry.now)) }
+    ensures calls { IfOk result (λ copied. IfSome copied (λ c. c.calls.list ≡ calls.list)) }
+{
+    let Parts {
         before,
         db,
         log,
         after,
+    } = parts;
+    if !belong_together(&before, &log, &after) {
+        return Ok(None);
+    }
+    if db.is_empty() {
+        return Err(CopyFault::Empty);
+    }
+    Ok(Some(Copied {
+        path,
+        calls,
+        db,
+        log,
     }))
+}
+
+/// Sees that a database is there, and reads it. None where what was read doesn't belong together.
+fn read_once<'a, R: Files>(
+    alloc: Global,
+    reader: &mut Reader<'_, R>,
+    path: &'a str,
+    names: &Names,
+) -> Result<Option<Copied<'a>>, CopyFault>
+    ensures came { Adds (noted reader.old) (noted reader.new) (CameOf (place_named names.now) result) }
+    ensures path { IfOk result (λ copied. IfSome copied (λ c. c.path.now ≡ path.entry.now)) }
+    ensures calls { IfOk result (λ copied. IfSome copied (λ c. c.calls.list ≡ noted reader.new)) }
+{
+    see_it_is_there(reader, names)?;
+    let parts = read_parts(alloc, reader, names)?;
+    judged(path, parts, reader.calls())
+}
+
+/// Reads the database at a path by a reader. It takes no lock, waits for nobody and writes nothing.
+///
+/// Contracts see the calls of the reader, each with its answer, and what comes of them. The faults are those of [`copy`].
+pub fn copy_with<'a, R: Files>(
+    alloc: Global,
+    reader: &mut Reader<'_, R>,
+    path: &'a str,
+) -> Result<Copied<'a>, CopyFault>
+    ensures came { Adds (noted reader.old) (noted reader.new) (Copies (place_of path.entry.now) result) }
+    ensures path { IfOk result (λ copied. copied.path.now ≡ path.entry.now) }
+    ensures read { IfOk result IsReadInOrder }
+    ensures calls { IfOk result (λ copied. copied.calls.list ≡ noted reader.new) }
+{
+    let names = names_of(alloc, path)?;
+    for _ in 0..MOST_TRIES {
+        match read_once(alloc, reader, path, &names) {
+            Ok(Some(copied)) => return Ok(copied),
+            Ok(None) => {}
+            Err(fault) => return Err(fault),
+        }
+    }
+    Err(CopyFault::Restless)
 }
 
 /// Reads the database at a path. It takes no lock, waits for nobody and writes nothing.
@@ -151,12 +262,5 @@ pub fn copy<'a>(rt: &HostRuntime, path: &'a str) -> Result<Copied<'a>, CopyFault
     ensures path { IfOk result (λ copied. copied.path.now ≡ path.entry.now) }
     ensures read { IfOk result IsReadInOrder }
 {
-    let names = names_of(rt.alloc(), path)?;
-    for _ in 0..MOST_TRIES {
-        see_it_is_there(rt, &names)?;
-        if let Some(copied) = read_once(rt, path, &names)? {
-            return Ok(copied);
-        }
-    }
-    Err(CopyFault::Restless)
+    copy_with(rt.alloc(), &mut Reader::new(rt), path)
 }

@@ -16,19 +16,18 @@ const CACHE_PAGES: usize = 256;
 
 /// The two files, which are what was read, and no copy of it.
 fn files_of(copied: Copied<'_>) -> Files<Scratch>
-    ensures log { scratch_bytes result.log ≡ copied.entry.log.bytes.items }
-    ensures db { scratch_bytes result.db ≡ copied.entry.db.bytes.items }
+    ensures log { scratch_bytes result.log ≡ copied.entry.log.items }
+    ensures db { scratch_bytes result.db ≡ copied.entry.db.items }
 {
     let Copied {
         path: _,
-        before: _,
+        calls: _,
         db,
         log,
-        after: _,
     } = copied;
     Files {
-        log: Scratch::new(log.bytes),
-        db: Scratch::new(db.bytes),
+        log: Scratch::new(log),
+        db: Scratch::new(db),
     }
 }
 

@@ -1,7 +1,11 @@
+pub mod Answering
 pub mod Bare
 pub mod Kept
 pub mod Looking
 pub mod Obeying
 pub mod Ordering
+pub mod Refusing
 pub mod Serving
 pub mod Told
+pub mod Walks
+pub mod Writing

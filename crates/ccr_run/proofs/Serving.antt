@@ -1,5 +1,6 @@
 -- What came of an order, from what its parts say.
-use Rattle.std.proofs.Common.{◌≡◌, refl, ◌∙◌, inl, inr, ℕ, [], Option, option_map, Result, Ok, Err, ap, sym, subst, string_bytes}
+use Rattle.std.proofs.Common.{◌≡◌, refl, ◌∙◌, inl, inr, ℕ, List, [], ◌∷◌, ◌++◌, Option, option_map, Result, Ok, Err, ap, sym, subst, string_bytes}
+use Rattle.sqlite.specs.declared.error.Error.{Error}
 use Rattle.ccr_history.specs.Text.{Text}
 use Rattle.ccr_history.specs.Counts.{RoseBy}
 use Rattle.ccr_history.specs.History.{HistoryData}
@@ -15,6 +16,7 @@ use Rattle.ccr_serve.specs.declared.fault.ServeFault.TheVariants as fault
 use Rattle.ccr_serve.specs.declared.server.Server.{Server}
 use Rattle.ccr_serve.specs.Views.{View, Ends, IsKept}
 use Rattle.ccr_serve.specs.Commanding.{CameOf}
+use Rattle.ccr_run.specs.Asked.{AskedData}
 use Rattle.ccr_run.specs.declared.failure.Failure.{Failure}
 use Rattle.ccr_run.specs.declared.left.Left.{Left}
 use Rattle.ccr_run.specs.declared.left.Left.TheVariants as left
@@ -108,10 +110,10 @@ unserved_for one other given kept end old new so it = record {
 }
 
 -- a database that was shut out so is shut out otherwise too
-shut_for : (one other : Failure → Type 0) → ((failure : Failure) → one failure → other failure) → (order : Order) (asked : Option Text)
+shut_for : (one other : Error → Type 0) → ((error : Error) → one error → other error) → (order : Order) (asked : List AskedData)
     (failure : Failure) → IsUnopened one order asked failure → IsUnopened other order asked failure
 shut_for one other so order asked failure (inl none) = inl none
-shut_for one other so order asked failure (inr shut) = inr (shut.0, so failure shut.1)
+shut_for one other so order asked failure (inr shut) = inr (shut.0, shut.1, shut.2, so shut.0 shut.3)
 
 module _ {R F T : Type 0} (r : runner.Ghosts R) (s : shelf.Ghosts F) (t : storage.Ghosts T) where
   -- a history that was found so is found otherwise too
@@ -130,9 +132,9 @@ module _ {R F T C : Type 0} (r : runner.Ghosts R) (s : shelf.Ghosts F) (t : stor
   -- what came of an order over a database that came so came of it over one that comes otherwise, if all that is said of the one is true
   -- of the other
   pub served_for : (one other : Coming T C) → ((d : T) (h : HistoryData) → one.begins_with d h → other.begins_with d h)
-      → ((failure : Failure) → one.unopened failure → other.unopened failure)
+      → ((error : Error) → one.unopened error → other.unopened error)
       → ((fault : StoreFault) (c : C) → one.unfound fault c → other.unfound fault c)
-      → (order : Order) (asked : Option Text) (given : Tools R F) (end : Result ℕ Failure) (kept : Left R F T C) (old new : Text)
+      → (order : Order) (asked : List AskedData) (given : Tools R F) (end : Result ℕ Failure) (kept : Left R F T C) (old new : Text)
       → Served r s t one order asked given end kept old new → Served r s t other order asked given end kept old new
   served_for one other begun shut bare order asked given end (left.Served server) old new it = (
     it.0,
@@ -152,9 +154,13 @@ module _ {R F T C : Type 0} (r : runner.Ghosts R) (s : shelf.Ghosts F) (t : stor
   served_for one other begun shut bare order asked given end (left.Unopened tools) old new it =
       unserved_for _ _ given tools end old new (shut_for one.unopened other.unopened shut order asked) it
 
-  -- the database that an order names is the one that was asked for
-  pub served_as : (coming : Coming T C) (order : Order) (asked named : Option Text) (given : Tools R F) (end : Result ℕ Failure)
+  -- what was asked of the files is what is named
+  pub served_as : (coming : Coming T C) (order : Order) (asked named : List AskedData) (given : Tools R F) (end : Result ℕ Failure)
       (kept : Left R F T C) (old new : Text) → asked ≡ named → Served r s t coming order named given end kept old new
       → Served r s t coming order asked given end kept old new
   served_as coming order asked named given end kept old new is it =
-      subst (λ (path : Option Text). Served r s t coming order path given end kept old new) (sym is) it
+      subst (λ (these : List AskedData). Served r s t coming order these given end kept old new) (sym is) it
+
+-- what was asked where nothing was before
+pub asked_alone : (old new : List AskedData) (asked : AskedData) → old ≡ [] → new ≡ old ++ asked ∷ [] → new ≡ asked ∷ []
+asked_alone old new asked none is = is ∙ ap (λ (these : List AskedData). these ++ asked ∷ []) none

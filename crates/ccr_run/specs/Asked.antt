@@ -1,8 +1,17 @@
--- Which database was opened.
-use Rattle.std.specs.Prelude.{Option, option_map}
-use Rattle.ccr_history.specs.Text.{Text}
-use Rattle.ccr_run.specs.declared.opener.Opener.{Opener}
+-- What was asked of the database's files, and what was answered.
+use Rattle.std.specs.Prelude.{ℕ, List, Option}
+use Rattle.sqlite.specs.declared.error.Error.{Error}
+use Rattle.ccr_look.specs.declared.fault.CopyFault.{CopyFault}
+use Rattle.ccr_run.specs.declared.asked.Asked.{Asked}
+use Rattle.ccr_run.specs.declared.asked.Asked.TheVariants.{Opened, Read}
 
--- the path that an opener was asked for, if it was
-abbrev pub asked_by : {S C L : Type 0} → Opener S C L → Option Text
-asked_by opener = option_map (λ path. path.now) opener.asked
+-- WHAT WAS ASKED: that the database at a path be opened, or that it be read; with the error or the fault that it was answered with, if it
+-- was one
+pub data AskedData : Type 0 where
+  opened : List ℕ → Option Error → AskedData
+  read : List ℕ → Option CopyFault → AskedData
+
+-- what a value of the program's type stands for
+abbrev pub asked_data : Asked → AskedData
+asked_data (Opened path error) = opened path.now error
+asked_data (Read path fault) = read path.now fault

@@ -1,22 +1,23 @@
 -- What the program tells on standard error as it ends.
-use Rattle.std.specs.Prelude.{◌≡◌, ℕ, List, [], ◌∷◌, Bool, true, false, not, ◌==◌, ◌&&◌, Option, None, Some, option_map, Result, Ok, Err, string_bytes, if◌then◌else◌}
+use Rattle.std.specs.Prelude.{◌≡◌, ℕ, List, [], ◌∷◌, ◌++◌, flat_map, codes, decimal, Bool, true, false, not, ◌==◌, ◌&&◌, Option, None, Some, option_map, Result, Ok, Err, string_bytes, if◌then◌else◌}
 use Rattle.ccr_history.specs.Text.{Text}
-use Rattle.ccr_command.specs.declared.finding.Finding.{Finding}
-use Rattle.ccr_command.specs.declared.finding.Kind.{Kind}
-use Rattle.ccr_command.specs.declared.finding.Kind.TheVariants.{Unused}
+use Rattle.ccr_findings.specs.declared.finding.Finding.{Finding}
+use Rattle.ccr_findings.specs.declared.finding.Kind.{Kind}
+use Rattle.ccr_findings.specs.declared.finding.Kind.TheVariants.{Unused}
 use Rattle.ccr_core.specs.declared.command.Command.{Command}
 use Rattle.ccr_core.specs.declared.command.Command.TheVariants.{SetPipeline, Show}
 use Rattle.ccr_core.specs.declared.shown.Shown.{Shown}
 use Rattle.ccr_core.specs.declared.shown.Shown.TheVariants.{Proof, Certificate}
-use Rattle.ccr_serve.specs.declared.fault.ServeFault.{ServeFault}
+use Rattle.ccr_pipeline.specs.declared.fault.ReadFault.{ReadFault}
 use Rattle.ccr_run.specs.declared.failure.Failure.{Failure}
 use Rattle.ccr_run.specs.declared.order.Order.{Order}
 use Rattle.ccr_run.specs.declared.run.Outcome.{Outcome}
 use Rattle.ccr_run.specs.declared.telling.Telling.{Telling}
 use Rattle.ccr_run.specs.declared.telling.ToldRefusal.{ToldRefusal}
 use Rattle.ccr_run.specs.Found.{Finds}
-use Rattle.ccr_run.specs.Hints.{HintData, hint_data, hint_of}
-use Rattle.ccr_run.specs.Refusals.{RefusalData, refusal_of}
+use Rattle.ccr_run.specs.Hints.{HintData, hint_data, hint_of, hint_text}
+use Rattle.ccr_run.specs.Refusals.{RefusalData, refusal_of, refusal_text}
+use Rattle.ccr_run.specs.Writers.{WriterData, GetsLines}
 
 -- ---- what is told
 -- the lines of what was found in a pipeline that was set, the budget that a search would go over, a refusal, what to do about
@@ -32,13 +33,14 @@ pub record ToldData : Type 0 where
 abbrev pub nothing_told : ToldData
 nothing_told = record { gates = None; budget = None; refusal = None; hint = None; is_unprinted = false }
 
+-- the line of a finding of this kind, but of a key of Concourse without effect
+abbrev pub told_line : Kind → Text → List Text
+told_line Unused line = []
+told_line kind line = line ∷ []
+
 -- the lines of these findings, but of keys of Concourse without effect
 abbrev pub told_lines : List Finding → List Text
-told_lines [] = []
-told_lines (f ∷ fs) = with_line f.kind (string_bytes f.line) (told_lines fs) where
-  with_line : Kind → Text → List Text → List Text
-  with_line Unused line lines = lines
-  with_line kind line lines = line ∷ lines
+told_lines findings = flat_map (λ f. told_line f.kind (string_bytes f.line)) findings
 
 -- a refusal that was told
 abbrev pub refusal_told : ToldRefusal → RefusalData
@@ -46,7 +48,7 @@ refusal_told t =
     record { words = t.words.now; path = option_map (λ path. string_bytes path.value) t.path; status = t.status }
 
 -- what a value of the program's type has told
-abbrev pub told_data : {R : Type 0} → Telling R → ToldData
+abbrev pub told_data : {E : Type 0} → Telling E → ToldData
 told_data t = record {
   gates = option_map (λ found. told_lines found.value.items) t.gates;
   budget = t.budget;
@@ -54,6 +56,53 @@ told_data t = record {
   hint = option_map hint_data t.hint;
   is_unprinted = t.is_unprinted;
 }
+
+-- ---- the lines of what is told
+-- these lines, if there are any
+abbrev pub gate_lines : Option (List Text) → List Text
+gate_lines None = []
+gate_lines (Some lines) = lines
+
+-- how it is written that a search would go over a budget
+abbrev pub budget_line : ℕ → Text
+budget_line budget = codes "over budget " ++ decimal budget
+
+-- the line of a budget, if there is one
+abbrev pub budget_lines : Option ℕ → List Text
+budget_lines None = []
+budget_lines (Some budget) = budget_line budget ∷ []
+
+-- the line of a refusal, if there is one
+abbrev pub refusal_lines : Option RefusalData → List Text
+refusal_lines None = []
+refusal_lines (Some refusal) = refusal_text refusal ∷ []
+
+-- the line of what to do, if there is one
+abbrev pub hint_lines : Option HintData → List Text
+hint_lines None = []
+hint_lines (Some hint) = hint_text hint ∷ []
+
+-- how it is written that not all lines went out
+abbrev pub unprinted_line : Text
+unprinted_line = codes "refused: standard output: cannot write"
+
+-- the line that not all lines went out, if so
+abbrev pub unprinted_lines : Bool → List Text
+unprinted_lines false = []
+unprinted_lines true = unprinted_line ∷ []
+
+-- the lines of how it ended: the budget's, the refusal's, what to do, and that not all lines went out
+abbrev pub end_lines : ToldData → List Text
+end_lines told =
+    budget_lines told.budget ++ (refusal_lines told.refusal ++ (hint_lines told.hint ++ unprinted_lines told.is_unprinted))
+
+-- THE LINES OF WHAT IS TOLD, in their order: what was found, and how it ended
+abbrev pub lines_of : ToldData → List Text
+lines_of told = gate_lines told.gates ++ end_lines told
+
+-- WHAT IS TOLD IS WHAT IS WRITTEN: each of its lines once, with its line end, in order, and nothing else, unless a write fails
+abbrev pub TellsLines : ToldData → WriterData → WriterData → Type 0
+TellsLines told old new = GetsLines (lines_of told) old new
 
 -- ---- what is to be told
 -- what is shown is a proof
@@ -101,7 +150,7 @@ has_set command end = false
 -- what is found in this text of a pipeline is told, if one was set; nothing is, where there is no text, or out of memory
 abbrev pub AreGates : Bool → Option Text → Option (List Text) → Type 0
 AreGates true (Some text) (Some lines) = (findings : List Finding) × Finds text (Ok findings) × (lines ≡ told_lines findings)
-AreGates true (Some text) None = (fault : ServeFault) × Finds text (Err fault)
+AreGates true (Some text) None = (fault : ReadFault) × Finds text (Err fault)
 AreGates sets text told = told ≡ None
 
 -- WHAT A COMMAND TELLS with this outcome, and with the text of the pipeline since: what is found in a pipeline that it has set, and

@@ -1,5 +1,5 @@
 -- What to do about how a command ended, where that helps.
-use Rattle.std.specs.Prelude.{ℕ, Option, Some, None, option_map, Result, Ok, Err, codes, nat_eq, if◌then◌else◌}
+use Rattle.std.specs.Prelude.{ℕ, ◌++◌, Option, Some, None, option_map, Result, Ok, Err, codes, nat_eq, if◌then◌else◌}
 use Rattle.sqlite.specs.declared.error.Error.{Error}
 use Rattle.sqlite.specs.declared.error.Error.TheVariants.{SqliteFailure}
 use Rattle.sqlite.specs.declared.error.ErrorCode.TheVariants as sql
@@ -24,6 +24,15 @@ pub record HintData : Type 0 where
 -- what a value of the program's type stands for
 abbrev pub hint_data : Hint → HintData
 hint_data h = record { path = option_map (λ path. path.now) h.path; words = h.words.now }
+
+-- the words, behind the path where there is one
+abbrev pub text_about : Option Text → Text → Text
+text_about None words = codes "hint: " ++ words
+text_about (Some path) words = codes "hint: " ++ (path ++ (codes ": " ++ words))
+
+-- how it is written what to do
+abbrev pub hint_text : HintData → Text
+hint_text h = text_about h.path h.words
 
 -- what to do, whichever database it is
 abbrev pub bare : Text → HintData

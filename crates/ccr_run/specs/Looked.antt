@@ -1,5 +1,5 @@
 -- What comes of a look.
-use Rattle.std.specs.Prelude.{◌≡◌, ◌⊎◌, ℕ, Result, Ok, Err}
+use Rattle.std.specs.Prelude.{◌≡◌, ◌⊎◌, ℕ, List, [], ◌∷◌, Option, Some, None, Result, Ok, Err}
 use Rattle.sqlite_disk.specs.declared.Disk as disk
 use Rattle.sqlite_store.specs.declared.store.FileStore.{FileStore}
 use Rattle.sqlite_trees.specs.declared.store.Store.{Ghosts}
@@ -20,6 +20,8 @@ use Rattle.ccr_serve.specs.declared.fault.ServeFault.TheVariants.{Core, BadPin, 
 use Rattle.ccr_run.specs.declared.failure.Failure.{Failure}
 use Rattle.ccr_run.specs.declared.failure.Failure.TheVariants.{Refused, Unread, Unfound}
 use Rattle.ccr_run.specs.declared.order.LookOrder.{LookOrder}
+use Rattle.ccr_run.specs.Asked.{AskedData}
+use Rattle.ccr_run.specs.Asked as files
 
 -- how it ended that something was shown, as the program hands it on: its status, or its refusal
 abbrev pub shown_end : Result ℕ ShowFault → Result ℕ Failure
@@ -33,43 +35,49 @@ abbrev pub ShownOf : LookOrder → CoreData → Result ℕ Failure → Text → 
 ShownOf order core end old new =
     (answer : Result ℕ ShowFault) × (end ≡ shown_end answer) × Showing (shown_data order.what) core answer old new
 
+-- all that was asked of the files is that the database be read which the options name, and it was answered so
+abbrev pub IsReadOf : LookOrder → Option CopyFault → List AskedData → Type 0
+IsReadOf order fault asked = asked ≡ files.read order.options.database.now fault ∷ []
+
 -- the database that the options name was read, as a look reads
 abbrev pub IsCopied : LookOrder → Copied → Type 0
 IsCopied order copied = (copied.path.now ≡ order.options.database.now) × IsReadInOrder copied
 
 module _ {D : Type 0} {d : disk.Ghosts D} (g : Ghosts (FileStore D d)) (order : LookOrder) where
   -- the database that the options name was read, a core stands over the history that is found in the bytes, and what is looked at was shown of it
-  pub record DidLook (end : Result ℕ Failure) (old new : Text) : Type 0 where
+  pub record DidLook (asked : List AskedData) (end : Result ℕ Failure) (old new : Text) : Type 0 where
+    pub asked_is : IsReadOf order None asked
     pub copied : Copied
     pub read : IsCopied order copied
     pub core : CoreData
     pub sees : Sees g (image_of copied) order.options.budget core
     pub shown : ShownOf order core end old new
 
-  -- WHY NOTHING IS SEEN: the database wasn't read; or it was, and no history is found in the bytes
-  abbrev pub KeepsFromSeeing : Failure → Type 0
-  KeepsFromSeeing failure =
-      ((fault : CopyFault) × (failure ≡ Unread fault))
-      ⊎ ((copied : Copied) × IsCopied order copied × (fault : StoreFault) × SeesNothing g (image_of copied) fault × (failure ≡ Unfound fault))
+  -- WHY NOTHING IS SEEN: that the database be read was answered with a fault; or it was read, and no history is found in the bytes
+  abbrev pub KeepsFromSeeing : List AskedData → Failure → Type 0
+  KeepsFromSeeing asked failure =
+      ((fault : CopyFault) × IsReadOf order (Some fault) asked × (failure ≡ Unread fault))
+      ⊎ (IsReadOf order None asked × (copied : Copied) × IsCopied order copied × (fault : StoreFault)
+      × SeesNothing g (image_of copied) fault × (failure ≡ Unfound fault))
 
   -- nothing is seen, for a cause, and nothing is printed
-  pub record SawNothing (end : Result ℕ Failure) (old new : Text) : Type 0 where
+  pub record SawNothing (asked : List AskedData) (end : Result ℕ Failure) (old new : Text) : Type 0 where
     pub failure : Failure
     pub end_is : end ≡ Err failure
-    pub cause : KeepsFromSeeing failure
+    pub cause : KeepsFromSeeing asked failure
     pub unprinted : new ≡ old
 
-  -- WHAT CAME OF A LOOK
-  abbrev pub Looked : Result ℕ Failure → Text → Text → Type 0
-  Looked end old new = DidLook end old new ⊎ SawNothing end old new
+  -- WHAT CAME OF A LOOK, with what was asked of the files
+  abbrev pub Looked : List AskedData → Result ℕ Failure → Text → Text → Type 0
+  Looked asked end old new = DidLook asked end old new ⊎ SawNothing asked end old new
 
 module _ {D C : Type 0} {d : disk.Ghosts D} {c : disk.Ghosts C} (g : Ghosts (FileStore D d)) (beside : Ghosts (FileStore C c))
     (order : LookOrder) where
   -- what a look finds in bytes that a server's files leave is what its storage leaves, whichever server it is
-  pub record DidLookBeside (end : Result ℕ Failure) (old new : Text) : Type 0 where
-    pub did : DidLook g order end old new
+  pub record DidLookBeside (asked : List AskedData) (end : Result ℕ Failure) (old new : Text) : Type 0 where
+    pub did : DidLook g order asked end old new
     pub left : (server : Held (FileStore C c)) → IsWhatIsLeft server (image_of did.copied) did.sees.history
 
   -- WHAT CAME OF A LOOK BESIDE A SERVER
-  abbrev pub LookedBeside : Result ℕ Failure → Text → Text → Type 0
-  LookedBeside end old new = DidLookBeside end old new ⊎ SawNothing g order end old new
+  abbrev pub LookedBeside : List AskedData → Result ℕ Failure → Text → Text → Type 0
+  LookedBeside asked end old new = DidLookBeside asked end old new ⊎ SawNothing g order asked end old new

@@ -1,5 +1,5 @@
 -- What words come to.
-use Rattle.std.specs.Prelude.{◌≡◌, ◌⊎◌, ℕ, List, Bool, true, not, Option, Some, None, Result, Ok, Err}
+use Rattle.std.specs.Prelude.{◌≡◌, ◌⊎◌, ℕ, List, [], Bool, true, not, Some, Result, Ok, Err}
 use Rattle.ccr_history.specs.Text.{Text}
 use Rattle.ccr_history.specs.declared.storage.Storage as storage
 use Rattle.ccr_process.specs.declared.runner.Runner as runner
@@ -16,6 +16,7 @@ use Rattle.ccr_run.specs.declared.order.LookOrder.{LookOrder}
 use Rattle.ccr_run.specs.declared.order.Misuse.{Misuse}
 use Rattle.ccr_run.specs.declared.order.Order.{Order}
 use Rattle.ccr_run.specs.declared.run.Outcome.{Outcome}
+use Rattle.ccr_run.specs.Asked.{AskedData}
 use Rattle.ccr_run.specs.Aborting.{Asks, IsPrinted, abort_status, told_of}
 use Rattle.ccr_run.specs.Explained.{ToldData, IsToldOf, explained, nothing_told}
 use Rattle.ccr_run.specs.Found.{ValidationData, Validates, is_validation, refusal_in, validated_status, validation_in}
@@ -28,23 +29,20 @@ use Rattle.ccr_run.specs.Statuses.{exit_status_of, printed_status, misuse_status
 abbrev pub IsTold : Misuse → ℕ → Type 0
 IsTold misuse status = (status ≡ misuse_status misuse) ⊎ (status ≡ 4)
 
--- the program ends with this status: that of what was done, or of a misuse
-abbrev pub IsEnd : Result ℕ Misuse → ℕ → Type 0
-IsEnd (Ok done) status = status ≡ done
-IsEnd (Err misuse) status = IsTold misuse status
-
--- what words come to: the path of the database that was opened, if one was, what was printed before and after, whether a write
--- failed, what is told on standard error, and the status, or why the words order nothing
+-- what words come to: what was asked of the database's files, what was printed before and after, and what was told beside it as the
+-- command went on, whether a write failed, what is told on standard error as it ends, and the status, or why the words order nothing
 pub record Ending : Type 0 where
-  pub asked : Option Text
+  pub asked : List AskedData
   pub old : Text
   pub new : Text
+  pub old_notes : List Text
+  pub new_notes : List Text
   pub failed : Bool
   pub told : ToldData
   pub status : Result ℕ Misuse
 
 module _ {R F T C : Type 0} (r : runner.Ghosts R) (s : shelf.Ghosts F) (t : storage.Ghosts T) (coming : Coming T C)
-    (looks : LookOrder → Result ℕ Failure → Text → Text → Type 0) (words : List Text) (given : Tools R F) where
+    (looks : LookOrder → List AskedData → Result ℕ Failure → Text → Text → Type 0) (words : List Text) (given : Tools R F) where
   -- the words order a command, and this came of it
   pub record IsDone (ending : Ending) (kept : Left R F T C) : Type 0 where
     pub order : Order
@@ -55,8 +53,8 @@ module _ {R F T C : Type 0} (r : runner.Ghosts R) (s : shelf.Ghosts F) (t : stor
     pub told : IsToldOf order outcome (text_left kept) ending.told
     pub status_is : ending.status ≡ Ok (exit_status_of outcome)
 
-  -- the words ask for a build to be aborted: the shelf had the one call that asks for it, no program was started, and no database
-  -- opened
+  -- the words ask for a build to be aborted: the shelf had the one call that asks for it, no program was started, nothing was asked of the
+  -- database's files, and nothing was told beside the lines
   pub record IsAbort (ending : Ending) (kept : Left R F T C) : Type 0 where
     pub order : AbortOrder
     pub ordered : IsAbortOrdered words order
@@ -65,25 +63,26 @@ module _ {R F T C : Type 0} (r : runner.Ghosts R) (s : shelf.Ghosts F) (t : stor
     pub left : kept ≡ Unopened tools
     pub idle : tools.runner ≡ given.runner
     pub asks : Asks order (s.calls given.shelf) end (s.calls tools.shelf)
-    pub unasked : ending.asked ≡ None
+    pub unasked : ending.asked ≡ []
+    pub quiet : ending.new_notes ≡ ending.old_notes
     pub printed : IsPrinted order end ending.old ending.new
     pub told : ending.told ≡ told_of end (not ending.failed)
     pub status_is : ending.status ≡ Ok (printed_status (not ending.failed) (abort_status end))
 
-  -- the words order a look: no program was started, the shelf wasn't called, and no database was opened
+  -- the words order a look: no program was started, the shelf wasn't called, and nothing was told beside the lines
   pub record IsLooked (ending : Ending) (kept : Left R F T C) : Type 0 where
     pub order : LookOrder
     pub ordered : IsLookOrdered words order
     pub outcome : Outcome
-    pub looked : looks order outcome.end ending.old ending.new
+    pub looked : looks order ending.asked outcome.end ending.old ending.new
     pub left : kept ≡ Unopened given
-    pub unasked : ending.asked ≡ None
+    pub quiet : ending.new_notes ≡ ending.old_notes
     pub printed : outcome.is_printed ≡ not ending.failed
     pub told : ending.told ≡ explained (record { options = order.options; command = Show order.what }) outcome
     pub status_is : ending.status ≡ Ok (exit_status_of outcome)
 
-  -- the words order a pipeline's file to be validated: it was read, which was the one call of the shelf; no program was started, and
-  -- no database opened
+  -- the words order a pipeline's file to be validated: it was read, which was the one call of the shelf; no program was started, nothing
+  -- was asked of the database's files, and nothing was told beside the lines
   pub record IsValidated (ending : Ending) (kept : Left R F T C) : Type 0 where
     pub validation : ValidationData
     pub named : is_validation words ≡ true
@@ -93,7 +92,8 @@ module _ {R F T C : Type 0} (r : runner.Ghosts R) (s : shelf.Ghosts F) (t : stor
     pub left : kept ≡ Unopened tools
     pub idle : tools.runner ≡ given.runner
     pub validates : Validates validation end (s.calls given.shelf) (s.calls tools.shelf) ending.old ending.new
-    pub unasked : ending.asked ≡ None
+    pub unasked : ending.asked ≡ []
+    pub quiet : ending.new_notes ≡ ending.old_notes
     pub told : ending.told ≡ record nothing_told { refusal = refusal_in end }
     pub status_is : ending.status ≡ Ok (validated_status end (not ending.failed))
 
@@ -102,8 +102,9 @@ module _ {R F T C : Type 0} (r : runner.Ghosts R) (s : shelf.Ghosts F) (t : stor
     pub misuse : Misuse
     pub misused : IsMisused words misuse
     pub left : kept ≡ Unopened given
-    pub unasked : ending.asked ≡ None
+    pub unasked : ending.asked ≡ []
     pub unprinted : ending.new ≡ ending.old
+    pub quiet : ending.new_notes ≡ ending.old_notes
     pub told : ending.told ≡ nothing_told
     pub status_is : ending.status ≡ Err misuse
 

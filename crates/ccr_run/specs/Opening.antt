@@ -1,4 +1,4 @@
--- What SQLite answers to an open of the database.
+-- What an opener is answered, and why it opens nothing.
 use Rattle.std.specs.Prelude.{◌≡◌, ◌⊎◌, Bool, true, false, None, IfSome, IsTrue}
 use Rattle.sqlite_disk.specs.declared.Disk.{Ghosts}
 use Rattle.sqlite_disk.specs.declared.Files.{Files}
@@ -36,9 +36,8 @@ module _ {D : Type 0} {g : Ghosts D} (fresh : Bool → D → Type 0) where
       (files : Files D) × fresh true files.log × fresh false files.db
       × (IsCleanLeft left → FailsToOpenFiles files left error × LeavesFiles files left)
 
-  -- SQLITE ANSWERED SO TO THE OPEN: an error that is this failure; no file was opened, or those that were aren't a database that
-  -- can be opened
-  abbrev pub HasRefused : {C : Type 0} → Answer C (Leftover D g) → Failure → Type 0
-  HasRefused (Refused error left) failure =
-      (failure ≡ failure_of error) × IsTrue (is_open_error error) × (left ≡ None → IsShutOut error) × IfSome left (FailsOver error)
-  HasRefused answer failure = ⊥
+  -- AN OPEN WAS ANSWERED WITH THIS ERROR: no file was opened, or those that were aren't a database that can be opened
+  abbrev pub HasRefused : {C : Type 0} → Answer C (Leftover D g) → Error → Type 0
+  HasRefused (Refused it left) error =
+      (it ≡ error) × IsTrue (is_open_error error) × (left ≡ None → IsShutOut error) × IfSome left (FailsOver error)
+  HasRefused answer error = ⊥

@@ -1,5 +1,6 @@
 -- What came of an order.
-use Rattle.std.specs.Prelude.{◌≡◌, ◌⊎◌, ℕ, Option, Some, None, option_map, Result, Ok, Err}
+use Rattle.std.specs.Prelude.{◌≡◌, ◌⊎◌, ℕ, List, [], ◌∷◌, Option, Some, None, option_map, Result, Ok, Err}
+use Rattle.sqlite.specs.declared.error.Error.{Error}
 use Rattle.ccr_history.specs.Text.{Text}
 use Rattle.ccr_history.specs.Counts.{RoseBy}
 use Rattle.ccr_history.specs.History.{HistoryData}
@@ -22,6 +23,9 @@ use Rattle.ccr_run.specs.declared.left.Left.{Left}
 use Rattle.ccr_run.specs.declared.left.Left.TheVariants as left
 use Rattle.ccr_run.specs.declared.left.Tools.{Tools}
 use Rattle.ccr_run.specs.declared.order.Order.{Order}
+use Rattle.ccr_run.specs.Asked.{AskedData}
+use Rattle.ccr_run.specs.Asked as files
+use Rattle.ccr_run.specs.Opening.{failure_of}
 
 -- the server's folders are those of the options, and so is its launcher
 abbrev pub places_in : Order → PlacesData
@@ -36,9 +40,9 @@ abbrev pub handed_on : Result ℕ ServeFault → Result ℕ Failure
 handed_on (Ok status) = Ok status
 handed_on (Err fault) = Err (Refused fault)
 
--- the database that the options name was opened
-abbrev pub IsNamed : Order → Option Text → Type 0
-IsNamed order asked = asked ≡ Some order.options.database.now
+-- all that was asked of the files is that the database be opened which the options name, and it was answered so
+abbrev pub IsOpenOf : Order → Option Error → List AskedData → Type 0
+IsOpenOf order error asked = asked ≡ files.opened order.options.database.now error ∷ []
 
 -- with this runner, this shelf and this storage
 module _ {R F T : Type 0} (r : runner.Ghosts R) (s : shelf.Ghosts F) (t : storage.Ghosts T) where
@@ -96,27 +100,29 @@ pub record IsUnserved {K : Type 0} (cause : Failure → Type 0) (given : K) (end
 abbrev pub IsBare : {C : Type 0} → (StoreFault → C → Type 0) → C → Failure → Type 0
 IsBare unfound conn failure = (fault : StoreFault) × unfound fault conn × (failure ≡ Refused (Store fault))
 
--- no database was opened: it was out of memory before, or the open was answered so
-abbrev pub IsUnopened : (Failure → Type 0) → Order → Option Text → Failure → Type 0
+-- no database was opened: it was out of memory before anything was asked of the files; or the open was answered with an error, which is
+-- the failure
+abbrev pub IsUnopened : (Error → Type 0) → Order → List AskedData → Failure → Type 0
 IsUnopened unopened order asked failure =
-    ((asked ≡ None) × (failure ≡ Refused NoMemory)) ⊎ (IsNamed order asked × unopened failure)
+    ((asked ≡ []) × (failure ≡ Refused NoMemory))
+    ⊎ ((error : Error) × (failure ≡ failure_of error) × IsOpenOf order (Some error) asked × unopened error)
 
 -- how a database comes to a server: what its storage begins with, how its open is answered, and why no history is found in it,
 -- with its connection since
 pub record Coming (T C : Type 0) : Type 1 where
   pub begins_with : T → HistoryData → Type 0
-  pub unopened : Failure → Type 0
+  pub unopened : Error → Type 0
   pub unfound : StoreFault → C → Type 0
 
 module _ {R F T C : Type 0} (r : runner.Ghosts R) (s : shelf.Ghosts F) (t : storage.Ghosts T) (coming : Coming T C) where
   -- WHAT CAME OF AN ORDER, with what was given and with what is left: a server over the database that the options name did the
   -- command; or none was made, since none was opened over the storage, no history was found, or no database was opened
-  abbrev pub Served : Order → Option Text → Tools R F → Result ℕ Failure → Left R F T C → Text → Text → Type 0
+  abbrev pub Served : Order → List AskedData → Tools R F → Result ℕ Failure → Left R F T C → Text → Text → Type 0
   Served order asked given end (left.Served server) old new =
-      IsNamed order asked × DidCommand r s t coming.begins_with order given end server old new
+      IsOpenOf order None asked × DidCommand r s t coming.begins_with order given end server old new
   Served order asked given end (left.Unbegun tools storage) old new =
-      IsNamed order asked × IsUnserved (IsUnbegun r s t coming.begins_with storage) given end tools old new
+      IsOpenOf order None asked × IsUnserved (IsUnbegun r s t coming.begins_with storage) given end tools old new
   Served order asked given end (left.Unfound tools conn) old new =
-      IsNamed order asked × IsUnserved (IsBare coming.unfound conn) given end tools old new
+      IsOpenOf order None asked × IsUnserved (IsBare coming.unfound conn) given end tools old new
   Served order asked given end (left.Unopened tools) old new =
       IsUnserved (IsUnopened coming.unopened order asked) given end tools old new

@@ -3,18 +3,21 @@ ghost use Rattle.std.specs.Prelude.{◌≡◌, ◌≤◌, ◌++◌, [], None, tr
 ghost use Rattle.ccr_pipeline.specs.Kinds.{is_name};
 ghost use Rattle.ccr_run.specs.Aborting.{abort_status, asked_line, Asks};
 ghost use Rattle.ccr_run.specs.Aborting as spec;
-ghost use Rattle.ccr_run.specs.Explained.{nothing_told, told_data};
+ghost use Rattle.ccr_run.specs.Explained.{nothing_told, told_data, refusal_lines, TellsLines};
 ghost use Rattle.ccr_run.specs.Refusals.{refusal_data};
 ghost use Rattle.ccr_run.specs.Statuses.{printed_status};
+ghost use Rattle.ccr_run.specs.Writers.{GetsLines};
 
 use crate::order::AbortOrder;
 use crate::refusal::{Refusal, broken, refused};
 use crate::run::places_of;
+use crate::tell::tell_unprinted;
 use crate::telling::Telling;
 use ccr_lines::Lines;
 use ccr_pipeline::is_name;
 use ccr_task::{Shelf, ShelfFault, ask_abort};
 use std::alloc::{AllocError, Global};
+use std::io::Write;
 
 /// Why a build isn't asked to be aborted.
 #[derive(Clone, Copy, PartialEq, Eq)]
@@ -74,14 +77,15 @@ fn line_with_room<O: Lines>(
     ensures room { IfOk result (λ line. length (string_bytes line) ≤ O.room out.new) }
     ensures same { O.written out.new ≡ O.written out.old }
     ensures waiting { O.waiting out.new ≡ O.waiting out.old }
+    ensures quiet { O.notes out.new ≡ O.notes out.old }
 {
     let line = asked_line(alloc, order)?;
     out.make_room(line.len())?;
     Ok(line)
 }
 
-/// Asks for the build that is ordered to be aborted, by a directory of the shelf, and prints that it is asked. Which jobs there are
-/// stands in the database; here the name is one that a job may have.
+/// Asks for the build that is ordered to be aborted, by a directory of the shelf, and prints that it is asked; nothing is told beside
+/// that. Which jobs there are stands in the database; here the name is one that a job may have.
 pub fn abort_build<F: Shelf, O: Lines>(
     alloc: Global,
     shelf: &mut F,
@@ -92,6 +96,7 @@ pub fn abort_build<F: Shelf, O: Lines>(
     ensures asked { OnOk result (O.written out.new ≡ O.written out.old ++ asked_line order.now) }
     ensures refused { OnErr result (O.written out.new ≡ O.written out.old) }
     ensures whole { O.waiting out.old ≡ [] → O.waiting out.new ≡ [] }
+    ensures quiet { O.notes out.new ≡ O.notes out.old }
 {
     if !is_name(order.build.job) {
         return Err(AbortFault::NoJob);
@@ -120,9 +125,10 @@ fn status_of(end: &Result<(), AbortFault>) -> u8
 }
 
 /// Tells why a build isn't asked to be aborted.
-fn tell_refusal<R: Eprint>(telling: &mut Telling<'_, '_, R>, end: &Result<(), AbortFault>)
+fn tell_refusal<E: Write>(telling: &mut Telling<'_, E>, end: &Result<(), AbortFault>)
     requires { (told_data telling.old).refusal ≡ None }
-    ensures { told_data telling.new ≡ record (told_data telling.old) { refusal = spec.refusal_in end.now } }
+    ensures told { told_data telling.new ≡ record (told_data telling.old) { refusal = spec.refusal_in end.now } }
+    ensures wrote { GetsLines (refusal_lines (spec.refusal_in end.now)) telling.old.errors telling.new.errors }
 {
     match end {
         Ok(()) => {}
@@ -132,19 +138,17 @@ fn tell_refusal<R: Eprint>(telling: &mut Telling<'_, '_, R>, end: &Result<(), Ab
 
 /// Tells what came of an order to ask, and gives the status: 0 where it is asked, 1 where no job can have the name, and 4 where
 /// the directory can't be made, memory runs out, or the line doesn't go out.
-pub fn tell_abort<R: Eprint>(
-    telling: &mut Telling<'_, '_, R>,
+pub fn tell_abort<E: Write>(
+    telling: &mut Telling<'_, E>,
     end: &Result<(), AbortFault>,
     is_printed: bool,
 ) -> u8
     requires { told_data telling.old ≡ nothing_told }
     ensures status { result ≡ printed_status is_printed (abort_status end.now) }
     ensures told { told_data telling.new ≡ spec.told_of end.now is_printed }
+    ensures wrote { TellsLines (spec.told_of end.now is_printed) telling.old.errors telling.new.errors }
 {
     tell_refusal(telling, end);
-    if is_printed {
-        return status_of(end);
-    }
-    telling.unprinted();
-    4
+    tell_unprinted(telling, is_printed);
+    if is_printed { status_of(end) } else { 4 }
 }

@@ -2,7 +2,7 @@
 ghost use Rattle.std.specs.Prelude.{◌≡◌, ◌≢◌, [], ◌∷◌, false, IfOk, IfErr, IfSome};
 ghost use Rattle.sqlite_wal.specs.Files.{image_at};
 ghost use Rattle.sqlite.specs.Files.{file_state, IsOpened};
-ghost use Rattle.sqlite.specs.Held.{state};
+ghost use Rattle.sqlite.specs.Held.{state, IsNew};
 ghost use Rattle.sqlite.specs.Start.{FindsIn};
 ghost use Rattle.sqlite.specs.State.{HasCleanDisk, Survives};
 ghost use Rattle.ccr_core.specs.Resumed.{IsReadable};
@@ -51,7 +51,8 @@ fn take<D: Alter + Drop>(
     alloc: Global,
     conn: Connection<D>,
 ) -> Result<Store<D>, Unloaded<Connection<D>>>
-    requires { (state D.Store conn).in_transaction ≡ false }
+    requires idle { (state D.Store conn).in_transaction ≡ false }
+    requires fresh { IsNew conn }
     ensures made { IfOk result (λ store. let new = state D.Store store.conn in
         HasCleanDisk new → (state D.Store conn).now.schema ≡ no_schema
         → IsStored no_history new.now × (new.committed ≡ new.now)) }
@@ -115,6 +116,7 @@ impl<S: Start> Database<FileStore<FileFrom<S>>> {
         conn: Connection<FileStore<FileFrom<S>>>,
     ) -> Result<(FileDatabase<S>, History), Unloaded<Connection<FileStore<FileFrom<S>>>>>
         requires idle { (file_state conn).in_transaction ≡ false }
+        requires fresh { IsNew conn }
         requires opened { HasCleanDisk (file_state conn) → IsOpened conn }
         requires found { HasCleanDisk (file_state conn) → FindsIn (image_at S.Start) (file_state conn) }
         ensures holds { IfOk result (λ loaded. holds (image_at S.Start) loaded.0 loaded.1) }

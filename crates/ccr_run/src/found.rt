@@ -1,20 +1,22 @@
 //! What is found in a pipeline's file: told beside `set-pipeline`, and by `validate-pipeline`, which opens no database.
 ghost use Rattle.std.specs.Prelude.{◌≡◌, ◌++◌, [], None, Some, Ok, Err, map, option_map, option_copied, slice_get, string_bytes, IfOk, IfErr, OnOk, OnErr};
-ghost use Rattle.ccr_run.specs.Explained.{told_data, has_set, AreGates};
-ghost use Rattle.ccr_run.specs.Found.{Finds, FindsIn, Validates, findings_text, is_option, validation_data};
+ghost use Rattle.ccr_findings.specs.Findings.{findings_data};
+ghost use Rattle.ccr_run.specs.Explained.{told_data, has_set, AreGates, gate_lines, refusal_lines};
+ghost use Rattle.ccr_run.specs.Found.{Finds, IsRefusedText, PrintsRefused, Validates, ValidatesText, findings_text, is_option, line_text, lines_text, validation_data, wrong_text};
 ghost use Rattle.ccr_run.specs.Found as spec;
+ghost use Rattle.ccr_run.specs.Writers.{GetsLines};
 
 use crate::failure::Failure;
 use crate::refusal::refusal_of;
 use crate::telling::Telling;
-use ccr_command::{Finding, Findings, findings_of, is_faultless};
 use ccr_core::Command;
+use ccr_findings::{Finding, Findings, fault_lines, findings_in_text, findings_of, is_faultless};
 use ccr_lines::Lines;
-use ccr_pipeline::{ReadFault, read};
+use ccr_pipeline::{ReadFault, read, value_of};
 use ccr_serve::ServeFault;
 use ccr_task::{Shelf, ShelfFault};
-use serde_json::Value;
 use std::alloc::{AllocError, Global};
+use std::io::Write;
 
 /// The word of the command that opens no database.
 pub const VALIDATE: &str = "validate-pipeline";
@@ -31,37 +33,14 @@ pub struct Validation<'a> {
     pub is_strict: bool,
 }
 
-/// What a text's pipeline has. `Read` where it is refused.
-fn findings_of_text(alloc: Global, text: &[u8]) -> Result<Findings, ServeFault>
+/// What is found in a text, or the fault for which it is refused: the first one that is present in it.
+fn findings_of_text(alloc: Global, text: &[u8]) -> Result<Findings, ReadFault>
     ensures ok { IfOk result (λ findings. Finds text.now (Ok findings.items)) }
     ensures err { IfErr result (λ fault. Finds text.now (Err fault)) }
 {
-    let pipeline = match read(alloc, text) {
-        Ok(pipeline) => pipeline,
-        Err(ReadFault::NoMemory) => return Err(ServeFault::NoMemory),
-        Err(fault) => return Err(ServeFault::Read(fault)),
-    };
-    let Ok(value) = Value::from_slice(alloc, text) else {
-        return Err(ServeFault::NoMemory);
-    };
-    match findings_of(alloc, &pipeline, &value) {
-        Ok(findings) => Ok(findings),
-        Err(_) => Err(ServeFault::NoMemory),
-    }
-}
-
-/// What the pipeline in the file at this path has. `File` where that can't be read.
-fn findings_in<F: Shelf>(alloc: Global, shelf: &mut F, path: &str) -> Result<Findings, ServeFault>
-    ensures ok { IfOk result (λ findings.
-        FindsIn path.now (Ok findings.items) (F.calls shelf.old) (F.calls shelf.new)) }
-    ensures err { IfErr result (λ fault. FindsIn path.now (Err fault) (F.calls shelf.old) (F.calls shelf.new)) }
-{
-    match shelf.read_file(path) {
-        Ok(text) => findings_of_text(alloc, &text),
-        Err(ShelfFault::NoMemory) => Err(ServeFault::NoMemory),
-        // A file that is too long is no pipeline either; what has to be done is to look at it.
-        Err(ShelfFault::TooLong | ShelfFault::Failed) => Err(ServeFault::File),
-    }
+    let pipeline = read(alloc, text)?;
+    let value = value_of(alloc, text, "pipeline")?;
+    Ok(findings_of(alloc, &pipeline, &value)?)
 }
 
 /// Whether a command has set a pipeline.
@@ -78,9 +57,9 @@ fn has_set(command: &Command, end: &Result<u8, Failure>) -> bool
 }
 
 /// Says on standard error what is found in this text of a pipeline, where the command has set one.
-pub fn tell_gates<R: Eprint>(
+pub fn tell_gates<E: Write>(
     alloc: Global,
-    telling: &mut Telling<'_, '_, R>,
+    telling: &mut Telling<'_, E>,
     command: &Command,
     end: &Result<u8, Failure>,
     text: Option<&[u8]>,
@@ -88,6 +67,7 @@ pub fn tell_gates<R: Eprint>(
     requires { (told_data telling.old).gates ≡ None }
     ensures gates { AreGates (has_set command.now end.now) (option_copied text.entry) (told_data telling.new).gates }
     ensures rest { told_data telling.new ≡ record (told_data telling.old) { gates = (told_data telling.new).gates } }
+    ensures wrote { GetsLines (gate_lines (told_data telling.new).gates) telling.old.errors telling.new.errors }
 {
     if !has_set(command, end) {
         return;
@@ -167,14 +147,22 @@ pub fn validation_of(words: &[String]) -> Option<Validation<'_>>
     validation_with(first, word_at(words, 3))
 }
 
+/// Adds a line, with its end.
+fn add_line(text: &mut String, line: &str) -> Result<(), AllocError>
+    ensures { OnOk result (string_bytes text.new ≡ string_bytes text.old ++ line_text line.now) }
+{
+    text.push_str(line)?;
+    text.push_str("\n")?;
+    Ok(())
+}
+
 /// The lines of what was found.
 fn text_of(alloc: Global, findings: &[Finding]) -> Result<String, AllocError>
     ensures { IfOk result (λ text. string_bytes text ≡ findings_text findings.now) }
 {
     let mut text = String::new(alloc);
     for finding in findings {
-        text.push_str(finding.line.as_str())?;
-        text.push_str("\n")?;
+        add_line(&mut text, finding.line.as_str())?;
     }
     Ok(text)
 }
@@ -184,6 +172,7 @@ pub fn print<O: Lines>(out: &mut O, bytes: &[u8]) -> Result<(), AllocError>
     ensures shown { OnOk result (O.written out.new ≡ O.written out.old ++ bytes.now) }
     ensures refused { OnErr result (O.written out.new ≡ O.written out.old) }
     ensures whole { O.waiting out.old ≡ [] → O.waiting out.new ≡ [] }
+    ensures quiet { O.notes out.new ≡ O.notes out.old }
 {
     out.make_room(bytes.len())?;
     out.add(bytes);
@@ -200,13 +189,85 @@ fn print_findings<O: Lines>(
     ensures shown { OnOk result (O.written out.new ≡ O.written out.old ++ findings_text findings.now) }
     ensures refused { OnErr result (O.written out.new ≡ O.written out.old) }
     ensures whole { O.waiting out.old ≡ [] → O.waiting out.new ≡ [] }
+    ensures quiet { O.notes out.new ≡ O.notes out.old }
 {
     let text = text_of(alloc, findings)?;
     print(out, text.as_str().as_bytes())
 }
 
+/// Adds these lines, each with its line end.
+#[tactic(auto, using(std::proofs::Common::append_assoc, crate::proofs::Refusing::and_none))]
+fn add_lines(text: &mut String, lines: &[String]) -> Result<(), AllocError>
+    ensures { OnOk result (string_bytes text.new ≡ string_bytes text.old ++ lines_text (map string_bytes lines.now)) }
+{
+    for line in lines {
+        add_line(text, line.as_str())?;
+    }
+    Ok(())
+}
+
+/// Adds the lines of what is wrong of these findings.
+#[tactic(auto, using(std::proofs::Common::append_assoc, crate::proofs::Refusing::and_none))]
+fn add_wrong(text: &mut String, findings: &[Finding]) -> Result<(), AllocError>
+    ensures { OnOk result (string_bytes text.new ≡ string_bytes text.old ++ wrong_text (findings_data findings.now)) }
+{
+    for finding in findings {
+        if finding.kind.is_wrong() {
+            add_line(text, finding.line.as_str())?;
+        }
+    }
+    Ok(())
+}
+
+/// The lines of a text that is refused: those of all its faults, and of what is wrong with its keys and texts.
+fn refused_text(alloc: Global, text: &[u8]) -> Result<String, AllocError>
+    ensures { IfOk result (λ shown. IsRefusedText text.now (string_bytes shown)) }
+{
+    let faults = fault_lines(alloc, text)?;
+    let findings = findings_in_text(alloc, text)?;
+    let mut shown = String::new(alloc);
+    add_lines(&mut shown, &faults)?;
+    add_wrong(&mut shown, &findings)?;
+    Ok(shown)
+}
+
+/// Prints the lines of a text that is refused. The only error is out of memory.
+fn print_refused<O: Lines>(alloc: Global, out: &mut O, text: &[u8]) -> Result<(), AllocError>
+    ensures shown { OnOk result (PrintsRefused text.now (O.written out.old) (O.written out.new)) }
+    ensures refused { OnErr result (O.written out.new ≡ O.written out.old) }
+    ensures whole { O.waiting out.old ≡ [] → O.waiting out.new ≡ [] }
+    ensures quiet { O.notes out.new ≡ O.notes out.old }
+{
+    let lines = refused_text(alloc, text)?;
+    print(out, lines.as_str().as_bytes())
+}
+
+/// Prints what is found in a text, and says whether nothing of it is a reason to refuse the pipeline.
+fn validate_text<O: Lines>(
+    alloc: Global,
+    text: &[u8],
+    is_strict: bool,
+    out: &mut O,
+) -> Result<bool, ServeFault>
+    ensures validates { ValidatesText is_strict text.now result (O.written out.old) (O.written out.new) }
+    ensures whole { O.waiting out.old ≡ [] → O.waiting out.new ≡ [] }
+    ensures quiet { O.notes out.new ≡ O.notes out.old }
+{
+    match findings_of_text(alloc, text) {
+        Ok(findings) => match print_findings(alloc, out, &findings) {
+            Ok(()) => Ok(is_faultless(&findings, is_strict)),
+            Err(_) => Err(ServeFault::NoMemory),
+        },
+        Err(ReadFault::NoMemory) => Err(ServeFault::NoMemory),
+        Err(fault) => match print_refused(alloc, out, text) {
+            Ok(()) => Err(ServeFault::Read(fault)),
+            Err(_) => Err(ServeFault::NoMemory),
+        },
+    }
+}
+
 /// Prints what is found in a pipeline's file. Whether nothing of it is a reason to refuse the pipeline: nothing in it doesn't do what it
-/// seems to say, and where the validation is strict, nothing but gates is found.
+/// seems to say, and where the validation is strict, nothing but gates is found. All faults of a text that is refused are printed.
 ///
 /// `Read` where the text is refused, `File` where the file can't be read, and `NoMemory`.
 pub fn validate<F: Shelf, O: Lines>(
@@ -218,27 +279,27 @@ pub fn validate<F: Shelf, O: Lines>(
     ensures validates { Validates (validation_data validation.now) result (F.calls shelf.old) (F.calls shelf.new)
         (O.written out.old) (O.written out.new) }
     ensures whole { O.waiting out.old ≡ [] → O.waiting out.new ≡ [] }
+    ensures quiet { O.notes out.new ≡ O.notes out.old }
 {
-    let findings = match findings_in(alloc, shelf, validation.path) {
-        Ok(findings) => findings,
-        Err(fault) => return Err(fault),
-    };
-    match print_findings(alloc, out, &findings) {
-        Ok(()) => Ok(is_faultless(&findings, validation.is_strict)),
-        Err(_) => Err(ServeFault::NoMemory),
+    match shelf.read_file(validation.path) {
+        Ok(text) => validate_text(alloc, &text, validation.is_strict, out),
+        Err(ShelfFault::NoMemory) => Err(ServeFault::NoMemory),
+        // A file that is too long is no pipeline either; what has to be done is to look at it.
+        Err(ShelfFault::TooLong | ShelfFault::Failed) => Err(ServeFault::File),
     }
 }
 
 /// Tells why a pipeline's file was refused, and gives the status: 0, 1 where something is a reason to refuse the pipeline, and 4
 /// where not all lines went out; or that of the refusal.
-pub fn tell_validation<R: Eprint>(
-    telling: &mut Telling<'_, '_, R>,
+pub fn tell_validation<E: Write>(
+    telling: &mut Telling<'_, E>,
     end: Result<bool, ServeFault>,
     is_printed: bool,
 ) -> u8
     requires { (told_data telling.old).refusal ≡ None }
     ensures status { result ≡ spec.validated_status end is_printed }
     ensures told { told_data telling.new ≡ record (told_data telling.old) { refusal = spec.refusal_in end } }
+    ensures wrote { GetsLines (refusal_lines (spec.refusal_in end)) telling.old.errors telling.new.errors }
 {
     match end {
         Ok(is_good) if is_printed => if is_good { 0 } else { 1 },

@@ -10,6 +10,7 @@ use ccr_pipeline::ReadFault;
 use ccr_serve::ServeFault;
 use ccr_store::StoreFault;
 use sqlite::{Error, ErrorCode};
+use std::fmt;
 
 /// What to do, with the path of the database that it is about, if it is about one.
 #[derive(Clone, Copy, PartialEq, Eq)]
@@ -18,6 +19,21 @@ pub struct Hint<'a> {
     pub path: Option<&'a str>,
     /// What to do.
     pub words: &'static str,
+}
+
+impl fmt::Display for Hint<'_> {
+    ghost use Rattle.std.specs.Prelude.{Some};
+    ghost use Rattle.ccr_run.specs.Hints.{hint_data, hint_text};
+
+    ghost output = { λ hint. Some (hint_text (hint_data hint)) };
+
+    fn fmt<W: fmt::Write>(&self, f: &mut fmt::Formatter<W>) -> fmt::Result {
+        let words = self.words;
+        match self.path {
+            Some(path) => write!(f, "hint: {path}: {words}"),
+            None => write!(f, "hint: {words}"),
+        }
+    }
 }
 
 /// What to do about a fault of the server, where that helps.

@@ -2,19 +2,21 @@
 ghost use Rattle.std.specs.Prelude.{◌≡◌, ◌≤◌, ◌++◌, [], not};
 ghost use Rattle.ccr_core.specs.Cores.{core_data};
 ghost use Rattle.ccr_proof.specs.declared.proof.TheConstants.{MOST_NODES};
-ghost use Rattle.ccr_run.specs.Explained.{explained, nothing_told, told_data};
+ghost use Rattle.ccr_run.specs.Explained.{explained, nothing_told, told_data, TellsLines};
 ghost use Rattle.ccr_run.specs.Looked.{Looked, ShownOf, shown_end};
 ghost use Rattle.ccr_run.specs.Statuses.{exit_status_of};
 ghost use Rattle.ccr_run.specs.declared.run.Outcome.{Outcome as OutcomeData};
 
 use crate::failure::Failure;
+use crate::found::print;
 use crate::opener::FileOpener;
+use crate::opening::Opens;
 use crate::order::LookOrder;
 use crate::run::Outcome;
 use crate::tell::tell;
 use crate::telling::Telling;
 use ccr_core::{Command, Core};
-use ccr_lines::{AsText, Lines, Printed, Show, ShowFault};
+use ccr_lines::{AsText, Printed, Show, ShowFault};
 use ccr_look::{Scratch, look};
 use ccr_serve::ServeFault;
 use sqlite::{FileStore, Start};
@@ -34,7 +36,7 @@ fn handed_on(end: Result<u8, ShowFault>) -> Result<u8, Failure>
     }
 }
 
-/// Shows of a core what is looked at, and hands all lines out.
+/// Shows of a core what is looked at, and hands all lines out. Nothing is told beside them.
 fn show_of<W: Write, E: Write>(
     alloc: Global,
     core: &Core,
@@ -43,25 +45,31 @@ fn show_of<W: Write, E: Write>(
 ) -> Result<u8, Failure>
     ensures shown { ShownOf order.now (core_data core.now) result
         (out.old.shown ++ out.old.waiting) (out.new.shown ++ out.new.waiting) }
-    ensures whole { out.new.waiting ≡ [] }
+    ensures whole { out.old.waiting ≡ [] → out.new.waiting ≡ [] }
+    ensures quiet { out.new.notes ≡ out.old.notes }
 {
-    let end = AsText.show(alloc, out, &order.what, core);
-    out.hand_out();
-    handed_on(end)
+    let mut lines = Vec::new(alloc);
+    let end = AsText.show(alloc, &mut lines, &order.what, core);
+    match print(out, &lines) {
+        Ok(()) => handed_on(end),
+        Err(_) => handed_on(Err(ShowFault::NoMemory)),
+    }
 }
 
 /// Reads the database that is named, and shows what is looked at of the history in it.
-fn see<'a, S: Start, W: Write, E: Write>(
+fn see<O: Opens, S: Start, W: Write, E: Write>(
     alloc: Global,
-    order: &LookOrder<'a>,
-    opener: &FileOpener<'a, S>,
+    order: &LookOrder<'_>,
+    opener: &mut FileOpener<O, S>,
     out: &mut Printed<W, E>,
 ) -> Result<u8, Failure>
+    requires unasked { O.asked opener.old.files ≡ [] }
     requires least { 1 ≤ order.now.options.budget }
     requires most { order.now.options.budget ≤ MOST_NODES }
-    ensures looked { Looked ⟦<FileStore<Scratch> as Trees>⟧ order.now result
+    ensures looked { Looked ⟦<FileStore<Scratch> as Trees>⟧ order.now (O.asked opener.new.files) result
         (out.old.shown ++ out.old.waiting) (out.new.shown ++ out.new.waiting) }
     ensures whole { out.old.waiting ≡ [] → out.new.waiting ≡ [] }
+    ensures quiet { out.new.notes ≡ out.old.notes }
 {
     let copied = match opener.read(order.options.database) {
         Ok(copied) => copied,
@@ -74,23 +82,27 @@ fn see<'a, S: Start, W: Write, E: Write>(
 }
 
 /// Looks at what is ordered, and tells what came of it: the status. No lock is taken, and nothing is written but the lines.
-pub fn look_at<'a, S: Start, W: Write, E: Write, P: Eprint>(
+pub fn look_at<'a, O: Opens, S: Start, W: Write, E: Write, P: Write>(
     alloc: Global,
     order: LookOrder<'a>,
-    opener: &FileOpener<'a, S>,
+    opener: &mut FileOpener<O, S>,
     out: &mut Printed<W, E>,
-    telling: &mut Telling<'_, 'a, P>,
+    telling: &mut Telling<'a, P>,
 ) -> u8
     requires least { 1 ≤ order.options.budget }
     requires most { order.options.budget ≤ MOST_NODES }
+    requires unasked { O.asked opener.old.files ≡ [] }
     requires untold { told_data telling.old ≡ nothing_told }
-    ensures looked { (outcome : OutcomeData) × Looked ⟦<FileStore<Scratch> as Trees>⟧ order.entry outcome.end
+    ensures looked { (outcome : OutcomeData)
+        × Looked ⟦<FileStore<Scratch> as Trees>⟧ order.entry (O.asked opener.new.files) outcome.end
         (out.old.shown ++ out.old.waiting) (out.new.shown ++ out.new.waiting)
         × (outcome.is_printed ≡ not out.new.failed)
         × (told_data telling.new
         ≡ explained (record { options = order.entry.options; command = Command.Show order.entry.what }) outcome)
         × (result ≡ exit_status_of outcome) }
     ensures whole { out.old.waiting ≡ [] → out.new.waiting ≡ [] }
+    ensures quiet { out.new.notes ≡ out.old.notes }
+    ensures wrote { TellsLines (told_data telling.new) telling.old.errors telling.new.errors }
 {
     let outcome = Outcome {
         end: see(alloc, &order, opener, out),

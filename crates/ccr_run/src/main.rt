@@ -5,12 +5,15 @@
 //! contract of [`Server::command`](ccr_serve::Server::command). That a build be aborted is asked beside the server, and
 //! opens no database. A look opens none either: it reads the files, and shows what is stored in them.
 //!
-//! `answer` alone has the runtime. It makes what starts programs, holds directories, opens the database and prints, and gives
-//! these to [`obey`](obey::obey), whose contract says what they were used for.
+//! `main` alone has the runtime. It makes what starts programs, holds directories, opens the database and prints, and gives
+//! these to [`answer`](answer::answer), whose contract says what they were used for, and which status the program ends with.
 #![tactic(auto)]
 
 mod abort;
+mod answer;
+mod asked;
 mod database;
+mod errors;
 mod failure;
 mod found;
 mod hint;
@@ -19,24 +22,21 @@ mod look;
 mod naming;
 mod obey;
 mod opener;
+mod opening;
 mod order;
 mod refusal;
 mod run;
 mod tell;
 mod telling;
 
-ghost use Rattle.std.specs.Prelude.{Result, IfErr, map, string_bytes, ℕ};
-ghost use Rattle.std.specs.Process.{exit_status};
-ghost use Rattle.ccr_run.specs.Obeyed.{IsEnd};
-ghost use Rattle.ccr_run.specs.Orders.{IsMisused};
-ghost use Rattle.ccr_run.specs.declared.order.Misuse.{Misuse as MisuseData};
-
+use answer::{Answered, answer};
 use ccr_lines::Printed;
+use ccr_process::Machine;
 use ccr_task::Folders;
 use left::Tools;
 use naming::Naming;
-use obey::{Done, obey};
 use opener::Opener;
+use opening::HostFiles;
 use order::Misuse;
 use sqlite::Unknown;
 use std::io::ErrorKind;
@@ -62,32 +62,31 @@ fn words(rt: &HostRuntime) -> Result<Vec<String>, Misuse> {
     }
 }
 
-/// Does what the words order with the machine and with the files as they are, of which nothing is known.
-fn answer<'a>(rt: &'a HostRuntime, words: &'a [String]) -> ExitCode
-    ensures { (end : Result ℕ MisuseData) × IsEnd end (exit_status result)
-        × IfErr end (IsMisused (map string_bytes words.now)) }
-{
+/// Answers the words with the programs, the directories and the files of this machine, as they are: nothing is known of them.
+fn answer_here(rt: &HostRuntime, words: &[String]) -> ExitCode {
     let alloc = rt.alloc();
     let tools = Tools {
-        runner: Naming::new(rt, alloc),
+        runner: Naming::new(Machine::new(rt, alloc), rt.stderr()),
         shelf: Folders::new(rt, alloc),
     };
-    let mut opener = Opener::new(rt, Unknown);
+    let mut opener = Opener::new(HostFiles::new(rt), Unknown);
     let mut out = Printed::new(alloc, io::writer(rt), rt.stderr());
-    let mut telling = Telling::new(rt);
-    let Done {
-        status,
-        left: _left,
-    } = obey(alloc, words, tools, &mut opener, &mut out, &mut telling);
-    match status {
-        Ok(status) => ExitCode::from(status),
-        Err(misuse) => tell_misuse(rt, &misuse),
-    }
+    let mut telling = Telling::new(alloc, rt.stderr());
+    let Answered { code, done: _done } = answer(
+        alloc,
+        words,
+        tools,
+        &mut opener,
+        &mut out,
+        &mut telling,
+        rt,
+    );
+    code
 }
 
 fn main(rt: HostRuntime) -> ExitCode {
     match words(&rt) {
-        Ok(words) => answer(&rt, &words),
+        Ok(words) => answer_here(&rt, &words),
         Err(misuse) => tell_misuse(&rt, &misuse),
     }
 }

@@ -1,35 +1,44 @@
 //! Programs of checks that don't start are named, and so is a launcher of them.
+ghost use Rattle.std.specs.Prelude.{◌≡◌, false};
+ghost use Rattle.ccr_process.specs.Ends.{end_data};
+ghost use Rattle.ccr_process.specs.Launches.{launch_data};
+ghost use Rattle.ccr_run.specs.Named.{Hints, hint_about, hint_line, is_unstarted};
+ghost use Rattle.ccr_run.specs.Named as spec;
 
-use ccr_process::{Ended, Launch, Machine, Runner};
-use std::alloc::Global;
+use ccr_process::{Ended, Launch, Runner};
+use std::io::Write;
 
-/// Runs launches by the machine, and names the program of a check that didn't start on standard error, or the launcher
-/// that was to start it: the line on standard output says only that one didn't. The server itself names a step's program
-/// that didn't start.
+/// Has a runner run launches, and names the program of a check that didn't start to a writer, as standard error, or the
+/// launcher that was to start it: the line on standard output says only that one didn't. The server itself names a step's
+/// program that didn't start.
 #[derive(Drop)]
-pub struct Naming<'a> {
-    runner: Machine<&'a HostRuntime>,
-    rt: &'a HostRuntime,
+pub struct Naming<R, E> {
+    runner: R,
+    errors: E,
+    // Whether a write of a hint failed.
+    failed: bool,
 }
 
-impl<'a> Naming<'a> {
-    ghost use Rattle.std.specs.Prelude.{◌≡◌, []};
-    ghost use Rattle.ccr_process.specs.Runs.{machine_pairs};
-
-    /// Runs launches by the machine, which has run none.
-    pub fn new(rt: &'a HostRuntime, alloc: Global) -> Naming<'a>
-        ensures { machine_pairs result.runner ≡ [] }
+impl<R, E> Naming<R, E> {
+    /// Has this runner run launches, and names programs to this writer.
+    pub fn new(runner: R, errors: E) -> Naming<R, E>
+        ensures runner { result.runner ≡ runner }
+        ensures errors { result.errors ≡ errors }
+        ensures unfailed { result.failed ≡ false }
     {
         Naming {
-            runner: Machine::new(rt, alloc),
-            rt,
+            runner,
+            errors,
+            failed: false,
         }
     }
 }
 
 /// Whether what is started is a check: of all whose output is kept, its program alone has no argument, and a launcher of it
 /// has the first word `check`. The first argument of a get and of a put begins with a slash.
-fn is_check(launch: &Launch) -> bool {
+fn is_check(launch: &Launch) -> bool
+    ensures { result ≡ spec.is_check (launch_data launch.now) }
+{
     let is_named = match launch.args.first() {
         Some(word) => word.as_str() == "check",
         None => true,
@@ -37,18 +46,46 @@ fn is_check(launch: &Launch) -> bool {
     launch.keep && is_named
 }
 
-impl<'a> Runner for Naming<'a> {
-    ghost use Rattle.ccr_process.specs.Runs.{machine_pairs};
+/// Whether a program did not start.
+fn is_unstarted(end: &Ended) -> bool
+    ensures { result ≡ is_unstarted (end_data end.now) }
+{
+    matches!(end, Ended::NotStarted)
+}
 
-    ghost pairs = { λ naming. machine_pairs naming.runner };
+impl<R, E: Write> Naming<R, E> {
+    /// Names a program that did not start. An error of the writer is noted, and changes nothing else.
+    fn name(&mut self, program: &str)
+        ensures named { Hints E.contents (Some (hint_line program.now)) self.old self.new }
+        ensures runner { self.new.runner ≡ self.old.runner }
+    {
+        let answer = writeln!(
+            self.errors,
+            "hint: {program} didn't start; is it there, and executable?"
+        );
+        if answer.is_err() {
+            self.failed = true;
+        }
+    }
+}
 
-    fn run(&mut self, launch: &Launch) -> Ended {
+impl<R: Runner, E: Write> Runner for Naming<R, E> {
+    ghost use Rattle.std.specs.Prelude.{◌≡◌};
+    ghost use Rattle.ccr_process.specs.Ends.{end_data};
+    ghost use Rattle.ccr_process.specs.Launches.{launch_data};
+    ghost use Rattle.ccr_process.specs.Runs.{AddsPair};
+    ghost use Rattle.ccr_run.specs.Named.{Hints, hint_about};
+
+    ghost pairs = { λ naming. R.pairs naming.runner };
+
+    fn run(&mut self, launch: &Launch) -> Ended
+        ensures added { AddsPair (R.pairs self.old.runner) (launch_data launch.now) (end_data result)
+            (R.pairs self.new.runner) }
+        ensures hinted { Hints E.contents (hint_about (launch_data launch.now) (end_data result)) self.old self.new }
+    {
         let end = self.runner.run(launch);
-        if matches!(end, Ended::NotStarted) && is_check(launch) {
-            let program = launch.program.as_str();
-            let _ = eprintln!(self.rt;
-                "hint: {program} didn't start; is it there, and executable?"
-            );
+        if is_check(launch) && is_unstarted(&end) {
+            self.name(launch.program.as_str());
         }
         end
     }

@@ -1,18 +1,16 @@
 //! What the program's words come to.
-ghost use Rattle.std.specs.Prelude.{◌≡◌, ◌≤◌, ◌++◌, [], Bool, None, Result, false, not, IsSome, IfErr, map, string_bytes};
+ghost use Rattle.std.specs.Prelude.{◌≡◌, ◌≤◌, ◌++◌, [], Bool, Result, false, not, IsSome, map, string_bytes};
 ghost use Rattle.sqlite_std_file.specs.File.{IsFresh};
 ghost use Rattle.sqlite_wal.specs.Files.{image_at};
 ghost use Rattle.ccr_proof.specs.declared.proof.TheConstants.{MOST_NODES};
 ghost use Rattle.ccr_serve.specs.declared.fault.ServeFault.{ServeFault as ServeFaultData};
 ghost use Rattle.ccr_run.specs.Aborting.{Asks, IsPrinted, abort_status, told_of};
-ghost use Rattle.ccr_run.specs.Asked.{asked_by};
 ghost use Rattle.ccr_run.specs.Databases.{from_files};
-ghost use Rattle.ccr_run.specs.Explained.{IsToldOf, nothing_told, told_data};
+ghost use Rattle.ccr_run.specs.Explained.{IsToldOf, TellsLines, nothing_told, told_data};
 ghost use Rattle.ccr_run.specs.Found.{Validates, refusal_in, validated_status, validation_data};
 ghost use Rattle.ccr_run.specs.Left.{text_left};
 ghost use Rattle.ccr_run.specs.Looked.{LookedBeside};
 ghost use Rattle.ccr_run.specs.Obeyed.{Obeyed};
-ghost use Rattle.ccr_run.specs.Orders.{IsMisused};
 ghost use Rattle.ccr_run.specs.Served.{Served};
 ghost use Rattle.ccr_run.specs.Statuses.{exit_status_of, printed_status};
 ghost use Rattle.ccr_run.specs.declared.abort.AbortFault.{AbortFault as AbortFaultData};
@@ -25,7 +23,8 @@ use crate::found::{
 };
 use crate::left::{Left, Tools};
 use crate::look::look_at;
-use crate::opener::{FileConnection, FileOpener};
+use crate::opener::FileOpener;
+use crate::opening::{FileConnection, Opens};
 use crate::order::{AbortOrder, Misuse, Order, Ordered, ordered_by};
 use crate::run::{FilesLeft, run};
 use crate::tell::tell;
@@ -50,26 +49,36 @@ pub struct Done<R, F, T, C> {
 }
 
 /// Does a command, and tells what came of it: the status, and what is left.
-fn do_command<'a, R: Runner + Drop, F: Shelf + Drop, S: Start, W: Write, E: Write, P: Eprint>(
+fn do_command<
+    'a,
+    R: Runner + Drop,
+    F: Shelf + Drop,
+    O: Opens,
+    S: Start,
+    W: Write,
+    E: Write,
+    P: Write,
+>(
     alloc: Global,
     order: &Order<'a>,
     tools: Tools<R, F>,
-    opener: &mut FileOpener<'a, S>,
+    opener: &mut FileOpener<O, S>,
     out: &mut Printed<W, E>,
-    telling: &mut Telling<'_, 'a, P>,
+    telling: &mut Telling<'a, P>,
 ) -> (u8, FilesLeft<R, F, S>)
     requires least { 1 ≤ order.now.options.budget }
     requires most { order.now.options.budget ≤ MOST_NODES }
     requires unopened { IsSome opener.old.start }
-    requires unasked { opener.old.asked ≡ None }
+    requires unasked { O.asked opener.old.files ≡ [] }
     requires untold { told_data telling.old ≡ nothing_told }
     ensures did { (outcome : OutcomeData) × Served R.Runner F.Shelf ⟦<FileDatabase<S> as Storage>⟧
-        (from_files (image_at S.Start) (λ is_log file. IsFresh is_log file) opener.new.answer) order.now (asked_by opener.new) tools
-        outcome.end result.1 (out.old.shown ++ out.old.waiting) (out.new.shown ++ out.new.waiting)
+        (from_files (image_at S.Start) (λ is_log file. IsFresh is_log file) opener.new.answer) order.now
+        (O.asked opener.new.files) tools outcome.end result.1 (out.old.shown ++ out.old.waiting) (out.new.shown ++ out.new.waiting)
         × (outcome.is_printed ≡ not out.new.failed)
         × IsToldOf order.now outcome (text_left result.1) (told_data telling.new)
         × (result.0 ≡ exit_status_of outcome) }
     ensures whole { out.old.waiting ≡ [] → out.new.failed ≡ false → out.new.waiting ≡ [] }
+    ensures wrote { TellsLines (told_data telling.new) telling.old.errors telling.new.errors }
 {
     let ran = run(alloc, order, tools, opener, out);
     tell_gates(
@@ -84,12 +93,12 @@ fn do_command<'a, R: Runner + Drop, F: Shelf + Drop, S: Start, W: Write, E: Writ
 }
 
 /// Asks for a build to be aborted, and tells what came of it: the status, and what was given.
-fn do_abort<R, F: Shelf, W: Write, E: Write, P: Eprint>(
+fn do_abort<R, F: Shelf, W: Write, E: Write, P: Write>(
     alloc: Global,
     order: &AbortOrder<'_>,
     tools: Tools<R, F>,
     out: &mut Printed<W, E>,
-    telling: &mut Telling<'_, '_, P>,
+    telling: &mut Telling<'_, P>,
 ) -> (u8, Tools<R, F>)
     requires { told_data telling.old ≡ nothing_told }
     ensures asks { (end : Result Unit AbortFaultData) × Asks order.now (F.calls tools.shelf) end (F.calls result.1.shelf)
@@ -97,6 +106,8 @@ fn do_abort<R, F: Shelf, W: Write, E: Write, P: Eprint>(
         × (told_data telling.new ≡ told_of end (not out.new.failed))
         × (result.0 ≡ printed_status (not out.new.failed) (abort_status end)) }
     ensures whole { out.old.waiting ≡ [] → out.new.waiting ≡ [] }
+    ensures quiet { out.new.notes ≡ out.old.notes }
+    ensures wrote { TellsLines (told_data telling.new) telling.old.errors telling.new.errors }
     ensures idle { result.1.runner ≡ tools.runner }
 {
     let Tools { runner, mut shelf } = tools;
@@ -107,12 +118,12 @@ fn do_abort<R, F: Shelf, W: Write, E: Write, P: Eprint>(
 }
 
 /// Validates a pipeline's file, and tells what came of it: the status, and what was given.
-fn do_validation<R, F: Shelf, W: Write, E: Write, P: Eprint>(
+fn do_validation<R, F: Shelf, W: Write, E: Write, P: Write>(
     alloc: Global,
     validation: &Validation<'_>,
     tools: Tools<R, F>,
     out: &mut Printed<W, E>,
-    telling: &mut Telling<'_, '_, P>,
+    telling: &mut Telling<'_, P>,
 ) -> (u8, Tools<R, F>)
     requires { told_data telling.old ≡ nothing_told }
     ensures validates { (end : Result Bool ServeFaultData)
@@ -121,6 +132,8 @@ fn do_validation<R, F: Shelf, W: Write, E: Write, P: Eprint>(
         × (told_data telling.new ≡ record nothing_told { refusal = refusal_in end })
         × (result.0 ≡ validated_status end (not out.new.failed)) }
     ensures whole { out.old.waiting ≡ [] → out.new.waiting ≡ [] }
+    ensures quiet { out.new.notes ≡ out.old.notes }
+    ensures wrote { TellsLines (told_data telling.new) telling.old.errors telling.new.errors }
     ensures idle { result.1.runner ≡ tools.runner }
 {
     let Tools { runner, mut shelf } = tools;
@@ -131,31 +144,42 @@ fn do_validation<R, F: Shelf, W: Write, E: Write, P: Eprint>(
 }
 
 /// Does what the words order, and tells what came of it; or says why they order nothing. What it was given is handed back.
-pub fn obey<'a, R: Runner + Drop, F: Shelf + Drop, S: Start, W: Write, E: Write, P: Eprint>(
+pub fn obey<
+    'a,
+    R: Runner + Drop,
+    F: Shelf + Drop,
+    O: Opens,
+    S: Start,
+    W: Write,
+    E: Write,
+    P: Write,
+>(
     alloc: Global,
     words: &'a [String],
     tools: Tools<R, F>,
-    opener: &mut FileOpener<'a, S>,
+    opener: &mut FileOpener<O, S>,
     out: &mut Printed<W, E>,
-    telling: &mut Telling<'_, 'a, P>,
+    telling: &mut Telling<'a, P>,
 ) -> Done<R, F, FileDatabase<S>, FileConnection<S>>
     requires unopened { IsSome opener.old.start }
-    requires unasked { opener.old.asked ≡ None }
+    requires unasked { O.asked opener.old.files ≡ [] }
     requires untold { told_data telling.old ≡ nothing_told }
     ensures obeyed { Obeyed R.Runner F.Shelf ⟦<FileDatabase<S> as Storage>⟧
         (from_files (image_at S.Start) (λ is_log file. IsFresh is_log file) opener.new.answer)
         (LookedBeside ⟦<FileStore<Scratch> as Trees>⟧ ⟦<FileStore<FileFrom<S>> as Trees>⟧)
         (map string_bytes words.now) tools
         (record {
-          asked = asked_by opener.new;
+          asked = O.asked opener.new.files;
           old = out.old.shown ++ out.old.waiting;
           new = out.new.shown ++ out.new.waiting;
+          old_notes = out.old.notes;
+          new_notes = out.new.notes;
           failed = out.new.failed;
           told = told_data telling.new;
           status = result.status;
         }) result.left }
     ensures whole { out.old.waiting ≡ [] → out.new.failed ≡ false → out.new.waiting ≡ [] }
-    ensures misused { IfErr result.status (IsMisused (map string_bytes words.now)) }
+    ensures wrote { TellsLines (told_data telling.new) telling.old.errors telling.new.errors }
 {
     if is_validation(words) {
         let Some(validation) = validation_of(words) else {

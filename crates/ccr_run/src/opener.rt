@@ -1,20 +1,24 @@
 //! Which file the database is in.
-ghost use Rattle.std.specs.Prelude.{◌≡◌, None, Some, option_map, false, IsSome, IfOk, IfErr};
+ghost use Rattle.std.specs.Prelude.{◌≡◌, ◌++◌, ◌∷◌, [], Some, None, false, IsSome, OnOk, OnErr, IfOk, IfErr};
 ghost use Rattle.sqlite_std_file.specs.File.{IsFresh};
 ghost use Rattle.sqlite_wal.specs.Files.{image_at};
+ghost use Rattle.sqlite.specs.declared.error.Error.{Error as ErrorData};
 ghost use Rattle.sqlite.specs.Files.{file_state, IsOpened};
+ghost use Rattle.sqlite.specs.Held.{IsNew};
 ghost use Rattle.sqlite.specs.Start.{FindsIn};
 ghost use Rattle.sqlite.specs.State.{HasCleanDisk};
 ghost use Rattle.ccr_look.specs.Reads.{IsReadInOrder};
+ghost use Rattle.ccr_run.specs.Asked.{opened, read};
 ghost use Rattle.ccr_run.specs.Opening.{HasOpened, HasRefused};
 ghost use Rattle.ccr_run.specs.Opening as spec;
 
 use crate::failure::Failure;
-use ccr_look::{Copied, CopyFault, copy};
-use sqlite::{Connection, Error, ErrorCode, FileFrom, FileStore, Leftover, Start};
+use crate::opening::{FileConnection, FilesLeftOver, Opens};
+use ccr_look::{Copied, CopyFault};
+use sqlite::{Error, ErrorCode, Start};
 use std::snapshot::Snapshot;
 
-/// What SQLite answered to an open, with a connection `C`, or what is left of the files, `L`.
+/// What an open was answered, with a connection `C`, or what is left of the files, `L`.
 #[derive(Drop)]
 pub enum Answer<C, L> {
     /// It wasn't asked yet.
@@ -25,22 +29,17 @@ pub enum Answer<C, L> {
     Refused(Error, Option<L>),
 }
 
-/// Opens the database, once, or reads it. Contracts see the path that it was asked to open, and what SQLite answered. `S` says what the
-/// files hold: a function over any `S` is proved for all files.
+/// Opens the database, once, or reads it, by files that open. `S` says what they hold: a function over any `S` is proved for all files.
 #[derive(Drop)]
-pub struct Opener<'a, S, C, L> {
-    rt: &'a HostRuntime,
+pub struct Opener<O, S, C, L> {
+    files: O,
     // What is supposed of the files, until they are opened.
     start: Option<S>,
-    asked: Option<&'a str>,
     answer: Answer<C, L>,
 }
 
-/// A connection to the database's files.
-pub type FileConnection<S> = Connection<FileStore<FileFrom<S>>>;
-
 /// What opens the database's files.
-pub type FileOpener<'a, S> = Opener<'a, S, FileConnection<S>, Leftover<FileFrom<S>>>;
+pub type FileOpener<O, S> = Opener<O, S, FileConnection<S>, FilesLeftOver<S>>;
 
 /// The failure of an open.
 fn failure_of(error: &Error) -> Failure
@@ -52,16 +51,15 @@ fn failure_of(error: &Error) -> Failure
     }
 }
 
-impl<'a, S: Start> FileOpener<'a, S> {
+impl<O: Opens, S: Start> FileOpener<O, S> {
     /// An opener of files of which this is supposed.
-    pub fn new(rt: &'a HostRuntime, start: S) -> FileOpener<'a, S>
+    pub fn new(files: O, start: S) -> FileOpener<O, S>
         ensures unopened { IsSome result.start }
-        ensures unasked { result.asked ≡ None }
+        ensures files { result.files ≡ files }
     {
         Opener {
-            rt,
+            files,
             start: Some(start),
-            asked: None,
             answer: Answer::Unasked,
         }
     }
@@ -69,21 +67,21 @@ impl<'a, S: Start> FileOpener<'a, S> {
     /// The database in the file at this path. It is made where there is none, and no other program can open it until this
     /// one ends.
     ///
-    /// `Locked` where another program has it open, and else `Unopened` with what SQLite answered.
-    pub fn open(&mut self, path: &'a str) -> Result<FileConnection<S>, Failure>
+    /// `Locked` where another program has it open, and else `Unopened` with the error that the files answered.
+    pub fn open(&mut self, path: &str) -> Result<FileConnection<S>, Failure>
         requires { IsSome self.old.start }
-        ensures asked { option_map (λ path. path.now) self.new.asked ≡ Some path.now }
-        ensures idle { IfOk result (λ conn. (file_state conn).in_transaction ≡ false) }
+        ensures asked { OnOk result (O.asked self.new.files ≡ O.asked self.old.files ++ opened path.now None ∷ []) }
+        ensures fresh { IfOk result IsNew }
         ensures opened { IfOk result (λ conn. HasCleanDisk (file_state conn) → IsOpened conn) }
         ensures found { IfOk result (λ conn. HasCleanDisk (file_state conn)
             → FindsIn (image_at S.Start) (file_state conn)) }
         ensures same { IfOk result (λ conn. HasOpened self.new.answer conn) }
-        ensures exact { IfErr result (λ failure.
-            HasRefused (λ is_log file. IsFresh is_log file) self.new.answer failure) }
+        ensures exact { IfErr result (λ failure. (error : ErrorData) × (failure ≡ spec.failure_of error)
+            × (O.asked self.new.files ≡ O.asked self.old.files ++ opened path.now (Some error) ∷ [])
+            × HasRefused (λ is_log file. IsFresh is_log file) self.new.answer error) }
     {
-        self.asked = Some(path);
         let start = self.start.take().unwrap();
-        match Connection::open_from(self.rt, path, false, start) {
+        match self.files.open(path, start) {
             Ok(conn) => {
                 self.answer = Answer::Opened(Snapshot::of(&conn));
                 Ok(conn)
@@ -97,11 +95,14 @@ impl<'a, S: Start> FileOpener<'a, S> {
 
     /// The bytes of the database in the file at this path, as a look reads them. It isn't opened, and no lock is taken.
     ///
-    /// The faults are those of [`copy`].
-    pub fn read<'p>(&self, path: &'p str) -> Result<Copied<'p>, CopyFault>
+    /// The faults are those of [`copy`](ccr_look::copy).
+    pub fn read<'p>(&mut self, path: &'p str) -> Result<Copied<'p>, CopyFault>
+        ensures asked { OnOk result (O.asked self.new.files ≡ O.asked self.old.files ++ read path.entry.now None ∷ []) }
+        ensures failed { IfErr result (λ fault.
+            O.asked self.new.files ≡ O.asked self.old.files ++ read path.entry.now (Some fault) ∷ []) }
         ensures path { IfOk result (λ copied. copied.path.now ≡ path.entry.now) }
         ensures read { IfOk result IsReadInOrder }
     {
-        copy(self.rt, path)
+        self.files.read(path)
     }
 }

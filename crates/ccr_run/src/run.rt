@@ -1,8 +1,9 @@
 //! A command is done.
-ghost use Rattle.std.specs.Prelude.{◌≡◌, ◌≤◌, ◌++◌, ℕ, [], ◌∷◌, Some, None, Result, false, not, IsSome, IfOk, IfSome, option_map, string_bytes};
+ghost use Rattle.std.specs.Prelude.{◌≡◌, ◌≤◌, ◌++◌, ℕ, [], ◌∷◌, None, Result, false, not, IsSome, IfOk, IfSome, option_map, string_bytes};
 ghost use Rattle.sqlite_std_file.specs.File.{IsFresh};
 ghost use Rattle.sqlite_wal.specs.Files.{image_at};
 ghost use Rattle.sqlite.specs.Files.{file_state, IsOpened};
+ghost use Rattle.sqlite.specs.Held.{IsNew};
 ghost use Rattle.sqlite.specs.Start.{FindsIn};
 ghost use Rattle.sqlite.specs.State.{HasCleanDisk};
 ghost use Rattle.ccr_core.specs.Resumed.{IsReadable};
@@ -11,14 +12,15 @@ ghost use Rattle.ccr_task.specs.Places.{places_data};
 ghost use Rattle.ccr_serve.specs.Commanding.{CameOf};
 ghost use Rattle.ccr_core.specs.Commands.{command_data};
 ghost use Rattle.ccr_serve.specs.Views.{view_of, bare_view, IsKept, IsReady};
-ghost use Rattle.ccr_run.specs.Asked.{asked_by};
+ghost use Rattle.ccr_run.specs.Asked.{opened};
 ghost use Rattle.ccr_run.specs.Databases.{from_conn, from_files, from_history, BeginsWith};
 ghost use Rattle.ccr_run.specs.Served.{Did, Served, handed_on, places_in};
 
 use crate::database::{Database, FileDatabase, Unloaded};
 use crate::failure::Failure;
 use crate::left::{Left, Tools};
-use crate::opener::{FileConnection, FileOpener};
+use crate::opener::FileOpener;
+use crate::opening::{FileConnection, Opens};
 use crate::order::Order;
 use ccr_core::Command;
 use ccr_history::{History, Storage};
@@ -134,7 +136,7 @@ fn serve_history<R: Runner + Drop, F: Shelf + Drop, S: Start, W: Write, E: Write
     requires readable { IfSome history.text IsReadable }
     requires places { places_data places ≡ places_in order.now }
     ensures served { Served R.Runner F.Shelf ⟦<FileDatabase<S> as Storage>⟧ (from_history (image_at S.Start)) order.now
-        (Some order.now.options.database.now) tools result.0 result.1
+        (opened order.now.options.database.now None ∷ []) tools result.0 result.1
         (out.old.shown ++ out.old.waiting) (out.new.shown ++ out.new.waiting) }
     ensures printed { out.old.waiting ≡ [] → out.new.failed ≡ false → out.new.waiting ≡ [] }
 {
@@ -171,11 +173,12 @@ fn serve_database<R: Runner + Drop, F: Shelf + Drop, S: Start, W: Write, E: Writ
     requires least { 1 ≤ order.now.options.budget }
     requires most { order.now.options.budget ≤ MOST_NODES }
     requires idle { (file_state conn).in_transaction ≡ false }
+    requires fresh { IsNew conn }
     requires opened { HasCleanDisk (file_state conn) → IsOpened conn }
     requires found { HasCleanDisk (file_state conn) → FindsIn (image_at S.Start) (file_state conn) }
     requires places { places_data places ≡ places_in order.now }
     ensures served { Served R.Runner F.Shelf ⟦<FileDatabase<S> as Storage>⟧ (from_conn (image_at S.Start) conn) order.now
-        (Some order.now.options.database.now) tools result.0 result.1
+        (opened order.now.options.database.now None ∷ []) tools result.0 result.1
         (out.old.shown ++ out.old.waiting) (out.new.shown ++ out.new.waiting) }
     ensures printed { out.old.waiting ≡ [] → out.new.failed ≡ false → out.new.waiting ≡ [] }
 {
@@ -188,20 +191,20 @@ fn serve_database<R: Runner + Drop, F: Shelf + Drop, S: Start, W: Write, E: Writ
 }
 
 /// Opens the database, and has a server over it do the command.
-fn serve<'a, R: Runner + Drop, F: Shelf + Drop, S: Start, W: Write, E: Write>(
+fn serve<R: Runner + Drop, F: Shelf + Drop, O: Opens, S: Start, W: Write, E: Write>(
     alloc: Global,
-    order: &Order<'a>,
+    order: &Order<'_>,
     tools: Tools<R, F>,
-    opener: &mut FileOpener<'a, S>,
+    opener: &mut FileOpener<O, S>,
     out: &mut Printed<W, E>,
 ) -> (Result<u8, Failure>, FilesLeft<R, F, S>)
     requires least { 1 ≤ order.now.options.budget }
     requires most { order.now.options.budget ≤ MOST_NODES }
     requires unopened { IsSome opener.old.start }
-    requires unasked { opener.old.asked ≡ None }
+    requires unasked { O.asked opener.old.files ≡ [] }
     ensures served { Served R.Runner F.Shelf ⟦<FileDatabase<S> as Storage>⟧
-        (from_files (image_at S.Start) (λ is_log file. IsFresh is_log file) opener.new.answer) order.now (asked_by opener.new) tools
-        result.0 result.1 (out.old.shown ++ out.old.waiting) (out.new.shown ++ out.new.waiting) }
+        (from_files (image_at S.Start) (λ is_log file. IsFresh is_log file) opener.new.answer) order.now
+        (O.asked opener.new.files) tools result.0 result.1 (out.old.shown ++ out.old.waiting) (out.new.shown ++ out.new.waiting) }
     ensures printed { out.old.waiting ≡ [] → out.new.failed ≡ false → out.new.waiting ≡ [] }
 {
     let options = order.options;
@@ -218,20 +221,20 @@ fn serve<'a, R: Runner + Drop, F: Shelf + Drop, S: Start, W: Write, E: Write>(
 }
 
 /// Does what is ordered. The lines go out as they come.
-pub fn run<'a, R: Runner + Drop, F: Shelf + Drop, S: Start, W: Write, E: Write>(
+pub fn run<R: Runner + Drop, F: Shelf + Drop, O: Opens, S: Start, W: Write, E: Write>(
     alloc: Global,
-    order: &Order<'a>,
+    order: &Order<'_>,
     tools: Tools<R, F>,
-    opener: &mut FileOpener<'a, S>,
+    opener: &mut FileOpener<O, S>,
     out: &mut Printed<W, E>,
 ) -> Ran<R, F, FileDatabase<S>, FileConnection<S>>
     requires least { 1 ≤ order.now.options.budget }
     requires most { order.now.options.budget ≤ MOST_NODES }
     requires unopened { IsSome opener.old.start }
-    requires unasked { opener.old.asked ≡ None }
+    requires unasked { O.asked opener.old.files ≡ [] }
     ensures served { Served R.Runner F.Shelf ⟦<FileDatabase<S> as Storage>⟧
-        (from_files (image_at S.Start) (λ is_log file. IsFresh is_log file) opener.new.answer) order.now (asked_by opener.new) tools
-        result.outcome.end result.left (out.old.shown ++ out.old.waiting) (out.new.shown ++ out.new.waiting) }
+        (from_files (image_at S.Start) (λ is_log file. IsFresh is_log file) opener.new.answer) order.now
+        (O.asked opener.new.files) tools result.outcome.end result.left (out.old.shown ++ out.old.waiting) (out.new.shown ++ out.new.waiting) }
     ensures printed { result.outcome.is_printed ≡ not out.new.failed }
     ensures whole { out.old.waiting ≡ [] → out.new.failed ≡ false → out.new.waiting ≡ [] }
 {

@@ -1,10 +1,12 @@
 //! What goes to standard error, and the status that the program ends with.
-ghost use Rattle.std.specs.Prelude.{◌≡◌, None};
+ghost use Rattle.std.specs.Prelude.{◌≡◌, None, false, not};
 ghost use Rattle.std.specs.Process.{exit_status};
 ghost use Rattle.ccr_run.specs.Explained.{told_data, nothing_told, shows_proof, is_over_budget, budget_over, refusal_in, explained};
+ghost use Rattle.ccr_run.specs.Explained.{budget_lines, refusal_lines, hint_lines, unprinted_lines, TellsLines};
 ghost use Rattle.ccr_run.specs.Hints.{hint_of};
 ghost use Rattle.ccr_run.specs.Obeyed.{IsTold};
 ghost use Rattle.ccr_run.specs.Statuses as spec;
+ghost use Rattle.ccr_run.specs.Writers.{GetsLines};
 
 use crate::failure::Failure;
 use crate::found::VALIDATE;
@@ -15,6 +17,7 @@ use crate::run::Outcome;
 use crate::telling::Telling;
 use ccr_core::{Command, Shown};
 use std::io;
+use std::io::Write;
 use std::process::ExitCode;
 
 /// The status of an end.
@@ -48,13 +51,10 @@ fn is_over_budget(command: &Command, end: &Result<u8, Failure>) -> bool
 }
 
 /// Tells the budget of a command that is to show a proof, and goes over it.
-fn tell_budget<R: Eprint>(
-    telling: &mut Telling<'_, '_, R>,
-    order: &Order<'_>,
-    end: &Result<u8, Failure>,
-)
+fn tell_budget<E: Write>(telling: &mut Telling<'_, E>, order: &Order<'_>, end: &Result<u8, Failure>)
     requires { (told_data telling.old).budget ≡ None }
-    ensures { told_data telling.new ≡ record (told_data telling.old) { budget = budget_over order.now end.now } }
+    ensures told { told_data telling.new ≡ record (told_data telling.old) { budget = budget_over order.now end.now } }
+    ensures wrote { GetsLines (budget_lines (budget_over order.now end.now)) telling.old.errors telling.new.errors }
 {
     if is_over_budget(&order.command, end) {
         telling.over_budget(order.options.budget);
@@ -62,9 +62,10 @@ fn tell_budget<R: Eprint>(
 }
 
 /// Tells why a command is refused.
-fn tell_refusal<R: Eprint>(telling: &mut Telling<'_, '_, R>, end: &Result<u8, Failure>)
+fn tell_refusal<E: Write>(telling: &mut Telling<'_, E>, end: &Result<u8, Failure>)
     requires { (told_data telling.old).refusal ≡ None }
-    ensures { told_data telling.new ≡ record (told_data telling.old) { refusal = refusal_in end.now } }
+    ensures told { told_data telling.new ≡ record (told_data telling.old) { refusal = refusal_in end.now } }
+    ensures wrote { GetsLines (refusal_lines (refusal_in end.now)) telling.old.errors telling.new.errors }
 {
     match end {
         Ok(_) => {}
@@ -73,13 +74,10 @@ fn tell_refusal<R: Eprint>(telling: &mut Telling<'_, '_, R>, end: &Result<u8, Fa
 }
 
 /// Tells what to do about how a command ended over the database at a path, where that helps.
-fn tell_hint<'e, R: Eprint>(
-    telling: &mut Telling<'_, 'e, R>,
-    path: &'e str,
-    end: &Result<u8, Failure>,
-)
+fn tell_hint<'e, E: Write>(telling: &mut Telling<'e, E>, path: &'e str, end: &Result<u8, Failure>)
     requires { (told_data telling.old).hint ≡ None }
-    ensures { told_data telling.new ≡ record (told_data telling.old) { hint = hint_of path.now end.now } }
+    ensures told { told_data telling.new ≡ record (told_data telling.old) { hint = hint_of path.now end.now } }
+    ensures wrote { GetsLines (hint_lines (hint_of path.now end.now)) telling.old.errors telling.new.errors }
 {
     match hint_of(path, end) {
         Some(hint) => telling.hint(hint),
@@ -87,26 +85,35 @@ fn tell_hint<'e, R: Eprint>(
     }
 }
 
+/// Tells that not all lines went out, where so.
+pub fn tell_unprinted<E: Write>(telling: &mut Telling<'_, E>, is_printed: bool)
+    requires { (told_data telling.old).is_unprinted ≡ false }
+    ensures told { told_data telling.new ≡ record (told_data telling.old) { is_unprinted = not is_printed } }
+    ensures wrote { GetsLines (unprinted_lines (not is_printed)) telling.old.errors telling.new.errors }
+{
+    if !is_printed {
+        telling.unprinted();
+    }
+}
+
 /// Tells what came of an order, and gives the status: the command's own, or that of its refusal; 4 where not all lines went
 /// out. An error of standard error changes nothing. What is found in a pipeline that was set may be told before.
-pub fn tell<'e, R: Eprint>(
-    telling: &mut Telling<'_, 'e, R>,
-    order: &Order<'e>,
-    outcome: &Outcome,
-) -> u8
+pub fn tell<'e, E: Write>(telling: &mut Telling<'e, E>, order: &Order<'e>, outcome: &Outcome) -> u8
     requires { told_data telling.old ≡ record nothing_told { gates = (told_data telling.old).gates } }
     ensures status { result ≡ spec.exit_status_of outcome.now }
     ensures told { told_data telling.new
         ≡ record (explained order.now outcome.now) { gates = (told_data telling.old).gates } }
+    ensures wrote { TellsLines (explained order.now outcome.now) telling.old.errors telling.new.errors }
 {
     tell_budget(telling, order, &outcome.end);
     tell_refusal(telling, &outcome.end);
     tell_hint(telling, order.options.database, &outcome.end);
+    tell_unprinted(telling, outcome.is_printed);
     if outcome.is_printed {
-        return status_of(&outcome.end);
+        status_of(&outcome.end)
+    } else {
+        4
     }
-    telling.unprinted();
-    4
 }
 
 /// Prints what `clap` answers: help to standard output, and a misuse to standard error.

@@ -1,13 +1,16 @@
 //! What is told on standard error as the program ends.
-ghost use Rattle.std.specs.Prelude.{◌≡◌, Some, true};
-ghost use Rattle.ccr_run.specs.Explained.{told_data, refusal_told, nothing_told, told_lines};
-ghost use Rattle.ccr_run.specs.Hints.{hint_data};
-ghost use Rattle.ccr_run.specs.Refusals.{refusal_data};
+ghost use Rattle.std.specs.Prelude.{◌≡◌, [], ◌∷◌, Some, true, false, string_bytes};
+ghost use Rattle.ccr_run.specs.Explained.{told_data, refusal_told, nothing_told, told_line, told_lines, budget_line, unprinted_line};
+ghost use Rattle.ccr_run.specs.Hints.{hint_data, hint_text};
+ghost use Rattle.ccr_run.specs.Refusals.{refusal_data, refusal_text};
+ghost use Rattle.ccr_run.specs.Writers.{GetsLines};
 
+use crate::errors::Errors;
 use crate::hint::Hint;
 use crate::refusal::Refusal;
-use ccr_command::{Findings, Kind};
-use std::io;
+use ccr_findings::{Finding, Findings, Kind};
+use std::alloc::Global;
+use std::io::Write;
 use std::snapshot::Snapshot;
 
 /// A refusal that was told.
@@ -18,10 +21,11 @@ pub struct ToldRefusal {
     status: u8,
 }
 
-/// Tells on standard error, a line at a time. Contracts see what was told; an error of standard error changes nothing.
+/// Tells on standard error, a line at a time. Contracts see what was told, and what standard error has got; an error of it
+/// changes nothing.
 #[derive(Drop)]
-pub struct Telling<'a, 'e, R> {
-    rt: &'a R,
+pub struct Telling<'e, E: Write> {
+    errors: Errors<E>,
     gates: Option<Snapshot<Findings>>,
     budget: Option<u32>,
     refusal: Option<ToldRefusal>,
@@ -44,24 +48,33 @@ fn told(refusal: &Refusal<'_>) -> ToldRefusal
     }
 }
 
-/// Writes the findings, but for keys of Concourse that have no effect.
-fn print_gates<R: Eprint>(rt: &R, findings: &Findings) -> io::Result<()> {
-    for finding in findings {
-        if finding.kind != Kind::Unused {
-            let line = finding.line.as_str();
-            eprintln!(rt; "{line}")?;
-        }
+/// Writes a finding, but for a key of Concourse that has no effect.
+fn say_finding<E: Write>(errors: &mut Errors<E>, finding: &Finding)
+    ensures { GetsLines (told_line finding.now.kind (string_bytes finding.now.line)) errors.old errors.new }
+{
+    match finding.kind {
+        Kind::Unused => {}
+        _ => errors.say(finding.line.as_str()),
     }
-    Ok(())
 }
 
-impl<'a, 'e, R: Eprint> Telling<'a, 'e, R> {
-    /// Nothing is told yet.
-    pub fn new(rt: &'a R) -> Telling<'a, 'e, R>
-        ensures { told_data result ≡ nothing_told }
+/// Writes findings, but for keys of Concourse that have no effect.
+fn say_findings<E: Write>(errors: &mut Errors<E>, findings: &[Finding])
+    ensures { GetsLines (told_lines findings.now) errors.old errors.new }
+{
+    for finding in findings {
+        say_finding(errors, finding);
+    }
+}
+
+impl<'e, E: Write> Telling<'e, E> {
+    /// Nothing is told yet; what is will go to this writer.
+    pub fn new(alloc: Global, writer: E) -> Telling<'e, E>
+        ensures told { told_data result ≡ nothing_told }
+        ensures errors { result.errors ≡ record { got = E.contents writer; failed = false } }
     {
         Telling {
-            rt,
+            errors: Errors::new(alloc, writer),
             gates: None,
             budget: None,
             refusal: None,
@@ -72,45 +85,47 @@ impl<'a, 'e, R: Eprint> Telling<'a, 'e, R> {
 
     /// Tells what was found in a pipeline that was set, but for keys of Concourse that have no effect: the command lists those.
     pub fn gates(&mut self, findings: &Findings)
-        ensures { told_data self.new ≡ record (told_data self.old) { gates = Some (told_lines findings.now.items) } }
+        ensures told { told_data self.new
+            ≡ record (told_data self.old) { gates = Some (told_lines findings.now.items) } }
+        ensures wrote { GetsLines (told_lines findings.now.items) self.old.errors self.new.errors }
     {
         self.gates = Some(Snapshot::of(findings));
-        let _ = print_gates(self.rt, findings);
+        say_findings(&mut self.errors, findings);
     }
 
     /// Tells that a search would go over this budget.
     pub fn over_budget(&mut self, budget: u32)
-        ensures { told_data self.new ≡ record (told_data self.old) { budget = Some budget } }
+        ensures told { told_data self.new ≡ record (told_data self.old) { budget = Some budget } }
+        ensures wrote { GetsLines (budget_line budget ∷ []) self.old.errors self.new.errors }
     {
         self.budget = Some(budget);
-        let _ = eprintln!(self.rt; "over budget {budget}");
+        self.errors.say(format_args!("over budget {budget}"));
     }
 
     /// Tells a refusal.
     pub fn refusal(&mut self, refusal: Refusal<'_>)
-        ensures { told_data self.new ≡ record (told_data self.old) { refusal = Some (refusal_data refusal.entry) } }
+        ensures told { told_data self.new ≡ record (told_data self.old) { refusal = Some (refusal_data refusal.entry) } }
+        ensures wrote { GetsLines (refusal_text (refusal_data refusal.entry) ∷ []) self.old.errors self.new.errors }
     {
         self.refusal = Some(told(&refusal));
-        let _ = eprintln!(self.rt; "{refusal}");
+        self.errors.say(refusal);
     }
 
     /// Tells what to do about it.
     pub fn hint(&mut self, hint: Hint<'e>)
-        ensures { told_data self.new ≡ record (told_data self.old) { hint = Some (hint_data hint.entry) } }
+        ensures told { told_data self.new ≡ record (told_data self.old) { hint = Some (hint_data hint.entry) } }
+        ensures wrote { GetsLines (hint_text (hint_data hint.entry) ∷ []) self.old.errors self.new.errors }
     {
         self.hint = Some(hint);
-        let words = hint.words;
-        let _ = match hint.path {
-            Some(path) => eprintln!(self.rt; "hint: {path}: {words}"),
-            None => eprintln!(self.rt; "hint: {words}"),
-        };
+        self.errors.say(hint);
     }
 
     /// Tells that not all lines went out.
     pub fn unprinted(&mut self)
-        ensures { told_data self.new ≡ record (told_data self.old) { is_unprinted = true } }
+        ensures told { told_data self.new ≡ record (told_data self.old) { is_unprinted = true } }
+        ensures wrote { GetsLines (unprinted_line ∷ []) self.old.errors self.new.errors }
     {
         self.is_unprinted = true;
-        let _ = eprintln!(self.rt; "refused: standard output: cannot write");
+        self.errors.say("refused: standard output: cannot write");
     }
 }

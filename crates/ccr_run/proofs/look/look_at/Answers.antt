@@ -1,6 +1,7 @@
 use Rattle.std.proofs.Common.{ap, ap₂, not, ◌∙◌}
-use Rattle.ccr_run.specs.Explained.{explained}
+use Rattle.ccr_run.specs.Explained.{explained, told_data}
 use Rattle.ccr_run.proofs.Told.{end_alone, nothing_but_gates}
+use Rattle.ccr_run.proofs.Writing.{tells_end}
 use Rattle.ccr_run.proofs.look.look_at.Goals as goal
 
 pub tell-requires : goal.tell-requires
@@ -16,3 +17,9 @@ returns-clause-looked g c = (
       c.into_order.ensures.options c.into_order.ensures.command,
   c.tell.ensures.status,
 )
+
+pub returns-clause-wrote : goal.returns-clause-wrote
+returns-clause-wrote g c =
+    tells_end c.into_order.result (record { end = c.see.result; is_printed = not c.has_failed.result }) (told_data c.args.telling.now)
+    (told_data c.tell.new.telling) c.args.telling.now.errors c.tell.new.telling.errors c.requires.untold c.tell.ensures.told
+    c.tell.ensures.wrote

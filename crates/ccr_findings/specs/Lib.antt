@@ -1,0 +1,14 @@
+pub mod Near
+pub mod Findings
+pub mod Absent
+pub mod Cycles
+pub mod Waits
+pub mod Timeouts
+pub mod Stands
+pub mod Breaks
+pub mod Told
+pub mod Gates
+pub mod Vars
+pub mod Known
+pub mod Objects
+pub mod All
