@@ -7,7 +7,7 @@ use Rattle.ccr_history.specs.Text.{Text}
 use Rattle.ccr_history.specs.declared.store_fault.StoreFault.{StoreFault}
 use Rattle.ccr_history.specs.declared.store_fault.StoreFault.TheVariants as store
 use Rattle.ccr_pipeline.specs.declared.fault.ReadFault.TheVariants.{NotJson}
-use Rattle.ccr_core.specs.declared.fault.CoreFault.TheVariants.{NoPipeline, NoJob, NoResource, NoVersion}
+use Rattle.ccr_core.specs.declared.fault.CoreFault.TheVariants.{NoPipeline, NoJob, NoResource, NoBuild, NoVersion}
 use Rattle.ccr_serve.specs.declared.fault.ServeFault.{ServeFault}
 use Rattle.ccr_serve.specs.declared.fault.ServeFault.TheVariants.{Core, Store, Read, File, BadPin, NoMemory, TurnsUsedUp}
 use Rattle.ccr_run.specs.declared.failure.Failure.{Failure}
@@ -44,7 +44,7 @@ about path words = record { path = Some path; words = words }
 
 -- about a name that the pipeline hasn't
 abbrev pub named_wrong : Text
-named_wrong = codes "names are those of the pipeline that was set last"
+named_wrong = codes "jobs and resources show the names of the pipeline that was set last"
 
 -- about a database that can't be opened, read or written
 abbrev pub disk_failed : Text
@@ -63,9 +63,10 @@ abbrev pub of_server : ServeFault → Option Text
 of_server (Core NoPipeline) = Some (codes "set one with: ccr_run --db FILE set-pipeline PIPELINE.json")
 of_server (Core NoJob) = Some named_wrong
 of_server (Core NoResource) = Some named_wrong
+of_server (Core NoBuild) = Some (codes "builds shows which builds there are")
 of_server (Core NoVersion) = Some (codes "resource-versions NAME shows which places there are")
-of_server (Read (NotJson path)) = Some (codes "YAML isn't read; fly get-pipeline --json prints a pipeline as JSON")
-of_server (Read fault) = Some (codes "docs/FORMATS.md describes the format of a pipeline")
+of_server (Read (NotJson path)) = Some (codes "is it YAML, or is there a slip? ccr_run validate-pipeline FILE shows where it stops being JSON")
+of_server (Read fault) = Some (codes "ccr_run validate-pipeline FILE says what stands there and what is wanted; docs/FORMATS.md has the format")
 of_server BadPin = Some (codes "a pin is a JSON object of texts, as {\"ref\":\"61cbef\"}")
 of_server (Store store.NotOurs) = Some not_ours
 of_server (Store store.Disk) = Some disk_failed
@@ -88,7 +89,7 @@ of_copy copy.NoMemory = out_of_memory
 
 -- about a look that finds no history
 abbrev pub of_bytes : StoreFault → Option Text
-of_bytes store.Disk = Some (codes "what was read is damaged, or a part of it is missing: the file beside it that ends in -wal belongs to it")
+of_bytes store.Disk = Some (codes "what was read is no database, or is damaged, or a part of it is missing: the file beside it that ends in -wal belongs to it")
 of_bytes store.NotOurs = Some not_ours
 of_bytes store.NoMemory = Some out_of_memory
 of_bytes fault = None
@@ -105,7 +106,7 @@ of_open path (SqliteFailure sql.DatabaseCorrupt) = about path (codes "the databa
 of_open path (SqliteFailure sql.DiskFull) = about path (codes "the disk is full; make room")
 of_open path (SqliteFailure sql.TooBig) = about path (codes "the file is too large for a database")
 of_open path (SqliteFailure sql.CannotOpen) =
-    about path (codes "it can't be opened; is it a file, and may you read and write it and its directory?")
+    about path (codes "it can't be opened: is its directory there, is it a file, and may you read and write both?")
 of_open path error = about path (codes "it can't be read or written; is the disk in order?")
 
 -- ABOUT HOW A COMMAND ENDED over the database at a path

@@ -45,15 +45,18 @@ fn of_server(fault: &ServeFault) -> Option<&'static str>
             "set one with: ccr_run --db FILE set-pipeline PIPELINE.json",
         ),
         ServeFault::Core(CoreFault::NoJob) | ServeFault::Core(CoreFault::NoResource) => {
-            Some("names are those of the pipeline that was set last")
+            Some("jobs and resources show the names of the pipeline that was set last")
         }
+        ServeFault::Core(CoreFault::NoBuild) => Some("builds shows which builds there are"),
         ServeFault::Core(CoreFault::NoVersion) => {
             Some("resource-versions NAME shows which places there are")
         }
         ServeFault::Read(ReadFault::NotJson(_)) => Some(
-            "YAML isn't read; fly get-pipeline --json prints a pipeline as JSON",
+            "is it YAML, or is there a slip? ccr_run validate-pipeline FILE shows where it stops being JSON",
         ),
-        ServeFault::Read(_) => Some("docs/FORMATS.md describes the format of a pipeline"),
+        ServeFault::Read(_) => Some(
+            "ccr_run validate-pipeline FILE says what stands there and what is wanted; docs/FORMATS.md has the format",
+        ),
         ServeFault::BadPin => Some("a pin is a JSON object of texts, as {\"ref\":\"61cbef\"}"),
         ServeFault::Store(StoreFault::NotOurs) => Some(
             "the file isn't a database of ccr_run in format 1 or 2; name another one, or use a newer ccr_run",
@@ -106,7 +109,7 @@ fn of_bytes(fault: StoreFault) -> Option<&'static str>
 {
     match fault {
         StoreFault::Disk => Some(
-            "what was read is damaged, or a part of it is missing: the file beside it that ends in -wal belongs to it",
+            "what was read is no database, or is damaged, or a part of it is missing: the file beside it that ends in -wal belongs to it",
         ),
         StoreFault::NotOurs => Some(
             "the file isn't a database of ccr_run in format 1 or 2; name another one, or use a newer ccr_run",
@@ -167,7 +170,7 @@ fn of_open<'a>(path: &'a str, error: &Error) -> Hint<'a>
         ),
         Error::SqliteFailure(ErrorCode::CannotOpen) => about(
             path,
-            "it can't be opened; is it a file, and may you read and write it and its directory?",
+            "it can't be opened: is its directory there, is it a file, and may you read and write both?",
         ),
         _ => about(path, "it can't be read or written; is the disk in order?"),
     }
