@@ -1,3 +1,9 @@
+pub mod Joined
+pub mod SameNames
+pub mod Hunts
+pub mod Jobs
+pub mod Unread
+pub mod Reading
 pub mod NearLaws
 pub mod Leads
 pub mod Somewhere
