@@ -1,0 +1,16 @@
+pub mod Abouts
+pub mod Arrows
+pub mod Each
+pub mod Holds
+pub mod Linked
+pub mod Overviews
+pub mod PageBuilds
+pub mod PageData
+pub mod PageResources
+pub mod PageRows
+pub mod SaidSame
+pub mod Sayings
+pub mod Scenes
+pub mod Sentences
+pub mod Shorts
+pub mod Stopping
