@@ -1,3 +1,4 @@
+pub mod Clashing
 pub mod Digits
 pub mod Fields
 pub mod Going

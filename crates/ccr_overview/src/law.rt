@@ -1,8 +1,8 @@
 //! What follows from the definitions.
 ghost use Rattle.ccr_overview.specs.SaidSame.{AreExplained};
 
-/// What a page's sentence says of a place that an input doesn't take is what `explain` says of it, word for word: the links
-/// add nothing to it. Nothing runs.
+/// Where a page's sentence says that a version stopped, in a build or before a job, `explain` says that it stopped there, word
+/// for word. Nothing runs.
 pub fn reasons_are_explained()
     ensures { AreExplained }
 {}

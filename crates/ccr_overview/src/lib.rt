@@ -6,8 +6,9 @@
 //! once, in its order.
 //!
 //! A sentence for each job that stands still says why, by what is explained of the job's next build
-//! (`specs/Sentences.antt`). Its words are those of `explain`; where these name a build or a job, they lead to it. A page
-//! asks for each explanation once. [`reasons_are_explained`] says so of each reason, whatever the links.
+//! (`specs/Sentences.antt`). What it says of a version is told in words of its own, with links to the build or the job where
+//! the version stopped. [`reasons_are_explained`] says that this is where `explain` says it stopped. A page asks for each
+//! explanation once.
 #![tactic(auto)]
 
 mod about;
