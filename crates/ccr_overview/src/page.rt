@@ -23,6 +23,7 @@ fn page_without(alloc: Global, options: Options) -> Page
     Page {
         title: options.title,
         made: options.made,
+        now: options.now,
         refresh: options.refresh,
         logs: options.logs,
         has_pipeline: false,
@@ -44,6 +45,7 @@ fn page_with(alloc: Global, options: Options, scene: &Scene<'_>) -> Result<Page,
     Ok(Page {
         title: options.title,
         made: options.made,
+        now: options.now,
         refresh: options.refresh,
         logs: options.logs,
         has_pipeline: true,

@@ -1,9 +1,9 @@
-//! The beginning of a page: its head, the counts of its jobs, and when it was made.
+//! The beginning of a page: its head, the counts of its jobs, what runs right now, and when it was made.
 
 ghost use Rattle.std.specs.Prelude.{◌≡◌, OnOk, count_by, string_bytes};
 ghost use Rattle.std.specs.List.{list_any};
 ghost use Rattle.ccr_page.specs.Pieces.{Adds};
-ghost use Rattle.ccr_page.specs.Heads.{count_of, is_still, still_count, is_there, is_any, state_piece, noted_pieces, state_pieces, worst, refresh_pieces, title_end, head_pieces, has_picture, skip_pieces, sum_pieces, sums_pieces, plural, standing_pieces, stands_pieces, heading, made_pieces, header_pieces};
+ghost use Rattle.ccr_page.specs.Heads.{count_of, is_still, still_count, is_there, is_any, state_piece, noted_pieces, state_pieces, worst, refresh_pieces, title_end, head_pieces, has_picture, skip_pieces, sum_pieces, sums_pieces, plural, standing_pieces, stands_pieces, heading, now_pieces, made_pieces, header_pieces};
 
 use crate::data::{Job, Page, Urgency, Why};
 use crate::piece::Piece::{Class, Colour, Markup, Number, Shown, Standing};
@@ -314,18 +314,38 @@ fn push_heading<'a>(out: &mut Vec<u8>, title: &'a String) -> Result<(), AllocErr
     )
 }
 
-/// Adds the end of the header: when the page was made.
-fn push_made<'a>(out: &mut Vec<u8>, made: &'a String) -> Result<(), AllocError>
-    ensures { OnOk result (Adds out.old.items out.new.items (made_pieces (string_bytes made.now))) }
+/// Adds the end of the counts, and what runs right now, if that is told.
+fn push_now<'a>(out: &mut Vec<u8>, words: &'a Option<String>) -> Result<(), AllocError>
+    ensures { OnOk result (Adds out.old.items out.new.items (now_pieces words.now)) }
 {
-    push(
-        out,
-        &[
-            Markup("</ul><p>made "),
-            Shown(made),
-            Markup("</p></header>\n<main>\n"),
-        ],
-    )
+    match words {
+        Some(words) => push(
+            out,
+            &[
+                Markup("</ul><p class=now>now: "),
+                Shown(words),
+                Markup("</p>"),
+            ],
+        ),
+        None => push(out, &[Markup("</ul>")]),
+    }
+}
+
+/// Adds the end of the header: when the page was made, if that is told.
+fn push_made<'a>(out: &mut Vec<u8>, made: &'a Option<String>) -> Result<(), AllocError>
+    ensures { OnOk result (Adds out.old.items out.new.items (made_pieces made.now)) }
+{
+    match made {
+        Some(words) => push(
+            out,
+            &[
+                Markup("<p>made "),
+                Shown(words),
+                Markup("</p></header>\n<main>\n"),
+            ],
+        ),
+        None => push(out, &[Markup("</header>\n<main>\n")]),
+    }
 }
 
 /// Adds the header.
@@ -337,6 +357,7 @@ pub(crate) fn push_header(out: &mut Vec<u8>, page: &Page) -> Result<(), AllocErr
     push_heading(out, &page.title)?;
     push_sums(out, &page.jobs, &ALL)?;
     push_stands(out, still)?;
+    push_now(out, &page.now)?;
     push_made(out, &page.made)?;
     Ok(())
 }

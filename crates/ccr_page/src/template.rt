@@ -47,6 +47,8 @@ header{display:flex;flex-wrap:wrap;align-items:center;gap:8px 18px;padding:16px 
 h1{font-size:22px;line-height:1.2}
 h2{font-size:16px;margin:30px 0 10px}
 header p{margin-left:auto;color:var(--dim);font-size:13px}
+header .now{order:1;width:100%;padding:4px 10px;border-left:5px solid #fad43b;background:var(--card);color:inherit;
+overflow-wrap:anywhere}
 .sum{display:flex;flex-wrap:wrap;gap:6px}.w{border:1px solid var(--line)}.sum li{padding:2px 10px;
 border-radius:4px;font-size:13px}
 .s{background:#11c560;fill:#11c560;color:#062}.f{background:#d23c28;fill:#d23c28;color:#fff}
@@ -106,7 +108,7 @@ min-width:200px}.ev th{font-weight:400;border-top:2px solid var(--bg);border-rad
 .ev tr:first-child th{padding-bottom:2px;font-size:12px;color:var(--dim);border:0}
 :target{background:var(--mark)}th:target,tr:target td{background:var(--mark)}
 @media(max-width:1100px){body{padding:0 10px 30px}article{grid-template-columns:minmax(0,1fr)}ol{grid-row:auto;
-grid-column:1}header p{margin:0}}
+grid-column:1}header p{margin:0}header .now{order:0}}
 .pic .r rect{stroke:var(--fg);stroke-width:4;stroke-dasharray:9 6}
 @media(prefers-reduced-motion:no-preference){.pic .r rect{animation:p 1.5s linear infinite}
 @keyframes p{to{stroke-dashoffset:-30}}}

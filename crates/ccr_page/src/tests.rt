@@ -7,11 +7,16 @@ use crate::{
 use std::alloc::{AllocError, Global};
 use std::test::Fail;
 
+/// What runs.
+const NOW: &str = "unit 12: task <test>, for 40 s; lint 3: task lint, for 2 s";
+
 /// What follows `<body>`.
 const EXPECTED: &str = "\
 <a class=skip href=#key>Skip the picture</a><header><h1>&lt;Shop&gt;</h1><ul class=sum>\
 <li class=f><b>1</b> failed</li><li class=s><b>1</b> succeeded</li><li class=w><a href=#hs>\
-<b>2</b> stand still</a></li></ul><p>made after round 2</p></header>
+<b>2</b> stand still</a></li></ul>\
+<p class=now>now: unit 12: task &lt;test&gt;, for 40 s; lint 3: task lint, for 2 s</p>\
+<p>made after round 2</p></header>
 <main>
 <section aria-label=\"Picture\">\
 <div class=pic tabindex=\"0\" role=\"region\" aria-label=\"Picture of the pipeline\">\
@@ -212,7 +217,8 @@ fn page(alloc: Global) -> Result<Page, AllocError> {
     };
     Ok(Page {
         title: text(alloc, "<Shop>")?,
-        made: text(alloc, "after round 2")?,
+        made: Some(text(alloc, "after round 2")?),
+        now: Some(text(alloc, NOW)?),
         refresh: None,
         logs: Some(text(alloc, "lo gs")?),
         has_pipeline: true,
@@ -238,12 +244,34 @@ fn page(alloc: Global) -> Result<Page, AllocError> {
     })
 }
 
+/// The text of a page.
+fn shown(alloc: Global, page: &Page) -> Result<String, Fail> {
+    let bytes = page_of(alloc, page)?;
+    let all = String::from_utf8(bytes).ok().ok_or("no text")?;
+    Ok(all)
+}
+
 #[test]
 fn a_page_is_as_it_was_drawn(rt: HostRuntime) -> Result<(), Fail> {
     let alloc = rt.alloc();
-    let bytes = page_of(alloc, &page(alloc)?)?;
-    let all = String::from_utf8(bytes).ok().ok_or("no text")?;
+    let all = shown(alloc, &page(alloc)?)?;
     let (_, body) = all.as_str().split_once("<body>\n").ok_or("no body")?;
     assert_eq!(rt; body, EXPECTED);
+    Ok(())
+}
+
+#[test]
+fn nothing_is_said_of_what_is_not_told(rt: HostRuntime) -> Result<(), Fail> {
+    let alloc = rt.alloc();
+    let mut page = page(alloc)?;
+    page.now = None;
+    page.made = None;
+    let all = shown(alloc, &page)?;
+    let (_, body) = all
+        .as_str()
+        .split_once("<ul class=sum>")
+        .ok_or("no counts")?;
+    let (_, after) = body.split_once("</ul>").ok_or("no end of the counts")?;
+    assert!(rt; after.starts_with("</header>\n<main>\n"));
     Ok(())
 }
