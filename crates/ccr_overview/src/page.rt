@@ -2,7 +2,7 @@
 ghost use Rattle.std.specs.Prelude.{◌≡◌, Some, map, length, IfOk};
 ghost use Rattle.ccr_pipeline.specs.Pipelines.{pipeline_data};
 ghost use Rattle.ccr_core.specs.Cores.{core_data};
-ghost use Rattle.ccr_overview.specs.Overviews.{options_data, page_with, page_without, IsPageOf, IsOverview};
+ghost use Rattle.ccr_overview.specs.Overviews.{options_data, page_with, page_without, AreFew, IsPageOf, IsOverview};
 ghost use Rattle.ccr_overview.specs.PageData.{page_data};
 ghost use Rattle.ccr_overview.specs.Scenes.{told_data, scene_data, IsSmall, AreTold};
 
@@ -18,7 +18,8 @@ use std::alloc::{AllocError, Global};
 
 /// The page where no pipeline is set.
 fn page_without(alloc: Global, options: Options) -> Page
-    ensures { page_data result ≡ page_without (options_data options) }
+    ensures exact { page_data result ≡ page_without (options_data options) }
+    ensures few { AreFew result }
 {
     Page {
         title: options.title,
@@ -82,6 +83,7 @@ fn page_told(
 }
 
 /// The page of a core's pipeline.
+#[tactic(auto, using(crate::proofs::Paging::few_shown))]
 fn page_of(
     alloc: Global,
     core: &Core,
@@ -89,9 +91,11 @@ fn page_of(
     options: Options,
 ) -> Result<Page, AllocError>
     requires { (core_data core.now).pipeline ≡ Some (pipeline_data pipeline.now) }
-    ensures { let c = core_data core.now in IfOk result (λ page.
+    ensures page { let c = core_data core.now in IfOk result (λ page.
         IsPageOf (options_data options) (pipeline_data pipeline.now) c.history c.budget (page_data page)) }
+    ensures few { IfOk result AreFew }
 {
+    few_members(pipeline);
     let told = each_told(alloc, core, pipeline)?;
     let page = page_told(alloc, core, pipeline, options, &told)?;
     Ok(page)
@@ -102,7 +106,8 @@ fn page_of(
 ///
 /// The only error is out of memory.
 pub fn overview(alloc: Global, core: &Core, options: Options) -> Result<Page, AllocError>
-    ensures { IfOk result (λ page. IsOverview (options_data options) (core_data core.now) (page_data page)) }
+    ensures shows { IfOk result (λ page. IsOverview (options_data options) (core_data core.now) (page_data page)) }
+    ensures few { IfOk result AreFew }
 {
     match core.pipeline() {
         Some(pipeline) => page_of(alloc, core, pipeline, options),
