@@ -13,6 +13,7 @@
 mod about;
 mod arrow;
 mod build;
+mod clash;
 mod hold;
 mod job;
 mod law;
@@ -25,6 +26,9 @@ mod scene;
 mod sentence;
 mod short;
 mod stopping;
+#[cfg(test)]
+mod tests;
+mod wait;
 mod word;
 
 pub use law::reasons_are_explained;
