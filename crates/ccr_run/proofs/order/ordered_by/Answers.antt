@@ -1,4 +1,4 @@
-use Rattle.std.proofs.Common.{◌≤◌, map, string_bytes, subst, sym}
+use Rattle.std.proofs.Common.{inl, inr, ◌≤◌, map, string_bytes, subst, sym}
 use Rattle.clap.specs.Words.{HasMatchesOf, found_of}
 use Rattle.ccr_core.specs.Commands.{command_data}
 use Rattle.ccr_command.specs.Aborts.{abort_data, abort_in}
@@ -56,7 +56,7 @@ returns-in-Err-options_of-clause-misused c =
     let matches =
     subst (λ a. HasMatchesOf a (map string_bytes c.args.words.now) c.in-Ok.matches)
     c.in_ok-line.ensures c.in-Ok.ensures.matches in
-    (c.in-Ok.matches, matches, c.in-Err-options_of.ensures)
+    (c.in-Ok.matches, matches, inl c.in-Err-options_of.ensures)
 
 pub returns-clause-misused : goal.returns-clause-misused
 returns-clause-misused c =
