@@ -1,7 +1,9 @@
 -- What comes of a page.
-use Rattle.std.specs.Prelude.{◌≡◌, ℕ, ◌++◌, not, Option, None, Some, option_map, Result, Ok, Err}
+use Rattle.std.specs.Prelude.{◌≡◌, ℕ, ◌++◌, Option, None, Some, option_map, Result, Ok, Err}
 use Rattle.ccr_history.specs.Text.{Text}
 use Rattle.ccr_core.specs.Holding.{CoreData}
+use Rattle.ccr_core.specs.declared.command.Command.TheVariants.{Show}
+use Rattle.ccr_core.specs.declared.shown.Shown.TheVariants.{Pipeline}
 use Rattle.ccr_overview.specs.Overviews.{OptionsData, IsOverview}
 use Rattle.ccr_overview.specs.PageData.{page_data}
 use Rattle.ccr_page.specs.Pages.{IsPage}
@@ -9,10 +11,10 @@ use Rattle.ccr_page.specs.declared.data.Page.{Page}
 use Rattle.ccr_serve.specs.declared.fault.ServeFault.TheVariants.{NoMemory}
 use Rattle.ccr_run.specs.declared.failure.Failure.{Failure}
 use Rattle.ccr_run.specs.declared.failure.Failure.TheVariants.{Refused}
+use Rattle.ccr_run.specs.declared.order.Order.{Order}
 use Rattle.ccr_run.specs.declared.order.PageOrder.{PageOrder}
 use Rattle.ccr_run.specs.declared.run.Outcome.{Outcome}
-use Rattle.ccr_run.specs.Explained.{ToldData, refusal_in}
-use Rattle.ccr_run.specs.Hints.{hint_of}
+use Rattle.ccr_run.specs.Explained.{ToldData, explained}
 
 -- when a page is made: as the words say, or else what the clock says, if it can be read
 abbrev pub made_at : Option Text → Option Text → Option Text
@@ -38,12 +40,11 @@ abbrev pub PagedOf : OptionsData → CoreData → Result ℕ Failure → Text �
 PagedOf options core (Ok status) old new = (status ≡ 0) × (bytes : Text) × IsPageOf options core bytes × (new ≡ old ++ bytes)
 PagedOf options core (Err failure) old new = (failure ≡ Refused NoMemory) × (new ≡ old)
 
--- WHAT A PAGE TELLS with this outcome: why there is none, what to do about it, and that it didn't go out whole
+-- a look at the pipeline in place of a page
+abbrev pub as_look : PageOrder → Order
+as_look order = record { options = order.options; command = Show Pipeline }
+
+-- WHAT A PAGE TELLS with this outcome: what a look at the pipeline tells, which is why there is none, what to do about it, and that it
+-- didn't go out whole
 abbrev pub page_told : PageOrder → Outcome → ToldData
-page_told order outcome = record {
-  gates = None;
-  budget = None;
-  refusal = refusal_in outcome.end;
-  hint = hint_of order.options.database.now outcome.end;
-  is_unprinted = not outcome.is_printed;
-}
+page_told order outcome = explained (as_look order) outcome

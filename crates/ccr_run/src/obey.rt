@@ -213,7 +213,7 @@ pub fn obey<
             }
         }
         Ok(Ordered::Page(order)) => {
-            let status = page_at(alloc, &order, clock, opener, out, telling);
+            let status = page_at(alloc, order, clock, opener, out, telling);
             Done {
                 status: Ok(status),
                 left: Left::Unopened(tools),

@@ -4,6 +4,7 @@ ghost use Rattle.clap.specs.Values.{kind_of};
 ghost use Rattle.clap.specs.declared.error.kind.ErrorKind.TheVariants.{OutOfMemory};
 ghost use Rattle.ccr_proof.specs.declared.proof.TheConstants.{MOST_NODES};
 ghost use Rattle.ccr_core.specs.declared.command.Command.TheVariants.{Show};
+ghost use Rattle.ccr_core.specs.declared.shown.Shown.TheVariants.{Pipeline};
 ghost use Rattle.ccr_run.specs.Orders.{budget_of, Becomes, IsMisused, Orders};
 ghost use Rattle.ccr_run.specs.declared.order.Misuse.TheVariants.{Line, NoMemory};
 
@@ -63,6 +64,19 @@ pub struct PageOrder<'a> {
     pub options: Options<'a>,
     /// What the page is to say of itself.
     pub page: PageRequest<'a>,
+}
+
+impl<'a> PageOrder<'a> {
+    /// The look at the pipeline that tells what a page tells.
+    pub fn into_look(self) -> Order<'a>
+        ensures options { result.options ≡ self.entry.options }
+        ensures command { result.command ≡ Show Pipeline }
+    {
+        Order {
+            options: self.options,
+            command: Command::Show(Shown::Pipeline),
+        }
+    }
 }
 
 /// What words order.

@@ -16,7 +16,7 @@ use crate::opener::FileOpener;
 use crate::opening::Opens;
 use crate::order::PageOrder;
 use crate::run::Outcome;
-use crate::tell::tell_page;
+use crate::tell::tell;
 use crate::telling::Telling;
 use ccr_core::Core;
 use ccr_lines::Printed;
@@ -127,30 +127,30 @@ fn page_in<O: Opens, S: Start, W: Write, E: Write>(
 /// is taken, and nothing is written but the page.
 pub fn page_at<'a, O: Opens, S: Start, W: Write, E: Write, P: Write>(
     alloc: Global,
-    order: &PageOrder<'a>,
+    order: PageOrder<'a>,
     clock: Option<&str>,
     opener: &mut FileOpener<O, S>,
     out: &mut Printed<W, E>,
     telling: &mut Telling<'a, P>,
 ) -> u8
-    requires least { 1 ≤ order.now.options.budget }
-    requires most { order.now.options.budget ≤ MOST_NODES }
+    requires least { 1 ≤ order.options.budget }
+    requires most { order.options.budget ≤ MOST_NODES }
     requires unasked { O.asked opener.old.files ≡ [] }
     requires untold { told_data telling.old ≡ nothing_told }
     ensures paged { (outcome : OutcomeData)
-        × Looked ⟦<FileStore<Scratch> as Trees>⟧ order.now.options
-        (PagedOf (overview_options order.now (option_map (λ t. t.now) clock.entry)))
+        × Looked ⟦<FileStore<Scratch> as Trees>⟧ order.entry.options
+        (PagedOf (overview_options order.entry (option_map (λ t. t.now) clock.entry)))
         (O.asked opener.new.files) outcome.end (out.old.shown ++ out.old.waiting) (out.new.shown ++ out.new.waiting)
         × (outcome.is_printed ≡ not out.new.failed)
-        × (told_data telling.new ≡ page_told order.now outcome)
+        × (told_data telling.new ≡ page_told order.entry outcome)
         × (result ≡ exit_status_of outcome) }
     ensures whole { out.old.waiting ≡ [] → out.new.waiting ≡ [] }
     ensures quiet { out.new.notes ≡ out.old.notes }
     ensures wrote { TellsLines (told_data telling.new) telling.old.errors telling.new.errors }
 {
     let outcome = Outcome {
-        end: page_in(alloc, order, clock, opener, out),
+        end: page_in(alloc, &order, clock, opener, out),
         is_printed: !out.has_failed(),
     };
-    tell_page(telling, order, &outcome)
+    tell(telling, &order.into_look(), &outcome)
 }

@@ -5,14 +5,13 @@ ghost use Rattle.ccr_run.specs.Explained.{told_data, nothing_told, shows_proof, 
 ghost use Rattle.ccr_run.specs.Explained.{budget_lines, refusal_lines, hint_lines, unprinted_lines, TellsLines};
 ghost use Rattle.ccr_run.specs.Hints.{hint_of};
 ghost use Rattle.ccr_run.specs.Obeyed.{IsTold};
-ghost use Rattle.ccr_run.specs.Paged.{page_told};
 ghost use Rattle.ccr_run.specs.Statuses as spec;
 ghost use Rattle.ccr_run.specs.Writers.{GetsLines};
 
 use crate::failure::Failure;
 use crate::found::VALIDATE;
 use crate::hint::hint_of;
-use crate::order::{Misuse, Order, PageOrder};
+use crate::order::{Misuse, Order};
 use crate::refusal::refusal_of;
 use crate::run::Outcome;
 use crate::telling::Telling;
@@ -28,17 +27,6 @@ fn status_of(end: &Result<u8, Failure>) -> u8
     match end {
         Ok(status) => *status,
         Err(failure) => refusal_of(failure).status,
-    }
-}
-
-/// The status of an outcome: that of its end, or 4 where not all lines went out.
-fn exit_status_of(outcome: &Outcome) -> u8
-    ensures { result ≡ spec.exit_status_of outcome.now }
-{
-    if outcome.is_printed {
-        status_of(&outcome.end)
-    } else {
-        4
     }
 }
 
@@ -121,24 +109,11 @@ pub fn tell<'e, E: Write>(telling: &mut Telling<'e, E>, order: &Order<'e>, outco
     tell_refusal(telling, &outcome.end);
     tell_hint(telling, order.options.database, &outcome.end);
     tell_unprinted(telling, outcome.is_printed);
-    exit_status_of(outcome)
-}
-
-/// Tells what came of a page, as [`tell`] does of a command, and gives the status.
-pub fn tell_page<'e, E: Write>(
-    telling: &mut Telling<'e, E>,
-    order: &PageOrder<'e>,
-    outcome: &Outcome,
-) -> u8
-    requires { told_data telling.old ≡ nothing_told }
-    ensures status { result ≡ spec.exit_status_of outcome.now }
-    ensures told { told_data telling.new ≡ page_told order.now outcome.now }
-    ensures wrote { TellsLines (page_told order.now outcome.now) telling.old.errors telling.new.errors }
-{
-    tell_refusal(telling, &outcome.end);
-    tell_hint(telling, order.options.database, &outcome.end);
-    tell_unprinted(telling, outcome.is_printed);
-    exit_status_of(outcome)
+    if outcome.is_printed {
+        status_of(&outcome.end)
+    } else {
+        4
+    }
 }
 
 /// Prints what `clap` answers: help to standard output, and a misuse to standard error.
