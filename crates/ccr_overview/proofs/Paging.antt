@@ -63,9 +63,9 @@ pub few_shown : (o : OptionsData) (p : PipelineData) (h : HistoryData) (budget :
 few_shown o p h budget page few small it =
     let s : SceneData = scene_of p h it.0 in
     let resources : length page.resources.items ≡ length p.resources =
-        sym (length-map page.resources.items page_resource_data)
-        ∙ (ap (λ (d : PageData). length d.resources) it.2 ∙ length-map p.resources (resource_shown h)) in
+    sym (length-map page.resources.items page_resource_data)
+    ∙ (ap (λ (d : PageData). length d.resources) it.2 ∙ length-map p.resources (resource_shown h)) in
     let jobs : length page.jobs.items ≡ length p.jobs =
-        sym (length-map page.jobs.items page_job_data)
-        ∙ (ap (λ (d : PageData). length d.jobs) it.2 ∙ (jobs_long s 0 it.0 ∙ told_long p h budget it.0 it.1)) in
+    sym (length-map page.jobs.items page_job_data)
+    ∙ (ap (λ (d : PageData). length d.jobs) it.2 ∙ (jobs_long s 0 it.0 ∙ told_long p h budget it.0 it.1)) in
     omega (arith, resources, jobs, few, small)

@@ -9,11 +9,7 @@ fn words_of(alloc: Global, now: DateTime) -> Result<String, AllocError> {
     let DateTime { date, time } = now;
     format!(in alloc;
         "{:04}-{:02}-{:02} {:02}:{:02} UTC",
-        date.year,
-        date.month,
-        date.day,
-        time.hour,
-        time.minute
+        date.year, date.month, date.day, time.hour, time.minute
     )
 }
 
