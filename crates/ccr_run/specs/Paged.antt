@@ -32,12 +32,12 @@ overview_options order clock = record {
 }
 
 -- THESE BYTES ARE THE PAGE OF A CORE: that of a value which shows what the core holds
-abbrev pub IsPageOf : OptionsData → CoreData → Text → Type 0
-IsPageOf options core bytes = (page : Page) × IsOverview options core (page_data page) × IsPage page bytes
+abbrev pub IsCorePage : OptionsData → CoreData → Text → Type 0
+IsCorePage options core bytes = (page : Page) × IsOverview options core (page_data page) × IsPage page bytes
 
 -- the page of a core is printed, once and behind all that was printed before, and its status is 0; or nothing is, out of memory
 abbrev pub PagedOf : OptionsData → CoreData → Result ℕ Failure → Text → Text → Type 0
-PagedOf options core (Ok status) old new = (status ≡ 0) × (bytes : Text) × IsPageOf options core bytes × (new ≡ old ++ bytes)
+PagedOf options core (Ok status) old new = (status ≡ 0) × (bytes : Text) × IsCorePage options core bytes × (new ≡ old ++ bytes)
 PagedOf options core (Err failure) old new = (failure ≡ Refused NoMemory) × (new ≡ old)
 
 -- a look at the pipeline in place of a page

@@ -5,7 +5,7 @@ ghost use Rattle.ccr_overview.specs.Overviews.{options_data};
 ghost use Rattle.ccr_proof.specs.declared.proof.TheConstants.{MOST_NODES};
 ghost use Rattle.ccr_run.specs.Explained.{nothing_told, told_data, TellsLines};
 ghost use Rattle.ccr_run.specs.Looked.{Looked};
-ghost use Rattle.ccr_run.specs.Paged.{IsPageOf, PagedOf, made_at, overview_options, page_told};
+ghost use Rattle.ccr_run.specs.Paged.{IsCorePage, PagedOf, made_at, overview_options, page_told};
 ghost use Rattle.ccr_run.specs.Statuses.{exit_status_of};
 ghost use Rattle.ccr_run.specs.declared.run.Outcome.{Outcome as OutcomeData};
 
@@ -75,7 +75,7 @@ fn bytes_of(
     clock: Option<&str>,
 ) -> Result<Vec<u8>, AllocError>
     ensures { IfOk result (λ bytes.
-        IsPageOf (overview_options order.now (option_map (λ t. t.now) clock.entry)) (core_data core.now) bytes.items) }
+        IsCorePage (overview_options order.now (option_map (λ t. t.now) clock.entry)) (core_data core.now) bytes.items) }
 {
     let options = options_of(alloc, order, clock)?;
     let page = overview(alloc, core, options)?;
