@@ -87,11 +87,11 @@ article p{grid-row:2;font-size:13px;color:var(--dim)}
 ol{grid-row:1/3;grid-column:2;display:flex;flex-wrap:wrap;gap:2px;font-size:12px;line-height:17px}
 ol li{min-width:31px;text-align:center;border-radius:3px}ol a{display:block;color:inherit}
 ol li:after{display:block;font-size:10px;line-height:11px}
-ol .s:after,.key .s:before{content:\"s\";content:\"s\" / \"\"}
-ol .f:after,.key .f:before{content:\"f\";content:\"f\" / \"\"}
-ol .e:after,.key .e:before{content:\"e\";content:\"e\" / \"\"}
-ol .a:after,.key .a:before{content:\"a\";content:\"a\" / \"\"}
-ol .r:after,.key .r:before{content:\"r\";content:\"r\" / \"\"}
+ol .s:after{content:\"s\";content:\"s\" / \"succeeded\"}.key .s:before{content:\"s\";content:\"s\" / \"\"}
+ol .f:after{content:\"f\";content:\"f\" / \"failed\"}.key .f:before{content:\"f\";content:\"f\" / \"\"}
+ol .e:after{content:\"e\";content:\"e\" / \"errored\"}.key .e:before{content:\"e\";content:\"e\" / \"\"}
+ol .a:after{content:\"a\";content:\"a\" / \"aborted\"}.key .a:before{content:\"a\";content:\"a\" / \"\"}
+ol .r:after{content:\"r\";content:\"r\" / \"running\"}.key .r:before{content:\"r\";content:\"r\" / \"\"}
 .key b:before{margin-right:5px;font-weight:700}
 ol li:has(a:hover){outline:2px solid var(--fg)}
 .wide{overflow-x:auto}
@@ -114,7 +114,7 @@ grid-column:1}header p{margin:0}header .now{order:0}}
 @keyframes p{to{stroke-dashoffset:-30}}}
 details{margin-top:8px}summary{cursor:pointer;padding:4px 2px;color:var(--link)}
 details[open] summary{margin-bottom:8px}
-@media(forced-colors:active){.sum li,ol li,h3,.key b{border:1px solid}}
+@media(forced-colors:active){.sum li,ol li,h3,.key b{border:1px solid}.pic{forced-color-adjust:none}}
 @media print{
 :root{--bg:#fff;--card:#fff;--fg:#000;--dim:#444;--line:#666;--rule:#bbb;--link:#000;--edge:#000;--pin:#6b3fc4;
 --held:#c8321f}

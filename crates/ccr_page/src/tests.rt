@@ -1,6 +1,7 @@
 //! A page with the bytes of another program, the Python one that the page was drawn with: of two jobs, the first of which
 //! failed.
 
+use crate::template::{CSS, HEAD};
 use crate::{
     Arrow, Bar, Cell, Job, Page, Port, Resource, Row, Status, Urgency, Version, Why, Word, page_of,
 };
@@ -273,5 +274,64 @@ fn nothing_is_said_of_what_is_not_told(rt: HostRuntime) -> Result<(), Fail> {
         .ok_or("no counts")?;
     let (_, after) = body.split_once("</ul>").ok_or("no end of the counts")?;
     assert!(rt; after.starts_with("</header>\n<main>\n"));
+    Ok(())
+}
+
+/// What the style has behind this text, if it has it.
+fn behind(rule: &str) -> Option<&'static str> {
+    match CSS.split_once(rule) {
+        Some((_, rest)) => Some(rest),
+        None => None,
+    }
+}
+
+/// Whether the style paints a status in its colour, behind this text.
+fn is_painted(status: Status, rule: &str) -> bool {
+    match behind(rule) {
+        Some(rest) => rest.starts_with(status.colour()),
+        None => false,
+    }
+}
+
+/// Whether the style has a letter for a status in the bars, behind this text, and its word for a reader of the screen.
+fn is_lettered(status: Status, rule: &str) -> bool {
+    match behind(rule) {
+        Some(rest) => match rest.split_once(" / \"") {
+            Some((letter, word)) => letter.starts_with(status.class())
+                && word.starts_with(status.word()),
+            None => false,
+        },
+        None => false,
+    }
+}
+
+#[test]
+fn a_status_has_its_colour(rt: HostRuntime) -> Result<(), Fail> {
+    assert!(rt; is_painted(Status::Failed, ".f{background:#"));
+    assert!(rt; is_painted(Status::Errored, ".e{background:#"));
+    assert!(rt; is_painted(Status::Aborted, ".a{background:#"));
+    assert!(rt; is_painted(Status::Running, ".r{background:#"));
+    assert!(rt; is_painted(Status::Succeeded, ".s{background:#"));
+    Ok(())
+}
+
+#[test]
+fn a_bar_has_a_letter_beside_its_colour(rt: HostRuntime) -> Result<(), Fail> {
+    assert!(rt; is_lettered(Status::Failed, "ol .f:after{content:\""));
+    assert!(rt; is_lettered(Status::Errored, "ol .e:after{content:\""));
+    assert!(rt; is_lettered(Status::Aborted, "ol .a:after{content:\""));
+    assert!(rt; is_lettered(Status::Running, "ol .r:after{content:\""));
+    assert!(rt; is_lettered(Status::Succeeded, "ol .s:after{content:\""));
+    Ok(())
+}
+
+#[test]
+fn a_page_lets_nothing_run(rt: HostRuntime) -> Result<(), Fail> {
+    let alloc = rt.alloc();
+    let all = shown(alloc, &page(alloc)?)?;
+    assert!(rt;
+        HEAD.contains("content=\"default-src 'none'; style-src 'unsafe-inline'; img-src data:;")
+    );
+    assert!(rt; !all.contains("<script"));
     Ok(())
 }
