@@ -1,9 +1,9 @@
 //! The commands that only read, with their help.
 ghost use Rattle.std.specs.Prelude.{◌≡◌, ◌∷◌, [], false, IfOk, codes};
 ghost use Rattle.clap.specs.Words.{rule_of};
-ghost use Rattle.ccr_command.specs.Usage.{IsCommand, value_rule, extra_rule, option_rule, flag_rule, look_rule, as_number};
+ghost use Rattle.ccr_command.specs.Usage.{IsCommand, value_rule, extra_rule, option_rule, flag_rule, look_rule, as_number, as_seconds};
 
-use crate::argument::{as_number, extra, flag, look, option, value};
+use crate::argument::{as_number, as_seconds, extra, flag, look, option, value};
 use crate::commands::command;
 use clap::{Arg, Command};
 use std::alloc::{AllocError, Global};
@@ -191,6 +191,74 @@ Example:
   ccr_run --db ci.db graph >pipeline.mmd",
     )
     .arg(look(alloc))
+}
+
+/// The rest of the help of `page`.
+const PAGE: &str = "\
+Prints one file of HTML, without a script or another file: a picture of the pipeline, what stands still and why, and for each job
+how its newest builds went and what they took. It is made from a look, with --look or without: it takes no lock, waits for nobody
+and changes nothing. Where no pipeline is set, the page says so.
+
+With --logs, each build leads to DIR/JOB/N/. A DIR that doesn't begin with / is beside the page; a scheme and a server's name
+aren't taken. With --refresh, a browser that shows the page reads it again by itself; make the page again meanwhile, and put the
+new one in the place of the old one in one go.
+
+Exit statuses: 0 printed; 2 usage; 4 disk or memory.
+
+Examples:
+  ccr_run --db ci.db page >page.html
+  ccr_run --db ci.db page --title shop --refresh 60 --logs logs --made \"$(date)\" >page.new && mv page.new page.html";
+
+/// The command `page` without its options.
+fn bare_page<'a>(alloc: Global) -> Command<'a>
+    ensures { IsCommand (codes "page") [] result }
+{
+    command(
+        alloc,
+        "page",
+        "Prints one HTML page that shows how all stands: the picture, the jobs, the builds",
+        PAGE,
+    )
+}
+
+/// Prints a page that shows how all stands.
+pub(crate) fn page<'a>(alloc: Global) -> Result<Command<'a>, AllocError>
+    ensures { IfOk result (IsCommand (codes "page")
+        (option_rule (codes "title") ∷ option_rule (codes "logs") ∷ as_seconds (option_rule (codes "refresh"))
+        ∷ option_rule (codes "made") ∷ option_rule (codes "now") ∷ look_rule ∷ [])) }
+{
+    let title = option(
+        alloc,
+        "title",
+        "TEXT",
+        "The page's heading; without it, `Pipeline`",
+    );
+    let logs = option(
+        alloc,
+        "logs",
+        "DIR",
+        "The directory of the builds' logs, as the reader of the page sees it",
+    );
+    let refresh = option(
+        alloc,
+        "refresh",
+        "SECONDS",
+        "After how many seconds a browser reads the page again, from 1 to 86400",
+    );
+    let made = option(
+        alloc,
+        "made",
+        "TEXT",
+        "When the page is made, in words; the program reads no clock",
+    );
+    let now = option(alloc, "now", "TEXT", "What runs right now, in words");
+    bare_page(alloc)
+        .arg(title)?
+        .arg(logs)?
+        .arg(as_seconds(refresh))?
+        .arg(made)?
+        .arg(now)?
+        .arg(look(alloc))
 }
 
 /// Shows a build.

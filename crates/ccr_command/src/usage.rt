@@ -9,7 +9,7 @@ use crate::commands::{
     unpin_resource,
 };
 use crate::reading::{
-    build, builds, certify, explain, get_pipeline, graph, jobs, live, red, resource_versions,
+    build, builds, certify, explain, get_pipeline, graph, jobs, live, page, red, resource_versions,
     resources, trace,
 };
 use crate::versions::{disable_resource_version, enable_resource_version};
@@ -120,7 +120,8 @@ fn with_standing_commands<'a>(alloc: Global, line: Command<'a>) -> Result<Comman
     let line = line.subcommand(resources(alloc)?)?;
     let line = line.subcommand(jobs(alloc)?)?;
     let line = line.subcommand(red(alloc)?)?;
-    line.subcommand(graph(alloc)?)
+    let line = line.subcommand(graph(alloc)?)?;
+    line.subcommand(page(alloc)?)
 }
 
 /// The same with the commands that show what builds took.
@@ -141,7 +142,7 @@ fn with_choice_commands<'a>(alloc: Global, line: Command<'a>) -> Result<Command<
 }
 
 /// The program's command line: `ccr_run --db FILE [--types DIR] [--work DIR] [--budget N] [--launcher PROGRAM] COMMAND`,
-/// with the help of the program and of each of its twenty-three commands.
+/// with the help of the program and of each of its twenty-four commands.
 ///
 /// The only error is out of memory.
 pub fn command_line<'a>(alloc: Global) -> Result<Command<'a>, AllocError>
