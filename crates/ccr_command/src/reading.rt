@@ -199,15 +199,15 @@ Prints one file of HTML, without a script or another file: a picture of the pipe
 how its newest builds went and what they took. It is made from a look, with --look or without: it takes no lock, waits for nobody
 and changes nothing. Where no pipeline is set, the page says so.
 
-With --logs, each build leads to DIR/JOB/N/. A DIR that doesn't begin with / is beside the page; a scheme and a server's name
-aren't taken. With --refresh, a browser that shows the page reads it again by itself; make the page again meanwhile, and put the
-new one in the place of the old one in one go.
+With --logs, each build leads to DIR/JOB/N/. DIR is a path, without a scheme such as https:; one that doesn't begin with / starts
+where the page lies. With --refresh, a browser that shows the page reads it again by itself: make it anew meanwhile, and put the
+new file in the place of the old one by `mv`.
 
 Exit statuses: 0 printed; 2 usage; 4 disk or memory.
 
 Examples:
   ccr_run --db ci.db page >page.html
-  ccr_run --db ci.db page --title shop --refresh 60 --logs logs --made \"$(date)\" >page.new && mv page.new page.html";
+  ccr_run --db ci.db page --title shop --refresh 60 --logs logs >page.new && mv page.new page.html";
 
 /// The command `page` without its options.
 fn bare_page<'a>(alloc: Global) -> Command<'a>
@@ -249,7 +249,7 @@ pub(crate) fn page<'a>(alloc: Global) -> Result<Command<'a>, AllocError>
         alloc,
         "made",
         "TEXT",
-        "When the page is made, in words; the program reads no clock",
+        "When the page is made, in words; without it, the clock's time",
     );
     let now = option(alloc, "now", "TEXT", "What runs right now, in words");
     bare_page(alloc)

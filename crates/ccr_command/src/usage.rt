@@ -21,6 +21,7 @@ const ABOUT: &str = "Runs pipelines: checks resources, runs builds of jobs, and 
 
 /// The end of the program's help.
 const MORE: &str = "\
+The options stand before the command, its own words behind it; ccr_run COMMAND --help shows these.
 Exit statuses: 0 done, 1 refused, 2 usage, 3 over the budget, 4 disk or memory.
 What happens is printed on standard output, line by line; a refusal goes to standard error.
 `ccr_run validate-pipeline FILE [--strict]` reads a pipeline without a database, and says what each input has to have passed.
