@@ -1,4 +1,6 @@
+pub mod Clashing
 pub mod Digits
+pub mod Drawing
 pub mod Fields
 pub mod Going
 pub mod Joining

@@ -1,13 +1,13 @@
 -- The page of a core.
-use Rattle.std.proofs.Common.{◌≡◌, ◌≤◌, ◌+◌, ℕ, suc, List, [], ◌∷◌, ◌++◌, length, Option, Some, None, Result, Ok, Err, IfOk, refl, sym, ap, ◌∙◌, subst, arith, length-append}
+use Rattle.std.proofs.Common.{◌≡◌, ◌≤◌, ◌+◌, ℕ, suc, List, [], ◌∷◌, ◌++◌, length, map, Option, Some, None, Result, Ok, Err, IfOk, refl, sym, ap, ◌∙◌, subst, arith, length-append}
 use Rattle.std.proofs.lemmas.List.{length-map}
-use Rattle.ccr_page.specs.declared.data.Page.{Page}
 use Rattle.ccr_history.specs.History.{HistoryData}
 use Rattle.ccr_pipeline.specs.JobData.{JobData}
 use Rattle.ccr_pipeline.specs.Pipelines.{PipelineData}
 use Rattle.ccr_lines.specs.Each.{AreEach}
+use Rattle.ccr_page.specs.declared.data.Page.{Page}
 use Rattle.ccr_overview.specs.Each.{each_from}
-use Rattle.ccr_overview.specs.Overviews.{OptionsData, AreFew, IsPageOf, IsPageIn, job_shown, page_with, scene_of}
+use Rattle.ccr_overview.specs.Overviews.{OptionsData, job_shown, page_with, scene_of, IsPageOf, IsPageIn}
 use Rattle.ccr_overview.specs.PageData.{PageData, page_data, page_job_data, page_resource_data}
 use Rattle.ccr_overview.specs.PageResources.{resource_shown}
 use Rattle.ccr_overview.specs.Scenes.{ToldData, SceneData, row_count, IsTold, AreTold}
@@ -52,20 +52,37 @@ pub page_told : {E X : Type 0} (f : X → PageData) (r : Result X E) (o : Option
 page_told f (Ok x) o p h g budget rows told same count are is = page_so o p h g budget rows told (f x) same count are is
 page_told f (Err e) o p h g budget rows told same count are is = tt
 
--- as many jobs are shown as are told of
-jobs_long : (s : SceneData) (k : ℕ) (ts : List ToldData) → length (each_from (job_shown s) k ts) ≡ length ts
-jobs_long s k [] = refl
-jobs_long s k (t ∷ ts) = ap suc (jobs_long s (k + 1) ts)
+-- ---- how many there are
+-- each job is shown once
+shown_long : (s : SceneData) (k : ℕ) (ts : List ToldData) → length (each_from (job_shown s) k ts) ≡ length ts
+shown_long s k [] = refl
+shown_long s k (t ∷ ts) = ap suc (shown_long s (k + 1) ts)
 
--- a page of a pipeline that has few resources and jobs has few
-pub few_shown : (o : OptionsData) (p : PipelineData) (h : HistoryData) (budget : ℕ) (page : Page) → length p.resources ≤ 200
-    → length p.jobs ≤ 200 → IsPageOf o p h budget (page_data page) → AreFew page
-few_shown o p h budget page few small it =
-    let s : SceneData = scene_of p h it.0 in
-    let resources : length page.resources.items ≡ length p.resources =
-    sym (length-map page.resources.items page_resource_data)
-    ∙ (ap (λ (d : PageData). length d.resources) it.2 ∙ length-map p.resources (resource_shown h)) in
-    let jobs : length page.jobs.items ≡ length p.jobs =
-    sym (length-map page.jobs.items page_job_data)
-    ∙ (ap (λ (d : PageData). length d.jobs) it.2 ∙ (jobs_long s 0 it.0 ∙ told_long p h budget it.0 it.1)) in
-    omega (arith, resources, jobs, few, small)
+-- a page has few resources and jobs, where its pipeline has few
+few_of : (page : Page) (o : OptionsData) (p : PipelineData) (h : HistoryData) (budget : ℕ)
+    → length p.resources ≤ 200 → length p.jobs ≤ 200 → IsPageOf o p h budget (page_data page)
+    → length page.resources.items + length page.jobs.items ≤ 400
+few_of page o p h budget rs js of =
+    let told = of.0 in
+    let s = scene_of p h told in
+    let all : length (map page_resource_data page.resources.items) ≡ length (map (resource_shown h) p.resources) = ap (λ x. length x.resources) of.2 in
+    let each : length (map page_job_data page.jobs.items) ≡ length (each_from (job_shown s) 0 told) = ap (λ x. length x.jobs) of.2 in
+    omega (
+      arith,
+      rs,
+      js,
+      all,
+      each,
+      length-map page.resources.items page_resource_data,
+      length-map p.resources (resource_shown h),
+      length-map page.jobs.items page_job_data,
+      shown_long s 0 told,
+      told_long p h budget told of.1,
+    )
+
+-- the same of a page that is made, if it is
+pub few_told : {E : Type 0} (r : Result Page E) (o : OptionsData) (p : PipelineData) (h : HistoryData) (budget : ℕ)
+    → length p.resources ≤ 200 → length p.jobs ≤ 200 → IfOk r (λ page. IsPageOf o p h budget (page_data page))
+    → IfOk r (λ page. length page.resources.items + length page.jobs.items ≤ 400)
+few_told (Ok page) o p h budget rs js of = few_of page o p h budget rs js of
+few_told (Err e) o p h budget rs js of = tt

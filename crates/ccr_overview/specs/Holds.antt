@@ -46,19 +46,20 @@ refuses_pair s q t = list_any (λ r. is_pair q (pair_of s t r.place)) t.newer
 abbrev pub takes_due : SceneData → ℕ × ℕ → ToldData → Bool
 takes_due s q t = is_due t.explained.outlook && list_any (takes_pair s q) t.explained.inputs
 
--- the job of this name is due with the pair
-abbrev pub is_due_with : SceneData → Text → ℕ × ℕ → Bool
-is_due_with s named q = list_any (λ t. bytes_eq named t.job.name && takes_due s q t) s.told
+-- one of these is the job of this name, and due with the pair
+abbrev pub has_due : SceneData → Text → ℕ × ℕ → List ToldData → Bool
+has_due s named q told = list_any (λ t. bytes_eq named t.job.name && takes_due s q t) told
 
--- the job of this name has an input that says why it doesn't take the pair
-abbrev pub is_refused_by : SceneData → Text → ℕ × ℕ → Bool
-is_refused_by s named q = list_any (λ t. bytes_eq named t.job.name && list_any (refuses_pair s q) t.explained.inputs) s.told
+-- one of these is the job of this name, and has an input that says why it doesn't take the pair
+abbrev pub has_refused : SceneData → Text → ℕ × ℕ → List ToldData → Bool
+has_refused s named q told =
+    list_any (λ t. bytes_eq named t.job.name && list_any (refuses_pair s q) t.explained.inputs) told
 
 -- how a job of this name stands to a version that no build of it has, between the two
 abbrev pub unbuilt_said : SceneData → Text → ℕ × ℕ → Text
 unbuilt_said s named q =
-    if is_due_with s named q then codes " is due with "
-    else (if is_refused_by s named q then codes " doesn't take " else codes " hasn't built ")
+    if has_due s named q s.told then codes " is due with "
+    else (if has_refused s named q s.told then codes " doesn't take " else codes " hasn't built ")
 
 -- where a version stopped, up to the version: the build, which leads to its row; or the job, which leads to what is said of it
 abbrev pub stop_words : SceneData → ℕ × ℕ → Text → Option (ℕ × Status) → List WordData

@@ -1,6 +1,7 @@
 pub mod Abouts
 pub mod Arrows
 pub mod Clashes
+pub mod Drawn
 pub mod Each
 pub mod Holds
 pub mod Linked

@@ -1,5 +1,5 @@
 -- THE PAGE of what a core holds.
-use Rattle.std.specs.Prelude.{◌≡◌, ◌≤◌, ℕ, ◌+◌, List, [], ◌∷◌, length, map, not, ◌==◌, Bool, true, false, Option, Some, None, option_map, string_bytes}
+use Rattle.std.specs.Prelude.{◌≡◌, ℕ, List, [], ◌∷◌, length, map, not, ◌==◌, Bool, true, false, Option, Some, None, option_map, string_bytes}
 use Rattle.ccr_history.specs.Text.{Text}
 use Rattle.ccr_history.specs.Builds.{BuildData}
 use Rattle.ccr_history.specs.History.{HistoryData}
@@ -7,7 +7,6 @@ use Rattle.ccr_pipeline.specs.Inputs.{InputData, inputs}
 use Rattle.ccr_pipeline.specs.Pipelines.{PipelineData}
 use Rattle.ccr_core.specs.Holding.{CoreData}
 use Rattle.ccr_lines.specs.Standing.{newest_build}
-use Rattle.ccr_page.specs.declared.data.Page.{Page}
 use Rattle.ccr_overview.specs.declared.options.Options.{Options}
 use Rattle.ccr_overview.specs.Abouts.{about_words}
 use Rattle.ccr_overview.specs.Arrows.{arrows}
@@ -114,7 +113,3 @@ IsPageIn o (Some p) h budget page = IsPageOf o p h budget page
 -- THE PAGE OF A CORE
 abbrev pub IsOverview : OptionsData → CoreData → PageData → Type 0
 IsOverview o c page = IsPageIn o c.pipeline c.history c.budget page
-
--- a page has few resources and jobs: its picture has room for them
-abbrev pub AreFew : Page → Type 0
-AreFew page = length page.resources.items + length page.jobs.items ≤ 400

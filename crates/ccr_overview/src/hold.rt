@@ -4,11 +4,13 @@ ghost use Rattle.std.specs.List.{list_any};
 ghost use Rattle.std.specs.Option.{option_copied};
 ghost use Rattle.ccr_history.specs.Builds.{is_running};
 ghost use Rattle.ccr_lines.specs.JobsJson.{is_due};
+ghost use Rattle.ccr_lines.specs.Releases.{is_pair};
 ghost use Rattle.ccr_lines.specs.Stops.{stop_data};
 ghost use Rattle.ccr_page.specs.Statuses.{urgency_rank, is_as_urgent};
-ghost use Rattle.ccr_overview.specs.Holds.{refused, stands_said, takes_pair, refuses_pair, takes_due, is_due_with, is_refused_by, unbuilt_said, stop_words, is_pinned_words, unmet_words, other_words, reason_words, is_held_words, is_due_job, goes_on, reason_urgency, hold_data, hold_of, hold_in, holds, resource_words, hold_words, has_urgency, worst, urgent_ones};
+ghost use Rattle.ccr_overview.specs.Holds.{refused, stands_said, takes_pair, refuses_pair, takes_due, has_due, has_refused, unbuilt_said, stop_words, is_pinned_words, unmet_words, other_words, reason_words, is_held_words, is_due_job, goes_on, reason_urgency, hold_data, hold_of, hold_in, holds, resource_words, hold_words, has_urgency, worst, urgent_ones};
 ghost use Rattle.ccr_overview.specs.PageData.{Plain, word_data};
 ghost use Rattle.ccr_overview.specs.Scenes.{told_data, scene_data};
+ghost use Rattle.ccr_overview.specs.Stopping.{pair_of};
 
 use crate::clash::behind_clash;
 use crate::linked::{push_build, push_job};
@@ -55,16 +57,24 @@ fn takes_pair(scene: &Scene<'_>, pair: (u32, u32), taken: &Taken) -> bool
     is_same(pair, pair_of(scene, taken, taken.place))
 }
 
-/// Whether an input says why it doesn't take a pair of scope and place, which is newer than what it takes.
-fn refuses_pair(scene: &Scene<'_>, pair: (u32, u32), taken: &Taken) -> bool
-    ensures { result ≡ refuses_pair (scene_data scene.now) pair taken.now }
+/// Whether a pair of scope and place is one of these that an input doesn't take.
+fn is_among(scene: &Scene<'_>, pair: (u32, u32), taken: &Taken, newer: &[Refusal]) -> bool
+    ensures { let s = scene_data scene.now in result
+        ≡ list_any (λ r. is_pair pair (pair_of s taken.now r.place)) newer.now }
 {
-    for refusal in &taken.newer {
+    for refusal in newer {
         if is_same(pair, pair_of(scene, taken, refusal.place)) {
             return true;
         }
     }
     false
+}
+
+/// Whether an input says why it doesn't take a pair of scope and place, which is newer than what it takes.
+fn refuses_pair(scene: &Scene<'_>, pair: (u32, u32), taken: &Taken) -> bool
+    ensures { result ≡ refuses_pair (scene_data scene.now) pair taken.now }
+{
+    is_among(scene, pair, taken, &taken.newer)
 }
 
 /// Whether one of these inputs takes a pair of scope and place.
@@ -98,11 +108,11 @@ fn takes_due(scene: &Scene<'_>, pair: (u32, u32), told: &Told<'_>) -> bool
     is_due(told.explained.outlook) && has_taker(scene, pair, &told.explained.inputs)
 }
 
-/// Whether the job of a name is due with a pair of scope and place.
-fn is_due_with(scene: &Scene<'_>, name: &str, pair: (u32, u32)) -> bool
-    ensures { result ≡ is_due_with (scene_data scene.now) name.now pair }
+/// Whether one of these is the job of a name, and due with a pair of scope and place.
+fn has_due(scene: &Scene<'_>, all: &[Told<'_>], name: &str, pair: (u32, u32)) -> bool
+    ensures { result ≡ has_due (scene_data scene.now) name.now pair (map told_data all.now) }
 {
-    for it in scene.told {
+    for it in all {
         if name == it.job.name.as_str() && takes_due(scene, pair, it) {
             return true;
         }
@@ -110,11 +120,11 @@ fn is_due_with(scene: &Scene<'_>, name: &str, pair: (u32, u32)) -> bool
     false
 }
 
-/// Whether the job of a name has an input that says why it doesn't take a pair of scope and place.
-fn is_refused_by(scene: &Scene<'_>, name: &str, pair: (u32, u32)) -> bool
-    ensures { result ≡ is_refused_by (scene_data scene.now) name.now pair }
+/// Whether one of these is the job of a name, and has an input that says why it doesn't take a pair of scope and place.
+fn has_refused(scene: &Scene<'_>, all: &[Told<'_>], name: &str, pair: (u32, u32)) -> bool
+    ensures { result ≡ has_refused (scene_data scene.now) name.now pair (map told_data all.now) }
 {
-    for it in scene.told {
+    for it in all {
         if name == it.job.name.as_str() && has_refuser(scene, pair, &it.explained.inputs) {
             return true;
         }
@@ -126,9 +136,9 @@ fn is_refused_by(scene: &Scene<'_>, name: &str, pair: (u32, u32)) -> bool
 fn unbuilt_said(scene: &Scene<'_>, name: &str, pair: (u32, u32)) -> &'static str
     ensures { result.now ≡ unbuilt_said (scene_data scene.now) name.now pair }
 {
-    if is_due_with(scene, name, pair) {
+    if has_due(scene, scene.told, name, pair) {
         " is due with "
-    } else if is_refused_by(scene, name, pair) {
+    } else if has_refused(scene, scene.told, name, pair) {
         " doesn't take "
     } else {
         " hasn't built "

@@ -1,8 +1,8 @@
 //! The page of what a core holds.
-ghost use Rattle.std.specs.Prelude.{◌≡◌, Some, map, length, IfOk};
+ghost use Rattle.std.specs.Prelude.{◌≡◌, ◌+◌, ◌≤◌, Some, map, length, IfOk};
 ghost use Rattle.ccr_pipeline.specs.Pipelines.{pipeline_data};
 ghost use Rattle.ccr_core.specs.Cores.{core_data};
-ghost use Rattle.ccr_overview.specs.Overviews.{options_data, page_with, page_without, AreFew, IsPageOf, IsOverview};
+ghost use Rattle.ccr_overview.specs.Overviews.{options_data, page_with, page_without, IsPageOf, IsOverview};
 ghost use Rattle.ccr_overview.specs.PageData.{page_data};
 ghost use Rattle.ccr_overview.specs.Scenes.{told_data, scene_data, IsSmall, AreTold};
 
@@ -18,8 +18,8 @@ use std::alloc::{AllocError, Global};
 
 /// The page where no pipeline is set.
 fn page_without(alloc: Global, options: Options) -> Page
-    ensures exact { page_data result ≡ page_without (options_data options) }
-    ensures few { AreFew result }
+    ensures shown { page_data result ≡ page_without (options_data options) }
+    ensures few { length result.resources.items + length result.jobs.items ≤ 400 }
 {
     Page {
         title: options.title,
@@ -67,8 +67,9 @@ fn page_told(
 ) -> Result<Page, AllocError>
     requires { let c = core_data core.now in
         AreTold (pipeline_data pipeline.now) c.history c.budget (map told_data told.now) }
-    ensures { let c = core_data core.now in IfOk result (λ page.
+    ensures shown { let c = core_data core.now in IfOk result (λ page.
         IsPageOf (options_data options) (pipeline_data pipeline.now) c.history c.budget (page_data page)) }
+    ensures few { IfOk result (λ page. length page.resources.items + length page.jobs.items ≤ 400) }
 {
     few_members(pipeline);
     let history = core.history();
@@ -83,7 +84,6 @@ fn page_told(
 }
 
 /// The page of a core's pipeline.
-#[tactic(auto, using(crate::proofs::Paging::few_shown))]
 fn page_of(
     alloc: Global,
     core: &Core,
@@ -91,23 +91,23 @@ fn page_of(
     options: Options,
 ) -> Result<Page, AllocError>
     requires { (core_data core.now).pipeline ≡ Some (pipeline_data pipeline.now) }
-    ensures page { let c = core_data core.now in IfOk result (λ page.
+    ensures shown { let c = core_data core.now in IfOk result (λ page.
         IsPageOf (options_data options) (pipeline_data pipeline.now) c.history c.budget (page_data page)) }
-    ensures few { IfOk result AreFew }
+    ensures few { IfOk result (λ page. length page.resources.items + length page.jobs.items ≤ 400) }
 {
-    few_members(pipeline);
     let told = each_told(alloc, core, pipeline)?;
     let page = page_told(alloc, core, pipeline, options, &told)?;
     Ok(page)
 }
 
 /// The page of what a core holds: each job of its pipeline with its newest build, its last ones, what they took, and why it
-/// stands still, in the words of `explain`; each resource with its versions and pins; and each edge of the graph.
+/// stands still, by what `explain` says; each resource with its versions and pins; and each edge of the graph.
 ///
 /// The only error is out of memory.
 pub fn overview(alloc: Global, core: &Core, options: Options) -> Result<Page, AllocError>
-    ensures shows { IfOk result (λ page. IsOverview (options_data options) (core_data core.now) (page_data page)) }
-    ensures few { IfOk result AreFew }
+    ensures shown { IfOk result (λ page. IsOverview (options_data options) (core_data core.now) (page_data page)) }
+    // So few that `ccr_page` draws them.
+    ensures few { IfOk result (λ page. length page.resources.items + length page.jobs.items ≤ 400) }
 {
     match core.pipeline() {
         Some(pipeline) => page_of(alloc, core, pipeline, options),
