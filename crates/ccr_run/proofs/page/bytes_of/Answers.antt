@@ -9,4 +9,4 @@ pub returns : goal.returns
 returns c =
     made_of (λ bytes. bytes.items) (overview_options c.args.order.now (option_map (λ t. t.now) c.args.clock))
     (options_data c.in_ok-options.field-0) (core_data c.args.core.now) c.in_ok-page.field-0 c.page_of.result
-    c.in_ok-options.ensures c.in_ok-page.ensures.shows c.page_of.ensures
+    c.in_ok-options.ensures c.in_ok-page.ensures.shown c.page_of.ensures
