@@ -1,0 +1,111 @@
+-- The text of a receipt: how it is written.
+use Rattle.std.specs.Prelude.{ℕ, ◌+◌, List, [], ◌∷◌, ◌++◌, length, Option, Some, None, codes, if◌then◌else◌}
+use Rattle.std.specs.List.{flat_map}
+use Rattle.std.specs.Fmt.{decimal}
+use Rattle.hex.specs.Hex.{encode_lower}
+use Rattle.sha2.specs.Sha256.{sha256}
+use Rattle.ccr_choice.specs.ProblemText.{problem_text}
+use Rattle.ccr_proof.specs.ProofText.{proof_text}
+use Rattle.ccr_check.specs.Judged.{spaced}
+use Rattle.ccr_receipt.specs.declared.status.Status.{Status}
+use Rattle.ccr_receipt.specs.declared.status.Status.TheVariants.{Succeeded, Failed, Errored, Aborted}
+use Rattle.ccr_receipt.specs.Receipt.{Bytes, ResourceSaid, VersionSaid, GateSaid, InputSaid, BuildSaid, LimitSaid, ChosenSaid, ReceiptSaid}
+
+-- The word for how a build ended.
+abbrev pub status_word : Status → Bytes
+status_word Succeeded = codes "succeeded"
+status_word Failed = codes "failed"
+status_word Errored = codes "errored"
+status_word Aborted = codes "aborted"
+
+-- a line feed
+abbrev pub line_end : Bytes
+line_end = 10 ∷ []
+
+-- `WORD N`
+abbrev pub count_line : Bytes → ℕ → Bytes
+count_line word n = word ++ spaced n ++ line_end
+
+-- `NAME SCOPE TYPE`
+abbrev pub resource_line : ResourceSaid → Bytes
+resource_line s = s.name ++ spaced s.scope ++ 32 ∷ s.kind ++ line_end
+
+-- `R PLACE VERSION`
+abbrev pub version_line : VersionSaid → Bytes
+version_line v = decimal v.resource ++ spaced v.place ++ 32 ∷ v.version ++ line_end
+
+-- `JOB N`, or `JOB N beyond`
+abbrev pub gate_line : GateSaid → Bytes
+gate_line g = g.job ++ spaced g.number ++ (if g.beyond then codes " beyond" else []) ++ line_end
+
+-- `NAME R PLACE jobs J..`
+abbrev pub input_line : InputSaid → Bytes
+input_line i = i.name ++ spaced i.resource ++ spaced i.place ++ codes " jobs" ++ flat_map spaced i.gates ++ line_end
+
+-- `R PLACE`
+abbrev pub pair_line : ℕ × ℕ → Bytes
+pair_line q = decimal q.0 ++ spaced q.1 ++ line_end
+
+-- `JOB N made M STATUS asked`, or `seen`; `jobs N` with its gates, `inputs N` with what it took, and `moved N` with what it moved
+abbrev pub build_lines : BuildSaid → Bytes
+build_lines b =
+    b.job ++ spaced b.number ++ codes " made" ++ spaced b.made ++ 32 ∷ status_word b.status
+    ++ (if b.is_asked then codes " asked" else codes " seen") ++ line_end
+    ++ count_line (codes "jobs") (length b.gates) ++ flat_map gate_line b.gates
+    ++ count_line (codes "inputs") (length b.inputs) ++ flat_map input_line b.inputs
+    ++ count_line (codes "moved") (length b.moved) ++ flat_map pair_line b.moved
+
+-- a pin behind a blank
+abbrev pub pin_word : Bytes → Bytes
+pin_word pin = 32 ∷ pin
+
+-- `known K pins PIN.. disabled P..`
+abbrev pub limit_line : LimitSaid → Bytes
+limit_line l =
+    codes "known" ++ spaced l.known ++ codes " pins" ++ flat_map pin_word l.pins ++ codes " disabled"
+    ++ flat_map spaced l.disabled ++ line_end
+
+-- `limits N`, and a line for each input
+abbrev pub limit_lines : List LimitSaid → Bytes
+limit_lines ls = count_line (codes "limits") (length ls) ++ flat_map limit_line ls
+
+-- the limits, the problem, and the proof
+abbrev pub chosen_lines : ChosenSaid → Bytes
+chosen_lines c = limit_lines c.limits ++ problem_text c.problem ++ proof_text c.claim c.tree
+
+-- the digest of the pipeline, where the moment of the choice is known
+abbrev pub pipeline_word : Option ChosenSaid → Bytes
+pipeline_word (Some c) = c.pipeline
+pipeline_word None = codes "unknown"
+
+-- `receipt 1`, `of JOB N`, and `pipeline SHA256` or `pipeline unknown`
+abbrev pub head_lines : ReceiptSaid → Bytes
+head_lines r =
+    codes "receipt 1" ++ line_end ++ codes "of " ++ r.own.job ++ spaced r.own.number ++ line_end
+    ++ codes "pipeline " ++ pipeline_word r.chosen ++ line_end
+
+-- what shows the choice, where its moment is known
+abbrev pub choice_lines : Option ChosenSaid → Bytes
+choice_lines (Some c) = chosen_lines c
+choice_lines None = []
+
+-- a receipt but for its last line
+abbrev pub body_text : ReceiptSaid → Bytes
+body_text r =
+    head_lines r
+    ++ count_line (codes "resources") (length r.resources) ++ flat_map resource_line r.resources
+    ++ count_line (codes "versions") (length r.versions) ++ flat_map version_line r.versions
+    ++ count_line (codes "builds") (length r.before + 1) ++ flat_map build_lines r.before ++ build_lines r.own
+    ++ choice_lines r.chosen
+
+-- the SHA-256 of bytes, as 64 digits from 0 to f
+abbrev pub digest_word : Bytes → Bytes
+digest_word bytes = encode_lower (sha256 bytes)
+
+-- `seal SHA256`, of what stands above it
+abbrev pub seal_line : Bytes → Bytes
+seal_line text = codes "seal " ++ digest_word text ++ line_end
+
+-- THE ONE TEXT OF A RECEIPT: the last line seals what is above it.
+abbrev pub receipt_text : ReceiptSaid → Bytes
+receipt_text r = body_text r ++ seal_line (body_text r)

@@ -1,0 +1,32 @@
+-- What an accepted receipt means.
+use Rattle.std.specs.Prelude.{◌≡◌, ◌≢◌, ℕ, ◌⊎◌, [], true, false, IsTrue, Option, Some, None}
+use Rattle.ccr_choice.specs.Problem.{IsProblem}
+use Rattle.ccr_choice.specs.Preference.{order_of}
+use Rattle.ccr_proof.specs.Right.{IsRight}
+use Rattle.ccr_receipt.specs.declared.status.Status.TheVariants.{Succeeded}
+use Rattle.ccr_receipt.specs.Receipt.{Bytes, ChosenSaid, ReceiptSaid}
+use Rattle.ccr_receipt.specs.ReceiptText.{receipt_text}
+use Rattle.ccr_receipt.specs.Rules.{are_resources, are_versions}
+use Rattle.ccr_receipt.specs.Way.{hangs_together}
+use Rattle.ccr_receipt.specs.Choice.{is_tied}
+use Rattle.std.specs.Prelude.{length}
+
+-- THE BEST OF WHAT IS LISTED WAS TAKEN: the numbers are the names', the gates are those that the plan asked for, and the claim, which is
+-- what the build took, is right: no choice of the problem is better.
+pub record IsRightlyChosen (r : ReceiptSaid) (c : ChosenSaid) : Type 0 where
+  pub asked : r.own.is_asked ≡ true
+  pub is_problem : IsProblem c.problem
+  pub tied : IsTrue (is_tied r c)
+  pub right : IsRight (order_of c.problem) c.problem c.claim
+
+-- Where the moment of the choice is known, it was right; where it isn't, nothing is said of what the plan asked for.
+abbrev pub IsChosen : ReceiptSaid → Option ChosenSaid → Type 0
+IsChosen r (Some c) = IsRightlyChosen r c
+IsChosen r None = r.own.is_asked ≡ false
+
+-- THE RULES THAT EVERY RECEIPT KEEPS: its words are words, its way hangs together, and its choice was right.
+pub record IsReceipt (r : ReceiptSaid) : Type 0 where
+  pub resources : IsTrue (are_resources r.resources)
+  pub versions : IsTrue (are_versions (length r.resources) (0, 0) r.versions)
+  pub way : IsTrue (hangs_together r)
+  pub chosen : IsChosen r r.chosen

@@ -1,0 +1,109 @@
+//! Writing a receipt as its text.
+
+ghost use Rattle.std.specs.Prelude.{◌≡◌, ◌++◌, IfOk, OnOk, string_bytes};
+ghost use Rattle.std.specs.List.{flat_map};
+ghost use Rattle.ccr_receipt.specs.ReceiptText.{resource_line, version_line, head_lines, chosen_lines, body_text, receipt_text};
+
+use crate::chosen::Chosen;
+use crate::put::put_count;
+use crate::receipt::Receipt;
+use crate::resource::Resource;
+use crate::seal::put_seal;
+use crate::version::Version;
+use crate::write_build::{put_build, put_builds};
+use crate::write_limit::put_limits;
+use ccr_choice::write_problem;
+use ccr_proof::write_proof;
+use std::alloc::{AllocError, Global};
+
+fn put_resource(out: &mut String, resource: &Resource) -> Result<(), AllocError>
+    ensures { OnOk result (string_bytes out.new ≡ string_bytes out.old ++ resource_line resource.now) }
+{
+    out.push_str(resource.name.as_str())?;
+    write!(out, " {} ", resource.scope)?;
+    out.push_str(resource.kind.as_str())?;
+    out.push_str("\n")
+}
+
+fn put_version(out: &mut String, version: &Version) -> Result<(), AllocError>
+    ensures { OnOk result (string_bytes out.new ≡ string_bytes out.old ++ version_line version.now) }
+{
+    write!(out, "{} {} ", version.resource, version.place)?;
+    out.push_str(version.version.as_str())?;
+    out.push_str("\n")
+}
+
+fn put_resources(out: &mut String, resources: &[Resource]) -> Result<(), AllocError>
+    ensures { OnOk result (string_bytes out.new ≡ string_bytes out.old ++ flat_map resource_line resources.now) }
+{
+    let mut rest = resources;
+    while let [resource, others @ ..] = rest {
+        put_resource(out, resource)?;
+        rest = others;
+    }
+    Ok(())
+}
+
+fn put_versions(out: &mut String, versions: &[Version]) -> Result<(), AllocError>
+    ensures { OnOk result (string_bytes out.new ≡ string_bytes out.old ++ flat_map version_line versions.now) }
+{
+    let mut rest = versions;
+    while let [version, others @ ..] = rest {
+        put_version(out, version)?;
+        rest = others;
+    }
+    Ok(())
+}
+
+/// Adds the first three lines: the format, the build, and the pipeline by which it was chosen for.
+fn put_head(out: &mut String, receipt: &Receipt) -> Result<(), AllocError>
+    ensures { OnOk result (string_bytes out.new ≡ string_bytes out.old ++ head_lines receipt.now) }
+{
+    out.push_str("receipt 1\nof ")?;
+    out.push_str(receipt.own.job.as_str())?;
+    write!(out, " {}\npipeline ", receipt.own.number)?;
+    out.push_str(match &receipt.chosen {
+        Some(chosen) => chosen.pipeline.as_str(),
+        None => "unknown",
+    })?;
+    out.push_str("\n")
+}
+
+/// Adds how the build was chosen for: what held for its inputs, the problem and the proof.
+fn put_chosen(alloc: Global, out: &mut String, chosen: &Chosen) -> Result<(), AllocError>
+    ensures { OnOk result (string_bytes out.new ≡ string_bytes out.old ++ chosen_lines chosen.now) }
+{
+    put_limits(out, &chosen.limits)?;
+    let problem = write_problem(alloc, &chosen.problem)?;
+    out.push_str(problem.as_str())?;
+    let proof = write_proof(alloc, &chosen.proof)?;
+    out.push_str(proof.as_str())
+}
+
+/// The text of a receipt without its last line.
+pub(crate) fn body(alloc: Global, receipt: &Receipt) -> Result<String, AllocError>
+    ensures { IfOk result (λ s. string_bytes s ≡ body_text receipt.now) }
+{
+    let mut out = String::new(alloc);
+    put_head(&mut out, receipt)?;
+    put_count(&mut out, "resources", receipt.resources.len())?;
+    put_resources(&mut out, &receipt.resources)?;
+    put_count(&mut out, "versions", receipt.versions.len())?;
+    put_versions(&mut out, &receipt.versions)?;
+    put_count(&mut out, "builds", receipt.before.len() + 1)?;
+    put_builds(&mut out, &receipt.before)?;
+    put_build(&mut out, &receipt.own)?;
+    if let Some(chosen) = &receipt.chosen {
+        put_chosen(alloc, &mut out, chosen)?;
+    }
+    Ok(out)
+}
+
+/// The one text of a receipt. Its last line seals what is above it.
+pub fn write_receipt(alloc: Global, receipt: &Receipt) -> Result<String, AllocError>
+    ensures { IfOk result (λ s. string_bytes s ≡ receipt_text receipt.now) }
+{
+    let mut out = body(alloc, receipt)?;
+    put_seal(alloc, &mut out)?;
+    Ok(out)
+}

@@ -1,0 +1,99 @@
+//! Writing a receipt's builds.
+
+ghost use Rattle.std.specs.Prelude.{◌≡◌, ◌++◌, OnOk, string_bytes};
+ghost use Rattle.std.specs.List.{flat_map};
+ghost use Rattle.ccr_receipt.specs.ReceiptText.{gate_line, input_line, pair_line, build_lines};
+
+use crate::build::Build;
+use crate::gate::Gate;
+use crate::input::Input;
+use crate::put::{put_count, put_spaced};
+use std::alloc::AllocError;
+
+fn put_gate(out: &mut String, gate: &Gate) -> Result<(), AllocError>
+    ensures { OnOk result (string_bytes out.new ≡ string_bytes out.old ++ gate_line gate.now) }
+{
+    out.push_str(gate.job.as_str())?;
+    write!(out, " {}", gate.number)?;
+    out.push_str(if gate.beyond { " beyond\n" } else { "\n" })
+}
+
+fn put_input(out: &mut String, input: &Input) -> Result<(), AllocError>
+    ensures { OnOk result (string_bytes out.new ≡ string_bytes out.old ++ input_line input.now) }
+{
+    out.push_str(input.name.as_str())?;
+    write!(out, " {} {} jobs", input.resource, input.place)?;
+    put_spaced(out, &input.gates)?;
+    out.push_str("\n")
+}
+
+fn put_pair(out: &mut String, resource: u32, place: u32) -> Result<(), AllocError>
+    ensures { OnOk result (string_bytes out.new ≡ string_bytes out.old ++ pair_line (resource, place)) }
+{
+    write!(out, "{resource} {place}\n")
+}
+
+fn put_gates(out: &mut String, gates: &[Gate]) -> Result<(), AllocError>
+    ensures { OnOk result (string_bytes out.new ≡ string_bytes out.old ++ flat_map gate_line gates.now) }
+{
+    let mut rest = gates;
+    while let [gate, others @ ..] = rest {
+        put_gate(out, gate)?;
+        rest = others;
+    }
+    Ok(())
+}
+
+fn put_inputs(out: &mut String, inputs: &[Input]) -> Result<(), AllocError>
+    ensures { OnOk result (string_bytes out.new ≡ string_bytes out.old ++ flat_map input_line inputs.now) }
+{
+    let mut rest = inputs;
+    while let [input, others @ ..] = rest {
+        put_input(out, input)?;
+        rest = others;
+    }
+    Ok(())
+}
+
+fn put_moved(out: &mut String, moved: &[(u32, u32)]) -> Result<(), AllocError>
+    ensures { OnOk result (string_bytes out.new ≡ string_bytes out.old ++ flat_map pair_line moved.now) }
+{
+    let mut rest = moved;
+    while let [(resource, place), others @ ..] = rest {
+        put_pair(out, *resource, *place)?;
+        rest = others;
+    }
+    Ok(())
+}
+
+/// Adds a build: its line, its gates, what it took and what it moved.
+pub(crate) fn put_build(out: &mut String, build: &Build) -> Result<(), AllocError>
+    ensures { OnOk result (string_bytes out.new ≡ string_bytes out.old ++ build_lines build.now) }
+{
+    out.push_str(build.job.as_str())?;
+    write!(out, " {} made {} ", build.number, build.made)?;
+    out.push_str(build.status.word())?;
+    out.push_str(if build.is_asked {
+        " asked\n"
+    } else {
+        " seen\n"
+    })?;
+    put_count(out, "jobs", build.gates.len())?;
+    put_gates(out, &build.gates)?;
+    put_count(out, "inputs", build.inputs.len())?;
+    put_inputs(out, &build.inputs)?;
+    put_count(out, "moved", build.moved.len())?;
+    put_moved(out, &build.moved)
+}
+
+/// Adds builds.
+pub(crate) fn put_builds(out: &mut String, builds: &[Build]) -> Result<(), AllocError>
+    ensures { OnOk result (string_bytes out.new ≡ string_bytes out.old ++ flat_map build_lines builds.now) }
+{
+    let mut rest = builds;
+    while let [build, others @ ..] = rest {
+        put_build(out, build)?;
+        rest = others;
+    }
+    Ok(())
+}
