@@ -56,18 +56,3 @@ pub fn judge_receipt(alloc: Global, bytes: &[u8]) -> Result<(String, u8), AllocE
         Err(fault) => Ok((format!(in alloc; "refused: {fault}")?, 1)),
     }
 }
-
-#[cfg(test)]
-mod tests {
-    use super::*;
-    use std::test::Fail;
-
-    #[test]
-    fn what_takes_nothing_is_accepted(rt: HostRuntime) -> Result<(), Fail> {
-        let text = "receipt 1\n";
-        let (said, status) = judge_receipt(rt.alloc(), text.as_bytes())?;
-        assert_eq!(rt; said.as_str(), "refused: line 2");
-        assert_eq!(rt; status, 1);
-        Ok(())
-    }
-}

@@ -38,6 +38,8 @@ mod seal;
 mod status;
 mod taken;
 mod took;
+#[cfg(test)]
+mod tests;
 mod version;
 mod way;
 mod whole;
