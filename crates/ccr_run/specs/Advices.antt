@@ -57,7 +57,7 @@ abort_asked =
 abbrev pub step_not_json : AdviceData
 step_not_json =
     at_end (codes ": not JSON")
-    (codes "a get's or put's program prints its JSON, and nothing else, on standard output; a task's file is JSON, too")
+    (codes "a get's or put's program prints its JSON, and nothing else, on standard output; a task's file is JSON, too (examples/operating/pipeline-json --task)")
 
 -- what an output has to be
 abbrev pub reply_hint : Text

@@ -89,7 +89,7 @@ pub fn step_not_json() -> Advice
 {
     Advice::on(
         ": not JSON\n",
-        "a get's or put's program prints its JSON, and nothing else, on standard output; a task's file is JSON, too",
+        "a get's or put's program prints its JSON, and nothing else, on standard output; a task's file is JSON, too (examples/operating/pipeline-json --task)",
     )
 }
 
