@@ -65,10 +65,13 @@ are_pairs_of known (q ∷ qs) [] = not (nat_lt q.0 known) && are_pairs_of known 
 are_pairs_of known (q ∷ qs) (p ∷ ps) =
     if nat_lt q.0 known then p.0 == q.0 && (p.1 == q.1 && are_pairs_of known qs ps) else are_pairs_of known qs (p ∷ ps)
 
--- Where the receipt lists this build of the problem, it moved there what it moved here.
+-- Where this is the build of the problem, it moved there what it moved here.
+abbrev pub is_like : ℕ → GateSaid → BuildValue → BuildSaid → Bool
+is_like known g v e = not (e.number == v.number && bytes_eq e.job g.job) || are_pairs_of known e.moved v.pairs
+
+-- the same of each that the receipt lists
 abbrev pub is_alike : List BuildSaid → ℕ → GateSaid → BuildValue → Bool
-is_alike listed known g v =
-    list_all (λ e. not (e.number == v.number && bytes_eq e.job g.job) || are_pairs_of known e.moved v.pairs) listed
+is_alike listed known g v = list_all (is_like known g v) listed
 
 -- Each job of the problem is that of the gate with its number.
 abbrev pub are_alike : List BuildSaid → ℕ → List GateSaid → List (List BuildValue) → Bool

@@ -2,7 +2,6 @@
 use Rattle.std.specs.Prelude.{ℕ, List, [], ◌∷◌, ◌++◌, Bool, Option}
 use Rattle.ccr_choice.specs.Problem.{ProblemValue}
 use Rattle.ccr_proof.specs.declared.claim.Claim.{Claim}
-use Rattle.ccr_proof.specs.Tree.{Tree}
 use Rattle.ccr_receipt.specs.declared.status.Status.{Status}
 
 -- a word of a receipt, by its bytes
@@ -53,13 +52,13 @@ pub record LimitSaid : Type 0 where
   pub pins : List Bytes
   pub disabled : List ℕ
 
--- How a build was chosen for: by which pipeline, what it could take, what is claimed, and the proof of it.
+-- How a build was chosen for: by which pipeline, what it could take, what is claimed, and the text of the proof of it.
 pub record ChosenSaid : Type 0 where
   pub pipeline : Bytes
   pub limits : List LimitSaid
   pub problem : ProblemValue
   pub claim : Claim
-  pub tree : Tree
+  pub proof : Bytes
 
 -- A RECEIPT: resources and versions, the builds behind the one that it is for, the oldest first, that one, and how it was chosen for,
 -- if that is known.

@@ -1,11 +1,10 @@
 -- The text of a receipt: how it is written.
-use Rattle.std.specs.Prelude.{ℕ, ◌+◌, List, [], ◌∷◌, ◌++◌, length, Option, Some, None, codes, if◌then◌else◌}
+use Rattle.std.specs.Prelude.{ℕ, ◌+◌, Bool, List, [], ◌∷◌, ◌++◌, length, Option, Some, None, codes, if◌then◌else◌}
 use Rattle.std.specs.List.{flat_map}
 use Rattle.std.specs.Fmt.{decimal}
 use Rattle.hex.specs.Hex.{encode_lower}
 use Rattle.sha2.specs.Sha256.{sha256}
 use Rattle.ccr_choice.specs.ProblemText.{problem_text}
-use Rattle.ccr_proof.specs.ProofText.{proof_text}
 use Rattle.ccr_check.specs.Judged.{spaced}
 use Rattle.ccr_receipt.specs.declared.status.Status.{Status}
 use Rattle.ccr_receipt.specs.declared.status.Status.TheVariants.{Succeeded, Failed, Errored, Aborted}
@@ -34,9 +33,12 @@ resource_line s = s.name ++ spaced s.scope ++ 32 ∷ s.kind ++ line_end
 abbrev pub version_line : VersionSaid → Bytes
 version_line v = decimal v.resource ++ spaced v.place ++ 32 ∷ v.version ++ line_end
 
+abbrev pub beyond_word : Bool → Bytes
+beyond_word beyond = if beyond then codes " beyond" else []
+
 -- `JOB N`, or `JOB N beyond`
 abbrev pub gate_line : GateSaid → Bytes
-gate_line g = g.job ++ spaced g.number ++ (if g.beyond then codes " beyond" else []) ++ line_end
+gate_line g = g.job ++ spaced g.number ++ beyond_word g.beyond ++ line_end
 
 -- `NAME R PLACE jobs J..`
 abbrev pub input_line : InputSaid → Bytes
@@ -46,11 +48,14 @@ input_line i = i.name ++ spaced i.resource ++ spaced i.place ++ codes " jobs" ++
 abbrev pub pair_line : ℕ × ℕ → Bytes
 pair_line q = decimal q.0 ++ spaced q.1 ++ line_end
 
+abbrev pub plan_word : Bool → Bytes
+plan_word is_asked = if is_asked then codes " asked" else codes " seen"
+
 -- `JOB N made M STATUS asked`, or `seen`; `jobs N` with its gates, `inputs N` with what it took, and `moved N` with what it moved
 abbrev pub build_lines : BuildSaid → Bytes
 build_lines b =
     b.job ++ spaced b.number ++ codes " made" ++ spaced b.made ++ 32 ∷ status_word b.status
-    ++ (if b.is_asked then codes " asked" else codes " seen") ++ line_end
+    ++ plan_word b.is_asked ++ line_end
     ++ count_line (codes "jobs") (length b.gates) ++ flat_map gate_line b.gates
     ++ count_line (codes "inputs") (length b.inputs) ++ flat_map input_line b.inputs
     ++ count_line (codes "moved") (length b.moved) ++ flat_map pair_line b.moved
@@ -71,7 +76,7 @@ limit_lines ls = count_line (codes "limits") (length ls) ++ flat_map limit_line 
 
 -- the limits, the problem, and the proof
 abbrev pub chosen_lines : ChosenSaid → Bytes
-chosen_lines c = limit_lines c.limits ++ problem_text c.problem ++ proof_text c.claim c.tree
+chosen_lines c = limit_lines c.limits ++ problem_text c.problem ++ c.proof
 
 -- the digest of the pipeline, where the moment of the choice is known
 abbrev pub pipeline_word : Option ChosenSaid → Bytes

@@ -1,22 +1,29 @@
 -- What an accepted receipt means.
-use Rattle.std.specs.Prelude.{◌≡◌, ◌≢◌, ℕ, ◌⊎◌, [], true, false, IsTrue, Option, Some, None}
+use Rattle.std.specs.Prelude.{◌≡◌, length, true, false, IsTrue, Option, Some, None}
 use Rattle.ccr_choice.specs.Problem.{IsProblem}
 use Rattle.ccr_choice.specs.Preference.{order_of}
+use Rattle.ccr_proof.specs.ProofText.{proof_text}
+use Rattle.ccr_proof.specs.Refutes.{IsAccepted}
 use Rattle.ccr_proof.specs.Right.{IsRight}
-use Rattle.ccr_receipt.specs.declared.status.Status.TheVariants.{Succeeded}
-use Rattle.ccr_receipt.specs.Receipt.{Bytes, ChosenSaid, ReceiptSaid}
-use Rattle.ccr_receipt.specs.ReceiptText.{receipt_text}
+use Rattle.ccr_proof.specs.Tree.{Tree}
+use Rattle.ccr_receipt.specs.Receipt.{ChosenSaid, ReceiptSaid}
 use Rattle.ccr_receipt.specs.Rules.{are_resources, are_versions}
 use Rattle.ccr_receipt.specs.Way.{hangs_together}
 use Rattle.ccr_receipt.specs.Choice.{is_tied}
-use Rattle.std.specs.Prelude.{length}
 
--- THE BEST OF WHAT IS LISTED WAS TAKEN: the numbers are the names', the gates are those that the plan asked for, and the claim, which is
--- what the build took, is right: no choice of the problem is better.
+-- The proof is that of the claim, and shows it.
+pub record IsShown (c : ChosenSaid) : Type 0 where
+  pub tree : Tree
+  pub text : c.proof ≡ proof_text c.claim tree
+  pub accepted : IsAccepted (order_of c.problem) c.problem c.claim tree
+
+-- THE BEST OF WHAT IS LISTED WAS TAKEN: the gates are those that the plan asked for, the numbers are the names', and the claim, which is
+-- what the build took, is shown and right: no choice of the problem is better.
 pub record IsRightlyChosen (r : ReceiptSaid) (c : ChosenSaid) : Type 0 where
   pub asked : r.own.is_asked ≡ true
   pub is_problem : IsProblem c.problem
   pub tied : IsTrue (is_tied r c)
+  pub shown : IsShown c
   pub right : IsRight (order_of c.problem) c.problem c.claim
 
 -- Where the moment of the choice is known, it was right; where it isn't, nothing is said of what the plan asked for.

@@ -37,14 +37,18 @@ is_named g e = e.number == g.number && bytes_eq e.job g.job
 abbrev pub has_moved : BuildSaid → ℕ → ℕ → Bool
 has_moved e resource place = list_any (λ q. q.0 == resource && q.1 == place) e.moved
 
--- It moved whatever was taken for these inputs that had to pass gate j.
-abbrev pub moved_all : BuildSaid → ℕ → List InputSaid → Bool
-moved_all e j is = list_all (λ i. not (list_any (λ n. n == j) i.gates) || has_moved e i.resource i.place) is
+-- It moved what was taken for this input, if that had to pass gate j.
+abbrev pub moved_for : BuildSaid → ℕ → InputSaid → Bool
+moved_for e j i = not (list_any (λ n. n == j) i.gates) || has_moved e i.resource i.place
+
+-- It is the build that gate j names, it succeeded, and it moved whatever was taken for these inputs that had to pass the gate.
+abbrev pub passes : List InputSaid → ℕ → GateSaid → BuildSaid → Bool
+passes is j g e = is_named g e && (is_succeeded e.status && list_all (moved_for e j) is)
 
 -- A GATE WAS PASSED, gate j of a build behind these: one of these is the build that it names, that one succeeded, and it moved
 -- whatever the build took for the inputs that had to pass the gate.
 abbrev pub is_passed : List BuildSaid → List InputSaid → ℕ → GateSaid → Bool
-is_passed above is j g = list_any (λ e. is_named g e && (is_succeeded e.status && moved_all e j is)) above
+is_passed above is j g = list_any (passes is j g) above
 
 -- A gate is beyond what is listed: the list is full, and doesn't have it.
 abbrev pub is_beyond : ReceiptSaid → GateSaid → Bool
@@ -96,8 +100,11 @@ unfoldable pub stands_before : ReceiptSaid → List BuildSaid → BuildSaid → 
 stands_before r above b = is_succeeded b.status && stands r above b
 
 -- One of a build's gates is this one.
+abbrev pub is_gate_of : BuildSaid → GateSaid → Bool
+is_gate_of e g = not g.beyond && is_named g e
+
 abbrev pub has_gate : BuildSaid → BuildSaid → Bool
-has_gate e b = list_any (λ g. not g.beyond && is_named g e) b.gates
+has_gate e b = list_any (is_gate_of e) b.gates
 
 -- Each of these is a gate of a later one, or of the receipt's own: so all of them are behind that one.
 abbrev pub are_behind : BuildSaid → List BuildSaid → Bool

@@ -2,7 +2,7 @@
 
 ghost use Rattle.std.specs.Prelude.{◌≡◌, not, is_some};
 ghost use Rattle.std.specs.List.{list_all};
-ghost use Rattle.ccr_receipt.specs.Choice.{are_pairs_of, is_alike, are_alike};
+ghost use Rattle.ccr_receipt.specs.Choice.{are_pairs_of, is_like, is_alike, are_alike};
 
 use crate::build::Build;
 use crate::gate::Gate;
@@ -26,14 +26,21 @@ fn are_pairs_of(known: u32, moved: &[(u32, u32)], pairs: &[(u32, u32)]) -> bool
     left.is_empty()
 }
 
+/// Whether a build moved in the problem what it moved in the receipt, where it is the same.
+fn is_like(known: u32, gate: &Gate, build: &ccr_choice::Build, other: &Build) -> bool
+    ensures { result ≡ is_like known gate.now build.now other.now }
+{
+    let is_same = other.number == build.number() && other.job.as_bytes() == gate.job.as_bytes();
+    !is_same || are_pairs_of(known, &other.moved, build.pairs())
+}
+
 /// Whether the problem's build moved there what it moved here, where the receipt lists it.
 fn is_alike(listed: &[Build], known: u32, gate: &Gate, build: &ccr_choice::Build) -> bool
     ensures { result ≡ is_alike listed.now known gate.now build.now }
 {
-    listed.iter().all(|other| {
-        !(other.number == build.number() && other.job.as_bytes() == gate.job.as_bytes())
-            || are_pairs_of(known, &other.moved, build.pairs())
-    })
+    listed
+        .iter()
+        .all(|other| is_like(known, gate, build, other))
 }
 
 /// The first build of a job that isn't alike.

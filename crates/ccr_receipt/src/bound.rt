@@ -105,6 +105,7 @@ fn is_left_out(input: &Input, limit: &Limit, choices: &ccr_choice::Input, place:
 }
 
 /// Whether no place that was known was left out.
+#[tactic(auto, using(crate::proofs::Choosing::whole_next, crate::proofs::Choosing::not_left_out, crate::proofs::Choosing::left_out))]
 fn is_whole(input: &Input, limit: &Limit, choices: &ccr_choice::Input) -> bool
     ensures { result ≡ is_whole input.now limit.now choices.now limit.now.known }
 {

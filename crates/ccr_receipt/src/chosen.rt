@@ -22,6 +22,7 @@ pub struct Chosen {
 
 impl Model for Chosen {
     ghost use Rattle.std.specs.Prelude.{string_bytes};
+    ghost use Rattle.ccr_proof.specs.ProofText.{proof_text};
     ghost use Rattle.ccr_proof.specs.Tree.{tree_of};
     ghost use Rattle.ccr_receipt.specs.Receipt.{ChosenSaid};
 
@@ -32,6 +33,6 @@ impl Model for Chosen {
       limits = a.limits.items;
       problem = a.problem;
       claim = a.proof.claim;
-      tree = tree_of a.proof.tree;
+      proof = proof_text a.proof.claim (tree_of a.proof.tree);
     } };
 }

@@ -37,9 +37,9 @@ mod rules;
 mod seal;
 mod status;
 mod taken;
-mod took;
 #[cfg(test)]
 mod tests;
+mod took;
 mod version;
 mod way;
 mod whole;

@@ -1,10 +1,10 @@
 //! Gates: whether what a build took had passed them.
 
 ghost use Rattle.std.specs.Prelude.{◌≡◌, ◌==◌, [], not, is_some};
-ghost use Rattle.std.specs.List.{list_any};
+ghost use Rattle.std.specs.List.{list_any, list_all};
 ghost use Rattle.std.specs.Str.{bytes_eq};
 ghost use Rattle.ccr_receipt.specs.Rules.{each_behind};
-ghost use Rattle.ccr_receipt.specs.Way.{is_succeeded, is_named, has_moved, moved_all, is_passed, is_beyond, is_gate, are_gates};
+ghost use Rattle.ccr_receipt.specs.Way.{is_succeeded, is_named, has_moved, moved_for, passes, is_passed, is_beyond, is_gate, are_gates};
 
 use crate::build::Build;
 use crate::gate::Gate;
@@ -47,22 +47,33 @@ pub(crate) fn has_number(numbers: &[u32], number: usize) -> bool
     numbers.iter().any(|n| *n as usize == number)
 }
 
-/// Whether a build moved whatever was taken for the inputs that had to pass gate `number`.
-fn moved_all(build: &Build, number: usize, inputs: &[Input]) -> bool
-    ensures { result ≡ moved_all build.now number inputs.now }
+/// Whether a build moved what was taken for an input, if that had to pass gate `number`.
+fn moved_for(build: &Build, number: usize, input: &Input) -> bool
+    ensures { result ≡ moved_for build.now number input.now }
 {
-    inputs.iter().all(|input| {
-        !has_number(&input.gates, number) || has_moved(build, input.resource, input.place)
-    })
+    !has_number(&input.gates, number) || has_moved(build, input.resource, input.place)
 }
 
-/// Whether gate `number` was passed: one of these builds is the one that it names, succeeded, and moved what had to pass.
+fn moved_all(build: &Build, number: usize, inputs: &[Input]) -> bool
+    ensures { result ≡ list_all (moved_for build.now number) inputs.now }
+{
+    inputs.iter().all(|input| moved_for(build, number, input))
+}
+
+/// Whether a build is the one that gate `number` names, succeeded, and moved what had to pass the gate.
+fn passes(inputs: &[Input], number: usize, gate: &Gate, build: &Build) -> bool
+    ensures { result ≡ passes inputs.now number gate.now build.now }
+{
+    is_named(gate, build) && is_succeeded(build.status) && moved_all(build, number, inputs)
+}
+
+/// Whether one of these builds shows that gate `number` was passed.
 fn is_passed(above: &[Build], inputs: &[Input], number: usize, gate: &Gate) -> bool
     ensures { result ≡ is_passed above.now inputs.now number gate.now }
 {
-    above.iter().any(|build| {
-        is_named(gate, build) && is_succeeded(build.status) && moved_all(build, number, inputs)
-    })
+    above
+        .iter()
+        .any(|build| passes(inputs, number, gate, build))
 }
 
 fn is_listed(gate: &Gate, builds: &[Build]) -> bool
@@ -109,6 +120,7 @@ fn is_gate(
     }
 }
 
+#[tactic(auto, using(crate::proofs::Behind::next_behind))]
 fn bad_among(receipt: &Receipt, above: &[Build], build: &Build) -> Option<usize>
     ensures { is_some result ≡ not (each_behind (is_gate receipt.now above.now build.now.inputs) [] build.now.gates) }
 {

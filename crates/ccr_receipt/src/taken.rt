@@ -64,6 +64,7 @@ fn is_input(versions: &[Version], earlier: &[Input], input: &Input) -> bool
         && are_distinct(&input.gates)
 }
 
+#[tactic(auto, using(crate::proofs::Behind::next_behind))]
 fn bad_among(versions: &[Version], inputs: &[Input]) -> Option<usize>
     ensures { is_some result ≡ not (each_behind (is_input versions.now) [] inputs.now) }
 {

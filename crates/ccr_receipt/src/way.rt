@@ -3,9 +3,10 @@
 ghost use Rattle.std.specs.Prelude.{◌≡◌, [], not, is_some};
 ghost use Rattle.std.specs.List.{list_any, list_all};
 ghost use Rattle.ccr_receipt.specs.Rules.{each_behind};
-ghost use Rattle.ccr_receipt.specs.Way.{is_after, is_made, stands, stands_before, has_gate, are_behind, hangs_together};
+ghost use Rattle.ccr_receipt.specs.Way.{is_after, is_made, stands, stands_before, is_gate_of, has_gate, are_behind, hangs_together};
 
 use crate::build::Build;
+use crate::gate::Gate;
 use crate::name::is_name;
 use crate::order::are_in_order;
 use crate::passed::{bad_gate, is_named, is_succeeded};
@@ -88,6 +89,7 @@ fn bad_before(receipt: &Receipt, above: &[Build], build: &Build) -> Option<usize
     bad_line(receipt, above, build)
 }
 
+#[tactic(auto, using(crate::proofs::Behind::next_behind))]
 fn bad_among(receipt: &Receipt) -> Option<usize>
     ensures { is_some result ≡ not (each_behind (stands_before receipt.now) [] receipt.now.before) }
 {
@@ -100,13 +102,16 @@ fn bad_among(receipt: &Receipt) -> Option<usize>
     None
 }
 
+fn is_gate_of(build: &Build, gate: &Gate) -> bool
+    ensures { result ≡ is_gate_of build.now gate.now }
+{
+    !gate.beyond && is_named(gate, build)
+}
+
 fn has_gate(build: &Build, later: &Build) -> bool
     ensures { result ≡ has_gate build.now later.now }
 {
-    later
-        .gates
-        .iter()
-        .any(|gate| !gate.beyond && is_named(gate, build))
+    later.gates.iter().any(|gate| is_gate_of(build, gate))
 }
 
 fn some_has_gate(build: &Build, later: &[Build]) -> bool

@@ -2,7 +2,7 @@
 
 ghost use Rattle.std.specs.Prelude.{◌≡◌, ◌++◌, IfOk, OnOk, string_bytes};
 ghost use Rattle.std.specs.List.{flat_map};
-ghost use Rattle.ccr_receipt.specs.ReceiptText.{resource_line, version_line, head_lines, chosen_lines, body_text, receipt_text};
+ghost use Rattle.ccr_receipt.specs.ReceiptText.{resource_line, version_line, pipeline_word, head_lines, chosen_lines, choice_lines, body_text, receipt_text};
 
 use crate::chosen::Chosen;
 use crate::put::put_count;
@@ -55,6 +55,15 @@ fn put_versions(out: &mut String, versions: &[Version]) -> Result<(), AllocError
     Ok(())
 }
 
+fn put_pipeline(out: &mut String, chosen: &Option<Chosen>) -> Result<(), AllocError>
+    ensures { OnOk result (string_bytes out.new ≡ string_bytes out.old ++ pipeline_word chosen.now) }
+{
+    match chosen {
+        Some(chosen) => out.push_str(chosen.pipeline.as_str()),
+        None => out.push_str("unknown"),
+    }
+}
+
 /// Adds the first three lines: the format, the build, and the pipeline by which it was chosen for.
 fn put_head(out: &mut String, receipt: &Receipt) -> Result<(), AllocError>
     ensures { OnOk result (string_bytes out.new ≡ string_bytes out.old ++ head_lines receipt.now) }
@@ -62,10 +71,7 @@ fn put_head(out: &mut String, receipt: &Receipt) -> Result<(), AllocError>
     out.push_str("receipt 1\nof ")?;
     out.push_str(receipt.own.job.as_str())?;
     write!(out, " {}\npipeline ", receipt.own.number)?;
-    out.push_str(match &receipt.chosen {
-        Some(chosen) => chosen.pipeline.as_str(),
-        None => "unknown",
-    })?;
+    put_pipeline(out, &receipt.chosen)?;
     out.push_str("\n")
 }
 
@@ -78,6 +84,15 @@ fn put_chosen(alloc: Global, out: &mut String, chosen: &Chosen) -> Result<(), Al
     out.push_str(problem.as_str())?;
     let proof = write_proof(alloc, &chosen.proof)?;
     out.push_str(proof.as_str())
+}
+
+fn put_choice(alloc: Global, out: &mut String, chosen: &Option<Chosen>) -> Result<(), AllocError>
+    ensures { OnOk result (string_bytes out.new ≡ string_bytes out.old ++ choice_lines chosen.now) }
+{
+    match chosen {
+        Some(chosen) => put_chosen(alloc, out, chosen),
+        None => Ok(()),
+    }
 }
 
 /// The text of a receipt without its last line.
@@ -93,9 +108,7 @@ pub(crate) fn body(alloc: Global, receipt: &Receipt) -> Result<String, AllocErro
     put_count(&mut out, "builds", receipt.before.len() + 1)?;
     put_builds(&mut out, &receipt.before)?;
     put_build(&mut out, &receipt.own)?;
-    if let Some(chosen) = &receipt.chosen {
-        put_chosen(alloc, &mut out, chosen)?;
-    }
+    put_choice(alloc, &mut out, &receipt.chosen)?;
     Ok(out)
 }
 

@@ -2,7 +2,7 @@
 
 ghost use Rattle.std.specs.Prelude.{◌≡◌, ◌++◌, OnOk, string_bytes};
 ghost use Rattle.std.specs.List.{flat_map};
-ghost use Rattle.ccr_receipt.specs.ReceiptText.{gate_line, input_line, pair_line, build_lines};
+ghost use Rattle.ccr_receipt.specs.ReceiptText.{beyond_word, plan_word, gate_line, input_line, pair_line, build_lines};
 
 use crate::build::Build;
 use crate::gate::Gate;
@@ -10,12 +10,33 @@ use crate::input::Input;
 use crate::put::{put_count, put_spaced};
 use std::alloc::AllocError;
 
+fn put_beyond(out: &mut String, beyond: bool) -> Result<(), AllocError>
+    ensures { OnOk result (string_bytes out.new ≡ string_bytes out.old ++ beyond_word beyond) }
+{
+    if beyond {
+        out.push_str(" beyond")
+    } else {
+        Ok(())
+    }
+}
+
+fn put_plan(out: &mut String, is_asked: bool) -> Result<(), AllocError>
+    ensures { OnOk result (string_bytes out.new ≡ string_bytes out.old ++ plan_word is_asked) }
+{
+    if is_asked {
+        out.push_str(" asked")
+    } else {
+        out.push_str(" seen")
+    }
+}
+
 fn put_gate(out: &mut String, gate: &Gate) -> Result<(), AllocError>
     ensures { OnOk result (string_bytes out.new ≡ string_bytes out.old ++ gate_line gate.now) }
 {
     out.push_str(gate.job.as_str())?;
     write!(out, " {}", gate.number)?;
-    out.push_str(if gate.beyond { " beyond\n" } else { "\n" })
+    put_beyond(out, gate.beyond)?;
+    out.push_str("\n")
 }
 
 fn put_input(out: &mut String, input: &Input) -> Result<(), AllocError>
@@ -73,11 +94,8 @@ pub(crate) fn put_build(out: &mut String, build: &Build) -> Result<(), AllocErro
     out.push_str(build.job.as_str())?;
     write!(out, " {} made {} ", build.number, build.made)?;
     out.push_str(build.status.word())?;
-    out.push_str(if build.is_asked {
-        " asked\n"
-    } else {
-        " seen\n"
-    })?;
+    put_plan(out, build.is_asked)?;
+    out.push_str("\n")?;
     put_count(out, "jobs", build.gates.len())?;
     put_gates(out, &build.gates)?;
     put_count(out, "inputs", build.inputs.len())?;
