@@ -1,7 +1,8 @@
 //! The choice: whether the numbers of the problem and the claim are those of the names, and the claim is right.
 
-ghost use Rattle.std.specs.Prelude.{◌≡◌, map, not, is_some};
+ghost use Rattle.std.specs.Prelude.{◌≡◌, map, not, is_some, IfNone};
 ghost use Rattle.std.specs.Str.{bytes_eq};
+ghost use Rattle.ccr_choice.specs.Problem.{IsProblem};
 ghost use Rattle.ccr_receipt.specs.Way.{used_resources};
 ghost use Rattle.ccr_receipt.specs.Choice.{is_claim, is_tied};
 
@@ -94,7 +95,8 @@ fn job_lines(jobs: &[JobBuilds]) -> usize {
 #[tactic(auto, unfolding(crate::specs::Choice::is_tied))]
 pub(crate) fn bad_choice(receipt: &Receipt, chosen: &Chosen, used: u32) -> Option<usize>
     requires { used ≡ used_resources receipt.now.own }
-    ensures { is_some result ≡ not (is_tied receipt.now chosen.now) }
+    ensures found { is_some result ≡ not (is_tied receipt.now chosen.now) }
+    ensures kept { IfNone result (IsProblem chosen.now.problem) }
 {
     let own = &receipt.own;
     if !is_digest(chosen.pipeline.as_bytes()) {

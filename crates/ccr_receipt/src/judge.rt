@@ -1,6 +1,8 @@
 //! What is said of a receipt's text.
 
 ghost use Rattle.std.specs.Prelude.{◌≡◌, IfOk, string_bytes};
+ghost use Rattle.ccr_check.specs.Judged.{refused};
+ghost use Rattle.ccr_receipt.specs.FaultWords.{receipt_fault_words};
 ghost use Rattle.ccr_receipt.specs.Words.{receipt_words, status_of};
 ghost use Rattle.ccr_receipt.specs.Judged.{IsReceiptJudged, IsRightReceipt, IsReceiptHeld};
 
@@ -40,6 +42,33 @@ fn status_of(receipt: &Receipt) -> u8
     }
 }
 
+/// What is said of a receipt, with its status.
+fn told(alloc: Global, receipt: &Receipt) -> Result<(String, u8), AllocError>
+    ensures { IfOk result (λ x. (string_bytes x.0, x.1) ≡ (receipt_words receipt.now, status_of receipt.now)) }
+{
+    let words = said(alloc, receipt)?;
+    Ok((words, status_of(receipt)))
+}
+
+/// What is said of a text that is refused, with its status.
+fn refused(alloc: Global, why: ReceiptFault) -> Result<(String, u8), AllocError>
+    ensures { IfOk result (λ x. (string_bytes x.0, x.1) ≡ refused (receipt_fault_words why)) }
+{
+    let line = format!(in alloc; "refused: {why}")?;
+    Ok((line, 1))
+}
+
+#[tactic(auto, using(crate::proofs::Judging::is_said, crate::proofs::Judging::is_refused))]
+fn judge_text(alloc: Global, bytes: &[u8]) -> Result<(String, u8), AllocError>
+    ensures { IfOk result (λ x. IsReceiptJudged bytes.now (string_bytes x.0, x.1)) }
+{
+    match read_receipt(alloc, bytes) {
+        Ok(receipt) => told(alloc, &receipt),
+        Err(ReceiptFault::NoMemory) => Err(AllocError),
+        Err(fault) => refused(alloc, fault),
+    }
+}
+
 /// What is said of a receipt's text: lines, and an exit status. 0, `accepted`: the build succeeded, and took the best. 3, `holds`: what the
 /// receipt says hangs together, but its build didn't succeed, or the moment of its choice isn't known. 1, `refused`: with the line that shows it.
 /// Of what isn't refused, the second line tells the way, and the third what a receipt alone can't know. The only error is want of memory.
@@ -50,9 +79,5 @@ pub fn judge_receipt(alloc: Global, bytes: &[u8]) -> Result<(String, u8), AllocE
     ensures accepted { IfOk result (λ x. x.1 ≡ 0 → IsRightReceipt bytes.now (string_bytes x.0)) }
     ensures held { IfOk result (λ x. x.1 ≡ 3 → IsReceiptHeld bytes.now (string_bytes x.0)) }
 {
-    match read_receipt(alloc, bytes) {
-        Ok(receipt) => Ok((said(alloc, &receipt)?, status_of(&receipt))),
-        Err(ReceiptFault::NoMemory) => Err(AllocError),
-        Err(fault) => Ok((format!(in alloc; "refused: {fault}")?, 1)),
-    }
+    judge_text(alloc, bytes)
 }

@@ -1,6 +1,6 @@
 //! The order of a receipt's resources.
 
-ghost use Rattle.std.specs.Prelude.{◌≡◌, Some, None, map, if◌then◌else◌};
+ghost use Rattle.std.specs.Prelude.{◌≡◌, Some, None, map, IfSome, if◌then◌else◌};
 ghost use Rattle.ccr_choice.specs.Problem.{are_numbered, used_after};
 ghost use Rattle.ccr_receipt.specs.Way.{used_resources, are_rising, are_in_order};
 
@@ -62,7 +62,7 @@ pub(crate) fn are_in_order(receipt: &Receipt) -> bool
 
 /// How many resources a build takes from, whose resources are numbered in the order in which it first takes from them.
 pub(crate) fn used_resources(build: &Build) -> Option<u32>
-    ensures { result ≡ (if are_numbered 0 (map (λ i. i.resource) build.now.inputs) then Some (used_resources build.now) else None) }
+    ensures { IfSome result (λ n. n ≡ used_resources build.now) }
 {
     numbered_resources(&build.inputs)
 }
