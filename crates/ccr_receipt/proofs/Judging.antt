@@ -12,12 +12,12 @@ use Rattle.ccr_receipt.specs.Receipt.{Bytes, ChosenSaid, ReceiptSaid}
 use Rattle.ccr_receipt.specs.ReceiptText.{receipt_text}
 use Rattle.ccr_receipt.specs.Way.{is_succeeded}
 use Rattle.ccr_receipt.specs.Right.{IsChosen, IsReceipt}
-use Rattle.ccr_receipt.specs.Words.{receipt_words, status_of, is_accepted}
+use Rattle.ccr_receipt.specs.Words.{receipt_words, told, is_accepted}
 use Rattle.ccr_receipt.specs.Judged.{IsSaidOf, IsReceiptJudged, IsRightReceipt, IsReceiptHeld}
 
 -- what a receipt says is said of its text
 pub is_said : (bs : Bytes) (r : ReceiptSaid) (out : Bytes × ℕ) → IsReceipt r → bs ≡ receipt_text r
-    → out ≡ (receipt_words r, status_of r) → IsReceiptJudged bs out
+    → out ≡ told r → IsReceiptJudged bs out
 is_said bs r out kept text says = inl (record { receipt = r; kept = kept; text = text; says = says })
 
 -- a refusal may be said

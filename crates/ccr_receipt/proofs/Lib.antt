@@ -1,3 +1,4 @@
 pub mod Behind
+pub mod Checked
 pub mod Choosing
 pub mod Judging

@@ -8,14 +8,14 @@ use Rattle.ccr_receipt.specs.FaultWords.{receipt_fault_words}
 use Rattle.ccr_receipt.specs.Receipt.{Bytes, ChosenSaid, ReceiptSaid}
 use Rattle.ccr_receipt.specs.ReceiptText.{receipt_text}
 use Rattle.ccr_receipt.specs.Right.{IsRightlyChosen, IsReceipt}
-use Rattle.ccr_receipt.specs.Words.{receipt_words, status_of, is_accepted}
+use Rattle.ccr_receipt.specs.Words.{receipt_words, told, is_accepted}
 
 -- The bytes are the text of a receipt that keeps the rules, and this is said of it, with its status.
 pub record IsSaidOf (bs : Bytes) (out : Bytes × ℕ) : Type 0 where
   pub receipt : ReceiptSaid
   pub kept : IsReceipt receipt
   pub text : bs ≡ receipt_text receipt
-  pub says : out ≡ (receipt_words receipt, status_of receipt)
+  pub says : out ≡ told receipt
 
 -- WHAT IS SAID of any bytes: what a receipt says that keeps the rules, or a refusal.
 abbrev pub IsReceiptJudged : Bytes → Bytes × ℕ → Type 0

@@ -195,3 +195,7 @@ is_accepted r = is_succeeded r.own.status && is_some r.chosen
 -- The status: 0 where it is accepted, 3 where it holds, but says less.
 abbrev pub status_of : ReceiptSaid → ℕ
 status_of r = if is_accepted r then 0 else 3
+
+-- the words with the status
+abbrev pub told : ReceiptSaid → Bytes × ℕ
+told r = (receipt_words r, status_of r)

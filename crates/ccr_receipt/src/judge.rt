@@ -3,7 +3,7 @@
 ghost use Rattle.std.specs.Prelude.{◌≡◌, IfOk, string_bytes};
 ghost use Rattle.ccr_check.specs.Judged.{refused};
 ghost use Rattle.ccr_receipt.specs.FaultWords.{receipt_fault_words};
-ghost use Rattle.ccr_receipt.specs.Words.{receipt_words, status_of};
+ghost use Rattle.ccr_receipt.specs.Words.{receipt_words, status_of, told};
 ghost use Rattle.ccr_receipt.specs.Judged.{IsReceiptJudged, IsRightReceipt, IsReceiptHeld};
 
 use crate::chain::put_way;
@@ -44,7 +44,7 @@ fn status_of(receipt: &Receipt) -> u8
 
 /// What is said of a receipt, with its status.
 fn told(alloc: Global, receipt: &Receipt) -> Result<(String, u8), AllocError>
-    ensures { IfOk result (λ x. (string_bytes x.0, x.1) ≡ (receipt_words receipt.now, status_of receipt.now)) }
+    ensures { IfOk result (λ x. (string_bytes x.0, x.1) ≡ told receipt.now) }
 {
     let words = said(alloc, receipt)?;
     Ok((words, status_of(receipt)))

@@ -12,6 +12,7 @@ mod alike;
 mod bound;
 mod build;
 mod chain;
+mod checked;
 mod choice;
 mod chosen;
 mod fault;

@@ -1,23 +1,18 @@
 //! The receipt that a text stands for.
 
-ghost use Rattle.std.specs.Prelude.{◌≡◌, IfOk, OnOk};
+ghost use Rattle.std.specs.Prelude.{◌≡◌, IfOk};
 ghost use Rattle.ccr_receipt.specs.ReceiptText.{receipt_text};
-ghost use Rattle.ccr_receipt.specs.Right.{IsReceipt, IsRightlyChosen};
+ghost use Rattle.ccr_receipt.specs.Right.{IsReceipt};
 
-use crate::choice::bad_choice;
-use crate::chosen::Chosen;
+use crate::checked::check_receipt;
 use crate::fault::ReceiptFault;
 use crate::line::{Lines, line_count};
-use crate::order::used_resources;
 use crate::read::{head, pipeline, resources, subject, versions};
 use crate::read_build::builds;
 use crate::read_choice::choice;
 use crate::receipt::Receipt;
-use crate::rules::{bad_resource, bad_version};
 use crate::seal::seal_line;
-use crate::way::bad_way;
 use crate::write::body;
-use ccr_check::check;
 use std::alloc::Global;
 
 /// What a text says, before it is compared and tested.
@@ -55,51 +50,6 @@ fn first_difference(text: &[u8], other: &[u8]) -> usize {
         }
     }
     line
-}
-
-/// Whether the proof shows the choice, and else why it doesn't.
-fn check_choice(receipt: &Receipt, chosen: &Chosen) -> Result<(), ReceiptFault>
-    ensures { OnOk result (IsRightlyChosen receipt.now chosen.now) }
-{
-    let Some(used) = used_resources(&receipt.own) else {
-        return Err(ReceiptFault::BadLine(receipt.own.line));
-    };
-    if !receipt.own.is_asked {
-        return Err(ReceiptFault::BadLine(receipt.own.line));
-    }
-    if let Some(line) = bad_choice(receipt, chosen, used) {
-        return Err(ReceiptFault::BadLine(line));
-    }
-    match check(&chosen.problem, &chosen.proof) {
-        Ok(()) => Ok(()),
-        Err(fault) => Err(ReceiptFault::BadProof(fault)),
-    }
-}
-
-/// Tests the rules of a receipt.
-fn check_receipt(receipt: &Receipt) -> Result<(), ReceiptFault>
-    ensures { OnOk result (IsReceipt receipt.now) }
-{
-    if let Some(at) = bad_resource(&receipt.resources) {
-        return Err(ReceiptFault::BadLine(at.saturating_add(5)));
-    }
-    let above = receipt.resources.len().saturating_add(6);
-    if let Some(at) = bad_version(receipt.resources.len(), &receipt.versions) {
-        return Err(ReceiptFault::BadLine(above.saturating_add(at)));
-    }
-    if let Some(line) = bad_way(receipt) {
-        return Err(ReceiptFault::BadLine(line));
-    }
-    match &receipt.chosen {
-        Some(chosen) => check_choice(receipt, chosen),
-        None => {
-            if receipt.own.is_asked {
-                Err(ReceiptFault::BadLine(receipt.own.line))
-            } else {
-                Ok(())
-            }
-        }
-    }
 }
 
 /// Why what stands behind a receipt isn't its seal: the line, where it is none, or the digest.
