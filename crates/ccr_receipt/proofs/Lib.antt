@@ -1,4 +1,4 @@
 pub mod Behind
-pub mod Checked
+pub mod Checking
 pub mod Choosing
 pub mod Judging

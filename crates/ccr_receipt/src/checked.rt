@@ -13,7 +13,7 @@ use crate::way::bad_way;
 use ccr_check::check;
 
 /// Tests that a choice was right: its gates are those that the plan asked for, its numbers are the names', and its proof shows it.
-#[tactic(auto, using(crate::proofs::Checked::none_passes, crate::proofs::Checked::is_rightly_chosen))]
+#[tactic(auto, using(crate::proofs::Checking::none_passes, crate::proofs::Checking::is_rightly_chosen))]
 fn check_choice(receipt: &Receipt, chosen: &Chosen) -> Result<(), ReceiptFault>
     ensures { OnOk result (IsRightlyChosen receipt.now chosen.now) }
 {
@@ -33,7 +33,7 @@ fn check_choice(receipt: &Receipt, chosen: &Chosen) -> Result<(), ReceiptFault>
 }
 
 /// Tests the choice, where its moment is known; else that the build's gates are only seen.
-#[tactic(auto, using(crate::proofs::Checked::some_chosen, crate::proofs::Checked::none_chosen))]
+#[tactic(auto, using(crate::proofs::Checking::some_chosen, crate::proofs::Checking::none_chosen))]
 fn check_chosen(receipt: &Receipt) -> Result<(), ReceiptFault>
     ensures { OnOk result (IsChosen receipt.now receipt.now.chosen) }
 {
@@ -52,7 +52,7 @@ fn check_chosen(receipt: &Receipt) -> Result<(), ReceiptFault>
 }
 
 /// Tests the rules of a receipt.
-#[tactic(auto, using(crate::proofs::Checked::none_passes, crate::proofs::Checked::is_receipt))]
+#[tactic(auto, using(crate::proofs::Checking::none_passes, crate::proofs::Checking::is_receipt))]
 pub(crate) fn check_receipt(receipt: &Receipt) -> Result<(), ReceiptFault>
     ensures { OnOk result (IsReceipt receipt.now) }
 {
