@@ -80,11 +80,18 @@ are_alike listed known (g ∷ gs) (vs ∷ more) = list_all (is_alike listed know
 are_alike listed known [] (vs ∷ more) = false
 are_alike listed known (g ∷ gs) [] = false
 
+-- the places that a build took
+abbrev pub own_places : BuildSaid → List ℕ
+own_places b = map (λ i. i.place) b.inputs
+
+-- the builds of its gates
+abbrev pub own_builds : BuildSaid → List ℕ
+own_builds b = map (λ g. g.number) b.gates
+
 -- THE CLAIM IS THE BUILD: what it took, and the builds of its gates.
 unfoldable pub is_claim : BuildSaid → Claim → Bool
 is_claim b Nothing = false
-is_claim b (Best c) =
-    bytes_eq c.places (map (λ i. i.place) b.inputs) && bytes_eq c.builds (map (λ g. g.number) b.gates)
+is_claim b (Best c) = bytes_eq c.places (own_places b) && bytes_eq c.builds (own_builds b)
 
 -- THE NUMBERS OF PROBLEM AND CLAIM ARE THE NAMES' ABOVE THEM.
 unfoldable pub is_tied : ReceiptSaid → ChosenSaid → Bool

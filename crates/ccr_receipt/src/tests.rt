@@ -315,3 +315,227 @@ fn spoiled(alloc: Global, text: &str, old: &str, new: &str) -> Result<String, Al
     put_seal(alloc, &mut whole)?;
     Ok(whole)
 }
+
+#[test]
+fn spoiled_ones_are_refused_with_the_line(rt: HostRuntime) -> Result<(), Fail> {
+    for (text, old, new, want) in [
+        (
+            DEPLOY_2,
+            "builds 3\n\"build\" 2 made 4 succeeded asked\njobs 0\ninputs 1\n\"shop\" 0 4 jobs\nmoved 2\n0 4\n1 2\n",
+            "builds 2\n",
+            "refused: line 15",
+        ),
+        (
+            DEPLOY_2,
+            "\"unit\\u0020test\" 2 made 5 succeeded asked\n",
+            "\"unit\\u0020test\" 2 made 5 errored asked\n",
+            "refused: line 20",
+        ),
+        (
+            DEPLOY_3_FAILED,
+            "2 2 {\"ref\":\"2d73a0301b4cb6b11dd718fce220f130bf652717\"}\n",
+            "3 2 {\"ref\":\"2d73a0301b4cb6b11dd718fce220f130bf652717\"}\n",
+            "refused: line 11",
+        ),
+        (
+            DEPLOY_4_PINNED,
+            "\"unit\\u0020test\" 1\ninputs 3\n",
+            "\"unit\\u0020test\" 1\ninputs 2\n",
+            "refused: line 38",
+        ),
+        (
+            DEPLOY_4_PINNED,
+            "\"unit\\u0020test\" 1\n",
+            "\"unit\\u0020test\" 8\n",
+            "refused: line 34",
+        ),
+        (DEPLOY_2, "moved 3\n", "", "refused: line 27"),
+        (
+            DEPLOY_3_FAILED,
+            "\"build\" 2 made 4 succeeded asked\n",
+            "\"build\" 2 made 4 succeeded asked\n\"build\" 2 made 4 succeeded asked\n",
+            "refused: line 14",
+        ),
+        (
+            DEPLOY_4_PINNED,
+            "best 2 1 1 builds 1 1\n",
+            "",
+            "refused: line 58",
+        ),
+        (
+            DEPLOY_4_PINNED,
+            "\"unit\\u0020test\" 1 made 2 succeeded asked\njobs 1\n",
+            "jobs 1\n\"unit\\u0020test\" 1 made 2 succeeded asked\n",
+            "refused: line 20",
+        ),
+        (
+            DEPLOY_3_FAILED,
+            "\"unit\\u0020test\" 2 made 5 succeeded asked\njobs 1\n",
+            "jobs 1\n\"unit\\u0020test\" 2 made 5 succeeded asked\n",
+            "refused: line 20",
+        ),
+        (
+            DEPLOY_2,
+            "\"image\" 1 2 jobs 0\n",
+            "\"image\" 1 2 jobs 7\n",
+            "refused: line 25",
+        ),
+        (
+            SWEEP_1,
+            "of \"sweep\" 1\npipeline 2f65b1f7274c5557abd11c3f26fac1ab660838718e3b25442f290ae337c63e7e\nresources 0\nversions 0\n",
+            "versions 0\npipeline 2f65b1f7274c5557abd11c3f26fac1ab660838718e3b25442f290ae337c63e7e\nresources 0\nof \"sweep\" 1\n",
+            "refused: line 2",
+        ),
+        (
+            DEPLOY_2,
+            "builds 3\n\"build\" 2 made 4 succeeded asked\njobs 0\ninputs 1\n\"shop\" 0 4 jobs\nmoved 2\n0 4\n1 2\n",
+            "builds 2\n",
+            "refused: line 15",
+        ),
+        (SWEEP_1, "builds 1\n", "builds 2\n", "refused: line 11"),
+        (DEPLOY_4_PINNED, "1 1\n", "", "refused: line 19"),
+        (
+            DEPLOY_4_PINNED,
+            "2 1\nlimits 3\n",
+            "limits 3\n2 1\n",
+            "refused: line 42",
+        ),
+        (DEPLOY_4_PINNED, "limits 3\n", "", "refused: line 43"),
+        (
+            DEPLOY_4_PINNED,
+            "\"deploy\" 4 made 9 succeeded asked\n",
+            "\"deploy\" 4 maye 9 succeeded asked\n",
+            "refused: line 31",
+        ),
+        (
+            DEPLOY_4_PINNED,
+            "\"shop\" 0 2 jobs 0\n",
+            "\"shop\" 0 2 cobs 0\n",
+            "refused: line 24",
+        ),
+        (
+            DEPLOY_4_PINNED,
+            "limits 3\nknown 5 pins {\"ref\":\"8ecf974958f09b93d25606cc90dcdd7521441bb2\"} disabled\nknown 3 pins disabled\nknown 3 pins disabled\nproblem 1\n",
+            "problem 1\nknown 5 pins {\"ref\":\"8ecf974958f09b93d25606cc90dcdd7521441bb2\"} disabled\nknown 3 pins disabled\nknown 3 pins disabled\nlimits 3\n",
+            "refused: line 43",
+        ),
+        (
+            DEPLOY_4_PINNED,
+            "1 jobs 0 1 places 1 2 3\n",
+            "1 jobs 0 1 places 1 2 3\n1 jobs 0 1 places 1 2 3\n",
+            "refused: line 52",
+        ),
+        (
+            DEPLOY_4_PINNED,
+            "of \"deploy\" 4\npipeline 2f65b1f7274c5557abd11c3f26fac1ab660838718e3b25442f290ae337c63e7e\n",
+            "pipeline 2f65b1f7274c5557abd11c3f26fac1ab660838718e3b25442f290ae337c63e7e\nof \"deploy\" 4\n",
+            "refused: line 2",
+        ),
+        (
+            DEPLOY_3_FAILED,
+            "\"image\" 3 \"git\"\n",
+            "\"image\" 0 \"git\"\n",
+            "refused: line 6",
+        ),
+        (
+            DEPLOY_2,
+            "\"shop\" 0 4 jobs\n",
+            "\"shop\" 0 4 jobs\n\"shop\" 0 4 jobs\n",
+            "refused: line 17",
+        ),
+        (
+            DEPLOY_2_LATER,
+            "\"shop\" 1 \"git\"\n",
+            "\"shop\" 1 \"git\"\n\"shop\" 1 \"git\"\n",
+            "refused: line 8",
+        ),
+        (
+            SWEEP_1,
+            "best builds\n",
+            "bestx builds\n",
+            "refused: line 16",
+        ),
+        (
+            SWEEP_1,
+            "problem 1\ninputs 0\n",
+            "problem 1\ninputs -1\n",
+            "refused: line 13",
+        ),
+        (SWEEP_1, "versions 0\n", "versions -1\n", "refused: line 5"),
+        (
+            SWEEP_1,
+            "of \"sweep\" 1\n",
+            "of \"sweep\" 1\nof \"sweep\" 1\n",
+            "refused: line 3",
+        ),
+        (
+            SWEEP_1,
+            "problem 1\ninputs 0\n",
+            "problem 1\ninputs -1\n",
+            "refused: line 13",
+        ),
+        (
+            DEPLOY_2,
+            "pipeline 2f65b1f7274c5557abd11c3f26fac1ab660838718e3b25442f290ae337c63e7e\n",
+            "pipeline 2f65b1f7274c5557abd11c3f26fac1ab660838718e3b25442f290ae337c63e7e\npipeline 2f65b1f7274c5557abd11c3f26fac1ab660838718e3b25442f290ae337c63e7e\n",
+            "refused: line 4",
+        ),
+        (DEPLOY_2, "versions 3\n", "", "refused: line 8"),
+        (
+            DEPLOY_2,
+            "pipeline 2f65b1f7274c5557abd11c3f26fac1ab660838718e3b25442f290ae337c63e7e\n",
+            "",
+            "refused: line 3",
+        ),
+        (SWEEP_1, "problem 1\n", "problem 4\n", "refused: line 12"),
+        (
+            DEPLOY_3_FAILED,
+            "1 jobs 0 1 places 2 3\n",
+            "1 jobs 6 1 places 2 3\n",
+            "refused: line 47",
+        ),
+        (
+            SWEEP_1,
+            "limits 0\nproblem 1\n",
+            "problem 1\nlimits 0\n",
+            "refused: line 11",
+        ),
+        (DEPLOY_3_FAILED, "versions 3\n", "", "refused: line 8"),
+        (
+            DEPLOY_4_PINNED,
+            "known 3 pins disabled\n",
+            "known 13 pins disabled\n",
+            "refused: line 50",
+        ),
+        (DEPLOY_2, "limits 3\n", "", "refused: line 43"),
+        (
+            DEPLOY_4_PINNED,
+            "best 2 1 1 builds 1 1\n",
+            "best 3 1 1 builds 1 1\n",
+            "refused: line 58",
+        ),
+    ] {
+        let whole = spoiled(rt.alloc(), text, old, new)?;
+        let (said, status) = judge_receipt(rt.alloc(), whole.as_bytes())?;
+        assert_eq!(rt; said.as_str(), want, "with {new}");
+        assert_eq!(rt; status, 1);
+    }
+    Ok(())
+}
+
+#[test]
+fn what_was_changed_under_the_seal_is_refused(rt: HostRuntime) -> Result<(), Fail> {
+    let mut whole = String::from_str(rt.alloc(), SWEEP_1)?;
+    put_seal(rt.alloc(), &mut whole)?;
+    let (front, behind) = match whole.as_str().split_once("made 10") {
+        Some(parts) => parts,
+        None => ("", ""),
+    };
+    let mut changed = String::from_str(rt.alloc(), front)?;
+    changed.push_str("made 11")?;
+    changed.push_str(behind)?;
+    let (said, status) = judge_receipt(rt.alloc(), changed.as_bytes())?;
+    assert_eq!(rt; said.as_str(), "refused: seal");
+    assert_eq!(rt; status, 1);
+    Ok(())
+}
