@@ -1,8 +1,9 @@
 -- What is told about words that are written.
-use Rattle.std.specs.Prelude.{List, [], ◌∷◌, ◌++◌, codes, Option, None, Some, option_map, Bool, false, not, ◌&&◌, ◌||◌, nat_eq, if◌then◌else◌}
+use Rattle.std.specs.Prelude.{List, [], ◌∷◌, ◌++◌, length, codes, Option, None, Some, option_map, Bool, false, not, ◌&&◌, ◌||◌, nat_eq, nat_le, if◌then◌else◌}
 use Rattle.std.specs.List.{starts_with}
 use Rattle.ccr_history.specs.Text.{Text}
 use Rattle.ccr_run.specs.declared.advice.Advice.{Advice}
+use Rattle.ccr_run.specs.declared.advising.TheConstants.{MOST_SEARCHED}
 
 -- words stand in a text
 abbrev pub has_words : Text → Text → Bool
@@ -35,6 +36,10 @@ abbrev pub behind : Text → Text → Text → AdviceData
 behind cause words hint =
     record { cause = cause; words = words; unless = None; hint = hint; is_due = false; is_told = false }
 
+-- the same, or nothing of it: as if it had been told
+abbrev pub silent_if : Bool → AdviceData → AdviceData
+silent_if is_silent a = record a { is_told = a.is_told || is_silent }
+
 -- the others were written, at the latest by these bytes
 abbrev pub is_due : Text → AdviceData → Bool
 is_due bytes a = a.is_due || has_words a.cause bytes
@@ -59,3 +64,7 @@ heeded bytes a = record a { is_due = is_due bytes a; is_told = (a.is_told || is_
 -- THE LINE THAT IS TOLD of these bytes, if one is
 abbrev pub advice_lines : Text → AdviceData → List Text
 advice_lines bytes a = if is_said bytes a then (codes "hint: " ++ a.hint) ∷ [] else []
+
+-- what is looked at of the bytes that one call writes: nothing of more than 65,536, since a command that shows as many tells of no failure
+abbrev pub searched : Text → Text
+searched bytes = if nat_le (length bytes) MOST_SEARCHED then bytes else []

@@ -23,7 +23,7 @@ pub struct Advice {
 }
 
 /// Whether words stand in a text.
-#[tactic(auto, using(crate::proofs::Words::passes, crate::proofs::Words::finds))]
+#[tactic(auto, using(crate::proofs::Words::finds))]
 fn has_words(text: &[u8], words: &str) -> bool
     ensures { result ≡ has_words words.now text.now }
 {
@@ -63,6 +63,16 @@ impl Advice {
     {
         Advice {
             unless: Some(words),
+            ..self
+        }
+    }
+
+    /// The same, or nothing of it: for whoever says it better.
+    pub fn silent_if(self, is_silent: bool) -> Advice
+        ensures { advice_data result ≡ spec.silent_if is_silent (advice_data self) }
+    {
+        Advice {
+            is_told: self.is_told || is_silent,
             ..self
         }
     }

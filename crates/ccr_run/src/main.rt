@@ -99,41 +99,35 @@ fn answer_by<W: Write + Drop, E: Write + Drop>(
     code
 }
 
-/// Answers the words, and says what to do about what is printed of checks and builds.
-fn answer_advising(rt: &HostRuntime, words: &[String]) -> ExitCode {
-    let alloc = rt.alloc();
-    let out = Advising::new(alloc, io::writer(rt), rt.stderr(), check_not_json());
-    let out = Advising::new(alloc, out, rt.stderr(), check_wrong_kind());
-    let out = Advising::new(alloc, out, rt.stderr(), check_not_text());
-    let out = Advising::new(alloc, out, rt.stderr(), check_folder());
-    let out = Advising::new(alloc, out, rt.stderr(), none_satisfies());
-    let out = Advising::new(alloc, out, rt.stderr(), build_errored());
-    let out = Advising::new(alloc, out, rt.stderr(), abort_asked());
-    let notes = Advising::new(alloc, rt.stderr(), rt.stderr(), step_not_json());
-    let notes = Advising::new(alloc, notes, rt.stderr(), step_wrong_kind());
-    let notes = Advising::new(alloc, notes, rt.stderr(), step_no_version());
-    let notes = Advising::new(alloc, notes, rt.stderr(), step_not_text());
-    let notes = Advising::new(alloc, notes, rt.stderr(), step_not_started());
-    let notes = Advising::new(alloc, notes, rt.stderr(), step_status());
-    let notes = Advising::new(alloc, notes, rt.stderr(), step_folder());
-    answer_by(rt, words, out, notes)
-}
-
 /// Whether nothing is to be said of what to do about what is printed of checks and builds: whoever starts the program says it.
-fn is_advised(rt: &HostRuntime) -> bool {
+fn is_silent(rt: &HostRuntime) -> bool {
     match env::var(rt, "CCR_HINTS") {
         Ok(word) => word.as_str() == "no",
         Err(_) => false,
     }
 }
 
-/// Answers the words.
+/// Answers the words, and says what to do about what is printed of checks and builds.
 fn answer_here(rt: &HostRuntime, words: &[String]) -> ExitCode {
-    if is_advised(rt) {
-        answer_by(rt, words, io::writer(rt), rt.stderr())
-    } else {
-        answer_advising(rt, words)
-    }
+    let alloc = rt.alloc();
+    let mute = is_silent(rt);
+    let out = io::writer(rt);
+    let out = Advising::new(alloc, out, rt.stderr(), check_not_json().silent_if(mute));
+    let out = Advising::new(alloc, out, rt.stderr(), check_wrong_kind().silent_if(mute));
+    let out = Advising::new(alloc, out, rt.stderr(), check_not_text().silent_if(mute));
+    let out = Advising::new(alloc, out, rt.stderr(), check_folder().silent_if(mute));
+    let out = Advising::new(alloc, out, rt.stderr(), none_satisfies().silent_if(mute));
+    let out = Advising::new(alloc, out, rt.stderr(), build_errored().silent_if(mute));
+    let out = Advising::new(alloc, out, rt.stderr(), abort_asked().silent_if(mute));
+    let told = rt.stderr();
+    let told = Advising::new(alloc, told, rt.stderr(), step_not_json().silent_if(mute));
+    let told = Advising::new(alloc, told, rt.stderr(), step_wrong_kind().silent_if(mute));
+    let told = Advising::new(alloc, told, rt.stderr(), step_no_version().silent_if(mute));
+    let told = Advising::new(alloc, told, rt.stderr(), step_not_text().silent_if(mute));
+    let told = Advising::new(alloc, told, rt.stderr(), step_not_started().silent_if(mute));
+    let told = Advising::new(alloc, told, rt.stderr(), step_status().silent_if(mute));
+    let told = Advising::new(alloc, told, rt.stderr(), step_folder().silent_if(mute));
+    answer_by(rt, words, out, told)
 }
 
 fn main(rt: HostRuntime) -> ExitCode {
