@@ -23,7 +23,7 @@ pub struct Advice {
 }
 
 /// Whether words stand in a text.
-#[tactic(auto, using(crate::proofs::Words::passes, crate::proofs::Words::finds, std::proofs::lemmas::List::take_rest))]
+#[tactic(auto, using(crate::proofs::Words::finds))]
 fn has_words(text: &[u8], words: &str) -> bool
     ensures { result ≡ has_words words.now text.now }
 {

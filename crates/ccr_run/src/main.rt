@@ -34,7 +34,6 @@ mod run;
 mod tell;
 mod telling;
 
-use advice::Advice;
 use advices::{
     abort_asked, build_errored, check_folder, check_not_json, check_not_text, check_wrong_kind,
     none_satisfies, step_folder, step_no_version, step_not_json, step_not_started, step_not_text,
@@ -106,7 +105,7 @@ fn answer_by<W: Write + Drop, E: Write + Drop>(
 }
 
 /// Whether nothing is to be said of what to do about what is printed of checks and builds: whoever starts the program says it.
-fn is_advised(rt: &HostRuntime) -> bool {
+fn is_silent(rt: &HostRuntime) -> bool {
     match env::var(rt, "CCR_HINTS") {
         Ok(word) => word.as_str() == "no",
         Err(_) => false,
@@ -116,23 +115,24 @@ fn is_advised(rt: &HostRuntime) -> bool {
 /// Answers the words, and says what to do about what is printed of checks and builds.
 fn answer_here(rt: &HostRuntime, words: &[String]) -> ExitCode {
     let alloc = rt.alloc();
-    let quiet = is_advised(rt);
-    let add = |advice: Advice| advice.silent_if(quiet);
-    let out = Advising::new(alloc, io::writer(rt), rt.stderr(), add(check_not_json()));
-    let out = Advising::new(alloc, out, rt.stderr(), add(check_wrong_kind()));
-    let out = Advising::new(alloc, out, rt.stderr(), add(check_not_text()));
-    let out = Advising::new(alloc, out, rt.stderr(), add(check_folder()));
-    let out = Advising::new(alloc, out, rt.stderr(), add(none_satisfies()));
-    let out = Advising::new(alloc, out, rt.stderr(), add(build_errored()));
-    let out = Advising::new(alloc, out, rt.stderr(), add(abort_asked()));
-    let notes = Advising::new(alloc, rt.stderr(), rt.stderr(), add(step_not_json()));
-    let notes = Advising::new(alloc, notes, rt.stderr(), add(step_wrong_kind()));
-    let notes = Advising::new(alloc, notes, rt.stderr(), add(step_no_version()));
-    let notes = Advising::new(alloc, notes, rt.stderr(), add(step_not_text()));
-    let notes = Advising::new(alloc, notes, rt.stderr(), add(step_not_started()));
-    let notes = Advising::new(alloc, notes, rt.stderr(), add(step_status()));
-    let notes = Advising::new(alloc, notes, rt.stderr(), add(step_folder()));
-    answer_by(rt, words, out, notes)
+    let mute = is_silent(rt);
+    let out = io::writer(rt);
+    let out = Advising::new(alloc, out, rt.stderr(), check_not_json().silent_if(mute));
+    let out = Advising::new(alloc, out, rt.stderr(), check_wrong_kind().silent_if(mute));
+    let out = Advising::new(alloc, out, rt.stderr(), check_not_text().silent_if(mute));
+    let out = Advising::new(alloc, out, rt.stderr(), check_folder().silent_if(mute));
+    let out = Advising::new(alloc, out, rt.stderr(), none_satisfies().silent_if(mute));
+    let out = Advising::new(alloc, out, rt.stderr(), build_errored().silent_if(mute));
+    let out = Advising::new(alloc, out, rt.stderr(), abort_asked().silent_if(mute));
+    let told = rt.stderr();
+    let told = Advising::new(alloc, told, rt.stderr(), step_not_json().silent_if(mute));
+    let told = Advising::new(alloc, told, rt.stderr(), step_wrong_kind().silent_if(mute));
+    let told = Advising::new(alloc, told, rt.stderr(), step_no_version().silent_if(mute));
+    let told = Advising::new(alloc, told, rt.stderr(), step_not_text().silent_if(mute));
+    let told = Advising::new(alloc, told, rt.stderr(), step_not_started().silent_if(mute));
+    let told = Advising::new(alloc, told, rt.stderr(), step_status().silent_if(mute));
+    let told = Advising::new(alloc, told, rt.stderr(), step_folder().silent_if(mute));
+    answer_by(rt, words, out, told)
 }
 
 fn main(rt: HostRuntime) -> ExitCode {
