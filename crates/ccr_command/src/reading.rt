@@ -221,11 +221,10 @@ fn bare_page<'a>(alloc: Global) -> Command<'a>
     )
 }
 
-/// Prints a page that shows how all stands.
-pub(crate) fn page<'a>(alloc: Global) -> Result<Command<'a>, AllocError>
+/// The command `page` with the options of what stands on it.
+fn page_with_links<'a>(alloc: Global) -> Result<Command<'a>, AllocError>
     ensures { IfOk result (IsCommand (codes "page")
-        (option_rule (codes "title") ∷ option_rule (codes "logs") ∷ as_seconds (option_rule (codes "refresh"))
-        ∷ option_rule (codes "made") ∷ option_rule (codes "now") ∷ look_rule ∷ [])) }
+        (option_rule (codes "title") ∷ option_rule (codes "logs") ∷ as_seconds (option_rule (codes "refresh")) ∷ [])) }
 {
     let title = option(
         alloc,
@@ -245,6 +244,18 @@ pub(crate) fn page<'a>(alloc: Global) -> Result<Command<'a>, AllocError>
         "SECONDS",
         "After how many seconds a browser reads the page again, from 1 to 86400",
     );
+    bare_page(alloc)
+        .arg(title)?
+        .arg(logs)?
+        .arg(as_seconds(refresh))
+}
+
+/// Prints a page that shows how all stands.
+pub(crate) fn page<'a>(alloc: Global) -> Result<Command<'a>, AllocError>
+    ensures { IfOk result (IsCommand (codes "page")
+        (option_rule (codes "title") ∷ option_rule (codes "logs") ∷ as_seconds (option_rule (codes "refresh"))
+        ∷ option_rule (codes "made") ∷ option_rule (codes "now") ∷ look_rule ∷ [])) }
+{
     let made = option(
         alloc,
         "made",
@@ -252,10 +263,7 @@ pub(crate) fn page<'a>(alloc: Global) -> Result<Command<'a>, AllocError>
         "When the page is made, in words; without it, the clock's time",
     );
     let now = option(alloc, "now", "TEXT", "What runs right now, in words");
-    bare_page(alloc)
-        .arg(title)?
-        .arg(logs)?
-        .arg(as_seconds(refresh))?
+    page_with_links(alloc)?
         .arg(made)?
         .arg(now)?
         .arg(look(alloc))

@@ -1,9 +1,9 @@
--- Words behind others.
-use Rattle.std.proofs.Common.{◌≡◌, ◌≢◌, ◌++◌, ℕ, List, Bool, true, false, cond, Option, Some, None, length, take, drop, refl, sym, ap, ◌∙◌, arith}
+-- Words behind others, and what follows a start.
+use Rattle.std.proofs.Common.{◌≡◌, ◌≢◌, ◌++◌, ℕ, List, Bool, true, false, cond, Option, Some, None, length, take, drop, refl, sym, ap, ◌∙◌, append_assoc, Result, Ok, Err}
 use Rattle.std.proofs.Math.Seq.{take-append_seam}
 use Rattle.std.proofs.lemmas.List.{take-append-drop}
 use Rattle.std.proofs.lemmas.Slice.Eq.{bytes_eq-Decides}
-use Rattle.std.specs.Prelude.{MatchOption, option_map}
+use Rattle.std.specs.Prelude.{MatchOption, option_map, OnOk}
 use Rattle.std.specs.Borrow.{Bor}
 use Rattle.std.specs.Str.{bytes_eq}
 use Rattle.std.specs.Str.Pattern.{FindsTextPrefix, StripsPrefix}
@@ -28,3 +28,10 @@ stripped_from p s (Some x) h =
     let is : s ≡ p ++ drop (length p) s = h.1.1 ∙ ap (λ k. p ++ drop k s) at in
     ap Some (h.2 ∙ ap (λ k. drop k s) at)
     ∙ sym (ap (λ b. cond b (Some (drop (length p) s)) None) ((bytes_eq-Decides (take (length p) s) p).1 (begun p s is)))
+
+-- what is added twice is added at once
+pub two_added : {X E : Type 0} (r : Result (Unit {0}) E) (a b c x y all : List X) → b ≡ a ++ x → OnOk r (c ≡ b ++ y) → x ++ y ≡ all
+    → OnOk r (c ≡ a ++ all)
+two_added (Ok u) a b c x y all first second is =
+    second ∙ (ap (λ t. t ++ y) first ∙ (append_assoc a x y ∙ ap (λ t. a ++ t) is))
+two_added (Err e) a b c x y all first second is = tt

@@ -2,6 +2,7 @@ pub mod Clashing
 pub mod Digits
 pub mod Drawing
 pub mod Fields
+pub mod Firsts
 pub mod Going
 pub mod Joining
 pub mod Paging

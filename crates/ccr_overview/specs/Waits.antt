@@ -1,12 +1,12 @@
 -- Why no choice of versions satisfies a job's inputs, by what `explain` says.
 use Rattle.std.specs.Prelude.{ℕ, List, [], ◌∷◌, ◌++◌, length, Bool, ◌==◌, Option, Some, None, option_map, unwrap_or, if◌then◌else◌, codes}
-use Rattle.std.specs.Option.{option_or}
 use Rattle.std.specs.Str.{bytes_eq}
 use Rattle.ccr_history.specs.Text.{Text}
 use Rattle.ccr_history.specs.Tables.{versions_at}
 use Rattle.ccr_pipeline.specs.Inputs.{InputData}
 use Rattle.ccr_problem.specs.ProblemOf.{history_number}
 use Rattle.ccr_overview.specs.Clashes.{behind_clash}
+use Rattle.ccr_overview.specs.Each.{first_of}
 use Rattle.ccr_overview.specs.Linked.{job_word}
 use Rattle.ccr_overview.specs.PageData.{WordData, Plain, Cut, Named}
 use Rattle.ccr_overview.specs.Scenes.{SceneData}
@@ -43,8 +43,7 @@ wait_for s words i named = option_map (unpassed_words s i named) (unpassed_here 
 
 -- the same of the first of these jobs of which they say so
 abbrev pub wait_among : SceneData → Text → InputData → List Text → Option (List WordData)
-wait_among s words i [] = None
-wait_among s words i (named ∷ names) = option_or (wait_for s words i named) (wait_among s words i names)
+wait_among s words i names = first_of (wait_for s words i) names
 
 -- that an input has no version to take: there is none yet, or none is left
 abbrev pub lacking_words : SceneData → InputData → List WordData
@@ -60,8 +59,7 @@ wait_of s words i =
 
 -- the same of the first of these inputs of which they say so
 abbrev pub waits : SceneData → Text → List InputData → Option (List WordData)
-waits s words [] = None
-waits s words (i ∷ is) = option_or (wait_of s words i) (waits s words is)
+waits s words is = first_of (wait_of s words) is
 
 -- ---- all
 -- that there is no choice of versions: demands exclude each other, or these words

@@ -194,6 +194,9 @@ fn push_behind(
     push_plain(alloc, out, words)
 }
 
+/// Between a version and demands that exclude each other.
+const UNMET: &str = " can't be taken, since these can't all hold: ";
+
 /// Adds a version, and demands that exclude each other, if there are any, or else words.
 fn push_unmet(
     alloc: Global,
@@ -206,8 +209,7 @@ fn push_unmet(
 {
     match demands {
         Some(demands) => {
-            let words = " can't be taken, since these can't all hold: ";
-            push_behind(alloc, out, refusal, words)?;
+            push_behind(alloc, out, refusal, UNMET)?;
             push_text(alloc, out, demands, 200)
         }
         None => {

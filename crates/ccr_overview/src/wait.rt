@@ -119,8 +119,10 @@ fn wait_among(
         ≡ wait_among (scene_data scene.now) words.now (input_data input.now) (map string_bytes jobs.now)) }
 {
     for job in jobs {
-        if let Some(found) = wait_for(alloc, scene, words, input, job.as_str())? {
-            return Ok(Some(found));
+        let told = wait_for(alloc, scene, words, input, job.as_str())?;
+        match told {
+            Some(found) => return Ok(Some(found)),
+            None => {}
         }
     }
     Ok(None)
@@ -172,8 +174,10 @@ fn waits(
         ≡ waits (scene_data scene.now) words.now (map input_data inputs.now)) }
 {
     for input in inputs {
-        if let Some(found) = wait_of(alloc, scene, words, input)? {
-            return Ok(Some(found));
+        let told = wait_of(alloc, scene, words, input)?;
+        match told {
+            Some(found) => return Ok(Some(found)),
+            None => {}
         }
     }
     Ok(None)

@@ -202,7 +202,7 @@ fn push_title_end<'a>(out: &mut Vec<u8>, title: &'a String, worst: Status) -> Re
 
 /// Adds the head.
 pub(crate) fn push_head(out: &mut Vec<u8>, page: &Page) -> Result<(), AllocError>
-    ensures { OnOk result (Adds out.old.items out.new.items (head_pieces page.now)) }
+    ensures { OnOk result (Adds out.old.items out.new.items (head_pieces page.entry.now)) }
 {
     let worst = worst(&page.jobs);
     push(out, &[Markup(HEAD)])?;
@@ -217,14 +217,14 @@ pub(crate) fn push_head(out: &mut Vec<u8>, page: &Page) -> Result<(), AllocError
 
 /// Whether a page has a picture, which can be skipped.
 pub(crate) fn has_picture(page: &Page) -> bool
-    ensures { result ≡ has_picture page.now }
+    ensures { result ≡ has_picture page.entry.now }
 {
     page.has_pipeline && !(page.jobs.is_empty() && page.resources.is_empty())
 }
 
 /// Adds the link that skips the picture.
 fn push_skip(out: &mut Vec<u8>, page: &Page) -> Result<(), AllocError>
-    ensures { OnOk result (Adds out.old.items out.new.items (skip_pieces page.now)) }
+    ensures { OnOk result (Adds out.old.items out.new.items (skip_pieces page.entry.now)) }
 {
     if has_picture(page) {
         push(out, &[Markup(SKIP)])
@@ -350,7 +350,7 @@ fn push_made<'a>(out: &mut Vec<u8>, made: &'a Option<String>) -> Result<(), Allo
 
 /// Adds the header.
 pub(crate) fn push_header(out: &mut Vec<u8>, page: &Page) -> Result<(), AllocError>
-    ensures { OnOk result (Adds out.old.items out.new.items (header_pieces page.now)) }
+    ensures { OnOk result (Adds out.old.items out.new.items (header_pieces page.entry.now)) }
 {
     let still = still_count(&page.jobs);
     push_skip(out, page)?;
