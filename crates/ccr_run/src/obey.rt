@@ -186,32 +186,24 @@ pub fn obey<
             };
         };
         let (status, tools) = do_validation(alloc, &validation, tools, out, telling);
-        return Done {
-            status: Ok(status),
-            left: Left::Unopened(tools),
-        };
+        let (status, left) = (Ok(status), Left::Unopened(tools));
+        return Done { status, left };
     }
     match ordered_by(alloc, words) {
         Ok(Ordered::Abort(order)) => {
             let (status, tools) = do_abort(alloc, &order, tools, out, telling);
-            Done {
-                status: Ok(status),
-                left: Left::Unopened(tools),
-            }
+            let (status, left) = (Ok(status), Left::Unopened(tools));
+            Done { status, left }
         }
         Ok(Ordered::Look(order)) => {
             let status = look_at(alloc, order, opener, out, telling);
-            Done {
-                status: Ok(status),
-                left: Left::Unopened(tools),
-            }
+            let (status, left) = (Ok(status), Left::Unopened(tools));
+            Done { status, left }
         }
         Ok(Ordered::Page(order)) => {
             let status = page_at(alloc, order, clock, opener, out, telling);
-            Done {
-                status: Ok(status),
-                left: Left::Unopened(tools),
-            }
+            let (status, left) = (Ok(status), Left::Unopened(tools));
+            Done { status, left }
         }
         Ok(Ordered::Command(order)) => {
             let (status, left) = do_command(alloc, &order, tools, opener, out, telling);
