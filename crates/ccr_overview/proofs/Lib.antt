@@ -8,5 +8,6 @@ pub mod Going
 pub mod Halting
 pub mod Joining
 pub mod Paging
+pub mod Posting
 pub mod Saying
 pub mod Telling
