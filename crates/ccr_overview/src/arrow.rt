@@ -192,15 +192,7 @@ fn push_from_jobs(
 {
     let count = scene.pipeline.resources().len();
     let found = stopper_at(alloc, scene, told, end.port)?;
-    push_all_passed(
-        out,
-        count,
-        end,
-        input,
-        &found,
-        scene.pipeline.jobs(),
-        names,
-    )?;
+    push_all_passed(out, count, end, input, &found, scene.pipeline.jobs(), names)?;
     Ok(())
 }
 

@@ -90,12 +90,7 @@ fn job_listed(
 }
 
 /// The job at a position.
-fn job_at(
-    alloc: Global,
-    scene: &Scene<'_>,
-    at: usize,
-    told: &Told<'_>,
-) -> Result<Job, AllocError>
+fn job_at(alloc: Global, scene: &Scene<'_>, at: usize, told: &Told<'_>) -> Result<Job, AllocError>
     ensures { IfOk result (λ job. page_job_data job ≡ job_at (scene_data scene.now) at (told_data told.now)) }
 {
     let history = scene.history;
