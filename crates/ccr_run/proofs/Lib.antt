@@ -9,5 +9,5 @@ pub mod Refusing
 pub mod Serving
 pub mod Told
 pub mod Walks
-pub mod Words
+pub mod Searching
 pub mod Writing

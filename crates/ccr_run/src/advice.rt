@@ -23,7 +23,7 @@ pub struct Advice {
 }
 
 /// Whether words stand in a text.
-#[tactic(auto, using(crate::proofs::Words::finds))]
+#[tactic(auto, using(crate::proofs::Searching::finds))]
 fn has_words(text: &[u8], words: &str) -> bool
     ensures { result ≡ has_words words.now text.now }
 {

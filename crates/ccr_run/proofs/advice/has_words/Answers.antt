@@ -1,5 +1,5 @@
 use Rattle.std.proofs.Common.{arith, sym}
-use Rattle.ccr_run.proofs.Words.{goes_on}
+use Rattle.ccr_run.proofs.Searching.{goes_on}
 use Rattle.ccr_run.proofs.advice.has_words.Goals as goal
 
 pub loop-at-preserved : goal.loop-at-preserved
