@@ -46,9 +46,11 @@ const scrolls = e => { for (; e; e = e.parentElement) if (e.scrollWidth > e.clie
 if (document.documentElement.scrollWidth > innerWidth) bad.push(`wider than the window: ${document.documentElement.scrollWidth} in ${innerWidth}`);
 for (const e of all("body *")) {
     if (e.closest("svg")) continue;
-    if (e.scrollWidth > e.clientWidth + 1 && /auto|scroll/.test(getComputedStyle(e).overflowX) && !e.matches(".pic, .wide, .ev table")) bad.push(`scrolls sideways: ${e.tagName} ${told(e.textContent)}`);
+    const may_scroll = /auto|scroll/.test(getComputedStyle(e).overflowX);
+    if (e.scrollWidth > e.clientWidth + 1 && may_scroll && !e.matches(".pic, .wide, .ev table")) bad.push(`scrolls sideways: ${e.tagName} ${told(e.textContent)}`);
     const r = e.getBoundingClientRect();
-    if (r.width && (r.right > innerWidth + 1 || r.left < -1) && !scrolls(e) && !e.matches(".skip, caption")) bad.push(`outside of the window: ${e.tagName} ${told(e.textContent)}: ${r.left} to ${r.right}`);
+    if (r.width && (r.right > innerWidth + 1 || r.left < -1) && !scrolls(e) && !e.matches(".skip, caption"))
+        bad.push(`outside of the window: ${e.tagName} ${told(e.textContent)}: ${r.left} to ${r.right}`);
 }
 // Things that stand one beside or below the other. Of texts it is looked whether they are within the element that has them.
 for (const group of [".sum>li", "ol>li", ".why>li", "article", "main>section", "header>*", ".ev tr", "article>*", ".key>*"])
@@ -56,12 +58,16 @@ for (const group of [".sum>li", "ol>li", ".why>li", "article", "main>section", "
         const rects = all(group, document).filter(e => e.parentElement == parent && e.getBoundingClientRect().width).map(e => [e.getBoundingClientRect(), e]);
         for (let i = 1; i < rects.length; i++) {
             const [[a, one], [b, other]] = [rects[i - 1], rects[i]];
-            if (a.left < b.right - 1 && b.left < a.right - 1 && a.top < b.bottom - 1 && b.top < a.bottom - 1 && getComputedStyle(one).display != "inline") bad.push(`overlap in ${group}: ${told(one.textContent)} and ${told(other.textContent)}`);
+            const meet = a.left < b.right - 1 && b.left < a.right - 1 && a.top < b.bottom - 1 && b.top < a.bottom - 1;
+            if (meet && getComputedStyle(one).display != "inline") bad.push(`overlap in ${group}: ${told(one.textContent)} and ${told(other.textContent)}`);
         }
     }
 
 // ---- contrast
-const light = c => { const [r, g, b] = c.map(v => { v /= 255; return v <= .03928 ? v / 12.92 : ((v + .055) / 1.055) ** 2.4; }); return .2126 * r + .7152 * g + .0722 * b; };
+const light = c => {
+    const [r, g, b] = c.map(v => v / 255).map(v => v <= .03928 ? v / 12.92 : ((v + .055) / 1.055) ** 2.4);
+    return .2126 * r + .7152 * g + .0722 * b;
+};
 const numbers = text => (text.match(/[0-9.]+/g) || []).map(Number);
 const behind = e => {
     for (; e; e = e.parentElement) {
@@ -90,7 +96,8 @@ while (walk.nextNode()) {
     const range = document.createRange();
     range.selectNodeContents(text);
     const r = range.getBoundingClientRect();
-    if (!(e instanceof SVGElement) && r.width && (r.right > innerWidth + 1 || r.left < -1) && !scrolls(e) && !e.closest(".skip")) bad.push(`a text is outside of the window: ${told(text.data)}`);
+    const outside = r.width && (r.right > innerWidth + 1 || r.left < -1);
+    if (outside && !(e instanceof SVGElement) && !scrolls(e) && !e.closest(".skip")) bad.push(`a text is outside of the window: ${told(text.data)}`);
 }
 for (const e of all("ol li, .key b")) {
     const style = getComputedStyle(e, e.matches("li") ? "::after" : "::before");

@@ -5,7 +5,13 @@ from page_reader import cut, shown, short
 from page_worlds import asked
 
 BAD = ("failed", "errored", "aborted")
-HELD = ("disabled", "others come first", "pinned by pin-resource", "pinned by the resource", "pinned by the get")
+PINNED = ("pinned by pin-resource", "pinned by the resource", "pinned by the get")
+HELD = ("disabled", "others come first", *PINNED)
+STANDS = {"runs": "is running with", "succeeded without it": "succeeded without", **{word: f"{word} on" for word in BAD}}
+
+
+def few(version):
+    return cut(short(version), 18)
 
 
 class Story:
@@ -17,6 +23,7 @@ class Story:
         self.names = [it["name"] for it in self.jobs]
         self.explained = {name: asked(db, "explain", name) for name in self.names}
         self.newest = {it["job_name"]: it for it in asked(db, "builds")}
+        self.counts = {it["name"]: it["version_count"] for it in asked(db, "resources")}
 
     # ---- what holds an input
     def stop(self, reason):
@@ -29,15 +36,32 @@ class Story:
                 return name, found[1], found[2]
         return None
 
+    def unbuilt(self, name, of, place):
+        """How a job stands to a version that no build of it has."""
+        told = self.explained[name]
+        same = [it for it in told["inputs"] if it["resource"] == of]
+        if told["has_new_inputs"] and any(it["place"] == place for it in same):
+            return "is due with"
+        return "doesn't take" if any(newer["place"] == place for it in same for newer in it["newer"]) else "hasn't built"
+
+    def other(self, version, reason):
+        """A reason that names no job where the version stopped."""
+        if reason in PINNED:
+            return f"a pin leaves out {version}"
+        if reason.startswith("clash: "):
+            return f"{version} can't be taken, since these can't all hold: {cut(reason[7:], 200)}"
+        return version + {"disabled": " is disabled", "others come first": " has its turn later"}.get(reason, f": {cut(reason, 200)}")
+
     def hold(self, taken, newer):
         """How urgent it is that an input doesn't take a version, and the reason."""
-        stop = self.stop(newer["reason"])
+        version, stop = few(newer["version"]), self.stop(newer["reason"])
         if not stop:
-            return "p" if newer["reason"] in HELD else "x", cut(newer["reason"], 200)
+            return "p" if newer["reason"] in HELD else "x", self.other(version, newer["reason"])
         name, number, words = stop
         if number is None:
-            return "r" if self.explained[name]["has_new_inputs"] else "x", f"not built by {cut(name, 40)}"
-        return "r" if words == "runs" else "x", f"{cut(name, 40)} {number} {words}"
+            stands = self.unbuilt(name, taken["resource"], newer["place"])
+            return "r" if self.explained[name]["has_new_inputs"] else "x", f"{cut(name, 40)} {stands} {version}"
+        return "r" if words == "runs" else "x", f"{cut(name, 40)} {number} {STANDS[words]} {version}"
 
     def holds(self, inputs):
         found = [(it, it["newer"][0], *self.hold(it, it["newer"][0])) for it in inputs if it["newer"]]
@@ -49,7 +73,7 @@ class Story:
         for k, (taken, newer, _, reason) in enumerate(told[:3]):
             words += (("stays at ", "; at ") if by_itself else ("would take ", "; "))[k > 0]
             words += f"{cut(taken['resource'], 40)} " if len(inputs) > 1 else ""
-            words += f"{cut(short(taken['version']), 18)}, not {cut(short(newer['version']), 18)}: {reason}"
+            words += f"{few(taken['version'])}: {reason}"
         return words + (f"; and {len(told) - 3} more" if len(told) > 3 else "")
 
     # ---- a job
@@ -59,11 +83,29 @@ class Story:
         on = [it for it in took if [it["name"]] == triggers]
         words = f"stopped: build {build['name']} {build['status']}"
         if on:
-            words += f" on {cut(on[0]['name'], 40) + ' ' if len(took) > 1 else ''}{cut(short(on[0]['version']), 18)}"
+            words += f" on {cut(on[0]['name'], 40) + ' ' if len(took) > 1 else ''}{few(on[0]['version'])}"
         worst, told = self.holds(inputs)
         if worst in (None, "p"):
             return words + (", and nothing newer has come" if by_itself else ", and only a command makes the next")
         return f"{words}; {self.holds_words(inputs, told, by_itself)}"
+
+    def unmet(self, job, reason):
+        """Why no choice satisfies the inputs of a job."""
+        for get in job["inputs"]:
+            allowed = f"clash: {get['name']} takes an allowed version"
+            if reason == allowed:
+                if self.counts[get["resource"]]:
+                    return f"can't be built: pins and disabled versions leave no version of {cut(get['resource'], 40)}"
+                return f"waits: {cut(get['resource'], 40)} has no version yet"
+            for name in get["passed"]:
+                of = cut(get["resource"], 40)
+                if reason == f"clash: {get['name']} passed {name}":
+                    return f"waits: no version of {of} has passed {cut(name, 40)}"
+                if reason == f"{allowed}, {get['name']} passed {name}":
+                    return f"waits: no version of {of} that is allowed has passed {cut(name, 40)}"
+        if reason.startswith("clash: "):
+            return f"can't be built: these can't all hold: {cut(reason[7:], 400)}"
+        return f"can't be built: {cut(reason, 400)}"
 
     def why(self, job):
         """How urgent it is that a job stands still, and why; None if nothing is said of it."""
@@ -72,11 +114,11 @@ class Story:
         if build and build["status"] == "running":
             return "r", f"is running build {build['name']}"
         if told["next"] == "due":
-            return "r", f"is due: the next round builds {cut(short(inputs[0]['version']), 18)}" if len(inputs) == 1 else "is due in the next round"
+            return "r", f"is due: the next round builds {few(inputs[0]['version'])}" if len(inputs) == 1 else "is due in the next round"
         if told["next"] == "none satisfies":
-            return "x", f"can't be built: {cut(told['reason'], 400)}" if told["reason"] else "can't be built"
+            return "x", self.unmet(job, told["reason"]) if told["reason"] else "can't be built"
         if told["next"].startswith("over budget"):
-            return "x", f"isn't decided: {told['next']}"
+            return "x", "isn't decided: the search goes over the budget; --budget N allows more"
         if build and build["status"] in BAD:
             return "x", self.bad(job, build, inputs, by_itself)
         worst, held = self.holds(inputs)

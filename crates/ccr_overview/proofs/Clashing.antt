@@ -35,3 +35,9 @@ pub two_added : {X E : Type 0} (r : Result (Unit {0}) E) (a b c x y all : List X
 two_added (Ok u) a b c x y all first second is =
     second ∙ (ap (λ t. t ++ y) first ∙ (append_assoc a x y ∙ ap (λ t. a ++ t) is))
 two_added (Err e) a b c x y all first second is = tt
+
+-- the same of what is added in three parts
+pub three_added : {X E : Type 0} (r : Result (Unit {0}) E) (a b c d x y z all : List X) → b ≡ a ++ x → c ≡ b ++ y → OnOk r (d ≡ c ++ z)
+    → x ++ (y ++ z) ≡ all → OnOk r (d ≡ a ++ all)
+three_added r a b c d x y z all first second third is =
+    two_added r a c d (x ++ y) z all (second ∙ (ap (λ t. t ++ y) first ∙ append_assoc a x y)) third (append_assoc x y z ∙ is)

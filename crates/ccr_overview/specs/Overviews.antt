@@ -58,11 +58,17 @@ job_with s k t newest ks names = record {
   rows = rows_at s names ks;
 }
 
+-- the same, with the columns of these builds
+abbrev pub job_listed : SceneData → ℕ → ToldData → Option BuildData → List ℕ → PageJobData
+job_listed s k t newest ks = job_with s k t newest ks (columns t.job (builds_at s.history ks))
+
 -- A JOB at a position: its newest build, what is said of it, why it stands still, its last builds, and what they took
+abbrev pub job_at : SceneData → ℕ → ToldData → PageJobData
+job_at s k t = job_listed s k t (newest_build t.job.name s.history) (listed s.history s.rows t.job.name)
+
+-- the same, as one of several
 abbrev pub job_shown : SceneData → ℕ → ToldData → List PageJobData
-job_shown s k t =
-    let ks : List ℕ = listed s.history s.rows t.job.name in
-    job_with s k t (newest_build t.job.name s.history) ks (columns t.job (builds_at s.history ks)) ∷ []
+job_shown s k t = job_at s k t ∷ []
 
 -- ---- the page
 -- the page of a pipeline with a history, and of what is said of its jobs

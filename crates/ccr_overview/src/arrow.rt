@@ -173,6 +173,50 @@ fn push_all_passed(
     Ok(())
 }
 
+/// Adds the arrows to a port from the jobs of these names.
+fn push_from_jobs(
+    alloc: Global,
+    out: &mut Vec<Arrow>,
+    scene: &Scene<'_>,
+    told: &Told<'_>,
+    end: End,
+    input: &Input,
+    names: &[String],
+) -> Result<(), AllocError>
+    requires small { IsSmall (scene_data scene.now) }
+    requires target { end.job ≤ 200 }
+    ensures { let s = scene_data scene.now in let stopped = stopper_at s (told_data told.now) end.port in
+        OnOk result (out.new.items ≡ out.old.items
+        ++ passed_arrows (length s.pipeline.resources) end.job end.port (input_data input.now) stopped s.pipeline.jobs
+        (map string_bytes names.now)) }
+{
+    let count = scene.pipeline.resources().len();
+    let found = stopper_at(alloc, scene, told, end.port)?;
+    push_all_passed(out, count, end, input, &found, scene.pipeline.jobs(), names)?;
+    Ok(())
+}
+
+/// Adds the arrows to a port: from the jobs of these names, or from the resource where there is none.
+fn push_named(
+    alloc: Global,
+    out: &mut Vec<Arrow>,
+    scene: &Scene<'_>,
+    told: &Told<'_>,
+    end: End,
+    input: &Input,
+    names: &[String],
+) -> Result<(), AllocError>
+    requires small { IsSmall (scene_data scene.now) }
+    requires target { end.job ≤ 200 }
+    ensures { let i = input_data input.now in OnOk result (out.new.items ≡ out.old.items
+        ++ port_arrows (scene_data scene.now) end.job (told_data told.now) end.port i (map string_bytes names.now)) }
+{
+    if names.is_empty() {
+        return push_each_taken(out, end, input, scene.pipeline.resources());
+    }
+    push_from_jobs(alloc, out, scene, told, end, input, names)
+}
+
 /// Adds the arrows to a port.
 fn push_port(
     alloc: Global,
@@ -187,21 +231,7 @@ fn push_port(
     ensures { let i = input_data input.now in OnOk result (out.new.items ≡ out.old.items
         ++ port_arrows (scene_data scene.now) end.job (told_data told.now) end.port i i.passed) }
 {
-    if input.passed.is_empty() {
-        return push_each_taken(out, end, input, scene.pipeline.resources());
-    }
-    let count = scene.pipeline.resources().len();
-    let found = stopper_at(alloc, scene, told, end.port)?;
-    push_all_passed(
-        out,
-        count,
-        end,
-        input,
-        &found,
-        scene.pipeline.jobs(),
-        &input.passed,
-    )?;
-    Ok(())
+    push_named(alloc, out, scene, told, end, input, &input.passed)
 }
 
 /// Adds the arrows to the ports of the job at a position.

@@ -1,7 +1,7 @@
 //! The jobs of a page.
-ghost use Rattle.std.specs.Prelude.{◌≡◌, ◌∷◌, [], map, string_bytes, option_copied, IfOk};
+ghost use Rattle.std.specs.Prelude.{◌≡◌, map, string_bytes, option_copied, IfOk};
 ghost use Rattle.ccr_pipeline.specs.Inputs.{input_data};
-ghost use Rattle.ccr_overview.specs.Overviews.{port_of, job_with, job_shown};
+ghost use Rattle.ccr_overview.specs.Overviews.{port_of, job_with, job_listed, job_at, job_shown};
 ghost use Rattle.ccr_overview.specs.PageData.{port_data, page_job_data};
 ghost use Rattle.ccr_overview.specs.Each.{each_from};
 ghost use Rattle.ccr_overview.specs.Scenes.{told_data, scene_data};
@@ -72,22 +72,32 @@ fn job_with(
     })
 }
 
-/// The job at a position.
-fn job_shown(
+/// The job at a position, whose newest build is this one, and which has rows for the builds at these positions.
+fn job_listed(
     alloc: Global,
     scene: &Scene<'_>,
     at: usize,
     told: &Told<'_>,
+    newest: Option<&BuildRef<'_>>,
+    positions: &[u32],
 ) -> Result<Job, AllocError>
-    ensures { IfOk result (λ job. page_job_data job ∷ [] ≡ job_shown (scene_data scene.now) at (told_data told.now)) }
+    ensures { IfOk result (λ job. page_job_data job ≡ job_listed (scene_data scene.now) at (told_data told.now)
+        (option_copied newest.entry) positions.now) }
+{
+    let builds = builds_at(alloc, scene.history, positions)?;
+    let columns = columns(alloc, told.job, &builds)?;
+    job_with(alloc, scene, at, told, newest, positions, columns)
+}
+
+/// The job at a position.
+fn job_at(alloc: Global, scene: &Scene<'_>, at: usize, told: &Told<'_>) -> Result<Job, AllocError>
+    ensures { IfOk result (λ job. page_job_data job ≡ job_at (scene_data scene.now) at (told_data told.now)) }
 {
     let history = scene.history;
     let job = told.job.name.as_str();
     let newest = history.build(job, history.count_of(job));
     let positions = listed(alloc, history, scene.row_count, job)?;
-    let builds = builds_at(alloc, history, &positions)?;
-    let columns = columns(alloc, told.job, &builds)?;
-    job_with(alloc, scene, at, told, newest.as_ref(), &positions, columns)
+    job_listed(alloc, scene, at, told, newest.as_ref(), &positions)
 }
 
 /// The jobs, in their order.
@@ -97,7 +107,7 @@ pub(crate) fn jobs_shown(alloc: Global, scene: &Scene<'_>) -> Result<Vec<Job>, A
 {
     let mut jobs = Vec::new(alloc);
     for (at, told) in scene.told.iter().enumerate() {
-        let job = job_shown(alloc, scene, at, told)?;
+        let job = job_at(alloc, scene, at, told)?;
         jobs.push(job)?;
     }
     Ok(jobs)

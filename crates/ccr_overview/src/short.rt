@@ -1,7 +1,8 @@
 //! Versions in a few letters.
-ghost use Rattle.std.specs.Prelude.{◌≡◌, ◌++◌, ◌∷◌, [], true, map, flat_map, take, drop, string_bytes, option_map, IfOk, OnOk};
+ghost use Rattle.std.specs.Prelude.{◌≡◌, ◌++◌, ◌∷◌, [], true, map, flat_map, take, drop, string_bytes, option_map, unwrap_or, IfOk, OnOk};
 ghost use Rattle.std.specs.List.{list_all};
 ghost use Rattle.std.specs.Option.{option_copied};
+ghost use Rattle.serde_json.specs.Read.{read as json};
 ghost use Rattle.serde_json.specs.View.{view, members_view};
 ghost use Rattle.ccr_history.specs.TextMap.{fields_in, texts_of, text_map_of};
 ghost use Rattle.ccr_overview.specs.Each.{each_from};
@@ -143,17 +144,34 @@ fn value_fields(alloc: Global, value: &Value) -> Result<Option<Vec<(String, Stri
     }
 }
 
+/// The same; no fields where a value is no such object.
+fn some_fields(alloc: Global, value: &Value) -> Result<Vec<(String, String)>, AllocError>
+    ensures { IfOk result (λ all. map field_data all.items ≡ unwrap_or (text_map_of (view value.now)) []) }
+{
+    match value_fields(alloc, value)? {
+        Some(fields) => Ok(fields),
+        None => Ok(Vec::new(alloc)),
+    }
+}
+
+/// The value that a text spells, if it spells one.
+fn value_of(alloc: Global, text: &str) -> Result<Option<Value>, AllocError>
+    ensures { IfOk result (λ found. option_map (λ v. view v) found ≡ json text.now) }
+{
+    match Value::from_str(alloc, text) {
+        Ok(value) => Ok(Some(value)),
+        Err(error) if error.is_memory() => Err(AllocError),
+        Err(_) => Ok(None),
+    }
+}
+
 /// The fields that a key spells.
+#[tactic(auto, unfolding(ccr_history::specs::TextMap::fields_in))]
 fn fields_of(alloc: Global, key: &str) -> Result<Vec<(String, String)>, AllocError>
     ensures { IfOk result (λ all. map field_data all.items ≡ fields_in key.now) }
 {
-    let value = match Value::from_str(alloc, key) {
-        Ok(value) => value,
-        Err(error) if error.is_memory() => return Err(AllocError),
-        Err(_) => return Ok(Vec::new(alloc)),
-    };
-    match value_fields(alloc, &value)? {
-        Some(fields) => Ok(fields),
+    match value_of(alloc, key)? {
+        Some(value) => some_fields(alloc, &value),
         None => Ok(Vec::new(alloc)),
     }
 }

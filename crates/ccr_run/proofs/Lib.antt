@@ -9,4 +9,5 @@ pub mod Refusing
 pub mod Serving
 pub mod Told
 pub mod Walks
+pub mod Words
 pub mod Writing

@@ -1,4 +1,6 @@
 pub mod Aborting
+pub mod Advised
+pub mod Advices
 pub mod Answered
 pub mod Asked
 pub mod Databases

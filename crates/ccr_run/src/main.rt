@@ -10,6 +10,9 @@
 #![tactic(auto)]
 
 mod abort;
+mod advice;
+mod advices;
+mod advising;
 mod answer;
 mod asked;
 mod clock;
@@ -31,6 +34,12 @@ mod run;
 mod tell;
 mod telling;
 
+use advices::{
+    abort_asked, build_errored, check_folder, check_not_json, check_not_text, check_wrong_kind,
+    none_satisfies, step_folder, step_no_version, step_not_json, step_not_started, step_not_text,
+    step_status, step_wrong_kind,
+};
+use advising::Advising;
 use answer::{Answered, answer};
 use ccr_lines::Printed;
 use ccr_process::Machine;
@@ -42,7 +51,7 @@ use opener::Opener;
 use opening::HostFiles;
 use order::Misuse;
 use sqlite::Unknown;
-use std::io::ErrorKind;
+use std::io::{ErrorKind, Write};
 use std::process::ExitCode;
 use std::{env, io};
 use tell::tell_misuse;
@@ -65,15 +74,21 @@ fn words(rt: &HostRuntime) -> Result<Vec<String>, Misuse> {
     }
 }
 
-/// Answers the words with the programs, the directories and the files of this machine, as they are: nothing is known of them.
-fn answer_here(rt: &HostRuntime, words: &[String]) -> ExitCode {
+/// Answers the words with the programs, the directories and the files of this machine, as they are: nothing is known of them. Lines go to
+/// one writer, and what is told of steps to another one.
+fn answer_by<W: Write + Drop, E: Write + Drop>(
+    rt: &HostRuntime,
+    words: &[String],
+    lines: W,
+    notes: E,
+) -> ExitCode {
     let alloc = rt.alloc();
     let tools = Tools {
-        runner: Naming::new(Machine::new(rt, alloc), rt.stderr()),
+        runner: Naming::new(alloc, Machine::new(rt, alloc), rt.stderr()),
         shelf: Folders::new(rt, alloc),
     };
     let mut opener = Opener::new(HostFiles::new(rt), Unknown);
-    let mut out = Printed::new(alloc, io::writer(rt), rt.stderr());
+    let mut out = Printed::new(alloc, lines, notes);
     let mut telling = Telling::new(alloc, rt.stderr());
     let clock = time_now(rt, alloc);
     let Answered { code, done: _done } = answer(
@@ -87,6 +102,37 @@ fn answer_here(rt: &HostRuntime, words: &[String]) -> ExitCode {
         rt,
     );
     code
+}
+
+/// Whether nothing is to be said of what to do about what is printed of checks and builds: whoever starts the program says it.
+fn is_silent(rt: &HostRuntime) -> bool {
+    match env::var(rt, "CCR_HINTS") {
+        Ok(word) => word.as_str() == "no",
+        Err(_) => false,
+    }
+}
+
+/// Answers the words, and says what to do about what is printed of checks and builds.
+fn answer_here(rt: &HostRuntime, words: &[String]) -> ExitCode {
+    let alloc = rt.alloc();
+    let mute = is_silent(rt);
+    let out = io::writer(rt);
+    let out = Advising::new(alloc, out, rt.stderr(), check_not_json().silent_if(mute));
+    let out = Advising::new(alloc, out, rt.stderr(), check_wrong_kind().silent_if(mute));
+    let out = Advising::new(alloc, out, rt.stderr(), check_not_text().silent_if(mute));
+    let out = Advising::new(alloc, out, rt.stderr(), check_folder().silent_if(mute));
+    let out = Advising::new(alloc, out, rt.stderr(), none_satisfies().silent_if(mute));
+    let out = Advising::new(alloc, out, rt.stderr(), build_errored().silent_if(mute));
+    let out = Advising::new(alloc, out, rt.stderr(), abort_asked().silent_if(mute));
+    let told = rt.stderr();
+    let told = Advising::new(alloc, told, rt.stderr(), step_not_json().silent_if(mute));
+    let told = Advising::new(alloc, told, rt.stderr(), step_wrong_kind().silent_if(mute));
+    let told = Advising::new(alloc, told, rt.stderr(), step_no_version().silent_if(mute));
+    let told = Advising::new(alloc, told, rt.stderr(), step_not_text().silent_if(mute));
+    let told = Advising::new(alloc, told, rt.stderr(), step_not_started().silent_if(mute));
+    let told = Advising::new(alloc, told, rt.stderr(), step_status().silent_if(mute));
+    let told = Advising::new(alloc, told, rt.stderr(), step_folder().silent_if(mute));
+    answer_by(rt, words, out, told)
 }
 
 fn main(rt: HostRuntime) -> ExitCode {

@@ -82,13 +82,7 @@ fn do_command<
     ensures wrote { TellsLines (told_data telling.new) telling.old.errors telling.new.errors }
 {
     let ran = run(alloc, order, tools, opener, out);
-    tell_gates(
-        alloc,
-        telling,
-        &order.command,
-        &ran.outcome.end,
-        ran.left.text(),
-    );
+    tell_gates(alloc, telling, order, &ran.outcome.end, ran.left.text());
     let status = tell(telling, order, &ran.outcome);
     (status, ran.left)
 }
