@@ -16,7 +16,7 @@ use crate::run::Outcome;
 use crate::tell::tell;
 use crate::telling::Telling;
 use ccr_command::Options;
-use ccr_core::Core;
+use ccr_core::{Command, Core};
 use ccr_lines::{AsText, Printed, Show, ShowFault};
 use ccr_look::{Scratch, look};
 use ccr_serve::ServeFault;
