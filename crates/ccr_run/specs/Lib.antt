@@ -1,6 +1,5 @@
 pub mod Aborting
 pub mod Advised
-pub mod Advices
 pub mod Answered
 pub mod Asked
 pub mod Databases
@@ -16,4 +15,5 @@ pub mod Orders
 pub mod Refusals
 pub mod Served
 pub mod Statuses
+pub mod Topics
 pub mod Writers
