@@ -1,6 +1,5 @@
 pub mod Aborting
 pub mod Advised
-pub mod Advices
 pub mod Answered
 pub mod Asked
 pub mod Databases
@@ -17,4 +16,5 @@ pub mod Paged
 pub mod Refusals
 pub mod Served
 pub mod Statuses
+pub mod Topics
 pub mod Writers

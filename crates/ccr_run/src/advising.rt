@@ -4,6 +4,7 @@ ghost use Rattle.ccr_run.specs.Advised as spec;
 
 use crate::advice::Advice;
 use crate::errors::Errors;
+use crate::topic::Topic;
 use std::alloc::Global;
 use std::io;
 use std::io::Write;
@@ -33,17 +34,19 @@ pub struct Advising<W, E: Write> {
 
 impl<W, E: Write> Advising<W, E> {
     ghost use Rattle.std.specs.Prelude.{◌≡◌, false};
+    ghost use Rattle.ccr_run.specs.Advised.{advice_data, advice_on};
+    ghost use Rattle.ccr_run.specs.Topics.{topic_data};
 
-    /// Passes on to this writer; what to do goes to `errors`.
-    pub fn new(alloc: Global, writer: W, errors: E, advice: Advice) -> Advising<W, E>
+    /// Passes on to this writer; what to do about a line goes to `errors`, unless it is silent.
+    pub fn new(alloc: Global, writer: W, errors: E, topic: Topic, is_silent: bool) -> Advising<W, E>
         ensures writer { result.writer ≡ writer }
         ensures errors { result.errors ≡ record { got = E.contents errors; failed = false } }
-        ensures advice { result.advice ≡ advice }
+        ensures advice { advice_data result.advice ≡ advice_on (topic_data topic) is_silent }
     {
         Advising {
             writer,
             errors: Errors::new(alloc, errors),
-            advice,
+            advice: Advice::on(topic, is_silent),
         }
     }
 }

@@ -11,7 +11,6 @@
 
 mod abort;
 mod advice;
-mod advices;
 mod advising;
 mod answer;
 mod asked;
@@ -33,12 +32,8 @@ mod refusal;
 mod run;
 mod tell;
 mod telling;
+mod topic;
 
-use advices::{
-    abort_asked, build_errored, check_folder, check_not_json, check_not_text, check_wrong_kind,
-    none_satisfies, step_folder, step_no_version, step_not_json, step_not_started, step_not_text,
-    step_status, step_wrong_kind,
-};
 use advising::Advising;
 use answer::{Answered, answer};
 use ccr_lines::Printed;
@@ -56,6 +51,7 @@ use std::process::ExitCode;
 use std::{env, io};
 use tell::tell_misuse;
 use telling::Telling;
+use topic::Topic;
 
 /// The fault of words that can't be read: one of them is no text, or memory was refused.
 fn misuse_of(error: &io::Error) -> Misuse {
@@ -117,21 +113,21 @@ fn answer_here(rt: &HostRuntime, words: &[String]) -> ExitCode {
     let alloc = rt.alloc();
     let mute = is_silent(rt);
     let out = io::writer(rt);
-    let out = Advising::new(alloc, out, rt.stderr(), check_not_json().silent_if(mute));
-    let out = Advising::new(alloc, out, rt.stderr(), check_wrong_kind().silent_if(mute));
-    let out = Advising::new(alloc, out, rt.stderr(), check_not_text().silent_if(mute));
-    let out = Advising::new(alloc, out, rt.stderr(), check_folder().silent_if(mute));
-    let out = Advising::new(alloc, out, rt.stderr(), none_satisfies().silent_if(mute));
-    let out = Advising::new(alloc, out, rt.stderr(), build_errored().silent_if(mute));
-    let out = Advising::new(alloc, out, rt.stderr(), abort_asked().silent_if(mute));
+    let out = Advising::new(alloc, out, rt.stderr(), Topic::CheckNotJson, mute);
+    let out = Advising::new(alloc, out, rt.stderr(), Topic::CheckWrongKind, mute);
+    let out = Advising::new(alloc, out, rt.stderr(), Topic::CheckNotText, mute);
+    let out = Advising::new(alloc, out, rt.stderr(), Topic::CheckFolder, mute);
+    let out = Advising::new(alloc, out, rt.stderr(), Topic::NoneSatisfies, mute);
+    let out = Advising::new(alloc, out, rt.stderr(), Topic::BuildErrored, mute);
+    let out = Advising::new(alloc, out, rt.stderr(), Topic::AbortAsked, mute);
     let told = rt.stderr();
-    let told = Advising::new(alloc, told, rt.stderr(), step_not_json().silent_if(mute));
-    let told = Advising::new(alloc, told, rt.stderr(), step_wrong_kind().silent_if(mute));
-    let told = Advising::new(alloc, told, rt.stderr(), step_no_version().silent_if(mute));
-    let told = Advising::new(alloc, told, rt.stderr(), step_not_text().silent_if(mute));
-    let told = Advising::new(alloc, told, rt.stderr(), step_not_started().silent_if(mute));
-    let told = Advising::new(alloc, told, rt.stderr(), step_status().silent_if(mute));
-    let told = Advising::new(alloc, told, rt.stderr(), step_folder().silent_if(mute));
+    let told = Advising::new(alloc, told, rt.stderr(), Topic::StepNotJson, mute);
+    let told = Advising::new(alloc, told, rt.stderr(), Topic::StepWrongKind, mute);
+    let told = Advising::new(alloc, told, rt.stderr(), Topic::StepNoVersion, mute);
+    let told = Advising::new(alloc, told, rt.stderr(), Topic::StepNotText, mute);
+    let told = Advising::new(alloc, told, rt.stderr(), Topic::StepNotStarted, mute);
+    let told = Advising::new(alloc, told, rt.stderr(), Topic::StepStatus, mute);
+    let told = Advising::new(alloc, told, rt.stderr(), Topic::StepFolder, mute);
     answer_by(rt, words, out, told)
 }
 
