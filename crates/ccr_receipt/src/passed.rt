@@ -120,13 +120,16 @@ fn is_gate(
     }
 }
 
-#[tactic(auto, using(crate::proofs::Behind::next_behind))]
-fn bad_among(receipt: &Receipt, above: &[Build], build: &Build) -> Option<usize>
-    ensures { is_some result ≡ not (each_behind (is_gate receipt.now above.now build.now.inputs) [] build.now.gates) }
+fn bad_among(
+    receipt: &Receipt,
+    above: &[Build],
+    inputs: &[Input],
+    gates: &[Gate],
+) -> Option<usize>
+    ensures { is_some result ≡ not (each_behind (is_gate receipt.now above.now inputs.now) [] gates.now) }
 {
-    let gates: &[Gate] = &build.gates;
     for k in 0..gates.len() {
-        if !is_gate(receipt, above, &build.inputs, &gates[..k], &gates[k]) {
+        if !is_gate(receipt, above, inputs, &gates[..k], &gates[k]) {
             return Some(k);
         }
     }
@@ -140,5 +143,5 @@ pub(crate) fn bad_gate(receipt: &Receipt, above: &[Build], build: &Build) -> Opt
     if build.gates.len() > MOST_JOBS as usize {
         return Some(build.gates.len());
     }
-    bad_among(receipt, above, build)
+    bad_among(receipt, above, &build.inputs, &build.gates)
 }

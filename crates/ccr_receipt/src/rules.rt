@@ -28,7 +28,6 @@ fn is_resource(above: &[Resource], resource: &Resource) -> bool
 }
 
 /// The first resource that breaks a rule.
-#[tactic(auto, using(crate::proofs::Behind::next_behind))]
 pub(crate) fn bad_resource(resources: &[Resource]) -> Option<usize>
     ensures { is_some result ≡ not (are_resources resources.now) }
 {

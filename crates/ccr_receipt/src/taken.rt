@@ -64,7 +64,6 @@ fn is_input(versions: &[Version], earlier: &[Input], input: &Input) -> bool
         && are_distinct(&input.gates)
 }
 
-#[tactic(auto, using(crate::proofs::Behind::next_behind))]
 fn bad_among(versions: &[Version], inputs: &[Input]) -> Option<usize>
     ensures { is_some result ≡ not (each_behind (is_input versions.now) [] inputs.now) }
 {
@@ -84,10 +83,10 @@ fn bad_numbering(gates: usize, inputs: &[Input]) -> Option<usize>
     let mut at: usize = 0;
     let mut rest = inputs;
     while let [input, others @ ..] = rest {
-        match numbered(used, &input.gates) {
-            Some(after) => used = after,
-            None => return Some(at),
-        }
+        let Some(after) = numbered(used, &input.gates) else {
+            return Some(at);
+        };
+        used = after;
         at = at.saturating_add(1);
         rest = others;
     }

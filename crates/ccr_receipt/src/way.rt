@@ -89,13 +89,11 @@ fn bad_before(receipt: &Receipt, above: &[Build], build: &Build) -> Option<usize
     bad_line(receipt, above, build)
 }
 
-#[tactic(auto, using(crate::proofs::Behind::next_behind))]
-fn bad_among(receipt: &Receipt) -> Option<usize>
-    ensures { is_some result ≡ not (each_behind (stands_before receipt.now) [] receipt.now.before) }
+fn bad_among(receipt: &Receipt, builds: &[Build]) -> Option<usize>
+    ensures { is_some result ≡ not (each_behind (stands_before receipt.now) [] builds.now) }
 {
-    let before: &[Build] = &receipt.before;
-    for k in 0..before.len() {
-        if let Some(line) = bad_before(receipt, &before[..k], &before[k]) {
+    for k in 0..builds.len() {
+        if let Some(line) = bad_before(receipt, &builds[..k], &builds[k]) {
             return Some(line);
         }
     }
@@ -143,7 +141,7 @@ pub(crate) fn bad_way(receipt: &Receipt) -> Option<usize>
     if receipt.before.len() >= MOST_LISTED {
         return Some(own.line);
     }
-    if let Some(line) = bad_among(receipt) {
+    if let Some(line) = bad_among(receipt, &receipt.before) {
         return Some(line);
     }
     if let Some(line) = bad_line(receipt, &receipt.before, own) {

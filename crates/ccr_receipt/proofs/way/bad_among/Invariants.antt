@@ -4,4 +4,4 @@ use Rattle.ccr_receipt.specs.Way.{stands_before}
 use Rattle.ccr_receipt.proofs.way.bad_among.Given as goal
 
 abbrev pub invariant-loop-k : goal.invariant-loop-k
-invariant-loop-k l = each_behind (stands_before l.receipt) (take l.k l.before) (drop l.k l.before) ≡ each_behind (stands_before l.receipt) [] l.before
+invariant-loop-k l = each_behind (stands_before l.receipt) (take l.k l.builds) (drop l.k l.builds) ≡ each_behind (stands_before l.receipt) [] l.builds
