@@ -120,12 +120,7 @@ fn is_gate(
     }
 }
 
-fn bad_among(
-    receipt: &Receipt,
-    above: &[Build],
-    inputs: &[Input],
-    gates: &[Gate],
-) -> Option<usize>
+fn bad_among(receipt: &Receipt, above: &[Build], inputs: &[Input], gates: &[Gate]) -> Option<usize>
     ensures { is_some result ≡ not (each_behind (is_gate receipt.now above.now inputs.now) [] gates.now) }
 {
     for k in 0..gates.len() {

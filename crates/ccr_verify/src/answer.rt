@@ -75,3 +75,14 @@ fn standard_input_is_judged_to_its_end(rt: HostRuntime) -> Result<(), Fail> {
     assert!(rt; errors.is_empty());
     Ok(())
 }
+
+#[test]
+fn a_receipt_is_judged_as_one(rt: HostRuntime) -> Result<(), Fail> {
+    let input: Source<&[u8], &[u8]> = Source::Receipt(b"receipt 1\n".as_slice());
+    let mut out: Vec<u8> = Vec::new(rt.alloc());
+    let mut errors: Vec<u8> = Vec::new(rt.alloc());
+    answer(rt.alloc(), Ok(input), &mut out, &mut errors)?;
+    assert!(rt; out.as_slice() == b"refused: line 2\n".as_slice());
+    assert!(rt; errors.is_empty());
+    Ok(())
+}
