@@ -10,9 +10,6 @@ use crate::named::{put_gates, put_version};
 use crate::receipt::Receipt;
 use std::alloc::AllocError;
 
-/// What stands between two inputs.
-const AND: &str = " and ";
-
 fn put_place(out: &mut String, place: u32, known: u32) -> Result<(), AllocError>
     ensures { OnOk result (string_bytes out.new ≡ string_bytes out.old ++ place_words place known) }
 {
@@ -106,7 +103,7 @@ fn put_all(
     ) {
         out.push_str(front)?;
         put_took(out, receipt, input, limit, choice)?;
-        front = AND;
+        front = " and ";
         rest = others;
         held = more;
         left = further;
@@ -136,7 +133,7 @@ fn put_all_seen(out: &mut String, receipt: &Receipt) -> Result<(), AllocError>
     while let [input, others @ ..] = rest {
         out.push_str(front)?;
         put_seen(out, receipt, input)?;
-        front = AND;
+        front = " and ";
         rest = others;
     }
     Ok(())
