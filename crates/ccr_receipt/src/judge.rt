@@ -14,10 +14,6 @@ use crate::whole::read_receipt;
 use crate::words::put_first;
 use std::alloc::{AllocError, Global};
 
-/// What a receipt alone can't know.
-const HONEST: &str =
-    "said by the receipt alone: who made it, and that its history is the true and whole one, a signature and the archive say";
-
 /// What is said of a receipt.
 fn said(alloc: Global, receipt: &Receipt) -> Result<String, AllocError>
     ensures { IfOk result (λ s. string_bytes s ≡ receipt_words receipt.now) }
@@ -27,7 +23,7 @@ fn said(alloc: Global, receipt: &Receipt) -> Result<String, AllocError>
     out.push_str("\n")?;
     put_way(&mut out, receipt)?;
     out.push_str("\n")?;
-    out.push_str(HONEST)?;
+    out.push_str("said by the receipt alone: who made it, and that its history is the true and whole one, a signature and the archive say")?;
     Ok(out)
 }
 
