@@ -25,7 +25,7 @@ none_passes None true h e = refl
 none_passes None false h e = h
 
 -- the same bytes are one list
-same_bytes : (xs ys : List ℕ) → bytes_eq xs ys ≡ true → xs ≡ ys
+pub same_bytes : (xs ys : List ℕ) → bytes_eq xs ys ≡ true → xs ≡ ys
 same_bytes xs ys h = (bytes_eq-Decides xs ys).0 h
 
 -- the claim is the build's

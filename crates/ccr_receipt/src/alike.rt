@@ -16,10 +16,13 @@ fn are_pairs_of(known: u32, moved: &[(u32, u32)], pairs: &[(u32, u32)]) -> bool
     let mut rest = moved;
     while let [pair, others @ ..] = rest {
         if pair.0 < known {
-            match left {
-                [first, more @ ..] if first.0 == pair.0 && first.1 == pair.1 => left = more,
-                _ => return false,
+            let [first, more @ ..] = left else {
+                return false;
+            };
+            if first.0 != pair.0 || first.1 != pair.1 {
+                return false;
             }
+            left = more;
         }
         rest = others;
     }

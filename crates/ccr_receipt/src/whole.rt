@@ -1,6 +1,6 @@
 //! The receipt that a text stands for.
 
-ghost use Rattle.std.specs.Prelude.{◌≡◌, IfOk};
+ghost use Rattle.std.specs.Prelude.{◌≡◌, ◌≢◌, ◌++◌, ℕ, List, MatchOption, IsTrue, IfOk};
 ghost use Rattle.ccr_receipt.specs.ReceiptText.{receipt_text};
 ghost use Rattle.ccr_receipt.specs.Right.{IsReceipt};
 
@@ -52,6 +52,20 @@ fn first_difference(text: &[u8], other: &[u8]) -> usize {
     line
 }
 
+/// What stands in a text behind another, if it begins so.
+fn rest_behind<'a>(text: &'a [u8], front: &[u8]) -> Option<&'a [u8]>
+    ensures { MatchOption result ((rest : List ℕ) → text.now ≢ front.now ++ rest) (λ rest. text.now ≡ front.now ++ rest.now) }
+{
+    text.strip_prefix(front)
+}
+
+#[tactic(auto, using(crate::proofs::Checking::same_bytes))]
+fn is_same(text: &[u8], other: &[u8]) -> bool
+    ensures { IsTrue result → text.now ≡ other.now }
+{
+    text == other
+}
+
 /// Why what stands behind a receipt isn't its seal: the line, where it is none, or the digest.
 fn seal_fault(text: &[u8], rest: &[u8]) -> ReceiptFault {
     let lines = line_count(text);
@@ -76,13 +90,13 @@ pub fn read_receipt(alloc: Global, bytes: &[u8]) -> Result<Receipt, ReceiptFault
     let mut lines = Lines::new(bytes);
     let receipt = next_receipt(alloc, &mut lines)?;
     let text = body(alloc, &receipt)?;
-    let Some(rest) = bytes.strip_prefix(text.as_bytes()) else {
+    let Some(rest) = rest_behind(bytes, text.as_bytes()) else {
         let line = first_difference(bytes, text.as_bytes());
         return Err(ReceiptFault::BadLine(line));
     };
     check_receipt(&receipt)?;
     let seal = seal_line(alloc, text.as_str())?;
-    if rest != seal.as_bytes() {
+    if !is_same(rest, seal.as_bytes()) {
         return Err(seal_fault(bytes, rest));
     }
     Ok(receipt)
