@@ -1,4 +1,5 @@
 pub mod Behind
 pub mod Checking
 pub mod Choosing
+pub mod Ending
 pub mod Judging

@@ -68,6 +68,7 @@ fn bad_build(
 }
 
 /// How many lines of the problem's jobs stand before the first build that isn't alike.
+#[tactic(auto, using(crate::proofs::Ending::alike_none, crate::proofs::Ending::alike_end))]
 pub(crate) fn bad_job(
     listed: &[Build],
     known: u32,

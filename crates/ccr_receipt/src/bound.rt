@@ -57,6 +57,7 @@ fn is_limit(input: &Input, limit: &Limit) -> bool
 }
 
 /// The first limit that isn't one of the input with its number; how many there are in common, where there are more of one.
+#[tactic(auto, using(crate::proofs::Ending::limits_none, crate::proofs::Ending::limits_end))]
 pub(crate) fn bad_limit(inputs: &[Input], limits: &[Limit]) -> Option<usize>
     ensures { is_some result ≡ not (are_limits inputs.now limits.now) }
 {
@@ -131,6 +132,7 @@ fn is_bound(input: &Input, limit: &Limit, choices: &ccr_choice::Input) -> bool
 }
 
 /// The first of the problem's inputs that isn't the receipt's; how many there are in common, where there are more of one.
+#[tactic(auto, using(crate::proofs::Ending::bound_none, crate::proofs::Ending::bound_end, crate::proofs::Ending::bound_unheld))]
 pub(crate) fn bad_bound(
     inputs: &[Input],
     limits: &[Limit],

@@ -18,6 +18,7 @@ use ccr_choice::JobBuilds;
 use ccr_proof::Claim;
 
 /// Whether these places are those that inputs took.
+#[tactic(auto, using(crate::proofs::Ending::same_none, crate::proofs::Ending::same_end))]
 fn are_places_of(inputs: &[Input], places: &[u32]) -> bool
     ensures { result ≡ bytes_eq places.now (map (λ i. i.place) inputs.now) }
 {
@@ -34,6 +35,7 @@ fn are_places_of(inputs: &[Input], places: &[u32]) -> bool
 }
 
 /// Whether these numbers are those of gates.
+#[tactic(auto, using(crate::proofs::Ending::same_none, crate::proofs::Ending::same_end))]
 fn are_numbers_of(gates: &[Gate], numbers: &[u32]) -> bool
     ensures { result ≡ bytes_eq numbers.now (map (λ g. g.number) gates.now) }
 {

@@ -23,7 +23,9 @@ fn said(alloc: Global, receipt: &Receipt) -> Result<String, AllocError>
     out.push_str("\n")?;
     put_way(&mut out, receipt)?;
     out.push_str("\n")?;
-    out.push_str("said by the receipt alone: who made it, and that its history is the true and whole one, a signature and the archive say")?;
+    out.push_str(
+        "said by the receipt alone: who made it, and that its history is the true and whole one, a signature and the archive say",
+    )?;
     Ok(out)
 }
 

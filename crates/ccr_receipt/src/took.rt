@@ -85,6 +85,7 @@ fn put_took(
     out.push_str(")")
 }
 
+#[tactic(auto, using(crate::proofs::Ending::took_none, crate::proofs::Ending::took_unheld, crate::proofs::Ending::took_end))]
 fn put_all(
     out: &mut String,
     receipt: &Receipt,
