@@ -1,4 +1,3 @@
-pub mod Joined
 pub mod SameNames
 pub mod Hunts
 pub mod Jobs

@@ -20,7 +20,7 @@ use serde_json::Value;
 use std::alloc::{AllocError, Global};
 
 /// Adds what is no list at a key of the pipeline, and a list that is too long.
-#[tactic(auto, using(crate::proofs::Joined::and_none), unfolding(ccr_pipeline::specs::JobRules::list_rule))]
+#[tactic(auto, using(crate::proofs::Lists::and_none), unfolding(ccr_pipeline::specs::JobRules::list_rule))]
 fn find_length(out: &mut Present, pipeline: &Value, key: &str) -> Added
     ensures { OnOk result (out.new ≡ out.old ++ list_rule key.now (view pipeline.now)) }
 {

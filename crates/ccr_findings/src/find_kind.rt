@@ -11,7 +11,7 @@ use ccr_pipeline::schema::Kind;
 use ccr_pipeline::{Cursor, Place, Rule, is_empty, is_name};
 use serde_json::Value;
 
-#[tactic(auto, using(std::proofs::Common::append_assoc, crate::proofs::Joined::and_none))]
+#[tactic(auto, using(std::proofs::Common::append_assoc, crate::proofs::Lists::and_none))]
 fn find_texts(out: &mut Present, list: &[Value], place: &Place) -> Added
     ensures { OnOk result (out.new ≡ out.old ++ broken_texts (path_of place.now) 0 (items_view list.now)) }
 {
@@ -21,7 +21,7 @@ fn find_texts(out: &mut Present, list: &[Value], place: &Place) -> Added
     Ok(())
 }
 
-#[tactic(auto, using(std::proofs::Common::append_assoc, crate::proofs::Joined::and_none))]
+#[tactic(auto, using(std::proofs::Common::append_assoc, crate::proofs::Lists::and_none))]
 fn find_pin(out: &mut Present, found: &Cursor) -> Added
     ensures { OnOk result (out.new ≡ out.old ++ here broken_pin found.now) }
 {
@@ -36,7 +36,7 @@ fn find_pin(out: &mut Present, found: &Cursor) -> Added
 }
 
 /// Adds what keeps a value from being of a kind. In the objects that it holds nothing is tested.
-#[tactic(auto, using(crate::proofs::Joined::and_none), unfolding(ccr_pipeline::specs::Objects::broken))]
+#[tactic(auto, using(crate::proofs::Lists::and_none), unfolding(ccr_pipeline::specs::Objects::broken))]
 pub(crate) fn find_broken(out: &mut Present, kind: Kind, found: &Cursor) -> Added
     ensures { OnOk result (out.new ≡ out.old ++ here (broken kind) found.now) }
 {

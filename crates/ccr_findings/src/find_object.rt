@@ -15,7 +15,7 @@ use serde_json::Value;
 use std::alloc::Global;
 
 /// Adds a path other than the artifact's name.
-#[tactic(auto, using(crate::proofs::Joined::and_none))]
+#[tactic(auto, using(crate::proofs::Lists::and_none))]
 fn find_own_name(out: &mut Present, whole: &Value, found: &Cursor) -> Added
     ensures { OnOk result
         (out.new ≡ out.old ++ own_name (path_to found.now) (view whole.now) (data_of found.now)) }
@@ -27,7 +27,7 @@ fn find_own_name(out: &mut Present, whole: &Value, found: &Cursor) -> Added
 }
 
 /// Adds what an absent key breaks.
-#[tactic(auto, using(crate::proofs::Joined::and_none))]
+#[tactic(auto, using(crate::proofs::Lists::and_none))]
 fn find_absent(out: &mut Present, need: Need, place: &Place) -> Added
     ensures { OnOk result (out.new ≡ out.old ++ absent need (path_of place.now)) }
 {
@@ -38,7 +38,7 @@ fn find_absent(out: &mut Present, need: Need, place: &Place) -> Added
 }
 
 /// Adds a text that an earlier object has, if none may, and adds it to theirs.
-#[tactic(auto, using(crate::proofs::Joined::and_none))]
+#[tactic(auto, using(crate::proofs::Lists::and_none))]
 fn find_once(out: &mut Present, need: Need, names: &mut Seen, found: &Cursor) -> Added
     ensures found { OnOk result (out.new ≡ out.old ++ here (once need names.old) found.now) }
     ensures added { OnOk result (names.new ≡ names.old ++ once_names need (data_of found.now)) }
@@ -54,7 +54,7 @@ fn find_once(out: &mut Present, need: Need, names: &mut Seen, found: &Cursor) ->
 }
 
 #[cycle(finds)]
-#[tactic(auto, using(crate::proofs::Joined::and_none))]
+#[tactic(auto, using(crate::proofs::Lists::and_none))]
 fn find_inside(
     alloc: Global,
     out: &mut Present,

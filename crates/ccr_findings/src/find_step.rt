@@ -61,7 +61,7 @@ pub(crate) fn find_opening(
 }
 
 /// Adds attempts that aren't from 1 to 100, or that come to more than 10,000 with those of the steps around.
-#[tactic(auto, using(crate::proofs::Joined::and_none))]
+#[tactic(auto, using(crate::proofs::Lists::and_none))]
 fn find_attempts(out: &mut Present, step: &Cursor, tries: u64) -> Added
     ensures { OnOk result (out.new ≡ out.old ++ attempts_faults (path_to step.now) tries (data_of step.now)) }
 {
@@ -78,7 +78,7 @@ fn find_attempts(out: &mut Present, step: &Cursor, tries: u64) -> Added
     }
 }
 
-#[tactic(auto, using(crate::proofs::Joined::and_none))]
+#[tactic(auto, using(crate::proofs::Lists::and_none))]
 fn find_parallel_rest(alloc: Global, out: &mut Present, step: &Cursor) -> Added
     ensures { OnOk result (out.new ≡ out.old ++ here parallel_rest step.now) }
 {
@@ -98,7 +98,7 @@ pub(crate) fn find_closing(alloc: Global, out: &mut Present, step: &Cursor, trie
 }
 
 /// Adds the resource of a get or put, if it isn't there.
-#[tactic(auto, using(crate::proofs::Joined::and_none), unfolding(ccr_pipeline::specs::Unknown::unknown_resource))]
+#[tactic(auto, using(crate::proofs::Lists::and_none), unfolding(ccr_pipeline::specs::Unknown::unknown_resource))]
 fn find_resource(out: &mut Present, resources: &Seen, step: &Cursor) -> Added
     ensures { OnOk result (out.new ≡ out.old ++ here (unknown_resource resources.now) step.now) }
 {
@@ -116,7 +116,7 @@ fn find_resource(out: &mut Present, resources: &Seen, step: &Cursor) -> Added
 }
 
 /// Adds the texts of a list that are no jobs.
-#[tactic(auto, using(std::proofs::Common::append_assoc, crate::proofs::Joined::and_none))]
+#[tactic(auto, using(std::proofs::Common::append_assoc, crate::proofs::Lists::and_none))]
 fn find_texts(out: &mut Present, jobs: &Seen, list: &[Value], place: &Place) -> Added
     ensures { OnOk result (out.new ≡ out.old ++ unknown_texts jobs.now (path_of place.now) 0 (items_view list.now)) }
 {
@@ -129,7 +129,7 @@ fn find_texts(out: &mut Present, jobs: &Seen, list: &[Value], place: &Place) -> 
 }
 
 /// Adds the jobs that a get names in `passed` and that aren't there.
-#[tactic(auto, using(crate::proofs::Joined::and_none), unfolding(ccr_pipeline::specs::Unknown::unknown_passed))]
+#[tactic(auto, using(crate::proofs::Lists::and_none), unfolding(ccr_pipeline::specs::Unknown::unknown_passed))]
 fn find_passed(out: &mut Present, jobs: &Seen, step: &Cursor) -> Added
     ensures { OnOk result (out.new ≡ out.old ++ here (unknown_passed jobs.now) step.now) }
 {

@@ -43,7 +43,7 @@ impl Present {
     }
 
     /// Adds the fault that is present where a test of the value at a place failed.
-    #[tactic(auto, using(crate::proofs::Joined::and_none))]
+    #[tactic(auto, using(crate::proofs::Lists::and_none))]
     pub(crate) fn require(&mut self, place: &Place, holds: bool, rule: Rule) -> Added
         ensures { OnOk result (self.new ≡ self.old ++ unless holds rule (path_of place.now)) }
     {
@@ -56,7 +56,7 @@ impl Present {
     }
 
     /// Adds the faults of another list behind its own.
-    #[tactic(auto, using(std::proofs::Common::append_assoc, crate::proofs::Joined::and_none))]
+    #[tactic(auto, using(std::proofs::Common::append_assoc, crate::proofs::Lists::and_none))]
     pub(crate) fn append(&mut self, others: Present) -> Added
         ensures { OnOk result (self.new ≡ self.old ++ others) }
     {

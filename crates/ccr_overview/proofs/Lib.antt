@@ -1,5 +1,8 @@
+pub mod Clashing
 pub mod Digits
+pub mod Drawing
 pub mod Fields
+pub mod Firsts
 pub mod Going
 pub mod Joining
 pub mod Paging

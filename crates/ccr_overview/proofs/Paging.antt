@@ -1,11 +1,15 @@
 -- The page of a core.
-use Rattle.std.proofs.Common.{◌≡◌, ◌≤◌, ◌+◌, ℕ, suc, List, [], ◌∷◌, ◌++◌, length, Option, Some, None, Result, Ok, Err, IfOk, refl, sym, ap, ◌∙◌, subst, arith, length-append}
+use Rattle.std.proofs.Common.{◌≡◌, ◌≤◌, ◌+◌, ℕ, suc, List, [], ◌∷◌, ◌++◌, length, map, Option, Some, None, Result, Ok, Err, IfOk, refl, sym, ap, ◌∙◌, subst, arith, length-append}
+use Rattle.std.proofs.lemmas.List.{length-map}
 use Rattle.ccr_history.specs.History.{HistoryData}
 use Rattle.ccr_pipeline.specs.JobData.{JobData}
 use Rattle.ccr_pipeline.specs.Pipelines.{PipelineData}
 use Rattle.ccr_lines.specs.Each.{AreEach}
-use Rattle.ccr_overview.specs.Overviews.{OptionsData, page_with, IsPageOf, IsPageIn}
-use Rattle.ccr_overview.specs.PageData.{PageData}
+use Rattle.ccr_page.specs.declared.data.Page.{Page}
+use Rattle.ccr_overview.specs.Each.{each_from}
+use Rattle.ccr_overview.specs.Overviews.{OptionsData, job_shown, page_with, scene_of, IsPageOf, IsPageIn}
+use Rattle.ccr_overview.specs.PageData.{PageData, page_data, page_job_data, page_resource_data}
+use Rattle.ccr_overview.specs.PageResources.{resource_shown}
 use Rattle.ccr_overview.specs.Scenes.{ToldData, SceneData, row_count, IsTold, AreTold}
 
 -- the scene with these parts
@@ -47,3 +51,38 @@ pub page_told : {E X : Type 0} (f : X → PageData) (r : Result X E) (o : Option
     → IfOk r (λ x. f x ≡ page_with o (scene_with p g rows told)) → IfOk r (λ x. IsPageOf o p h budget (f x))
 page_told f (Ok x) o p h g budget rows told same count are is = page_so o p h g budget rows told (f x) same count are is
 page_told f (Err e) o p h g budget rows told same count are is = tt
+
+-- ---- how many there are
+-- each job is shown once
+shown_long : (s : SceneData) (k : ℕ) (ts : List ToldData) → length (each_from (job_shown s) k ts) ≡ length ts
+shown_long s k [] = refl
+shown_long s k (t ∷ ts) = ap suc (shown_long s (k + 1) ts)
+
+-- a page has few resources and jobs, where its pipeline has few
+few_of : (page : Page) (o : OptionsData) (p : PipelineData) (h : HistoryData) (budget : ℕ)
+    → length p.resources ≤ 200 → length p.jobs ≤ 200 → IsPageOf o p h budget (page_data page)
+    → length page.resources.items + length page.jobs.items ≤ 400
+few_of page o p h budget rs js of =
+    let told = of.0 in
+    let s = scene_of p h told in
+    let all : length (map page_resource_data page.resources.items) ≡ length (map (resource_shown h) p.resources) = ap (λ x. length x.resources) of.2 in
+    let each : length (map page_job_data page.jobs.items) ≡ length (each_from (job_shown s) 0 told) = ap (λ x. length x.jobs) of.2 in
+    omega (
+      arith,
+      rs,
+      js,
+      all,
+      each,
+      length-map page.resources.items page_resource_data,
+      length-map p.resources (resource_shown h),
+      length-map page.jobs.items page_job_data,
+      shown_long s 0 told,
+      told_long p h budget told of.1,
+    )
+
+-- the same of a page that is made, if it is
+pub few_told : {E : Type 0} (r : Result Page E) (o : OptionsData) (p : PipelineData) (h : HistoryData) (budget : ℕ)
+    → length p.resources ≤ 200 → length p.jobs ≤ 200 → IfOk r (λ page. IsPageOf o p h budget (page_data page))
+    → IfOk r (λ page. length page.resources.items + length page.jobs.items ≤ 400)
+few_told (Ok page) o p h budget rs js of = few_of page o p h budget rs js of
+few_told (Err e) o p h budget rs js of = tt

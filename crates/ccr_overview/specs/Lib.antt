@@ -1,5 +1,7 @@
 pub mod Abouts
 pub mod Arrows
+pub mod Clashes
+pub mod Drawn
 pub mod Each
 pub mod Holds
 pub mod Linked
@@ -14,3 +16,4 @@ pub mod Scenes
 pub mod Sentences
 pub mod Shorts
 pub mod Stopping
+pub mod Waits

@@ -19,10 +19,12 @@ use Rattle.ccr_overview.specs.Scenes.{ToldData, SceneData, row_count, AreTold}
 use Rattle.ccr_overview.specs.Sentences.{why_of}
 
 -- ---- what is asked
--- the heading, when the page is made, after how many seconds it is to be read again, and where the logs are
+-- the heading, when the page is made, what runs right now, after how many seconds it is to be read again, and where the logs
+-- are
 pub record OptionsData : Type 0 where
   pub title : Text
-  pub made : Text
+  pub made : Option Text
+  pub now : Option Text
   pub refresh : Option ℕ
   pub logs : Option Text
 
@@ -30,7 +32,8 @@ pub record OptionsData : Type 0 where
 abbrev pub options_data : Options → OptionsData
 options_data o = record {
   title = string_bytes o.title;
-  made = string_bytes o.made;
+  made = option_map string_bytes o.made;
+  now = option_map string_bytes o.now;
   refresh = o.refresh;
   logs = option_map string_bytes o.logs;
 }
@@ -67,6 +70,7 @@ abbrev pub page_with : OptionsData → SceneData → PageData
 page_with o s = record {
   title = o.title;
   made = o.made;
+  now = o.now;
   refresh = o.refresh;
   logs = o.logs;
   has_pipeline = true;
@@ -81,6 +85,7 @@ abbrev pub page_without : OptionsData → PageData
 page_without o = record {
   title = o.title;
   made = o.made;
+  now = o.now;
   refresh = o.refresh;
   logs = o.logs;
   has_pipeline = false;

@@ -166,7 +166,8 @@ page_resource_data r = record {
 -- a page
 pub record PageData : Type 0 where
   pub title : Text
-  pub made : Text
+  pub made : Option Text
+  pub now : Option Text
   pub refresh : Option ℕ
   pub logs : Option Text
   pub has_pipeline : Bool
@@ -179,7 +180,8 @@ pub record PageData : Type 0 where
 abbrev pub page_data : Page → PageData
 page_data p = record {
   title = string_bytes p.title;
-  made = string_bytes p.made;
+  made = option_map string_bytes p.made;
+  now = option_map string_bytes p.now;
   refresh = p.refresh;
   logs = option_map string_bytes p.logs;
   has_pipeline = p.has_pipeline;

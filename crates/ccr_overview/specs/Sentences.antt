@@ -11,7 +11,6 @@ use Rattle.ccr_pipeline.specs.Inputs.{InputData, inputs}
 use Rattle.ccr_pipeline.specs.JobData.{JobData}
 use Rattle.ccr_lines.specs.ExplainedData.{TakenData, ExplainedData}
 use Rattle.ccr_lines.specs.Lines.{status_word}
-use Rattle.ccr_lines.specs.Outlooks.{outlook_words}
 use Rattle.ccr_lines.specs.declared.outlook.Outlook.{Outlook}
 use Rattle.ccr_lines.specs.declared.outlook.Outlook.TheVariants.{Due, NothingNew, ByCommandOnly, NoneSatisfies, OverBudget}
 use Rattle.ccr_page.specs.declared.data.Urgency.{Urgency}
@@ -24,6 +23,7 @@ use Rattle.ccr_overview.specs.PageRows.{used_for}
 use Rattle.ccr_overview.specs.Scenes.{SceneData, ToldData}
 use Rattle.ccr_overview.specs.Shorts.{version_there}
 use Rattle.ccr_overview.specs.Holds.{HoldData, resource_words, hold_words, holds, worst, told_holds}
+use Rattle.ccr_overview.specs.Waits.{none_words}
 
 -- ---- the next build
 -- the newest build of the job at a position
@@ -48,13 +48,12 @@ abbrev pub due_words : List TakenData → List WordData
 due_words ts = due_of (only ts)
 
 -- that there is no choice of versions, and why
-abbrev pub none_words : Option Text → List WordData
-none_words None = Plain (codes "can't be built") ∷ []
-none_words (Some words) = Plain (codes "can't be built: ") ∷ Cut words 400 ∷ []
+abbrev pub none_why : SceneData → ToldData → WhyData
+none_why s t = record { urgency = urgency.Stopped; words = none_words s (inputs t.job.plan) t.explained.why }
 
 -- that the search went over the budget
-abbrev pub budget_words : Outlook → List WordData
-budget_words o = Plain (codes "isn't decided: " ++ outlook_words o) ∷ []
+abbrev pub budget_words : List WordData
+budget_words = Plain (codes "isn't decided: the search goes over the budget; --budget N allows more") ∷ []
 
 -- ---- what holds it
 -- the words before what holds an input: the first, and each other
@@ -148,9 +147,8 @@ abbrev pub outlook_why : SceneData → ℕ → ToldData → Option BuildData →
 outlook_why s k t newest Due = Some (record { urgency = urgency.Going; words = due_words t.explained.inputs })
 outlook_why s k t newest NothingNew = standing_why s k t true newest
 outlook_why s k t newest ByCommandOnly = standing_why s k t false newest
-outlook_why s k t newest NoneSatisfies = Some (record { urgency = urgency.Stopped; words = none_words t.explained.why })
-outlook_why s k t newest (OverBudget n) =
-    Some (record { urgency = urgency.Stopped; words = budget_words (OverBudget n) })
+outlook_why s k t newest NoneSatisfies = Some (none_why s t)
+outlook_why s k t newest (OverBudget n) = Some (record { urgency = urgency.Stopped; words = budget_words })
 
 -- the same, unless its newest build runs
 abbrev pub status_why : SceneData → ℕ → ToldData → BuildData → Status → Option WhyData

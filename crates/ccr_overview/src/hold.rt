@@ -1,18 +1,22 @@
-//! What holds an input of a job at an older version than there is, in the words of `explain`.
+//! What holds an input of a job at an older version than there is, by what `explain` says.
 ghost use Rattle.std.specs.Prelude.{◌≡◌, ◌++◌, ◌∷◌, [], if◌then◌else◌, map, option_map, IfOk, OnOk};
+ghost use Rattle.std.specs.List.{list_any};
 ghost use Rattle.std.specs.Option.{option_copied};
 ghost use Rattle.ccr_history.specs.Builds.{is_running};
 ghost use Rattle.ccr_lines.specs.JobsJson.{is_due};
+ghost use Rattle.ccr_lines.specs.Releases.{is_pair};
 ghost use Rattle.ccr_lines.specs.Stops.{stop_data};
 ghost use Rattle.ccr_page.specs.Statuses.{urgency_rank, is_as_urgent};
-ghost use Rattle.ccr_overview.specs.Holds.{stands_said, stop_words, reason_words, is_held_words, is_due_job, goes_on, reason_urgency, hold_data, hold_of, hold_in, holds, resource_words, versions_words, hold_words, has_urgency, worst, urgent_ones};
-ghost use Rattle.ccr_overview.specs.PageData.{word_data};
+ghost use Rattle.ccr_overview.specs.Holds.{refused, stands_said, takes_pair, refuses_pair, takes_due, has_due, has_refused, unbuilt_said, stop_words, is_pinned_words, unmet_words, other_words, reason_words, is_held_words, is_due_job, goes_on, reason_urgency, hold_data, hold_of, hold_in, holds, resource_words, hold_words, has_urgency, worst, urgent_ones};
+ghost use Rattle.ccr_overview.specs.PageData.{Plain, word_data};
 ghost use Rattle.ccr_overview.specs.Scenes.{told_data, scene_data};
+ghost use Rattle.ccr_overview.specs.Stopping.{pair_of};
 
+use crate::clash::behind_clash;
 use crate::linked::{push_build, push_job};
 use crate::scene::{Scene, Told};
 use crate::short::push_version;
-use crate::stopping::stop_said;
+use crate::stopping::{is_same, pair_of, stop_said};
 use crate::word::{push_name, push_plain, push_text};
 use ccr_history::Status;
 use ccr_lines::{Outlook, Refusal, Stop, Taken};
@@ -31,31 +35,127 @@ pub(crate) struct Hold<'t> {
     pub(crate) urgency: Urgency,
 }
 
-// ---- the reason
+// ---- where it stopped
 
-/// How a build stands that has a version, behind its number.
+/// How a build stands that has a version, between the two.
 fn stands_said(status: Status) -> &'static str
     ensures { result.now ≡ stands_said status }
 {
     match status {
-        Status::Running => " runs",
-        Status::Succeeded => " succeeded without it",
-        Status::Failed => " failed",
-        Status::Errored => " errored",
-        Status::Aborted => " aborted",
+        Status::Running => " is running with ",
+        Status::Succeeded => " succeeded without ",
+        Status::Failed => " failed on ",
+        Status::Errored => " errored on ",
+        Status::Aborted => " aborted on ",
     }
 }
 
-/// Adds where a version stopped.
+/// Whether an input takes a pair of scope and place.
+fn takes_pair(scene: &Scene<'_>, pair: (u32, u32), taken: &Taken) -> bool
+    ensures { result ≡ takes_pair (scene_data scene.now) pair taken.now }
+{
+    is_same(pair, pair_of(scene, taken, taken.place))
+}
+
+/// Whether a pair of scope and place is one of these that an input doesn't take.
+fn is_among(scene: &Scene<'_>, pair: (u32, u32), taken: &Taken, newer: &[Refusal]) -> bool
+    ensures { let s = scene_data scene.now in result
+        ≡ list_any (λ r. is_pair pair (pair_of s taken.now r.place)) newer.now }
+{
+    for refusal in newer {
+        if is_same(pair, pair_of(scene, taken, refusal.place)) {
+            return true;
+        }
+    }
+    false
+}
+
+/// Whether an input says why it doesn't take a pair of scope and place, which is newer than what it takes.
+fn refuses_pair(scene: &Scene<'_>, pair: (u32, u32), taken: &Taken) -> bool
+    ensures { result ≡ refuses_pair (scene_data scene.now) pair taken.now }
+{
+    is_among(scene, pair, taken, &taken.newer)
+}
+
+/// Whether one of these inputs takes a pair of scope and place.
+fn has_taker(scene: &Scene<'_>, pair: (u32, u32), inputs: &[Taken]) -> bool
+    ensures { result ≡ list_any (takes_pair (scene_data scene.now) pair) inputs.now }
+{
+    for taken in inputs {
+        if takes_pair(scene, pair, taken) {
+            return true;
+        }
+    }
+    false
+}
+
+/// Whether one of these inputs says why it doesn't take a pair of scope and place.
+fn has_refuser(scene: &Scene<'_>, pair: (u32, u32), inputs: &[Taken]) -> bool
+    ensures { result ≡ list_any (refuses_pair (scene_data scene.now) pair) inputs.now }
+{
+    for taken in inputs {
+        if refuses_pair(scene, pair, taken) {
+            return true;
+        }
+    }
+    false
+}
+
+/// Whether a job is due with a pair of scope and place.
+fn takes_due(scene: &Scene<'_>, pair: (u32, u32), told: &Told<'_>) -> bool
+    ensures { result ≡ takes_due (scene_data scene.now) pair (told_data told.now) }
+{
+    is_due(told.explained.outlook) && has_taker(scene, pair, &told.explained.inputs)
+}
+
+/// Whether one of these is the job of a name, and due with a pair of scope and place.
+fn has_due(scene: &Scene<'_>, all: &[Told<'_>], name: &str, pair: (u32, u32)) -> bool
+    ensures { result ≡ has_due (scene_data scene.now) name.now pair (map told_data all.now) }
+{
+    for it in all {
+        if name == it.job.name.as_str() && takes_due(scene, pair, it) {
+            return true;
+        }
+    }
+    false
+}
+
+/// Whether one of these is the job of a name, and has an input that says why it doesn't take a pair of scope and place.
+fn has_refused(scene: &Scene<'_>, all: &[Told<'_>], name: &str, pair: (u32, u32)) -> bool
+    ensures { result ≡ has_refused (scene_data scene.now) name.now pair (map told_data all.now) }
+{
+    for it in all {
+        if name == it.job.name.as_str() && has_refuser(scene, pair, &it.explained.inputs) {
+            return true;
+        }
+    }
+    false
+}
+
+/// How the job of a name stands to a version that no build of it has, between the two.
+fn unbuilt_said(scene: &Scene<'_>, name: &str, pair: (u32, u32)) -> &'static str
+    ensures { result.now ≡ unbuilt_said (scene_data scene.now) name.now pair }
+{
+    if has_due(scene, scene.told, name, pair) {
+        " is due with "
+    } else if has_refused(scene, scene.told, name, pair) {
+        " doesn't take "
+    } else {
+        " hasn't built "
+    }
+}
+
+/// Adds where a version stopped, up to the version.
 fn push_stop(
     alloc: Global,
     out: &mut Vec<Word>,
     scene: &Scene<'_>,
+    pair: (u32, u32),
     job: &str,
     build: Option<(u32, Status)>,
 ) -> Result<(), AllocError>
     ensures { OnOk result (map word_data out.new.items
-        ≡ map word_data out.old.items ++ stop_words (scene_data scene.now) job.now build) }
+        ≡ map word_data out.old.items ++ stop_words (scene_data scene.now) pair job.now build) }
 {
     match build {
         Some((number, status)) => {
@@ -63,26 +163,101 @@ fn push_stop(
             push_plain(alloc, out, stands_said(status))
         }
         None => {
-            push_plain(alloc, out, "not built by ")?;
-            push_job(alloc, out, scene, job)
+            push_job(alloc, out, scene, job)?;
+            push_plain(alloc, out, unbuilt_said(scene, job, pair))
         }
     }
 }
 
-/// Adds why an input doesn't take a place: where it stopped, or these words.
+// ---- the reason
+
+/// Whether these words say that a pin leaves out a version.
+fn is_pinned_words(words: &str) -> bool
+    ensures { result ≡ is_pinned_words words.now }
+{
+    words == "pinned by pin-resource"
+        || words == "pinned by the resource"
+        || words == "pinned by the get"
+}
+
+/// Adds a version, and words behind it.
+fn push_behind(
+    alloc: Global,
+    out: &mut Vec<Word>,
+    refusal: &Refusal,
+    words: &str,
+) -> Result<(), AllocError>
+    ensures { OnOk result (map word_data out.new.items
+        ≡ map word_data out.old.items ++ refused refusal.now ∷ Plain words.now ∷ []) }
+{
+    push_version(alloc, out, refusal.version.as_ref(), refusal.place)?;
+    push_plain(alloc, out, words)
+}
+
+/// Between a version and demands that exclude each other.
+const UNMET: &str = " can't be taken, since these can't all hold: ";
+
+/// Adds a version, and demands that exclude each other, if there are any, or else words.
+fn push_unmet(
+    alloc: Global,
+    out: &mut Vec<Word>,
+    refusal: &Refusal,
+    demands: Option<&str>,
+) -> Result<(), AllocError>
+    ensures { OnOk result (map word_data out.new.items ≡ map word_data out.old.items
+        ++ unmet_words (refused refusal.now) (refusal.now).words (option_map (λ d. d.now) demands.entry)) }
+{
+    match demands {
+        Some(demands) => {
+            push_behind(alloc, out, refusal, UNMET)?;
+            push_text(alloc, out, demands, 200)
+        }
+        None => {
+            push_behind(alloc, out, refusal, ": ")?;
+            push_text(alloc, out, refusal.words.as_str(), 200)
+        }
+    }
+}
+
+/// Adds a version that an input doesn't take, by the words of `explain`.
+fn push_other(alloc: Global, out: &mut Vec<Word>, refusal: &Refusal) -> Result<(), AllocError>
+    ensures { OnOk result (map word_data out.new.items
+        ≡ map word_data out.old.items ++ other_words (refused refusal.now) (refusal.now).words) }
+{
+    let words = refusal.words.as_str();
+    if words == "disabled" {
+        return push_behind(alloc, out, refusal, " is disabled");
+    }
+    if words == "others come first" {
+        return push_behind(alloc, out, refusal, " has its turn later");
+    }
+    if is_pinned_words(words) {
+        push_plain(alloc, out, "a pin leaves out ")?;
+        return push_version(alloc, out, refusal.version.as_ref(), refusal.place);
+    }
+    push_unmet(alloc, out, refusal, behind_clash(words))
+}
+
+/// Adds why an input doesn't take a place: where it stopped, or else what `explain` says.
 fn push_reason(
     alloc: Global,
     out: &mut Vec<Word>,
     scene: &Scene<'_>,
-    words: &str,
+    taken: &Taken,
+    refusal: &Refusal,
     found: Option<&Stop>,
 ) -> Result<(), AllocError>
-    ensures { OnOk result (map word_data out.new.items ≡ map word_data out.old.items
-        ++ reason_words (scene_data scene.now) words.now (option_map stop_data (option_copied found.entry))) }
+    ensures { let stop = option_map stop_data (option_copied found.entry) in
+        OnOk result (map word_data out.new.items
+        ≡ map word_data out.old.items ++ reason_words (scene_data scene.now) taken.now refusal.now stop) }
 {
     match found {
-        Some(stop) => push_stop(alloc, out, scene, stop.job.as_str(), stop.build),
-        None => push_text(alloc, out, words, 200),
+        Some(stop) => {
+            let pair = pair_of(scene, taken, refusal.place);
+            push_stop(alloc, out, scene, pair, stop.job.as_str(), stop.build)?;
+            push_version(alloc, out, refusal.version.as_ref(), refusal.place)
+        }
+        None => push_other(alloc, out, refusal),
     }
 }
 
@@ -92,11 +267,7 @@ fn push_reason(
 fn is_held_words(words: &str) -> bool
     ensures { result ≡ is_held_words words.now }
 {
-    words == "disabled"
-        || words == "others come first"
-        || words == "pinned by pin-resource"
-        || words == "pinned by the resource"
-        || words == "pinned by the get"
+    words == "disabled" || words == "others come first" || is_pinned_words(words)
 }
 
 /// Whether a schedule would make a build.
@@ -242,23 +413,7 @@ pub(crate) fn push_resource(
     push_plain(alloc, out, " ")
 }
 
-/// Adds what an input takes, and a newer version that it doesn't take.
-fn push_versions(
-    alloc: Global,
-    out: &mut Vec<Word>,
-    taken: &Taken,
-    refusal: &Refusal,
-) -> Result<(), AllocError>
-    ensures { OnOk result (map word_data out.new.items
-        ≡ map word_data out.old.items ++ versions_words taken.now refusal.now) }
-{
-    push_version(alloc, out, taken.version.as_ref(), taken.place)?;
-    push_plain(alloc, out, ", not ")?;
-    push_version(alloc, out, refusal.version.as_ref(), refusal.place)?;
-    push_plain(alloc, out, ": ")
-}
-
-/// Adds what holds an input.
+/// Adds what an input takes, and why nothing newer.
 pub(crate) fn push_hold_words(
     alloc: Global,
     out: &mut Vec<Word>,
@@ -270,16 +425,10 @@ pub(crate) fn push_hold_words(
         ≡ map word_data out.old.items ++ hold_words (scene_data scene.now) several (hold_data hold.now)) }
 {
     let taken = hold.taken;
-    let refusal = hold.refusal;
     push_resource(alloc, out, several, taken.resource.as_str())?;
-    push_versions(alloc, out, taken, refusal)?;
-    push_reason(
-        alloc,
-        out,
-        scene,
-        refusal.words.as_str(),
-        hold.stop.as_ref(),
-    )
+    push_version(alloc, out, taken.version.as_ref(), taken.place)?;
+    push_plain(alloc, out, ": ")?;
+    push_reason(alloc, out, scene, taken, hold.refusal, hold.stop.as_ref())
 }
 
 // ---- together

@@ -1,5 +1,5 @@
 //! The page of what a core holds.
-ghost use Rattle.std.specs.Prelude.{◌≡◌, Some, map, length, IfOk};
+ghost use Rattle.std.specs.Prelude.{◌≡◌, ◌+◌, ◌≤◌, Some, map, length, IfOk};
 ghost use Rattle.ccr_pipeline.specs.Pipelines.{pipeline_data};
 ghost use Rattle.ccr_core.specs.Cores.{core_data};
 ghost use Rattle.ccr_overview.specs.Overviews.{options_data, page_with, page_without, IsPageOf, IsOverview};
@@ -18,11 +18,13 @@ use std::alloc::{AllocError, Global};
 
 /// The page where no pipeline is set.
 fn page_without(alloc: Global, options: Options) -> Page
-    ensures { page_data result ≡ page_without (options_data options) }
+    ensures shown { page_data result ≡ page_without (options_data options) }
+    ensures few { length result.resources.items + length result.jobs.items ≤ 400 }
 {
     Page {
         title: options.title,
         made: options.made,
+        now: options.now,
         refresh: options.refresh,
         logs: options.logs,
         has_pipeline: false,
@@ -44,6 +46,7 @@ fn page_with(alloc: Global, options: Options, scene: &Scene<'_>) -> Result<Page,
     Ok(Page {
         title: options.title,
         made: options.made,
+        now: options.now,
         refresh: options.refresh,
         logs: options.logs,
         has_pipeline: true,
@@ -64,8 +67,9 @@ fn page_told(
 ) -> Result<Page, AllocError>
     requires { let c = core_data core.now in
         AreTold (pipeline_data pipeline.now) c.history c.budget (map told_data told.now) }
-    ensures { let c = core_data core.now in IfOk result (λ page.
+    ensures shown { let c = core_data core.now in IfOk result (λ page.
         IsPageOf (options_data options) (pipeline_data pipeline.now) c.history c.budget (page_data page)) }
+    ensures few { IfOk result (λ page. length page.resources.items + length page.jobs.items ≤ 400) }
 {
     few_members(pipeline);
     let history = core.history();
@@ -87,8 +91,9 @@ fn page_of(
     options: Options,
 ) -> Result<Page, AllocError>
     requires { (core_data core.now).pipeline ≡ Some (pipeline_data pipeline.now) }
-    ensures { let c = core_data core.now in IfOk result (λ page.
+    ensures shown { let c = core_data core.now in IfOk result (λ page.
         IsPageOf (options_data options) (pipeline_data pipeline.now) c.history c.budget (page_data page)) }
+    ensures few { IfOk result (λ page. length page.resources.items + length page.jobs.items ≤ 400) }
 {
     let told = each_told(alloc, core, pipeline)?;
     let page = page_told(alloc, core, pipeline, options, &told)?;
@@ -96,11 +101,13 @@ fn page_of(
 }
 
 /// The page of what a core holds: each job of its pipeline with its newest build, its last ones, what they took, and why it
-/// stands still, in the words of `explain`; each resource with its versions and pins; and each edge of the graph.
+/// stands still, by what `explain` says; each resource with its versions and pins; and each edge of the graph.
 ///
 /// The only error is out of memory.
 pub fn overview(alloc: Global, core: &Core, options: Options) -> Result<Page, AllocError>
-    ensures { IfOk result (λ page. IsOverview (options_data options) (core_data core.now) (page_data page)) }
+    ensures shown { IfOk result (λ page. IsOverview (options_data options) (core_data core.now) (page_data page)) }
+    // So few that `ccr_page` draws them.
+    ensures few { IfOk result (λ page. length page.resources.items + length page.jobs.items ≤ 400) }
 {
     match core.pipeline() {
         Some(pipeline) => page_of(alloc, core, pipeline, options),

@@ -9,15 +9,16 @@ ghost use Rattle.ccr_overview.specs.Holds.{hold_data, holds, urgent_ones};
 ghost use Rattle.ccr_overview.specs.PageData.{Plain, word_data, why_data};
 ghost use Rattle.ccr_overview.specs.Scenes.{told_data, scene_data};
 ghost use Rattle.ccr_overview.specs.PageRows.{used_for};
-ghost use Rattle.ccr_overview.specs.Sentences.{build_row, running_why, only, due_of, due_words, none_words, budget_words, start_words, told_hold, more_words, holds_words, is_bad, took_on, on_words, stopped_words, bad_words, alone_words, beside_words, bad_why, held_why, ended_why, standing_why, outlook_why, why_of};
+ghost use Rattle.ccr_overview.specs.Sentences.{build_row, running_why, only, due_of, due_words, none_why, budget_words, start_words, told_hold, more_words, holds_words, is_bad, took_on, on_words, stopped_words, bad_words, alone_words, beside_words, bad_why, held_why, ended_why, standing_why, outlook_why, why_of};
 
 use crate::hold::{Hold, holds, is_as_urgent, push_hold_words, push_resource, urgent_holds, worst};
 use crate::row::used_for;
 use crate::scene::{Scene, Told};
 use crate::short::push_version;
-use crate::word::{counted, numbered, push_plain, push_row, push_text};
+use crate::wait::none_words;
+use crate::word::{counted, numbered, push_plain, push_row};
 use ccr_history::{BuildRef, History, Status};
-use ccr_lines::{Outlook, Taken, push_outlook, word_of};
+use ccr_lines::{Outlook, Taken, word_of};
 use ccr_page::{Urgency, Why, Word};
 use ccr_pipeline::{Input, Job, inputs_of};
 use std::alloc::{AllocError, Global};
@@ -77,28 +78,27 @@ fn due_words(alloc: Global, inputs: &[Taken]) -> Result<Vec<Word>, AllocError>
 }
 
 /// That there is no choice of versions, and why.
-fn none_words(alloc: Global, why: &Option<String>) -> Result<Vec<Word>, AllocError>
-    ensures { IfOk result (λ words. map word_data words.items ≡ none_words (option_map string_bytes why.now)) }
+fn none_why(alloc: Global, scene: &Scene<'_>, told: &Told<'_>) -> Result<Why, AllocError>
+    ensures { IfOk result (λ why. why_data why ≡ none_why (scene_data scene.now) (told_data told.now)) }
 {
-    let mut words = Vec::new(alloc);
-    match why {
-        Some(why) => {
-            push_plain(alloc, &mut words, "can't be built: ")?;
-            push_text(alloc, &mut words, why.as_str(), 400)?;
-        }
-        None => push_plain(alloc, &mut words, "can't be built")?,
-    }
-    Ok(words)
+    let inputs = inputs_of(alloc, told.job)?;
+    let words = none_words(alloc, scene, &inputs, &told.explained.why)?;
+    Ok(Why {
+        urgency: Urgency::Stopped,
+        words,
+    })
 }
 
 /// That the search went over the budget.
-fn budget_words(alloc: Global, outlook: Outlook) -> Result<Vec<Word>, AllocError>
-    ensures { IfOk result (λ words. map word_data words.items ≡ budget_words outlook) }
+fn budget_words(alloc: Global) -> Result<Vec<Word>, AllocError>
+    ensures { IfOk result (λ words. map word_data words.items ≡ budget_words) }
 {
-    let mut text = String::from_str(alloc, "isn't decided: ")?;
-    push_outlook(&mut text, outlook)?;
     let mut words = Vec::new(alloc);
-    push_plain(alloc, &mut words, text.as_str())?;
+    push_plain(
+        alloc,
+        &mut words,
+        "isn't decided: the search goes over the budget; --budget N allows more",
+    )?;
     Ok(words)
 }
 
@@ -474,13 +474,10 @@ fn outlook_why(
         })),
         Outlook::NothingNew => standing_why(alloc, scene, at, told, true, newest),
         Outlook::ByCommandOnly => standing_why(alloc, scene, at, told, false, newest),
-        Outlook::NoneSatisfies => Ok(Some(Why {
-            urgency: Urgency::Stopped,
-            words: none_words(alloc, &told.explained.why)?,
-        })),
+        Outlook::NoneSatisfies => Ok(Some(none_why(alloc, scene, told)?)),
         Outlook::OverBudget(_) => Ok(Some(Why {
             urgency: Urgency::Stopped,
-            words: budget_words(alloc, outlook)?,
+            words: budget_words(alloc)?,
         })),
     }
 }

@@ -1,6 +1,7 @@
 //! Where the newest version stopped that an input doesn't take, as `explain` says it.
 ghost use Rattle.std.specs.Prelude.{◌≡◌, not, find, option_map, option_copied, option_and_then, bytes_eq, string_bytes, IfOk};
 ghost use Rattle.ccr_history.specs.Builds.{is_running};
+ghost use Rattle.ccr_lines.specs.Releases.{is_pair};
 ghost use Rattle.ccr_lines.specs.Stops.{is_unpassed, stop_data, stop_words};
 ghost use Rattle.ccr_overview.specs.Scenes.{scene_data};
 ghost use Rattle.ccr_overview.specs.Stopping.{pair_of, stop_before, if_said, stop_said, has_ended, job_if_ended, stopper_of, stopper};
@@ -12,8 +13,15 @@ use ccr_lines::{
 };
 use std::alloc::{AllocError, Global};
 
+/// Whether two pairs are the same.
+pub(crate) fn is_same(one: (u32, u32), other: (u32, u32)) -> bool
+    ensures { result ≡ is_pair one other }
+{
+    one.0 == other.0 && one.1 == other.1
+}
+
 /// A place, in the scope of what an input takes.
-fn pair_of(scene: &Scene<'_>, taken: &Taken, place: u32) -> (u32, u32)
+pub(crate) fn pair_of(scene: &Scene<'_>, taken: &Taken, place: u32) -> (u32, u32)
     ensures { result ≡ pair_of (scene_data scene.now) taken.now place }
 {
     let scope = history_number(scene.pipeline, scene.history, taken.resource.as_str());

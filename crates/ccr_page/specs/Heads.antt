@@ -1,6 +1,7 @@
--- The beginning of a page: its head, the counts of its jobs, and when it was made.
-use Rattle.std.specs.Prelude.{ℕ, ◌+◌, List, [], ◌∷◌, ◌++◌, length, flat_map, count_by, Bool, false, ◌&&◌, ◌==◌, not, if◌then◌else◌, Option, Some, None, codes, string_bytes}
+-- The beginning of a page: its head, the counts of its jobs, what runs right now, and when it was made.
+use Rattle.std.specs.Prelude.{ℕ, ◌+◌, List, [], ◌∷◌, ◌++◌, length, flat_map, count_by, Bool, false, ◌&&◌, ◌==◌, not, if◌then◌else◌, Option, Some, None, String, codes, string_bytes}
 use Rattle.std.specs.List.{list_any}
+use Rattle.std.specs.declared.alloc.Global.{Global}
 use Rattle.ccr_page.specs.Texts.{Text}
 use Rattle.ccr_page.specs.Statuses.{is_same, is_as_urgent}
 use Rattle.ccr_page.specs.Pieces.{PieceData, Markup, Shown, Number, Class, Standing, Colour}
@@ -119,12 +120,18 @@ stands_pieces n = if n == 0 then [] else standing_pieces n
 abbrev pub heading : Text → List PieceData
 heading title = Markup (codes "<header><h1>") ∷ Shown title ∷ Markup (codes "</h1><ul class=sum>") ∷ []
 
--- It ends: when the page was made.
-abbrev pub made_pieces : Text → List PieceData
-made_pieces made = Markup (codes "</ul><p>made ") ∷ Shown made ∷ Markup (codes "</p></header>\n<main>\n") ∷ []
+-- The counts end; then what runs right now, if that is told.
+abbrev pub now_pieces : Option (String Global) → List PieceData
+now_pieces None = Markup (codes "</ul>") ∷ []
+now_pieces (Some t) = Markup (codes "</ul><p class=now>now: ") ∷ Shown (string_bytes t) ∷ Markup (codes "</p>") ∷ []
+
+-- The header ends: when the page was made, if that is told.
+abbrev pub made_pieces : Option (String Global) → List PieceData
+made_pieces None = Markup (codes "</header>\n<main>\n") ∷ []
+made_pieces (Some t) = Markup (codes "<p>made ") ∷ Shown (string_bytes t) ∷ Markup (codes "</p></header>\n<main>\n") ∷ []
 
 -- THE HEADER.
 abbrev pub header_pieces : Page → List PieceData
 header_pieces p =
     skip_pieces p ++ heading (string_bytes p.title) ++ sums_pieces p.jobs.items all_statuses
-    ++ stands_pieces (still_count p.jobs.items) ++ made_pieces (string_bytes p.made)
+    ++ stands_pieces (still_count p.jobs.items) ++ now_pieces p.now ++ made_pieces p.made

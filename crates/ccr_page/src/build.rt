@@ -118,7 +118,8 @@ fn push_row(
     has_rest: bool,
     row: &Row,
 ) -> Result<(), AllocError>
-    ensures { OnOk result (Adds out.old.items out.new.items (row_pieces page.now position job.now has_rest row.now)) }
+    ensures { OnOk result (Adds out.old.items out.new.items
+        (row_pieces page.entry.now position job.now has_rest row.now)) }
 {
     push_row_open(out, position, row)?;
     push_cells(out, &row.cells)?;
@@ -136,7 +137,7 @@ fn push_rows(
     has_rest: bool,
 ) -> Result<(), AllocError>
     ensures { OnOk result (Adds out.old.items out.new.items
-        (flat_map (row_pieces page.now position job.now has_rest) job.now.rows.items)) }
+        (flat_map (row_pieces page.entry.now position job.now has_rest) job.now.rows.items)) }
 {
     for row in job.rows.as_slice() {
         push_row(out, page, position, job, has_rest, row)?;
@@ -196,7 +197,7 @@ fn push_table<'a>(
     position: usize,
     job: &'a Job,
 ) -> Result<(), AllocError>
-    ensures { OnOk result (Adds out.old.items out.new.items (table_pieces page.now position job.now)) }
+    ensures { OnOk result (Adds out.old.items out.new.items (table_pieces page.entry.now position job.now)) }
 {
     let has_rest = has_rest(job.rows.as_slice());
     push(
@@ -222,7 +223,7 @@ fn push_builds_of(
     position: usize,
     job: &Job,
 ) -> Result<(), AllocError>
-    ensures { OnOk result (Adds out.old.items out.new.items (builds_pieces page.now position job.now)) }
+    ensures { OnOk result (Adds out.old.items out.new.items (builds_pieces page.entry.now position job.now)) }
 {
     if job.rows.is_empty() {
         push(out, &[])
@@ -247,7 +248,7 @@ fn has_rows(jobs: &[Job]) -> bool
 
 /// Adds the builds of each job.
 fn push_each(out: &mut Vec<u8>, page: &Page, jobs: &[Job]) -> Result<(), AllocError>
-    ensures { OnOk result (Adds out.old.items out.new.items (each_from (builds_pieces page.now) 0 jobs.now)) }
+    ensures { OnOk result (Adds out.old.items out.new.items (each_from (builds_pieces page.entry.now) 0 jobs.now)) }
 {
     for position in 0..jobs.len() {
         push_builds_of(out, page, position, &jobs[position])?;
@@ -257,7 +258,7 @@ fn push_each(out: &mut Vec<u8>, page: &Page, jobs: &[Job]) -> Result<(), AllocEr
 
 /// Adds the tables of builds.
 fn push_tables(out: &mut Vec<u8>, page: &Page) -> Result<(), AllocError>
-    ensures { OnOk result (Adds out.old.items out.new.items (builds_tables page.now)) }
+    ensures { OnOk result (Adds out.old.items out.new.items (builds_tables page.entry.now)) }
 {
     push(
         out,
@@ -270,7 +271,7 @@ fn push_tables(out: &mut Vec<u8>, page: &Page) -> Result<(), AllocError>
 
 /// Adds the builds, if any has a row.
 pub(crate) fn push_builds(out: &mut Vec<u8>, page: &Page) -> Result<(), AllocError>
-    ensures { OnOk result (Adds out.old.items out.new.items (builds_section page.now)) }
+    ensures { OnOk result (Adds out.old.items out.new.items (builds_section page.entry.now)) }
 {
     if has_rows(&page.jobs) {
         push_tables(out, page)

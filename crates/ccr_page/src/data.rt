@@ -138,8 +138,10 @@ pub struct Arrow {
 #[derive(Drop)]
 pub struct Page {
     pub title: String,
-    /// When it was made, in words.
-    pub made: String,
+    /// When it was made, in words. Without it the page says nothing of that.
+    pub made: Option<String>,
+    /// What runs right now, in words, as `unit 12: task test, for 40 s`. Where there are several, `; ` is between them.
+    pub now: Option<String>,
     /// After how many seconds it's to be read again.
     pub refresh: Option<u32>,
     /// Where the logs are, as the reader of the page sees it.

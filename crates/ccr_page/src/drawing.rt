@@ -49,7 +49,7 @@ fn push_tab_of<'a>(out: &mut Vec<u8>, tab: Tab, port: &'a Port) -> Result<(), Al
 
 /// Adds a tab, if there is such a port.
 fn push_tab(out: &mut Vec<u8>, page: &Page, tab: Tab) -> Result<(), AllocError>
-    ensures { OnOk result (Adds out.old.items out.new.items (tab_pieces page.now tab)) }
+    ensures { OnOk result (Adds out.old.items out.new.items (tab_pieces page.entry.now tab)) }
 {
     let job = tab.node.saturating_sub(page.resources.len());
     match port_at(page.jobs.as_slice(), job, tab.port) {
@@ -60,7 +60,7 @@ fn push_tab(out: &mut Vec<u8>, page: &Page, tab: Tab) -> Result<(), AllocError>
 
 /// Adds these tabs.
 fn push_tabs(out: &mut Vec<u8>, page: &Page, tabs: &[Tab]) -> Result<(), AllocError>
-    ensures { OnOk result (Adds out.old.items out.new.items (flat_map (tab_pieces page.now) tabs.now)) }
+    ensures { OnOk result (Adds out.old.items out.new.items (flat_map (tab_pieces page.entry.now) tabs.now)) }
 {
     for tab in tabs {
         push_tab(out, page, *tab)?;
@@ -353,7 +353,7 @@ fn push_resource_count(out: &mut Vec<u8>, resources: &[Resource]) -> Result<(), 
 
 /// Adds how large the picture is, and what it shows, in words.
 fn push_picture_head(out: &mut Vec<u8>, page: &Page, picture: &Picture) -> Result<(), AllocError>
-    ensures { OnOk result (Adds out.old.items out.new.items (picture_head page.now picture.now)) }
+    ensures { OnOk result (Adds out.old.items out.new.items (picture_head page.entry.now picture.now)) }
 {
     push_size(out, picture)?;
     push_job_count(out, &page.jobs)?;
@@ -363,7 +363,7 @@ fn push_picture_head(out: &mut Vec<u8>, page: &Page, picture: &Picture) -> Resul
 
 /// Adds its lines and its tabs.
 fn push_picture_lines(out: &mut Vec<u8>, page: &Page, picture: &Picture) -> Result<(), AllocError>
-    ensures { OnOk result (Adds out.old.items out.new.items (picture_lines page.now picture.now)) }
+    ensures { OnOk result (Adds out.old.items out.new.items (picture_lines page.entry.now picture.now)) }
 {
     push_lines(out, &page.arrows, picture)?;
     push(out, &[Markup("<g class=i>")])?;
@@ -374,7 +374,7 @@ fn push_picture_lines(out: &mut Vec<u8>, page: &Page, picture: &Picture) -> Resu
 
 /// Adds its boxes.
 fn push_picture_boxes(out: &mut Vec<u8>, page: &Page, picture: &Picture) -> Result<(), AllocError>
-    ensures { OnOk result (Adds out.old.items out.new.items (picture_boxes page.now picture.now)) }
+    ensures { OnOk result (Adds out.old.items out.new.items (picture_boxes page.entry.now picture.now)) }
 {
     let behind = boxes_behind(&picture.boxes, page.resources.as_slice().len());
     push_resource_boxes(out, &picture.boxes, &page.resources)?;
@@ -385,7 +385,7 @@ fn push_picture_boxes(out: &mut Vec<u8>, page: &Page, picture: &Picture) -> Resu
 
 /// Adds the picture.
 fn push_picture(out: &mut Vec<u8>, page: &Page, picture: &Picture) -> Result<(), AllocError>
-    ensures { OnOk result (Adds out.old.items out.new.items (picture_pieces page.now picture.now)) }
+    ensures { OnOk result (Adds out.old.items out.new.items (picture_pieces page.entry.now picture.now)) }
 {
     push_picture_head(out, page, picture)?;
     push_picture_lines(out, page, picture)?;
@@ -399,7 +399,7 @@ pub(crate) fn push_picture_section(
     page: &Page,
     picture: &Picture,
 ) -> Result<(), AllocError>
-    ensures { OnOk result (Adds out.old.items out.new.items (picture_section page.now picture.now)) }
+    ensures { OnOk result (Adds out.old.items out.new.items (picture_section page.entry.now picture.now)) }
 {
     push(out, &[Markup(SECTION)])?;
     push_picture(out, page, picture)?;

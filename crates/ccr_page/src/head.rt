@@ -1,9 +1,9 @@
-//! The beginning of a page: its head, the counts of its jobs, and when it was made.
+//! The beginning of a page: its head, the counts of its jobs, what runs right now, and when it was made.
 
 ghost use Rattle.std.specs.Prelude.{◌≡◌, OnOk, count_by, string_bytes};
 ghost use Rattle.std.specs.List.{list_any};
 ghost use Rattle.ccr_page.specs.Pieces.{Adds};
-ghost use Rattle.ccr_page.specs.Heads.{count_of, is_still, still_count, is_there, is_any, state_piece, noted_pieces, state_pieces, worst, refresh_pieces, title_end, head_pieces, has_picture, skip_pieces, sum_pieces, sums_pieces, plural, standing_pieces, stands_pieces, heading, made_pieces, header_pieces};
+ghost use Rattle.ccr_page.specs.Heads.{count_of, is_still, still_count, is_there, is_any, state_piece, noted_pieces, state_pieces, worst, refresh_pieces, title_end, head_pieces, has_picture, skip_pieces, sum_pieces, sums_pieces, plural, standing_pieces, stands_pieces, heading, now_pieces, made_pieces, header_pieces};
 
 use crate::data::{Job, Page, Urgency, Why};
 use crate::piece::Piece::{Class, Colour, Markup, Number, Shown, Standing};
@@ -202,7 +202,7 @@ fn push_title_end<'a>(out: &mut Vec<u8>, title: &'a String, worst: Status) -> Re
 
 /// Adds the head.
 pub(crate) fn push_head(out: &mut Vec<u8>, page: &Page) -> Result<(), AllocError>
-    ensures { OnOk result (Adds out.old.items out.new.items (head_pieces page.now)) }
+    ensures { OnOk result (Adds out.old.items out.new.items (head_pieces page.entry.now)) }
 {
     let worst = worst(&page.jobs);
     push(out, &[Markup(HEAD)])?;
@@ -217,14 +217,14 @@ pub(crate) fn push_head(out: &mut Vec<u8>, page: &Page) -> Result<(), AllocError
 
 /// Whether a page has a picture, which can be skipped.
 pub(crate) fn has_picture(page: &Page) -> bool
-    ensures { result ≡ has_picture page.now }
+    ensures { result ≡ has_picture page.entry.now }
 {
     page.has_pipeline && !(page.jobs.is_empty() && page.resources.is_empty())
 }
 
 /// Adds the link that skips the picture.
 fn push_skip(out: &mut Vec<u8>, page: &Page) -> Result<(), AllocError>
-    ensures { OnOk result (Adds out.old.items out.new.items (skip_pieces page.now)) }
+    ensures { OnOk result (Adds out.old.items out.new.items (skip_pieces page.entry.now)) }
 {
     if has_picture(page) {
         push(out, &[Markup(SKIP)])
@@ -314,29 +314,50 @@ fn push_heading<'a>(out: &mut Vec<u8>, title: &'a String) -> Result<(), AllocErr
     )
 }
 
-/// Adds the end of the header: when the page was made.
-fn push_made<'a>(out: &mut Vec<u8>, made: &'a String) -> Result<(), AllocError>
-    ensures { OnOk result (Adds out.old.items out.new.items (made_pieces (string_bytes made.now))) }
+/// Adds the end of the counts, and what runs right now, if that is told.
+fn push_now<'a>(out: &mut Vec<u8>, words: &'a Option<String>) -> Result<(), AllocError>
+    ensures { OnOk result (Adds out.old.items out.new.items (now_pieces words.now)) }
 {
-    push(
-        out,
-        &[
-            Markup("</ul><p>made "),
-            Shown(made),
-            Markup("</p></header>\n<main>\n"),
-        ],
-    )
+    match words {
+        Some(words) => push(
+            out,
+            &[
+                Markup("</ul><p class=now>now: "),
+                Shown(words),
+                Markup("</p>"),
+            ],
+        ),
+        None => push(out, &[Markup("</ul>")]),
+    }
+}
+
+/// Adds the end of the header: when the page was made, if that is told.
+fn push_made<'a>(out: &mut Vec<u8>, made: &'a Option<String>) -> Result<(), AllocError>
+    ensures { OnOk result (Adds out.old.items out.new.items (made_pieces made.now)) }
+{
+    match made {
+        Some(words) => push(
+            out,
+            &[
+                Markup("<p>made "),
+                Shown(words),
+                Markup("</p></header>\n<main>\n"),
+            ],
+        ),
+        None => push(out, &[Markup("</header>\n<main>\n")]),
+    }
 }
 
 /// Adds the header.
 pub(crate) fn push_header(out: &mut Vec<u8>, page: &Page) -> Result<(), AllocError>
-    ensures { OnOk result (Adds out.old.items out.new.items (header_pieces page.now)) }
+    ensures { OnOk result (Adds out.old.items out.new.items (header_pieces page.entry.now)) }
 {
     let still = still_count(&page.jobs);
     push_skip(out, page)?;
     push_heading(out, &page.title)?;
     push_sums(out, &page.jobs, &ALL)?;
     push_stands(out, still)?;
+    push_now(out, &page.now)?;
     push_made(out, &page.made)?;
     Ok(())
 }

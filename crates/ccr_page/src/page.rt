@@ -25,7 +25,7 @@ fn push_sections(
     page: &Page,
     picture: &Picture,
 ) -> Result<(), AllocError>
-    ensures { OnOk result (Adds out.old.items out.new.items (sections page.now picture.now)) }
+    ensures { OnOk result (Adds out.old.items out.new.items (sections page.entry.now picture.now)) }
 {
     push_picture_section(out, page, picture)?;
     push_lists(alloc, out, &page.jobs)?;
@@ -42,7 +42,7 @@ fn push_main(
     page: &Page,
     picture: &Picture,
 ) -> Result<(), AllocError>
-    ensures { OnOk result (Adds out.old.items out.new.items (main_pieces page.now picture.now)) }
+    ensures { OnOk result (Adds out.old.items out.new.items (main_pieces page.entry.now picture.now)) }
 {
     if has_picture(page) {
         push_sections(alloc, out, page, picture)
@@ -60,7 +60,7 @@ fn push_page(
     page: &Page,
     picture: &Picture,
 ) -> Result<(), AllocError>
-    ensures { OnOk result (Adds out.old.items out.new.items (page_pieces page.now picture.now)) }
+    ensures { OnOk result (Adds out.old.items out.new.items (page_pieces page.entry.now picture.now)) }
 {
     push_head(out, page)?;
     push_header(out, page)?;
@@ -71,7 +71,7 @@ fn push_page(
 
 /// The bytes of a page with this picture.
 fn page_with(alloc: Global, page: &Page, picture: &Picture) -> Result<Vec<u8>, AllocError>
-    ensures { IfOk result (λ out. Adds [] out.items (page_pieces page.now picture.now)) }
+    ensures { IfOk result (λ out. Adds [] out.items (page_pieces page.entry.now picture.now)) }
 {
     let mut out = Vec::new(alloc);
     push_page(alloc, &mut out, page, picture)?;
@@ -81,7 +81,7 @@ fn page_with(alloc: Global, page: &Page, picture: &Picture) -> Result<Vec<u8>, A
 /// The bytes of a page.
 pub fn page_of(alloc: Global, page: &Page) -> Result<Vec<u8>, AllocError>
     requires { length page.now.resources.items + length page.now.jobs.items ≤ 400 }
-    ensures { IfOk result (λ out. IsPage page.now out.items) }
+    ensures { IfOk result (λ out. IsPage page.entry.now out.items) }
 {
     let nodes = nodes_of(alloc, page)?;
     let edges = edges_of(alloc, &page.arrows)?;

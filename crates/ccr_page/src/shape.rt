@@ -167,7 +167,7 @@ fn push_job_nodes(alloc: Global, nodes: &mut Vec<Node>, jobs: &[Job]) -> Result<
 
 /// The boxes of a page: resources, then jobs.
 pub(crate) fn nodes_of(alloc: Global, page: &Page) -> Result<Vec<Node>, AllocError>
-    ensures { IfOk result (λ nodes. map node_data nodes.items ≡ nodes_of page.now) }
+    ensures { IfOk result (λ nodes. map node_data nodes.items ≡ nodes_of page.entry.now) }
 {
     let mut nodes = Vec::new(alloc);
     push_resource_nodes(alloc, &mut nodes, &page.resources)?;

@@ -47,6 +47,8 @@ header{display:flex;flex-wrap:wrap;align-items:center;gap:8px 18px;padding:16px 
 h1{font-size:22px;line-height:1.2}
 h2{font-size:16px;margin:30px 0 10px}
 header p{margin-left:auto;color:var(--dim);font-size:13px}
+header .now{order:1;width:100%;padding:4px 10px;border-left:5px solid #fad43b;background:var(--card);color:inherit;
+overflow-wrap:anywhere}
 .sum{display:flex;flex-wrap:wrap;gap:6px}.w{border:1px solid var(--line)}.sum li{padding:2px 10px;
 border-radius:4px;font-size:13px}
 .s{background:#11c560;fill:#11c560;color:#062}.f{background:#d23c28;fill:#d23c28;color:#fff}
@@ -85,11 +87,11 @@ article p{grid-row:2;font-size:13px;color:var(--dim)}
 ol{grid-row:1/3;grid-column:2;display:flex;flex-wrap:wrap;gap:2px;font-size:12px;line-height:17px}
 ol li{min-width:31px;text-align:center;border-radius:3px}ol a{display:block;color:inherit}
 ol li:after{display:block;font-size:10px;line-height:11px}
-ol .s:after,.key .s:before{content:\"s\";content:\"s\" / \"\"}
-ol .f:after,.key .f:before{content:\"f\";content:\"f\" / \"\"}
-ol .e:after,.key .e:before{content:\"e\";content:\"e\" / \"\"}
-ol .a:after,.key .a:before{content:\"a\";content:\"a\" / \"\"}
-ol .r:after,.key .r:before{content:\"r\";content:\"r\" / \"\"}
+ol .s:after{content:\"s\";content:\"s\" / \"succeeded\"}.key .s:before{content:\"s\";content:\"s\" / \"\"}
+ol .f:after{content:\"f\";content:\"f\" / \"failed\"}.key .f:before{content:\"f\";content:\"f\" / \"\"}
+ol .e:after{content:\"e\";content:\"e\" / \"errored\"}.key .e:before{content:\"e\";content:\"e\" / \"\"}
+ol .a:after{content:\"a\";content:\"a\" / \"aborted\"}.key .a:before{content:\"a\";content:\"a\" / \"\"}
+ol .r:after{content:\"r\";content:\"r\" / \"running\"}.key .r:before{content:\"r\";content:\"r\" / \"\"}
 .key b:before{margin-right:5px;font-weight:700}
 ol li:has(a:hover){outline:2px solid var(--fg)}
 .wide{overflow-x:auto}
@@ -106,13 +108,13 @@ min-width:200px}.ev th{font-weight:400;border-top:2px solid var(--bg);border-rad
 .ev tr:first-child th{padding-bottom:2px;font-size:12px;color:var(--dim);border:0}
 :target{background:var(--mark)}th:target,tr:target td{background:var(--mark)}
 @media(max-width:1100px){body{padding:0 10px 30px}article{grid-template-columns:minmax(0,1fr)}ol{grid-row:auto;
-grid-column:1}header p{margin:0}}
+grid-column:1}header p{margin:0}header .now{order:0}}
 .pic .r rect{stroke:var(--fg);stroke-width:4;stroke-dasharray:9 6}
 @media(prefers-reduced-motion:no-preference){.pic .r rect{animation:p 1.5s linear infinite}
 @keyframes p{to{stroke-dashoffset:-30}}}
 details{margin-top:8px}summary{cursor:pointer;padding:4px 2px;color:var(--link)}
 details[open] summary{margin-bottom:8px}
-@media(forced-colors:active){.sum li,ol li,h3,.key b{border:1px solid}}
+@media(forced-colors:active){.sum li,ol li,h3,.key b{border:1px solid}.pic{forced-color-adjust:none}}
 @media print{
 :root{--bg:#fff;--card:#fff;--fg:#000;--dim:#444;--line:#666;--rule:#bbb;--link:#000;--edge:#000;--pin:#6b3fc4;
 --held:#c8321f}

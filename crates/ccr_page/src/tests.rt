@@ -1,17 +1,23 @@
 //! A page with the bytes of another program, the Python one that the page was drawn with: of two jobs, the first of which
 //! failed.
 
+use crate::template::{CSS, HEAD};
 use crate::{
     Arrow, Bar, Cell, Job, Page, Port, Resource, Row, Status, Urgency, Version, Why, Word, page_of,
 };
 use std::alloc::{AllocError, Global};
 use std::test::Fail;
 
+/// What runs.
+const NOW: &str = "unit 12: task <test>, for 40 s; lint 3: task lint, for 2 s";
+
 /// What follows `<body>`.
 const EXPECTED: &str = "\
 <a class=skip href=#key>Skip the picture</a><header><h1>&lt;Shop&gt;</h1><ul class=sum>\
 <li class=f><b>1</b> failed</li><li class=s><b>1</b> succeeded</li><li class=w><a href=#hs>\
-<b>2</b> stand still</a></li></ul><p>made after round 2</p></header>
+<b>2</b> stand still</a></li></ul>\
+<p class=now>now: unit 12: task &lt;test&gt;, for 40 s; lint 3: task lint, for 2 s</p>\
+<p>made after round 2</p></header>
 <main>
 <section aria-label=\"Picture\">\
 <div class=pic tabindex=\"0\" role=\"region\" aria-label=\"Picture of the pipeline\">\
@@ -212,7 +218,8 @@ fn page(alloc: Global) -> Result<Page, AllocError> {
     };
     Ok(Page {
         title: text(alloc, "<Shop>")?,
-        made: text(alloc, "after round 2")?,
+        made: Some(text(alloc, "after round 2")?),
+        now: Some(text(alloc, NOW)?),
         refresh: None,
         logs: Some(text(alloc, "lo gs")?),
         has_pipeline: true,
@@ -238,12 +245,93 @@ fn page(alloc: Global) -> Result<Page, AllocError> {
     })
 }
 
+/// The text of a page.
+fn shown(alloc: Global, page: &Page) -> Result<String, Fail> {
+    let bytes = page_of(alloc, page)?;
+    let all = String::from_utf8(bytes).ok().ok_or("no text")?;
+    Ok(all)
+}
+
 #[test]
 fn a_page_is_as_it_was_drawn(rt: HostRuntime) -> Result<(), Fail> {
     let alloc = rt.alloc();
-    let bytes = page_of(alloc, &page(alloc)?)?;
-    let all = String::from_utf8(bytes).ok().ok_or("no text")?;
+    let all = shown(alloc, &page(alloc)?)?;
     let (_, body) = all.as_str().split_once("<body>\n").ok_or("no body")?;
     assert_eq!(rt; body, EXPECTED);
+    Ok(())
+}
+
+#[test]
+fn nothing_is_said_of_what_is_not_told(rt: HostRuntime) -> Result<(), Fail> {
+    let alloc = rt.alloc();
+    let mut page = page(alloc)?;
+    page.now = None;
+    page.made = None;
+    let all = shown(alloc, &page)?;
+    let (_, body) = all
+        .as_str()
+        .split_once("<ul class=sum>")
+        .ok_or("no counts")?;
+    let (_, after) = body.split_once("</ul>").ok_or("no end of the counts")?;
+    assert!(rt; after.starts_with("</header>\n<main>\n"));
+    Ok(())
+}
+
+/// What the style has behind this text, if it has it.
+fn behind(rule: &str) -> Option<&'static str> {
+    match CSS.split_once(rule) {
+        Some((_, rest)) => Some(rest),
+        None => None,
+    }
+}
+
+/// Whether the style paints a status in its colour, behind this text.
+fn is_painted(status: Status, rule: &str) -> bool {
+    match behind(rule) {
+        Some(rest) => rest.starts_with(status.colour()),
+        None => false,
+    }
+}
+
+/// Whether the style has a letter for a status in the bars, behind this text, and its word for a reader of the screen.
+fn is_lettered(status: Status, rule: &str) -> bool {
+    match behind(rule) {
+        Some(rest) => match rest.split_once(" / \"") {
+            Some((letter, word)) => letter.starts_with(status.class())
+                && word.starts_with(status.word()),
+            None => false,
+        },
+        None => false,
+    }
+}
+
+#[test]
+fn a_status_has_its_colour(rt: HostRuntime) -> Result<(), Fail> {
+    assert!(rt; is_painted(Status::Failed, ".f{background:#"));
+    assert!(rt; is_painted(Status::Errored, ".e{background:#"));
+    assert!(rt; is_painted(Status::Aborted, ".a{background:#"));
+    assert!(rt; is_painted(Status::Running, ".r{background:#"));
+    assert!(rt; is_painted(Status::Succeeded, ".s{background:#"));
+    Ok(())
+}
+
+#[test]
+fn a_bar_has_a_letter_beside_its_colour(rt: HostRuntime) -> Result<(), Fail> {
+    assert!(rt; is_lettered(Status::Failed, "ol .f:after{content:\""));
+    assert!(rt; is_lettered(Status::Errored, "ol .e:after{content:\""));
+    assert!(rt; is_lettered(Status::Aborted, "ol .a:after{content:\""));
+    assert!(rt; is_lettered(Status::Running, "ol .r:after{content:\""));
+    assert!(rt; is_lettered(Status::Succeeded, "ol .s:after{content:\""));
+    Ok(())
+}
+
+#[test]
+fn a_page_lets_nothing_run(rt: HostRuntime) -> Result<(), Fail> {
+    let alloc = rt.alloc();
+    let all = shown(alloc, &page(alloc)?)?;
+    assert!(rt;
+        HEAD.contains("content=\"default-src 'none'; style-src 'unsafe-inline'; img-src data:;")
+    );
+    assert!(rt; !all.contains("<script"));
     Ok(())
 }

@@ -4,6 +4,7 @@ pub mod Kept
 pub mod Looking
 pub mod Obeying
 pub mod Ordering
+pub mod Paging
 pub mod Refusing
 pub mod Serving
 pub mod Told

@@ -11,6 +11,7 @@ pub mod Named
 pub mod Obeyed
 pub mod Opening
 pub mod Orders
+pub mod Paged
 pub mod Refusals
 pub mod Served
 pub mod Statuses

@@ -3,7 +3,7 @@
 //! It reads its words, opens the database, has a server do the command, and ends with the status of that. Lines go to
 //! standard output as they come; a refusal, with a hint below it, to standard error. What a command does is said by the
 //! contract of [`Server::command`](ccr_serve::Server::command). That a build be aborted is asked beside the server, and
-//! opens no database. A look opens none either: it reads the files, and shows what is stored in them.
+//! opens no database. A look opens none either: it reads the files, and shows what is stored in them; and a page is by a look.
 //!
 //! `main` alone has the runtime. It makes what starts programs, holds directories, opens the database and prints, and gives
 //! these to [`answer`](answer::answer), whose contract says what they were used for, and which status the program ends with.
@@ -12,6 +12,7 @@
 mod abort;
 mod answer;
 mod asked;
+mod clock;
 mod database;
 mod errors;
 mod failure;
@@ -24,6 +25,7 @@ mod obey;
 mod opener;
 mod opening;
 mod order;
+mod page;
 mod refusal;
 mod run;
 mod tell;
@@ -33,6 +35,7 @@ use answer::{Answered, answer};
 use ccr_lines::Printed;
 use ccr_process::Machine;
 use ccr_task::Folders;
+use clock::time_now;
 use left::Tools;
 use naming::Naming;
 use opener::Opener;
@@ -72,9 +75,11 @@ fn answer_here(rt: &HostRuntime, words: &[String]) -> ExitCode {
     let mut opener = Opener::new(HostFiles::new(rt), Unknown);
     let mut out = Printed::new(alloc, io::writer(rt), rt.stderr());
     let mut telling = Telling::new(alloc, rt.stderr());
+    let clock = time_now(rt, alloc);
     let Answered { code, done: _done } = answer(
         alloc,
         words,
+        clock.as_deref(),
         tools,
         &mut opener,
         &mut out,

@@ -4,7 +4,7 @@ use Rattle.ccr_core.specs.Cores.{core_data}
 use Rattle.ccr_overview.specs.Overviews.{options_data}
 use Rattle.ccr_overview.specs.PageData.{page_data}
 use Rattle.ccr_overview.specs.Scenes.{told_data}
-use Rattle.ccr_overview.proofs.Paging.{page_told, told_long}
+use Rattle.ccr_overview.proofs.Paging.{page_told, few_told, told_long}
 use Rattle.ccr_overview.proofs.page.page_told.Goals as goal
 
 pub page_with-requires : goal.page_with-requires
@@ -19,9 +19,15 @@ page_with-requires c =
           c.few_members.ensures.jobs;
     }
 
-pub returns : goal.returns
-returns c =
+pub returns-clause-shown : goal.returns-clause-shown
+returns-clause-shown c =
     let held = core_data c.args.core.now in
     page_told page_data c.page_with.result (options_data c.args.options) (pipeline_data c.args.pipeline.now) held.history
     c.history-history.result.now held.budget c.rows_of-row_count.result (map told_data c.args.told.now)
     c.history-history.ensures c.rows_of-row_count.ensures c.requires c.page_with.ensures
+
+pub returns-clause-few : goal.returns-clause-few
+returns-clause-few c =
+    let held = core_data c.args.core.now in
+    few_told c.page_with.result (options_data c.args.options) (pipeline_data c.args.pipeline.now) held.history held.budget
+    c.few_members.ensures.resources c.few_members.ensures.jobs (returns-clause-shown c)
