@@ -256,6 +256,13 @@ def picture_faults(made, picture):
     return bad
 
 
+def red_ports(made, picture):
+    """The ports with a tab where a red line ends, as (job, port). Lines that go back are never red."""
+    ends = {line.points[-1][1:] for line in picture.lines if line.group in "hk"}
+    places = [(j, port) for j, job in enumerate(made["jobs"]) for port, (_, _, passed, _) in enumerate(inputs_of(job)) if passed]
+    return {at for at, tab in zip(places, picture.tabs) if (tab.left, tab.top + 9) in ends}
+
+
 def path_faults(made, picture, boxes, column, starts, rights, ports, rest, slots):
     """What is wrong with the paths: each edge has one."""
     bad, wanted, used = [], collections.Counter(), collections.Counter()

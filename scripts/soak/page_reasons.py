@@ -126,6 +126,16 @@ class Story:
             return None
         return worst, self.holds_words(inputs, held, by_itself)
 
+    def red(self):
+        """The lines, as (job, port, source), of which the newest version stopped at a job that the input names, in a build that has ended: those are red."""
+        found = set()
+        for at, job in enumerate(self.jobs):
+            for port, (get, taken) in enumerate(zip(job["inputs"], self.explained[job["name"]]["inputs"])):
+                stop = self.stop(taken["newer"][0]["reason"]) if taken["newer"] else None
+                if stop and stop[1] and stop[2] != "runs" and stop[0] in get["passed"]:
+                    found.add((at, port, self.names.index(stop[0])))
+        return found
+
     def all(self):
         """The same of each job by its position, where something is said, as a reader gets it."""
         found = ((at, self.why(job)) for at, job in enumerate(self.jobs))
