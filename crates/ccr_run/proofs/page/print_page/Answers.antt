@@ -11,4 +11,4 @@ returns-clause-paged g c =
     printed_of (overview_options c.args.order.now (option_map (λ t. t.now) c.args.clock)) (core_data c.args.core.now)
     c.in_ok-bytes.bytes.items (c.args.out.now.shown ++ c.args.out.now.waiting) (c.print.new.out.shown ++ c.print.new.out.waiting)
     c.in_ok-bytes.ensures
-    (c.in_ok.ensures.shown ∙ ap (λ (t : Text). (c.args.out.now.shown ++ c.args.out.now.waiting) ++ t) same)
+    (c.in_ok-print.ensures.shown ∙ ap (λ (t : Text). (c.args.out.now.shown ++ c.args.out.now.waiting) ++ t) same)
