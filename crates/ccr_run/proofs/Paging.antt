@@ -1,5 +1,5 @@
 -- The page of a core, from what its parts say.
-use Rattle.std.proofs.Common.{◌≡◌, refl, subst, ℕ, ◌++◌, Result, Ok, Err, IfOk}
+use Rattle.std.proofs.Common.{◌≡◌, refl, subst, ◌++◌, Result, Ok, Err, IfOk}
 use Rattle.ccr_history.specs.Text.{Text}
 use Rattle.ccr_core.specs.Holding.{CoreData}
 use Rattle.ccr_overview.specs.Overviews.{OptionsData, IsOverview}
