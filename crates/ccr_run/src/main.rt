@@ -108,10 +108,20 @@ fn is_silent(rt: &HostRuntime) -> bool {
     }
 }
 
+/// Whether the words ask for an explanation, which says more than a hint does.
+fn asks_explain(words: &[String]) -> bool {
+    for word in words {
+        if word.as_str() == "explain" {
+            return true;
+        }
+    }
+    false
+}
+
 /// Answers the words, and says what to do about what is printed of checks and builds.
 fn answer_here(rt: &HostRuntime, words: &[String]) -> ExitCode {
     let alloc = rt.alloc();
-    let mute = is_silent(rt);
+    let mute = is_silent(rt) || asks_explain(words);
     let out = io::writer(rt);
     let out = Advising::new(alloc, out, rt.stderr(), Topic::CheckNotJson, mute);
     let out = Advising::new(alloc, out, rt.stderr(), Topic::CheckWrongKind, mute);
