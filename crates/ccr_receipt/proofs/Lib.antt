@@ -3,3 +3,4 @@ pub mod Checking
 pub mod Choosing
 pub mod Ending
 pub mod Judging
+pub mod Naming

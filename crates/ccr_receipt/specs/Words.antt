@@ -1,5 +1,5 @@
 -- The words in which a receipt is judged. Names and versions are printed as they stand in it.
-use Rattle.std.specs.Prelude.{ℕ, ◌+◌, ◌-◌, List, [], ◌∷◌, ◌++◌, length, drop, reverse, slice_get, Bool, true, false, not, ◌&&◌, ◌||◌, ◌==◌, nat_lt, count_by, Option, Some, None, is_some, if◌then◌else◌, codes}
+use Rattle.std.specs.Prelude.{ℕ, ◌+◌, ◌-◌, List, [], ◌∷◌, ◌++◌, length, drop, slice_get, Bool, true, false, not, ◌&&◌, ◌||◌, ◌==◌, nat_lt, count_by, Option, Some, None, is_some, if◌then◌else◌, codes}
 use Rattle.std.specs.List.{flat_map, list_any}
 use Rattle.std.specs.Fmt.{decimal}
 use Rattle.ccr_choice.specs.Problem.{InputValue}
@@ -144,13 +144,11 @@ first_words r None =
 abbrev pub most_named : ℕ
 most_named = 8
 
-abbrev pub next_build : BuildSaid → Bytes
-next_build b = codes ", " ++ build_words b
-
--- these builds, the newest first
+-- these builds, the last of them, which is the newest, first
 abbrev pub newest_words : List BuildSaid → Bytes
 newest_words [] = codes "no builds"
-newest_words (b ∷ bs) = build_words b ++ flat_map next_build bs
+newest_words (b ∷ []) = build_words b
+newest_words (b ∷ newer ∷ bs) = newest_words (newer ∷ bs) ++ codes ", " ++ build_words b
 
 -- how many more there are
 abbrev pub more_words : ℕ → Bytes
@@ -175,7 +173,7 @@ pipeline_words None = codes "a pipeline that isn't known"
 abbrev pub way_words : ReceiptSaid → Bytes
 way_words r =
     codes "build " ++ decimal r.own.made ++ codes " of all, by " ++ pipeline_words r.chosen ++ codes "; behind it "
-    ++ newest_words (reverse (drop (length r.before - most_named) r.before)) ++ more_words (length r.before)
+    ++ newest_words (drop (length r.before - most_named) r.before) ++ more_words (length r.before)
     ++ seen_count_words (count_by (λ b. not b.is_asked) r.before) ++ cut_words r
 
 -- ---- all three lines

@@ -1,6 +1,6 @@
 //! The second line that is said of a receipt: when its build was made, by which pipeline, and behind which builds.
 
-ghost use Rattle.std.specs.Prelude.{◌≡◌, ◌++◌, reverse, not, count_by, OnOk, string_bytes};
+ghost use Rattle.std.specs.Prelude.{◌≡◌, ◌++◌, not, count_by, OnOk, string_bytes};
 ghost use Rattle.std.specs.List.{list_any};
 ghost use Rattle.ccr_receipt.specs.Words.{newest_words, more_words, seen_count_words, is_cut, cut_words, pipeline_words, way_words};
 
@@ -14,20 +14,19 @@ use std::alloc::AllocError;
 const MOST_NAMED: usize = 8;
 
 /// Adds these builds, the last of them first.
+#[tactic(auto, using(crate::proofs::Naming::newest_next))]
 fn put_newest(out: &mut String, builds: &[Build]) -> Result<(), AllocError>
-    ensures { OnOk result (string_bytes out.new ≡ string_bytes out.old ++ newest_words (reverse builds.now)) }
+    ensures { OnOk result (string_bytes out.new ≡ string_bytes out.old ++ newest_words builds.now) }
 {
-    let [others @ .., last] = builds else {
-        return out.push_str("no builds");
-    };
-    put_build(out, last)?;
-    let mut rest = others;
-    while let [more @ .., build] = rest {
-        out.push_str(", ")?;
-        put_build(out, build)?;
-        rest = more;
+    match builds {
+        [] => out.push_str("no builds"),
+        [build] => put_build(out, build),
+        [build, newer @ ..] => {
+            put_newest(out, newer)?;
+            out.push_str(", ")?;
+            put_build(out, build)
+        }
     }
-    Ok(())
 }
 
 fn put_more(out: &mut String, count: usize) -> Result<(), AllocError>
