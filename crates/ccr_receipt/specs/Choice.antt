@@ -16,7 +16,8 @@ use Rattle.ccr_receipt.specs.Way.{used_resources}
 abbrev pub most_pins : ℕ
 most_pins = 3
 
--- What held for an input: the place that was taken was known; pins are words; disabled places ascend, and were known too.
+-- What held for an input: the place that was taken was known; pins are words; disabled places ascend, and were known
+-- too.
 unfoldable pub is_limit : InputSaid → LimitSaid → Bool
 is_limit i l =
     nat_le i.place l.known && (nat_le l.known MOST_PLACES && (nat_le (length l.pins) most_pins
@@ -41,8 +42,9 @@ is_whole i l x (suc n) =
     || (list_any (λ m. m == suc n) x.places || list_any (λ m. m == suc n) l.disabled))
     && is_whole i l x n
 
--- INPUT AND PROBLEM'S INPUT ARE ONE: the same resource and the same gates; each place that could be taken was known; and where no pin
--- held it, each place that is preferred to its own, up to the newest that was known, could be taken or was disabled.
+-- INPUT AND PROBLEM'S INPUT ARE ONE: the same resource and the same gates; each place that could be taken was known;
+-- and where no pin held it, each place that is preferred to its own, up to the newest that was known, could be taken
+-- or was disabled.
 unfoldable pub is_bound : InputSaid → LimitSaid → InputValue → Bool
 is_bound i l x =
     x.scope == i.resource && (bytes_eq x.jobs i.gates

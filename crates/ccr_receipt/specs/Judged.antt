@@ -22,8 +22,9 @@ abbrev pub IsReceiptJudged : Bytes → Bytes × ℕ → Type 0
 IsReceiptJudged bs out =
     IsSaidOf bs out ⊎ ((why : ReceiptFault) × (why ≢ NoMemory) × (out ≡ refused (receipt_fault_words why)))
 
--- WHAT IT MEANS THAT STATUS 0 IS SAID: the bytes are the text of a receipt; it keeps the rules, so its way hangs together; its build
--- succeeded, and took the best of what is listed; and the lines say what it took, in the receipt's own words.
+-- WHAT IT MEANS THAT STATUS 0 IS SAID: the bytes are the text of a receipt; it keeps the rules, so its way hangs
+-- together; its build succeeded, and took the best of what is listed; and the lines say what it took, in the
+-- receipt's own words.
 pub record IsRightReceipt (bs lines : Bytes) : Type 0 where
   pub receipt : ReceiptSaid
   pub kept : IsReceipt receipt
@@ -34,7 +35,8 @@ pub record IsRightReceipt (bs lines : Bytes) : Type 0 where
   pub right : IsRightlyChosen receipt chosen
   pub says : lines ≡ receipt_words receipt
 
--- WHAT IT MEANS THAT STATUS 3 IS SAID: the same, but that the build didn't succeed, or that the moment of its choice isn't known.
+-- WHAT IT MEANS THAT STATUS 3 IS SAID: the same, but that the build didn't succeed, or that the moment of its choice
+-- isn't known.
 pub record IsReceiptHeld (bs lines : Bytes) : Type 0 where
   pub receipt : ReceiptSaid
   pub kept : IsReceipt receipt

@@ -33,8 +33,8 @@ pub record InputSaid : Type 0 where
   pub place : ℕ
   pub gates : List ℕ
 
--- A build: which one, the how manieth of all it was made, how it ended, whether its gates are those that its plan asked for; its
--- gates, what it took, in the order of the plan, and what it moved.
+-- A build: which one, the how manieth of all it was made, how it ended, whether its gates are those that its plan
+-- asked for; its gates, what it took, in the order of the plan, and what it moved.
 pub record BuildSaid : Type 0 where
   pub job : Bytes
   pub number : ℕ
@@ -45,8 +45,8 @@ pub record BuildSaid : Type 0 where
   pub inputs : List InputSaid
   pub moved : List (ℕ × ℕ)
 
--- What held for an input when the build was made: how many versions its scope had, its pins, and which places that come before its
--- own were disabled.
+-- What held for an input when the build was made: how many versions its scope had, its pins, and which places that
+-- come before its own were disabled.
 pub record LimitSaid : Type 0 where
   pub known : ℕ
   pub pins : List Bytes
@@ -60,8 +60,8 @@ pub record ChosenSaid : Type 0 where
   pub claim : Claim
   pub proof : Bytes
 
--- A RECEIPT: resources and versions, the builds behind the one that it is for, the oldest first, that one, and how it was chosen for,
--- if that is known.
+-- A RECEIPT: resources and versions, the builds behind the one that it is for, the oldest first, that one, and how it
+-- was chosen for, if that is known.
 pub record ReceiptSaid : Type 0 where
   pub resources : List ResourceSaid
   pub versions : List VersionSaid

@@ -51,7 +51,8 @@ pair_line q = decimal q.0 ++ spaced q.1 ++ line_end
 abbrev pub plan_word : Bool → Bytes
 plan_word is_asked = if is_asked then codes " asked" else codes " seen"
 
--- `JOB N made M STATUS asked`, or `seen`; `jobs N` with its gates, `inputs N` with what it took, and `moved N` with what it moved
+-- `JOB N made M STATUS asked`, or `seen`; `jobs N` with its gates, `inputs N` with what it took, and `moved N` with
+-- what it moved
 abbrev pub build_lines : BuildSaid → Bytes
 build_lines b =
     b.job ++ spaced b.number ++ codes " made" ++ spaced b.made ++ 32 ∷ status_word b.status

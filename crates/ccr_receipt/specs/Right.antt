@@ -17,8 +17,9 @@ pub record IsShown (c : ChosenSaid) : Type 0 where
   pub text : c.proof ≡ proof_text c.claim tree
   pub accepted : IsAccepted (order_of c.problem) c.problem c.claim tree
 
--- THE BEST OF WHAT IS LISTED WAS TAKEN: the gates are those that the plan asked for, the numbers are the names', the proof shows the claim,
--- and what the build took through its gates is the best choice of the problem: it satisfies, and none that does is better.
+-- THE BEST OF WHAT IS LISTED WAS TAKEN: the gates are those that the plan asked for, the numbers are the names', the
+-- proof shows the claim, and what the build took through its gates is the best choice of the problem: it satisfies,
+-- and none that does is better.
 pub record IsRightlyChosen (r : ReceiptSaid) (c : ChosenSaid) : Type 0 where
   pub asked : r.own.is_asked ≡ true
   pub is_problem : IsProblem c.problem

@@ -6,7 +6,8 @@ use Rattle.ccr_choice.specs.Ascending.{is_before}
 use Rattle.ccr_receipt.specs.Receipt.{Bytes, ResourceSaid, VersionSaid}
 
 -- ---- words
--- Behind its opening quotation mark a name ends at the first quotation mark that stands behind no backslash; no blank is in it.
+-- Behind its opening quotation mark a name ends at the first quotation mark that stands behind no backslash; no blank
+-- is in it.
 abbrev pub is_closed : Bool → Bytes → Bool
 is_closed escaped [] = false
 is_closed escaped (c ∷ cs) =

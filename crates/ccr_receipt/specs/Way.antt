@@ -41,12 +41,13 @@ has_moved e resource place = list_any (λ q. q.0 == resource && q.1 == place) e.
 abbrev pub moved_for : BuildSaid → ℕ → InputSaid → Bool
 moved_for e j i = not (list_any (λ n. n == j) i.gates) || has_moved e i.resource i.place
 
--- It is the build that gate j names, it succeeded, and it moved whatever was taken for these inputs that had to pass the gate.
+-- It is the build that gate j names, it succeeded, and it moved whatever was taken for these inputs that had to pass
+-- the gate.
 abbrev pub passes : List InputSaid → ℕ → GateSaid → BuildSaid → Bool
 passes is j g e = is_named g e && (is_succeeded e.status && list_all (moved_for e j) is)
 
--- A GATE WAS PASSED, gate j of a build behind these: one of these is the build that it names, that one succeeded, and it moved
--- whatever the build took for the inputs that had to pass the gate.
+-- A GATE WAS PASSED, gate j of a build behind these: one of these is the build that it names, that one succeeded, and
+-- it moved whatever the build took for the inputs that had to pass the gate.
 abbrev pub is_passed : List BuildSaid → List InputSaid → ℕ → GateSaid → Bool
 is_passed above is j g = list_any (passes is j g) above
 
@@ -122,14 +123,15 @@ are_rising skipped low [] = true
 are_rising skipped low (s ∷ ss) =
     if nat_lt 0 skipped then are_rising (skipped - 1) low ss else (nat_lt low s.scope && are_rising 0 s.scope ss)
 
--- Resources are numbered in the order in which the receipt's own build first took from them, the others by their scopes.
+-- Resources are numbered in the order in which the receipt's own build first took from them, the others by their
+-- scopes.
 abbrev pub are_in_order : ReceiptSaid → Bool
 are_in_order r =
     are_numbered 0 (map (λ i. i.resource) r.own.inputs) && are_rising (used_resources r.own) 0 r.resources
 
 -- ---- the whole way
--- THE WAY HANGS TOGETHER: there are no more builds than a receipt has; each stands rightly behind those above it and is behind
--- the receipt's own; and that one stands rightly behind all.
+-- THE WAY HANGS TOGETHER: there are no more builds than a receipt has; each stands rightly behind those above it and
+-- is behind the receipt's own; and that one stands rightly behind all.
 unfoldable pub hangs_together : ReceiptSaid → Bool
 hangs_together r =
     nat_lt (length r.before) MOST_LISTED

@@ -181,8 +181,8 @@ way_words r =
 abbrev pub honest_words : Bytes
 honest_words = codes "said by the receipt alone: who made it, and that its history is the true and whole one, a signature and the archive say"
 
--- WHAT IS PRINTED of a receipt that keeps the rules: whether it is accepted or holds less, what it took and why; the way; and what
--- can't be known from it.
+-- WHAT IS PRINTED of a receipt that keeps the rules: whether it is accepted or holds less, what it took and why; the
+-- way; and what can't be known from it.
 abbrev pub receipt_words : ReceiptSaid → Bytes
 receipt_words r = first_words r r.chosen ++ line_end ++ way_words r ++ line_end ++ honest_words
 

@@ -56,7 +56,8 @@ fn is_limit(input: &Input, limit: &Limit) -> bool
         && are_known(&limit.disabled, limit.known)
 }
 
-/// The first limit that isn't one of the input with its number; how many there are in common, where there are more of one.
+/// The first limit that isn't one of the input with its number; how many there are in common, where there are more of
+/// one.
 #[tactic(auto, using(crate::proofs::Ending::limits_none, crate::proofs::Ending::limits_end))]
 pub(crate) fn bad_limit(inputs: &[Input], limits: &[Limit]) -> Option<usize>
     ensures { is_some result ≡ not (are_limits inputs.now limits.now) }
@@ -95,7 +96,8 @@ fn are_disabled(input: &Input, limit: &Limit, choices: &ccr_choice::Input) -> bo
         .all(|place| is_disabled(input, choices, *place))
 }
 
-/// Whether a place was left out, which is preferred to the one that was taken: it couldn't be taken, and wasn't disabled.
+/// Whether a place was left out, which is preferred to the one that was taken: it couldn't be taken, and wasn't
+/// disabled.
 fn is_left_out(input: &Input, limit: &Limit, choices: &ccr_choice::Input, place: u32) -> bool
     ensures { result ≡ (prefers_after choices.now.after place input.now.place
         && not (list_any (λ m. m == place) choices.now.places || list_any (λ m. m == place) limit.now.disabled)) }
@@ -131,7 +133,8 @@ fn is_bound(input: &Input, limit: &Limit, choices: &ccr_choice::Input) -> bool
         && (!limit.pins.is_empty() || is_whole(input, limit, choices))
 }
 
-/// The first of the problem's inputs that isn't the receipt's; how many there are in common, where there are more of one.
+/// The first of the problem's inputs that isn't the receipt's; how many there are in common, where there are more of
+/// one.
 #[tactic(auto, using(crate::proofs::Ending::bound_none, crate::proofs::Ending::bound_end, crate::proofs::Ending::bound_unheld))]
 pub(crate) fn bad_bound(
     inputs: &[Input],

@@ -5,7 +5,8 @@ use crate::input::Input;
 use crate::status::Status;
 use std::marker::Model;
 
-/// A build: which one it is, the how manieth of all it was made, how it ended, and what it took and moved through which gates.
+/// A build: which one it is, the how manieth of all it was made, how it ended, and what it took and moved through
+/// which gates.
 #[derive(Drop)]
 pub struct Build {
     /// The job.

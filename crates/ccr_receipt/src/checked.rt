@@ -12,7 +12,8 @@ use crate::rules::{bad_resource, bad_version};
 use crate::way::bad_way;
 use ccr_check::check;
 
-/// Tests that a choice was right: its gates are those that the plan asked for, its numbers are the names', and its proof shows it.
+/// Tests that a choice was right: its gates are those that the plan asked for, its numbers are the names', and its
+/// proof shows it.
 #[tactic(auto, using(crate::proofs::Checking::none_passes, crate::proofs::Checking::is_rightly_chosen))]
 fn check_choice(receipt: &Receipt, chosen: &Chosen) -> Result<(), ReceiptFault>
     ensures { OnOk result (IsRightlyChosen receipt.now chosen.now) }

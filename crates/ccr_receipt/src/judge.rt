@@ -67,9 +67,10 @@ fn judge_text(alloc: Global, bytes: &[u8]) -> Result<(String, u8), AllocError>
     }
 }
 
-/// What is said of a receipt's text: lines, and an exit status. 0, `accepted`: the build succeeded, and took the best. 3, `holds`: what the
-/// receipt says hangs together, but its build didn't succeed, or the moment of its choice isn't known. 1, `refused`: with the line that shows it.
-/// Of what isn't refused, the second line tells the way, and the third what a receipt alone can't know. The only error is want of memory.
+/// What is said of a receipt's text: lines, and an exit status. 0, `accepted`: the build succeeded, and took the
+/// best. 3, `holds`: what the receipt says hangs together, but its build didn't succeed, or the moment of its choice
+/// isn't known. 1, `refused`: with the line that shows it. Of what isn't refused, the second line tells the way, and
+/// the third what a receipt alone can't know. The only error is want of memory.
 pub fn judge_receipt(alloc: Global, bytes: &[u8]) -> Result<(String, u8), AllocError>
     ensures judged { IfOk result (λ x. IsReceiptJudged bytes.now (string_bytes x.0, x.1)) }
 

@@ -1,11 +1,13 @@
 //! Receipts of builds: what a build took, through which builds that had gone, and why it was right when it was made.
 //!
-//! A [`Receipt`] is one text with names (`specs/ReceiptText.antt`): the resources and versions that it speaks of, the builds
-//! behind the one that it is for, this one, and, where the moment of its choice was kept, what it could take, with a proof that
-//! it took the best. [`judge_receipt`] judges such a text alone, without a database, and says in words what holds. What it means
-//! that a line says `accepted` or `holds` stands in `specs/Right.antt`, which is written to be read by a sceptic.
+//! A [`Receipt`] is one text with names (`specs/ReceiptText.antt`): the resources and versions that it speaks of, the
+//! builds behind the one that it is for, this one, and, where the moment of its choice was kept, what it could take,
+//! with a proof that it took the best. [`judge_receipt`] judges such a text alone, without a database, and says in
+//! words what holds. What it means that a line says `accepted` or `holds` stands in `specs/Right.antt`, which is
+//! written to be read by a sceptic.
 //!
-//! Reading is free: [`read_receipt`] writes what it found again, and compares. So what is read is said by the text, each byte of it.
+//! Reading is free: [`read_receipt`] writes what it found again, and compares. So what is read is said by the text,
+//! each byte of it.
 #![tactic(auto)]
 
 mod alike;

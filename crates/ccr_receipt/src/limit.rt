@@ -17,8 +17,8 @@ impl Model for Pin {
     ghost view = { λ a. string_bytes a.text };
 }
 
-/// What held for an input when the build was made: how many versions its scope had, its pins, and which places that come before
-/// its own were disabled.
+/// What held for an input when the build was made: how many versions its scope had, its pins, and which places that
+/// come before its own were disabled.
 #[derive(Drop)]
 pub struct Limit {
     /// How many versions were known.

@@ -50,7 +50,8 @@ fn are_rising(skipped: u32, resources: &[Resource]) -> bool
     true
 }
 
-/// Whether resources are numbered in the order in which the receipt's own build first took from them, the others by their scopes.
+/// Whether resources are numbered in the order in which the receipt's own build first took from them, the others by
+/// their scopes.
 pub(crate) fn are_in_order(receipt: &Receipt) -> bool
     ensures { result ≡ are_in_order receipt.now }
 {

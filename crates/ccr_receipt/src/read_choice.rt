@@ -51,8 +51,8 @@ fn proof_in(alloc: Global, text: &[u8], above: usize) -> Result<Proof, ReceiptFa
     }
 }
 
-/// How the build was chosen for, by the pipeline with this digest. The problem goes on to a line that begins with `proof`, and the proof
-/// to one that begins with `seal`.
+/// How the build was chosen for, by the pipeline with this digest. The problem goes on to a line that begins with
+/// `proof`, and the proof to one that begins with `seal`.
 pub(crate) fn choice(
     alloc: Global,
     pipeline: String,

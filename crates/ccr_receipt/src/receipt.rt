@@ -9,8 +9,8 @@ use std::marker::Model;
 /// How many builds a receipt lists at the most.
 pub const MOST_LISTED: usize = 256;
 
-/// What a receipt says: resources and versions, the builds behind the one that it is for, the oldest first, that one, and how it was
-/// chosen for, if that is known.
+/// What a receipt says: resources and versions, the builds behind the one that it is for, the oldest first, that one,
+/// and how it was chosen for, if that is known.
 #[derive(Drop)]
 pub struct Receipt {
     /// The resources, by whose numbers the rest speaks.

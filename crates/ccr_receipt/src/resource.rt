@@ -2,7 +2,8 @@
 
 use std::marker::Model;
 
-/// A resource: its name, the number that the history has for its scope, and its type. Names are words of the text, as they stand there.
+/// A resource: its name, the number that the history has for its scope, and its type. Names are words of the text, as
+/// they stand there.
 #[derive(Drop)]
 pub struct Resource {
     /// The name.

@@ -53,7 +53,8 @@ fn has_name(inputs: &[Input], name: &str) -> bool
         .any(|input| input.name.as_bytes() == name.as_bytes())
 }
 
-/// Whether an input has a name that none before it has, a version that is listed, and gates of which none is named twice.
+/// Whether an input has a name that none before it has, a version that is listed, and gates of which none is named
+/// twice.
 #[tactic(auto, unfolding(crate::specs::Way::is_input))]
 fn is_input(versions: &[Version], earlier: &[Input], input: &Input) -> bool
     ensures { result ≡ is_input versions.now earlier.now input.now }
@@ -75,7 +76,8 @@ fn bad_among(versions: &[Version], inputs: &[Input]) -> Option<usize>
     None
 }
 
-/// The first input whose gates aren't numbered in the order in which they are first named; or the last one, where a gate isn't named.
+/// The first input whose gates aren't numbered in the order in which they are first named; or the last one, where a
+/// gate isn't named.
 fn bad_numbering(gates: usize, inputs: &[Input]) -> Option<usize>
     ensures { is_some result ≡ not (are_first_named gates 0 inputs.now) }
 {

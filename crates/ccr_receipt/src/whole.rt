@@ -79,9 +79,9 @@ fn seal_fault(text: &[u8], rest: &[u8]) -> ReceiptFault {
 
 /// The receipt that a text stands for.
 ///
-/// BadLine(n): line n, counted from 1, isn't what has to stand there, or it breaks a rule; it is the first such line, where only one is bad.
-/// BadProof, TooManyNodes: the proof shows nothing. BadSeal: the last line isn't the digest of what is above it. NoMemory: memory was
-/// refused, and nothing is said of the text.
+/// BadLine(n): line n, counted from 1, isn't what has to stand there, or it breaks a rule; it is the first such line,
+/// where only one is bad. BadProof, TooManyNodes: the proof shows nothing. BadSeal: the last line isn't the digest of
+/// what is above it. NoMemory: memory was refused, and nothing is said of the text.
 pub fn read_receipt(alloc: Global, bytes: &[u8]) -> Result<Receipt, ReceiptFault>
     // What is read keeps the rules, and the text is its text.
     ensures kept { IfOk result IsReceipt }
