@@ -20,14 +20,18 @@ limits_end is (l ∷ ls) h = absurd (omega arith)
 -- ---- inputs, limits and the problem's inputs
 pub bound_none : (is : List InputSaid) (ls : List LimitSaid) (xs : List InputValue) → length is ≡ 0
     → are_bound is ls xs ≡ (length xs == 0)
-bound_none [] ls [] h = refl
-bound_none [] ls (x ∷ xs) h = refl
+bound_none [] [] [] h = refl
+bound_none [] [] (x ∷ xs) h = refl
+bound_none [] (l ∷ ls) [] h = refl
+bound_none [] (l ∷ ls) (x ∷ xs) h = refl
 bound_none (i ∷ is) ls xs h = absurd (omega arith)
 
 pub bound_end : (is : List InputSaid) (ls : List LimitSaid) (xs : List InputValue) → length xs ≡ 0
     → are_bound is ls xs ≡ (length is == 0)
-bound_end [] ls [] h = refl
-bound_end (i ∷ is) ls [] h = refl
+bound_end [] [] [] h = refl
+bound_end [] (l ∷ ls) [] h = refl
+bound_end (i ∷ is) [] [] h = refl
+bound_end (i ∷ is) (l ∷ ls) [] h = refl
 bound_end is ls (x ∷ xs) h = absurd (omega arith)
 
 pub bound_unheld : (is : List InputSaid) (ls : List LimitSaid) (xs : List InputValue) → length ls ≡ 0
@@ -52,17 +56,17 @@ alike_end listed known (g ∷ gs) [] h = refl
 alike_end listed known gs (vs ∷ more) h = absurd (omega arith)
 
 -- ---- numbers and what they are of
-pub same_none : {A : Type 0} (of : A → ℕ) (ns : List ℕ) (xs : List A) → length ns ≡ 0
-    → bytes_eq ns (map of xs) ≡ (length xs == 0)
-same_none of [] [] h = refl
-same_none of [] (x ∷ xs) h = refl
-same_none of (n ∷ ns) xs h = absurd (omega arith)
+pub same_none : {A : Type 0} (f : A → ℕ) (ns : List ℕ) (xs : List A) → length ns ≡ 0
+    → bytes_eq ns (map f xs) ≡ (length xs == 0)
+same_none f [] [] h = refl
+same_none f [] (x ∷ xs) h = refl
+same_none f (n ∷ ns) xs h = absurd (omega arith)
 
-pub same_end : {A : Type 0} (of : A → ℕ) (ns : List ℕ) (xs : List A) → length xs ≡ 0
-    → bytes_eq ns (map of xs) ≡ (length ns == 0)
-same_end of [] [] h = refl
-same_end of (n ∷ ns) [] h = refl
-same_end of ns (x ∷ xs) h = absurd (omega arith)
+pub same_end : {A : Type 0} (f : A → ℕ) (ns : List ℕ) (xs : List A) → length xs ≡ 0
+    → bytes_eq ns (map f xs) ≡ (length ns == 0)
+same_end f [] [] h = refl
+same_end f (n ∷ ns) [] h = refl
+same_end f ns (x ∷ xs) h = absurd (omega arith)
 
 -- ---- the words of what was taken
 pub took_none : (r : ReceiptSaid) (front : Bytes) (is : List InputSaid) (ls : List LimitSaid) (xs : List InputValue) → length is ≡ 0

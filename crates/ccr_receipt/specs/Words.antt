@@ -165,8 +165,11 @@ is_cut b = list_any (λ g. g.beyond) b.gates
 abbrev pub cut_words : ReceiptSaid → Bytes
 cut_words r = if list_any is_cut r.before || is_cut r.own then codes "; cut" else []
 
+abbrev pub known_words : ChosenSaid → Bytes
+known_words c = codes "the pipeline " ++ c.pipeline
+
 abbrev pub pipeline_words : Option ChosenSaid → Bytes
-pipeline_words (Some c) = codes "the pipeline " ++ c.pipeline
+pipeline_words (Some c) = known_words c
 pipeline_words None = codes "a pipeline that isn't known"
 
 -- `build M of all, by the pipeline SHA256; behind it JOB N, JOB N and K more`

@@ -1,6 +1,7 @@
 //! What a word of a receipt looks like.
 
-ghost use Rattle.std.specs.Prelude.{◌≡◌};
+ghost use Rattle.std.specs.Prelude.{◌≡◌, nat_lt};
+ghost use Rattle.std.specs.List.{list_all};
 ghost use Rattle.ccr_receipt.specs.Rules.{is_closed, is_name, is_version, is_digest};
 
 /// Whether a name ends here, at its closing quotation mark and nowhere before; `escaped`: behind a backslash.
@@ -33,13 +34,19 @@ pub(crate) fn is_name(word: &[u8]) -> bool
     }
 }
 
+fn are_visible(bytes: &[u8]) -> bool
+    ensures { result ≡ list_all (λ b. nat_lt 32 b) bytes.now }
+{
+    bytes.iter().all(|c| *c > b' ')
+}
+
 /// Whether a word can be a version or a pin: something between braces.
 #[tactic(auto, unfolding(crate::specs::Rules::is_version))]
 pub(crate) fn is_version(word: &[u8]) -> bool
     ensures { result ≡ is_version word.now }
 {
     match word {
-        [b'{', rest @ ..] => rest.ends_with(b"}") && rest.iter().all(|c| *c > b' '),
+        [b'{', rest @ ..] => rest.ends_with(b"}") && are_visible(rest),
         _ => false,
     }
 }

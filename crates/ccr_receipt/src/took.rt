@@ -20,13 +20,19 @@ fn put_place(out: &mut String, place: u32, known: u32) -> Result<(), AllocError>
     }
 }
 
+fn put_pin(out: &mut String, pin: &Pin) -> Result<(), AllocError>
+    ensures { OnOk result (string_bytes out.new ≡ string_bytes out.old ++ pinned_words pin.now) }
+{
+    out.push_str("; pinned to ")?;
+    out.push_str(pin.text.as_str())
+}
+
 fn put_pinned(out: &mut String, pins: &[Pin]) -> Result<(), AllocError>
     ensures { OnOk result (string_bytes out.new ≡ string_bytes out.old ++ flat_map pinned_words pins.now) }
 {
     let mut rest = pins;
     while let [pin, others @ ..] = rest {
-        out.push_str("; pinned to ")?;
-        out.push_str(pin.text.as_str())?;
+        put_pin(out, pin)?;
         rest = others;
     }
     Ok(())
