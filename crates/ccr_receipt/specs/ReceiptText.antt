@@ -84,11 +84,21 @@ abbrev pub pipeline_word : Option ChosenSaid → Bytes
 pipeline_word (Some c) = c.pipeline
 pipeline_word None = codes "unknown"
 
--- `receipt 1`, `of JOB N`, and `pipeline SHA256` or `pipeline unknown`
+-- `receipt 1`
+abbrev pub format_line : Bytes
+format_line = codes "receipt 1" ++ line_end
+
+-- `of JOB N`
+abbrev pub subject_line : BuildSaid → Bytes
+subject_line b = codes "of " ++ b.job ++ spaced b.number ++ line_end
+
+-- `pipeline SHA256` or `pipeline unknown`
+abbrev pub pipeline_line : Option ChosenSaid → Bytes
+pipeline_line chosen = codes "pipeline " ++ pipeline_word chosen ++ line_end
+
+-- the first three lines
 abbrev pub head_lines : ReceiptSaid → Bytes
-head_lines r =
-    codes "receipt 1" ++ line_end ++ codes "of " ++ r.own.job ++ spaced r.own.number ++ line_end
-    ++ codes "pipeline " ++ pipeline_word r.chosen ++ line_end
+head_lines r = format_line ++ subject_line r.own ++ pipeline_line r.chosen
 
 -- what shows the choice, where its moment is known
 abbrev pub choice_lines : Option ChosenSaid → Bytes

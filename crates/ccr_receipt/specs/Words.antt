@@ -66,11 +66,15 @@ disabled_words (n ∷ ns) = codes "; without the disabled " ++ decimal n ++ flat
 abbrev pub input_words : ReceiptSaid → InputSaid → Bytes
 input_words r i = i.name ++ 32 ∷ version_at r.versions i.resource i.place
 
+-- `; passed JOB N, JOB N`
+abbrev pub passed_words : ReceiptSaid → InputSaid → Bytes
+passed_words r i = gates_words (codes "; passed ") r.own.gates i.gates []
+
 -- `INPUT VERSION (PLACE of KNOWN; pinned to PIN; every version in turn; without the disabled P; passed JOB N, ..)`
 abbrev pub took_words : ReceiptSaid → InputSaid → LimitSaid → InputValue → Bytes
 took_words r i l x =
     input_words r i ++ codes " (" ++ place_words i.place l.known ++ flat_map pinned_words l.pins ++ every_words x.after
-    ++ disabled_words l.disabled ++ gates_words (codes "; passed ") r.own.gates i.gates [] ++ codes ")"
+    ++ disabled_words l.disabled ++ passed_words r i ++ codes ")"
 
 -- the same of each input, `and` between two of them
 abbrev pub all_took : ReceiptSaid → Bytes → List InputSaid → List LimitSaid → List InputValue → Bytes
@@ -79,9 +83,13 @@ all_took r front (i ∷ is) [] xs = []
 all_took r front (i ∷ is) (l ∷ ls) [] = []
 all_took r front (i ∷ is) (l ∷ ls) (x ∷ xs) = front ++ took_words r i l x ++ all_took r (codes " and ") is ls xs
 
+-- ` (moved before by JOB N, JOB N)`
+abbrev pub movers_words : ReceiptSaid → InputSaid → Bytes
+movers_words r i = gates_words (codes " (moved before by ") r.own.gates i.gates (codes ")")
+
 -- `INPUT VERSION (moved before by JOB N, ..)`, where the moment of the choice isn't known
 abbrev pub seen_words : ReceiptSaid → InputSaid → Bytes
-seen_words r i = input_words r i ++ gates_words (codes " (moved before by ") r.own.gates i.gates (codes ")")
+seen_words r i = input_words r i ++ movers_words r i
 
 -- the same of each input, `and` between two of them
 abbrev pub all_seen : ReceiptSaid → Bytes → List InputSaid → Bytes

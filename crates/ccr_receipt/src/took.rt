@@ -2,7 +2,7 @@
 
 ghost use Rattle.std.specs.Prelude.{◌≡◌, ◌++◌, [], OnOk, string_bytes};
 ghost use Rattle.std.specs.List.{flat_map};
-ghost use Rattle.ccr_receipt.specs.Words.{place_words, pinned_words, every_words, next_place, disabled_words, input_words, took_words, all_took, seen_words, all_seen, taken_words};
+ghost use Rattle.ccr_receipt.specs.Words.{place_words, pinned_words, every_words, next_place, disabled_words, input_words, passed_words, movers_words, took_words, all_took, seen_words, all_seen, taken_words};
 
 use crate::input::Input;
 use crate::limit::{Limit, Pin};
@@ -70,6 +70,24 @@ fn put_input(out: &mut String, receipt: &Receipt, input: &Input) -> Result<(), A
     put_version(out, &receipt.versions, input.resource, input.place)
 }
 
+fn put_passed(out: &mut String, receipt: &Receipt, input: &Input) -> Result<(), AllocError>
+    ensures { OnOk result (string_bytes out.new ≡ string_bytes out.old ++ passed_words receipt.now input.now) }
+{
+    put_gates(out, "; passed ", &receipt.own.gates, &input.gates, "")
+}
+
+fn put_movers(out: &mut String, receipt: &Receipt, input: &Input) -> Result<(), AllocError>
+    ensures { OnOk result (string_bytes out.new ≡ string_bytes out.old ++ movers_words receipt.now input.now) }
+{
+    put_gates(
+        out,
+        " (moved before by ",
+        &receipt.own.gates,
+        &input.gates,
+        ")",
+    )
+}
+
 /// Adds what was taken for an input, and why.
 fn put_took(
     out: &mut String,
@@ -87,7 +105,7 @@ fn put_took(
     put_pinned(out, &limit.pins)?;
     put_every(out, choices.after())?;
     put_disabled(out, &limit.disabled)?;
-    put_gates(out, "; passed ", &receipt.own.gates, &input.gates, "")?;
+    put_passed(out, receipt, input)?;
     out.push_str(")")
 }
 
@@ -123,13 +141,7 @@ fn put_seen(out: &mut String, receipt: &Receipt, input: &Input) -> Result<(), Al
     ensures { OnOk result (string_bytes out.new ≡ string_bytes out.old ++ seen_words receipt.now input.now) }
 {
     put_input(out, receipt, input)?;
-    put_gates(
-        out,
-        " (moved before by ",
-        &receipt.own.gates,
-        &input.gates,
-        ")",
-    )
+    put_movers(out, receipt, input)
 }
 
 fn put_all_seen(out: &mut String, receipt: &Receipt) -> Result<(), AllocError>

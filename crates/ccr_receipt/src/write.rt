@@ -2,8 +2,9 @@
 
 ghost use Rattle.std.specs.Prelude.{◌≡◌, ◌++◌, IfOk, OnOk, string_bytes};
 ghost use Rattle.std.specs.List.{flat_map};
-ghost use Rattle.ccr_receipt.specs.ReceiptText.{resource_line, version_line, pipeline_word, head_lines, chosen_lines, choice_lines, body_text, receipt_text};
+ghost use Rattle.ccr_receipt.specs.ReceiptText.{resource_line, version_line, pipeline_word, format_line, subject_line, pipeline_line, head_lines, chosen_lines, choice_lines, body_text, receipt_text};
 
+use crate::build::Build;
 use crate::chosen::Chosen;
 use crate::put::put_count;
 use crate::receipt::Receipt;
@@ -64,15 +65,35 @@ fn put_pipeline(out: &mut String, chosen: &Option<Chosen>) -> Result<(), AllocEr
     }
 }
 
+fn put_format(out: &mut String) -> Result<(), AllocError>
+    ensures { OnOk result (string_bytes out.new ≡ string_bytes out.old ++ format_line) }
+{
+    out.push_str("receipt 1\n")
+}
+
+fn put_subject(out: &mut String, build: &Build) -> Result<(), AllocError>
+    ensures { OnOk result (string_bytes out.new ≡ string_bytes out.old ++ subject_line build.now) }
+{
+    out.push_str("of ")?;
+    out.push_str(build.job.as_str())?;
+    write!(out, " {}\n", build.number)
+}
+
+fn put_pipeline_line(out: &mut String, chosen: &Option<Chosen>) -> Result<(), AllocError>
+    ensures { OnOk result (string_bytes out.new ≡ string_bytes out.old ++ pipeline_line chosen.now) }
+{
+    out.push_str("pipeline ")?;
+    put_pipeline(out, chosen)?;
+    out.push_str("\n")
+}
+
 /// Adds the first three lines: the format, the build, and the pipeline by which it was chosen for.
 fn put_head(out: &mut String, receipt: &Receipt) -> Result<(), AllocError>
     ensures { OnOk result (string_bytes out.new ≡ string_bytes out.old ++ head_lines receipt.now) }
 {
-    out.push_str("receipt 1\nof ")?;
-    out.push_str(receipt.own.job.as_str())?;
-    write!(out, " {}\npipeline ", receipt.own.number)?;
-    put_pipeline(out, &receipt.chosen)?;
-    out.push_str("\n")
+    put_format(out)?;
+    put_subject(out, &receipt.own)?;
+    put_pipeline_line(out, &receipt.chosen)
 }
 
 /// Adds how the build was chosen for: what held for its inputs, the problem and the proof.
