@@ -25,6 +25,6 @@ not_left_out false q h = refl
 
 -- what was left out
 pub left_out : (p q : Bool) → (p && not q) ≡ true → (not p || q) ≡ false
-left_out true true h = h
+left_out true true h = sym h
 left_out true false h = refl
 left_out false q h = sym h

@@ -26,11 +26,11 @@ pub is_refused : (bs : Bytes) (why : ReceiptFault) (out : Bytes × ℕ) → (why
 is_refused bs why out some says = inr (why, some, says)
 
 -- ---- what the status says of a receipt
-zero_is : (b : Bool) → cond b 0 3 ≡ 0 → b ≡ true
+zero_is : (b : Bool) → ◌≡◌ {A = ℕ} (cond b 0 3) 0 → b ≡ true
 zero_is true h = refl
 zero_is false h = absurd (omega arith)
 
-three_is : (b : Bool) → cond b 0 3 ≡ 3 → b ≡ false
+three_is : (b : Bool) → ◌≡◌ {A = ℕ} (cond b 0 3) 3 → b ≡ false
 three_is true h = absurd (omega arith)
 three_is false h = refl
 
@@ -66,7 +66,7 @@ accepted_text : (bs : Bytes) (out : Bytes × ℕ) → IsReceiptJudged bs out →
 accepted_text bs out (inl s) zero =
     right_receipt bs out.0 s.receipt s.kept s.text (ap (λ y. y.0) s.says)
     (zero_is (is_accepted s.receipt) (ap (λ y. y.1) (sym s.says) ∙ zero))
-accepted_text bs out (inr h) zero = let e : 1 ≡ 0 = ap (λ y. y.1) (sym h.2) ∙ zero in absurd (omega arith)
+accepted_text bs out (inr h) zero = let e : ◌≡◌ {A = ℕ} 1 0 = ap (λ y. y.1) (sym h.2) ∙ zero in absurd (omega arith)
 
 held_text : (bs : Bytes) (out : Bytes × ℕ) → IsReceiptJudged bs out → out.1 ≡ 3 → IsReceiptHeld bs out.0
 held_text bs out (inl s) three = record {
@@ -76,7 +76,7 @@ held_text bs out (inl s) three = record {
   says = ap (λ y. y.0) s.says;
   less = three_is (is_accepted s.receipt) (ap (λ y. y.1) (sym s.says) ∙ three);
 }
-held_text bs out (inr h) three = let e : 1 ≡ 3 = ap (λ y. y.1) (sym h.2) ∙ three in absurd (omega arith)
+held_text bs out (inr h) three = let e : ◌≡◌ {A = ℕ} 1 3 = ap (λ y. y.1) (sym h.2) ∙ three in absurd (omega arith)
 
 -- ---- what judge_receipt promises
 pub accepted_of : {X E : Type 0} (view : X → Bytes × ℕ) (result : Result X E) (bs : Bytes)

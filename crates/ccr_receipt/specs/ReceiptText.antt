@@ -51,15 +51,26 @@ pair_line q = decimal q.0 ++ spaced q.1 ++ line_end
 abbrev pub plan_word : Bool → Bytes
 plan_word is_asked = if is_asked then codes " asked" else codes " seen"
 
--- `JOB N made M STATUS asked`, or `seen`; `jobs N` with its gates, `inputs N` with what it took, and `moved N` with
--- what it moved
-abbrev pub build_lines : BuildSaid → Bytes
-build_lines b =
-    b.job ++ spaced b.number ++ codes " made" ++ spaced b.made ++ 32 ∷ status_word b.status
-    ++ plan_word b.is_asked ++ line_end
-    ++ count_line (codes "jobs") (length b.gates) ++ flat_map gate_line b.gates
-    ++ count_line (codes "inputs") (length b.inputs) ++ flat_map input_line b.inputs
-    ++ count_line (codes "moved") (length b.moved) ++ flat_map pair_line b.moved
+-- `JOB N made M STATUS asked`, or `seen`
+abbrev pub build_line : BuildSaid → Bytes
+build_line b =
+    b.job ++ spaced b.number ++ codes " made" ++ spaced b.made ++ 32 ∷ status_word b.status ++ plan_word b.is_asked ++ line_end
+
+-- `jobs N` with gates
+unfoldable pub gate_lines : List GateSaid → Bytes
+gate_lines gs = count_line (codes "jobs") (length gs) ++ flat_map gate_line gs
+
+-- `inputs N` with what was taken
+unfoldable pub input_lines : List InputSaid → Bytes
+input_lines is = count_line (codes "inputs") (length is) ++ flat_map input_line is
+
+-- `moved N` with what was moved
+unfoldable pub moved_lines : List (ℕ × ℕ) → Bytes
+moved_lines qs = count_line (codes "moved") (length qs) ++ flat_map pair_line qs
+
+-- a build: its line, its gates, what it took and what it moved
+unfoldable pub build_lines : BuildSaid → Bytes
+build_lines b = build_line b ++ gate_lines b.gates ++ input_lines b.inputs ++ moved_lines b.moved
 
 -- a pin behind a blank
 abbrev pub pin_word : Bytes → Bytes
@@ -72,11 +83,11 @@ limit_line l =
     ++ flat_map spaced l.disabled ++ line_end
 
 -- `limits N`, and a line for each input
-abbrev pub limit_lines : List LimitSaid → Bytes
+unfoldable pub limit_lines : List LimitSaid → Bytes
 limit_lines ls = count_line (codes "limits") (length ls) ++ flat_map limit_line ls
 
 -- the limits, the problem, and the proof
-abbrev pub chosen_lines : ChosenSaid → Bytes
+unfoldable pub chosen_lines : ChosenSaid → Bytes
 chosen_lines c = limit_lines c.limits ++ problem_text c.problem ++ c.proof
 
 -- the digest of the pipeline, where the moment of the choice is known
@@ -97,7 +108,7 @@ abbrev pub pipeline_line : Option ChosenSaid → Bytes
 pipeline_line chosen = codes "pipeline " ++ pipeline_word chosen ++ line_end
 
 -- the first three lines
-abbrev pub head_lines : ReceiptSaid → Bytes
+unfoldable pub head_lines : ReceiptSaid → Bytes
 head_lines r = format_line ++ subject_line r.own ++ pipeline_line r.chosen
 
 -- what shows the choice, where its moment is known
@@ -105,14 +116,22 @@ abbrev pub choice_lines : Option ChosenSaid → Bytes
 choice_lines (Some c) = chosen_lines c
 choice_lines None = []
 
+-- `resources N` with resources
+unfoldable pub resource_lines : List ResourceSaid → Bytes
+resource_lines ss = count_line (codes "resources") (length ss) ++ flat_map resource_line ss
+
+-- `versions N` with versions
+unfoldable pub version_lines : List VersionSaid → Bytes
+version_lines vs = count_line (codes "versions") (length vs) ++ flat_map version_line vs
+
+-- `builds N` with builds, the receipt's own the last
+unfoldable pub all_lines : ReceiptSaid → Bytes
+all_lines r = count_line (codes "builds") (length r.before + 1) ++ flat_map build_lines r.before ++ build_lines r.own
+
 -- a receipt but for its last line
 abbrev pub body_text : ReceiptSaid → Bytes
 body_text r =
-    head_lines r
-    ++ count_line (codes "resources") (length r.resources) ++ flat_map resource_line r.resources
-    ++ count_line (codes "versions") (length r.versions) ++ flat_map version_line r.versions
-    ++ count_line (codes "builds") (length r.before + 1) ++ flat_map build_lines r.before ++ build_lines r.own
-    ++ choice_lines r.chosen
+    head_lines r ++ resource_lines r.resources ++ version_lines r.versions ++ all_lines r ++ choice_lines r.chosen
 
 -- the SHA-256 of bytes, as 64 digits from 0 to f
 abbrev pub digest_word : Bytes → Bytes

@@ -46,8 +46,11 @@ gates_words front gs (j ∷ js) end = front ++ gate_words gs j ++ flat_map (next
 abbrev pub place_words : ℕ → ℕ → Bytes
 place_words place known = if place == known then codes "newest" else decimal place ++ codes " of " ++ decimal known
 
+unfoldable pub pinned_to : Bytes
+pinned_to = codes "; pinned to "
+
 abbrev pub pinned_words : Bytes → Bytes
-pinned_words pin = codes "; pinned to " ++ pin
+pinned_words pin = pinned_to ++ pin
 
 -- that the input takes one version after the other
 abbrev pub every_words : Option ℕ → Bytes
@@ -84,8 +87,11 @@ all_took r front (i ∷ is) (l ∷ ls) [] = []
 all_took r front (i ∷ is) (l ∷ ls) (x ∷ xs) = front ++ took_words r i l x ++ all_took r (codes " and ") is ls xs
 
 -- ` (moved before by JOB N, JOB N)`
+unfoldable pub moved_before : Bytes
+moved_before = codes " (moved before by "
+
 abbrev pub movers_words : ReceiptSaid → InputSaid → Bytes
-movers_words r i = gates_words (codes " (moved before by ") r.own.gates i.gates (codes ")")
+movers_words r i = gates_words moved_before r.own.gates i.gates (codes ")")
 
 -- `INPUT VERSION (moved before by JOB N, ..)`, where the moment of the choice isn't known
 abbrev pub seen_words : ReceiptSaid → InputSaid → Bytes
@@ -173,8 +179,11 @@ is_cut b = list_any (λ g. g.beyond) b.gates
 abbrev pub cut_words : ReceiptSaid → Bytes
 cut_words r = if list_any is_cut r.before || is_cut r.own then codes "; cut" else []
 
+unfoldable pub the_pipeline : Bytes
+the_pipeline = codes "the pipeline "
+
 abbrev pub known_words : ChosenSaid → Bytes
-known_words c = codes "the pipeline " ++ c.pipeline
+known_words c = the_pipeline ++ c.pipeline
 
 abbrev pub pipeline_words : Option ChosenSaid → Bytes
 pipeline_words (Some c) = known_words c

@@ -2,7 +2,7 @@
 
 ghost use Rattle.std.specs.Prelude.{◌≡◌, ◌++◌, not, count_by, OnOk, string_bytes};
 ghost use Rattle.std.specs.List.{list_any};
-ghost use Rattle.ccr_receipt.specs.Words.{newest_words, more_words, seen_count_words, is_cut, cut_words, known_words, pipeline_words, way_words};
+ghost use Rattle.ccr_receipt.specs.Words.{newest_words, more_words, seen_count_words, is_cut, cut_words, the_pipeline, known_words, pipeline_words, way_words};
 
 use crate::build::Build;
 use crate::chosen::Chosen;
@@ -78,10 +78,17 @@ fn put_cut(out: &mut String, receipt: &Receipt) -> Result<(), AllocError>
     }
 }
 
+#[tactic(auto, unfolding(crate::specs::Words::the_pipeline))]
+fn the_pipeline() -> &'static str
+    ensures { result.now ≡ the_pipeline }
+{
+    "the pipeline "
+}
+
 fn put_known(out: &mut String, chosen: &Chosen) -> Result<(), AllocError>
     ensures { OnOk result (string_bytes out.new ≡ string_bytes out.old ++ known_words chosen.now) }
 {
-    out.push_str("the pipeline ")?;
+    out.push_str(the_pipeline())?;
     out.push_str(chosen.pipeline.as_str())
 }
 

@@ -2,7 +2,7 @@
 
 ghost use Rattle.std.specs.Prelude.{◌≡◌, nat_lt};
 ghost use Rattle.std.specs.List.{list_all};
-ghost use Rattle.ccr_receipt.specs.Rules.{is_closed, is_name, is_version, is_digest};
+ghost use Rattle.ccr_receipt.specs.Rules.{is_closed, is_name, is_version, is_hex, is_digest};
 
 /// Whether a name ends here, at its closing quotation mark and nowhere before; `escaped`: behind a backslash.
 fn is_closed(escaped: bool, bytes: &[u8]) -> bool
@@ -51,11 +51,22 @@ pub(crate) fn is_version(word: &[u8]) -> bool
     }
 }
 
+fn are_hex(bytes: &[u8]) -> bool
+    ensures { result ≡ list_all is_hex bytes.now }
+{
+    bytes.iter().all(|c| is_hex(*c))
+}
+
+fn is_hex(c: u8) -> bool
+    ensures { result ≡ is_hex c }
+{
+    (c >= b'0' && c <= b'9') || (c >= b'a' && c <= b'f')
+}
+
 /// Whether a word can be a digest: 64 digits from 0 to f.
 #[tactic(auto, unfolding(crate::specs::Rules::is_digest))]
 pub(crate) fn is_digest(word: &[u8]) -> bool
     ensures { result ≡ is_digest word.now }
 {
-    word.len() == 64
-        && word.iter().all(|c| (*c >= b'0' && *c <= b'9') || (*c >= b'a' && *c <= b'f'))
+    word.len() == 64 && are_hex(word)
 }

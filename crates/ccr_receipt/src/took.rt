@@ -2,7 +2,7 @@
 
 ghost use Rattle.std.specs.Prelude.{◌≡◌, ◌++◌, [], OnOk, string_bytes};
 ghost use Rattle.std.specs.List.{flat_map};
-ghost use Rattle.ccr_receipt.specs.Words.{place_words, pinned_words, every_words, next_place, disabled_words, input_words, passed_words, movers_words, took_words, all_took, seen_words, all_seen, taken_words};
+ghost use Rattle.ccr_receipt.specs.Words.{place_words, pinned_to, moved_before, pinned_words, every_words, next_place, disabled_words, input_words, passed_words, movers_words, took_words, all_took, seen_words, all_seen, taken_words};
 
 use crate::input::Input;
 use crate::limit::{Limit, Pin};
@@ -20,10 +20,24 @@ fn put_place(out: &mut String, place: u32, known: u32) -> Result<(), AllocError>
     }
 }
 
+#[tactic(auto, unfolding(crate::specs::Words::pinned_to))]
+fn pinned_to() -> &'static str
+    ensures { result.now ≡ pinned_to }
+{
+    "; pinned to "
+}
+
+#[tactic(auto, unfolding(crate::specs::Words::moved_before))]
+fn moved_before() -> &'static str
+    ensures { result.now ≡ moved_before }
+{
+    " (moved before by "
+}
+
 fn put_pin(out: &mut String, pin: &Pin) -> Result<(), AllocError>
     ensures { OnOk result (string_bytes out.new ≡ string_bytes out.old ++ pinned_words pin.now) }
 {
-    out.push_str("; pinned to ")?;
+    out.push_str(pinned_to())?;
     out.push_str(pin.text.as_str())
 }
 
@@ -79,13 +93,7 @@ fn put_passed(out: &mut String, receipt: &Receipt, input: &Input) -> Result<(), 
 fn put_movers(out: &mut String, receipt: &Receipt, input: &Input) -> Result<(), AllocError>
     ensures { OnOk result (string_bytes out.new ≡ string_bytes out.old ++ movers_words receipt.now input.now) }
 {
-    put_gates(
-        out,
-        " (moved before by ",
-        &receipt.own.gates,
-        &input.gates,
-        ")",
-    )
+    put_gates(out, moved_before(), &receipt.own.gates, &input.gates, ")")
 }
 
 /// Adds what was taken for an input, and why.

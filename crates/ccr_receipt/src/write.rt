@@ -2,7 +2,7 @@
 
 ghost use Rattle.std.specs.Prelude.{◌≡◌, ◌++◌, IfOk, OnOk, string_bytes};
 ghost use Rattle.std.specs.List.{flat_map};
-ghost use Rattle.ccr_receipt.specs.ReceiptText.{resource_line, version_line, pipeline_word, format_line, subject_line, pipeline_line, head_lines, chosen_lines, choice_lines, body_text, receipt_text};
+ghost use Rattle.ccr_receipt.specs.ReceiptText.{resource_line, version_line, pipeline_word, format_line, subject_line, pipeline_line, head_lines, chosen_lines, choice_lines, resource_lines, version_lines, all_lines, body_text, receipt_text};
 
 use crate::build::Build;
 use crate::chosen::Chosen;
@@ -88,6 +88,7 @@ fn put_pipeline_line(out: &mut String, chosen: &Option<Chosen>) -> Result<(), Al
 }
 
 /// Adds the first three lines: the format, the build, and the pipeline by which it was chosen for.
+#[tactic(auto, unfolding(crate::specs::ReceiptText::head_lines))]
 fn put_head(out: &mut String, receipt: &Receipt) -> Result<(), AllocError>
     ensures { OnOk result (string_bytes out.new ≡ string_bytes out.old ++ head_lines receipt.now) }
 {
@@ -97,6 +98,7 @@ fn put_head(out: &mut String, receipt: &Receipt) -> Result<(), AllocError>
 }
 
 /// Adds how the build was chosen for: what held for its inputs, the problem and the proof.
+#[tactic(auto, unfolding(crate::specs::ReceiptText::chosen_lines))]
 fn put_chosen(alloc: Global, out: &mut String, chosen: &Chosen) -> Result<(), AllocError>
     ensures { OnOk result (string_bytes out.new ≡ string_bytes out.old ++ chosen_lines chosen.now) }
 {
@@ -116,19 +118,40 @@ fn put_choice(alloc: Global, out: &mut String, chosen: &Option<Chosen>) -> Resul
     }
 }
 
+#[tactic(auto, unfolding(crate::specs::ReceiptText::resource_lines))]
+fn put_resource_lines(out: &mut String, resources: &[Resource]) -> Result<(), AllocError>
+    ensures { OnOk result (string_bytes out.new ≡ string_bytes out.old ++ resource_lines resources.now) }
+{
+    put_count(out, "resources", resources.len())?;
+    put_resources(out, resources)
+}
+
+#[tactic(auto, unfolding(crate::specs::ReceiptText::version_lines))]
+fn put_version_lines(out: &mut String, versions: &[Version]) -> Result<(), AllocError>
+    ensures { OnOk result (string_bytes out.new ≡ string_bytes out.old ++ version_lines versions.now) }
+{
+    put_count(out, "versions", versions.len())?;
+    put_versions(out, versions)
+}
+
+#[tactic(auto, unfolding(crate::specs::ReceiptText::all_lines))]
+fn put_all_lines(out: &mut String, receipt: &Receipt) -> Result<(), AllocError>
+    ensures { OnOk result (string_bytes out.new ≡ string_bytes out.old ++ all_lines receipt.now) }
+{
+    put_count(out, "builds", receipt.before.len() + 1)?;
+    put_builds(out, &receipt.before)?;
+    put_build(out, &receipt.own)
+}
+
 /// The text of a receipt without its last line.
 pub(crate) fn body(alloc: Global, receipt: &Receipt) -> Result<String, AllocError>
     ensures { IfOk result (λ s. string_bytes s ≡ body_text receipt.now) }
 {
     let mut out = String::new(alloc);
     put_head(&mut out, receipt)?;
-    put_count(&mut out, "resources", receipt.resources.len())?;
-    put_resources(&mut out, &receipt.resources)?;
-    put_count(&mut out, "versions", receipt.versions.len())?;
-    put_versions(&mut out, &receipt.versions)?;
-    put_count(&mut out, "builds", receipt.before.len() + 1)?;
-    put_builds(&mut out, &receipt.before)?;
-    put_build(&mut out, &receipt.own)?;
+    put_resource_lines(&mut out, &receipt.resources)?;
+    put_version_lines(&mut out, &receipt.versions)?;
+    put_all_lines(&mut out, receipt)?;
     put_choice(alloc, &mut out, &receipt.chosen)?;
     Ok(out)
 }

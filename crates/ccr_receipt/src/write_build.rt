@@ -2,7 +2,7 @@
 
 ghost use Rattle.std.specs.Prelude.{◌≡◌, ◌++◌, OnOk, string_bytes};
 ghost use Rattle.std.specs.List.{flat_map};
-ghost use Rattle.ccr_receipt.specs.ReceiptText.{beyond_word, plan_word, gate_line, input_line, pair_line, build_lines};
+ghost use Rattle.ccr_receipt.specs.ReceiptText.{beyond_word, plan_word, gate_line, input_line, pair_line, build_line, gate_lines, input_lines, moved_lines, build_lines};
 
 use crate::build::Build;
 use crate::gate::Gate;
@@ -87,21 +87,49 @@ fn put_moved(out: &mut String, moved: &[(u32, u32)]) -> Result<(), AllocError>
     Ok(())
 }
 
-/// Adds a build: its line, its gates, what it took and what it moved.
-pub(crate) fn put_build(out: &mut String, build: &Build) -> Result<(), AllocError>
-    ensures { OnOk result (string_bytes out.new ≡ string_bytes out.old ++ build_lines build.now) }
+fn put_line(out: &mut String, build: &Build) -> Result<(), AllocError>
+    ensures { OnOk result (string_bytes out.new ≡ string_bytes out.old ++ build_line build.now) }
 {
     out.push_str(build.job.as_str())?;
     write!(out, " {} made {} ", build.number, build.made)?;
     out.push_str(build.status.word())?;
     put_plan(out, build.is_asked)?;
-    out.push_str("\n")?;
-    put_count(out, "jobs", build.gates.len())?;
-    put_gates(out, &build.gates)?;
-    put_count(out, "inputs", build.inputs.len())?;
-    put_inputs(out, &build.inputs)?;
-    put_count(out, "moved", build.moved.len())?;
-    put_moved(out, &build.moved)
+    out.push_str("\n")
+}
+
+#[tactic(auto, unfolding(crate::specs::ReceiptText::gate_lines))]
+fn put_gate_lines(out: &mut String, gates: &[Gate]) -> Result<(), AllocError>
+    ensures { OnOk result (string_bytes out.new ≡ string_bytes out.old ++ gate_lines gates.now) }
+{
+    put_count(out, "jobs", gates.len())?;
+    put_gates(out, gates)
+}
+
+#[tactic(auto, unfolding(crate::specs::ReceiptText::input_lines))]
+fn put_input_lines(out: &mut String, inputs: &[Input]) -> Result<(), AllocError>
+    ensures { OnOk result (string_bytes out.new ≡ string_bytes out.old ++ input_lines inputs.now) }
+{
+    put_count(out, "inputs", inputs.len())?;
+    put_inputs(out, inputs)
+}
+
+#[tactic(auto, unfolding(crate::specs::ReceiptText::moved_lines))]
+fn put_moved_lines(out: &mut String, moved: &[(u32, u32)]) -> Result<(), AllocError>
+    ensures { OnOk result (string_bytes out.new ≡ string_bytes out.old ++ moved_lines moved.now) }
+{
+    put_count(out, "moved", moved.len())?;
+    put_moved(out, moved)
+}
+
+/// Adds a build: its line, its gates, what it took and what it moved.
+#[tactic(auto, unfolding(crate::specs::ReceiptText::build_lines))]
+pub(crate) fn put_build(out: &mut String, build: &Build) -> Result<(), AllocError>
+    ensures { OnOk result (string_bytes out.new ≡ string_bytes out.old ++ build_lines build.now) }
+{
+    put_line(out, build)?;
+    put_gate_lines(out, &build.gates)?;
+    put_input_lines(out, &build.inputs)?;
+    put_moved_lines(out, &build.moved)
 }
 
 /// Adds builds.

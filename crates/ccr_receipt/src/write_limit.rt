@@ -31,6 +31,7 @@ fn put_limit(out: &mut String, limit: &Limit) -> Result<(), AllocError>
 }
 
 /// Adds what held for each input.
+#[tactic(auto, unfolding(crate::specs::ReceiptText::limit_lines))]
 pub(crate) fn put_limits(out: &mut String, limits: &[Limit]) -> Result<(), AllocError>
     ensures { OnOk result (string_bytes out.new ≡ string_bytes out.old ++ limit_lines limits.now) }
 {
