@@ -79,6 +79,10 @@ took_words r i l x =
     input_words r i ++ codes " (" ++ place_words i.place l.known ++ flat_map pinned_words l.pins ++ every_words x.after
     ++ disabled_words l.disabled ++ passed_words r i ++ codes ")"
 
+-- what stands before an input: `and`, if it isn't the first
+abbrev pub and_words : Bool → Bytes
+and_words first = if first then [] else codes " and "
+
 -- the same of each input, `and` between two of them
 abbrev pub all_took : ReceiptSaid → Bytes → List InputSaid → List LimitSaid → List InputValue → Bytes
 all_took r front [] ls xs = []
@@ -114,6 +118,10 @@ taken_words r = if length r.own.inputs == 0 then codes "nothing" else own_took r
 -- An input took this place of this resource.
 abbrev pub is_taken : List InputSaid → ℕ × ℕ → Bool
 is_taken is q = list_any (λ i. i.resource == q.0 && i.place == q.1) is
+
+-- what stands before a version that was put
+abbrev pub front_words : Bool → Bytes
+front_words first = if first then codes "; it put " else codes " and "
 
 -- `; it put RESOURCE VERSION and ..`: what was moved and not taken
 abbrev pub put_words : ReceiptSaid → Bytes → List (ℕ × ℕ) → Bytes

@@ -2,7 +2,7 @@
 
 ghost use Rattle.std.specs.Prelude.{◌≡◌, ◌++◌, [], OnOk, string_bytes};
 ghost use Rattle.std.specs.List.{flat_map};
-ghost use Rattle.ccr_receipt.specs.Words.{place_words, pinned_to, moved_before, pinned_words, every_words, next_place, disabled_words, input_words, passed_words, movers_words, took_words, all_took, seen_words, all_seen, taken_words};
+ghost use Rattle.ccr_receipt.specs.Words.{place_words, pinned_to, moved_before, pinned_words, every_words, next_place, disabled_words, input_words, passed_words, movers_words, took_words, and_words, all_took, seen_words, all_seen, taken_words};
 
 use crate::input::Input;
 use crate::limit::{Limit, Pin};
@@ -117,6 +117,16 @@ fn put_took(
     out.push_str(")")
 }
 
+fn put_and(out: &mut String, is_first: bool) -> Result<(), AllocError>
+    ensures { OnOk result (string_bytes out.new ≡ string_bytes out.old ++ and_words is_first) }
+{
+    if is_first {
+        Ok(())
+    } else {
+        out.push_str(" and ")
+    }
+}
+
 #[tactic(auto, using(crate::proofs::Ending::took_none, crate::proofs::Ending::took_unheld, crate::proofs::Ending::took_end))]
 fn put_all(
     out: &mut String,
@@ -127,16 +137,16 @@ fn put_all(
     ensures { OnOk result (string_bytes out.new
         ≡ string_bytes out.old ++ all_took receipt.now [] receipt.now.own.inputs limits.now choices.now) }
 {
-    let mut front = "";
+    let mut is_first = true;
     let mut rest: &[Input] = &receipt.own.inputs;
     let mut held = limits;
     let mut left = choices;
     while let ([input, others @ ..], [limit, more @ ..], [choice, further @ ..]) = (
         rest, held, left,
     ) {
-        out.push_str(front)?;
+        put_and(out, is_first)?;
         put_took(out, receipt, input, limit, choice)?;
-        front = " and ";
+        is_first = false;
         rest = others;
         held = more;
         left = further;
@@ -155,12 +165,12 @@ fn put_seen(out: &mut String, receipt: &Receipt, input: &Input) -> Result<(), Al
 fn put_all_seen(out: &mut String, receipt: &Receipt) -> Result<(), AllocError>
     ensures { OnOk result (string_bytes out.new ≡ string_bytes out.old ++ all_seen receipt.now [] receipt.now.own.inputs) }
 {
-    let mut front = "";
+    let mut is_first = true;
     let mut rest: &[Input] = &receipt.own.inputs;
     while let [input, others @ ..] = rest {
-        out.push_str(front)?;
+        put_and(out, is_first)?;
         put_seen(out, receipt, input)?;
-        front = " and ";
+        is_first = false;
         rest = others;
     }
     Ok(())
