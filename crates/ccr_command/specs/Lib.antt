@@ -3,4 +3,5 @@ pub mod Commands
 pub mod Options
 pub mod Usage
 pub mod Aborts
+pub mod Pages
 pub mod Looking

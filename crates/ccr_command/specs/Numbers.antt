@@ -11,6 +11,10 @@ MOST = 1000000
 abbrev pub MOST_PLACE : ℕ
 MOST_PLACE = 100000
 
+-- the most seconds that are taken: those of a day
+abbrev pub MOST_SECONDS : ℕ
+MOST_SECONDS = 86400
+
 -- the number, where it is one from 1 to the highest
 abbrev pub in_range : ℕ → Option ℕ
 in_range n = if nat_le 1 n && nat_le n MOST then Some n else None
@@ -30,3 +34,7 @@ number_of text = numeral_of (without_leading_plus text)
 -- THE PLACE THAT A TEXT WRITES: a number so, if it isn't above the highest place
 abbrev pub place_of : List ℕ → Option ℕ
 place_of text = option_and_then (λ n. if nat_le n MOST_PLACE then Some n else None) (number_of text)
+
+-- THE SECONDS THAT A TEXT WRITES: a number so, if it isn't above that of a day
+abbrev pub seconds_of : List ℕ → Option ℕ
+seconds_of text = option_and_then (λ n. if nat_le n MOST_SECONDS then Some n else None) (number_of text)

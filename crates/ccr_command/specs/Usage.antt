@@ -6,7 +6,7 @@ use Rattle.clap.specs.declared.builder.command.Command.TheViews.{out-Command}
 use Rattle.clap.specs.declared.builder.value_parser.ValueParser.TheVariants.{Signed}
 use Rattle.clap.specs.Words.{App, Rule, Shape, Text, new_rule, shape_of, with_subcommand}
 use Rattle.clap.specs.Simple.{new_shape}
-use Rattle.ccr_command.specs.Numbers.{MOST, MOST_PLACE}
+use Rattle.ccr_command.specs.Numbers.{MOST, MOST_PLACE, MOST_SECONDS}
 
 -- ---- arguments
 -- one that has to be there, without a name before it
@@ -40,6 +40,10 @@ as_number a = record a { parser = Some (Signed (pos 1) (pos MOST)) }
 -- the same, which is a number from 1 to the highest place
 abbrev pub as_place : Rule → Rule
 as_place a = record a { parser = Some (Signed (pos 1) (pos MOST_PLACE)) }
+
+-- the same, which is a number of seconds from 1 to those of a day
+abbrev pub as_seconds : Rule → Rule
+as_seconds a = record a { parser = Some (Signed (pos 1) (pos MOST_SECONDS)) }
 
 -- the flag that asks for a look
 abbrev pub look_rule : Rule
@@ -89,6 +93,9 @@ standing_commands =
     ∷ command_shape (codes "jobs") (flag_rule (codes "json") ∷ look_rule ∷ [])
     ∷ command_shape (codes "red") (flag_rule (codes "json") ∷ look_rule ∷ [])
     ∷ command_shape (codes "graph") (look_rule ∷ [])
+    ∷ command_shape (codes "page")
+    (option_rule (codes "title") ∷ option_rule (codes "logs") ∷ as_seconds (option_rule (codes "refresh"))
+    ∷ option_rule (codes "made") ∷ option_rule (codes "now") ∷ look_rule ∷ [])
     ∷ []
 
 -- the commands that show what builds took

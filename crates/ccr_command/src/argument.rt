@@ -1,7 +1,7 @@
 //! The arguments of a command line.
 ghost use Rattle.std.specs.Prelude.{◌≡◌, false};
 ghost use Rattle.clap.specs.Words.{rule_of};
-ghost use Rattle.ccr_command.specs.Usage.{value_rule, extra_rule, option_rule, required_rule, optional_rule, flag_rule, look_rule, as_number, as_place};
+ghost use Rattle.ccr_command.specs.Usage.{value_rule, extra_rule, option_rule, required_rule, optional_rule, flag_rule, look_rule, as_number, as_place, as_seconds};
 
 use clap::{Arg, ArgAction, value_parser};
 use std::alloc::Global;
@@ -89,4 +89,12 @@ pub(crate) fn as_place<'a>(argument: Arg<'a>) -> Arg<'a>
     ensures local { result.global ≡ argument.entry.global }
 {
     argument.value_parser(value_parser!(u32).range(1..100_001))
+}
+
+/// The same argument, of which the value is a number of seconds from 1 to 86,400.
+pub(crate) fn as_seconds<'a>(argument: Arg<'a>) -> Arg<'a>
+    ensures rule { rule_of result ≡ as_seconds (rule_of argument.entry) }
+    ensures local { result.global ≡ argument.entry.global }
+{
+    argument.value_parser(value_parser!(u32).range(1..86_401))
 }

@@ -41,6 +41,9 @@ pub enum OptionFault {
     /// The launcher doesn't begin with a slash.
     #[error("--launcher has to begin with /")]
     Launcher,
+    /// The seconds of a page aren't from 1 to 86,400.
+    #[error("--refresh has to be from 1 to 86400")]
+    Refresh,
 }
 
 /// Whether a path begins with a slash.

@@ -1,9 +1,9 @@
 //! The commands that only read, with their help.
 ghost use Rattle.std.specs.Prelude.{◌≡◌, ◌∷◌, [], false, IfOk, codes};
 ghost use Rattle.clap.specs.Words.{rule_of};
-ghost use Rattle.ccr_command.specs.Usage.{IsCommand, value_rule, extra_rule, option_rule, flag_rule, look_rule, as_number};
+ghost use Rattle.ccr_command.specs.Usage.{IsCommand, value_rule, extra_rule, option_rule, flag_rule, look_rule, as_number, as_seconds};
 
-use crate::argument::{as_number, extra, flag, look, option, value};
+use crate::argument::{as_number, as_seconds, extra, flag, look, option, value};
 use crate::commands::command;
 use clap::{Arg, Command};
 use std::alloc::{AllocError, Global};
@@ -191,6 +191,82 @@ Example:
   ccr_run --db ci.db graph >pipeline.mmd",
     )
     .arg(look(alloc))
+}
+
+/// The rest of the help of `page`.
+const PAGE: &str = "\
+Prints one file of HTML, without a script or another file: a picture of the pipeline, what stands still and why, and for each job
+how its newest builds went and what they took. It is made from a look, with --look or without: it takes no lock, waits for nobody
+and changes nothing. Where no pipeline is set, the page says so.
+
+With --logs, each build leads to DIR/JOB/N/. DIR is a path, without a scheme such as https:; one that doesn't begin with / starts
+where the page lies. With --refresh, a browser that shows the page reads it again by itself: make it anew meanwhile, and put the
+new file in the place of the old one by `mv`.
+
+Exit statuses: 0 printed; 2 usage; 4 disk or memory.
+
+Examples:
+  ccr_run --db ci.db page >page.html
+  ccr_run --db ci.db page --title shop --refresh 60 --logs logs >page.new && mv page.new page.html";
+
+/// The command `page` without its options.
+fn bare_page<'a>(alloc: Global) -> Command<'a>
+    ensures { IsCommand (codes "page") [] result }
+{
+    command(
+        alloc,
+        "page",
+        "Prints one HTML page that shows how all stands: the picture, the jobs, the builds",
+        PAGE,
+    )
+}
+
+/// The command `page` with the options of what stands on it.
+fn page_with_links<'a>(alloc: Global) -> Result<Command<'a>, AllocError>
+    ensures { IfOk result (IsCommand (codes "page")
+        (option_rule (codes "title") ∷ option_rule (codes "logs") ∷ as_seconds (option_rule (codes "refresh")) ∷ [])) }
+{
+    let title = option(
+        alloc,
+        "title",
+        "TEXT",
+        "The page's heading; without it, `Pipeline`",
+    );
+    let logs = option(
+        alloc,
+        "logs",
+        "DIR",
+        "The directory of the builds' logs, as the reader of the page sees it",
+    );
+    let refresh = option(
+        alloc,
+        "refresh",
+        "SECONDS",
+        "After how many seconds a browser reads the page again, from 1 to 86400",
+    );
+    bare_page(alloc)
+        .arg(title)?
+        .arg(logs)?
+        .arg(as_seconds(refresh))
+}
+
+/// Prints a page that shows how all stands.
+pub(crate) fn page<'a>(alloc: Global) -> Result<Command<'a>, AllocError>
+    ensures { IfOk result (IsCommand (codes "page")
+        (option_rule (codes "title") ∷ option_rule (codes "logs") ∷ as_seconds (option_rule (codes "refresh"))
+        ∷ option_rule (codes "made") ∷ option_rule (codes "now") ∷ look_rule ∷ [])) }
+{
+    let made = option(
+        alloc,
+        "made",
+        "TEXT",
+        "When the page is made, in words; without it, the clock's time",
+    );
+    let now = option(alloc, "now", "TEXT", "What runs right now, in words");
+    page_with_links(alloc)?
+        .arg(made)?
+        .arg(now)?
+        .arg(look(alloc))
 }
 
 /// Shows a build.

@@ -9,7 +9,7 @@ use crate::commands::{
     unpin_resource,
 };
 use crate::reading::{
-    build, builds, certify, explain, get_pipeline, graph, jobs, live, red, resource_versions,
+    build, builds, certify, explain, get_pipeline, graph, jobs, live, page, red, resource_versions,
     resources, trace,
 };
 use crate::versions::{disable_resource_version, enable_resource_version};
@@ -21,6 +21,7 @@ const ABOUT: &str = "Runs pipelines: checks resources, runs builds of jobs, and 
 
 /// The end of the program's help.
 const MORE: &str = "\
+The options stand before the command, its own words behind it; ccr_run COMMAND --help shows these.
 Exit statuses: 0 done, 1 refused, 2 usage, 3 over the budget, 4 disk or memory.
 What happens is printed on standard output, line by line; a refusal goes to standard error.
 `ccr_run validate-pipeline FILE [--strict]` reads a pipeline without a database, and says what each input has to have passed.
@@ -120,7 +121,8 @@ fn with_standing_commands<'a>(alloc: Global, line: Command<'a>) -> Result<Comman
     let line = line.subcommand(resources(alloc)?)?;
     let line = line.subcommand(jobs(alloc)?)?;
     let line = line.subcommand(red(alloc)?)?;
-    line.subcommand(graph(alloc)?)
+    let line = line.subcommand(graph(alloc)?)?;
+    line.subcommand(page(alloc)?)
 }
 
 /// The same with the commands that show what builds took.
@@ -141,7 +143,7 @@ fn with_choice_commands<'a>(alloc: Global, line: Command<'a>) -> Result<Command<
 }
 
 /// The program's command line: `ccr_run --db FILE [--types DIR] [--work DIR] [--budget N] [--launcher PROGRAM] COMMAND`,
-/// with the help of the program and of each of its twenty-three commands.
+/// with the help of the program and of each of its twenty-four commands.
 ///
 /// The only error is out of memory.
 pub fn command_line<'a>(alloc: Global) -> Result<Command<'a>, AllocError>

@@ -16,7 +16,7 @@ pub(crate) fn disable_resource_version<'a>(alloc: Global) -> Result<Command<'a>,
     let place = value(
         alloc,
         "PLACE",
-        "The version's place, as resource-versions shows it",
+        "The number that resource-versions NAME shows before the version",
     );
     command(
         alloc,
@@ -45,7 +45,7 @@ pub(crate) fn enable_resource_version<'a>(alloc: Global) -> Result<Command<'a>, 
     let place = value(
         alloc,
         "PLACE",
-        "The version's place, as resource-versions shows it",
+        "The number that resource-versions NAME shows before the version",
     );
     command(
         alloc,

@@ -1,3 +1,8 @@
+pub mod SameNames
+pub mod Hunts
+pub mod Jobs
+pub mod Unread
+pub mod Reading
 pub mod NearLaws
 pub mod Leads
 pub mod Somewhere

@@ -1,3 +1,6 @@
+pub mod Present
+pub mod Hunts
+pub mod Agreement
 pub mod Near
 pub mod Findings
 pub mod Absent

@@ -8,7 +8,7 @@ ghost use Rattle.ccr_findings.specs.Objects.{key_findings, params_findings, para
 use crate::finding::{Finding, Findings, Kind};
 use crate::known::{is_passed_over, meant_key, name_of, owner_of, remedy_of};
 use crate::objects::Found;
-use crate::path::path_below;
+use ccr_pipeline::path_below;
 use ccr_pipeline::schema::Schema;
 use serde_json::Value;
 use std::alloc::{AllocError, Global};

@@ -9,8 +9,7 @@ ghost use Rattle.ccr_findings.specs.Objects.{never_at, never_in, empty_at, passe
 
 use crate::finding::{Finding, Findings, Kind};
 use crate::objects::Found;
-use crate::path::{path_at, path_below};
-use ccr_pipeline::{Job, Step, text_at};
+use ccr_pipeline::{Job, Step, path_at, path_below, text_at};
 use serde_json::Value;
 use std::alloc::Global;
 

@@ -8,10 +8,9 @@ ghost use Rattle.ccr_findings.specs.Objects.{aim_data, own_findings, found_in, f
 use crate::finding::Findings;
 use crate::keys::find_keys;
 use crate::never::find_passed;
-use crate::path::{path_at, path_below};
 use crate::stand::{Keys, keys_of, kind_at, kind_of_items};
-use ccr_pipeline::Job;
 use ccr_pipeline::schema::{Kind, Schema};
+use ccr_pipeline::{Job, path_at, path_below};
 use serde_json::Value;
 use std::alloc::{AllocError, Global};
 use std::collections::BTreeMap;

@@ -5,8 +5,8 @@ ghost use Rattle.ccr_pipeline.specs.Schema.{rows as row_list};
 ghost use Rattle.ccr_findings.specs.Stands as spec;
 ghost use Rattle.ccr_findings.specs.Stands.{stand_data};
 
-use crate::path::{path_at, path_below};
 use ccr_pipeline::schema::{Kind, Row, Schema, closing, opening, schema_of};
+use ccr_pipeline::{path_at, path_below};
 use serde_json::Value;
 use std::alloc::{AllocError, Global};
 use std::collections::BTreeMap;

@@ -10,9 +10,9 @@ ghost use Rattle.ccr_findings.specs.Told as spec;
 ghost use Rattle.ccr_findings.specs.Told.{AreLines};
 
 use crate::broken::{break_lines, offset_of};
+use crate::find_all::faults_in;
 use crate::meant::nearest;
 use crate::stand::{Stand, is_within, stand_on};
-use ccr_faults::faults_in;
 use ccr_pipeline::schema::Kind;
 use ccr_pipeline::{MOST_BYTES, ReadFault, list_at};
 use serde_json::Value;

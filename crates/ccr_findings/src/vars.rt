@@ -7,7 +7,7 @@ ghost use Rattle.ccr_findings.specs.Vars as spec;
 ghost use Rattle.ccr_findings.specs.Vars.{vars_at, vars_in, vars_in_items, vars_in_members};
 
 use crate::finding::{Finding, Findings, Kind};
-use crate::path::{path_at, path_below};
+use ccr_pipeline::{path_at, path_below};
 use serde_json::Value;
 use std::alloc::{AllocError, Global};
 use std::collections::BTreeMap;

@@ -15,7 +15,7 @@ mod Saying
 mod Showing
 mod Stopping
 mod Taking
-mod Together
+mod GoneTogether
 mod Witnessing
 mod Printing
 mod Walks

@@ -215,7 +215,7 @@ fn one_puts(steps: &Vec<Step>, resource: &str) -> bool
 
 /// Whether a step, or one in it, puts the resource.
 #[cycle(puts)]
-pub(crate) fn puts(step: &Step, resource: &str) -> bool
+pub fn puts(step: &Step, resource: &str) -> bool
     ensures { result ≡ has_name (gathered own_put (tree_of step.now)) resource.now }
 {
     match step {

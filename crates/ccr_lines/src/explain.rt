@@ -531,8 +531,10 @@ fn explained_of(
     Ok(explained)
 }
 
-/// The same, by what a core keeps. Its pipeline has the job.
-fn explained_in(
+/// What the next build of a job would take, and why nothing newer, or why there is none, by what a core keeps. Its pipeline has the job.
+///
+/// The only error is out of memory.
+pub fn explained_in(
     alloc: Global,
     core: &Core,
     pipeline: &Pipeline,

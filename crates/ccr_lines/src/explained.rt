@@ -6,11 +6,11 @@ use std::marker::Model;
 
 /// A place that an input doesn't take, and why.
 #[derive(Drop)]
-pub(crate) struct Refusal {
-    pub(crate) place: u32,
-    pub(crate) version: Option<Version>,
+pub struct Refusal {
+    pub place: u32,
+    pub version: Option<Version>,
     /// Why not, in words.
-    pub(crate) words: String,
+    pub words: String,
 }
 
 impl Model for Refusal {
@@ -24,9 +24,9 @@ impl Model for Refusal {
 
 /// A job, and the number of a build of it.
 #[derive(Drop)]
-pub(crate) struct Passed {
-    pub(crate) job: String,
-    pub(crate) build: Option<u32>,
+pub struct Passed {
+    pub job: String,
+    pub build: Option<u32>,
 }
 
 impl Model for Passed {
@@ -40,16 +40,16 @@ impl Model for Passed {
 
 /// What an input takes, and why nothing newer.
 #[derive(Drop)]
-pub(crate) struct Taken {
+pub struct Taken {
     /// The input's name.
-    pub(crate) name: String,
-    pub(crate) resource: String,
-    pub(crate) place: u32,
-    pub(crate) version: Option<Version>,
+    pub name: String,
+    pub resource: String,
+    pub place: u32,
+    pub version: Option<Version>,
     /// The builds through which it passed the jobs that the input names.
-    pub(crate) passed: Vec<Passed>,
+    pub passed: Vec<Passed>,
     /// Those of the three newest places that are newer.
-    pub(crate) newer: Vec<Refusal>,
+    pub newer: Vec<Refusal>,
 }
 
 impl Model for Taken {
@@ -70,16 +70,16 @@ impl Model for Taken {
 
 /// What is said of a job's next build.
 #[derive(Drop)]
-pub(crate) struct Explained {
+pub struct Explained {
     /// The job's name.
-    pub(crate) job: String,
-    pub(crate) outlook: Outlook,
+    pub job: String,
+    pub outlook: Outlook,
     /// Where there is nothing new, the newest build of the job that had these versions, and how it stands.
-    pub(crate) last: Option<(u32, Status)>,
+    pub last: Option<(u32, Status)>,
     /// What each input takes, in plan order; empty where there is no choice.
-    pub(crate) inputs: Vec<Taken>,
+    pub inputs: Vec<Taken>,
     /// Why there is no choice, in words.
-    pub(crate) why: Option<String>,
+    pub why: Option<String>,
 }
 
 impl Model for Explained {

@@ -60,17 +60,24 @@ mod words;
 
 pub use asked::Asked;
 pub use cause::Cause;
+pub use edge::puts;
+pub use explain::explained_in;
+pub use explained::{Explained, Passed, Refusal, Taken};
 pub use held::{job_held, pin_of, pipeline_held, pipeline_with_job, resource_held};
 pub use lines::Lines;
-pub use outlook::Outlook;
+pub use newest::{Sought, newest_of};
+pub use outlook::{Outlook, push_outlook};
 pub use print::{
     pipeline_room, print_cause, print_disabled, print_enabled, print_end, print_full, print_job,
     print_new, print_pinned, print_pipeline, print_refused_job, print_unpinned, word_of,
 };
 pub use printed::Printed;
 pub use reason::{PinnedBy, Reason};
+pub use release::{Together, all_together, key_at, used_at};
 pub use show::Show;
 pub use shown::ShowFault;
 pub use shows::AsText;
-pub use stop::Stop;
+pub use stop::{Stop, push_stop, stop_of};
 pub use subject::Subject;
+pub use taken::history_number;
+pub use versions::{Listed, versions_listed};

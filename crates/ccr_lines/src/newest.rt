@@ -16,7 +16,7 @@ use ccr_pipeline::{Input, Pipeline};
 
 /// What a build is looked for by.
 #[derive(Clone, Copy)]
-pub(crate) enum Sought<'a> {
+pub enum Sought<'a> {
     /// It took or moved this pair of scope and place.
     Met((u32, u32)),
     /// It succeeded and moved this pair of scope and place.
@@ -163,11 +163,7 @@ fn if_sought<'h>(
 }
 
 /// The newest build of a job that passes a test.
-pub(crate) fn newest_of<'h>(
-    history: &'h History,
-    sought: Sought<'_>,
-    job: &str,
-) -> Option<BuildRef<'h>>
+pub fn newest_of<'h>(history: &'h History, sought: Sought<'_>, job: &str) -> Option<BuildRef<'h>>
     requires { IsSearch sought }
     ensures { result ≡ newest_of (is_sought history.now sought.entry) job.now history.now }
 {

@@ -123,7 +123,7 @@ fn push_budget(text: &mut String, budget: u32) -> Result<(), AllocError>
 }
 
 /// Adds an outlook in words.
-pub(crate) fn push_outlook(text: &mut String, outlook: Outlook) -> Result<(), AllocError>
+pub fn push_outlook(text: &mut String, outlook: Outlook) -> Result<(), AllocError>
     ensures { OnOk result (string_bytes text.new ≡ string_bytes text.old ++ outlook_words outlook) }
 {
     match outlook {

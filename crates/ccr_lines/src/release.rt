@@ -43,7 +43,7 @@ pub(crate) fn resource_at(history: &History, scope: u32) -> &str
 }
 
 /// The key of the version at a place of the scope of this number.
-pub(crate) fn key_at(
+pub fn key_at(
     alloc: Global,
     history: &History,
     scope: u32,
@@ -88,7 +88,7 @@ fn push_place(
 
 /// What a build took for its input at an index, which is below the number of its inputs: the input's name, the scope and
 /// the place.
-pub(crate) fn used_at<'b>(build: &'b BuildRef<'_>, index: usize) -> (&'b str, u32, u32)
+pub fn used_at<'b>(build: &'b BuildRef<'_>, index: usize) -> (&'b str, u32, u32)
     requires { index < length build.now.used }
     ensures { slice_get build.now.used index
         ≡ Some (record { input = result.0.now; scope = result.1; place = result.2 }) }
@@ -335,7 +335,7 @@ fn together_of<'p>(
 
 /// The jobs that the inputs of a build's job name in `passed` today, each with its newest build among the first ones that
 /// moved together what the build took for them; none where there is no pipeline.
-fn all_together<'p>(
+pub fn all_together<'p>(
     alloc: Global,
     pipeline: Option<&'p Pipeline>,
     history: &History,

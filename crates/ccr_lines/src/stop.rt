@@ -154,7 +154,7 @@ fn stop_at(history: &History, pair: (u32, u32), job: String) -> Stop
 }
 
 /// Where a pair of scope and place stopped that hasn't passed a job.
-pub(crate) fn stop_of(
+pub fn stop_of(
     alloc: Global,
     pipeline: &Pipeline,
     history: &History,
@@ -214,7 +214,7 @@ fn push_unbuilt(text: &mut String, job: &str) -> Result<(), AllocError>
 }
 
 /// Adds the build that had the version, and how it stands; or that no build of the job had it.
-pub(crate) fn push_stop(text: &mut String, stop: &Stop) -> Result<(), AllocError>
+pub fn push_stop(text: &mut String, stop: &Stop) -> Result<(), AllocError>
     ensures { OnOk result (string_bytes text.new ≡ string_bytes text.old ++ stop_words (stop_data stop.now)) }
 {
     match &stop.build {

@@ -13,7 +13,7 @@ use ccr_pipeline::{Input, Pipeline};
 use std::alloc::{AllocError, Global};
 
 /// The number that the history has for the scope of the resource of this name; 0 where it has none.
-pub(crate) fn history_number(pipeline: &Pipeline, history: &History, name: &str) -> u32
+pub fn history_number(pipeline: &Pipeline, history: &History, name: &str) -> u32
     ensures { result ≡ history_number (pipeline_data pipeline.now) history.now name.now }
 {
     match pipeline.resource(name) {

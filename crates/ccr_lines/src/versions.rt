@@ -29,7 +29,7 @@ pub struct Listed<'h> {
 // ---- the versions
 
 /// The versions of a scope, each with its place.
-fn versions_listed<'h>(
+pub fn versions_listed<'h>(
     alloc: Global,
     history: &'h History,
     scope: &Scope,

@@ -56,7 +56,7 @@ pub use kind::{is_empty, is_name};
 pub use lists::{MOST_MEMBERS, are_few};
 pub use names::{Names, text_at};
 pub use pipeline::Pipeline;
-pub use place::{Place, path_of};
+pub use place::{Place, path_at, path_below, path_of};
 pub use read_job::{MOST_INPUTS, add_named_jobs};
 pub use reader::{MOST_BYTES, read, read_task, value_of};
 pub use resource::{Job, Resource};

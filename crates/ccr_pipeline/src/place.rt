@@ -71,8 +71,8 @@ pub fn path_of(alloc: Global, place: &Place) -> Result<String, AllocError>
     }
 }
 
-/// The path of a key of the object at a path.
-fn path_below(alloc: Global, path: &str, key: &str) -> Result<String, AllocError>
+/// The path of a key of the object at a path: the key alone at the top. Fails where memory runs out.
+pub fn path_below(alloc: Global, path: &str, key: &str) -> Result<String, AllocError>
     ensures { IfOk result (λ p. string_bytes p ≡ path_below path.now key.now) }
 {
     if path.is_empty() {
@@ -81,8 +81,8 @@ fn path_below(alloc: Global, path: &str, key: &str) -> Result<String, AllocError
     format!(in alloc; "{path}.{key}")
 }
 
-/// The path of a member of the list at a path.
-fn path_at(alloc: Global, path: &str, position: usize) -> Result<String, AllocError>
+/// The path of a member of the list at a path, from 0 on. Fails where memory runs out.
+pub fn path_at(alloc: Global, path: &str, position: usize) -> Result<String, AllocError>
     ensures { IfOk result (λ p. string_bytes p ≡ path_at path.now position) }
 {
     format!(in alloc; "{path}[{position}]")

@@ -4,8 +4,10 @@ pub mod Kept
 pub mod Looking
 pub mod Obeying
 pub mod Ordering
+pub mod Paging
 pub mod Refusing
 pub mod Serving
 pub mod Told
 pub mod Walks
+pub mod Searching
 pub mod Writing

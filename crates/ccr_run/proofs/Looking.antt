@@ -6,6 +6,7 @@ use Rattle.sqlite_store.specs.declared.store.FileStore.{FileStore}
 use Rattle.sqlite_trees.specs.declared.store.Store.{Ghosts}
 use Rattle.ccr_history.specs.Text.{Text}
 use Rattle.ccr_history.specs.declared.store_fault.StoreFault.{StoreFault}
+use Rattle.ccr_command.specs.declared.options.Options.{Options}
 use Rattle.ccr_core.specs.Holding.{CoreData}
 use Rattle.ccr_core.specs.Commands.{shown_data}
 use Rattle.ccr_lines.specs.Shown.{Showing}
@@ -19,7 +20,7 @@ use Rattle.ccr_run.specs.declared.failure.Failure.{Failure}
 use Rattle.ccr_run.specs.declared.failure.Failure.TheVariants.{Unread, Unfound}
 use Rattle.ccr_run.specs.declared.order.LookOrder.{LookOrder}
 use Rattle.ccr_run.specs.Asked.{AskedData}
-use Rattle.ccr_run.specs.Looked.{IsCopied, IsReadOf, Looked, LookedBeside, ShownOf, shown_end}
+use Rattle.ccr_run.specs.Looked.{IsCopied, IsReadOf, KeepsFromSeeing, Looked, LookedBeside, Saw, ShownOf, Showings, shown_end}
 
 -- what was shown where nothing was, is shown behind what was
 shown_behind : (order : LookOrder) (core : CoreData) (answer : Result ℕ ShowFault) (lines old new : Text)
@@ -43,30 +44,39 @@ pub unshown_of : (order : LookOrder) (core : CoreData) (end : Result ℕ Failure
     → end ≡ shown_end (Err why.NoMemory) → new ≡ old → ShownOf order core end old new
 unshown_of order core end old new is same = (Err why.NoMemory, is, (tt, same))
 
-module _ {D : Type 0} {d : disk.Ghosts D} (g : Ghosts (FileStore D d)) (order : LookOrder) where
-  pub did_look : (asked : List AskedData) (copied : Copied) (core : CoreData) (end : Result ℕ Failure) (old new : Text)
-      → IsReadOf order None asked → IsCopied order copied → Sees g (image_of copied) order.options.budget core
-      → ShownOf order core end old new → Looked g order asked end old new
-  did_look asked copied core end old new is read sees shown =
-      inl (record { asked_is = is; copied = copied; read = read; core = core; sees = sees; shown = shown })
+module _ {D : Type 0} {d : disk.Ghosts D} (g : Ghosts (FileStore D d)) (options : Options) where
+  -- a core was seen
+  pub saw : (asked : List AskedData) (copied : Copied) (core : CoreData) → IsReadOf options None asked → IsCopied options copied
+      → Sees g (image_of copied) options.budget core → Saw g options asked core
+  saw asked copied core is read sees = record { asked_is = is; copied = copied; read = read; sees = sees }
 
-  pub unread : (asked : List AskedData) (fault : CopyFault) (old : Text) → IsReadOf order (Some fault) asked
-      → Looked g order asked (Err (Unread fault)) old old
-  unread asked fault old is = inr (record { failure = Unread fault; end_is = refl; cause = inl (fault, is, refl); unprinted = refl })
+  -- the database wasn't read
+  pub unread : (asked : List AskedData) (fault : CopyFault) → IsReadOf options (Some fault) asked
+      → KeepsFromSeeing g options asked (Unread fault)
+  unread asked fault is = inl (fault, is, refl)
 
-  pub unfound : (asked : List AskedData) (copied : Copied) (fault : StoreFault) (old : Text) → IsReadOf order None asked
-      → IsCopied order copied → SeesNothing g (image_of copied) fault → Looked g order asked (Err (Unfound fault)) old old
-  unfound asked copied fault old is read nothing = inr (record {
-    failure = Unfound fault;
-    end_is = refl;
-    cause = inr (is, copied, read, fault, nothing, refl);
-    unprinted = refl;
-  })
+  -- no history is found in what was read
+  pub unfound : (asked : List AskedData) (copied : Copied) (fault : StoreFault) → IsReadOf options None asked
+      → IsCopied options copied → SeesNothing g (image_of copied) fault → KeepsFromSeeing g options asked (Unfound fault)
+  unfound asked copied fault is read nothing = inr (is, copied, read, fault, nothing, refl)
+
+module _ {D : Type 0} {d : disk.Ghosts D} (g : Ghosts (FileStore D d)) (options : Options) (shows : Showings) where
+  -- something was shown of the core that was seen
+  pub did_look : (asked : List AskedData) (core : CoreData) (end : Result ℕ Failure) (old new : Text) → Saw g options asked core
+      → shows core end old new → Looked g options shows asked end old new
+  did_look asked core end old new saw shown = inl (record { core = core; saw = saw; shown = shown })
+
+  -- nothing was seen
+  pub saw_nothing : (asked : List AskedData) (failure : Failure) (old : Text) → KeepsFromSeeing g options asked failure
+      → Looked g options shows asked (Err failure) old old
+  saw_nothing asked failure old cause = inr (record { failure = failure; end_is = refl; cause = cause; unprinted = refl })
 
 -- whichever server it is beside
 pub looked_beside : {D C : Type 0} {d : disk.Ghosts D} {c : disk.Ghosts C} (g : Ghosts (FileStore D d)) (beside : Ghosts (FileStore C c))
-    (order : LookOrder) (asked : List AskedData) (end : Result ℕ Failure) (old new : Text) → Looked g order asked end old new
-    → LookedBeside g beside order asked end old new
-looked_beside g beside order asked end old new (inl did) =
-    inl (record { did = did; left = λ server. what_is_left g server (image_of did.copied) did.sees.history did.sees.found })
-looked_beside g beside order asked end old new (inr nothing) = inr nothing
+    (options : Options) (shows : Showings) (asked : List AskedData) (end : Result ℕ Failure) (old new : Text)
+    → Looked g options shows asked end old new → LookedBeside g beside options shows asked end old new
+looked_beside g beside options shows asked end old new (inl did) = inl (record {
+  did = did;
+  left = λ server. what_is_left g server (image_of did.saw.copied) did.saw.sees.history did.saw.sees.found;
+})
+looked_beside g beside options shows asked end old new (inr nothing) = inr nothing

@@ -113,6 +113,7 @@ becomes_ordered words options command m asks (ordered.Command order) matches giv
 )
 becomes_ordered words options command m asks (ordered.Look order) matches given named is it =
     (m, matches, given ∙ ap (λ (o : Options). Ok (options_data o)) (sym it.0), same_look m command asks named is ∙ it.1)
+becomes_ordered words options command m asks (ordered.Page order) matches given named is it = absurd it
 becomes_ordered words options command m asks (ordered.Abort order) matches given named is it = absurd it
 
 -- and has the same budget
@@ -120,4 +121,5 @@ pub becomes_budget : (options : Options) (command : CommandValue) (asks : Bool) 
     → budget_of r ≡ options.budget
 becomes_budget options command asks (ordered.Command order) it = ap (λ (o : Options). o.budget) it.0
 becomes_budget options command asks (ordered.Look order) it = ap (λ (o : Options). o.budget) it.0
+becomes_budget options command asks (ordered.Page order) it = absurd it
 becomes_budget options command asks (ordered.Abort order) it = absurd it

@@ -5,7 +5,7 @@ use Rattle.ccr_run.specs.declared.order.Order.{Order}
 use Rattle.ccr_run.specs.declared.run.Outcome.{Outcome}
 use Rattle.ccr_run.specs.Hints.{HintData}
 use Rattle.ccr_run.specs.Refusals.{RefusalData}
-use Rattle.ccr_run.specs.Explained.{ToldData, AreGates, IsToldOf, explained, has_set, nothing_told}
+use Rattle.ccr_run.specs.Explained.{ToldData, AreGates, IsToldOf, explained, has_set, has_shown, nothing_told}
 
 -- nothing is told but gates, where nothing is told
 pub nothing_but_gates : (t : ToldData) → t ≡ nothing_told → t ≡ record nothing_told { gates = t.gates }
@@ -22,10 +22,15 @@ end_alone order outcome t u is so = subst (λ (v : ToldData). u ≡ record (expl
 
 -- what is told of a command, with gates that were told before
 pub told_of : (order : Order) (outcome : Outcome) (text kept : Option Text) (t u : ToldData) → text ≡ kept
-    → AreGates (has_set order.command outcome.end) text t.gates → u ≡ record (explained order outcome) { gates = t.gates }
+    → AreGates (has_set order.command outcome.end) (has_shown order.command outcome.end) order.options.database.now text t.gates
+    → u ≡ record (explained order outcome) { gates = t.gates }
     → IsToldOf order outcome kept u
-told_of order outcome text kept t u same gates so =
-    (t.gates, subst (λ (x : Option Text). AreGates (has_set order.command outcome.end) x t.gates) same gates, so)
+told_of order outcome text kept t u same gates so = (
+  t.gates,
+  subst (λ (x : Option Text). AreGates (has_set order.command outcome.end) (has_shown order.command outcome.end)
+      order.options.database.now x t.gates) same gates,
+  so,
+)
 
 -- what is told of a command's end, in order
 pub told_in_order : (t0 t1 t2 t3 : ToldData) (budget : Option ℕ) (refusal : Option RefusalData) (hint : Option HintData)

@@ -1,9 +1,11 @@
 -- What the program tells on standard error as it ends.
 use Rattle.std.specs.Prelude.{◌≡◌, ℕ, List, [], ◌∷◌, ◌++◌, flat_map, codes, decimal, Bool, true, false, not, ◌==◌, ◌&&◌, Option, None, Some, option_map, Result, Ok, Err, string_bytes, if◌then◌else◌}
+use Rattle.std.specs.List.{list_any}
 use Rattle.ccr_history.specs.Text.{Text}
 use Rattle.ccr_findings.specs.declared.finding.Finding.{Finding}
 use Rattle.ccr_findings.specs.declared.finding.Kind.{Kind}
-use Rattle.ccr_findings.specs.declared.finding.Kind.TheVariants.{Unused}
+use Rattle.ccr_findings.specs.declared.finding.Kind.TheVariants.{Unused, Vars}
+use Rattle.ccr_findings.specs.Findings.{is_faultless, kinds}
 use Rattle.ccr_core.specs.declared.command.Command.{Command}
 use Rattle.ccr_core.specs.declared.command.Command.TheVariants.{SetPipeline, Show}
 use Rattle.ccr_core.specs.declared.shown.Shown.{Shown}
@@ -20,8 +22,8 @@ use Rattle.ccr_run.specs.Refusals.{RefusalData, refusal_of, refusal_text}
 use Rattle.ccr_run.specs.Writers.{WriterData, GetsLines}
 
 -- ---- what is told
--- the lines of what was found in a pipeline that was set, the budget that a search would go over, a refusal, what to do about
--- it, and that not all lines went out
+-- the lines of what was found in a pipeline that was set, with what to do about it, or that none is set; the budget that a search would
+-- go over, a refusal, what to do about it, and that not all lines went out
 pub record ToldData : Type 0 where
   pub gates : Option (List Text)
   pub budget : Option ℕ
@@ -38,9 +40,44 @@ abbrev pub told_line : Kind → Text → List Text
 told_line Unused line = []
 told_line kind line = line ∷ []
 
+-- a finding is of a text that a variable was to replace
+abbrev pub is_vars : Kind → Bool
+is_vars Vars = true
+is_vars kind = false
+
 -- the lines of these findings, but of keys of Concourse without effect
 abbrev pub told_lines : List Finding → List Text
 told_lines findings = flat_map (λ f. told_line f.kind (string_bytes f.line)) findings
+
+-- of a variable it is told what it means
+abbrev pub vars_line : Text
+vars_line = codes "hint: vars: a text with ((..)) is taken as it stands; no variable is put in"
+
+-- of a pipeline that doesn't do what it seems to say it is told that it is set
+abbrev pub set_line : Text
+set_line = codes "hint: it is set all the same; correct what is named above, and set it again"
+
+-- the line of variables, if there are any among these
+abbrev pub vars_lines : List Kind → List Text
+vars_lines kinds = if list_any is_vars kinds then vars_line ∷ [] else []
+
+-- the line that it is set, if a kind among these is a fault
+abbrev pub set_lines : List Kind → List Text
+set_lines kinds = if is_faultless false kinds then [] else set_line ∷ []
+
+-- the lines of these findings, but of keys of Concourse without effect, and what to do about them
+abbrev pub found_lines : List Finding → List Text
+found_lines findings = told_lines findings ++ (vars_lines (kinds findings) ++ set_lines (kinds findings))
+
+-- about a database in which no pipeline is set
+abbrev pub unset_line : Text → Text
+unset_line path = codes "hint: " ++ (path ++ codes ": no pipeline is set in it; is --db right?")
+
+-- what is told before a command's end: what was found, or of the database at this path that no pipeline is set in it
+abbrev pub beside : Option (List Text) → Option Text → Option (List Text)
+beside None None = None
+beside None (Some path) = Some (unset_line path ∷ [])
+beside (Some lines) path = Some lines
 
 -- a refusal that was told
 abbrev pub refusal_told : ToldRefusal → RefusalData
@@ -50,7 +87,7 @@ refusal_told t =
 -- what a value of the program's type has told
 abbrev pub told_data : {E : Type 0} → Telling E → ToldData
 told_data t = record {
-  gates = option_map (λ found. told_lines found.value.items) t.gates;
+  gates = beside (option_map (λ found. found_lines found.value.items) t.gates) (option_map (λ path. path.now) t.unset);
   budget = t.budget;
   refusal = option_map refusal_told t.refusal;
   hint = option_map hint_data t.hint;
@@ -147,15 +184,23 @@ abbrev pub has_set : Command → Result ℕ Failure → Bool
 has_set (SetPipeline file) (Ok status) = status == 0
 has_set command end = false
 
--- what is found in this text of a pipeline is told, if one was set; nothing is, where there is no text, or out of memory
-abbrev pub AreGates : Bool → Option Text → Option (List Text) → Type 0
-AreGates true (Some text) (Some lines) = (findings : List Finding) × Finds text (Ok findings) × (lines ≡ told_lines findings)
-AreGates true (Some text) None = (fault : ReadFault) × Finds text (Err fault)
-AreGates sets text told = told ≡ None
+-- the command has shown something
+abbrev pub has_shown : Command → Result ℕ Failure → Bool
+has_shown (Show what) (Ok status) = status == 0
+has_shown command end = false
 
--- WHAT A COMMAND TELLS with this outcome, and with the text of the pipeline since: what is found in a pipeline that it has set, and
--- what it tells of its end
+-- what is found in this text of a pipeline is told, if one was set; nothing is out of memory. Where there is no text, and something was
+-- shown, it is told of the database at this path
+abbrev pub AreGates : Bool → Bool → Text → Option Text → Option (List Text) → Type 0
+AreGates true shows path (Some text) (Some lines) = (findings : List Finding) × Finds text (Ok findings) × (lines ≡ found_lines findings)
+AreGates true shows path (Some text) None = (fault : ReadFault) × Finds text (Err fault)
+AreGates sets true path None told = told ≡ Some (unset_line path ∷ [])
+AreGates sets shows path text told = told ≡ None
+
+-- WHAT A COMMAND TELLS with this outcome, and with the text of the pipeline since: what is found in a pipeline that it has set, or that
+-- none is set; and what it tells of its end
 abbrev pub IsToldOf : Order → Outcome → Option Text → ToldData → Type 0
 IsToldOf order outcome text told =
-    (gates : Option (List Text)) × AreGates (has_set order.command outcome.end) text gates
+    (gates : Option (List Text))
+    × AreGates (has_set order.command outcome.end) (has_shown order.command outcome.end) order.options.database.now text gates
     × (told ≡ record (explained order outcome) { gates = gates })

@@ -1,4 +1,5 @@
 pub mod Aborting
+pub mod Advised
 pub mod Answered
 pub mod Asked
 pub mod Databases
@@ -11,7 +12,9 @@ pub mod Named
 pub mod Obeyed
 pub mod Opening
 pub mod Orders
+pub mod Paged
 pub mod Refusals
 pub mod Served
 pub mod Statuses
+pub mod Topics
 pub mod Writers

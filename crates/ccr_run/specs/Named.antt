@@ -1,10 +1,8 @@
 -- Which launches are named on standard error.
-use Rattle.std.specs.Prelude.{◌≡◌, List, ℕ, [], ◌∷◌, ◌++◌, Bool, true, false, ◌&&◌, Option, None, Some, codes, slice_get, if◌then◌else◌}
-use Rattle.std.specs.Io.KnownBytes.{Appends}
+use Rattle.std.specs.Prelude.{List, [], ◌∷◌, ◌++◌, Bool, true, false, ◌&&◌, Option, None, Some, codes, slice_get, if◌then◌else◌}
 use Rattle.std.specs.Str.{bytes_eq}
 use Rattle.ccr_process.specs.Ends.{EndData, not_started}
 use Rattle.ccr_process.specs.Launches.{LaunchData, Text}
-use Rattle.ccr_run.specs.declared.naming.Naming.{Naming}
 
 -- the first argument is that of a check, or there is none
 abbrev pub is_first_of_check : Option Text → Bool
@@ -20,16 +18,10 @@ abbrev pub is_unstarted : EndData → Bool
 is_unstarted not_started = true
 is_unstarted end = false
 
--- the line about a program that did not start, with its line feed
+-- the line about a program that did not start
 abbrev pub hint_line : Text → Text
-hint_line program = codes "hint: " ++ (program ++ (codes " didn't start; is it there, and executable?" ++ 10 ∷ []))
+hint_line program = codes "hint: " ++ (program ++ codes " didn't start; is it there, and executable?")
 
 -- THE HINT about a launch that ended so: the line that names its program, where it is a check's and did not start, and else none
-abbrev pub hint_about : LaunchData → EndData → Option Text
-hint_about launch end = if is_check launch && is_unstarted end then Some (hint_line launch.program) else None
-
--- the writer gets the hint and nothing else, unless a write of hints failed by now; and nothing where there is none
-abbrev pub Hints : {R E : Type 0} → (E → Option (List ℕ)) → Option Text → Naming R E → Naming R E → Type 0
-Hints contents None old new = (new.errors ≡ old.errors) × (new.failed ≡ old.failed)
-Hints contents (Some line) old new =
-    new.failed ≡ false → (old.failed ≡ false) × Appends (contents old.errors) (contents new.errors) line
+abbrev pub hint_about : LaunchData → EndData → List Text
+hint_about launch end = if is_check launch && is_unstarted end then hint_line launch.program ∷ [] else []

@@ -1,5 +1,5 @@
 -- What words come to.
-use Rattle.std.specs.Prelude.{◌≡◌, ◌⊎◌, ℕ, List, [], Bool, true, not, Some, Result, Ok, Err}
+use Rattle.std.specs.Prelude.{◌≡◌, ◌⊎◌, ℕ, List, [], Bool, true, not, Option, Some, Result, Ok, Err}
 use Rattle.ccr_history.specs.Text.{Text}
 use Rattle.ccr_history.specs.declared.storage.Storage as storage
 use Rattle.ccr_process.specs.declared.runner.Runner as runner
@@ -7,7 +7,6 @@ use Rattle.ccr_task.specs.declared.shelf.Shelf as shelf
 use Rattle.ccr_serve.specs.declared.fault.ServeFault.{ServeFault}
 use Rattle.ccr_core.specs.declared.command.Command.TheVariants.{Show}
 use Rattle.ccr_run.specs.declared.abort.AbortFault.{AbortFault}
-use Rattle.ccr_run.specs.declared.failure.Failure.{Failure}
 use Rattle.ccr_run.specs.declared.left.Left.{Left}
 use Rattle.ccr_run.specs.declared.left.Left.TheVariants.{Unopened}
 use Rattle.ccr_run.specs.declared.left.Tools.{Tools}
@@ -15,13 +14,16 @@ use Rattle.ccr_run.specs.declared.order.AbortOrder.{AbortOrder}
 use Rattle.ccr_run.specs.declared.order.LookOrder.{LookOrder}
 use Rattle.ccr_run.specs.declared.order.Misuse.{Misuse}
 use Rattle.ccr_run.specs.declared.order.Order.{Order}
+use Rattle.ccr_run.specs.declared.order.PageOrder.{PageOrder}
 use Rattle.ccr_run.specs.declared.run.Outcome.{Outcome}
 use Rattle.ccr_run.specs.Asked.{AskedData}
 use Rattle.ccr_run.specs.Aborting.{Asks, IsPrinted, abort_status, told_of}
 use Rattle.ccr_run.specs.Explained.{ToldData, IsToldOf, explained, nothing_told}
 use Rattle.ccr_run.specs.Found.{ValidationData, Validates, is_validation, refusal_in, validated_status, validation_in}
 use Rattle.ccr_run.specs.Left.{text_left}
-use Rattle.ccr_run.specs.Orders.{IsOrdered, IsLookOrdered, IsAbortOrdered, IsMisused}
+use Rattle.ccr_run.specs.Looked.{Looks, ShownOf}
+use Rattle.ccr_run.specs.Orders.{IsOrdered, IsLookOrdered, IsPageOrdered, IsAbortOrdered, IsMisused}
+use Rattle.ccr_run.specs.Paged.{PagedOf, overview_options, page_told}
 use Rattle.ccr_run.specs.Served.{Coming, Served}
 use Rattle.ccr_run.specs.Statuses.{exit_status_of, printed_status, misuse_status}
 
@@ -42,7 +44,7 @@ pub record Ending : Type 0 where
   pub status : Result ℕ Misuse
 
 module _ {R F T C : Type 0} (r : runner.Ghosts R) (s : shelf.Ghosts F) (t : storage.Ghosts T) (coming : Coming T C)
-    (looks : LookOrder → List AskedData → Result ℕ Failure → Text → Text → Type 0) (words : List Text) (given : Tools R F) where
+    (looks : Looks) (clock : Option Text) (words : List Text) (given : Tools R F) where
   -- the words order a command, and this came of it
   pub record IsDone (ending : Ending) (kept : Left R F T C) : Type 0 where
     pub order : Order
@@ -74,11 +76,23 @@ module _ {R F T C : Type 0} (r : runner.Ghosts R) (s : shelf.Ghosts F) (t : stor
     pub order : LookOrder
     pub ordered : IsLookOrdered words order
     pub outcome : Outcome
-    pub looked : looks order ending.asked outcome.end ending.old ending.new
+    pub looked : looks order.options (ShownOf order) ending.asked outcome.end ending.old ending.new
     pub left : kept ≡ Unopened given
     pub quiet : ending.new_notes ≡ ending.old_notes
     pub printed : outcome.is_printed ≡ not ending.failed
     pub told : ending.told ≡ explained (record { options = order.options; command = Show order.what }) outcome
+    pub status_is : ending.status ≡ Ok (exit_status_of outcome)
+
+  -- the words order a page: no program was started, the shelf wasn't called, and nothing was told beside it
+  pub record IsPaged (ending : Ending) (kept : Left R F T C) : Type 0 where
+    pub order : PageOrder
+    pub ordered : IsPageOrdered words order
+    pub outcome : Outcome
+    pub paged : looks order.options (PagedOf (overview_options order clock)) ending.asked outcome.end ending.old ending.new
+    pub left : kept ≡ Unopened given
+    pub quiet : ending.new_notes ≡ ending.old_notes
+    pub printed : outcome.is_printed ≡ not ending.failed
+    pub told : ending.told ≡ page_told order outcome
     pub status_is : ending.status ≡ Ok (exit_status_of outcome)
 
   -- the words order a pipeline's file to be validated: it was read, which was the one call of the shelf; no program was started, nothing
@@ -108,8 +122,9 @@ module _ {R F T C : Type 0} (r : runner.Ghosts R) (s : shelf.Ghosts F) (t : stor
     pub told : ending.told ≡ nothing_told
     pub status_is : ending.status ≡ Err misuse
 
-  -- WHAT WORDS COME TO, with what was given and with what is left: the command, the look, the abort or the validation that they
-  -- order, or why they order nothing
+  -- WHAT WORDS COME TO, with what was given and with what is left: the command, the look, the page, the abort or the validation
+  -- that they order, or why they order nothing
   abbrev pub Obeyed : Ending → Left R F T C → Type 0
   Obeyed ending kept =
-      IsDone ending kept ⊎ (IsAbort ending kept ⊎ (IsLooked ending kept ⊎ (IsValidated ending kept ⊎ IsMisuse ending kept)))
+      IsDone ending kept ⊎ (IsAbort ending kept ⊎ (IsLooked ending kept ⊎ (IsPaged ending kept
+      ⊎ (IsValidated ending kept ⊎ IsMisuse ending kept))))

@@ -1,8 +1,9 @@
 -- The status that the program ends with.
-use Rattle.std.specs.Prelude.{ℕ, Bool, true, false, Result, Ok, Err}
+use Rattle.std.specs.Prelude.{ℕ, Bool, true, false, Option, Some, None, codes, Result, Ok, Err}
 use Rattle.clap.specs.Values.{kind_of}
 use Rattle.clap.specs.declared.error.kind.ErrorKind.{ErrorKind}
-use Rattle.clap.specs.declared.error.kind.ErrorKind.TheVariants.{DisplayHelp, DisplayVersion}
+use Rattle.clap.specs.declared.error.kind.ErrorKind.TheVariants.{DisplayHelp, DisplayVersion, UnknownArgument, ValueValidation}
+use Rattle.ccr_history.specs.Text.{Text}
 use Rattle.ccr_run.specs.declared.failure.Failure.{Failure}
 use Rattle.ccr_run.specs.declared.order.Misuse.{Misuse}
 use Rattle.ccr_run.specs.declared.order.Misuse.TheVariants.{Line, NoMemory}
@@ -22,6 +23,14 @@ printed_status false status = 4
 -- THE STATUS OF AN OUTCOME
 abbrev pub exit_status_of : Outcome → ℕ
 exit_status_of outcome = printed_status outcome.is_printed (status_of outcome.end)
+
+-- what to do about words that are no command line, by the kind of what is wrong with them
+abbrev pub remedy_of : ErrorKind → Option Text
+remedy_of UnknownArgument =
+    Some (codes "hint: --db and the other options of ccr_run stand before the command; ccr_run COMMAND --help has those behind it")
+remedy_of ValueValidation =
+    Some (codes "hint: where a number is wanted, builds shows those of builds, and resource-versions NAME the places of versions")
+remedy_of kind = None
 
 -- 0 for help, else 2
 abbrev pub line_status : ErrorKind → ℕ

@@ -1,5 +1,5 @@
 //! What the program answers to its words.
-ghost use Rattle.std.specs.Prelude.{◌≡◌, ◌++◌, [], not, IsSome, map, string_bytes};
+ghost use Rattle.std.specs.Prelude.{◌≡◌, ◌++◌, [], not, IsSome, map, option_map, string_bytes};
 ghost use Rattle.std.specs.Io.KnownBytes.{Appends};
 ghost use Rattle.std.specs.Process.{exit_status};
 ghost use Rattle.sqlite_std_file.specs.File.{IsFresh};
@@ -54,7 +54,7 @@ fn code_of<P: Print + Eprint>(
 }
 
 /// Does what the words order with what it is given, and gives the status that the program ends with. It has no runtime: it reaches
-/// nothing but what it is given, and hands that back.
+/// nothing but what it is given, and hands that back. What the clock says is given too, if it could be read.
 pub fn answer<
     'a,
     R: Runner + Drop,
@@ -68,6 +68,7 @@ pub fn answer<
 >(
     alloc: Global,
     words: &'a [String],
+    clock: Option<&str>,
     tools: Tools<R, F>,
     opener: &mut FileOpener<O, S>,
     out: &mut Printed<W, E>,
@@ -81,7 +82,7 @@ pub fn answer<
     ensures answered { IsAnswer R.Runner F.Shelf ⟦<FileDatabase<S> as Storage>⟧
         (from_files (image_at S.Start) (λ is_log file. IsFresh is_log file) opener.new.answer)
         (LookedBeside ⟦<FileStore<Scratch> as Trees>⟧ ⟦<FileStore<FileFrom<S>> as Trees>⟧)
-        (map string_bytes words.now) tools
+        (option_map (λ t. t.now) clock.entry) (map string_bytes words.now) tools
         (record {
           asked = O.asked opener.new.files;
           old = out.old.shown ++ out.old.waiting;
@@ -96,7 +97,7 @@ pub fn answer<
         (exit_status result.code) }
     ensures wrote { TellsLines (told_data telling.new) telling.old.errors telling.new.errors }
 {
-    let done = obey(alloc, words, tools, opener, out, telling);
+    let done = obey(alloc, words, clock, tools, opener, out, telling);
     let is_printed = !out.has_failed();
     let code = code_of(&done.status, is_printed, console);
     Answered { code, done }

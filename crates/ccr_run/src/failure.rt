@@ -1,12 +1,13 @@
 //! Why a command has no status.
 ghost use Rattle.std.specs.Prelude.{◌≡◌};
 ghost use Rattle.ccr_run.specs.declared.failure.Failure.TheVariants.{Refused, Unread};
-ghost use Rattle.ccr_serve.specs.declared.fault.ServeFault.TheVariants.{Store};
+ghost use Rattle.ccr_serve.specs.declared.fault.ServeFault.TheVariants.{Store, NoMemory};
 
 use ccr_look::CopyFault;
 use ccr_serve::ServeFault;
 use ccr_store::StoreFault;
 use sqlite::Error;
+use std::alloc::AllocError;
 
 /// Why a command has no status.
 #[derive(Drop)]
@@ -44,5 +45,13 @@ impl From<CopyFault> for Failure {
 
     fn from(fault: CopyFault) -> Failure {
         Failure::Unread(fault)
+    }
+}
+
+impl From<AllocError> for Failure {
+    ghost from_gives = { λ _ failure. failure ≡ Refused NoMemory };
+
+    fn from(_error: AllocError) -> Failure {
+        Failure::Refused(ServeFault::NoMemory)
     }
 }

@@ -1,12 +1,13 @@
 //! What is found in a pipeline's file: told beside `set-pipeline`, and by `validate-pipeline`, which opens no database.
 ghost use Rattle.std.specs.Prelude.{◌≡◌, ◌++◌, [], None, Some, Ok, Err, map, option_map, option_copied, slice_get, string_bytes, IfOk, IfErr, OnOk, OnErr};
 ghost use Rattle.ccr_findings.specs.Findings.{findings_data};
-ghost use Rattle.ccr_run.specs.Explained.{told_data, has_set, AreGates, gate_lines, refusal_lines};
+ghost use Rattle.ccr_run.specs.Explained.{told_data, has_set, has_shown, AreGates, gate_lines, refusal_lines};
 ghost use Rattle.ccr_run.specs.Found.{Finds, IsRefusedText, PrintsRefused, Validates, ValidatesText, findings_text, is_option, line_text, lines_text, validation_data, wrong_text};
 ghost use Rattle.ccr_run.specs.Found as spec;
 ghost use Rattle.ccr_run.specs.Writers.{GetsLines};
 
 use crate::failure::Failure;
+use crate::order::Order;
 use crate::refusal::refusal_of;
 use crate::telling::Telling;
 use ccr_core::Command;
@@ -56,25 +57,40 @@ fn has_set(command: &Command, end: &Result<u8, Failure>) -> bool
     }
 }
 
-/// Says on standard error what is found in this text of a pipeline, where the command has set one.
-pub fn tell_gates<E: Write>(
+/// Whether a command has shown something.
+fn has_shown(command: &Command, end: &Result<u8, Failure>) -> bool
+    ensures { result ≡ has_shown command.now end.now }
+{
+    match end {
+        Ok(0) => matches!(command, Command::Show(_)),
+        _ => false,
+    }
+}
+
+/// Says on standard error what is found in this text of a pipeline, where what is ordered has set one; or that no pipeline is set, where
+/// there is no text, and something was shown.
+pub fn tell_gates<'e, E: Write>(
     alloc: Global,
-    telling: &mut Telling<'_, E>,
-    command: &Command,
+    telling: &mut Telling<'e, E>,
+    order: &Order<'e>,
     end: &Result<u8, Failure>,
     text: Option<&[u8]>,
 )
     requires { (told_data telling.old).gates ≡ None }
-    ensures gates { AreGates (has_set command.now end.now) (option_copied text.entry) (told_data telling.new).gates }
+    ensures gates { AreGates (has_set order.now.command end.now) (has_shown order.now.command end.now)
+        order.now.options.database.now (option_copied text.entry) (told_data telling.new).gates }
     ensures rest { told_data telling.new ≡ record (told_data telling.old) { gates = (told_data telling.new).gates } }
     ensures wrote { GetsLines (gate_lines (told_data telling.new).gates) telling.old.errors telling.new.errors }
 {
-    if !has_set(command, end) {
-        return;
-    }
     let Some(text) = text else {
+        if has_shown(&order.command, end) {
+            telling.unset(order.options.database);
+        }
         return;
     };
+    if !has_set(&order.command, end) {
+        return;
+    }
     if let Ok(findings) = findings_of_text(alloc, text) {
         telling.gates(&findings);
     }

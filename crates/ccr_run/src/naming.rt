@@ -1,35 +1,34 @@
 //! Programs of checks that don't start are named, and so is a launcher of them.
-ghost use Rattle.std.specs.Prelude.{◌≡◌, false};
+ghost use Rattle.std.specs.Prelude.{◌≡◌, ◌∷◌, [], false};
 ghost use Rattle.ccr_process.specs.Ends.{end_data};
 ghost use Rattle.ccr_process.specs.Launches.{launch_data};
-ghost use Rattle.ccr_run.specs.Named.{Hints, hint_about, hint_line, is_unstarted};
+ghost use Rattle.ccr_run.specs.Named.{hint_line, is_unstarted};
 ghost use Rattle.ccr_run.specs.Named as spec;
+ghost use Rattle.ccr_run.specs.Writers.{GetsLines};
 
+use crate::errors::Errors;
 use ccr_process::{Ended, Launch, Runner};
+use std::alloc::Global;
 use std::io::Write;
 
 /// Has a runner run launches, and names the program of a check that didn't start to a writer, as standard error, or the
 /// launcher that was to start it: the line on standard output says only that one didn't. The server itself names a step's
 /// program that didn't start.
 #[derive(Drop)]
-pub struct Naming<R, E> {
+pub struct Naming<R, E: Write> {
     runner: R,
-    errors: E,
-    // Whether a write of a hint failed.
-    failed: bool,
+    errors: Errors<E>,
 }
 
-impl<R, E> Naming<R, E> {
+impl<R, E: Write> Naming<R, E> {
     /// Has this runner run launches, and names programs to this writer.
-    pub fn new(runner: R, errors: E) -> Naming<R, E>
+    pub fn new(alloc: Global, runner: R, errors: E) -> Naming<R, E>
         ensures runner { result.runner ≡ runner }
-        ensures errors { result.errors ≡ errors }
-        ensures unfailed { result.failed ≡ false }
+        ensures errors { result.errors ≡ record { got = E.contents errors; failed = false } }
     {
         Naming {
             runner,
-            errors,
-            failed: false,
+            errors: Errors::new(alloc, errors),
         }
     }
 }
@@ -56,16 +55,10 @@ fn is_unstarted(end: &Ended) -> bool
 impl<R, E: Write> Naming<R, E> {
     /// Names a program that did not start. An error of the writer is noted, and changes nothing else.
     fn name(&mut self, program: &str)
-        ensures named { Hints E.contents (Some (hint_line program.now)) self.old self.new }
+        ensures named { GetsLines (hint_line program.now ∷ []) self.old.errors self.new.errors }
         ensures runner { self.new.runner ≡ self.old.runner }
     {
-        let answer = writeln!(
-            self.errors,
-            "hint: {program} didn't start; is it there, and executable?"
-        );
-        if answer.is_err() {
-            self.failed = true;
-        }
+        self.errors.say(format_args!("hint: {program} didn't start; is it there, and executable?"));
     }
 }
 
@@ -74,14 +67,15 @@ impl<R: Runner, E: Write> Runner for Naming<R, E> {
     ghost use Rattle.ccr_process.specs.Ends.{end_data};
     ghost use Rattle.ccr_process.specs.Launches.{launch_data};
     ghost use Rattle.ccr_process.specs.Runs.{AddsPair};
-    ghost use Rattle.ccr_run.specs.Named.{Hints, hint_about};
+    ghost use Rattle.ccr_run.specs.Named.{hint_about};
+    ghost use Rattle.ccr_run.specs.Writers.{GetsLines};
 
     ghost pairs = { λ naming. R.pairs naming.runner };
 
     fn run(&mut self, launch: &Launch) -> Ended
         ensures added { AddsPair (R.pairs self.old.runner) (launch_data launch.now) (end_data result)
             (R.pairs self.new.runner) }
-        ensures hinted { Hints E.contents (hint_about (launch_data launch.now) (end_data result)) self.old self.new }
+        ensures hinted { GetsLines (hint_about (launch_data launch.now) (end_data result)) self.old.errors self.new.errors }
     {
         let end = self.runner.run(launch);
         if is_check(launch) && is_unstarted(&end) {

@@ -1,5 +1,5 @@
 //! What the program's words come to.
-ghost use Rattle.std.specs.Prelude.{◌≡◌, ◌≤◌, ◌++◌, [], Bool, Result, false, not, IsSome, map, string_bytes};
+ghost use Rattle.std.specs.Prelude.{◌≡◌, ◌≤◌, ◌++◌, [], Bool, Result, false, not, IsSome, map, option_map, string_bytes};
 ghost use Rattle.sqlite_std_file.specs.File.{IsFresh};
 ghost use Rattle.sqlite_wal.specs.Files.{image_at};
 ghost use Rattle.ccr_proof.specs.declared.proof.TheConstants.{MOST_NODES};
@@ -26,6 +26,7 @@ use crate::look::look_at;
 use crate::opener::FileOpener;
 use crate::opening::{FileConnection, Opens};
 use crate::order::{AbortOrder, Misuse, Order, Ordered, ordered_by};
+use crate::page::page_at;
 use crate::run::{FilesLeft, run};
 use crate::tell::tell;
 use crate::telling::Telling;
@@ -81,13 +82,7 @@ fn do_command<
     ensures wrote { TellsLines (told_data telling.new) telling.old.errors telling.new.errors }
 {
     let ran = run(alloc, order, tools, opener, out);
-    tell_gates(
-        alloc,
-        telling,
-        &order.command,
-        &ran.outcome.end,
-        ran.left.text(),
-    );
+    tell_gates(alloc, telling, order, &ran.outcome.end, ran.left.text());
     let status = tell(telling, order, &ran.outcome);
     (status, ran.left)
 }
@@ -143,7 +138,8 @@ fn do_validation<R, F: Shelf, W: Write, E: Write, P: Write>(
     (status, Tools { runner, shelf })
 }
 
-/// Does what the words order, and tells what came of it; or says why they order nothing. What it was given is handed back.
+/// Does what the words order, and tells what came of it; or says why they order nothing. What it was given is handed back. A page
+/// says when it was made, as the clock has it.
 pub fn obey<
     'a,
     R: Runner + Drop,
@@ -156,6 +152,7 @@ pub fn obey<
 >(
     alloc: Global,
     words: &'a [String],
+    clock: Option<&str>,
     tools: Tools<R, F>,
     opener: &mut FileOpener<O, S>,
     out: &mut Printed<W, E>,
@@ -167,7 +164,7 @@ pub fn obey<
     ensures obeyed { Obeyed R.Runner F.Shelf ⟦<FileDatabase<S> as Storage>⟧
         (from_files (image_at S.Start) (λ is_log file. IsFresh is_log file) opener.new.answer)
         (LookedBeside ⟦<FileStore<Scratch> as Trees>⟧ ⟦<FileStore<FileFrom<S>> as Trees>⟧)
-        (map string_bytes words.now) tools
+        (option_map (λ t. t.now) clock.entry) (map string_bytes words.now) tools
         (record {
           asked = O.asked opener.new.files;
           old = out.old.shown ++ out.old.waiting;
@@ -189,25 +186,24 @@ pub fn obey<
             };
         };
         let (status, tools) = do_validation(alloc, &validation, tools, out, telling);
-        return Done {
-            status: Ok(status),
-            left: Left::Unopened(tools),
-        };
+        let (status, left) = (Ok(status), Left::Unopened(tools));
+        return Done { status, left };
     }
     match ordered_by(alloc, words) {
         Ok(Ordered::Abort(order)) => {
             let (status, tools) = do_abort(alloc, &order, tools, out, telling);
-            Done {
-                status: Ok(status),
-                left: Left::Unopened(tools),
-            }
+            let (status, left) = (Ok(status), Left::Unopened(tools));
+            Done { status, left }
         }
         Ok(Ordered::Look(order)) => {
             let status = look_at(alloc, order, opener, out, telling);
-            Done {
-                status: Ok(status),
-                left: Left::Unopened(tools),
-            }
+            let (status, left) = (Ok(status), Left::Unopened(tools));
+            Done { status, left }
+        }
+        Ok(Ordered::Page(order)) => {
+            let status = page_at(alloc, order, clock, opener, out, telling);
+            let (status, left) = (Ok(status), Left::Unopened(tools));
+            Done { status, left }
         }
         Ok(Ordered::Command(order)) => {
             let (status, left) = do_command(alloc, &order, tools, opener, out, telling);

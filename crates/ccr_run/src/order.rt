@@ -4,11 +4,13 @@ ghost use Rattle.clap.specs.Values.{kind_of};
 ghost use Rattle.clap.specs.declared.error.kind.ErrorKind.TheVariants.{OutOfMemory};
 ghost use Rattle.ccr_proof.specs.declared.proof.TheConstants.{MOST_NODES};
 ghost use Rattle.ccr_core.specs.declared.command.Command.TheVariants.{Show};
+ghost use Rattle.ccr_core.specs.declared.shown.Shown.TheVariants.{Pipeline};
 ghost use Rattle.ccr_run.specs.Orders.{budget_of, Becomes, IsMisused, Orders};
 ghost use Rattle.ccr_run.specs.declared.order.Misuse.TheVariants.{Line, NoMemory};
 
 use ccr_command::{
-    AbortRequest, OptionFault, Options, abort_of, asks_look, command_line, command_of, options_of,
+    AbortRequest, OptionFault, Options, PageRequest, abort_of, asks_look, command_line, command_of,
+    options_of, page_of,
 };
 use ccr_core::{Command, Shown};
 use clap::Error as LineError;
@@ -55,6 +57,28 @@ impl<'a> LookOrder<'a> {
     }
 }
 
+/// What a page is to say of itself, with the options that the program was given.
+#[derive(Drop)]
+pub struct PageOrder<'a> {
+    /// The options.
+    pub options: Options<'a>,
+    /// What the page is to say of itself.
+    pub page: PageRequest<'a>,
+}
+
+impl<'a> PageOrder<'a> {
+    /// The look at the pipeline that tells what a page tells.
+    pub fn into_look(self) -> Order<'a>
+        ensures options { result.options ≡ self.entry.options }
+        ensures command { result.command ≡ Show Pipeline }
+    {
+        Order {
+            options: self.options,
+            command: Command::Show(Shown::Pipeline),
+        }
+    }
+}
+
 /// What words order.
 #[derive(Drop)]
 pub enum Ordered<'a> {
@@ -62,6 +86,8 @@ pub enum Ordered<'a> {
     Command(Order<'a>),
     /// A look at the database. It is read, and not opened.
     Look(LookOrder<'a>),
+    /// A page of what is in the database. It is read, and not opened.
+    Page(PageOrder<'a>),
     /// That a build be asked to be aborted. No database is opened.
     Abort(AbortOrder<'a>),
 }
@@ -142,6 +168,11 @@ pub fn ordered_by<'a>(alloc: Global, words: &'a [String]) -> Result<Ordered<'a>,
     };
     if let Some(build) = abort_of(&matches) {
         return Ok(Ordered::Abort(AbortOrder { options, build }));
+    }
+    match page_of(&matches) {
+        Ok(Some(page)) => return Ok(Ordered::Page(PageOrder { options, page })),
+        Ok(None) => {}
+        Err(fault) => return Err(Misuse::Option(fault)),
     }
     match command_of(alloc, &matches)? {
         Some(command) => Ok(ordered_of(options, command, asks_look(&matches))),

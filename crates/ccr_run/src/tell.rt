@@ -1,5 +1,5 @@
 //! What goes to standard error, and the status that the program ends with.
-ghost use Rattle.std.specs.Prelude.{◌≡◌, None, false, not};
+ghost use Rattle.std.specs.Prelude.{◌≡◌, None, false, not, option_map};
 ghost use Rattle.std.specs.Process.{exit_status};
 ghost use Rattle.ccr_run.specs.Explained.{told_data, nothing_told, shows_proof, is_over_budget, budget_over, refusal_in, explained};
 ghost use Rattle.ccr_run.specs.Explained.{budget_lines, refusal_lines, hint_lines, unprinted_lines, TellsLines};
@@ -16,6 +16,8 @@ use crate::refusal::refusal_of;
 use crate::run::Outcome;
 use crate::telling::Telling;
 use ccr_core::{Command, Shown};
+use clap::Error as LineError;
+use clap::error::ErrorKind;
 use std::io;
 use std::io::Write;
 use std::process::ExitCode;
@@ -116,11 +118,35 @@ pub fn tell<'e, E: Write>(telling: &mut Telling<'e, E>, order: &Order<'e>, outco
     }
 }
 
+/// What to do about words that are no command line, by the kind of what is wrong with them, where that helps.
+fn remedy_of(kind: ErrorKind) -> Option<&'static str>
+    ensures { option_map (λ hint. hint.now) result ≡ spec.remedy_of kind }
+{
+    match kind {
+        ErrorKind::UnknownArgument => Some(
+            "hint: --db and the other options of ccr_run stand before the command; ccr_run COMMAND --help has those behind it",
+        ),
+        ErrorKind::ValueValidation => Some(
+            "hint: where a number is wanted, builds shows those of builds, and resource-versions NAME the places of versions",
+        ),
+        _ => None,
+    }
+}
+
+/// Prints what `clap` says is wrong, or the help that is asked for; and below it what to do.
+fn print_line<R: Print + Eprint>(rt: &R, error: &LineError) -> io::Result<()> {
+    error.print(rt)?;
+    match remedy_of(error.kind()) {
+        Some(remedy) => eprintln!(rt; "{remedy}"),
+        None => Ok(()),
+    }
+}
+
 /// Prints what `clap` answers: help to standard output, and a misuse to standard error.
 fn print_misuse<R: Print + Eprint>(rt: &R, misuse: &Misuse) -> io::Result<()> {
     match misuse {
         Misuse::NotText => eprintln!(rt; "error: a word isn't UTF-8"),
-        Misuse::Line(error) => error.print(rt),
+        Misuse::Line(error) => print_line(rt, error),
         Misuse::Option(fault) => {
             eprintln!(rt; "error: {fault}\n\nFor more information, try '--help'.")
         }

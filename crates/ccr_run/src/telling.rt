@@ -1,6 +1,8 @@
 //! What is told on standard error as the program ends.
-ghost use Rattle.std.specs.Prelude.{◌≡◌, [], ◌∷◌, Some, true, false, string_bytes};
-ghost use Rattle.ccr_run.specs.Explained.{told_data, refusal_told, nothing_told, told_line, told_lines, budget_line, unprinted_line};
+ghost use Rattle.std.specs.Prelude.{◌≡◌, [], ◌∷◌, None, Some, true, false, string_bytes};
+ghost use Rattle.std.specs.List.{list_any};
+ghost use Rattle.ccr_findings.specs.Findings.{kinds};
+ghost use Rattle.ccr_run.specs.Explained.{told_data, refusal_told, nothing_told, told_line, told_lines, found_lines, is_vars, set_lines, vars_lines, unset_line, budget_line, unprinted_line};
 ghost use Rattle.ccr_run.specs.Hints.{hint_data, hint_text};
 ghost use Rattle.ccr_run.specs.Refusals.{refusal_data, refusal_text};
 ghost use Rattle.ccr_run.specs.Writers.{GetsLines};
@@ -8,7 +10,7 @@ ghost use Rattle.ccr_run.specs.Writers.{GetsLines};
 use crate::errors::Errors;
 use crate::hint::Hint;
 use crate::refusal::Refusal;
-use ccr_findings::{Finding, Findings, Kind};
+use ccr_findings::{Finding, Findings, Kind, is_faultless};
 use std::alloc::Global;
 use std::io::Write;
 use std::snapshot::Snapshot;
@@ -27,6 +29,8 @@ pub struct ToldRefusal {
 pub struct Telling<'e, E: Write> {
     errors: Errors<E>,
     gates: Option<Snapshot<Findings>>,
+    // The database in which no pipeline is set, if that was told.
+    unset: Option<&'e str>,
     budget: Option<u32>,
     refusal: Option<ToldRefusal>,
     hint: Option<Hint<'e>>,
@@ -67,6 +71,36 @@ fn say_findings<E: Write>(errors: &mut Errors<E>, findings: &[Finding])
     }
 }
 
+/// Whether a text is found that a variable was to replace.
+fn has_vars(findings: &[Finding]) -> bool
+    ensures { result ≡ list_any is_vars (kinds findings.now) }
+{
+    for finding in findings {
+        if finding.kind == Kind::Vars {
+            return true;
+        }
+    }
+    false
+}
+
+/// Writes what a variable means, if one is found.
+fn say_vars<E: Write>(errors: &mut Errors<E>, findings: &[Finding])
+    ensures { GetsLines (vars_lines (kinds findings.now)) errors.old errors.new }
+{
+    if has_vars(findings) {
+        errors.say("hint: vars: a text with ((..)) is taken as it stands; no variable is put in");
+    }
+}
+
+/// Writes that a pipeline is set, if it doesn't do what it seems to say.
+fn say_set<E: Write>(errors: &mut Errors<E>, findings: &[Finding])
+    ensures { GetsLines (set_lines (kinds findings.now)) errors.old errors.new }
+{
+    if !is_faultless(findings, false) {
+        errors.say("hint: it is set all the same; correct what is named above, and set it again");
+    }
+}
+
 impl<'e, E: Write> Telling<'e, E> {
     /// Nothing is told yet; what is will go to this writer.
     pub fn new(alloc: Global, writer: E) -> Telling<'e, E>
@@ -76,6 +110,7 @@ impl<'e, E: Write> Telling<'e, E> {
         Telling {
             errors: Errors::new(alloc, writer),
             gates: None,
+            unset: None,
             budget: None,
             refusal: None,
             hint: None,
@@ -83,14 +118,27 @@ impl<'e, E: Write> Telling<'e, E> {
         }
     }
 
-    /// Tells what was found in a pipeline that was set, but for keys of Concourse that have no effect: the command lists those.
+    /// Tells what was found in a pipeline that was set, but for keys of Concourse that have no effect: the command lists those. And
+    /// then what to do about it, if it isn't what it should be.
     pub fn gates(&mut self, findings: &Findings)
         ensures told { told_data self.new
-            ≡ record (told_data self.old) { gates = Some (told_lines findings.now.items) } }
-        ensures wrote { GetsLines (told_lines findings.now.items) self.old.errors self.new.errors }
+            ≡ record (told_data self.old) { gates = Some (found_lines findings.now.items) } }
+        ensures wrote { GetsLines (found_lines findings.now.items) self.old.errors self.new.errors }
     {
         self.gates = Some(Snapshot::of(findings));
         say_findings(&mut self.errors, findings);
+        say_vars(&mut self.errors, findings);
+        say_set(&mut self.errors, findings);
+    }
+
+    /// Tells that no pipeline is set in the database at this path.
+    pub fn unset(&mut self, path: &'e str)
+        requires { (told_data self.old).gates ≡ None }
+        ensures told { told_data self.new ≡ record (told_data self.old) { gates = Some (unset_line path.now ∷ []) } }
+        ensures wrote { GetsLines (unset_line path.now ∷ []) self.old.errors self.new.errors }
+    {
+        self.unset = Some(path);
+        self.errors.say(format_args!("hint: {path}: no pipeline is set in it; is --db right?"));
     }
 
     /// Tells that a search would go over this budget.

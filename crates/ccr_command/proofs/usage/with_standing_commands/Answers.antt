@@ -10,4 +10,5 @@ returns c =
     let two = with_command _ _ _ _ _ c.in_ok-line-2.ensures one c.in_ok-resources.ensures in
     let three = with_command _ _ _ _ _ c.in_ok-line-3.ensures two c.in_ok-jobs.ensures in
     let four = with_command _ _ _ _ _ c.in_ok-line-4.ensures three c.in_ok-red.ensures in
-    IfOk-weaker c.subcommand-5.result _ _ (λ made h. with_command _ _ _ _ _ h four c.in_ok-graph.ensures) c.subcommand-5.ensures
+    let five = with_command _ _ _ _ _ c.in_ok-line-5.ensures four c.in_ok-graph.ensures in
+    IfOk-weaker c.subcommand-6.result _ _ (λ made h. with_command _ _ _ _ _ h five c.in_ok-page.ensures) c.subcommand-6.ensures

@@ -2,7 +2,7 @@ use Rattle.std.proofs.Common.{◌∙◌, ap, map, take, option_map, option_copie
 use Rattle.ccr_pipeline.specs.Inputs.{input_data}
 use Rattle.ccr_pipeline.specs.Pipelines.{pipeline_data}
 use Rattle.ccr_lines.specs.Releases.{together_data, inputs_in_plan}
-use Rattle.ccr_lines.proofs.Together.{together_told}
+use Rattle.ccr_lines.proofs.GoneTogether.{together_told}
 use Rattle.ccr_lines.proofs.release.all_together.Goals as goal
 
 pub returns : goal.returns

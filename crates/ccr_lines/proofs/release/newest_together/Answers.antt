@@ -1,5 +1,5 @@
 use Rattle.std.proofs.Common.{◌∙◌, sym}
-use Rattle.ccr_lines.proofs.Together.{newest_told}
+use Rattle.ccr_lines.proofs.GoneTogether.{newest_told}
 use Rattle.ccr_lines.proofs.release.newest_together.Goals as goal
 
 pub loop-k-preserved : goal.loop-k-preserved

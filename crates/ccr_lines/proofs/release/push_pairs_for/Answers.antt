@@ -1,6 +1,6 @@
 use Rattle.std.proofs.Common.{◌++◌}
 use Rattle.ccr_lines.specs.Releases.{pairs_for}
-use Rattle.ccr_lines.proofs.Together.{pairs_told}
+use Rattle.ccr_lines.proofs.GoneTogether.{pairs_told}
 use Rattle.ccr_lines.proofs.release.push_pairs_for.Goals as goal
 
 pub loop-k-preserved : goal.loop-k-preserved

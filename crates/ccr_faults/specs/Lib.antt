@@ -1,3 +1,0 @@
-pub mod Present
-pub mod Hunts
-pub mod Agreement

@@ -1,0 +1,12 @@
+pub mod PlaceLaws
+pub mod BandLaws
+pub mod StepLaws
+pub mod PictureLaws
+pub mod CycleLaws
+pub mod LayerLaws
+pub mod PassedLaws
+pub mod ColumnLaws
+pub mod LeadLaws
+pub mod TabLaws
+pub mod LaneLaws
+pub mod RoomLaws

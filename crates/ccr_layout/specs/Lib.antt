@@ -1,0 +1,14 @@
+pub mod Nodes
+pub mod Layers
+pub mod Turns
+pub mod Passed
+pub mod Columns
+pub mod Spans
+pub mod Reaches
+pub mod Places
+pub mod Standing
+pub mod Ends
+pub mod Bands
+pub mod Lanes
+pub mod Drawing
+pub mod Pictures

@@ -1,0 +1,92 @@
+//! Lines from one column to the next.
+
+ghost use Rattle.std.specs.Prelude.{◌≡◌, ◌≤◌, length, IfOk};
+
+use crate::graph::{Edge, port_below};
+use crate::span::{Span, passes, span_at};
+use std::alloc::{AllocError, Global};
+
+/// A line from a node's box or slot in one column to a node's box or slot in the next. Its end is a slot where both are one node.
+#[derive(Clone, Copy, Drop)]
+pub(crate) struct Line {
+    pub(crate) from: usize,
+    pub(crate) to: usize,
+    /// How far below the top it ends, in pixels.
+    pub(crate) offset: u32,
+    pub(crate) trigger: bool,
+}
+
+/// Whether a line ends at a box.
+pub(crate) fn ends(line: Line) -> bool {
+    line.from != line.to
+}
+
+/// The pieces of long lines that end in the slots of this column.
+fn pieces(alloc: Global, spans: &[Span], column: usize) -> Result<Vec<Line>, AllocError> {
+    let mut lines = Vec::new(alloc);
+    for node in 0..spans.len() {
+        if passes(spans[node], column) {
+            lines.push(Line {
+                from: node,
+                to: node,
+                offset: 0,
+                trigger: true,
+            })?;
+        }
+    }
+    Ok(lines)
+}
+
+/// The pieces of long lines, for each column.
+fn all_pieces(alloc: Global, spans: &[Span], columns: usize) -> Result<Vec<Vec<Line>>, AllocError>
+    ensures { IfOk result (λ lines. length lines.items ≡ columns) }
+{
+    let mut lines = Vec::new(alloc);
+    for column in 0..columns {
+        lines.push(pieces(alloc, spans, column)?)?;
+    }
+    Ok(lines)
+}
+
+/// Adds a line that ends in this column.
+fn push_line(lines: &mut Vec<Vec<Line>>, column: usize, line: Line) -> Result<(), AllocError>
+    ensures { length lines.new.items ≡ length lines.old.items }
+{
+    if column < lines.len() {
+        lines[column].push(line)?;
+    }
+    Ok(())
+}
+
+/// For each column the lines that end there.
+pub(crate) fn lines_of(
+    alloc: Global,
+    edges: &[Edge],
+    spans: &[Span],
+    columns: usize,
+) -> Result<Vec<Vec<Line>>, AllocError>
+    ensures { IfOk result (λ lines. length lines.items ≡ columns) }
+{
+    let mut lines = all_pieces(alloc, spans, columns)?;
+    for edge in edges {
+        let target = span_at(spans, edge.target);
+        if span_at(spans, edge.source).column < target.column {
+            let line = Line {
+                from: edge.source,
+                to: edge.target,
+                offset: target.first_port.saturating_add(port_below(edge.port)),
+                trigger: edge.trigger,
+            };
+            push_line(&mut lines, target.column, line)?;
+        }
+    }
+    Ok(lines)
+}
+
+/// The lines that end in this column, none where there is no such column.
+pub(crate) fn ending(lines: &[Vec<Line>], column: usize) -> &[Line] {
+    match lines.get(column) {
+        Some(lines) => lines.as_slice(),
+        None => &[],
+    }
+}

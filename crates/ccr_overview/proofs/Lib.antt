@@ -1,0 +1,13 @@
+pub mod Clashing
+pub mod Digits
+pub mod Disabling
+pub mod Drawing
+pub mod Fields
+pub mod Firsts
+pub mod Going
+pub mod Halting
+pub mod Joining
+pub mod Paging
+pub mod Posting
+pub mod Saying
+pub mod Telling

@@ -1,0 +1,5 @@
+use Rattle.ccr_page.proofs.Adding.{then_adds}
+use Rattle.ccr_page.proofs.drawing.push_picture_section.Goals as goal
+
+pub returns : goal.returns
+returns c = then_adds (then_adds c.in_ok-push.ensures c.in_ok-push_picture.ensures) c.in_ok-push-2.ensures

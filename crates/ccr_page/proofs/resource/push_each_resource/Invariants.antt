@@ -1,0 +1,8 @@
+use Rattle.std.proofs.Common.{take}
+use Rattle.ccr_page.specs.Pieces.{Adds}
+use Rattle.ccr_page.specs.Each.{each_from}
+use Rattle.ccr_page.specs.Resources.{resource_pieces}
+use Rattle.ccr_page.proofs.resource.push_each_resource.Given as goal
+
+abbrev pub invariant-loop-position : goal.invariant-loop-position
+invariant-loop-position l = Adds l.fn.out.items l.out.items (each_from resource_pieces 0 (take l.position l.resources))

@@ -1,0 +1,15 @@
+pub mod Texts
+pub mod Statuses
+pub mod Pieces
+pub mod Sentences
+pub mod Heads
+pub mod Lists
+pub mod Each
+pub mod Jobs
+pub mod Resources
+pub mod Builds
+pub mod Shapes
+pub mod Strokes
+pub mod Drawings
+pub mod Pages
+pub mod Markup
