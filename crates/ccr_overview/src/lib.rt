@@ -27,8 +27,6 @@ mod scene;
 mod sentence;
 mod short;
 mod stopping;
-#[cfg(test)]
-mod tests;
 mod wait;
 mod word;
 

@@ -29,8 +29,6 @@ mod shape;
 mod status;
 mod stroke;
 mod template;
-#[cfg(test)]
-mod tests;
 
 pub use data::{Arrow, Bar, Cell, Job, Page, Port, Resource, Row, Urgency, Version, Why, Word};
 pub use law::no_text_is_markup;
