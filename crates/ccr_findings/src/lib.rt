@@ -30,6 +30,7 @@ mod find_object;
 mod find_step;
 mod find_walk;
 mod finding;
+mod float;
 mod gate;
 mod keys;
 mod known;
