@@ -58,8 +58,8 @@ doubled b (c ∷ d ∷ cs) h =
     let other : d ≡ b = eqb-true d b it.1 in cc
 
 -- ---- a variable at the front of a text
-Front : List ℕ → Type 0
-Front s = (name : List ℕ) × ((after : List ℕ) × (IsTrue (is_variable_name name) × (s ≡ 40 ∷ 40 ∷ (name ++ (41 ∷ 41 ∷ after)))))
+abbrev Front : List ℕ → Type 0
+Front s = (name : List ℕ) × (after : List ℕ) × IsTrue (is_variable_name name) × (s ≡ 40 ∷ 40 ∷ (name ++ (41 ∷ 41 ∷ after)))
 
 front_found : (s : List ℕ) → begins_variable s ≡ true → Front s
 front_found s h =
@@ -79,11 +79,10 @@ front_there name after h =
     rw (front_name name after it.1, behind_name name after it.1) (two _ _ it.0 refl)
 
 -- ---- a variable behind a byte
-Behind : ℕ → List ℕ → Type 0
+abbrev Behind : ℕ → List ℕ → Type 0
 Behind last s =
-    (before : List ℕ) × ((name : List ℕ) × ((after : List ℕ)
-    × (IsTrue (not (last_byte last before == 36)) × (IsTrue (is_variable_name name)
-    × (s ≡ before ++ (40 ∷ 40 ∷ (name ++ (41 ∷ 41 ∷ after))))))))
+    (before : List ℕ) × (name : List ℕ) × (after : List ℕ) × IsTrue (not (last_byte last before == 36))
+    × IsTrue (is_variable_name name) × (s ≡ before ++ (40 ∷ 40 ∷ (name ++ (41 ∷ 41 ∷ after))))
 
 later : (last c : ℕ) (s : List ℕ) → Behind c s → Behind last (c ∷ s)
 later last c s h = (c ∷ h.0, h.1, h.2, h.3, h.4, ap (λ l. c ∷ l) h.5)

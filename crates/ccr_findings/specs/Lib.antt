@@ -10,6 +10,7 @@ pub mod Timeouts
 pub mod Stands
 pub mod Breaks
 pub mod Floats
+pub mod Undone
 pub mod Told
 pub mod Gates
 pub mod Vars

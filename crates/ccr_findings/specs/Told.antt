@@ -20,6 +20,7 @@ use Rattle.ccr_findings.specs.Breaks.{break_lines}
 use Rattle.ccr_findings.specs.Floats.{float_in}
 use Rattle.ccr_findings.specs.Near.{nearest}
 use Rattle.ccr_findings.specs.Stands.{is_within, StandData, stand_on}
+use Rattle.ccr_findings.specs.Undone.{last_key, undone_words}
 
 -- what a refusal says: the rule that is broken, and where; nothing of memory
 abbrev pub Told : Type 0
@@ -115,10 +116,11 @@ rule_words rule.Number = codes ": at most 200 resources and 200 jobs; in a job a
 rule_words rule.Supported = []
 rule_words rule.Whole = codes ": write it as a text, in quotes; a number is whole here, and has 64 bits at most"
 
--- the same of a fault
+-- the same of a fault; where something isn't supported, what to do in its place
 abbrev pub rule_words_at : Told → Text
 rule_words_at None = []
-rule_words_at (Some f) = rule_words f.0
+rule_words_at (Some (rule.Supported, p)) = undone_words (last_key p p)
+rule_words_at (Some (r, p)) = rule_words r
 
 -- what is wanted, in words
 abbrev pub wanted_words : Kind → Text

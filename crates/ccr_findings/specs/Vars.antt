@@ -35,9 +35,8 @@ last_byte c (d ∷ ds) = last_byte d ds
 -- A TEXT HAS A VARIABLE: somewhere in it stands a name between (( and )), with no $ before it
 abbrev pub HasVariable : Text → Type 0
 HasVariable s =
-    (before : Text) × ((name : Text) × ((after : Text)
-    × (IsTrue (not (last_byte 0 before == 36)) × (IsTrue (is_variable_name name)
-    × (s ≡ before ++ (40 ∷ 40 ∷ (name ++ (41 ∷ 41 ∷ after))))))))
+    (before : Text) × (name : Text) × (after : Text) × IsTrue (not (last_byte 0 before == 36))
+    × IsTrue (is_variable_name name) × (s ≡ before ++ (40 ∷ 40 ∷ (name ++ (41 ∷ 41 ∷ after))))
 
 -- ---- how one is found
 -- the letters that a text begins with

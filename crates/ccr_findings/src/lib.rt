@@ -43,6 +43,7 @@ mod present;
 mod seen;
 mod stand;
 mod told;
+mod undone;
 mod vars;
 
 pub use find_all::{faults_in, faults_of};

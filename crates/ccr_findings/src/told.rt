@@ -14,6 +14,7 @@ use crate::find_all::faults_in;
 use crate::float::float_in;
 use crate::meant::nearest;
 use crate::stand::{Stand, is_within, stand_on};
+use crate::undone::undone_words;
 use ccr_pipeline::schema::Kind;
 use ccr_pipeline::{MOST_BYTES, ReadFault, list_at};
 use serde_json::Value;
@@ -182,6 +183,7 @@ fn rule_words(fault: &ReadFault) -> &'static str
         ReadFault::NumberNotWhole(_) => {
             ": write it as a text, in quotes; a number is whole here, and has 64 bits at most"
         }
+        ReadFault::Unsupported(path) => undone_words(path.as_str()),
         ReadFault::TooLong(_)
         | ReadFault::NotJson(_)
         | ReadFault::Missing(_)
@@ -189,7 +191,6 @@ fn rule_words(fault: &ReadFault) -> &'static str
         | ReadFault::Repeated(_)
         | ReadFault::UnknownResource(_)
         | ReadFault::UnknownJob(_)
-        | ReadFault::Unsupported(_)
         | ReadFault::NoMemory => "",
     }
 }

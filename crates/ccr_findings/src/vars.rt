@@ -55,12 +55,10 @@ fn begins_variable(text: &[u8]) -> bool
     is_free(name) && matches!(behind, [b')', b')', ..])
 }
 
-/// Whether a text has a variable somewhere: a name between `((` and `))`. Behind a `$` it is arithmetic of a shell.
-fn has_variable(text: &str) -> bool
-    ensures whether { result ≡ spec.has_variable text.now }
-    ensures somewhere { Decides result (HasVariable text.now) }
+/// Whether a variable begins somewhere in a text. Behind a `$` it is arithmetic of a shell.
+fn is_found(text: &[u8]) -> bool
+    ensures { result ≡ spec.has_variable text.now }
 {
-    let text = text.as_bytes();
     let mut last = 0;
     for (i, byte) in text.iter().enumerate() {
         if last != b'$' && begins_variable(&text[i..]) {
@@ -69,6 +67,15 @@ fn has_variable(text: &str) -> bool
         last = *byte;
     }
     false
+}
+
+/// Whether a text has a variable: somewhere in it stands a name between `((` and `))`, with no `$` before it.
+#[tactic(auto, using(crate::proofs::Somewhere::variable_Decides))]
+fn has_variable(text: &str) -> bool
+    ensures whether { result ≡ spec.has_variable text.now }
+    ensures somewhere { Decides result (HasVariable text.now) }
+{
+    is_found(text.as_bytes())
 }
 
 /// Adds the finding of a text, if it has variables.
