@@ -12,10 +12,10 @@ last_key key (c ∷ cs) = last_key (if c == 46 then cs else key) cs
 -- WHAT TO DO IN THE PLACE OF A KEY that isn't supported, or what stands there
 abbrev pub undone_words : Path → Text
 undone_words key =
-    if bytes_eq key (codes "across") then codes "; write a step for each value"
-    else if bytes_eq key (codes "load_var") then codes "; have a task read the file"
-    else if bytes_eq key (codes "set_pipeline") then codes "; set the pipeline from outside of a build"
-    else if bytes_eq key (codes "aggregate") then codes "; write in_parallel"
+    if bytes_eq key (codes "across") then codes ": write a step for each value"
+    else if bytes_eq key (codes "load_var") then codes ": have a task read the file"
+    else if bytes_eq key (codes "set_pipeline") then codes ": set the pipeline from outside of a build"
+    else if bytes_eq key (codes "aggregate") then codes ": write in_parallel"
     else if bytes_eq key (codes "input_mapping") then
     codes "; leave it out, and get the resource under the input's name: {\"get\": \"input\", \"resource\": \"repo\"}"
     else if bytes_eq key (codes "output_mapping") then codes "; leave it out, and call the output as the steps behind do"

@@ -21,13 +21,13 @@ fn words_of(key: &[u8]) -> &'static str
     ensures { result.now ≡ spec.undone_words key.now }
 {
     if key == "across".as_bytes() {
-        "; write a step for each value"
+        ": write a step for each value"
     } else if key == "load_var".as_bytes() {
-        "; have a task read the file"
+        ": have a task read the file"
     } else if key == "set_pipeline".as_bytes() {
-        "; set the pipeline from outside of a build"
+        ": set the pipeline from outside of a build"
     } else if key == "aggregate".as_bytes() {
-        "; write in_parallel"
+        ": write in_parallel"
     } else if key == "input_mapping".as_bytes() {
         "; leave it out, and get the resource under the input's name: {\"get\": \"input\", \"resource\": \"repo\"}"
     } else if key == "output_mapping".as_bytes() {
