@@ -17,22 +17,23 @@ fn last_key(path: &str) -> &[u8]
 }
 
 /// What to do in the place of a key that isn't supported.
+#[tactic(auto, unfolding(crate::specs::Undone::undone_words))]
 fn words_of(key: &[u8]) -> &'static str
     ensures { result.now ≡ spec.undone_words key.now }
 {
-    if key == "across".as_bytes() {
+    if key == b"across".as_slice() {
         ": write a step for each value"
-    } else if key == "load_var".as_bytes() {
+    } else if key == b"load_var".as_slice() {
         ": have a task read the file"
-    } else if key == "set_pipeline".as_bytes() {
+    } else if key == b"set_pipeline".as_slice() {
         ": set the pipeline from outside of a build"
-    } else if key == "aggregate".as_bytes() {
+    } else if key == b"aggregate".as_slice() {
         ": write in_parallel"
-    } else if key == "input_mapping".as_bytes() {
+    } else if key == b"input_mapping".as_slice() {
         "; leave it out, and get the resource under the input's name: {\"get\": \"input\", \"resource\": \"repo\"}"
-    } else if key == "output_mapping".as_bytes() {
+    } else if key == b"output_mapping".as_slice() {
         "; leave it out, and call the output as the steps behind do"
-    } else if key == "path".as_bytes() {
+    } else if key == b"path".as_slice() {
         "; leave it out: an input or output lies under its name"
     } else {
         ""
