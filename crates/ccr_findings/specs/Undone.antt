@@ -9,8 +9,8 @@ abbrev pub last_key : Path → Path → Path
 last_key key [] = key
 last_key key (c ∷ cs) = last_key (if c == 46 then cs else key) cs
 
--- WHAT TO DO IN THE PLACE OF A KEY that isn't supported, or what stands there
-unfoldable pub undone_words : Path → Text
+-- WHAT TO DO IN THE PLACE OF A KEY that isn't supported, as a line says it behind what stands there
+unfoldable pub undone_words : Text → Text
 undone_words key =
     if bytes_eq key (codes "across") then codes ": write a step for each value"
     else if bytes_eq key (codes "load_var") then codes ": have a task read the file"
