@@ -1,5 +1,5 @@
 -- Where a text stops being JSON, as it is shown: by line and column, and by the line itself with a mark.
-use Rattle.std.specs.Prelude.{ℕ, ◌+◌, ◌-◌, max, min, List, [], ◌∷◌, ◌++◌, length, take, drop, ◌&&◌, ◌==◌, Bool, nat_le, nat_lt, codes, decimal, if◌then◌else◌}
+use Rattle.std.specs.Prelude.{ℕ, ◌+◌, ◌-◌, max, min, List, [], ◌∷◌, ◌++◌, length, take, drop, ◌&&◌, ◌||◌, ◌==◌, Bool, Option, Some, None, nat_le, nat_lt, codes, decimal, if◌then◌else◌}
 use Rattle.std.specs.List.{flat_map}
 use Rattle.ccr_pipeline.specs.Tree.{Text}
 use Rattle.ccr_findings.specs.declared.broken.TheConstants.{BEFORE, AFTER}
@@ -55,10 +55,27 @@ shown_line before after =
 abbrev pub mark_line : List ℕ → Text
 mark_line before = flat_map blank (drop (shown_from before) before) ++ codes "^"
 
--- THE LINES OF THE POSITION BETWEEN THESE BYTES: line and column, the text around it in its line, and a mark below
-abbrev pub lines_between : List ℕ → List ℕ → List Text
-lines_between before after = position before ∷ shown_line before after ∷ mark_line before ∷ []
+-- a byte of white space
+abbrev pub is_space : ℕ → Bool
+is_space c = c == 32 || (c == 9 || (c == 13 || c == 10))
 
--- those of a position in a text
+-- the first byte of a text that isn't white space
+abbrev pub first_of : List ℕ → Option ℕ
+first_of [] = None
+first_of (c ∷ cs) = if is_space c then first_of cs else Some c
+
+-- what is said of a text that begins so: a pipeline is an object
+abbrev pub begin_words : ℕ → Text
+begin_words c = if c == 123 then [] else
+    codes ": a pipeline begins with {; examples/operating/pipeline-json FILE makes JSON of YAML"
+
+-- the lines of the position between these bytes, in a text that has this first byte: line and column, the text around it in
+-- its line, and a mark below; or the one of a text that has none
+abbrev pub lines_between : Option ℕ → List ℕ → List ℕ → List Text
+lines_between None before after = codes "not JSON at line 1, column 1: the file is empty" ∷ []
+lines_between (Some c) before after =
+    (position before ++ begin_words c) ∷ shown_line before after ∷ mark_line before ∷ []
+
+-- THE LINES OF A POSITION IN A TEXT
 abbrev pub break_lines : List ℕ → ℕ → List Text
-break_lines bytes at = lines_between (take at bytes) (drop at bytes)
+break_lines bytes at = lines_between (first_of bytes) (take at bytes) (drop at bytes)

@@ -36,7 +36,7 @@ name_of schema.Run = codes "run"
 name_of schema.Input = codes "an input"
 name_of schema.Output = codes "an output"
 
--- a key of Concourse without effect here, and what to do in its place; the empty text where there is nothing to do
+-- a key of Concourse without effect here, and what to do in its place
 abbrev pub Idle : Type 0
 Idle = Text × Text
 
@@ -48,34 +48,88 @@ limit = codes "wrap the program in one that has a time limit"
 abbrev pub values : Text
 values = codes "put values in before set-pipeline"
 
+-- what to do in the place of a type that the pipeline brings
+abbrev pub own_type : Text
+own_type = codes "the programs of a type are in the directory of types"
+
+-- what to do in the place of a picture that a task would run in
+abbrev pub image : Text
+image = codes "a task runs on this machine itself: install there what it needs"
+
+-- what to do in the place of rights that a task would have
+abbrev pub rights : Text
+rights = codes "a task runs as the user of ccr_run, or as a launcher (--launcher) has it run"
+
+-- what to do in the place of a container's bounds
+abbrev pub bounds : Text
+bounds = codes "there are no containers; a launcher (--launcher) can set bounds"
+
+-- what to do in the place of a choice among machines
+abbrev pub machine : Text
+machine = codes "all programs run on this machine; leave it out"
+
+-- what to do in the place of what is hidden
+abbrev pub access : Text
+access = codes "whoever may read the database sees all; leave it out"
+
+-- what to do in the place of how long logs are kept
+abbrev pub logs : Text
+logs = codes "a launcher (--launcher) keeps logs, and its settings say how long"
+
+-- those of a pipeline
+abbrev pub idle_pipeline : List Idle
+idle_pipeline =
+    (codes "resource_types", own_type) ∷ (codes "groups", codes "jobs aren't grouped; leave it out")
+    ∷ (codes "display", codes "nothing shows it; leave it out") ∷ (codes "var_sources", values)
+    ∷ (codes "prototypes", own_type) ∷ []
+
+-- those of a resource
+abbrev pub idle_resource : List Idle
+idle_resource =
+    (codes "icon", codes "nothing shows it; leave it out") ∷ (codes "check_every", codes "each round checks each resource")
+    ∷ (codes "check_timeout", limit)
+    ∷ (codes "expose_build_created_by", codes "no build knows who made it; leave it out")
+    ∷ (codes "webhook_token", codes "have the hook start a round: run --rounds 1") ∷ (codes "public", access)
+    ∷ (codes "tags", machine) ∷ (codes "old_name", codes "under a new name a resource begins without versions") ∷ []
+
+-- those of a job
+abbrev pub idle_job : List Idle
+idle_job =
+    (codes "old_name", codes "under a new name a job begins without builds") ∷ (codes "public", access)
+    ∷ (codes "build_log_retention", logs) ∷ (codes "build_logs_to_retain", logs)
+    ∷ (codes "disable_manual_trigger", codes "trigger-job takes each job; leave it out")
+    ∷ (codes "interruptible", codes "there are no workers to wait for; leave it out") ∷ []
+
 -- those of a task, and what to do about a second source
 abbrev pub idle_task : List Idle
 idle_task =
-    (codes "file", codes "the task has a config") ∷ (codes "image", []) ∷ (codes "privileged", []) ∷ (codes "vars", values)
-    ∷ (codes "container_limits", []) ∷ (codes "hermetic", []) ∷ (codes "tags", []) ∷ []
+    (codes "file", codes "the task has a config; leave one of the two out") ∷ (codes "image", image)
+    ∷ (codes "privileged", rights)
+    ∷ (codes "vars", codes "give values as params, which are the task's environment") ∷ (codes "container_limits", bounds)
+    ∷ (codes "hermetic", codes "a launcher (--launcher) can take the network away") ∷ (codes "tags", machine) ∷ []
+
+-- those of a task's config
+abbrev pub idle_config : List Idle
+idle_config =
+    (codes "image_resource", image) ∷ (codes "rootfs_uri", image)
+    ∷ (codes "caches", codes "keep files in a directory outside of the build's") ∷ (codes "container_limits", bounds) ∷ []
 
 -- the keys of an object that Concourse knows and that have no effect here, but for the timeout of a get, put or task
 abbrev pub idle_keys : Schema → List Idle
-idle_keys schema.Pipeline =
-    (codes "resource_types", codes "the programs of a type are in the directory of types") ∷ (codes "groups", [])
-    ∷ (codes "display", []) ∷ (codes "var_sources", values) ∷ (codes "prototypes", []) ∷ []
-idle_keys schema.Resource =
-    (codes "icon", []) ∷ (codes "check_every", codes "each round checks each resource") ∷ (codes "check_timeout", limit)
-    ∷ (codes "expose_build_created_by", []) ∷ (codes "webhook_token", []) ∷ (codes "public", []) ∷ (codes "tags", [])
-    ∷ (codes "old_name", []) ∷ []
-idle_keys schema.Job =
-    (codes "old_name", []) ∷ (codes "public", []) ∷ (codes "build_log_retention", [])
-    ∷ (codes "build_logs_to_retain", []) ∷ (codes "disable_manual_trigger", []) ∷ (codes "interruptible", []) ∷ []
+idle_keys schema.Pipeline = idle_pipeline
+idle_keys schema.Resource = idle_resource
+idle_keys schema.Job = idle_job
 idle_keys schema.Undone = []
-idle_keys schema.Get = (codes "tags", []) ∷ (codes "container_limits", []) ∷ []
-idle_keys schema.Put = (codes "inputs", []) ∷ (codes "tags", []) ∷ (codes "container_limits", []) ∷ []
+idle_keys schema.Get = (codes "tags", machine) ∷ (codes "container_limits", bounds) ∷ []
+idle_keys schema.Put =
+    (codes "inputs", codes "a put has all artifacts; leave it out") ∷ (codes "tags", machine)
+    ∷ (codes "container_limits", bounds) ∷ []
 idle_keys schema.Task = idle_task
 idle_keys schema.FileTask = idle_task
-idle_keys schema.Holder = (codes "timeout", codes "put it at each step in it") ∷ (codes "tags", []) ∷ []
-idle_keys schema.Parallel = (codes "limit", []) ∷ []
-idle_keys schema.Config =
-    (codes "image_resource", []) ∷ (codes "rootfs_uri", []) ∷ (codes "caches", []) ∷ (codes "container_limits", []) ∷ []
-idle_keys schema.Run = (codes "user", []) ∷ []
+idle_keys schema.Holder = (codes "timeout", codes "put it at each step in it") ∷ (codes "tags", machine) ∷ []
+idle_keys schema.Parallel = (codes "limit", codes "its steps run one after another; leave it out") ∷ []
+idle_keys schema.Config = idle_config
+idle_keys schema.Run = (codes "user", rights) ∷ []
 idle_keys schema.Input = []
 idle_keys schema.Output = []
 

@@ -9,6 +9,8 @@ pub mod Waits
 pub mod Timeouts
 pub mod Stands
 pub mod Breaks
+pub mod Floats
+pub mod Undone
 pub mod Told
 pub mod Gates
 pub mod Vars

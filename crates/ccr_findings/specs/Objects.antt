@@ -26,8 +26,7 @@ use Rattle.ccr_findings.specs.Stands.{keys_of, kind_at, kind_of_items}
 -- ---- keys without effect
 -- the line of a key that Concourse knows, with what to do in its place
 abbrev pub unused_line : Path → Text → Text
-unused_line p [] = codes "unused " ++ p
-unused_line p (c ∷ cs) = codes "unused " ++ (p ++ (codes ": " ++ c ∷ cs))
+unused_line p remedy = codes "unused " ++ (p ++ (codes ": " ++ remedy))
 
 -- the finding of a key that no key looks like: it belongs to another object, or isn't known
 abbrev pub stray_key : Path → Text → FindingData

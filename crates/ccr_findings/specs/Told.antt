@@ -17,8 +17,10 @@ use Rattle.ccr_pipeline.specs.Tree.{Text}
 use Rattle.ccr_findings.specs.declared.told.More.{More}
 use Rattle.ccr_findings.specs.declared.told.More.TheVariants.{Nothing, Wanted, Stands, Both}
 use Rattle.ccr_findings.specs.Breaks.{break_lines}
+use Rattle.ccr_findings.specs.Floats.{float_in}
 use Rattle.ccr_findings.specs.Near.{nearest}
 use Rattle.ccr_findings.specs.Stands.{is_within, StandData, stand_on}
+use Rattle.ccr_findings.specs.Undone.{last_key, undone_words}
 
 -- what a refusal says: the rule that is broken, and where; nothing of memory
 abbrev pub Told : Type 0
@@ -96,6 +98,30 @@ abbrev pub more_at : Told → More
 more_at None = Nothing
 more_at (Some f) = more_by f.0
 
+-- what is said where a rule is broken of what keeps it; nothing where that is said of the place
+abbrev pub rule_words : Rule → Text
+rule_words rule.Length = []
+rule_words rule.Json = []
+rule_words rule.Presence = []
+rule_words rule.Kind = []
+rule_words rule.Name = codes "; a name has 1 to 128 bytes, no / and no control character, and isn't . or .."
+rule_words rule.Once = []
+rule_words rule.OneStep = codes ": a step has one of get, put, task, do, in_parallel and try"
+rule_words rule.OnlyOneStep = codes ": a step has only one of get, put, task, do, in_parallel and try"
+rule_words rule.KnownResource = []
+rule_words rule.KnownJob = []
+rule_words rule.Attempts = codes "; attempts are from 1 to 100, and multiplied with those around them at most 10000"
+rule_words rule.Depth = codes ": steps nest at most 30 deep"
+rule_words rule.Number = codes ": at most 200 resources and 200 jobs; in a job at most 32 inputs, and 32 jobs in passed"
+rule_words rule.Supported = []
+rule_words rule.Whole = codes ": write it as a text, in quotes; a number is whole here, and has 64 bits at most"
+
+-- the same of a fault; where something isn't supported, what to do in its place
+abbrev pub rule_words_at : Told → Text
+rule_words_at None = []
+rule_words_at (Some (rule.Supported, p)) = undone_words (last_key p p)
+rule_words_at (Some (r, p)) = rule_words r
+
 -- what is wanted, in words
 abbrev pub wanted_words : Kind → Text
 wanted_words kind.Text = codes "a text"
@@ -167,9 +193,23 @@ unknown_in (Some (r, p)) = None
 abbrev pub place_words : Told → Option StandData → Text
 place_words f o = or_else o [] (more_words (more_at f))
 
--- the line of a fault that tells of no name, at this place
+-- what stands at a place, if anything does
+abbrev pub value_at : Option StandData → Option Data
+value_at o = option_and_then (λ s. s.value) o
+
+-- where a number stands that isn't whole, if a fault tells of one
+abbrev pub float_at : Told → Option StandData → Option Path
+float_at None o = None
+float_at (Some (rule.Whole, p)) o = option_and_then (float_in p) (value_at o)
+float_at (Some (r, p)) o = None
+
+-- the line of a fault at this path, and of this place
+abbrev pub line_at : Told → Path → Option StandData → Text
+line_at f p o = words_at f ++ (codes " at " ++ (p ++ (place_words f o ++ rule_words_at f)))
+
+-- the line of a fault that tells of no name, at this place; of a number that isn't whole it has the number's own path
 abbrev pub plain_line : Told → Option StandData → Text
-plain_line f o = words_at f ++ (codes " at " ++ (path_in f ++ place_words f o))
+plain_line f o = line_at f (or_else (float_at f o) (path_in f) (λ p. p)) o
 
 -- the line of a fault at this place, which may tell of a name
 abbrev pub line_by : Data → Told → Option (Text × Text) → Option StandData → Text

@@ -1,5 +1,5 @@
 //! Where a text stops being JSON, as it is shown: by line and column, and by the line itself with a mark.
-ghost use Rattle.std.specs.Prelude.{◌≡◌, ◌≤◌, ◌++◌, length, map, string_bytes, IfOk, OnOk};
+ghost use Rattle.std.specs.Prelude.{◌≡◌, ◌≤◌, ◌++◌, [], Some, None, length, map, string_bytes, IfOk, OnOk};
 ghost use Rattle.std.specs.List.{flat_map};
 ghost use Rattle.ccr_findings.specs.Breaks as spec;
 ghost use Rattle.ccr_findings.specs.Breaks.{plain, blank};
@@ -143,18 +143,75 @@ fn marked(alloc: Global, before: &[u8], after: &[u8]) -> Result<(String, String)
     Ok((line, mark))
 }
 
+/// Whether a byte is white space.
+fn is_space(byte: u8) -> bool
+    ensures { result ≡ spec.is_space byte }
+{
+    byte == b' ' || byte == b'\t' || byte == b'\r' || byte == b'\n'
+}
+
+/// The first byte of a text that isn't white space.
+fn first_of(text: &[u8]) -> Option<u8>
+    ensures { result ≡ spec.first_of text.now }
+{
+    for byte in text {
+        if !is_space(*byte) {
+            return Some(*byte);
+        }
+    }
+    None
+}
+
+/// What is said of a text that begins with this byte.
+fn begin_words(first: u8) -> &'static str
+    ensures { result.now ≡ spec.begin_words first }
+{
+    if first == b'{' {
+        ""
+    } else {
+        ": a pipeline begins with {; examples/operating/pipeline-json FILE makes JSON of YAML"
+    }
+}
+
+/// The line of a text that has nothing but white space.
+fn empty_lines(alloc: Global) -> Result<Vec<String>, AllocError>
+    ensures { IfOk result (λ v. map string_bytes v.items ≡ spec.lines_between None [] []) }
+{
+    let line = String::from_str(alloc, "not JSON at line 1, column 1: the file is empty")?;
+    let mut lines = Vec::new(alloc);
+    lines.push(line)?;
+    Ok(lines)
+}
+
+/// The lines of a position in a text that begins with this byte.
+fn lines_at(
+    alloc: Global,
+    first: u8,
+    before: &[u8],
+    after: &[u8],
+) -> Result<Vec<String>, AllocError>
+    ensures { IfOk result (λ v. map string_bytes v.items ≡ spec.lines_between (Some first) before.now after.now) }
+{
+    let mut head = position(alloc, before)?;
+    head.push_str(begin_words(first))?;
+    let (line, mark) = marked(alloc, before, after)?;
+    let mut lines = Vec::new(alloc);
+    lines.push(head)?;
+    lines.push(line)?;
+    lines.push(mark)?;
+    Ok(lines)
+}
+
 /// The lines of a position in a text.
 pub(crate) fn break_lines(alloc: Global, text: &[u8], at: usize) -> Result<Vec<String>, AllocError>
     requires { at ≤ length text.now }
     ensures { IfOk result (λ v. map string_bytes v.items ≡ spec.break_lines text.now at) }
 {
     let (before, after) = text.split_at(at);
-    let (line, mark) = marked(alloc, before, after)?;
-    let mut lines = Vec::new(alloc);
-    lines.push(position(alloc, before)?)?;
-    lines.push(line)?;
-    lines.push(mark)?;
-    Ok(lines)
+    match first_of(text) {
+        Some(first) => lines_at(alloc, first, before, after),
+        None => empty_lines(alloc),
+    }
 }
 
 /// Where a text ends, but for white space.
@@ -163,7 +220,7 @@ fn end_of(text: &[u8]) -> usize
 {
     let mut end = 0;
     for (i, byte) in text.iter().enumerate() {
-        if *byte != b' ' && *byte != b'\t' && *byte != b'\r' && *byte != b'\n' {
+        if !is_space(*byte) {
             end = i + 1;
         }
     }

@@ -18,9 +18,6 @@ use std::collections::BTreeMap;
 fn unused_line(alloc: Global, path: &str, remedy: &str) -> Result<String, AllocError>
     ensures { IfOk result (λ line. string_bytes line ≡ spec.unused_line path.now remedy.now) }
 {
-    if remedy.is_empty() {
-        return format!(in alloc; "unused {path}");
-    }
     format!(in alloc; "unused {path}: {remedy}")
 }
 

@@ -57,7 +57,7 @@ pub(crate) fn name_of(schema: Schema) -> &'static str
     }
 }
 
-/// A key of Concourse without effect here, and what to do in its place; the empty text where there is nothing to do.
+/// A key of Concourse without effect here, and what to do in its place.
 type Idle = (&'static str, &'static str);
 
 const LIMIT: &str = "wrap the program in one that has a time limit";
@@ -67,52 +67,92 @@ const STEP_LIMIT: &str =
 
 const VALUES: &str = "put values in before set-pipeline";
 
+const OWN_TYPE: &str = "the programs of a type are in the directory of types";
+
+const IMAGE: &str = "a task runs on this machine itself: install there what it needs";
+
+const RIGHTS: &str = "a task runs as the user of ccr_run, or as a launcher (--launcher) has it run";
+
+const BOUNDS: &str = "there are no containers; a launcher (--launcher) can set bounds";
+
+const MACHINE: &str = "all programs run on this machine; leave it out";
+
+const ACCESS: &str = "whoever may read the database sees all; leave it out";
+
+const LOGS: &str = "a launcher (--launcher) keeps logs, and its settings say how long";
+
 const PIPELINE: &[Idle] = &[
-    (
-        "resource_types",
-        "the programs of a type are in the directory of types",
-    ),
-    ("groups", ""),
-    ("display", ""),
+    ("resource_types", OWN_TYPE),
+    ("groups", "jobs aren't grouped; leave it out"),
+    ("display", "nothing shows it; leave it out"),
     ("var_sources", VALUES),
-    ("prototypes", ""),
+    ("prototypes", OWN_TYPE),
 ];
 
 const RESOURCE: &[Idle] = &[
-    ("icon", ""),
+    ("icon", "nothing shows it; leave it out"),
     ("check_every", "each round checks each resource"),
     ("check_timeout", LIMIT),
-    ("expose_build_created_by", ""),
-    ("webhook_token", ""),
-    ("public", ""),
-    ("tags", ""),
-    ("old_name", ""),
+    (
+        "expose_build_created_by",
+        "no build knows who made it; leave it out",
+    ),
+    (
+        "webhook_token",
+        "have the hook start a round: run --rounds 1",
+    ),
+    ("public", ACCESS),
+    ("tags", MACHINE),
+    (
+        "old_name",
+        "under a new name a resource begins without versions",
+    ),
 ];
 
 const JOB: &[Idle] = &[
-    ("old_name", ""),
-    ("public", ""),
-    ("build_log_retention", ""),
-    ("build_logs_to_retain", ""),
-    ("disable_manual_trigger", ""),
-    ("interruptible", ""),
+    ("old_name", "under a new name a job begins without builds"),
+    ("public", ACCESS),
+    ("build_log_retention", LOGS),
+    ("build_logs_to_retain", LOGS),
+    (
+        "disable_manual_trigger",
+        "trigger-job takes each job; leave it out",
+    ),
+    (
+        "interruptible",
+        "there are no workers to wait for; leave it out",
+    ),
 ];
 
 const TASK: &[Idle] = &[
-    ("file", "the task has a config"),
-    ("image", ""),
-    ("privileged", ""),
-    ("vars", VALUES),
-    ("container_limits", ""),
-    ("hermetic", ""),
-    ("tags", ""),
+    ("file", "the task has a config; leave one of the two out"),
+    ("image", IMAGE),
+    ("privileged", RIGHTS),
+    (
+        "vars",
+        "give values as params, which are the task's environment",
+    ),
+    ("container_limits", BOUNDS),
+    (
+        "hermetic",
+        "a launcher (--launcher) can take the network away",
+    ),
+    ("tags", MACHINE),
 ];
 
 const CONFIG: &[Idle] = &[
-    ("image_resource", ""),
-    ("rootfs_uri", ""),
-    ("caches", ""),
-    ("container_limits", ""),
+    ("image_resource", IMAGE),
+    ("rootfs_uri", IMAGE),
+    ("caches", "keep files in a directory outside of the build's"),
+    ("container_limits", BOUNDS),
+];
+
+const GET: &[Idle] = &[("tags", MACHINE), ("container_limits", BOUNDS)];
+
+const PUT: &[Idle] = &[
+    ("inputs", "a put has all artifacts; leave it out"),
+    ("tags", MACHINE),
+    ("container_limits", BOUNDS),
 ];
 
 /// The keys of an object that Concourse knows and that have no effect here, but for the timeout of a get, put or task.
@@ -123,13 +163,13 @@ fn idle_keys(schema: Schema) -> &'static [Idle]
         Schema::Pipeline => PIPELINE,
         Schema::Resource => RESOURCE,
         Schema::Job => JOB,
-        Schema::Get => &[("tags", ""), ("container_limits", "")],
-        Schema::Put => &[("inputs", ""), ("tags", ""), ("container_limits", "")],
+        Schema::Get => GET,
+        Schema::Put => PUT,
         Schema::Task | Schema::FileTask => TASK,
-        Schema::Holder => &[("timeout", "put it at each step in it"), ("tags", "")],
-        Schema::Parallel => &[("limit", "")],
+        Schema::Holder => &[("timeout", "put it at each step in it"), ("tags", MACHINE)],
+        Schema::Parallel => &[("limit", "its steps run one after another; leave it out")],
         Schema::Config => CONFIG,
-        Schema::Run => &[("user", "")],
+        Schema::Run => &[("user", RIGHTS)],
         Schema::Undone | Schema::Input | Schema::Output => &[],
     }
 }

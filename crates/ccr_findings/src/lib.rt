@@ -30,6 +30,7 @@ mod find_object;
 mod find_step;
 mod find_walk;
 mod finding;
+mod float;
 mod gate;
 mod keys;
 mod known;
@@ -42,6 +43,7 @@ mod present;
 mod seen;
 mod stand;
 mod told;
+mod undone;
 mod vars;
 
 pub use find_all::{faults_in, faults_of};

@@ -11,8 +11,10 @@ ghost use Rattle.ccr_findings.specs.Told.{AreLines};
 
 use crate::broken::{break_lines, offset_of};
 use crate::find_all::faults_in;
+use crate::float::float_in;
 use crate::meant::nearest;
 use crate::stand::{Stand, is_within, stand_on};
+use crate::undone::undone_words;
 use ccr_pipeline::schema::Kind;
 use ccr_pipeline::{MOST_BYTES, ReadFault, list_at};
 use serde_json::Value;
@@ -159,6 +161,40 @@ fn more_of(fault: &ReadFault) -> More
     }
 }
 
+/// What is said where a rule is broken of what keeps it; nothing where that is said of the place.
+fn rule_words(fault: &ReadFault) -> &'static str
+    ensures { result.now ≡ spec.rule_words_at (fault_of fault.now) }
+{
+    match fault {
+        ReadFault::BadName(_) => {
+            "; a name has 1 to 128 bytes, no / and no control character, and isn't . or .."
+        }
+        ReadFault::NoStep(_) => ": a step has one of get, put, task, do, in_parallel and try",
+        ReadFault::TwoSteps(_) => {
+            ": a step has only one of get, put, task, do, in_parallel and try"
+        }
+        ReadFault::BadAttempts(_) => {
+            "; attempts are from 1 to 100, and multiplied with those around them at most 10000"
+        }
+        ReadFault::TooDeep(_) => ": steps nest at most 30 deep",
+        ReadFault::TooMany(_) => {
+            ": at most 200 resources and 200 jobs; in a job at most 32 inputs, and 32 jobs in passed"
+        }
+        ReadFault::NumberNotWhole(_) => {
+            ": write it as a text, in quotes; a number is whole here, and has 64 bits at most"
+        }
+        ReadFault::Unsupported(path) => undone_words(path.as_str()),
+        ReadFault::TooLong(_)
+        | ReadFault::NotJson(_)
+        | ReadFault::Missing(_)
+        | ReadFault::WrongKind(_)
+        | ReadFault::Repeated(_)
+        | ReadFault::UnknownResource(_)
+        | ReadFault::UnknownJob(_)
+        | ReadFault::NoMemory => "",
+    }
+}
+
 /// What is wanted, in words.
 fn wanted_words(kind: Kind) -> &'static str
     ensures { result.now ≡ spec.wanted_words kind }
@@ -296,6 +332,44 @@ fn place_words(
     }
 }
 
+/// Where a number stands that isn't whole, if a fault tells of one.
+fn float_at(
+    alloc: Global,
+    fault: &ReadFault,
+    stand: Option<Stand<'_>>,
+) -> Result<Option<String>, AllocError>
+    ensures { IfOk result (λ o. option_map string_bytes o
+        ≡ spec.float_at (fault_of fault.now) (option_map stand_data stand.entry)) }
+{
+    let ReadFault::NumberNotWhole(path) = fault else {
+        return Ok(None);
+    };
+    let Some(stand) = stand else {
+        return Ok(None);
+    };
+    match stand.value {
+        Some(value) => float_in(alloc, path.as_str(), value),
+        None => Ok(None),
+    }
+}
+
+/// The line of a fault at a path, with what is told of its place.
+fn line_at(
+    alloc: Global,
+    fault: &ReadFault,
+    path: &str,
+    stand: Option<Stand<'_>>,
+) -> Result<String, AllocError>
+    ensures { IfOk result (λ line. string_bytes line ≡ spec.line_at (fault_of fault.now) path.now
+        (option_map stand_data stand.entry)) }
+{
+    let words = words_of(fault);
+    let rule = rule_words(fault);
+    let place = place_words(alloc, fault, stand)?;
+    let place = place.as_str();
+    format!(in alloc; "{words} at {path}{place}{rule}")
+}
+
 /// The line of a fault that tells of no name, with what is told of its place.
 fn plain_line(
     alloc: Global,
@@ -305,11 +379,10 @@ fn plain_line(
     ensures { IfOk result (λ line. string_bytes line
         ≡ spec.plain_line (fault_of fault.now) (option_map stand_data stand.entry)) }
 {
-    let path = path_of(fault);
-    let words = words_of(fault);
-    let place = place_words(alloc, fault, stand)?;
-    let place = place.as_str();
-    format!(in alloc; "{words} at {path}{place}")
+    match float_at(alloc, fault, stand)? {
+        Some(path) => line_at(alloc, fault, path.as_str(), stand),
+        None => line_at(alloc, fault, path_of(fault), stand),
+    }
 }
 
 /// The line of a fault in a value.

@@ -1,10 +1,9 @@
 //! Texts that a variable was to replace.
-ghost use Rattle.std.specs.Prelude.{◌≡◌, ◌++◌, [], Decides, codes, OnOk};
-ghost use Rattle.std.specs.Str.Iter.{HasSubslice};
+ghost use Rattle.std.specs.Prelude.{◌≡◌, ◌++◌, [], Decides, OnOk};
 ghost use Rattle.serde_json.specs.View.{view, items_view, members_view};
 ghost use Rattle.ccr_findings.specs.Findings.{findings_data};
 ghost use Rattle.ccr_findings.specs.Vars as spec;
-ghost use Rattle.ccr_findings.specs.Vars.{vars_at, vars_in, vars_in_items, vars_in_members};
+ghost use Rattle.ccr_findings.specs.Vars.{HasVariable, vars_at, vars_in, vars_in_items, vars_in_members};
 
 use crate::finding::{Finding, Findings, Kind};
 use ccr_pipeline::{path_at, path_below};
@@ -15,12 +14,68 @@ use std::collections::BTreeMap;
 /// What a search answers: memory may be refused.
 type Found = Result<(), AllocError>;
 
-/// Whether a text has `((` somewhere.
+/// Whether a byte is a letter of a variable's name: a letter, a digit, or one of `_`, `-`, `.`, `/`, `:`, `@` and `"`.
+fn is_letter(byte: u8) -> bool
+    ensures { result ≡ spec.is_letter byte }
+{
+    matches!(byte, b'a'..=b'z' | b'A'..=b'Z' | b'-'..=b':' | b'_' | b'@' | b'"' | 128..)
+}
+
+/// Whether letters are some, and have no `-` at their ends: `((n--))` is arithmetic of a shell.
+fn is_free(letters: &[u8]) -> bool
+    ensures { result ≡ spec.is_free letters.now }
+{
+    match (letters.first(), letters.last()) {
+        (Some(first), Some(last)) => *first != b'-' && *last != b'-',
+        _ => false,
+    }
+}
+
+/// The letters that a text begins with, and what is behind them.
+fn split_letters(text: &[u8]) -> (&[u8], &[u8])
+    ensures front { result.0.now ≡ spec.front_letters text.now }
+    ensures behind { result.1.now ≡ spec.behind_letters text.now }
+{
+    for (i, byte) in text.iter().enumerate() {
+        if !is_letter(*byte) {
+            return text.split_at(i);
+        }
+    }
+    (text, &[])
+}
+
+/// Whether a text begins with a variable.
+fn begins_variable(text: &[u8]) -> bool
+    ensures { result ≡ spec.begins_variable text.now }
+{
+    let [b'(', b'(', rest @ ..] = text else {
+        return false;
+    };
+    let (name, behind) = split_letters(rest);
+    is_free(name) && matches!(behind, [b')', b')', ..])
+}
+
+/// Whether a variable begins somewhere in a text. Behind a `$` it is arithmetic of a shell.
+fn is_found(text: &[u8]) -> bool
+    ensures { result ≡ spec.has_variable text.now }
+{
+    let mut last = 0;
+    for (i, byte) in text.iter().enumerate() {
+        if last != b'$' && begins_variable(&text[i..]) {
+            return true;
+        }
+        last = *byte;
+    }
+    false
+}
+
+/// Whether a text has a variable: somewhere in it stands a name between `((` and `))`, with no `$` before it.
+#[tactic(auto, using(crate::proofs::Somewhere::variable_Decides))]
 fn has_variable(text: &str) -> bool
     ensures whether { result ≡ spec.has_variable text.now }
-    ensures somewhere { Decides result (HasSubslice text.now (codes "((")) }
+    ensures somewhere { Decides result (HasVariable text.now) }
 {
-    text.contains("((")
+    is_found(text.as_bytes())
 }
 
 /// Adds the finding of a text, if it has variables.
