@@ -85,7 +85,8 @@ set_lines kinds = if list_any is_corrected kinds then set_line ∷ [] else []
 -- the lines of these findings, but of keys of Concourse without effect, and what to do about them
 abbrev pub found_lines : List Finding → List Text
 found_lines findings =
-    told_lines findings ++ (unused_lines (kinds findings) ++ (vars_lines (kinds findings) ++ set_lines (kinds findings)))
+    told_lines findings
+    ++ (unused_lines (kinds findings) ++ (vars_lines (kinds findings) ++ set_lines (kinds findings)))
 
 -- about a database in which no pipeline is set
 abbrev pub unset_line : Text → Text

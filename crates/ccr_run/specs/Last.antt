@@ -23,14 +23,15 @@ last_line text = behind_last text text
 abbrev pub errored_words : Text
 errored_words = codes " errored" ++ 10 ∷ []
 
--- where such an end would begin
-abbrev pub errored_at : Text → Text
-errored_at text = take (length text - length errored_words) text
+-- what stands before such an end
+abbrev pub before_errored : Text → Text
+before_errored text = take (length text - length errored_words) text
 
 -- the build that errored by the last line of a text, if one did
 abbrev pub errored_in : Text → Option Text
 errored_in text =
-    if pointwise nat_eq (drop (length text - length errored_words) text) errored_words then Some (last_line (errored_at text)) else None
+    if pointwise nat_eq (drop (length text - length errored_words) text) errored_words
+    then Some (last_line (before_errored text)) else None
 
 -- a line is about a build
 abbrev pub is_about : Text → Text → Bool
@@ -57,7 +58,7 @@ silent_build printed noted = if printed.is_lost || noted.is_lost then None else 
 
 -- the line about it
 abbrev pub silent_line : Text → Text
-silent_line build = codes "hint: " ++ (build ++ codes ": no line says why it errored: a task has an input that no step before it gives. ccr_run --db FILE get-pipeline > p.json; ccr_run validate-pipeline p.json names it, if the task has no file")
+silent_line build = codes "hint: " ++ (build ++ codes ": no line says why it errored, as where a task has an input that no step before it gives. ccr_run --db FILE get-pipeline > p.json; ccr_run validate-pipeline p.json names it, if the task has no file")
 
 -- its lines, if there is one
 abbrev pub silent_lines : Option Text → List Text

@@ -23,7 +23,7 @@ is_unstarted end = false
 abbrev pub is_known : LaunchData → KeptData → Bool
 is_known launch named = named.is_lost || has_text launch.program named.texts
 
--- a launch that ended so is named, after these were: it is a check's that did not start, and its program wasn't named before
+-- a launch that ended so is named, after these were: it is a check's that did not start, and its program isn't known
 abbrev pub is_named : LaunchData → EndData → KeptData → Bool
 is_named launch end named = (is_check launch && is_unstarted end) && not (is_known launch named)
 
@@ -31,7 +31,7 @@ is_named launch end named = (is_check launch && is_unstarted end) && not (is_kno
 abbrev pub hint_line : Text → Text
 hint_line program = codes "hint: " ++ (program ++ codes " didn't start; is it there, and executable?")
 
--- THE HINT about a launch that ended so: the line that names its program, once, where it is a check's and did not start, and else none
+-- THE HINT about a launch that ended so: the line that names its program, where it is named, and else none
 abbrev pub hint_about : LaunchData → EndData → KeptData → List Text
 hint_about launch end named = if is_named launch end named then hint_line launch.program ∷ [] else []
 

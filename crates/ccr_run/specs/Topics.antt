@@ -5,7 +5,8 @@ use Rattle.ccr_run.specs.Typed.{has_word, has_option}
 use Rattle.ccr_run.specs.declared.topic.Topic.{Topic}
 use Rattle.ccr_run.specs.declared.topic.Topic.TheVariants as t
 
--- words of a line, others that stand beside them, those beside which nothing is told, those behind which nothing is told any more, and what to do
+-- words of a line, others that stand beside them, those beside which nothing is told, and those behind which nothing is any more;
+-- and what to do
 pub record TopicData : Type 0 where
   pub words : Text
   pub beside : Text
@@ -103,8 +104,8 @@ topic_data t.StepStatus =
     record (of_task (on (codes ": exit status ") status_hint)) { but = Some (codes ": exit status 124" ++ 10 ∷ []) }
 topic_data t.StepFolder = at_end (codes ": folder fault") work_hint
 
--- THE WORDS WITH WHICH NOTHING IS TOLD of a topic: `explain` says more than its hints, but what an allowed version is; what a pin does is told by
--- the command that sets one; and a launcher may show what a program prints
+-- THE WORDS WITH WHICH NOTHING IS TOLD of a topic: `explain` says more than hints do, but for what an allowed version is; what a
+-- pin does is told by the command that sets one; and a launcher may show what a program prints
 abbrev pub is_silent : Topic → List Text → Bool
 is_silent t.NoneAllowed words = not (has_word (codes "explain") words)
 is_silent t.Pinned words = not (has_word (codes "pin-resource") words)

@@ -39,7 +39,8 @@ fn has_any(text: &[u8], words: Option<&str>) -> bool
     }
 }
 
-/// Whether these bytes write the words of a topic, with those that have to stand beside them, and without those that may not.
+/// Whether these bytes write the words of a topic, with those that have to stand beside them, and without those that may
+/// not.
 fn is_written(bytes: &[u8], topic: Topic) -> bool
     ensures { result ≡ is_written bytes.now (topic_data topic) }
 {

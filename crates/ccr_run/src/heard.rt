@@ -47,7 +47,8 @@ impl Heard {
     }
 }
 
-/// Passes on to a writer all that it is given, and keeps some of it. It keeps nothing of a write that may take a part of what it is given.
+/// Passes on to a writer all that it is given, and keeps some of it: nothing of a write that may take a part of what it is
+/// given.
 #[derive(Drop)]
 pub struct Hearing<W> {
     writer: W,

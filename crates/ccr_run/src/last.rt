@@ -101,14 +101,15 @@ fn tell_silent<E: Write>(errors: &mut Errors<E>, build: Option<&str>)
 {
     if let Some(build) = build {
         errors.say(format_args!(
-            "hint: {build}: no line says why it errored: a task has an input that no step before it gives. ccr_run --db FILE get-pipeline > p.json; ccr_run validate-pipeline p.json names it, if the task has no file"
+            "hint: {build}: no line says why it errored, as where a task has an input that no step before it gives. ccr_run --db FILE get-pipeline > p.json; ccr_run validate-pipeline p.json names it, if the task has no file"
         ));
     }
 }
 
 /// Says what to do about a trace that shows nothing.
 fn tell_untraced<E: Write>(errors: &mut Errors<E>, words: &[String], is_done: bool, printed: &Heard)
-    ensures { GetsLines (untraced_lines (map string_bytes words.now) is_done (heard_data printed.now)) errors.old errors.new }
+    ensures { GetsLines (untraced_lines (map string_bytes words.now) is_done (heard_data printed.now))
+        errors.old errors.new }
 {
     if is_done && !printed.is_used && has_word(words, "trace") {
         errors.say(
@@ -117,8 +118,8 @@ fn tell_untraced<E: Write>(errors: &mut Errors<E>, words: &[String], is_done: bo
     }
 }
 
-/// Says last what to do, by what was printed, and what was told beside it: about a build that errored and of which no line says why, and
-/// about a trace that was done and shows nothing.
+/// Says last what to do, by what was printed, and what was told beside it: about a build that errored and of which no line
+/// says why, and about a trace that was done and shows nothing.
 pub fn tell_last<E: Write>(
     errors: &mut Errors<E>,
     printed: &Heard,

@@ -104,7 +104,7 @@ fn answer_by<W: Write + Drop, E: Write + Drop>(
         &mut telling,
         rt,
     );
-    let is_done = matches!(done.status, Ok(0));
+    let is_done = matches!(&done.status, Ok(0));
     (code, is_done)
 }
 
@@ -116,7 +116,8 @@ fn is_silent(rt: &HostRuntime) -> bool {
     }
 }
 
-/// Passes on to a writer, and says on standard error what to do about a line, unless the words or the environment are against it.
+/// Passes on to a writer, and says on standard error what to do about a line, unless the words or the environment are
+/// against it.
 fn advise<W, E: Write>(
     rt: &HostRuntime,
     words: &[String],

@@ -14,8 +14,8 @@ use std::alloc::Global;
 use std::io::Write;
 
 /// Has a runner run launches, and names the program of a check that didn't start to a writer, as standard error, or the
-/// launcher that was to start it: the line on standard output says only that one didn't. Each is named once. The server itself names a
-/// step's program that didn't start.
+/// launcher that was to start it: the line on standard output says only that one didn't. Each is named once. The server
+/// itself names a step's program that didn't start.
 #[derive(Drop)]
 pub struct Naming<R, E: Write> {
     runner: R,

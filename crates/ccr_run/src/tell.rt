@@ -206,8 +206,8 @@ fn misuse_status(misuse: &Misuse) -> u8
     }
 }
 
-/// Tells why these words order nothing, or gives the help that they ask for. The exit status is 0 for help, 4 out of memory
-/// or where it isn't printed, and else 2.
+/// Tells why these words order nothing, or gives the help that they ask for. The exit status is 0 for help, 4 out of
+/// memory or where it isn't printed, and else 2.
 pub fn tell_misuse<R: Print + Eprint>(rt: &R, words: &[String], misuse: &Misuse) -> ExitCode
     ensures { IsTold misuse.now (exit_status result) }
 {
