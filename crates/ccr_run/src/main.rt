@@ -116,6 +116,24 @@ fn is_silent(rt: &HostRuntime) -> bool {
     }
 }
 
+/// Answers the words in the same way, and says last what both outputs together tell.
+fn answer_heard<W: Write + Drop, E: Write + Drop>(
+    rt: &HostRuntime,
+    words: &[String],
+    lines: W,
+    notes: E,
+) -> ExitCode {
+    let alloc = rt.alloc();
+    let mut lines = Hearing::new(lines, Heard::new(alloc, " made\n", " errored\n"));
+    let mut notes = Hearing::new(notes, Heard::new(alloc, "", ": "));
+    let (code, is_done) = answer_by(rt, words, &mut lines, &mut notes);
+    if !is_silent(rt) {
+        let mut errors = Errors::new(alloc, rt.stderr());
+        tell_last(&mut errors, &lines.heard, &notes.heard, words, is_done);
+    }
+    code
+}
+
 /// Passes on to a writer, and says on standard error what to do about a line, unless the words or the environment are
 /// against it.
 fn advise<W, E: Write>(
@@ -131,7 +149,6 @@ fn advise<W, E: Write>(
 
 /// Answers the words, and says what to do about what is printed of checks and builds.
 fn answer_here(rt: &HostRuntime, words: &[String]) -> ExitCode {
-    let alloc = rt.alloc();
     let out = io::writer(rt);
     let out = advise(rt, words, out, rt.stderr(), Topic::CheckNotJson);
     let out = advise(rt, words, out, rt.stderr(), Topic::CheckWrongKind);
@@ -141,7 +158,6 @@ fn answer_here(rt: &HostRuntime, words: &[String]) -> ExitCode {
     let out = advise(rt, words, out, rt.stderr(), Topic::NoneAllowed);
     let out = advise(rt, words, out, rt.stderr(), Topic::Pinned);
     let out = advise(rt, words, out, rt.stderr(), Topic::AbortAsked);
-    let mut out = Hearing::new(out, Heard::new(alloc, " made\n", " errored\n"));
     let told = rt.stderr();
     let told = advise(rt, words, told, rt.stderr(), Topic::StepNotJson);
     let told = advise(rt, words, told, rt.stderr(), Topic::StepWrongKind);
@@ -153,13 +169,7 @@ fn answer_here(rt: &HostRuntime, words: &[String]) -> ExitCode {
     let told = advise(rt, words, told, rt.stderr(), Topic::StepNotStarted);
     let told = advise(rt, words, told, rt.stderr(), Topic::StepStatus);
     let told = advise(rt, words, told, rt.stderr(), Topic::StepFolder);
-    let mut told = Hearing::new(told, Heard::new(alloc, "", ": "));
-    let (code, is_done) = answer_by(rt, words, &mut out, &mut told);
-    if !is_silent(rt) {
-        let mut errors = Errors::new(alloc, rt.stderr());
-        tell_last(&mut errors, &out.heard, &told.heard, words, is_done);
-    }
-    code
+    answer_heard(rt, words, out, told)
 }
 
 fn main(rt: HostRuntime) -> ExitCode {
