@@ -1,5 +1,5 @@
 -- What is kept of what a writer is given.
-use Rattle.std.specs.Prelude.{◌≡◌, List, Bool, false, not, ◌==◌, ◌&&◌, ◌||◌, length}
+use Rattle.std.specs.Prelude.{◌≡◌, Bool, false, not, ◌==◌, ◌&&◌, ◌||◌, length}
 use Rattle.ccr_history.specs.Text.{Text}
 use Rattle.ccr_run.specs.Advised.{has_words}
 use Rattle.ccr_run.specs.Kept.{KeptData, KeepsIf, nothing_kept}

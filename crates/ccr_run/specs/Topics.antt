@@ -1,5 +1,5 @@
 -- Of which lines it is told what to do.
-use Rattle.std.specs.Prelude.{List, [], ◌∷◌, ◌++◌, codes, Bool, not, ◌||◌, Option, None, Some}
+use Rattle.std.specs.Prelude.{List, [], ◌∷◌, ◌++◌, codes, Bool, not, Option, None, Some}
 use Rattle.ccr_history.specs.Text.{Text}
 use Rattle.ccr_run.specs.Typed.{has_word, has_option}
 use Rattle.ccr_run.specs.declared.topic.Topic.{Topic}

@@ -1,5 +1,5 @@
 //! What is found in a pipeline's file: told beside `set-pipeline`, and by `validate-pipeline`, which opens no database.
-ghost use Rattle.std.specs.Prelude.{◌≡◌, ◌++◌, [], None, Some, Ok, Err, map, option_map, option_copied, slice_get, string_bytes, IfOk, IfErr, OnOk, OnErr};
+ghost use Rattle.std.specs.Prelude.{◌≡◌, ◌++◌, [], None, Some, Ok, Err, map, option_map, option_copied, string_bytes, IfOk, IfErr, OnOk, OnErr};
 ghost use Rattle.ccr_findings.specs.Findings.{findings_data};
 ghost use Rattle.ccr_run.specs.Explained.{told_data, has_set, has_shown, AreGates, gate_lines, refusal_lines};
 ghost use Rattle.ccr_run.specs.Found.{Finds, IsRefusedText, PrintsRefused, Validates, ValidatesText, findings_text, line_text, lines_text, validation_data, wrong_text};
