@@ -30,6 +30,10 @@ of_task topic = record topic { beside = codes ": task " }
 abbrev pub of_resource : TopicData → TopicData
 of_resource topic = record topic { but = Some (codes ": task ") }
 
+-- what to do about a clash with this demand
+abbrev pub clash : Text → Text → TopicData
+clash demand hint = record (on (10 ∷ codes "clash: ") hint) { beside = demand }
+
 -- a check that prints something else than a list
 abbrev pub list_hint : Text
 list_hint = codes "a check prints a list of versions on standard output, as [{\"ref\":\"61cbef\"}], and nothing else there"
@@ -41,6 +45,10 @@ none_hint = codes "nothing is there that passed the jobs before it, and that no 
 -- what an allowed version is
 abbrev pub allowed_hint : Text
 allowed_hint = codes "an allowed version is one that no pin leaves out and nobody disabled: resource-versions NAME shows what there is, check-resource NAME looks for more"
+
+-- about a demand that a version has passed a job
+abbrev pub passed_hint : Text
+passed_hint = codes "no build of the job behind passed has moved this yet: explain that job, too. Where jobs wait for each other, ccr_run --db FILE get-pipeline > p.json; ccr_run validate-pipeline p.json names them"
 
 -- what an abort does
 abbrev pub abort_hint : Text
@@ -89,7 +97,8 @@ topic_data t.CheckWrongKind = at_end (codes ": refused: wrong kind") list_hint
 topic_data t.CheckNotText = at_end (codes ": refused: version not text") text_hint
 topic_data t.CheckFolder = at_end (codes ": refused: folder fault") work_hint
 topic_data t.NoneSatisfies = record (at_end (codes ": none satisfies") none_hint) { unless = Some (codes "check ") }
-topic_data t.NoneAllowed = on (codes " takes an allowed version") allowed_hint
+topic_data t.NoneAllowed = clash (codes " takes an allowed version") allowed_hint
+topic_data t.NonePassed = record (clash (codes " passed ") passed_hint) { but = Some (codes " takes an allowed version") }
 topic_data t.Pinned = on (codes "pinned ") pin_hint
 topic_data t.AbortAsked = on (codes "abort asked: ") abort_hint
 topic_data t.StepNotJson = of_resource (at_end (codes ": not JSON") reply_hint)
@@ -104,10 +113,11 @@ topic_data t.StepStatus =
     record (of_task (on (codes ": exit status ") status_hint)) { but = Some (codes ": exit status 124" ++ 10 ∷ []) }
 topic_data t.StepFolder = at_end (codes ": folder fault") work_hint
 
--- THE WORDS WITH WHICH NOTHING IS TOLD of a topic: `explain` says more than hints do, but for what an allowed version is; what a
--- pin does is told by the command that sets one; and a launcher may show what a program prints
+-- THE WORDS WITH WHICH NOTHING IS TOLD of a topic: `explain` says more than hints do, but for those about its clash; what a pin
+-- does is told by the command that sets one; and a launcher may show what a program prints
 abbrev pub is_silent : Topic → List Text → Bool
 is_silent t.NoneAllowed words = not (has_word (codes "explain") words)
+is_silent t.NonePassed words = not (has_word (codes "explain") words)
 is_silent t.Pinned words = not (has_word (codes "pin-resource") words)
 is_silent t.StepStatus words = has_option (codes "--launcher") words
 is_silent topic words = has_word (codes "explain") words

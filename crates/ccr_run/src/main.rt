@@ -156,6 +156,7 @@ fn answer_here(rt: &HostRuntime, words: &[String]) -> ExitCode {
     let out = advise(rt, words, out, rt.stderr(), Topic::CheckFolder);
     let out = advise(rt, words, out, rt.stderr(), Topic::NoneSatisfies);
     let out = advise(rt, words, out, rt.stderr(), Topic::NoneAllowed);
+    let out = advise(rt, words, out, rt.stderr(), Topic::NonePassed);
     let out = advise(rt, words, out, rt.stderr(), Topic::Pinned);
     let out = advise(rt, words, out, rt.stderr(), Topic::AbortAsked);
     let told = rt.stderr();

@@ -32,8 +32,10 @@ pub enum Topic {
     CheckFolder,
     /// A job's inputs find no versions, where that is no round: a round has checks before it.
     NoneSatisfies,
-    /// An explanation names the demand that a version is allowed.
+    /// A clash has the demand that a version is allowed.
     NoneAllowed,
+    /// A clash has the demand that a version has passed a job, and none that one is allowed.
+    NonePassed,
     /// A resource is pinned.
     Pinned,
     /// A build is to be aborted.
@@ -71,7 +73,7 @@ impl Topic {
             Topic::CheckNotText => ": refused: version not text\n",
             Topic::CheckFolder => ": refused: folder fault\n",
             Topic::NoneSatisfies => ": none satisfies\n",
-            Topic::NoneAllowed => " takes an allowed version",
+            Topic::NoneAllowed | Topic::NonePassed => "\nclash: ",
             Topic::Pinned => "pinned ",
             Topic::AbortAsked => "abort asked: ",
             Topic::StepNotJson | Topic::FileNotJson => ": not JSON\n",
@@ -91,6 +93,8 @@ impl Topic {
         ensures { result.now ≡ (topic_data self).beside }
     {
         match self {
+            Topic::NoneAllowed => " takes an allowed version",
+            Topic::NonePassed => " passed ",
             Topic::FileNotJson | Topic::FileUnread | Topic::NoTask | Topic::StepStatus => ": task ",
             _ => "",
         }
@@ -101,6 +105,7 @@ impl Topic {
         ensures { option_map (λ words. words.now) result ≡ (topic_data self).but }
     {
         match self {
+            Topic::NonePassed => Some(" takes an allowed version"),
             Topic::StepNotJson => Some(": task "),
             Topic::StepStatus => Some(": exit status 124\n"),
             _ => None,
@@ -129,6 +134,8 @@ impl Topic {
                 "nothing is there that passed the jobs before it, and that no pin leaves out and nobody disabled: explain JOB says more, check-resource NAME looks for new versions",
             Topic::NoneAllowed =>
                 "an allowed version is one that no pin leaves out and nobody disabled: resource-versions NAME shows what there is, check-resource NAME looks for more",
+            Topic::NonePassed =>
+                "no build of the job behind passed has moved this yet: explain that job, too. Where jobs wait for each other, ccr_run --db FILE get-pipeline > p.json; ccr_run validate-pipeline p.json names them",
             Topic::Pinned =>
                 "jobs get no other version of it now, and none if no version has what the pin has: resource-versions NAME shows which there are, unpin-resource NAME takes it back",
             Topic::AbortAsked =>
@@ -152,7 +159,7 @@ impl Topic {
         ensures { result ≡ spec.is_silent self (map string_bytes words.now) }
     {
         match self {
-            Topic::NoneAllowed => !has_word(words, "explain"),
+            Topic::NoneAllowed | Topic::NonePassed => !has_word(words, "explain"),
             Topic::Pinned => !has_word(words, "pin-resource"),
             Topic::StepStatus => has_option(words, "--launcher"),
             _ => has_word(words, "explain"),
