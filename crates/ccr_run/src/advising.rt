@@ -79,7 +79,7 @@ impl<W: Write, E: Write> Write for Advising<W, E> {
         ensures bytes { OnOk result (Appends (W.contents self.old.writer) (W.contents self.new.writer) buf.now) }
         ensures heeded { advice_data self.new.advice ≡ heeded (searched buf.now) (advice_data self.old.advice) }
         ensures told { GetsLines (advice_lines (searched buf.now) (advice_data self.old.advice)) self.old.errors self.new.errors }
-        ensures still { advice_lines (searched buf.now) (advice_data self.old.advice) ≡ []
+        ensures quiet { advice_lines (searched buf.now) (advice_data self.old.advice) ≡ []
             → self.new.errors ≡ self.old.errors }
     {
         let answer = self.writer.write_all(buf);
