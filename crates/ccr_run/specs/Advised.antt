@@ -11,32 +11,31 @@ abbrev pub has_words : Text → Text → Bool
 has_words words [] = false
 has_words words (b ∷ bs) = starts_with nat_eq (b ∷ bs) words || has_words words bs
 
--- what to do about a line; whether what is written before it was written; and whether it was told, or isn't to be
+-- what to do about a line, and whether it was told, or isn't to be
 pub record AdviceData : Type 0 where
   pub topic : TopicData
-  pub is_due : Bool
   pub is_told : Bool
 
 -- what a value of the program's type stands for
 abbrev pub advice_data : Advice → AdviceData
-advice_data a = record { topic = topic_data a.topic; is_due = a.is_due; is_told = a.is_told }
+advice_data a = record { topic = topic_data a.topic; is_told = a.is_told }
 
--- what to do about a line, of which nothing was written yet; or nothing of it, as if it had been told
+-- what to do about a line, of which nothing was told yet; or nothing of it, as if it had been told
 abbrev pub advice_on : TopicData → Bool → AdviceData
-advice_on topic is_silent = record { topic = topic; is_due = false; is_told = is_silent }
-
--- the others were written, at the latest by these bytes
-abbrev pub is_due : Text → AdviceData → Bool
-is_due bytes a = a.is_due || has_words a.topic.cause bytes
-
--- it is told of these bytes: they write the words, and it wasn't told before
-abbrev pub is_said : Text → AdviceData → Bool
-is_said bytes a = (is_due bytes a && not a.is_told) && has_words a.topic.words bytes
+advice_on topic is_silent = record { topic = topic; is_told = is_silent }
 
 -- words are among these bytes, if any are named
 abbrev pub has_any : Text → Option Text → Bool
 has_any bytes None = false
 has_any bytes (Some words) = has_words words bytes
+
+-- these bytes write the words, with those that have to stand beside them, and without those that may not
+abbrev pub is_written : Text → TopicData → Bool
+is_written bytes topic = has_words topic.words bytes && (has_words topic.beside bytes && not (has_any bytes topic.but))
+
+-- it is told of these bytes: they write it, and it wasn't told before
+abbrev pub is_said : Text → AdviceData → Bool
+is_said bytes a = not a.is_told && is_written bytes a.topic
 
 -- these bytes write words with which it isn't told any more
 abbrev pub ends_by : Text → AdviceData → Bool
@@ -44,7 +43,7 @@ ends_by bytes a = has_any bytes a.topic.unless
 
 -- the same, behind these bytes
 abbrev pub heeded : Text → AdviceData → AdviceData
-heeded bytes a = record a { is_due = is_due bytes a; is_told = (a.is_told || is_said bytes a) || ends_by bytes a }
+heeded bytes a = record a { is_told = (a.is_told || is_said bytes a) || ends_by bytes a }
 
 -- THE LINE THAT IS TOLD of these bytes, if one is
 abbrev pub advice_lines : Text → AdviceData → List Text

@@ -5,7 +5,7 @@ use Rattle.ccr_history.specs.Text.{Text}
 use Rattle.ccr_findings.specs.declared.finding.Finding.{Finding}
 use Rattle.ccr_findings.specs.declared.finding.Kind.{Kind}
 use Rattle.ccr_findings.specs.declared.finding.Kind.TheVariants.{Unused, Vars}
-use Rattle.ccr_findings.specs.Findings.{is_faultless, kinds}
+use Rattle.ccr_findings.specs.Findings.{is_wrong, kinds}
 use Rattle.ccr_core.specs.declared.command.Command.{Command}
 use Rattle.ccr_core.specs.declared.command.Command.TheVariants.{SetPipeline, Show}
 use Rattle.ccr_core.specs.declared.shown.Shown.{Shown}
@@ -17,7 +17,7 @@ use Rattle.ccr_run.specs.declared.run.Outcome.{Outcome}
 use Rattle.ccr_run.specs.declared.telling.Telling.{Telling}
 use Rattle.ccr_run.specs.declared.telling.ToldRefusal.{ToldRefusal}
 use Rattle.ccr_run.specs.Found.{Finds}
-use Rattle.ccr_run.specs.Hints.{HintData, hint_data, hint_of, hint_text}
+use Rattle.ccr_run.specs.Hints.{HintData, about, hint_data, hint_of, hint_text, unset}
 use Rattle.ccr_run.specs.Refusals.{RefusalData, refusal_of, refusal_text}
 use Rattle.ccr_run.specs.Writers.{WriterData, GetsLines}
 
@@ -49,9 +49,22 @@ is_vars kind = false
 abbrev pub told_lines : List Finding → List Text
 told_lines findings = flat_map (λ f. told_line f.kind (string_bytes f.line)) findings
 
+-- a finding is of a key of Concourse without effect
+abbrev pub is_unused : Kind → Bool
+is_unused Unused = true
+is_unused kind = false
+
+-- a finding is of what has to be corrected: of a text that a variable was to replace it is told by itself what to do
+abbrev pub is_corrected : Kind → Bool
+is_corrected kind = is_wrong kind && not (is_vars kind)
+
 -- of a variable it is told what it means
 abbrev pub vars_line : Text
-vars_line = codes "hint: vars: a text with ((..)) is taken as it stands; no variable is put in"
+vars_line = codes "hint: vars: no variable is put in, and a text with ((..)) stays as it stands: write its value in its place, and set it again, unless it is arithmetic of a shell"
+
+-- of a key of Concourse without effect it is told what replaces it
+abbrev pub unused_line : Text
+unused_line = codes "hint: unused: these keys of Concourse have no effect; ccr_run validate-pipeline FILE says of each what to do instead"
 
 -- of a pipeline that doesn't do what it seems to say it is told that it is set
 abbrev pub set_line : Text
@@ -61,17 +74,23 @@ set_line = codes "hint: it is set all the same; correct what is named above, and
 abbrev pub vars_lines : List Kind → List Text
 vars_lines kinds = if list_any is_vars kinds then vars_line ∷ [] else []
 
--- the line that it is set, if a kind among these is a fault
+-- the line of keys without effect, if there are any among these
+abbrev pub unused_lines : List Kind → List Text
+unused_lines kinds = if list_any is_unused kinds then unused_line ∷ [] else []
+
+-- the line that it is set, if a kind among these has to be corrected
 abbrev pub set_lines : List Kind → List Text
-set_lines kinds = if is_faultless false kinds then [] else set_line ∷ []
+set_lines kinds = if list_any is_corrected kinds then set_line ∷ [] else []
 
 -- the lines of these findings, but of keys of Concourse without effect, and what to do about them
 abbrev pub found_lines : List Finding → List Text
-found_lines findings = told_lines findings ++ (vars_lines (kinds findings) ++ set_lines (kinds findings))
+found_lines findings =
+    told_lines findings
+    ++ (unused_lines (kinds findings) ++ (vars_lines (kinds findings) ++ set_lines (kinds findings)))
 
 -- about a database in which no pipeline is set
 abbrev pub unset_line : Text → Text
-unset_line path = codes "hint: " ++ (path ++ codes ": no pipeline is set in it; is --db right?")
+unset_line path = hint_text (about path unset)
 
 -- what is told before a command's end: what was found, or of the database at this path that no pipeline is set in it
 abbrev pub beside : Option (List Text) → Option Text → Option (List Text)

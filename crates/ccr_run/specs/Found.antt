@@ -1,6 +1,5 @@
 -- What is found in a pipeline's file.
-use Rattle.std.specs.Prelude.{◌≡◌, ℕ, List, [], ◌∷◌, ◌++◌, ◌==◌, flat_map, Bool, true, false, Option, Some, None, IsSome, Result, Ok, Err, codes, is_some, slice_get, string_bytes, if◌then◌else◌}
-use Rattle.std.specs.Option.{option_map_or}
+use Rattle.std.specs.Prelude.{◌≡◌, ℕ, List, [], ◌∷◌, ◌++◌, flat_map, Bool, true, false, Option, Some, None, IsSome, Result, Ok, Err, codes, is_some, slice_get, string_bytes, if◌then◌else◌}
 use Rattle.std.specs.Str.{bytes_eq}
 use Rattle.serde_json.specs.Data.{Data}
 use Rattle.ccr_history.specs.Text.{Text}
@@ -20,6 +19,7 @@ use Rattle.ccr_serve.specs.Commanding.{ArePipeline, IsRead}
 use Rattle.ccr_serve.specs.declared.fault.ServeFault.{ServeFault}
 use Rattle.ccr_serve.specs.declared.fault.ServeFault.TheVariants.{Read, File, NoMemory}
 use Rattle.ccr_run.specs.Refusals.{RefusalData, of_server}
+use Rattle.ccr_run.specs.Typed.{is_option}
 use Rattle.ccr_run.specs.declared.found.Validation.{Validation}
 
 -- ---- what is found
@@ -89,10 +89,6 @@ is_validate (Some word) = bytes_eq word (codes "validate-pipeline")
 -- the words are those of the command
 abbrev pub is_validation : List Text → Bool
 is_validation words = is_validate (slice_get words 1)
-
--- a word is an option
-abbrev pub is_option : Text → Bool
-is_option word = option_map_or (λ first. first == 45) (slice_get word 0) false
 
 -- what two words behind the command's order, or one: a file, and `--strict` before it or behind it
 abbrev pub validation_with : Text → Option Text → Option ValidationData

@@ -6,7 +6,8 @@ use Rattle.sqlite.specs.declared.error.ErrorCode.TheVariants as sql
 use Rattle.ccr_history.specs.Text.{Text}
 use Rattle.ccr_history.specs.declared.store_fault.StoreFault.{StoreFault}
 use Rattle.ccr_history.specs.declared.store_fault.StoreFault.TheVariants as store
-use Rattle.ccr_pipeline.specs.declared.fault.ReadFault.TheVariants.{NotJson}
+use Rattle.ccr_pipeline.specs.declared.fault.ReadFault.{ReadFault}
+use Rattle.ccr_pipeline.specs.declared.fault.ReadFault.TheVariants.{NotJson, BadName, BadAttempts, NumberNotWhole}
 use Rattle.ccr_core.specs.declared.fault.CoreFault.TheVariants.{NoPipeline, NoJob, NoResource, NoBuild, NoVersion}
 use Rattle.ccr_serve.specs.declared.fault.ServeFault.{ServeFault}
 use Rattle.ccr_serve.specs.declared.fault.ServeFault.TheVariants.{Core, Store, Read, File, BadPin, NoMemory, TurnsUsedUp}
@@ -42,9 +43,13 @@ bare words = record { path = None; words = words }
 abbrev pub about : Text → Text → HintData
 about path words = record { path = Some path; words = words }
 
+-- about a database in which no pipeline is set
+abbrev pub unset : Text
+unset = codes "no pipeline is set in it; is --db right? set-pipeline PIPELINE.json sets one"
+
 -- about a name that the pipeline hasn't
 abbrev pub named_wrong : Text
-named_wrong = codes "jobs and resources show the names of the pipeline that was set last"
+named_wrong = codes "the pipeline that is set in it, if one is, has no such name: jobs and resources show those that it has; is --db right?"
 
 -- about a database that can't be opened, read or written
 abbrev pub disk_failed : Text
@@ -58,41 +63,48 @@ not_ours = codes "the file isn't a database of ccr_run in format 1 or 2; name an
 abbrev pub out_of_memory : Text
 out_of_memory = codes "what was printed is kept; try again with more memory"
 
--- about a fault of the server
-abbrev pub of_server : ServeFault → Option Text
-of_server (Core NoPipeline) = Some (codes "set one with: ccr_run --db FILE set-pipeline PIPELINE.json")
-of_server (Core NoJob) = Some named_wrong
-of_server (Core NoResource) = Some named_wrong
-of_server (Core NoBuild) = Some (codes "builds shows which builds there are")
-of_server (Core NoVersion) = Some (codes "resource-versions NAME shows which places there are")
-of_server (Read (NotJson path)) = Some (codes "is it YAML, or is there a slip? ccr_run validate-pipeline FILE shows where it stops being JSON")
-of_server (Read fault) = Some (codes "ccr_run validate-pipeline FILE says what stands there and what is wanted; docs/FORMATS.md has the format")
-of_server BadPin = Some (codes "a pin is a JSON object of texts, as {\"ref\":\"61cbef\"}")
-of_server (Store store.NotOurs) = Some not_ours
-of_server (Store store.Disk) = Some disk_failed
-of_server (Store store.NoMemory) = Some out_of_memory
-of_server File = Some (codes "is the file there, and may you read it?")
-of_server NoMemory = Some out_of_memory
-of_server TurnsUsedUp = Some (codes "the next command ends the builds that still run as errored")
-of_server fault = None
+-- about a fault of a pipeline's text
+abbrev pub of_text : ReadFault → Text
+of_text (NotJson path) = codes "YAML isn't read: examples/operating/pipeline-json FILE makes JSON of it; of JSON, ccr_run validate-pipeline FILE shows where the slip is"
+of_text (BadName path) = codes "a name has 1 to 128 bytes, no / and no control character, and isn't . or ..; ccr_run validate-pipeline FILE shows what stands there"
+of_text (BadAttempts path) = codes "attempts are from 1 to 100, and of steps that stand in one another at most 10000 together; ccr_run validate-pipeline FILE shows what stands there"
+of_text (NumberNotWhole path) = codes "a number here is whole: write another one as a text, as \"0.5\"; ccr_run validate-pipeline FILE says which it is"
+of_text fault = codes "ccr_run validate-pipeline FILE says what stands there and what is wanted; docs/FORMATS.md has the format"
 
--- about there being no database to look at
-abbrev pub of_copy : CopyFault → Text
-of_copy copy.NoFile = codes "a look makes no database: is --db right? a command without --look makes one"
-of_copy copy.OnlyLog = codes "what was written last is in the file beside it that ends in -wal: bring back the file that belongs to it, or a copy"
-of_copy copy.Empty = codes "a command without --look makes a database of it; if a copy is being put there, look again when it is whole"
-of_copy copy.NotAFile = codes "--db names a file; what is beside it and ends in -wal or -journal is a file too"
-of_copy copy.Journal = codes "another program was writing the database and has not ended it: open it once with sqlite3, which takes that back"
-of_copy copy.Restless = codes "it changed at each of 100 tries; look again"
-of_copy copy.Unread = codes "may you read the file, the one beside it that ends in -wal, and their directory?"
-of_copy copy.NoMemory = out_of_memory
+-- about a fault of the server, of the database at a path
+abbrev pub of_server : Text → ServeFault → Option HintData
+of_server path (Core NoPipeline) = Some (about path unset)
+of_server path (Core NoJob) = Some (about path named_wrong)
+of_server path (Core NoResource) = Some (about path named_wrong)
+of_server path (Core NoBuild) = Some (bare (codes "builds shows which builds there are"))
+of_server path (Core NoVersion) = Some (bare (codes "resource-versions NAME shows which places there are"))
+of_server path (Read fault) = Some (bare (of_text fault))
+of_server path BadPin = Some (bare (codes "a version is written as a JSON object of texts, as {\"ref\":\"61cbef\"}: resource-versions NAME shows them so"))
+of_server path (Store store.NotOurs) = Some (bare not_ours)
+of_server path (Store store.Disk) = Some (bare disk_failed)
+of_server path (Store store.NoMemory) = Some (bare out_of_memory)
+of_server path File = Some (bare (codes "is the file there, and may you read it?"))
+of_server path NoMemory = Some (bare out_of_memory)
+of_server path TurnsUsedUp = Some (bare (codes "the next command ends the builds that still run as errored"))
+of_server path fault = None
 
--- about a look that finds no history
-abbrev pub of_bytes : StoreFault → Option Text
-of_bytes store.Disk = Some (codes "what was read is no database, or is damaged, or a part of it is missing: the file beside it that ends in -wal belongs to it")
-of_bytes store.NotOurs = Some not_ours
-of_bytes store.NoMemory = Some out_of_memory
-of_bytes fault = None
+-- about there being no database to look at, at a path
+abbrev pub of_copy : Text → CopyFault → HintData
+of_copy path copy.NoFile = about path (codes "a look makes no database: is --db right? a command without --look makes one")
+of_copy path copy.OnlyLog = about path (codes "what was written last is in the file beside it that ends in -wal: bring back the file that belongs to it, or a copy")
+of_copy path copy.Empty = about path (codes "a command without --look makes a database of it; if a copy is being put there, look again when it is whole")
+of_copy path copy.NotAFile = about path (codes "--db names a file; what is beside it and ends in -wal or -journal is a file too")
+of_copy path copy.Journal = about path (codes "another program was writing the database and has not ended it: open it once with sqlite3, which takes that back")
+of_copy path copy.Restless = about path (codes "it changed at each of 100 tries; look again")
+of_copy path copy.Unread = about path (codes "may you read the file, the one beside it that ends in -wal, and their directory?")
+of_copy path copy.NoMemory = bare out_of_memory
+
+-- about a look that finds no history in the database at a path
+abbrev pub of_bytes : Text → StoreFault → Option HintData
+of_bytes path store.Disk = Some (about path (codes "it is no database, which begins with SQLite format 3 (head -c 15 FILE), or it is damaged, or its file that ends in -wal isn't beside it: name another one, or bring back a copy with both"))
+of_bytes path store.NotOurs = Some (about path not_ours)
+of_bytes path store.NoMemory = Some (bare out_of_memory)
+of_bytes path fault = None
 
 -- about a status of a command: 3 is over the budget
 abbrev pub of_status : ℕ → Option Text
@@ -112,9 +124,8 @@ of_open path error = about path (codes "it can't be read or written; is the disk
 -- ABOUT HOW A COMMAND ENDED over the database at a path
 abbrev pub hint_of : Text → Result ℕ Failure → Option HintData
 hint_of path (Ok status) = option_map bare (of_status status)
-hint_of path (Err Locked) =
-    Some (bare (codes "another program has the database open; try again when it has ended (examples/operating/ccr waits for it)"))
+hint_of path (Err Locked) = Some (about path (codes "another program has the database open: lsof FILE names it. Try again when it has ended (examples/operating/ccr waits for it); what only shows waits for nobody with --look, as builds --look"))
 hint_of path (Err (Unopened error)) = Some (of_open path error)
-hint_of path (Err (Refused fault)) = option_map bare (of_server fault)
-hint_of path (Err (Unread fault)) = Some (bare (of_copy fault))
-hint_of path (Err (Unfound fault)) = option_map bare (of_bytes fault)
+hint_of path (Err (Refused fault)) = of_server path fault
+hint_of path (Err (Unread fault)) = Some (of_copy path fault)
+hint_of path (Err (Unfound fault)) = of_bytes path fault

@@ -5,7 +5,10 @@ pub mod Asked
 pub mod Databases
 pub mod Explained
 pub mod Found
+pub mod Heard
 pub mod Hints
+pub mod Kept
+pub mod Last
 pub mod Left
 pub mod Looked
 pub mod Named
@@ -17,4 +20,5 @@ pub mod Refusals
 pub mod Served
 pub mod Statuses
 pub mod Topics
+pub mod Typed
 pub mod Writers

@@ -1,5 +1,5 @@
 -- The status that the program ends with.
-use Rattle.std.specs.Prelude.{ℕ, Bool, true, false, Option, Some, None, codes, Result, Ok, Err}
+use Rattle.std.specs.Prelude.{ℕ, List, Bool, true, false, ◌||◌, Option, Some, None, codes, Result, Ok, Err, if◌then◌else◌}
 use Rattle.clap.specs.Values.{kind_of}
 use Rattle.clap.specs.declared.error.kind.ErrorKind.{ErrorKind}
 use Rattle.clap.specs.declared.error.kind.ErrorKind.TheVariants.{DisplayHelp, DisplayVersion, UnknownArgument, ValueValidation}
@@ -9,6 +9,7 @@ use Rattle.ccr_run.specs.declared.order.Misuse.{Misuse}
 use Rattle.ccr_run.specs.declared.order.Misuse.TheVariants.{Line, NoMemory}
 use Rattle.ccr_run.specs.declared.run.Outcome.{Outcome}
 use Rattle.ccr_run.specs.Refusals.{refusal_of}
+use Rattle.ccr_run.specs.Typed.{begins_with_option, has_word}
 
 -- the command's own status, or that of its refusal
 abbrev pub status_of : Result ℕ Failure → ℕ
@@ -24,13 +25,31 @@ printed_status false status = 4
 abbrev pub exit_status_of : Outcome → ℕ
 exit_status_of outcome = printed_status outcome.is_printed (status_of outcome.end)
 
+-- about a word that isn't known: where a command stands first, the program's own options do that don't stand before it
+abbrev pub unknown_word : List Text → Text
+unknown_word words =
+    if begins_with_option words then codes "hint: ccr_run COMMAND --help has a command's own words and options; ccr_run --help has those that stand before it"
+    else codes "hint: --db and the other options of ccr_run stand before the command; ccr_run COMMAND --help has those behind it"
+
+-- a command is named by which a version is named by its place
+abbrev pub names_place : List Text → Bool
+names_place words = has_word (codes "disable-resource-version") words || has_word (codes "enable-resource-version") words
+
+-- a command is named by which a build is named by its number
+abbrev pub names_build : List Text → Bool
+names_build words = has_word (codes "build") words || (has_word (codes "abort-build") words || has_word (codes "certify") words)
+
+-- about a value that isn't as it should be, where no range says it
+abbrev pub wrong_value : List Text → Option Text
+wrong_value words =
+    if names_place words then Some (codes "hint: a version is named by its place, which is a number: resource-versions NAME shows the places")
+    else (if names_build words then Some (codes "hint: a build is named by its job and its number, as builds shows them") else None)
+
 -- what to do about words that are no command line, by the kind of what is wrong with them
-abbrev pub remedy_of : ErrorKind → Option Text
-remedy_of UnknownArgument =
-    Some (codes "hint: --db and the other options of ccr_run stand before the command; ccr_run COMMAND --help has those behind it")
-remedy_of ValueValidation =
-    Some (codes "hint: where a number is wanted, builds shows those of builds, and resource-versions NAME the places of versions")
-remedy_of kind = None
+abbrev pub remedy_of : List Text → ErrorKind → Option Text
+remedy_of words UnknownArgument = Some (unknown_word words)
+remedy_of words ValueValidation = wrong_value words
+remedy_of words kind = None
 
 -- 0 for help, else 2
 abbrev pub line_status : ErrorKind → ℕ

@@ -1,23 +1,38 @@
 -- Of which lines it is told what to do.
-use Rattle.std.specs.Prelude.{[], ◌∷◌, ◌++◌, codes, Option, None, Some}
+use Rattle.std.specs.Prelude.{List, [], ◌∷◌, ◌++◌, codes, Bool, not, Option, None, Some}
 use Rattle.ccr_history.specs.Text.{Text}
+use Rattle.ccr_run.specs.Typed.{has_word, has_option}
 use Rattle.ccr_run.specs.declared.topic.Topic.{Topic}
 use Rattle.ccr_run.specs.declared.topic.Topic.TheVariants as t
 
--- words of a line, those of one that is written before, or the same, those behind which nothing is told, and what to do
+-- words of a line, others that stand beside them, those beside which nothing is told, and those behind which nothing is any more;
+-- and what to do
 pub record TopicData : Type 0 where
-  pub cause : Text
   pub words : Text
+  pub beside : Text
+  pub but : Option Text
   pub unless : Option Text
   pub hint : Text
 
 -- what to do about words
 abbrev pub on : Text → Text → TopicData
-on words hint = record { cause = words; words = words; unless = None; hint = hint }
+on words hint = record { words = words; beside = []; but = None; unless = None; hint = hint }
 
 -- what to do about words at the end of a line
 abbrev pub at_end : Text → Text → TopicData
 at_end words hint = on (words ++ 10 ∷ []) hint
+
+-- the same, of a task
+abbrev pub of_task : TopicData → TopicData
+of_task topic = record topic { beside = codes ": task " }
+
+-- the same, but of no task
+abbrev pub of_resource : TopicData → TopicData
+of_resource topic = record topic { but = Some (codes ": task ") }
+
+-- what to do about a clash with this demand
+abbrev pub clash : Text → Text → TopicData
+clash demand hint = record (on (10 ∷ codes "clash: ") hint) { beside = demand }
 
 -- a check that prints something else than a list
 abbrev pub list_hint : Text
@@ -25,15 +40,51 @@ list_hint = codes "a check prints a list of versions on standard output, as [{\"
 
 -- what is missing
 abbrev pub none_hint : Text
-none_hint = codes "no versions are there that have passed the jobs before it and that the pins allow: explain JOB says more"
+none_hint = codes "nothing is there that passed the jobs before it, and that no pin leaves out and nobody disabled: explain JOB says more, check-resource NAME looks for new versions"
+
+-- what an allowed version is
+abbrev pub allowed_hint : Text
+allowed_hint = codes "an allowed version is one that no pin leaves out and nobody disabled: resource-versions NAME shows what there is, check-resource NAME looks for more"
+
+-- about a demand that a version has passed a job
+abbrev pub passed_hint : Text
+passed_hint = codes "no build of the job behind passed has moved this yet: explain that job, too. Where jobs wait for each other, ccr_run --db FILE get-pipeline > p.json; ccr_run validate-pipeline p.json names them"
+
+-- what an abort does
+abbrev pub abort_hint : Text
+abort_hint = codes "builds --job JOB --look shows whether it is there and runs; if it isn't there yet, it is aborted when it comes. rmdir WORK/JOB/abort-N takes this back"
+
+-- what a pin does
+abbrev pub pin_hint : Text
+pin_hint = codes "jobs get no other version of it now, and none if no version has what the pin has: resource-versions NAME shows which there are, unpin-resource NAME takes it back"
 
 -- what an output has to be
 abbrev pub reply_hint : Text
-reply_hint = codes "a get's or put's program prints an object with its version, as {\"version\":{\"ref\":\"61cbef\"}}"
+reply_hint = codes "a get's or put's program prints an object with its version on standard output, as {\"version\":{\"ref\":\"61cbef\"}}, and nothing else there"
 
 -- about a version that has a number
 abbrev pub text_hint : Text
 text_hint = codes "a version's values are texts: {\"number\":\"4\"}, not {\"number\":4}"
+
+-- about a task's file that is no JSON
+abbrev pub file_hint : Text
+file_hint = codes "a task's file is JSON: examples/operating/pipeline-json --task FILE makes it of YAML"
+
+-- about a task's file that isn't there
+abbrev pub path_hint : Text
+path_hint = codes "a task's file is named by its path in the build's directory, as repo/unit.json, and is that of the version that the build got: is it in there?"
+
+-- about a task's file that is no task
+abbrev pub task_hint : Text
+task_hint = codes "a task's file has what a task's config has, as {\"inputs\":[{\"name\":\"repo\"}],\"run\":{\"path\":\"make\",\"args\":[\"test\"]}}"
+
+-- about a program that doesn't start
+abbrev pub start_hint : Text
+start_hint = codes "is it there, and executable, and is run.dir there? run.path is one program; its arguments belong into run.args"
+
+-- about a program that ends with a status
+abbrev pub status_hint : Text
+status_hint = codes "what a program prints on standard output isn't shown; what it prints on standard error is (>&2)"
 
 -- about the directory of builds
 abbrev pub work_hint : Text
@@ -45,19 +96,28 @@ topic_data t.CheckNotJson = at_end (codes ": refused: not JSON") list_hint
 topic_data t.CheckWrongKind = at_end (codes ": refused: wrong kind") list_hint
 topic_data t.CheckNotText = at_end (codes ": refused: version not text") text_hint
 topic_data t.CheckFolder = at_end (codes ": refused: folder fault") work_hint
-topic_data t.NoneSatisfies =
-    record (at_end (codes ": none satisfies") none_hint) { unless = Some (codes "check ") }
-topic_data t.BuildErrored =
-    record (at_end (codes " errored") (codes "where nothing is told of a build that errored, a task of it has an input that no step before it gives")) { cause = codes " made" ++ 10 ∷ [] }
-topic_data t.AbortAsked = on (codes "abort asked: ")
-    (codes "builds --job JOB shows whether it runs; a build that isn't there yet is aborted when it comes")
-topic_data t.StepNotJson = at_end (codes ": not JSON")
-    (codes "a get's or put's program prints its JSON, and nothing else, on standard output; a task's file is JSON, too (examples/operating/pipeline-json --task)")
+topic_data t.NoneSatisfies = record (at_end (codes ": none satisfies") none_hint) { unless = Some (codes "check ") }
+topic_data t.NoneAllowed = clash (codes " takes an allowed version") allowed_hint
+topic_data t.NonePassed = record (clash (codes " passed ") passed_hint) { but = Some (codes " takes an allowed version") }
+topic_data t.Pinned = on (codes "pinned ") pin_hint
+topic_data t.AbortAsked = on (codes "abort asked: ") abort_hint
+topic_data t.StepNotJson = of_resource (at_end (codes ": not JSON") reply_hint)
 topic_data t.StepWrongKind = at_end (codes ": wrong kind") reply_hint
 topic_data t.StepNoVersion = at_end (codes ": missing version") reply_hint
 topic_data t.StepNotText = at_end (codes ": version not text") text_hint
-topic_data t.StepNotStarted = on (codes ": not started: ")
-    (codes "is it there, and executable, and is run.dir there? run.path is one program; its arguments belong into run.args")
-topic_data t.StepStatus = on (codes ": exit status ")
-    (codes "what a program prints on standard output isn't shown; what it prints on standard error is (>&2)")
+topic_data t.FileNotJson = of_task (at_end (codes ": not JSON") file_hint)
+topic_data t.FileUnread = of_task (at_end (codes ": cannot read") path_hint)
+topic_data t.NoTask = of_task (on (codes " at task") task_hint)
+topic_data t.StepNotStarted = on (codes ": not started: ") start_hint
+topic_data t.StepStatus =
+    record (of_task (on (codes ": exit status ") status_hint)) { but = Some (codes ": exit status 124" ++ 10 ∷ []) }
 topic_data t.StepFolder = at_end (codes ": folder fault") work_hint
+
+-- THE WORDS WITH WHICH NOTHING IS TOLD of a topic: `explain` says more than hints do, but for those about its clash; what a pin
+-- does is told by the command that sets one; and a launcher may show what a program prints
+abbrev pub is_silent : Topic → List Text → Bool
+is_silent t.NoneAllowed words = not (has_word (codes "explain") words)
+is_silent t.NonePassed words = not (has_word (codes "explain") words)
+is_silent t.Pinned words = not (has_word (codes "pin-resource") words)
+is_silent t.StepStatus words = has_option (codes "--launcher") words
+is_silent topic words = has_word (codes "explain") words

@@ -13,7 +13,7 @@ use std::io::Write;
 pub const MOST_SEARCHED: usize = 65_536;
 
 /// The bytes to look at, of those that one call writes.
-fn searched(bytes: &[u8]) -> &[u8]
+pub fn searched(bytes: &[u8]) -> &[u8]
     ensures { result.now ≡ spec.searched bytes.now }
 {
     if bytes.len() <= MOST_SEARCHED {
@@ -52,7 +52,7 @@ impl<W, E: Write> Advising<W, E> {
 }
 
 impl<W: Write, E: Write> Write for Advising<W, E> {
-    ghost use Rattle.std.specs.Prelude.{◌≡◌, OnOk};
+    ghost use Rattle.std.specs.Prelude.{◌≡◌, [], OnOk};
     ghost use Rattle.std.specs.Io.{WritesAtMost};
     ghost use Rattle.std.specs.Io.KnownBytes.{Appends, Keeps, WriteAppends};
     ghost use Rattle.ccr_run.specs.Advised.{advice_data, advice_lines, heeded, searched};
@@ -79,6 +79,8 @@ impl<W: Write, E: Write> Write for Advising<W, E> {
         ensures bytes { OnOk result (Appends (W.contents self.old.writer) (W.contents self.new.writer) buf.now) }
         ensures heeded { advice_data self.new.advice ≡ heeded (searched buf.now) (advice_data self.old.advice) }
         ensures told { GetsLines (advice_lines (searched buf.now) (advice_data self.old.advice)) self.old.errors self.new.errors }
+        ensures quiet { advice_lines (searched buf.now) (advice_data self.old.advice) ≡ []
+            → self.new.errors ≡ self.old.errors }
     {
         let answer = self.writer.write_all(buf);
         self.advice.heed(searched(buf), &mut self.errors);

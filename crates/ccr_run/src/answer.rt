@@ -40,6 +40,7 @@ pub struct Answered<R, F, T, C> {
 /// The status that the program ends with: that of what was done, or 4 where not all lines went out. Or else it is told why the words order
 /// nothing, or the help is given that they ask for.
 fn code_of<P: Print + Eprint>(
+    words: &[String],
     status: &Result<u8, Misuse>,
     is_printed: bool,
     console: &P,
@@ -49,7 +50,7 @@ fn code_of<P: Print + Eprint>(
     match status {
         Ok(_) if !is_printed => ExitCode::from(4),
         Ok(status) => ExitCode::from(*status),
-        Err(misuse) => tell_misuse(console, misuse),
+        Err(misuse) => tell_misuse(console, words, misuse),
     }
 }
 
@@ -99,6 +100,6 @@ pub fn answer<
 {
     let done = obey(alloc, words, clock, tools, opener, out, telling);
     let is_printed = !out.has_failed();
-    let code = code_of(&done.status, is_printed, console);
+    let code = code_of(words, &done.status, is_printed, console);
     Answered { code, done }
 }

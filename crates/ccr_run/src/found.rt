@@ -1,8 +1,8 @@
 //! What is found in a pipeline's file: told beside `set-pipeline`, and by `validate-pipeline`, which opens no database.
-ghost use Rattle.std.specs.Prelude.{◌≡◌, ◌++◌, [], None, Some, Ok, Err, map, option_map, option_copied, slice_get, string_bytes, IfOk, IfErr, OnOk, OnErr};
+ghost use Rattle.std.specs.Prelude.{◌≡◌, ◌++◌, [], None, Some, Ok, Err, map, option_map, option_copied, string_bytes, IfOk, IfErr, OnOk, OnErr};
 ghost use Rattle.ccr_findings.specs.Findings.{findings_data};
 ghost use Rattle.ccr_run.specs.Explained.{told_data, has_set, has_shown, AreGates, gate_lines, refusal_lines};
-ghost use Rattle.ccr_run.specs.Found.{Finds, IsRefusedText, PrintsRefused, Validates, ValidatesText, findings_text, is_option, line_text, lines_text, validation_data, wrong_text};
+ghost use Rattle.ccr_run.specs.Found.{Finds, IsRefusedText, PrintsRefused, Validates, ValidatesText, findings_text, line_text, lines_text, validation_data, wrong_text};
 ghost use Rattle.ccr_run.specs.Found as spec;
 ghost use Rattle.ccr_run.specs.Writers.{GetsLines};
 
@@ -10,6 +10,7 @@ use crate::failure::Failure;
 use crate::order::Order;
 use crate::refusal::refusal_of;
 use crate::telling::Telling;
+use crate::typed::{is_option, word_at};
 use ccr_core::Command;
 use ccr_findings::{Finding, Findings, fault_lines, findings_in_text, findings_of, is_faultless};
 use ccr_lines::Lines;
@@ -98,32 +99,12 @@ pub fn tell_gates<'e, E: Write>(
 
 // ---- validations
 
-/// The word at a place, if there is one.
-fn word_at(words: &[String], at: usize) -> Option<&str>
-    ensures { option_map (λ word. word.now) result ≡ slice_get (map string_bytes words.now) at }
-{
-    match words.get(at) {
-        Some(word) => Some(word.as_str()),
-        None => None,
-    }
-}
-
 /// Whether the words are those of `validate-pipeline`.
 pub fn is_validation(words: &[String]) -> bool
     ensures { result ≡ spec.is_validation (map string_bytes words.now) }
 {
     match word_at(words, 1) {
         Some(word) => word == VALIDATE,
-        None => false,
-    }
-}
-
-/// Whether a word is an option.
-fn is_option(word: &str) -> bool
-    ensures { result ≡ is_option word.now }
-{
-    match word.as_bytes().first() {
-        Some(first) => *first == b'-',
         None => false,
     }
 }

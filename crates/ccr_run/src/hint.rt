@@ -12,6 +12,13 @@ use ccr_store::StoreFault;
 use sqlite::{Error, ErrorCode};
 use std::fmt;
 
+/// About a file that is no database of this program.
+const NOT_OURS: &str =
+    "the file isn't a database of ccr_run in format 1 or 2; name another one, or use a newer ccr_run";
+
+/// About being out of memory.
+const NO_MEMORY: &str = "what was printed is kept; try again with more memory";
+
 /// What to do, with the path of the database that it is about, if it is about one.
 #[derive(Clone, Copy, PartialEq, Eq)]
 pub struct Hint<'a> {
@@ -36,100 +43,6 @@ impl fmt::Display for Hint<'_> {
     }
 }
 
-/// What to do about a fault of the server, where that helps.
-fn of_server(fault: &ServeFault) -> Option<&'static str>
-    ensures { option_map (λ hint. hint.now) result ≡ spec.of_server fault.now }
-{
-    match fault {
-        ServeFault::Core(CoreFault::NoPipeline) => Some(
-            "set one with: ccr_run --db FILE set-pipeline PIPELINE.json",
-        ),
-        ServeFault::Core(CoreFault::NoJob) | ServeFault::Core(CoreFault::NoResource) => {
-            Some("jobs and resources show the names of the pipeline that was set last")
-        }
-        ServeFault::Core(CoreFault::NoBuild) => Some("builds shows which builds there are"),
-        ServeFault::Core(CoreFault::NoVersion) => {
-            Some("resource-versions NAME shows which places there are")
-        }
-        ServeFault::Read(ReadFault::NotJson(_)) => Some(
-            "is it YAML, or is there a slip? ccr_run validate-pipeline FILE shows where it stops being JSON",
-        ),
-        ServeFault::Read(_) => Some(
-            "ccr_run validate-pipeline FILE says what stands there and what is wanted; docs/FORMATS.md has the format",
-        ),
-        ServeFault::BadPin => Some("a pin is a JSON object of texts, as {\"ref\":\"61cbef\"}"),
-        ServeFault::Store(StoreFault::NotOurs) => Some(
-            "the file isn't a database of ccr_run in format 1 or 2; name another one, or use a newer ccr_run",
-        ),
-        ServeFault::Store(StoreFault::Disk) => Some(
-            "is the disk full or read-only? may you write the file and its directory? what was printed is kept",
-        ),
-        ServeFault::File => Some("is the file there, and may you read it?"),
-        ServeFault::NoMemory | ServeFault::Store(StoreFault::NoMemory) => Some(
-            "what was printed is kept; try again with more memory",
-        ),
-        ServeFault::TurnsUsedUp => Some(
-            "the next command ends the builds that still run as errored",
-        ),
-        _ => None,
-    }
-}
-
-/// What to do where there is no database to look at.
-fn of_copy(fault: CopyFault) -> &'static str
-    ensures { result.now ≡ spec.of_copy fault }
-{
-    match fault {
-        CopyFault::NoFile => {
-            "a look makes no database: is --db right? a command without --look makes one"
-        }
-        CopyFault::OnlyLog => {
-            "what was written last is in the file beside it that ends in -wal: bring back the file that belongs to it, or a copy"
-        }
-        CopyFault::Empty => {
-            "a command without --look makes a database of it; if a copy is being put there, look again when it is whole"
-        }
-        CopyFault::NotAFile => {
-            "--db names a file; what is beside it and ends in -wal or -journal is a file too"
-        }
-        CopyFault::Journal => {
-            "another program was writing the database and has not ended it: open it once with sqlite3, which takes that back"
-        }
-        CopyFault::Restless => { "it changed at each of 100 tries; look again" }
-        CopyFault::Unread => {
-            "may you read the file, the one beside it that ends in -wal, and their directory?"
-        }
-        CopyFault::NoMemory => "what was printed is kept; try again with more memory",
-    }
-}
-
-/// What to do where a look finds no history, where that helps.
-fn of_bytes(fault: StoreFault) -> Option<&'static str>
-    ensures { option_map (λ hint. hint.now) result ≡ spec.of_bytes fault }
-{
-    match fault {
-        StoreFault::Disk => Some(
-            "what was read is no database, or is damaged, or a part of it is missing: the file beside it that ends in -wal belongs to it",
-        ),
-        StoreFault::NotOurs => Some(
-            "the file isn't a database of ccr_run in format 1 or 2; name another one, or use a newer ccr_run",
-        ),
-        StoreFault::NoMemory => Some("what was printed is kept; try again with more memory"),
-        _ => None,
-    }
-}
-
-/// What to do about a status of a command, where that helps.
-fn of_status(status: u8) -> Option<&'static str>
-    ensures { option_map (λ hint. hint.now) result ≡ spec.of_status status }
-{
-    if status == 3 {
-        Some("--budget N allows more, up to 1000000")
-    } else {
-        None
-    }
-}
-
 /// What to do, whichever database it is.
 fn bare<'a>(words: &'static str) -> Hint<'a>
     ensures { hint_data result ≡ spec.bare words.now }
@@ -147,14 +60,132 @@ fn about<'a>(path: &'a str, words: &'static str) -> Hint<'a>
     }
 }
 
+/// That no pipeline is set in the database at a path.
+pub fn unset_in<'a>(path: &'a str) -> Hint<'a>
+    ensures { hint_data result ≡ spec.about path.now spec.unset }
+{
+    about(
+        path,
+        "no pipeline is set in it; is --db right? set-pipeline PIPELINE.json sets one",
+    )
+}
+
+/// What to do about a fault of a pipeline's text.
+fn of_text(fault: &ReadFault) -> &'static str
+    ensures { result.now ≡ spec.of_text fault.now }
+{
+    match fault {
+        ReadFault::NotJson(_) => {
+            "YAML isn't read: examples/operating/pipeline-json FILE makes JSON of it; of JSON, ccr_run validate-pipeline FILE shows where the slip is"
+        }
+        ReadFault::BadName(_) => {
+            "a name has 1 to 128 bytes, no / and no control character, and isn't . or ..; ccr_run validate-pipeline FILE shows what stands there"
+        }
+        ReadFault::BadAttempts(_) => {
+            "attempts are from 1 to 100, and of steps that stand in one another at most 10000 together; ccr_run validate-pipeline FILE shows what stands there"
+        }
+        ReadFault::NumberNotWhole(_) => {
+            "a number here is whole: write another one as a text, as \"0.5\"; ccr_run validate-pipeline FILE says which it is"
+        }
+        _ => {
+            "ccr_run validate-pipeline FILE says what stands there and what is wanted; docs/FORMATS.md has the format"
+        }
+    }
+}
+
+/// What to do about a fault of the server, of the database at a path, where that helps.
+fn of_server<'a>(path: &'a str, fault: &ServeFault) -> Option<Hint<'a>>
+    ensures { option_map hint_data result ≡ spec.of_server path.now fault.now }
+{
+    let hint = match fault {
+        ServeFault::Core(CoreFault::NoPipeline) => unset_in(path),
+        ServeFault::Core(CoreFault::NoJob | CoreFault::NoResource) => about(
+            path,
+            "the pipeline that is set in it, if one is, has no such name: jobs and resources show those that it has; is --db right?",
+        ),
+        ServeFault::Core(CoreFault::NoBuild) => bare("builds shows which builds there are"),
+        ServeFault::Core(CoreFault::NoVersion) => bare(
+            "resource-versions NAME shows which places there are",
+        ),
+        ServeFault::Read(fault) => bare(of_text(fault)),
+        ServeFault::BadPin => bare(
+            "a version is written as a JSON object of texts, as {\"ref\":\"61cbef\"}: resource-versions NAME shows them so",
+        ),
+        ServeFault::Store(StoreFault::NotOurs) => bare(NOT_OURS),
+        ServeFault::Store(StoreFault::Disk) => bare(
+            "is the disk full or read-only? may you write the file and its directory? what was printed is kept",
+        ),
+        ServeFault::File => bare("is the file there, and may you read it?"),
+        ServeFault::NoMemory | ServeFault::Store(StoreFault::NoMemory) => bare(NO_MEMORY),
+        ServeFault::TurnsUsedUp => bare(
+            "the next command ends the builds that still run as errored",
+        ),
+        _ => return None,
+    };
+    Some(hint)
+}
+
+/// What to do where there is no database to look at, at a path.
+fn of_copy<'a>(path: &'a str, fault: CopyFault) -> Hint<'a>
+    ensures { hint_data result ≡ spec.of_copy path.now fault }
+{
+    let words = match fault {
+        CopyFault::NoFile => {
+            "a look makes no database: is --db right? a command without --look makes one"
+        }
+        CopyFault::OnlyLog => {
+            "what was written last is in the file beside it that ends in -wal: bring back the file that belongs to it, or a copy"
+        }
+        CopyFault::Empty => {
+            "a command without --look makes a database of it; if a copy is being put there, look again when it is whole"
+        }
+        CopyFault::NotAFile => {
+            "--db names a file; what is beside it and ends in -wal or -journal is a file too"
+        }
+        CopyFault::Journal => {
+            "another program was writing the database and has not ended it: open it once with sqlite3, which takes that back"
+        }
+        CopyFault::Restless => "it changed at each of 100 tries; look again",
+        CopyFault::Unread => {
+            "may you read the file, the one beside it that ends in -wal, and their directory?"
+        }
+        CopyFault::NoMemory => return bare(NO_MEMORY),
+    };
+    about(path, words)
+}
+
+/// What to do where a look finds no history in the database at a path, where that helps.
+fn of_bytes<'a>(path: &'a str, fault: StoreFault) -> Option<Hint<'a>>
+    ensures { option_map hint_data result ≡ spec.of_bytes path.now fault }
+{
+    match fault {
+        StoreFault::Disk => Some(about(
+            path,
+            "it is no database, which begins with SQLite format 3 (head -c 15 FILE), or it is damaged, or its file that ends in -wal isn't beside it: name another one, or bring back a copy with both",
+        )),
+        StoreFault::NotOurs => Some(about(path, NOT_OURS)),
+        StoreFault::NoMemory => Some(bare(NO_MEMORY)),
+        _ => None,
+    }
+}
+
+/// What to do about a status of a command, where that helps.
+fn of_status<'a>(status: u8) -> Option<Hint<'a>>
+    ensures { option_map hint_data result ≡ option_map spec.bare (spec.of_status status) }
+{
+    if status == 3 {
+        Some(bare("--budget N allows more, up to 1000000"))
+    } else {
+        None
+    }
+}
+
 /// What to do about the database at a path that can't be opened.
 fn of_open<'a>(path: &'a str, error: &Error) -> Hint<'a>
     ensures { hint_data result ≡ spec.of_open path.now error.now }
 {
     match error {
-        Error::SqliteFailure(ErrorCode::OutOfMemory) => bare(
-            "what was printed is kept; try again with more memory",
-        ),
+        Error::SqliteFailure(ErrorCode::OutOfMemory) => bare(NO_MEMORY),
         Error::SqliteFailure(ErrorCode::NotADatabase) => about(
             path,
             "the file is no database; name another one",
@@ -176,28 +207,19 @@ fn of_open<'a>(path: &'a str, error: &Error) -> Hint<'a>
     }
 }
 
-/// What to do, whichever database it is, where that helps.
-fn each<'a>(words: Option<&'static str>) -> Option<Hint<'a>>
-    ensures { option_map hint_data result ≡ option_map spec.bare (option_map (λ words. words.now) words.entry) }
-{
-    match words {
-        Some(words) => Some(bare(words)),
-        None => None,
-    }
-}
-
 /// What to do about how a command ended over the database at a path, where that helps.
 pub fn hint_of<'a>(path: &'a str, end: &Result<u8, Failure>) -> Option<Hint<'a>>
     ensures { option_map hint_data result ≡ spec.hint_of path.now end.now }
 {
     match end {
-        Ok(status) => each(of_status(*status)),
-        Err(Failure::Locked) => Some(bare(
-            "another program has the database open; try again when it has ended (examples/operating/ccr waits for it)",
+        Ok(status) => of_status(*status),
+        Err(Failure::Locked) => Some(about(
+            path,
+            "another program has the database open: lsof FILE names it. Try again when it has ended (examples/operating/ccr waits for it); what only shows waits for nobody with --look, as builds --look",
         )),
         Err(Failure::Unopened(error)) => Some(of_open(path, error)),
-        Err(Failure::Refused(fault)) => each(of_server(fault)),
-        Err(Failure::Unread(fault)) => Some(bare(of_copy(*fault))),
-        Err(Failure::Unfound(fault)) => each(of_bytes(*fault)),
+        Err(Failure::Refused(fault)) => of_server(path, fault),
+        Err(Failure::Unread(fault)) => Some(of_copy(path, *fault)),
+        Err(Failure::Unfound(fault)) => of_bytes(path, *fault),
     }
 }

@@ -19,7 +19,10 @@ mod database;
 mod errors;
 mod failure;
 mod found;
+mod heard;
 mod hint;
+mod kept;
+mod last;
 mod left;
 mod look;
 mod naming;
@@ -33,6 +36,7 @@ mod run;
 mod tell;
 mod telling;
 mod topic;
+mod typed;
 
 use advising::Advising;
 use answer::{Answered, answer};
@@ -40,6 +44,9 @@ use ccr_lines::Printed;
 use ccr_process::Machine;
 use ccr_task::Folders;
 use clock::time_now;
+use errors::Errors;
+use heard::{Heard, Hearing};
+use last::tell_last;
 use left::Tools;
 use naming::Naming;
 use opener::Opener;
@@ -71,13 +78,13 @@ fn words(rt: &HostRuntime) -> Result<Vec<String>, Misuse> {
 }
 
 /// Answers the words with the programs, the directories and the files of this machine, as they are: nothing is known of them. Lines go to
-/// one writer, and what is told of steps to another one.
+/// one writer, and what is told of steps to another one. Whether it ended with status 0 is handed on, too.
 fn answer_by<W: Write + Drop, E: Write + Drop>(
     rt: &HostRuntime,
     words: &[String],
     lines: W,
     notes: E,
-) -> ExitCode {
+) -> (ExitCode, bool) {
     let alloc = rt.alloc();
     let tools = Tools {
         runner: Naming::new(alloc, Machine::new(rt, alloc), rt.stderr()),
@@ -87,7 +94,7 @@ fn answer_by<W: Write + Drop, E: Write + Drop>(
     let mut out = Printed::new(alloc, lines, notes);
     let mut telling = Telling::new(alloc, rt.stderr());
     let clock = time_now(rt, alloc);
-    let Answered { code, done: _done } = answer(
+    let Answered { code, done } = answer(
         alloc,
         words,
         clock.as_deref(),
@@ -97,7 +104,8 @@ fn answer_by<W: Write + Drop, E: Write + Drop>(
         &mut telling,
         rt,
     );
-    code
+    let is_done = matches!(&done.status, Ok(0));
+    (code, is_done)
 }
 
 /// Whether nothing is to be said of what to do about what is printed of checks and builds: whoever starts the program says it.
@@ -108,42 +116,66 @@ fn is_silent(rt: &HostRuntime) -> bool {
     }
 }
 
-/// Whether the words ask for an explanation, which says more than a hint does.
-fn asks_explain(words: &[String]) -> bool {
-    for word in words {
-        if word.as_str() == "explain" {
-            return true;
-        }
+/// Answers the words in the same way, and says last what both outputs together tell.
+fn answer_heard<W: Write + Drop, E: Write + Drop>(
+    rt: &HostRuntime,
+    words: &[String],
+    lines: W,
+    notes: E,
+) -> ExitCode {
+    let alloc = rt.alloc();
+    let mut lines = Hearing::new(lines, Heard::new(alloc, " made\n", " errored\n"));
+    let mut notes = Hearing::new(notes, Heard::new(alloc, "", ": "));
+    let (code, is_done) = answer_by(rt, words, &mut lines, &mut notes);
+    if !is_silent(rt) {
+        let mut errors = Errors::new(alloc, rt.stderr());
+        tell_last(&mut errors, &lines.heard, &notes.heard, words, is_done);
     }
-    false
+    code
+}
+
+/// Passes on to a writer, and says on standard error what to do about a line, unless the words or the environment are
+/// against it.
+fn advise<W, E: Write>(
+    rt: &HostRuntime,
+    words: &[String],
+    writer: W,
+    errors: E,
+    topic: Topic,
+) -> Advising<W, E> {
+    let mute = is_silent(rt) || topic.is_silent(words);
+    Advising::new(rt.alloc(), writer, errors, topic, mute)
 }
 
 /// Answers the words, and says what to do about what is printed of checks and builds.
 fn answer_here(rt: &HostRuntime, words: &[String]) -> ExitCode {
-    let alloc = rt.alloc();
-    let mute = is_silent(rt) || asks_explain(words);
     let out = io::writer(rt);
-    let out = Advising::new(alloc, out, rt.stderr(), Topic::CheckNotJson, mute);
-    let out = Advising::new(alloc, out, rt.stderr(), Topic::CheckWrongKind, mute);
-    let out = Advising::new(alloc, out, rt.stderr(), Topic::CheckNotText, mute);
-    let out = Advising::new(alloc, out, rt.stderr(), Topic::CheckFolder, mute);
-    let out = Advising::new(alloc, out, rt.stderr(), Topic::NoneSatisfies, mute);
-    let out = Advising::new(alloc, out, rt.stderr(), Topic::BuildErrored, mute);
-    let out = Advising::new(alloc, out, rt.stderr(), Topic::AbortAsked, mute);
+    let out = advise(rt, words, out, rt.stderr(), Topic::CheckNotJson);
+    let out = advise(rt, words, out, rt.stderr(), Topic::CheckWrongKind);
+    let out = advise(rt, words, out, rt.stderr(), Topic::CheckNotText);
+    let out = advise(rt, words, out, rt.stderr(), Topic::CheckFolder);
+    let out = advise(rt, words, out, rt.stderr(), Topic::NoneSatisfies);
+    let out = advise(rt, words, out, rt.stderr(), Topic::NoneAllowed);
+    let out = advise(rt, words, out, rt.stderr(), Topic::NonePassed);
+    let out = advise(rt, words, out, rt.stderr(), Topic::Pinned);
+    let out = advise(rt, words, out, rt.stderr(), Topic::AbortAsked);
     let told = rt.stderr();
-    let told = Advising::new(alloc, told, rt.stderr(), Topic::StepNotJson, mute);
-    let told = Advising::new(alloc, told, rt.stderr(), Topic::StepWrongKind, mute);
-    let told = Advising::new(alloc, told, rt.stderr(), Topic::StepNoVersion, mute);
-    let told = Advising::new(alloc, told, rt.stderr(), Topic::StepNotText, mute);
-    let told = Advising::new(alloc, told, rt.stderr(), Topic::StepNotStarted, mute);
-    let told = Advising::new(alloc, told, rt.stderr(), Topic::StepStatus, mute);
-    let told = Advising::new(alloc, told, rt.stderr(), Topic::StepFolder, mute);
-    answer_by(rt, words, out, told)
+    let told = advise(rt, words, told, rt.stderr(), Topic::StepNotJson);
+    let told = advise(rt, words, told, rt.stderr(), Topic::StepWrongKind);
+    let told = advise(rt, words, told, rt.stderr(), Topic::StepNoVersion);
+    let told = advise(rt, words, told, rt.stderr(), Topic::StepNotText);
+    let told = advise(rt, words, told, rt.stderr(), Topic::FileNotJson);
+    let told = advise(rt, words, told, rt.stderr(), Topic::FileUnread);
+    let told = advise(rt, words, told, rt.stderr(), Topic::NoTask);
+    let told = advise(rt, words, told, rt.stderr(), Topic::StepNotStarted);
+    let told = advise(rt, words, told, rt.stderr(), Topic::StepStatus);
+    let told = advise(rt, words, told, rt.stderr(), Topic::StepFolder);
+    answer_heard(rt, words, out, told)
 }
 
 fn main(rt: HostRuntime) -> ExitCode {
     match words(&rt) {
         Ok(words) => answer_here(&rt, &words),
-        Err(misuse) => tell_misuse(&rt, &misuse),
+        Err(misuse) => tell_misuse(&rt, &[], &misuse),
     }
 }

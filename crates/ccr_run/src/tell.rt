@@ -1,5 +1,5 @@
 //! What goes to standard error, and the status that the program ends with.
-ghost use Rattle.std.specs.Prelude.{◌≡◌, None, false, not, option_map};
+ghost use Rattle.std.specs.Prelude.{◌≡◌, None, false, map, not, option_map, string_bytes};
 ghost use Rattle.std.specs.Process.{exit_status};
 ghost use Rattle.ccr_run.specs.Explained.{told_data, nothing_told, shows_proof, is_over_budget, budget_over, refusal_in, explained};
 ghost use Rattle.ccr_run.specs.Explained.{budget_lines, refusal_lines, hint_lines, unprinted_lines, TellsLines};
@@ -15,6 +15,7 @@ use crate::order::{Misuse, Order};
 use crate::refusal::refusal_of;
 use crate::run::Outcome;
 use crate::telling::Telling;
+use crate::typed::{begins_with_option, has_word};
 use ccr_core::{Command, Shown};
 use clap::Error as LineError;
 use clap::error::ErrorKind;
@@ -118,35 +119,71 @@ pub fn tell<'e, E: Write>(telling: &mut Telling<'e, E>, order: &Order<'e>, outco
     }
 }
 
+/// About a word that isn't known.
+fn unknown_word(words: &[String]) -> &'static str
+    ensures { result.now ≡ spec.unknown_word (map string_bytes words.now) }
+{
+    if begins_with_option(words) {
+        "hint: ccr_run COMMAND --help has a command's own words and options; ccr_run --help has those that stand before it"
+    } else {
+        "hint: --db and the other options of ccr_run stand before the command; ccr_run COMMAND --help has those behind it"
+    }
+}
+
+/// Whether a command is named by which a version is named by its place.
+fn names_place(words: &[String]) -> bool
+    ensures { result ≡ spec.names_place (map string_bytes words.now) }
+{
+    has_word(words, "disable-resource-version") || has_word(words, "enable-resource-version")
+}
+
+/// Whether a command is named by which a build is named by its number.
+fn names_build(words: &[String]) -> bool
+    ensures { result ≡ spec.names_build (map string_bytes words.now) }
+{
+    has_word(words, "build") || has_word(words, "abort-build") || has_word(words, "certify")
+}
+
+/// About a value that isn't as it should be, where no range says it.
+fn wrong_value(words: &[String]) -> Option<&'static str>
+    ensures { option_map (λ hint. hint.now) result ≡ spec.wrong_value (map string_bytes words.now) }
+{
+    if names_place(words) {
+        Some(
+            "hint: a version is named by its place, which is a number: resource-versions NAME shows the places",
+        )
+    } else if names_build(words) {
+        Some("hint: a build is named by its job and its number, as builds shows them")
+    } else {
+        None
+    }
+}
+
 /// What to do about words that are no command line, by the kind of what is wrong with them, where that helps.
-fn remedy_of(kind: ErrorKind) -> Option<&'static str>
-    ensures { option_map (λ hint. hint.now) result ≡ spec.remedy_of kind }
+fn remedy_of(words: &[String], kind: ErrorKind) -> Option<&'static str>
+    ensures { option_map (λ hint. hint.now) result ≡ spec.remedy_of (map string_bytes words.now) kind }
 {
     match kind {
-        ErrorKind::UnknownArgument => Some(
-            "hint: --db and the other options of ccr_run stand before the command; ccr_run COMMAND --help has those behind it",
-        ),
-        ErrorKind::ValueValidation => Some(
-            "hint: where a number is wanted, builds shows those of builds, and resource-versions NAME the places of versions",
-        ),
+        ErrorKind::UnknownArgument => Some(unknown_word(words)),
+        ErrorKind::ValueValidation => wrong_value(words),
         _ => None,
     }
 }
 
 /// Prints what `clap` says is wrong, or the help that is asked for; and below it what to do.
-fn print_line<R: Print + Eprint>(rt: &R, error: &LineError) -> io::Result<()> {
+fn print_line<R: Print + Eprint>(rt: &R, words: &[String], error: &LineError) -> io::Result<()> {
     error.print(rt)?;
-    match remedy_of(error.kind()) {
+    match remedy_of(words, error.kind()) {
         Some(remedy) => eprintln!(rt; "{remedy}"),
         None => Ok(()),
     }
 }
 
 /// Prints what `clap` answers: help to standard output, and a misuse to standard error.
-fn print_misuse<R: Print + Eprint>(rt: &R, misuse: &Misuse) -> io::Result<()> {
+fn print_misuse<R: Print + Eprint>(rt: &R, words: &[String], misuse: &Misuse) -> io::Result<()> {
     match misuse {
         Misuse::NotText => eprintln!(rt; "error: a word isn't UTF-8"),
-        Misuse::Line(error) => print_line(rt, error),
+        Misuse::Line(error) => print_line(rt, words, error),
         Misuse::Option(fault) => {
             eprintln!(rt; "error: {fault}\n\nFor more information, try '--help'.")
         }
@@ -169,12 +206,12 @@ fn misuse_status(misuse: &Misuse) -> u8
     }
 }
 
-/// Tells why words order nothing, or gives the help that they ask for. The exit status is 0 for help, 4 out of memory
-/// or where it isn't printed, and else 2.
-pub fn tell_misuse<R: Print + Eprint>(rt: &R, misuse: &Misuse) -> ExitCode
+/// Tells why these words order nothing, or gives the help that they ask for. The exit status is 0 for help, 4 out of
+/// memory or where it isn't printed, and else 2.
+pub fn tell_misuse<R: Print + Eprint>(rt: &R, words: &[String], misuse: &Misuse) -> ExitCode
     ensures { IsTold misuse.now (exit_status result) }
 {
-    match print_misuse(rt, misuse) {
+    match print_misuse(rt, words, misuse) {
         Ok(()) => ExitCode::from(misuse_status(misuse)),
         Err(_) => ExitCode::from(4),
     }

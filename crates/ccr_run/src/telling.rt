@@ -2,15 +2,15 @@
 ghost use Rattle.std.specs.Prelude.{◌≡◌, [], ◌∷◌, None, Some, true, false, string_bytes};
 ghost use Rattle.std.specs.List.{list_any};
 ghost use Rattle.ccr_findings.specs.Findings.{kinds};
-ghost use Rattle.ccr_run.specs.Explained.{told_data, refusal_told, nothing_told, told_line, told_lines, found_lines, is_vars, set_lines, vars_lines, unset_line, budget_line, unprinted_line};
+ghost use Rattle.ccr_run.specs.Explained.{told_data, refusal_told, nothing_told, told_line, told_lines, found_lines, is_corrected, is_unused, is_vars, set_lines, unused_lines, vars_lines, unset_line, budget_line, unprinted_line};
 ghost use Rattle.ccr_run.specs.Hints.{hint_data, hint_text};
 ghost use Rattle.ccr_run.specs.Refusals.{refusal_data, refusal_text};
 ghost use Rattle.ccr_run.specs.Writers.{GetsLines};
 
 use crate::errors::Errors;
-use crate::hint::Hint;
+use crate::hint::{Hint, unset_in};
 use crate::refusal::Refusal;
-use ccr_findings::{Finding, Findings, Kind, is_faultless};
+use ccr_findings::{Finding, Findings, Kind};
 use std::alloc::Global;
 use std::io::Write;
 use std::snapshot::Snapshot;
@@ -71,16 +71,72 @@ fn say_findings<E: Write>(errors: &mut Errors<E>, findings: &[Finding])
     }
 }
 
+/// Whether a finding is of a text that a variable was to replace.
+fn is_vars(kind: Kind) -> bool
+    ensures { result ≡ is_vars kind }
+{
+    kind == Kind::Vars
+}
+
+/// Whether a finding is of a key of Concourse without effect.
+fn is_unused(kind: Kind) -> bool
+    ensures { result ≡ is_unused kind }
+{
+    kind == Kind::Unused
+}
+
+/// Whether a finding is of what has to be corrected.
+fn is_corrected(kind: Kind) -> bool
+    ensures { result ≡ is_corrected kind }
+{
+    kind.is_wrong() && !is_vars(kind)
+}
+
 /// Whether a text is found that a variable was to replace.
 fn has_vars(findings: &[Finding]) -> bool
     ensures { result ≡ list_any is_vars (kinds findings.now) }
 {
     for finding in findings {
-        if finding.kind == Kind::Vars {
+        if is_vars(finding.kind) {
             return true;
         }
     }
     false
+}
+
+/// Whether a key of Concourse without effect is found.
+fn has_unused(findings: &[Finding]) -> bool
+    ensures { result ≡ list_any is_unused (kinds findings.now) }
+{
+    for finding in findings {
+        if is_unused(finding.kind) {
+            return true;
+        }
+    }
+    false
+}
+
+/// Whether something is found that has to be corrected.
+fn has_corrected(findings: &[Finding]) -> bool
+    ensures { result ≡ list_any is_corrected (kinds findings.now) }
+{
+    for finding in findings {
+        if is_corrected(finding.kind) {
+            return true;
+        }
+    }
+    false
+}
+
+/// Writes what replaces keys of Concourse without effect, if one is found.
+fn say_unused<E: Write>(errors: &mut Errors<E>, findings: &[Finding])
+    ensures { GetsLines (unused_lines (kinds findings.now)) errors.old errors.new }
+{
+    if has_unused(findings) {
+        errors.say(
+            "hint: unused: these keys of Concourse have no effect; ccr_run validate-pipeline FILE says of each what to do instead",
+        );
+    }
 }
 
 /// Writes what a variable means, if one is found.
@@ -88,15 +144,17 @@ fn say_vars<E: Write>(errors: &mut Errors<E>, findings: &[Finding])
     ensures { GetsLines (vars_lines (kinds findings.now)) errors.old errors.new }
 {
     if has_vars(findings) {
-        errors.say("hint: vars: a text with ((..)) is taken as it stands; no variable is put in");
+        errors.say(
+            "hint: vars: no variable is put in, and a text with ((..)) stays as it stands: write its value in its place, and set it again, unless it is arithmetic of a shell",
+        );
     }
 }
 
-/// Writes that a pipeline is set, if it doesn't do what it seems to say.
+/// Writes that a pipeline is set, if something in it has to be corrected.
 fn say_set<E: Write>(errors: &mut Errors<E>, findings: &[Finding])
     ensures { GetsLines (set_lines (kinds findings.now)) errors.old errors.new }
 {
-    if !is_faultless(findings, false) {
+    if has_corrected(findings) {
         errors.say("hint: it is set all the same; correct what is named above, and set it again");
     }
 }
@@ -127,6 +185,7 @@ impl<'e, E: Write> Telling<'e, E> {
     {
         self.gates = Some(Snapshot::of(findings));
         say_findings(&mut self.errors, findings);
+        say_unused(&mut self.errors, findings);
         say_vars(&mut self.errors, findings);
         say_set(&mut self.errors, findings);
     }
@@ -138,7 +197,7 @@ impl<'e, E: Write> Telling<'e, E> {
         ensures wrote { GetsLines (unset_line path.now ∷ []) self.old.errors self.new.errors }
     {
         self.unset = Some(path);
-        self.errors.say(format_args!("hint: {path}: no pipeline is set in it; is --db right?"));
+        self.errors.say(unset_in(path));
     }
 
     /// Tells that a search would go over this budget.

@@ -1,6 +1,9 @@
 //! Of which lines it is told what to do.
-ghost use Rattle.std.specs.Prelude.{◌≡◌, option_map};
+ghost use Rattle.std.specs.Prelude.{◌≡◌, map, option_map, string_bytes};
 ghost use Rattle.ccr_run.specs.Topics.{topic_data};
+ghost use Rattle.ccr_run.specs.Topics as spec;
+
+use crate::typed::{has_option, has_word};
 
 /// What a check has to print.
 const LIST: &str =
@@ -8,7 +11,7 @@ const LIST: &str =
 
 /// What a get's or a put's program has to print.
 const REPLY: &str =
-    "a get's or put's program prints an object with its version, as {\"version\":{\"ref\":\"61cbef\"}}";
+    "a get's or put's program prints an object with its version on standard output, as {\"version\":{\"ref\":\"61cbef\"}}, and nothing else there";
 
 /// What a version has to be.
 const TEXTS: &str = "a version's values are texts: {\"number\":\"4\"}, not {\"number\":4}";
@@ -29,11 +32,15 @@ pub enum Topic {
     CheckFolder,
     /// A job's inputs find no versions, where that is no round: a round has checks before it.
     NoneSatisfies,
-    /// A build that was made is errored.
-    BuildErrored,
+    /// A clash has the demand that a version is allowed.
+    NoneAllowed,
+    /// A clash has the demand that a version has passed a job, and none that one is allowed.
+    NonePassed,
+    /// A resource is pinned.
+    Pinned,
     /// A build is to be aborted.
     AbortAsked,
-    /// An output, or a task's file, is no JSON.
+    /// An output is no JSON.
     StepNotJson,
     /// An output is no object.
     StepWrongKind,
@@ -41,9 +48,15 @@ pub enum Topic {
     StepNoVersion,
     /// An output's version has a number.
     StepNotText,
+    /// A task's file is no JSON.
+    FileNotJson,
+    /// A task's file can't be read.
+    FileUnread,
+    /// A task's file is no task.
+    NoTask,
     /// A program doesn't start.
     StepNotStarted,
-    /// A program ends with a status.
+    /// A task's program ends with a status, other than that of a limit.
     StepStatus,
     /// A step has no directory.
     StepFolder,
@@ -60,29 +73,46 @@ impl Topic {
             Topic::CheckNotText => ": refused: version not text\n",
             Topic::CheckFolder => ": refused: folder fault\n",
             Topic::NoneSatisfies => ": none satisfies\n",
-            Topic::BuildErrored => " errored\n",
+            Topic::NoneAllowed | Topic::NonePassed => "\nclash: ",
+            Topic::Pinned => "pinned ",
             Topic::AbortAsked => "abort asked: ",
-            Topic::StepNotJson => ": not JSON\n",
+            Topic::StepNotJson | Topic::FileNotJson => ": not JSON\n",
             Topic::StepWrongKind => ": wrong kind\n",
             Topic::StepNoVersion => ": missing version\n",
             Topic::StepNotText => ": version not text\n",
+            Topic::FileUnread => ": cannot read\n",
+            Topic::NoTask => " at task",
             Topic::StepNotStarted => ": not started: ",
             Topic::StepStatus => ": exit status ",
             Topic::StepFolder => ": folder fault\n",
         }
     }
 
-    /// Words of what is written before, or its own words.
-    pub fn cause(self) -> &'static str
-        ensures { result.now ≡ (topic_data self).cause }
+    /// Words that have to stand beside them.
+    pub fn beside(self) -> &'static str
+        ensures { result.now ≡ (topic_data self).beside }
     {
         match self {
-            Topic::BuildErrored => " made\n",
-            _ => self.words(),
+            Topic::NoneAllowed => " takes an allowed version",
+            Topic::NonePassed => " passed ",
+            Topic::FileNotJson | Topic::FileUnread | Topic::NoTask | Topic::StepStatus => ": task ",
+            _ => "",
         }
     }
 
-    /// Words behind which nothing is told of it, if there are any.
+    /// Words beside which nothing is told of it, if there are any.
+    pub fn but(self) -> Option<&'static str>
+        ensures { option_map (λ words. words.now) result ≡ (topic_data self).but }
+    {
+        match self {
+            Topic::NonePassed => Some(" takes an allowed version"),
+            Topic::StepNotJson => Some(": task "),
+            Topic::StepStatus => Some(": exit status 124\n"),
+            _ => None,
+        }
+    }
+
+    /// Words behind which nothing is told of it any more, if there are any.
     pub fn unless(self) -> Option<&'static str>
         ensures { option_map (λ words. words.now) result ≡ (topic_data self).unless }
     {
@@ -97,26 +127,42 @@ impl Topic {
         ensures { result.now ≡ (topic_data self).hint }
     {
         match self {
-            Topic::CheckNotJson => LIST,
-            Topic::CheckWrongKind => LIST,
-            Topic::CheckNotText => TEXTS,
-            Topic::CheckFolder => WORK,
+            Topic::CheckNotJson | Topic::CheckWrongKind => LIST,
+            Topic::CheckNotText | Topic::StepNotText => TEXTS,
+            Topic::CheckFolder | Topic::StepFolder => WORK,
             Topic::NoneSatisfies =>
-                "no versions are there that have passed the jobs before it and that the pins allow: explain JOB says more",
-            Topic::BuildErrored =>
-                "where nothing is told of a build that errored, a task of it has an input that no step before it gives",
+                "nothing is there that passed the jobs before it, and that no pin leaves out and nobody disabled: explain JOB says more, check-resource NAME looks for new versions",
+            Topic::NoneAllowed =>
+                "an allowed version is one that no pin leaves out and nobody disabled: resource-versions NAME shows what there is, check-resource NAME looks for more",
+            Topic::NonePassed =>
+                "no build of the job behind passed has moved this yet: explain that job, too. Where jobs wait for each other, ccr_run --db FILE get-pipeline > p.json; ccr_run validate-pipeline p.json names them",
+            Topic::Pinned =>
+                "jobs get no other version of it now, and none if no version has what the pin has: resource-versions NAME shows which there are, unpin-resource NAME takes it back",
             Topic::AbortAsked =>
-                "builds --job JOB shows whether it runs; a build that isn't there yet is aborted when it comes",
-            Topic::StepNotJson =>
-                "a get's or put's program prints its JSON, and nothing else, on standard output; a task's file is JSON, too (examples/operating/pipeline-json --task)",
-            Topic::StepWrongKind => REPLY,
-            Topic::StepNoVersion => REPLY,
-            Topic::StepNotText => TEXTS,
+                "builds --job JOB --look shows whether it is there and runs; if it isn't there yet, it is aborted when it comes. rmdir WORK/JOB/abort-N takes this back",
+            Topic::StepNotJson | Topic::StepWrongKind | Topic::StepNoVersion => REPLY,
+            Topic::FileNotJson =>
+                "a task's file is JSON: examples/operating/pipeline-json --task FILE makes it of YAML",
+            Topic::FileUnread =>
+                "a task's file is named by its path in the build's directory, as repo/unit.json, and is that of the version that the build got: is it in there?",
+            Topic::NoTask =>
+                "a task's file has what a task's config has, as {\"inputs\":[{\"name\":\"repo\"}],\"run\":{\"path\":\"make\",\"args\":[\"test\"]}}",
             Topic::StepNotStarted =>
                 "is it there, and executable, and is run.dir there? run.path is one program; its arguments belong into run.args",
             Topic::StepStatus =>
                 "what a program prints on standard output isn't shown; what it prints on standard error is (>&2)",
-            Topic::StepFolder => WORK,
+        }
+    }
+
+    /// Whether nothing is told of it, by the words that were typed.
+    pub fn is_silent(self, words: &[String]) -> bool
+        ensures { result ≡ spec.is_silent self (map string_bytes words.now) }
+    {
+        match self {
+            Topic::NoneAllowed | Topic::NonePassed => !has_word(words, "explain"),
+            Topic::Pinned => !has_word(words, "pin-resource"),
+            Topic::StepStatus => has_option(words, "--launcher"),
+            _ => has_word(words, "explain"),
         }
     }
 }
