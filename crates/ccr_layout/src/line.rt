@@ -1,6 +1,7 @@
 //! Lines from one column to the next.
 
 ghost use Rattle.std.specs.Prelude.{◌≡◌, ◌≤◌, length, IfOk};
+ghost use Rattle.ccr_layout.specs.Lines.{ends_at_box, lines_in};
 
 use crate::graph::{Edge, port_below};
 use crate::span::{Span, passes, span_at};
@@ -17,7 +18,9 @@ pub(crate) struct Line {
 }
 
 /// Whether a line ends at a box.
-pub(crate) fn ends(line: Line) -> bool {
+pub(crate) fn ends(line: Line) -> bool
+    ensures { result ≡ ends_at_box line }
+{
     line.from != line.to
 }
 
@@ -84,7 +87,9 @@ pub(crate) fn lines_of(
 }
 
 /// The lines that end in this column, none where there is no such column.
-pub(crate) fn ending(lines: &[Vec<Line>], column: usize) -> &[Line] {
+pub(crate) fn ending(lines: &[Vec<Line>], column: usize) -> &[Line]
+    ensures { result.now ≡ lines_in lines.now column }
+{
     match lines.get(column) {
         Some(lines) => lines.as_slice(),
         None => &[],

@@ -1,5 +1,8 @@
 //! Where nodes wish to be, so that their lines are level.
 
+ghost use Rattle.std.specs.Prelude.{◌≡◌, length, map, IfOk};
+ghost use Rattle.ccr_layout.specs.Wishes.{wish_in, inside};
+
 use crate::at::at;
 use crate::graph::MOST_NODES;
 use crate::line::{Line, ends};
@@ -10,7 +13,9 @@ use std::alloc::{AllocError, Global};
 const ABOVE: u32 = 1024;
 
 /// The wish of a node.
-pub(crate) fn wish_at(wishes: &[Option<u32>], node: usize) -> Option<u32> {
+pub(crate) fn wish_at(wishes: &[Option<u32>], node: usize) -> Option<u32>
+    ensures { result ≡ wish_in wishes.now node }
+{
     wishes.get(node).copied().flatten()
 }
 
@@ -20,7 +25,9 @@ pub(crate) fn wishes_left(
     alloc: Global,
     lines: &[Line],
     middles: &[u32],
-) -> Result<Vec<Option<u32>>, AllocError> {
+) -> Result<Vec<Option<u32>>, AllocError>
+    ensures { IfOk result (λ wishes. length wishes.items ≡ length middles.now) }
+{
     let mut all = vec![in alloc; Mean::EMPTY; middles.len()]?;
     let mut triggers = vec![in alloc; Mean::EMPTY; middles.len()]?;
     for line in lines {
@@ -42,16 +49,24 @@ pub(crate) fn wishes_left(
     Ok(wishes)
 }
 
+/// A wish, counted from the top of the picture.
+fn inside(wish: Option<u32>) -> Option<u32>
+    ensures { result ≡ inside wish }
+{
+    match wish {
+        Some(height) => Some(height.saturating_sub(ABOVE)),
+        None => None,
+    }
+}
+
 /// The same, counted from the top of the picture.
 pub(crate) fn in_picture(
     alloc: Global,
     wishes: &[Option<u32>],
-) -> Result<Vec<Option<u32>>, AllocError> {
-    let mut inside = Vec::new(alloc);
-    for wish in wishes {
-        inside.push(wish.map(|height| height.saturating_sub(ABOVE)))?;
-    }
-    Ok(inside)
+) -> Result<Vec<Option<u32>>, AllocError>
+    ensures { IfOk result (λ found. found.items ≡ map inside wishes.now) }
+{
+    wishes.iter().map(|wish| inside(*wish)).collect(alloc)
 }
 
 /// For each node the top at which its lines to the right are level; none where it has none, or where lines come from the left.
@@ -62,7 +77,9 @@ pub(crate) fn wishes_right(
     leaving: &[Line],
     tops: &[u32],
     heights: &[u32],
-) -> Result<Vec<Option<u32>>, AllocError> {
+) -> Result<Vec<Option<u32>>, AllocError>
+    ensures { IfOk result (λ wishes. length wishes.items ≡ length heights.now) }
+{
     let mut levels = vec![in alloc; Mean::EMPTY; heights.len()]?;
     for line in leaving {
         let level = at(tops, line.to).saturating_add(line.offset);
@@ -87,7 +104,9 @@ pub(crate) fn near(
     wishes: &[Option<u32>],
     leaving: &[Line],
     middles: &[u32],
-) -> Result<Vec<Option<u32>>, AllocError> {
+) -> Result<Vec<Option<u32>>, AllocError>
+    ensures { IfOk result (λ near. length near.items ≡ length middles.now) }
+{
     let mut heard = vec![in alloc; Mean::EMPTY; middles.len()]?;
     for line in leaving {
         if ends(*line) && wish_at(wishes, line.from).is_some() {
@@ -100,7 +119,9 @@ pub(crate) fn near(
             join_at(&mut near, line.from, mean_at(&heard, line.to));
         }
     }
-    means_of(alloc, &near)
+    let near = near.as_slice();
+    let found = means_of(alloc, near)?;
+    Ok(found)
 }
 
 /// For nodes of the first column the mean of the jobs in the next to which they lead, with steps of 64.
@@ -108,12 +129,16 @@ pub(crate) fn near_first(
     alloc: Global,
     leaving: &[Line],
     nodes: usize,
-) -> Result<Vec<Option<u32>>, AllocError> {
+) -> Result<Vec<Option<u32>>, AllocError>
+    ensures { IfOk result (λ near. length near.items ≡ nodes) }
+{
     let mut near = vec![in alloc; Mean::EMPTY; nodes]?;
     for line in leaving {
         if ends(*line) {
             add_at(&mut near, line.from, 64 * (line.to.min(MOST_NODES) as u32));
         }
     }
-    means_of(alloc, &near)
+    let near = near.as_slice();
+    let found = means_of(alloc, near)?;
+    Ok(found)
 }
