@@ -3,7 +3,7 @@ use Rattle.std.proofs.Common.{◌≡◌, ◌≢◌, ℕ, ◌+◌, ◌*◌, ◌<�
 use Rattle.std.specs.Prelude.{All, Contains}
 use Rattle.std.proofs.lemmas.Bool.{cases_eq, cases_lt}
 use Rattle.std.proofs.lemmas.List.{take_more, take_all, get_or-set_same, get_or-set_other, get_or_past}
-use Rattle.std.proofs.lemmas.List.Elements.{All-set, All-get_or, Contains-push_cases}
+use Rattle.std.proofs.lemmas.List.Elements.{All-set, Contains-push_cases}
 use Rattle.ccr_layout.specs.Places.{AreApart, ArePlaced}
 
 -- no number is greater, also past the end

@@ -1,5 +1,5 @@
 -- The mean of heights that are added one by one.
-use Rattle.std.specs.Prelude.{ℕ, ◌+◌, ◌-◌, ◌/◌, ◌^◌, List, min, ◌==◌, if◌then◌else◌, Option, Some, None, slice_index_or}
+use Rattle.std.specs.Prelude.{◌≡◌, ℕ, ◌+◌, ◌-◌, ◌/◌, ◌^◌, ◌<◌, List, length, fold, min, Bool, ◌&&◌, ◌==◌, if◌then◌else◌, Option, Some, None, slice_index_or}
 use Rattle.ccr_layout.specs.declared.mean.Mean.{Mean}
 
 -- Nothing was added.
@@ -21,3 +21,12 @@ mean_got m = if m.count == 0 then None else Some (min (m.sum / m.count) (2 ^ 32 
 -- What was added for a node.
 abbrev pub mean_in : List Mean → ℕ → Mean
 mean_in means k = slice_index_or means k nothing
+
+-- WHAT IS ADDED FOR A NODE by things, one after another: each of these adds a mean for the node to which it leads.
+abbrev pub added : {X : Type 0} → (X → Bool) → (X → ℕ) → (X → Mean) → ℕ → List X → Mean
+added is to of k xs = fold (λ m x. if is x && to x == k then joined m (of x) else m) nothing xs
+
+-- For each of so many nodes what things add.
+pub record AreAdded {X : Type 0} (is : X → Bool) (to : X → ℕ) (of : X → Mean) (xs : List X) (nodes : ℕ) (means : List Mean) : Type 0 where
+  pub long : length means ≡ nodes
+  pub each : (k : ℕ) → k < nodes → mean_in means k ≡ added is to of k xs

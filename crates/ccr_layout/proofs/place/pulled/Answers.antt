@@ -1,4 +1,4 @@
-use Rattle.std.proofs.Common.{◌≤◌, ◌∙◌, arith}
+use Rattle.std.proofs.Common.{◌∙◌, arith}
 use Rattle.ccr_layout.proofs.place.pulled.Goals as goal
 
 pub loop-node-preserved : goal.loop-node-preserved
