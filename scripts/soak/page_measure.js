@@ -36,6 +36,7 @@ for (const path of picture ? all("g path", picture) : []) {
 // ---- links
 for (const link of all("a")) {
     const to = link.getAttribute("href");
+    if (new URL(to, "https://ci.example/pages/page.html").origin != "https://ci.example") bad.push(`a link leads away: ${to}`);
     if (to[0] == "#" && !document.getElementById(to.slice(1))) bad.push(`a link leads nowhere: ${to}`);
 }
 const ids = all("[id]").map(e => e.id);

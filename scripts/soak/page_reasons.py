@@ -22,7 +22,9 @@ class Story:
         self.jobs = asked(db, "jobs")
         self.names = [it["name"] for it in self.jobs]
         self.explained = {name: asked(db, "explain", name) for name in self.names}
-        self.newest = {it["job_name"]: it for it in asked(db, "builds")}
+        builds = asked(db, "builds")
+        self.newest = {it["job_name"]: it for it in builds}
+        self.good = {it["job_name"]: it for it in builds if it["status"] == "succeeded"}
         self.counts = {it["name"]: it["version_count"] for it in asked(db, "resources")}
 
     # ---- what holds an input
@@ -71,7 +73,7 @@ class Story:
     def holds_words(self, inputs, told, by_itself):
         words = ""
         for k, (taken, newer, _, reason) in enumerate(told[:3]):
-            words += (("stays at ", "; at ") if by_itself else ("would take ", "; "))[k > 0]
+            words += (("stays at ", "; at ") if by_itself else ("is built by command only; the next build would take ", "; "))[k > 0]
             words += f"{cut(taken['resource'], 40)} " if len(inputs) > 1 else ""
             words += f"{few(taken['version'])}: {reason}"
         return words + (f"; and {len(told) - 3} more" if len(told) > 3 else "")
@@ -135,6 +137,19 @@ class Story:
                 if stop and stop[1] and stop[2] != "runs" and stop[0] in get["passed"]:
                     found.add((at, port, self.names.index(stop[0])))
         return found
+
+    def about(self, name):
+        """How the row of a job begins: its newest build, and the newest that succeeded with the versions that it took."""
+        build, good = self.newest.get(name), self.good.get(name)
+        if not build:
+            return "no builds; "
+        words = f"{build['name']} {build['status']}"
+        if not good:
+            return words + ", none succeeded; "
+        words += "" if good is build else f", {good['name']} succeeded"
+        took = asked(self.db, "build", name, good["name"])["inputs"]
+        versions = ", ".join((f"{cut(it['name'], 40)} " if len(took) > 1 else "") + few(it["version"]) for it in took)
+        return shown(words + (f" with {versions}" if took else "") + "; ")
 
     def all(self):
         """The same of each job by its position, where something is said, as a reader gets it."""

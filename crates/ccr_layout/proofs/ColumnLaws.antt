@@ -1,9 +1,9 @@
 -- One more edge that says where a resource stands.
-use Rattle.std.proofs.Common.{◌≡◌, ◌≢◌, ℕ, ◌+◌, ◌<◌, ◌≤◌, ◌⊎◌, List, [], ◌∷◌, ◌++◌, Option, Some, None, length, get_or, set, slice_index, min, max, inl, inr, refl, sym, ap, ◌∙◌, subst, arith, length-set, replicate, false}
+use Rattle.std.proofs.Common.{◌≡◌, ℕ, ◌+◌, ◌<◌, ◌≤◌, List, [], ◌∷◌, ◌++◌, Option, Some, None, length, get_or, set, slice_index, min, max, inl, inr, sym, ap, ◌∙◌, subst, arith, length-set, replicate}
 use Rattle.std.specs.Prelude.{All, unwrap_or}
 use Rattle.std.proofs.lemmas.Bool.{cases_lt, cases_eq}
 use Rattle.std.proofs.lemmas.Option.{same_Some, none-some}
-use Rattle.std.proofs.lemmas.List.{get_or-set_same, get_or-set_other, get_or_default, get_or-replicate, get_or_past, length-replicate, length_push, set_past}
+use Rattle.std.proofs.lemmas.List.{get_or-set_same, get_or-set_other, get_or-replicate, get_or_past, length-replicate, length_push, set_past}
 use Rattle.std.proofs.lemmas.List.Elements.{All-set, All-replicate, All-push}
 use Rattle.ccr_layout.specs.declared.graph.Kind.{Kind}
 use Rattle.ccr_layout.specs.declared.graph.Kind.TheVariants.{Resource, Job}
@@ -36,6 +36,7 @@ gotten_none nodes edges layers = record {
   long = length-replicate (length nodes) None;
   least = λ k less job within. absurd (omega (arith, less));
   only = λ r c is. absurd (none-some c (sym (none_read (length nodes) r) ∙ is));
+  few = λ n r c low is. absurd (none-some c (sym (none_read (length nodes) r) ∙ is));
 }
 
 module _ (nodes : List Node) (edges : List Edge) (layers : List ℕ) (gotten : List (Option ℕ)) (i : ℕ) (is : AreGotten nodes edges layers i gotten) (within : i < length edges) where
@@ -49,6 +50,7 @@ module _ (nodes : List Node) (edges : List Edge) (layers : List ℕ) (gotten : L
           absurd (not_both (kind_in nodes (edge_in edges i).target) resource (subst P f job)))
     ];
     only = is.only;
+    few = is.few;
   }
 
   module _ (job : IsJob (kind_in nodes (edge_in edges i).target)) where
@@ -83,9 +85,22 @@ module _ (nodes : List Node) (edges : List Edge) (layers : List ℕ) (gotten : L
           | inr other ↦ is.only r c (sym (get_or-set_other gotten (edge_in edges i).source r (Some noted) None other) ∙ at)
         ]
 
+    few' : (n r c : ℕ) → All (λ l. l ≤ n) layers → get_or (set gotten (edge_in edges i).source (Some noted)) r None ≡ Some c → c ≤ n
+    few' n r c low at =
+        elim (cases_eq r (edge_in edges i).source) [
+          | inl same ↦ elim (cases_lt (edge_in edges i).source (length gotten)) [
+            | inl inside ↦ (let h = get_or-set_same gotten (edge_in edges i).source (Some noted) None inside in
+                let f = ap (λ k. get_or (set gotten (edge_in edges i).source (Some noted)) k None) same in
+                let e : noted ≡ c = same_Some noted c (sym h ∙ sym f ∙ at) in
+                omega (arith, e, low_at n layers (edge_in edges i).target low))
+            | inr past ↦ is.few n r c low (sym (ap (λ xs. get_or xs r None) (set_past gotten (edge_in edges i).source (Some noted) past)) ∙ at)
+          ]
+          | inr other ↦ is.few n r c low (sym (get_or-set_other gotten (edge_in edges i).source r (Some noted) None other) ∙ at)
+        ]
+
     pub gotten_more : AreGotten nodes edges layers (i + 1)
         (set gotten (edge_in edges i).source (Some (min (unwrap_or (get_or gotten (edge_in edges i).source None) (slice_index layers (edge_in edges i).target)) (slice_index layers (edge_in edges i).target))))
-    gotten_more = record { long = length-set gotten (edge_in edges i).source (Some noted) ∙ is.long; least = least'; only = only' }
+    gotten_more = record { long = length-set gotten (edge_in edges i).source (Some noted) ∙ is.long; least = least'; only = only'; few = few' }
 
 -- ---- what is put
 pub put_none : (nodes : List Node) (edges : List Edge) (layers : List ℕ) → ArePut nodes edges layers 0 (replicate (length nodes) 0)
@@ -93,6 +108,7 @@ put_none nodes edges layers = record {
   long = length-replicate (length nodes) 0;
   greatest = λ k less resource within. absurd (omega (arith, less));
   low = All-replicate (λ c. c ≤ 402) (length nodes) 0 (omega arith);
+  few = λ n low. All-replicate (λ c. c ≤ n + 2) (length nodes) 0 (omega arith);
 }
 
 module _ (nodes : List Node) (edges : List Edge) (layers put : List ℕ) (i : ℕ) (is : ArePut nodes edges layers i put) where
@@ -106,6 +122,7 @@ module _ (nodes : List Node) (edges : List Edge) (layers put : List ℕ) (i : �
           absurd (not_both (kind_in nodes (edge_in edges i).target) (subst P f resource) job))
     ];
     low = is.low;
+    few = is.few;
   }
 
   abbrev column : ℕ
@@ -147,20 +164,24 @@ module _ (nodes : List Node) (edges : List Edge) (layers put : List ℕ) (i : �
     low = (let a = low_at 400 layers (edge_in edges i).source low in
         let b = low_at 402 put (edge_in edges i).target is.low in
         All-set (λ c. c ≤ 402) put (edge_in edges i).target (max (slice_index put (edge_in edges i).target) column) (omega (arith, a, b)) is.low);
+    few = λ n all. (let a = low_at n layers (edge_in edges i).source all in
+        let b = low_at (n + 2) put (edge_in edges i).target (is.few n all) in
+        All-set (λ c. c ≤ n + 2) put (edge_in edges i).target (max (slice_index put (edge_in edges i).target) column) (omega (arith, a, b)) (is.few n all));
   }
 
 -- ---- where nodes stand
 pub stood_more : (nodes : List Node) (layers : List ℕ) (gotten : List (Option ℕ)) (put columns columns' : List ℕ) (n column : ℕ) → AreStood nodes layers gotten put columns n
-    → column ≤ 402
+    → column ≤ 402 → ((m : ℕ) → All (λ l. l ≤ m) layers → column ≤ m + 2)
     → (IsJob (kind_in nodes n) → column ≡ slice_index layers n + 1)
     → (IsResource (kind_in nodes n) → (c : ℕ) → get_or gotten n None ≡ Some c → column ≤ c)
     → (IsResource (kind_in nodes n) → get_or gotten n None ≡ None → column ≡ slice_index put n)
     → columns' ≡ columns ++ column ∷ [] → AreStood nodes layers gotten put columns' (n + 1)
-stood_more nodes layers gotten put columns columns' n column is low job get puts grown =
+stood_more nodes layers gotten put columns columns' n column is low few job get puts grown =
     let P : List ℕ → Type 0 = λ xs. AreStood nodes layers gotten put xs (n + 1) in
     subst P (sym grown) (record {
       long = length_push columns column ∙ ap (λ m. m + 1) is.long;
       low = All-push (λ c. c ≤ 402) columns column is.low low;
+      few = λ m all. All-push (λ c. c ≤ m + 2) columns column (is.few m all) (few m all);
       jobs = push_more (λ k y. IsJob (kind_in nodes k) → y ≡ slice_index layers k + 1) columns column 0 n is.long is.jobs job;
       gets = push_more (λ k y. IsResource (kind_in nodes k) → (c : ℕ) → get_or gotten k None ≡ Some c → y ≤ c) columns column 0 n is.long is.gets get;
       puts = push_more (λ k y. IsResource (kind_in nodes k) → get_or gotten k None ≡ None → y ≡ slice_index put k) columns column 0 n is.long is.puts puts;

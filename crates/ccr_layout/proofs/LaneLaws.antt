@@ -1,12 +1,12 @@
 -- One more lane.
-use Rattle.std.proofs.Common.{◌≡◌, ◌≢◌, ℕ, ◌+◌, ◌*◌, ◌<◌, ◌≤◌, ◌⊎◌, Bool, true, false, List, [], ◌∷◌, ◌++◌, length, get_or, set, slice_index, replicate, inl, inr, refl, sym, ap, ◌∙◌, subst, arith, length-set}
+use Rattle.std.proofs.Common.{◌≡◌, ℕ, ◌+◌, ◌<◌, ◌≤◌, Bool, true, false, List, [], ◌∷◌, ◌++◌, length, get_or, set, slice_index, replicate, inl, inr, refl, sym, ap, ◌∙◌, subst, arith, length-set}
 use Rattle.std.proofs.lemmas.Bool.{cases_lt, cases_eq, false≢true}
 use Rattle.std.proofs.lemmas.List.{get_or-set_same, get_or-set_other, get_or_append_left, get_or_push, length_push, length-replicate}
 use Rattle.ccr_layout.specs.declared.graph.Edge.{Edge}
 use Rattle.ccr_layout.specs.declared.span.Span.{Span}
 use Rattle.ccr_layout.specs.Spans.{span_in}
 use Rattle.ccr_layout.specs.Passed.{edge_in}
-use Rattle.ccr_layout.specs.Lanes.{IsBackward, AreMarked, AreLanesApart, AreLanes}
+use Rattle.ccr_layout.specs.Lanes.{IsBackward, AreMarked, AreLanes}
 
 -- ---- marks
 pub marked_none : (spans : List Span) (edges : List Edge) → AreMarked spans edges 0 (replicate (length spans) false)

@@ -10,3 +10,5 @@ pub mod LeadLaws
 pub mod TabLaws
 pub mod LaneLaws
 pub mod RoomLaws
+pub mod SizeLaws
+pub mod MeanLaws

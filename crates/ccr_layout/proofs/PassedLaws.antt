@@ -1,16 +1,20 @@
 -- Edges from job to job lead to later columns, where there is no cycle.
-use Rattle.std.proofs.Common.{◌≡◌, ◌≢◌, ℕ, zero, suc, ◌+◌, ◌<◌, ◌≤◌, ◌⊎◌, false, Option, Some, None, List, [], ◌∷◌, ◌++◌, length, map, get_or, set, slice_index, inl, inr, refl, sym, ap, ◌∙◌, subst, arith}
+use Rattle.std.proofs.Common.{◌≡◌, ◌≢◌, ℕ, zero, suc, ◌+◌, ◌<◌, ◌≤◌, ◌⊎◌, Bool, true, false, not, cond, eqb, Option, Some, None, List, [], ◌∷◌, ◌++◌, length, map, get_or, set, slice_index, inl, inr, refl, sym, ap, ◌∙◌, subst, arith}
 use Rattle.std.specs.Prelude.{Contains}
 use Rattle.std.specs.declared.vec.Vec.{Vec}
-use Rattle.std.proofs.lemmas.Bool.{cases_lt, cases_eq}
+use Rattle.std.proofs.lemmas.Bool.{cases_lt, cases_eq, false≢true}
 use Rattle.std.proofs.lemmas.List.{get_or-map, map-set, get_or-set_same, get_or-set_other, length-map}
+use Rattle.std.proofs.lemmas.List.Sums.{sum_by-cons}
 use Rattle.std.proofs.lemmas.List.Elements.{Contains-append_left, Contains-push, Contains-push_cases}
 use Rattle.ccr_layout.specs.declared.graph.Node.{Node}
 use Rattle.ccr_layout.specs.declared.graph.Edge.{Edge}
-use Rattle.ccr_layout.specs.Nodes.{IsJob, IsResource}
-use Rattle.ccr_layout.specs.Layers.{named_in, LeadsBack, IsNamedBack, AreLayers}
+use Rattle.ccr_layout.specs.declared.graph.Kind.{Kind}
+use Rattle.ccr_layout.specs.declared.graph.Kind.TheVariants.{Resource, Job}
+use Rattle.ccr_layout.specs.Nodes.{IsJob, IsResource, is_job, job_count}
+use Rattle.ccr_layout.specs.Layers.{named_in, naming, LeadsBack, AreLayers}
 use Rattle.ccr_layout.specs.Columns.{AreGotten, ArePut, AreStood}
 use Rattle.ccr_layout.specs.Passed.{kind_in, edge_in, IsPassed, Follows, IsOnCycle, IsGotten, IsWithin, LeadOn, AreNamed}
+use Rattle.ccr_layout.proofs.LayerLaws.{cond_one, naming_cons}
 
 abbrev no_edge : Edge
 no_edge = record { source = 0; target = 0; port = 0; trigger = false }
@@ -85,6 +89,38 @@ module _ {A : Type 0} (nodes : List Node) (edges : List Edge) (i : ℕ) (named :
                 ])
             | inr other ↦ is.only t s (subst P (others t other) has)
           ]
+
+-- only jobs name others, so no more do than there are jobs
+pub naming_few : {A : Type 0} (nodes : List Node) (edges : List Edge) (count : ℕ) (named : List (Vec ℕ A)) → AreNamed nodes edges count named → naming named ≤ job_count nodes
+naming_few nodes edges count named are = naming_jobs nodes named are.long (λ t s has. let o = are.only t s has in let P : ℕ → Type 0 = λ n. IsJob (kind_in nodes n) in subst P o.1.3 o.1.1.1)
+  where
+    job_true : (k : Kind) → IsJob k → is_job k ≡ true
+    job_true Resource job = absurd job
+    job_true Job job = refl
+
+    both : (p q : Bool) (m n : ℕ) → (p ≡ true → q ≡ true) → m ≤ n → cond p (1 + m) m ≤ cond q (1 + n) n
+    both true true m n h less = omega (arith, less)
+    both true false m n h less = absurd (false≢true (h refl))
+    both false true m n h less = omega (arith, less)
+    both false false m n h less = less
+
+    some : (xs : List ℕ) → not (eqb (length xs) 0) ≡ true → (s : ℕ) × Contains xs s
+    some [] h = absurd (false≢true h)
+    some (x ∷ xs) h = (x, (0, omega arith, refl))
+
+    jobs_cons : (n : Node) (ns : List Node) → job_count (n ∷ ns) ≡ cond (is_job n.kind) (1 + job_count ns) (job_count ns)
+    jobs_cons n ns = sum_by-cons (λ x. cond (is_job x.kind) 1 0) n ns ∙ cond_one (is_job n.kind) (job_count ns)
+
+    naming_jobs : {A : Type 0} (nodes : List Node) (named : List (Vec ℕ A)) → length named ≡ length nodes
+        → ((t s : ℕ) → Contains (named_in named t) s → IsJob (kind_in nodes t)) → naming named ≤ job_count nodes
+    naming_jobs [] [] long jobs = omega arith
+    naming_jobs [] (v ∷ vs) long jobs = absurd (omega (arith, long))
+    naming_jobs (n ∷ ns) [] long jobs = omega arith
+    naming_jobs (n ∷ ns) (v ∷ vs) long jobs =
+        let P : ℕ → Type 0 = λ m. m ≤ job_count (n ∷ ns) in
+        let Q : ℕ → Type 0 = λ m. cond (not (eqb (length v.items) 0)) (1 + naming vs) (naming vs) ≤ m in
+        subst P (sym (naming_cons v vs)) (subst Q (sym (jobs_cons n ns)) (both (not (eqb (length v.items) 0)) (is_job n.kind) (naming vs) (job_count ns) (λ h. let s = some v.items h in job_true n.kind (jobs 0 s.0 s.1))
+        (naming_jobs ns vs (omega (arith, long)) (λ t s has. jobs (suc t) s has))))
 
 -- what is named after a list was set
 pub named_set : {A : Type 0} (named : List (Vec ℕ A)) (i : ℕ) (v : Vec ℕ A) → i < length named → named_in (set named i v) i ≡ v.items

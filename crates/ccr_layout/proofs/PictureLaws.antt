@@ -3,9 +3,9 @@ use Rattle.std.proofs.Common.{◌≡◌, ◌≢◌, ℕ, zero, suc, true, false,
 use Rattle.std.specs.Prelude.{All, Contains, is_some}
 use Rattle.std.specs.declared.vec.Vec.{Vec}
 use Rattle.std.proofs.lemmas.Option.{none-some, same_Some}
-use Rattle.std.proofs.lemmas.Bool.{false≢true, cases_lt, cases_eq, cond-true, cond-false, eq-eqb, ne_eqb}
-use Rattle.std.proofs.lemmas.List.{get_or-map, get_or_default, get_or_past, length-map}
-use Rattle.std.proofs.lemmas.List.Elements.{All-contains, All-nil, All-from_get_or, Contains-get_or}
+use Rattle.std.proofs.lemmas.Bool.{false≢true, cases_lt, cond-true, cond-false, eq-eqb, ne_eqb}
+use Rattle.std.proofs.lemmas.List.{get_or-map, get_or_past, length-map}
+use Rattle.std.proofs.lemmas.List.Elements.{All-weaker, All-contains, All-nil, All-from_get_or, Contains-get_or}
 use Rattle.ccr_layout.specs.declared.graph.Node.{Node}
 use Rattle.ccr_layout.specs.declared.graph.Edge.{Edge}
 use Rattle.ccr_layout.specs.declared.span.Span.{Span}
@@ -19,17 +19,17 @@ use Rattle.ccr_layout.specs.declared.picture.Path.TheVariants.{Forward, Back}
 use Rattle.ccr_layout.specs.declared.picture.Picture.{Picture}
 use Rattle.ccr_layout.specs.declared.graph.Kind.{Kind}
 use Rattle.ccr_layout.specs.declared.graph.Kind.TheVariants.{Resource, Job}
-use Rattle.ccr_layout.specs.Nodes.{IsJob, height_of, first_port_of}
+use Rattle.ccr_layout.specs.Nodes.{IsJob, height_of, first_port_of, job_count}
 use Rattle.ccr_layout.specs.Passed.{kind_in, edge_in, IsWithin}
-use Rattle.ccr_layout.specs.Spans.{Passes, IsIn, height_in, span_in, IsSpanOf, AreSpans}
-use Rattle.ccr_layout.specs.Places.{AreApart, IsColumn}
+use Rattle.ccr_layout.specs.Spans.{Passes, IsIn, height_in, span_in, AreSpans}
 use Rattle.ccr_layout.specs.Standing.{tops_in, AreColumns, IsStanding}
 use Rattle.ccr_layout.specs.Bands.{band_in, AreBands, AreRoomy}
 use Rattle.ccr_layout.specs.Lanes.{IsBackward, AreMarked, AreLanes}
 use Rattle.ccr_layout.specs.Ends.{tab_in}
 use Rattle.ccr_layout.specs.Drawing.{right_end, box_of, bend_of, end_of, tab_of, HasTabs, slot_of, HasSlots, IsPathOf}
-use Rattle.ccr_layout.specs.Pictures.{box_in, IsAbove, AreBoxes, IsTab, AreTabs, lane_of, lane_at, AreLow, IsFramed, Leaves, AreSlots, Arrives, IsPath, ArePaths, IsPicture}
+use Rattle.ccr_layout.specs.Pictures.{box_in, IsAbove, AreBoxes, IsTab, AreTabs, lane_of, lane_at, AreLow, IsFramed, Leaves, AreSlots, Arrives, IsPath, ArePaths, IsBounded, IsPicture}
 use Rattle.ccr_layout.proofs.LeadLaws.{lead_same}
+use Rattle.ccr_layout.proofs.SizeLaws.{slots_few}
 
 abbrev no_span : Span
 no_span = record { column = 0; reach = 0; height = 0; first_port = 0 }
@@ -174,6 +174,23 @@ module _ {A : Type 0} (nodes : List Node) (edges : List Edge) (spans : List Span
     down = down_boxes standing;
   }
 
+  -- ---- how much there is
+  few_columns : All (λ s. s.column < job_count nodes + 3) spans
+  few_columns = All-weaker (λ s. s.column ≤ job_count nodes + 2) (λ s. s.column < job_count nodes + 3) (λ s h. omega (arith, h)) spans are_spans.few
+
+  slots_within : All (λ s. (s.node < length nodes) × (s.column < job_count nodes + 3)) slots
+  slots_within =
+      All-weaker (λ s. (s ≡ slot_of spans bands tops s.node s.column) × Passes (span_in spans s.node) s.column × (s.node < length spans))
+      (λ s. (s.node < length nodes) × (s.column < job_count nodes + 3))
+      (λ s h. (omega (arith, h.2, are_spans.long), omega (arith, h.1.1, are_spans.bound (job_count nodes + 3) few_columns s.node h.2))) slots has.each
+
+  pub size_is : IsBounded nodes boxes slots
+  size_is = record {
+    columns = λ k within. omega (arith, column_is k within, few_columns k no_span (omega (arith, within, many)));
+    slot_columns = λ s inside. (All-contains (λ s. (s.node < length nodes) × (s.column < job_count nodes + 3)) slots s slots_within inside).1;
+    slot_count = slots_few slots (length nodes) (job_count nodes + 3) has.order slots_within;
+  }
+
   -- ---- slots
   slot_is : (s : Slot) → Contains slots s → (s ≡ slot_of spans bands tops s.node s.column) × Passes (span_in spans s.node) s.column × (s.node < length spans)
   slot_is s inside = All-contains (λ s. (s ≡ slot_of spans bands tops s.node s.column) × Passes (span_in spans s.node) s.column × (s.node < length spans)) slots s has.each inside
@@ -251,7 +268,7 @@ module _ {A : Type 0} (nodes : List Node) (edges : List Edge) (spans : List Span
       omega (arith, is.1.1, are_spans.bound columns past s.node is.2)
 
   pub slots_are : AreSlots boxes slots
-  slots_are = record { joined = joined'; later = later'; clear = clear'; apart = apart_slots in_columns }
+  slots_are = record { within = λ s inside. omega (arith, (slot_is s inside).2, many); order = has.order; joined = joined'; later = later'; clear = clear'; apart = apart_slots in_columns }
 
   -- ---- paths
   arrives : (e : Edge) → e.target < length nodes → Arrives nodes boxes e (bend_of spans bands tops e) (end_of nodes spans bands e)
@@ -445,6 +462,7 @@ picture_all nodes edges spans bands tops columns lanes p are_spans past are_colu
   slots_are = slots_are nodes edges spans bands tops columns p.boxes.items p.slots.items are_spans past are_columns are_bands many each has;
   paths_are = paths_are nodes edges spans bands tops columns p.boxes.items p.slots.items are_spans past are_columns are_bands many each has lanes p.paths.items once is;
   lanes_are = lanes_are nodes edges spans bands tops columns p.boxes.items p.slots.items are_spans past are_columns are_bands many each has lanes p.paths.items once is marks bottom next p.height marked are boxes_low slots_low;
+  size_is = size_is nodes edges spans bands tops columns p.boxes.items p.slots.items are_spans past are_columns are_bands many each has;
   frame_is = framed nodes edges spans bands tops columns p.boxes.items p.slots.items are_spans past are_columns are_bands many each has bottom p.height p.width boxes_low slots_low are.above wide;
 }
 

@@ -1,9 +1,9 @@
 -- One more node below those that are placed.
-use Rattle.std.proofs.Common.{◌≡◌, ◌≢◌, ℕ, ◌+◌, ◌*◌, ◌<◌, ◌≤◌, ◌⊎◌, List, [], ◌∷◌, ◌++◌, length, get_or, set, take, inl, inr, sym, ap, ◌∙◌, subst, arith, length-set, slice_index}
+use Rattle.std.proofs.Common.{◌≡◌, ◌≢◌, ℕ, ◌+◌, ◌*◌, ◌<◌, ◌≤◌, ◌⊎◌, List, [], ◌∷◌, ◌++◌, length, get_or, set, take, inl, inr, sym, ap, ◌∙◌, subst, arith, length-set, slice_index, max}
 use Rattle.std.specs.Prelude.{All, Contains}
 use Rattle.std.proofs.lemmas.Bool.{cases_eq, cases_lt}
 use Rattle.std.proofs.lemmas.List.{take_more, take_all, get_or-set_same, get_or-set_other, get_or_past}
-use Rattle.std.proofs.lemmas.List.Elements.{All-set, All-get_or, Contains-push_cases}
+use Rattle.std.proofs.lemmas.List.Elements.{All-set, Contains-push_cases}
 use Rattle.ccr_layout.specs.Places.{AreApart, ArePlaced}
 
 -- no number is greater, also past the end
@@ -97,3 +97,15 @@ placed_all order heights tops i free past is =
       low = is.low;
       apart = λ a b la lb ha hb differ. is.apart a b la lb (subst (P a) (sym whole) ha) (subst (P b) (sym whole) hb) differ;
     }
+
+-- where one number is made no less, none is
+pub set_no_less : (ps : List ℕ) (x low k : ℕ) → slice_index ps k ≤ slice_index (set ps x (max (slice_index ps x) low)) k
+set_no_less ps x low k =
+    let v = max (slice_index ps x) low in
+    elim (cases_eq k x) [
+      | inl same ↦ elim (cases_lt x (length ps)) [
+        | inl within ↦ (let e : slice_index (set ps x v) k ≡ v = ap (λ i. slice_index (set ps x v) i) same ∙ get_or-set_same ps x v 0 within in let h = ap (slice_index ps) same in omega (arith, e, h))
+        | inr past ↦ (let z : slice_index ps k ≡ 0 = get_or_past ps k 0 (omega (arith, past, same)) in omega (arith, z))
+      ]
+      | inr other ↦ (let e = get_or-set_other ps x k v 0 other in omega (arith, e))
+    ]

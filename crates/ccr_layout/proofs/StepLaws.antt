@@ -1,10 +1,11 @@
 -- One more step of the loops that make spans, columns, boxes, slots and paths.
-use Rattle.std.proofs.Common.{◌≡◌, ◌≢◌, ℕ, zero, suc, ◌+◌, ◌*◌, ◌<◌, ◌≤◌, ◌⊎◌, ◌↔◌, Bool, true, false, List, [], ◌∷◌, ◌++◌, length, map, max, get_or, set, slice_index, slice_index_or, inl, inr, refl, sym, ap, ◌∙◌, subst, arith, length-set, ◌-◌, nat_eq, IsTrue}
+use Rattle.std.proofs.Common.{◌≡◌, ℕ, ◌+◌, ◌<◌, ◌≤◌, ◌⊎◌, ◌↔◌, Bool, true, false, List, [], ◌∷◌, ◌++◌, length, map, max, get_or, set, slice_index, slice_index_or, inl, inr, refl, sym, ap, ◌∙◌, subst, arith, length-set, ◌-◌, nat_eq, IsTrue}
 use Rattle.std.specs.Prelude.{All, Contains}
 use Rattle.std.specs.declared.vec.Vec.{Vec}
 use Rattle.std.proofs.lemmas.Bool.{cases_lt, cases_eq, cases_Bool, cond-true, cond-false, false≢true}
 use Rattle.std.proofs.lemmas.List.{get_or-set_same, get_or-set_other, get_or_append_left, get_or_push, get_or_default, length_push, length-map, map_push, set_past}
-use Rattle.std.proofs.lemmas.List.Elements.{All-set, All-push, All-weaker, All-same, All-map, Contains-append_left, Contains-push}
+use Rattle.std.proofs.lemmas.List.Elements.{All-set, All-push, All-weaker, All-same, All-map, All-get_or, Contains-append_left, Contains-push}
+use Rattle.std.proofs.lemmas.List.Quantifiers.{all_pairs_push}
 use Rattle.ccr_layout.specs.declared.graph.Node.{Node}
 use Rattle.ccr_layout.specs.declared.graph.Edge.{Edge}
 use Rattle.ccr_layout.specs.declared.span.Span.{Span}
@@ -12,6 +13,7 @@ use Rattle.ccr_layout.specs.declared.band.Band.{Band}
 use Rattle.ccr_layout.specs.declared.picture.Point.{Point}
 use Rattle.ccr_layout.specs.declared.picture.Slot.{Slot}
 use Rattle.ccr_layout.specs.declared.picture.Path.{Path}
+use Rattle.ccr_layout.specs.Nodes.{job_count}
 use Rattle.ccr_layout.specs.Spans.{Passes, IsIn, height_in, span_in, IsSpanOf, AreSpans}
 use Rattle.ccr_layout.specs.Reaches.{AreReaches}
 use Rattle.ccr_layout.specs.Places.{ArePlaced, IsColumn}
@@ -114,42 +116,50 @@ columns_more {A} spans c tops v are is = record {
         subst Q (sym (map_push (λ v. v.items) tops v)) (push_more P (map (λ v. v.items) tops) v.items [] c long are.each is k less)
 
 -- ---- slots
+-- a slot before a column lies before a later one, and before the next node's
+slot_weaker : (node column to : ℕ) → column ≤ to → (s : Slot) → (s.node < node) ⊎ ((s.node ≡ node) × (s.column < column)) → (s.node < node) ⊎ ((s.node ≡ node) × (s.column < to))
+slot_weaker node column to from s (inl less) = inl less
+slot_weaker node column to from s (inr same) = inr (same.0, omega (arith, same.1, from))
+
+slot_passed : (node column : ℕ) (s : Slot) → (s.node < node) ⊎ ((s.node ≡ node) × (s.column < column)) → (s.node < node + 1) ⊎ ((s.node ≡ node + 1) × (s.column < 0))
+slot_passed node column s (inl less) = inl (omega (arith, less))
+slot_passed node column s (inr same) = inl (omega (arith, same.0))
+
 module _ {A : Type 0} (spans : List Span) (bands : List Band) (tops : List (Vec ℕ A)) (node column : ℕ) (slots : List Slot) (has : HasSlots spans bands tops node column slots) where
   pub slots_more : node < length spans → Passes (span_in spans node) column → HasSlots spans bands tops node (column + 1) (slots ++ slot_of spans bands tops node column ∷ [])
-  slots_more within passes = record {
-    each = All-push (λ s. (s ≡ slot_of spans bands tops s.node s.column) × Passes (span_in spans s.node) s.column × (s.node < length spans)) slots (slot_of spans bands tops node column) has.each (refl, passes, within);
-    before = λ k c less p. Contains-append_left slots (slot_of spans bands tops node column ∷ []) (slot_of spans bands tops k c) (has.before k c less p);
-    here = λ c less p. elim (cases_lt c column) [
-      | inl inside ↦ Contains-append_left slots (slot_of spans bands tops node column ∷ []) (slot_of spans bands tops node c) (has.here c inside p)
-      | inr past ↦ (let e : column ≡ c = omega (arith, past, less) in
-          let P : ℕ → Type 0 = λ n. Contains (slots ++ slot_of spans bands tops node column ∷ []) (slot_of spans bands tops node n) in
-          subst P e (Contains-push slots (slot_of spans bands tops node column)))
-    ];
-  }
+  slots_more within passes =
+      let new : Slot = slot_of spans bands tops node column in
+      let R : Slot → Slot → Type 0 = λ s t. (s.node < t.node) ⊎ ((s.node ≡ t.node) × (s.column < t.column)) in
+      let E : Slot → Type 0 = λ s. (s.node < node) ⊎ ((s.node ≡ node) × (s.column < column)) in
+      let F : Slot → Type 0 = λ s. (s.node < node) ⊎ ((s.node ≡ node) × (s.column < column + 1)) in
+      record {
+        each = All-push (λ s. (s ≡ slot_of spans bands tops s.node s.column) × Passes (span_in spans s.node) s.column × (s.node < length spans)) slots (slot_of spans bands tops node column) has.each (refl, passes, within);
+        early = All-push F slots new (All-weaker E F (λ s e. slot_weaker node column (column + 1) (omega arith) s e) slots has.early) (inr (refl, omega arith));
+        order = all_pairs_push R slots new has.order (λ k d less. All-get_or E slots k d less has.early);
+        before = λ k c less p. Contains-append_left slots (slot_of spans bands tops node column ∷ []) (slot_of spans bands tops k c) (has.before k c less p);
+        here = λ c less p. elim (cases_lt c column) [
+          | inl inside ↦ Contains-append_left slots (slot_of spans bands tops node column ∷ []) (slot_of spans bands tops node c) (has.here c inside p)
+          | inr past ↦ (let e : column ≡ c = omega (arith, past, less) in
+              let P : ℕ → Type 0 = λ n. Contains (slots ++ slot_of spans bands tops node column ∷ []) (slot_of spans bands tops node n) in
+              subst P e (Contains-push slots (slot_of spans bands tops node column)))
+        ];
+      }
 
   -- no line passes the column of its own box, or one before it
-  pub slots_first : (to : ℕ) → to ≤ (span_in spans node).column + 1 → HasSlots spans bands tops node to slots
-  slots_first to low = record {
+  pub slots_first : (to : ℕ) → column ≤ to → to ≤ (span_in spans node).column + 1 → HasSlots spans bands tops node to slots
+  slots_first to from low = record {
     each = has.each;
+    early = All-weaker (λ s. (s.node < node) ⊎ ((s.node ≡ node) × (s.column < column))) (λ s. (s.node < node) ⊎ ((s.node ≡ node) × (s.column < to))) (λ s e. slot_weaker node column to from s e) slots has.early;
+    order = has.order;
     before = has.before;
     here = λ c less p. absurd (omega (arith, less, low, p.0));
-  }
-
-  pub slots_same : (Passes (span_in spans node) column → ⊥) → HasSlots spans bands tops node (column + 1) slots
-  slots_same none = record {
-    each = has.each;
-    before = has.before;
-    here = λ c less p. elim (cases_lt c column) [
-      | inl inside ↦ has.here c inside p
-      | inr past ↦ (let e : c ≡ column = omega (arith, past, less) in
-          let P : ℕ → Type 0 = λ n. Passes (span_in spans node) n in
-          absurd (none (subst P e p)))
-    ];
   }
 
   pub slots_next : (span_in spans node).reach ≤ column → HasSlots spans bands tops (node + 1) 0 slots
   slots_next past = record {
     each = has.each;
+    early = All-weaker (λ s. (s.node < node) ⊎ ((s.node ≡ node) × (s.column < column))) (λ s. (s.node < node + 1) ⊎ ((s.node ≡ node + 1) × (s.column < 0))) (λ s e. slot_passed node column s e) slots has.early;
+    order = has.order;
     before = λ k c less p. elim (cases_lt k node) [
       | inl inside ↦ has.before k c inside p
       | inr reached ↦ (let e : k ≡ node = omega (arith, reached, less) in
@@ -178,13 +188,14 @@ path_is_of nodes spans bands tops lanes e from bend end lane false is forward ba
 -- ---- spans
 pub spans_all : (nodes : List Node) (edges : List Edge) (spans : List Span) (columns reaches : List ℕ) → length spans ≡ length nodes → length columns ≡ length nodes
     → ((k : ℕ) → k < length nodes → (d : Node) → IsSpanOf (slice_index_or nodes k d) (span_in spans k))
-    → All (λ s. s.column ≤ 402) spans → All (λ s. s.height ≤ 710) spans → All (λ s. s.first_port ≤ 40) spans
+    → All (λ s. s.column ≤ 402) spans → All (λ s. s.column ≤ job_count nodes + 2) spans → All (λ s. s.height ≤ 710) spans → All (λ s. s.first_port ≤ 40) spans
     → ((k : ℕ) → k < length nodes → (span_in spans k).column ≡ slice_index columns k) → ((k : ℕ) → k < length nodes → (span_in spans k).reach ≡ slice_index reaches k)
     → AreReaches columns edges (length edges) reaches → LeadOn nodes edges (slice_index columns) → AreSpans nodes edges spans
-spans_all nodes edges spans columns reaches long columns_long each left low ports col rch are lead = record {
+spans_all nodes edges spans columns reaches long columns_long each left few low ports col rch are lead = record {
   long = long;
   each = λ k d within. each k within d;
   left = left;
+  few = few;
   low = low;
   ports = ports;
   reached = λ k e within ws wt. omega (arith, are.each k e within (omega (arith, ws, columns_long)), col (slice_index_or edges k e).target wt, rch (slice_index_or edges k e).source ws);
@@ -200,20 +211,22 @@ pub record AreSpansTo (nodes : List Node) (columns reaches : List ℕ) (n : ℕ)
   pub long : length spans ≡ n
   pub each : (k : ℕ) → k < n → (d : Node) → IsSpanOf (slice_index_or nodes k d) (span_in spans k)
   pub left : All (λ s. s.column ≤ 402) spans
+  pub few : All (λ s. s.column ≤ job_count nodes + 2) spans
   pub low : All (λ s. s.height ≤ 710) spans
   pub ports : All (λ s. s.first_port ≤ 40) spans
   pub col : (k : ℕ) → k < n → (span_in spans k).column ≡ slice_index columns k
   pub rch : (k : ℕ) → k < n → (span_in spans k).reach ≡ slice_index reaches k
 
 pub spans_more : (nodes : List Node) (columns reaches : List ℕ) (n : ℕ) (spans spans' : List Span) (x : Node) (s : Span) → AreSpansTo nodes columns reaches n spans → n < length nodes → x ≡ get_or nodes n x → IsSpanOf x s
-    → s.column ≡ slice_index columns n → s.reach ≡ slice_index reaches n → All (λ c. c ≤ 402) columns → s.height ≤ 710 → s.first_port ≤ 40 → spans' ≡ spans ++ s ∷ [] → AreSpansTo nodes columns reaches (n + 1) spans'
-spans_more nodes columns reaches n spans spans' x s is within read span column reach columns_low low port grown =
+    → s.column ≡ slice_index columns n → s.reach ≡ slice_index reaches n → All (λ c. c ≤ 402) columns → All (λ c. c ≤ job_count nodes + 2) columns → s.height ≤ 710 → s.first_port ≤ 40 → spans' ≡ spans ++ s ∷ [] → AreSpansTo nodes columns reaches (n + 1) spans'
+spans_more nodes columns reaches n spans spans' x s is within read span column reach columns_low columns_few low port grown =
     let P : List Span → Type 0 = λ xs. AreSpansTo nodes columns reaches (n + 1) xs in
     subst P (sym grown) (record {
       long = length_push spans s ∙ ap (λ m. m + 1) is.long;
       each = push_more (λ k y. (d : Node) → IsSpanOf (slice_index_or nodes k d) y) spans s no_span n is.long is.each
           (λ d. let Q : Node → Type 0 = λ y. IsSpanOf y s in subst Q (read ∙ get_or_default nodes n x d within) span);
       left = All-push (λ y. y.column ≤ 402) spans s is.left (omega (arith, column, low_at 402 columns n columns_low));
+      few = All-push (λ y. y.column ≤ job_count nodes + 2) spans s is.few (omega (arith, column, low_at (job_count nodes + 2) columns n columns_few));
       low = All-push (λ y. y.height ≤ 710) spans s is.low low;
       ports = All-push (λ y. y.first_port ≤ 40) spans s is.ports port;
       col = push_more (λ k y. y.column ≡ slice_index columns k) spans s no_span n is.long is.col column;

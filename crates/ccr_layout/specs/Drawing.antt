@@ -1,5 +1,5 @@
 -- What is drawn where, from where everything stands: spans, the bands of the columns, and the tops of each column.
-use Rattle.std.specs.Prelude.{◌≡◌, ℕ, ◌+◌, ◌-◌, ◌*◌, ◌/◌, ◌<◌, ◌≤◌, ◌⊎◌, List, length, min, Bool, true, false, if◌then◌else◌, is_some, slice_index, slice_index_or, All, AllPairs, Contains}
+use Rattle.std.specs.Prelude.{◌≡◌, ℕ, ◌+◌, ◌-◌, ◌*◌, ◌/◌, ◌<◌, ◌≤◌, ◌⊎◌, List, length, min, Bool, true, false, if◌then◌else◌, is_some, slice_index, All, AllPairs, Contains}
 use Rattle.std.specs.declared.vec.Vec.{Vec}
 use Rattle.ccr_layout.specs.declared.graph.Node.{Node}
 use Rattle.ccr_layout.specs.declared.graph.Edge.{Edge}
@@ -80,9 +80,12 @@ module _ {A : Type 0} (spans : List Span) (bands : List Band) (tops : List (Vec 
     top = slice_index (tops_in tops c) node;
   }
 
-  -- These are slots of nodes; those of the nodes before this one are all there, and those of this one before this column.
+  -- These are slots of nodes, in the order of nodes and columns, none twice; those of the nodes before this one are all there, and those of
+  -- this one before this column.
   pub record HasSlots (node column : ℕ) (slots : List Slot) : Type 0 where
     pub each : All (λ s. (s ≡ slot_of s.node s.column) × Passes (span_in spans s.node) s.column × (s.node < length spans)) slots
+    pub early : All (λ s. (s.node < node) ⊎ ((s.node ≡ node) × (s.column < column))) slots
+    pub order : AllPairs (λ s t. (s.node < t.node) ⊎ ((s.node ≡ t.node) × (s.column < t.column))) slots
     pub before : (k c : ℕ) → k < node → Passes (span_in spans k) c → Contains slots (slot_of k c)
     pub here : (c : ℕ) → c < column → Passes (span_in spans node) c → Contains slots (slot_of node c)
 

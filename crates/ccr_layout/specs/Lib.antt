@@ -4,6 +4,9 @@ pub mod Turns
 pub mod Passed
 pub mod Columns
 pub mod Spans
+pub mod Lines
+pub mod Means
+pub mod Wishes
 pub mod Reaches
 pub mod Places
 pub mod Standing

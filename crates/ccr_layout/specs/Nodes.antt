@@ -1,7 +1,8 @@
 -- Nodes: how high their boxes are, and where their ports are.
-use Rattle.std.specs.Prelude.{ℕ, ◌+◌, ◌-◌, ◌*◌, ◌/◌, List, length, min, max, Option}
+use Rattle.std.specs.Prelude.{ℕ, ◌+◌, ◌-◌, ◌*◌, ◌/◌, List, length, min, max, count_by, Bool, true, false, Option}
 use Rattle.ccr_layout.specs.declared.graph.Kind.{Kind}
 use Rattle.ccr_layout.specs.declared.graph.Kind.TheVariants.{Resource, Job}
+use Rattle.ccr_layout.specs.declared.graph.Node.{Node}
 
 -- A node of this kind is a job.
 abbrev pub IsJob : Kind → Type 0
@@ -12,6 +13,15 @@ IsJob Job = Unit {0}
 abbrev pub IsResource : Kind → Type 0
 IsResource Resource = Unit {0}
 IsResource Job = ⊥
+
+-- Whether a node of this kind is a job.
+abbrev pub is_job : Kind → Bool
+is_job Resource = false
+is_job Job = true
+
+-- How many of these nodes are jobs.
+abbrev pub job_count : List Node → ℕ
+job_count nodes = count_by (λ n. is_job n.kind) nodes
 
 -- How many ports a job has: one for each entry of its tabs, at most 32.
 abbrev pub port_count : List (Option ℕ) → ℕ

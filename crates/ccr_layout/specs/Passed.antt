@@ -2,7 +2,7 @@
 use Rattle.std.specs.Prelude.{◌≡◌, ℕ, zero, suc, ◌<◌, ◌⊎◌, List, length, map, slice_index_or, Contains, false}
 use Rattle.std.specs.declared.vec.Vec.{Vec}
 use Rattle.ccr_layout.specs.declared.graph.Kind.{Kind}
-use Rattle.ccr_layout.specs.declared.graph.Kind.TheVariants.{Resource, Job}
+use Rattle.ccr_layout.specs.declared.graph.Kind.TheVariants.{Resource}
 use Rattle.ccr_layout.specs.declared.graph.Node.{Node}
 use Rattle.ccr_layout.specs.declared.graph.Edge.{Edge}
 use Rattle.ccr_layout.specs.Nodes.{IsJob, IsResource}

@@ -9,7 +9,7 @@ use Rattle.ccr_layout.specs.declared.picture.Slot.{Slot}
 use Rattle.ccr_layout.specs.declared.picture.Path.{Path}
 use Rattle.ccr_layout.specs.declared.picture.Path.TheVariants.{Forward, Back}
 use Rattle.ccr_layout.specs.declared.picture.Picture.{Picture}
-use Rattle.ccr_layout.specs.Nodes.{IsJob, height_of, first_port_of}
+use Rattle.ccr_layout.specs.Nodes.{IsJob, height_of, first_port_of, job_count}
 use Rattle.ccr_layout.specs.Ends.{tab_in}
 use Rattle.ccr_layout.specs.Passed.{kind_in, edge_in, IsWithin, LeadOn}
 
@@ -66,8 +66,10 @@ Leaves boxes slots node column p =
     ⊎ ((s : Slot) × (Contains slots s × (s.node ≡ node) × (s.column ≡ column) × (p.x ≡ s.right) × (p.y ≡ s.top)))
 
 -- THE SLOTS: each lies in a later column than its node's box, begins where the node's line leaves the column before, and lies apart from
--- the boxes of its column and from the other nodes' slots there.
+-- the boxes of its column and from the other nodes' slots there. None is there twice.
 pub record AreSlots (boxes : List NodeBox) (slots : List Slot) : Type 0 where
+  pub within : (s : Slot) → Contains slots s → s.node < length boxes
+  pub order : AllPairs (λ s t. (s.node < t.node) ⊎ ((s.node ≡ t.node) × (s.column < t.column))) slots
   pub joined : (s : Slot) → Contains slots s → Leaves boxes slots s.node (s.column - 1) s.from
   pub later : (s : Slot) → Contains slots s → (box_in boxes s.node).column < s.column
   pub clear : (s : Slot) (k : ℕ) → Contains slots s → k < length boxes → (box_in boxes k).column ≡ s.column
@@ -132,6 +134,13 @@ pub record IsFramed (boxes : List NodeBox) (slots : List Slot) (width height : �
   pub slots_right : (s : Slot) → Contains slots s → s.right + 40 ≤ width
   pub slots_low : (s : Slot) → Contains slots s → s.top ≤ height
 
+-- HOW MUCH IS DRAWN, and so how long each loop over it is: there are at most three columns more than jobs, and at most one slot for each
+-- node and column.
+pub record IsBounded (nodes : List Node) (boxes : List NodeBox) (slots : List Slot) : Type 0 where
+  pub columns : (k : ℕ) → k < length boxes → (box_in boxes k).column < job_count nodes + 3
+  pub slot_columns : (s : Slot) → Contains slots s → s.column < job_count nodes + 3
+  pub slot_count : length slots ≤ length nodes * (job_count nodes + 3)
+
 -- THE PICTURE of a graph.
 pub record IsPicture (nodes : List Node) (edges : List Edge) (p : Picture) : Type 0 where
   pub boxes_are : AreBoxes nodes edges p.boxes.items
@@ -140,3 +149,4 @@ pub record IsPicture (nodes : List Node) (edges : List Edge) (p : Picture) : Typ
   pub paths_are : ArePaths nodes edges p.boxes.items p.slots.items p.paths.items
   pub lanes_are : AreLow nodes edges p.boxes.items p.slots.items p.paths.items p.height
   pub frame_is : IsFramed p.boxes.items p.slots.items p.width p.height
+  pub size_is : IsBounded nodes p.boxes.items p.slots.items

@@ -1,6 +1,6 @@
 //! Layers: a job's is the longest chain of jobs before it.
 
-ghost use Rattle.std.specs.Prelude.{◌≡◌, ◌+◌, ◌≤◌, ℕ, true, false, length, find, All, Contains, IfOk, IfSome, IfNone, OnSome, slice_index, slice_index_or, slice_set};
+ghost use Rattle.std.specs.Prelude.{◌≡◌, ◌+◌, ◌≤◌, ℕ, [], true, false, length, find, All, Contains, IfOk, IfSome, IfNone, OnSome, slice_index, slice_index_or, slice_set};
 ghost use Rattle.ccr_layout.specs.Layers.{named_in, AreLayers};
 ghost use Rattle.ccr_layout.specs.Turns.{is_left, step_back, steps_back, IsNext, NoneIsReady};
 
@@ -122,6 +122,7 @@ fn next_node(named: &[Vec<usize>], done: &[bool]) -> Option<usize>
 fn layer_above(jobs: &[usize], layers: &[usize], done: &[bool]) -> usize
     requires { All (λ l. l ≤ 400) layers.now }
     ensures low { (most : ℕ) → All (λ l. l ≤ most) layers.now → result ≤ most + 1 }
+    ensures first { jobs.now ≡ [] → result ≡ 0 }
     ensures above { (s : ℕ) → Contains jobs.now s → slice_index_or done.now s true ≡ true
         → slice_index layers.now s + 1 ≤ result }
 {

@@ -1,6 +1,7 @@
 //! Lines from one column to the next.
 
-ghost use Rattle.std.specs.Prelude.{◌≡◌, ◌≤◌, length, IfOk};
+ghost use Rattle.std.specs.Prelude.{◌≡◌, ◌+◌, ◌*◌, ◌≤◌, length, IfOk, OnOk};
+ghost use Rattle.ccr_layout.specs.Lines.{ends_at_box, lines_in, line_count};
 
 use crate::graph::{Edge, port_below};
 use crate::span::{Span, passes, span_at};
@@ -17,12 +18,16 @@ pub(crate) struct Line {
 }
 
 /// Whether a line ends at a box.
-pub(crate) fn ends(line: Line) -> bool {
+pub(crate) fn ends(line: Line) -> bool
+    ensures { result ≡ ends_at_box line }
+{
     line.from != line.to
 }
 
 /// The pieces of long lines that end in the slots of this column.
-fn pieces(alloc: Global, spans: &[Span], column: usize) -> Result<Vec<Line>, AllocError> {
+fn pieces(alloc: Global, spans: &[Span], column: usize) -> Result<Vec<Line>, AllocError>
+    ensures { IfOk result (λ lines. length lines.items ≤ length spans.now) }
+{
     let mut lines = Vec::new(alloc);
     for node in 0..spans.len() {
         if passes(spans[node], column) {
@@ -39,7 +44,8 @@ fn pieces(alloc: Global, spans: &[Span], column: usize) -> Result<Vec<Line>, All
 
 /// The pieces of long lines, for each column.
 fn all_pieces(alloc: Global, spans: &[Span], columns: usize) -> Result<Vec<Vec<Line>>, AllocError>
-    ensures { IfOk result (λ lines. length lines.items ≡ columns) }
+    ensures long { IfOk result (λ lines. length lines.items ≡ columns) }
+    ensures few { IfOk result (λ lines. line_count lines.items ≤ length spans.now * columns) }
 {
     let mut lines = Vec::new(alloc);
     for column in 0..columns {
@@ -50,7 +56,8 @@ fn all_pieces(alloc: Global, spans: &[Span], columns: usize) -> Result<Vec<Vec<L
 
 /// Adds a line that ends in this column.
 fn push_line(lines: &mut Vec<Vec<Line>>, column: usize, line: Line) -> Result<(), AllocError>
-    ensures { length lines.new.items ≡ length lines.old.items }
+    ensures long { length lines.new.items ≡ length lines.old.items }
+    ensures few { OnOk result (line_count lines.new.items ≤ line_count lines.old.items + 1) }
 {
     if column < lines.len() {
         lines[column].push(line)?;
@@ -58,14 +65,15 @@ fn push_line(lines: &mut Vec<Vec<Line>>, column: usize, line: Line) -> Result<()
     Ok(())
 }
 
-/// For each column the lines that end there.
+/// For each column the lines that end there: at most one for each node and column, and one for each edge.
 pub(crate) fn lines_of(
     alloc: Global,
     edges: &[Edge],
     spans: &[Span],
     columns: usize,
 ) -> Result<Vec<Vec<Line>>, AllocError>
-    ensures { IfOk result (λ lines. length lines.items ≡ columns) }
+    ensures long { IfOk result (λ lines. length lines.items ≡ columns) }
+    ensures few { IfOk result (λ lines. line_count lines.items ≤ length spans.now * columns + length edges.now) }
 {
     let mut lines = all_pieces(alloc, spans, columns)?;
     for edge in edges {
@@ -84,7 +92,9 @@ pub(crate) fn lines_of(
 }
 
 /// The lines that end in this column, none where there is no such column.
-pub(crate) fn ending(lines: &[Vec<Line>], column: usize) -> &[Line] {
+pub(crate) fn ending(lines: &[Vec<Line>], column: usize) -> &[Line]
+    ensures { result.now ≡ lines_in lines.now column }
+{
     match lines.get(column) {
         Some(lines) => lines.as_slice(),
         None => &[],

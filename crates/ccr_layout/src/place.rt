@@ -1,9 +1,10 @@
 //! One below the other.
 
-ghost use Rattle.std.specs.Prelude.{◌≡◌, ◌≤◌, ℕ, length, All, IfOk};
+ghost use Rattle.std.specs.Prelude.{◌≡◌, ◌≤◌, ℕ, length, All, IfOk, max, slice_index, slice_set};
 ghost use Rattle.ccr_layout.specs.Places.{ArePlaced};
 
 use crate::at::{at, set_at};
+use crate::wish::wish_at;
 use std::alloc::{AllocError, Global};
 
 /// No wish is lower, in pixels. The picture of the greatest pipeline ends at a quarter of it.
@@ -39,6 +40,23 @@ pub(crate) fn place(
     Ok(tops)
 }
 
+/// Notes that a node is so low at least.
+fn note_low(tops: &mut Vec<u32>, node: usize, low: u32)
+    ensures { tops.new.items ≡ slice_set tops.old.items node (max (slice_index tops.old.items node) low) }
+{
+    if node < tops.len() {
+        tops[node] = tops[node].max(low);
+    }
+}
+
+/// Moves a node down to here, unless it's lower. No node is moved up.
+fn pull(tops: &mut Vec<u32>, node: usize, low: u32)
+    ensures long { length tops.new.items ≡ length tops.old.items }
+    ensures down { (k : ℕ) → slice_index tops.old.items k ≤ slice_index tops.new.items k }
+{
+    note_low(tops, node, low);
+}
+
 /// The tops of nodes that are moved down to where they wish to be, but not past the next one.
 pub(crate) fn pulled(
     alloc: Global,
@@ -46,16 +64,18 @@ pub(crate) fn pulled(
     heights: &[u32],
     tops: &[u32],
     wishes: &[Option<u32>],
-) -> Result<Vec<u32>, AllocError> {
+) -> Result<Vec<u32>, AllocError>
+    ensures long { IfOk result (λ pulled. length pulled.items ≡ length tops.now) }
+    ensures down { IfOk result (λ pulled. (k : ℕ) → slice_index tops.now k ≤ slice_index pulled.items k) }
+{
     let mut pulled = tops.to_vec(alloc)?;
     let mut low = u32::MAX;
     for node in order.iter().rev() {
         let height = at(heights, *node);
         let lowest = low.saturating_sub(height).saturating_sub(gap_below(height));
-        let top = at(&pulled, *node);
-        let wish = wishes.get(*node).copied().flatten().unwrap_or(0);
-        low = wish.min(lowest).max(top);
-        set_at(&mut pulled, *node, low);
+        let wish = wish_at(wishes, *node).unwrap_or(0);
+        pull(&mut pulled, *node, wish.min(lowest));
+        low = at(&pulled, *node);
     }
     Ok(pulled)
 }

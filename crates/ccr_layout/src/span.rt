@@ -3,7 +3,7 @@
 ghost use Rattle.std.specs.Prelude.{◌≡◌, ◌≢◌, ◌++◌, ◌∷◌, [], ◌+◌, ◌<◌, ◌≤◌, ◌↔◌, ℕ, length, map, All, Contains, IfOk, OnOk, IsTrue, unwrap_or, slice_index, slice_index_or, slice_set, max, min};
 ghost use Rattle.ccr_layout.specs.Columns.{AreGotten, ArePut};
 ghost use Rattle.ccr_layout.specs.Layers.{named_in};
-ghost use Rattle.ccr_layout.specs.Nodes.{IsJob, IsResource};
+ghost use Rattle.ccr_layout.specs.Nodes.{IsJob, IsResource, job_count};
 ghost use Rattle.ccr_layout.specs.Passed.{kind_in, LeadOn, AreNamed};
 ghost use Rattle.ccr_layout.specs.Reaches.{AreReaches};
 ghost use Rattle.ccr_layout.specs.Spans.{Passes, IsIn, height_in, span_in, IsSpanOf, AreSpans};
@@ -175,6 +175,8 @@ fn column_of(
     requires layers { All (λ l. l ≤ 400) layers.now }
     requires put { All (λ c. c ≤ 402) put.now }
     ensures low { result ≤ 402 }
+    ensures few { (n : ℕ) → All (λ l. l ≤ n) layers.now → All (λ c. c ≤ n + 2) put.now
+        → ((c : ℕ) → slice_index_or gotten.now node None ≡ Some c → c ≤ n) → result ≤ n + 2 }
     ensures job { IsJob (kind_in nodes.now node) → result ≡ slice_index layers.now node + 1 }
     ensures gets { IsResource (kind_in nodes.now node) → (c : ℕ)
         → slice_index_or gotten.now node None ≡ Some c → result ≤ c }
@@ -195,6 +197,7 @@ fn columns_of(alloc: Global, nodes: &[Node], edges: &[Edge]) -> Result<Vec<usize
     requires { length nodes.now ≤ 400 }
     ensures long { IfOk result (λ columns. length columns.items ≡ length nodes.now) }
     ensures low { IfOk result (λ columns. All (λ c. c ≤ 402) columns.items) }
+    ensures few { IfOk result (λ columns. All (λ c. c ≤ job_count nodes.now + 2) columns.items) }
     ensures lead { IfOk result (λ columns. LeadOn nodes.now edges.now (slice_index columns.items)) }
 {
     let named = named_jobs(alloc, nodes, edges)?;

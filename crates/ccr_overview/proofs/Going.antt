@@ -1,5 +1,5 @@
 -- Lists, one after another: what builds took, and the first that passes a test.
-use Rattle.std.proofs.Common.{◌≡◌, ◌<◌, ◌+◌, ◌∷◌, ◌++◌, [], ℕ, zero, suc, List, length, drop, map, get_or, Bool, true, false, cond, ◌||◌, flat_map, Option, Some, None, refl, sym, ◌∙◌, ap, arith}
+use Rattle.std.proofs.Common.{◌≡◌, ◌<◌, ◌+◌, ◌∷◌, ◌++◌, [], ℕ, zero, suc, List, length, drop, map, get_or, Bool, true, false, cond, ◌||◌, flat_map, Option, Some, None, refl, sym, ◌∙◌, ap, arith, append_assoc}
 use Rattle.std.proofs.lemmas.List.{drop_more}
 use Rattle.std.proofs.lemmas.Slice.Eq.{bytes_eq-Decides}
 use Rattle.std.specs.Prelude.{find, slice_get}
@@ -8,6 +8,7 @@ use Rattle.std.specs.Str.{bytes_eq}
 use Rattle.ccr_history.specs.Text.{Text}
 use Rattle.ccr_history.specs.Builds.{UsedData}
 use Rattle.ccr_pipeline.specs.Names.{with_name, with_names}
+use Rattle.ccr_overview.specs.Each.{each_from}
 
 -- what is left from there on
 pub drop_there : {X : Type 0} (xs : List X) (k : ℕ) (x : X) → slice_get xs k ≡ Some x → drop k xs ≡ x ∷ drop (k + 1) xs
@@ -17,6 +18,14 @@ drop_there (y ∷ ys) zero x e = let one : y ≡ x = cc (e) in ap (λ z. z ∷ y
 drop_there (y ∷ ys) (suc k) x e =
     let n : suc k + 1 ≡ suc (k + 1) = omega arith in
     drop_there ys k x e ∙ ap (λ m. x ∷ drop m (y ∷ ys)) (sym n)
+
+-- what is said of one more, behind what is said of those before it
+pub each_on : {X W : Type 0} (f : ℕ → X → List W) (xs : List X) (k : ℕ) (x : X) (old new all : List W) → slice_get xs k ≡ Some x
+    → new ≡ old ++ f k x → old ++ each_from f k (drop k xs) ≡ all → new ++ each_from f (k + 1) (drop (k + 1) xs) ≡ all
+each_on f xs k x old new all at told before =
+    ap (λ ws. ws ++ each_from f (k + 1) (drop (k + 1) xs)) told
+    ∙ (append_assoc old (f k x) (each_from f (k + 1) (drop (k + 1) xs))
+    ∙ (sym (ap (λ ys. old ++ each_from f k ys) (drop_there xs k x at)) ∙ before))
 
 -- one of a list that passes a test
 pub any_here : {X : Type 0} (test : X → Bool) (xs : List X) (k : ℕ) (x : X) → slice_get xs k ≡ Some x → test x ≡ true

@@ -1,8 +1,8 @@
--- What is said of a job beside its name: its newest build, the newest good one, its next one, its inputs and its outputs.
-use Rattle.std.specs.Prelude.{ℕ, List, [], ◌∷◌, ◌++◌, map, filter, slice_get, find, Bool, true, false, Option, Some, None, option_and_then, if◌then◌else◌, codes, decimal}
+-- What is said of a job beside its name: its newest build, the newest good one with its versions, its next one, its inputs and its outputs.
+use Rattle.std.specs.Prelude.{ℕ, List, [], ◌∷◌, ◌++◌, length, map, filter, nat_lt, ◌==◌, slice_get, find, Bool, true, false, Option, Some, None, option_and_then, if◌then◌else◌, codes, decimal}
 use Rattle.std.specs.Option.{option_map_or}
 use Rattle.ccr_history.specs.Text.{Text}
-use Rattle.ccr_history.specs.Builds.{BuildData, is_succeeded}
+use Rattle.ccr_history.specs.Builds.{UsedData, BuildData, is_succeeded}
 use Rattle.ccr_history.specs.History.{HistoryData}
 use Rattle.ccr_pipeline.specs.Inputs.{InputData, inputs}
 use Rattle.ccr_pipeline.specs.JobData.{ResourceData, JobData}
@@ -13,11 +13,24 @@ use Rattle.ccr_lines.specs.Lines.{status_word}
 use Rattle.ccr_lines.specs.Live.{live_of}
 use Rattle.ccr_lines.specs.Outlooks.{outlook_words}
 use Rattle.ccr_lines.specs.declared.outlook.Outlook.{Outlook}
-use Rattle.ccr_overview.specs.Sayings.{separated}
+use Rattle.ccr_overview.specs.Holds.{resource_words}
+use Rattle.ccr_overview.specs.Sayings.{separated, version_word}
 use Rattle.ccr_overview.specs.PageData.{WordData, Plain, Named, ToResource, ToRow}
 use Rattle.ccr_overview.specs.Each.{each_from}
 use Rattle.ccr_overview.specs.Scenes.{SceneData, ToldData}
+use Rattle.ccr_overview.specs.Shorts.{version_there}
 use Rattle.ccr_overview.specs.Linked.{job_word}
+
+-- ---- what a build took
+-- a version that a build took, behind the others, with the input's name if it took several
+abbrev pub took_word : HistoryData → Bool → ℕ → UsedData → List WordData
+took_word h several k u =
+    separated (codes ", ") k ++ resource_words several u.input ++ (version_word (version_there h u.scope u.place) u.place ∷ [])
+
+-- the versions that a build took, if it took any
+abbrev pub took_words : HistoryData → List UsedData → List WordData
+took_words h us =
+    if length us == 0 then [] else Plain (codes " with ") ∷ each_from (took_word h (nat_lt 1 (length us))) 0 us
 
 -- ---- builds
 -- a number, and how its build stands
@@ -29,15 +42,15 @@ abbrev pub newest_said : Option BuildData → Text
 newest_said None = codes "no builds"
 newest_said (Some b) = build_standing b
 
--- the newest build of the job at a position that succeeded; or that none did
-abbrev pub good_words : ℕ → Option BuildData → List WordData
-good_words k None = Plain (codes ", none succeeded") ∷ []
-good_words k (Some b) = Plain (codes ", ") ∷ ToRow k b.number (build_standing b) ∷ []
+-- the newest build of the job at a position that succeeded, and what it took; or that none did
+abbrev pub good_words : HistoryData → ℕ → Option BuildData → List WordData
+good_words h k None = Plain (codes ", none succeeded") ∷ []
+good_words h k (Some b) = Plain (codes ", ") ∷ ToRow k b.number (build_standing b) ∷ took_words h b.used
 
--- the same, where the newest build is another one
+-- the same, where the newest build is another one; and where it isn't, what that one took
 abbrev pub good_beside : HistoryData → Text → ℕ → Option BuildData → List WordData
 good_beside h job k None = []
-good_beside h job k (Some b) = if is_succeeded b.status then [] else good_words k (live_of job h)
+good_beside h job k (Some b) = if is_succeeded b.status then took_words h b.used else good_words h k (live_of job h)
 
 -- ---- inputs and outputs
 -- the jobs that an input names

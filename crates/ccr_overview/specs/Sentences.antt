@@ -60,7 +60,7 @@ budget_words = Plain (codes "isn't decided: the search goes over the budget; --b
 abbrev pub start_words : Bool → ℕ → Text
 start_words by_itself k =
     if by_itself then (if k == 0 then codes "stays at " else codes "; at ")
-    else (if k == 0 then codes "would take " else codes "; ")
+    else (if k == 0 then codes "is built by command only; the next build would take " else codes "; ")
 
 -- what holds an input, behind the others; nothing behind the first three
 abbrev pub told_hold : SceneData → Bool → Bool → ℕ → HoldData → List WordData

@@ -1,21 +1,78 @@
 //! What is said of a job beside its name.
-ghost use Rattle.std.specs.Prelude.{◌≡◌, ◌++◌, ◌∷◌, [], map, string_bytes, IfOk, OnOk};
+ghost use Rattle.std.specs.Prelude.{◌≡◌, ◌++◌, ◌∷◌, [], length, map, nat_lt, string_bytes, IfOk, OnOk};
 ghost use Rattle.std.specs.Option.{option_copied};
 ghost use Rattle.ccr_pipeline.specs.Inputs.{input_data, inputs};
 ghost use Rattle.ccr_pipeline.specs.JobData.{resource_data, job_data};
-ghost use Rattle.ccr_overview.specs.Abouts.{newest_said, good_words, good_beside, passed_words, after_words, trigger_words, input_words, takes_words, put_at, puts_of, put_word, puts_words, next_words, about_words};
+ghost use Rattle.ccr_overview.specs.Abouts.{took_word, took_words, newest_said, good_words, good_beside, passed_words, after_words, trigger_words, input_words, takes_words, put_at, puts_of, put_word, puts_words, next_words, about_words};
 ghost use Rattle.ccr_overview.specs.PageData.{Plain, word_data};
 ghost use Rattle.ccr_overview.specs.Each.{each_from};
 ghost use Rattle.ccr_overview.specs.Scenes.{told_data, scene_data};
 
+use crate::hold::push_resource as push_input_name;
 use crate::linked::push_job;
 use crate::scene::{Scene, Told};
+use crate::short::push_version;
 use crate::word::{push_name, push_plain, push_row, push_separator, standing};
 use ccr_history::{BuildRef, History, Status};
-use ccr_lines::{Outlook, Sought, newest_of, push_outlook, puts};
+use ccr_lines::{Outlook, Sought, newest_of, push_outlook, puts, used_at};
 use ccr_page::Word;
 use ccr_pipeline::{Input, Job, Resource, inputs_of};
 use std::alloc::{AllocError, Global};
+
+// ---- what a build took
+
+/// Adds what a build took for an input, a name, a scope and a place, behind the others: the version, with the name where it took
+/// several.
+fn push_took(
+    alloc: Global,
+    out: &mut Vec<Word>,
+    history: &History,
+    build: &BuildRef<'_>,
+    k: usize,
+    used: (&str, u32, u32),
+) -> Result<(), AllocError>
+    ensures { OnOk result (map word_data out.new.items ≡ map word_data out.old.items
+        ++ took_word history.now (nat_lt 1 (length build.now.used)) k
+        (record { input = used.entry.0.now; scope = used.entry.1; place = used.entry.2 })) }
+{
+    let (input, scope, place) = used;
+    push_separator(alloc, out, ", ", k)?;
+    push_input_name(alloc, out, build.used_count() > 1, input)?;
+    push_version(alloc, out, history.version_at(scope, place), place)
+}
+
+/// Adds each version that a build took.
+fn push_each_took(
+    alloc: Global,
+    out: &mut Vec<Word>,
+    history: &History,
+    build: &BuildRef<'_>,
+) -> Result<(), AllocError>
+    ensures { OnOk result (map word_data out.new.items ≡ map word_data out.old.items
+        ++ each_from (took_word history.now (nat_lt 1 (length build.now.used))) 0 build.now.used) }
+{
+    for k in 0..build.used_count() {
+        push_took(alloc, out, history, build, k, used_at(build, k))?;
+    }
+    Ok(())
+}
+
+/// Adds the versions that a build took, if it took any.
+fn push_taken(
+    alloc: Global,
+    out: &mut Vec<Word>,
+    history: &History,
+    build: &BuildRef<'_>,
+) -> Result<(), AllocError>
+    ensures { OnOk result (map word_data out.new.items
+        ≡ map word_data out.old.items ++ took_words history.now build.now.used) }
+{
+    if build.used_count() == 0 {
+        return Ok(());
+    }
+    push_plain(alloc, out, " with ")?;
+    push_each_took(alloc, out, history, build)
+}
 
 // ---- builds
 
@@ -37,27 +94,29 @@ fn push_newest(
     }
 }
 
-/// Adds the newest build of the job at a position that succeeded; or that none did.
+/// Adds the newest build of the job at a position that succeeded, and what it took; or that none did.
 fn push_good(
     alloc: Global,
     out: &mut Vec<Word>,
+    history: &History,
     at: usize,
     found: Option<&BuildRef<'_>>,
 ) -> Result<(), AllocError>
     ensures { OnOk result (map word_data out.new.items
-        ≡ map word_data out.old.items ++ good_words at (option_copied found.entry)) }
+        ≡ map word_data out.old.items ++ good_words history.now at (option_copied found.entry)) }
 {
     match found {
         Some(build) => {
             let words = standing(alloc, build.number(), build.status())?;
             push_plain(alloc, out, ", ")?;
-            push_row(out, at, build.number(), words)
+            push_row(out, at, build.number(), words)?;
+            push_taken(alloc, out, history, build)
         }
         None => push_plain(alloc, out, ", none succeeded"),
     }
 }
 
-/// Adds the newest build of a job that succeeded, where its newest one is another.
+/// Adds the newest build of a job that succeeded, where its newest one is another, and what it took.
 fn push_good_beside(
     alloc: Global,
     out: &mut Vec<Word>,
@@ -73,10 +132,10 @@ fn push_good_beside(
         return Ok(());
     };
     match build.status() {
-        Status::Succeeded => Ok(()),
+        Status::Succeeded => push_taken(alloc, out, history, build),
         Status::Running | Status::Failed | Status::Errored | Status::Aborted => {
             let found = newest_of(history, Sought::Succeeded, job);
-            push_good(alloc, out, at, found.as_ref())
+            push_good(alloc, out, history, at, found.as_ref())
         }
     }
 }

@@ -110,8 +110,10 @@ fn start_words(by_itself: bool, position: usize) -> &'static str
 {
     if by_itself {
         if position == 0 { "stays at " } else { "; at " }
+    } else if position == 0 {
+        "is built by command only; the next build would take "
     } else {
-        if position == 0 { "would take " } else { "; " }
+        "; "
     }
 }
 

@@ -8,7 +8,7 @@ use Rattle.ccr_page.specs.declared.status.Status.{Status}
 use Rattle.ccr_page.specs.declared.status.Status.TheVariants.{Failed, Errored, Aborted, Running, Succeeded, Missing}
 use Rattle.ccr_page.specs.declared.data.Urgency.{Urgency}
 use Rattle.ccr_page.specs.declared.data.Urgency.TheVariants.{Stopped, Held, Going}
-use Rattle.ccr_page.specs.Texts.{Text, entity, escape, escaped, is_plain, hex_digit, percent, link_byte, way_byte, link, way, cut, is_ascii}
+use Rattle.ccr_page.specs.Texts.{Text, entity, escape, escaped, is_plain, hex_digit, percent, link_byte, way_byte, link, trimmed, leads_away, way_start, way, cut, is_ascii}
 use Rattle.ccr_page.specs.Statuses.{class_text, status_text, colour_text, urgency_text}
 use Rattle.ccr_page.specs.Pieces.{PieceData, Markup, Shown, Cut, Isolated, Number, Link, Way, Class, Standing, Colour, Kind, isolated, piece_text, written}
 use Rattle.ccr_page.specs.Markup.{is_markup, markup_in, template_text, template, is_entity, AreEntities}
@@ -61,7 +61,7 @@ hex_plain n =
     (λ h. let high : 10 ≤ n = ltb-false n 10 h in differs (55 + n) (λ e. omega arith) (λ e. omega arith) (λ e. omega arith) (λ e. omega arith))
 
 percent_plain : (b : ℕ) → markup_in (percent b) ≡ []
-percent_plain b = skip (hex_digit (b / 16)) (hex_digit (b % 16) ∷ []) (hex_plain (b / 16)) ∙ skip (hex_digit (b % 16)) [] (hex_plain (b % 16))
+percent_plain b = skip (hex_digit (b / 16 % 16)) (hex_digit (b % 16) ∷ []) (hex_plain (b / 16 % 16)) ∙ skip (hex_digit (b % 16)) [] (hex_plain (b % 16))
 
 -- a byte that stands for itself in a link is none of the four
 itself_plain : (b : ℕ) → is_plain b ≡ true → is_markup b ≡ false
@@ -78,6 +78,12 @@ way_byte_plain b =
     cond_both (eqb b 47) (b ∷ []) (link_byte b) (λ t. markup_in t ≡ [])
     (λ h. let e : b ≡ 47 = eqb-true b 47 h in ap (λ n. markup_in (n ∷ [])) e)
     (λ h. link_byte_plain b)
+
+way_plain : (t : Text) → markup_in (way t) ≡ []
+way_plain t =
+    let d = trimmed t in
+    let start : markup_in (way_start d) ≡ [] = cond_both (leads_away d) (codes "/.") [] (λ s. markup_in s ≡ []) (λ h. refl) (λ h. refl) in
+    filter-append is_markup (way_start d) (flat_map way_byte d) ∙ ap₂ (λ x y. x ++ y) start (each_plain way_byte way_byte_plain d)
 
 -- ---- numbers
 glyph_plain : (d : ℕ) → is_markup (digit_glyph false d) ≡ false
@@ -143,7 +149,7 @@ piece_is (Cut t most) = escaped_plain (cut most t)
 piece_is (Isolated t most) = isolated_is t (escaped (cut most t)) (escaped_plain (cut most t))
 piece_is (Number n) = number_plain n
 piece_is (Link t) = each_plain link_byte link_byte_plain t
-piece_is (Way t) = each_plain way_byte way_byte_plain t
+piece_is (Way t) = way_plain t
 piece_is (Class s) = class_plain s
 piece_is (Standing s) = word_plain s
 piece_is (Colour s) = colour_plain s

@@ -2,6 +2,7 @@
 use Rattle.std.specs.Prelude.{ℕ, List, [], ◌∷◌, ◌++◌, length, flat_map, Bool, true, false, not, ◌==◌, if◌then◌else◌, Option, Some, None, String, codes, string_bytes}
 use Rattle.std.specs.List.{list_any}
 use Rattle.std.specs.declared.alloc.Global.{Global}
+use Rattle.ccr_page.specs.Texts.{Text}
 use Rattle.ccr_page.specs.Pieces.{PieceData, Markup, Shown, Cut, Isolated, Number, Class, Standing, Link, Way}
 use Rattle.ccr_page.specs.Sentences.{sentence}
 use Rattle.ccr_page.specs.Each.{each_from}
@@ -26,12 +27,18 @@ abbrev pub rest_pieces : Bool → Row → List PieceData
 rest_pieces false r = []
 rest_pieces true r = rest_words r
 
--- The link to the log of a build of a job of this name.
+-- THE LINK to the log of a build of a job of this name: the directory of logs, the name, and the number.
+abbrev pub log_link : Text → Text → ℕ → List PieceData
+log_link dir name n = Way dir ∷ Markup (codes "/") ∷ Link name ∷ Markup (codes "/") ∷ Number n ∷ Markup (codes "/") ∷ []
+
+-- The cell with that link.
+abbrev pub log_cell : Text → Text → ℕ → List PieceData
+log_cell dir name n = (Markup (codes "<td><a href=\"") ∷ []) ++ log_link dir name n ++ (Markup (codes "\">log</a>") ∷ [])
+
+-- The same, if it's known where logs are.
 abbrev pub log_pieces : Option (String Global) → Job → ℕ → List PieceData
 log_pieces None j n = []
-log_pieces (Some dir) j n =
-    Markup (codes "<td><a href=\"") ∷ Way (string_bytes dir) ∷ Markup (codes "/") ∷ Link (string_bytes j.name) ∷ Markup (codes "/")
-    ∷ Number n ∷ Markup (codes "/\">log</a>") ∷ []
+log_pieces (Some dir) j n = log_cell (string_bytes dir) (string_bytes j.name) n
 
 -- The row of a build begins: its number, and how it stands.
 abbrev pub row_open : ℕ → Row → List PieceData

@@ -1,6 +1,6 @@
 -- Texts, by their bytes, and how they are cut and escaped.
-use Rattle.std.specs.Prelude.{ℕ, ◌+◌, ◌-◌, ◌*◌, ◌/◌, ◌%◌, List, [], ◌∷◌, ◌++◌, flat_map, Bool, ◌&&◌, ◌||◌, not, ◌==◌, nat_lt, nat_le, if◌then◌else◌, Option, Some, None, unwrap_or, codes}
-use Rattle.std.specs.List.{list_all}
+use Rattle.std.specs.Prelude.{◌≡◌, ℕ, ◌+◌, ◌-◌, ◌*◌, ◌/◌, ◌%◌, List, [], ◌∷◌, ◌++◌, length, flat_map, Bool, true, false, ◌&&◌, ◌||◌, not, ◌==◌, nat_eq, nat_lt, nat_le, if◌then◌else◌, Option, Some, None, unwrap_or, codes}
+use Rattle.std.specs.List.{list_all, starts_with}
 
 -- The bytes of a text.
 abbrev pub Text : Type 0
@@ -37,7 +37,7 @@ hex_digit n = if nat_lt n 10 then 48 + n else 55 + n
 
 -- A byte by its number.
 abbrev pub percent : ℕ → Text
-percent b = 37 ∷ hex_digit (b / 16) ∷ hex_digit (b % 16) ∷ []
+percent b = 37 ∷ hex_digit (b / 16 % 16) ∷ hex_digit (b % 16) ∷ []
 
 -- What stands for a byte in a piece of a link.
 abbrev pub link_byte : ℕ → Text
@@ -51,9 +51,30 @@ way_byte b = if b == 47 then b ∷ [] else link_byte b
 abbrev pub link : Text → Text
 link t = flat_map link_byte t
 
--- A directory in a link.
+-- A directory without the slashes at its end.
+abbrev pub trimmed : Text → Text
+trimmed [] = []
+trimmed (b ∷ bs) = if b == 47 && length (trimmed bs) == 0 then [] else b ∷ trimmed bs
+
+-- A link that begins so, and goes on with a slash, may begin with two, and so lead to another server.
+abbrev pub leads_away : Text → Bool
+leads_away t = length t == 0 || starts_with nat_eq t (codes "//")
+
+-- What stands before a directory in a link, so that the link begins with no two slashes: /. where it could.
+abbrev pub way_start : Text → Text
+way_start t = if leads_away t then codes "/." else []
+
+-- A DIRECTORY IN A LINK, which goes on with a slash.
 abbrev pub way : Text → Text
-way t = flat_map way_byte t
+way t = way_start (trimmed t) ++ flat_map way_byte (trimmed t)
+
+-- A byte that a link may have: one that stands for itself, / or %. So a link has no scheme, since that ends with a colon.
+abbrev pub is_link_byte : ℕ → Bool
+is_link_byte b = is_plain b || b == 47 || b == 37
+
+-- A LINK STAYS AT ITS PLACE: it doesn't begin with two slashes, behind which a server's name stands, and has only such bytes.
+abbrev pub Stays : Text → Type 0
+Stays t = (starts_with nat_eq t (codes "//") ≡ false) × (list_all is_link_byte t ≡ true)
 
 -- ---- cutting
 -- A byte that goes on with a letter.

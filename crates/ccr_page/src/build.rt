@@ -1,9 +1,10 @@
 //! The builds of a page, and what they took.
 
-ghost use Rattle.std.specs.Prelude.{◌≡◌, OnOk, flat_map};
-ghost use Rattle.ccr_page.specs.Pieces.{Adds};
+ghost use Rattle.std.specs.Prelude.{◌≡◌, OnOk, flat_map, string_bytes};
+ghost use Rattle.ccr_page.specs.Texts.{Stays};
+ghost use Rattle.ccr_page.specs.Pieces.{Adds, written};
 ghost use Rattle.ccr_page.specs.Each.{each_from};
-ghost use Rattle.ccr_page.specs.Builds.{cell_pieces, rest_words, rest_pieces, log_pieces, row_open, row_pieces, has_rest, column_pieces, rest_head, log_head, table_pieces, builds_pieces, has_rows, builds_tables, builds_section};
+ghost use Rattle.ccr_page.specs.Builds.{cell_pieces, rest_words, rest_pieces, log_link, log_cell, log_pieces, row_open, row_pieces, has_rest, column_pieces, rest_head, log_head, table_pieces, builds_pieces, has_rows, builds_tables, builds_section};
 
 use crate::data::{Cell, Job, Page, Row};
 use crate::piece::Piece::{Class, Cut, Isolated, Link, Markup, Number, Shown, Standing, Way};
@@ -62,28 +63,56 @@ fn push_rest(out: &mut Vec<u8>, has_rest: bool, row: &Row) -> Result<(), AllocEr
     }
 }
 
-/// Adds the link to the log of a build.
-fn push_log<'a>(
+/// Adds the link to the log of a build: whatever the texts are, it stays at the server of its page.
+fn push_log_link<'a>(
     out: &mut Vec<u8>,
-    logs: &'a Option<String>,
-    job: &'a Job,
+    directory: &'a String,
+    job: &'a String,
+    number: u32,
+) -> Result<(), AllocError>
+    ensures written { OnOk result (Adds out.old.items out.new.items
+        (log_link (string_bytes directory.now) (string_bytes job.now) number)) }
+    ensures stays { Stays (written (log_link (string_bytes directory.now) (string_bytes job.now) number)) }
+{
+    push(
+        out,
+        &[
+            Way(directory),
+            Markup("/"),
+            Link(job),
+            Markup("/"),
+            Number(number as u64),
+            Markup("/"),
+        ],
+    )
+}
+
+/// Adds the cell with the link to a log.
+fn push_log_cell(
+    out: &mut Vec<u8>,
+    directory: &String,
+    job: &Job,
+    number: u32,
+) -> Result<(), AllocError>
+    ensures { OnOk result (Adds out.old.items out.new.items (log_cell (string_bytes directory.now) (string_bytes job.now.name) number)) }
+{
+    push(out, &[Markup("<td><a href=\"")])?;
+    push_log_link(out, directory, &job.name, number)?;
+    push(out, &[Markup("\">log</a>")])?;
+    Ok(())
+}
+
+/// Adds the same, if it's known where logs are.
+fn push_log(
+    out: &mut Vec<u8>,
+    logs: &Option<String>,
+    job: &Job,
     number: u32,
 ) -> Result<(), AllocError>
     ensures { OnOk result (Adds out.old.items out.new.items (log_pieces logs.now job.now number)) }
 {
     match logs {
-        Some(directory) => push(
-            out,
-            &[
-                Markup("<td><a href=\""),
-                Way(directory),
-                Markup("/"),
-                Link(&job.name),
-                Markup("/"),
-                Number(number as u64),
-                Markup("/\">log</a>"),
-            ],
-        ),
+        Some(directory) => push_log_cell(out, directory, job, number),
         None => push(out, &[]),
     }
 }

@@ -1,7 +1,7 @@
 //! Texts in a page, and in its links, so that they don't become markup.
 
-ghost use Rattle.std.specs.Prelude.{◌≡◌, ◌+◌, ◌*◌, ◌/◌, ◌%◌, ◌++◌, ◌<◌, OnOk, option_copied};
-ghost use Rattle.ccr_page.specs.Texts.{entity, escape, escaped, is_plain, hex_digit, percent, link_byte, way_byte, link, way};
+ghost use Rattle.std.specs.Prelude.{◌≡◌, ◌+◌, ◌*◌, ◌/◌, ◌%◌, ◌++◌, ◌<◌, ◌≤◌, length, take, flat_map, OnOk, option_copied};
+ghost use Rattle.ccr_page.specs.Texts.{entity, escape, escaped, is_plain, hex_digit, percent, link_byte, way_byte, link, trimmed, leads_away, way_start, way};
 
 use std::alloc::AllocError;
 
@@ -111,12 +111,53 @@ fn push_way_byte(out: &mut Vec<u8>, byte: u8) -> Result<(), AllocError>
     Ok(())
 }
 
-/// Adds a text as the directory of a link.
-pub(crate) fn push_way(out: &mut Vec<u8>, text: &[u8]) -> Result<(), AllocError>
-    ensures { OnOk result (out.new.items ≡ out.old.items ++ way text.now) }
+/// How long a directory is without the slashes at its end.
+fn trimmed_length(text: &[u8]) -> usize
+    ensures within { result ≤ length text.now }
+    ensures value { take result text.now ≡ trimmed text.now }
+{
+    let mut end = 0;
+    for (at, byte) in text.iter().enumerate() {
+        if *byte != b'/' {
+            end = at + 1;
+        }
+    }
+    end
+}
+
+/// Whether a link that begins so, and goes on with a slash, may lead to another server: its name stands behind two slashes.
+fn leads_away(text: &[u8]) -> bool
+    ensures { result ≡ leads_away text.now }
+{
+    text.is_empty() || text.starts_with(b"//")
+}
+
+/// Adds what stands before a directory in a link, so that the link stays at its server. A browser leaves `/.` out.
+fn push_way_start(out: &mut Vec<u8>, text: &[u8]) -> Result<(), AllocError>
+    ensures { OnOk result (out.new.items ≡ out.old.items ++ way_start text.now) }
+{
+    if leads_away(text) {
+        out.extend_from_slice(b"/.")?;
+    }
+    Ok(())
+}
+
+/// Adds the bytes of a directory in a link.
+fn push_way_bytes(out: &mut Vec<u8>, text: &[u8]) -> Result<(), AllocError>
+    ensures { OnOk result (out.new.items ≡ out.old.items ++ flat_map way_byte text.now) }
 {
     for byte in text {
         push_way_byte(out, *byte)?;
     }
+    Ok(())
+}
+
+/// Adds a text as the directory of a link, which goes on with a slash.
+pub(crate) fn push_way(out: &mut Vec<u8>, text: &[u8]) -> Result<(), AllocError>
+    ensures { OnOk result (out.new.items ≡ out.old.items ++ way text.now) }
+{
+    let text = &text[..trimmed_length(text)];
+    push_way_start(out, text)?;
+    push_way_bytes(out, text)?;
     Ok(())
 }

@@ -72,6 +72,7 @@ svg svg rect{width:100%;height:100%;rx:4px}svg text+text{font-size:11px}
 stroke-width:5}
 .key{display:flex;flex-wrap:wrap;gap:5px 8px;margin:10px 2px;color:var(--dim);font-size:12px;line-height:18px}
 .key b{padding:0 7px;border-radius:3px;font-weight:400}.key i{font-style:normal;margin-left:8px}
+.key .q{background:var(--res);color:#fff;border:2px solid var(--pin);line-height:14px}
 .key i:before{content:\"\";display:inline-block;width:26px;border-top:2px solid var(--line);margin-right:6px;
 vertical-align:4px}.key .d:before{border-top-style:dashed}.key .h:before{border-color:var(--held)}
 .why li{background:var(--card);border:1px solid var(--rule);border-left:5px solid var(--line);border-radius:4px;
@@ -139,7 +140,7 @@ pub(crate) const SKIP: &str = "<a class=skip href=#key>Skip the picture</a>";
 pub(crate) const LEGEND: &str =
     "<p class=\"key\" id=\"key\"><b class=\"s\">succeeded</b> <b class=\"f\">failed</b> <b class=\"e\">\
     errored</b> <b class=\"a\">aborted</b> <b class=\"r\">running</b> <b class=\"n\">no builds</b> <b \
-    class=\"o\">resource</b> <i>a new version makes a build</i> <i class=\"d\">it doesn’t</i> <i class=\"h\">\
+    class=\"o\">resource</b> <b class=\"q\">pinned or disabled</b> <i>a new version makes a build</i> <i class=\"d\">it doesn’t</i> <i class=\"h\">\
     a newer version failed there</i></p>
 ";
 

@@ -1,4 +1,4 @@
-use Rattle.std.proofs.Common.{◌≡◌, ℕ, ◌-◌, length, ap, ◌∙◌, arith}
+use Rattle.std.proofs.Common.{◌≡◌, ◌-◌, length, ap, ◌∙◌, arith}
 use Rattle.ccr_layout.specs.Bands.{band_in}
 use Rattle.ccr_layout.proofs.PictureLaws.{right_last}
 use Rattle.ccr_layout.proofs.across.width_of.Goals as goal

@@ -1,8 +1,7 @@
-use Rattle.std.proofs.Common.{◌≡◌, ◌+◌, ◌<◌, ◌≤◌, List, take, get_or, sym, subst, arith}
+use Rattle.std.proofs.Common.{◌+◌, ◌≤◌, List, take, subst, arith}
 use Rattle.std.specs.Prelude.{All}
 use Rattle.std.proofs.lemmas.List.{take_all}
 use Rattle.std.proofs.lemmas.List.Elements.{All-more, All-weaker}
-use Rattle.ccr_layout.specs.declared.picture.Point.{Point}
 use Rattle.ccr_layout.specs.declared.picture.NodeBox.{NodeBox}
 use Rattle.ccr_layout.specs.declared.picture.Slot.{Slot}
 use Rattle.ccr_layout.proofs.draw.bottom_of.Goals as goal

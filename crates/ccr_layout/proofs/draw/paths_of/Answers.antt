@@ -1,4 +1,4 @@
-use Rattle.std.proofs.Common.{◌≡◌, ◌+◌, ℕ, false, get_or, sym, ap, ◌∙◌, length, subst}
+use Rattle.std.proofs.Common.{◌+◌, false, get_or, sym, ap, ◌∙◌, length, subst}
 use Rattle.std.proofs.lemmas.List.{get_or_default, length_push}
 use Rattle.ccr_layout.specs.declared.graph.Edge.{Edge}
 use Rattle.ccr_layout.specs.declared.picture.Path.{Path}

@@ -1,14 +1,14 @@
-use Rattle.std.proofs.Common.{◌≡◌, ◌+◌, List, [], ◌∷◌, ◌++◌, sym, ap, ◌∙◌, subst, arith}
+use Rattle.std.proofs.Common.{◌+◌, List, [], ◌∷◌, ◌++◌, sym, ap, ◌∙◌, subst, arith}
 use Rattle.ccr_layout.specs.declared.picture.Slot.{Slot}
 use Rattle.ccr_layout.specs.declared.span.Span.{Span}
-use Rattle.ccr_layout.specs.Spans.{Passes, span_in}
+use Rattle.ccr_layout.specs.Spans.{Passes}
 use Rattle.ccr_layout.specs.Drawing.{HasSlots}
 use Rattle.ccr_layout.proofs.StepLaws.{slots_more, slots_first, slots_next}
 use Rattle.ccr_layout.proofs.draw.push_slots.Goals as goal
 
 pub loop-before-init : goal.loop-before-init
 loop-before-init c =
-    slots_first c.args.spans.now c.args.bands.now c.args.tops.now c.args.node 0 c.args.slots.now.items c.requires.earlier (c.span_at-span.result.column + 1) (omega (arith, ap (λ s. s.column) c.span_at-span.ensures))
+    slots_first c.args.spans.now c.args.bands.now c.args.tops.now c.args.node 0 c.args.slots.now.items c.requires.earlier (c.span_at-span.result.column + 1) (omega arith) (omega (arith, ap (λ s. s.column) c.span_at-span.ensures))
 
 pub loop-before-preserved : goal.loop-before-preserved
 loop-before-preserved c =

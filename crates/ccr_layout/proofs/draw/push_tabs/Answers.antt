@@ -1,6 +1,6 @@
-use Rattle.std.proofs.Common.{◌≡◌, ◌+◌, List, [], ◌∷◌, ◌++◌, sym, ap, ◌∙◌, subst, arith}
+use Rattle.std.proofs.Common.{◌+◌, List, [], ◌∷◌, ◌++◌, sym, ap, ◌∙◌, subst, arith}
 use Rattle.ccr_layout.specs.declared.picture.Tab.{Tab}
-use Rattle.ccr_layout.specs.Drawing.{tab_of, HasTabs}
+use Rattle.ccr_layout.specs.Drawing.{HasTabs}
 use Rattle.ccr_layout.proofs.TabLaws.{tabs_more, tabs_same, tabs_next}
 use Rattle.ccr_layout.proofs.draw.push_tabs.Goals as goal
 use Rattle.ccr_layout.proofs.draw.push_tabs.Goals.{then-has_tab+in_ok-push, else-has_tab}

@@ -1,5 +1,5 @@
-use Rattle.std.proofs.Common.{◌≡◌, ℕ, ◌+◌, ◌≤◌, ◌⊎◌, List, true, get_or, take, inl, inr, slice_index, sym, ap, ◌∙◌, subst, arith}
-use Rattle.std.specs.Prelude.{All, Contains}
+use Rattle.std.proofs.Common.{ℕ, List, length, true, get_or, inl, inr, slice_index, sym, ap, ◌∙◌, subst, arith}
+use Rattle.std.specs.Prelude.{Contains}
 use Rattle.std.proofs.lemmas.Bool.{false≢true}
 use Rattle.std.proofs.lemmas.List.{take_all}
 use Rattle.ccr_layout.proofs.PlaceLaws.{low_at}
@@ -16,6 +16,7 @@ loop-job-preserved c =
     elim c.if-is_done.branch [
       | then-is_done w ↦ record {
         low = λ most all. omega (arith, w.above-is, w.max-above.ensures, w.column_at.ensures, low_at most layers (get_or jobs i 0) all, is.low most all);
+        first = λ none. absurd (omega (arith, c.loop-job-test.true, ap length none));
         above = λ s has d. elim (above_cases jobs i s c.loop-job-test.true has) [
           | inl earlier ↦ omega (arith, w.above-is, w.max-above.ensures, is.above s earlier d)
           | inr same ↦ omega (arith, w.above-is, w.max-above.ensures, w.column_at.ensures, ap (slice_index layers) same)
@@ -23,6 +24,7 @@ loop-job-preserved c =
       }
       | else-is_done w ↦ record {
         low = λ most all. omega (arith, w.above-is, is.low most all);
+        first = λ none. absurd (omega (arith, c.loop-job-test.true, ap length none));
         above = λ s has d. elim (above_cases jobs i s c.loop-job-test.true has) [
           | inl earlier ↦ omega (arith, w.above-is, is.above s earlier d)
           | inr same ↦ absurd (false≢true (sym w.if-is_done.false ∙ c.is_done.ensures ∙ ap (λ k. get_or c.args.done.now k true) same ∙ d))

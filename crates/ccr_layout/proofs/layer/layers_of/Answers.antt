@@ -1,4 +1,4 @@
-use Rattle.std.proofs.Common.{◌≡◌, ℕ, ◌+◌, ◌≤◌, Bool, true, List, length, get_or, set, slice_index, sym, ap, ◌∙◌, subst, arith}
+use Rattle.std.proofs.Common.{◌≡◌, ℕ, ◌+◌, ◌≤◌, Bool, true, List, get_or, set, slice_index, sym, ap, ◌∙◌, subst, arith}
 use Rattle.std.specs.Prelude.{All, Contains}
 use Rattle.ccr_layout.specs.Layers.{named_in}
 use Rattle.ccr_layout.specs.Turns.{CanBeNext}
@@ -28,7 +28,9 @@ loop-turn-preserved c =
           let L : List ℕ → Type 0 = λ xs. slice_index xs s + 1 ≤ above in
           subst L w.deref-in-Some.ensures.value (w.layer_above-above.ensures.above s (subst N (sym w.named_by.ensures) has) (subst D (sym w.deref-in-Some-2.ensures.value) d))) in
           subst P (sym ds) (subst Q (sym ls) (layered_more named done layers turn node above is (subst C c.deref.ensures.value w.in-Some.ensures) high
-          (w.layer_above-above.ensures.low turn (subst A (sym w.deref-in-Some.ensures.value) is.low)))))
+          (w.layer_above-above.ensures.low turn (subst A (sym w.deref-in-Some.ensures.value) is.low))
+          (λ most all. let M : List ℕ → Type 0 = λ xs. All (λ x. x ≤ most) xs in w.layer_above-above.ensures.low most (subst M (sym w.deref-in-Some.ensures.value) all))
+          (λ none. w.layer_above-above.ensures.first (w.named_by.ensures ∙ none)))))
       | in-None w ↦ (let ds = ap (λ v. v.items) w.done-is in
           let ls = ap (λ v. v.items) w.layers-is in
           let Q : List ℕ → Type 0 = λ xs. AreLayered named done xs (turn + 1) in

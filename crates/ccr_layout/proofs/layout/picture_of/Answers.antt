@@ -9,7 +9,7 @@ use Rattle.ccr_layout.specs.declared.picture.NodeBox.{NodeBox}
 use Rattle.ccr_layout.specs.declared.picture.Slot.{Slot}
 use Rattle.ccr_layout.specs.declared.picture.Picture.{Picture}
 use Rattle.ccr_layout.specs.Spans.{AreSpans}
-use Rattle.ccr_layout.specs.Standing.{AreColumns, IsStanding}
+use Rattle.ccr_layout.specs.Standing.{AreColumns}
 use Rattle.ccr_layout.specs.Bands.{AreBands, AreRoomy}
 use Rattle.ccr_layout.specs.Lanes.{AreLanes}
 use Rattle.ccr_layout.proofs.PictureLaws.{standing_all, boxes_bound, slots_bound, picture_all}
@@ -29,7 +29,7 @@ tops_of-requires-clause-low c =
     subst P (sym c.as_slice-spans.ensures.value) c.in_ok-spans.ensures.low
 
 pub bands_of-requires : goal.bands_of-requires
-bands_of-requires c = omega (arith, ap length c.as_slice-lines.ensures.value, c.in_ok-lines.ensures, c.column_count-columns.ensures.low)
+bands_of-requires c = omega (arith, ap length c.as_slice-lines.ensures.value, c.in_ok-lines.ensures.long, c.column_count-columns.ensures.low)
 
 pub slots_of-requires : goal.slots_of-requires
 slots_of-requires c =
@@ -61,7 +61,7 @@ bottom_of-bottom-requires-clause-boxes c =
     let bands = c.as_slice-bands.result.now in
     let tops = c.as_slice-tops.result.now in
     let columns = c.column_count-columns.result in
-    let many : length c.as_slice-lines.result.now ≡ columns = ap length c.as_slice-lines.ensures.value ∙ c.in_ok-lines.ensures in
+    let many : length c.as_slice-lines.result.now ≡ columns = ap length c.as_slice-lines.ensures.value ∙ c.in_ok-lines.ensures.long in
     let P : List Span → Type 0 = λ xs. AreSpans c.args.nodes.now c.args.edges.now xs in
     let Q : List (Vec ℕ Global) → Type 0 = λ ts. AreColumns spans (length c.as_slice-lines.result.now) ts in
     let R : ℕ → Type 0 = λ n. AreColumns spans n tops in
@@ -81,7 +81,7 @@ bottom_of-bottom-requires-clause-slots c =
     let bands = c.as_slice-bands.result.now in
     let tops = c.as_slice-tops.result.now in
     let columns = c.column_count-columns.result in
-    let many : length c.as_slice-lines.result.now ≡ columns = ap length c.as_slice-lines.ensures.value ∙ c.in_ok-lines.ensures in
+    let many : length c.as_slice-lines.result.now ≡ columns = ap length c.as_slice-lines.ensures.value ∙ c.in_ok-lines.ensures.long in
     let P : List Span → Type 0 = λ xs. AreSpans c.args.nodes.now c.args.edges.now xs in
     let Q : List (Vec ℕ Global) → Type 0 = λ ts. AreColumns spans (length c.as_slice-lines.result.now) ts in
     let R : ℕ → Type 0 = λ n. AreColumns spans n tops in
@@ -125,7 +125,7 @@ returns c =
       width = c.width_of-width.result;
       height = below.1;
     } in
-    let many : length c.as_slice-lines.result.now ≡ columns = ap length c.as_slice-lines.ensures.value ∙ c.in_ok-lines.ensures in
+    let many : length c.as_slice-lines.result.now ≡ columns = ap length c.as_slice-lines.ensures.value ∙ c.in_ok-lines.ensures.long in
     let P : List Span → Type 0 = λ xs. AreSpans nodes edges xs in
     let Q : List (Vec ℕ Global) → Type 0 = λ ts. AreColumns spans (length c.as_slice-lines.result.now) ts in
     let R : ℕ → Type 0 = λ n. AreColumns spans n tops in

@@ -1,4 +1,4 @@
-use Rattle.std.proofs.Common.{◌≡◌, ℕ, ◌+◌, ◌*◌, ◌<◌, ◌≤◌, List, get_or, slice_index, sym, subst, arith}
+use Rattle.std.proofs.Common.{ℕ, ◌+◌, List, get_or, sym, subst, arith}
 use Rattle.std.proofs.lemmas.List.{get_or_default}
 use Rattle.ccr_layout.proofs.PlaceLaws.{ArePlacing, low_at, placing_more, placed_all}
 use Rattle.ccr_layout.proofs.place.place.Goals as goal

@@ -1,9 +1,9 @@
-use Rattle.std.proofs.Common.{◌≡◌, ℕ, ◌+◌, List, length, get_or, sym, ap, subst}
+use Rattle.std.proofs.Common.{ℕ, ◌+◌, List, sym, ap, subst}
 use Rattle.std.specs.declared.vec.Vec.{Vec}
 use Rattle.std.specs.declared.alloc.Global.{Global}
 use Rattle.std.proofs.lemmas.Bool.{MatchBool-at_true, MatchBool-at_false}
 use Rattle.ccr_layout.specs.Nodes.{IsJob, IsResource}
-use Rattle.ccr_layout.specs.Passed.{kind_in, edge_in, IsPassed, AreNamed}
+use Rattle.ccr_layout.specs.Passed.{kind_in, edge_in, AreNamed}
 use Rattle.ccr_layout.proofs.ColumnLaws.{not_both}
 use Rattle.ccr_layout.proofs.PassedLaws.{named_same, named_more}
 use Rattle.ccr_layout.proofs.span.named_jobs.Goals as goal

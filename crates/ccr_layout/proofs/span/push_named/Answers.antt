@@ -1,4 +1,4 @@
-use Rattle.std.proofs.Common.{◌++◌, ◌∷◌, [], ap, ◌∙◌, arith}
+use Rattle.std.proofs.Common.{◌++◌, ◌∷◌, [], ap, ◌∙◌}
 use Rattle.ccr_layout.proofs.PassedLaws.{named_set, named_other, named_read}
 use Rattle.ccr_layout.proofs.span.push_named.Goals as goal
 

@@ -1,5 +1,5 @@
-use Rattle.std.proofs.Common.{◌≡◌, ℕ, ◌+◌, List, true, false, get_or, set, max, slice_index, sym, ap, ◌∙◌, subst, arith}
-use Rattle.std.proofs.lemmas.Bool.{MatchBool-at_true, MatchBool-at_false, not-true, not-false}
+use Rattle.std.proofs.Common.{◌≡◌, ℕ, ◌+◌, List, true, false, set, max, slice_index, sym, ap, ◌∙◌, subst, arith}
+use Rattle.std.proofs.lemmas.Bool.{MatchBool-at_true, not-true, not-false}
 use Rattle.ccr_layout.specs.Nodes.{IsJob, IsResource}
 use Rattle.ccr_layout.specs.Passed.{kind_in, edge_in}
 use Rattle.ccr_layout.specs.Columns.{ArePut}

@@ -1,4 +1,4 @@
-use Rattle.std.proofs.Common.{◌≡◌, ℕ, ◌+◌, List, max, false, get_or, set, slice_index, sym, ap, ◌∙◌, subst}
+use Rattle.std.proofs.Common.{ℕ, ◌+◌, List, max, false, get_or, set, slice_index, sym, ap, ◌∙◌, subst}
 use Rattle.std.proofs.lemmas.List.{get_or_default}
 use Rattle.ccr_layout.specs.declared.graph.Edge.{Edge}
 use Rattle.ccr_layout.specs.Reaches.{AreReaches}

@@ -1,4 +1,4 @@
-use Rattle.std.proofs.Common.{◌≡◌, ℕ, List, ◌∙◌, subst}
+use Rattle.std.proofs.Common.{ℕ, List, ◌∙◌, subst}
 use Rattle.ccr_layout.specs.Places.{ArePlaced}
 use Rattle.ccr_layout.proofs.StepLaws.{heights_low}
 use Rattle.ccr_layout.proofs.sweep.placed_in.Goals as goal
