@@ -29,8 +29,10 @@ pub(crate) fn set_pipeline<'a>(alloc: Global) -> Result<Command<'a>, AllocError>
         "Sets the pipeline from a file in JSON",
         "\
 Prints how many resources and jobs the pipeline has, and `unused PATH` for each key that has no effect. Versions, builds
-and pins are kept. Prints on standard error what each input has to have passed, and keys that look misspelled. The
-pipeline is set all the same.
+and pins are kept.
+
+Prints on standard error what each input has to have passed, and keys that look misspelled. The pipeline is set all the
+same.
 
 Exit statuses: 0 set; 1 refused, because the file has a fault (its path is printed) or a build is running; 2 usage;
 4 the file can't be read, or the disk or the memory failed.
