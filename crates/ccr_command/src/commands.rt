@@ -31,8 +31,11 @@ pub(crate) fn set_pipeline<'a>(alloc: Global) -> Result<Command<'a>, AllocError>
 Prints how many resources and jobs the pipeline has, and `unused PATH` for each key that has no effect. Versions, builds
 and pins are kept.
 
+Prints on standard error what each input has to have passed, and keys that look misspelled. The pipeline is set all the
+same.
+
 Exit statuses: 0 set; 1 refused, because the file has a fault (its path is printed) or a build is running; 2 usage;
-4 the file can't be read, disk or memory.
+4 the file can't be read, or the disk or the memory failed.
 
 Example:
   ccr_run --db ci.db set-pipeline pipeline.json",
@@ -53,7 +56,8 @@ pub(crate) fn check_resource<'a>(alloc: Global) -> Result<Command<'a>, AllocErro
 Runs the program `check` of the resource's type once. Prints `check NAME: N new`, or `check NAME: refused: CAUSE` if the
 check failed.
 
-Exit statuses: 0 checked; 1 the check failed, or there is no pipeline or no such resource; 2 usage; 4 disk or memory.
+Exit statuses: 0 checked; 1 the check failed, or there is no pipeline or no such resource; 2 usage;
+4 the disk or the memory failed.
 
 Example:
   ccr_run --db ci.db check-resource repo",
@@ -76,7 +80,7 @@ pub(crate) fn pin_resource<'a>(alloc: Global) -> Result<Command<'a>, AllocError>
 Later builds take only versions that have each field of the object, with the same value. Prints `pinned NAME`.
 
 Exit statuses: 0 pinned; 1 refused, because there is no pipeline or no such resource, or the text isn't a pin; 2 usage;
-4 disk or memory.
+4 the disk or the memory failed.
 
 Example:
   ccr_run --db ci.db pin-resource repo '{\"ref\":\"61cbef\"}'",
@@ -97,7 +101,8 @@ pub(crate) fn unpin_resource<'a>(alloc: Global) -> Result<Command<'a>, AllocErro
         "\
 A pin in the pipeline's file stays. Prints `unpinned NAME`, even if the resource had no pin.
 
-Exit statuses: 0 unpinned; 1 refused, because there is no pipeline or no such resource; 2 usage; 4 disk or memory.
+Exit statuses: 0 unpinned; 1 refused, because there is no pipeline or no such resource; 2 usage;
+4 the disk or the memory failed.
 
 Example:
   ccr_run --db ci.db unpin-resource repo",
@@ -119,9 +124,9 @@ Prints the best choice of versions, or that none satisfies, with the proof. `ccr
 that the command `problem` prints. No build is made.
 
 Exit statuses: 0 shown; 1 refused, because there is no pipeline or no such job; 2 usage; 3 the proof would go over the
-budget; 4 disk or memory.
+budget; 4 the disk or the memory failed.
 
-Example:
+Examples:
   ccr_run --db ci.db problem unit >unit.problem
   ccr_run --db ci.db resolve unit >unit.proof
   ccr_verify unit.problem unit.proof",
@@ -142,7 +147,8 @@ pub(crate) fn problem<'a>(alloc: Global) -> Result<Command<'a>, AllocError>
         "\
 Prints the places that each input may take, and the versions that passed the jobs named by the inputs.
 
-Exit statuses: 0 shown; 1 refused, because there is no pipeline or no such job; 2 usage; 4 disk or memory.
+Exit statuses: 0 shown; 1 refused, because there is no pipeline or no such job; 2 usage;
+4 the disk or the memory failed.
 
 Example:
   ccr_run --db ci.db problem unit >unit.problem",
@@ -166,7 +172,7 @@ The build takes the best choice of versions, even if it was built before. Prints
 `JOB: busy`.
 
 Exit statuses: 0 the build succeeded; 1 it ended in another way, no choice satisfies, the job is busy, or the command is
-refused; 2 usage; 3 over the budget; 4 disk or memory.
+refused; 2 usage; 3 over the budget; 4 the disk or the memory failed.
 
 Example:
   ccr_run --db ci.db trigger-job unit",
@@ -189,14 +195,14 @@ pub(crate) fn abort_build<'a>(alloc: Global) -> Result<Command<'a>, AllocError>
 Stops one build and leaves all others alone. It works while another `ccr_run` has the database open: it makes the directory
 WORK/JOB/abort-N and ends; the server looks for it at each turn of the build. Prints `abort asked: JOB N`.
 
-A program that runs isn't killed by the request: the build is aborted at its next turn, once the program has ended. What
-was asked then is aborted, the build's `on_abort` and `ensure` hooks run, and it ends as `JOB N aborted`. To end a program
-that hangs, kill it, or start it under `timeout` to begin with.
+With --launcher, the launcher ends the program that runs. Without one it isn't killed: the build is aborted at its next
+turn, once the program has ended. What was asked then is aborted, the build's `on_abort` and `ensure` hooks run, and it
+ends as `JOB N aborted`. To end a program that hangs, kill it, or start it under `timeout` to begin with.
 
 A request that comes before its build aborts it at its first turn; for a build that has ended it does nothing. Give the
 same --work as the server has.
 
-Exit statuses: 0 asked; 1 refused, because no job can have that name; 2 usage; 4 disk or memory.
+Exit statuses: 0 asked; 1 refused, because no job can have that name; 2 usage; 4 the disk or the memory failed.
 
 Example:
   ccr_run --db ci.db abort-build unit 7",
@@ -220,7 +226,7 @@ A round checks each resource, makes a build for each job that has something new,
 step. Each line is printed as it happens.
 
 Exit statuses: 0 done, whatever the results of checks and builds; 1 refused, because there is no pipeline; 2 usage;
-4 disk or memory.
+4 the disk or the memory failed.
 
 Example:
   ccr_run --db ci.db run --rounds 10",

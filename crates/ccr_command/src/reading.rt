@@ -13,7 +13,7 @@ fn json<'a>(alloc: Global) -> Arg<'a>
     ensures rule { rule_of result ≡ flag_rule (codes "json") }
     ensures local { result.global ≡ false }
 {
-    flag(alloc, "json", "Prints JSON in place of the lines")
+    flag(alloc, "json", "Prints JSON instead of the lines")
 }
 
 /// Shows the versions of a resource.
@@ -32,7 +32,8 @@ follows if it is disabled.
 
 With --json: one line, an array with an object for each version: `place`, `version` and `enabled`.
 
-Exit statuses: 0 shown; 1 refused, because there is no pipeline or no such resource; 2 usage; 4 disk or memory.
+Exit statuses: 0 shown; 1 refused, because there is no pipeline or no such resource; 2 usage;
+4 the disk or the memory failed.
 
 Examples:
   ccr_run --db ci.db resource-versions repo
@@ -65,7 +66,8 @@ the newest N of the job. A job that the pipeline no longer has is still shown, i
 
 With --json: one line, an array with an object for each build: `job_name`, `name` (the build's number) and `status`.
 
-Exit statuses: 0 shown; 1 refused, because the pipeline has no such job and the job has no builds; 2 usage; 4 disk or memory.
+Exit statuses: 0 shown; 1 refused, because the pipeline has no such job and the job has no builds; 2 usage;
+4 the disk or the memory failed.
 
 Examples:
   ccr_run --db ci.db builds
@@ -88,7 +90,7 @@ pub(crate) fn get_pipeline<'a>(alloc: Global) -> Result<Command<'a>, AllocError>
         "\
 Prints the bytes of the file that `set-pipeline` read last.
 
-Exit statuses: 0 shown; 1 refused, because there is no pipeline; 2 usage; 4 disk or memory.
+Exit statuses: 0 shown; 1 refused, because there is no pipeline; 2 usage; 4 the disk or the memory failed.
 
 Example:
   ccr_run --db ci.db get-pipeline >pipeline.json",
@@ -111,7 +113,7 @@ Prints `NAME TYPE N versions` for each resource, in the order of the pipeline. `
 With --json: one line, an array with an object for each resource: `name`, `type`, `version_count`, `pinned_by_pipeline` and
 `pinned_version`. A pin that isn't there is null.
 
-Exit statuses: 0 shown; 1 refused, because there is no pipeline; 2 usage; 4 disk or memory.
+Exit statuses: 0 shown; 1 refused, because there is no pipeline; 2 usage; 4 the disk or the memory failed.
 
 Example:
   ccr_run --db ci.db resources",
@@ -138,7 +140,7 @@ With --json: one line, an array with an object for each job: `name`, `next` (wha
 `due`), `next_build` (its newest build that runs), `finished_build` (its newest build that has ended), `inputs` and `outputs`.
 A build that isn't there is null.
 
-Exit statuses: 0 shown; 1 refused, because there is no pipeline; 2 usage; 4 disk or memory.
+Exit statuses: 0 shown; 1 refused, because there is no pipeline; 2 usage; 4 the disk or the memory failed.
 
 Examples:
   ccr_run --db ci.db jobs
@@ -157,12 +159,13 @@ pub(crate) fn red<'a>(alloc: Global) -> Result<Command<'a>, AllocError>
         "red",
         "Shows the jobs whose newest build that has ended didn't succeed",
         "\
-Prints `JOB N STATUS` for each such job, in the order of the pipeline, with that build; nothing if there is none. A build that
-runs doesn't count: the job is as the build before left it. The status tells a script, a timer or a prompt.
+Prints `JOB N STATUS` for each such job, in the order of the pipeline, with that build; nothing if there is none. A
+build that is running doesn't count: the job is as the build before left it.
 
 With --json: one line, an array with an object for each of these builds: `job_name`, `name` (the build's number) and `status`.
 
-Exit statuses: 0 no job is red; 1 some job is, or refused, because there is no pipeline; 2 usage; 4 disk or memory.
+Exit statuses: 0 no job is red; 1 some job is, or refused, because there is no pipeline; 2 usage;
+4 the disk or the memory failed.
 
 Examples:
   ccr_run --db ci.db red --look
@@ -185,7 +188,7 @@ Prints a flowchart that Mermaid, GitHub and GitLab draw. A resource has its numb
 arrow leads to a job from the resource of an input, or from each job in its `passed`; it is dotted without `trigger`. An arrow
 leads from a job to each resource that it puts.
 
-Exit statuses: 0 shown; 1 refused, because there is no pipeline; 2 usage; 4 disk or memory.
+Exit statuses: 0 shown; 1 refused, because there is no pipeline; 2 usage; 4 the disk or the memory failed.
 
 Example:
   ccr_run --db ci.db graph >pipeline.mmd",
@@ -203,7 +206,7 @@ With --logs, each build leads to DIR/JOB/N/. DIR is a path, without a scheme suc
 where the page lies. With --refresh, a browser that shows the page reads it again by itself: make it anew meanwhile, and put the
 new file in the place of the old one by `mv`.
 
-Exit statuses: 0 printed; 2 usage; 4 disk or memory.
+Exit statuses: 0 printed; 2 usage; 4 the disk or the memory failed.
 
 Examples:
   ccr_run --db ci.db page >page.html
@@ -216,7 +219,7 @@ fn bare_page<'a>(alloc: Global) -> Command<'a>
     command(
         alloc,
         "page",
-        "Prints one HTML page that shows how all stands: the picture, the jobs, the builds",
+        "Prints one HTML page: the pipeline's picture, what stands still and why, and the newest builds",
         PAGE,
     )
 }
@@ -289,7 +292,7 @@ name in `passed` today, `together JOB N`: the newest build made before it that m
 With --json: one line, an object with `job_name`, `name` (the number), `status`, `inputs` (what it took), `together` and
 `moved`.
 
-Exit statuses: 0 shown; 1 refused, because there is no such build; 2 usage; 4 disk or memory.
+Exit statuses: 0 shown; 1 refused, because there is no such build; 2 usage; 4 the disk or the memory failed.
 
 Example:
   ccr_run --db ci.db build deploy 42",
@@ -318,8 +321,8 @@ has builds.
 With --json: one line, an object with `job_name`, `name` (the build's number) and `inputs`, each with its `name`, `resource`,
 `place` and `version`; `null` if there is none.
 
-Exit statuses: 0 shown; 1 no build has succeeded, or refused, because the pipeline has no such job and the job has no builds;
-2 usage; 4 disk or memory.
+Exit statuses: 0 shown; 1 no build has succeeded, or refused, because the pipeline has no such job and the job has no
+builds; 2 usage; 4 the disk or the memory failed.
 
 Examples:
   ccr_run --db ci.db live deploy
@@ -349,8 +352,8 @@ Prints `JOB N STATUS` for each build that took or moved a version with these fie
 With --json: one line, an array with an object for each of these builds: `job_name`, `name` (the number), `status`, and whether
 it `took` one, `moved` one, and `passed` its job with it.
 
-Exit statuses: 0 shown; 1 refused, because there is no pipeline or no such resource, or the text isn't an object of strings;
-2 usage; 4 disk or memory.
+Exit statuses: 0 shown; 1 refused, because there is no pipeline or no such resource, or the text isn't an object of
+strings; 2 usage; 4 the disk or the memory failed.
 
 Example:
   ccr_run --db ci.db trace repo '{\"ref\":\"61cbef\"}'",
@@ -389,7 +392,7 @@ With N, one line on standard output and status 1 instead: `refused: plan changed
 the build; `refused: no build of JOB moved them together` for the first job in `passed` without such a build.
 
 Exit statuses: 0 shown; 1 refused, as said or because there is no pipeline, no such job or no such build; 2 usage; 3 the
-proof would go over the budget; 4 disk or memory.
+proof would go over the budget; 4 the disk or the memory failed.
 
 Examples:
   ccr_run --db ci.db certify deploy | ccr_verify
@@ -411,9 +414,10 @@ pub(crate) fn explain<'a>(alloc: Global) -> Result<Command<'a>, AllocError>
         "explain",
         "Shows what a job's next build would take, and why nothing newer",
         "\
-Prints `JOB: ` and what a schedule would say: `due`, `nothing new`, `by command only`, `none satisfies` or `over budget N`.
-Behind `nothing new` stands the build that took these versions already, and how it ended. Then a line for each input: its version, and the builds through which it passed the jobs that the input names. Below it stands
-each of the three newest versions that is newer, with the reason why it isn't taken. No build is made.
+Prints `JOB: ` and what a schedule would say: `due`, `nothing new`, `by command only`, `none satisfies` or
+`over budget N`. Behind `nothing new` stands the build that took these versions already, and how it ended. Then a line
+for each input: its version, and the builds through which it passed the jobs in `passed`. Below it stand those of the
+three newest versions that are newer, each with the reason why it isn't taken. No build is made.
 
   disabled                            the version is disabled
   pinned by pin-resource              the pin by command leaves it out
@@ -424,15 +428,16 @@ each of the three newest versions that is newer, with the reason why it isn't ta
   not passed JOB together with A, B   it passed the job, but in no build with what these inputs may take
   clash: A, B                         an earlier input would get worse: these demands exclude each other
 
-Where none satisfies, a pin follows that no version has, or the demands that exclude each other. If any one of them is left out,
-a choice satisfies the rest.
+Where none satisfies, a pin follows that no version has, or the demands that exclude each other. If any one of them is
+left out, a choice satisfies the rest.
 
-With --json: one line, an object: `job_name`, `next` (what a schedule would say), `has_new_inputs`, `inputs`, `last` (the build
-that took these versions already, where there is nothing new, or null) and `reason` (why none satisfies, or null). An input has its `name`, `resource`, `place` and `version`, in `passed` the builds through which it
-passed the jobs that it names, and in `newer` each newer version with its `place` and the `reason`.
+With --json: one line, an object: `job_name`, `next` (what a schedule would say), `has_new_inputs`, `inputs`, `last`
+(the build that took these versions already, where there is nothing new, or null) and `reason` (why none satisfies, or
+null). An input has its `name`, `resource`, `place` and `version`, in `passed` the builds through which it passed the
+jobs that it names, and in `newer` each newer version with its `place` and the `reason`.
 
 Exit statuses: 0 shown; 1 refused, because there is no pipeline or no such job; 2 usage; 3 the search would go over the
-budget; 4 disk or memory.
+budget; 4 the disk or the memory failed.
 
 Example:
   ccr_run --db ci.db explain deploy",

@@ -17,18 +17,19 @@ use clap::Command;
 use std::alloc::{AllocError, Global};
 
 /// What the program does, at the top of its help.
-const ABOUT: &str = "Runs pipelines: checks resources, runs builds of jobs, and remembers both";
+const ABOUT: &str =
+    "A pipeline server: checks resources, runs builds of jobs, and keeps both in a database";
 
 /// The end of the program's help.
 const MORE: &str = "\
-The options stand before the command, its own words behind it; ccr_run COMMAND --help shows these.
-Exit statuses: 0 done, 1 refused, 2 usage, 3 over the budget, 4 disk or memory.
+Options come before the command, its arguments after it; ccr_run help COMMAND describes them.
+Exit statuses: 0 done; 1 refused, or not succeeded; 2 usage; 3 over the budget; 4 the disk or the memory failed.
 What happens is printed on standard output, line by line; a refusal goes to standard error.
 `ccr_run validate-pipeline FILE [--strict]` reads a pipeline without a database, and says what each input has to have passed.
-A command that only shows takes --look. It shows what is stored now, also while another ccr_run has the database open, and changes
-nothing; a build that runs is shown as running. It reads FILE and, beside it, FILE-wal: without that, a copy of FILE is older.
+A command that only shows something takes --look: it shows what is stored now, also while another ccr_run has the
+database open, and changes nothing. A copy of FILE without FILE-wal beside it shows an older state.
 
-Example:
+Examples:
   ccr_run --db ci.db set-pipeline pipeline.json
   ccr_run --db ci.db run --rounds 10
   ccr_run --db ci.db builds";
@@ -78,7 +79,7 @@ fn with_options<'a>(alloc: Global) -> Result<Command<'a>, AllocError>
         alloc,
         "launcher",
         "PROGRAM",
-        "A program that starts all others, each with words that say which it is; begins with /",
+        "A program that starts the programs of checks and builds, and is told which each is; begins with /",
     );
     program(alloc)
         .arg(database)?
@@ -143,7 +144,7 @@ fn with_choice_commands<'a>(alloc: Global, line: Command<'a>) -> Result<Command<
 }
 
 /// The program's command line: `ccr_run --db FILE [--types DIR] [--work DIR] [--budget N] [--launcher PROGRAM] COMMAND`,
-/// with the help of the program and of each of its twenty-four commands.
+/// with the help of the program and of each of its commands.
 ///
 /// The only error is out of memory.
 pub fn command_line<'a>(alloc: Global) -> Result<Command<'a>, AllocError>

@@ -26,8 +26,8 @@ pub(crate) fn disable_resource_version<'a>(alloc: Global) -> Result<Command<'a>,
 No later build of any job takes the version, until it is enabled again. Builds that have it go on, and what it passed
 stays. Prints `disabled NAME PLACE`, even if the version was disabled.
 
-Exit statuses: 0 disabled; 1 refused, because there is no pipeline, no such resource or no such version; 2 usage; 4 disk
-or memory.
+Exit statuses: 0 disabled; 1 refused, because there is no pipeline, no such resource or no such version; 2 usage;
+4 the disk or the memory failed.
 
 Example:
   ccr_run --db ci.db disable-resource-version repo 7",
@@ -54,8 +54,8 @@ pub(crate) fn enable_resource_version<'a>(alloc: Global) -> Result<Command<'a>, 
         "\
 Later builds may take the version again. Prints `enabled NAME PLACE`, even if the version wasn't disabled.
 
-Exit statuses: 0 enabled; 1 refused, because there is no pipeline, no such resource or no such version; 2 usage; 4 disk
-or memory.
+Exit statuses: 0 enabled; 1 refused, because there is no pipeline, no such resource or no such version; 2 usage;
+4 the disk or the memory failed.
 
 Example:
   ccr_run --db ci.db enable-resource-version repo 7",
