@@ -4,3 +4,4 @@ pub mod CutLemmas
 pub mod AcceptedLine
 pub mod QuietLines
 pub mod Accepting
+pub mod Streams

@@ -3,3 +3,4 @@ pub mod Words
 pub mod Cut
 pub mod Judged
 pub mod Accepted
+pub mod Streamed

@@ -14,7 +14,10 @@ use ccr_choice::{MOST_JOBS, Problem, Verdict, satisfies};
 use ccr_proof::{Claim, Proof};
 
 /// The bound that a claim sets: the places of its choice, or none.
-fn bound_of<'a>(problem: &Problem, claim: &'a Claim) -> Result<Option<&'a [u32]>, CheckFault>
+pub(crate) fn bound_of<'a>(
+    problem: &Problem,
+    claim: &'a Claim,
+) -> Result<Option<&'a [u32]>, CheckFault>
     ensures { MatchResult result
         (λ bound. HasBound problem.now claim.now (option_copied bound))
         (IsBadClaim problem.now claim.now) }

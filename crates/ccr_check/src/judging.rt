@@ -10,6 +10,7 @@ ghost use Rattle.ccr_check.specs.Judged.{spaced, choice_line, accepted_line, ref
 use crate::accept::check;
 use crate::cut::cut_index;
 use crate::fault::CheckFault;
+use crate::stream::accepted_claim;
 use ccr_choice::{Choice, Problem, ProblemFault, Verdict, read_problem, satisfies};
 use ccr_proof::{Claim, ClaimFault, ProofFault, read_claim, read_proof};
 use std::alloc::{AllocError, Global};
@@ -55,10 +56,13 @@ fn refused<D: Display + Drop>(alloc: Global, why: D) -> Result<(String, u8), All
     Ok((line, 1))
 }
 
-#[tactic(auto, using(crate::proofs::Accepting::proof_refused))]
+#[tactic(auto, using(crate::proofs::Accepting::proof_refused, crate::proofs::Streams::streamed_judged))]
 fn judge_proof(alloc: Global, problem: &Problem, text: &[u8]) -> Result<(String, u8), AllocError>
     ensures { IfOk result (λ x. IsProofJudged problem.now (proof_in text.now) (string_bytes x.0, x.1)) }
 {
+    if let Some(claim) = accepted_claim(alloc, problem, text)? {
+        return Ok((accepted_line(alloc, &claim)?, 0));
+    }
     let proof = match read_proof(alloc, text) {
         Ok(proof) => proof,
         Err(ProofFault::NoMemory) => return Err(AllocError),

@@ -15,14 +15,14 @@ use ccr_choice::possible::{Fixed, best_possible, fixed_build, is_bounded};
 use ccr_choice::{Problem, is_dominated};
 use ccr_proof::Node;
 
-fn has_no_place(problem: &Problem, fixed: &Fixed, input: usize) -> bool
+pub(crate) fn has_no_place(problem: &Problem, fixed: &Fixed, input: usize) -> bool
     requires { input < length problem.now.inputs }
     ensures { IsTrue result ↔ HasNoPlace problem.now (assigned problem.now fixed.now) input }
 {
     best_possible(problem, fixed, input).is_none()
 }
 
-fn is_under(problem: &Problem, fixed: &Fixed, bound: Option<&[u32]>) -> bool
+pub(crate) fn is_under(problem: &Problem, fixed: &Fixed, bound: Option<&[u32]>) -> bool
     ensures { IsTrue result
         ↔ IsBounded (order_of problem.now) problem.now (option_copied bound.entry) (assigned problem.now fixed.now) }
 {
