@@ -1,6 +1,6 @@
 pub mod Answering
 pub mod Bare
-pub mod Kept
+pub mod Premises
 pub mod Looking
 pub mod Obeying
 pub mod Ordering

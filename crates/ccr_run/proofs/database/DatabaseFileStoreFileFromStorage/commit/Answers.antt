@@ -4,7 +4,7 @@ use Rattle.ccr_history.specs.Edits.{change_data}
 use Rattle.ccr_history.specs.Changes.{changed}
 use Rattle.ccr_store.specs.StoreData.{IsKept}
 use Rattle.ccr_look.specs.Holding.{AreOurs}
-use Rattle.ccr_run.proofs.Kept.{on_ok_under, on_err_under}
+use Rattle.ccr_run.proofs.Premises.{on_ok_under, on_err_under}
 use Rattle.ccr_run.proofs.database.DatabaseFileStoreFileFromStorage.commit.Goals as goal
 
 pub returns-clause-done : goal.returns-clause-done
